@@ -1,10 +1,11 @@
 -- Unit sections can be read in one way.
 use Rattle.std.proofs.Common.{Bool, true, false, ◌≡◌, ℕ, ◌+◌, ◌*◌, ◌%◌, ◌<◌, ◌≤◌, nat_lt, List, [], ◌∷◌, ◌++◌, length, Option, Some, None, sym, ap, ◌∙◌, refl, subst, arith, cond}
 use Rattle.dw_base.specs.declared.shared.Order.{Order}
+use Rattle.dw_base.specs.declared.shared.Params.{Params}
 use Rattle.dw_base.specs.Abbreviations.{AttributeSpec}
 use Rattle.dw_base.specs.Grammar.{Grammar}
 use Rattle.dw_base.specs.Lebs.{uleb, uleb_more, uleb_within}
-use Rattle.dw_base.specs.Units.{ValueKind, in_str, unlisted, kind_of, Mode, header, code, values, stuck, UnitState, FitsMode, Fills, EndsSection, IsHeader, unit_grammar, code_value}
+use Rattle.dw_base.specs.Units.{ValueKind, text_offset, unlisted, kind_in, Mode, header, code, values, stuck, UnitState, FitsMode, Fills, EndsSection, IsHeader, unit_grammar, code_value}
 use Rattle.dw_base.proofs.GrammarLaws.{ReadsOneWay}
 
 -- one more byte in front, where a number was read
@@ -34,9 +35,9 @@ pub uleb_64-append : (p r : List ℕ) (x : ℕ × ℕ) → uleb_within (uleb p) 
 uleb_64-append p r x e = uleb_within-append (uleb p) (uleb (p ++ r)) x (λ (y : ℕ × ℕ). uleb-append p r y) e
 
 -- two values of a kind are equally long
-value_same : (k : ValueKind) (p q : List ℕ) → Fills k p → Fills k q → length p ≡ length q
-value_same in_str p q a b = a ∙ sym b
-value_same unlisted p q a b = absurd a
+value_same : (k : ValueKind) (params : Params) (p q : List ℕ) → Fills k params p → Fills k params q → length p ≡ length q
+value_same (text_offset table) params p q a b = a ∙ sym b
+value_same unlisted params p q a b = absurd a
 
 -- the length of what was read, 0 where nothing was
 abbrev read_size : Option (ℕ × ℕ) → ℕ
@@ -58,7 +59,7 @@ mode_same : (m : Mode) (order : Order) (s : UnitState) (p q r t : List ℕ) → 
 mode_same header order s p q r t a b e = a.size ∙ sym b.size
 mode_same code order s p q r t a b e = code_same p q r t (code_value p) (code_value q) a.spells b.spells e
 mode_same (values number tag []) order s p q r t a b e = absurd a
-mode_same (values number tag (x ∷ xs)) order s p q r t a b e = value_same (kind_of x.form) p q a.fills b.fills
+mode_same (values number tag (x ∷ xs)) order s p q r t a b e = value_same (kind_in s.params x.form) s.params p q a.fills b.fills
 mode_same stuck order s p q r t a b e = absurd a
 
 -- no header fits behind the last byte
