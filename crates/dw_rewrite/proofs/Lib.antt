@@ -1,2 +1,5 @@
 pub mod FirstGrammar
 pub mod TableLaws
+pub mod ValueLaws
+pub mod CodeLaws
+pub mod UnitFactLaws
