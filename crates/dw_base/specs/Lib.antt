@@ -7,6 +7,7 @@ pub mod Texts
 pub mod Paths
 pub mod StringTables
 pub mod Elf
+pub mod ElfFails
 pub mod Layout
 pub mod Grammar
 pub mod Abbreviations
@@ -15,3 +16,5 @@ pub mod Mentions
 pub mod SectionNames
 pub mod Output
 pub mod First
+pub mod PlainReading
+pub mod PlainFirst
