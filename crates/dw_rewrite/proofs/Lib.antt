@@ -9,3 +9,5 @@ pub mod TextLimits
 pub mod Names
 pub mod UnitExits
 pub mod Walks
+pub mod PlacedLaws
+pub mod ChangeLaws

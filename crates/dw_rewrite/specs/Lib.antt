@@ -1,3 +1,4 @@
 pub mod FirstUnits
 pub mod PathPlaces
 pub mod Refuses
+pub mod Changes
