@@ -11,3 +11,4 @@ pub mod UnitExits
 pub mod Walks
 pub mod PlacedLaws
 pub mod ChangeLaws
+pub mod AskLaws

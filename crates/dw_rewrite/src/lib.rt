@@ -5,6 +5,7 @@
 //! Read first: `dw_base/specs/First.antt` and `dw_base/specs/Output.antt`.
 #![tactic(auto)]
 
+mod asks;
 mod refusal;
 mod table;
 mod texts;
