@@ -4,6 +4,7 @@ pub mod FieldLaws
 pub mod LebLaws
 pub mod StandardFacts
 pub mod TextLaws
+pub mod TableLaws
 pub mod PathLaws
 pub mod GrammarLaws
 pub mod UnitLaws
@@ -19,3 +20,9 @@ pub mod WorkedFiles1
 pub mod WorkedFiles2
 pub mod WorkedClasses
 pub mod WorkedRefusals
+pub mod PlainRuleComplete
+pub mod PlainNameComplete
+pub mod PlainUnitComplete
+pub mod PlainFixedPart
+pub mod PlainFirstComplete
+pub mod WorkedTrees
