@@ -1,9 +1,9 @@
 -- What becomes of a unit section and its string table, by the places of the paths.
-use Rattle.std.specs.Prelude.{Bool, true, ◌≡◌, ℕ, List, [], ◌∷◌, if◌then◌else◌, Option, Some, None, is_some}
+use Rattle.std.specs.Prelude.{Bool, true, ◌≡◌, ◌≢◌, ℕ, ◌+◌, List, length, [], ◌∷◌, if◌then◌else◌, Option, Some, None, is_some}
 use Rattle.dw_base.specs.Mentions.{Around, TableChange}
 use Rattle.dw_base.specs.Numbers.{spelled, with_number}
 use Rattle.dw_base.specs.Paths.{PathMap}
-use Rattle.dw_base.specs.StringTables.{Mention, Plan, with_mention, new_place, new_text}
+use Rattle.dw_base.specs.StringTables.{Mention, Plan, TextTable, with_mention, with_text, place_in, new_place, new_text}
 use Rattle.dw_base.specs.Texts.{text_in, is_in}
 
 -- the mention of the path at an offset of the string table
@@ -47,3 +47,12 @@ pub record IsNoted (plan : Plan) (around : Around) (known : ℕ → Option ℕ) 
 -- what was known is known
 pub record Remembers (old new : ℕ → Option ℕ) : Type 0 where
   pub each : (offset : ℕ) → is_some (old offset) ≡ true → is_some (new offset) ≡ true
+
+-- one place more is known
+pub record Adds (old new : ℕ → Option ℕ) (offset place : ℕ) : Type 0 where
+  pub here : new offset ≡ Some place
+  pub others : (other : ℕ) → other ≢ offset → new other ≡ old other
+
+-- the place of a text in a table that it was added to
+abbrev pub place_after : TextTable → List ℕ → ℕ
+place_after table t = length table.kept + place_in (with_text table.texts t) t

@@ -6,6 +6,8 @@
 #![tactic(auto)]
 
 mod asks;
+mod judge;
+mod known;
 mod refusal;
 mod table;
 mod texts;
