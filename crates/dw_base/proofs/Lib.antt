@@ -1,0 +1,5 @@
+pub mod ListLaws
+pub mod NumberLaws
+pub mod FieldLaws
+pub mod LebLaws
+pub mod StandardFacts
