@@ -3,3 +3,5 @@ pub mod NumberLaws
 pub mod FieldLaws
 pub mod LebLaws
 pub mod StandardFacts
+pub mod PathLaws
+pub mod TextLaws
