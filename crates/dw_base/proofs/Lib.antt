@@ -5,3 +5,4 @@ pub mod LebLaws
 pub mod StandardFacts
 pub mod PathLaws
 pub mod TextLaws
+pub mod TableLaws

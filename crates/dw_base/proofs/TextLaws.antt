@@ -1,7 +1,8 @@
 -- Laws of texts and of tables of texts: what was laid reads back, and stays as a table grows.
-use Rattle.std.proofs.Common.{◌≡◌, ℕ, zero, suc, ◌+◌, ◌<◌, ◌≤◌, Bool, true, false, ◌||◌, ◌==◌, if◌then◌else◌, List, [], ◌∷◌, ◌++◌, length, take, drop, refl, sym, ap, ◌∙◌, arith}
+use Rattle.std.specs.List.{position, position_or_len}
+use Rattle.std.proofs.Common.{◌≡◌, ℕ, zero, suc, ◌+◌, ◌<◌, ◌≤◌, Bool, true, false, ◌||◌, ◌==◌, if◌then◌else◌, List, [], ◌∷◌, ◌++◌, length, take, drop, refl, sym, ap, ◌∙◌, arith, Some, None, not}
 use Rattle.std.proofs.lemmas.List.{append_assoc, length-append, drop_at, drop-append-le, drop-drop, length-drop, take_at}
-use Rattle.std.proofs.lemmas.Bool.{eqb-true}
+use Rattle.std.proofs.lemmas.Bool.{eqb-true, lt-ltb, le-ltb}
 use Rattle.std.proofs.lemmas.Slice.Eq.{bytes_eq-Decides}
 use Rattle.dw_base.specs.Texts.{text, has_nul, text_in, ends_in, same_text, is_in, laid_texts}
 use Rattle.dw_base.specs.StringTables.{with_text, place_in}
@@ -245,3 +246,29 @@ pub place_in-lt : (ts : List (List ℕ)) (t : List ℕ) → is_in ts t ≡ true 
 place_in-lt ts t e =
     let p = drop-place_in ts t e in
     omega (arith, ap length p.1, length-append t (0 ∷ p.0), length-drop (place_in ts t) (laid_texts ts))
+
+-- without a NUL all bytes are the text
+pub text-whole : (xs : List ℕ) → has_nul xs ≡ false → text xs ≡ xs
+text-whole [] e = refl
+text-whole (x ∷ xs) e =
+    let parts = or-parts (x == 0) (has_nul xs) e in
+    text-cons_other x xs parts.0 ∙ ap (λ (r : List ℕ). x ∷ r) (text-whole xs parts.1)
+
+-- the first NUL stands behind the text
+pub position_or_len-text : (xs : List ℕ) → position_or_len (λ b. b == 0) xs ≡ length (text xs)
+position_or_len-text [] = refl
+position_or_len-text (x ∷ xs) = len-cases x (x == 0) xs (position_or_len-text xs)
+  where
+    len-cases : (x : ℕ) (test : Bool) (xs : List ℕ) → position_or_len (λ b. b == 0) xs ≡ length (text xs)
+        → (if not test then 1 + position_or_len (λ b. b == 0) xs else 0) ≡ length (if test then [] else x ∷ text xs)
+    len-cases x true xs e = refl
+    len-cases x false xs e = omega (arith, e)
+
+position-cases : (xs : List ℕ) (test : Bool) → has_nul xs ≡ test → position (λ b. b == 0) xs ≡ (if test then Some (length (text xs)) else None)
+position-cases xs true e = rw (position_or_len-text xs, lt-ltb (length (text xs)) (length xs) (length-text xs e)) refl
+position-cases xs false e =
+    let whole : length (text xs) ≡ length xs = ap length (text-whole xs e) in
+    rw (position_or_len-text xs, le-ltb (length (text xs)) (length xs) (omega arith)) refl
+
+pub position-text : (xs : List ℕ) → position (λ b. b == 0) xs ≡ (if has_nul xs then Some (length (text xs)) else None)
+position-text xs = position-cases xs (has_nul xs) refl
