@@ -1,0 +1,5 @@
+pub mod Rows
+pub mod NulLaws
+pub mod SectionLaws
+pub mod ElfFileLaws
+pub mod FixedLaws
