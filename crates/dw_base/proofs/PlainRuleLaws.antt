@@ -1,13 +1,13 @@
 -- Where the plain tests of headers, sections and names pass, the rules hold.
-use Rattle.std.proofs.Common.{◌≡◌, ◌≢◌, ℕ, zero, suc, ◌+◌, ◌*◌, ◌^◌, ◌==◌, ◌<◌, Bool, true, false, ◌||◌, not, List, length, refl, sym, ap, ◌∙◌, subst, arith, inl, inr, count_ones}
+use Rattle.std.proofs.Common.{◌≡◌, ◌≢◌, ℕ, zero, suc, ◌+◌, ◌*◌, ◌^◌, ◌==◌, ◌<◌, ◌⊎◌, Bool, true, false, ◌&&◌, ◌||◌, not, List, length, sym, ap, ◌∙◌, subst, arith, inl, inr, count_ones}
 use Rattle.std.specs.Prelude.{nat_le}
 use Rattle.std.specs.Int.{is_power_of_two}
-use Rattle.std.proofs.lemmas.Bool.{true≢false, and_parts, or_cases, eqb-true, eqb-false, ltb-true, leb-true, not-true, cases_lt, eq-eqb, ne_eqb}
+use Rattle.std.proofs.lemmas.Bool.{true≢false, and_parts, or_cases, or_left, or_right, eqb-true, eqb-false, ltb-true, leb-true, not-true, cases_lt, eq-eqb, ne_eqb}
 use Rattle.std.proofs.lemmas.Nat.{ones_cat, pow_pos}
 use Rattle.std.proofs.lemmas.Slice.Eq.{bytes_eq-Decides}
 use Rattle.dw_base.specs.Elf.{e_type, nth_section, section_count, section_name, is_empty_kind}
 use Rattle.dw_base.specs.First.{FirstHeader, FirstTable, is_alignment, FirstNamed, FirstPlaced, FirstSections, IsOnce, is_first_name, FirstNames}
-use Rattle.dw_base.specs.PlainFirst.{header_rules, header_test, table_rules, table_test, all_below, is_power_below, named_rules, is_named, place_rules, is_placed, sections_rules, sections_test, once_rules, once_at, names_rules, names_test}
+use Rattle.dw_base.specs.PlainFirst.{header_rules, header_test, table_rules, table_test, all_below, is_power_below, is_plain_alignment, named_rules, is_named, place_rules, is_placed, sections_rules, sections_test, once_rules, once_at, names_rules, names_test}
 use Rattle.dw_base.specs.SectionNames.{debug_info, debug_abbrev, debug_str, section_called}
 use Rattle.dw_base.specs.Texts.{same_text}
 use Rattle.dw_base.specs.declared.records.Section.{Section}
@@ -43,16 +43,16 @@ power-sound (suc k) n h =
       | inr below ↦ power-sound k n below
     ]
 
-align-sound : (n : ℕ) → (n == 0 || is_power_below 64 n) ≡ true → is_alignment n ≡ true
+align-sound : (n : ℕ) → is_plain_alignment n ≡ true → is_alignment n ≡ true
 align-sound n h =
-    elim (or_cases (n == 0) (is_power_below 64 n) h) [
-      | inl none ↦ ap (λ (t : Bool). t || is_power_of_two n) none
-      | inr power ↦ or-right (n == 0) (is_power_of_two n) (power-sound 64 n power)
+    elim (or_cases (n == 0) (is_power_below 64 n || (nat_le (2 ^ 64) n && is_power_of_two n)) h) [
+      | inl none ↦ or_left (n == 0) (is_power_of_two n) none
+      | inr some ↦ or_right (n == 0) (is_power_of_two n) (power (or_cases (is_power_below 64 n) (nat_le (2 ^ 64) n && is_power_of_two n) some))
     ]
   where
-    or-right : (x y : Bool) → y ≡ true → (x || y) ≡ true
-    or-right true y e = refl
-    or-right false y e = e
+    power : (is_power_below 64 n ≡ true) ⊎ ((nat_le (2 ^ 64) n && is_power_of_two n) ≡ true) → is_power_of_two n ≡ true
+    power (inl below) = power-sound 64 n below
+    power (inr above) = (and_parts (nat_le (2 ^ 64) n) (is_power_of_two n) above).1
 
 pub first_header-sound : (b : List ℕ) → header_test b ≡ true → FirstHeader b
 unfolding header_test

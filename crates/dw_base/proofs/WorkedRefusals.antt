@@ -1,7 +1,9 @@
 -- Files that are not First, each made of the smallest one by another byte, by the rule that fails.
 use Rattle.std.proofs.Common.{ℕ, List, [], ◌∷◌, ◌++◌, replicate, codes, refl}
 use Rattle.dw_base.proofs.WorkedFiles1.{one_unit}
-use Rattle.dw_base.proofs.WorkedParts.{file_header, section_header, unit, changed, Fails}
+use Rattle.dw_base.proofs.WorkedParts.{worked_map, file_header, section_header, unit, changed, Fails}
+use Rattle.dw_base.proofs.WorkedLaws.{worked_not_first}
+use Rattle.dw_base.specs.First.{IsFirst}
 use Rattle.dw_base.specs.Abbreviations.{abbreviations_at}
 use Rattle.dw_base.specs.Elf.{e_type, e_phnum, e_phoff, e_shoff, e_shentsize, e_shnum, e_shstrndx, class_of, order_of, nth_section, section_at, section_count, name_index, name_table, section_name, contents_of, contents_at, segments_of, nth_segment, segment_at, sections_of}
 use Rattle.dw_base.specs.Layout.{part_of, is_fixed, fixed_end, padding}
@@ -120,3 +122,7 @@ unfolding spelled e_type e_phnum e_phoff e_shoff e_shentsize e_shnum e_shstrndx 
     texts_test length_test plain_pieces plain_reads plain_units plain_length new_body new_info new_str str_change part_of is_fixed
     fixed_end padding lies_under mapped_path segments_of nth_segment segment_at sections_of
 padded_fails = record { rules = refl; first = refl }
+
+-- so it has no output
+pub padded-not_first : IsFirst worked_map padded → ⊥
+padded-not_first = worked_not_first padded_fails

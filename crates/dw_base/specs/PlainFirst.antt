@@ -1,6 +1,7 @@
 -- Whether a small file is First: each rule as a test that computes. For worked examples; nothing else stands on it.
 use Rattle.std.specs.Prelude.{Bool, true, false, ℕ, zero, suc, ◌+◌, ◌*◌, ◌^◌, ◌==◌, ◌&&◌, ◌||◌, not, bit_and, nat_lt, nat_le, List, [], ◌∷◌, length, drop, is_some}
 use Rattle.std.specs.List.{list_all}
+use Rattle.std.specs.Int.{is_power_of_two}
 use Rattle.dw_base.specs.Elf.{order_of, e_type, e_phnum, e_shentsize, e_shoff, e_shnum, e_shstrndx, nth_section, section_count, section_name, name_table, is_empty_kind}
 use Rattle.dw_base.specs.First.{file_limit, is_first_name, first_table}
 use Rattle.dw_base.specs.Grammar.{Step}
@@ -49,9 +50,13 @@ abbrev pub is_power_below : ℕ → ℕ → Bool
 is_power_below zero n = false
 is_power_below (suc k) n = n == 2 ^ k || is_power_below k n
 
+-- an alignment is 0 or a power of two; a count of digits would compute on small numbers alone
+abbrev pub is_plain_alignment : ℕ → Bool
+is_plain_alignment n = n == 0 || (is_power_below 64 n || (nat_le (2 ^ 64) n && is_power_of_two n))
+
 -- the tests of a section's alignment and name
 abbrev pub named_rules : List ℕ → Section → List Bool
-named_rules b s = (s.align == 0 || is_power_below 64 s.align) ∷ ends_in (name_table b) s.name ∷ []
+named_rules b s = is_plain_alignment s.align ∷ ends_in (name_table b) s.name ∷ []
 
 -- a section's alignment and name
 abbrev pub is_named : List ℕ → Section → Bool

@@ -1,7 +1,7 @@
 -- Plain readings of small files: slow functions that compute what the definitions of unit sections and of the
 -- output file say. They are here to be run on worked examples; nothing else stands on them.
-use Rattle.std.specs.Prelude.{Bool, true, false, ℕ, zero, suc, ◌+◌, ◌*◌, ◌==◌, ◌&&◌, ◌||◌, nat_lt, nat_le, if◌then◌else◌, List, [], ◌∷◌, length, take, drop, Option, Some, None, is_some}
-use Rattle.dw_base.specs.Abbreviations.{abbreviation_of, leb_numbers}
+use Rattle.std.specs.Prelude.{Bool, true, false, ℕ, zero, suc, ◌+◌, ◌*◌, ◌==◌, ◌&&◌, ◌||◌, nat_lt, nat_le, if◌then◌else◌, List, [], ◌∷◌, length, take, drop, Option, Some, None, is_some, ⊤}
+use Rattle.dw_base.specs.Abbreviations.{abbreviation_of}
 use Rattle.dw_base.specs.Elf.{class_of, order_of, word_size, shdr_size, section_count}
 use Rattle.dw_base.specs.First.{readings}
 use Rattle.dw_base.specs.Grammar.{Step, joined}
@@ -27,15 +27,15 @@ abbrev pub value_size : ValueKind → Params → ℕ
 value_size (text_offset table) params = offset_size params.width
 value_size unlisted params = 0
 
--- the bytes of the first LEB128 number, none where it doesn't end
-abbrev pub first_number : List (List ℕ) → List ℕ
-first_number [] = []
-first_number (t ∷ ts) = t
+-- how many bytes were read, 0 where no number ends
+abbrev pub size_read : Option (ℕ × ℕ) → ℕ
+size_read None = 0
+size_read (Some v) = v.1
 
 -- how many bytes the next piece has
 abbrev pub piece_size : Mode → Params → List ℕ → ℕ
 piece_size header params rest = 11
-piece_size code params rest = length (first_number (leb_numbers rest))
+piece_size code params rest = size_read (uleb_within (uleb rest))
 piece_size (values number tag []) params rest = 0
 piece_size (values number tag (x ∷ xs)) params rest = value_size (kind_in params x.form) params
 piece_size stuck params rest = 0
@@ -48,16 +48,18 @@ is_over code rest = false
 is_over (values number tag specs) rest = false
 is_over stuck rest = true
 
+-- the list, unless this is over
+abbrev pub unless : Bool → (⊤ → List (List ℕ)) → List (List ℕ)
+unless true more = []
+unless false more = more tt
+
 -- at most so many pieces of the bytes, from a state on
 abbrev pub cut_from : ℕ → Order → List ℕ → UnitState → List ℕ → List (List ℕ)
 cut_from zero order abbrevs s rest = []
 cut_from (suc fuel) order abbrevs s rest =
-    elim (is_over s.mode rest) as (λ b. List (List ℕ)) [
-      | true ↦ []
-      | false ↦
-          let p : List ℕ = take (piece_size s.mode s.params rest) rest in
-          p ∷ cut_from fuel order abbrevs (past s.mode order abbrevs s p) (drop (length p) rest)
-    ]
+    unless (is_over s.mode rest) (λ u.
+    let p : List ℕ = take (piece_size s.mode s.params rest) rest in
+    p ∷ cut_from fuel order abbrevs (past s.mode order abbrevs s p) (drop (length p) rest))
 
 -- pieces of these bytes, each in the state after the one before
 abbrev pub stepped : Order → List ℕ → UnitState → List (List ℕ) → List (Step UnitState)

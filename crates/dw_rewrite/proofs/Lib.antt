@@ -11,3 +11,6 @@ pub mod UnitExits
 pub mod Walks
 pub mod PlacedLaws
 pub mod ChangeLaws
+pub mod AskLaws
+pub mod KnownLaws
+pub mod JudgeLaws

@@ -1,14 +1,18 @@
 -- What becomes of a unit section and its string table, by the places of the paths.
-use Rattle.std.specs.Prelude.{Bool, true, ℕ, List, [], ◌∷◌, if◌then◌else◌}
+use Rattle.std.specs.Prelude.{Bool, true, ◌≡◌, ◌≢◌, ℕ, ◌+◌, List, length, [], ◌∷◌, if◌then◌else◌, Option, Some, None, is_some}
 use Rattle.dw_base.specs.Mentions.{Around, TableChange}
 use Rattle.dw_base.specs.Numbers.{spelled, with_number}
 use Rattle.dw_base.specs.Paths.{PathMap}
-use Rattle.dw_base.specs.StringTables.{Mention, Plan, with_mention, new_place}
-use Rattle.dw_base.specs.Texts.{text_in}
+use Rattle.dw_base.specs.StringTables.{Mention, Plan, TextTable, with_mention, with_text, place_in, new_place, new_text}
+use Rattle.dw_base.specs.Texts.{text_in, is_in}
+
+-- the mention of the path at an offset of the string table
+abbrev pub path_of : Around → ℕ → Mention
+path_of around offset = record { path = true; text = text_in around.str offset }
 
 -- the mention of the path whose offset stands at a place
 abbrev pub path_at : Around → List ℕ → ℕ → Mention
-path_at around info place = record { path = true; text = text_in around.str (spelled around.order info place 4) }
+path_at around info place = path_of around (spelled around.order info place 4)
 
 -- the new texts after the paths at these places
 abbrev pub texts_at : Plan → PathMap → Around → List ℕ → List (List ℕ) → List ℕ → List (List ℕ)
@@ -25,3 +29,30 @@ patched_at change m around info out p =
 abbrev pub patched : TableChange → PathMap → Around → List ℕ → List ℕ → List ℕ → List ℕ
 patched change m around info out [] = out
 patched change m around info out (p ∷ ps) = patched change m around info (patched_at change m around info out p) ps
+
+-- the path at an offset asks for a new place, and this is it
+pub record KnownPlace (plan : Plan) (m : PathMap) (around : Around) (ts : List (List ℕ)) (offset place : ℕ) : Type 0 where
+  pub asks : plan.asks (path_of around offset) ≡ true
+  pub there : is_in ts (new_text m (path_of around offset)) ≡ true
+  pub place_is : place ≡ new_place plan m ts (path_of around offset)
+
+-- the places that are known are those of the new texts
+pub record Knows (plan : Plan) (m : PathMap) (around : Around) (ts : List (List ℕ)) (known : ℕ → Option ℕ) : Type 0 where
+  pub each : (offset place : ℕ) → known offset ≡ Some place → KnownPlace plan m around ts offset place
+
+-- the new place of the path at an offset is known, if it asks for one
+pub record IsNoted (plan : Plan) (around : Around) (known : ℕ → Option ℕ) (offset : ℕ) : Type 0 where
+  pub noted : plan.asks (path_of around offset) ≡ true → is_some (known offset) ≡ true
+
+-- what was known is known
+pub record Remembers (old new : ℕ → Option ℕ) : Type 0 where
+  pub each : (offset : ℕ) → is_some (old offset) ≡ true → is_some (new offset) ≡ true
+
+-- one place more is known
+pub record Adds (old new : ℕ → Option ℕ) (offset place : ℕ) : Type 0 where
+  pub here : new offset ≡ Some place
+  pub others : (other : ℕ) → other ≢ offset → new other ≡ old other
+
+-- the place of a text in a table that it was added to
+abbrev pub place_after : TextTable → List ℕ → ℕ
+place_after table t = length table.kept + place_in (with_text table.texts t) t
