@@ -11,3 +11,4 @@ pub mod Fits
 pub mod Loops
 pub mod Calls
 pub mod Safe
+mod WorkedFacts
