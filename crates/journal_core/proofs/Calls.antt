@@ -3,13 +3,14 @@
 use Rattle.std.proofs.Common.{◌≡◌, ◌≢◌, ℕ, ◌<◌, Bool, ◌&&◌, eqb, ltb, List, get_or, set, refl, sym, ◌∙◌, ap, subst, inl, inr, arith, IsTrue, eqb-true, ltb-true}
 use Rattle.std.proofs.lemmas.Bool.{cases_eq, and_parts}
 use Rattle.std.proofs.lemmas.List.{set-get_or}
+use Rattle.journal_core.specs.declared.event.Event.{Event}
 use Rattle.journal_core.specs.declared.event.Event.TheVariants.{Propose, Adopt, Stage, Finish, Close}
 use Rattle.journal_core.specs.declared.event.JobState.{JobState}
 use Rattle.journal_core.specs.declared.event.JobState.TheVariants.{Fresh, Ready, Going, Done}
 use Rattle.journal_core.specs.declared.event.Phase.{Phase}
 use Rattle.journal_core.specs.declared.event.Phase.TheVariants.{Empty, Proposed, Running, Finishing, Closing, Closed}
 use Rattle.journal_core.specs.Names.{IsStep, plan_new, temp, commit, fresh}
-use Rattle.journal_core.specs.Table.{CoreState, state_of, is_fresh, is_ready, is_going, is_running, all_done, allows, may_finish, may_close}
+use Rattle.journal_core.specs.Table.{CoreState, state_of, is_fresh, is_ready, is_going, is_running, all_done, allows, after, next_of, may_finish, may_close}
 use Rattle.journal_core.specs.Marks.{Mark, Marking, absent, whole, marked, with_one}
 use Rattle.journal_core.specs.Shapes.{IsUntouched}
 use Rattle.journal_core.specs.Relation.{EachDone, free, slot, JobShows, IsLive, Shows, empty, proposed, settled, running, finishing, closing, closed}
@@ -19,6 +20,11 @@ use Rattle.journal_core.proofs.Jobs.{job_changed, row_same, free_here}
 use Rattle.journal_core.proofs.JobEvents.{fresh_is, ready_is, going_is, fresh_not_done, ready_not_done, going_not_done, row_at, source_is_whole, slot_same, still_there}
 use Rattle.journal_core.proofs.Ending.{early_not_ready, early_not_going, done_not_ready, done_not_going, absent_loose, live_end}
 use Rattle.journal_core.proofs.Events.{never, early_proposed}
+
+-- ### The next core
+
+pub next_of-allowed : (c : CoreState) (e : Event) → IsTrue (allows c e) → next_of c e ≡ after c e
+next_of-allowed c e al = rw al refl
 
 -- ### An event of a job comes while the run is running
 

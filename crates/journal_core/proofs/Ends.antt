@@ -9,33 +9,33 @@ use Rattle.journal_core.specs.Table.{CoreState, is_done}
 use Rattle.journal_core.specs.Marks.{Mark, Marking, absent, first, whole, any, is_absent, is_any}
 use Rattle.journal_core.specs.Shapes.{IsUntouched, IsLeft, IsMoved, JobShape, untouched, committed, none_there, is_job_done, waiting, IsUnderway, HasShape}
 use Rattle.journal_core.specs.Relation.{ahead, EachDone, free, staged, safe, moved, SlotShows, IsPut, JobShows, IsLive, Shows, empty, proposed, settled, running, finishing, closing, closed}
-use Rattle.journal_core.specs.Law.{JobShown, anew, going, done, EachShown, Shown}
+use Rattle.journal_core.specs.Starts.{JobShown, anew, going, done, EachShown, Shown}
 use Rattle.journal_core.proofs.Rows.{is-done, done_is, one_less}
 use Rattle.journal_core.proofs.Ending.{any_loose, whole_loose, row_nothing}
 
 -- ### Names that are there
 
-absent_is : (x : Mark) → IsTrue (is_absent x) → x ≡ absent
+pub absent_is : (x : Mark) → IsTrue (is_absent x) → x ≡ absent
 absent_is absent h = refl
 absent_is first h = cc
 absent_is whole h = cc
 absent_is any h = cc
 
-is-absent : (x : Mark) → x ≡ absent → IsTrue (is_absent x)
+pub is-absent : (x : Mark) → x ≡ absent → IsTrue (is_absent x)
 is-absent x e = rw e refl
 
-any_there : (x : Mark) → IsTrue (is_any x) → x ≢ absent
+pub any_there : (x : Mark) → IsTrue (is_any x) → x ≢ absent
 any_there absent h e = let b : false ≡ true = h in cc
 any_there first h e = cc
 any_there whole h e = cc
 any_there any h e = cc
 
-none_there_from : (t : ℕ → Mark) (n : ℕ) → ((k : ℕ) → k < n → t k ≡ absent) → IsTrue (none_there t n)
+pub none_there_from : (t : ℕ → Mark) (n : ℕ) → ((k : ℕ) → k < n → t k ≡ absent) → IsTrue (none_there t n)
 none_there_from t zero each = refl
 none_there_from t (suc n) each =
     and_from (is_absent (t n)) (none_there t n) (is-absent (t n) (each n (omega arith))) (none_there_from t n (λ k l. each k (omega arith)))
 
-none_there_each : (t : ℕ → Mark) (n : ℕ) → IsTrue (none_there t n) → (k : ℕ) → k < n → t k ≡ absent
+pub none_there_each : (t : ℕ → Mark) (n : ℕ) → IsTrue (none_there t n) → (k : ℕ) → k < n → t k ≡ absent
 none_there_each t zero h k l = absurd (omega arith)
 none_there_each t (suc n) h k l =
     let parts = and_parts (is_absent (t n)) (none_there t n) h in

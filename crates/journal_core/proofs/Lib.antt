@@ -11,4 +11,6 @@ pub mod Fits
 pub mod Loops
 pub mod Calls
 pub mod Safe
+pub mod Starts
+pub mod ByName
 mod WorkedFacts

@@ -11,7 +11,8 @@ use Rattle.journal_core.specs.Table.{CoreState, allows, after}
 use Rattle.journal_core.specs.Marks.{Mark, Marking, MarkChange, absent, first, whole, any, is_any, is_whole, changes_of, changed, all_changed}
 use Rattle.journal_core.specs.Shapes.{HasShape}
 use Rattle.journal_core.specs.Relation.{Shows}
-use Rattle.journal_core.specs.Law.{Shown, NamedEvent, World, begun, with_changes, with_settle, is_settle, stepped, run, MayCome, MayRun, stopped, EveryStop, SettledWhole, EverySettledWhole, EveryRunShows}
+use Rattle.journal_core.specs.Starts.{Shown}
+use Rattle.journal_core.specs.Law.{NamedEvent, World, begun, with_changes, with_settle, is_settle, stepped, run, MayCome, MayRun, stopped, EveryStop, SettledWhole, EverySettledWhole, EveryRunShows}
 use Rattle.journal_core.proofs.Settled.{shows_wider, settle_shows}
 use Rattle.journal_core.proofs.Events.{event_shows}
 use Rattle.journal_core.proofs.Safe.{shows_settled, settled_kept}

@@ -12,7 +12,8 @@ use Rattle.journal_core.specs.Table.{CoreState, allows, after, new_core, resumed
 use Rattle.journal_core.specs.Marks.{Mark, Marking, absent, first, whole, any, is_any}
 use Rattle.journal_core.specs.Shapes.{JobShape, untouched, committed, HasShape}
 use Rattle.journal_core.specs.Relation.{ahead}
-use Rattle.journal_core.specs.Law.{Shown, NamedEvent, World, begun, run, MayRun, stopped}
+use Rattle.journal_core.specs.Starts.{Shown}
+use Rattle.journal_core.specs.Law.{NamedEvent, World, begun, run, MayRun, stopped}
 use Rattle.journal_core.proofs.Targets.{targets_law}
 
 -- ### Rows of the table

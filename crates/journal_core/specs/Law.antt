@@ -1,39 +1,14 @@
 -- The law of every stop: from any shape, after any events that the table allows, a stop leaves a shape.
-use Rattle.std.specs.Prelude.{◌≡◌, ◌≢◌, ℕ, ◌<◌, ◌≤◌, Bool, true, false, if◌then◌else◌, List, [], ◌∷◌, ◌++◌, length, get_or, take, IsTrue}
+use Rattle.std.specs.Prelude.{◌≡◌, ℕ, ◌<◌, ◌≤◌, Bool, true, false, if◌then◌else◌, List, [], ◌∷◌, ◌++◌, length, take, IsTrue}
 use Rattle.journal_core.specs.declared.event.Event.{Event}
 use Rattle.journal_core.specs.declared.event.Event.TheVariants.{Propose, Adopt, Stage, Settle, Commit, Move, Finish, Close, Clear}
-use Rattle.journal_core.specs.declared.event.JobState.{JobState}
-use Rattle.journal_core.specs.declared.event.JobState.TheVariants.{Fresh, Going, Done}
 use Rattle.journal_core.specs.declared.event.Phase.TheVariants.{Proposed, Finishing, Closing}
 use Rattle.journal_core.specs.Names.{Name, IsStep, EachHasStep}
-use Rattle.journal_core.specs.Table.{CoreState, allows, after, state_of, new_core, resumed_core, closed_core}
-use Rattle.journal_core.specs.Marks.{Mark, Marking, MarkChange, absent, whole, any, is_any, is_whole, changes_of, all_changed}
-use Rattle.journal_core.specs.Shapes.{IsUnplanned, IsUnderway, IsFinished, HasShape}
+use Rattle.journal_core.specs.Table.{CoreState, allows, after, state_of}
+use Rattle.journal_core.specs.Marks.{Mark, Marking, MarkChange, whole, any, is_any, is_whole, changes_of, all_changed}
+use Rattle.journal_core.specs.Shapes.{HasShape}
+use Rattle.journal_core.specs.Starts.{Shown}
 use Rattle.journal_core.specs.Relation.{IsNear, IsFor, safe, slot, Shows}
-
--- ### The core that a shape shows
-
--- a job of n steps: not committed, so nothing of it counts as staged; committed, with a least
--- temporary name; or committed with none left
-pub data JobShown (n : ℕ) (commit : Mark) (temp : ℕ → Mark) : JobState → Type 0 where
-  anew : commit ≡ absent → JobShown n commit temp (Fresh 0)
-  going : IsTrue (is_any commit) → (least : ℕ) → least < n
-      → temp least ≢ absent → ((k : ℕ) → k < least → temp k ≡ absent)
-      → JobShown n commit temp (Going least)
-  done : IsTrue (is_any commit) → ((k : ℕ) → k < n → temp k ≡ absent) → JobShown n commit temp Done
-
-abbrev pub EachShown : List ℕ → List JobState → Marking → Type 0
-EachShown steps states m = (j : ℕ) → j < length steps
-    → JobShown (get_or steps j 0) (m.commit j) (m.temp j) (get_or states j Done)
-
--- a marking of one of the shapes, and the core that it shows
-pub data Shown (steps : List ℕ) (m : Marking) : CoreState → Type 0 where
-  unplanned : IsUnplanned steps m
-      → Shown steps m (new_core steps)
-  underway : {ss : List JobState} → IsUnderway steps m → length ss ≡ length steps → EachShown steps ss m
-      → Shown steps m (resumed_core steps ss)
-  finished : IsFinished steps m
-      → Shown steps m closed_core
 
 -- ### A run from there
 

@@ -5,5 +5,6 @@ pub mod Names
 pub mod Marks
 pub mod Shapes
 pub mod Relation
+pub mod Starts
 pub mod Law
 pub mod Calls

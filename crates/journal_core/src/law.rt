@@ -16,6 +16,7 @@ ghost use Rattle.journal_core.specs.Law.{
 };
 ghost use Rattle.journal_core.specs.Calls.{EveryPutNamed, EveryMoveNamed, EverySourceWhole, EveryPutUndone};
 ghost use Rattle.journal_core.specs.Shapes.{TargetsOldOrWhole};
+ghost use Rattle.journal_core.specs.Starts.{EveryShapeShown};
 
 /// From a marking of one of the three shapes, with the core that it shows, and after any events
 /// that the table allows, in any interleaving of jobs, with each staging of one of the first 64
@@ -36,22 +37,32 @@ pub fn every_stop()
 
 /// In every shape each target is as it was at first, or whole.
 pub fn targets_old_or_whole()
-    ensures { TargetsOldOrWhole }
+    ensures old_or_whole { TargetsOldOrWhole }
 {}
 
 /// The steps of the law, for a caller whose runs are traces of tree calls.
 pub fn every_step()
+    // Each shape shows one core, and the relation holds there, in every reading.
+    ensures shown { EveryShapeShown }
+    ensures start { EveryStartShown }
+
+    // Each event but a settle keeps the relation, in either reading. A settle keeps it as it reads
+    // what is there, and that reading implies what a stop may leave.
     ensures event { EveryEventKept }
     ensures settle { EverySettleKept }
     ensures wider { WiderShown }
-    ensures start { EveryStartShown }
+
+    // And what a stop may leave has a shape.
     ensures shape { EveryTornHasShape }
 {}
 
 /// What the relation says of the names that a call writes.
 pub fn every_call()
+    // What an allowed event puts or renames is a name of the run, and what it renames is whole.
     ensures put_named { EveryPutNamed }
     ensures move_named { EveryMoveNamed }
     ensures source_whole { EverySourceWhole }
+
+    // Where a put leaves nothing at its name, the core from before it is still shown.
     ensures put_undone { EveryPutUndone }
 {}

@@ -1,6 +1,7 @@
 use Rattle.journal_core.proofs.Events.{event_shows}
 use Rattle.journal_core.proofs.Settled.{settle_shows, shows_wider}
 use Rattle.journal_core.proofs.Ends.{shows_shape, shown_shows}
+use Rattle.journal_core.proofs.Starts.{shape_shown}
 use Rattle.journal_core.proofs.law.every_step.Goals as goal
 
 pub returns-clause-event : goal.returns-clause-event
@@ -17,3 +18,6 @@ returns-clause-start c = shown_shows
 
 pub returns-clause-shape : goal.returns-clause-shape
 returns-clause-shape c = shows_shape
+
+pub returns-clause-shown : goal.returns-clause-shown
+returns-clause-shown c = shape_shown
