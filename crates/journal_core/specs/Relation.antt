@@ -13,7 +13,7 @@ use Rattle.journal_core.specs.Fit.{fits}
 use Rattle.journal_core.specs.Names.{IsStep, Name, IsClearable}
 use Rattle.journal_core.specs.Table.{CoreState, is_done}
 use Rattle.journal_core.specs.Marks.{Mark, Marking, absent, first, whole, is_any, is_loose, is_kept}
-use Rattle.journal_core.specs.Shapes.{IsUntouched, IsLeft, IsMoved, HasNothing, HasNoEnd, IsFinished}
+use Rattle.journal_core.specs.Shapes.{most_in_flight, IsUntouched, IsLeft, IsMoved, HasNothing, HasNoEnd, IsFinished}
 
 -- ### Jobs in flight
 
@@ -26,7 +26,7 @@ ahead states (suc j) = ahead states j + (if is_done (get_or states j Done) then 
 abbrev pub IsNear : CoreState → Event → Type 0
 IsNear c Propose = Unit {0}
 IsNear c Adopt = Unit {0}
-IsNear c (Stage job step) = ahead c.states job < 64
+IsNear c (Stage job step) = ahead c.states job < most_in_flight
 IsNear c Settle = Unit {0}
 IsNear c (Commit job) = Unit {0}
 IsNear c (Move job step) = Unit {0}
@@ -106,7 +106,7 @@ pub record IsLive (p : Mark → Bool) (steps : List ℕ) (states : List JobState
   pub finished : m.final 3 ≡ absent
   pub jobs : (j : ℕ) → j < length steps
       → JobShows p (get_or steps j 0) (get_or states j Done) (m.commit j) (m.temp j) (m.target j)
-  pub window : (j k : ℕ) → IsStep steps j k → m.temp j k ≢ absent → ahead states j < 64
+  pub window : (j k : ℕ) → IsStep steps j k → m.temp j k ≢ absent → ahead states j < most_in_flight
   pub fresh : (i : ℕ) → i < 4 → IsTrue (is_loose (m.fresh i))
   pub lists : (i : ℕ) → i < 3 → IsTrue (is_kept (m.final i))
   pub end_last : EachDone states ⊎ HasNoEnd m

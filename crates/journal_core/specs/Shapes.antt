@@ -43,6 +43,10 @@ none_there temp (suc n) = is_absent (temp n) && none_there temp n
 abbrev pub is_job_done : List ℕ → Marking → ℕ → Bool
 is_job_done steps m j = is_any (m.commit j) && none_there (m.temp j) (get_or steps j 0)
 
+-- as many jobs may have temporary names at once
+abbrev pub most_in_flight : ℕ
+most_in_flight = 64
+
 -- how many jobs before this one aren't done
 abbrev pub waiting : List ℕ → Marking → ℕ → ℕ
 waiting steps m zero = 0
@@ -75,8 +79,8 @@ pub record IsUnderway (steps : List ℕ) (m : Marking) : Type 0 where
   pub plan : m.plan ≡ whole
   pub finished : m.final 3 ≡ absent
   pub jobs : (j : ℕ) → j < length steps → JobShape (get_or steps j 0) (m.commit j) (m.temp j) (m.target j)
-  -- a job with a temporary name is among the first 64 that aren't done
-  pub window : (j k : ℕ) → IsStep steps j k → m.temp j k ≢ absent → waiting steps m j < 64
+  -- a job with a temporary name is one of the first 64 that aren't done
+  pub window : (j k : ℕ) → IsStep steps j k → m.temp j k ≢ absent → waiting steps m j < most_in_flight
   -- only where all jobs are done, what is put of the end may be there, and the lists, whole
   pub fresh : (i : ℕ) → i < 4 → IsTrue (is_loose (m.fresh i))
   pub lists : (i : ℕ) → i < 3 → IsTrue (is_kept (m.final i))
