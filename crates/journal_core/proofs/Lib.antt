@@ -12,5 +12,6 @@ pub mod Loops
 pub mod Calls
 pub mod Safe
 pub mod Starts
+pub mod Uncommitted
 pub mod ByName
 mod WorkedFacts

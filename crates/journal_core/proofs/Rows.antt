@@ -1,5 +1,5 @@
 -- Rows of marks and of states: what a write leaves, and how many jobs are ahead of one.
-use Rattle.std.proofs.Common.{◌≡◌, ◌≢◌, ℕ, suc, zero, ◌<◌, ◌≤◌, Bool, true, false, cond, List, [], ◌∷◌, map, length, get_or, set, refl, subst, inl, inr, arith, IsTrue, eq-eqb, ne_eqb, get_or-set_other}
+use Rattle.std.proofs.Common.{◌≡◌, ◌≢◌, ℕ, suc, zero, ◌+◌, ◌-◌, ◌<◌, ◌≤◌, Bool, true, false, cond, List, [], ◌∷◌, map, length, get_or, set, refl, sym, subst, inl, inr, arith, IsTrue, eq-eqb, ne_eqb, get_or-set_other}
 use Rattle.std.proofs.lemmas.Bool.{cases_eq, cases_lt, and_parts}
 use Rattle.std.proofs.lemmas.List.{get_or_past}
 use Rattle.journal_core.specs.declared.event.JobState.{JobState}
@@ -84,3 +84,17 @@ ahead-set ss j s ne n = ahead-less ss (set ss j s)
       | inr other ↦ rw (get_or-set_other ss j i s Done other) h
     ])
     n
+
+-- where the first so many jobs are done, at most the rest is ahead
+pub ahead-most : (ss : List JobState) (done : ℕ) → ((i : ℕ) → i < done → get_or ss i Done ≡ Done) → (n : ℕ) → ahead ss n ≤ n - done
+ahead-most ss done each zero = omega arith
+ahead-most ss done each (suc n) =
+    let before : ahead ss n ≤ n - done = ahead-most ss done each n in
+    elim (cases_lt n done) [
+      | inl l ↦ subst (λ (b : Bool). ahead ss n + cond b 0 1 ≤ suc n - done) (sym (is-done _ (each n l))) (omega arith)
+      | inr l ↦ let one = at_most_one (is_done (get_or ss n Done)) in omega arith
+    ]
+  where
+    at_most_one : (b : Bool) → cond b 0 1 ≤ 1
+    at_most_one true = omega arith
+    at_most_one false = omega arith

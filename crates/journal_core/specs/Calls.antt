@@ -1,10 +1,12 @@
--- Which name an event puts or renames, one for one, and what the relation says of such names.
-use Rattle.std.specs.Prelude.{◌≡◌, ℕ, Bool, IsTrue, List}
+-- Which name an event puts or renames, one for one, and what the relation says of these and of targets.
+use Rattle.std.specs.Prelude.{◌≡◌, ℕ, Bool, true, false, IsTrue, List}
 use Rattle.journal_core.specs.declared.event.Event.{Event}
 use Rattle.journal_core.specs.declared.event.Event.TheVariants.{Propose, Adopt, Stage, Commit, Move, Finish, Close}
-use Rattle.journal_core.specs.Names.{Name, plan_new, plan, temp, commit, fresh, final, target, IsName}
-use Rattle.journal_core.specs.Table.{CoreState, allows}
-use Rattle.journal_core.specs.Marks.{Mark, Marking, mark, marked, absent, whole}
+use Rattle.journal_core.specs.declared.event.JobState.{JobState}
+use Rattle.journal_core.specs.declared.event.JobState.TheVariants.{Fresh, Staged, Ready, Going, Done}
+use Rattle.journal_core.specs.Names.{Name, IsStep, plan_new, plan, temp, commit, fresh, final, target, IsName}
+use Rattle.journal_core.specs.Table.{CoreState, allows, state_of}
+use Rattle.journal_core.specs.Marks.{Mark, Marking, mark, marked, absent, first, whole}
 use Rattle.journal_core.specs.Relation.{Shows}
 
 -- the event puts the name
@@ -43,3 +45,16 @@ EverySourceWhole = (p : Mark → Bool) (steps : List ℕ) (c : CoreState) (m : M
 abbrev pub EveryPutUndone : Type 0
 EveryPutUndone = (p : Mark → Bool) (steps : List ℕ) (c : CoreState) (m : Marking) (e : Event) (n : Name)
     → Shows p steps c m → Puts e n → IsTrue (allows c e) → Shows p steps c (marked m n absent)
+
+-- a job that isn't committed
+abbrev pub is_uncommitted : JobState → Bool
+is_uncommitted (Fresh staged) = true
+is_uncommitted Staged = true
+is_uncommitted Ready = true
+is_uncommitted (Going moved) = false
+is_uncommitted Done = false
+
+-- has its targets as they were at first
+abbrev pub EveryUncommittedOld : Type 0
+EveryUncommittedOld = (p : Mark → Bool) (steps : List ℕ) (c : CoreState) (m : Marking) (j k : ℕ)
+    → Shows p steps c m → IsStep steps j k → IsTrue (is_uncommitted (state_of c j)) → m.target j k ≡ first

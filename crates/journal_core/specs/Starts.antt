@@ -31,7 +31,7 @@ pub data Shown (steps : List ℕ) (m : Marking) : CoreState → Type 0 where
 
 -- ### Every shape shows one core
 
--- the least of the first n that is there, or n
+-- the least of the first n that is there, asked only where one is
 abbrev pub least_there : (ℕ → Mark) → ℕ → ℕ
 least_there temp zero = 0
 least_there temp (suc n) = if none_there temp n then n else least_there temp n

@@ -14,7 +14,7 @@ ghost use Rattle.journal_core.specs.Law.{
   EveryStartShown,
   EveryTornHasShape,
 };
-ghost use Rattle.journal_core.specs.Calls.{EveryPutNamed, EveryMoveNamed, EverySourceWhole, EveryPutUndone};
+ghost use Rattle.journal_core.specs.Calls.{EveryPutNamed, EveryMoveNamed, EverySourceWhole, EveryPutUndone, EveryUncommittedOld};
 ghost use Rattle.journal_core.specs.Shapes.{TargetsOldOrWhole};
 ghost use Rattle.journal_core.specs.Starts.{EveryShapeShown};
 
@@ -65,4 +65,7 @@ pub fn every_call()
 
     // Where a put leaves nothing at its name, the core from before it is still shown.
     ensures put_undone { EveryPutUndone }
+
+    // A job that isn't committed has its targets as they were at first, so what it read is still there.
+    ensures uncommitted_old { EveryUncommittedOld }
 {}

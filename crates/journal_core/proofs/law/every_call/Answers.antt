@@ -1,4 +1,5 @@
 use Rattle.journal_core.proofs.Calls.{put_name, move_names, source_whole, put_undone}
+use Rattle.journal_core.proofs.Uncommitted.{uncommitted_old}
 use Rattle.journal_core.proofs.law.every_call.Goals as goal
 
 pub returns-clause-put_named : goal.returns-clause-put_named
@@ -12,3 +13,6 @@ returns-clause-source_whole c = source_whole
 
 pub returns-clause-put_undone : goal.returns-clause-put_undone
 returns-clause-put_undone c = put_undone
+
+pub returns-clause-uncommitted_old : goal.returns-clause-uncommitted_old
+returns-clause-uncommitted_old c = uncommitted_old
