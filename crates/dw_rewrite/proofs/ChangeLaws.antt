@@ -16,7 +16,7 @@ use Rattle.dw_rewrite.specs.PathPlaces.{path_place, path_places}
 use Rattle.dw_rewrite.proofs.PlacedLaws.{Placed, SizeBy}
 
 -- a piece of four bytes is the number at its place
-piece_number : (o : Order) (p rest info : List ℕ) (place : ℕ) → p ++ rest ≡ drop place info → length p ≡ 4 → spelled o p 0 (length p) ≡ spelled o info place 4
+pub piece_number : (o : Order) (p rest info : List ℕ) (place : ℕ) → p ++ rest ≡ drop place info → length p ≡ 4 → spelled o p 0 (length p) ≡ spelled o info place 4
 piece_number o p rest info place e size =
     ap (spelled o p 0) size ∙ sym (spelled-append o p rest 0 4 (omega arith)) ∙ ap (λ (x : List ℕ). spelled o x 0 4) e
     ∙ spelled-drop o info place 0 4 ∙ ap (λ (i : ℕ). spelled o info i 4) (omega arith)

@@ -15,3 +15,7 @@ pub mod AskLaws
 pub mod KnownLaws
 pub mod JudgeLaws
 pub mod ChangedLaws
+pub mod WrittenLaws
+pub mod PathLaws
+pub mod RewriteLaws
+pub mod ExitLaws

@@ -3,3 +3,4 @@ pub mod PathPlaces
 pub mod Refuses
 pub mod Changes
 pub mod Judged
+pub mod Rewritten

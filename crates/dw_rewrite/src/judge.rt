@@ -200,7 +200,7 @@ fn all_fit(elf: &ElfFile) -> bool
 
 /// How many sections there are.
 #[tactic(auto, using(crate::proofs::JudgeLaws::count_laws))]
-fn section_count(elf: &ElfFile) -> u32
+pub(crate) fn section_count(elf: &ElfFile) -> u32
     requires table { FirstTable elf.now.bytes.now }
     ensures { result ≡ section_count elf.now.bytes.now }
 {
