@@ -9,8 +9,8 @@ ghost use Rattle.elf_file.specs.FileHeader.{file_header};
 ghost use Rattle.elf_file.specs.IsElf.{IsElf};
 
 use crate::header::{header_in, shape_fits};
-use crate::records::FileHeader;
 use crate::names::text_at;
+use crate::records::FileHeader;
 use crate::sections::{contents_in, names_end, sections_in};
 use crate::segments::{segments_in, segments_lie};
 use crate::tables::{counted, indexed, segment_table_lies};
@@ -112,7 +112,10 @@ impl ElfFile<'_> {
         if self.names == 0 {
             return &self.bytes[..0];
         }
-        text_at(self.contents(self.names), u64::from(self.section_of(section).name))
+        text_at(
+            self.contents(self.names),
+            u64::from(self.section_of(section).name),
+        )
     }
 
     /// Reads a file of debug data, whose segments may pass its end. Refused as `Header` or `Range`

@@ -9,7 +9,7 @@ ghost use Rattle.dw_base.specs.Layout.{alloc_ends, fixed_end, greatest, is_fixed
 use crate::elf::ElfFile;
 use crate::places::{file_header_size, program_header_place};
 use crate::sections::{lies_within, takes_no_room};
-use crate::slots::{off64_in, off32_in};
+use crate::slots::{off32_in, off64_in};
 use dw_base::elf_numbers::SHF_ALLOC;
 use dw_base::{Class, FileKind, Section, Segment};
 
