@@ -98,7 +98,7 @@ impl ElfFile<'_> {
     #[tactic(auto, using(crate::proofs::ElfFileLaws::file_laws), unfolding(dw_base::specs::Elf::contents_of))]
     pub fn contents(&self, section: u32) -> &[u8]
         requires there { section < section_count self.now.bytes.now }
-        ensures { result.now ≡ contents_of self.now.bytes.now section }
+        ensures contents { result.now ≡ contents_of self.now.bytes.now section }
     {
         contents_in(self.bytes, &self.section_of(section))
     }
@@ -107,7 +107,7 @@ impl ElfFile<'_> {
     #[tactic(auto, using(crate::proofs::ElfFileLaws::file_laws), unfolding(dw_base::specs::Elf::section_name, dw_base::specs::Elf::name_table))]
     pub fn section_name(&self, section: u32) -> &[u8]
         requires there { section < section_count self.now.bytes.now }
-        ensures { result.now ≡ section_name self.now.bytes.now section }
+        ensures name { result.now ≡ section_name self.now.bytes.now section }
     {
         if self.names == 0 {
             return &self.bytes[..0];
