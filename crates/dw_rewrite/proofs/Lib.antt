@@ -14,3 +14,4 @@ pub mod ChangeLaws
 pub mod AskLaws
 pub mod KnownLaws
 pub mod JudgeLaws
+pub mod ChangedLaws

@@ -38,11 +38,13 @@ pub(crate) fn note_path(
     requires inside { at + 4 ≤ length info.now }
     requires ends { ends_in str.now (spelled order info.now at 4) ≡ true }
     requires kept { pool.old.kept ≡ str.now }
+    requires small { length (table_bytes pool.old) ≤ output_limit }
     requires knows { Knows (appending maps.now str.now) maps.now (record { order = order; str = str.now }) pool.old.texts (λ o. get nat_cmp known.old o) }
     ensures kept { OnOk result (pool.new.kept ≡ str.now) }
     ensures texts { OnOk result (pool.new.texts ≡ with_mention (appending maps.now str.now) maps.now pool.old.texts (path_at (record { order = order; str = str.now }) info.now at)) }
     ensures knows { OnOk result (Knows (appending maps.now str.now) maps.now (record { order = order; str = str.now }) pool.new.texts (λ o. get nat_cmp known.new o)) }
     ensures noted { OnOk result (IsNoted (appending maps.now str.now) (record { order = order; str = str.now }) (λ o. get nat_cmp known.new o) (spelled order info.now at 4)) }
+    ensures small { OnOk result (length (table_bytes pool.new) ≤ output_limit) }
     ensures remembers { OnOk result (Remembers (λ o. get nat_cmp known.old o) (λ o. get nat_cmp known.new o)) }
     ensures refused { IfErr result (Blames (Refuses (length (table_bytes (record { kept = str.now; texts = with_mention (appending maps.now str.now) maps.now pool.old.texts (path_at (record { order = order; str = str.now }) info.now at) })) ≤ output_limit))) }
 {
@@ -69,6 +71,7 @@ fn add_path(
 ) -> Result<(), Fault>
     requires ends { ends_in str.now offset ≡ true }
     ensures pool { OnOk result (pool.new ≡ with_added pool.old (mapped_path maps.now (text_in str.now offset))) }
+    ensures small { OnOk result (length (table_bytes pool.new) ≤ output_limit) }
     ensures known { OnOk result (Adds (λ o. get nat_cmp known.old o) (λ o. get nat_cmp known.new o) offset (place_after pool.old (mapped_path maps.now (text_in str.now offset)))) }
     ensures refused { IfErr result (Blames (Refuses (length (table_bytes (with_added pool.old (mapped_path maps.now (text_in str.now offset)))) ≤ output_limit))) }
 {

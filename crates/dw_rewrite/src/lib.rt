@@ -6,6 +6,7 @@
 #![tactic(auto)]
 
 mod asks;
+mod change;
 mod judge;
 mod known;
 mod refusal;
