@@ -6,7 +6,7 @@ use super::samples::{
     AARCH64_EHDR, AARCH64_LINES, AARCH64_NAMES, AARCH64_PHDRS, AARCH64_SHDRS, Line, POWERPC_EHDR,
     POWERPC_LINES, POWERPC_NAMES, POWERPC_PHDRS, POWERPC_SHDRS,
 };
-use dw_base::{Class, Fault, FileKind, Kind, Order, Section, Segment, put_number};
+use dw_base::{Class, Fault, FileKind, Kind, Order, Refusal, Section, Segment, put_number};
 use std::alloc::{AllocError, Global};
 use std::process::Abort;
 use std::test::Fail;
@@ -77,12 +77,20 @@ fn one_unit_file(alloc: Global) -> Result<Vec<u8>, AllocError> {
     Ok(file)
 }
 
-/// How a file is refused by `read`: the kind, the section and the offset.
-fn read_refusal(rt: &impl Abort, alloc: Global, file: &[u8]) -> Option<(Kind, u32, u64)> {
+/// What `read` answers, without the records.
+fn answer_of(rt: &impl Abort, alloc: Global, file: &[u8]) -> Result<(), Fault> {
     assert!(rt; file.len() <= 0x8000_0000);
     match ElfFile::read(alloc, file) {
-        Err(Fault::Refused(refusal)) => Some((refusal.kind, refusal.section, refusal.offset)),
-        _ => None,
+        Ok(_) => Ok(()),
+        Err(fault) => Err(fault),
+    }
+}
+
+/// The answer that a file is refused with: none where it is read.
+fn wanted(refusal: Option<(Kind, u32, u64)>) -> Result<(), Fault> {
+    match refusal {
+        Some((kind, section, offset)) => Err(Fault::Refused(Refusal { kind, section, offset })),
+        None => Ok(()),
     }
 }
 
@@ -116,12 +124,12 @@ fn a_file_that_is_cut_is_refused(rt: HostRuntime) -> Result<(), Fail> {
             (Kind::Range, 0, 168)
         };
         assert_eq!(rt;
-            read_refusal(&rt, rt.alloc(), &file[..len]),
-            Some(want),
+            answer_of(&rt, rt.alloc(), &file[..len]),
+            wanted(Some(want)),
             "cut to {len}"
         );
     }
-    assert_eq!(rt; read_refusal(&rt, rt.alloc(), file.as_slice()), None);
+    assert_eq!(rt; answer_of(&rt, rt.alloc(), file.as_slice()), Ok(()));
     Ok(())
 }
 
@@ -202,8 +210,8 @@ fn a_changed_file_is_refused_at_its_place(rt: HostRuntime) -> Result<(), Fail> {
     for (changes, want) in CHANGED.iter() {
         let file = changed_file(&rt, rt.alloc(), changes.as_slice())?;
         assert_eq!(rt;
-            read_refusal(&rt, rt.alloc(), file.as_slice()),
-            *want,
+            answer_of(&rt, rt.alloc(), file.as_slice()),
+            wanted(*want),
             "{changes:?}"
         );
     }
@@ -383,8 +391,8 @@ fn a_segment_past_the_end_of_debug_data(rt: HostRuntime) -> Result<(), Fail> {
     assert!(rt; put_number(Order::Little, file.as_mut_slice(), 152, 8, 3017));
     assert_eq!(rt; file.len(), 3248);
     assert_eq!(rt;
-        read_refusal(&rt, rt.alloc(), file.as_slice()),
-        Some((Kind::Range, 0, 120))
+        answer_of(&rt, rt.alloc(), file.as_slice()),
+        wanted(Some((Kind::Range, 0, 120)))
     );
     let elf = ElfFile::read_debug(rt.alloc(), file.as_slice())?;
     assert_eq!(rt; elf.segments.len(), 3);
