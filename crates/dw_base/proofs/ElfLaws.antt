@@ -92,7 +92,7 @@ place_excludes b s i r ok (align h e) = let is = ok.align h in cc
 
 section_excludes : (b : List ℕ) (s : Section) (i : ℕ) (r : Refusal) → SectionReads b s → SectionFails b s i r → ⊥
 section_excludes b s i r ok (place h) = place_excludes b s i r ok.place h
-section_excludes b s i r ok (unended names lies h e) = let is = ok.name h in cc
+section_excludes b s i r ok (unended names h e) = let is = ok.name h in cc
 
 sections_excludes : (b : List ℕ) (r : Refusal) → SectionsRead b → SectionsFail b r → ⊥
 sections_excludes b r ok (one i lt h) = section_excludes b _ i r (ok.all i lt) h

@@ -89,16 +89,18 @@ pub record PlaceReads (b : List ℕ) (s : Section) : Type 0 where
   pub lies : is_empty_kind s ≡ false → s.size ≢ 0 → s.offset + s.size ≤ length b
   pub align : s.align ≢ 0 → is_power_of_two s.align ≡ true
 
--- the bytes of the section name table, where there is one, are in the file
-pub record NameTableLies (b : List ℕ) : Type 0 where
+-- the section name table, where there is one, is a string table that lies in the file
+pub record NameTableReads (b : List ℕ) : Type 0 where
+  pub there : name_index b ≢ 0 → name_index b < section_count b
+  pub strings : name_index b ≢ 0 → (nth_section b (name_index b)).kind ≡ SHT_STRTAB
   pub lies : name_index b ≢ 0 → (nth_section b (name_index b)).size ≢ 0
-    → (nth_section b (name_index b)).offset + (nth_section b (name_index b)).size ≤ length b
+      → (nth_section b (name_index b)).offset + (nth_section b (name_index b)).size ≤ length b
 
 -- a section can't be read, or its name has no NUL in the name table (gABI ch. 4 "Sections", "String Table")
 pub data SectionFails (b : List ℕ) (s : Section) (i : ℕ) : Refusal → Type 0 where
   place : {r : Refusal} → PlaceFails b s i r → SectionFails b s i r
-  unended : IndexReads b → NameTableLies b → name_index b ≢ 0 → ends_in (name_table b) s.name ≡ false
-    → SectionFails b s i (at Range i s.name)
+  unended : NameTableReads b → name_index b ≢ 0 → ends_in (name_table b) s.name ≡ false
+      → SectionFails b s i (at Range i s.name)
 
 pub record SectionReads (b : List ℕ) (s : Section) : Type 0 where
   pub place : PlaceReads b s
@@ -114,7 +116,7 @@ pub record SectionsRead (b : List ℕ) : Type 0 where
 -- a segment with bytes in the file passes its end (gABI ch. 5 "Program Header")
 pub data SegmentFails (b : List ℕ) : Refusal → Type 0 where
   past : (i : ℕ) → i < e_phnum b → (nth_segment b i).filesz ≢ 0 → length b < (nth_segment b i).offset + (nth_segment b i).filesz
-    → SegmentFails b (at Range 0 (e_phoff b + i * phdr_size (class_of b)))
+      → SegmentFails b (at Range 0 (e_phoff b + i * phdr_size (class_of b)))
 
 pub record SegmentReads (b : List ℕ) (s : Segment) : Type 0 where
   pub lies : s.filesz ≢ 0 → s.offset + s.filesz ≤ length b

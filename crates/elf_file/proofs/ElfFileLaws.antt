@@ -51,4 +51,5 @@ unfolding text_in
 text_in-nil place = rw (drop-nil place) refl
 
 pub ruleset count_laws = (length-sections_of, length-segments_of)
+
 pub ruleset file_laws = (get_or-sections_of, section-lies, names-there, text_in-nil)

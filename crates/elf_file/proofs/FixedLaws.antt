@@ -92,6 +92,9 @@ pub segment_table-lies : (b : List ℕ) → DebugReads b → e_phnum b ≢ 0 →
 segment_table-lies b reads = reads.segment_table.lies
 
 pub ruleset place_laws = (whole-header, ehdr_size-least, phentsize-is, segment_table-lies)
+
 pub ruleset segment_laws = (segment_ends-more)
+
 pub ruleset alloc_laws = (alloc_ends-more)
+
 pub ruleset end_laws = (greatest-append)

@@ -55,9 +55,9 @@ pub nul_end-found : (xs : List ℕ) (end : ℕ) → 0 < end → end ≤ length x
     → IsNulEnd xs end
 nul_end-found xs end some le none nul = record {
   ends = λ place. elim (cases_lt place end) [
-      inl lt ↦ ends_in-before xs (end - 1) place (omega arith) (omega arith) nul ∙ sym (below place end lt)
+    | inl lt ↦ ends_in-before xs (end - 1) place (omega arith) (omega arith) nul ∙ sym (below place end lt)
     | inr ge ↦ ends_in-behind xs end place ge none ∙ sym (not_below place end ge)
-    ];
+  ];
 }
 
 -- there is no NUL

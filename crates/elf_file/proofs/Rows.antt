@@ -13,13 +13,23 @@ use Rattle.dw_base.specs.ElfFails.ElfFails.{debug, segment}
 use Rattle.dw_base.proofs.ElfLaws.{ehdr_size-least, section_place, segment_place, section_count-none, name_index-none, first_place}
 
 pub ruleset header_rows = (short, magic, class, order, version, ehdr_size-least)
+
 pub ruleset shape_rows = (shentsize, phentsize, phoff, many, rel)
+
 pub ruleset segment_table_rows = (segment_table_past)
+
 pub ruleset table_rows = (first, table_past, section_count-none)
+
 pub ruleset table_laws = (section_place, segment_place, first_place)
+
 pub ruleset index_rows = (none, null, absent, strings, name_index-none, section_count-none)
+
 pub ruleset place_rows = (place_past, align)
+
 pub ruleset section_rows = (place, unended, one)
+
 pub ruleset segment_rows = (segment_past)
+
 pub ruleset debug_rows = (header, shape, segment_table, table, index, section)
+
 pub ruleset elf_rows = (header, shape, segment_table, table, index, section, debug, segment)

@@ -9,8 +9,8 @@ ghost use Rattle.elf_file.specs.FileHeader.{file_header};
 ghost use Rattle.elf_file.specs.IsElf.{IsElf};
 
 use crate::header::{header_in, shape_fits};
-use crate::records::FileHeader;
 use crate::names::text_at;
+use crate::records::FileHeader;
 use crate::sections::{contents_in, names_end, sections_in};
 use crate::segments::{segments_in, segments_lie};
 use crate::tables::{counted, indexed, segment_table_lies};
@@ -98,7 +98,7 @@ impl ElfFile<'_> {
     #[tactic(auto, using(crate::proofs::ElfFileLaws::file_laws), unfolding(dw_base::specs::Elf::contents_of))]
     pub fn contents(&self, section: u32) -> &[u8]
         requires there { section < section_count self.now.bytes.now }
-        ensures { result.now ≡ contents_of self.now.bytes.now section }
+        ensures contents { result.now ≡ contents_of self.now.bytes.now section }
     {
         contents_in(self.bytes, &self.section_of(section))
     }
@@ -107,12 +107,15 @@ impl ElfFile<'_> {
     #[tactic(auto, using(crate::proofs::ElfFileLaws::file_laws), unfolding(dw_base::specs::Elf::section_name, dw_base::specs::Elf::name_table))]
     pub fn section_name(&self, section: u32) -> &[u8]
         requires there { section < section_count self.now.bytes.now }
-        ensures { result.now ≡ section_name self.now.bytes.now section }
+        ensures name { result.now ≡ section_name self.now.bytes.now section }
     {
         if self.names == 0 {
             return &self.bytes[..0];
         }
-        text_at(self.contents(self.names), u64::from(self.section_of(section).name))
+        text_at(
+            self.contents(self.names),
+            u64::from(self.section_of(section).name),
+        )
     }
 
     /// Reads a file of debug data, whose segments may pass its end. Refused as `Header` or `Range`

@@ -9,7 +9,7 @@ ghost use Rattle.dw_base.specs.Layout.{alloc_ends, fixed_end, greatest, is_fixed
 use crate::elf::ElfFile;
 use crate::places::{file_header_size, program_header_place};
 use crate::sections::{lies_within, takes_no_room};
-use crate::slots::{off64_in, off32_in};
+use crate::slots::{off32_in, off64_in};
 use dw_base::elf_numbers::SHF_ALLOC;
 use dw_base::{Class, FileKind, Section, Segment};
 
@@ -107,7 +107,7 @@ impl ElfFile<'_> {
     #[tactic(auto, using(crate::proofs::FixedLaws::end_laws), unfolding(dw_base::specs::Layout::fixed_end))]
     pub fn fixed_end(&self) -> u64
         requires segments { SegmentsRead self.now.bytes.now }
-        ensures { result ≡ fixed_end self.now.bytes.now }
+        ensures end { result ≡ fixed_end self.now.bytes.now }
     {
         let end = file_header_size(self.class);
         if !self.is_loaded() {
@@ -122,7 +122,7 @@ impl ElfFile<'_> {
     pub fn is_fixed_by(&self, section: u32, end: u64) -> bool
         requires there { section < section_count self.now.bytes.now }
         requires end { end ≡ fixed_end self.now.bytes.now }
-        ensures { result ≡ is_fixed self.now.bytes.now (nth_section self.now.bytes.now section) }
+        ensures fixed { result ≡ is_fixed self.now.bytes.now (nth_section self.now.bytes.now section) }
     {
         if !self.is_loaded() {
             return false;
@@ -136,7 +136,7 @@ impl ElfFile<'_> {
     pub fn is_fixed(&self, section: u32) -> bool
         requires there { section < section_count self.now.bytes.now }
         requires segments { SegmentsRead self.now.bytes.now }
-        ensures { result ≡ is_fixed self.now.bytes.now (nth_section self.now.bytes.now section) }
+        ensures fixed { result ≡ is_fixed self.now.bytes.now (nth_section self.now.bytes.now section) }
     {
         self.is_fixed_by(section, self.fixed_end())
     }

@@ -6,10 +6,16 @@ ghost use Rattle.dw_base.specs.Elf.{class_of, order_of, ehdr_size};
 ghost use Rattle.dw_base.specs.ElfFails.{ident_byte, HeaderFails, HeaderReads, ShapeFails, ShapeReads};
 ghost use Rattle.elf_file.specs.FileHeader.{file_header};
 
-use crate::places::{file_header_size, place_of_phentsize, place_of_phnum, place_of_phoff, place_of_shentsize, program_header_size, section_header_size};
+use crate::places::{
+    file_header_size, place_of_phentsize, place_of_phnum, place_of_phoff, place_of_shentsize,
+    program_header_size, section_header_size,
+};
 use crate::records::FileHeader;
 use crate::slots::file_header_in;
-use dw_base::elf_numbers::{EI_CLASS, EI_DATA, EI_VERSION, ELFCLASS32, ELFCLASS64, ELFDATA2LSB, ELFDATA2MSB, ELFMAG, ET_REL, EV_CURRENT, PN_XNUM};
+use dw_base::elf_numbers::{
+    EI_CLASS, EI_DATA, EI_VERSION, ELFCLASS32, ELFCLASS64, ELFDATA2LSB, ELFDATA2MSB, ELFMAG,
+    ET_REL, EV_CURRENT, PN_XNUM,
+};
 use dw_base::{Class, Kind, Order, Refusal, number_in};
 
 /// The class of a file. Refused as `Header` at (0, 4) exactly where it is neither.
@@ -23,7 +29,11 @@ fn class_in(bytes: &[u8]) -> Result<Class, Refusal>
     match number_in(Order::Little, bytes, EI_CLASS, 1) {
         ELFCLASS32 => Ok(Class::C32),
         ELFCLASS64 => Ok(Class::C64),
-        _ => Err(Refusal { kind: Kind::Header, section: 0, offset: EI_CLASS }),
+        _ => Err(Refusal {
+            kind: Kind::Header,
+            section: 0,
+            offset: EI_CLASS,
+        }),
     }
 }
 
@@ -38,7 +48,11 @@ fn order_in(bytes: &[u8]) -> Result<Order, Refusal>
     match number_in(Order::Little, bytes, EI_DATA, 1) {
         ELFDATA2LSB => Ok(Order::Little),
         ELFDATA2MSB => Ok(Order::Big),
-        _ => Err(Refusal { kind: Kind::Header, section: 0, offset: EI_DATA }),
+        _ => Err(Refusal {
+            kind: Kind::Header,
+            section: 0,
+            offset: EI_DATA,
+        }),
     }
 }
 
@@ -52,18 +66,34 @@ pub fn header_in(bytes: &[u8]) -> Result<FileHeader, Refusal>
 {
     let len = bytes.len() as u64;
     if len < 52 {
-        return Err(Refusal { kind: Kind::Header, section: 0, offset: 0 });
+        return Err(Refusal {
+            kind: Kind::Header,
+            section: 0,
+            offset: 0,
+        });
     }
     let class = class_in(bytes)?;
     if len < file_header_size(class) {
-        return Err(Refusal { kind: Kind::Header, section: 0, offset: 0 });
+        return Err(Refusal {
+            kind: Kind::Header,
+            section: 0,
+            offset: 0,
+        });
     }
     if number_in(Order::Little, bytes, 0, 4) != ELFMAG {
-        return Err(Refusal { kind: Kind::Header, section: 0, offset: 0 });
+        return Err(Refusal {
+            kind: Kind::Header,
+            section: 0,
+            offset: 0,
+        });
     }
     let order = order_in(bytes)?;
     if number_in(Order::Little, bytes, EI_VERSION, 1) != EV_CURRENT {
-        return Err(Refusal { kind: Kind::Header, section: 0, offset: EI_VERSION });
+        return Err(Refusal {
+            kind: Kind::Header,
+            section: 0,
+            offset: EI_VERSION,
+        });
     }
     Ok(file_header_in(class, order, bytes))
 }
@@ -76,19 +106,39 @@ pub fn shape_fits(bytes: &[u8], header: &FileHeader) -> Result<(), Refusal>
     ensures refused { IfErr result (ShapeFails bytes.now) }
 {
     if header.phnum == PN_XNUM {
-        return Err(Refusal { kind: Kind::Header, section: 0, offset: place_of_phnum(header.class) });
+        return Err(Refusal {
+            kind: Kind::Header,
+            section: 0,
+            offset: place_of_phnum(header.class),
+        });
     }
     if header.kind == ET_REL && header.phnum != 0 {
-        return Err(Refusal { kind: Kind::Header, section: 0, offset: place_of_phnum(header.class) });
+        return Err(Refusal {
+            kind: Kind::Header,
+            section: 0,
+            offset: place_of_phnum(header.class),
+        });
     }
     if header.phnum != 0 && header.phentsize != program_header_size(header.class) {
-        return Err(Refusal { kind: Kind::Header, section: 0, offset: place_of_phentsize(header.class) });
+        return Err(Refusal {
+            kind: Kind::Header,
+            section: 0,
+            offset: place_of_phentsize(header.class),
+        });
     }
     if header.shoff != 0 && header.shentsize != section_header_size(header.class) {
-        return Err(Refusal { kind: Kind::Header, section: 0, offset: place_of_shentsize(header.class) });
+        return Err(Refusal {
+            kind: Kind::Header,
+            section: 0,
+            offset: place_of_shentsize(header.class),
+        });
     }
     if header.shoff != 0 && header.phnum != 0 && header.phoff < file_header_size(header.class) {
-        return Err(Refusal { kind: Kind::Header, section: 0, offset: place_of_phoff(header.class) });
+        return Err(Refusal {
+            kind: Kind::Header,
+            section: 0,
+            offset: place_of_phoff(header.class),
+        });
     }
     Ok(())
 }

@@ -18,5 +18,5 @@ mod segments;
 mod slots;
 mod tables;
 
-pub use elf::ElfFile;
 pub use dw_base::{Class, Fault, FileKind, Kind, NoMemory, Order, Refusal, Section, Segment};
+pub use elf::ElfFile;

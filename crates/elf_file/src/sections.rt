@@ -3,7 +3,7 @@
 
 ghost use Rattle.std.specs.Prelude.{◌≡◌, ◌≢◌, ◌+◌, ◌≤◌, ◌<◌, ◌^◌, ◌↔◌, false, length, IsTrue, IfOk, OnOk, IfErr};
 ghost use Rattle.dw_base.specs.Elf.{contents_at, is_empty_kind, name_index, name_table, nth_section, section_count, sections_of};
-ghost use Rattle.dw_base.specs.ElfFails.{PlaceFails, PlaceReads, SectionFails, SectionReads, SectionsFail, SectionsRead, TableReads, IndexReads, NameTableLies};
+ghost use Rattle.dw_base.specs.ElfFails.{PlaceFails, PlaceReads, SectionFails, SectionReads, SectionsFail, SectionsRead, TableReads, IndexReads, NameTableReads};
 ghost use Rattle.dw_base.specs.Refusals.{Blames};
 ghost use Rattle.elf_file.specs.FileHeader.{file_header};
 ghost use Rattle.elf_file.specs.Names.{IsNulEnd};
@@ -52,11 +52,22 @@ fn place_fits(bytes: &[u8], section: &Section, index: u32) -> Result<(), Refusal
     ensures refused { IfErr result (PlaceFails bytes.now section.now index) }
 {
     let len = bytes.len() as u64;
-    if !takes_no_room(section) && section.size != 0 && !lies_within(section.offset, section.size, len) {
-        return Err(Refusal { kind: Kind::Range, section: index, offset: 0 });
+    if !takes_no_room(section)
+        && section.size != 0
+        && !lies_within(section.offset, section.size, len)
+    {
+        return Err(Refusal {
+            kind: Kind::Range,
+            section: index,
+            offset: 0,
+        });
     }
     if section.align != 0 && !section.align.is_power_of_two() {
-        return Err(Refusal { kind: Kind::Range, section: index, offset: 0 });
+        return Err(Refusal {
+            kind: Kind::Range,
+            section: index,
+            offset: 0,
+        });
     }
     Ok(())
 }
@@ -71,7 +82,7 @@ pub fn names_end(bytes: &[u8], header: &FileHeader, names: u32) -> Result<usize,
     requires names { names ≡ name_index bytes.now }
     requires index { IndexReads bytes.now }
     ensures value { IfOk result (IsNulEnd (name_table bytes.now)) }
-    ensures lies { OnOk result (NameTableLies bytes.now) }
+    ensures reads { OnOk result (NameTableReads bytes.now) }
     ensures refused { IfErr result (SectionsFail bytes.now) }
 {
     if names == 0 {
@@ -85,13 +96,18 @@ pub fn names_end(bytes: &[u8], header: &FileHeader, names: u32) -> Result<usize,
 /// The section of a number. Refused as `Range`: at (its number, 0) where `place_fits` refuses it, at
 /// (its number, `sh_name`) where no NUL follows its name, with `end` behind the last NUL of the table.
 #[tactic(auto, using(crate::proofs::Rows::section_rows, crate::proofs::SectionLaws::end_laws))]
-fn section_of(bytes: &[u8], header: &FileHeader, names: u32, end: usize, index: u32) -> Result<Section, Refusal>
+fn section_of(
+    bytes: &[u8],
+    header: &FileHeader,
+    names: u32,
+    end: usize,
+    index: u32,
+) -> Result<Section, Refusal>
     requires is { header.now ≡ file_header bytes.now }
     requires small { length bytes.now ≤ 2 ^ 31 }
     requires table { TableReads bytes.now }
     requires names { names ≡ name_index bytes.now }
-    requires indexed { IndexReads bytes.now }
-    requires lies { NameTableLies bytes.now }
+    requires named { NameTableReads bytes.now }
     requires end { IsNulEnd (name_table bytes.now) end }
     requires there { index < section_count bytes.now }
     ensures value { IfOk result (λ section. section ≡ nth_section bytes.now index) }
@@ -101,21 +117,31 @@ fn section_of(bytes: &[u8], header: &FileHeader, names: u32, end: usize, index: 
     let section = nth_section_in(bytes, header, index);
     place_fits(bytes, &section, index)?;
     if names != 0 && section.name as usize >= end {
-        return Err(Refusal { kind: Kind::Range, section: index, offset: u64::from(section.name) });
+        return Err(Refusal {
+            kind: Kind::Range,
+            section: index,
+            offset: u64::from(section.name),
+        });
     }
     Ok(section)
 }
 
 /// All sections, in order. Refused as `Range` exactly where one of them is.
 #[tactic(auto, using(crate::proofs::Rows::section_rows), unfolding(dw_base::specs::Elf::sections_of))]
-pub fn sections_in(alloc: Global, bytes: &[u8], header: &FileHeader, count: u32, names: u32, end: usize) -> Result<Vec<Section>, Fault>
+pub fn sections_in(
+    alloc: Global,
+    bytes: &[u8],
+    header: &FileHeader,
+    count: u32,
+    names: u32,
+    end: usize,
+) -> Result<Vec<Section>, Fault>
     requires is { header.now ≡ file_header bytes.now }
     requires small { length bytes.now ≤ 2 ^ 31 }
     requires table { TableReads bytes.now }
     requires count { count ≡ section_count bytes.now }
     requires names { names ≡ name_index bytes.now }
-    requires indexed { IndexReads bytes.now }
-    requires lies { NameTableLies bytes.now }
+    requires named { NameTableReads bytes.now }
     requires end { IsNulEnd (name_table bytes.now) end }
     ensures value { IfOk result (λ sections. sections.items ≡ sections_of bytes.now) }
     ensures reads { OnOk result (SectionsRead bytes.now) }

@@ -14,7 +14,11 @@ use std::alloc::{AllocError, Global};
 
 /// All segments, in order.
 #[tactic(auto, unfolding(crate::specs::FileHeader::file_header, dw_base::specs::Elf::segments_of))]
-pub fn segments_in(alloc: Global, bytes: &[u8], header: &FileHeader) -> Result<Vec<Segment>, AllocError>
+pub fn segments_in(
+    alloc: Global,
+    bytes: &[u8],
+    header: &FileHeader,
+) -> Result<Vec<Segment>, AllocError>
     requires is { header.now ≡ file_header bytes.now }
     requires small { length bytes.now ≤ 2 ^ 31 }
     requires table { SegmentTableReads bytes.now }
@@ -42,7 +46,11 @@ pub fn segments_lie(bytes: &[u8], header: &FileHeader) -> Result<(), Refusal>
         let segment = nth_segment_in(bytes, header, index);
         if segment.filesz != 0 && !lies_within(segment.offset, segment.filesz, bytes.len() as u64) {
             let offset = program_header_place(header.class, header.phoff, u64::from(index));
-            return Err(Refusal { kind: Kind::Range, section: 0, offset });
+            return Err(Refusal {
+                kind: Kind::Range,
+                section: 0,
+                offset,
+            });
         }
     }
     Ok(())

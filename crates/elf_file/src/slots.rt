@@ -41,9 +41,7 @@ pub fn off64_in(order: Order, bytes: &[u8], at: u64) -> u64
 }
 
 /// The file header of a file of this class and order (`Elf32_Ehdr`, `Elf64_Ehdr`).
-#[tactic(auto, unfolding(crate::specs::FileHeader::file_header, dw_base::specs::Elf::e_type, dw_base::specs::Elf::e_machine,
-    dw_base::specs::Elf::e_phoff, dw_base::specs::Elf::e_shoff, dw_base::specs::Elf::e_phentsize, dw_base::specs::Elf::e_phnum,
-    dw_base::specs::Elf::e_shentsize, dw_base::specs::Elf::e_shnum, dw_base::specs::Elf::e_shstrndx))]
+#[tactic(auto, unfolding(crate::specs::FileHeader::file_header, dw_base::specs::Elf::e_type, dw_base::specs::Elf::e_machine, dw_base::specs::Elf::e_phoff, dw_base::specs::Elf::e_shoff, dw_base::specs::Elf::e_phentsize, dw_base::specs::Elf::e_phnum, dw_base::specs::Elf::e_shentsize, dw_base::specs::Elf::e_shnum, dw_base::specs::Elf::e_shstrndx))]
 pub fn file_header_in(class: Class, order: Order, bytes: &[u8]) -> FileHeader
     requires class { class ≡ class_of bytes.now }
     requires order { order ≡ order_of bytes.now }

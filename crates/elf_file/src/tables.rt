@@ -6,7 +6,10 @@ ghost use Rattle.dw_base.specs.Elf.{class_of, e_shoff, e_phnum, shdr_size, name_
 ghost use Rattle.dw_base.specs.ElfFails.{SegmentTableFails, SegmentTableReads, TableFails, TableReads, IndexFails, IndexReads};
 ghost use Rattle.elf_file.specs.FileHeader.{file_header};
 
-use crate::places::{holds_program_headers, holds_section_headers, place_of_shnum, place_of_shoff, place_of_shstrndx, program_header_place, section_header_place};
+use crate::places::{
+    holds_program_headers, holds_section_headers, place_of_shnum, place_of_shoff,
+    place_of_shstrndx, program_header_place, section_header_place,
+};
 use crate::records::FileHeader;
 use crate::slots::{section_in, segment_in};
 use dw_base::elf_numbers::{SHN_XINDEX, SHT_NULL, SHT_STRTAB};
@@ -22,8 +25,17 @@ pub fn segment_table_lies(bytes: &[u8], header: &FileHeader) -> Result<(), Refus
     if header.phnum == 0 {
         return Ok(());
     }
-    if !holds_program_headers(header.class, header.phoff, u64::from(header.phnum), bytes.len() as u64) {
-        return Err(Refusal { kind: Kind::Range, section: 0, offset: header.phoff });
+    if !holds_program_headers(
+        header.class,
+        header.phoff,
+        u64::from(header.phnum),
+        bytes.len() as u64,
+    ) {
+        return Err(Refusal {
+            kind: Kind::Range,
+            section: 0,
+            offset: header.phoff,
+        });
     }
     Ok(())
 }
@@ -57,11 +69,19 @@ pub fn counted(bytes: &[u8], header: &FileHeader) -> Result<u32, Refusal>
     }
     let len = bytes.len() as u64;
     if !holds_section_headers(header.class, header.shoff, 1, len) {
-        return Err(Refusal { kind: Kind::Range, section: 0, offset: header.shoff });
+        return Err(Refusal {
+            kind: Kind::Range,
+            section: 0,
+            offset: header.shoff,
+        });
     }
     let count = count_in(bytes, header);
     if !holds_section_headers(header.class, header.shoff, count, len) {
-        return Err(Refusal { kind: Kind::Range, section: 0, offset: header.shoff });
+        return Err(Refusal {
+            kind: Kind::Range,
+            section: 0,
+            offset: header.shoff,
+        });
     }
     Ok(count as u32)
 }
@@ -123,22 +143,38 @@ pub fn indexed(bytes: &[u8], header: &FileHeader, count: u32) -> Result<u32, Ref
         return Ok(0);
     }
     if count == 0 {
-        return Err(Refusal { kind: Kind::Header, section: 0, offset: place_of_shnum(header.class) });
+        return Err(Refusal {
+            kind: Kind::Header,
+            section: 0,
+            offset: place_of_shnum(header.class),
+        });
     }
     let first = nth_section_in(bytes, header, 0);
     if first.kind != SHT_NULL {
-        return Err(Refusal { kind: Kind::Header, section: 0, offset: place_of_shoff(header.class) });
+        return Err(Refusal {
+            kind: Kind::Header,
+            section: 0,
+            offset: place_of_shoff(header.class),
+        });
     }
     let names = name_index_in(header, &first, bytes);
     if names == 0 {
         return Ok(0);
     }
     if names >= count {
-        return Err(Refusal { kind: Kind::Header, section: 0, offset: place_of_shstrndx(header.class) });
+        return Err(Refusal {
+            kind: Kind::Header,
+            section: 0,
+            offset: place_of_shstrndx(header.class),
+        });
     }
     let table = nth_section_in(bytes, header, names);
     if table.kind != SHT_STRTAB {
-        return Err(Refusal { kind: Kind::Header, section: 0, offset: place_of_shstrndx(header.class) });
+        return Err(Refusal {
+            kind: Kind::Header,
+            section: 0,
+            offset: place_of_shstrndx(header.class),
+        });
     }
     Ok(names)
 }

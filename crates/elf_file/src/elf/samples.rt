@@ -1,8 +1,14 @@
 //! The headers of two real files, as GNU binutils wrote them. What lies between them is left out: the
-//! tests put zeros in its place.
+//! tests put zeros in its place. Beside them stands what GNU readelf prints.
+
+use dw_base::elf_numbers::{SHT_NOTE, SHT_NULL, SHT_PROGBITS, SHT_STRTAB, SHT_SYMTAB};
+
+/// A line of `readelf -SW`: name, type, address, offset, size, entry size, flags, link, info, alignment.
+pub type Line = (&'static str, u32, u64, u64, u64, u64, u64, u32, u32, u64);
 
 /// The file header.
-pub const POWERPC_EHDR: &[u8] = b"\x7fELF\x01\x02\x01\0\0\0\0\0\0\0\0\0\0\x02\0\x14\0\0\0\x01\x10\0\x01d\0\0\x004\0\0\x07l\0\0\x80\0\x004\0 \0\x03\0(\0\x0d\0\x0c";
+pub const POWERPC_EHDR: &[u8] =
+    b"\x7fELF\x01\x02\x01\0\0\0\0\0\0\0\0\0\0\x02\0\x14\0\0\0\x01\x10\0\x01d\0\0\x004\0\0\x07l\0\0\x80\0\x004\0 \0\x03\0(\0\x0d\0\x0c";
 
 /// The program headers.
 pub const POWERPC_PHDRS: [&[u8]; 3] = [
@@ -29,10 +35,12 @@ pub const POWERPC_SHDRS: [&[u8]; 13] = [
 ];
 
 /// The section name table.
-pub const POWERPC_NAMES: &[u8] = b"\0.symtab\0.strtab\0.shstrtab\0.note.gnu.build-id\0.text\0.eh_frame\0.comment\0.debug_aranges\0.debug_info\0.debug_abbrev\0.debug_line\0.debug_str\0";
+pub const POWERPC_NAMES: &[u8] =
+    b"\0.symtab\0.strtab\0.shstrtab\0.note.gnu.build-id\0.text\0.eh_frame\0.comment\0.debug_aranges\0.debug_info\0.debug_abbrev\0.debug_line\0.debug_str\0";
 
 /// The file header.
-pub const AARCH64_EHDR: &[u8] = b"\x7fELF\x02\x01\x01\0\0\0\0\0\0\0\0\0\x02\0\xb7\0\x01\0\0\0\x80\x01@\0\0\0\0\0@\0\0\0\0\0\0\x000\x09\0\0\0\0\0\0\0\0\0\0@\x008\0\x03\0@\0\x0e\0\x0d\0";
+pub const AARCH64_EHDR: &[u8] =
+    b"\x7fELF\x02\x01\x01\0\0\0\0\0\0\0\0\0\x02\0\xb7\0\x01\0\0\0\x80\x01@\0\0\0\0\0@\0\0\0\0\0\0\x000\x09\0\0\0\0\0\0\0\0\0\0@\x008\0\x03\0@\0\x0e\0\x0d\0";
 
 /// The program headers.
 pub const AARCH64_PHDRS: [&[u8]; 3] = [
@@ -60,5 +68,161 @@ pub const AARCH64_SHDRS: [&[u8]; 14] = [
 ];
 
 /// The section name table.
-pub const AARCH64_NAMES: &[u8] = b"\0.symtab\0.strtab\0.shstrtab\0.note.gnu.build-id\0.text\0.eh_frame\0.comment\0.debug_aranges\0.debug_info\0.debug_abbrev\0.debug_line\0.debug_str\0.debug_line_str\0";
+pub const AARCH64_NAMES: &[u8] =
+    b"\0.symtab\0.strtab\0.shstrtab\0.note.gnu.build-id\0.text\0.eh_frame\0.comment\0.debug_aranges\0.debug_info\0.debug_abbrev\0.debug_line\0.debug_str\0.debug_line_str\0";
 
+/// What readelf prints of the sections.
+pub const POWERPC_LINES: [Line; 13] = [
+    ("", SHT_NULL, 0, 0, 0, 0, 0, 0, 0, 0),
+    (
+        ".note.gnu.build-id",
+        SHT_NOTE,
+        0x10000094,
+        0x94,
+        0x24,
+        0,
+        0x2,
+        0,
+        0,
+        4,
+    ),
+    (
+        ".text",
+        SHT_PROGBITS,
+        0x100000b8,
+        0xb8,
+        0x118,
+        0,
+        0x6,
+        0,
+        0,
+        4,
+    ),
+    (
+        ".eh_frame",
+        SHT_PROGBITS,
+        0x100001d0,
+        0x1d0,
+        0x60,
+        0,
+        0x2,
+        0,
+        0,
+        4,
+    ),
+    (".comment", SHT_PROGBITS, 0, 0x230, 0x1f, 1, 0x30, 0, 0, 1),
+    (
+        ".debug_aranges",
+        SHT_PROGBITS,
+        0,
+        0x24f,
+        0x20,
+        0,
+        0,
+        0,
+        0,
+        1,
+    ),
+    (".debug_info", SHT_PROGBITS, 0, 0x26f, 0x13d, 0, 0, 0, 0, 1),
+    (
+        ".debug_abbrev",
+        SHT_PROGBITS,
+        0,
+        0x3ac,
+        0x100,
+        0,
+        0,
+        0,
+        0,
+        1,
+    ),
+    (".debug_line", SHT_PROGBITS, 0, 0x4ac, 0x90, 0, 0, 0, 0, 1),
+    (".debug_str", SHT_PROGBITS, 0, 0x53c, 0x7f, 1, 0x30, 0, 0, 1),
+    (".symtab", SHT_SYMTAB, 0, 0x5bc, 0x100, 0x10, 0, 11, 11, 4),
+    (".strtab", SHT_STRTAB, 0, 0x6bc, 0x28, 0, 0, 0, 0, 1),
+    (".shstrtab", SHT_STRTAB, 0, 0x6e4, 0x87, 0, 0, 0, 0, 1),
+];
+
+/// What readelf prints of the sections.
+pub const AARCH64_LINES: [Line; 14] = [
+    ("", SHT_NULL, 0, 0, 0, 0, 0, 0, 0, 0),
+    (
+        ".note.gnu.build-id",
+        SHT_NOTE,
+        0x4000e8,
+        0xe8,
+        0x24,
+        0,
+        0x2,
+        0,
+        0,
+        4,
+    ),
+    (
+        ".text",
+        SHT_PROGBITS,
+        0x40010c,
+        0x10c,
+        0xa0,
+        0,
+        0x6,
+        0,
+        0,
+        4,
+    ),
+    (
+        ".eh_frame",
+        SHT_PROGBITS,
+        0x4001b0,
+        0x1b0,
+        0x4c,
+        0,
+        0x2,
+        0,
+        0,
+        8,
+    ),
+    (".comment", SHT_PROGBITS, 0, 0x1fc, 0x1f, 1, 0x30, 0, 0, 1),
+    (
+        ".debug_aranges",
+        SHT_PROGBITS,
+        0,
+        0x21b,
+        0x30,
+        0,
+        0,
+        0,
+        0,
+        1,
+    ),
+    (".debug_info", SHT_PROGBITS, 0, 0x24b, 0x16c, 0, 0, 0, 0, 1),
+    (
+        ".debug_abbrev",
+        SHT_PROGBITS,
+        0,
+        0x3b7,
+        0x100,
+        0,
+        0,
+        0,
+        0,
+        1,
+    ),
+    (".debug_line", SHT_PROGBITS, 0, 0x4b7, 0xac, 0, 0, 0, 0, 1),
+    (".debug_str", SHT_PROGBITS, 0, 0x563, 0x9f, 1, 0x30, 0, 0, 1),
+    (
+        ".debug_line_str",
+        SHT_PROGBITS,
+        0,
+        0x602,
+        0x1b,
+        1,
+        0x30,
+        0,
+        0,
+        1,
+    ),
+    (".symtab", SHT_SYMTAB, 0, 0x620, 0x228, 0x18, 0, 12, 14, 8),
+    (".strtab", SHT_STRTAB, 0, 0x848, 0x50, 0, 0, 0, 0, 1),
+    (".shstrtab", SHT_STRTAB, 0, 0x898, 0x97, 0, 0, 0, 0, 1),
+];

@@ -8,5 +8,5 @@ with_section-end-requires c loaded =
     let file = c.args.self.now in
     let there : c.loop-section.section-index < section_count file.bytes.now = omega arith in
     let inside = section-ends file.bytes.now c.deref-section-items.result.now c.loop-section.section-index _
-        (c.deref-section-items.ensures.value ∙ file.is_elf.sections_are) there file.is_elf.reads loaded in
+    (c.deref-section-items.ensures.value ∙ file.is_elf.sections_are) there file.is_elf.reads loaded in
     omega arith
