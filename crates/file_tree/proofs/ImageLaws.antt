@@ -1,6 +1,5 @@
 -- What a stop may leave: the map now is one such map, after a settle it is the only one, and a torn one is another.
-use Rattle.std.proofs.Common.{◌≡◌, ℕ, zero, suc, ◌+◌, ◌≤◌, List, [], ◌∷◌, ◌++◌, length, take, drop, map, min, refl, sym, ap, subst, ◌∙◌, arith}
-use Rattle.file_tree.specs.declared.node.Node.{Node}
+use Rattle.std.proofs.Common.{◌≡◌, ℕ, zero, suc, ◌≤◌, List, [], ◌∷◌, ◌++◌, length, take, map, min, refl, sym, ap, subst, ◌∙◌, arith}
 use Rattle.file_tree.specs.declared.node.Node.TheVariants as node
 use Rattle.file_tree.specs.declared.call.Call.{Call}
 use Rattle.file_tree.specs.declared.call.Change.{Change}
@@ -9,7 +8,7 @@ use Rattle.file_tree.specs.declared.call.Effect.{Effect}
 use Rattle.file_tree.specs.declared.call.Effect.TheVariants as effect
 use Rattle.file_tree.specs.Trees.{TreeMap, after_change, after_changes}
 use Rattle.file_tree.specs.Seen.{Happened, Past, adds, map_now, after_all, after_effect}
-use Rattle.file_tree.specs.Images.{State, state_after, states_after, settled_state, state_of, Leaves, Full, Image, torn_change, image_at}
+use Rattle.file_tree.specs.Images.{State, state_after, states_after, settled_state, state_of, Full, Image, torn_change, image_at}
 use Rattle.file_tree.specs.Images.Leaves.{whole, torn}
 use Rattle.file_tree.specs.Images.Full.{none, more}
 use Rattle.file_tree.specs.Logs.{Place, happened, past_with, tree_of}

@@ -2,7 +2,7 @@
 //!
 //! This layer promises: the meanings of `Tree` in full; a call fails only where it is set to.
 //! Read first: `specs/Logs.antt`, `specs/MemTrees.antt`.
-ghost use Rattle.std.specs.Prelude.{◌≡◌, ◌+◌, ◌-◌, ◌^◌, ◌<◌, ◌≤◌, true, [], ◌∷◌, ◌++◌, min, length, vec_len, vec_capacity, Some, None, IfOk, OnOk, IsErrOf, IsOkUnless, option_map, map};
+ghost use Rattle.std.specs.Prelude.{◌≡◌, ◌+◌, ◌-◌, ◌^◌, ◌<◌, ◌≤◌, true, [], min, vec_len, vec_capacity, Some, None, IfOk, OnOk, IsErrOf, IsOkUnless, option_map, map};
 ghost use Rattle.file_tree.specs.Trees.{with_node, without, moved};
 ghost use Rattle.file_tree.specs.Seen.{now_of, map_now, adds, calls_of, settles_of};
 ghost use Rattle.file_tree.specs.Images.{Image, state_of, image_at};

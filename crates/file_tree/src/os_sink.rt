@@ -3,7 +3,6 @@
 //! This layer promises: a write fails only where its count of faults rose. What the writer does with
 //! the bytes isn't proved.
 ghost use Rattle.std.specs.Prelude.{None};
-ghost use Rattle.file_tree.specs.Heard.{Heard};
 
 use crate::sink::{Sink, SinkErr};
 use std::io::{ErrorKind, Write};
