@@ -23,7 +23,9 @@ pub struct OsTree<R> {
 
 impl<R: Files + AllocGlobal + Clone + Drop> OsTree<R> {
     /// The file system of the runtime.
-    pub fn new(rt: R) -> OsTree<R> {
+    pub fn new(rt: R) -> OsTree<R>
+        ensures seen { ⟦<OsTree<R> as Tree>⟧.seen result ≡ record { tells = false; past = no_past; faults = 0 } }
+    {
         let touched = BTreeSet::new(rt.alloc());
         OsTree {
             rt,
