@@ -1,0 +1,11 @@
+pub mod Trees
+pub mod Seen
+pub mod Causes
+pub mod Images
+pub mod Heard
+pub mod Sinks
+pub mod Logs
+pub mod Places
+pub mod Codes
+pub mod MemTrees
+pub mod Pending
