@@ -3,3 +3,4 @@ pub mod NumberLaws
 pub mod FieldLaws
 pub mod LebLaws
 pub mod StandardFacts
+pub mod LayoutLaws

@@ -5,6 +5,7 @@ use Rattle.std.specs.List.{starts_with}
 use Rattle.std.specs.Int.{is_power_of_two}
 use Rattle.dw_base.specs.Elf.{e_type, e_phnum, e_shentsize, e_shoff, e_shnum, e_shstrndx, nth_section, section_count, section_name, name_table, is_empty_kind, order_of}
 use Rattle.dw_base.specs.Grammar.{Step}
+use Rattle.dw_base.specs.Layout.{output_limit}
 use Rattle.dw_base.specs.Numbers.{spelled}
 use Rattle.dw_base.specs.Output.{ReadsUnits, output_of}
 use Rattle.dw_base.specs.Mentions.{offset_of}
@@ -21,12 +22,9 @@ use Rattle.dw_base.specs.declared.records.Section.{Section}
 use Rattle.dw_base.specs.declared.elf_numbers.TheConstants.{ET_EXEC, ET_DYN, SHT_NULL, SHT_PROGBITS, SHT_STRTAB, SHF_ALLOC, SHF_COMPRESSED, SHN_LORESERVE}
 use Rattle.dw_base.specs.declared.dwarf_numbers.TheConstants.{DW_TAG_compile_unit, DW_AT_name, DW_AT_comp_dir, DW_FORM_strp}
 
--- the longest file that is read, and the longest that is written, in bytes
+-- the longest file that is read, in bytes
 abbrev pub file_limit : ℕ
 file_limit = 2 ^ 30
-
-abbrev pub output_limit : ℕ
-output_limit = 2 ^ 31
 
 -- the file has at most 2^30 bytes, and begins with a whole 64-bit little-endian file header of ident version 1
 -- and type EXEC or DYN, with no program headers and section headers of 64 bytes

@@ -1,7 +1,7 @@
 -- The layout of a file that is written with new section bodies: this project's profile. What is loaded
 -- stays at its place; other sections are laid one after another behind it, and the section headers last.
-use Rattle.std.specs.Prelude.{Bool, true, false, ◌≡◌, ℕ, ◌+◌, ◌-◌, ◌*◌, ◌%◌, ◌==◌, ◌&&◌, ◌||◌, not, max, nat_le, nat_lt, bit_and, replicate, filter, map, if◌then◌else◌, List, [], ◌∷◌, ◌++◌, length, take}
-use Rattle.dw_base.specs.Elf.{class_of, order_of, word_size, ehdr_size, shoff_place, e_type, e_phoff, e_phnum, e_phentsize, nth_section, section_count, sections_of, segments_of, is_empty_kind}
+use Rattle.std.specs.Prelude.{Bool, true, false, ◌≡◌, ℕ, ◌+◌, ◌-◌, ◌*◌, ◌%◌, ◌^◌, ◌==◌, ◌&&◌, ◌||◌, not, max, nat_le, nat_lt, bit_and, replicate, filter, map, if◌then◌else◌, List, [], ◌∷◌, ◌++◌, length, take}
+use Rattle.dw_base.specs.Elf.{class_of, order_of, word_size, ehdr_size, shoff_place, e_type, e_phoff, e_phnum, phdr_size, nth_section, section_count, sections_of, segments_of, is_empty_kind}
 use Rattle.dw_base.specs.Fields.{FieldOf, fields_bytes}
 use Rattle.dw_base.specs.Lists.{tabulate}
 use Rattle.dw_base.specs.Numbers.{with_number}
@@ -11,6 +11,10 @@ use Rattle.dw_base.specs.declared.shared.Class.TheVariants.{C32, C64}
 use Rattle.dw_base.specs.declared.records.Section.{Section}
 use Rattle.dw_base.specs.declared.records.Segment.{Segment}
 use Rattle.dw_base.specs.declared.elf_numbers.TheConstants.{ET_EXEC, ET_DYN, SHF_ALLOC}
+
+-- the longest file that is written, in bytes
+abbrev pub output_limit : ℕ
+output_limit = 2 ^ 31
 
 -- the flag ALLOC is set: the section is in the image of the running program
 abbrev pub is_alloc : Section → Bool
@@ -27,7 +31,7 @@ is_loaded_kind b = e_type b == ET_EXEC || e_type b == ET_DYN
 
 -- the end of the program headers, 0 where there are none
 abbrev pub segment_table_end : List ℕ → ℕ
-segment_table_end b = if e_phnum b == 0 then 0 else e_phoff b + e_phnum b * e_phentsize b
+segment_table_end b = if e_phnum b == 0 then 0 else e_phoff b + e_phnum b * phdr_size (class_of b)
 
 -- the ends of all segments with file bytes
 abbrev pub segment_ends : List Segment → List ℕ
@@ -101,15 +105,19 @@ abbrev pub shdrs_bytes : Class → Order → List Section → List ℕ
 shdrs_bytes class order [] = []
 shdrs_bytes class order (s ∷ ss) = shdr_bytes class order s ++ shdrs_bytes class order ss
 
--- the bytes before the section headers: front, sections, and zeros up to a multiple of the class's word
-unfoldable pub before_table : Class → List ℕ → List Part → List ℕ
-before_table class front parts = laid front parts ++ replicate (padding (length (laid front parts)) (word_size class)) 0
+-- the bytes before the section headers: those laid so far, and zeros up to a multiple of the class's word
+unfoldable pub before_table : Class → List ℕ → List ℕ
+before_table class out = out ++ replicate (padding (length out) (word_size class)) 0
 
--- the file of a front and sections: what stands before the headers, the headers, and their place in the file header
+-- the file of the bytes laid so far and section headers: these stand behind, and their place is put into the file header
+unfoldable pub with_table : Class → Order → List ℕ → List Section → List ℕ
+with_table class order out heads =
+    with_number order (before_table class out ++ shdrs_bytes class order heads)
+        (shoff_place class) (word_size class) (length (before_table class out))
+
+-- the file of a front and sections: the front, the sections laid out behind it, and their new headers
 unfoldable pub laid_out : Class → Order → List ℕ → List Part → List ℕ
-laid_out class order front parts =
-    with_number order (before_table class front parts ++ shdrs_bytes class order (new_heads front parts))
-        (shoff_place class) (word_size class) (length (before_table class front parts))
+laid_out class order front parts = with_table class order (laid front parts) (new_heads front parts)
 
 -- a section of a file as it is to be written, with the body that is given for its number
 unfoldable pub part_of : List ℕ → (ℕ → List ℕ) → ℕ → Part

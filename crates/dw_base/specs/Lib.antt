@@ -8,6 +8,7 @@ pub mod Paths
 pub mod StringTables
 pub mod Elf
 pub mod Layout
+pub mod LayoutFails
 pub mod Grammar
 pub mod Abbreviations
 pub mod Units

@@ -1,0 +1,5 @@
+//! Files written with new section bodies, and files written from parts.
+#![tactic(auto)]
+
+mod laying;
+mod table;
