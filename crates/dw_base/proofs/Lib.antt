@@ -4,3 +4,5 @@ pub mod FieldLaws
 pub mod LebLaws
 pub mod StandardFacts
 pub mod LayoutLaws
+pub mod GrammarLaws
+pub mod UnitLaws

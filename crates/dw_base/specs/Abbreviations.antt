@@ -1,5 +1,5 @@
 -- Abbreviation tables (DWARF 5, 7.5.3): what an entry of a code has.
-use Rattle.std.specs.Prelude.{Bool, ◌≡◌, ℕ, ◌==◌, ◌&&◌, nat_lt, if◌then◌else◌, List, [], ◌∷◌, ◌++◌, drop, map, Option, Some, None}
+use Rattle.std.specs.Prelude.{Bool, ◌≡◌, ℕ, ◌==◌, ◌&&◌, nat_lt, if◌then◌else◌, List, [], ◌∷◌, ◌++◌, drop, Option, Some, None}
 use Rattle.dw_base.specs.Lebs.{uleb}
 
 -- an attribute of an entry, and the form of its value
@@ -49,18 +49,20 @@ bare code tag children = record { code = code; tag = tag; children = children ==
 abbrev pub with_spec : Abbreviation → ℕ → ℕ → Abbreviation
 with_spec a name form = record a { specs = a.specs ++ record { name = name; form = form } ∷ [] }
 
--- the abbreviations that the numbers of a table declare, from a place in it on, up to the code 0
-abbrev pub declared : TablePlace → List ℕ → List Abbreviation
+-- the abbreviations that the numbers of a table declare, from a place in it on, up to the code 0. The flag for
+-- children is one byte; up to 127 it is a number by itself, and a table with another flag than 0 and 1 is refused.
+abbrev pub declared : TablePlace → List (List ℕ) → List Abbreviation
 declared p [] = []
-declared at_code (n ∷ ns) = if n == 0 then [] else declared (at_tag n) ns
-declared (at_tag code) (n ∷ ns) = declared (at_children code n) ns
-declared (at_children code tag) (n ∷ ns) = declared (at_name (bare code tag n)) ns
-declared (at_name a) (n ∷ ns) = declared (at_form a n) ns
-declared (at_form a name) (n ∷ ns) = if name == 0 && n == 0 then a ∷ declared at_code ns else declared (at_name (with_spec a name n)) ns
+declared at_code (t ∷ ts) = if leb_value t == 0 then [] else declared (at_tag (leb_value t)) ts
+declared (at_tag code) (t ∷ ts) = declared (at_children code (leb_value t)) ts
+declared (at_children code tag) (t ∷ ts) = declared (at_name (bare code tag (leb_value t))) ts
+declared (at_name a) (t ∷ ts) = declared (at_form a (leb_value t)) ts
+declared (at_form a name) (t ∷ ts) =
+    if name == 0 && leb_value t == 0 then a ∷ declared at_code ts else declared (at_name (with_spec a name (leb_value t))) ts
 
--- the abbreviations of the table at an offset; the flag for children is a byte, which as a number is itself up to 127
+-- the abbreviations of the table at an offset
 unfoldable pub abbreviations_at : List ℕ → ℕ → List Abbreviation
-abbreviations_at abbrevs offset = declared at_code (map leb_value (leb_numbers (drop offset abbrevs)))
+abbreviations_at abbrevs offset = declared at_code (leb_numbers (drop offset abbrevs))
 
 -- the first abbreviation of a code
 abbrev pub abbreviation_of : List Abbreviation → ℕ → Option Abbreviation

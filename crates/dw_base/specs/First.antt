@@ -7,13 +7,13 @@ use Rattle.dw_base.specs.Elf.{e_type, e_phnum, e_shentsize, e_shoff, e_shnum, e_
 use Rattle.dw_base.specs.Grammar.{Step}
 use Rattle.dw_base.specs.Layout.{output_limit}
 use Rattle.dw_base.specs.Numbers.{spelled}
-use Rattle.dw_base.specs.Output.{ReadsUnits, output_of}
+use Rattle.dw_base.specs.Output.{Readings, output_of}
 use Rattle.dw_base.specs.Mentions.{offset_of}
 use Rattle.dw_base.specs.Paths.{PathMap}
 use Rattle.dw_base.specs.SectionNames.{debug_info, debug_abbrev, debug_str, debug_prefix, zdebug_prefix, debug_altlink, contents_called}
 use Rattle.dw_base.specs.Refusals.{at}
 use Rattle.dw_base.specs.Texts.{same_text, ends_in}
-use Rattle.dw_base.specs.Units.{UnitState, Mode, header, code, values, stuck, code_value}
+use Rattle.dw_base.specs.Units.{UnitState, in_debug_str, Mode, header, code, values, stuck, code_value, Role, fixed, offset, role_of, Reads}
 use Rattle.dw_base.specs.declared.shared.Order.{Order}
 use Rattle.dw_base.specs.declared.shared.Order.TheVariants.{Little}
 use Rattle.dw_base.specs.declared.fault.Refusal.{Refusal}
@@ -99,9 +99,10 @@ abbrev pub EachStep : (Step UnitState → Type 0) → List (Step UnitState) → 
 EachStep P [] = ⊤
 EachStep P (x ∷ xs) = P x × EachStep P xs
 
--- after its header a unit is one entry, to the unit's end: there is room for one, and each code is of the first entry and not 0
+-- a unit has addresses of 8 bytes, and after its header it is one entry, to the unit's end: there is room for one,
+-- and each code is of the first entry and not 0
 abbrev pub OneEntryBy : Mode → Order → UnitState → List ℕ → Type 0
-OneEntryBy header order s p = spelled order p 0 4 ≢ 7
+OneEntryBy header order s p = (spelled order p 10 1 ≡ 8) × (spelled order p 0 4 ≢ 7)
 OneEntryBy code order s p = (s.entry ≡ 0) × (code_value p ≢ 0)
 OneEntryBy (values number tag specs) order s p = ⊤
 OneEntryBy stuck order s p = ⊤
@@ -141,15 +142,26 @@ OneAbbreviationBy stuck order abbrevs p = ⊤
 abbrev pub OneAbbreviation : Order → List ℕ → Step UnitState → Type 0
 OneAbbreviation order abbrevs x = OneAbbreviationBy x.state.mode order abbrevs x.bytes
 
--- an offset names a text that ends in the string table
-abbrev pub NamesTextBy : Mode → Order → List ℕ → List ℕ → Type 0
-NamesTextBy header order str p = ⊤
-NamesTextBy code order str p = ⊤
-NamesTextBy (values number tag specs) order str p = IsTrue (ends_in str (offset_of order p))
-NamesTextBy stuck order str p = ⊤
+-- an offset of a text names one that ends in its table
+abbrev pub NamesTextBy : Role → Order → List ℕ → List ℕ → Type 0
+NamesTextBy fixed order str p = ⊤
+NamesTextBy (offset in_debug_str path) order str p = IsTrue (ends_in str (offset_of order p))
 
 abbrev pub NamesText : Order → List ℕ → Step UnitState → Type 0
-NamesText order str x = NamesTextBy x.state.mode order str x.bytes
+NamesText order str x = NamesTextBy (role_of x) order str x.bytes
+
+-- the three sections of a First file: .debug_info is filled by units of one entry, the abbreviations of each unit
+-- are one, and each offset names a text
+pub record FirstUnits (order : Order) (info abbrevs str : List ℕ) : Type 0 where
+  pub pieces : List (Step UnitState)
+  pub units : Reads order info abbrevs 0 pieces
+  pub entries : EachStep (OneEntry order) pieces
+  pub abbreviations : EachStep (OneAbbreviation order abbrevs) pieces
+  pub texts : EachStep (NamesText order str) pieces
+
+-- the readings of a file whose units are these pieces
+abbrev pub readings : List (Step UnitState) → Readings
+readings pieces = record { info = pieces }
 
 -- a First file, for a prefix map
 pub record IsFirst (m : PathMap) (b : List ℕ) : Type 0 where
@@ -157,12 +169,8 @@ pub record IsFirst (m : PathMap) (b : List ℕ) : Type 0 where
   pub table : FirstTable b
   pub sections : FirstSections b
   pub names : FirstNames b
-  pub pieces : List (Step UnitState)
-  pub units : ReadsUnits b pieces
-  pub entries : EachStep (OneEntry (order_of b)) pieces
-  pub abbreviations : EachStep (OneAbbreviation (order_of b) (contents_called b debug_abbrev)) pieces
-  pub texts : EachStep (NamesText (order_of b) (contents_called b debug_str)) pieces
-  pub fits : length (output_of m b pieces) ≤ output_limit
+  pub units : FirstUnits (order_of b) (contents_called b debug_info) (contents_called b debug_abbrev) (contents_called b debug_str)
+  pub fits : length (output_of m b (readings units.pieces)) ≤ output_limit
 
 -- the one refusal of this version: the file isn't First
 pub data FirstFails (m : PathMap) (b : List ℕ) : Refusal → Type 0 where

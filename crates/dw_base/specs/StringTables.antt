@@ -48,6 +48,6 @@ place_in (u ∷ us) t = if same_text u t then 0 else suc (length u) + place_in u
 abbrev pub new_table : Plan → List (List ℕ) → List ℕ
 new_table plan ts = plan.kept ++ laid_texts ts
 
--- the new offset of a field that names a text: that of its new text, where it gets a new place, else the old one
-abbrev pub new_offset : Plan → PathMap → List (List ℕ) → Mention → ℕ → ℕ
-new_offset plan m ts x old = if plan.asks x then length plan.kept + place_in ts (new_text m x) else old
+-- the place of the new text of a mention that asks for one
+abbrev pub new_place : Plan → PathMap → List (List ℕ) → Mention → ℕ
+new_place plan m ts x = length plan.kept + place_in ts (new_text m x)

@@ -6,16 +6,29 @@ use Rattle.dw_base.specs.Grammar.{Grammar, Step, Chain, joined}
 use Rattle.dw_base.specs.Lebs.{uleb, uleb_within}
 use Rattle.dw_base.specs.Numbers.{spelled}
 use Rattle.dw_base.specs.declared.shared.Order.{Order}
+use Rattle.dw_base.specs.declared.shared.Order.TheVariants.{Little}
+use Rattle.dw_base.specs.declared.shared.Width.{Width}
+use Rattle.dw_base.specs.declared.shared.Width.TheVariants.{W32, W64}
+use Rattle.dw_base.specs.declared.shared.Params.{Params}
 use Rattle.dw_base.specs.declared.dwarf_numbers.TheConstants.{DW_TAG_compile_unit, DW_TAG_partial_unit, DW_TAG_type_unit, DW_AT_name, DW_AT_comp_dir, DW_FORM_strp}
 
--- what a value of a form is: an offset into .debug_str of four bytes, or of a form that isn't listed
+-- the tables that hold texts (DWARF 5, 7.5.5, class string)
+pub data StringTable : Type 0 where
+  in_debug_str : StringTable
+
+-- what a value of a form is: an offset of a text in a table, or of a form that isn't listed
 pub data ValueKind : Type 0 where
-  in_str : ValueKind
+  text_offset : StringTable → ValueKind
   unlisted : ValueKind
 
--- the table of forms (DWARF 5, table 7.6)
-unfoldable pub kind_of : ℕ → ValueKind
-kind_of form = if form == DW_FORM_strp then in_str else unlisted
+-- the table of forms (DWARF 5, table 7.6), in a unit of these parameters
+unfoldable pub kind_in : Params → ℕ → ValueKind
+kind_in params form = if form == DW_FORM_strp then text_offset in_debug_str else unlisted
+
+-- the size of an offset, in bytes (DWARF 5, 7.4)
+abbrev pub offset_size : Width → ℕ
+offset_size W32 = 4
+offset_size W64 = 8
 
 -- what comes next: a unit's header, an entry's code, a value of the entry of this number and tag with the
 -- attributes that are left, or nothing that could
@@ -26,40 +39,43 @@ pub data Mode : Type 0 where
   stuck : Mode
 
 -- a place between pieces. Of the section: its length, and where the place is. Of the unit: its number, start
--- and end, and its abbreviations. Of its entries: the number of the next one, and how many lists of children are open.
+-- and end, its parameters and abbreviations. Of its entries: the number of the next one, and how many lists of
+-- children are open.
 pub record UnitState : Type 0 where
   pub whole : ℕ
   pub place : ℕ
   pub unit : ℕ
   pub start : ℕ
   pub finish : ℕ
+  pub params : Params
   pub table : List Abbreviation
   pub entry : ℕ
   pub depth : ℕ
   pub mode : Mode
 
--- the front of a section of so many bytes
-abbrev pub first_unit : ℕ → UnitState
-first_unit n = record { whole = n; place = 0; unit = 0; start = 0; finish = 0; table = []; entry = 0; depth = 0; mode = header }
+-- the parameters outside units
+abbrev pub no_params : Params
+no_params = record { order = Little; width = W32; version = 0; address = 0 }
+
+-- before a unit of this number, at a place of a section of so many bytes
+abbrev pub before_unit : ℕ → ℕ → ℕ → UnitState
+before_unit whole place unit = record {
+  whole = whole; place = place; unit = unit; start = 0; finish = 0; params = no_params; table = [];
+  entry = 0; depth = 0; mode = header;
+}
 
 -- in a unit, at a place, before a piece of this mode
 abbrev pub in_unit : UnitState → ℕ → ℕ → ℕ → Mode → UnitState
 in_unit s place entry depth mode = record {
-  whole = s.whole; place = place; unit = s.unit; start = s.start; finish = s.finish; table = s.table;
+  whole = s.whole; place = place; unit = s.unit; start = s.start; finish = s.finish; params = s.params; table = s.table;
   entry = entry; depth = depth; mode = mode;
-}
-
--- behind a unit, before the next
-abbrev pub behind : UnitState → ℕ → UnitState
-behind s place = record {
-  whole = s.whole; place = place; unit = s.unit + 1; start = 0; finish = 0; table = []; entry = 0; depth = 0; mode = header;
 }
 
 -- between entries: an entry's code, or at the unit's end the next unit, where no list of children is open
 unfoldable pub between : UnitState → ℕ → ℕ → ℕ → UnitState
 between s place entry depth =
     if place == s.finish
-    then (if depth == 0 then behind s place else in_unit s place entry depth stuck)
+    then (if depth == 0 then before_unit s.whole place (s.unit + 1) else in_unit s place entry depth stuck)
     else in_unit s place entry depth code
 
 -- inside an entry, with these attributes left
@@ -67,11 +83,15 @@ abbrev pub inside : UnitState → ℕ → ℕ → ℕ → ℕ → ℕ → List A
 inside s place entry depth number tag [] = between s place entry depth
 inside s place entry depth number tag (x ∷ xs) = in_unit s place entry depth (values number tag (x ∷ xs))
 
--- the unit of a header: where it starts and ends, and its abbreviations
+-- the parameters that a header gives
+abbrev pub header_params : Order → List ℕ → Params
+header_params order p = record { order = order; width = W32; version = spelled order p 4 2; address = spelled order p 10 1 }
+
+-- the unit of a header: where it starts and ends, its parameters, and its abbreviations
 unfoldable pub headed : Order → List ℕ → UnitState → List ℕ → UnitState
 headed order abbrevs s p = record {
   whole = s.whole; place = s.place; unit = s.unit; start = s.place; finish = s.place + 4 + spelled order p 0 4;
-  table = abbreviations_at abbrevs (spelled order p 6 4); entry = 0; depth = 0; mode = header;
+  params = header_params order p; table = abbreviations_at abbrevs (spelled order p 6 4); entry = 0; depth = 0; mode = header;
 }
 
 -- after an entry's code: the entry's values, and one more list of children where it has some
@@ -97,12 +117,16 @@ past (values number tag []) order abbrevs s p = s
 past (values number tag (x ∷ xs)) order abbrevs s p = inside s (s.place + length p) s.entry s.depth number tag xs
 past stuck order abbrevs s p = s
 
--- the bytes are a unit's header: 32-bit DWARF of version 4 with addresses of 8 bytes, and the unit lies in the section
+-- the size of an address that a unit may have, in bytes
+abbrev pub is_address_size : ℕ → Bool
+is_address_size n = n == 2 || n == 4 || n == 8
+
+-- the bytes are a unit's header: 32-bit DWARF of version 4, and the unit lies in the section
 pub record IsHeader (order : Order) (s : UnitState) (p : List ℕ) : Type 0 where
   pub size : length p ≡ 11
   pub length_32 : spelled order p 0 4 < 0xfffffff0
   pub version : spelled order p 4 2 ≡ 4
-  pub address : spelled order p 10 1 ≡ 8
+  pub address : IsTrue (is_address_size (spelled order p 10 1))
   pub filled : 7 ≤ spelled order p 0 4
   pub within : s.place + 4 + spelled order p 0 4 ≤ s.whole
 
@@ -113,13 +137,13 @@ pub record IsCode (s : UnitState) (p : List ℕ) : Type 0 where
   pub listed : code_value p ≢ 0 → IsTrue (is_some (abbreviation_of s.table (code_value p)))
 
 -- the bytes are a value of a kind
-abbrev pub Fills : ValueKind → List ℕ → Type 0
-Fills in_str p = length p ≡ 4
-Fills unlisted p = ⊥
+abbrev pub Fills : ValueKind → Params → List ℕ → Type 0
+Fills (text_offset table) params p = length p ≡ offset_size params.width
+Fills unlisted params p = ⊥
 
 -- the bytes are a value of the next attribute, in the unit
 pub record IsValue (s : UnitState) (x : AttributeSpec) (p : List ℕ) : Type 0 where
-  pub fills : Fills (kind_of x.form) p
+  pub fills : Fills (kind_in s.params x.form) s.params p
   pub before : s.place + length p ≤ s.finish
 
 -- which bytes fit a mode
@@ -144,9 +168,9 @@ unit_grammar order abbrevs = record {
   Ends = EndsSection;
 }
 
--- the bytes of a unit section are these pieces
-pub record Reads (order : Order) (info abbrevs : List ℕ) (xs : List (Step UnitState)) : Type 0 where
-  pub chain : Chain (unit_grammar order abbrevs) (first_unit (length info)) xs
+-- the bytes of a unit section are these pieces; its units are numbered from `first` on
+pub record Reads (order : Order) (info abbrevs : List ℕ) (first : ℕ) (xs : List (Step UnitState)) : Type 0 where
+  pub chain : Chain (unit_grammar order abbrevs) (before_unit (length info) 0 first) xs
   pub bytes : joined xs ≡ info
 
 -- an attribute that holds a source path: a name or comp_dir on the first entry of a unit whose tag is one of a unit
@@ -155,22 +179,22 @@ is_path number tag name =
     number == 0 && (tag == DW_TAG_compile_unit || tag == DW_TAG_partial_unit || tag == DW_TAG_type_unit)
     && (name == DW_AT_name || name == DW_AT_comp_dir)
 
--- what a change of the string tables may do to a piece: nothing, or give its offset another value; a path or not
+-- what a change of the string tables may do to a piece: nothing, or give its offset into a table another value; a path or not
 pub data Role : Type 0 where
   fixed : Role
-  offset : Bool → Role
+  offset : StringTable → Bool → Role
 
 abbrev pub role_of_kind : ValueKind → Bool → Role
-role_of_kind in_str path = offset path
+role_of_kind (text_offset table) path = offset table path
 role_of_kind unlisted path = fixed
 
-abbrev pub role_of_mode : Mode → Role
-role_of_mode (values number tag (x ∷ xs)) = role_of_kind (kind_of x.form) (is_path number tag x.name)
-role_of_mode (values number tag []) = fixed
-role_of_mode header = fixed
-role_of_mode code = fixed
-role_of_mode stuck = fixed
+abbrev pub role_of_mode : Mode → Params → Role
+role_of_mode (values number tag (x ∷ xs)) params = role_of_kind (kind_in params x.form) (is_path number tag x.name)
+role_of_mode (values number tag []) params = fixed
+role_of_mode header params = fixed
+role_of_mode code params = fixed
+role_of_mode stuck params = fixed
 
 -- the role of a piece
 unfoldable pub role_of : Step UnitState → Role
-role_of x = role_of_mode x.state.mode
+role_of x = role_of_mode x.state.mode x.state.params

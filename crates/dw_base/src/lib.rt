@@ -5,7 +5,7 @@
 //! where none stands there.
 //! It does not promise: anything of whole files; the crates above state that, in the words of
 //! `specs/`.
-//! Read first: `specs/Numbers.antt`, then `specs/Elf.antt` and `specs/Pieces.antt`.
+//! Read first: `specs/Numbers.antt`, then `specs/Elf.antt` and `specs/Units.antt`.
 #![tactic(auto)]
 
 pub mod dwarf_numbers;
@@ -20,4 +20,4 @@ pub use fault::{Fault, Kind, NoMemory, Refusal};
 pub use lebs::{initial_length_at, sleb_at, uleb_at};
 pub use numbers::{number_at, number_in, put_number};
 pub use records::{FileKind, Section, Segment};
-pub use shared::{Class, Order, Width};
+pub use shared::{Class, Order, Params, Width};

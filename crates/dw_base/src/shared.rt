@@ -26,3 +26,16 @@ pub enum Width {
     /// 64-bit DWARF: offsets of 8 bytes.
     W64,
 }
+
+/// What the values of a unit depend on, beside their forms (DWARF 5, 7.5.1).
+#[derive(Clone, Copy, Debug, PartialEq, Eq)]
+pub struct Params {
+    /// The byte order of the file.
+    pub order: Order,
+    /// The width of offsets.
+    pub width: Width,
+    /// The version of DWARF.
+    pub version: u16,
+    /// The size of an address, in bytes.
+    pub address: u8,
+}
