@@ -1,0 +1,16 @@
+pub mod Numbers
+pub mod Lebs
+pub mod Refusals
+pub mod Texts
+pub mod Paths
+pub mod StringTables
+pub mod Lists
+pub mod Elf
+pub mod Layout
+pub mod Grammar
+pub mod Abbreviations
+pub mod Units
+pub mod Mentions
+pub mod SectionNames
+pub mod Output
+pub mod First
