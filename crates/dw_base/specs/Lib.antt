@@ -6,6 +6,7 @@ pub mod Paths
 pub mod StringTables
 pub mod Lists
 pub mod Elf
+pub mod ElfFails
 pub mod Layout
 pub mod Grammar
 pub mod Abbreviations

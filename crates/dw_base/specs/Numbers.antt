@@ -19,8 +19,8 @@ unfoldable pub spelled : Order → List ℕ → ℕ → ℕ → ℕ
 spelled order bytes at n = number_of order n (drop at bytes)
 
 -- the number at a place: none where the n bytes from there pass the end
-unfoldable pub number_at_lem : Order → List ℕ → ℕ → ℕ → Option ℕ
-number_at_lem order bytes at n = if nat_le (at + n) (length bytes) then Some (spelled order bytes at n) else None
+unfoldable pub number_at : Order → List ℕ → ℕ → ℕ → Option ℕ
+number_at order bytes at n = if nat_le (at + n) (length bytes) then Some (spelled order bytes at n) else None
 
 -- the bytes with the n from `at` replaced by those that spell x
 unfoldable pub with_number : Order → List ℕ → ℕ → ℕ → ℕ → List ℕ

@@ -18,6 +18,6 @@ mod shared;
 
 pub use fault::{Fault, Kind, NoMemory, Refusal};
 // pub use lebs::{initial_length_at, sleb_at, uleb_at};
-pub use numbers::{number_at, number_in};
+pub use numbers::{number_at, number_in, put_number};
 pub use records::{FileKind, Section, Segment};
 pub use shared::{Class, Order, Width};
