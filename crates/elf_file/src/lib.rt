@@ -11,5 +11,6 @@ mod header;
 mod places;
 mod records;
 mod slots;
+mod tables;
 
 pub use dw_base::{Class, Fault, FileKind, Kind, NoMemory, Order, Refusal, Section, Segment};
