@@ -81,26 +81,35 @@ pub record IndexReads (b : List ℕ) : Type 0 where
   pub strings : name_index b ≢ 0 → (nth_section b (name_index b)).kind ≡ SHT_STRTAB
 
 -- a section, of a number, passes the end of the file, or has no alignment (gABI ch. 4 "Sections")
-pub data SectionFails (b : List ℕ) (s : Section) (i : ℕ) : Refusal → Type 0 where
-  past : is_empty_kind s ≡ false → s.size ≢ 0 → length b < s.offset + s.size → SectionFails b s i (at Range i 0)
-  align : s.align ≢ 0 → is_power_of_two s.align ≡ false → SectionFails b s i (at Range i 0)
+pub data PlaceFails (b : List ℕ) (s : Section) (i : ℕ) : Refusal → Type 0 where
+  past : is_empty_kind s ≡ false → s.size ≢ 0 → length b < s.offset + s.size → PlaceFails b s i (at Range i 0)
+  align : s.align ≢ 0 → is_power_of_two s.align ≡ false → PlaceFails b s i (at Range i 0)
 
-pub record SectionReads (b : List ℕ) (s : Section) : Type 0 where
+pub record PlaceReads (b : List ℕ) (s : Section) : Type 0 where
   pub lies : is_empty_kind s ≡ false → s.size ≢ 0 → s.offset + s.size ≤ length b
   pub align : s.align ≢ 0 → is_power_of_two s.align ≡ true
 
--- a section's name has no NUL in the name table (gABI ch. 4 "String Table")
-pub data NameFails (b : List ℕ) : Refusal → Type 0 where
-  unended : (i : ℕ) → i < section_count b → name_index b ≢ 0 → ends_in (name_table b) (nth_section b i).name ≡ false
-    → NameFails b (at Range i (nth_section b i).name)
-
-pub record NamesRead (b : List ℕ) : Type 0 where
-  pub ends : (i : ℕ) → i < section_count b → name_index b ≢ 0 → ends_in (name_table b) (nth_section b i).name ≡ true
-
--- the bytes of the name table are in the file
+-- the bytes of the section name table, where there is one, are in the file
 pub record NameTableLies (b : List ℕ) : Type 0 where
   pub lies : name_index b ≢ 0 → (nth_section b (name_index b)).size ≢ 0
     → (nth_section b (name_index b)).offset + (nth_section b (name_index b)).size ≤ length b
+
+-- a section can't be read, or its name has no NUL in the name table (gABI ch. 4 "Sections", "String Table")
+pub data SectionFails (b : List ℕ) (s : Section) (i : ℕ) : Refusal → Type 0 where
+  place : {r : Refusal} → PlaceFails b s i r → SectionFails b s i r
+  unended : IndexReads b → NameTableLies b → name_index b ≢ 0 → ends_in (name_table b) s.name ≡ false
+    → SectionFails b s i (at Range i s.name)
+
+pub record SectionReads (b : List ℕ) (s : Section) : Type 0 where
+  pub place : PlaceReads b s
+  pub name : name_index b ≢ 0 → ends_in (name_table b) s.name ≡ true
+
+-- some section can't be read
+pub data SectionsFail (b : List ℕ) : Refusal → Type 0 where
+  one : (i : ℕ) {r : Refusal} → i < section_count b → SectionFails b (nth_section b i) i r → SectionsFail b r
+
+pub record SectionsRead (b : List ℕ) : Type 0 where
+  pub all : (i : ℕ) → i < section_count b → SectionReads b (nth_section b i)
 
 -- a segment with bytes in the file passes its end (gABI ch. 5 "Program Header")
 pub data SegmentFails (b : List ℕ) : Refusal → Type 0 where
@@ -120,8 +129,7 @@ pub data DebugFails (b : List ℕ) : Refusal → Type 0 where
   segment_table : {r : Refusal} → HeaderReads b → SegmentTableFails b r → DebugFails b r
   table : {r : Refusal} → HeaderReads b → TableFails b r → DebugFails b r
   index : {r : Refusal} → HeaderReads b → TableReads b → IndexFails b r → DebugFails b r
-  section : (i : ℕ) {r : Refusal} → HeaderReads b → TableReads b → i < section_count b → SectionFails b (nth_section b i) i r → DebugFails b r
-  name : {r : Refusal} → HeaderReads b → TableReads b → IndexReads b → NameTableLies b → NameFails b r → DebugFails b r
+  section : {r : Refusal} → HeaderReads b → TableReads b → SectionsFail b r → DebugFails b r
 
 pub record DebugReads (b : List ℕ) : Type 0 where
   pub header : HeaderReads b
@@ -129,8 +137,7 @@ pub record DebugReads (b : List ℕ) : Type 0 where
   pub segment_table : SegmentTableReads b
   pub table : TableReads b
   pub index : IndexReads b
-  pub sections : (i : ℕ) → i < section_count b → SectionReads b (nth_section b i)
-  pub names : NamesRead b
+  pub sections : SectionsRead b
 
 -- every row
 pub data ElfFails (b : List ℕ) : Refusal → Type 0 where

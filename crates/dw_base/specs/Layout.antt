@@ -1,7 +1,7 @@
 -- The layout of a file that is written with new section bodies: this project's profile. What is loaded
 -- stays at its place; other sections are laid one after another behind it, and the section headers last.
 use Rattle.std.specs.Prelude.{Bool, true, false, ◌≡◌, ℕ, ◌+◌, ◌-◌, ◌*◌, ◌%◌, ◌==◌, ◌&&◌, ◌||◌, not, max, nat_le, nat_lt, bit_and, replicate, filter, map, if◌then◌else◌, List, [], ◌∷◌, ◌++◌, length, take}
-use Rattle.dw_base.specs.Elf.{class_of, order_of, word_size, ehdr_size, shoff_place, e_type, e_phoff, e_phnum, e_phentsize, nth_section, section_count, sections_of, segments_of, is_empty_kind}
+use Rattle.dw_base.specs.Elf.{class_of, order_of, word_size, ehdr_size, shoff_place, e_type, e_phoff, e_phnum, phdr_size, nth_section, section_count, sections_of, segments_of, is_empty_kind}
 use Rattle.dw_base.specs.Lists.{tabulate}
 use Rattle.dw_base.specs.Numbers.{number_bytes, with_number}
 use Rattle.dw_base.specs.declared.shared.Order.{Order}
@@ -26,7 +26,7 @@ is_loaded_kind b = e_type b == ET_EXEC || e_type b == ET_DYN
 
 -- the end of the program headers, 0 where there are none
 abbrev pub segment_table_end : List ℕ → ℕ
-segment_table_end b = if e_phnum b == 0 then 0 else e_phoff b + e_phnum b * e_phentsize b
+segment_table_end b = if e_phnum b == 0 then 0 else e_phoff b + e_phnum b * phdr_size (class_of b)
 
 -- the ends of all segments with file bytes
 abbrev pub segment_ends : List Segment → List ℕ

@@ -7,10 +7,15 @@
 //! Read first: `dw_base/specs/Elf.antt`, then `dw_base/specs/ElfFails.antt`.
 #![tactic(auto)]
 
+mod elf;
 mod header;
+mod names;
 mod places;
 mod records;
+mod sections;
+mod segments;
 mod slots;
 mod tables;
 
+pub use elf::ElfFile;
 pub use dw_base::{Class, Fault, FileKind, Kind, NoMemory, Order, Refusal, Section, Segment};
