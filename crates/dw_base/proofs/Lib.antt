@@ -6,3 +6,4 @@ pub mod StandardFacts
 pub mod LayoutLaws
 pub mod GrammarLaws
 pub mod UnitLaws
+pub mod ElfLaws

@@ -7,6 +7,7 @@ pub mod Texts
 pub mod Paths
 pub mod StringTables
 pub mod Elf
+pub mod ElfFails
 pub mod Layout
 pub mod LayoutFails
 pub mod Grammar

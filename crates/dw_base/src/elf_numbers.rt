@@ -1,5 +1,18 @@
 //! The numbers of the ELF format, in the standard's own spelling (gABI ch. 4 and 5).
 
+/// `e_ident[EI_MAG0]` to `e_ident[EI_MAG3]`, 0x7f and "ELF", as a number with the lowest byte first.
+pub const ELFMAG: u64 = 0x464c457f;
+/// `e_ident[EI_CLASS]`: 32 bits.
+pub const ELFCLASS32: u64 = 1;
+/// `e_ident[EI_CLASS]`: 64 bits.
+pub const ELFCLASS64: u64 = 2;
+/// `e_ident[EI_DATA]`: the lowest byte first.
+pub const ELFDATA2LSB: u64 = 1;
+/// `e_ident[EI_DATA]`: the highest byte first.
+pub const ELFDATA2MSB: u64 = 2;
+/// `e_ident[EI_VERSION]`: the one version.
+pub const EV_CURRENT: u64 = 1;
+
 /// `e_type`: a relocatable file.
 pub const ET_REL: u16 = 1;
 /// `e_type`: an executable file.

@@ -1,0 +1,3 @@
+pub mod FileHeader
+pub mod IsElf
+pub mod Names
