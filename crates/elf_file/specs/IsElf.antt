@@ -1,6 +1,6 @@
 -- What a file that was read is: its bytes read, and each record is what the bytes spell.
 use Rattle.std.specs.Prelude.{◌≡◌, ℕ, ◌≤◌, ◌^◌, List, length}
-use Rattle.dw_base.specs.Elf.{class_of, order_of, file_kind, e_machine, name_index, sections_of, segments_of}
+use Rattle.dw_base.specs.Elf.{class_of, order_of, file_kind, e_machine, e_phnum, name_index, section_count, sections_of, segments_of}
 use Rattle.dw_base.specs.ElfFails.{DebugReads}
 use Rattle.dw_base.specs.declared.shared.Order.{Order}
 use Rattle.dw_base.specs.declared.shared.Class.{Class}
@@ -21,3 +21,5 @@ pub record IsElf (b : List ℕ) (class : Class) (order : Order) (kind : FileKind
   pub names_are : names ≡ name_index b
   pub sections_are : sections ≡ sections_of b
   pub segments_are : segments ≡ segments_of b
+  pub section_count_is : length sections ≡ section_count b
+  pub segment_count_is : length segments ≡ e_phnum b

@@ -1,7 +1,7 @@
 //! A file that was read.
 
-ghost use Rattle.std.specs.Prelude.{◌≡◌, ◌≤◌, ◌^◌, ℕ, length, IfOk, OnOk, IfErr};
-ghost use Rattle.dw_base.specs.Elf.{e_type, file_kind};
+ghost use Rattle.std.specs.Prelude.{◌≡◌, ◌≤◌, ◌<◌, ◌^◌, ℕ, length, IfOk, OnOk, IfErr};
+ghost use Rattle.dw_base.specs.Elf.{e_type, file_kind, contents_of, nth_section, section_count, section_name};
 ghost use Rattle.dw_base.specs.ElfFails.{DebugFails, DebugReads, ElfFails, ElfReads, HeaderReads};
 ghost use Rattle.dw_base.specs.Refusals.{Blames};
 ghost use Rattle.dw_base.specs.declared.fault.Refusal.{Refusal};
@@ -10,7 +10,8 @@ ghost use Rattle.elf_file.specs.IsElf.{IsElf};
 
 use crate::header::{header_in, shape_fits};
 use crate::records::FileHeader;
-use crate::sections::{names_end, sections_in};
+use crate::names::text_at;
+use crate::sections::{contents_in, names_end, sections_in};
 use crate::segments::{segments_in, segments_lie};
 use crate::tables::{counted, indexed, segment_table_lies};
 use dw_base::elf_numbers::{ET_DYN, ET_EXEC, ET_REL};
@@ -36,7 +37,7 @@ pub struct ElfFile<'a> {
     pub sections: Vec<Section>,
     /// The segments, in order.
     pub segments: Vec<Segment>,
-    pub ghost is_elf: { ∥ IsElf bytes.now class order kind machine names sections.items segments.items ∥₁ },
+    pub ghost is_elf: { IsElf bytes.now class order kind machine names sections.items segments.items },
 }
 
 /// What a file is, by its `e_type`.
@@ -54,7 +55,7 @@ fn kind_of(bytes: &[u8], number: u16) -> FileKind
 }
 
 /// The file of a file header that was read.
-#[tactic(auto, using(crate::proofs::Rows::debug_rows), unfolding(crate::specs::FileHeader::file_header))]
+#[tactic(auto, using(crate::proofs::Rows::debug_rows, crate::proofs::ElfFileLaws::count_laws), unfolding(crate::specs::FileHeader::file_header))]
 fn file_of<'a>(alloc: Global, bytes: &'a [u8], header: &FileHeader) -> Result<ElfFile<'a>, Fault>
     requires is { header.now ≡ file_header bytes.now }
     requires small { length bytes.now ≤ 2 ^ 31 }
@@ -84,6 +85,36 @@ fn file_of<'a>(alloc: Global, bytes: &'a [u8], header: &FileHeader) -> Result<El
 }
 
 impl ElfFile<'_> {
+    /// The section of a number.
+    #[tactic(auto, using(crate::proofs::ElfFileLaws::file_laws))]
+    fn section_of(&self, section: u32) -> Section
+        requires there { section < section_count self.now.bytes.now }
+        ensures { result ≡ nth_section self.now.bytes.now section }
+    {
+        self.sections[section as usize]
+    }
+
+    /// The bytes of the section of a number, none of type NULL and NOBITS.
+    #[tactic(auto, using(crate::proofs::ElfFileLaws::file_laws), unfolding(dw_base::specs::Elf::contents_of))]
+    pub fn contents(&self, section: u32) -> &[u8]
+        requires there { section < section_count self.now.bytes.now }
+        ensures { result.now ≡ contents_of self.now.bytes.now section }
+    {
+        contents_in(self.bytes, &self.section_of(section))
+    }
+
+    /// The name of the section of a number, empty where the file has no section name table.
+    #[tactic(auto, using(crate::proofs::ElfFileLaws::file_laws), unfolding(dw_base::specs::Elf::section_name, dw_base::specs::Elf::name_table))]
+    pub fn section_name(&self, section: u32) -> &[u8]
+        requires there { section < section_count self.now.bytes.now }
+        ensures { result.now ≡ section_name self.now.bytes.now section }
+    {
+        if self.names == 0 {
+            return &self.bytes[..0];
+        }
+        text_at(self.contents(self.names), u64::from(self.section_of(section).name))
+    }
+
     /// Reads a file of debug data, whose segments may pass its end. Refused as `Header` or `Range`
     /// exactly where one of their conditions holds, the one on segments past the end aside.
     #[tactic(auto, using(crate::proofs::Rows::debug_rows, crate::proofs::Excludes::debug_excludes))]

@@ -98,7 +98,7 @@ fn fits_table(class: Class, count: u64, room: u64) -> bool
 }
 
 /// The size of an address or an offset, in bytes.
-fn word_size(class: Class) -> u8
+pub(crate) fn word_size(class: Class) -> u8
     ensures { result ≡ word_size class }
 {
     match class {
