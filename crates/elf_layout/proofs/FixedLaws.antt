@@ -1,10 +1,14 @@
 -- Laws of the part of a file that stays.
-use Rattle.std.proofs.Common.{◌≡◌, ◌≢◌, ℕ, ◌+◌, ◌<◌, ◌≤◌, Bool, true, false, List, [], ◌∷◌, ◌++◌, length, drop, max, not, map, filter, get_or, cond, ◌==◌, ◌&&◌, subst, refl, sym, ap, ◌∙◌, arith}
-use Rattle.dw_base.specs.Elf.{e_phnum, is_empty_kind, nth_section, nth_segment, section_count, sections_of, segments_of}
+use Rattle.std.proofs.Common.{◌≡◌, ◌≢◌, ℕ, ◌+◌, ◌<◌, ◌≤◌, Bool, true, false, List, [], ◌∷◌, ◌++◌, length, drop, max, not, map, filter, get_or, cond, ◌==◌, ◌&&◌, subst, inl, inr, ◌*◌, ◌^◌, refl, sym, ap, ◌∙◌, arith}
+use Rattle.dw_base.specs.Elf.{class_of, shdr_size, e_shoff, e_phnum, is_empty_kind, nth_section, nth_segment, section_count, sections_of, segments_of}
 use Rattle.dw_base.specs.ElfFails.{DebugReads, SegmentsRead}
 use Rattle.dw_base.specs.Layout.{alloc_ends, greatest, is_alloc, segment_ends}
 use Rattle.dw_base.specs.declared.records.Section.{Section}
 use Rattle.dw_base.specs.declared.records.Segment.{Segment}
+use Rattle.dw_base.specs.declared.shared.Class.{Class}
+use Rattle.dw_base.specs.declared.shared.Class.TheVariants.{C32, C64}
+use Rattle.std.proofs.lemmas.Bool.{cases_lt}
+use Rattle.dw_base.proofs.ElfLaws.{e_shoff-some}
 use Rattle.dw_base.proofs.ListLaws.{get_or-tabulate}
 use Rattle.elf_file.proofs.ElfFileLaws.{get_or-sections_of, section-lies}
 
@@ -57,3 +61,19 @@ greatest-least n [] = omega arith
 greatest-least n (x ∷ xs) = let rest = greatest-least (max n x) xs in omega arith
 
 pub ruleset end_laws = (greatest-append, greatest-least)
+
+pub ruleset section_laws = (get_or-sections_of, section-there)
+
+-- section numbers have 32 bits in a file that was read
+sections-few : (c : Class) (at count len : ℕ) → at + count * shdr_size c ≤ len → len ≤ 2 ^ 31 → count < 2 ^ 32
+sections-few C32 at count len lies small = omega arith
+sections-few C64 at count len lies small = omega arith
+
+pub section_count-few : (b : List ℕ) → DebugReads b → length b ≤ 2 ^ 31 → section_count b < 2 ^ 32
+section_count-few b reads small =
+    elim (cases_lt 0 (section_count b)) [
+      inl some ↦ sections-few (class_of b) (e_shoff b) (section_count b) (length b) (reads.table.lies (e_shoff-some b 0 some)) small
+    | inr none ↦ omega arith
+    ]
+
+pub ruleset count_laws = (section_count-few)

@@ -11,7 +11,7 @@ use dw_base::{Class, FileKind, Section, Segment, number_in};
 use elf_file::ElfFile;
 
 /// The size of the file header, in bytes.
-fn ehdr_size(class: Class) -> u64
+pub(crate) fn ehdr_size(class: Class) -> u64
     ensures { result ≡ ehdr_size class }
 {
     match class {

@@ -36,6 +36,7 @@ pub(crate) fn append_padded(out: &mut Vec<u8>, zeros: u64, body: &[u8]) -> Resul
     requires small { vec_len out.old ≤ output_limit }
     ensures laid { OnOk result (out.new.items ≡ out.old.items ++ (replicate zeros 0 ++ body.now)) }
     ensures small { OnOk result (vec_len out.new ≤ output_limit) }
+    ensures longer { OnOk result (vec_len out.old ≤ vec_len out.new) }
     ensures refused { IfErr result (Blames (TooLong (length (out.old.items ++ (replicate zeros 0 ++ body.now))))) }
 {
     let room = OUTPUT_LIMIT - out.len() as u64;
@@ -57,6 +58,7 @@ pub(crate) fn lay(out: &mut Vec<u8>, head: &Section, moves: bool, body: &[u8]) -
     ensures laid { OnOk result (out.new.items ≡ extended out.old.items (part head.now moves body.now)) }
     ensures head { IfOk result (λ h. h ≡ new_head (length out.old.items) (part head.now moves body.now)) }
     ensures small { OnOk result (vec_len out.new ≤ output_limit) }
+    ensures longer { OnOk result (vec_len out.old ≤ vec_len out.new) }
     ensures refused { IfErr result (Blames (TooLong (length (extended out.old.items (part head.now moves body.now))))) }
 {
     if !moves {

@@ -158,6 +158,7 @@ pub(crate) fn append_table(
     requires header { ehdr_size class ≤ vec_len out }
     requires small { vec_len out ≤ output_limit }
     ensures file { IfOk result (λ file. file.items ≡ with_table class order out.items heads.now) }
+    ensures small { IfOk result (λ file. vec_len file ≤ output_limit) }
     ensures refused { IfErr result (Blames (TooLong (length (with_table class order out.items heads.now)))) }
 {
     let mut file = out;
