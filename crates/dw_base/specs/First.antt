@@ -116,12 +116,20 @@ abbrev pub closed : List ℕ → Option (List ℕ)
 closed [] = None
 closed (n ∷ rest) = if n == 0 then Some [] else None
 
+-- an attribute that holds a path, and the form strp
+abbrev pub is_first_pair : ℕ → ℕ → Bool
+is_first_pair name form = (name == DW_AT_name || name == DW_AT_comp_dir) && form == DW_FORM_strp
+
 abbrev pub first_names : List ℕ → Option (List ℕ)
 first_names [] = None
 first_names (n ∷ []) = None
 first_names (n ∷ f ∷ rest) =
     if n == 0 && f == 0 then closed rest else
-    (if (n == DW_AT_name || n == DW_AT_comp_dir) && f == DW_FORM_strp then option_map (λ ns. n ∷ ns) (first_names rest) else None)
+    (if is_first_pair n f then option_map (λ ns. n ∷ ns) (first_names rest) else None)
+
+-- the front of a table of one abbreviation: a code of one byte, the tag of a compilation unit, and no children
+abbrev pub is_first_head : ℕ → ℕ → ℕ → Bool
+is_first_head c tag children = nat_lt 0 c && nat_lt c 128 && tag == DW_TAG_compile_unit && children == 0
 
 -- the code and the attribute numbers of a table of one abbreviation of a compilation unit without children,
 -- each number in it a byte below 0x80
@@ -130,7 +138,7 @@ first_table [] = None
 first_table (c ∷ []) = None
 first_table (c ∷ t ∷ []) = None
 first_table (c ∷ t ∷ k ∷ rest) =
-    if nat_lt 0 c && nat_lt c 128 && t == DW_TAG_compile_unit && k == 0 then option_map (λ ns. (c, ns)) (first_names rest) else None
+    if is_first_head c t k then option_map (λ ns. (c, ns)) (first_names rest) else None
 
 -- a unit's table of abbreviations is such a table
 abbrev pub OneAbbreviationBy : Mode → Order → List ℕ → List ℕ → Type 0

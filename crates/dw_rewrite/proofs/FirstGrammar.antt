@@ -2,7 +2,7 @@
 use Rattle.std.proofs.Common.{◌≡◌, ℕ, ◌+◌, List, [], ◌∷◌, ◌++◌, length}
 use Rattle.dw_base.specs.First.{EachStep, OneEntry, OneEntryBy, OneAbbreviation, OneAbbreviationBy, NamesText, NamesTextBy}
 use Rattle.dw_base.specs.Grammar.{Grammar, Step, Chain, joined}
-use Rattle.dw_base.specs.Units.{UnitState, FitsMode, past, EndsSection, unit_grammar}
+use Rattle.dw_base.specs.Units.{UnitState, FitsMode, past, role_of_mode, role_of, EndsSection, unit_grammar}
 use Rattle.dw_base.specs.declared.shared.Order.{Order}
 use Rattle.dw_base.proofs.GrammarLaws.{ReadsOneWay}
 use Rattle.dw_base.proofs.UnitLaws.{units_one_way}
@@ -12,7 +12,7 @@ pub record FirstFits (order : Order) (abbrevs str : List ℕ) (s : UnitState) (p
   pub fits : FitsMode s.mode order s p
   pub entry : OneEntryBy s.mode order s p
   pub abbreviation : OneAbbreviationBy s.mode order abbrevs p
-  pub text : NamesTextBy s.mode order str p
+  pub text : NamesTextBy (role_of_mode s.mode s.params) order str p
 
 abbrev pub first_grammar : Order → List ℕ → List ℕ → Grammar
 first_grammar order abbrevs str = record {
@@ -35,6 +35,7 @@ first_one_way order abbrevs str =
 pub to_first : (order : Order) (abbrevs str : List ℕ) (s : UnitState) (xs : List (Step UnitState)) → Chain (unit_grammar order abbrevs) s xs
     → EachStep (OneEntry order) xs → EachStep (OneAbbreviation order abbrevs) xs → EachStep (NamesText order str) xs
     → Chain (first_grammar order abbrevs str) s xs
+unfolding role_of
 to_first order abbrevs str s [] c e a t = c
 to_first order abbrevs str s (x ∷ xs) c e a t =
     (c.0, record { fits = c.1; entry = e.0; abbreviation = a.0; text = t.0; }, to_first order abbrevs str (past x.state.mode order abbrevs x.state x.bytes) xs c.2 e.1 a.1 t.1)
@@ -60,6 +61,7 @@ first_abbreviations order abbrevs str s (x ∷ xs) c =
 
 pub first_texts : (order : Order) (abbrevs str : List ℕ) (s : UnitState) (xs : List (Step UnitState))
     → Chain (first_grammar order abbrevs str) s xs → EachStep (NamesText order str) xs
+unfolding role_of
 first_texts order abbrevs str s [] c = tt
 first_texts order abbrevs str s (x ∷ xs) c =
     (c.1.text, first_texts order abbrevs str (past x.state.mode order abbrevs x.state x.bytes) xs c.2)

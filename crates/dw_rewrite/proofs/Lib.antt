@@ -1,2 +1,11 @@
 pub mod FirstGrammar
 pub mod TableLaws
+pub mod ValueLaws
+pub mod CodeLaws
+pub mod UnitFactLaws
+pub mod PlaceLaws
+pub mod Rows
+pub mod TextLimits
+pub mod Names
+pub mod UnitExits
+pub mod Walks

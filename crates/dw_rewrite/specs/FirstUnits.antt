@@ -1,10 +1,11 @@
 -- One unit of a First file, by the bytes from its place on: its header, its table of abbreviations, its one entry.
-use Rattle.std.specs.Prelude.{◌≡◌, ℕ, zero, suc, ◌+◌, ◌*◌, ◌<◌, ◌≤◌, List, [], ◌∷◌, ◌++◌, length, drop, Option, Some, None, IsTrue}
-use Rattle.dw_base.specs.First.{first_table}
+use Rattle.std.specs.Prelude.{◌≡◌, ℕ, zero, suc, ◌+◌, ◌*◌, ◌<◌, ◌≤◌, List, [], ◌∷◌, ◌++◌, length, drop, nat_lt, Option, Some, None, IsTrue}
+use Rattle.dw_base.specs.First.{first_names, first_table, FirstUnits}
 use Rattle.dw_base.specs.Lebs.{uleb, uleb_within}
 use Rattle.dw_base.specs.Numbers.{spelled}
 use Rattle.dw_base.specs.Texts.{ends_in}
 use Rattle.dw_base.specs.declared.shared.Order.{Order}
+use Rattle.dw_rewrite.specs.PathPlaces.{path_places}
 
 -- where the unit ends whose header is at a place
 abbrev pub unit_end : Order → List ℕ → ℕ → ℕ
@@ -28,6 +29,10 @@ pub record ValueFacts (order : Order) (info str : List ℕ) (finish place count 
   pub finish_is : finish ≡ place + 4 * count
   pub texts : (i : ℕ) → i < count → IsTrue (ends_in str (spelled order info (place + 4 * i) 4))
 
+-- a code of this value and size is at the place
+pub record HasCode (info : List ℕ) (at code size : ℕ) : Type 0 where
+  pub spells : uleb_within (uleb (drop at info)) ≡ Some (code, size)
+
 -- a unit of a First file is at the place, with this code, of this size, and these attributes
 pub record UnitFacts (order : Order) (info abbrevs str : List ℕ) (at code size : ℕ) (names : List ℕ) : Type 0 where
   pub head : HeaderFacts order info at
@@ -46,3 +51,37 @@ pub record IsFirstUnit (order : Order) (info abbrevs str : List ℕ) (at : ℕ) 
 abbrev pub value_places : ℕ → ℕ → List ℕ
 value_places place zero = []
 value_places place (suc n) = place ∷ value_places (place + 4) n
+
+-- each of so many offsets names a text that ends in the table
+pub record TextsEnd (order : Order) (info str : List ℕ) (place count : ℕ) : Type 0 where
+  pub each : (i : ℕ) → i < count → IsTrue (ends_in str (spelled order info (place + 4 * i) 4))
+
+-- the texts of a table begin below this offset, and at each offset below it one does
+pub record IsTextLimit (str : List ℕ) (limit : ℕ) : Type 0 where
+  pub is : (place : ℕ) → ends_in str place ≡ nat_lt place limit
+
+-- the bytes begin with so many pairs of an attribute that holds a path and the form strp, and the closing numbers
+pub record IsNames (bytes : List ℕ) (count : ℕ) : Type 0 where
+  pub names : List ℕ
+  pub read : first_names bytes ≡ Some names
+  pub count_is : count ≡ length names
+
+-- the bytes begin with a table of one abbreviation, of this code and with so many attributes
+pub record IsTable (bytes : List ℕ) (code count : ℕ) : Type 0 where
+  pub names : List ℕ
+  pub read : first_table bytes ≡ Some (code, names)
+  pub count_is : count ≡ length names
+
+-- a unit of a First file was read: where it ends, and the places of its paths behind those before
+pub record UnitRead (order : Order) (info abbrevs str : List ℕ) (at finish : ℕ) (old new : List ℕ) : Type 0 where
+  pub code : ℕ
+  pub size : ℕ
+  pub names : List ℕ
+  pub facts : UnitFacts order info abbrevs str at code size names
+  pub finish_is : finish ≡ unit_end order info at
+  pub places : new ≡ old ++ value_places (at + 11 + size) (length names)
+
+-- the units of a First file were read: these are the places of their paths
+pub record PlacesRead (order : Order) (info abbrevs str places : List ℕ) : Type 0 where
+  pub units : FirstUnits order info abbrevs str
+  pub places_are : path_places units.pieces ≡ places

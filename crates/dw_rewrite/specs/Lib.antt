@@ -1,1 +1,3 @@
 pub mod FirstUnits
+pub mod PathPlaces
+pub mod Refuses

@@ -4,3 +4,8 @@
 //! output is then the defined one; it is refused only where it hasn't.
 //! Read first: `dw_base/specs/First.antt` and `dw_base/specs/Output.antt`.
 #![tactic(auto)]
+
+mod refusal;
+mod table;
+mod texts;
+mod units;
