@@ -1,9 +1,9 @@
 -- What is wrong with an ELF file: the refusals of kinds Header and Range. Each constructor is a row, named by what is
 -- wrong, and its conclusion has the place that the refusal names. A group of rows counts only where what it rests on
 -- reads; beside each group stands the record of what holds where no row of it does.
-use Rattle.std.specs.Prelude.{Bool, true, false, ◌≡◌, ◌≢◌, ℕ, ◌+◌, ◌*◌, ◌<◌, ◌≤◌, ◌==◌, ◌||◌, List, length, IsTrue}
+use Rattle.std.specs.Prelude.{true, false, ◌≡◌, ◌≢◌, ℕ, ◌+◌, ◌*◌, ◌<◌, ◌≤◌, ◌==◌, ◌||◌, List, length, IsTrue}
 use Rattle.std.specs.Int.{is_power_of_two}
-use Rattle.dw_base.specs.Elf.{class_of, order_of, ehdr_size, phdr_size, shdr_size, phoff_place, shoff_place, phentsize_place, phnum_place, shentsize_place, shnum_place, shstrndx_place, e_type, e_phoff, e_shoff, e_phentsize, e_phnum, e_shentsize, nth_section, nth_segment, section_count, name_index, name_table, is_empty_kind}
+use Rattle.dw_base.specs.Elf.{class_of, ehdr_size, phdr_size, shdr_size, phoff_place, shoff_place, phentsize_place, phnum_place, shentsize_place, shnum_place, shstrndx_place, e_type, e_phoff, e_shoff, e_phentsize, e_phnum, e_shentsize, nth_section, nth_segment, section_count, name_index, name_table, is_empty_kind}
 use Rattle.dw_base.specs.Numbers.{spelled}
 use Rattle.dw_base.specs.Refusals.{at}
 use Rattle.dw_base.specs.Texts.{ends_in}
@@ -12,7 +12,7 @@ use Rattle.dw_base.specs.declared.fault.Refusal.{Refusal}
 use Rattle.dw_base.specs.declared.records.Section.{Section}
 use Rattle.dw_base.specs.declared.records.Segment.{Segment}
 use Rattle.dw_base.specs.declared.shared.Order.TheVariants.{Little}
-use Rattle.dw_base.specs.declared.elf_numbers.TheConstants.{ELFMAG, ELFCLASS32, ELFCLASS64, ELFDATA2LSB, ELFDATA2MSB, EV_CURRENT, ET_REL, PN_XNUM, SHT_NULL, SHT_STRTAB}
+use Rattle.dw_base.specs.declared.elf_numbers.TheConstants.{EI_CLASS, EI_DATA, EI_VERSION, ELFMAG, ELFCLASS32, ELFCLASS64, ELFDATA2LSB, ELFDATA2MSB, EV_CURRENT, ET_REL, PN_XNUM, SHT_NULL, SHT_STRTAB}
 
 -- one byte of the identification
 abbrev pub ident_byte : List ℕ → ℕ → ℕ
@@ -23,16 +23,16 @@ ident_byte b i = spelled Little b i 1
 pub data HeaderFails (b : List ℕ) : Refusal → Type 0 where
   short : length b < ehdr_size (class_of b) → HeaderFails b (at Header 0 0)
   magic : spelled Little b 0 4 ≢ ELFMAG → HeaderFails b (at Header 0 0)
-  class : 4 < length b → ident_byte b 4 ≢ ELFCLASS32 → ident_byte b 4 ≢ ELFCLASS64 → HeaderFails b (at Header 0 4)
-  order : 5 < length b → ident_byte b 5 ≢ ELFDATA2LSB → ident_byte b 5 ≢ ELFDATA2MSB → HeaderFails b (at Header 0 5)
-  version : 6 < length b → ident_byte b 6 ≢ EV_CURRENT → HeaderFails b (at Header 0 6)
+  class : EI_CLASS < length b → ident_byte b EI_CLASS ≢ ELFCLASS32 → ident_byte b EI_CLASS ≢ ELFCLASS64 → HeaderFails b (at Header 0 EI_CLASS)
+  order : EI_DATA < length b → ident_byte b EI_DATA ≢ ELFDATA2LSB → ident_byte b EI_DATA ≢ ELFDATA2MSB → HeaderFails b (at Header 0 EI_DATA)
+  version : EI_VERSION < length b → ident_byte b EI_VERSION ≢ EV_CURRENT → HeaderFails b (at Header 0 EI_VERSION)
 
 pub record HeaderReads (b : List ℕ) : Type 0 where
   pub whole : ehdr_size (class_of b) ≤ length b
   pub magic : spelled Little b 0 4 ≡ ELFMAG
-  pub class : IsTrue (ident_byte b 4 == ELFCLASS32 || ident_byte b 4 == ELFCLASS64)
-  pub order : IsTrue (ident_byte b 5 == ELFDATA2LSB || ident_byte b 5 == ELFDATA2MSB)
-  pub version : ident_byte b 6 ≡ EV_CURRENT
+  pub class : IsTrue (ident_byte b EI_CLASS == ELFCLASS32 || ident_byte b EI_CLASS == ELFCLASS64)
+  pub order : IsTrue (ident_byte b EI_DATA == ELFDATA2LSB || ident_byte b EI_DATA == ELFDATA2MSB)
+  pub version : ident_byte b EI_VERSION ≡ EV_CURRENT
 
 -- the sizes and places of the two tables don't fit the file (gABI ch. 4 "ELF Header")
 pub data ShapeFails (b : List ℕ) : Refusal → Type 0 where

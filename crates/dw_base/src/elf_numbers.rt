@@ -1,5 +1,12 @@
 //! The numbers of the ELF format, in the standard's own spelling (gABI ch. 4 and 5).
 
+/// Where `e_ident` has the class.
+pub const EI_CLASS: u64 = 4;
+/// Where `e_ident` has the byte order.
+pub const EI_DATA: u64 = 5;
+/// Where `e_ident` has its version.
+pub const EI_VERSION: u64 = 6;
+
 /// `e_ident[EI_MAG0]` to `e_ident[EI_MAG3]`, 0x7f and "ELF", as a number with the lowest byte first.
 pub const ELFMAG: u64 = 0x464c457f;
 /// `e_ident[EI_CLASS]`: 32 bits.

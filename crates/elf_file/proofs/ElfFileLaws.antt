@@ -1,7 +1,7 @@
 -- Laws of the records of a file that was read.
-use Rattle.std.proofs.Common.{◌≡◌, ◌≢◌, ℕ, ◌+◌, ◌<◌, ◌≤◌, Bool, false, List, [], ◌∷◌, length, drop, get_or, refl, sym, ap, ◌∙◌, arith}
+use Rattle.std.proofs.Common.{◌≡◌, ◌≢◌, ℕ, ◌+◌, ◌<◌, ◌≤◌, false, List, [], length, get_or, refl, ap, ◌∙◌}
 use Rattle.std.proofs.Math.Seq.{drop-nil}
-use Rattle.dw_base.specs.Elf.{e_phnum, is_empty_kind, name_index, nth_section, section_count, sections_of, segments_of}
+use Rattle.dw_base.specs.Elf.{e_phnum, is_empty_kind, name_index, nth_section, nth_segment, section_count, sections_of, segments_of}
 use Rattle.dw_base.specs.ElfFails.{DebugReads}
 use Rattle.dw_base.specs.Texts.{text_in}
 use Rattle.dw_base.specs.declared.records.Section.{Section}
@@ -20,11 +20,21 @@ pub get_or-sections_of : (b : List ℕ) (i : ℕ) (s : Section) → i < section_
 unfolding sections_of
 get_or-sections_of b i s lt = get_or-tabulate _ (section_count b) i s lt
 
+pub get_or-segments_of : (b : List ℕ) (i : ℕ) (s : Segment) → i < e_phnum b → get_or (segments_of b) i s ≡ nth_segment b i
+unfolding segments_of
+get_or-segments_of b i s lt = get_or-tabulate _ (e_phnum b) i s lt
+
 -- what stands at an index of the sections that were read is the section of that number
 pub section-here : (b : List ℕ) (sections : List Section) (i : ℕ) (s : Section) → sections ≡ sections_of b → i < section_count b
     → s ≡ get_or sections i s → s ≡ nth_section b i
 section-here b sections i s are lt e =
     e ∙ ap (λ (xs : List Section). get_or xs i s) are ∙ get_or-sections_of b i s lt
+
+-- the same of a segment
+pub segment-here : (b : List ℕ) (segments : List Segment) (i : ℕ) (s : Segment) → segments ≡ segments_of b → i < e_phnum b
+    → s ≡ get_or segments i s → s ≡ nth_segment b i
+segment-here b segments i s are lt e =
+    e ∙ ap (λ (xs : List Segment). get_or xs i s) are ∙ get_or-segments_of b i s lt
 
 -- the bytes of a section are in the file
 pub section-lies : (b : List ℕ) (i : ℕ) → DebugReads b → i < section_count b → is_empty_kind (nth_section b i) ≡ false

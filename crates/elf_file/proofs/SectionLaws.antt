@@ -1,5 +1,5 @@
 -- Laws of the sections' contents and of the name table.
-use Rattle.std.proofs.Common.{◌≡◌, ◌≢◌, ℕ, ◌+◌, ◌<◌, ◌≤◌, ◌==◌, Bool, true, false, List, [], length, take, drop, refl, sym, ap, ◌∙◌, arith}
+use Rattle.std.proofs.Common.{◌≡◌, ◌≢◌, ℕ, ◌<◌, ◌≤◌, false, List, refl, arith}
 use Rattle.dw_base.specs.Elf.{is_empty_kind, name_index, name_table, nth_section, section_count}
 use Rattle.dw_base.specs.ElfFails.{IndexReads, PlaceReads, NameTableLies, SectionReads, SectionsFail}
 use Rattle.dw_base.specs.ElfFails.SectionFails.{unended}

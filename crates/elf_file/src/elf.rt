@@ -87,7 +87,7 @@ fn file_of<'a>(alloc: Global, bytes: &'a [u8], header: &FileHeader) -> Result<El
 impl ElfFile<'_> {
     /// The section of a number.
     #[tactic(auto, using(crate::proofs::ElfFileLaws::file_laws))]
-    fn section_of(&self, section: u32) -> Section
+    pub(crate) fn section_of(&self, section: u32) -> Section
         requires there { section < section_count self.now.bytes.now }
         ensures { result ≡ nth_section self.now.bytes.now section }
     {
@@ -117,7 +117,7 @@ impl ElfFile<'_> {
 
     /// Reads a file of debug data, whose segments may pass its end. Refused as `Header` or `Range`
     /// exactly where one of their conditions holds, the one on segments past the end aside.
-    #[tactic(auto, using(crate::proofs::Rows::debug_rows, crate::proofs::Excludes::debug_excludes))]
+    #[tactic(auto, using(crate::proofs::Rows::debug_rows, dw_base::proofs::ElfLaws::debug_excludes))]
     pub fn read_debug(alloc: Global, bytes: &[u8]) -> Result<ElfFile<'_>, Fault>
         requires small { length bytes.now ≤ 2 ^ 31 }
         ensures reads { OnOk result (DebugReads bytes.now) }
@@ -131,7 +131,7 @@ impl ElfFile<'_> {
     }
 
     /// Reads a file. Refused as `Header` or `Range` exactly where one of their conditions holds.
-    #[tactic(auto, using(crate::proofs::Rows::elf_rows, crate::proofs::Excludes::elf_excludes))]
+    #[tactic(auto, using(crate::proofs::Rows::elf_rows, dw_base::proofs::ElfLaws::elf_excludes))]
     pub fn read(alloc: Global, bytes: &[u8]) -> Result<ElfFile<'_>, Fault>
         requires small { length bytes.now ≤ 2 ^ 31 }
         ensures reads { OnOk result (ElfReads bytes.now) }

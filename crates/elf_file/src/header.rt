@@ -9,7 +9,7 @@ ghost use Rattle.elf_file.specs.FileHeader.{file_header};
 use crate::places::{file_header_size, place_of_phentsize, place_of_phnum, place_of_phoff, place_of_shentsize, program_header_size, section_header_size};
 use crate::records::FileHeader;
 use crate::slots::file_header_in;
-use dw_base::elf_numbers::{ELFCLASS32, ELFCLASS64, ELFDATA2LSB, ELFDATA2MSB, ELFMAG, ET_REL, EV_CURRENT, PN_XNUM};
+use dw_base::elf_numbers::{EI_CLASS, EI_DATA, EI_VERSION, ELFCLASS32, ELFCLASS64, ELFDATA2LSB, ELFDATA2MSB, ELFMAG, ET_REL, EV_CURRENT, PN_XNUM};
 use dw_base::{Class, Kind, Order, Refusal, number_in};
 
 /// The class of a file. Refused as `Header` at (0, 4) exactly where it is neither.
@@ -17,13 +17,13 @@ use dw_base::{Class, Kind, Order, Refusal, number_in};
 fn class_in(bytes: &[u8]) -> Result<Class, Refusal>
     requires { 52 ≤ length bytes.now }
     ensures value { IfOk result (λ class. class ≡ class_of bytes.now) }
-    ensures class { OnOk result (IsTrue (ident_byte bytes.now 4 == ELFCLASS32 || ident_byte bytes.now 4 == ELFCLASS64)) }
+    ensures class { OnOk result (IsTrue (ident_byte bytes.now EI_CLASS == ELFCLASS32 || ident_byte bytes.now EI_CLASS == ELFCLASS64)) }
     ensures refused { IfErr result (HeaderFails bytes.now) }
 {
-    match number_in(Order::Little, bytes, 4, 1) {
+    match number_in(Order::Little, bytes, EI_CLASS, 1) {
         ELFCLASS32 => Ok(Class::C32),
         ELFCLASS64 => Ok(Class::C64),
-        _ => Err(Refusal { kind: Kind::Header, section: 0, offset: 4 }),
+        _ => Err(Refusal { kind: Kind::Header, section: 0, offset: EI_CLASS }),
     }
 }
 
@@ -32,13 +32,13 @@ fn class_in(bytes: &[u8]) -> Result<Class, Refusal>
 fn order_in(bytes: &[u8]) -> Result<Order, Refusal>
     requires { 52 ≤ length bytes.now }
     ensures value { IfOk result (λ order. order ≡ order_of bytes.now) }
-    ensures order { OnOk result (IsTrue (ident_byte bytes.now 5 == ELFDATA2LSB || ident_byte bytes.now 5 == ELFDATA2MSB)) }
+    ensures order { OnOk result (IsTrue (ident_byte bytes.now EI_DATA == ELFDATA2LSB || ident_byte bytes.now EI_DATA == ELFDATA2MSB)) }
     ensures refused { IfErr result (HeaderFails bytes.now) }
 {
-    match number_in(Order::Little, bytes, 5, 1) {
+    match number_in(Order::Little, bytes, EI_DATA, 1) {
         ELFDATA2LSB => Ok(Order::Little),
         ELFDATA2MSB => Ok(Order::Big),
-        _ => Err(Refusal { kind: Kind::Header, section: 0, offset: 5 }),
+        _ => Err(Refusal { kind: Kind::Header, section: 0, offset: EI_DATA }),
     }
 }
 
@@ -62,8 +62,8 @@ pub fn header_in(bytes: &[u8]) -> Result<FileHeader, Refusal>
         return Err(Refusal { kind: Kind::Header, section: 0, offset: 0 });
     }
     let order = order_in(bytes)?;
-    if number_in(Order::Little, bytes, 6, 1) != EV_CURRENT {
-        return Err(Refusal { kind: Kind::Header, section: 0, offset: 6 });
+    if number_in(Order::Little, bytes, EI_VERSION, 1) != EV_CURRENT {
+        return Err(Refusal { kind: Kind::Header, section: 0, offset: EI_VERSION });
     }
     Ok(file_header_in(class, order, bytes))
 }

@@ -8,6 +8,7 @@
 #![tactic(auto)]
 
 mod elf;
+mod fixed;
 mod header;
 mod names;
 mod places;

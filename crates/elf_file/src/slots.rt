@@ -24,16 +24,16 @@ pub fn word_in(order: Order, bytes: &[u8], at: u64) -> u32
     number_in(order, bytes, at, 4) as u32
 }
 
-/// The word at a place as a long one, in bytes from the start of the file.
-pub fn short_in(order: Order, bytes: &[u8], at: u64) -> u64
+/// The address, offset or size at a place in a file of 32 bits, in bytes from the start of the file.
+pub fn off32_in(order: Order, bytes: &[u8], at: u64) -> u64
     requires { at + 4 ≤ length bytes.now }
     ensures { result ≡ spelled order bytes.now at 4 }
 {
     number_in(order, bytes, at, 4)
 }
 
-/// The double word at a place, in bytes from the start of the file.
-pub fn long_in(order: Order, bytes: &[u8], at: u64) -> u64
+/// The address, offset or size at a place in a file of 64 bits, in bytes from the start of the file.
+pub fn off64_in(order: Order, bytes: &[u8], at: u64) -> u64
     requires { at + 8 ≤ length bytes.now }
     ensures { result ≡ spelled order bytes.now at 8 }
 {
@@ -56,8 +56,8 @@ pub fn file_header_in(class: Class, order: Order, bytes: &[u8]) -> FileHeader
             order,
             kind: half_in(order, bytes, 16),
             machine: half_in(order, bytes, 18),
-            phoff: short_in(order, bytes, 28),
-            shoff: short_in(order, bytes, 32),
+            phoff: off32_in(order, bytes, 28),
+            shoff: off32_in(order, bytes, 32),
             phentsize: half_in(order, bytes, 42),
             phnum: half_in(order, bytes, 44),
             shentsize: half_in(order, bytes, 46),
@@ -69,8 +69,8 @@ pub fn file_header_in(class: Class, order: Order, bytes: &[u8]) -> FileHeader
             order,
             kind: half_in(order, bytes, 16),
             machine: half_in(order, bytes, 18),
-            phoff: long_in(order, bytes, 32),
-            shoff: long_in(order, bytes, 40),
+            phoff: off64_in(order, bytes, 32),
+            shoff: off64_in(order, bytes, 40),
             phentsize: half_in(order, bytes, 54),
             phnum: half_in(order, bytes, 56),
             shentsize: half_in(order, bytes, 58),
@@ -90,26 +90,26 @@ pub fn section_in(class: Class, order: Order, bytes: &[u8], place: u64) -> Secti
         Class::C32 => Section {
             name: word_in(order, bytes, place),
             kind: word_in(order, bytes, place + 4),
-            flags: short_in(order, bytes, place + 8),
-            addr: short_in(order, bytes, place + 12),
-            offset: short_in(order, bytes, place + 16),
-            size: short_in(order, bytes, place + 20),
+            flags: off32_in(order, bytes, place + 8),
+            addr: off32_in(order, bytes, place + 12),
+            offset: off32_in(order, bytes, place + 16),
+            size: off32_in(order, bytes, place + 20),
             link: word_in(order, bytes, place + 24),
             info: word_in(order, bytes, place + 28),
-            align: short_in(order, bytes, place + 32),
-            entry_size: short_in(order, bytes, place + 36),
+            align: off32_in(order, bytes, place + 32),
+            entry_size: off32_in(order, bytes, place + 36),
         },
         Class::C64 => Section {
             name: word_in(order, bytes, place),
             kind: word_in(order, bytes, place + 4),
-            flags: long_in(order, bytes, place + 8),
-            addr: long_in(order, bytes, place + 16),
-            offset: long_in(order, bytes, place + 24),
-            size: long_in(order, bytes, place + 32),
+            flags: off64_in(order, bytes, place + 8),
+            addr: off64_in(order, bytes, place + 16),
+            offset: off64_in(order, bytes, place + 24),
+            size: off64_in(order, bytes, place + 32),
             link: word_in(order, bytes, place + 40),
             info: word_in(order, bytes, place + 44),
-            align: long_in(order, bytes, place + 48),
-            entry_size: long_in(order, bytes, place + 56),
+            align: off64_in(order, bytes, place + 48),
+            entry_size: off64_in(order, bytes, place + 56),
         },
     }
 }
@@ -124,22 +124,22 @@ pub fn segment_in(class: Class, order: Order, bytes: &[u8], place: u64) -> Segme
         Class::C32 => Segment {
             kind: word_in(order, bytes, place),
             flags: word_in(order, bytes, place + 24),
-            offset: short_in(order, bytes, place + 4),
-            vaddr: short_in(order, bytes, place + 8),
-            paddr: short_in(order, bytes, place + 12),
-            filesz: short_in(order, bytes, place + 16),
-            memsz: short_in(order, bytes, place + 20),
-            align: short_in(order, bytes, place + 28),
+            offset: off32_in(order, bytes, place + 4),
+            vaddr: off32_in(order, bytes, place + 8),
+            paddr: off32_in(order, bytes, place + 12),
+            filesz: off32_in(order, bytes, place + 16),
+            memsz: off32_in(order, bytes, place + 20),
+            align: off32_in(order, bytes, place + 28),
         },
         Class::C64 => Segment {
             kind: word_in(order, bytes, place),
             flags: word_in(order, bytes, place + 4),
-            offset: long_in(order, bytes, place + 8),
-            vaddr: long_in(order, bytes, place + 16),
-            paddr: long_in(order, bytes, place + 24),
-            filesz: long_in(order, bytes, place + 32),
-            memsz: long_in(order, bytes, place + 40),
-            align: long_in(order, bytes, place + 48),
+            offset: off64_in(order, bytes, place + 8),
+            vaddr: off64_in(order, bytes, place + 16),
+            paddr: off64_in(order, bytes, place + 24),
+            filesz: off64_in(order, bytes, place + 32),
+            memsz: off64_in(order, bytes, place + 40),
+            align: off64_in(order, bytes, place + 48),
         },
     }
 }

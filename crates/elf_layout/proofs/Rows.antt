@@ -17,7 +17,7 @@ use Rattle.dw_base.specs.declared.fault.Refusal.{Refusal}
 use Rattle.dw_base.specs.declared.records.Section.{Section}
 use Rattle.dw_base.specs.declared.shared.Class.{Class}
 use Rattle.dw_base.specs.declared.shared.Order.{Order}
-use Rattle.dw_base.proofs.LayoutLaws.{length-shdrs_bytes, length-before_table, length-with_table, laid-append, laid-longer, laid_tabulate-longer, new_heads-append}
+use Rattle.dw_base.proofs.LayoutLaws.{fixed_end-header, fixed_end-within, length-shdrs_bytes, length-before_table, length-with_table, laid-append, laid-longer, laid_tabulate-longer, new_heads-append}
 
 pub ruleset layout_rows = (long)
 
@@ -111,4 +111,4 @@ pub layout_excludes : (b : List ℕ) (bodies : ℕ → List ℕ) (r : Refusal) �
 layout_excludes b bodies r small fit (section i lt h) = fit i r lt h
 layout_excludes b bodies r small fit (large (long passes)) = omega arith
 
-pub ruleset emit_rows = (section, large, layout_excludes)
+pub ruleset emit_rows = (section, large, layout_excludes, fixed_end-header, fixed_end-within)

@@ -10,7 +10,7 @@ ghost use Rattle.dw_base.specs.Refusals.{Blames};
 ghost use Rattle.dw_base.specs.declared.fault.Refusal.{Refusal};
 ghost use Rattle.elf_layout.specs.Given.{AreContents, body_given};
 
-use crate::fixed::{ehdr_size, fixed_end, is_alloc, is_loaded, takes_no_room};
+use crate::fixed::{begins_in_header, lies_across, takes_no_room};
 use crate::laying::lay;
 use crate::table::append_table;
 use dw_base::{Fault, Kind, Refusal, Section};
@@ -47,56 +47,16 @@ fn body_of<'a>(elf: &'a ElfFile, contents: &'a [Option<Vec<u8>>], section: u32) 
     }
 }
 
-/// The section stays at its place. `end` is the fixed end.
-#[tactic(auto, unfolding(dw_base::specs::Layout::is_fixed))]
-fn is_fixed(elf: &ElfFile, end: u64, section: &Section) -> bool
-    requires end { end ≡ fixed_end elf.now.bytes.now }
-    ensures { result ≡ is_fixed elf.now.bytes.now section.now }
-{
-    if !is_loaded(elf) {
-        return false;
-    }
-    is_alloc(section) || section.offset <= end && section.size <= end - section.offset
-}
-
-/// The section isn't loaded, and begins before the fixed end and ends behind it.
-fn lies_across(elf: &ElfFile, end: u64, section: &Section) -> bool
-    requires end { end ≡ fixed_end elf.now.bytes.now }
-    ensures { IsTrue result ↔ LiesAcross elf.now.bytes.now section.now }
-{
-    if takes_no_room(section) {
-        return false;
-    }
-    if is_alloc(section) {
-        return false;
-    }
-    section.offset < end && section.size > end - section.offset
-}
-
-/// The section of a file that is loaded has bytes, and begins in the file header.
-fn begins_in_header(elf: &ElfFile, section: &Section) -> bool
-    ensures { IsTrue result ↔ BeginsInHeader elf.now.bytes.now section.now }
-{
-    if !is_loaded(elf) {
-        return false;
-    }
-    if takes_no_room(section) {
-        return false;
-    }
-    section.size != 0 && section.offset < ehdr_size(elf.class)
-}
-
 /// A section that stays is given other bytes than it has.
 #[tactic(auto, unfolding(crate::specs::Given::body_given))]
-fn changes(elf: &ElfFile, end: u64, contents: &[Option<Vec<u8>>], section: u32, head: &Section) -> bool
+fn changes(elf: &ElfFile, end: u64, contents: &[Option<Vec<u8>>], section: u32) -> bool
     requires end { end ≡ fixed_end elf.now.bytes.now }
     requires there { section < section_count elf.now.bytes.now }
-    requires head { head.now ≡ nth_section elf.now.bytes.now section }
     requires contents { AreContents elf.now.bytes.now contents.now }
     ensures { IsTrue result ↔ Changes elf.now.bytes.now (body_given elf.now.bytes.now contents.now) section }
 {
     match &contents[section as usize] {
-        Some(body) => is_fixed(elf, end, head) && body.as_slice() != elf.contents(section),
+        Some(body) => elf.is_fixed_by(section, end) && body.as_slice() != elf.contents(section),
         None => false,
     }
 }
@@ -119,7 +79,7 @@ fn section_fits(elf: &ElfFile, end: u64, contents: &[Option<Vec<u8>>], section: 
     if begins_in_header(elf, &head) {
         return Err(Refusal { kind: Kind::Fixed, section, offset: 0 });
     }
-    if changes(elf, end, contents, section, &head) {
+    if changes(elf, end, contents, section) {
         return Err(Refusal { kind: Kind::Fixed, section, offset: 0 });
     }
     Ok(())
@@ -163,7 +123,7 @@ fn lay_section(
         (part_of elf.now.bytes.now (body_given elf.now.bytes.now contents.now) section))))) }
 {
     let head = head_of(elf, section);
-    let moves = !takes_no_room(&head) && !is_fixed(elf, end, &head);
+    let moves = !takes_no_room(&head) && !elf.is_fixed_by(section, end);
     lay(out, &head, moves, body_of(elf, contents, section))
 }
 
@@ -225,7 +185,7 @@ pub fn emit(alloc: Global, elf: &ElfFile, contents: &[Option<Vec<u8>>]) -> Resul
     ensures none { OnOk result ((r : Refusal) → LayoutFails elf.now.bytes.now (body_given elf.now.bytes.now contents.now) r → ⊥) }
     ensures refused { IfErr result (Blames (LayoutFails elf.now.bytes.now (body_given elf.now.bytes.now contents.now))) }
 {
-    let end = fixed_end(elf);
+    let end = elf.fixed_end();
     sections_fit(elf, end, contents)?;
     if elf.sections.is_empty() {
         return Ok(Vec::from_slice(alloc, elf.bytes)?);
