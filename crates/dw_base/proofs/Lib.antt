@@ -7,3 +7,8 @@ pub mod LayoutLaws
 pub mod GrammarLaws
 pub mod UnitLaws
 pub mod ElfLaws
+pub mod RecordLaws
+pub mod WrittenLaws
+pub mod WrittenHeaders
+pub mod WrittenSections
+pub mod WrittenContents

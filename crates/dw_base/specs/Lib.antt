@@ -10,6 +10,7 @@ pub mod Elf
 pub mod ElfFails
 pub mod Layout
 pub mod LayoutFails
+pub mod LayoutReads
 pub mod Grammar
 pub mod Abbreviations
 pub mod Units
