@@ -12,3 +12,4 @@ pub mod WrittenLaws
 pub mod WrittenHeaders
 pub mod WrittenSections
 pub mod WrittenContents
+pub mod FixedPartLaws

@@ -1,6 +1,7 @@
 -- What the sections hold, in a file that was written with new section bodies.
 use Rattle.std.proofs.Common.{◌≡◌, ◌≢◌, ℕ, zero, suc, ◌+◌, ◌-◌, ◌*◌, ◌<◌, ◌≤◌, ◌⊎◌, ◌==◌, ◌&&◌, ◌||◌, nat_le, not, Bool, true, false, List, [], ◌∷◌, ◌++◌, length, take, drop, get_or, slice_index, if◌then◌else◌, refl, sym, ap, ◌∙◌, arith, inl, inr, subst}
-use Rattle.std.proofs.lemmas.Bool.{cases_lt, cases_eq}
+use Rattle.std.proofs.lemmas.Bool.{cases_lt, cases_eq, cases_Bool}
+use Rattle.std.proofs.lemmas.Bool.Decides.{not_from_Decides}
 use Rattle.std.proofs.lemmas.List.{get_or-take, get_or-drop, get_or_default, length-take-le, length-drop, same_lists}
 use Rattle.std.proofs.lemmas.Slice.Eq.{bytes_eq-Decides}
 use Rattle.std.specs.Str.{bytes_eq}
@@ -14,7 +15,8 @@ use Rattle.dw_base.specs.Lists.{tabulate}
 use Rattle.dw_base.specs.declared.elf_numbers.TheConstants.{SHT_NULL, SHT_NOBITS, SHN_XINDEX}
 use Rattle.dw_base.specs.declared.records.Section.{Section}
 use Rattle.dw_base.proofs.ElfLaws.{ehdr_size-least, e_shoff-some}
-use Rattle.dw_base.proofs.LayoutLaws.{laid-append, laid-longer}
+use Rattle.dw_base.proofs.FixedPartLaws.{fixed-loaded, fixed-ends}
+use Rattle.dw_base.proofs.LayoutLaws.{laid-append, laid-longer, fixed_end-within}
 use Rattle.dw_base.proofs.WrittenLaws.{IsWritten, front_of, parts_of, laid_of, heads_of, eq-differ, out-is, laid-kept, shoff_place-within, with_table-front, out-kept}
 use Rattle.dw_base.proofs.WrittenHeaders.{Lengths, lengths, table_of, class-same, order-same, e_shoff-is, e_shnum-same, e_shstrndx-same}
 use Rattle.dw_base.proofs.WrittenSections.{before_of, part-head, part-body, part-moves, moved-length, moved-byte, laid_tabulate-kept, laid-with, nth-is}
@@ -136,3 +138,88 @@ moved-contents b bodies i w lt moves =
         ∙ ap (λ (xs : List ℕ). slice_index xs (length before + pad + k)) (laid-append (front_of b) (tabulate (part_of b bodies) i) (p ∷ []))
         ∙ moved-byte before p k moves
         ∙ ap (λ (xs : List ℕ). slice_index xs k) (part-body b bodies i)))
+
+-- a section that stays is given its own contents
+unchanged : (b : List ℕ) (bodies : ℕ → List ℕ) (i : ℕ) → IsWritten b bodies → i < section_count b → is_fixed b (nth_section b i) ≡ true
+    → bodies i ≡ contents_of b i
+unchanged b bodies i w lt stays =
+    elim (cases_Bool (bytes_eq (bodies i) (contents_of b i))) [
+      inl same ↦ (bytes_eq-Decides (bodies i) (contents_of b i)).0 same
+    | inr other ↦
+        absurd (w.fit _ (section i lt (changed (record {
+          stays = stays;
+          body = not_from_Decides (bytes_eq (bodies i) (contents_of b i)) (bytes_eq-Decides (bodies i) (contents_of b i)) other;
+        }))))
+    ]
+
+-- a section of a file that is loaded begins behind the file header, if it has bytes
+pub behind-header : (b : List ℕ) (bodies : ℕ → List ℕ) (i : ℕ) → IsWritten b bodies → i < section_count b → is_loaded_kind b ≡ true
+    → is_empty_kind (nth_section b i) ≡ false → (nth_section b i).size ≢ 0 → ehdr_size (class_of b) ≤ (nth_section b i).offset
+behind-header b bodies i w lt loaded full some =
+    elim (cases_lt (nth_section b i).offset (ehdr_size (class_of b))) [
+      inl begins ↦ absurd (w.fit _ (section i lt (in_header (record { loaded = loaded; bytes = full; some = some; begins = begins }))))
+    | inr behind ↦ behind
+    ]
+
+-- the bytes of a section that stays are as they were
+stayed-bytes : (b : List ℕ) (bodies : ℕ → List ℕ) (i : ℕ) → IsWritten b bodies → i < section_count b → is_fixed b (nth_section b i) ≡ true
+    → is_empty_kind (nth_section b i) ≡ false → (nth_section b i).size ≢ 0
+    → take (nth_section b i).size (drop (nth_section b i).offset (with_bodies b bodies)) ≡ take (nth_section b i).size (drop (nth_section b i).offset b)
+stayed-bytes b bodies i w lt stays full some =
+    let s = nth_section b i in
+    let ends = fixed-ends b i lt stays full some in
+    let behind = behind-header b bodies i w lt (fixed-loaded b s stays) full some in
+    let size = lengths b bodies w in
+    let inside = fixed_end-within b w.reads w.segments in
+    let header = shoff_place-within (class_of b) in
+    let rest = length-drop s.offset b in
+    let long : length (take s.size (drop s.offset b)) ≡ s.size = length-take-le s.size (drop s.offset b) (omega arith) in
+    ap (λ (n : ℕ). take n (drop s.offset (with_bodies b bodies))) (sym long)
+    ∙ part-is (with_bodies b bodies) (take s.size (drop s.offset b)) s.offset (omega arith)
+        (λ k below.
+            out-kept b bodies (s.offset + k) w (omega arith) (inr (omega arith))
+            ∙ sym (get_or-take s.size (drop s.offset b) k 0 (omega arith) ∙ get_or-drop s.offset b k 0))
+
+stayed-contents : (b : List ℕ) (bodies : ℕ → List ℕ) (i : ℕ) → IsWritten b bodies → i < section_count b → is_fixed b (nth_section b i) ≡ true
+    → is_empty_kind (nth_section b i) ≡ false → contents_at (with_bodies b bodies) (nth_section b i) ≡ contents_at b (nth_section b i)
+stayed-contents b bodies i w lt stays full =
+    rw (contents-full (with_bodies b bodies) (nth_section b i) full, contents-full b (nth_section b i) full)
+    (elim (cases_eq (nth_section b i).size 0) [
+      inl none ↦ rw none refl
+    | inr some ↦ stayed-bytes b bodies i w lt stays full some
+    ])
+
+-- the two ways to be no part that moves, and the one to be one
+pub full-moves : (e f : Bool) → e ≡ false → f ≡ false → (not e && not f) ≡ true
+full-moves e f full free = rw (full, free) refl
+
+pub fixed-stays : (e f : Bool) → f ≡ true → (not e && not f) ≡ false
+fixed-stays true f stays = refl
+fixed-stays false f stays = rw stays refl
+
+-- each section holds the body that was given
+pub contents-is : (b : List ℕ) (bodies : ℕ → List ℕ) (i : ℕ) → IsWritten b bodies → i < section_count b → contents_of (with_bodies b bodies) i ≡ bodies i
+unfolding contents_of
+contents-is b bodies i w lt =
+    let s = nth_section b i in
+    let new = nth_section (with_bodies b bodies) i in
+    let same = empty-same s new (head-same b bodies i w lt).kind in
+    elim (cases_Bool (is_empty_kind s)) [
+      inl empty ↦ contents-empty (with_bodies b bodies) new (same ∙ empty) ∙ sym (w.none i lt empty)
+    | inr full ↦
+        elim (cases_Bool (is_fixed b s)) [
+          inl stays ↦
+            let moves : (part_of b bodies i).moves ≡ false = part-moves b bodies i ∙ fixed-stays (is_empty_kind s) (is_fixed b s) stays in
+            ap (contents_at (with_bodies b bodies)) (head-stays b bodies i w lt moves)
+            ∙ stayed-contents b bodies i w lt stays full
+            ∙ sym (unchanged b bodies i w lt stays)
+        | inr free ↦
+            let moves : (part_of b bodies i).moves ≡ true = part-moves b bodies i ∙ full-moves (is_empty_kind s) (is_fixed b s) full free in
+            let head = nth-is b bodies i w lt ∙ new_head-moves (length (before_of b bodies i)) (part_of b bodies i) moves in
+            contents-full (with_bodies b bodies) new (same ∙ full)
+            ∙ ap (λ (h : Section). take h.size (drop h.offset (with_bodies b bodies))) head
+            ∙ ap (λ (n : ℕ). take n (drop (length (before_of b bodies i) + padding (length (before_of b bodies i)) (part_of b bodies i).head.align) (with_bodies b bodies)))
+                (ap length (part-body b bodies i))
+            ∙ moved-contents b bodies i w lt moves
+        ]
+    ]
