@@ -13,3 +13,4 @@ pub mod WrittenHeaders
 pub mod WrittenSections
 pub mod WrittenContents
 pub mod FixedPartLaws
+pub mod ReadsBackLaws

@@ -34,7 +34,7 @@ new_head-stays : (place : ℕ) (p : Part) → p.moves ≡ false → new_head pla
 unfolding new_head
 new_head-stays place p stays = rw stays refl
 
-new_head-moves : (place : ℕ) (p : Part) → p.moves ≡ true
+pub new_head-moves : (place : ℕ) (p : Part) → p.moves ≡ true
     → new_head place p ≡ record p.head { offset = place + padding place p.head.align; size = length p.body }
 unfolding new_head
 new_head-moves place p moves = rw moves refl
@@ -105,7 +105,7 @@ part-is xs ys place inside same =
         ∙ sym (get_or_default ys k d 0 below))
 
 -- the kind alone says whether a section takes no room
-empty-same : (s t : Section) → t.kind ≡ s.kind → is_empty_kind t ≡ is_empty_kind s
+pub empty-same : (s t : Section) → t.kind ≡ s.kind → is_empty_kind t ≡ is_empty_kind s
 empty-same s t e = rw e refl
 
 pub contents-empty : (b : List ℕ) (s : Section) → is_empty_kind s ≡ true → contents_at b s ≡ []
