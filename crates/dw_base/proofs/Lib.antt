@@ -14,3 +14,4 @@ pub mod WrittenSections
 pub mod WrittenContents
 pub mod FixedPartLaws
 pub mod ReadsBackLaws
+pub mod ReadsAgainLaws

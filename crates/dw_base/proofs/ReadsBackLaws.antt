@@ -102,7 +102,7 @@ eq-is : (m n : ℕ) → (m == n) ≡ true → m ≡ n
 eq-is m n h = grind arith
 
 -- a file of a known kind has program headers only where it is loaded
-segments-by : (b : List ℕ) → DebugReads b → is_known_kind b ≡ true → (e_phnum b ≡ 0) ⊎ (is_loaded_kind b ≡ true)
+pub segments-by : (b : List ℕ) → DebugReads b → is_known_kind b ≡ true → (e_phnum b ≡ 0) ⊎ (is_loaded_kind b ≡ true)
 segments-by b reads known =
     elim (or_cases (e_type b == ET_REL) (is_loaded_kind b) known) [
       inl rel ↦ inl (reads.shape.rel (eq-is (e_type b) ET_REL rel))
@@ -110,7 +110,7 @@ segments-by b reads known =
     ]
 
 -- and lie before the fixed end
-segments-lie : (b : List ℕ) → is_loaded_kind b ≡ true → e_phnum b ≢ 0 → e_phoff b + e_phnum b * phdr_size (class_of b) ≤ fixed_end b
+pub segments-lie : (b : List ℕ) → is_loaded_kind b ≡ true → e_phnum b ≢ 0 → e_phoff b + e_phnum b * phdr_size (class_of b) ≤ fixed_end b
 segments-lie b loaded some = rw (eq-differ (e_phnum b) 0 some) at (segment_table-fixed b loaded)
 
 pub segment-same : (b : List ℕ) (bodies : ℕ → List ℕ) (i : ℕ) → IsWritten b bodies → is_known_kind b ≡ true → i < e_phnum b
