@@ -1,10 +1,11 @@
 //! Files written with new section bodies: this project's profile.
 
-ghost use Rattle.std.specs.Prelude.{◌≡◌, ◌≢◌, ◌↔◌, ◌+◌, ◌<◌, ◌≤◌, ◌++◌, ◌&&◌, ℕ, not, length, vec_len, take, IsTrue, OnOk, IfOk, IfErr};
+ghost use Rattle.std.specs.Prelude.{◌≡◌, ◌≢◌, ◌↔◌, ◌+◌, ◌<◌, ◌≤◌, ◌++◌, ◌&&◌, ℕ, not, length, slice_index, vec_len, take, IsTrue, OnOk, IfOk, IfErr};
 ghost use Rattle.dw_base.specs.ElfFails.{SegmentsRead};
 ghost use Rattle.dw_base.specs.Elf.{contents_of, ehdr_size, is_empty_kind, nth_section, section_count};
 ghost use Rattle.dw_base.specs.Layout.{output_limit, extended, fixed_end, is_fixed, laid, laid_out, new_head, new_heads, part_of, with_bodies};
 ghost use Rattle.dw_base.specs.LayoutFails.{BeginsInHeader, Changes, LayoutFails, LiesAcross, SectionStays, TooLong};
+ghost use Rattle.dw_base.specs.LayoutReads.{ReadsBack};
 ghost use Rattle.dw_base.specs.Lists.{tabulate};
 ghost use Rattle.dw_base.specs.Refusals.{Blames};
 ghost use Rattle.dw_base.specs.declared.fault.Refusal.{Refusal};
@@ -173,23 +174,39 @@ fn lay_out(alloc: Global, elf: &ElfFile, end: u64, contents: &[Option<Vec<u8>>])
     append_table(out, elf.class, elf.order, &heads)
 }
 
-/// The file with new section bodies, one item for each section: its new body, or none where it keeps
-/// its own. Refused as `Fixed` at (a section, 0) only where that section lies across the fixed end,
-/// begins in the file header, or stays and is given other bytes than it has; as `TooLarge` only where
-/// the file would pass the limit. Where none of these holds it is written, or memory is short.
+/// What `emit` gives, for a file of these bytes.
 #[tactic(auto, using(crate::proofs::Rows::emit_rows), unfolding(dw_base::specs::Layout::with_bodies))]
-pub fn emit(alloc: Global, elf: &ElfFile, contents: &[Option<Vec<u8>>]) -> Result<Vec<u8>, Fault>
-    requires segments { SegmentsRead elf.now.bytes.now }
-    requires contents { AreContents elf.now.bytes.now contents.now }
-    ensures file { IfOk result (λ file. file.items ≡ with_bodies elf.now.bytes.now (body_given elf.now.bytes.now contents.now)) }
-    ensures none { OnOk result ((r : Refusal) → LayoutFails elf.now.bytes.now (body_given elf.now.bytes.now contents.now) r → ⊥) }
-    ensures refused { IfErr result (Blames (LayoutFails elf.now.bytes.now (body_given elf.now.bytes.now contents.now))) }
+fn written(alloc: Global, bytes: &[u8], elf: &ElfFile, contents: &[Option<Vec<u8>>]) -> Result<Vec<u8>, Fault>
+    requires bytes { bytes.now ≡ elf.now.bytes.now }
+    requires segments { SegmentsRead bytes.now }
+    requires contents { AreContents bytes.now contents.now }
+    ensures file { IfOk result (λ file. file.items ≡ with_bodies bytes.now (body_given bytes.now contents.now)) }
+    ensures bytes { OnOk result ((k : ℕ) → slice_index bytes.now k < 256) }
+    ensures none { OnOk result ((r : Refusal) → LayoutFails bytes.now (body_given bytes.now contents.now) r → ⊥) }
+    ensures refused { IfErr result (Blames (LayoutFails bytes.now (body_given bytes.now contents.now))) }
 {
     let end = elf.fixed_end();
     sections_fit(elf, end, contents)?;
     if elf.sections.is_empty() {
-        return Ok(Vec::from_slice(alloc, elf.bytes)?);
+        return Ok(Vec::from_slice(alloc, bytes)?);
     }
     let file = lay_out(alloc, elf, end, contents)?;
+    Ok(file)
+}
+
+/// The file with new section bodies, one item for each section: its new body, or none where it keeps
+/// its own. Its sections read back as they were, but for place, size and these bodies. Refused as
+/// `Fixed` at (a section, 0) only where that section lies across the fixed end, begins in the file
+/// header, or stays and is given other bytes than it has; as `TooLarge` only where the file would pass
+/// the limit. Where none of these holds it is written, or memory is short.
+pub fn emit(alloc: Global, elf: &ElfFile, contents: &[Option<Vec<u8>>]) -> Result<Vec<u8>, Fault>
+    requires segments { SegmentsRead elf.now.bytes.now }
+    requires contents { AreContents elf.now.bytes.now contents.now }
+    ensures file { IfOk result (λ file. file.items ≡ with_bodies elf.now.bytes.now (body_given elf.now.bytes.now contents.now)) }
+    ensures reads_back { IfOk result (λ file. ReadsBack elf.now.bytes.now (body_given elf.now.bytes.now contents.now) file.items) }
+    ensures none { OnOk result ((r : Refusal) → LayoutFails elf.now.bytes.now (body_given elf.now.bytes.now contents.now) r → ⊥) }
+    ensures refused { IfErr result (Blames (LayoutFails elf.now.bytes.now (body_given elf.now.bytes.now contents.now))) }
+{
+    let file = written(alloc, elf.bytes, elf, contents)?;
     Ok(file)
 }
