@@ -11,6 +11,7 @@ pub mod ElfFails
 pub mod Layout
 pub mod LayoutFails
 pub mod LayoutReads
+pub mod Parts
 pub mod Grammar
 pub mod Abbreviations
 pub mod Units

@@ -4,6 +4,10 @@
 mod bodies;
 mod fixed;
 mod laying;
+mod part;
+mod parts;
 mod table;
 
 pub use bodies::emit;
+pub use part::Part;
+pub use parts::write_parts;
