@@ -15,3 +15,4 @@ pub mod WrittenContents
 pub mod FixedPartLaws
 pub mod ReadsBackLaws
 pub mod ReadsAgainLaws
+pub mod PartsLaws

@@ -41,7 +41,7 @@ new_heads-at out f (suc n) i d lt =
       ]
 
 -- a new header fits its fields
-new_head-fits : (c : Class) (place : ℕ) (p : Part) → FieldsFit (shdr_fields c p.head)
+pub new_head-fits : (c : Class) (place : ℕ) (p : Part) → FieldsFit (shdr_fields c p.head)
     → (p.moves ≡ true → place + padding place p.head.align + length p.body ≤ output_limit) → FieldsFit (shdr_fields c (new_head place p))
 unfolding new_head
 new_head-fits c place p fit small =

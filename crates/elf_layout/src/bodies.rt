@@ -20,7 +20,7 @@ use std::alloc::Global;
 
 /// How many sections there are.
 #[tactic(auto, using(crate::proofs::FixedLaws::count_laws))]
-fn section_count(elf: &ElfFile) -> u32
+pub(crate) fn section_count(elf: &ElfFile) -> u32
     ensures { result ≡ section_count elf.now.bytes.now }
 {
     elf.sections.len() as u32
@@ -28,7 +28,7 @@ fn section_count(elf: &ElfFile) -> u32
 
 /// The header of the section of a number.
 #[tactic(auto, using(crate::proofs::FixedLaws::section_laws))]
-fn head_of(elf: &ElfFile, section: u32) -> Section
+pub(crate) fn head_of(elf: &ElfFile, section: u32) -> Section
     requires there { section < section_count elf.now.bytes.now }
     ensures { result ≡ nth_section elf.now.bytes.now section }
 {

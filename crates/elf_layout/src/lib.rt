@@ -7,6 +7,10 @@ mod laying;
 mod part;
 mod parts;
 mod table;
+#[cfg(test)]
+mod fixtures;
+#[cfg(test)]
+mod tests;
 
 pub use bodies::emit;
 pub use part::Part;

@@ -1,0 +1,200 @@
+-- A file that was written from parts reads back.
+use Rattle.std.proofs.Common.{◌≡◌, ◌≢◌, ℕ, zero, suc, ◌+◌, ◌-◌, ◌*◌, ◌^◌, ◌<◌, ◌≤◌, ◌⊎◌, ◌==◌, nat_lt, Bool, true, false, List, [], ◌∷◌, ◌++◌, length, take, drop, get_or, slice_index, if◌then◌else◌, refl, sym, ap, ◌∙◌, arith, inl, inr, subst}
+use Rattle.std.proofs.lemmas.Bool.{cases_lt, cases_eq, cases_Bool}
+use Rattle.std.proofs.lemmas.List.{append-nil, append_assoc, length-append, length-take-le, length-drop, take-append-drop, get_or-take, get_or-drop}
+use Rattle.dw_base.specs.Elf.{class_of, order_of, ehdr_size, shdr_size, word_size, shoff_place, shnum_place, shstrndx_place, half_at, e_shoff, e_shnum, e_shstrndx, is_empty_kind, section_at, nth_section, section_count, name_index, contents_at, contents_of}
+use Rattle.dw_base.specs.Fields.{FieldsFit}
+use Rattle.dw_base.specs.Layout.{output_limit, Part, placed, padding, extended, laid, new_head, new_heads, before_table, with_table, laid_out, shdr_fields, shdr_bytes, shdrs_bytes}
+use Rattle.dw_base.specs.Numbers.{spelled, with_number}
+use Rattle.dw_base.specs.Parts.{in_section_0, in_header, numbered_head, numbered, numbered_first, numbered_front, parts_file, part_contents, FitParts, IsPartHead, PartsReadBack}
+use Rattle.dw_base.specs.declared.elf_numbers.TheConstants.{SHT_NULL, SHN_LORESERVE, SHN_XINDEX}
+use Rattle.dw_base.specs.declared.records.Section.{Section}
+use Rattle.dw_base.specs.declared.shared.Class.{Class}
+use Rattle.dw_base.specs.declared.shared.Class.TheVariants.{C32, C64}
+use Rattle.dw_base.specs.declared.shared.Order.{Order}
+use Rattle.dw_base.specs.declared.shared.Order.TheVariants.{Little}
+use Rattle.dw_base.proofs.LayoutLaws.{laid-append, laid-longer, length-before_table, length-with_table, length-new_heads}
+use Rattle.dw_base.proofs.NumberLaws.{length-with_number, spelled-with_number, spelled-other, spelled-ext}
+use Rattle.dw_base.proofs.RecordLaws.{section_at-ext, section_back, shdrs_bytes-at}
+use Rattle.dw_base.proofs.WrittenLaws.{eq-differ, laid-kept, with_number-kept, shoff_place-within, with_table-front, with_table-table}
+use Rattle.dw_base.proofs.WrittenHeaders.{HeaderPlaces, header_places, limit-fits}
+use Rattle.dw_base.proofs.WrittenSections.{new_head-fits, moved-length, moved-byte}
+
+-- the new header of a part stands at its number
+list_heads-at : (out : List ℕ) (ps : List Part) (i : ℕ) (d : Section) (p : Part) → i < length ps
+    → get_or (new_heads out ps) i d ≡ new_head (length (laid out (take i ps))) (get_or ps i p)
+list_heads-at out [] i d p lt = absurd (omega arith)
+list_heads-at out (q ∷ qs) zero d p lt = refl
+list_heads-at out (q ∷ qs) (suc i) d p lt = list_heads-at (extended out q) qs i d p (omega arith)
+
+-- a part and those behind it are laid behind those in front of it
+laid-split : (out : List ℕ) (ps : List Part) (i : ℕ) (p : Part) → i < length ps
+    → laid out ps ≡ laid (extended (laid out (take i ps)) (get_or ps i p)) (drop (suc i) ps)
+laid-split out [] i p lt = absurd (omega arith)
+laid-split out (q ∷ qs) zero p lt = refl
+laid-split out (q ∷ qs) (suc i) p lt = laid-split (extended out q) qs i p (omega arith)
+
+-- the numbers of sections and of the name table stand side by side, behind the place of the section headers
+record NumberPlaces (c : Class) : Type 0 where
+  pub next : shnum_place c + 2 ≡ shstrndx_place c
+  pub end : shstrndx_place c + 2 ≡ ehdr_size c
+
+number_places : (c : Class) → NumberPlaces c
+number_places C32 = record { next = refl; end = refl }
+number_places C64 = record { next = refl; end = refl }
+
+-- what is known of a file that was written from parts, of its front with the numbers and of its parts with section 0
+record IsParts (c : Class) (o : Order) (front : List ℕ) (parts : List Part) (names : ℕ) : Type 0 where
+  pub fit : FitParts c o front parts names
+  pub small : length (parts_file c o front parts names) ≤ output_limit
+
+abbrev front_of : Class → Order → List ℕ → List Part → ℕ → List ℕ
+front_of c o front parts names = numbered_front c o front (length parts) names
+
+abbrev parts_of : List Part → ℕ → List Part
+parts_of parts names = numbered_first (length parts) names parts
+
+abbrev laid_of : Class → Order → List ℕ → List Part → ℕ → List ℕ
+laid_of c o front parts names = laid (front_of c o front parts names) (parts_of parts names)
+
+abbrev heads_of : Class → Order → List ℕ → List Part → ℕ → List Section
+heads_of c o front parts names = new_heads (front_of c o front parts names) (parts_of parts names)
+
+abbrev table_of : Class → Order → List ℕ → List Part → ℕ → ℕ
+table_of c o front parts names = length (before_table c (laid_of c o front parts names))
+
+out-is : (c : Class) (o : Order) (front : List ℕ) (parts : List Part) (names : ℕ)
+    → parts_file c o front parts names ≡ with_table c o (laid_of c o front parts names) (heads_of c o front parts names)
+unfolding parts_file laid_out
+out-is c o front parts names = refl
+
+-- the front keeps its length, and its bytes but those of the numbers
+front-length : (c : Class) (o : Order) (front : List ℕ) (count names : ℕ) → ehdr_size c ≤ length front → length (numbered_front c o front count names) ≡ length front
+unfolding numbered_front
+front-length c o front count names header =
+    let places = number_places c in
+    let first = length-with_number o front (shnum_place c) 2 (in_header 0 count) (omega arith) in
+    length-with_number o (with_number o front (shnum_place c) 2 (in_header 0 count)) (shstrndx_place c) 2 (in_header SHN_XINDEX names) (omega arith) ∙ first
+
+front-kept : (c : Class) (o : Order) (front : List ℕ) (count names k : ℕ) → ehdr_size c ≤ length front → (k < shnum_place c) ⊎ (ehdr_size c ≤ k)
+    → slice_index (numbered_front c o front count names) k ≡ slice_index front k
+unfolding numbered_front
+front-kept c o front count names k header (inl before) =
+    let places = number_places c in
+    let first = length-with_number o front (shnum_place c) 2 (in_header 0 count) (omega arith) in
+    with_number-kept o (with_number o front (shnum_place c) 2 (in_header 0 count)) (shstrndx_place c) 2 (in_header SHN_XINDEX names) k (omega arith) (inl (omega arith))
+    ∙ with_number-kept o front (shnum_place c) 2 (in_header 0 count) k (omega arith) (inl before)
+front-kept c o front count names k header (inr behind) =
+    let places = number_places c in
+    let first = length-with_number o front (shnum_place c) 2 (in_header 0 count) (omega arith) in
+    with_number-kept o (with_number o front (shnum_place c) 2 (in_header 0 count)) (shstrndx_place c) 2 (in_header SHN_XINDEX names) k (omega arith) (inr (omega arith))
+    ∙ with_number-kept o front (shnum_place c) 2 (in_header 0 count) k (omega arith) (inr (omega arith))
+
+-- the numbers stand in the front
+lt-true : (m n : ℕ) → m < n → nat_lt m n ≡ true
+lt-true m n h = grind arith
+
+lt-false : (m n : ℕ) → n ≤ m → nat_lt m n ≡ false
+lt-false m n h = grind arith
+
+in_header-fits : (elsewhere n : ℕ) → elsewhere < 0x10000 → in_header elsewhere n < 256 ^ 2
+in_header-fits elsewhere n small =
+    elim (cases_lt n SHN_LORESERVE) [
+      inl direct ↦ rw (lt-true n SHN_LORESERVE direct) (omega arith)
+    | inr extended ↦ rw (lt-false n SHN_LORESERVE extended) (omega arith)
+    ]
+
+front-shnum : (c : Class) (o : Order) (front : List ℕ) (count names : ℕ) → ehdr_size c ≤ length front
+    → spelled o (numbered_front c o front count names) (shnum_place c) 2 ≡ in_header 0 count
+unfolding numbered_front
+front-shnum c o front count names header =
+    let places = number_places c in
+    let first = length-with_number o front (shnum_place c) 2 (in_header 0 count) (omega arith) in
+    spelled-other o (with_number o front (shnum_place c) 2 (in_header 0 count)) (shstrndx_place c) 2 (in_header SHN_XINDEX names) (shnum_place c) 2 (omega arith) (inl (omega arith))
+    ∙ spelled-with_number o front (shnum_place c) 2 (in_header 0 count) (omega arith) (in_header-fits 0 count (omega arith))
+
+front-shstrndx : (c : Class) (o : Order) (front : List ℕ) (count names : ℕ) → ehdr_size c ≤ length front
+    → spelled o (numbered_front c o front count names) (shstrndx_place c) 2 ≡ in_header SHN_XINDEX names
+unfolding numbered_front
+front-shstrndx c o front count names header =
+    let places = number_places c in
+    let first = length-with_number o front (shnum_place c) 2 (in_header 0 count) (omega arith) in
+    spelled-with_number o (with_number o front (shnum_place c) 2 (in_header 0 count)) (shstrndx_place c) 2 (in_header SHN_XINDEX names) (omega arith)
+        (in_header-fits SHN_XINDEX names (omega arith))
+
+-- how long all is
+record Lengths (c : Class) (o : Order) (front : List ℕ) (parts : List Part) (names : ℕ) : Type 0 where
+  pub same : length (front_of c o front parts names) ≡ length front
+  pub header : ehdr_size c ≤ length front
+  pub laid : length front ≤ length (laid_of c o front parts names)
+  pub table : length (laid_of c o front parts names) ≤ table_of c o front parts names
+  pub heads : length (heads_of c o front parts names) ≡ length parts
+  pub out : length (parts_file c o front parts names) ≡ table_of c o front parts names + length parts * shdr_size c
+  pub small : length (parts_file c o front parts names) ≤ output_limit
+
+length-numbered : (count names : ℕ) (parts : List Part) → length (numbered_first count names parts) ≡ length parts
+length-numbered count names [] = refl
+length-numbered count names (p ∷ ps) = refl
+
+lengths : (c : Class) (o : Order) (front : List ℕ) (parts : List Part) (names : ℕ) → IsParts c o front parts names → Lengths c o front parts names
+lengths c o front parts names w =
+    let same = front-length c o front (length parts) names w.fit.header in
+    let header = w.fit.header in
+    let longer = laid-longer (front_of c o front parts names) (parts_of parts names) in
+    let before = length-before_table c (laid_of c o front parts names) in
+    let count : length (heads_of c o front parts names) ≡ length parts =
+        length-new_heads (front_of c o front parts names) (parts_of parts names) ∙ length-numbered (length parts) names parts in
+    record {
+      same = same;
+      header = header;
+      laid = omega arith;
+      table = omega arith;
+      heads = count;
+      out = rw (out-is c o front parts names)
+        (length-with_table c o (laid_of c o front parts names) (heads_of c o front parts names) (omega arith) ∙ rw (count, sym before) refl);
+      small = w.small;
+    }
+
+-- the front is as it was but for the place of the section headers
+out-kept : (c : Class) (o : Order) (front : List ℕ) (parts : List Part) (names k : ℕ) → IsParts c o front parts names → k < length front
+    → (k < shoff_place c) ⊎ (shoff_place c + word_size c ≤ k) → slice_index (parts_file c o front parts names) k ≡ slice_index (front_of c o front parts names) k
+out-kept c o front parts names k w lt outside =
+    let size = lengths c o front parts names w in
+    rw (out-is c o front parts names)
+    (with_table-front c o (laid_of c o front parts names) (heads_of c o front parts names) k (omega arith) (omega arith) outside
+    ∙ laid-kept (front_of c o front parts names) (parts_of parts names) k (omega arith))
+
+out-spelled : (c : Class) (o : Order) (front : List ℕ) (parts : List Part) (names : ℕ) (q : Order) (at n : ℕ) → IsParts c o front parts names
+    → at + n ≤ ehdr_size c → (at + n ≤ shoff_place c) ⊎ (shoff_place c + word_size c ≤ at)
+    → spelled q (parts_file c o front parts names) at n ≡ spelled q (front_of c o front parts names) at n
+out-spelled c o front parts names q at n w inside (inl before) =
+    let size = lengths c o front parts names w in
+    spelled-ext q (parts_file c o front parts names) (front_of c o front parts names) at at n
+    (λ k lt. out-kept c o front parts names (at + k) w (omega arith) (inl (omega arith)))
+out-spelled c o front parts names q at n w inside (inr behind) =
+    let size = lengths c o front parts names w in
+    spelled-ext q (parts_file c o front parts names) (front_of c o front parts names) at at n
+    (λ k lt. out-kept c o front parts names (at + k) w (omega arith) (inr (omega arith)))
+
+-- class and order are those of the front
+ident-same : (c : Class) (o : Order) (front : List ℕ) (parts : List Part) (names at : ℕ) → IsParts c o front parts names → at < 32
+    → spelled Little (parts_file c o front parts names) at 1 ≡ spelled Little front at 1
+ident-same c o front parts names at w lt =
+    let places = header_places c in
+    out-spelled c o front parts names Little at 1 w (omega arith) (inl (omega arith))
+    ∙ spelled-ext Little (front_of c o front parts names) front at at 1
+        (λ k below. front-kept c o front (length parts) names (at + k) w.fit.header (inl (omega arith)))
+
+class-front : (c : Class) (o : Order) (front : List ℕ) (parts : List Part) (names : ℕ) → IsParts c o front parts names → class_of (parts_file c o front parts names) ≡ class_of front
+unfolding class_of
+class-front c o front parts names w = rw (ident-same c o front parts names 4 w (omega arith)) refl
+
+order-front : (c : Class) (o : Order) (front : List ℕ) (parts : List Part) (names : ℕ) → IsParts c o front parts names → order_of (parts_file c o front parts names) ≡ order_of front
+unfolding order_of
+order-front c o front parts names w = rw (ident-same c o front parts names 5 w (omega arith)) refl
+
+class-same : (c : Class) (o : Order) (front : List ℕ) (parts : List Part) (names : ℕ) → IsParts c o front parts names → class_of (parts_file c o front parts names) ≡ c
+class-same c o front parts names w = class-front c o front parts names w ∙ w.fit.class_is
+
+order-same : (c : Class) (o : Order) (front : List ℕ) (parts : List Part) (names : ℕ) → IsParts c o front parts names → order_of (parts_file c o front parts names) ≡ o
+order-same c o front parts names w = order-front c o front parts names w ∙ w.fit.order_is
