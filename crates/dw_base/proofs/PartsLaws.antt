@@ -198,3 +198,155 @@ class-same c o front parts names w = class-front c o front parts names w ∙ w.f
 
 order-same : (c : Class) (o : Order) (front : List ℕ) (parts : List Part) (names : ℕ) → IsParts c o front parts names → order_of (parts_file c o front parts names) ≡ o
 order-same c o front parts names w = order-front c o front parts names w ∙ w.fit.order_is
+
+half-same : (c : Class) (o : Order) (front : List ℕ) (parts : List Part) (names at : ℕ) → IsParts c o front parts names → at + 2 ≤ ehdr_size c
+    → shoff_place c + word_size c ≤ at → half_at (parts_file c o front parts names) at ≡ spelled o (front_of c o front parts names) at 2
+half-same c o front parts names at w inside behind =
+    rw (order-same c o front parts names w) (out-spelled c o front parts names o at 2 w inside (inr behind))
+
+shnum-is : (c : Class) (o : Order) (front : List ℕ) (parts : List Part) (names : ℕ) → IsParts c o front parts names
+    → e_shnum (parts_file c o front parts names) ≡ in_header 0 (length parts)
+unfolding e_shnum
+shnum-is c o front parts names w =
+    let places = header_places c in
+    rw (class-same c o front parts names w)
+    (half-same c o front parts names (shnum_place c) w (omega arith) (omega arith) ∙ front-shnum c o front (length parts) names w.fit.header)
+
+shstrndx-is : (c : Class) (o : Order) (front : List ℕ) (parts : List Part) (names : ℕ) → IsParts c o front parts names
+    → e_shstrndx (parts_file c o front parts names) ≡ in_header SHN_XINDEX names
+unfolding e_shstrndx
+shstrndx-is c o front parts names w =
+    let places = header_places c in
+    rw (class-same c o front parts names w)
+    (half-same c o front parts names (shstrndx_place c) w (omega arith) (omega arith) ∙ front-shstrndx c o front (length parts) names w.fit.header)
+
+-- where the section headers stand
+shoff-is : (c : Class) (o : Order) (front : List ℕ) (parts : List Part) (names : ℕ) → IsParts c o front parts names
+    → e_shoff (parts_file c o front parts names) ≡ table_of c o front parts names
+unfolding e_shoff with_table
+shoff-is c o front parts names w =
+    let size = lengths c o front parts names w in
+    let within = shoff_place-within c in
+    let both = length-append (before_table c (laid_of c o front parts names)) (shdrs_bytes c o (heads_of c o front parts names)) in
+    rw (class-same c o front parts names w, order-same c o front parts names w, out-is c o front parts names)
+    (spelled-with_number o (before_table c (laid_of c o front parts names) ++ shdrs_bytes c o (heads_of c o front parts names))
+        (shoff_place c) (word_size c) (table_of c o front parts names) (omega arith) (limit-fits c (table_of c o front parts names) (omega arith)))
+
+-- the part of a number, with section 0
+some-parts : (c : Class) (o : Order) (front : List ℕ) (parts : List Part) (names : ℕ) → IsParts c o front parts names → 0 < length parts
+some-parts c o front parts names w = let named = w.fit.named in omega arith
+
+numbered-later : (count names : ℕ) (parts : List Part) (i : ℕ) (d : Part) → 0 < i → get_or (numbered_first count names parts) i d ≡ get_or parts i d
+numbered-later count names [] i d later = refl
+numbered-later count names (p ∷ ps) zero d later = absurd (omega arith)
+numbered-later count names (p ∷ ps) (suc i) d later = refl
+
+numbered-zero : (count names : ℕ) (parts : List Part) (d : Part) → 0 < length parts → get_or (numbered_first count names parts) 0 d ≡ numbered count names (get_or parts 0 d)
+numbered-zero count names [] d some = absurd (omega arith)
+numbered-zero count names (p ∷ ps) d some = refl
+
+-- it moves where the part does, with its body, its kind and its alignment
+record SamePart (p q : Part) : Type 0 where
+  pub moves : q.moves ≡ p.moves
+  pub body : q.body ≡ p.body
+  pub name : q.head.name ≡ p.head.name
+  pub kind : q.head.kind ≡ p.head.kind
+  pub flags : q.head.flags ≡ p.head.flags
+  pub addr : q.head.addr ≡ p.head.addr
+  pub offset : q.head.offset ≡ p.head.offset
+  pub info : q.head.info ≡ p.head.info
+  pub align : q.head.align ≡ p.head.align
+  pub entry_size : q.head.entry_size ≡ p.head.entry_size
+
+same-part : (p : Part) → SamePart p p
+same-part p = record { moves = refl; body = refl; name = refl; kind = refl; flags = refl; addr = refl; offset = refl; info = refl; align = refl; entry_size = refl }
+
+numbered-same : (count names : ℕ) (p : Part) → SamePart p (numbered count names p)
+numbered-same count names p = record { moves = refl; body = refl; name = refl; kind = refl; flags = refl; addr = refl; offset = refl; info = refl; align = refl; entry_size = refl }
+
+numbered-part : (count names : ℕ) (parts : List Part) (i : ℕ) (d : Part) → i < length parts → SamePart (get_or parts i d) (get_or (numbered_first count names parts) i d)
+numbered-part count names parts i d lt =
+    elim (cases_eq i 0) [
+      inl first ↦
+        subst (λ (j : ℕ). SamePart (get_or parts j d) (get_or (numbered_first count names parts) j d)) (sym first)
+        (subst (λ (q : Part). SamePart (get_or parts 0 d) q) (sym (numbered-zero count names parts d (omega arith))) (numbered-same count names (get_or parts 0 d)))
+    | inr later ↦
+        subst (λ (q : Part). SamePart (get_or parts i d) q) (sym (numbered-later count names parts i d (omega arith))) (same-part (get_or parts i d))
+    ]
+
+-- each number of its header fits its field
+count-fits : (c : Class) (n table len : ℕ) → len ≡ table + n * shdr_size c → len ≤ output_limit → n < 256 ^ 4
+count-fits C32 n table len e small = omega arith
+count-fits C64 n table len e small = omega arith
+
+in_section_0-fits : (n m : ℕ) → n < m → 0 < m → in_section_0 n < m
+in_section_0-fits n m small some =
+    elim (cases_lt n SHN_LORESERVE) [
+      inl direct ↦ rw (lt-true n SHN_LORESERVE direct) some
+    | inr extended ↦ rw (lt-false n SHN_LORESERVE extended) small
+    ]
+
+numbered-fits : (c : Class) (s : Section) (count names : ℕ) → FieldsFit (shdr_fields c s) → count < 256 ^ 4 → names < 256 ^ 4 → FieldsFit (shdr_fields c (numbered_head count names s))
+numbered-fits C32 s count names fit few some =
+    let size = in_section_0-fits count (256 ^ 4) few (omega arith) in
+    let link = in_section_0-fits names (256 ^ 4) some (omega arith) in
+    (fit.0, (fit.1.0, (fit.1.1.0, (fit.1.1.1.0, (fit.1.1.1.1.0, (size, (link, fit.1.1.1.1.1.1.1)))))))
+numbered-fits C64 s count names fit few some =
+    let size = in_section_0-fits count (256 ^ 8) (omega arith) (omega arith) in
+    let link = in_section_0-fits names (256 ^ 4) some (omega arith) in
+    (fit.0, (fit.1.0, (fit.1.1.0, (fit.1.1.1.0, (fit.1.1.1.1.0, (size, (link, fit.1.1.1.1.1.1.1)))))))
+
+part-fits : (c : Class) (o : Order) (front : List ℕ) (parts : List Part) (names i : ℕ) (d : Part) → IsParts c o front parts names → i < length parts
+    → FieldsFit (shdr_fields c (get_or (parts_of parts names) i d).head)
+part-fits c o front parts names i d w lt =
+    let size = lengths c o front parts names w in
+    let few = count-fits c (length parts) (table_of c o front parts names) (length (parts_file c o front parts names)) size.out size.small in
+    let named = w.fit.named in
+    elim (cases_eq i 0) [
+      inl first ↦
+        subst (λ (j : ℕ). FieldsFit (shdr_fields c (get_or (parts_of parts names) j d).head)) (sym first)
+        (subst (λ (q : Part). FieldsFit (shdr_fields c q.head)) (sym (numbered-zero (length parts) names parts d (some-parts c o front parts names w)))
+            (numbered-fits c (get_or parts 0 d).head (length parts) names (w.fit.fields 0 d (some-parts c o front parts names w)) few (omega arith)))
+    | inr later ↦
+        subst (λ (q : Part). FieldsFit (shdr_fields c q.head)) (sym (numbered-later (length parts) names parts i d (omega arith))) (w.fit.fields i d lt)
+    ]
+
+-- what is laid in front of the part of a number
+abbrev before_of : Class → Order → List ℕ → List Part → ℕ → ℕ → List ℕ
+before_of c o front parts names i = laid (front_of c o front parts names) (take i (parts_of parts names))
+
+with-part : (c : Class) (o : Order) (front : List ℕ) (parts : List Part) (names i : ℕ) (d : Part) → i < length parts
+    → laid_of c o front parts names ≡ laid (extended (before_of c o front parts names i) (get_or (parts_of parts names) i d)) (drop (suc i) (parts_of parts names))
+with-part c o front parts names i d lt =
+    let count = length-numbered (length parts) names parts in
+    laid-split (front_of c o front parts names) (parts_of parts names) i d (omega arith)
+
+-- the section header of a number is the new one
+nth-is : (c : Class) (o : Order) (front : List ℕ) (parts : List Part) (names i : ℕ) (d : Part) → IsParts c o front parts names → i < length parts
+    → nth_section (parts_file c o front parts names) i ≡ new_head (length (before_of c o front parts names i)) (get_or (parts_of parts names) i d)
+unfolding nth_section
+nth-is c o front parts names i d w lt =
+    let size = lengths c o front parts names w in
+    let out = parts_file c o front parts names in
+    let table = table_of c o front parts names in
+    let before = before_of c o front parts names i in
+    let p = get_or (parts_of parts names) i d in
+    let head = new_head (length before) p in
+    let count = length-numbered (length parts) names parts in
+    let stands : get_or (heads_of c o front parts names) i head ≡ head =
+        list_heads-at (front_of c o front parts names) (parts_of parts names) i head d (omega arith) in
+    let with = with-part c o front parts names i d lt in
+    let longer = laid-longer (extended before p) (drop (suc i) (parts_of parts names)) in
+    let whole = ap length with in
+    let fit : FieldsFit (shdr_fields c head) =
+        new_head-fits c (length before) p (part-fits c o front parts names i d w lt) (λ moves. let long = moved-length before p moves in omega arith) in
+    rw (class-same c o front parts names w, order-same c o front parts names w, shoff-is c o front parts names w)
+    (section_at-ext c o out (shdr_bytes c o head ++ []) (table + i * shdr_size c) 0
+        (λ k inside.
+            let split : table + i * shdr_size c + k ≡ table + (i * shdr_size c + k) = omega arith in
+            let none : 0 + k ≡ k = omega arith in
+            rw (split, none, append-nil (shdr_bytes c o head), out-is c o front parts names)
+            (with_table-table c o (laid_of c o front parts names) (heads_of c o front parts names) (i * shdr_size c + k) (omega arith)
+            ∙ shdrs_bytes-at c o (heads_of c o front parts names) i k head (omega arith) inside
+            ∙ ap (λ (s : Section). slice_index (shdr_bytes c o s) k) stands))
+    ∙ section_back c o head [] fit)
