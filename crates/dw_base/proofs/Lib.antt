@@ -16,3 +16,4 @@ pub mod FixedPartLaws
 pub mod ReadsBackLaws
 pub mod ReadsAgainLaws
 pub mod PartsLaws
+pub mod PartsReadLaws

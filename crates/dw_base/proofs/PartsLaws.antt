@@ -35,35 +35,35 @@ laid-split out (q ∷ qs) zero p lt = refl
 laid-split out (q ∷ qs) (suc i) p lt = laid-split (extended out q) qs i p (omega arith)
 
 -- the numbers of sections and of the name table stand side by side, behind the place of the section headers
-record NumberPlaces (c : Class) : Type 0 where
+pub record NumberPlaces (c : Class) : Type 0 where
   pub next : shnum_place c + 2 ≡ shstrndx_place c
   pub end : shstrndx_place c + 2 ≡ ehdr_size c
 
-number_places : (c : Class) → NumberPlaces c
+pub number_places : (c : Class) → NumberPlaces c
 number_places C32 = record { next = refl; end = refl }
 number_places C64 = record { next = refl; end = refl }
 
 -- what is known of a file that was written from parts, of its front with the numbers and of its parts with section 0
-record IsParts (c : Class) (o : Order) (front : List ℕ) (parts : List Part) (names : ℕ) : Type 0 where
+pub record IsParts (c : Class) (o : Order) (front : List ℕ) (parts : List Part) (names : ℕ) : Type 0 where
   pub fit : FitParts c o front parts names
   pub small : length (parts_file c o front parts names) ≤ output_limit
 
-abbrev front_of : Class → Order → List ℕ → List Part → ℕ → List ℕ
+abbrev pub front_of : Class → Order → List ℕ → List Part → ℕ → List ℕ
 front_of c o front parts names = numbered_front c o front (length parts) names
 
-abbrev parts_of : List Part → ℕ → List Part
+abbrev pub parts_of : List Part → ℕ → List Part
 parts_of parts names = numbered_first (length parts) names parts
 
-abbrev laid_of : Class → Order → List ℕ → List Part → ℕ → List ℕ
+abbrev pub laid_of : Class → Order → List ℕ → List Part → ℕ → List ℕ
 laid_of c o front parts names = laid (front_of c o front parts names) (parts_of parts names)
 
-abbrev heads_of : Class → Order → List ℕ → List Part → ℕ → List Section
+abbrev pub heads_of : Class → Order → List ℕ → List Part → ℕ → List Section
 heads_of c o front parts names = new_heads (front_of c o front parts names) (parts_of parts names)
 
-abbrev table_of : Class → Order → List ℕ → List Part → ℕ → ℕ
+abbrev pub table_of : Class → Order → List ℕ → List Part → ℕ → ℕ
 table_of c o front parts names = length (before_table c (laid_of c o front parts names))
 
-out-is : (c : Class) (o : Order) (front : List ℕ) (parts : List Part) (names : ℕ)
+pub out-is : (c : Class) (o : Order) (front : List ℕ) (parts : List Part) (names : ℕ)
     → parts_file c o front parts names ≡ with_table c o (laid_of c o front parts names) (heads_of c o front parts names)
 unfolding parts_file laid_out
 out-is c o front parts names = refl
@@ -76,7 +76,7 @@ front-length c o front count names header =
     let first = length-with_number o front (shnum_place c) 2 (in_header 0 count) (omega arith) in
     length-with_number o (with_number o front (shnum_place c) 2 (in_header 0 count)) (shstrndx_place c) 2 (in_header SHN_XINDEX names) (omega arith) ∙ first
 
-front-kept : (c : Class) (o : Order) (front : List ℕ) (count names k : ℕ) → ehdr_size c ≤ length front → (k < shnum_place c) ⊎ (ehdr_size c ≤ k)
+pub front-kept : (c : Class) (o : Order) (front : List ℕ) (count names k : ℕ) → ehdr_size c ≤ length front → (k < shnum_place c) ⊎ (ehdr_size c ≤ k)
     → slice_index (numbered_front c o front count names) k ≡ slice_index front k
 unfolding numbered_front
 front-kept c o front count names k header (inl before) =
@@ -91,10 +91,10 @@ front-kept c o front count names k header (inr behind) =
     ∙ with_number-kept o front (shnum_place c) 2 (in_header 0 count) k (omega arith) (inr (omega arith))
 
 -- the numbers stand in the front
-lt-true : (m n : ℕ) → m < n → nat_lt m n ≡ true
+pub lt-true : (m n : ℕ) → m < n → nat_lt m n ≡ true
 lt-true m n h = grind arith
 
-lt-false : (m n : ℕ) → n ≤ m → nat_lt m n ≡ false
+pub lt-false : (m n : ℕ) → n ≤ m → nat_lt m n ≡ false
 lt-false m n h = grind arith
 
 in_header-fits : (elsewhere n : ℕ) → elsewhere < 0x10000 → in_header elsewhere n < 256 ^ 2
@@ -123,7 +123,7 @@ front-shstrndx c o front count names header =
         (in_header-fits SHN_XINDEX names (omega arith))
 
 -- how long all is
-record Lengths (c : Class) (o : Order) (front : List ℕ) (parts : List Part) (names : ℕ) : Type 0 where
+pub record Lengths (c : Class) (o : Order) (front : List ℕ) (parts : List Part) (names : ℕ) : Type 0 where
   pub same : length (front_of c o front parts names) ≡ length front
   pub header : ehdr_size c ≤ length front
   pub laid : length front ≤ length (laid_of c o front parts names)
@@ -136,7 +136,7 @@ length-numbered : (count names : ℕ) (parts : List Part) → length (numbered_f
 length-numbered count names [] = refl
 length-numbered count names (p ∷ ps) = refl
 
-lengths : (c : Class) (o : Order) (front : List ℕ) (parts : List Part) (names : ℕ) → IsParts c o front parts names → Lengths c o front parts names
+pub lengths : (c : Class) (o : Order) (front : List ℕ) (parts : List Part) (names : ℕ) → IsParts c o front parts names → Lengths c o front parts names
 lengths c o front parts names w =
     let same = front-length c o front (length parts) names w.fit.header in
     let header = w.fit.header in
@@ -156,7 +156,7 @@ lengths c o front parts names w =
     }
 
 -- the front is as it was but for the place of the section headers
-out-kept : (c : Class) (o : Order) (front : List ℕ) (parts : List Part) (names k : ℕ) → IsParts c o front parts names → k < length front
+pub out-kept : (c : Class) (o : Order) (front : List ℕ) (parts : List Part) (names k : ℕ) → IsParts c o front parts names → k < length front
     → (k < shoff_place c) ⊎ (shoff_place c + word_size c ≤ k) → slice_index (parts_file c o front parts names) k ≡ slice_index (front_of c o front parts names) k
 out-kept c o front parts names k w lt outside =
     let size = lengths c o front parts names w in
@@ -193,10 +193,10 @@ order-front : (c : Class) (o : Order) (front : List ℕ) (parts : List Part) (na
 unfolding order_of
 order-front c o front parts names w = rw (ident-same c o front parts names 5 w (omega arith)) refl
 
-class-same : (c : Class) (o : Order) (front : List ℕ) (parts : List Part) (names : ℕ) → IsParts c o front parts names → class_of (parts_file c o front parts names) ≡ c
+pub class-same : (c : Class) (o : Order) (front : List ℕ) (parts : List Part) (names : ℕ) → IsParts c o front parts names → class_of (parts_file c o front parts names) ≡ c
 class-same c o front parts names w = class-front c o front parts names w ∙ w.fit.class_is
 
-order-same : (c : Class) (o : Order) (front : List ℕ) (parts : List Part) (names : ℕ) → IsParts c o front parts names → order_of (parts_file c o front parts names) ≡ o
+pub order-same : (c : Class) (o : Order) (front : List ℕ) (parts : List Part) (names : ℕ) → IsParts c o front parts names → order_of (parts_file c o front parts names) ≡ o
 order-same c o front parts names w = order-front c o front parts names w ∙ w.fit.order_is
 
 half-same : (c : Class) (o : Order) (front : List ℕ) (parts : List Part) (names at : ℕ) → IsParts c o front parts names → at + 2 ≤ ehdr_size c
@@ -204,7 +204,7 @@ half-same : (c : Class) (o : Order) (front : List ℕ) (parts : List Part) (name
 half-same c o front parts names at w inside behind =
     rw (order-same c o front parts names w) (out-spelled c o front parts names o at 2 w inside (inr behind))
 
-shnum-is : (c : Class) (o : Order) (front : List ℕ) (parts : List Part) (names : ℕ) → IsParts c o front parts names
+pub shnum-is : (c : Class) (o : Order) (front : List ℕ) (parts : List Part) (names : ℕ) → IsParts c o front parts names
     → e_shnum (parts_file c o front parts names) ≡ in_header 0 (length parts)
 unfolding e_shnum
 shnum-is c o front parts names w =
@@ -212,7 +212,7 @@ shnum-is c o front parts names w =
     rw (class-same c o front parts names w)
     (half-same c o front parts names (shnum_place c) w (omega arith) (omega arith) ∙ front-shnum c o front (length parts) names w.fit.header)
 
-shstrndx-is : (c : Class) (o : Order) (front : List ℕ) (parts : List Part) (names : ℕ) → IsParts c o front parts names
+pub shstrndx-is : (c : Class) (o : Order) (front : List ℕ) (parts : List Part) (names : ℕ) → IsParts c o front parts names
     → e_shstrndx (parts_file c o front parts names) ≡ in_header SHN_XINDEX names
 unfolding e_shstrndx
 shstrndx-is c o front parts names w =
@@ -221,7 +221,7 @@ shstrndx-is c o front parts names w =
     (half-same c o front parts names (shstrndx_place c) w (omega arith) (omega arith) ∙ front-shstrndx c o front (length parts) names w.fit.header)
 
 -- where the section headers stand
-shoff-is : (c : Class) (o : Order) (front : List ℕ) (parts : List Part) (names : ℕ) → IsParts c o front parts names
+pub shoff-is : (c : Class) (o : Order) (front : List ℕ) (parts : List Part) (names : ℕ) → IsParts c o front parts names
     → e_shoff (parts_file c o front parts names) ≡ table_of c o front parts names
 unfolding e_shoff with_table
 shoff-is c o front parts names w =
@@ -233,20 +233,20 @@ shoff-is c o front parts names w =
         (shoff_place c) (word_size c) (table_of c o front parts names) (omega arith) (limit-fits c (table_of c o front parts names) (omega arith)))
 
 -- the part of a number, with section 0
-some-parts : (c : Class) (o : Order) (front : List ℕ) (parts : List Part) (names : ℕ) → IsParts c o front parts names → 0 < length parts
+pub some-parts : (c : Class) (o : Order) (front : List ℕ) (parts : List Part) (names : ℕ) → IsParts c o front parts names → 0 < length parts
 some-parts c o front parts names w = let named = w.fit.named in omega arith
 
-numbered-later : (count names : ℕ) (parts : List Part) (i : ℕ) (d : Part) → 0 < i → get_or (numbered_first count names parts) i d ≡ get_or parts i d
+pub numbered-later : (count names : ℕ) (parts : List Part) (i : ℕ) (d : Part) → 0 < i → get_or (numbered_first count names parts) i d ≡ get_or parts i d
 numbered-later count names [] i d later = refl
 numbered-later count names (p ∷ ps) zero d later = absurd (omega arith)
 numbered-later count names (p ∷ ps) (suc i) d later = refl
 
-numbered-zero : (count names : ℕ) (parts : List Part) (d : Part) → 0 < length parts → get_or (numbered_first count names parts) 0 d ≡ numbered count names (get_or parts 0 d)
+pub numbered-zero : (count names : ℕ) (parts : List Part) (d : Part) → 0 < length parts → get_or (numbered_first count names parts) 0 d ≡ numbered count names (get_or parts 0 d)
 numbered-zero count names [] d some = absurd (omega arith)
 numbered-zero count names (p ∷ ps) d some = refl
 
 -- it moves where the part does, with its body, its kind and its alignment
-record SamePart (p q : Part) : Type 0 where
+pub record SamePart (p q : Part) : Type 0 where
   pub moves : q.moves ≡ p.moves
   pub body : q.body ≡ p.body
   pub name : q.head.name ≡ p.head.name
@@ -264,7 +264,7 @@ same-part p = record { moves = refl; body = refl; name = refl; kind = refl; flag
 numbered-same : (count names : ℕ) (p : Part) → SamePart p (numbered count names p)
 numbered-same count names p = record { moves = refl; body = refl; name = refl; kind = refl; flags = refl; addr = refl; offset = refl; info = refl; align = refl; entry_size = refl }
 
-numbered-part : (count names : ℕ) (parts : List Part) (i : ℕ) (d : Part) → i < length parts → SamePart (get_or parts i d) (get_or (numbered_first count names parts) i d)
+pub numbered-part : (count names : ℕ) (parts : List Part) (i : ℕ) (d : Part) → i < length parts → SamePart (get_or parts i d) (get_or (numbered_first count names parts) i d)
 numbered-part count names parts i d lt =
     elim (cases_eq i 0) [
       inl first ↦
@@ -312,17 +312,17 @@ part-fits c o front parts names i d w lt =
     ]
 
 -- what is laid in front of the part of a number
-abbrev before_of : Class → Order → List ℕ → List Part → ℕ → ℕ → List ℕ
+abbrev pub before_of : Class → Order → List ℕ → List Part → ℕ → ℕ → List ℕ
 before_of c o front parts names i = laid (front_of c o front parts names) (take i (parts_of parts names))
 
-with-part : (c : Class) (o : Order) (front : List ℕ) (parts : List Part) (names i : ℕ) (d : Part) → i < length parts
+pub with-part : (c : Class) (o : Order) (front : List ℕ) (parts : List Part) (names i : ℕ) (d : Part) → i < length parts
     → laid_of c o front parts names ≡ laid (extended (before_of c o front parts names i) (get_or (parts_of parts names) i d)) (drop (suc i) (parts_of parts names))
 with-part c o front parts names i d lt =
     let count = length-numbered (length parts) names parts in
     laid-split (front_of c o front parts names) (parts_of parts names) i d (omega arith)
 
 -- the section header of a number is the new one
-nth-is : (c : Class) (o : Order) (front : List ℕ) (parts : List Part) (names i : ℕ) (d : Part) → IsParts c o front parts names → i < length parts
+pub nth-is : (c : Class) (o : Order) (front : List ℕ) (parts : List Part) (names i : ℕ) (d : Part) → IsParts c o front parts names → i < length parts
     → nth_section (parts_file c o front parts names) i ≡ new_head (length (before_of c o front parts names i)) (get_or (parts_of parts names) i d)
 unfolding nth_section
 nth-is c o front parts names i d w lt =

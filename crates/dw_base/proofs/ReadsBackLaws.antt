@@ -48,7 +48,7 @@ with_number-byte o bytes at n x j inside lt =
     ∙ get_or-append-add (take at bytes) (number_bytes o n x) j 0
 
 -- a number that is put into equal bytes makes equal bytes
-put-byte : (o : Order) (xs ys : List ℕ) (at n x k : ℕ) → at + n ≤ length xs → at + n ≤ length ys → slice_index xs k ≡ slice_index ys k
+pub put-byte : (o : Order) (xs ys : List ℕ) (at n x k : ℕ) → at + n ≤ length xs → at + n ≤ length ys → slice_index xs k ≡ slice_index ys k
     → slice_index (with_number o xs at n x) k ≡ slice_index (with_number o ys at n x) k
 put-byte o xs ys at n x k in_xs in_ys same =
     elim (cases_lt k at) [

@@ -22,7 +22,7 @@ use Rattle.dw_base.proofs.WrittenHeaders.{Lengths, lengths, table_of, class-same
 use Rattle.dw_base.proofs.WrittenSections.{before_of, part-head, part-body, part-moves, moved-length, moved-byte, laid_tabulate-kept, laid-with, nth-is}
 
 -- a new header differs in place and size alone
-new_head-same : (place : ℕ) (p : Part) → SameButPlace p.head (new_head place p)
+pub new_head-same : (place : ℕ) (p : Part) → SameButPlace p.head (new_head place p)
 unfolding new_head
 new_head-same place p =
     elim p.moves as (λ (m : Bool). SameButPlace p.head (if m then record p.head { offset = place + padding place p.head.align; size = length p.body } else p.head)) [
@@ -30,7 +30,7 @@ new_head-same place p =
     | false ↦ record { name = refl; kind = refl; flags = refl; addr = refl; link = refl; info = refl; align = refl; entry_size = refl }
     ]
 
-new_head-stays : (place : ℕ) (p : Part) → p.moves ≡ false → new_head place p ≡ p.head
+pub new_head-stays : (place : ℕ) (p : Part) → p.moves ≡ false → new_head place p ≡ p.head
 unfolding new_head
 new_head-stays place p stays = rw stays refl
 
