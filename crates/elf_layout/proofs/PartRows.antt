@@ -1,5 +1,5 @@
 -- The rows of the refusal of parts, for the check's search.
-use Rattle.std.proofs.Common.{◌≡◌, ℕ, ◌<◌, ◌≤◌, List, ◌∷◌, length, take, drop, get_or, ◌++◌, ◌-◌, ap, sym, subst, ◌∙◌, ◌+◌, [], Bool, true, false, not, ◌&&◌, refl, arith}
+use Rattle.std.proofs.Common.{◌≡◌, ℕ, zero, suc, ◌<◌, ◌≤◌, List, ◌∷◌, length, take, drop, get_or, ◌++◌, ◌-◌, ap, sym, subst, ◌∙◌, ◌+◌, [], Bool, true, false, not, ◌&&◌, refl, arith}
 use Rattle.std.proofs.lemmas.List.{drop_more, take_rest, length-map}
 use Rattle.dw_base.specs.Layout.{output_limit, Part, padding, extended, laid, new_head, new_heads, with_table}
 use Rattle.dw_base.specs.Parts.{in_header, numbered, numbered_first, numbered_front, numbered_head}
@@ -8,7 +8,7 @@ use Rattle.dw_base.specs.declared.records.Section.{Section}
 use Rattle.dw_base.specs.declared.shared.Class.{Class}
 use Rattle.dw_base.specs.declared.shared.Class.TheVariants.{C32, C64}
 use Rattle.dw_base.specs.declared.shared.Order.{Order}
-use Rattle.dw_base.specs.Elf.{ehdr_size, shnum_place, shstrndx_place}
+use Rattle.dw_base.specs.Elf.{is_empty_kind, ehdr_size, shnum_place, shstrndx_place}
 use Rattle.dw_base.specs.LayoutFails.{TooLong}
 use Rattle.dw_base.specs.LayoutFails.TooLong.{long}
 use Rattle.dw_base.specs.Numbers.{with_number}
@@ -117,3 +117,23 @@ pub long_excludes : (n : ℕ) (r : Refusal) → n ≤ output_limit → TooLong n
 long_excludes n r small (long passes) = omega arith
 
 pub ruleset file_rows = (long_front, long_with_table, long_excludes, length-map)
+
+-- a part that is given and laid out is neither NULL nor NOBITS
+full-both : (k e : Bool) → (not k && not e) ≡ true → e ≡ false
+full-both k false h = refl
+full-both true true h = cc
+full-both false true h = cc
+
+pub given-full : (parts : List GivenPart) (i : ℕ) (d : Part) → i < length (parts_given parts) → (get_or (parts_given parts) i d).moves ≡ true
+    → is_empty_kind (get_or (parts_given parts) i d).head ≡ false
+given-full [] i d lt moves = absurd (omega arith)
+given-full (p ∷ ps) zero d lt moves = full-both p.kept (is_empty_kind p.head) moves
+given-full (p ∷ ps) (suc i) d lt moves = given-full ps i d (omega arith) moves
+
+-- some part
+abbrev pub any_part : Part
+any_part = record {
+  head = record { name = 0; kind = 0; flags = 0; addr = 0; offset = 0; size = 0; link = 0; info = 0; align = 0; entry_size = 0 };
+  moves = false;
+  body = [];
+}

@@ -4,7 +4,7 @@ ghost use Rattle.std.specs.Prelude.{◌≡◌, ◌+◌, ◌^◌, ◌<◌, ◌≤
 ghost use Rattle.dw_base.specs.Elf.{ehdr_size, is_empty_kind, shnum_place, shstrndx_place};
 ghost use Rattle.dw_base.specs.Layout.{output_limit, extended, laid, new_head, new_heads};
 ghost use Rattle.dw_base.specs.LayoutFails.{TooLong};
-ghost use Rattle.dw_base.specs.Parts.{in_header, in_section_0, numbered_first, numbered_front, numbered_head, parts_file};
+ghost use Rattle.dw_base.specs.Parts.{FitParts, PartsReadBack, in_header, in_section_0, numbered_first, numbered_front, numbered_head, parts_file};
 ghost use Rattle.dw_base.specs.Refusals.{Blames};
 ghost use Rattle.dw_base.specs.declared.fault.Refusal.{Refusal};
 ghost use Rattle.dw_base.specs.declared.elf_numbers.TheConstants.{SHT_NULL};
@@ -137,13 +137,12 @@ fn lay_all(alloc: Global, parts: &[Part], names: u32, out: &mut Vec<u8>) -> Resu
     Ok(heads)
 }
 
-/// The file of a front and parts: the front, with the numbers of sections and of the section name table
-/// in its file header, the parts that are neither kept nor of type NULL or NOBITS, and the headers of
-/// all. Refused as `TooLarge` only where it would pass the limit; else it is written, or memory is short.
+/// What `write_parts` gives, byte for byte.
 #[tactic(auto, using(crate::proofs::PartRows::file_rows), unfolding(dw_base::specs::Parts::parts_file, dw_base::specs::Layout::laid_out))]
-pub fn write_parts(alloc: Global, elf: &ElfFile, front: &[u8], parts: &[Part], names: u32) -> Result<Vec<u8>, Fault>
+fn written(alloc: Global, elf: &ElfFile, front: &[u8], parts: &[Part], names: u32) -> Result<Vec<u8>, Fault>
     requires parts { ArePartsFor elf.now.class front.now parts.now }
     ensures file { IfOk result (λ file. file.items ≡ parts_file elf.now.class elf.now.order front.now (parts_given parts.now) names) }
+    ensures small { IfOk result (λ file. length file.items ≤ output_limit) }
     ensures none { OnOk result ((r : Refusal)
         → TooLong (length (parts_file elf.now.class elf.now.order front.now (parts_given parts.now) names)) r → ⊥) }
     ensures refused { IfErr result (Blames (TooLong (length (parts_file elf.now.class elf.now.order front.now (parts_given parts.now) names)))) }
@@ -155,5 +154,21 @@ pub fn write_parts(alloc: Global, elf: &ElfFile, front: &[u8], parts: &[Part], n
     let mut out = numbered_front(alloc, elf.class, elf.order, front, count, names)?;
     let heads = lay_all(alloc, parts, names, &mut out)?;
     let file = append_table(out, elf.class, elf.order, &heads)?;
+    Ok(file)
+}
+
+/// The file of a front and parts: the front, with the numbers of sections and of the section name table
+/// in its file header, the parts that are neither kept nor of type NULL or NOBITS, and the headers of
+/// all. Its sections read back as the parts, where these fit one another. Refused as `TooLarge` only where it would pass the limit; else it is written, or memory is short.
+pub fn write_parts(alloc: Global, elf: &ElfFile, front: &[u8], parts: &[Part], names: u32) -> Result<Vec<u8>, Fault>
+    requires parts { ArePartsFor elf.now.class front.now parts.now }
+    ensures file { IfOk result (λ file. file.items ≡ parts_file elf.now.class elf.now.order front.now (parts_given parts.now) names) }
+    ensures reads_back { IfOk result (λ file. FitParts elf.now.class elf.now.order front.now (parts_given parts.now) names
+        → PartsReadBack elf.now.class elf.now.order front.now (parts_given parts.now) names file.items) }
+    ensures none { OnOk result ((r : Refusal)
+        → TooLong (length (parts_file elf.now.class elf.now.order front.now (parts_given parts.now) names)) r → ⊥) }
+    ensures refused { IfErr result (Blames (TooLong (length (parts_file elf.now.class elf.now.order front.now (parts_given parts.now) names)))) }
+{
+    let file = written(alloc, elf, front, parts, names)?;
     Ok(file)
 }
