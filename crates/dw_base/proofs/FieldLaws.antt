@@ -1,5 +1,5 @@
 -- A record that was printed field by field reads back, field by field.
-use Rattle.std.proofs.Common.{◌≡◌, ℕ, zero, suc, ◌+◌, ◌^◌, ◌<◌, ◌≤◌, List, [], ◌∷◌, ◌++◌, length, sym, ap, ◌∙◌, refl, arith}
+use Rattle.std.proofs.Common.{◌≡◌, ℕ, zero, suc, ◌+◌, ◌<◌, List, [], ◌∷◌, ◌++◌, length, ◌∙◌, refl, arith}
 use Rattle.std.proofs.lemmas.List.{append_assoc, length-append}
 use Rattle.dw_base.specs.declared.shared.Order.{Order}
 use Rattle.dw_base.specs.Numbers.{number_bytes, spelled}
@@ -21,5 +21,5 @@ field-back o (f ∷ fs) rest zero lt fit =
 field-back o (f ∷ fs) rest (suc i) lt fit =
     rw append_assoc
     (spelled-append_at o (number_bytes o f.0 f.1) (fields_bytes o fs ++ rest) (field_place fs i) (f.0 + field_place fs i) (field_size fs i)
-        (omega (arith, length-number_bytes o f.0 f.1))
+    (omega (arith, length-number_bytes o f.0 f.1))
     ∙ field-back o fs rest i (omega arith) fit.1)

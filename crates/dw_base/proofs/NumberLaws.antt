@@ -1,11 +1,11 @@
 -- Laws of numbers at places: a number depends only on its own bytes, and what is put there reads back.
-use Rattle.std.proofs.Common.{◌≡◌, ◌≢◌, ℕ, zero, suc, ◌+◌, ◌-◌, ◌*◌, ◌^◌, ◌<◌, ◌≤◌, ◌⊎◌, ◌/◌, ◌%◌, List, [], ◌∷◌, ◌++◌, length, take, drop, get_or, slice_index, refl, sym, ap, ◌∙◌, arith, inl, inr, subst}
-use Rattle.std.proofs.lemmas.List.{get_or-take, get_or-drop, get_or_append_left, get_or-append-add, get_or-append_right, length-append, length-take-le, length-drop, length-take, drop_at, drop-drop, take_at, take-append-le, take-append-drop, take_rest, take-take, same_lists, get_or_default, append-nil, append_assoc}
+use Rattle.std.proofs.Common.{◌≡◌, ℕ, zero, suc, ◌+◌, ◌-◌, ◌*◌, ◌^◌, ◌<◌, ◌≤◌, ◌⊎◌, ◌/◌, ◌%◌, List, [], ◌++◌, length, take, drop, get_or, slice_index, refl, sym, ap, ◌∙◌, arith, inl, inr, subst, Fits, w8}
+use Rattle.std.proofs.lemmas.List.{get_or-take, get_or-drop, get_or_append_left, get_or-append-add, length-append, length-take-le, length-drop, drop_at, drop-drop, take_at, take-append-le, take_rest, take-take, same_lists, get_or_default, append-nil, append_assoc}
 use Rattle.std.proofs.lemmas.Nat.{mod-mul-add, div-mul-add}
 use Rattle.std.proofs.lemmas.Bool.{cases_lt}
-use Rattle.std.proofs.Math.Nat.{one-le-pow, mul-le-mul_right, mod-lt, add-zero}
+use Rattle.std.proofs.Math.Nat.{mod-lt}
 use Rattle.std.specs.Int.{byte_at, bytes_high_first, bytes_low_first}
-use Rattle.byteorder.specs.Endian.{big_from, little_from}
+use Rattle.byteorder.specs.Endian.{big_from, little_from, big_number, little_number}
 use Rattle.byteorder.specs.Numbers.{big_from-lt, little_from-lt, big_number-reads_back, little_number-reads_back, length-bytes_high_first, length-bytes_low_first}
 use Rattle.dw_base.specs.declared.shared.Order.{Order}
 use Rattle.dw_base.specs.declared.shared.Order.TheVariants.{Little, Big}
@@ -111,9 +111,10 @@ number_bytes-lt Big n x k = bytes_high_first-lt n x k
 
 -- two numbers of two digits each are equal only where both digits are
 digits_same : (a b r s w : ℕ) → r < w → s < w → a * w + r ≡ b * w + s → (a ≡ b) × (r ≡ s)
-digits_same a b r s w hr hs e =
-    ( sym (div-mul-add a w r hr) ∙ ap (λ (x : ℕ). x / w) e ∙ div-mul-add b w s hs
-    , sym (mod-mul-add a w r hr) ∙ ap (λ (x : ℕ). x % w) e ∙ mod-mul-add b w s hs )
+digits_same a b r s w hr hs e = (
+  sym (div-mul-add a w r hr) ∙ ap (λ (x : ℕ). x / w) e ∙ div-mul-add b w s hs,
+  sym (mod-mul-add a w r hr) ∙ ap (λ (x : ℕ). x % w) e ∙ mod-mul-add b w s hs,
+)
 
 -- bytes that spell one number, the highest first, are the same bytes
 big_from-same : (i n : ℕ) (xs ys : List ℕ) → ((k : ℕ) → slice_index xs k < 256) → ((k : ℕ) → slice_index ys k < 256)
@@ -121,10 +122,10 @@ big_from-same : (i n : ℕ) (xs ys : List ℕ) → ((k : ℕ) → slice_index xs
 big_from-same i zero xs ys small_x small_y e k lo hi = absurd (omega arith)
 big_from-same i (suc n) xs ys small_x small_y e k lo hi =
     let both = digits_same (slice_index xs i) (slice_index ys i) (big_from (suc i) n xs) (big_from (suc i) n ys) (256 ^ n)
-        (big_from-lt (suc i) n xs small_x) (big_from-lt (suc i) n ys small_y) e in
+    (big_from-lt (suc i) n xs small_x) (big_from-lt (suc i) n ys small_y) e in
     elim (cases_lt i k) [
-      inl above ↦ big_from-same (suc i) n xs ys small_x small_y both.1 k (omega arith) (omega arith)
-    | inr here ↦ let same : i ≡ k = omega arith in subst (λ (j : ℕ). slice_index xs j ≡ slice_index ys j) same both.0
+      | inl above ↦ big_from-same (suc i) n xs ys small_x small_y both.1 k (omega arith) (omega arith)
+      | inr here ↦ let same : i ≡ k = omega arith in subst (λ (j : ℕ). slice_index xs j ≡ slice_index ys j) same both.0
     ]
 
 -- the same, the lowest first
@@ -137,8 +138,8 @@ little_from-same i (suc n) xs ys small_x small_y e k lo hi =
     let first : slice_index xs i ≡ slice_index ys i = omega arith in
     let others : little_from (suc i) n xs ≡ little_from (suc i) n ys = omega arith in
     elim (cases_lt i k) [
-      inl above ↦ little_from-same (suc i) n xs ys small_x small_y others k (omega arith) (omega arith)
-    | inr here ↦ let same : i ≡ k = omega arith in subst (λ (j : ℕ). slice_index xs j ≡ slice_index ys j) same first
+      | inl above ↦ little_from-same (suc i) n xs ys small_x small_y others k (omega arith) (omega arith)
+      | inr here ↦ let same : i ≡ k = omega arith in subst (λ (j : ℕ). slice_index xs j ≡ slice_index ys j) same first
     ]
 
 -- bytes that spell one number are the same bytes
@@ -160,19 +161,24 @@ number_bytes-spelled o xs at n small inside =
     let bare : number_of o n (number_bytes o n x) ≡ x = ap (number_of o n) (sym (append-nil (number_bytes o n x))) ∙ read in
     same_lists (number_bytes o n x) (take n front) (length-number_bytes o n x ∙ sym long)
     (λ k d lt.
-        let below : k < n = omega (arith, length-number_bytes o n x) in
-        get_or_default (number_bytes o n x) k d 0 lt
-        ∙ number_of-same o n (number_bytes o n x) front (number_bytes-lt o n x) small_front bare k below
-        ∙ sym (get_or-take n front k 0 below)
-        ∙ sym (get_or_default (take n front) k d 0 (omega arith)))
+    let below : k < n = omega (arith, length-number_bytes o n x) in
+    get_or_default (number_bytes o n x) k d 0 lt
+    ∙ number_of-same o n (number_bytes o n x) front (number_bytes-lt o n x) small_front bare k below
+    ∙ sym (get_or-take n front k 0 below)
+    ∙ sym (get_or_default (take n front) k d 0 (omega arith)))
 
 -- the bytes keep their number
 pub length-with_number : (o : Order) (bytes : List ℕ) (at n x : ℕ) → at + n ≤ length bytes → length (with_number o bytes at n x) ≡ length bytes
 unfolding with_number
 length-with_number o bytes at n x inside =
-    omega (arith, length-append (take at bytes ++ number_bytes o n x) (drop (at + n) bytes),
-        length-append (take at bytes) (number_bytes o n x), length-number_bytes o n x,
-        length-take-le at bytes (omega arith), length-drop (at + n) bytes)
+    omega (
+      arith,
+      length-append (take at bytes ++ number_bytes o n x) (drop (at + n) bytes),
+      length-append (take at bytes) (number_bytes o n x),
+      length-number_bytes o n x,
+      length-take-le at bytes (omega arith),
+      length-drop (at + n) bytes,
+    )
 
 -- what was put at a place stands there
 pub spelled-with_number : (o : Order) (bytes : List ℕ) (at n x : ℕ) → at + n ≤ length bytes → x < 256 ^ n → spelled o (with_number o bytes at n x) at n ≡ x
@@ -224,3 +230,12 @@ unfolding with_number
 between-with_number o bytes at n x inside =
     rw (append_assoc, drop_at (take at bytes) (number_bytes o n x ++ drop (at + n) bytes) at (length-take-le at bytes (omega arith)))
     (take_at (number_bytes o n x) (drop (at + n) bytes) n (length-number_bytes o n x))
+
+-- a number that was read from the front of a slice of bytes is below 256 to the power of its size
+pub little_read-lt : (x n at : ℕ) (xs : List ℕ) → x ≡ little_number n (take (length xs - at) (drop at xs)) → ((k : ℕ) → Fits w8 (get_or xs k 0)) → x < 256 ^ n
+little_read-lt x n at xs e small = rw (e, take_rest) (front-lt Little xs at n (λ k. (small k).fits))
+
+pub big_read-lt : (x n at : ℕ) (xs : List ℕ) → x ≡ big_number n (take (length xs - at) (drop at xs)) → ((k : ℕ) → Fits w8 (get_or xs k 0)) → x < 256 ^ n
+big_read-lt x n at xs e small = rw (e, take_rest) (front-lt Big xs at n (λ k. (small k).fits))
+
+pub ruleset number_rules = (little_read-lt, big_read-lt)

@@ -131,7 +131,7 @@ segment-same b bodies i w known lt =
             (λ k inside. out-kept b bodies (e_phoff b + i * phdr_size c + k) w (omega arith) (inr (omega arith))))
     ]
 
-tabulate-ext : {X : Type 0} (f g : ℕ → X) (n : ℕ) → ((i : ℕ) → i < n → f i ≡ g i) → tabulate f n ≡ tabulate g n
+pub tabulate-ext : {X : Type 0} (f g : ℕ → X) (n : ℕ) → ((i : ℕ) → i < n → f i ≡ g i) → tabulate f n ≡ tabulate g n
 tabulate-ext f g zero same = refl
 tabulate-ext f g (suc n) same =
     let front = tabulate-ext f g n (λ i lt. same i (omega arith)) in
@@ -143,3 +143,13 @@ unfolding segments_of
 segments-same b bodies w known =
     rw (e_phnum-same b bodies w)
     (tabulate-ext (nth_segment (with_bodies b bodies)) (nth_segment b) (e_phnum b) (λ i lt. segment-same b bodies i w known lt))
+
+-- a file depends on the bodies of its own sections alone
+part_of-same : (b : List ℕ) (f g : ℕ → List ℕ) (i : ℕ) → f i ≡ g i → part_of b f i ≡ part_of b g i
+unfolding part_of
+part_of-same b f g i same = rw same refl
+
+pub with_bodies-same : (b : List ℕ) (f g : ℕ → List ℕ) → ((i : ℕ) → i < section_count b → f i ≡ g i) → with_bodies b f ≡ with_bodies b g
+unfolding with_bodies
+with_bodies-same b f g same =
+    rw (tabulate-ext (part_of b f) (part_of b g) (section_count b) (λ i lt. part_of-same b f g i (same i lt))) refl

@@ -7,23 +7,7 @@ use Rattle.dw_base.specs.Grammar.{Grammar}
 use Rattle.dw_base.specs.Lebs.{uleb, uleb_more, uleb_within}
 use Rattle.dw_base.specs.Units.{ValueKind, text_offset, unlisted, kind_in, Mode, header, code, values, stuck, UnitState, FitsMode, Fills, EndsSection, IsHeader, unit_grammar, code_value}
 use Rattle.dw_base.proofs.GrammarLaws.{ReadsOneWay}
-
--- one more byte in front, where a number was read
-uleb_more-append : (b : ℕ) (n m : Option (ℕ × ℕ)) (x : ℕ × ℕ) → ((y : ℕ × ℕ) → n ≡ Some y → m ≡ Some y) → uleb_more b n ≡ Some x → uleb_more b m ≡ Some x
-uleb_more-append b None m x h e = absurd cc
-uleb_more-append b (Some y) m x h e = rw (h y refl) e
-
--- the same by the test of the first byte
-uleb_front-append : (low : Bool) (b : ℕ) (n m : Option (ℕ × ℕ)) (x : ℕ × ℕ) → ((y : ℕ × ℕ) → n ≡ Some y → m ≡ Some y)
-    → cond low (Some (b, 1)) (uleb_more b n) ≡ Some x → cond low (Some (b, 1)) (uleb_more b m) ≡ Some x
-uleb_front-append true b n m x h e = e
-uleb_front-append false b n m x h e = uleb_more-append b n m x h e
-
--- what follows a number doesn't change it
-pub uleb-append : (p r : List ℕ) (x : ℕ × ℕ) → uleb p ≡ Some x → uleb (p ++ r) ≡ Some x
-uleb-append [] r x e = absurd cc
-uleb-append (b ∷ bs) r x e =
-    uleb_front-append (nat_lt b 128) b (uleb bs) (uleb (bs ++ r)) x (λ (y : ℕ × ℕ). uleb-append bs r y) e
+use Rattle.dw_base.proofs.LebLaws.{uleb-append}
 
 -- a number of at most 64 bits was read
 uleb_within-append : (n m : Option (ℕ × ℕ)) (x : ℕ × ℕ) → ((y : ℕ × ℕ) → n ≡ Some y → m ≡ Some y) → uleb_within n ≡ Some x → uleb_within m ≡ Some x

@@ -62,6 +62,11 @@ pub record IsLast (bytes : List ℕ) (n : ℕ) : Type 0 where
 pub record HasNoLast (bytes : List ℕ) : Type 0 where
   pub all : (k : ℕ) → k < length bytes → 128 ≤ slice_index bytes k
 
+-- a value that was read, with its length: it has a byte at least, and lies within so many bytes
+pub record IsSized {V : Type 0} (len : ℕ) (read : V × ℕ) : Type 0 where
+  pub some : 0 < read.1
+  pub within : read.1 ≤ len
+
 -- the length and its width, of the first word of 4 bytes and of the 8 bytes behind it: a word from
 -- 0xfffffff0 to 0xfffffffe is reserved, and 0xffffffff says that the length has 8 bytes
 abbrev pub long_length : Option ℕ → Option (Width × ℕ × ℕ)

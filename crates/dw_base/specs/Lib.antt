@@ -19,3 +19,7 @@ pub mod Mentions
 pub mod SectionNames
 pub mod Output
 pub mod First
+pub mod PlainReading
+pub mod PlainFirst
+pub mod LayoutFails
+pub mod LayoutReads

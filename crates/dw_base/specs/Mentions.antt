@@ -15,8 +15,8 @@ pub record Around : Type 0 where
   pub str : List ℕ
 
 -- the bytes of a string table
-abbrev pub table_bytes : Around → StringTable → List ℕ
-table_bytes around in_debug_str = around.str
+abbrev pub table_of : Around → StringTable → List ℕ
+table_of around in_debug_str = around.str
 
 -- the offset that a field holds
 abbrev pub offset_of : Order → List ℕ → ℕ
@@ -28,7 +28,7 @@ with_offset order p n = number_bytes order (length p) n
 
 -- the mention that a field of an offset into a table makes
 abbrev pub mention_at : Around → StringTable → Bool → List ℕ → Mention
-mention_at around table path p = record { path = path; text = text_in (table_bytes around table) (offset_of around.order p) }
+mention_at around table path p = record { path = path; text = text_in (table_of around table) (offset_of around.order p) }
 
 -- the mentions of texts of a table in bytes of a role
 abbrev pub mentions_by : Role → StringTable → Around → List ℕ → List Mention

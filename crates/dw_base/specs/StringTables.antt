@@ -1,6 +1,6 @@
 -- What becomes of a string table: which texts get a new place in it, and where. Fields that name texts
 -- are mentions, in the order of the file; whether a mention is of a path decides what its new text is.
-use Rattle.std.specs.Prelude.{Bool, ◌≡◌, ℕ, ◌+◌, ◌&&◌, not, if◌then◌else◌, List, [], ◌∷◌, ◌++◌, length, suc, true, false}
+use Rattle.std.specs.Prelude.{Bool, ℕ, ◌+◌, ◌&&◌, not, if◌then◌else◌, List, [], ◌∷◌, ◌++◌, length, suc, Option, Some, None}
 use Rattle.dw_base.specs.Paths.{PathMap, mapped_path}
 use Rattle.dw_base.specs.Texts.{is_in, same_text, laid_texts}
 
@@ -51,3 +51,20 @@ new_table plan ts = plan.kept ++ laid_texts ts
 -- the place of the new text of a mention that asks for one
 abbrev pub new_place : Plan → PathMap → List (List ℕ) → Mention → ℕ
 new_place plan m ts x = length plan.kept + place_in ts (new_text m x)
+
+-- a string table that grows: the bytes that it began with, and the texts that were added, each once
+pub record TextTable : Type 0 where
+  pub kept : List ℕ
+  pub texts : List (List ℕ)
+
+-- its bytes: those that it began with, then each text with its NUL
+abbrev pub table_bytes : TextTable → List ℕ
+table_bytes table = table.kept ++ laid_texts table.texts
+
+-- where an added text begins: none where the text was not added
+abbrev pub text_place : TextTable → List ℕ → Option ℕ
+text_place table t = if is_in table.texts t then Some (length table.kept + place_in table.texts t) else None
+
+-- the table with one more text, if it wasn't added before
+abbrev pub with_added : TextTable → List ℕ → TextTable
+with_added table t = record { kept = table.kept; texts = with_text table.texts t }

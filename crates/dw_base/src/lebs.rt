@@ -5,8 +5,8 @@
 //! bits. The bytes are read twice: forward to the last one, and back.
 //! Read first: `specs/Lebs.antt`.
 
-ghost use Rattle.std.specs.Prelude.{◌≡◌, ◌<◌, ◌+◌, ◌%◌, ◌≤◌, pos, ◌+ℤ◌, ◌*ℤ◌, false, MatchOption};
-ghost use Rattle.dw_base.specs.Lebs.{uleb_at, uleb, uleb_within, sleb_at, sleb, sleb_within, sleb_last, fits_i64, initial_length_at, IsLast, HasNoLast};
+ghost use Rattle.std.specs.Prelude.{◌≡◌, ◌<◌, ◌+◌, ◌%◌, ◌≤◌, pos, ◌+ℤ◌, ◌*ℤ◌, false, length, IfSome, MatchOption};
+ghost use Rattle.dw_base.specs.Lebs.{uleb_at, uleb, uleb_within, sleb_at, sleb, sleb_within, sleb_last, fits_i64, initial_length_at, IsLast, HasNoLast, IsSized};
 
 use crate::numbers::number_at;
 use crate::shared::{Order, Width};
@@ -16,6 +16,8 @@ use crate::shared::{Order, Width};
 #[tactic(auto, unfolding(crate::specs::Lebs::uleb_at))]
 pub fn uleb_at(bytes: &[u8], at: u64) -> Option<(u64, u64)>
     ensures value { result ≡ uleb_at bytes.now at }
+    ensures some { IfSome result (λ read. 0 < read.1) }
+    ensures inside { IfSome result (λ read. at + read.1 ≤ length bytes.now) }
 {
     if at > bytes.len() as u64 {
         return None;
@@ -27,6 +29,7 @@ pub fn uleb_at(bytes: &[u8], at: u64) -> Option<(u64, u64)>
 #[tactic(auto, using(crate::proofs::LebLaws::leb_rules))]
 fn uleb_of(front: &[u8]) -> Option<(u64, u64)>
     ensures value { result ≡ uleb_within (uleb front.now) }
+    ensures sized { IfSome result (IsSized (length front.now)) }
 {
     match last_byte(front) {
         Some(last) => uleb_to(front, last),
@@ -38,6 +41,7 @@ fn uleb_of(front: &[u8]) -> Option<(u64, u64)>
 fn uleb_to(front: &[u8], last: usize) -> Option<(u64, u64)>
     requires found { IsLast front.now last }
     ensures value { result ≡ uleb_within (uleb front.now) }
+    ensures sized { IfSome result (IsSized (length front.now)) }
 {
     let mut value = u64::from(front[last]);
     let mut i = last;
@@ -56,6 +60,8 @@ fn uleb_to(front: &[u8], last: usize) -> Option<(u64, u64)>
 #[tactic(auto, unfolding(crate::specs::Lebs::sleb_at))]
 pub fn sleb_at(bytes: &[u8], at: u64) -> Option<(i64, u64)>
     ensures value { result ≡ sleb_at bytes.now at }
+    ensures some { IfSome result (λ read. 0 < read.1) }
+    ensures inside { IfSome result (λ read. at + read.1 ≤ length bytes.now) }
 {
     if at > bytes.len() as u64 {
         return None;
@@ -67,6 +73,7 @@ pub fn sleb_at(bytes: &[u8], at: u64) -> Option<(i64, u64)>
 #[tactic(auto, using(crate::proofs::LebLaws::leb_rules))]
 fn sleb_of(front: &[u8]) -> Option<(i64, u64)>
     ensures value { result ≡ sleb_within (sleb front.now) }
+    ensures sized { IfSome result (IsSized (length front.now)) }
 {
     match last_byte(front) {
         Some(last) => sleb_to(front, last),
@@ -78,6 +85,7 @@ fn sleb_of(front: &[u8]) -> Option<(i64, u64)>
 fn sleb_to(front: &[u8], last: usize) -> Option<(i64, u64)>
     requires found { IsLast front.now last }
     ensures value { result ≡ sleb_within (sleb front.now) }
+    ensures sized { IfSome result (IsSized (length front.now)) }
 {
     let mut value = signed(front[last]);
     let mut i = last;
@@ -136,6 +144,7 @@ fn last_byte(front: &[u8]) -> Option<usize>
 #[tactic(auto, unfolding(crate::specs::Lebs::initial_length_at, crate::specs::Numbers::number_at))]
 pub fn initial_length_at(order: Order, bytes: &[u8], at: u64) -> Option<(Width, u64, u64)>
     ensures value { result ≡ initial_length_at order bytes.now at }
+    ensures inside { IfSome result (λ read. at + read.2 ≤ length bytes.now) }
 {
     let word = number_at(order, bytes, at, 4)?;
     if word < 0xffff_fff0 {
@@ -169,7 +178,10 @@ mod tests {
                 &[0xff, 0xff, 0xff, 0xff, 0xff, 0xff, 0xff, 0xff, 0xff, 0x01],
                 Some((0xffff_ffff_ffff_ffff, 10)),
             ),
-            (&[0x80, 0x80, 0x80, 0x80, 0x80, 0x80, 0x80, 0x80, 0x80, 0x02], None),
+            (
+                &[0x80, 0x80, 0x80, 0x80, 0x80, 0x80, 0x80, 0x80, 0x80, 0x02],
+                None,
+            ),
         ];
         for (bytes, value) in table.iter() {
             assert_eq!(rt; uleb_at(bytes, 0), *value);
@@ -194,8 +206,14 @@ mod tests {
                 &[0x80, 0x80, 0x80, 0x80, 0x80, 0x80, 0x80, 0x80, 0x80, 0x7f],
                 Some((-0x7fff_ffff_ffff_ffff - 1, 10)),
             ),
-            (&[0x80, 0x80, 0x80, 0x80, 0x80, 0x80, 0x80, 0x80, 0x80, 0x01], None),
-            (&[0xff, 0xff, 0xff, 0xff, 0xff, 0xff, 0xff, 0xff, 0xff, 0x7e], None),
+            (
+                &[0x80, 0x80, 0x80, 0x80, 0x80, 0x80, 0x80, 0x80, 0x80, 0x01],
+                None,
+            ),
+            (
+                &[0xff, 0xff, 0xff, 0xff, 0xff, 0xff, 0xff, 0xff, 0xff, 0x7e],
+                None,
+            ),
         ];
         for (bytes, value) in table.iter() {
             assert_eq!(rt; sleb_at(bytes, 0), *value);
@@ -214,13 +232,28 @@ mod tests {
     #[test]
     fn initial_lengths_are_those_of_the_standard(rt: HostRuntime) {
         let long = [0xff, 0xff, 0xff, 0xff, 0x10, 0, 0, 0, 0, 0, 0, 0];
-        assert_eq!(rt; initial_length_at(Order::Little, &long, 0), Some((Width::W64, 16, 12)));
+        assert_eq!(rt;
+            initial_length_at(Order::Little, &long, 0),
+            Some((Width::W64, 16, 12))
+        );
         assert_eq!(rt; initial_length_at(Order::Little, &long[..11], 0), None);
-        assert_eq!(rt; initial_length_at(Order::Little, &long, 4), Some((Width::W32, 16, 4)));
-        assert_eq!(rt; initial_length_at(Order::Little, &[0xf0, 0xff, 0xff, 0xff], 0), None);
-        assert_eq!(rt; initial_length_at(Order::Big, &[0xff, 0xff, 0xff, 0xfe], 0), None);
+        assert_eq!(rt;
+            initial_length_at(Order::Little, &long, 4),
+            Some((Width::W32, 16, 4))
+        );
+        assert_eq!(rt;
+            initial_length_at(Order::Little, &[0xf0, 0xff, 0xff, 0xff], 0),
+            None
+        );
+        assert_eq!(rt;
+            initial_length_at(Order::Big, &[0xff, 0xff, 0xff, 0xfe], 0),
+            None
+        );
         let last = [0xff, 0xff, 0xff, 0xef];
-        assert_eq!(rt; initial_length_at(Order::Big, &last, 0), Some((Width::W32, 0xffff_ffef, 4)));
+        assert_eq!(rt;
+            initial_length_at(Order::Big, &last, 0),
+            Some((Width::W32, 0xffff_ffef, 4))
+        );
         assert_eq!(rt; initial_length_at(Order::Big, &last[1..], 0), None);
     }
 }

@@ -1,6 +1,6 @@
 //! Numbers of 1 to 8 bytes at a place, in either byte order (gABI ch. 4 "Data Representation").
 
-ghost use Rattle.std.specs.Prelude.{◌≡◌, ◌<◌, ◌≤◌, ◌+◌, ◌^◌, ◌↔◌, length, IsTrue};
+ghost use Rattle.std.specs.Prelude.{◌≡◌, ◌<◌, ◌≤◌, ◌+◌, ◌^◌, ◌↔◌, length, IsTrue, IfSome, OnSome};
 ghost use Rattle.std.specs.Bool.{OnTrue, OnFalse};
 ghost use Rattle.dw_base.specs.Numbers.{number_at, spelled, with_number, NumberFits};
 
@@ -14,6 +14,8 @@ pub fn number_at(order: Order, bytes: &[u8], at: u64, size: u8) -> Option<u64>
     requires some { 0 < size }
     requires wide { size ≤ 8 }
     ensures value { result ≡ number_at order bytes.now at size }
+    ensures inside { OnSome result (at + size ≤ length bytes.now) }
+    ensures fits { IfSome result (λ value. value < 256 ^ size) }
 {
     let len = bytes.len() as u64;
     if at > len {
@@ -26,7 +28,7 @@ pub fn number_at(order: Order, bytes: &[u8], at: u64, size: u8) -> Option<u64>
 }
 
 /// The number that the `size` bytes from `at` spell, where these bytes are there.
-#[tactic(auto, unfolding(crate::specs::Numbers::spelled))]
+#[tactic(auto, using(crate::proofs::NumberLaws::number_rules), unfolding(crate::specs::Numbers::spelled))]
 pub fn number_in(order: Order, bytes: &[u8], at: u64, size: u8) -> u64
     requires some { 0 < size }
     requires wide { size ≤ 8 }

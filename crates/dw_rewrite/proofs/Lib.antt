@@ -9,3 +9,9 @@ pub mod TextLimits
 pub mod Names
 pub mod UnitExits
 pub mod Walks
+pub mod PlacedLaws
+pub mod ChangeLaws
+pub mod AskLaws
+pub mod KnownLaws
+pub mod JudgeLaws
+pub mod ChangedLaws

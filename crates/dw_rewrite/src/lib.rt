@@ -5,6 +5,10 @@
 //! Read first: `dw_base/specs/First.antt` and `dw_base/specs/Output.antt`.
 #![tactic(auto)]
 
+mod asks;
+mod change;
+mod judge;
+mod known;
 mod refusal;
 mod table;
 mod texts;

@@ -146,3 +146,8 @@ impl ElfFile<'_> {
         Ok(file)
     }
 }
+
+#[cfg(test)]
+mod samples;
+#[cfg(test)]
+mod tests;
