@@ -100,8 +100,8 @@ lt-false m n h = grind arith
 in_header-fits : (elsewhere n : ℕ) → elsewhere < 0x10000 → in_header elsewhere n < 256 ^ 2
 in_header-fits elsewhere n small =
     elim (cases_lt n SHN_LORESERVE) [
-      inl direct ↦ rw (lt-true n SHN_LORESERVE direct) (omega arith)
-    | inr extended ↦ rw (lt-false n SHN_LORESERVE extended) (omega arith)
+      | inl direct ↦ rw (lt-true n SHN_LORESERVE direct) (omega arith)
+      | inr extended ↦ rw (lt-false n SHN_LORESERVE extended) (omega arith)
     ]
 
 front-shnum : (c : Class) (o : Order) (front : List ℕ) (count names : ℕ) → ehdr_size c ≤ length front
@@ -120,7 +120,7 @@ front-shstrndx c o front count names header =
     let places = number_places c in
     let first = length-with_number o front (shnum_place c) 2 (in_header 0 count) (omega arith) in
     spelled-with_number o (with_number o front (shnum_place c) 2 (in_header 0 count)) (shstrndx_place c) 2 (in_header SHN_XINDEX names) (omega arith)
-        (in_header-fits SHN_XINDEX names (omega arith))
+    (in_header-fits SHN_XINDEX names (omega arith))
 
 -- how long all is
 pub record Lengths (c : Class) (o : Order) (front : List ℕ) (parts : List Part) (names : ℕ) : Type 0 where
@@ -143,7 +143,7 @@ lengths c o front parts names w =
     let longer = laid-longer (front_of c o front parts names) (parts_of parts names) in
     let before = length-before_table c (laid_of c o front parts names) in
     let count : length (heads_of c o front parts names) ≡ length parts =
-        length-new_heads (front_of c o front parts names) (parts_of parts names) ∙ length-numbered (length parts) names parts in
+    length-new_heads (front_of c o front parts names) (parts_of parts names) ∙ length-numbered (length parts) names parts in
     record {
       same = same;
       header = header;
@@ -151,7 +151,7 @@ lengths c o front parts names w =
       table = omega arith;
       heads = count;
       out = rw (out-is c o front parts names)
-        (length-with_table c o (laid_of c o front parts names) (heads_of c o front parts names) (omega arith) ∙ rw (count, sym before) refl);
+          (length-with_table c o (laid_of c o front parts names) (heads_of c o front parts names) (omega arith) ∙ rw (count, sym before) refl);
       small = w.small;
     }
 
@@ -183,7 +183,7 @@ ident-same c o front parts names at w lt =
     let places = header_places c in
     out-spelled c o front parts names Little at 1 w (omega arith) (inl (omega arith))
     ∙ spelled-ext Little (front_of c o front parts names) front at at 1
-        (λ k below. front-kept c o front (length parts) names (at + k) w.fit.header (inl (omega arith)))
+    (λ k below. front-kept c o front (length parts) names (at + k) w.fit.header (inl (omega arith)))
 
 class-front : (c : Class) (o : Order) (front : List ℕ) (parts : List Part) (names : ℕ) → IsParts c o front parts names → class_of (parts_file c o front parts names) ≡ class_of front
 unfolding class_of
@@ -230,7 +230,7 @@ shoff-is c o front parts names w =
     let both = length-append (before_table c (laid_of c o front parts names)) (shdrs_bytes c o (heads_of c o front parts names)) in
     rw (class-same c o front parts names w, order-same c o front parts names w, out-is c o front parts names)
     (spelled-with_number o (before_table c (laid_of c o front parts names) ++ shdrs_bytes c o (heads_of c o front parts names))
-        (shoff_place c) (word_size c) (table_of c o front parts names) (omega arith) (limit-fits c (table_of c o front parts names) (omega arith)))
+    (shoff_place c) (word_size c) (table_of c o front parts names) (omega arith) (limit-fits c (table_of c o front parts names) (omega arith)))
 
 -- the part of a number, with section 0
 pub some-parts : (c : Class) (o : Order) (front : List ℕ) (parts : List Part) (names : ℕ) → IsParts c o front parts names → 0 < length parts
@@ -267,11 +267,11 @@ numbered-same count names p = record { moves = refl; body = refl; name = refl; k
 pub numbered-part : (count names : ℕ) (parts : List Part) (i : ℕ) (d : Part) → i < length parts → SamePart (get_or parts i d) (get_or (numbered_first count names parts) i d)
 numbered-part count names parts i d lt =
     elim (cases_eq i 0) [
-      inl first ↦
-        subst (λ (j : ℕ). SamePart (get_or parts j d) (get_or (numbered_first count names parts) j d)) (sym first)
-        (subst (λ (q : Part). SamePart (get_or parts 0 d) q) (sym (numbered-zero count names parts d (omega arith))) (numbered-same count names (get_or parts 0 d)))
-    | inr later ↦
-        subst (λ (q : Part). SamePart (get_or parts i d) q) (sym (numbered-later count names parts i d (omega arith))) (same-part (get_or parts i d))
+      | inl first ↦
+          subst (λ (j : ℕ). SamePart (get_or parts j d) (get_or (numbered_first count names parts) j d)) (sym first)
+          (subst (λ (q : Part). SamePart (get_or parts 0 d) q) (sym (numbered-zero count names parts d (omega arith))) (numbered-same count names (get_or parts 0 d)))
+      | inr later ↦
+          subst (λ (q : Part). SamePart (get_or parts i d) q) (sym (numbered-later count names parts i d (omega arith))) (same-part (get_or parts i d))
     ]
 
 -- each number of its header fits its field
@@ -282,8 +282,8 @@ count-fits C64 n table len e small = omega arith
 in_section_0-fits : (n m : ℕ) → n < m → 0 < m → in_section_0 n < m
 in_section_0-fits n m small some =
     elim (cases_lt n SHN_LORESERVE) [
-      inl direct ↦ rw (lt-true n SHN_LORESERVE direct) some
-    | inr extended ↦ rw (lt-false n SHN_LORESERVE extended) small
+      | inl direct ↦ rw (lt-true n SHN_LORESERVE direct) some
+      | inr extended ↦ rw (lt-false n SHN_LORESERVE extended) small
     ]
 
 numbered-fits : (c : Class) (s : Section) (count names : ℕ) → FieldsFit (shdr_fields c s) → count < 256 ^ 4 → names < 256 ^ 4 → FieldsFit (shdr_fields c (numbered_head count names s))
@@ -303,12 +303,12 @@ part-fits c o front parts names i d w lt =
     let few = count-fits c (length parts) (table_of c o front parts names) (length (parts_file c o front parts names)) size.out size.small in
     let named = w.fit.named in
     elim (cases_eq i 0) [
-      inl first ↦
-        subst (λ (j : ℕ). FieldsFit (shdr_fields c (get_or (parts_of parts names) j d).head)) (sym first)
-        (subst (λ (q : Part). FieldsFit (shdr_fields c q.head)) (sym (numbered-zero (length parts) names parts d (some-parts c o front parts names w)))
-            (numbered-fits c (get_or parts 0 d).head (length parts) names (w.fit.fields 0 d (some-parts c o front parts names w)) few (omega arith)))
-    | inr later ↦
-        subst (λ (q : Part). FieldsFit (shdr_fields c q.head)) (sym (numbered-later (length parts) names parts i d (omega arith))) (w.fit.fields i d lt)
+      | inl first ↦
+          subst (λ (j : ℕ). FieldsFit (shdr_fields c (get_or (parts_of parts names) j d).head)) (sym first)
+          (subst (λ (q : Part). FieldsFit (shdr_fields c q.head)) (sym (numbered-zero (length parts) names parts d (some-parts c o front parts names w)))
+          (numbered-fits c (get_or parts 0 d).head (length parts) names (w.fit.fields 0 d (some-parts c o front parts names w)) few (omega arith)))
+      | inr later ↦
+          subst (λ (q : Part). FieldsFit (shdr_fields c q.head)) (sym (numbered-later (length parts) names parts i d (omega arith))) (w.fit.fields i d lt)
     ]
 
 -- what is laid in front of the part of a number
@@ -334,19 +334,19 @@ nth-is c o front parts names i d w lt =
     let head = new_head (length before) p in
     let count = length-numbered (length parts) names parts in
     let stands : get_or (heads_of c o front parts names) i head ≡ head =
-        list_heads-at (front_of c o front parts names) (parts_of parts names) i head d (omega arith) in
+    list_heads-at (front_of c o front parts names) (parts_of parts names) i head d (omega arith) in
     let with = with-part c o front parts names i d lt in
     let longer = laid-longer (extended before p) (drop (suc i) (parts_of parts names)) in
     let whole = ap length with in
     let fit : FieldsFit (shdr_fields c head) =
-        new_head-fits c (length before) p (part-fits c o front parts names i d w lt) (λ moves. let long = moved-length before p moves in omega arith) in
+    new_head-fits c (length before) p (part-fits c o front parts names i d w lt) (λ moves. let long = moved-length before p moves in omega arith) in
     rw (class-same c o front parts names w, order-same c o front parts names w, shoff-is c o front parts names w)
     (section_at-ext c o out (shdr_bytes c o head ++ []) (table + i * shdr_size c) 0
-        (λ k inside.
-            let split : table + i * shdr_size c + k ≡ table + (i * shdr_size c + k) = omega arith in
-            let none : 0 + k ≡ k = omega arith in
-            rw (split, none, append-nil (shdr_bytes c o head), out-is c o front parts names)
-            (with_table-table c o (laid_of c o front parts names) (heads_of c o front parts names) (i * shdr_size c + k) (omega arith)
-            ∙ shdrs_bytes-at c o (heads_of c o front parts names) i k head (omega arith) inside
-            ∙ ap (λ (s : Section). slice_index (shdr_bytes c o s) k) stands))
+    (λ k inside.
+    let split : table + i * shdr_size c + k ≡ table + (i * shdr_size c + k) = omega arith in
+    let none : 0 + k ≡ k = omega arith in
+    rw (split, none, append-nil (shdr_bytes c o head), out-is c o front parts names)
+    (with_table-table c o (laid_of c o front parts names) (heads_of c o front parts names) (i * shdr_size c + k) (omega arith)
+    ∙ shdrs_bytes-at c o (heads_of c o front parts names) i k head (omega arith) inside
+    ∙ ap (λ (s : Section). slice_index (shdr_bytes c o s) k) stands))
     ∙ section_back c o head [] fit)

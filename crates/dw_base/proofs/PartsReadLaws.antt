@@ -69,15 +69,15 @@ table-there c o front parts names w none =
 count-by : (n size : ℕ) → n ≢ 0 → size ≡ in_section_0 n → (if in_header 0 n == 0 then size else in_header 0 n) ≡ n
 count-by n size some is =
     elim (cases_lt n SHN_LORESERVE) [
-      inl direct ↦ rw (lt-true n SHN_LORESERVE direct, eq-differ n 0 some) refl
-    | inr high ↦ let own : in_section_0 n ≡ n = rw (lt-false n SHN_LORESERVE high) refl in rw (lt-false n SHN_LORESERVE high) (is ∙ own)
+      | inl direct ↦ rw (lt-true n SHN_LORESERVE direct, eq-differ n 0 some) refl
+      | inr high ↦ let own : in_section_0 n ≡ n = rw (lt-false n SHN_LORESERVE high) refl in rw (lt-false n SHN_LORESERVE high) (is ∙ own)
     ]
 
 names-by : (n link : ℕ) → link ≡ in_section_0 n → (if in_header SHN_XINDEX n == SHN_XINDEX then link else in_header SHN_XINDEX n) ≡ n
 names-by n link is =
     elim (cases_lt n SHN_LORESERVE) [
-      inl direct ↦ rw (lt-true n SHN_LORESERVE direct, eq-differ n SHN_XINDEX (λ e. omega arith)) refl
-    | inr high ↦ let own : in_section_0 n ≡ n = rw (lt-false n SHN_LORESERVE high) refl in rw (lt-false n SHN_LORESERVE high) (is ∙ own)
+      | inl direct ↦ rw (lt-true n SHN_LORESERVE direct, eq-differ n SHN_XINDEX (λ e. omega arith)) refl
+      | inr high ↦ let own : in_section_0 n ≡ n = rw (lt-false n SHN_LORESERVE high) refl in rw (lt-false n SHN_LORESERVE high) (is ∙ own)
     ]
 
 count-is : (c : Class) (o : Order) (front : List ℕ) (parts : List Part) (names : ℕ) (d : Part) → IsParts c o front parts names
@@ -87,7 +87,7 @@ count-is c o front parts names d w stays =
     let some = some-parts c o front parts names w in
     rw (eq-differ (e_shoff (parts_file c o front parts names)) 0 (table-there c o front parts names w), shnum-is c o front parts names w)
     (count-by (length parts) (nth_section (parts_file c o front parts names) 0).size (λ none. omega arith)
-        (ap (λ (s : Section). s.size) (zero-stays c o front parts names d w stays)))
+    (ap (λ (s : Section). s.size) (zero-stays c o front parts names d w stays)))
 
 names-is : (c : Class) (o : Order) (front : List ℕ) (parts : List Part) (names : ℕ) (d : Part) → IsParts c o front parts names
     → (get_or (parts_of parts names) 0 d).moves ≡ false → name_index (parts_file c o front parts names) ≡ names
@@ -100,7 +100,7 @@ names-is c o front parts names d w stays =
 moved-contents : (c : Class) (o : Order) (front : List ℕ) (parts : List Part) (names i : ℕ) (d : Part) → IsParts c o front parts names → i < length parts
     → (get_or (parts_of parts names) i d).moves ≡ true
     → take (length (get_or (parts_of parts names) i d).body)
-        (drop (length (before_of c o front parts names i) + padding (length (before_of c o front parts names i)) (get_or (parts_of parts names) i d).head.align) (parts_file c o front parts names))
+    (drop (length (before_of c o front parts names i) + padding (length (before_of c o front parts names i)) (get_or (parts_of parts names) i d).head.align) (parts_file c o front parts names))
     ≡ (get_or (parts_of parts names) i d).body
 moved-contents c o front parts names i d w lt moves =
     let p = get_or (parts_of parts names) i d in
@@ -115,11 +115,11 @@ moved-contents c o front parts names i d w lt moves =
     let behind = laid-longer (front_of c o front parts names) (take i (parts_of parts names)) in
     part-is (parts_file c o front parts names) p.body (length before + pad) (omega arith)
     (λ k below.
-        rw (out-is c o front parts names)
-        (with_table-front c o (laid_of c o front parts names) (heads_of c o front parts names) (length before + pad + k) (omega arith) (omega arith) (inr (omega arith))
-        ∙ ap (λ (xs : List ℕ). slice_index xs (length before + pad + k)) with
-        ∙ laid-kept (extended before p) (drop (suc i) (parts_of parts names)) (length before + pad + k) (omega arith)
-        ∙ moved-byte before p k moves))
+    rw (out-is c o front parts names)
+    (with_table-front c o (laid_of c o front parts names) (heads_of c o front parts names) (length before + pad + k) (omega arith) (omega arith) (inr (omega arith))
+    ∙ ap (λ (xs : List ℕ). slice_index xs (length before + pad + k)) with
+    ∙ laid-kept (extended before p) (drop (suc i) (parts_of parts names)) (length before + pad + k) (omega arith)
+    ∙ moved-byte before p k moves))
 
 -- a part that is kept holds what the front has there
 kept-bytes : (c : Class) (o : Order) (front : List ℕ) (parts : List Part) (names i : ℕ) (d : Part) → IsParts c o front parts names → i < length parts
@@ -136,10 +136,10 @@ kept-bytes c o front parts names i d w lt kept full some =
     let long : length (take s.size (drop s.offset front)) ≡ s.size = length-take-le s.size (drop s.offset front) (omega arith) in
     ap (λ (n : ℕ). take n (drop s.offset (parts_file c o front parts names))) (sym long)
     ∙ part-is (parts_file c o front parts names) (take s.size (drop s.offset front)) s.offset (omega arith)
-        (λ k below.
-            out-kept c o front parts names (s.offset + k) w (omega arith) (inr (omega arith))
-            ∙ front-kept c o front (length parts) names (s.offset + k) w.fit.header (inr (omega arith))
-            ∙ sym (get_or-take s.size (drop s.offset front) k 0 (omega arith) ∙ get_or-drop s.offset front k 0))
+    (λ k below.
+    out-kept c o front parts names (s.offset + k) w (omega arith) (inr (omega arith))
+    ∙ front-kept c o front (length parts) names (s.offset + k) w.fit.header (inr (omega arith))
+    ∙ sym (get_or-take s.size (drop s.offset front) k 0 (omega arith) ∙ get_or-drop s.offset front k 0))
 
 full-bytes : (c : Class) (o : Order) (front : List ℕ) (parts : List Part) (names i : ℕ) (d : Part) → IsParts c o front parts names → i < length parts
     → (get_or parts i d).moves ≡ false → is_empty_kind (get_or parts i d).head ≡ false
@@ -147,8 +147,8 @@ full-bytes : (c : Class) (o : Order) (front : List ℕ) (parts : List Part) (nam
     ≡ take (get_or parts i d).head.size (drop (get_or parts i d).head.offset front)
 full-bytes c o front parts names i d w lt kept full =
     elim (cases_eq (get_or parts i d).head.size 0) [
-      inl none ↦ rw none refl
-    | inr some ↦ kept-bytes c o front parts names i d w lt kept full some
+      | inl none ↦ rw none refl
+      | inr some ↦ kept-bytes c o front parts names i d w lt kept full some
     ]
 
 part-full : (front : List ℕ) (p : Part) → p.moves ≡ false → part_contents front p ≡ contents_at front p.head
@@ -166,12 +166,12 @@ kept-contents : (c : Class) (o : Order) (front : List ℕ) (parts : List Part) (
 kept-contents c o front parts names i d w lt kept later =
     let s = (get_or parts i d).head in
     let same : nth_section (parts_file c o front parts names) i ≡ s =
-        stays-is c o front parts names i d w lt kept ∙ ap (λ (p : Part). p.head) (numbered-later (length parts) names parts i d later) in
+    stays-is c o front parts names i d w lt kept ∙ ap (λ (p : Part). p.head) (numbered-later (length parts) names parts i d later) in
     rw same
     (elim (cases_Bool (is_empty_kind s)) [
-      inl empty ↦ contents-empty (parts_file c o front parts names) s empty ∙ sym (contents-empty front s empty)
-    | inr full ↦
-        contents-full (parts_file c o front parts names) s full ∙ full-bytes c o front parts names i d w lt kept full ∙ sym (contents-full front s full)
+      | inl empty ↦ contents-empty (parts_file c o front parts names) s empty ∙ sym (contents-empty front s empty)
+      | inr full ↦
+          contents-full (parts_file c o front parts names) s full ∙ full-bytes c o front parts names i d w lt kept full ∙ sym (contents-full front s full)
     ])
 
 -- section 0 has nothing
@@ -219,7 +219,7 @@ front-byte c o front parts names k w lt =
     let both = length-append (before_table c (laid_of c o front parts names)) (shdrs_bytes c o (heads_of c o front parts names)) in
     rw (out-is c o front parts names)
     (put-byte o (before_table c (laid_of c o front parts names) ++ shdrs_bytes c o (heads_of c o front parts names)) (front_of c o front parts names)
-        (shoff_place c) (word_size c) (table_of c o front parts names) k (omega arith) (omega arith) (table-kept c o front parts names k w lt))
+    (shoff_place c) (word_size c) (table_of c o front parts names) k (omega arith) (omega arith) (table-kept c o front parts names k w lt))
 
 front-is : (c : Class) (o : Order) (front : List ℕ) (parts : List Part) (names : ℕ) → IsParts c o front parts names
     → take (length front) (parts_file c o front parts names)
@@ -229,22 +229,22 @@ front-is c o front parts names w =
     let within = shoff_place-within c in
     let new : List ℕ = with_number o (front_of c o front parts names) (shoff_place c) (word_size c) (table_of c o front parts names) in
     let long : length new ≡ length front =
-        length-with_number o (front_of c o front parts names) (shoff_place c) (word_size c) (table_of c o front parts names) (omega arith) ∙ size.same in
+    length-with_number o (front_of c o front parts names) (shoff_place c) (word_size c) (table_of c o front parts names) (omega arith) ∙ size.same in
     rw (shoff-is c o front parts names w)
     (ap (λ (n : ℕ). take n (parts_file c o front parts names)) (sym long)
     ∙ part-is (parts_file c o front parts names) new 0 (omega arith)
-        (λ k lt. let none : 0 + k ≡ k = omega arith in rw none (front-byte c o front parts names k w (omega arith))))
+    (λ k lt. let none : 0 + k ≡ k = omega arith in rw none (front-byte c o front parts names k w (omega arith))))
 
 -- section 0 isn't laid out
 zero-kept : (parts : List Part) (d : Part) → (get_or parts 0 d).head.kind ≡ SHT_NULL
     → ((get_or parts 0 d).moves ≡ true → is_empty_kind (get_or parts 0 d).head ≡ false) → (get_or parts 0 d).moves ≡ false
 zero-kept parts d null full =
     elim (cases_Bool (get_or parts 0 d).moves) [
-      inl moves ↦
-        let empty : is_empty_kind (get_or parts 0 d).head ≡ true = rw null refl in
-        let not_empty = full moves in
-        cc
-    | inr kept ↦ kept
+      | inl moves ↦
+          let empty : is_empty_kind (get_or parts 0 d).head ≡ true = rw null refl in
+          let not_empty = full moves in
+          cc
+      | inr kept ↦ kept
     ]
 
 -- what each part has
@@ -254,15 +254,15 @@ contents-is : (c : Class) (o : Order) (front : List ℕ) (parts : List Part) (na
 unfolding contents_of
 contents-is c o front parts names i d w lt full =
     elim (cases_Bool (get_or parts i d).moves) [
-      inl moves ↦ laid-contents c o front parts names i d w lt moves (full moves) ∙ sym (part-new front (get_or parts i d) moves)
-    | inr kept ↦
-        elim (cases_eq i 0) [
-          inl first ↦
-            subst (λ (j : ℕ). contents_at (parts_file c o front parts names) (nth_section (parts_file c o front parts names) j) ≡ contents_at front (get_or parts j d).head)
+      | inl moves ↦ laid-contents c o front parts names i d w lt moves (full moves) ∙ sym (part-new front (get_or parts i d) moves)
+      | inr kept ↦
+          elim (cases_eq i 0) [
+            | inl first ↦
+                subst (λ (j : ℕ). contents_at (parts_file c o front parts names) (nth_section (parts_file c o front parts names) j) ≡ contents_at front (get_or parts j d).head)
                 (sym first) (zero-contents c o front parts names d w)
-            ∙ sym (part-full front (get_or parts i d) kept)
-        | inr later ↦ kept-contents c o front parts names i d w lt kept (omega arith) ∙ sym (part-full front (get_or parts i d) kept)
-        ]
+                ∙ sym (part-full front (get_or parts i d) kept)
+            | inr later ↦ kept-contents c o front parts names i d w lt kept (omega arith) ∙ sym (part-full front (get_or parts i d) kept)
+          ]
     ]
 
 -- a file that was written from parts reads back

@@ -69,12 +69,12 @@ segment_table-reads b bodies w known =
     let n = e_phnum-same b bodies w in
     record {
       lies = λ some.
-        elim (segments-by b w.reads known) [
-          inl none ↦ absurd (some (n ∙ none))
-        | inr loaded ↦
-            let lie = segments-lie b loaded (rw n at some) in
-            rw (n, e_phoff-same b bodies w, class-same b bodies w) (omega arith)
-        ];
+          elim (segments-by b w.reads known) [
+            | inl none ↦ absurd (some (n ∙ none))
+            | inr loaded ↦
+                let lie = segments-lie b loaded (rw n at some) in
+                rw (n, e_phoff-same b bodies w, class-same b bodies w) (omega arith)
+          ];
     }
 
 table-reads : (b : List ℕ) (bodies : ℕ → List ℕ) → IsWritten b bodies → TableReads (with_bodies b bodies)
@@ -96,9 +96,9 @@ index-reads b bodies w =
       null = λ there. ap (λ (s : Section). s.kind) (first-same b bodies w) ∙ was.null (table-was b w.some);
       there = λ some. rw (n, count-same b bodies w) (was.there (rw n at some));
       strings = λ some.
-        ap (λ (i : ℕ). (nth_section (with_bodies b bodies) i).kind) n
-        ∙ (head-same b bodies (name_index b) w (was.there (rw n at some))).kind
-        ∙ was.strings (rw n at some);
+          ap (λ (i : ℕ). (nth_section (with_bodies b bodies) i).kind) n
+          ∙ (head-same b bodies (name_index b) w (was.there (rw n at some))).kind
+          ∙ was.strings (rw n at some);
     }
 
 -- each section lies in the file
@@ -125,12 +125,12 @@ section-lies b bodies i w lt full some =
     let s = nth_section b i in
     let was_full = sym (empty-same s (nth_section (with_bodies b bodies) i) (head-same b bodies i w lt).kind) ∙ full in
     elim (cases_Bool (is_fixed b s)) [
-      inl stays ↦
-        let moves : (part_of b bodies i).moves ≡ false = part-moves b bodies i ∙ fixed-stays (is_empty_kind s) (is_fixed b s) stays in
-        let same = head-stays b bodies i w lt moves in
-        subst (λ (t : Section). t.offset + t.size ≤ length (with_bodies b bodies)) (sym same)
-        (stays-lies b bodies i w lt stays was_full (λ none. some (ap (λ (t : Section). t.size) same ∙ none)))
-    | inr free ↦ moves-lies b bodies i w lt (part-moves b bodies i ∙ full-moves (is_empty_kind s) (is_fixed b s) was_full free)
+      | inl stays ↦
+          let moves : (part_of b bodies i).moves ≡ false = part-moves b bodies i ∙ fixed-stays (is_empty_kind s) (is_fixed b s) stays in
+          let same = head-stays b bodies i w lt moves in
+          subst (λ (t : Section). t.offset + t.size ≤ length (with_bodies b bodies)) (sym same)
+          (stays-lies b bodies i w lt stays was_full (λ none. some (ap (λ (t : Section). t.size) same ∙ none)))
+      | inr free ↦ moves-lies b bodies i w lt (part-moves b bodies i ∙ full-moves (is_empty_kind s) (is_fixed b s) was_full free)
     ]
 
 -- the section name table holds the body that was given for it
@@ -151,8 +151,8 @@ section-reads b bodies i w names lt =
         align = λ some. subst (λ (m : ℕ). is_power_of_two m ≡ true) (sym same.align) (was.place.align (λ none. some (same.align ∙ none)));
       };
       name = λ some.
-        let there : name_index b ≢ 0 = rw n at some in
-        rw (name_table-is b bodies w there, same.name) (names.ends i lt there);
+          let there : name_index b ≢ 0 = rw n at some in
+          rw (name_table-is b bodies w there, same.name) (names.ends i lt there);
     }
 
 segments-read : (b : List ℕ) (bodies : ℕ → List ℕ) → IsWritten b bodies → is_known_kind b ≡ true → SegmentsRead (with_bodies b bodies)
@@ -160,13 +160,13 @@ segments-read b bodies w known =
     let size = lengths b bodies w in
     record {
       all = λ i lt_out.
-        let lt : i < e_phnum b = rw (e_phnum-same b bodies w) at lt_out in
-        elim (segments-by b w.reads known) [
-          inl none ↦ absurd (omega arith)
-        | inr loaded ↦
-            subst (λ (s : Segment). SegmentReads (with_bodies b bodies) s) (sym (segment-same b bodies i w known lt))
-            (record { lies = λ some. let ends = segment-fixed b i loaded lt some in omega arith; })
-        ];
+          let lt : i < e_phnum b = rw (e_phnum-same b bodies w) at lt_out in
+          elim (segments-by b w.reads known) [
+            | inl none ↦ absurd (omega arith)
+            | inr loaded ↦
+                subst (λ (s : Segment). SegmentReads (with_bodies b bodies) s) (sym (segment-same b bodies i w known lt))
+                (record { lies = λ some. let ends = segment-fixed b i loaded lt some in omega arith })
+          ];
     }
 
 pub elf-reads : (b : List ℕ) (bodies : ℕ → List ℕ) → IsWritten b bodies → is_known_kind b ≡ true → NamesEnd b bodies → ElfReads (with_bodies b bodies)
@@ -213,8 +213,8 @@ shoff-in_front b =
 front-small : (b : List ℕ) (n k : ℕ) → ((j : ℕ) → slice_index b j < 256) → slice_index (take n b) k < 256
 front-small b n k bytes =
     elim (cases_lt k n) [
-      inl below ↦ rw (get_or-take n b k 0 below) (bytes k)
-    | inr past ↦ let none = get_or_past (take n b) k 0 (let size = length-take n b in omega arith) in rw none (omega arith)
+      | inl below ↦ rw (get_or-take n b k 0 below) (bytes k)
+      | inr past ↦ let none = get_or_past (take n b) k 0 (let size = length-take n b in omega arith) in rw none (omega arith)
     ]
 
 bare-front : (b : List ℕ) → DebugReads b → SegmentsRead b → ((k : ℕ) → slice_index b k < 256)
@@ -224,7 +224,7 @@ bare-front b reads segments bytes =
     let header = fixed_end-header b in
     let long = length-take-le (fixed_end b) b (fixed_end-within b reads segments) in
     rw (sym (shoff-in_front b)) (sym (with_number-same (order_of b) (take (fixed_end b) b) (shoff_place (class_of b)) (word_size (class_of b))
-        (λ k. front-small b (fixed_end b) k bytes) (omega arith)))
+    (λ k. front-small b (fixed_end b) k bytes) (omega arith)))
 
 bare-reads_back : (b : List ℕ) (bodies : ℕ → List ℕ) → section_count b ≡ 0 → DebugReads b → SegmentsRead b → ((k : ℕ) → slice_index b k < 256) → ReadsBack b bodies b
 bare-reads_back b bodies none reads segments bytes = record {
@@ -247,6 +247,6 @@ pub reads_back : (b : List ℕ) (bodies : ℕ → List ℕ) → DebugReads b →
     → ReadsBack b bodies (with_bodies b bodies)
 reads_back b bodies reads segments fit none bytes =
     elim (cases_eq (section_count b) 0) [
-      inl bare ↦ subst (λ (out : List ℕ). ReadsBack b bodies out) (sym (bare-is b bodies bare)) (bare-reads_back b bodies bare reads segments bytes)
-    | inr some ↦ written-reads_back b bodies (record { reads = reads; segments = segments; some = some; fit = fit; none = none; bytes = bytes })
+      | inl bare ↦ subst (λ (out : List ℕ). ReadsBack b bodies out) (sym (bare-is b bodies bare)) (bare-reads_back b bodies bare reads segments bytes)
+      | inr some ↦ written-reads_back b bodies (record { reads = reads; segments = segments; some = some; fit = fit; none = none; bytes = bytes })
     ]

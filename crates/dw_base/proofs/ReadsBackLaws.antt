@@ -31,7 +31,7 @@ unfolding with_number
 with_number-same o bytes at n small inside =
     rw (number_bytes-spelled o bytes at n small inside, append_assoc)
     (let behind : take n (drop at bytes) ++ drop (at + n) bytes ≡ drop at bytes =
-        ap (λ (ys : List ℕ). take n (drop at bytes) ++ ys) (sym (drop-drop n at bytes)) ∙ take-append-drop n (drop at bytes) in
+    ap (λ (ys : List ℕ). take n (drop at bytes) ++ ys) (sym (drop-drop n at bytes)) ∙ take-append-drop n (drop at bytes) in
     rw behind (take-append-drop at bytes))
 
 -- a number that was put stands there, byte for byte
@@ -52,15 +52,15 @@ pub put-byte : (o : Order) (xs ys : List ℕ) (at n x k : ℕ) → at + n ≤ le
     → slice_index (with_number o xs at n x) k ≡ slice_index (with_number o ys at n x) k
 put-byte o xs ys at n x k in_xs in_ys same =
     elim (cases_lt k at) [
-      inl before ↦ with_number-kept o xs at n x k in_xs (inl before) ∙ same ∙ sym (with_number-kept o ys at n x k in_ys (inl before))
-    | inr behind ↦
-        elim (cases_lt k (at + n)) [
-          inl here ↦
-            let split : k ≡ at + (k - at) = omega arith in
-            let below : k - at < n = omega arith in
-            rw split (with_number-byte o xs at n x (k - at) in_xs below ∙ sym (with_number-byte o ys at n x (k - at) in_ys below))
-        | inr past ↦ with_number-kept o xs at n x k in_xs (inr past) ∙ same ∙ sym (with_number-kept o ys at n x k in_ys (inr past))
-        ]
+      | inl before ↦ with_number-kept o xs at n x k in_xs (inl before) ∙ same ∙ sym (with_number-kept o ys at n x k in_ys (inl before))
+      | inr behind ↦
+          elim (cases_lt k (at + n)) [
+            | inl here ↦
+                let split : k ≡ at + (k - at) = omega arith in
+                let below : k - at < n = omega arith in
+                rw split (with_number-byte o xs at n x (k - at) in_xs below ∙ sym (with_number-byte o ys at n x (k - at) in_ys below))
+            | inr past ↦ with_number-kept o xs at n x k in_xs (inr past) ∙ same ∙ sym (with_number-kept o ys at n x k in_ys (inr past))
+          ]
     ]
 
 -- what stands before the fixed end is as it was, but for the place of the section headers
@@ -82,7 +82,7 @@ front-byte b bodies k w lt =
     let both = length-append (before_table (class_of b) (laid_of b bodies)) (shdrs_bytes (class_of b) (order_of b) (heads_of b bodies)) in
     rw (out-is b bodies w.some)
     (put-byte (order_of b) (before_table (class_of b) (laid_of b bodies) ++ shdrs_bytes (class_of b) (order_of b) (heads_of b bodies)) (front_of b)
-        (shoff_place (class_of b)) (word_size (class_of b)) (table_of b bodies) k (omega arith) (omega arith) (with_table-kept b bodies k w lt))
+    (shoff_place (class_of b)) (word_size (class_of b)) (table_of b bodies) k (omega arith) (omega arith) (with_table-kept b bodies k w lt))
 
 pub front-is : (b : List ℕ) (bodies : ℕ → List ℕ) → IsWritten b bodies
     → take (fixed_end b) (with_bodies b bodies)
@@ -92,11 +92,11 @@ front-is b bodies w =
     let within = shoff_place-within (class_of b) in
     let new : List ℕ = with_number (order_of b) (front_of b) (shoff_place (class_of b)) (word_size (class_of b)) (table_of b bodies) in
     let long : length new ≡ fixed_end b =
-        length-with_number (order_of b) (front_of b) (shoff_place (class_of b)) (word_size (class_of b)) (table_of b bodies) (omega arith) ∙ size.front in
+    length-with_number (order_of b) (front_of b) (shoff_place (class_of b)) (word_size (class_of b)) (table_of b bodies) (omega arith) ∙ size.front in
     rw (e_shoff-is b bodies w)
     (ap (λ (n : ℕ). take n (with_bodies b bodies)) (sym long)
     ∙ part-is (with_bodies b bodies) new 0 (omega arith)
-        (λ k lt. let none : 0 + k ≡ k = omega arith in rw none (front-byte b bodies k w (omega arith))))
+    (λ k lt. let none : 0 + k ≡ k = omega arith in rw none (front-byte b bodies k w (omega arith))))
 
 eq-is : (m n : ℕ) → (m == n) ≡ true → m ≡ n
 eq-is m n h = grind arith
@@ -105,8 +105,8 @@ eq-is m n h = grind arith
 pub segments-by : (b : List ℕ) → DebugReads b → is_known_kind b ≡ true → (e_phnum b ≡ 0) ⊎ (is_loaded_kind b ≡ true)
 segments-by b reads known =
     elim (or_cases (e_type b == ET_REL) (is_loaded_kind b) known) [
-      inl rel ↦ inl (reads.shape.rel (eq-is (e_type b) ET_REL rel))
-    | inr loaded ↦ inr loaded
+      | inl rel ↦ inl (reads.shape.rel (eq-is (e_type b) ET_REL rel))
+      | inr loaded ↦ inr loaded
     ]
 
 -- and lie before the fixed end
@@ -119,16 +119,16 @@ unfolding nth_segment
 segment-same b bodies i w known lt =
     let c = class_of b in
     elim (segments-by b w.reads known) [
-      inl none ↦ absurd (omega arith)
-    | inr loaded ↦
-        let some : e_phnum b ≢ 0 = λ none. omega arith in
-        let sections = w.some in
-        let lie = record_place (e_phoff b) i (e_phnum b) (phdr_size c) (fixed_end b) lt (segments-lie b loaded some) in
-        let header = w.reads.shape.phoff (e_shoff-some b 0 (omega arith)) some in
-        let within = shoff_place-within c in
-        rw (class-same b bodies w, order-same b bodies w, e_phoff-same b bodies w)
-        (segment_at-ext c (order_of b) (with_bodies b bodies) b (e_phoff b + i * phdr_size c) (e_phoff b + i * phdr_size c)
-            (λ k inside. out-kept b bodies (e_phoff b + i * phdr_size c + k) w (omega arith) (inr (omega arith))))
+      | inl none ↦ absurd (omega arith)
+      | inr loaded ↦
+          let some : e_phnum b ≢ 0 = λ none. omega arith in
+          let sections = w.some in
+          let lie = record_place (e_phoff b) i (e_phnum b) (phdr_size c) (fixed_end b) lt (segments-lie b loaded some) in
+          let header = w.reads.shape.phoff (e_shoff-some b 0 (omega arith)) some in
+          let within = shoff_place-within c in
+          rw (class-same b bodies w, order-same b bodies w, e_phoff-same b bodies w)
+          (segment_at-ext c (order_of b) (with_bodies b bodies) b (e_phoff b + i * phdr_size c) (e_phoff b + i * phdr_size c)
+          (λ k inside. out-kept b bodies (e_phoff b + i * phdr_size c + k) w (omega arith) (inr (omega arith))))
     ]
 
 pub tabulate-ext : {X : Type 0} (f g : ℕ → X) (n : ℕ) → ((i : ℕ) → i < n → f i ≡ g i) → tabulate f n ≡ tabulate g n

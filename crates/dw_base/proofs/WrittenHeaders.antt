@@ -41,14 +41,36 @@ pub record HeaderPlaces (c : Class) : Type 0 where
 
 pub header_places : (c : Class) → HeaderPlaces c
 header_places C32 = record {
-  least = omega arith; shoff = omega arith; phoff = omega arith; phentsize = omega arith; phentsize_in = omega arith; phnum = omega arith;
-  phnum_in = omega arith; shentsize = omega arith; shentsize_in = omega arith; shnum = omega arith; shnum_in = omega arith;
-  shstrndx = omega arith; shstrndx_in = omega arith; shoff_in = omega arith;
+  least = omega arith;
+  shoff = omega arith;
+  phoff = omega arith;
+  phentsize = omega arith;
+  phentsize_in = omega arith;
+  phnum = omega arith;
+  phnum_in = omega arith;
+  shentsize = omega arith;
+  shentsize_in = omega arith;
+  shnum = omega arith;
+  shnum_in = omega arith;
+  shstrndx = omega arith;
+  shstrndx_in = omega arith;
+  shoff_in = omega arith;
 }
 header_places C64 = record {
-  least = omega arith; shoff = omega arith; phoff = omega arith; phentsize = omega arith; phentsize_in = omega arith; phnum = omega arith;
-  phnum_in = omega arith; shentsize = omega arith; shentsize_in = omega arith; shnum = omega arith; shnum_in = omega arith;
-  shstrndx = omega arith; shstrndx_in = omega arith; shoff_in = omega arith;
+  least = omega arith;
+  shoff = omega arith;
+  phoff = omega arith;
+  phentsize = omega arith;
+  phentsize_in = omega arith;
+  phnum = omega arith;
+  phnum_in = omega arith;
+  shentsize = omega arith;
+  shentsize_in = omega arith;
+  shnum = omega arith;
+  shnum_in = omega arith;
+  shstrndx = omega arith;
+  shstrndx_in = omega arith;
+  shoff_in = omega arith;
 }
 
 -- class and byte order are as they were
@@ -124,8 +146,8 @@ e_phoff-same b bodies w =
 pub out-small : (b : List ℕ) (bodies : ℕ → List ℕ) → IsWritten b bodies → length (with_bodies b bodies) ≤ output_limit
 out-small b bodies w =
     elim (cases_lt output_limit (length (with_bodies b bodies))) [
-      inl passes ↦ absurd (w.fit _ (large (long passes)))
-    | inr small ↦ small
+      | inl passes ↦ absurd (w.fit _ (large (long passes)))
+      | inr small ↦ small
     ]
 
 -- where the section headers stand
@@ -153,7 +175,7 @@ lengths b bodies w =
     let longer = laid-longer (front_of b) (parts_of b bodies) in
     let before = length-before_table (class_of b) (laid_of b bodies) in
     let count : length (heads_of b bodies) ≡ section_count b =
-        length-new_heads (front_of b) (parts_of b bodies) ∙ length-tabulate _ (section_count b) in
+    length-new_heads (front_of b) (parts_of b bodies) ∙ length-tabulate _ (section_count b) in
     record {
       front = front;
       header = header;
@@ -161,8 +183,8 @@ lengths b bodies w =
       table = omega arith;
       heads = count;
       out = rw (out-is b bodies w.some)
-        (length-with_table (class_of b) (order_of b) (laid_of b bodies) (heads_of b bodies) (omega arith)
-        ∙ rw (count, sym before) refl);
+          (length-with_table (class_of b) (order_of b) (laid_of b bodies) (heads_of b bodies) (omega arith)
+          ∙ rw (count, sym before) refl);
       small = out-small b bodies w;
     }
 
@@ -175,4 +197,4 @@ e_shoff-is b bodies w =
     let both = length-append (before_table (class_of b) (laid_of b bodies)) (shdrs_bytes (class_of b) (order_of b) (heads_of b bodies)) in
     rw (class-same b bodies w, order-same b bodies w, out-is b bodies w.some)
     (spelled-with_number (order_of b) (before_table (class_of b) (laid_of b bodies) ++ shdrs_bytes (class_of b) (order_of b) (heads_of b bodies))
-        (shoff_place (class_of b)) (word_size (class_of b)) (table_of b bodies) (omega arith) (limit-fits (class_of b) (table_of b bodies) (omega arith)))
+    (shoff_place (class_of b)) (word_size (class_of b)) (table_of b bodies) (omega arith) (limit-fits (class_of b) (table_of b bodies) (omega arith)))

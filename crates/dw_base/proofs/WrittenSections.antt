@@ -33,12 +33,12 @@ new_heads-at out f (suc n) i d lt =
     let last = new_head (length (laid out (tabulate f n))) (f n) in
     ap (λ (hs : List Section). get_or hs i d) (new_heads-append out (tabulate f n) (f n ∷ []))
     ∙ elim (cases_lt i n) [
-        inl below ↦ get_or_append_left (new_heads out (tabulate f n)) (last ∷ []) d i (omega arith) ∙ new_heads-at out f n i d below
+      | inl below ↦ get_or_append_left (new_heads out (tabulate f n)) (last ∷ []) d i (omega arith) ∙ new_heads-at out f n i d below
       | inr above ↦
           let same : n ≡ i = omega arith in
           subst (λ (k : ℕ). get_or (new_heads out (tabulate f n) ++ last ∷ []) k d ≡ new_head (length (laid out (tabulate f k))) (f k)) same
-              (get_or_push (new_heads out (tabulate f n)) last d n count)
-      ]
+          (get_or_push (new_heads out (tabulate f n)) last d n count)
+    ]
 
 -- a new header fits its fields
 pub new_head-fits : (c : Class) (place : ℕ) (p : Part) → FieldsFit (shdr_fields c p.head)
@@ -46,12 +46,12 @@ pub new_head-fits : (c : Class) (place : ℕ) (p : Part) → FieldsFit (shdr_fie
 unfolding new_head
 new_head-fits c place p fit small =
     elim p.moves as (λ (m : Bool). (m ≡ true → place + padding place p.head.align + length p.body ≤ output_limit)
-        → FieldsFit (shdr_fields c (if m then record p.head { offset = place + padding place p.head.align; size = length p.body } else p.head))) [
-      true ↦ λ le.
-        let room = le refl in
-        moved-fits c p.head (place + padding place p.head.align) (length p.body) fit
-            (limit-fits c (place + padding place p.head.align) (omega arith)) (limit-fits c (length p.body) (omega arith))
-    | false ↦ λ le. fit
+    → FieldsFit (shdr_fields c (if m then record p.head { offset = place + padding place p.head.align; size = length p.body } else p.head))) [
+      | true ↦ λ le.
+          let room = le refl in
+          moved-fits c p.head (place + padding place p.head.align) (length p.body) fit
+          (limit-fits c (place + padding place p.head.align) (omega arith)) (limit-fits c (length p.body) (omega arith))
+      | false ↦ λ le. fit
     ] small
 
 -- a section that moves takes its padding and its body
@@ -80,12 +80,12 @@ pub laid_tabulate-kept : (out : List ℕ) (f : ℕ → Part) (i n k : ℕ) → i
 laid_tabulate-kept out f i zero k le lt = let e : zero ≡ i = omega arith in subst (λ (j : ℕ). slice_index out k ≡ slice_index (laid out (tabulate f j)) k) e refl
 laid_tabulate-kept out f i (suc n) k le lt =
     elim (cases_lt n i) [
-      inl above ↦ let e : suc n ≡ i = omega arith in subst (λ (j : ℕ). slice_index (laid out (tabulate f (suc n))) k ≡ slice_index (laid out (tabulate f j)) k) e refl
-    | inr below ↦
-        let before = laid_tabulate-longer out f i n below in
-        ap (λ (xs : List ℕ). slice_index xs k) (laid-append out (tabulate f n) (f n ∷ []))
-        ∙ extended-kept (laid out (tabulate f n)) (f n) k (omega arith)
-        ∙ laid_tabulate-kept out f i n k below lt
+      | inl above ↦ let e : suc n ≡ i = omega arith in subst (λ (j : ℕ). slice_index (laid out (tabulate f (suc n))) k ≡ slice_index (laid out (tabulate f j)) k) e refl
+      | inr below ↦
+          let before = laid_tabulate-longer out f i n below in
+          ap (λ (xs : List ℕ). slice_index xs k) (laid-append out (tabulate f n) (f n ∷ []))
+          ∙ extended-kept (laid out (tabulate f n)) (f n) k (omega arith)
+          ∙ laid_tabulate-kept out f i n k below lt
     ]
 
 -- what is laid in front of a section, of a number
@@ -136,11 +136,11 @@ nth-is b bodies i w lt =
     let stands : get_or (heads_of b bodies) i head ≡ head = new_heads-at (front_of b) (part_of b bodies) (section_count b) i head lt in
     rw (class-same b bodies w, order-same b bodies w, e_shoff-is b bodies w)
     (section_at-ext c o (with_bodies b bodies) (shdr_bytes c o head ++ []) (table_of b bodies + i * shdr_size c) 0
-        (λ k inside.
-            let split : table_of b bodies + i * shdr_size c + k ≡ table_of b bodies + (i * shdr_size c + k) = omega arith in
-            let none : 0 + k ≡ k = omega arith in
-            rw (split, none, append-nil (shdr_bytes c o head), out-is b bodies w.some)
-            (with_table-table c o (laid_of b bodies) (heads_of b bodies) (i * shdr_size c + k) (omega arith)
-            ∙ shdrs_bytes-at c o (heads_of b bodies) i k head (omega arith) inside
-            ∙ ap (λ (s : Section). slice_index (shdr_bytes c o s) k) stands))
+    (λ k inside.
+    let split : table_of b bodies + i * shdr_size c + k ≡ table_of b bodies + (i * shdr_size c + k) = omega arith in
+    let none : 0 + k ≡ k = omega arith in
+    rw (split, none, append-nil (shdr_bytes c o head), out-is b bodies w.some)
+    (with_table-table c o (laid_of b bodies) (heads_of b bodies) (i * shdr_size c + k) (omega arith)
+    ∙ shdrs_bytes-at c o (heads_of b bodies) i k head (omega arith) inside
+    ∙ ap (λ (s : Section). slice_index (shdr_bytes c o s) k) stands))
     ∙ section_back c o head [] (new-fits b bodies i w lt))

@@ -21,5 +21,3 @@ pub mod Output
 pub mod First
 pub mod PlainReading
 pub mod PlainFirst
-pub mod LayoutFails
-pub mod LayoutReads

@@ -54,9 +54,9 @@ pub record FitParts (class : Class) (order : Order) (front : List ℕ) (parts : 
   pub null : (d : Part) → (slice_index_or parts 0 d).head.kind ≡ SHT_NULL
   pub fields : (i : ℕ) (d : Part) → i < length parts → FieldsFit (shdr_fields class (slice_index_or parts i d).head)
   pub behind : (i : ℕ) (d : Part) → i < length parts → (slice_index_or parts i d).moves ≡ false → is_empty_kind (slice_index_or parts i d).head ≡ false
-    → (slice_index_or parts i d).head.size ≢ 0 → ehdr_size class ≤ (slice_index_or parts i d).head.offset
+      → (slice_index_or parts i d).head.size ≢ 0 → ehdr_size class ≤ (slice_index_or parts i d).head.offset
   pub lie : (i : ℕ) (d : Part) → i < length parts → (slice_index_or parts i d).moves ≡ false → is_empty_kind (slice_index_or parts i d).head ≡ false
-    → (slice_index_or parts i d).head.size ≢ 0 → (slice_index_or parts i d).head.offset + (slice_index_or parts i d).head.size ≤ length front
+      → (slice_index_or parts i d).head.size ≢ 0 → (slice_index_or parts i d).head.offset + (slice_index_or parts i d).head.size ≤ length front
 
 -- the header of the part of a number is its head, but for size and link of part 0, and place and size of one that is laid
 -- out anew
@@ -82,4 +82,4 @@ pub record PartsReadBack (class : Class) (order : Order) (front : List ℕ) (par
   pub heads : (i : ℕ) (d : Part) → i < length parts → IsPartHead i (slice_index_or parts i d) (nth_section out i)
   pub contents : (i : ℕ) (d : Part) → i < length parts → contents_of out i ≡ part_contents front (slice_index_or parts i d)
   pub front_is : take (length front) out
-    ≡ with_number order (numbered_front class order front (length parts) names) (shoff_place class) (word_size class) (e_shoff out)
+      ≡ with_number order (numbered_front class order front (length parts) names) (shoff_place class) (word_size class) (e_shoff out)

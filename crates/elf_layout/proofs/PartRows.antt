@@ -100,7 +100,7 @@ unfolding numbered_front
 front-numbered c o front count names header =
     let first = length-with_number o front (shnum_place c) 2 (in_header 0 count) (shnum-inside c (length front) header) in
     let second = length-with_number o (with_number o front (shnum_place c) 2 (in_header 0 count)) (shstrndx_place c) 2 (in_header SHN_XINDEX names)
-        (shstrndx-inside c (length (with_number o front (shnum_place c) 2 (in_header 0 count))) (rw first header)) in
+    (shstrndx-inside c (length (with_number o front (shnum_place c) 2 (in_header 0 count))) (rw first header)) in
     second ∙ first
 
 pub long_front : (c : Class) (o : Order) (front : List ℕ) (count names : ℕ) (ps : List Part) → ehdr_size c ≤ length front → output_limit < length front

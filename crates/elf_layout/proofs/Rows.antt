@@ -93,7 +93,7 @@ long_laid out so_far f i n (Refused r) same lt blamed =
     let step = laid-append out (tabulate f i) (f i ∷ []) in
     let more = laid_tabulate-longer out f (suc i) n (omega arith) in
     too_long-more (length (extended (laid out (tabulate f i)) (f i))) (length (laid out (tabulate f n))) r (rw step at more)
-        (rw same at blamed)
+    (rw same at blamed)
 
 pub ruleset laid_rows = (laid-next, new_heads-next, long_laid)
 

@@ -65,7 +65,12 @@ fn changes(elf: &ElfFile, end: u64, contents: &[Option<Vec<u8>>], section: u32) 
 /// A section can be written. Refused as `Fixed` at (its number, 0) exactly where it lies across the
 /// fixed end, begins in the file header, or stays and is given other bytes than it has.
 #[tactic(auto, using(crate::proofs::Rows::stays_rows))]
-fn section_fits(elf: &ElfFile, end: u64, contents: &[Option<Vec<u8>>], section: u32) -> Result<(), Refusal>
+fn section_fits(
+    elf: &ElfFile,
+    end: u64,
+    contents: &[Option<Vec<u8>>],
+    section: u32,
+) -> Result<(), Refusal>
     requires end { end ≡ fixed_end elf.now.bytes.now }
     requires there { section < section_count elf.now.bytes.now }
     requires contents { AreContents elf.now.bytes.now contents.now }
@@ -75,13 +80,25 @@ fn section_fits(elf: &ElfFile, end: u64, contents: &[Option<Vec<u8>>], section: 
 {
     let head = head_of(elf, section);
     if lies_across(elf, end, &head) {
-        return Err(Refusal { kind: Kind::Fixed, section, offset: 0 });
+        return Err(Refusal {
+            kind: Kind::Fixed,
+            section,
+            offset: 0,
+        });
     }
     if begins_in_header(elf, &head) {
-        return Err(Refusal { kind: Kind::Fixed, section, offset: 0 });
+        return Err(Refusal {
+            kind: Kind::Fixed,
+            section,
+            offset: 0,
+        });
     }
     if changes(elf, end, contents, section) {
-        return Err(Refusal { kind: Kind::Fixed, section, offset: 0 });
+        return Err(Refusal {
+            kind: Kind::Fixed,
+            section,
+            offset: 0,
+        });
     }
     Ok(())
 }
@@ -158,7 +175,12 @@ fn lay_sections(
 
 /// The file of the front up to the fixed end, the sections that move, and the new headers.
 #[tactic(auto, using(crate::proofs::Rows::file_rows), unfolding(dw_base::specs::Layout::laid_out))]
-fn lay_out(alloc: Global, elf: &ElfFile, end: u64, contents: &[Option<Vec<u8>>]) -> Result<Vec<u8>, Fault>
+fn lay_out(
+    alloc: Global,
+    elf: &ElfFile,
+    end: u64,
+    contents: &[Option<Vec<u8>>],
+) -> Result<Vec<u8>, Fault>
     requires end { end ≡ fixed_end elf.now.bytes.now }
     requires header { ehdr_size elf.now.class ≤ end }
     requires within { end ≤ length elf.now.bytes.now }
@@ -176,7 +198,12 @@ fn lay_out(alloc: Global, elf: &ElfFile, end: u64, contents: &[Option<Vec<u8>>])
 
 /// What `emit` gives, for a file of these bytes.
 #[tactic(auto, using(crate::proofs::Rows::emit_rows), unfolding(dw_base::specs::Layout::with_bodies))]
-fn written(alloc: Global, bytes: &[u8], elf: &ElfFile, contents: &[Option<Vec<u8>>]) -> Result<Vec<u8>, Fault>
+fn written(
+    alloc: Global,
+    bytes: &[u8],
+    elf: &ElfFile,
+    contents: &[Option<Vec<u8>>],
+) -> Result<Vec<u8>, Fault>
     requires bytes { bytes.now ≡ elf.now.bytes.now }
     requires segments { SegmentsRead bytes.now }
     requires contents { AreContents bytes.now contents.now }

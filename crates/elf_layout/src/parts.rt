@@ -25,7 +25,11 @@ use std::alloc::{AllocError, Global};
 fn in_section_0(number: u64) -> u64
     ensures { result ≡ in_section_0 number }
 {
-    if number < u64::from(SHN_LORESERVE) { 0 } else { number }
+    if number < u64::from(SHN_LORESERVE) {
+        0
+    } else {
+        number
+    }
 }
 
 /// What the file header has of a number; `elsewhere` stands there for one that is kept in section 0.
@@ -33,7 +37,11 @@ fn in_header(elsewhere: u16, number: u64) -> u64
     ensures value { result ≡ in_header elsewhere number }
     ensures fits { result < 256 ^ 2 }
 {
-    if number < u64::from(SHN_LORESERVE) { number } else { u64::from(elsewhere) }
+    if number < u64::from(SHN_LORESERVE) {
+        number
+    } else {
+        u64::from(elsewhere)
+    }
 }
 
 /// Where the number of sections, and that of the section name table behind it, stand in the file header.
@@ -52,8 +60,16 @@ fn shnum_place(class: Class) -> u64
 fn numbered_head(head: &Section, count: u64, names: u32) -> Section
     ensures { result ≡ numbered_head count names head.now }
 {
-    let link = if u64::from(names) < u64::from(SHN_LORESERVE) { 0 } else { names };
-    Section { size: in_section_0(count), link, ..*head }
+    let link = if u64::from(names) < u64::from(SHN_LORESERVE) {
+        0
+    } else {
+        names
+    };
+    Section {
+        size: in_section_0(count),
+        link,
+        ..*head
+    }
 }
 
 /// Puts the number of sections and that of the section name table into the file header.
@@ -65,7 +81,13 @@ fn put_numbers(front: &mut [u8], class: Class, order: Order, count: u64, names: 
     let place = shnum_place(class);
     let counted = put_number(order, front, place, 2, in_header(0, count));
     prove!(counted);
-    let named = put_number(order, front, place + 2, 2, in_header(SHN_XINDEX, u64::from(names)));
+    let named = put_number(
+        order,
+        front,
+        place + 2,
+        2,
+        in_header(SHN_XINDEX, u64::from(names)),
+    );
     prove!(named);
 }
 
@@ -121,7 +143,12 @@ fn numbered_front(
 
 /// Lays out parts, of which the first is section 0; the new headers of all.
 #[tactic(auto, using(crate::proofs::PartRows::first_rows))]
-fn lay_all(alloc: Global, parts: &[Part], names: u32, out: &mut Vec<u8>) -> Result<Vec<Section>, Fault>
+fn lay_all(
+    alloc: Global,
+    parts: &[Part],
+    names: u32,
+    out: &mut Vec<u8>,
+) -> Result<Vec<Section>, Fault>
     requires some { 0 < length parts.now }
     requires null { (d : GivenPart) → (slice_index_or parts.now 0 d).head.kind ≡ SHT_NULL }
     requires small { vec_len out.old ≤ output_limit }
@@ -139,7 +166,13 @@ fn lay_all(alloc: Global, parts: &[Part], names: u32, out: &mut Vec<u8>) -> Resu
 
 /// What `write_parts` gives, byte for byte.
 #[tactic(auto, using(crate::proofs::PartRows::file_rows), unfolding(dw_base::specs::Parts::parts_file, dw_base::specs::Layout::laid_out))]
-fn written(alloc: Global, elf: &ElfFile, front: &[u8], parts: &[Part], names: u32) -> Result<Vec<u8>, Fault>
+fn written(
+    alloc: Global,
+    elf: &ElfFile,
+    front: &[u8],
+    parts: &[Part],
+    names: u32,
+) -> Result<Vec<u8>, Fault>
     requires parts { ArePartsFor elf.now.class front.now parts.now }
     ensures file { IfOk result (λ file. file.items ≡ parts_file elf.now.class elf.now.order front.now (parts_given parts.now) names) }
     ensures small { IfOk result (λ file. length file.items ≤ output_limit) }
@@ -160,7 +193,13 @@ fn written(alloc: Global, elf: &ElfFile, front: &[u8], parts: &[Part], names: u3
 /// The file of a front and parts: the front, with the numbers of sections and of the section name table
 /// in its file header, the parts that are neither kept nor of type NULL or NOBITS, and the headers of
 /// all. Its sections read back as the parts, where these fit one another. Refused as `TooLarge` only where it would pass the limit; else it is written, or memory is short.
-pub fn write_parts(alloc: Global, elf: &ElfFile, front: &[u8], parts: &[Part], names: u32) -> Result<Vec<u8>, Fault>
+pub fn write_parts(
+    alloc: Global,
+    elf: &ElfFile,
+    front: &[u8],
+    parts: &[Part],
+    names: u32,
+) -> Result<Vec<u8>, Fault>
     requires parts { ArePartsFor elf.now.class front.now parts.now }
     ensures file { IfOk result (λ file. file.items ≡ parts_file elf.now.class elf.now.order front.now (parts_given parts.now) names) }
     ensures reads_back { IfOk result (λ file. FitParts elf.now.class elf.now.order front.now (parts_given parts.now) names

@@ -6,7 +6,10 @@ ghost use Rattle.elf_layout.specs.Given.{AreContents};
 
 use crate::bodies::{emit, head_of, section_count};
 use crate::fixed::takes_no_room;
-use crate::fixtures::{BARE, BIG, BIG_SHORTER, KINDS, KINDS_BEHIND, KINDS_FRONT, LOADED, LOADED_LONGER, OVERLAP, OVERLAP_APART, PARTS, PARTS_FRONT};
+use crate::fixtures::{
+    BARE, BIG, BIG_SHORTER, KINDS, KINDS_BEHIND, KINDS_FRONT, LOADED, LOADED_LONGER, OVERLAP,
+    OVERLAP_APART, PARTS, PARTS_FRONT,
+};
 use crate::part::Part;
 use crate::parts::write_parts;
 use dw_base::elf_numbers::SHT_NULL;
@@ -16,7 +19,12 @@ use std::alloc::{AllocError, Global};
 use std::test::Fail;
 
 /// The item of a section: a body, where it takes room and one is given.
-fn item_for(alloc: Global, head: &Section, given: bool, body: &[u8]) -> Result<Option<Vec<u8>>, AllocError>
+fn item_for(
+    alloc: Global,
+    head: &Section,
+    given: bool,
+    body: &[u8],
+) -> Result<Option<Vec<u8>>, AllocError>
     ensures none { IfOk result (λ item. is_empty_kind head.now ≡ true → item ≡ None) }
 {
     if takes_no_room(head) {
@@ -30,7 +38,12 @@ fn item_for(alloc: Global, head: &Section, given: bool, body: &[u8]) -> Result<O
 }
 
 /// The items of all sections, of which one is given a body.
-fn contents_with(alloc: Global, elf: &ElfFile, changed: u32, body: &[u8]) -> Result<Vec<Option<Vec<u8>>>, AllocError>
+fn contents_with(
+    alloc: Global,
+    elf: &ElfFile,
+    changed: u32,
+    body: &[u8],
+) -> Result<Vec<Option<Vec<u8>>>, AllocError>
     ensures items { IfOk result (λ items. AreContents elf.now.bytes.now items.items) }
 {
     let mut items = Vec::new(alloc);
@@ -51,7 +64,13 @@ fn emitted(alloc: Global, bytes: &[u8], changed: u32, body: &[u8]) -> Result<Vec
 }
 
 /// A file of parts, in the class and order of another; no memory where they are none.
-fn of_parts(alloc: Global, bytes: &[u8], front: &[u8], parts: &[Part], names: u32) -> Result<Vec<u8>, Fault> {
+fn of_parts(
+    alloc: Global,
+    bytes: &[u8],
+    front: &[u8],
+    parts: &[Part],
+    names: u32,
+) -> Result<Vec<u8>, Fault> {
     if bytes.len() > 0x8000_0000 || front.len() < 64 || parts.is_empty() {
         return Err(Fault::NoMemory);
     }
@@ -80,7 +99,18 @@ fn is_zero(file: &[u8], from: usize, to: usize) -> bool {
 
 /// A section header of a name, a type, a place, a size and an alignment.
 fn head(name: u32, kind: u32, offset: u64, size: u64, align: u64) -> Section {
-    Section { name, kind, flags: 0, addr: 0, offset, size, link: 0, info: 0, align, entry_size: 0 }
+    Section {
+        name,
+        kind,
+        flags: 0,
+        addr: 0,
+        offset,
+        size,
+        link: 0,
+        info: 0,
+        align,
+        entry_size: 0,
+    }
 }
 
 #[test]
@@ -94,9 +124,19 @@ fn a_loaded_part_stays_and_the_rest_moves_behind_it(rt: HostRuntime) -> Result<(
 fn a_loaded_section_keeps_its_own_bytes_alone(rt: HostRuntime) -> Result<(), Fail> {
     let same = emitted(rt.alloc(), &LOADED, 1, b"\x90\x90\x90\xc3")?;
     assert_eq!(rt; same.len(), LOADED.len());
-    let fixed = Fault::Refused(Refusal { kind: Kind::Fixed, section: 1, offset: 0 });
-    assert_eq!(rt; emitted(rt.alloc(), &LOADED, 1, b"\x90\x90\xc3\xc3").err(), Some(fixed));
-    assert_eq!(rt; emitted(rt.alloc(), &LOADED, 1, b"\x90\x90\x90").err(), Some(fixed));
+    let fixed = Fault::Refused(Refusal {
+        kind: Kind::Fixed,
+        section: 1,
+        offset: 0,
+    });
+    assert_eq!(rt;
+        emitted(rt.alloc(), &LOADED, 1, b"\x90\x90\xc3\xc3").err(),
+        Some(fixed)
+    );
+    assert_eq!(rt;
+        emitted(rt.alloc(), &LOADED, 1, b"\x90\x90\x90").err(),
+        Some(fixed)
+    );
     Ok(())
 }
 
@@ -136,10 +176,22 @@ fn parts_are_kept_or_laid_out(rt: HostRuntime) -> Result<(), Fail> {
     let mut parts = Vec::new(rt.alloc());
     let mut first = head(0, 0, 7, 9, 0);
     first.link = 3;
-    parts.push(Part { head: first, body: None, kept: false })?;
+    parts.push(Part {
+        head: first,
+        body: None,
+        kept: false,
+    })?;
     let body = Vec::from_slice(rt.alloc(), b"abc")?;
-    parts.push(Part { head: head(1, 1, 99, 99, 8), body: Some(body), kept: false })?;
-    parts.push(Part { head: head(4, 3, 52, 14, 1), body: None, kept: true })?;
+    parts.push(Part {
+        head: head(1, 1, 99, 99, 8),
+        body: Some(body),
+        kept: false,
+    })?;
+    parts.push(Part {
+        head: head(4, 3, 52, 14, 1),
+        body: None,
+        kept: true,
+    })?;
     let file = of_parts(rt.alloc(), &BIG, &PARTS_FRONT, &parts, 2)?;
     assert_eq!(rt; file.as_slice(), PARTS.as_slice());
     Ok(())
@@ -148,10 +200,25 @@ fn parts_are_kept_or_laid_out(rt: HostRuntime) -> Result<(), Fail> {
 #[test]
 fn an_alignment_that_passes_the_limit_is_refused_at_once(rt: HostRuntime) -> Result<(), Fail> {
     let mut parts = Vec::new(rt.alloc());
-    parts.push(Part { head: head(0, 0, 0, 0, 0), body: None, kept: false })?;
-    parts.push(Part { head: head(1, 1, 0, 0, 0x8000_0000_0000_0000), body: None, kept: false })?;
-    let large = Fault::Refused(Refusal { kind: Kind::TooLarge, section: 0, offset: 0 });
-    assert_eq!(rt; of_parts(rt.alloc(), &LOADED, &LOADED, &parts, 0).err(), Some(large));
+    parts.push(Part {
+        head: head(0, 0, 0, 0, 0),
+        body: None,
+        kept: false,
+    })?;
+    parts.push(Part {
+        head: head(1, 1, 0, 0, 0x8000_0000_0000_0000),
+        body: None,
+        kept: false,
+    })?;
+    let large = Fault::Refused(Refusal {
+        kind: Kind::TooLarge,
+        section: 0,
+        offset: 0,
+    });
+    assert_eq!(rt;
+        of_parts(rt.alloc(), &LOADED, &LOADED, &parts, 0).err(),
+        Some(large)
+    );
     Ok(())
 }
 
@@ -159,7 +226,11 @@ fn an_alignment_that_passes_the_limit_is_refused_at_once(rt: HostRuntime) -> Res
 fn many_parts_are_counted_in_section_0(rt: HostRuntime) -> Result<(), Fail> {
     let mut parts = Vec::new(rt.alloc());
     for _ in 0..0xff00 {
-        parts.push(Part { head: head(0, 0, 0, 0, 0), body: None, kept: false })?;
+        parts.push(Part {
+            head: head(0, 0, 0, 0, 0),
+            body: None,
+            kept: false,
+        })?;
     }
     let file = of_parts(rt.alloc(), &BIG, &PARTS_FRONT, &parts, 0xfeff)?;
     // The sections begin at the next multiple of 4 behind the front. `e_shnum` is 0, and `e_shstrndx` and

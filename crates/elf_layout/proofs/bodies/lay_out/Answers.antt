@@ -16,8 +16,8 @@ returns-in_err-heads-clause-refused c =
     let b = c.args.elf.now.bytes.now in
     let parts = tabulate (part_of b (body_given b c.args.contents.now)) (section_count b) in
     let long : ehdr_size c.args.elf.now.class ≤ length c.in_ok-out.out.items =
-        let header = c.requires.header in
-        rw (c.in_ok-out.ensures.items, length-take-le c.args.end b c.requires.within) header in
+    let header = c.requires.header in
+    rw (c.in_ok-out.ensures.items, length-take-le c.args.end b c.requires.within) header in
     rw (p.1, p.2)
     (long_with_table c.args.elf.now.class c.args.elf.now.order (take c.args.end b) c.in_ok-out.out.items parts _
-        c.in_ok-out.ensures.items long c.in_err-heads.ensures.refused)
+    c.in_ok-out.ensures.items long c.in_err-heads.ensures.refused)

@@ -13,5 +13,5 @@ returns-in_err-lay_part-clause-refused c =
     let parts = c.args.parts.now in
     rw (p.1, p.2)
     (long_parts c.loop-part.out.items (laid c.args.out.now.items (parts_given parts)) (part_given c.part-item.result) (parts_given (drop (i + 1) parts)) _
-        (laid-part c.loop-part.out.items (laid c.args.out.now.items (parts_given parts)) parts i c.part-item.result c.loop-part-test.true c.part-item.is c.loop-part.invariant.bytes)
-        c.in_err-lay_part.ensures.refused)
+    (laid-part c.loop-part.out.items (laid c.args.out.now.items (parts_given parts)) parts i c.part-item.result c.loop-part-test.true c.part-item.is c.loop-part.invariant.bytes)
+    c.in_err-lay_part.ensures.refused)

@@ -10,5 +10,5 @@ invariant-loop-part l = record {
   longer : vec_len l.initial.out ≤ vec_len l.out;
   bytes : laid l.out.items (parts_given (drop l.part-index l.parts)) ≡ laid l.initial.out.items (parts_given l.parts);
   heads : l.heads.items ++ new_heads l.out.items (parts_given (drop l.part-index l.parts))
-    ≡ l.initial.heads.items ++ new_heads l.initial.out.items (parts_given l.parts);
+      ≡ l.initial.heads.items ++ new_heads l.initial.out.items (parts_given l.parts);
 }

@@ -16,7 +16,7 @@ returns-clause-reads_back c =
     let names = c.args.names in
     let written = c.in_ok-file.ensures in
     let limit : length (parts_file class order front parts names) ≤ output_limit =
-        subst (λ (out : List ℕ). length out ≤ output_limit) written.file written.small in
+    subst (λ (out : List ℕ). length out ≤ output_limit) written.file written.small in
     λ fit.
-      subst (λ (out : List ℕ). PartsReadBack class order front parts names out) (sym written.file)
-      (parts_read_back class order front parts names fit limit (given-full c.args.parts.now) any_part)
+    subst (λ (out : List ℕ). PartsReadBack class order front parts names out) (sym written.file)
+    (parts_read_back class order front parts names fit limit (given-full c.args.parts.now) any_part)
