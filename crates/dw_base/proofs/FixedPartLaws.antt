@@ -1,9 +1,8 @@
 -- What is loaded ends before the fixed end.
-use Rattle.std.proofs.Common.{◌≡◌, ◌≢◌, ℕ, zero, suc, ◌+◌, ◌*◌, ◌<◌, ◌≤◌, ◌⊎◌, ◌==◌, ◌&&◌, ◌||◌, nat_le, not, max, Bool, true, false, cond, List, [], ◌∷◌, ◌++◌, length, get_or, map, filter, if◌then◌else◌, refl, sym, ap, ◌∙◌, arith, inl, inr, subst}
-use Rattle.std.proofs.lemmas.Bool.{cases_Bool, or_cases}
-use Rattle.dw_base.specs.Elf.{class_of, ehdr_size, phdr_size, e_phoff, e_phnum, is_empty_kind, nth_section, nth_segment, section_count, sections_of, segments_of}
+use Rattle.std.proofs.Common.{◌≡◌, ◌≢◌, ℕ, zero, suc, ◌+◌, ◌<◌, ◌≤◌, ◌==◌, ◌&&◌, ◌||◌, nat_le, not, max, Bool, true, false, cond, List, [], ◌∷◌, ◌++◌, length, get_or, map, filter, refl, ap, ◌∙◌, arith, inl, inr}
+use Rattle.std.proofs.lemmas.Bool.{or_cases}
+use Rattle.dw_base.specs.Elf.{class_of, ehdr_size, e_phnum, is_empty_kind, nth_section, nth_segment, section_count, sections_of, segments_of}
 use Rattle.dw_base.specs.Layout.{greatest, is_loaded_kind, is_alloc, segment_table_end, segment_ends, alloc_ends, fixed_end, is_fixed}
-use Rattle.dw_base.specs.Lists.{tabulate}
 use Rattle.dw_base.specs.declared.records.Section.{Section}
 use Rattle.dw_base.specs.declared.records.Segment.{Segment}
 use Rattle.dw_base.proofs.LayoutLaws.{greatest-least, greatest-append}

@@ -2,7 +2,7 @@
 use Rattle.std.proofs.Common.{◌≡◌, ℕ, zero, suc, ◌+◌, ◌*◌, ◌<◌, ◌≤◌, Bool, true, false, List, [], ◌∷◌, ◌++◌, length, replicate, get_or, max, map, filter, not, cond, ◌==◌, ◌&&◌, ◌≢◌, refl, sym, ap, ◌∙◌, if◌then◌else◌, arith, inl, inr, subst}
 use Rattle.std.proofs.lemmas.List.{length-append, length-replicate}
 use Rattle.std.proofs.lemmas.Bool.{cases_lt, cases_eq}
-use Rattle.dw_base.specs.Elf.{class_of, ehdr_size, phdr_size, shdr_size, shoff_place, word_size, e_phnum, is_empty_kind, nth_section, nth_segment, section_count, sections_of, segments_of}
+use Rattle.dw_base.specs.Elf.{class_of, ehdr_size, shdr_size, shoff_place, word_size, e_phnum, is_empty_kind, nth_section, nth_segment, section_count, sections_of, segments_of}
 use Rattle.dw_base.specs.ElfFails.{DebugReads, SegmentTableReads, SegmentsRead}
 use Rattle.dw_base.specs.Layout.{greatest, is_alloc, is_loaded_kind, segment_table_end, segment_ends, alloc_ends, fixed_end, Part, placed, extended, laid, new_head, new_heads, padding, before_table, with_table, shdr_fields, shdr_bytes, shdrs_bytes}
 use Rattle.dw_base.specs.Lists.{tabulate}
@@ -11,7 +11,6 @@ use Rattle.dw_base.specs.declared.records.Segment.{Segment}
 use Rattle.dw_base.specs.declared.shared.Class.{Class}
 use Rattle.dw_base.specs.declared.shared.Class.TheVariants.{C32, C64}
 use Rattle.dw_base.specs.declared.shared.Order.{Order}
-use Rattle.dw_base.specs.Fields.{fields_size}
 use Rattle.dw_base.proofs.FieldLaws.{length-fields_bytes}
 use Rattle.dw_base.proofs.ListLaws.{length-tabulate, get_or-tabulate}
 use Rattle.dw_base.proofs.NumberLaws.{length-with_number}

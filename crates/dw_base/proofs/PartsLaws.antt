@@ -1,24 +1,24 @@
 -- A file that was written from parts reads back.
-use Rattle.std.proofs.Common.{◌≡◌, ◌≢◌, ℕ, zero, suc, ◌+◌, ◌-◌, ◌*◌, ◌^◌, ◌<◌, ◌≤◌, ◌⊎◌, ◌==◌, nat_lt, Bool, true, false, List, [], ◌∷◌, ◌++◌, length, take, drop, get_or, slice_index, if◌then◌else◌, refl, sym, ap, ◌∙◌, arith, inl, inr, subst}
-use Rattle.std.proofs.lemmas.Bool.{cases_lt, cases_eq, cases_Bool}
-use Rattle.std.proofs.lemmas.List.{append-nil, append_assoc, length-append, length-take-le, length-drop, take-append-drop, get_or-take, get_or-drop}
-use Rattle.dw_base.specs.Elf.{class_of, order_of, ehdr_size, shdr_size, word_size, shoff_place, shnum_place, shstrndx_place, half_at, e_shoff, e_shnum, e_shstrndx, is_empty_kind, section_at, nth_section, section_count, name_index, contents_at, contents_of}
+use Rattle.std.proofs.Common.{◌≡◌, ℕ, zero, suc, ◌+◌, ◌*◌, ◌^◌, ◌<◌, ◌≤◌, ◌⊎◌, nat_lt, true, false, List, [], ◌∷◌, ◌++◌, length, take, drop, get_or, slice_index, refl, sym, ap, ◌∙◌, arith, inl, inr, subst}
+use Rattle.std.proofs.lemmas.Bool.{cases_lt, cases_eq}
+use Rattle.std.proofs.lemmas.List.{append-nil, length-append}
+use Rattle.dw_base.specs.Elf.{class_of, order_of, ehdr_size, shdr_size, word_size, shoff_place, shnum_place, shstrndx_place, half_at, e_shoff, e_shnum, e_shstrndx, nth_section}
 use Rattle.dw_base.specs.Fields.{FieldsFit}
-use Rattle.dw_base.specs.Layout.{output_limit, Part, placed, padding, extended, laid, new_head, new_heads, before_table, with_table, laid_out, shdr_fields, shdr_bytes, shdrs_bytes}
+use Rattle.dw_base.specs.Layout.{output_limit, Part, extended, laid, new_head, new_heads, before_table, with_table, laid_out, shdr_fields, shdr_bytes, shdrs_bytes}
 use Rattle.dw_base.specs.Numbers.{spelled, with_number}
-use Rattle.dw_base.specs.Parts.{in_section_0, in_header, numbered_head, numbered, numbered_first, numbered_front, parts_file, part_contents, FitParts, IsPartHead, PartsReadBack}
-use Rattle.dw_base.specs.declared.elf_numbers.TheConstants.{SHT_NULL, SHN_LORESERVE, SHN_XINDEX}
+use Rattle.dw_base.specs.Parts.{in_section_0, in_header, numbered_head, numbered, numbered_first, numbered_front, parts_file, FitParts}
+use Rattle.dw_base.specs.declared.elf_numbers.TheConstants.{SHN_LORESERVE, SHN_XINDEX}
 use Rattle.dw_base.specs.declared.records.Section.{Section}
 use Rattle.dw_base.specs.declared.shared.Class.{Class}
 use Rattle.dw_base.specs.declared.shared.Class.TheVariants.{C32, C64}
 use Rattle.dw_base.specs.declared.shared.Order.{Order}
 use Rattle.dw_base.specs.declared.shared.Order.TheVariants.{Little}
-use Rattle.dw_base.proofs.LayoutLaws.{laid-append, laid-longer, length-before_table, length-with_table, length-new_heads}
+use Rattle.dw_base.proofs.LayoutLaws.{laid-longer, length-before_table, length-with_table, length-new_heads}
 use Rattle.dw_base.proofs.NumberLaws.{length-with_number, spelled-with_number, spelled-other, spelled-ext}
 use Rattle.dw_base.proofs.RecordLaws.{section_at-ext, section_back, shdrs_bytes-at}
-use Rattle.dw_base.proofs.WrittenLaws.{eq-differ, laid-kept, with_number-kept, shoff_place-within, with_table-front, with_table-table}
-use Rattle.dw_base.proofs.WrittenHeaders.{HeaderPlaces, header_places, limit-fits}
-use Rattle.dw_base.proofs.WrittenSections.{new_head-fits, moved-length, moved-byte}
+use Rattle.dw_base.proofs.WrittenLaws.{laid-kept, with_number-kept, shoff_place-within, with_table-front, with_table-table}
+use Rattle.dw_base.proofs.WrittenHeaders.{header_places, limit-fits}
+use Rattle.dw_base.proofs.WrittenSections.{new_head-fits, moved-length}
 
 -- the new header of a part stands at its number
 list_heads-at : (out : List ℕ) (ps : List Part) (i : ℕ) (d : Section) (p : Part) → i < length ps

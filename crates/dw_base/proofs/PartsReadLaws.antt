@@ -1,11 +1,11 @@
 -- What a file that was written from parts reads back as.
-use Rattle.std.proofs.Common.{◌≡◌, ◌≢◌, ℕ, zero, suc, ◌+◌, ◌-◌, ◌*◌, ◌^◌, ◌<◌, ◌≤◌, ◌⊎◌, ◌==◌, nat_lt, Bool, true, false, List, [], ◌∷◌, ◌++◌, length, take, drop, get_or, slice_index, if◌then◌else◌, refl, sym, ap, ◌∙◌, arith, inl, inr, subst}
+use Rattle.std.proofs.Common.{◌≡◌, ◌≢◌, ℕ, suc, ◌+◌, ◌<◌, ◌≤◌, ◌==◌, true, false, List, ◌++◌, length, take, drop, get_or, slice_index, if◌then◌else◌, refl, sym, ap, ◌∙◌, arith, inl, inr, subst}
 use Rattle.std.proofs.lemmas.Bool.{cases_lt, cases_eq, cases_Bool}
 use Rattle.std.proofs.lemmas.List.{length-take-le, length-drop, length-append, get_or_append_left, get_or-take, get_or-drop}
-use Rattle.dw_base.specs.Elf.{class_of, order_of, ehdr_size, shdr_size, word_size, shoff_place, shnum_place, e_shoff, e_shnum, e_shstrndx, is_empty_kind, nth_section, section_count, name_index, contents_at, contents_of}
-use Rattle.dw_base.specs.Layout.{output_limit, Part, padding, extended, laid, new_head, before_table, with_table, shdrs_bytes}
+use Rattle.dw_base.specs.Elf.{word_size, shoff_place, e_shoff, is_empty_kind, nth_section, section_count, name_index, contents_at, contents_of}
+use Rattle.dw_base.specs.Layout.{output_limit, Part, padding, extended, before_table, with_table, shdrs_bytes}
 use Rattle.dw_base.specs.Numbers.{with_number}
-use Rattle.dw_base.specs.Parts.{in_section_0, in_header, numbered_head, numbered, numbered_first, numbered_front, parts_file, part_contents, FitParts, IsPartHead, PartsReadBack}
+use Rattle.dw_base.specs.Parts.{in_section_0, in_header, numbered_head, parts_file, part_contents, FitParts, IsPartHead, PartsReadBack}
 use Rattle.dw_base.specs.declared.elf_numbers.TheConstants.{SHT_NULL, SHN_LORESERVE, SHN_XINDEX}
 use Rattle.dw_base.specs.declared.records.Section.{Section}
 use Rattle.dw_base.specs.declared.shared.Class.{Class}
@@ -13,11 +13,11 @@ use Rattle.dw_base.specs.declared.shared.Order.{Order}
 use Rattle.dw_base.proofs.LayoutLaws.{laid-longer}
 use Rattle.dw_base.proofs.NumberLaws.{length-with_number}
 use Rattle.dw_base.proofs.WrittenLaws.{eq-differ, laid-kept, before_table-kept, shoff_place-within, with_table-front}
-use Rattle.dw_base.proofs.WrittenHeaders.{HeaderPlaces, header_places}
+use Rattle.dw_base.proofs.WrittenHeaders.{header_places}
 use Rattle.dw_base.proofs.WrittenSections.{moved-length, moved-byte}
 use Rattle.dw_base.proofs.WrittenContents.{part-is, empty-same, contents-empty, contents-full, new_head-same, new_head-stays, new_head-moves}
 use Rattle.dw_base.proofs.ReadsBackLaws.{put-byte}
-use Rattle.dw_base.proofs.PartsLaws.{IsParts, front_of, parts_of, laid_of, heads_of, table_of, before_of, out-is, front-kept, lt-true, lt-false, NumberPlaces, number_places, Lengths, lengths, out-kept, class-same, order-same, shnum-is, shstrndx-is, shoff-is, some-parts, numbered-later, numbered-zero, SamePart, numbered-part, with-part, nth-is}
+use Rattle.dw_base.proofs.PartsLaws.{IsParts, front_of, parts_of, laid_of, heads_of, table_of, before_of, out-is, front-kept, lt-true, lt-false, lengths, out-kept, class-same, order-same, shnum-is, shstrndx-is, shoff-is, some-parts, numbered-later, numbered-zero, numbered-part, with-part, nth-is}
 
 -- where a part isn't laid out, its header is its own
 stays-is : (c : Class) (o : Order) (front : List ℕ) (parts : List Part) (names i : ℕ) (d : Part) → IsParts c o front parts names → i < length parts

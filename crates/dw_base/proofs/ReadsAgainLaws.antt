@@ -1,28 +1,27 @@
 -- A file that was written with new section bodies is read again.
-use Rattle.std.proofs.Common.{◌≡◌, ◌≢◌, ℕ, zero, suc, ◌+◌, ◌-◌, ◌*◌, ◌<◌, ◌≤◌, ◌⊎◌, ◌==◌, ◌&&◌, ◌||◌, Bool, true, false, List, [], ◌∷◌, ◌++◌, length, take, drop, slice_index, if◌then◌else◌, IsTrue, refl, sym, ap, ◌∙◌, arith, inl, inr, subst}
+use Rattle.std.proofs.Common.{◌≡◌, ◌≢◌, ℕ, ◌+◌, ◌*◌, ◌<◌, ◌≤◌, ◌==◌, ◌||◌, true, false, List, [], length, take, slice_index, IsTrue, refl, sym, ap, ◌∙◌, arith, inl, inr, subst}
 use Rattle.std.proofs.lemmas.Bool.{cases_lt, cases_eq, cases_Bool}
 use Rattle.std.proofs.Math.Nat.{mul-le-mul_right}
 use Rattle.std.specs.Int.{is_power_of_two}
-use Rattle.dw_base.specs.Elf.{class_of, order_of, ehdr_size, phdr_size, shdr_size, word_size, shoff_place, e_type, e_phoff, e_shoff, e_phentsize, e_phnum, e_shentsize, is_empty_kind, nth_section, nth_segment, section_count, name_index, name_table, segments_of, contents_of}
-use Rattle.dw_base.specs.ElfFails.{ident_byte, HeaderReads, ShapeReads, SegmentTableReads, TableReads, IndexReads, PlaceReads, SectionReads, SectionsRead, SegmentReads, SegmentsRead, DebugReads, ElfReads}
-use Rattle.dw_base.specs.Layout.{padding, fixed_end, is_fixed, part_of, with_bodies}
+use Rattle.dw_base.specs.Elf.{class_of, order_of, phdr_size, shdr_size, word_size, shoff_place, e_shoff, e_phnum, is_empty_kind, nth_section, section_count, name_index, name_table}
+use Rattle.dw_base.specs.ElfFails.{ident_byte, HeaderReads, ShapeReads, SegmentTableReads, TableReads, IndexReads, SectionReads, SegmentReads, SegmentsRead, DebugReads, ElfReads}
+use Rattle.dw_base.specs.Layout.{fixed_end, is_fixed, part_of, with_bodies}
 use Rattle.dw_base.specs.LayoutFails.{LayoutFails}
-use Rattle.dw_base.specs.LayoutReads.{SameButPlace, is_known_kind, NamesEnd, ReadsBack}
+use Rattle.dw_base.specs.LayoutReads.{is_known_kind, NamesEnd, ReadsBack}
 use Rattle.dw_base.specs.Numbers.{spelled, with_number}
-use Rattle.dw_base.specs.Texts.{ends_in}
-use Rattle.dw_base.specs.declared.elf_numbers.TheConstants.{EI_CLASS, EI_DATA, EI_VERSION, ELFMAG, ELFCLASS32, ELFCLASS64, ELFDATA2LSB, ELFDATA2MSB, EV_CURRENT, ET_REL, PN_XNUM, SHT_NULL, SHT_STRTAB}
+use Rattle.dw_base.specs.declared.elf_numbers.TheConstants.{EI_CLASS, EI_DATA, EI_VERSION, ELFCLASS32, ELFCLASS64, ELFDATA2LSB, ELFDATA2MSB}
 use Rattle.dw_base.specs.declared.fault.Refusal.{Refusal}
 use Rattle.dw_base.specs.declared.records.Section.{Section}
 use Rattle.dw_base.specs.declared.records.Segment.{Segment}
 use Rattle.dw_base.specs.declared.shared.Order.TheVariants.{Little}
-use Rattle.dw_base.proofs.ElfLaws.{ehdr_size-least, e_shoff-some}
+use Rattle.dw_base.proofs.ElfLaws.{e_shoff-some}
 use Rattle.dw_base.proofs.FixedPartLaws.{segment-fixed, fixed-ends}
-use Rattle.dw_base.proofs.LayoutLaws.{laid-longer, fixed_end-header, fixed_end-within}
+use Rattle.dw_base.proofs.LayoutLaws.{fixed_end-header, fixed_end-within}
 use Rattle.dw_base.proofs.NumberLaws.{spelled-take}
 use Rattle.std.proofs.lemmas.List.{length-take, length-take-le, get_or-take, get_or_past}
 use Rattle.dw_base.proofs.WrittenLaws.{IsWritten, eq-differ, shoff_place-within, out-spelled}
-use Rattle.dw_base.proofs.WrittenHeaders.{header_places, Lengths, lengths, table_of, class-same, order-same, e_type-same, e_machine-same, e_phentsize-same, e_phnum-same, e_shentsize-same, e_phoff-same, e_shoff-is}
-use Rattle.dw_base.proofs.WrittenSections.{before_of, part-body, part-moves, moved-length, laid-with, nth-is}
+use Rattle.dw_base.proofs.WrittenHeaders.{header_places, lengths, class-same, order-same, e_type-same, e_machine-same, e_phentsize-same, e_phnum-same, e_shentsize-same, e_phoff-same, e_shoff-is}
+use Rattle.dw_base.proofs.WrittenSections.{before_of, part-moves, moved-length, laid-with, nth-is}
 use Rattle.dw_base.proofs.WrittenContents.{head-same, head-stays, first-same, count-same, name_index-same, empty-same, new_head-moves, full-moves, fixed-stays, contents-is}
 use Rattle.dw_base.proofs.ReadsBackLaws.{with_number-same, front-is, segments-by, segments-lie, segment-same, segments-same}
 

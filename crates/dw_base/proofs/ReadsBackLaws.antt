@@ -1,28 +1,22 @@
 -- A file that was written with new section bodies reads back.
-use Rattle.std.proofs.Common.{◌≡◌, ◌≢◌, ℕ, zero, suc, ◌+◌, ◌-◌, ◌*◌, ◌<◌, ◌≤◌, ◌⊎◌, ◌==◌, ◌&&◌, ◌||◌, Bool, true, false, List, [], ◌∷◌, ◌++◌, length, take, drop, get_or, slice_index, if◌then◌else◌, IsTrue, refl, sym, ap, ◌∙◌, arith, inl, inr, subst}
-use Rattle.std.proofs.lemmas.Bool.{cases_lt, cases_eq, cases_Bool, or_cases}
-use Rattle.std.proofs.lemmas.List.{append_assoc, get_or_append_left, get_or-append-add, get_or-take, get_or-drop, get_or_default, length-append, length-take-le, length-drop, drop-drop, take-append-drop, same_lists}
-use Rattle.dw_base.specs.Elf.{class_of, order_of, ehdr_size, phdr_size, shdr_size, word_size, shoff_place, e_type, e_machine, e_phoff, e_shoff, e_phentsize, e_phnum, e_shentsize, is_empty_kind, segment_at, nth_section, nth_segment, section_count, name_index, name_table, segments_of, contents_of}
-use Rattle.dw_base.specs.ElfFails.{ident_byte, HeaderReads, ShapeReads, SegmentTableReads, TableReads, IndexReads, PlaceReads, SectionReads, SectionsRead, SegmentReads, SegmentsRead, DebugReads, ElfReads}
-use Rattle.dw_base.specs.Layout.{Part, padding, laid, new_head, fixed_end, is_fixed, is_loaded_kind, segment_table_end, part_of, before_table, with_table, with_bodies, shdrs_bytes}
-use Rattle.dw_base.specs.LayoutReads.{SameButPlace, is_known_kind, NamesEnd, ReadsBack}
+use Rattle.std.proofs.Common.{◌≡◌, ◌≢◌, ℕ, zero, suc, ◌+◌, ◌-◌, ◌*◌, ◌<◌, ◌≤◌, ◌⊎◌, ◌==◌, true, List, ◌++◌, length, take, drop, slice_index, refl, sym, ap, ◌∙◌, arith, inl, inr}
+use Rattle.std.proofs.lemmas.Bool.{cases_lt, or_cases}
+use Rattle.std.proofs.lemmas.List.{append_assoc, get_or_append_left, get_or-append-add, length-append, length-take-le, drop-drop, take-append-drop}
+use Rattle.dw_base.specs.Elf.{class_of, order_of, phdr_size, word_size, shoff_place, e_type, e_phoff, e_shoff, e_phnum, nth_segment, section_count, segments_of}
+use Rattle.dw_base.specs.ElfFails.{DebugReads}
+use Rattle.dw_base.specs.Layout.{fixed_end, is_loaded_kind, part_of, before_table, with_table, with_bodies, shdrs_bytes}
+use Rattle.dw_base.specs.LayoutReads.{is_known_kind}
 use Rattle.dw_base.specs.Lists.{tabulate}
 use Rattle.dw_base.specs.Numbers.{spelled, number_bytes, with_number}
-use Rattle.dw_base.specs.Texts.{ends_in}
-use Rattle.dw_base.specs.declared.elf_numbers.TheConstants.{ELFMAG, ELFCLASS32, ELFCLASS64, ELFDATA2LSB, ELFDATA2MSB, EV_CURRENT, ET_REL, PN_XNUM, SHT_NULL, SHT_STRTAB}
-use Rattle.dw_base.specs.declared.records.Section.{Section}
-use Rattle.dw_base.specs.declared.records.Segment.{Segment}
+use Rattle.dw_base.specs.declared.elf_numbers.TheConstants.{ET_REL}
 use Rattle.dw_base.specs.declared.shared.Order.{Order}
-use Rattle.dw_base.specs.declared.shared.Order.TheVariants.{Little}
-use Rattle.dw_base.proofs.ElfLaws.{ehdr_size-least, e_shoff-some, record_place}
-use Rattle.dw_base.proofs.FixedPartLaws.{segment_table-fixed, segment-fixed, fixed-ends}
-use Rattle.dw_base.proofs.LayoutLaws.{laid-longer, fixed_end-header, fixed_end-within}
-use Rattle.dw_base.proofs.NumberLaws.{length-number_bytes, number_bytes-spelled, spelled-take, length-with_number}
+use Rattle.dw_base.proofs.ElfLaws.{e_shoff-some, record_place}
+use Rattle.dw_base.proofs.FixedPartLaws.{segment_table-fixed}
+use Rattle.dw_base.proofs.NumberLaws.{length-number_bytes, number_bytes-spelled, length-with_number}
 use Rattle.dw_base.proofs.RecordLaws.{segment_at-ext}
-use Rattle.dw_base.proofs.WrittenLaws.{IsWritten, front_of, parts_of, laid_of, heads_of, eq-differ, out-is, front-length, laid-kept, before_table-kept, with_number-kept, shoff_place-within, out-kept, out-spelled}
-use Rattle.dw_base.proofs.WrittenHeaders.{header_places, Lengths, lengths, table_of, class-same, order-same, e_type-same, e_machine-same, e_phentsize-same, e_phnum-same, e_shentsize-same, e_phoff-same, e_shoff-is}
-use Rattle.dw_base.proofs.WrittenSections.{before_of, part-head, part-body, part-moves, moved-length, laid-with, nth-is}
-use Rattle.dw_base.proofs.WrittenContents.{head-same, head-stays, first-same, count-same, name_index-same, part-is, empty-same, new_head-moves, full-moves, fixed-stays, contents-is}
+use Rattle.dw_base.proofs.WrittenLaws.{IsWritten, front_of, parts_of, laid_of, heads_of, eq-differ, out-is, laid-kept, before_table-kept, with_number-kept, shoff_place-within, out-kept}
+use Rattle.dw_base.proofs.WrittenHeaders.{lengths, table_of, class-same, order-same, e_phnum-same, e_phoff-same, e_shoff-is}
+use Rattle.dw_base.proofs.WrittenContents.{part-is}
 
 -- a number that is put where it stands changes nothing
 pub with_number-same : (o : Order) (bytes : List ℕ) (at n : ℕ) → ((k : ℕ) → slice_index bytes k < 256) → at + n ≤ length bytes

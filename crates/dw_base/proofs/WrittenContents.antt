@@ -1,24 +1,22 @@
 -- What the sections hold, in a file that was written with new section bodies.
-use Rattle.std.proofs.Common.{◌≡◌, ◌≢◌, ℕ, zero, suc, ◌+◌, ◌-◌, ◌*◌, ◌<◌, ◌≤◌, ◌⊎◌, ◌==◌, ◌&&◌, ◌||◌, nat_le, not, Bool, true, false, List, [], ◌∷◌, ◌++◌, length, take, drop, get_or, slice_index, if◌then◌else◌, refl, sym, ap, ◌∙◌, arith, inl, inr, subst}
+use Rattle.std.proofs.Common.{◌≡◌, ◌≢◌, ℕ, suc, ◌+◌, ◌<◌, ◌≤◌, ◌&&◌, not, Bool, true, false, List, [], ◌∷◌, length, take, drop, slice_index, if◌then◌else◌, refl, sym, ap, ◌∙◌, arith, inl, inr, subst}
 use Rattle.std.proofs.lemmas.Bool.{cases_lt, cases_eq, cases_Bool}
 use Rattle.std.proofs.lemmas.Bool.Decides.{not_from_Decides}
 use Rattle.std.proofs.lemmas.List.{get_or-take, get_or-drop, get_or_default, length-take-le, length-drop, same_lists}
 use Rattle.std.proofs.lemmas.Slice.Eq.{bytes_eq-Decides}
 use Rattle.std.specs.Str.{bytes_eq}
-use Rattle.dw_base.specs.Elf.{class_of, ehdr_size, word_size, shoff_place, e_shoff, e_shnum, e_shstrndx, is_empty_kind, nth_section, section_count, name_index, contents_at, contents_of}
-use Rattle.dw_base.specs.Layout.{Part, padding, extended, laid, new_head, fixed_end, is_fixed, is_loaded_kind, is_alloc, part_of, with_table, with_bodies}
-use Rattle.dw_base.specs.LayoutFails.{BeginsInHeader, Changes}
+use Rattle.dw_base.specs.Elf.{class_of, ehdr_size, e_shoff, is_empty_kind, nth_section, section_count, name_index, contents_at, contents_of}
+use Rattle.dw_base.specs.Layout.{Part, padding, new_head, is_fixed, is_loaded_kind, part_of, with_bodies}
 use Rattle.dw_base.specs.LayoutFails.LayoutFails.{section}
 use Rattle.dw_base.specs.LayoutFails.SectionStays.{changed, in_header}
 use Rattle.dw_base.specs.LayoutReads.{SameButPlace}
 use Rattle.dw_base.specs.Lists.{tabulate}
-use Rattle.dw_base.specs.declared.elf_numbers.TheConstants.{SHT_NULL, SHT_NOBITS, SHN_XINDEX}
 use Rattle.dw_base.specs.declared.records.Section.{Section}
 use Rattle.dw_base.proofs.ElfLaws.{ehdr_size-least, e_shoff-some}
 use Rattle.dw_base.proofs.FixedPartLaws.{fixed-loaded, fixed-ends}
 use Rattle.dw_base.proofs.LayoutLaws.{laid-append, laid-longer, fixed_end-within}
-use Rattle.dw_base.proofs.WrittenLaws.{IsWritten, front_of, parts_of, laid_of, heads_of, eq-differ, out-is, laid-kept, shoff_place-within, with_table-front, out-kept}
-use Rattle.dw_base.proofs.WrittenHeaders.{Lengths, lengths, table_of, class-same, order-same, e_shoff-is, e_shnum-same, e_shstrndx-same}
+use Rattle.dw_base.proofs.WrittenLaws.{IsWritten, front_of, laid_of, heads_of, eq-differ, out-is, shoff_place-within, with_table-front, out-kept}
+use Rattle.dw_base.proofs.WrittenHeaders.{lengths, e_shoff-is, e_shnum-same, e_shstrndx-same}
 use Rattle.dw_base.proofs.WrittenSections.{before_of, part-head, part-body, part-moves, moved-length, moved-byte, laid_tabulate-kept, laid-with, nth-is}
 
 -- a new header differs in place and size alone

@@ -1,28 +1,18 @@
 -- The sections of a file that was written with new section bodies.
-use Rattle.std.proofs.Common.{◌≡◌, ◌≢◌, ℕ, zero, suc, ◌+◌, ◌-◌, ◌*◌, ◌^◌, ◌<◌, ◌≤◌, ◌⊎◌, ◌==◌, ◌&&◌, ◌||◌, not, Bool, true, false, List, [], ◌∷◌, ◌++◌, length, take, drop, replicate, get_or, slice_index, if◌then◌else◌, refl, sym, ap, ◌∙◌, arith, inl, inr, subst}
-use Rattle.std.proofs.lemmas.Bool.{cases_lt, cases_eq}
-use Rattle.std.proofs.lemmas.List.{append-nil, length-append, length-replicate, get_or_append_left, get_or-append-add, get_or_push, get_or-take, get_or-drop, get_or_default, length-take-le, length-drop, same_lists}
-use Rattle.std.proofs.lemmas.Slice.Eq.{bytes_eq-Decides}
-use Rattle.std.specs.Str.{bytes_eq}
-use Rattle.dw_base.specs.Elf.{class_of, order_of, ehdr_size, shdr_size, word_size, shoff_place, e_shoff, e_shnum, e_shstrndx, is_empty_kind, section_at, nth_section, section_count, name_index, contents_at, contents_of}
+use Rattle.std.proofs.Common.{◌≡◌, ℕ, zero, suc, ◌+◌, ◌*◌, ◌<◌, ◌≤◌, ◌&&◌, not, Bool, true, false, List, [], ◌∷◌, ◌++◌, length, replicate, get_or, slice_index, if◌then◌else◌, refl, sym, ap, ◌∙◌, arith, inl, inr, subst}
+use Rattle.std.proofs.lemmas.Bool.{cases_lt}
+use Rattle.std.proofs.lemmas.List.{append-nil, length-append, length-replicate, get_or_append_left, get_or-append-add, get_or_push}
+use Rattle.dw_base.specs.Elf.{class_of, order_of, shdr_size, e_shoff, is_empty_kind, nth_section, section_count}
 use Rattle.dw_base.specs.Fields.{FieldsFit}
-use Rattle.dw_base.specs.Layout.{output_limit, Part, placed, padding, extended, laid, new_head, new_heads, fixed_end, is_fixed, part_of, before_table, with_table, with_bodies, shdr_fields, shdr_bytes, shdrs_bytes}
-use Rattle.dw_base.specs.LayoutFails.{BeginsInHeader, Changes}
-use Rattle.dw_base.specs.LayoutFails.LayoutFails.{section}
-use Rattle.dw_base.specs.LayoutFails.SectionStays.{changed, in_header}
-use Rattle.dw_base.specs.LayoutReads.{SameButPlace}
+use Rattle.dw_base.specs.Layout.{output_limit, Part, placed, padding, extended, laid, new_head, new_heads, is_fixed, part_of, with_bodies, shdr_fields, shdr_bytes}
 use Rattle.dw_base.specs.Lists.{tabulate}
-use Rattle.dw_base.specs.declared.elf_numbers.TheConstants.{SHT_NULL, SHT_NOBITS, SHN_XINDEX}
 use Rattle.dw_base.specs.declared.records.Section.{Section}
 use Rattle.dw_base.specs.declared.shared.Class.{Class}
-use Rattle.dw_base.specs.declared.shared.Class.TheVariants.{C32, C64}
-use Rattle.dw_base.specs.declared.shared.Order.{Order}
-use Rattle.dw_base.proofs.ElfLaws.{ehdr_size-least, e_shoff-some}
-use Rattle.dw_base.proofs.LayoutLaws.{laid-append, laid-longer, extended-longer, laid_tabulate-longer, new_heads-append, length-shdr_bytes, length-new_heads}
+use Rattle.dw_base.proofs.LayoutLaws.{laid-append, laid_tabulate-longer, new_heads-append, length-new_heads}
 use Rattle.dw_base.proofs.ListLaws.{length-tabulate}
 use Rattle.dw_base.proofs.RecordLaws.{section_at-ext, section_back, shdrs_bytes-at, section_at-fits, moved-fits}
-use Rattle.dw_base.proofs.WrittenLaws.{IsWritten, front_of, parts_of, laid_of, heads_of, eq-differ, out-is, extended-kept, laid-kept, with_table-front, with_table-table, out-kept}
-use Rattle.dw_base.proofs.WrittenHeaders.{Lengths, lengths, limit-fits, table_of, class-same, order-same, e_shoff-is, e_shnum-same, e_shstrndx-same}
+use Rattle.dw_base.proofs.WrittenLaws.{IsWritten, front_of, laid_of, heads_of, out-is, extended-kept, with_table-table}
+use Rattle.dw_base.proofs.WrittenHeaders.{lengths, limit-fits, table_of, class-same, order-same, e_shoff-is}
 
 -- the new header of a section stands at its number
 pub new_heads-at : (out : List ℕ) (f : ℕ → Part) (n i : ℕ) (d : Section) → i < n

@@ -1,6 +1,6 @@
 -- The layout of a file that is written with new section bodies: this project's profile. What is loaded
 -- stays at its place; other sections are laid one after another behind it, and the section headers last.
-use Rattle.std.specs.Prelude.{Bool, true, false, ◌≡◌, ℕ, ◌+◌, ◌-◌, ◌*◌, ◌%◌, ◌^◌, ◌==◌, ◌&&◌, ◌||◌, not, max, nat_le, nat_lt, bit_and, replicate, filter, map, if◌then◌else◌, List, [], ◌∷◌, ◌++◌, length, take}
+use Rattle.std.specs.Prelude.{Bool, ℕ, ◌+◌, ◌-◌, ◌*◌, ◌%◌, ◌^◌, ◌==◌, ◌&&◌, ◌||◌, not, max, nat_le, bit_and, replicate, filter, map, if◌then◌else◌, List, [], ◌∷◌, ◌++◌, length, take}
 use Rattle.dw_base.specs.Elf.{class_of, order_of, word_size, ehdr_size, shoff_place, e_type, e_phoff, e_phnum, phdr_size, nth_section, section_count, sections_of, segments_of, is_empty_kind}
 use Rattle.dw_base.specs.Fields.{FieldOf, fields_bytes}
 use Rattle.dw_base.specs.Lists.{tabulate}

@@ -1,7 +1,7 @@
 -- Files written from parts: a front that is given whole, and sections with their headers; this project's profile. A number
 -- of sections of 0xff00 or more, and such a number of the section name table, stand in section 0 (gABI ch. 4 "ELF Header",
 -- `e_shnum`, `e_shstrndx`).
-use Rattle.std.specs.Prelude.{Bool, true, false, ◌≡◌, ◌≢◌, ℕ, ◌+◌, ◌<◌, ◌≤◌, nat_lt, if◌then◌else◌, List, [], ◌∷◌, length, take, slice_index_or}
+use Rattle.std.specs.Prelude.{false, ◌≡◌, ◌≢◌, ℕ, ◌+◌, ◌<◌, ◌≤◌, nat_lt, if◌then◌else◌, List, [], ◌∷◌, length, take, slice_index_or}
 use Rattle.dw_base.specs.Elf.{class_of, order_of, ehdr_size, word_size, shoff_place, shnum_place, shstrndx_place, e_shoff, is_empty_kind, nth_section, section_count, name_index, contents_at, contents_of}
 use Rattle.dw_base.specs.Fields.{FieldsFit}
 use Rattle.dw_base.specs.Layout.{Part, laid_out, shdr_fields}

@@ -1,7 +1,7 @@
 -- The rows of the refusal of parts, for the check's search.
 use Rattle.std.proofs.Common.{◌≡◌, ℕ, zero, suc, ◌<◌, ◌≤◌, List, ◌∷◌, length, take, drop, get_or, ◌++◌, ◌-◌, ap, sym, subst, ◌∙◌, ◌+◌, [], Bool, true, false, not, ◌&&◌, refl, arith}
 use Rattle.std.proofs.lemmas.List.{drop_more, take_rest, length-map}
-use Rattle.dw_base.specs.Layout.{output_limit, Part, padding, extended, laid, new_head, new_heads, with_table}
+use Rattle.dw_base.specs.Layout.{output_limit, Part, extended, laid, new_head, new_heads, with_table}
 use Rattle.dw_base.specs.Parts.{in_header, numbered, numbered_first, numbered_front, numbered_head}
 use Rattle.dw_base.specs.declared.elf_numbers.TheConstants.{SHT_NULL, SHN_XINDEX}
 use Rattle.dw_base.specs.declared.records.Section.{Section}

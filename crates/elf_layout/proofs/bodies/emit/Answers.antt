@@ -1,5 +1,5 @@
 -- The file reads back.
-use Rattle.std.proofs.Common.{◌≡◌, List, ℕ, subst, sym}
+use Rattle.std.proofs.Common.{List, ℕ, subst, sym}
 use Rattle.dw_base.specs.LayoutReads.{ReadsBack}
 use Rattle.dw_base.proofs.ReadsAgainLaws.{reads_back}
 use Rattle.elf_layout.specs.Given.{body_given}

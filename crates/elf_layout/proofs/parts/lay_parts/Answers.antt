@@ -1,5 +1,5 @@
 -- What is too long with some of the parts is too long with all.
-use Rattle.std.proofs.Common.{◌≡◌, ◌+◌, List, length, drop, arith}
+use Rattle.std.proofs.Common.{◌+◌, drop}
 use Rattle.std.proofs.lemmas.Result.{err_from_is_err_and}
 use Rattle.dw_base.specs.Layout.{laid}
 use Rattle.elf_layout.specs.PartsGiven.{part_given, parts_given}

@@ -1,7 +1,7 @@
 -- The file reads back.
-use Rattle.std.proofs.Common.{◌≤◌, List, ℕ, length, subst, sym, arith}
+use Rattle.std.proofs.Common.{◌≤◌, List, ℕ, length, subst, sym}
 use Rattle.dw_base.specs.Layout.{output_limit}
-use Rattle.dw_base.specs.Parts.{FitParts, PartsReadBack, parts_file}
+use Rattle.dw_base.specs.Parts.{PartsReadBack, parts_file}
 use Rattle.dw_base.proofs.PartsReadLaws.{parts_read_back}
 use Rattle.elf_layout.specs.PartsGiven.{parts_given}
 use Rattle.elf_layout.proofs.PartRows.{given-full, any_part}
