@@ -1,9 +1,8 @@
 -- What is loaded ends before the fixed end.
-use Rattle.std.proofs.Common.{◌≡◌, ◌≢◌, ℕ, zero, suc, ◌+◌, ◌*◌, ◌<◌, ◌≤◌, ◌⊎◌, ◌==◌, ◌&&◌, ◌||◌, nat_le, not, max, Bool, true, false, cond, List, [], ◌∷◌, ◌++◌, length, get_or, map, filter, if◌then◌else◌, refl, sym, ap, ◌∙◌, arith, inl, inr, subst}
-use Rattle.std.proofs.lemmas.Bool.{cases_Bool, or_cases}
-use Rattle.dw_base.specs.Elf.{class_of, ehdr_size, phdr_size, e_phoff, e_phnum, is_empty_kind, nth_section, nth_segment, section_count, sections_of, segments_of}
+use Rattle.std.proofs.Common.{◌≡◌, ◌≢◌, ℕ, zero, suc, ◌+◌, ◌<◌, ◌≤◌, ◌==◌, ◌&&◌, ◌||◌, nat_le, not, max, Bool, true, false, cond, List, [], ◌∷◌, ◌++◌, length, get_or, map, filter, refl, ap, ◌∙◌, arith, inl, inr}
+use Rattle.std.proofs.lemmas.Bool.{or_cases}
+use Rattle.dw_base.specs.Elf.{class_of, ehdr_size, e_phnum, is_empty_kind, nth_section, nth_segment, section_count, sections_of, segments_of}
 use Rattle.dw_base.specs.Layout.{greatest, is_loaded_kind, is_alloc, segment_table_end, segment_ends, alloc_ends, fixed_end, is_fixed}
-use Rattle.dw_base.specs.Lists.{tabulate}
 use Rattle.dw_base.specs.declared.records.Section.{Section}
 use Rattle.dw_base.specs.declared.records.Segment.{Segment}
 use Rattle.dw_base.proofs.LayoutLaws.{greatest-least, greatest-append}
@@ -73,7 +72,7 @@ alloc-fixed b i loaded lt alloc full some =
     let count = length-tabulate (nth_section b) (section_count b) in
     let is = get_or-tabulate (nth_section b) (section_count b) i (nth_section b i) lt in
     let passes : test (get_or (sections_of b) i (nth_section b i)) ≡ true =
-        ap test is ∙ full_section (is_alloc (nth_section b i)) (is_empty_kind (nth_section b i)) (nth_section b i).size alloc full some in
+    ap test is ∙ full_section (is_alloc (nth_section b i)) (is_empty_kind (nth_section b i)) (nth_section b i).size alloc full some in
     let picked = picked-least (greatest head (segment_ends (segments_of b))) test (λ (s : Section). s.offset + s.size) (sections_of b) i (nth_section b i) (omega arith) passes in
     let here : (nth_section b i).offset + (nth_section b i).size ≤ greatest (greatest head (segment_ends (segments_of b))) (alloc_ends (sections_of b)) = rw is at picked in
     rw (fixed_end-loaded b loaded, greatest-append head (segment_ends (segments_of b)) (alloc_ends (sections_of b))) here
@@ -96,6 +95,6 @@ fixed-ends b i lt h full some =
     let s = nth_section b i in
     let both = and-both (is_loaded_kind b) (is_alloc s || nat_le (s.offset + s.size) (fixed_end b)) (fixed-by b s h) in
     elim (or_cases (is_alloc s) (nat_le (s.offset + s.size) (fixed_end b)) both.1) [
-      inl alloc ↦ alloc-fixed b i both.0 lt alloc full some
-    | inr before ↦ le-true (s.offset + s.size) (fixed_end b) before
+      | inl alloc ↦ alloc-fixed b i both.0 lt alloc full some
+      | inr before ↦ le-true (s.offset + s.size) (fixed_end b) before
     ]

@@ -2,7 +2,7 @@
 use Rattle.std.proofs.Common.{◌≡◌, ℕ, zero, suc, ◌+◌, ◌*◌, ◌<◌, ◌≤◌, Bool, true, false, List, [], ◌∷◌, ◌++◌, length, replicate, get_or, max, map, filter, not, cond, ◌==◌, ◌&&◌, ◌≢◌, refl, sym, ap, ◌∙◌, if◌then◌else◌, arith, inl, inr, subst}
 use Rattle.std.proofs.lemmas.List.{length-append, length-replicate}
 use Rattle.std.proofs.lemmas.Bool.{cases_lt, cases_eq}
-use Rattle.dw_base.specs.Elf.{class_of, ehdr_size, phdr_size, shdr_size, shoff_place, word_size, e_phnum, is_empty_kind, nth_section, nth_segment, section_count, sections_of, segments_of}
+use Rattle.dw_base.specs.Elf.{class_of, ehdr_size, shdr_size, shoff_place, word_size, e_phnum, is_empty_kind, nth_section, nth_segment, section_count, sections_of, segments_of}
 use Rattle.dw_base.specs.ElfFails.{DebugReads, SegmentTableReads, SegmentsRead}
 use Rattle.dw_base.specs.Layout.{greatest, is_alloc, is_loaded_kind, segment_table_end, segment_ends, alloc_ends, fixed_end, Part, placed, extended, laid, new_head, new_heads, padding, before_table, with_table, shdr_fields, shdr_bytes, shdrs_bytes}
 use Rattle.dw_base.specs.Lists.{tabulate}
@@ -11,7 +11,6 @@ use Rattle.dw_base.specs.declared.records.Segment.{Segment}
 use Rattle.dw_base.specs.declared.shared.Class.{Class}
 use Rattle.dw_base.specs.declared.shared.Class.TheVariants.{C32, C64}
 use Rattle.dw_base.specs.declared.shared.Order.{Order}
-use Rattle.dw_base.specs.Fields.{fields_size}
 use Rattle.dw_base.proofs.FieldLaws.{length-fields_bytes}
 use Rattle.dw_base.proofs.ListLaws.{length-tabulate, get_or-tabulate}
 use Rattle.dw_base.proofs.NumberLaws.{length-with_number}
@@ -32,8 +31,8 @@ extended_by-longer out more = omega (arith, length-append out more)
 pub extended-longer : (out : List ℕ) (p : Part) → length out ≤ length (extended out p)
 extended-longer out p =
     elim p.moves as (λ (m : Bool). length out ≤ length (if m then out ++ placed (length out) p else out)) [
-      true ↦ extended_by-longer out (placed (length out) p)
-    | false ↦ omega arith
+      | true ↦ extended_by-longer out (placed (length out) p)
+      | false ↦ omega arith
     ]
 
 pub laid-longer : (out : List ℕ) (ps : List Part) → length out ≤ length (laid out ps)
@@ -45,12 +44,12 @@ pub laid_tabulate-longer : (out : List ℕ) (f : ℕ → Part) (i n : ℕ) → i
 laid_tabulate-longer out f i zero le = let e : i ≡ 0 = omega arith in subst (λ (k : ℕ). length (laid out (tabulate f k)) ≤ length out) (sym e) (omega arith)
 laid_tabulate-longer out f i (suc n) le =
     elim (cases_lt n i) [
-      inl above ↦ let e : suc n ≡ i = omega arith in subst (λ (k : ℕ). length (laid out (tabulate f k)) ≤ length (laid out (tabulate f (suc n)))) e (omega arith)
-    | inr below ↦
-        let before = laid_tabulate-longer out f i n below in
-        let one = extended-longer (laid out (tabulate f n)) (f n) in
-        let step = laid-append out (tabulate f n) (f n ∷ []) in
-        rw step (omega arith)
+      | inl above ↦ let e : suc n ≡ i = omega arith in subst (λ (k : ℕ). length (laid out (tabulate f k)) ≤ length (laid out (tabulate f (suc n)))) e (omega arith)
+      | inr below ↦
+          let before = laid_tabulate-longer out f i n below in
+          let one = extended-longer (laid out (tabulate f n)) (f n) in
+          let step = laid-append out (tabulate f n) (f n ∷ []) in
+          rw step (omega arith)
     ]
 
 -- section headers are as long as their class says
@@ -108,9 +107,9 @@ pub fixed_end-header : (b : List ℕ) → ehdr_size (class_of b) ≤ fixed_end b
 unfolding fixed_end
 fixed_end-header b =
     elim (is_loaded_kind b) as (λ (loaded : Bool). ehdr_size (class_of b)
-        ≤ (if loaded then greatest (ehdr_size (class_of b)) (segment_table_end b ∷ segment_ends (segments_of b) ++ alloc_ends (sections_of b)) else ehdr_size (class_of b))) [
-      true ↦ greatest-least (ehdr_size (class_of b)) (segment_table_end b ∷ segment_ends (segments_of b) ++ alloc_ends (sections_of b))
-    | false ↦ omega arith
+    ≤ (if loaded then greatest (ehdr_size (class_of b)) (segment_table_end b ∷ segment_ends (segments_of b) ++ alloc_ends (sections_of b)) else ehdr_size (class_of b))) [
+      | true ↦ greatest-least (ehdr_size (class_of b)) (segment_table_end b ∷ segment_ends (segments_of b) ++ alloc_ends (sections_of b))
+      | false ↦ omega arith
     ]
 
 -- what is picked of a list is at most what bounds each
@@ -140,8 +139,8 @@ loaded_bytes false e z h = cc
 segment_table-within : (b : List ℕ) → SegmentTableReads b → segment_table_end b ≤ length b
 segment_table-within b reads =
     elim (cases_eq (e_phnum b) 0) [
-      inl none ↦ rw none (omega arith)
-    | inr some ↦ let lies = reads.lies some in grind arith
+      | inl none ↦ rw none (omega arith)
+      | inr some ↦ let lies = reads.lies some in grind arith
     ]
 
 loaded_end-within : (b : List ℕ) → DebugReads b → SegmentsRead b
@@ -152,22 +151,22 @@ loaded_end-within b reads segments =
     let table = segment_table-within b reads.segment_table in
     rw (greatest-append (max (ehdr_size (class_of b)) (segment_table_end b)) (segment_ends (segments_of b)) (alloc_ends (sections_of b)))
     (picked-within _ (length b) (λ (s : Section). is_alloc s && not (is_empty_kind s) && not (s.size == 0)) (λ (s : Section). s.offset + s.size) (sections_of b)
-        (picked-within _ (length b) (λ (s : Segment). not (s.filesz == 0)) (λ (s : Segment). s.offset + s.filesz) (segments_of b) (omega arith)
-            (λ i d lt p.
-                let count = length-tabulate (nth_segment b) (e_phnum b) in
-                let is = get_or-tabulate (nth_segment b) (e_phnum b) i d (omega arith) in
-                rw is ((segments.all i (omega arith)).lies (some-not_zero _ (rw is at p)))))
-        (λ i d lt p.
-            let count = length-tabulate (nth_section b) (section_count b) in
-            let is = get_or-tabulate (nth_section b) (section_count b) i d (omega arith) in
-            let has = loaded_bytes _ _ _ (rw is at p) in
-            rw is ((reads.sections.all i (omega arith)).place.lies has.1 (some-not_zero _ has.2))))
+    (picked-within _ (length b) (λ (s : Segment). not (s.filesz == 0)) (λ (s : Segment). s.offset + s.filesz) (segments_of b) (omega arith)
+    (λ i d lt p.
+    let count = length-tabulate (nth_segment b) (e_phnum b) in
+    let is = get_or-tabulate (nth_segment b) (e_phnum b) i d (omega arith) in
+    rw is ((segments.all i (omega arith)).lies (some-not_zero _ (rw is at p)))))
+    (λ i d lt p.
+    let count = length-tabulate (nth_section b) (section_count b) in
+    let is = get_or-tabulate (nth_section b) (section_count b) i d (omega arith) in
+    let has = loaded_bytes _ _ _ (rw is at p) in
+    rw is ((reads.sections.all i (omega arith)).place.lies has.1 (some-not_zero _ has.2))))
 
 pub fixed_end-within : (b : List ℕ) → DebugReads b → SegmentsRead b → fixed_end b ≤ length b
 unfolding fixed_end
 fixed_end-within b reads segments =
     elim (is_loaded_kind b) as (λ (loaded : Bool).
-        (if loaded then greatest (ehdr_size (class_of b)) (segment_table_end b ∷ segment_ends (segments_of b) ++ alloc_ends (sections_of b)) else ehdr_size (class_of b)) ≤ length b) [
-      true ↦ loaded_end-within b reads segments
-    | false ↦ reads.header.whole
+    (if loaded then greatest (ehdr_size (class_of b)) (segment_table_end b ∷ segment_ends (segments_of b) ++ alloc_ends (sections_of b)) else ehdr_size (class_of b)) ≤ length b) [
+      | true ↦ loaded_end-within b reads segments
+      | false ↦ reads.header.whole
     ]

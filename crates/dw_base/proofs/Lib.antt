@@ -35,3 +35,5 @@ pub mod WrittenContents
 pub mod WrittenHeaders
 pub mod WrittenLaws
 pub mod WrittenSections
+pub mod PartsLaws
+pub mod PartsReadLaws

@@ -1,28 +1,27 @@
 -- A file that was written with new section bodies is read again.
-use Rattle.std.proofs.Common.{◌≡◌, ◌≢◌, ℕ, zero, suc, ◌+◌, ◌-◌, ◌*◌, ◌<◌, ◌≤◌, ◌⊎◌, ◌==◌, ◌&&◌, ◌||◌, Bool, true, false, List, [], ◌∷◌, ◌++◌, length, take, drop, slice_index, if◌then◌else◌, IsTrue, refl, sym, ap, ◌∙◌, arith, inl, inr, subst}
+use Rattle.std.proofs.Common.{◌≡◌, ◌≢◌, ℕ, ◌+◌, ◌*◌, ◌<◌, ◌≤◌, ◌==◌, ◌||◌, true, false, List, [], length, take, slice_index, IsTrue, refl, sym, ap, ◌∙◌, arith, inl, inr, subst}
 use Rattle.std.proofs.lemmas.Bool.{cases_lt, cases_eq, cases_Bool}
 use Rattle.std.proofs.Math.Nat.{mul-le-mul_right}
 use Rattle.std.specs.Int.{is_power_of_two}
-use Rattle.dw_base.specs.Elf.{class_of, order_of, ehdr_size, phdr_size, shdr_size, word_size, shoff_place, e_type, e_phoff, e_shoff, e_phentsize, e_phnum, e_shentsize, is_empty_kind, nth_section, nth_segment, section_count, name_index, name_table, segments_of, contents_of}
-use Rattle.dw_base.specs.ElfFails.{ident_byte, HeaderReads, ShapeReads, SegmentTableReads, TableReads, IndexReads, PlaceReads, SectionReads, SectionsRead, SegmentReads, SegmentsRead, DebugReads, ElfReads}
-use Rattle.dw_base.specs.Layout.{padding, fixed_end, is_fixed, part_of, with_bodies}
+use Rattle.dw_base.specs.Elf.{class_of, order_of, phdr_size, shdr_size, word_size, shoff_place, e_shoff, e_phnum, is_empty_kind, nth_section, section_count, name_index, name_table}
+use Rattle.dw_base.specs.ElfFails.{ident_byte, HeaderReads, ShapeReads, SegmentTableReads, TableReads, IndexReads, SectionReads, SegmentReads, SegmentsRead, DebugReads, ElfReads}
+use Rattle.dw_base.specs.Layout.{fixed_end, is_fixed, part_of, with_bodies}
 use Rattle.dw_base.specs.LayoutFails.{LayoutFails}
-use Rattle.dw_base.specs.LayoutReads.{SameButPlace, is_known_kind, NamesEnd, ReadsBack}
+use Rattle.dw_base.specs.LayoutReads.{is_known_kind, NamesEnd, ReadsBack}
 use Rattle.dw_base.specs.Numbers.{spelled, with_number}
-use Rattle.dw_base.specs.Texts.{ends_in}
-use Rattle.dw_base.specs.declared.elf_numbers.TheConstants.{EI_CLASS, EI_DATA, EI_VERSION, ELFMAG, ELFCLASS32, ELFCLASS64, ELFDATA2LSB, ELFDATA2MSB, EV_CURRENT, ET_REL, PN_XNUM, SHT_NULL, SHT_STRTAB}
+use Rattle.dw_base.specs.declared.elf_numbers.TheConstants.{EI_CLASS, EI_DATA, EI_VERSION, ELFCLASS32, ELFCLASS64, ELFDATA2LSB, ELFDATA2MSB}
 use Rattle.dw_base.specs.declared.fault.Refusal.{Refusal}
 use Rattle.dw_base.specs.declared.records.Section.{Section}
 use Rattle.dw_base.specs.declared.records.Segment.{Segment}
 use Rattle.dw_base.specs.declared.shared.Order.TheVariants.{Little}
-use Rattle.dw_base.proofs.ElfLaws.{ehdr_size-least, e_shoff-some}
+use Rattle.dw_base.proofs.ElfLaws.{e_shoff-some}
 use Rattle.dw_base.proofs.FixedPartLaws.{segment-fixed, fixed-ends}
-use Rattle.dw_base.proofs.LayoutLaws.{laid-longer, fixed_end-header, fixed_end-within}
+use Rattle.dw_base.proofs.LayoutLaws.{fixed_end-header, fixed_end-within}
 use Rattle.dw_base.proofs.NumberLaws.{spelled-take}
 use Rattle.std.proofs.lemmas.List.{length-take, length-take-le, get_or-take, get_or_past}
 use Rattle.dw_base.proofs.WrittenLaws.{IsWritten, eq-differ, shoff_place-within, out-spelled}
-use Rattle.dw_base.proofs.WrittenHeaders.{header_places, Lengths, lengths, table_of, class-same, order-same, e_type-same, e_machine-same, e_phentsize-same, e_phnum-same, e_shentsize-same, e_phoff-same, e_shoff-is}
-use Rattle.dw_base.proofs.WrittenSections.{before_of, part-body, part-moves, moved-length, laid-with, nth-is}
+use Rattle.dw_base.proofs.WrittenHeaders.{header_places, lengths, class-same, order-same, e_type-same, e_machine-same, e_phentsize-same, e_phnum-same, e_shentsize-same, e_phoff-same, e_shoff-is}
+use Rattle.dw_base.proofs.WrittenSections.{before_of, part-moves, moved-length, laid-with, nth-is}
 use Rattle.dw_base.proofs.WrittenContents.{head-same, head-stays, first-same, count-same, name_index-same, empty-same, new_head-moves, full-moves, fixed-stays, contents-is}
 use Rattle.dw_base.proofs.ReadsBackLaws.{with_number-same, front-is, segments-by, segments-lie, segment-same, segments-same}
 
@@ -69,12 +68,12 @@ segment_table-reads b bodies w known =
     let n = e_phnum-same b bodies w in
     record {
       lies = λ some.
-        elim (segments-by b w.reads known) [
-          inl none ↦ absurd (some (n ∙ none))
-        | inr loaded ↦
-            let lie = segments-lie b loaded (rw n at some) in
-            rw (n, e_phoff-same b bodies w, class-same b bodies w) (omega arith)
-        ];
+          elim (segments-by b w.reads known) [
+            | inl none ↦ absurd (some (n ∙ none))
+            | inr loaded ↦
+                let lie = segments-lie b loaded (rw n at some) in
+                rw (n, e_phoff-same b bodies w, class-same b bodies w) (omega arith)
+          ];
     }
 
 table-reads : (b : List ℕ) (bodies : ℕ → List ℕ) → IsWritten b bodies → TableReads (with_bodies b bodies)
@@ -96,9 +95,9 @@ index-reads b bodies w =
       null = λ there. ap (λ (s : Section). s.kind) (first-same b bodies w) ∙ was.null (table-was b w.some);
       there = λ some. rw (n, count-same b bodies w) (was.there (rw n at some));
       strings = λ some.
-        ap (λ (i : ℕ). (nth_section (with_bodies b bodies) i).kind) n
-        ∙ (head-same b bodies (name_index b) w (was.there (rw n at some))).kind
-        ∙ was.strings (rw n at some);
+          ap (λ (i : ℕ). (nth_section (with_bodies b bodies) i).kind) n
+          ∙ (head-same b bodies (name_index b) w (was.there (rw n at some))).kind
+          ∙ was.strings (rw n at some);
     }
 
 -- each section lies in the file
@@ -125,12 +124,12 @@ section-lies b bodies i w lt full some =
     let s = nth_section b i in
     let was_full = sym (empty-same s (nth_section (with_bodies b bodies) i) (head-same b bodies i w lt).kind) ∙ full in
     elim (cases_Bool (is_fixed b s)) [
-      inl stays ↦
-        let moves : (part_of b bodies i).moves ≡ false = part-moves b bodies i ∙ fixed-stays (is_empty_kind s) (is_fixed b s) stays in
-        let same = head-stays b bodies i w lt moves in
-        subst (λ (t : Section). t.offset + t.size ≤ length (with_bodies b bodies)) (sym same)
-        (stays-lies b bodies i w lt stays was_full (λ none. some (ap (λ (t : Section). t.size) same ∙ none)))
-    | inr free ↦ moves-lies b bodies i w lt (part-moves b bodies i ∙ full-moves (is_empty_kind s) (is_fixed b s) was_full free)
+      | inl stays ↦
+          let moves : (part_of b bodies i).moves ≡ false = part-moves b bodies i ∙ fixed-stays (is_empty_kind s) (is_fixed b s) stays in
+          let same = head-stays b bodies i w lt moves in
+          subst (λ (t : Section). t.offset + t.size ≤ length (with_bodies b bodies)) (sym same)
+          (stays-lies b bodies i w lt stays was_full (λ none. some (ap (λ (t : Section). t.size) same ∙ none)))
+      | inr free ↦ moves-lies b bodies i w lt (part-moves b bodies i ∙ full-moves (is_empty_kind s) (is_fixed b s) was_full free)
     ]
 
 -- the section name table holds the body that was given for it
@@ -151,8 +150,8 @@ section-reads b bodies i w names lt =
         align = λ some. subst (λ (m : ℕ). is_power_of_two m ≡ true) (sym same.align) (was.place.align (λ none. some (same.align ∙ none)));
       };
       name = λ some.
-        let there : name_index b ≢ 0 = rw n at some in
-        rw (name_table-is b bodies w there, same.name) (names.ends i lt there);
+          let there : name_index b ≢ 0 = rw n at some in
+          rw (name_table-is b bodies w there, same.name) (names.ends i lt there);
     }
 
 segments-read : (b : List ℕ) (bodies : ℕ → List ℕ) → IsWritten b bodies → is_known_kind b ≡ true → SegmentsRead (with_bodies b bodies)
@@ -160,13 +159,13 @@ segments-read b bodies w known =
     let size = lengths b bodies w in
     record {
       all = λ i lt_out.
-        let lt : i < e_phnum b = rw (e_phnum-same b bodies w) at lt_out in
-        elim (segments-by b w.reads known) [
-          inl none ↦ absurd (omega arith)
-        | inr loaded ↦
-            subst (λ (s : Segment). SegmentReads (with_bodies b bodies) s) (sym (segment-same b bodies i w known lt))
-            (record { lies = λ some. let ends = segment-fixed b i loaded lt some in omega arith; })
-        ];
+          let lt : i < e_phnum b = rw (e_phnum-same b bodies w) at lt_out in
+          elim (segments-by b w.reads known) [
+            | inl none ↦ absurd (omega arith)
+            | inr loaded ↦
+                subst (λ (s : Segment). SegmentReads (with_bodies b bodies) s) (sym (segment-same b bodies i w known lt))
+                (record { lies = λ some. let ends = segment-fixed b i loaded lt some in omega arith })
+          ];
     }
 
 pub elf-reads : (b : List ℕ) (bodies : ℕ → List ℕ) → IsWritten b bodies → is_known_kind b ≡ true → NamesEnd b bodies → ElfReads (with_bodies b bodies)
@@ -213,8 +212,8 @@ shoff-in_front b =
 front-small : (b : List ℕ) (n k : ℕ) → ((j : ℕ) → slice_index b j < 256) → slice_index (take n b) k < 256
 front-small b n k bytes =
     elim (cases_lt k n) [
-      inl below ↦ rw (get_or-take n b k 0 below) (bytes k)
-    | inr past ↦ let none = get_or_past (take n b) k 0 (let size = length-take n b in omega arith) in rw none (omega arith)
+      | inl below ↦ rw (get_or-take n b k 0 below) (bytes k)
+      | inr past ↦ let none = get_or_past (take n b) k 0 (let size = length-take n b in omega arith) in rw none (omega arith)
     ]
 
 bare-front : (b : List ℕ) → DebugReads b → SegmentsRead b → ((k : ℕ) → slice_index b k < 256)
@@ -224,7 +223,7 @@ bare-front b reads segments bytes =
     let header = fixed_end-header b in
     let long = length-take-le (fixed_end b) b (fixed_end-within b reads segments) in
     rw (sym (shoff-in_front b)) (sym (with_number-same (order_of b) (take (fixed_end b) b) (shoff_place (class_of b)) (word_size (class_of b))
-        (λ k. front-small b (fixed_end b) k bytes) (omega arith)))
+    (λ k. front-small b (fixed_end b) k bytes) (omega arith)))
 
 bare-reads_back : (b : List ℕ) (bodies : ℕ → List ℕ) → section_count b ≡ 0 → DebugReads b → SegmentsRead b → ((k : ℕ) → slice_index b k < 256) → ReadsBack b bodies b
 bare-reads_back b bodies none reads segments bytes = record {
@@ -247,6 +246,6 @@ pub reads_back : (b : List ℕ) (bodies : ℕ → List ℕ) → DebugReads b →
     → ReadsBack b bodies (with_bodies b bodies)
 reads_back b bodies reads segments fit none bytes =
     elim (cases_eq (section_count b) 0) [
-      inl bare ↦ subst (λ (out : List ℕ). ReadsBack b bodies out) (sym (bare-is b bodies bare)) (bare-reads_back b bodies bare reads segments bytes)
-    | inr some ↦ written-reads_back b bodies (record { reads = reads; segments = segments; some = some; fit = fit; none = none; bytes = bytes })
+      | inl bare ↦ subst (λ (out : List ℕ). ReadsBack b bodies out) (sym (bare-is b bodies bare)) (bare-reads_back b bodies bare reads segments bytes)
+      | inr some ↦ written-reads_back b bodies (record { reads = reads; segments = segments; some = some; fit = fit; none = none; bytes = bytes })
     ]

@@ -1,26 +1,18 @@
 -- The headers of a file that was written with new section bodies.
-use Rattle.std.proofs.Common.{◌≡◌, ◌≢◌, ℕ, zero, suc, ◌+◌, ◌-◌, ◌*◌, ◌^◌, ◌<◌, ◌≤◌, ◌⊎◌, ◌==◌, ◌&&◌, not, Bool, true, false, List, [], ◌∷◌, ◌++◌, length, get_or, slice_index, if◌then◌else◌, refl, sym, ap, ◌∙◌, arith, inl, inr, subst}
-use Rattle.std.proofs.lemmas.Bool.{cases_lt, cases_eq}
-use Rattle.std.proofs.lemmas.List.{append-nil, length-append, get_or_append_left, get_or_push}
-use Rattle.dw_base.specs.Elf.{class_of, order_of, ehdr_size, shdr_size, word_size, phoff_place, shoff_place, phentsize_place, phnum_place, shentsize_place, shnum_place, shstrndx_place, half_at, e_type, e_machine, e_phoff, e_shoff, e_phentsize, e_phnum, e_shentsize, e_shnum, e_shstrndx, is_empty_kind, section_at, nth_section, section_count, name_index}
-use Rattle.dw_base.specs.Fields.{FieldsFit}
-use Rattle.dw_base.specs.Layout.{output_limit, Part, placed, padding, extended, laid, new_head, new_heads, fixed_end, is_fixed, part_of, before_table, with_table, with_bodies, shdr_fields, shdr_bytes, shdrs_bytes}
+use Rattle.std.proofs.Common.{◌≡◌, ℕ, ◌+◌, ◌*◌, ◌^◌, ◌<◌, ◌≤◌, ◌⊎◌, List, ◌++◌, length, refl, sym, ◌∙◌, arith, inl, inr}
+use Rattle.std.proofs.lemmas.Bool.{cases_lt}
+use Rattle.std.proofs.lemmas.List.{length-append}
+use Rattle.dw_base.specs.Elf.{class_of, order_of, ehdr_size, shdr_size, word_size, phoff_place, shoff_place, phentsize_place, phnum_place, shentsize_place, shnum_place, shstrndx_place, half_at, e_type, e_machine, e_phoff, e_shoff, e_phentsize, e_phnum, e_shentsize, e_shnum, e_shstrndx, section_count}
+use Rattle.dw_base.specs.Layout.{output_limit, fixed_end, before_table, with_table, with_bodies, shdrs_bytes}
 use Rattle.dw_base.specs.LayoutFails.LayoutFails.{large}
 use Rattle.dw_base.specs.LayoutFails.TooLong.{long}
-use Rattle.dw_base.specs.Lists.{tabulate}
-use Rattle.dw_base.specs.Numbers.{spelled, with_number}
-use Rattle.dw_base.specs.declared.elf_numbers.TheConstants.{SHT_NULL, SHT_NOBITS, SHN_XINDEX}
-use Rattle.dw_base.specs.declared.records.Section.{Section}
 use Rattle.dw_base.specs.declared.shared.Class.{Class}
 use Rattle.dw_base.specs.declared.shared.Class.TheVariants.{C32, C64}
-use Rattle.dw_base.specs.declared.shared.Order.{Order}
 use Rattle.dw_base.specs.declared.shared.Order.TheVariants.{Little}
-use Rattle.dw_base.proofs.ElfLaws.{ehdr_size-least}
-use Rattle.dw_base.proofs.LayoutLaws.{laid-append, laid-longer, extended-longer, laid_tabulate-longer, new_heads-append, fixed_end-header, length-before_table, length-with_table, length-new_heads, length-shdrs_bytes}
+use Rattle.dw_base.proofs.LayoutLaws.{laid-longer, fixed_end-header, length-before_table, length-with_table, length-new_heads}
 use Rattle.dw_base.proofs.ListLaws.{length-tabulate}
 use Rattle.dw_base.proofs.NumberLaws.{spelled-with_number}
-use Rattle.dw_base.proofs.RecordLaws.{section_at-ext, section_back, shdrs_bytes-at, section_at-fits, moved-fits}
-use Rattle.dw_base.proofs.WrittenLaws.{IsWritten, front_of, parts_of, laid_of, heads_of, out-is, front-length, out-spelled, shoff_place-within, with_table-table}
+use Rattle.dw_base.proofs.WrittenLaws.{IsWritten, front_of, parts_of, laid_of, heads_of, out-is, front-length, out-spelled, shoff_place-within}
 
 -- where the fields of the file header lie
 pub record HeaderPlaces (c : Class) : Type 0 where
@@ -41,14 +33,36 @@ pub record HeaderPlaces (c : Class) : Type 0 where
 
 pub header_places : (c : Class) → HeaderPlaces c
 header_places C32 = record {
-  least = omega arith; shoff = omega arith; phoff = omega arith; phentsize = omega arith; phentsize_in = omega arith; phnum = omega arith;
-  phnum_in = omega arith; shentsize = omega arith; shentsize_in = omega arith; shnum = omega arith; shnum_in = omega arith;
-  shstrndx = omega arith; shstrndx_in = omega arith; shoff_in = omega arith;
+  least = omega arith;
+  shoff = omega arith;
+  phoff = omega arith;
+  phentsize = omega arith;
+  phentsize_in = omega arith;
+  phnum = omega arith;
+  phnum_in = omega arith;
+  shentsize = omega arith;
+  shentsize_in = omega arith;
+  shnum = omega arith;
+  shnum_in = omega arith;
+  shstrndx = omega arith;
+  shstrndx_in = omega arith;
+  shoff_in = omega arith;
 }
 header_places C64 = record {
-  least = omega arith; shoff = omega arith; phoff = omega arith; phentsize = omega arith; phentsize_in = omega arith; phnum = omega arith;
-  phnum_in = omega arith; shentsize = omega arith; shentsize_in = omega arith; shnum = omega arith; shnum_in = omega arith;
-  shstrndx = omega arith; shstrndx_in = omega arith; shoff_in = omega arith;
+  least = omega arith;
+  shoff = omega arith;
+  phoff = omega arith;
+  phentsize = omega arith;
+  phentsize_in = omega arith;
+  phnum = omega arith;
+  phnum_in = omega arith;
+  shentsize = omega arith;
+  shentsize_in = omega arith;
+  shnum = omega arith;
+  shnum_in = omega arith;
+  shstrndx = omega arith;
+  shstrndx_in = omega arith;
+  shoff_in = omega arith;
 }
 
 -- class and byte order are as they were
@@ -124,8 +138,8 @@ e_phoff-same b bodies w =
 pub out-small : (b : List ℕ) (bodies : ℕ → List ℕ) → IsWritten b bodies → length (with_bodies b bodies) ≤ output_limit
 out-small b bodies w =
     elim (cases_lt output_limit (length (with_bodies b bodies))) [
-      inl passes ↦ absurd (w.fit _ (large (long passes)))
-    | inr small ↦ small
+      | inl passes ↦ absurd (w.fit _ (large (long passes)))
+      | inr small ↦ small
     ]
 
 -- where the section headers stand
@@ -153,7 +167,7 @@ lengths b bodies w =
     let longer = laid-longer (front_of b) (parts_of b bodies) in
     let before = length-before_table (class_of b) (laid_of b bodies) in
     let count : length (heads_of b bodies) ≡ section_count b =
-        length-new_heads (front_of b) (parts_of b bodies) ∙ length-tabulate _ (section_count b) in
+    length-new_heads (front_of b) (parts_of b bodies) ∙ length-tabulate _ (section_count b) in
     record {
       front = front;
       header = header;
@@ -161,8 +175,8 @@ lengths b bodies w =
       table = omega arith;
       heads = count;
       out = rw (out-is b bodies w.some)
-        (length-with_table (class_of b) (order_of b) (laid_of b bodies) (heads_of b bodies) (omega arith)
-        ∙ rw (count, sym before) refl);
+          (length-with_table (class_of b) (order_of b) (laid_of b bodies) (heads_of b bodies) (omega arith)
+          ∙ rw (count, sym before) refl);
       small = out-small b bodies w;
     }
 
@@ -175,4 +189,4 @@ e_shoff-is b bodies w =
     let both = length-append (before_table (class_of b) (laid_of b bodies)) (shdrs_bytes (class_of b) (order_of b) (heads_of b bodies)) in
     rw (class-same b bodies w, order-same b bodies w, out-is b bodies w.some)
     (spelled-with_number (order_of b) (before_table (class_of b) (laid_of b bodies) ++ shdrs_bytes (class_of b) (order_of b) (heads_of b bodies))
-        (shoff_place (class_of b)) (word_size (class_of b)) (table_of b bodies) (omega arith) (limit-fits (class_of b) (table_of b bodies) (omega arith)))
+    (shoff_place (class_of b)) (word_size (class_of b)) (table_of b bodies) (omega arith) (limit-fits (class_of b) (table_of b bodies) (omega arith)))

@@ -1,5 +1,5 @@
 -- The bytes of a file that was written with new section bodies.
-use Rattle.std.proofs.Common.{◌≡◌, ◌≢◌, ℕ, zero, suc, ◌+◌, ◌-◌, ◌*◌, ◌^◌, ◌<◌, ◌≤◌, ◌⊎◌, ◌==◌, Bool, true, false, List, [], ◌∷◌, ◌++◌, length, take, drop, replicate, get_or, slice_index, if◌then◌else◌, refl, sym, ap, ◌∙◌, arith, inl, inr}
+use Rattle.std.proofs.Common.{◌≡◌, ◌≢◌, ℕ, ◌+◌, ◌-◌, ◌<◌, ◌≤◌, ◌⊎◌, ◌==◌, Bool, true, false, List, [], ◌∷◌, ◌++◌, length, take, slice_index, if◌then◌else◌, refl, sym, ap, ◌∙◌, arith, inl, inr}
 use Rattle.std.proofs.lemmas.List.{get_or_append_left, get_or-append-add, get_or-take, get_or-drop, length-append, length-take-le}
 use Rattle.dw_base.specs.Elf.{class_of, order_of, ehdr_size, word_size, shoff_place, is_empty_kind, nth_section, section_count}
 use Rattle.dw_base.specs.ElfFails.{DebugReads, SegmentsRead}
@@ -56,8 +56,8 @@ append-kept out more k lt = get_or_append_left out more 0 k lt
 pub extended-kept : (out : List ℕ) (p : Part) (k : ℕ) → k < length out → slice_index (extended out p) k ≡ slice_index out k
 extended-kept out p k lt =
     elim p.moves as (λ (m : Bool). slice_index (if m then out ++ placed (length out) p else out) k ≡ slice_index out k) [
-      true ↦ append-kept out (placed (length out) p) k lt
-    | false ↦ refl
+      | true ↦ append-kept out (placed (length out) p) k lt
+      | false ↦ refl
     ]
 
 pub laid-kept : (out : List ℕ) (ps : List Part) (k : ℕ) → k < length out → slice_index (laid out ps) k ≡ slice_index out k
@@ -110,7 +110,7 @@ with_table-table c o out heads k header =
     let whole = length-append (before_table c out) (shdrs_bytes c o heads) in
     let within = shoff_place-within c in
     with_number-kept o (before_table c out ++ shdrs_bytes c o heads) (shoff_place c) (word_size c) (length (before_table c out))
-        (length (before_table c out) + k) (omega arith) (inr (omega arith))
+    (length (before_table c out) + k) (omega arith) (inr (omega arith))
     ∙ get_or-append-add (before_table c out) (shdrs_bytes c o heads) k 0
 
 -- the part that stays is as it was, but for the place of the section headers

@@ -1,6 +1,6 @@
 -- The layout of a file that is written with new section bodies: this project's profile. What is loaded
 -- stays at its place; other sections are laid one after another behind it, and the section headers last.
-use Rattle.std.specs.Prelude.{Bool, true, false, ◌≡◌, ℕ, ◌+◌, ◌-◌, ◌*◌, ◌%◌, ◌^◌, ◌==◌, ◌&&◌, ◌||◌, not, max, nat_le, nat_lt, bit_and, replicate, filter, map, if◌then◌else◌, List, [], ◌∷◌, ◌++◌, length, take}
+use Rattle.std.specs.Prelude.{Bool, ℕ, ◌+◌, ◌-◌, ◌*◌, ◌%◌, ◌^◌, ◌==◌, ◌&&◌, ◌||◌, not, max, nat_le, bit_and, replicate, filter, map, if◌then◌else◌, List, [], ◌∷◌, ◌++◌, length, take}
 use Rattle.dw_base.specs.Elf.{class_of, order_of, word_size, ehdr_size, shoff_place, e_type, e_phoff, e_phnum, phdr_size, nth_section, section_count, sections_of, segments_of, is_empty_kind}
 use Rattle.dw_base.specs.Fields.{FieldOf, fields_bytes}
 use Rattle.dw_base.specs.Lists.{tabulate}
@@ -41,7 +41,7 @@ segment_ends segments = map (λ (s : Segment). s.offset + s.filesz) (filter (λ 
 abbrev pub alloc_ends : List Section → List ℕ
 alloc_ends sections =
     map (λ (s : Section). s.offset + s.size)
-        (filter (λ (s : Section). is_alloc s && not (is_empty_kind s) && not (s.size == 0)) sections)
+    (filter (λ (s : Section). is_alloc s && not (is_empty_kind s) && not (s.size == 0)) sections)
 
 -- the end of the part of the file that stays: behind the headers and all that is loaded
 unfoldable pub fixed_end : List ℕ → ℕ
@@ -113,7 +113,7 @@ before_table class out = out ++ replicate (padding (length out) (word_size class
 unfoldable pub with_table : Class → Order → List ℕ → List Section → List ℕ
 with_table class order out heads =
     with_number order (before_table class out ++ shdrs_bytes class order heads)
-        (shoff_place class) (word_size class) (length (before_table class out))
+    (shoff_place class) (word_size class) (length (before_table class out))
 
 -- the file of a front and sections: the front, the sections laid out behind it, and their new headers
 unfoldable pub laid_out : Class → Order → List ℕ → List Part → List ℕ

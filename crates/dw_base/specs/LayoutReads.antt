@@ -41,6 +41,6 @@ pub record ReadsBack (b : List ℕ) (bodies : ℕ → List ℕ) (out : List ℕ)
   pub heads : (i : ℕ) → i < section_count b → SameButPlace (nth_section b i) (nth_section out i)
   pub contents : (i : ℕ) → i < section_count b → contents_of out i ≡ bodies i
   pub front : take (fixed_end b) out
-    ≡ with_number (order_of b) (take (fixed_end b) b) (shoff_place (class_of b)) (word_size (class_of b)) (e_shoff out)
+      ≡ with_number (order_of b) (take (fixed_end b) b) (shoff_place (class_of b)) (word_size (class_of b)) (e_shoff out)
   pub segments : is_known_kind b ≡ true → segments_of out ≡ segments_of b
   pub reads : is_known_kind b ≡ true → NamesEnd b bodies → ElfReads out

@@ -9,6 +9,9 @@ pub mod StringTables
 pub mod Elf
 pub mod ElfFails
 pub mod Layout
+pub mod LayoutFails
+pub mod LayoutReads
+pub mod Parts
 pub mod Grammar
 pub mod Abbreviations
 pub mod Units
@@ -18,5 +21,3 @@ pub mod Output
 pub mod First
 pub mod PlainReading
 pub mod PlainFirst
-pub mod LayoutFails
-pub mod LayoutReads

@@ -24,8 +24,8 @@ sections-few C64 at count len lies small = omega arith
 pub section_count-few : (b : List ℕ) → DebugReads b → length b ≤ 2 ^ 31 → section_count b < 2 ^ 32
 section_count-few b reads small =
     elim (cases_lt 0 (section_count b)) [
-      inl some ↦ sections-few (class_of b) (e_shoff b) (section_count b) (length b) (reads.table.lies (e_shoff-some b 0 some)) small
-    | inr none ↦ omega arith
+      | inl some ↦ sections-few (class_of b) (e_shoff b) (section_count b) (length b) (reads.table.lies (e_shoff-some b 0 some)) small
+      | inr none ↦ omega arith
     ]
 
 pub ruleset count_laws = (section_count-few)

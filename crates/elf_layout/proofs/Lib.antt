@@ -1,3 +1,4 @@
 pub mod Rows
 pub mod ByteLaws
 pub mod FixedLaws
+pub mod PartRows

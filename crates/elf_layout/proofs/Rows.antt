@@ -1,7 +1,7 @@
 -- The rows of the refusals, for the check's search.
-use Rattle.std.proofs.Common.{◌≡◌, ℕ, suc, ◌∷◌, ◌+◌, ◌<◌, ◌≤◌, ◌*◌, List, [], ◌++◌, length, replicate, add-one, arith}
+use Rattle.std.proofs.Common.{◌≡◌, ℕ, suc, ◌∷◌, ◌+◌, ◌<◌, ◌≤◌, ◌*◌, List, [], ◌++◌, length, replicate, true, Option, add-one, arith}
 use Rattle.std.proofs.lemmas.List.{length-append, length-replicate}
-use Rattle.dw_base.specs.Elf.{nth_section, section_count, ehdr_size, shdr_size, word_size}
+use Rattle.dw_base.specs.Elf.{contents_of, is_empty_kind, nth_section, section_count, ehdr_size, shdr_size, word_size}
 use Rattle.dw_base.specs.Layout.{Part, output_limit, padding, extended, laid, new_head, new_heads, shdrs_bytes, before_table, with_table, with_bodies}
 use Rattle.dw_base.specs.LayoutFails.{BeginsInHeader, Changes, LayoutFails, LiesAcross, SectionStays, TooLong}
 use Rattle.dw_base.specs.LayoutFails.LayoutFails.{section, large}
@@ -11,6 +11,10 @@ use Rattle.dw_base.specs.Lists.{tabulate}
 use Rattle.dw_base.specs.Refusals.{at, Blames}
 use Rattle.dw_base.specs.declared.fault.Fault.{Fault}
 use Rattle.dw_base.specs.declared.fault.Fault.TheVariants.{NoMemory, Refused}
+use Rattle.dw_base.proofs.WrittenContents.{contents-empty}
+use Rattle.elf_layout.specs.Given.{AreContents, body_given}
+use Rattle.std.specs.declared.alloc.Global.{Global}
+use Rattle.std.specs.declared.vec.Vec.{Vec}
 use Rattle.elf_layout.proofs.ByteLaws.{appended_ten}
 use Rattle.dw_base.specs.declared.fault.Kind.TheVariants.{TooLarge}
 use Rattle.dw_base.specs.declared.fault.Refusal.{Refusal}
@@ -89,7 +93,7 @@ long_laid out so_far f i n (Refused r) same lt blamed =
     let step = laid-append out (tabulate f i) (f i ∷ []) in
     let more = laid_tabulate-longer out f (suc i) n (omega arith) in
     too_long-more (length (extended (laid out (tabulate f i)) (f i))) (length (laid out (tabulate f n))) r (rw step at more)
-        (rw same at blamed)
+    (rw same at blamed)
 
 pub ruleset laid_rows = (laid-next, new_heads-next, long_laid)
 
@@ -112,3 +116,10 @@ layout_excludes b bodies r small fit (section i lt h) = fit i r lt h
 layout_excludes b bodies r small fit (large (long passes)) = omega arith
 
 pub ruleset emit_rows = (section, large, layout_excludes, fixed_end-header, fixed_end-within)
+
+-- no body is given for a section of type NULL or NOBITS, nor has it one
+pub given-none : (b : List ℕ) (contents : List (Option (Vec ℕ Global))) → AreContents b contents
+    → (i : ℕ) → i < section_count b → is_empty_kind (nth_section b i) ≡ true → body_given b contents i ≡ []
+unfolding body_given contents_of
+given-none b contents are i lt empty =
+    rw (are.none i lt empty) (contents-empty b (nth_section b i) empty)

@@ -1,10 +1,11 @@
 //! Files written with new section bodies: this project's profile.
 
-ghost use Rattle.std.specs.Prelude.{◌≡◌, ◌≢◌, ◌↔◌, ◌+◌, ◌<◌, ◌≤◌, ◌++◌, ◌&&◌, ℕ, not, length, vec_len, take, IsTrue, OnOk, IfOk, IfErr};
+ghost use Rattle.std.specs.Prelude.{◌≡◌, ◌≢◌, ◌↔◌, ◌+◌, ◌<◌, ◌≤◌, ◌++◌, ◌&&◌, ℕ, not, length, slice_index, vec_len, take, IsTrue, OnOk, IfOk, IfErr};
 ghost use Rattle.dw_base.specs.ElfFails.{SegmentsRead};
 ghost use Rattle.dw_base.specs.Elf.{contents_of, ehdr_size, is_empty_kind, nth_section, section_count};
 ghost use Rattle.dw_base.specs.Layout.{output_limit, extended, fixed_end, is_fixed, laid, laid_out, new_head, new_heads, part_of, with_bodies};
 ghost use Rattle.dw_base.specs.LayoutFails.{BeginsInHeader, Changes, LayoutFails, LiesAcross, SectionStays, TooLong};
+ghost use Rattle.dw_base.specs.LayoutReads.{ReadsBack};
 ghost use Rattle.dw_base.specs.Lists.{tabulate};
 ghost use Rattle.dw_base.specs.Refusals.{Blames};
 ghost use Rattle.dw_base.specs.declared.fault.Refusal.{Refusal};
@@ -19,7 +20,7 @@ use std::alloc::Global;
 
 /// How many sections there are.
 #[tactic(auto, using(crate::proofs::FixedLaws::count_laws))]
-fn section_count(elf: &ElfFile) -> u32
+pub(crate) fn section_count(elf: &ElfFile) -> u32
     ensures { result ≡ section_count elf.now.bytes.now }
 {
     elf.sections.len() as u32
@@ -27,7 +28,7 @@ fn section_count(elf: &ElfFile) -> u32
 
 /// The header of the section of a number.
 #[tactic(auto, using(crate::proofs::FixedLaws::section_laws))]
-fn head_of(elf: &ElfFile, section: u32) -> Section
+pub(crate) fn head_of(elf: &ElfFile, section: u32) -> Section
     requires there { section < section_count elf.now.bytes.now }
     ensures { result ≡ nth_section elf.now.bytes.now section }
 {
@@ -64,7 +65,12 @@ fn changes(elf: &ElfFile, end: u64, contents: &[Option<Vec<u8>>], section: u32) 
 /// A section can be written. Refused as `Fixed` at (its number, 0) exactly where it lies across the
 /// fixed end, begins in the file header, or stays and is given other bytes than it has.
 #[tactic(auto, using(crate::proofs::Rows::stays_rows))]
-fn section_fits(elf: &ElfFile, end: u64, contents: &[Option<Vec<u8>>], section: u32) -> Result<(), Refusal>
+fn section_fits(
+    elf: &ElfFile,
+    end: u64,
+    contents: &[Option<Vec<u8>>],
+    section: u32,
+) -> Result<(), Refusal>
     requires end { end ≡ fixed_end elf.now.bytes.now }
     requires there { section < section_count elf.now.bytes.now }
     requires contents { AreContents elf.now.bytes.now contents.now }
@@ -74,13 +80,25 @@ fn section_fits(elf: &ElfFile, end: u64, contents: &[Option<Vec<u8>>], section: 
 {
     let head = head_of(elf, section);
     if lies_across(elf, end, &head) {
-        return Err(Refusal { kind: Kind::Fixed, section, offset: 0 });
+        return Err(Refusal {
+            kind: Kind::Fixed,
+            section,
+            offset: 0,
+        });
     }
     if begins_in_header(elf, &head) {
-        return Err(Refusal { kind: Kind::Fixed, section, offset: 0 });
+        return Err(Refusal {
+            kind: Kind::Fixed,
+            section,
+            offset: 0,
+        });
     }
     if changes(elf, end, contents, section) {
-        return Err(Refusal { kind: Kind::Fixed, section, offset: 0 });
+        return Err(Refusal {
+            kind: Kind::Fixed,
+            section,
+            offset: 0,
+        });
     }
     Ok(())
 }
@@ -157,7 +175,12 @@ fn lay_sections(
 
 /// The file of the front up to the fixed end, the sections that move, and the new headers.
 #[tactic(auto, using(crate::proofs::Rows::file_rows), unfolding(dw_base::specs::Layout::laid_out))]
-fn lay_out(alloc: Global, elf: &ElfFile, end: u64, contents: &[Option<Vec<u8>>]) -> Result<Vec<u8>, Fault>
+fn lay_out(
+    alloc: Global,
+    elf: &ElfFile,
+    end: u64,
+    contents: &[Option<Vec<u8>>],
+) -> Result<Vec<u8>, Fault>
     requires end { end ≡ fixed_end elf.now.bytes.now }
     requires header { ehdr_size elf.now.class ≤ end }
     requires within { end ≤ length elf.now.bytes.now }
@@ -173,23 +196,44 @@ fn lay_out(alloc: Global, elf: &ElfFile, end: u64, contents: &[Option<Vec<u8>>])
     append_table(out, elf.class, elf.order, &heads)
 }
 
-/// The file with new section bodies, one item for each section: its new body, or none where it keeps
-/// its own. Refused as `Fixed` at (a section, 0) only where that section lies across the fixed end,
-/// begins in the file header, or stays and is given other bytes than it has; as `TooLarge` only where
-/// the file would pass the limit. Where none of these holds it is written, or memory is short.
+/// What `emit` gives, for a file of these bytes.
 #[tactic(auto, using(crate::proofs::Rows::emit_rows), unfolding(dw_base::specs::Layout::with_bodies))]
-pub fn emit(alloc: Global, elf: &ElfFile, contents: &[Option<Vec<u8>>]) -> Result<Vec<u8>, Fault>
-    requires segments { SegmentsRead elf.now.bytes.now }
-    requires contents { AreContents elf.now.bytes.now contents.now }
-    ensures file { IfOk result (λ file. file.items ≡ with_bodies elf.now.bytes.now (body_given elf.now.bytes.now contents.now)) }
-    ensures none { OnOk result ((r : Refusal) → LayoutFails elf.now.bytes.now (body_given elf.now.bytes.now contents.now) r → ⊥) }
-    ensures refused { IfErr result (Blames (LayoutFails elf.now.bytes.now (body_given elf.now.bytes.now contents.now))) }
+fn written(
+    alloc: Global,
+    bytes: &[u8],
+    elf: &ElfFile,
+    contents: &[Option<Vec<u8>>],
+) -> Result<Vec<u8>, Fault>
+    requires bytes { bytes.now ≡ elf.now.bytes.now }
+    requires segments { SegmentsRead bytes.now }
+    requires contents { AreContents bytes.now contents.now }
+    ensures file { IfOk result (λ file. file.items ≡ with_bodies bytes.now (body_given bytes.now contents.now)) }
+    ensures bytes { OnOk result ((k : ℕ) → slice_index bytes.now k < 256) }
+    ensures none { OnOk result ((r : Refusal) → LayoutFails bytes.now (body_given bytes.now contents.now) r → ⊥) }
+    ensures refused { IfErr result (Blames (LayoutFails bytes.now (body_given bytes.now contents.now))) }
 {
     let end = elf.fixed_end();
     sections_fit(elf, end, contents)?;
     if elf.sections.is_empty() {
-        return Ok(Vec::from_slice(alloc, elf.bytes)?);
+        return Ok(Vec::from_slice(alloc, bytes)?);
     }
     let file = lay_out(alloc, elf, end, contents)?;
+    Ok(file)
+}
+
+/// The file with new section bodies, one item for each section: its new body, or none where it keeps
+/// its own. Its sections read back as they were, but for place, size and these bodies. Refused as
+/// `Fixed` at (a section, 0) only where that section lies across the fixed end, begins in the file
+/// header, or stays and is given other bytes than it has; as `TooLarge` only where the file would pass
+/// the limit. Where none of these holds it is written, or memory is short.
+pub fn emit(alloc: Global, elf: &ElfFile, contents: &[Option<Vec<u8>>]) -> Result<Vec<u8>, Fault>
+    requires segments { SegmentsRead elf.now.bytes.now }
+    requires contents { AreContents elf.now.bytes.now contents.now }
+    ensures file { IfOk result (λ file. file.items ≡ with_bodies elf.now.bytes.now (body_given elf.now.bytes.now contents.now)) }
+    ensures reads_back { IfOk result (λ file. ReadsBack elf.now.bytes.now (body_given elf.now.bytes.now contents.now) file.items) }
+    ensures none { OnOk result ((r : Refusal) → LayoutFails elf.now.bytes.now (body_given elf.now.bytes.now contents.now) r → ⊥) }
+    ensures refused { IfErr result (Blames (LayoutFails elf.now.bytes.now (body_given elf.now.bytes.now contents.now))) }
+{
+    let file = written(alloc, elf.bytes, elf, contents)?;
     Ok(file)
 }

@@ -15,7 +15,11 @@ pub(crate) const OUTPUT_LIMIT: u64 = 0x8000_0000;
 pub(crate) fn too_long() -> Fault
     ensures { result ≡ refused_length }
 {
-    Fault::Refused(Refusal { kind: Kind::TooLarge, section: 0, offset: 0 })
+    Fault::Refused(Refusal {
+        kind: Kind::TooLarge,
+        section: 0,
+        offset: 0,
+    })
 }
 
 /// How many zeros lead from a place to the next multiple of an alignment; none for alignment 0.
@@ -53,7 +57,12 @@ pub(crate) fn append_padded(out: &mut Vec<u8>, zeros: u64, body: &[u8]) -> Resul
 
 /// Lays out a section behind what is laid, where it moves; its new header.
 #[tactic(auto, using(crate::proofs::Rows::layout_rows), unfolding(dw_base::specs::Layout::placed, dw_base::specs::Layout::new_head))]
-pub(crate) fn lay(out: &mut Vec<u8>, head: &Section, moves: bool, body: &[u8]) -> Result<Section, Fault>
+pub(crate) fn lay(
+    out: &mut Vec<u8>,
+    head: &Section,
+    moves: bool,
+    body: &[u8],
+) -> Result<Section, Fault>
     requires small { vec_len out.old ≤ output_limit }
     ensures laid { OnOk result (out.new.items ≡ extended out.old.items (part head.now moves body.now)) }
     ensures head { IfOk result (λ h. h ≡ new_head (length out.old.items) (part head.now moves body.now)) }
@@ -67,5 +76,9 @@ pub(crate) fn lay(out: &mut Vec<u8>, head: &Section, moves: bool, body: &[u8]) -
     let place = out.len() as u64;
     let zeros = padding_at(place, head.align);
     append_padded(out, zeros, body)?;
-    Ok(Section { offset: place + zeros, size: body.len() as u64, ..*head })
+    Ok(Section {
+        offset: place + zeros,
+        size: body.len() as u64,
+        ..*head
+    })
 }

@@ -78,7 +78,12 @@ fn push_shdr(out: &mut Vec<u8>, class: Class, order: Order, s: &Section) -> Resu
 }
 
 /// Appends section headers, one after another.
-fn push_shdrs(out: &mut Vec<u8>, class: Class, order: Order, heads: &[Section]) -> Result<(), AllocError>
+fn push_shdrs(
+    out: &mut Vec<u8>,
+    class: Class,
+    order: Order,
+    heads: &[Section],
+) -> Result<(), AllocError>
     ensures bytes { OnOk result (out.new.items ≡ out.old.items ++ shdrs_bytes class order heads.now) }
 {
     for head in heads {
