@@ -28,7 +28,7 @@ pub record Rest (g : Grammar) (s : g.State) (rest : List ℕ) : Type 0 where
 -- where a section is pieces, what is left behind other pieces of it is pieces too
 pub chain-rest : (g : Grammar) → ReadsOneWay g → (s t : g.State) (xs ys : List (Step g.State)) (rest : List ℕ)
     → Leads g s xs t → Chain g s ys → joined ys ≡ joined xs ++ rest → Rest g t rest
-chain-rest g law s t [] ys rest l c e = subst (λ (z : g.State). Rest g z rest) l (record { pieces = ys; chain = c; bytes = e; })
+chain-rest g law s t [] ys rest l c e = subst (λ (z : g.State). Rest g z rest) l (record { pieces = ys; chain = c; bytes = e })
 chain-rest g law s t (x ∷ xs) [] rest l c e = absurd (law.ends s x.bytes c (subst (λ (z : g.State). g.Fits z x.bytes) l.0 l.1))
 chain-rest g law s t (x ∷ xs) (y ∷ ys) rest l c e =
     let fit_x : g.Fits s x.bytes = subst (λ (z : g.State). g.Fits z x.bytes) l.0 l.1 in
@@ -38,7 +38,7 @@ chain-rest g law s t (x ∷ xs) (y ∷ ys) rest l c e =
     let bytes : y.bytes ≡ x.bytes = front_same y.bytes x.bytes (joined ys) (joined xs ++ rest) size whole in
     let behind : joined ys ≡ joined xs ++ rest = back_same y.bytes x.bytes (joined ys) (joined xs ++ rest) size whole in
     let state : g.next y.state y.bytes ≡ g.next x.state x.bytes =
-        ap (λ (z : g.State). g.next z y.bytes) (c.0 ∙ sym l.0) ∙ ap (g.next x.state) bytes in
+    ap (λ (z : g.State). g.next z y.bytes) (c.0 ∙ sym l.0) ∙ ap (g.next x.state) bytes in
     let tail : Chain g (g.next x.state x.bytes) ys = subst (λ (z : g.State). Chain g z ys) state c.2 in
     chain-rest g law (g.next x.state x.bytes) t xs ys rest l.2 tail behind
 
@@ -60,7 +60,7 @@ joined-append (x ∷ xs) ys = ap (λ (r : List ℕ). x.bytes ++ r) (joined-appen
 -- pieces of the same state and bytes are the same
 pub step_same : {S : Type 0} (x y : Step S) → x.state ≡ y.state → x.bytes ≡ y.bytes → x ≡ y
 step_same {S} x y state bytes =
-    let f : S → List ℕ → Step S = λ s b. record { state = s; bytes = b; } in
+    let f : S → List ℕ → Step S = λ s b. record { state = s; bytes = b } in
     ap (λ (s : S). f s x.bytes) state ∙ ap (f y.state) bytes
 
 -- bytes are pieces in one way
@@ -77,7 +77,7 @@ chain-unique g law s (x ∷ xs) (y ∷ ys) c d e =
     let behind : joined xs ≡ joined ys = back_same x.bytes y.bytes (joined xs) (joined ys) size e in
     let state : x.state ≡ y.state = c.0 ∙ sym d.0 in
     let next : g.next y.state y.bytes ≡ g.next x.state x.bytes =
-        ap (λ (z : g.State). g.next z y.bytes) (sym state) ∙ ap (g.next x.state) (sym bytes) in
+    ap (λ (z : g.State). g.next z y.bytes) (sym state) ∙ ap (g.next x.state) (sym bytes) in
     let tail : Chain g (g.next x.state x.bytes) ys = subst (λ (z : g.State). Chain g z ys) next d.2 in
     let rest : xs ≡ ys = chain-unique g law (g.next x.state x.bytes) xs ys c.2 tail behind in
     let first : x ≡ y = step_same x y state bytes in

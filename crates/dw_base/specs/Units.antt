@@ -60,15 +60,31 @@ no_params = record { order = Little; width = W32; version = 0; address = 0 }
 -- before a unit of this number, at a place of a section of so many bytes
 abbrev pub before_unit : ℕ → ℕ → ℕ → UnitState
 before_unit whole place unit = record {
-  whole = whole; place = place; unit = unit; start = 0; finish = 0; params = no_params; table = [];
-  entry = 0; depth = 0; mode = header;
+  whole = whole;
+  place = place;
+  unit = unit;
+  start = 0;
+  finish = 0;
+  params = no_params;
+  table = [];
+  entry = 0;
+  depth = 0;
+  mode = header;
 }
 
 -- in a unit, at a place, before a piece of this mode
 abbrev pub in_unit : UnitState → ℕ → ℕ → ℕ → Mode → UnitState
 in_unit s place entry depth mode = record {
-  whole = s.whole; place = place; unit = s.unit; start = s.start; finish = s.finish; params = s.params; table = s.table;
-  entry = entry; depth = depth; mode = mode;
+  whole = s.whole;
+  place = place;
+  unit = s.unit;
+  start = s.start;
+  finish = s.finish;
+  params = s.params;
+  table = s.table;
+  entry = entry;
+  depth = depth;
+  mode = mode;
 }
 
 -- between entries: an entry's code, or at the unit's end the next unit, where no list of children is open
@@ -90,8 +106,16 @@ header_params order p = record { order = order; width = W32; version = spelled o
 -- the unit of a header: where it starts and ends, its parameters, and its abbreviations
 unfoldable pub headed : Order → List ℕ → UnitState → List ℕ → UnitState
 headed order abbrevs s p = record {
-  whole = s.whole; place = s.place; unit = s.unit; start = s.place; finish = s.place + 4 + spelled order p 0 4;
-  params = header_params order p; table = abbreviations_at abbrevs (spelled order p 6 4); entry = 0; depth = 0; mode = header;
+  whole = s.whole;
+  place = s.place;
+  unit = s.unit;
+  start = s.place;
+  finish = s.place + 4 + spelled order p 0 4;
+  params = header_params order p;
+  table = abbreviations_at abbrevs (spelled order p 6 4);
+  entry = 0;
+  depth = 0;
+  mode = header;
 }
 
 -- after an entry's code: the entry's values, and one more list of children where it has some

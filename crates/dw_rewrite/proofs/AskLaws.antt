@@ -48,14 +48,14 @@ base_in_text base t more plain e = elim (cases_lt (length t) (length base)) [
 text_starts : (base t more : List ℕ) → has_nul base ≡ false → starts_with nat_eq t base ≡ starts_with nat_eq (t ++ 0 ∷ more) base
 text_starts base t more plain = both_tests (starts_with nat_eq t base) (starts_with nat_eq (t ++ 0 ∷ more) base)
     (λ h.
-      let e : base ≡ take (length base) t = starts t base h in
-      let size : length (take (length base) t) ≡ length base = ap length (sym e) in
-      let inside : length base ≤ length t = omega (arith, length-take (length base) t) in
-      starts-from (t ++ 0 ∷ more) base (e ∙ sym (take-append-le (length base) t (0 ∷ more) inside)))
+    let e : base ≡ take (length base) t = starts t base h in
+    let size : length (take (length base) t) ≡ length base = ap length (sym e) in
+    let inside : length base ≤ length t = omega (arith, length-take (length base) t) in
+    starts-from (t ++ 0 ∷ more) base (e ∙ sym (take-append-le (length base) t (0 ∷ more) inside)))
     (λ h.
-      let e : base ≡ take (length base) (t ++ 0 ∷ more) = starts (t ++ 0 ∷ more) base h in
-      let inside : length base ≤ length t = base_in_text base t more plain e in
-      starts-from t base (e ∙ take-append-le (length base) t (0 ∷ more) inside))
+    let e : base ≡ take (length base) (t ++ 0 ∷ more) = starts (t ++ 0 ∷ more) base h in
+    let inside : length base ≤ length t = base_in_text base t more plain e in
+    starts-from t base (e ∙ take-append-le (length base) t (0 ∷ more) inside))
 
 -- the byte behind the base
 next_byte : (t more : List ℕ) (n : ℕ) → has_nul t ≡ false → n ≤ length t
@@ -72,7 +72,7 @@ next_byte (b ∷ t) more zero plain le =
 next_byte (b ∷ t) more (suc n) plain le =
     let rest : has_nul t ≡ false = rest_plain b t plain in
     let same : (length (b ∷ t) == suc n) ≡ (length t == n) = both_tests (length (b ∷ t) == suc n) (length t == n)
-        (λ h. grind (arith, nat_tests)) (λ h. grind (arith, nat_tests)) in
+    (λ h. grind (arith, nat_tests)) (λ h. grind (arith, nat_tests)) in
     next_byte t more n rest (omega arith) ∙ ap (λ (x : Bool). x || get_or t n 0 == 47) (sym same)
   where
     rest_plain : (b : ℕ) (t : List ℕ) → has_nul (b ∷ t) ≡ false → has_nul t ≡ false
@@ -84,7 +84,7 @@ record Split (xs : List ℕ) : Type 0 where
   is : xs ≡ text xs ++ 0 ∷ more
 
 split : (xs : List ℕ) → has_nul xs ≡ true → Split xs
-split xs ends = let s = text-split xs ends in record { more = s.0; is = s.1; }
+split xs ends = let s = text-split xs ends in record { more = s.0; is = s.1 }
 
 -- a text lies not under a base that is longer than the bytes
 pub under_short : (base xs : List ℕ) → has_nul xs ≡ true → length xs ≤ length base → false ≡ lies_under base (text xs)
@@ -92,11 +92,11 @@ unfolding lies_under
 under_short base xs ends short =
     let long : length (text xs) < length xs = length-text xs ends in
     let no : starts_with nat_eq (text xs) base ≡ false = both_tests (starts_with nat_eq (text xs) base) false
-        (λ h.
-          let e : base ≡ take (length base) (text xs) = starts (text xs) base h in
-          let size : length (take (length base) (text xs)) ≡ length base = ap length (sym e) in
-          absurd (omega (arith, length-take (length base) (text xs))))
-        (λ h. absurd cc) in
+    (λ h.
+    let e : base ≡ take (length base) (text xs) = starts (text xs) base h in
+    let size : length (take (length base) (text xs)) ≡ length base = ap length (sym e) in
+    absurd (omega (arith, length-take (length base) (text xs))))
+    (λ h. absurd cc) in
     rw no refl
 
 -- nor under one that the bytes don't begin with
@@ -105,7 +105,7 @@ unfolding lies_under
 under_other base xs plain ends other =
     let s : Split xs = split xs ends in
     let same : starts_with nat_eq (text xs) base ≡ false =
-        text_starts base (text xs) s.more plain ∙ ap (λ (y : List ℕ). starts_with nat_eq y base) (sym s.is) ∙ other in
+    text_starts base (text xs) s.more plain ∙ ap (λ (y : List ℕ). starts_with nat_eq y base) (sym s.is) ∙ other in
     rw same refl
 
 -- under one that they begin with it lies where the byte behind it ends a component
@@ -117,7 +117,7 @@ under_next base xs plain ends begins =
     let front : base ≡ take (length base) (text xs ++ 0 ∷ s.more) = starts xs base begins ∙ ap (take (length base)) s.is in
     let inside : length base ≤ length (text xs) = base_in_text base (text xs) s.more plain front in
     let same : starts_with nat_eq (text xs) base ≡ true =
-        text_starts base (text xs) s.more plain ∙ ap (λ (y : List ℕ). starts_with nat_eq y base) (sym s.is) ∙ begins in
+    text_starts base (text xs) s.more plain ∙ ap (λ (y : List ℕ). starts_with nat_eq y base) (sym s.is) ∙ begins in
     let next = next_byte (text xs) s.more (length base) (has_nul-text xs) inside in
     ap (λ (y : List ℕ). get_or y (length base) 0 == 0 || get_or y (length base) 0 == 47) s.is ∙ next
     ∙ ap (λ (b : Bool). b && (length (text xs) == length base || get_or (text xs) (length base) 0 == 47)) (sym same)
@@ -133,8 +133,8 @@ asks_under base dest t differ = by_under (lies_under base t) refl
     by_under true h =
         let t_is : t ≡ base ++ drop (length base) t = lies_under-split base t h in
         let other : same_text (dest ++ drop (length base) t) t ≡ false = both_tests (same_text (dest ++ drop (length base) t) t) false
-            (λ e. absurd (differ (sym (append_cancel_right dest base (drop (length base) t) (same_text-true (dest ++ drop (length base) t) t e ∙ t_is)))))
-            (λ e. absurd cc) in
+        (λ e. absurd (differ (sym (append_cancel_right dest base (drop (length base) t) (same_text-true (dest ++ drop (length base) t) t e ∙ t_is)))))
+        (λ e. absurd cc) in
         rw other refl
     by_under false h = rw (same_text-from t t refl) refl
 

@@ -44,7 +44,7 @@ pub texts_by_places : (m : PathMap) (around : Around) (info table : List ℕ) (t
 texts_by_places m around info table ts place [] l = refl
 texts_by_places m around info table ts place (x ∷ xs) l =
     piece_texts (role_of x) m around info table ts x.bytes (joined xs) place (mentions_of in_debug_str around xs) (path_places xs) l.1 l.2
-        (λ (us : List (List ℕ)). texts_by_places m around info table us (place + length x.bytes) xs l.3)
+    (λ (us : List (List ℕ)). texts_by_places m around info table us (place + length x.bytes) xs l.3)
     ∙ ap (λ (i : ℕ). texts_at (appending m table) m around info ts (path_place (role_of x) i ++ path_places xs)) (sym l.0)
 
 -- a number put behind bytes of so many
@@ -55,7 +55,7 @@ with_number_behind o front p rest place x at size =
     let before : take place (front ++ (p ++ rest)) ≡ front = ap (λ (i : ℕ). take i (front ++ (p ++ rest))) (sym at) ∙ take-append_seam front (p ++ rest) in
     let skip : drop 4 (p ++ rest) ≡ rest = ap (λ (i : ℕ). drop i (p ++ rest)) (sym size) ∙ drop-append_seam p rest in
     let behind : drop (place + 4) (front ++ (p ++ rest)) ≡ rest =
-        ap (λ (i : ℕ). drop (i + 4) (front ++ (p ++ rest))) (sym at) ∙ drop-append-add front (p ++ rest) 4 ∙ skip in
+    ap (λ (i : ℕ). drop (i + 4) (front ++ (p ++ rest))) (sym at) ∙ drop-append-add front (p ++ rest) 4 ∙ skip in
     ap (λ (b : List ℕ). b ++ number_bytes o 4 x ++ drop (place + 4) (front ++ (p ++ rest))) before
     ∙ ap (λ (b : List ℕ). front ++ number_bytes o 4 x ++ b) behind ∙ append_assoc front (number_bytes o 4 x) rest
 
@@ -76,22 +76,22 @@ pub length-edited_by : (r : Role) (changes : TableChanges) (around : Around) (p 
 length-edited_by fixed changes around p = refl
 length-edited_by (offset in_debug_str path) changes around p =
     length-asked (changes.str.plan.asks (mention_at around in_debug_str path p)) around.order p
-        (new_place changes.str.plan changes.map changes.str.texts (mention_at around in_debug_str path p))
+    (new_place changes.str.plan changes.map changes.str.texts (mention_at around in_debug_str path p))
 
 -- what a piece becomes, where it stands behind bytes of so many
 piece_written : (r : Role) (changes : TableChanges) (around : Around) (table info front p rest : List ℕ) (place : ℕ) (more : List ℕ)
     → changes.str.plan ≡ appending changes.map table → length front ≡ place → p ++ rest ≡ drop place info → SizeBy r p
     → patched changes.str changes.map around info (front ++ (p ++ rest)) (path_place r place ++ more)
-        ≡ patched changes.str changes.map around info (front ++ (edited_by r changes around p ++ rest)) more
+    ≡ patched changes.str changes.map around info (front ++ (edited_by r changes around p ++ rest)) more
 piece_written fixed changes around table info front p rest place more plan at e size = refl
 piece_written (offset in_debug_str true) changes around table info front p rest place more plan at e size =
     let x : Mention = path_at around info place in
     let same : mention_at around in_debug_str true p ≡ x = mention_is around p rest info place e size in
     let asked : patched_at changes.str changes.map around info (front ++ (p ++ rest)) place
-        ≡ front ++ (moved_field changes.str changes.map around.order x p ++ rest) =
-        field_asked (changes.str.plan.asks x) around.order front p rest place (new_place changes.str.plan changes.map changes.str.texts x) at size in
+    ≡ front ++ (moved_field changes.str changes.map around.order x p ++ rest) =
+    field_asked (changes.str.plan.asks x) around.order front p rest place (new_place changes.str.plan changes.map changes.str.texts x) at size in
     ap (λ (b : List ℕ). patched changes.str changes.map around info b more)
-        (asked ∙ ap (λ (y : Mention). front ++ (moved_field changes.str changes.map around.order y p ++ rest)) (sym same))
+    (asked ∙ ap (λ (y : Mention). front ++ (moved_field changes.str changes.map around.order y p ++ rest)) (sym same))
 piece_written (offset in_debug_str false) changes around table info front p rest place more plan at e size =
     let x : Mention = mention_at around in_debug_str false p in
     let asks : changes.str.plan.asks x ≡ false = ap (λ (q : Plan). q.asks x) plan in
@@ -106,7 +106,7 @@ written_by_places changes around table info front place [] plan at l = refl
 written_by_places changes around table info front place (x ∷ xs) plan at l =
     let q : List ℕ = edited_by (role_of x) changes around x.bytes in
     let size : length (front ++ q) ≡ place + length x.bytes =
-        length-append front q ∙ ap (λ (n : ℕ). length front + n) (length-edited_by (role_of x) changes around x.bytes) ∙ ap (λ (n : ℕ). n + length x.bytes) at in
+    length-append front q ∙ ap (λ (n : ℕ). length front + n) (length-edited_by (role_of x) changes around x.bytes) ∙ ap (λ (n : ℕ). n + length x.bytes) at in
     ap (λ (i : ℕ). patched changes.str changes.map around info (front ++ (x.bytes ++ joined xs)) (path_place (role_of x) i ++ path_places xs)) l.0
     ∙ piece_written (role_of x) changes around table info front x.bytes (joined xs) place (path_places xs) plan at l.1 l.2
     ∙ ap (λ (b : List ℕ). patched changes.str changes.map around info b (path_places xs)) (sym (append_assoc front q (joined xs)))

@@ -64,17 +64,19 @@ refused_at plan m around info str ts first places i (Refused _) lt same (unbuilt
     let next : List (List ℕ) = with_mention plan m ts (path_at around info (get_or places i 0)) in
     let whole : texts_at plan m around info next (drop (i + 1) places) ≡ texts_at plan m around info first places = texts_step plan m around info ts places i lt ∙ same in
     let longer : length (laid_texts next) ≤ length (laid_texts (texts_at plan m around info first places)) =
-        subst (λ (us : List (List ℕ)). length (laid_texts next) ≤ length (laid_texts us)) whole (length-texts_at plan m around info next (drop (i + 1) places)) in
+    subst (λ (us : List (List ℕ)). length (laid_texts next) ≤ length (laid_texts us)) whole (length-texts_at plan m around info next (drop (i + 1) places)) in
     unbuilt (λ (small : length (str ++ laid_texts (texts_at plan m around info first places)) ≤ output_limit).
-      h (omega (arith, longer, small, length-append str (laid_texts next), length-append str (laid_texts (texts_at plan m around info first places)))))
+    h (omega (arith, longer, small, length-append str (laid_texts next), length-append str (laid_texts (texts_at plan m around info first places)))))
 
 -- one more place is noted
 pub noted_step : (plan : Plan) (around : Around) (info places : List ℕ) (i : ℕ) (old new : ℕ → Option ℕ) → AreNoted plan around info places i old
     → Remembers old new → IsNoted plan around new (spelled around.order info (get_or places i 0) 4) → AreNoted plan around info places (i + 1) new
-noted_step plan around info places i old new noted remembers here = record { each = λ (k : ℕ) (lt : k < i + 1). elim (cases_lt k i) [
-  | inl below ↦ record { noted = λ asks. remembers.each (spelled around.order info (get_or places k 0) 4) ((noted.each k below).noted asks) }
-  | inr past ↦ let same : i ≡ k = omega arith in subst (λ (z : ℕ). IsNoted plan around new (spelled around.order info (get_or places z 0) 4)) same here
-] }
+noted_step plan around info places i old new noted remembers here = record {
+  each = λ (k : ℕ) (lt : k < i + 1). elim (cases_lt k i) [
+    | inl below ↦ record { noted = λ asks. remembers.each (spelled around.order info (get_or places k 0) 4) ((noted.each k below).noted asks) }
+    | inr past ↦ let same : i ≡ k = omega arith in subst (λ (z : ℕ). IsNoted plan around new (spelled around.order info (get_or places z 0) 4)) same here
+  ];
+}
 
 -- none is noted
 pub noted_start : (plan : Plan) (around : Around) (info places : List ℕ) (known : ℕ → Option ℕ) → AreNoted plan around info places 0 known
@@ -85,7 +87,7 @@ pub ruleset note_all_rules = (texts_step, noted_step, noted_start)
 -- the bytes of the places that are left, from a place on
 pub patch_step : (order : Order) (info out : List ℕ) (known : ℕ → Option ℕ) (places : List ℕ) (i : ℕ) → i < length places
     → with_all_known order info known (with_known order out (get_or places i 0) (known (spelled order info (get_or places i 0) 4))) (drop (i + 1) places)
-        ≡ with_all_known order info known out (drop i places)
+    ≡ with_all_known order info known out (drop i places)
 patch_step order info out known places i lt = rw (place_front places i lt) refl
 
 -- a field keeps the length of the bytes
@@ -110,9 +112,11 @@ pub ruleset patch_rules = (patch_step, fits_known)
 -- the places that are known are below the end of the table
 pub known_fit : (plan : Plan) (m : PathMap) (around : Around) (ts : List (List ℕ)) (known : ℕ → Option ℕ) → length (plan.kept ++ laid_texts ts) ≤ output_limit
     → Knows plan m around ts known → AllFit known
-known_fit plan m around ts known small knows = record { each = λ (offset place : ℕ) is.
-    let k : KnownPlace plan m around ts offset place = knows.each offset place is in
-    omega (arith, k.place_is, small, length-append plan.kept (laid_texts ts), place_in-lt ts (new_text m (path_of around offset)) k.there) }
+known_fit plan m around ts known small knows = record {
+  each = λ (offset place : ℕ) is.
+      let k : KnownPlace plan m around ts offset place = knows.each offset place is in
+      omega (arith, k.place_is, small, length-append plan.kept (laid_texts ts), place_in-lt ts (new_text m (path_of around offset)) k.there);
+}
 
 -- what is put where a place is known is what its path asks for
 put_is : (asks : Bool) (order : Order) (out : List ℕ) (p new : ℕ) (known : Option ℕ) → ((v : ℕ) → known ≡ Some v → (asks ≡ true) × (v ≡ new))
@@ -131,18 +135,20 @@ put_is_patched plan m around ts info out (p ∷ ps) known knows noted =
     let offset : ℕ = spelled around.order info p 4 in
     let first : IsNoted plan around known (spelled around.order info p 4) = noted.each 0 (omega arith) in
     let here : with_known around.order out p (known offset) ≡ patched_at (record { plan = plan; texts = ts }) m around info out p =
-        put_is (plan.asks (path_of around offset)) around.order out p (new_place plan m ts (path_of around offset)) (known offset)
-            (λ (v : ℕ) is. ((knows.each offset v is).asks, (knows.each offset v is).place_is)) first.noted in
+    put_is (plan.asks (path_of around offset)) around.order out p (new_place plan m ts (path_of around offset)) (known offset)
+    (λ (v : ℕ) is. ((knows.each offset v is).asks, (knows.each offset v is).place_is)) first.noted in
     let rest : AreNoted plan around info ps (length ps) known = record { each = λ (k : ℕ) (lt : k < length ps). noted.each (suc k) (omega arith) } in
     ap (λ (b : List ℕ). with_all_known around.order info known b ps) here
     ∙ put_is_patched plan m around ts info (patched_at (record { plan = plan; texts = ts }) m around info out p) ps known knows rest
 
 -- nothing is known at first
 pub knows_nothing : (plan : Plan) (m : PathMap) (around : Around) (ts : List (List ℕ)) (known : ℕ → Option ℕ) → ((o : ℕ) → known o ≡ None) → Knows plan m around ts known
-knows_nothing plan m around ts known none = record { each = λ (o p : ℕ) is.
-    let here : is_some (known o) ≡ true = ap is_some is in
-    let absent : is_some (known o) ≡ false = ap is_some (none o) in
-    absurd cc }
+knows_nothing plan m around ts known none = record {
+  each = λ (o p : ℕ) is.
+      let here : is_some (known o) ≡ true = ap is_some is in
+      let absent : is_some (known o) ≡ false = ap is_some (none o) in
+      absurd cc;
+}
 
 -- what was noted of a table, by the table
 pub info_is : (m : PathMap) (order : Order) (info str out : List ℕ) (places : List ℕ) (ts : List (List ℕ)) (known : ℕ → Option ℕ)

@@ -63,13 +63,17 @@ given_same b items count s info str i g = by_info (i == s.info) refl
   where
     own : i ≢ s.info → i ≢ s.str → given_or (item_of items i) (contents_of b i) ≡ contents_of b i
     own other neither = ap (λ (o : Option (Vec ℕ Global)). given_or o (contents_of b i)) (g.others i other neither)
+
     of_str : i ≡ s.str → given_or (item_of items i) (contents_of b i) ≡ str
     of_str is = ap (λ (n : ℕ). given_or (item_of items n) (contents_of b i)) is ∙ g.str_is (contents_of b i)
+
     of_info : i ≡ s.info → given_or (item_of items i) (contents_of b i) ≡ info
     of_info is = ap (λ (n : ℕ). given_or (item_of items n) (contents_of b i)) is ∙ g.info_is (contents_of b i)
+
     by_str : (t : Bool) → (i == s.str) ≡ t → i ≢ s.info → given_or (item_of items i) (contents_of b i) ≡ cond t str (contents_of b i)
     by_str true test other = of_str (grind (arith, nat_tests))
     by_str false test other = own other (grind (arith, nat_tests))
+
     by_info : (t : Bool) → (i == s.info) ≡ t → given_or (item_of items i) (contents_of b i) ≡ cond t info (cond (i == s.str) str (contents_of b i))
     by_info true test = of_info (grind (arith, nat_tests))
     by_info false test = by_str (i == s.str) refl (grind (arith, nat_tests))
@@ -111,8 +115,8 @@ pub given_contents : (b : List ℕ) (now items : List (Option (Vec ℕ Global)))
 given_contents b now items count s info str same f g is = subst (λ (l : List (Option (Vec ℕ Global))). AreContents b l) (sym same) (record {
   each = g.each ∙ is;
   none = λ i lt empty. g.others i
-    (λ (e : i ≡ s.info). full s.info f.info_kind i e empty)
-    (λ (e : i ≡ s.str). full s.str f.str_kind i e empty);
+      (λ (e : i ≡ s.info). full s.info f.info_kind i e empty)
+      (λ (e : i ≡ s.str). full s.str f.str_kind i e empty);
 })
   where
     full : (n : ℕ) → (nth_section b n).kind ≡ 1 → (i : ℕ) → i ≡ n → is_empty_kind (nth_section b i) ≡ true → ⊥
@@ -155,6 +159,7 @@ long_str m b s places f p small = by_fixed (is_fixed b (nth_section b s.str)) re
         let other : (s.str == s.info) ≡ false = grind (arith, nat_tests, apart b s f.sections) in
         let here : (s.str == s.str) ≡ true = grind (arith, nat_tests) in
         rw (other, here) refl
+
     by_fixed : (t : Bool) → is_fixed b (nth_section b s.str) ≡ t → length (str_found m b s places) ≤ output_limit
     by_fixed true fixed =
         let same : str_found m b s places ≡ contents_of b s.str = sym body_is ∙ stays_same m b s places s.str f p f.sections.str_there fixed in
@@ -165,7 +170,7 @@ long_str m b s places f p small = by_fixed (is_fixed b (nth_section b s.str)) re
         let whole = f.header.whole in
         let inside : fixed_end b ≤ length b = omega (arith, first_fixed b f.header f.sections.sections) in
         let longer : length (body_found m b s places s.str) ≤ length (with_bodies b (body_found m b s places)) =
-            length-moved b (body_found m b s places) s.str f.sections.str_there inside there in
+        length-moved b (body_found m b s places) s.str f.sections.str_there inside there in
         let size : length (body_found m b s places s.str) ≡ length (str_found m b s places) = ap length body_is in
         omega arith
 

@@ -38,7 +38,7 @@ pub to_first : (order : Order) (abbrevs str : List ℕ) (s : UnitState) (xs : Li
 unfolding role_of
 to_first order abbrevs str s [] c e a t = c
 to_first order abbrevs str s (x ∷ xs) c e a t =
-    (c.0, record { fits = c.1; entry = e.0; abbreviation = a.0; text = t.0; }, to_first order abbrevs str (past x.state.mode order abbrevs x.state x.bytes) xs c.2 e.1 a.1 t.1)
+    (c.0, record { fits = c.1; entry = e.0; abbreviation = a.0; text = t.0 }, to_first order abbrevs str (past x.state.mode order abbrevs x.state x.bytes) xs c.2 e.1 a.1 t.1)
 
 -- and back
 pub from_first : (order : Order) (abbrevs str : List ℕ) (s : UnitState) (xs : List (Step UnitState))

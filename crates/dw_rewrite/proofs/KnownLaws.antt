@@ -45,7 +45,7 @@ met_before plan m around ts known offset knows some =
 
 -- and is noted
 pub noted_before : (plan : Plan) (around : Around) (known : ℕ → Option ℕ) (offset : ℕ) → is_some (known offset) ≡ true → IsNoted plan around known offset
-noted_before plan around known offset some = record { noted = λ asks. some; }
+noted_before plan around known offset some = record { noted = λ asks. some }
 
 -- a path that asks for no place adds no text
 pub not_asked : (plan : Plan) (m : PathMap) (around : Around) (ts : List (List ℕ)) (offset : ℕ) → plan.asks (path_of around offset) ≡ false
@@ -54,11 +54,11 @@ not_asked plan m around ts offset none = rw none refl
 
 -- and needs no note
 pub note_not_asked : (plan : Plan) (around : Around) (known : ℕ → Option ℕ) (offset : ℕ) → plan.asks (path_of around offset) ≡ false → IsNoted plan around known offset
-note_not_asked plan around known offset none = record { noted = λ asks. absurd cc; }
+note_not_asked plan around known offset none = record { noted = λ asks. absurd cc }
 
 -- nothing was forgotten
 pub remembers_all : (known : ℕ → Option ℕ) → Remembers known known
-remembers_all known = record { each = λ (o : ℕ) h. h; }
+remembers_all known = record { each = λ (o : ℕ) h. h }
 
 -- one text more
 pub asked : (m : PathMap) (around : Around) (ts : List (List ℕ)) (offset : ℕ) → (appending m around.str).asks (path_of around offset) ≡ true
@@ -77,10 +77,10 @@ knows_more m around ts old new offset asks knows adds = record { each = λ (o p 
     by_offset o p is true test =
         let o_is : o ≡ offset = grind (arith, nat_tests) in
         let both : Some (place_after (record { kept = around.str; texts = ts }) (mapped_path m (text_in around.str offset))) ≡ Some p =
-            sym adds.here ∙ ap new (sym o_is) ∙ is in
+        sym adds.here ∙ ap new (sym o_is) ∙ is in
         let p_is : p ≡ place_after (record { kept = around.str; texts = ts }) (mapped_path m (text_in around.str offset)) = cc in
         subst (λ (z : ℕ). KnownPlace (appending m around.str) m around (with_text ts (mapped_path m (text_in around.str offset))) z p) (sym o_is)
-          (record { asks = asks; there = is_in-with_text ts (mapped_path m (text_in around.str offset)); place_is = p_is; })
+        (record { asks = asks; there = is_in-with_text ts (mapped_path m (text_in around.str offset)); place_is = p_is })
     by_offset o p is false test =
         let other : o ≢ offset = λ e. (let same : (o == offset) ≡ true = grind (arith, nat_tests) in cc) in
         let before : old o ≡ Some p = sym (adds.others o other) ∙ is in
@@ -100,14 +100,14 @@ pub knows_added : (m : PathMap) (around : Around) (table grown : TextTable) (old
 knows_added m around table grown old new offset kept asks knows is adds =
     let t : List ℕ = mapped_path m (text_in around.str offset) in
     let here : place_after table t ≡ place_after (record { kept = around.str; texts = table.texts }) t =
-        ap (λ (k : List ℕ). length k + place_in (with_text table.texts t) t) kept in
+    ap (λ (k : List ℕ). length k + place_in (with_text table.texts t) t) kept in
     let more : Knows (appending m around.str) m around (with_text table.texts t) new =
-        knows_more m around table.texts old new offset asks knows (subst (Adds old new offset) here adds) in
+    knows_more m around table.texts old new offset asks knows (subst (Adds old new offset) here adds) in
     subst (λ (g : TextTable). Knows (appending m around.str) m around g.texts new) (sym is) more
 
 -- which is noted
 pub noted_more : (plan : Plan) (around : Around) (old new : ℕ → Option ℕ) (offset place : ℕ) → Adds old new offset place → IsNoted plan around new offset
-noted_more plan around old new offset place adds = record { noted = λ asks. ap is_some adds.here; }
+noted_more plan around old new offset place adds = record { noted = λ asks. ap is_some adds.here }
 
 -- and nothing is forgotten
 pub remembers_more : (old new : ℕ → Option ℕ) (offset place : ℕ) → Adds old new offset place → Remembers old new

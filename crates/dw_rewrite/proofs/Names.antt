@@ -20,12 +20,12 @@ two_bytes bytes place h =
     let one : suc place ≡ place + 1 = omega arith in
     let two : suc (suc place) ≡ place + 2 = omega arith in
     first ∙ ap (λ (r : List ℕ). get_or bytes place 0 ∷ r) (second ∙ ap (λ (i : ℕ). get_or bytes i 0 ∷ drop (suc (suc place)) bytes) one
-        ∙ ap (λ (i : ℕ). get_or bytes (place + 1) 0 ∷ drop i bytes) two)
+    ∙ ap (λ (i : ℕ). get_or bytes (place + 1) 0 ∷ drop i bytes) two)
 
 -- at the start
 pub names_start : (bytes : List ℕ) (at : ℕ) → NamesFrom bytes at at 0
 names_start bytes at = record {
-  found = λ (names : List ℕ) e. record { names = names; read = e; count_is = omega arith; };
+  found = λ (names : List ℕ) e. record { names = names; read = e; count_is = omega arith };
   none = λ e. e;
 }
 
@@ -38,9 +38,9 @@ names_step bytes at place count room is_end pair from =
     let step : first_names (drop place bytes) ≡ option_map (λ ns. n ∷ ns) (first_names (drop (place + 2) bytes)) = rw (front, is_end, pair) refl in
     record {
       found = λ (names : List ℕ) e.
-        let whole : IsNames (drop at bytes) (count + length (n ∷ names)) = from.found (n ∷ names) (step ∙ ap (option_map (λ ns. n ∷ ns)) e) in
-        let same : count + length (n ∷ names) ≡ count + 1 + length names = omega arith in
-        subst (IsNames (drop at bytes)) same whole;
+          let whole : IsNames (drop at bytes) (count + length (n ∷ names)) = from.found (n ∷ names) (step ∙ ap (option_map (λ ns. n ∷ ns)) e) in
+          let same : count + length (n ∷ names) ≡ count + 1 + length names = omega arith in
+          subst (IsNames (drop at bytes)) same whole;
       none = λ e. from.none (step ∙ ap (option_map (λ ns. n ∷ ns)) e);
     }
 
@@ -110,7 +110,7 @@ pub table_found : (bytes : List ℕ) (at count : ℕ) → at + 3 ≤ length byte
     → IsTable (drop at bytes) (get_or bytes at 0) count
 table_found bytes at count room head names =
     let front = three_bytes bytes at room in
-    record { names = names.names; read = rw (front, head, names.read) refl; count_is = names.count_is; }
+    record { names = names.names; read = rw (front, head, names.read) refl; count_is = names.count_is }
 
 -- another front
 pub table_other : (bytes : List ℕ) (at : ℕ) → at + 3 ≤ length bytes

@@ -22,7 +22,7 @@ use Rattle.dw_rewrite.proofs.PlacedLaws.{Placed, placed, SizeBy}
 -- the pieces of a section stand in it
 units_placed : (order : Order) (info abbrevs : List ℕ) (xs : List (Step UnitState)) → Reads order info abbrevs 0 xs → Placed info 0 xs
 units_placed order info abbrevs xs r =
-    placed order abbrevs info (before_unit (length info) 0 0) 0 xs (record { place_is = refl; width = refl; }) r.chain r.bytes
+    placed order abbrevs info (before_unit (length info) 0 0) 0 xs (record { place_is = refl; width = refl }) r.chain r.bytes
 
 -- each of these is the place of a path
 AllPathPlaces : Order → List ℕ → List ℕ → List ℕ → Type 0
@@ -36,7 +36,7 @@ piece_paths fixed order info str p rest place more e size text all = all
 piece_paths (offset in_debug_str true) order info str p rest place more e size text all =
     let total : length p + length rest ≡ length info - place = sym (length-append p rest) ∙ ap length e ∙ length-drop place info in
     let number : spelled order p 0 (length p) ≡ spelled order info place 4 = piece_number order p rest info place e size in
-    (record { inside = omega arith; ends = subst (λ (n : ℕ). IsTrue (ends_in str n)) number text; }, all)
+    (record { inside = omega arith; ends = subst (λ (n : ℕ). IsTrue (ends_in str n)) number text }, all)
 piece_paths (offset in_debug_str false) order info str p rest place more e size text all = all
 
 all_paths : (order : Order) (info str : List ℕ) (place : ℕ) (xs : List (Step UnitState)) → Placed info place xs → EachStep (NamesText order str) xs
@@ -57,7 +57,7 @@ each_path order info str (p ∷ ps) all (suc k) lt = each_path order info str ps
 pub read_paths : (order : Order) (info abbrevs str places : List ℕ) → PlacesRead order info abbrevs str places → ArePaths order info str places
 read_paths order info abbrevs str places r = record {
   each = subst (λ (ps : List ℕ). (k : ℕ) → k < length ps → IsPathPlace order info str (get_or ps k 0)) r.places_are
-    (each_path order info str (path_places r.units.pieces)
+      (each_path order info str (path_places r.units.pieces)
       (all_paths order info str 0 r.units.pieces (units_placed order info abbrevs r.units.pieces r.units.units) r.units.texts));
 }
 
@@ -69,7 +69,7 @@ unfolding str_change
 change_by_places m b xs r =
     ap (λ (ts : List (List ℕ)). record { plan = appending m (contents_called b debug_str); texts = ts })
     (texts_by_places m (around_of b) (contents_called b debug_info) (contents_called b debug_str) [] 0 xs
-      (units_placed (order_of b) (contents_called b debug_info) (contents_called b debug_abbrev) xs r))
+    (units_placed (order_of b) (contents_called b debug_info) (contents_called b debug_abbrev) xs r))
 
 -- its new string table
 pub new_str_is : (m : PathMap) (b : List ℕ) (xs : List (Step UnitState))
@@ -86,7 +86,7 @@ unfolding new_info str_change
 new_info_is m b xs r =
     let info : List ℕ = contents_called b debug_info in
     let written = written_by_places (changes_of m b (readings xs)) (around_of b) (contents_called b debug_str) (contents_called b debug_info) [] 0 xs refl refl
-        (units_placed (order_of b) (contents_called b debug_info) (contents_called b debug_abbrev) xs r) in
+    (units_placed (order_of b) (contents_called b debug_info) (contents_called b debug_abbrev) xs r) in
     sym written
     ∙ ap (λ (bytes : List ℕ). patched (str_change m b (readings xs)) m (around_of b) (contents_called b debug_info) bytes (path_places xs)) r.bytes
     ∙ ap (λ (c : TableChange). patched c m (around_of b) (contents_called b debug_info) (contents_called b debug_info) (path_places xs)) (change_by_places m b xs r)

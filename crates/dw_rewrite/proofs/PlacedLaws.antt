@@ -20,18 +20,18 @@ unfolding between
 at_between s place entry depth width = by_end (place == s.finish) (depth == 0)
   where
     by_end : (last top : Bool) → At (cond last (cond top (before_unit s.whole place (s.unit + 1)) (in_unit s place entry depth stuck)) (in_unit s place entry depth code)) place
-    by_end true true = record { place_is = refl; width = refl; }
-    by_end true false = record { place_is = refl; width = width; }
-    by_end false top = record { place_is = refl; width = width; }
+    by_end true true = record { place_is = refl; width = refl }
+    by_end true false = record { place_is = refl; width = width }
+    by_end false top = record { place_is = refl; width = width }
 
 -- and so is the state inside an entry
 at_inside : (s : UnitState) (place entry depth number tag : ℕ) (specs : List AttributeSpec) → s.params.width ≡ W32 → At (inside s place entry depth number tag specs) place
 at_inside s place entry depth number tag [] width = at_between s place entry depth width
-at_inside s place entry depth number tag (x ∷ xs) width = record { place_is = refl; width = width; }
+at_inside s place entry depth number tag (x ∷ xs) width = record { place_is = refl; width = width }
 
 -- and the state behind a code
 at_entry : (s : UnitState) (place : ℕ) (a : Option Abbreviation) → s.params.width ≡ W32 → At (after_entry s place a) place
-at_entry s place None width = record { place_is = refl; width = width; }
+at_entry s place None width = record { place_is = refl; width = width }
 at_entry s place (Some a) width = at_inside s place (s.entry + 1) (cond a.children (s.depth + 1) s.depth) s.entry a.tag a.specs width
 
 at_code : (s : UnitState) (place n : ℕ) → s.params.width ≡ W32 → At (after_code s place n) place
@@ -83,9 +83,12 @@ placed order abbrevs info s place (x ∷ xs) at c e =
     let here : x.state.place ≡ place = ap (λ (z : UnitState). z.place) c.0 ∙ at.place_is in
     let width : x.state.params.width ≡ W32 = ap (λ (z : UnitState). z.params.width) c.0 ∙ at.width in
     let behind : joined xs ≡ drop (place + length x.bytes) info =
-        sym (drop-append_seam x.bytes (joined xs)) ∙ ap (drop (length x.bytes)) e ∙ drop-drop (length x.bytes) place info in
+    sym (drop-append_seam x.bytes (joined xs)) ∙ ap (drop (length x.bytes)) e ∙ drop-drop (length x.bytes) place info in
     let next : At (past x.state.mode order abbrevs x.state x.bytes) (x.state.place + length x.bytes) = at_past x.state.mode order abbrevs x.state x.bytes width c.1 in
-    let same : x.state.place + length x.bytes ≡ place + length x.bytes = ap (λ (i : ℕ). i + length x.bytes) here in
-    (here, e, size_of_mode x.state.mode order x.state x.bytes width c.1,
+    let same : x.state.place + length x.bytes ≡ place + length x.bytes = ap (λ (i : ℕ). i + length x.bytes) here in (
+      here,
+      e,
+      size_of_mode x.state.mode order x.state x.bytes width c.1,
       placed order abbrevs info (past x.state.mode order abbrevs x.state x.bytes) (place + length x.bytes) xs
-        (subst (At (past x.state.mode order abbrevs x.state x.bytes)) same next) c.2 behind)
+          (subst (At (past x.state.mode order abbrevs x.state x.bytes)) same next) c.2 behind,
+    )

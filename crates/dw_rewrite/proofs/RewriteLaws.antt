@@ -145,7 +145,7 @@ is_output m b s places out f r is =
     let p : Pieces b s places = pieces_named b s places f.sections r in
     record {
       readings = readings p.xs;
-      reads = record { info = p.reads; };
+      reads = record { info = p.reads };
       is = is ∙ sym (output_same m b s places f.sections p);
     }
 
@@ -208,7 +208,7 @@ patched_length change m around info out [] inside = refl
 patched_length change m around info out (p ∷ ps) inside =
     let first : length (patched_at change m around info out p) ≡ length out = one (change.plan.asks (path_at around info p)) in
     patched_length change m around info (patched_at change m around info out p) ps
-      (λ (k : ℕ) (lt : k < length ps). let here : get_or ps k 0 + 4 ≤ length out = inside (suc k) (omega arith) in omega arith) ∙ first
+    (λ (k : ℕ) (lt : k < length ps). let here : get_or ps k 0 + 4 ≤ length out = inside (suc k) (omega arith) in omega arith) ∙ first
   where
     one : (b : Bool) → length (cond b (with_number around.order out p 4 (new_place change.plan m change.texts (path_at around info p))) out) ≡ length out
     one true = length-with_number around.order out p 4 (new_place change.plan m change.texts (path_at around info p)) (inside 0 (omega arith))
@@ -244,8 +244,9 @@ stays_same m b s places i f r lt fixed = by_info (i == s.info) refl
         let none : contents_of b s.info ≡ [] = ap (contents_of b) (sym is) ∙ own in
         let paths = paths_found b s places r in
         let size : length (info_found m b s places) ≡ length (contents_of b s.info) =
-            patched_length (str_change_at m (order_of b) (contents_of b s.info) (contents_of b s.str) places) m (record { order = order_of b; str = contents_of b s.str }) (contents_of b s.info) (contents_of b s.info) places (λ (k : ℕ) (below : k < length places). (paths.each k below).inside) in
+        patched_length (str_change_at m (order_of b) (contents_of b s.info) (contents_of b s.str) places) m (record { order = order_of b; str = contents_of b s.str }) (contents_of b s.info) (contents_of b s.info) places (λ (k : ℕ) (below : k < length places). (paths.each k below).inside) in
         none_long (info_found m b s places) (size ∙ ap length none) ∙ sym own
+
     str_stays : i ≡ s.str → str_found m b s places ≡ contents_of b i
     str_stays is =
         let some : 0 < i = not_null b f.sections.sections i (ap (λ (n : ℕ). is_empty_kind (nth_section b n)) is ∙ full_kind b s.str f.sections.str_kind) in
@@ -253,9 +254,11 @@ stays_same m b s places i f r lt fixed = by_info (i == s.info) refl
         let none : contents_of b s.str ≡ [] = ap (contents_of b) (sym is) ∙ own in
         texts_none m (order_of b) (contents_of b s.info) (contents_of b s.str) places (no_paths (order_of b) (contents_of b s.info) (contents_of b s.str) places (paths_found b s places r) none)
         ∙ none ∙ sym own
+
     by_str : (t : Bool) → (i == s.str) ≡ t → cond t (str_found m b s places) (contents_of b i) ≡ contents_of b i
     by_str true test = str_stays (grind (arith, nat_tests))
     by_str false test = refl
+
     by_info : (t : Bool) → (i == s.info) ≡ t → cond t (info_found m b s places) (cond (i == s.str) (str_found m b s places) (contents_of b i)) ≡ contents_of b i
     by_info true test = info_stays (grind (arith, nat_tests))
     by_info false test = by_str (i == s.str) refl

@@ -55,7 +55,7 @@ names_more n f rest names a (Some ns) was is_end pair e more =
     let names_are : n ∷ ns ≡ names = cc in
     let tail = more ns (with_spec a n f) was in
     let numbers : leb_numbers (n ∷ f ∷ rest) ≡ (n ∷ []) ∷ (f ∷ []) ∷ leb_numbers rest =
-        low_number n (f ∷ rest) low_n ∙ ap (λ (r : List (List ℕ)). (n ∷ []) ∷ r) (low_number f rest low_f) in
+    low_number n (f ∷ rest) low_n ∙ ap (λ (r : List (List ℕ)). (n ∷ []) ∷ r) (low_number f rest low_f) in
     rw (numbers, low_value n low_n, low_value f low_f, is_end, tail, ← names_are, f_is) refl
 
 -- the attributes and the closing code behind an abbreviation so far
@@ -65,7 +65,7 @@ names_declared [] names a e = absurd cc
 names_declared (n ∷ []) names a e = absurd cc
 names_declared (n ∷ f ∷ rest) names a e =
     names_by n f rest names a (n == 0 && f == 0) ((n == 3 || n == 27) && f == 14) refl refl e
-        (λ (ns : List ℕ) (b : Abbreviation). names_declared rest ns b)
+    (λ (ns : List ℕ) (b : Abbreviation). names_declared rest ns b)
   where
     names_by : (n f : ℕ) (rest names : List ℕ) (a : Abbreviation) (s t : Bool) → (n == 0 && f == 0) ≡ s
         → ((n == 3 || n == 27) && f == 14) ≡ t
@@ -82,7 +82,7 @@ names_declared (n ∷ f ∷ rest) names a e =
 
 -- the abbreviation of a First unit
 abbrev pub first_entry : ℕ → List ℕ → Abbreviation
-first_entry code names = record { code = code; tag = 0x11; children = false; specs = specs_of names; }
+first_entry code names = record { code = code; tag = 0x11; children = false; specs = specs_of names }
 
 -- more attributes stand behind those before
 with_specs_is : (a : Abbreviation) (names : List ℕ) → with_specs a names ≡ record a { specs = a.specs ++ specs_of names }
@@ -118,11 +118,11 @@ table_more c t k rest code names (Some ns) was test e =
     let code_is : c ≡ code = ap (λ (p : ℕ × List ℕ). p.0) pair in
     let names_are : ns ≡ names = ap (λ (p : ℕ × List ℕ). p.1) pair in
     let numbers : leb_numbers (c ∷ t ∷ k ∷ rest) ≡ (c ∷ []) ∷ (t ∷ []) ∷ (k ∷ []) ∷ leb_numbers rest =
-        low_number c (t ∷ k ∷ rest) below ∙ ap (λ (r : List (List ℕ)). (c ∷ []) ∷ r)
-        (low_number t (k ∷ rest) low_t ∙ ap (λ (r : List (List ℕ)). (t ∷ []) ∷ r) (low_number k rest low_k)) in
+    low_number c (t ∷ k ∷ rest) below ∙ ap (λ (r : List (List ℕ)). (c ∷ []) ∷ r)
+    (low_number t (k ∷ rest) low_t ∙ ap (λ (r : List (List ℕ)). (t ∷ []) ∷ r) (low_number k rest low_k)) in
     let tail = names_declared rest ns (bare c t k) was in
     let whole : declared at_code (leb_numbers (c ∷ t ∷ k ∷ rest)) ≡ first_entry c ns ∷ [] =
-        rw (numbers, low_value c below, not_end, low_value t low_t, low_value k low_k, tail, with_specs_is (bare c t k) ns, t_is, k_is) refl in
+    rw (numbers, low_value c below, not_end, low_value t low_t, low_value k low_k, tail, with_specs_is (bare c t k) ns, t_is, k_is) refl in
     record {
       above = subst (λ (x : ℕ). 0 < x) code_is above;
       below = subst (λ (x : ℕ). x < 128) code_is below;

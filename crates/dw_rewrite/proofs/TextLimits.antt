@@ -27,33 +27,39 @@ has_one (b ∷ bs) (suc k) lt e = rw (has_one bs k (omega arith) e) (grind (arit
 -- the limit is behind the last NUL
 pub limit_found : (xs : List ℕ) (end : ℕ) → end ≤ length xs → 0 < end → get_or xs (end - 1) 0 ≡ 0 → NoNulFrom xs end → IsTextLimit xs end
 unfolding ends_in
-limit_found xs end within some here none = record { is = λ (place : ℕ). elim (cases_lt place end) [
-  | inl below ↦
-      let last : has_nul (drop place xs) ≡ true = has_one (drop place xs) (end - 1 - place) (omega (arith, length-drop place xs))
-          (get_or-drop place xs (end - 1 - place) 0 ∙ ap (λ (i : ℕ). get_or xs i 0) (omega arith) ∙ here) in
-      let test : nat_lt place end ≡ true = grind (arith, nat_tests) in
-      last ∙ sym test
-  | inr past ↦
-      let nothing : has_nul (drop place xs) ≡ false = has_none (drop place xs)
-          (λ (k : ℕ) (lt : k < length (drop place xs)). λ e. none.none (place + k) (omega arith) (omega (arith, length-drop place xs)) (sym (get_or-drop place xs k 0) ∙ e)) in
-      let test : nat_lt place end ≡ false = grind (arith, nat_tests) in
-      nothing ∙ sym test
-] }
+limit_found xs end within some here none = record {
+  is = λ (place : ℕ). elim (cases_lt place end) [
+    | inl below ↦
+        let last : has_nul (drop place xs) ≡ true = has_one (drop place xs) (end - 1 - place) (omega (arith, length-drop place xs))
+        (get_or-drop place xs (end - 1 - place) 0 ∙ ap (λ (i : ℕ). get_or xs i 0) (omega arith) ∙ here) in
+        let test : nat_lt place end ≡ true = grind (arith, nat_tests) in
+        last ∙ sym test
+    | inr past ↦
+        let nothing : has_nul (drop place xs) ≡ false = has_none (drop place xs)
+        (λ (k : ℕ) (lt : k < length (drop place xs)). λ e. none.none (place + k) (omega arith) (omega (arith, length-drop place xs)) (sym (get_or-drop place xs k 0) ∙ e)) in
+        let test : nat_lt place end ≡ false = grind (arith, nat_tests) in
+        nothing ∙ sym test
+  ];
+}
 
 -- no limit where no NUL is
 pub limit_none : (xs : List ℕ) → NoNulFrom xs 0 → IsTextLimit xs 0
 unfolding ends_in
-limit_none xs none = record { is = λ (place : ℕ).
-    let nothing : has_nul (drop place xs) ≡ false = has_none (drop place xs)
-        (λ (k : ℕ) (lt : k < length (drop place xs)). λ e. none.none (place + k) (omega arith) (omega (arith, length-drop place xs)) (sym (get_or-drop place xs k 0) ∙ e)) in
-    let test : nat_lt place 0 ≡ false = grind (arith, nat_tests) in
-    nothing ∙ sym test }
+limit_none xs none = record {
+  is = λ (place : ℕ).
+      let nothing : has_nul (drop place xs) ≡ false = has_none (drop place xs)
+      (λ (k : ℕ) (lt : k < length (drop place xs)). λ e. none.none (place + k) (omega arith) (omega (arith, length-drop place xs)) (sym (get_or-drop place xs k 0) ∙ e)) in
+      let test : nat_lt place 0 ≡ false = grind (arith, nat_tests) in
+      nothing ∙ sym test;
+}
 
 -- one more byte that is no NUL
 pub none_more : (xs : List ℕ) (end : ℕ) → 0 < end → get_or xs (end - 1) 0 ≢ 0 → NoNulFrom xs end → NoNulFrom xs (end - 1)
-none_more xs end some here none = record { none = λ (k : ℕ) from lt. elim (cases_lt k end) [
-  | inl below ↦ let at : k ≡ end - 1 = omega arith in λ e. here (sym (ap (λ (i : ℕ). get_or xs i 0) at) ∙ e)
-  | inr past ↦ none.none k past lt
-] }
+none_more xs end some here none = record {
+  none = λ (k : ℕ) from lt. elim (cases_lt k end) [
+    | inl below ↦ let at : k ≡ end - 1 = omega arith in λ e. here (sym (ap (λ (i : ℕ). get_or xs i 0) at) ∙ e)
+    | inr past ↦ none.none k past lt
+  ];
+}
 
 pub ruleset limit_laws = (limit_found, limit_none, none_more)

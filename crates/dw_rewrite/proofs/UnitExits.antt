@@ -115,8 +115,10 @@ pub no_texts : (order : Order) (info abbrevs str : List ℕ) (at offset n size c
 no_texts order info abbrevs str at offset n size count is table has other u =
     let k : Known order info abbrevs str at n count u = known order info abbrevs str at offset n count is table u in
     let long : u.size ≡ size = size_known order info abbrevs str at n size has u in
-    other (record { each = λ (i : ℕ) (lt : i < count).
-        subst (λ (x : ℕ). IsTrue (ends_in str (spelled order info (at + 11 + x + 4 * i) 4))) long (u.facts.values.texts i (omega (arith, k.count_is))) })
+    other (record {
+      each = λ (i : ℕ) (lt : i < count).
+          subst (λ (x : ℕ). IsTrue (ends_in str (spelled order info (at + 11 + x + 4 * i) 4))) long (u.facts.values.texts i (omega (arith, k.count_is)));
+    })
 
 -- and so the refusal of a value is one of the unit
 pub refused_texts : (order : Order) (info abbrevs str : List ℕ) (at offset n size count : ℕ) (f : Fault) → offset ≡ spelled order info (at + 6) 4

@@ -132,7 +132,7 @@ two_pieces info at size m total e =
 pub unit_lead : (order : Order) (abbrevs str info : List ℕ) (at k n size total : ℕ) (names : List ℕ) → UnitFacts order info abbrevs str at n size names
     → at + total ≡ unit_end order info at
     → LeadsTo order abbrevs str info (before_unit (length info) at k) (before_unit (length info) (unit_end order info at) (k + 1)) at total
-        (value_places (at + 11 + size) (length names))
+    (value_places (at + 11 + size) (length names))
 unfolding headed role_of
 unit_lead order abbrevs str info at k n size total names facts whole =
     let g : Grammar = first_grammar order abbrevs str in
@@ -144,30 +144,33 @@ unit_lead order abbrevs str info at k n size total names facts whole =
     let listed : IsTrue (is_some (first_table (table_of order info abbrevs at))) = ap is_some facts.table in
     let state : UnitState = in_entry order abbrevs info at k in
     let table : state.table ≡ first_entry n names ∷ [] =
-        ap (abbreviations_at abbrevs) offset ∙ first_abbreviations_at abbrevs (spelled order info (at + 6) 4) n names facts.table in
+    ap (abbreviations_at abbrevs) offset ∙ first_abbreviations_at abbrevs (spelled order info (at + 6) 4) n names facts.table in
     let lies : CodeFacts info (at + 11) n size = code_facts info (at + 11) n size facts.head.room facts.spells in
     let before : at + 11 + size ≤ state.finish = omega (arith, facts.values.finish_is, long) in
     let fit_header = header_fit order abbrevs str info at k facts.head listed in
     let fit_code = code_fit order abbrevs str info state (at + 11) n size names refl refl refl declares.above lies before table in
     let ends : state.finish ≡ unit_end order info at = ap (λ (x : ℕ). at + 4 + x) long in
     let values : LeadsTo order abbrevs str info (at_values state (at + 11 + size) names) (before_unit (length info) state.finish (k + 1)) (at + 11 + size) (4 * length names) (value_places (at + 11 + size) (length names)) =
-        values_lead order abbrevs str info state (at + 11 + size) (4 * length names) names refl (omega (arith, facts.head.within, ends))
-            (subst (λ (x : ℕ). ValueFacts order info str x (at + 11 + size) (length names)) (sym ends) facts.values)
-            (first_paths (table_of order info abbrevs at) n names facts.table) refl in
+    values_lead order abbrevs str info state (at + 11 + size) (4 * length names) names refl (omega (arith, facts.head.within, ends))
+    (subst (λ (x : ℕ). ValueFacts order info str x (at + 11 + size) (length names)) (sym ends) facts.values)
+    (first_paths (table_of order info abbrevs at) n names facts.table) refl in
     let room : 7 < spelled order hp 0 4 = omega (arith, facts.head.filled, long) in
     let to_code : past header order abbrevs (before_unit (length info) at k) hp ≡ state = past_header order abbrevs (before_unit (length info) at k) hp (length-piece info at 11 facts.head.room) room in
     let some : n ≢ 0 = λ e. omega (arith, declares.above) in
     let to_values : after_code state (at + 11 + length cp) (code_value cp) ≡ at_values state (at + 11 + size) names =
-        ap (λ (x : ℕ). after_code state (at + 11 + x) (code_value cp)) lies.size_is
-        ∙ ap (after_code state (at + 11 + size)) lies.value
-        ∙ past_code state (at + 11 + size) n names some table refl refl in
+    ap (λ (x : ℕ). after_code state (at + 11 + x) (code_value cp)) lies.size_is
+    ∙ ap (after_code state (at + 11 + size)) lies.value
+    ∙ past_code state (at + 11 + size) n names some table refl refl in
     let last : LeadsTo order abbrevs str info (at_values state (at + 11 + size) names) (before_unit (length info) (unit_end order info at) (k + 1)) (at + 11 + size) (4 * length names) (value_places (at + 11 + size) (length names)) =
-        subst (λ (x : ℕ). LeadsTo order abbrevs str info (at_values state (at + 11 + size) names) (before_unit (length info) x (k + 1)) (at + 11 + size) (4 * length names) (value_places (at + 11 + size) (length names))) ends values in
+    subst (λ (x : ℕ). LeadsTo order abbrevs str info (at_values state (at + 11 + size) names) (before_unit (length info) x (k + 1)) (at + 11 + size) (4 * length names) (value_places (at + 11 + size) (length names))) ends values in
     record {
-      pieces = record { state = before_unit (length info) at k; bytes = hp; } ∷ record { state = state; bytes = cp; } ∷ last.pieces;
-      leads = (refl, fit_header,
-        subst (λ (z : UnitState). Leads g z (record { state = state; bytes = cp; } ∷ last.pieces) (before_unit (length info) (unit_end order info at) (k + 1))) (sym to_code)
-          (refl, fit_code, subst (λ (z : UnitState). Leads g z last.pieces (before_unit (length info) (unit_end order info at) (k + 1))) (sym to_values) last.leads));
+      pieces = record { state = before_unit (length info) at k; bytes = hp } ∷ record { state = state; bytes = cp } ∷ last.pieces;
+      leads = (
+        refl,
+        fit_header,
+        subst (λ (z : UnitState). Leads g z (record { state = state; bytes = cp } ∷ last.pieces) (before_unit (length info) (unit_end order info at) (k + 1))) (sym to_code)
+            (refl, fit_code, subst (λ (z : UnitState). Leads g z last.pieces (before_unit (length info) (unit_end order info at) (k + 1))) (sym to_values) last.leads),
+      );
       bytes = ap (λ (r : List ℕ). hp ++ (cp ++ r)) last.bytes ∙ two_pieces info at size (4 * length names) total (omega (arith, whole, facts.values.finish_is));
       places_are = last.places_are;
     }
@@ -179,7 +182,7 @@ record There {X : Type 0} (o : Option X) : Type 0 where
 
 there : {X : Type 0} (o : Option X) → IsTrue (is_some o) → There o
 there None h = absurd cc
-there (Some x) h = record { value = x; is = refl; }
+there (Some x) h = record { value = x; is = refl }
 
 -- a piece at the front of what is left lies in the section
 piece_lies : (p rest info : List ℕ) (at : ℕ) → p ++ rest ≡ drop at info → 0 < length p → at + length p ≤ length info
@@ -194,7 +197,7 @@ header_facts order abbrevs str info at k p rest e fit =
     let h : IsHeader order (before_unit (length info) at k) p = fit.fits in
     let size : length p ≡ 11 = h.size in
     let long : spelled order p 0 4 ≡ spelled order info at 4 =
-        spelled_front order p rest info at 0 4 e (omega arith) ∙ ap (λ (i : ℕ). spelled order info i 4) (omega arith) in
+    spelled_front order p rest info at 0 4 e (omega arith) ∙ ap (λ (i : ℕ). spelled order info i 4) (omega arith) in
     let version : spelled order p 4 2 ≡ spelled order info (at + 4) 2 = spelled_front order p rest info at 4 2 e (omega arith) in
     let address : spelled order p 10 1 ≡ spelled order info (at + 10) 1 = spelled_front order p rest info at 10 1 e (omega arith) in
     let lies : at + length p ≤ length info = piece_lies p rest info at e (omega arith) in
@@ -223,24 +226,24 @@ after_facts : (order : Order) (abbrevs str info : List ℕ) (state : UnitState) 
 unfolding role_of
 after_facts order abbrevs str info state place n names ws mode at width table entry depth c e =
     let front : Front order abbrevs str state (drop place info) = chain_front order abbrevs str state ws (drop place info) c e
-        (λ (ends : EndsSection state). let m : header ≡ code = sym ends.mode ∙ mode in absurd cc) in
+    (λ (ends : EndsSection state). let m : header ≡ code = sym ends.mode ∙ mode in absurd cc) in
     let fits : FitsMode code order state front.piece = subst (λ (m : Mode). FitsMode m order state front.piece) mode front.fit.fits in
     let entries : OneEntryBy code order state front.piece = subst (λ (m : Mode). OneEntryBy m order state front.piece) mode front.fit.entry in
     let listed : IsTrue (is_some (abbreviation_of (first_entry n names ∷ []) (code_value front.piece))) =
-        subst (λ (t : List Abbreviation). IsTrue (is_some (abbreviation_of t (code_value front.piece)))) table (fits.listed entries.1) in
+    subst (λ (t : List Abbreviation). IsTrue (is_some (abbreviation_of t (code_value front.piece)))) table (fits.listed entries.1) in
     let value : n ≡ code_value front.piece = code_is n (code_value front.piece) names listed in
     let spells : uleb_within (uleb front.piece) ≡ Some (n, length front.piece) = fits.spells ∙ ap (λ (x : ℕ). Some (x, length front.piece)) (sym value) in
     let whole : uleb_within (uleb (drop place info)) ≡ Some (n, length front.piece) =
-        ap (λ (x : List ℕ). uleb_within (uleb x)) (sym front.joins) ∙ uleb_64-append front.piece (joined front.rest) (n, length front.piece) spells in
+    ap (λ (x : List ℕ). uleb_within (uleb x)) (sym front.joins) ∙ uleb_64-append front.piece (joined front.rest) (n, length front.piece) spells in
     let behind : joined front.rest ≡ drop (place + length front.piece) info = rest_is front.piece (joined front.rest) info place (length front.piece) front.joins refl in
     let some : n ≢ 0 = λ z. entries.1 (sym value ∙ z) in
     let next : past state.mode order abbrevs state front.piece ≡ at_values state (place + length front.piece) names =
-        ap (λ (m : Mode). past m order abbrevs state front.piece) mode
-        ∙ ap (λ (x : ℕ). after_code state (x + length front.piece) (code_value front.piece)) at
-        ∙ ap (after_code state (place + length front.piece)) (sym value)
-        ∙ past_code state (place + length front.piece) n names some table entry depth in
+    ap (λ (m : Mode). past m order abbrevs state front.piece) mode
+    ∙ ap (λ (x : ℕ). after_code state (x + length front.piece) (code_value front.piece)) at
+    ∙ ap (after_code state (place + length front.piece)) (sym value)
+    ∙ past_code state (place + length front.piece) n names some table entry depth in
     let tail : Chain (first_grammar order abbrevs str) (at_values state (place + length front.piece) names) front.rest =
-        subst (λ (z : UnitState). Chain (first_grammar order abbrevs str) z front.rest) next front.chain in
+    subst (λ (z : UnitState). Chain (first_grammar order abbrevs str) z front.rest) next front.chain in
     (length front.piece, whole, values_facts order abbrevs str info state (place + length front.piece) names front.rest width tail behind)
 
 -- a unit of a First file, from the pieces to the bytes
@@ -251,24 +254,24 @@ unfolding headed
 unit_is_first order abbrevs str info at k ws c e more =
     let s : UnitState = before_unit (length info) at k in
     let front : Front order abbrevs str s (drop at info) = chain_front order abbrevs str s ws (drop at info) c e
-        (λ (ends : EndsSection s). let last : at ≡ length info = ends.place in omega arith) in
+    (λ (ends : EndsSection s). let last : at ≡ length info = ends.place in omega arith) in
     let facts : HeaderFacts order info at = header_facts order abbrevs str info at k front.piece (joined front.rest) front.joins front.fit in
     let h : IsHeader order s front.piece = front.fit.fits in
     let long : spelled order front.piece 0 4 ≡ spelled order info at 4 =
-        spelled_front order front.piece (joined front.rest) info at 0 4 front.joins (omega (arith, h.size)) ∙ ap (λ (i : ℕ). spelled order info i 4) (omega arith) in
+    spelled_front order front.piece (joined front.rest) info at 0 4 front.joins (omega (arith, h.size)) ∙ ap (λ (i : ℕ). spelled order info i 4) (omega arith) in
     let offset : spelled order front.piece 6 4 ≡ spelled order info (at + 6) 4 =
-        spelled_front order front.piece (joined front.rest) info at 6 4 front.joins (omega (arith, h.size)) in
+    spelled_front order front.piece (joined front.rest) info at 6 4 front.joins (omega (arith, h.size)) in
     let listed : IsTrue (is_some (first_table (table_of order info abbrevs at))) =
-        subst (λ (i : ℕ). IsTrue (is_some (first_table (drop i abbrevs)))) offset front.fit.abbreviation in
+    subst (λ (i : ℕ). IsTrue (is_some (first_table (drop i abbrevs)))) offset front.fit.abbreviation in
     let t : There (first_table (table_of order info abbrevs at)) = there (first_table (table_of order info abbrevs at)) listed in
     let state : UnitState = in_unit (headed order abbrevs s front.piece) (at + 11) 0 0 code in
     let room : 7 < spelled order front.piece 0 4 = omega (arith, facts.filled, long) in
     let next : past header order abbrevs s front.piece ≡ state = past_header order abbrevs s front.piece h.size room in
     let tail : Chain (first_grammar order abbrevs str) state front.rest =
-        subst (λ (z : UnitState). Chain (first_grammar order abbrevs str) z front.rest) next front.chain in
+    subst (λ (z : UnitState). Chain (first_grammar order abbrevs str) z front.rest) next front.chain in
     let behind : joined front.rest ≡ drop (at + 11) info = rest_is front.piece (joined front.rest) info at 11 front.joins h.size in
     let table : state.table ≡ first_entry t.value.0 t.value.1 ∷ [] =
-        ap (abbreviations_at abbrevs) offset ∙ first_abbreviations_at abbrevs (spelled order info (at + 6) 4) t.value.0 t.value.1 t.is in
+    ap (abbreviations_at abbrevs) offset ∙ first_abbreviations_at abbrevs (spelled order info (at + 6) 4) t.value.0 t.value.1 t.is in
     let after = after_facts order abbrevs str info state (at + 11) t.value.0 t.value.1 front.rest refl refl refl table refl refl tail behind in
     let ends : state.finish ≡ unit_end order info at = ap (λ (x : ℕ). at + 4 + x) long in
     record {

@@ -55,14 +55,14 @@ value_front order abbrevs str info s t place n ns size places width room before 
     let state : UnitState = at_values s place (n ∷ ns) in
     let names : IsTrue (ends_in str (spelled order p 0 (length p))) = rw (long, same) text in
     let fit : FirstFits order abbrevs str state p = record {
-      fits = record { fills = long ∙ sym (ap offset_size width); before = omega arith; };
+      fits = record { fills = long ∙ sym (ap offset_size width); before = omega arith };
       entry = tt;
       abbreviation = tt;
       text = names;
     } in
     let next : at_values state (place + length p) ns ≡ at_values state (place + 4) ns = ap (λ (i : ℕ). at_values state (place + i) ns) long in
     record {
-      pieces = record { state = state; bytes = p; } ∷ l.pieces;
+      pieces = record { state = state; bytes = p } ∷ l.pieces;
       leads = (refl, fit, subst (λ (z : UnitState). Leads (first_grammar order abbrevs str) z l.pieces t) (sym next) l.leads);
       bytes = ap (λ (r : List ℕ). p ++ r) l.bytes ∙ piece_joined info place 4 size;
       places_are = rw (path, l.places_are) refl;
@@ -74,8 +74,8 @@ values_tail : (order : Order) (info str : List ℕ) (finish place k : ℕ) → V
 values_tail order info str finish place k facts = record {
   finish_is = omega (arith, facts.finish_is);
   texts = λ (i : ℕ) (lt : i < k).
-    let at : place + 4 * suc i ≡ place + 4 + 4 * i = omega arith in
-    subst (λ (z : ℕ). IsTrue (ends_in str (spelled order info z 4))) at (facts.texts (suc i) (omega arith));
+      let at : place + 4 * suc i ≡ place + 4 + 4 * i = omega arith in
+      subst (λ (z : ℕ). IsTrue (ends_in str (spelled order info z 4))) at (facts.texts (suc i) (omega arith));
 }
 
 -- the first value names a text
@@ -95,16 +95,16 @@ values_lead order abbrevs str info s place size [] width room facts paths e =
     let finish : s.finish ≡ place = omega (arith, facts.finish_is) in
     let here : (place == s.finish) ≡ true = grind (arith, nat_tests) in
     let none : size ≡ 0 = omega arith in
-    record { pieces = []; leads = rw (here, finish) refl; bytes = rw none refl; places_are = refl; }
+    record { pieces = []; leads = rw (here, finish) refl; bytes = rw none refl; places_are = refl }
 values_lead order abbrevs str info s place size (n ∷ ns) width room facts paths e =
     let ends : s.finish ≡ place + 4 * suc (length ns) = facts.finish_is in
     let more : LeadsTo order abbrevs str info (at_values (at_values s place (n ∷ ns)) (place + 4) ns) (before_unit s.whole s.finish (s.unit + 1)) (place + 4) (4 * length ns) (value_places (place + 4) (length ns)) =
-        values_lead order abbrevs str info (at_values s place (n ∷ ns)) (place + 4) (4 * length ns) ns width room
-        (values_tail order info str s.finish place (length ns) facts) paths.1 refl in
+    values_lead order abbrevs str info (at_values s place (n ∷ ns)) (place + 4) (4 * length ns) ns width room
+    (values_tail order info str s.finish place (length ns) facts) paths.1 refl in
     let whole : 4 + 4 * length ns ≡ size = omega arith in
     subst (λ (z : ℕ). LeadsTo order abbrevs str info (at_values s place (n ∷ ns)) (before_unit s.whole s.finish (s.unit + 1)) place z (value_places place (suc (length ns)))) whole
     (value_front order abbrevs str info s (before_unit s.whole s.finish (s.unit + 1)) place n ns (4 * length ns) (value_places (place + 4) (length ns)) width
-        (omega arith) (omega arith) (values_head order info str s.finish place (length ns) facts) paths.0 more)
+    (omega arith) (omega arith) (values_head order info str s.finish place (length ns) facts) paths.0 more)
 
 -- the first piece of a chain fits the state, and what follows is a chain behind it
 pub record Front (order : Order) (abbrevs str : List ℕ) (s : UnitState) (bytes : List ℕ) : Type 0 where
@@ -163,7 +163,7 @@ value_text order abbrevs str state p n ns mode fit =
 
 -- no text, where no value stands
 no_values : (order : Order) (info str : List ℕ) (finish place : ℕ) → finish ≡ place → ValueFacts order info str finish place 0
-no_values order info str finish place e = record { finish_is = omega arith; texts = λ (i : ℕ) (lt : i < 0). absurd (omega arith); }
+no_values order info str finish place e = record { finish_is = omega arith; texts = λ (i : ℕ) (lt : i < 0). absurd (omega arith) }
 
 -- one more value in front
 values_more : (order : Order) (info str : List ℕ) (finish place k : ℕ) → IsTrue (ends_in str (spelled order info place 4))
@@ -196,22 +196,22 @@ values_facts order abbrevs str info s place [] ws width c e = no_more order abbr
         no_values order info str s.finish place (grind (arith, nat_tests))
     no_more order abbrevs str info s place ws false here c e =
         let at_code : Chain (first_grammar order abbrevs str) (in_unit s place 1 0 code) ws =
-            subst (λ (z : UnitState). Chain (first_grammar order abbrevs str) z ws) (between_code s place here) c in
+        subst (λ (z : UnitState). Chain (first_grammar order abbrevs str) z ws) (between_code s place here) c in
         let front = chain_front order abbrevs str (in_unit s place 1 0 code) ws (drop place info) at_code e
-            (λ (ends : EndsSection (in_unit s place 1 0 code)). let m : code ≡ header = ends.mode in absurd cc) in
+        (λ (ends : EndsSection (in_unit s place 1 0 code)). let m : code ≡ header = ends.mode in absurd cc) in
         absurd (let first : 1 ≡ 0 = front.fit.entry.0 in omega arith)
 values_facts order abbrevs str info s place (n ∷ ns) ws width c e =
     let state : UnitState = at_values s place (n ∷ ns) in
     let front = chain_front order abbrevs str state ws (drop place info) c e
-        (λ (ends : EndsSection state). let m : values 0 0x11 (specs_of (n ∷ ns)) ≡ header = ends.mode in absurd cc) in
+    (λ (ends : EndsSection state). let m : values 0 0x11 (specs_of (n ∷ ns)) ≡ header = ends.mode in absurd cc) in
     let size : length front.piece ≡ 4 = value_size order abbrevs str state front.piece n ns width refl front.fit in
     let text : IsTrue (ends_in str (spelled order front.piece 0 (length front.piece))) = value_text order abbrevs str state front.piece n ns refl front.fit in
     let behind : joined front.rest ≡ drop (place + 4) info = rest_is front.piece (joined front.rest) info place 4 front.joins size in
     let tail : Chain (first_grammar order abbrevs str) (at_values state (place + 4) ns) front.rest =
-        subst (λ (i : ℕ). Chain (first_grammar order abbrevs str) (at_values state (place + i) ns) front.rest) size front.chain in
+    subst (λ (i : ℕ). Chain (first_grammar order abbrevs str) (at_values state (place + i) ns) front.rest) size front.chain in
     let number : spelled order front.piece 0 (length front.piece) ≡ spelled order info place 4 =
-        ap (spelled order front.piece 0) size
-        ∙ spelled_front order front.piece (joined front.rest) info place 0 4 front.joins (omega arith)
-        ∙ ap (λ (i : ℕ). spelled order info i 4) (omega arith) in
+    ap (spelled order front.piece 0) size
+    ∙ spelled_front order front.piece (joined front.rest) info place 0 4 front.joins (omega arith)
+    ∙ ap (λ (i : ℕ). spelled order info i 4) (omega arith) in
     values_more order info str s.finish place (length ns) (subst (λ (z : ℕ). IsTrue (ends_in str z)) number text)
     (values_facts order abbrevs str info state (place + 4) ns front.rest width tail behind)

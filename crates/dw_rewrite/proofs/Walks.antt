@@ -35,7 +35,7 @@ path_places-append (x ∷ xs) ys =
 
 -- none so far
 pub walked_start : (order : Order) (info abbrevs str : List ℕ) → Walked order info abbrevs str 0 []
-walked_start order info abbrevs str = record { unit = 0; pieces = []; leads = refl; bytes = refl; places_are = refl; }
+walked_start order info abbrevs str = record { unit = 0; pieces = []; leads = refl; bytes = refl; places_are = refl }
 
 -- one more unit
 pub walked_step : (order : Order) (info abbrevs str : List ℕ) (at finish : ℕ) (old new : List ℕ) → Walked order info abbrevs str at old
@@ -44,7 +44,7 @@ walked_step order info abbrevs str at finish old new w r further =
     let total : ℕ = finish - at in
     let whole : at + total ≡ unit_end order info at = omega (arith, r.finish_is) in
     let more : LeadsTo order abbrevs str info (before_unit (length info) at w.unit) (before_unit (length info) (unit_end order info at) (w.unit + 1)) at total (value_places (at + 11 + r.size) (length r.names)) =
-        unit_lead order abbrevs str info at w.unit r.code r.size total r.names r.facts whole in
+    unit_lead order abbrevs str info at w.unit r.code r.size total r.names r.facts whole in
     let ends : at + total ≡ finish = omega arith in
     record {
       unit = w.unit + 1;
@@ -63,8 +63,8 @@ pub walked_end : (order : Order) (info abbrevs str : List ℕ) (at : ℕ) (place
     → PlacesRead order info abbrevs str places
 walked_end order info abbrevs str at places w last =
     let chain : Chain (first_grammar order abbrevs str) (before_unit (length info) 0 0) w.pieces =
-        leads-chain (first_grammar order abbrevs str) (before_unit (length info) 0 0) (before_unit (length info) at w.unit) w.pieces w.leads
-        (record { mode = refl; place = last; }) in
+    leads-chain (first_grammar order abbrevs str) (before_unit (length info) 0 0) (before_unit (length info) at w.unit) w.pieces w.leads
+    (record { mode = refl; place = last }) in
     record {
       units = record {
         pieces = w.pieces;
@@ -85,12 +85,12 @@ pub unit_next : (order : Order) (info abbrevs str : List ℕ) (at : ℕ) (places
 unit_next order info abbrevs str at places w more f =
     let g : Grammar = first_grammar order abbrevs str in
     let chain : Chain (first_grammar order abbrevs str) (before_unit (length info) 0 0) f.pieces =
-        to_first order abbrevs str (before_unit (length info) 0 0) f.pieces f.units.chain f.entries f.abbreviations f.texts in
+    to_first order abbrevs str (before_unit (length info) 0 0) f.pieces f.units.chain f.entries f.abbreviations f.texts in
     let split : joined f.pieces ≡ joined w.pieces ++ drop at info =
-        f.units.bytes ∙ sym (take-append-drop at info) ∙ ap (λ (b : List ℕ). b ++ drop at info) (sym w.bytes) in
+    f.units.bytes ∙ sym (take-append-drop at info) ∙ ap (λ (b : List ℕ). b ++ drop at info) (sym w.bytes) in
     let rest : Rest (first_grammar order abbrevs str) (before_unit (length info) at w.unit) (drop at info) =
-        chain-rest (first_grammar order abbrevs str) (first_one_way order abbrevs str) (before_unit (length info) 0 0) (before_unit (length info) at w.unit)
-        w.pieces f.pieces (drop at info) w.leads chain split in
+    chain-rest (first_grammar order abbrevs str) (first_one_way order abbrevs str) (before_unit (length info) 0 0) (before_unit (length info) at w.unit)
+    w.pieces f.pieces (drop at info) w.leads chain split in
     unit_is_first order abbrevs str info at w.unit rest.pieces rest.chain rest.bytes more
 
 -- so a refusal of a unit is one of the section

@@ -25,7 +25,7 @@ pub with_bodies_same : (b : List ℕ) (f g : ℕ → List ℕ) → ((i : ℕ) �
 unfolding with_bodies
 with_bodies_same b f g same =
     let parts : tabulate (part_of b f) (section_count b) ≡ tabulate (part_of b g) (section_count b) =
-        tabulate_same (part_of b f) (part_of b g) (section_count b) (λ (i : ℕ) lt. part_same b f g i (same i lt)) in
+    tabulate_same (part_of b f) (part_of b g) (section_count b) (λ (i : ℕ) lt. part_same b f g i (same i lt)) in
     ap (λ (ps : List Part). cond (section_count b == 0) b (laid_out (class_of b) (order_of b) (take (fixed_end b) b) ps)) parts
 
 -- a section that is laid out anew is in the bytes
@@ -54,6 +54,6 @@ length-moved b bodies i lt fixed moves =
     let whole : length (laid front (tabulate f (suc i))) ≤ length (laid front (tabulate f (section_count b))) = laid_tabulate-longer front f (suc i) (section_count b) (omega arith) in
     let start : length front ≤ length (laid front (tabulate f (section_count b))) = laid_tabulate-longer front f 0 (section_count b) (omega arith) in
     let header : ehdr_size (class_of b) ≤ length (laid front (tabulate f (section_count b))) =
-        omega (arith, fixed_end-header b, length-take (fixed_end b) b, start) in
+    omega (arith, fixed_end-header b, length-take (fixed_end b) b, start) in
     let table = length-with_table (class_of b) (order_of b) (laid front (tabulate f (section_count b))) (new_heads front (tabulate f (section_count b))) header in
     rw some (omega (arith, upto, whole, table))

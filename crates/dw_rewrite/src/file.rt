@@ -68,7 +68,12 @@ fn as_unbuilt(fault: Fault) -> Fault
 
 /// The file rewritten, where its sections of debug data were found.
 #[tactic(auto, using(crate::proofs::ExitLaws::found_rules))]
-fn rewrite_found(alloc: Global, elf: &ElfFile, sections: Sections, maps: &Maps) -> Result<Vec<u8>, Fault>
+fn rewrite_found(
+    alloc: Global,
+    elf: &ElfFile,
+    sections: Sections,
+    maps: &Maps,
+) -> Result<Vec<u8>, Fault>
     requires found { Found elf.now.bytes.now sections }
     ensures first { OnOk result (IsFirst maps.now elf.now.bytes.now) }
     ensures output { IfOk result (λ out. IsOutput maps.now elf.now.bytes.now out.items) }
@@ -97,7 +102,12 @@ fn found_places(alloc: Global, elf: &ElfFile, sections: Sections) -> Result<Vec<
 
 /// The file written with new bytes of the two sections.
 #[tactic(auto, using(crate::proofs::ExitLaws::written_rules))]
-fn written(alloc: Global, elf: &ElfFile, sections: Sections, new: NewBytes) -> Result<Vec<u8>, Fault>
+fn written(
+    alloc: Global,
+    elf: &ElfFile,
+    sections: Sections,
+    new: NewBytes,
+) -> Result<Vec<u8>, Fault>
     requires found { Found elf.now.bytes.now sections }
     ensures file { IfOk result (λ out. out.items ≡ with_bodies elf.now.bytes.now (body_with elf.now.bytes.now sections new.info.items new.str.items)) }
     ensures small { IfOk result (λ out. length out.items ≤ output_limit) }
@@ -112,7 +122,12 @@ fn written(alloc: Global, elf: &ElfFile, sections: Sections, new: NewBytes) -> R
 
 /// The items of so many sections: new bytes for two, and none for the others.
 #[tactic(auto)]
-fn contents_of(alloc: Global, count: usize, sections: Sections, new: NewBytes) -> Result<Vec<Option<Vec<u8>>>, AllocError>
+fn contents_of(
+    alloc: Global,
+    count: usize,
+    sections: Sections,
+    new: NewBytes,
+) -> Result<Vec<Option<Vec<u8>>>, AllocError>
     requires info { sections.info < count }
     requires str { sections.str < count }
     requires apart { sections.info ≢ sections.str }

@@ -12,5 +12,9 @@ pub(crate) const OUTPUT_LIMIT: u64 = 1 << 31;
 pub(crate) fn unbuilt() -> Refusal
     ensures { result ≡ at Kind.Unbuilt 0 0 }
 {
-    Refusal { kind: Kind::Unbuilt, section: 0, offset: 0 }
+    Refusal {
+        kind: Kind::Unbuilt,
+        section: 0,
+        offset: 0,
+    }
 }

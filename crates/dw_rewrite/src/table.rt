@@ -1,6 +1,6 @@
 //! The table of abbreviations of a First unit (DWARF 5, 7.5.3).
 
-ghost use Rattle.std.specs.Prelude.{◌≡◌, ◌==◌, ◌&&◌, ◌≤◌,  length, drop, None, Some, IfSome, IsNone, is_some};
+ghost use Rattle.std.specs.Prelude.{◌≡◌, ◌==◌, ◌&&◌, ◌≤◌, length, drop, None, Some, IfSome, IsNone, is_some};
 ghost use Rattle.dw_base.specs.First.{closed, first_names, first_table, is_first_head, is_first_pair};
 ghost use Rattle.dw_rewrite.specs.FirstUnits.{IsTable, IsNames};
 
@@ -33,7 +33,10 @@ pub(crate) fn table_in(abbrevs: &[u8], at: u64) -> Option<Table>
         return None;
     }
     let count = names_in(abbrevs, at + 3)?;
-    Some(Table { code: u64::from(code), count })
+    Some(Table {
+        code: u64::from(code),
+        count,
+    })
 }
 
 /// The first three bytes of such a table: a code of one byte, the tag of a compilation unit, and no

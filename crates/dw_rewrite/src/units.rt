@@ -142,7 +142,10 @@ fn header_in(order: Order, info: &[u8], at: u64) -> Option<Head>
         return None;
     }
     let abbrevs = number_in(order, info, at + 6, 4);
-    Some(Head { finish: at + 4 + length, abbrevs })
+    Some(Head {
+        finish: at + 4 + length,
+        abbrevs,
+    })
 }
 
 /// The values of an entry, `count` offsets from `place` on: each is one of a text, and its place is

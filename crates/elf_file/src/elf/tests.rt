@@ -89,7 +89,11 @@ fn answer_of(rt: &impl Abort, alloc: Global, file: &[u8]) -> Result<(), Fault> {
 /// The answer that a file is refused with: none where it is read.
 fn wanted(refusal: Option<(Kind, u32, u64)>) -> Result<(), Fault> {
     match refusal {
-        Some((kind, section, offset)) => Err(Fault::Refused(Refusal { kind, section, offset })),
+        Some((kind, section, offset)) => Err(Fault::Refused(Refusal {
+            kind,
+            section,
+            offset,
+        })),
         None => Ok(()),
     }
 }

@@ -9,4 +9,4 @@ pub returns-in_err-note_path-clause-refused : goal.returns-in_err-note_path-clau
 returns-in_err-note_path-clause-refused c =
     let p = err_from_is_err_and c.from_residual.result c.from_residual.ensures.1 in
     rw (p.1, p.2) (refused_at (appending c.args.maps.now c.args.str.now) c.args.maps.now (record { order = c.args.order; str = c.args.str.now }) c.args.info.now c.args.str.now
-        c.loop-at.pool.texts c.args.pool.now.texts c.args.places.now c.loop-at.at-index c.in_err-note_path.field-0.0 (omega arith) c.loop-at.invariant.texts c.in_err-note_path.ensures.refused)
+    c.loop-at.pool.texts c.args.pool.now.texts c.args.places.now c.loop-at.at-index c.in_err-note_path.field-0.0 (omega arith) c.loop-at.invariant.texts c.in_err-note_path.ensures.refused)
