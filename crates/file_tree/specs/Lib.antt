@@ -1,0 +1,10 @@
+pub mod Trees
+pub mod Seen
+pub mod Causes
+pub mod Images
+pub mod Heard
+pub mod Sinks
+pub mod Logs
+pub mod Places
+pub mod Codes
+pub mod MemTrees
