@@ -1,0 +1,23 @@
+//! What every crate above speaks of: shared types, numbers at places in a file, and the definitions.
+//!
+//! This layer promises: numbers, LEB128 values and initial lengths at a place are those that the
+//! bytes spell (gABI ch. 4 "Data Representation"; DWARF 5, 7.4 and 7.6), and `None` comes exactly
+//! where none stands there.
+//! It does not promise: anything of whole files; the crates above state that, in the words of
+//! `specs/`.
+//! Read first: `specs/Numbers.antt`, then `specs/Elf.antt` and `specs/Units.antt`.
+#![tactic(auto)]
+
+pub mod dwarf_numbers;
+pub mod elf_numbers;
+mod fault;
+mod lebs;
+mod numbers;
+mod records;
+mod shared;
+
+pub use fault::{Fault, Kind, NoMemory, Refusal};
+pub use lebs::{initial_length_at, sleb_at, uleb_at};
+pub use numbers::{number_at, number_in, put_number};
+pub use records::{FileKind, Section, Segment};
+pub use shared::{Class, Order, Params, Width};

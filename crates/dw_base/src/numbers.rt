@@ -1,0 +1,119 @@
+//! Numbers of 1 to 8 bytes at a place, in either byte order (gABI ch. 4 "Data Representation").
+
+ghost use Rattle.std.specs.Prelude.{◌≡◌, ◌<◌, ◌≤◌, ◌+◌, ◌^◌, ◌↔◌, length, IsTrue, IfSome, OnSome};
+ghost use Rattle.std.specs.Bool.{OnTrue, OnFalse};
+ghost use Rattle.dw_base.specs.Numbers.{number_at, spelled, with_number, NumberFits};
+
+use crate::shared::Order;
+use byteorder::{BigEndian, ByteOrder, LittleEndian};
+
+/// The number that the `size` bytes from `at` spell, `at` in bytes from the front.
+/// `None` exactly where these bytes pass the end.
+#[tactic(auto, unfolding(crate::specs::Numbers::number_at, crate::specs::Numbers::spelled))]
+pub fn number_at(order: Order, bytes: &[u8], at: u64, size: u8) -> Option<u64>
+    requires some { 0 < size }
+    requires wide { size ≤ 8 }
+    ensures value { result ≡ number_at order bytes.now at size }
+    ensures inside { OnSome result (at + size ≤ length bytes.now) }
+    ensures fits { IfSome result (λ value. value < 256 ^ size) }
+{
+    let len = bytes.len() as u64;
+    if at > len {
+        return None;
+    }
+    if u64::from(size) > len - at {
+        return None;
+    }
+    Some(number_in(order, bytes, at, size))
+}
+
+/// The number that the `size` bytes from `at` spell, where these bytes are there.
+#[tactic(auto, using(crate::proofs::NumberLaws::number_rules), unfolding(crate::specs::Numbers::spelled))]
+pub fn number_in(order: Order, bytes: &[u8], at: u64, size: u8) -> u64
+    requires some { 0 < size }
+    requires wide { size ≤ 8 }
+    requires inside { at + size ≤ length bytes.now }
+    ensures value { result ≡ spelled order bytes.now at size }
+    ensures fits { result < 256 ^ size }
+{
+    let field = &bytes[at as usize..];
+    match order {
+        Order::Little => LittleEndian::read_uint(field, size as usize),
+        Order::Big => BigEndian::read_uint(field, size as usize),
+    }
+}
+
+/// Puts a number into the `size` bytes from `at`. `false` exactly where these bytes pass the end or
+/// the number needs more; then nothing changes.
+#[tactic(auto, unfolding(crate::specs::Numbers::with_number))]
+pub fn put_number(order: Order, bytes: &mut [u8], at: u64, size: u8, value: u64) -> bool
+    requires some { 0 < size }
+    requires wide { size ≤ 8 }
+    ensures fits { IsTrue result ↔ NumberFits bytes.old at size value }
+    ensures put { OnTrue result (bytes.new ≡ with_number order bytes.old at size value) }
+    ensures kept { OnFalse result (bytes.new ≡ bytes.old) }
+{
+    let len = bytes.len() as u64;
+    if at > len {
+        return false;
+    }
+    if u64::from(size) > len - at {
+        return false;
+    }
+    if !fits_size(value, size) {
+        return false;
+    }
+    let field = &mut bytes[at as usize..];
+    match order {
+        Order::Little => LittleEndian::write_uint(field, value, size as usize),
+        Order::Big => BigEndian::write_uint(field, value, size as usize),
+    }
+    true
+}
+
+/// Whether a number fits `size` bytes.
+fn fits_size(value: u64, size: u8) -> bool
+    requires some { 0 < size }
+    requires wide { size ≤ 8 }
+    ensures fits { IsTrue result ↔ (value < 256 ^ size) }
+{
+    match size {
+        1 => value < 0x100,
+        2 => value < 0x1_0000,
+        3 => value < 0x100_0000,
+        4 => value < 0x1_0000_0000,
+        5 => value < 0x100_0000_0000,
+        6 => value < 0x1_0000_0000_0000,
+        7 => value < 0x100_0000_0000_0000,
+        _ => true,
+    }
+}
+
+#[cfg(test)]
+mod tests {
+    use super::*;
+
+    /// gABI ch. 4, figure "Data Encoding".
+    #[test]
+    fn numbers_are_those_of_the_standard(rt: HostRuntime) {
+        let bytes = [0x01, 0x02, 0x03, 0x04];
+        assert_eq!(rt; number_at(Order::Big, &bytes, 0, 4), Some(0x0102_0304));
+        assert_eq!(rt; number_at(Order::Little, &bytes, 0, 4), Some(0x0403_0201));
+        assert_eq!(rt; number_at(Order::Big, &bytes, 1, 3), Some(0x02_0304));
+        assert_eq!(rt; number_at(Order::Big, &bytes, 1, 4), None);
+        assert_eq!(rt; number_at(Order::Big, &bytes, 5, 1), None);
+        assert_eq!(rt; number_in(Order::Little, &bytes, 2, 2), 0x0403);
+    }
+
+    #[test]
+    fn a_number_is_put_only_where_place_and_value_fit(rt: HostRuntime) {
+        let mut bytes = [0xaa, 0xaa, 0xaa, 0xaa, 0xaa];
+        assert!(rt; !put_number(Order::Big, &mut bytes, 2, 4, 1));
+        assert!(rt; !put_number(Order::Big, &mut bytes, 1, 2, 0x1_0000));
+        assert_eq!(rt; bytes, [0xaa, 0xaa, 0xaa, 0xaa, 0xaa]);
+        assert!(rt; put_number(Order::Big, &mut bytes, 1, 2, 0xfffe));
+        assert_eq!(rt; bytes, [0xaa, 0xff, 0xfe, 0xaa, 0xaa]);
+        assert!(rt; put_number(Order::Little, &mut bytes, 2, 3, 1));
+        assert_eq!(rt; bytes, [0xaa, 0xff, 0x01, 0x00, 0x00]);
+    }
+}

@@ -1,0 +1,41 @@
+//! The byte order, the class of a file, and the two formats of DWARF.
+
+/// In which order the bytes of a number stand (`e_ident[EI_DATA]`; gABI ch. 4 "ELF Identification").
+#[derive(Clone, Copy, Debug, PartialEq, Eq)]
+pub enum Order {
+    /// The lowest byte first (`ELFDATA2LSB`).
+    Little,
+    /// The highest byte first (`ELFDATA2MSB`).
+    Big,
+}
+
+/// How wide a file's addresses and offsets are (`e_ident[EI_CLASS]`; gABI ch. 4 "ELF Identification").
+#[derive(Clone, Copy, Debug, PartialEq, Eq)]
+pub enum Class {
+    /// 32 bits (`ELFCLASS32`).
+    C32,
+    /// 64 bits (`ELFCLASS64`).
+    C64,
+}
+
+/// How wide the offsets of a unit are (DWARF 5, 7.4).
+#[derive(Clone, Copy, Debug, PartialEq, Eq)]
+pub enum Width {
+    /// 32-bit DWARF: offsets of 4 bytes.
+    W32,
+    /// 64-bit DWARF: offsets of 8 bytes.
+    W64,
+}
+
+/// What the values of a unit depend on, beside their forms (DWARF 5, 7.5.1).
+#[derive(Clone, Copy, Debug, PartialEq, Eq)]
+pub struct Params {
+    /// The byte order of the file.
+    pub order: Order,
+    /// The width of offsets.
+    pub width: Width,
+    /// The version of DWARF.
+    pub version: u16,
+    /// The size of an address, in bytes.
+    pub address: u8,
+}

@@ -1,0 +1,1 @@
+pub use Rattle.dw_base.specs.Paths

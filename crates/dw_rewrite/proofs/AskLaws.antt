@@ -1,0 +1,167 @@
+-- Whether a text lies under a base, by the bytes of the table that it stands in.
+use Rattle.std.proofs.Common.{Bool, true, false, ◌≡◌, ◌≢◌, ℕ, zero, suc, ◌+◌, ◌-◌, ◌<◌, ◌≤◌, ◌==◌, ◌&&◌, ◌||◌, not, nat_eq, List, [], ◌∷◌, ◌++◌, length, take, drop, get_or, cond, IsTrue, sym, ap, ◌∙◌, refl, subst, arith, inl, inr}
+use Rattle.std.proofs.Math.Seq.{take-append_seam}
+use Rattle.std.proofs.lemmas.Bool.{cases_lt}
+use Rattle.std.proofs.lemmas.Bool.Decides.{nat_tests}
+use Rattle.std.proofs.lemmas.List.{length-append, length-take, take-append-le, append_cancel_right}
+use Rattle.std.proofs.lemmas.Slice.Eq.{bytes_eq-Decides}
+use Rattle.std.specs.List.{starts_with}
+use Rattle.dw_base.specs.Paths.{PathMap, IsPathMap, lies_under, mapped_path}
+use Rattle.dw_base.specs.StringTables.{appending, Mention}
+use Rattle.dw_base.specs.Texts.{has_nul, text, text_in, ends_in, same_text}
+use Rattle.dw_base.proofs.TextLaws.{text-split, has_nul-text, length-text, same_text-true, same_text-from}
+use Rattle.dw_base.proofs.PathLaws.{lies_under-split, IsPrefix, is_prefix-parts}
+
+-- a list begins with a needle where its front is the needle
+starts : (xs needle : List ℕ) → starts_with nat_eq xs needle ≡ true → needle ≡ take (length needle) xs
+starts xs needle h = (bytes_eq-Decides needle (take (length needle) xs)).0 h
+
+starts-from : (xs needle : List ℕ) → needle ≡ take (length needle) xs → starts_with nat_eq xs needle ≡ true
+starts-from xs needle e = (bytes_eq-Decides needle (take (length needle) xs)).1 e
+
+-- two values of a test
+both_tests : (a b : Bool) → (a ≡ true → b ≡ true) → (b ≡ true → a ≡ true) → a ≡ b
+both_tests true true f g = refl
+both_tests true false f g = sym (f refl)
+both_tests false true f g = g refl
+both_tests false false f g = refl
+
+-- a front that passes the text has its NUL
+nul_in_front : (t more : List ℕ) (n : ℕ) → length t < n → n ≤ length (t ++ 0 ∷ more) → has_nul (take n (t ++ 0 ∷ more)) ≡ true
+nul_in_front [] more zero lt le = absurd (omega arith)
+nul_in_front [] more (suc n) lt le = refl
+nul_in_front (b ∷ t) more zero lt le = absurd (omega arith)
+nul_in_front (b ∷ t) more (suc n) lt le = rw (nul_in_front t more n (omega arith) (omega arith)) (grind (arith, nat_tests))
+
+-- a base without a NUL at the front of bytes is at the front of their text
+base_in_text : (base t more : List ℕ) → has_nul base ≡ false → base ≡ take (length base) (t ++ 0 ∷ more) → length base ≤ length t
+base_in_text base t more plain e = elim (cases_lt (length t) (length base)) [
+  | inl past ↦
+      let size : length (take (length base) (t ++ 0 ∷ more)) ≡ length base = ap length (sym e) in
+      let inside : length base ≤ length (t ++ 0 ∷ more) = omega (arith, length-take (length base) (t ++ 0 ∷ more)) in
+      let nul : has_nul base ≡ true = ap has_nul e ∙ nul_in_front t more (length base) past inside in
+      absurd cc
+  | inr within ↦ within
+]
+
+-- the text begins with the base exactly where the bytes do
+text_starts : (base t more : List ℕ) → has_nul base ≡ false → starts_with nat_eq t base ≡ starts_with nat_eq (t ++ 0 ∷ more) base
+text_starts base t more plain = both_tests (starts_with nat_eq t base) (starts_with nat_eq (t ++ 0 ∷ more) base)
+    (λ h.
+      let e : base ≡ take (length base) t = starts t base h in
+      let size : length (take (length base) t) ≡ length base = ap length (sym e) in
+      let inside : length base ≤ length t = omega (arith, length-take (length base) t) in
+      starts-from (t ++ 0 ∷ more) base (e ∙ sym (take-append-le (length base) t (0 ∷ more) inside)))
+    (λ h.
+      let e : base ≡ take (length base) (t ++ 0 ∷ more) = starts (t ++ 0 ∷ more) base h in
+      let inside : length base ≤ length t = base_in_text base t more plain e in
+      starts-from t base (e ∙ take-append-le (length base) t (0 ∷ more) inside))
+
+-- the byte behind the base
+next_byte : (t more : List ℕ) (n : ℕ) → has_nul t ≡ false → n ≤ length t
+    → (get_or (t ++ 0 ∷ more) n 0 == 0 || get_or (t ++ 0 ∷ more) n 0 == 47) ≡ (length t == n || get_or t n 0 == 47)
+next_byte [] more zero plain le = refl
+next_byte [] more (suc n) plain le = absurd (omega arith)
+next_byte (b ∷ t) more zero plain le =
+    let some : (b == 0) ≡ false = first_plain b t plain in
+    let long : (length (b ∷ t) == 0) ≡ false = grind (arith, nat_tests) in
+    rw (some, long) refl
+  where
+    first_plain : (b : ℕ) (t : List ℕ) → has_nul (b ∷ t) ≡ false → (b == 0) ≡ false
+    first_plain b t h = grind (arith, nat_tests)
+next_byte (b ∷ t) more (suc n) plain le =
+    let rest : has_nul t ≡ false = rest_plain b t plain in
+    let same : (length (b ∷ t) == suc n) ≡ (length t == n) = both_tests (length (b ∷ t) == suc n) (length t == n)
+        (λ h. grind (arith, nat_tests)) (λ h. grind (arith, nat_tests)) in
+    next_byte t more n rest (omega arith) ∙ ap (λ (x : Bool). x || get_or t n 0 == 47) (sym same)
+  where
+    rest_plain : (b : ℕ) (t : List ℕ) → has_nul (b ∷ t) ≡ false → has_nul t ≡ false
+    rest_plain b t h = grind (arith, nat_tests)
+
+-- bytes are their text, its NUL and more
+record Split (xs : List ℕ) : Type 0 where
+  more : List ℕ
+  is : xs ≡ text xs ++ 0 ∷ more
+
+split : (xs : List ℕ) → has_nul xs ≡ true → Split xs
+split xs ends = let s = text-split xs ends in record { more = s.0; is = s.1; }
+
+-- a text lies not under a base that is longer than the bytes
+pub under_short : (base xs : List ℕ) → has_nul xs ≡ true → length xs ≤ length base → false ≡ lies_under base (text xs)
+unfolding lies_under
+under_short base xs ends short =
+    let long : length (text xs) < length xs = length-text xs ends in
+    let no : starts_with nat_eq (text xs) base ≡ false = both_tests (starts_with nat_eq (text xs) base) false
+        (λ h.
+          let e : base ≡ take (length base) (text xs) = starts (text xs) base h in
+          let size : length (take (length base) (text xs)) ≡ length base = ap length (sym e) in
+          absurd (omega (arith, length-take (length base) (text xs))))
+        (λ h. absurd cc) in
+    rw no refl
+
+-- nor under one that the bytes don't begin with
+pub under_other : (base xs : List ℕ) → has_nul base ≡ false → has_nul xs ≡ true → starts_with nat_eq xs base ≡ false → false ≡ lies_under base (text xs)
+unfolding lies_under
+under_other base xs plain ends other =
+    let s : Split xs = split xs ends in
+    let same : starts_with nat_eq (text xs) base ≡ false =
+        text_starts base (text xs) s.more plain ∙ ap (λ (y : List ℕ). starts_with nat_eq y base) (sym s.is) ∙ other in
+    rw same refl
+
+-- under one that they begin with it lies where the byte behind it ends a component
+pub under_next : (base xs : List ℕ) → has_nul base ≡ false → has_nul xs ≡ true → starts_with nat_eq xs base ≡ true
+    → (get_or xs (length base) 0 == 0 || get_or xs (length base) 0 == 47) ≡ lies_under base (text xs)
+unfolding lies_under
+under_next base xs plain ends begins =
+    let s : Split xs = split xs ends in
+    let front : base ≡ take (length base) (text xs ++ 0 ∷ s.more) = starts xs base begins ∙ ap (take (length base)) s.is in
+    let inside : length base ≤ length (text xs) = base_in_text base (text xs) s.more plain front in
+    let same : starts_with nat_eq (text xs) base ≡ true =
+        text_starts base (text xs) s.more plain ∙ ap (λ (y : List ℕ). starts_with nat_eq y base) (sym s.is) ∙ begins in
+    let next = next_byte (text xs) s.more (length base) (has_nul-text xs) inside in
+    ap (λ (y : List ℕ). get_or y (length base) 0 == 0 || get_or y (length base) 0 == 47) s.is ∙ next
+    ∙ ap (λ (b : Bool). b && (length (text xs) == length base || get_or (text xs) (length base) 0 == 47)) (sym same)
+
+pub ruleset under_rules = (under_short, under_other, under_next)
+
+-- a path under the base changes where base and destination differ
+pub asks_under : (base dest t : List ℕ) → (base ≡ dest → ⊥) → lies_under base t ≡ not (same_text (mapped_path (record { base = base; dest = dest }) t) t)
+unfolding mapped_path
+asks_under base dest t differ = by_under (lies_under base t) refl
+  where
+    by_under : (b : Bool) → lies_under base t ≡ b → b ≡ not (same_text (cond b (dest ++ drop (length base) t) t) t)
+    by_under true h =
+        let t_is : t ≡ base ++ drop (length base) t = lies_under-split base t h in
+        let other : same_text (dest ++ drop (length base) t) t ≡ false = both_tests (same_text (dest ++ drop (length base) t) t) false
+            (λ e. absurd (differ (sym (append_cancel_right dest base (drop (length base) t) (same_text-true (dest ++ drop (length base) t) t e ∙ t_is)))))
+            (λ e. absurd cc) in
+        rw other refl
+    by_under false h = rw (same_text-from t t refl) refl
+
+-- no path changes where base and destination are one
+pub asks_none : (base dest t : List ℕ) → base ≡ dest → false ≡ not (same_text (mapped_path (record { base = base; dest = dest }) t) t)
+unfolding mapped_path
+asks_none base dest t same = by_under (lies_under base t) refl
+  where
+    by_under : (b : Bool) → lies_under base t ≡ b → false ≡ not (same_text (cond b (dest ++ drop (length base) t) t) t)
+    by_under true h =
+        let t_is : t ≡ base ++ drop (length base) t = lies_under-split base t h in
+        let back : dest ++ drop (length base) t ≡ t = ap (λ (y : List ℕ). y ++ drop (length base) t) (sym same) ∙ sym t_is in
+        rw (same_text-from (dest ++ drop (length base) t) t back) refl
+    by_under false h = rw (same_text-from t t refl) refl
+
+-- what lies at the front of a table from a place on
+pub asks_front : (base dest table : List ℕ) (offset : ℕ) → (base ≡ dest → ⊥)
+    → lies_under base (text (drop offset table)) ≡ not (same_text (mapped_path (record { base = base; dest = dest }) (text (drop offset table))) (text (drop offset table)))
+asks_front base dest table offset differ = asks_under base dest (text (drop offset table)) differ
+
+pub ruleset ask_rules = (asks_under, asks_none)
+
+-- the base of a map has no NUL
+pub base_plain : (m : PathMap) → IsPathMap m → has_nul m.base ≡ false
+base_plain m ok = (is_prefix-parts m.base ok.base).no_nul
+
+pub ruleset map_rules = (base_plain)
+
+-- a test of two lists
+pub ruleset same_rules = (bytes_eq-Decides)

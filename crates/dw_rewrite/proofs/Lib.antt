@@ -1,0 +1,14 @@
+pub mod FirstGrammar
+pub mod TableLaws
+pub mod ValueLaws
+pub mod CodeLaws
+pub mod UnitFactLaws
+pub mod PlaceLaws
+pub mod Rows
+pub mod TextLimits
+pub mod Names
+pub mod UnitExits
+pub mod Walks
+pub mod PlacedLaws
+pub mod ChangeLaws
+pub mod AskLaws

@@ -1,0 +1,6 @@
+-- The rows of refusals, and the laws of places, that the code's proofs apply.
+use Rattle.dw_rewrite.specs.Refuses.Refuses.{unbuilt}
+use Rattle.dw_rewrite.proofs.PlaceLaws.{places_front, places_none}
+
+pub ruleset refusal_rows = (unbuilt)
+pub ruleset place_laws = (places_front, places_none)

@@ -1,0 +1,4 @@
+pub mod FirstUnits
+pub mod PathPlaces
+pub mod Refuses
+pub mod Changes

@@ -1,0 +1,2 @@
+pub use Rattle.dw_base.specs.StringTables
+pub mod Pool

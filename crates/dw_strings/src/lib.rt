@@ -1,0 +1,14 @@
+//! Texts of string sections, and string tables that grow (DWARF 5, 7.26; gABI ch. 4 "String Table").
+//!
+//! This layer promises: a text is the bytes before the first NUL and is refused only where none
+//! follows; a table that grows keeps its bytes and adds each new text once, with its NUL, and says
+//! where each added text begins.
+//! It does not promise: which texts are added, and in which order; the crates above say that.
+//! Read first: `dw_base/specs/Texts.antt` and `dw_base/specs/StringTables.antt`.
+#![tactic(auto)]
+
+mod pool;
+mod text;
+
+pub use pool::Pool;
+pub use text::text_at;

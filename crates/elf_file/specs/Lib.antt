@@ -1,0 +1,4 @@
+pub mod FileHeader
+pub mod IsElf
+pub mod Names
+pub mod Fixed

@@ -1,0 +1,153 @@
+//! A file that was read.
+
+ghost use Rattle.std.specs.Prelude.{◌≡◌, ◌≤◌, ◌<◌, ◌^◌, ℕ, length, IfOk, OnOk, IfErr};
+ghost use Rattle.dw_base.specs.Elf.{e_type, file_kind, contents_of, nth_section, section_count, section_name};
+ghost use Rattle.dw_base.specs.ElfFails.{DebugFails, DebugReads, ElfFails, ElfReads, HeaderReads};
+ghost use Rattle.dw_base.specs.Refusals.{Blames};
+ghost use Rattle.dw_base.specs.declared.fault.Refusal.{Refusal};
+ghost use Rattle.elf_file.specs.FileHeader.{file_header};
+ghost use Rattle.elf_file.specs.IsElf.{IsElf};
+
+use crate::header::{header_in, shape_fits};
+use crate::records::FileHeader;
+use crate::names::text_at;
+use crate::sections::{contents_in, names_end, sections_in};
+use crate::segments::{segments_in, segments_lie};
+use crate::tables::{counted, indexed, segment_table_lies};
+use dw_base::elf_numbers::{ET_DYN, ET_EXEC, ET_REL};
+use dw_base::{Class, Fault, FileKind, Order, Section, Segment};
+use std::alloc::Global;
+
+/// An ELF file: its bytes, and the records that they spell.
+#[derive(Debug, Drop)]
+pub struct ElfFile<'a> {
+    /// The whole file.
+    pub bytes: &'a [u8],
+    /// `e_ident[EI_CLASS]`.
+    pub class: Class,
+    /// `e_ident[EI_DATA]`.
+    pub order: Order,
+    /// `e_type`.
+    pub kind: FileKind,
+    /// `e_machine`.
+    pub machine: u16,
+    /// The number of the section name table, 0 where there is none.
+    pub names: u32,
+    /// The sections, in order; section 0 is the first.
+    pub sections: Vec<Section>,
+    /// The segments, in order.
+    pub segments: Vec<Segment>,
+    pub ghost is_elf: { IsElf bytes.now class order kind machine names sections.items segments.items },
+}
+
+/// What a file is, by its `e_type`.
+#[tactic(auto, unfolding(dw_base::specs::Elf::file_kind))]
+fn kind_of(bytes: &[u8], number: u16) -> FileKind
+    requires { number ≡ e_type bytes.now }
+    ensures { result ≡ file_kind bytes.now }
+{
+    match number {
+        ET_REL => FileKind::Rel,
+        ET_EXEC => FileKind::Exec,
+        ET_DYN => FileKind::Dyn,
+        _ => FileKind::Other(number),
+    }
+}
+
+/// The file of a file header that was read.
+#[tactic(auto, using(crate::proofs::Rows::debug_rows, crate::proofs::ElfFileLaws::count_laws), unfolding(crate::specs::FileHeader::file_header))]
+fn file_of<'a>(alloc: Global, bytes: &'a [u8], header: &FileHeader) -> Result<ElfFile<'a>, Fault>
+    requires is { header.now ≡ file_header bytes.now }
+    requires small { length bytes.now ≤ 2 ^ 31 }
+    requires header { HeaderReads bytes.now }
+    ensures bytes { IfOk result (λ file. file.bytes.now ≡ bytes.now) }
+    ensures value { IfOk result (λ file. IsElf bytes.now file.class file.order file.kind file.machine file.names file.sections.items file.segments.items) }
+    ensures reads { OnOk result (DebugReads bytes.now) }
+    ensures refused { IfErr result (Blames (DebugFails bytes.now)) }
+{
+    shape_fits(bytes, header)?;
+    segment_table_lies(bytes, header)?;
+    let count = counted(bytes, header)?;
+    let names = indexed(bytes, header, count)?;
+    let end = names_end(bytes, header, names)?;
+    let sections = sections_in(alloc, bytes, header, count, names, end)?;
+    let segments = segments_in(alloc, bytes, header)?;
+    Ok(ElfFile {
+        bytes,
+        class: header.class,
+        order: header.order,
+        kind: kind_of(bytes, header.kind),
+        machine: header.machine,
+        names,
+        sections,
+        segments,
+    })
+}
+
+impl ElfFile<'_> {
+    /// The section of a number.
+    #[tactic(auto, using(crate::proofs::ElfFileLaws::file_laws))]
+    pub(crate) fn section_of(&self, section: u32) -> Section
+        requires there { section < section_count self.now.bytes.now }
+        ensures { result ≡ nth_section self.now.bytes.now section }
+    {
+        self.sections[section as usize]
+    }
+
+    /// The bytes of the section of a number, none of type NULL and NOBITS.
+    #[tactic(auto, using(crate::proofs::ElfFileLaws::file_laws), unfolding(dw_base::specs::Elf::contents_of))]
+    pub fn contents(&self, section: u32) -> &[u8]
+        requires there { section < section_count self.now.bytes.now }
+        ensures { result.now ≡ contents_of self.now.bytes.now section }
+    {
+        contents_in(self.bytes, &self.section_of(section))
+    }
+
+    /// The name of the section of a number, empty where the file has no section name table.
+    #[tactic(auto, using(crate::proofs::ElfFileLaws::file_laws), unfolding(dw_base::specs::Elf::section_name, dw_base::specs::Elf::name_table))]
+    pub fn section_name(&self, section: u32) -> &[u8]
+        requires there { section < section_count self.now.bytes.now }
+        ensures { result.now ≡ section_name self.now.bytes.now section }
+    {
+        if self.names == 0 {
+            return &self.bytes[..0];
+        }
+        text_at(self.contents(self.names), u64::from(self.section_of(section).name))
+    }
+
+    /// Reads a file of debug data, whose segments may pass its end. Refused as `Header` or `Range`
+    /// exactly where one of their conditions holds, the one on segments past the end aside.
+    #[tactic(auto, using(crate::proofs::Rows::debug_rows, dw_base::proofs::ElfLaws::debug_excludes))]
+    pub fn read_debug(alloc: Global, bytes: &[u8]) -> Result<ElfFile<'_>, Fault>
+        requires small { length bytes.now ≤ 2 ^ 31 }
+        ensures reads { OnOk result (DebugReads bytes.now) }
+        ensures none { OnOk result ((r : Refusal) → DebugFails bytes.now r → ⊥) }
+        ensures bytes { IfOk result (λ file. file.bytes.now ≡ bytes.now) }
+        ensures value { IfOk result (λ file. IsElf bytes.now file.class file.order file.kind file.machine file.names file.sections.items file.segments.items) }
+        ensures refused { IfErr result (Blames (DebugFails bytes.now)) }
+    {
+        let header = header_in(bytes)?;
+        file_of(alloc, bytes, &header)
+    }
+
+    /// Reads a file. Refused as `Header` or `Range` exactly where one of their conditions holds.
+    #[tactic(auto, using(crate::proofs::Rows::elf_rows, dw_base::proofs::ElfLaws::elf_excludes))]
+    pub fn read(alloc: Global, bytes: &[u8]) -> Result<ElfFile<'_>, Fault>
+        requires small { length bytes.now ≤ 2 ^ 31 }
+        ensures reads { OnOk result (ElfReads bytes.now) }
+        ensures none { OnOk result ((r : Refusal) → ElfFails bytes.now r → ⊥) }
+        ensures bytes { IfOk result (λ file. file.bytes.now ≡ bytes.now) }
+        ensures value { IfOk result (λ file. IsElf bytes.now file.class file.order file.kind file.machine file.names file.sections.items file.segments.items) }
+        ensures refused { IfErr result (Blames (ElfFails bytes.now)) }
+    {
+        let header = header_in(bytes)?;
+        let file = file_of(alloc, bytes, &header)?;
+        segments_lie(bytes, &header)?;
+        Ok(file)
+    }
+}
+
+#[cfg(test)]
+mod samples;
+#[cfg(test)]
+mod tests;
