@@ -26,3 +26,12 @@ pub mod PlainUnitComplete
 pub mod PlainFixedPart
 pub mod PlainFirstComplete
 pub mod WorkedTrees
+pub mod FixedPartLaws
+pub mod LayoutLaws
+pub mod ReadsAgainLaws
+pub mod ReadsBackLaws
+pub mod RecordLaws
+pub mod WrittenContents
+pub mod WrittenHeaders
+pub mod WrittenLaws
+pub mod WrittenSections

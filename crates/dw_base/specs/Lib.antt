@@ -18,3 +18,5 @@ pub mod Output
 pub mod First
 pub mod PlainReading
 pub mod PlainFirst
+pub mod LayoutFails
+pub mod LayoutReads

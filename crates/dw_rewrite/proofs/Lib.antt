@@ -12,3 +12,6 @@ pub mod Walks
 pub mod PlacedLaws
 pub mod ChangeLaws
 pub mod AskLaws
+pub mod KnownLaws
+pub mod JudgeLaws
+pub mod ChangedLaws

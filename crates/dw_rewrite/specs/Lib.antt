@@ -2,3 +2,4 @@ pub mod FirstUnits
 pub mod PathPlaces
 pub mod Refuses
 pub mod Changes
+pub mod Judged

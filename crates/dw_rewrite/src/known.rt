@@ -7,14 +7,15 @@ ghost use Rattle.std.specs.BTreeMap.{get};
 ghost use Rattle.std.specs.Ordering.{nat_cmp};
 ghost use Rattle.dw_base.specs.Layout.{output_limit};
 ghost use Rattle.dw_base.specs.Numbers.{spelled};
+ghost use Rattle.dw_base.specs.Paths.{mapped_path};
 ghost use Rattle.dw_base.specs.Refusals.{Blames};
-ghost use Rattle.dw_base.specs.StringTables.{appending, table_bytes, with_added, with_mention, new_text};
-ghost use Rattle.dw_base.specs.Texts.{ends_in};
-ghost use Rattle.dw_rewrite.specs.Changes.{path_at, path_of, Knows, IsNoted, Remembers};
+ghost use Rattle.dw_base.specs.StringTables.{appending, table_bytes, with_added, with_mention};
+ghost use Rattle.dw_base.specs.Texts.{ends_in, text_in};
+ghost use Rattle.dw_rewrite.specs.Changes.{path_at, Adds, Knows, IsNoted, Remembers, place_after};
 ghost use Rattle.dw_rewrite.specs.Refuses.{Refuses};
 
 use crate::asks::asks;
-use crate::refusal::unbuilt;
+use crate::refusal::{OUTPUT_LIMIT, unbuilt};
 use dw_base::{Fault, Order, number_in};
 use dw_paths::{Maps, map_path};
 use dw_strings::{Pool, text_at};
@@ -23,7 +24,7 @@ use std::collections::BTreeMap;
 
 /// Notes the new place of the path whose offset stands at a place, if it asks for one: where the offset
 /// was met before nothing is done.
-#[tactic(auto, using(crate::proofs::KnownLaws::note_rules))]
+#[tactic(auto, using(crate::proofs::Rows::refusal_rows, crate::proofs::KnownLaws::note_rules))]
 pub(crate) fn note_path(
     alloc: Global,
     order: Order,
@@ -37,11 +38,13 @@ pub(crate) fn note_path(
     requires inside { at + 4 ≤ length info.now }
     requires ends { ends_in str.now (spelled order info.now at 4) ≡ true }
     requires kept { pool.old.kept ≡ str.now }
+    requires small { length (table_bytes pool.old) ≤ output_limit }
     requires knows { Knows (appending maps.now str.now) maps.now (record { order = order; str = str.now }) pool.old.texts (λ o. get nat_cmp known.old o) }
     ensures kept { OnOk result (pool.new.kept ≡ str.now) }
     ensures texts { OnOk result (pool.new.texts ≡ with_mention (appending maps.now str.now) maps.now pool.old.texts (path_at (record { order = order; str = str.now }) info.now at)) }
     ensures knows { OnOk result (Knows (appending maps.now str.now) maps.now (record { order = order; str = str.now }) pool.new.texts (λ o. get nat_cmp known.new o)) }
     ensures noted { OnOk result (IsNoted (appending maps.now str.now) (record { order = order; str = str.now }) (λ o. get nat_cmp known.new o) (spelled order info.now at 4)) }
+    ensures small { OnOk result (length (table_bytes pool.new) ≤ output_limit) }
     ensures remembers { OnOk result (Remembers (λ o. get nat_cmp known.old o) (λ o. get nat_cmp known.new o)) }
     ensures refused { IfErr result (Blames (Refuses (length (table_bytes (record { kept = str.now; texts = with_mention (appending maps.now str.now) maps.now pool.old.texts (path_at (record { order = order; str = str.now }) info.now at) })) ≤ output_limit))) }
 {
@@ -52,5 +55,35 @@ pub(crate) fn note_path(
     if !asks(maps, str, offset) {
         return Ok(());
     }
-    add_path(alloc, str, maps, offset, pool, known)
+    add_path(alloc, str, maps, offset, pool, known)?;
+    Ok(())
+}
+
+/// Adds the mapped text of the path at an offset, which asks for a new place, and notes the place.
+#[tactic(auto, using(crate::proofs::Rows::refusal_rows, crate::proofs::KnownLaws::add_rules))]
+fn add_path(
+    alloc: Global,
+    str: &[u8],
+    maps: &Maps,
+    offset: u64,
+    pool: &mut Pool,
+    known: &mut BTreeMap<u64, u64>,
+) -> Result<(), Fault>
+    requires ends { ends_in str.now offset ≡ true }
+    ensures pool { OnOk result (pool.new ≡ with_added pool.old (mapped_path maps.now (text_in str.now offset))) }
+    ensures small { OnOk result (length (table_bytes pool.new) ≤ output_limit) }
+    ensures known { OnOk result (Adds (λ o. get nat_cmp known.old o) (λ o. get nat_cmp known.new o) offset (place_after pool.old (mapped_path maps.now (text_in str.now offset)))) }
+    ensures refused { IfErr result (Blames (Refuses (length (table_bytes (with_added pool.old (mapped_path maps.now (text_in str.now offset)))) ≤ output_limit))) }
+{
+    let text = match text_at(0, str, offset) {
+        Ok(text) => text,
+        Err(_) => unreachable!(),
+    };
+    let mapped = map_path(alloc, maps, text)?;
+    let place = pool.add(&mapped)?;
+    known.insert(offset, place)?;
+    if pool.bytes().len() as u64 > OUTPUT_LIMIT {
+        return Err(unbuilt().into());
+    }
+    Ok(())
 }

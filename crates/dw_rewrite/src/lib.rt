@@ -6,6 +6,9 @@
 #![tactic(auto)]
 
 mod asks;
+mod change;
+mod judge;
+mod known;
 mod refusal;
 mod table;
 mod texts;

@@ -50,6 +50,18 @@ impl Pool {
         &self.bytes
     }
 
+    /// The table's bytes, taken out of it.
+    pub fn into_bytes(self) -> Vec<u8>
+        ensures value { result.items ≡ table_bytes self }
+    {
+        let Pool {
+            kept: _,
+            bytes,
+            places: _,
+        } = self;
+        bytes
+    }
+
     /// Where a text that was added begins. `None` exactly where it wasn't.
     pub fn place(&self, text: &[u8]) -> Option<u64>
         ensures value { result ≡ text_place self.now text.now }

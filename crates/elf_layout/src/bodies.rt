@@ -1,0 +1,195 @@
+//! Files written with new section bodies: this project's profile.
+
+ghost use Rattle.std.specs.Prelude.{◌≡◌, ◌≢◌, ◌↔◌, ◌+◌, ◌<◌, ◌≤◌, ◌++◌, ◌&&◌, ℕ, not, length, vec_len, take, IsTrue, OnOk, IfOk, IfErr};
+ghost use Rattle.dw_base.specs.ElfFails.{SegmentsRead};
+ghost use Rattle.dw_base.specs.Elf.{contents_of, ehdr_size, is_empty_kind, nth_section, section_count};
+ghost use Rattle.dw_base.specs.Layout.{output_limit, extended, fixed_end, is_fixed, laid, laid_out, new_head, new_heads, part_of, with_bodies};
+ghost use Rattle.dw_base.specs.LayoutFails.{BeginsInHeader, Changes, LayoutFails, LiesAcross, SectionStays, TooLong};
+ghost use Rattle.dw_base.specs.Lists.{tabulate};
+ghost use Rattle.dw_base.specs.Refusals.{Blames};
+ghost use Rattle.dw_base.specs.declared.fault.Refusal.{Refusal};
+ghost use Rattle.elf_layout.specs.Given.{AreContents, body_given};
+
+use crate::fixed::{begins_in_header, lies_across, takes_no_room};
+use crate::laying::lay;
+use crate::table::append_table;
+use dw_base::{Fault, Kind, Refusal, Section};
+use elf_file::ElfFile;
+use std::alloc::Global;
+
+/// How many sections there are.
+#[tactic(auto, using(crate::proofs::FixedLaws::count_laws))]
+fn section_count(elf: &ElfFile) -> u32
+    ensures { result ≡ section_count elf.now.bytes.now }
+{
+    elf.sections.len() as u32
+}
+
+/// The header of the section of a number.
+#[tactic(auto, using(crate::proofs::FixedLaws::section_laws))]
+fn head_of(elf: &ElfFile, section: u32) -> Section
+    requires there { section < section_count elf.now.bytes.now }
+    ensures { result ≡ nth_section elf.now.bytes.now section }
+{
+    elf.sections[section as usize]
+}
+
+/// The body of a section: the given one, else its own contents.
+#[tactic(auto, unfolding(crate::specs::Given::body_given))]
+fn body_of<'a>(elf: &'a ElfFile, contents: &'a [Option<Vec<u8>>], section: u32) -> &'a [u8]
+    requires there { section < section_count elf.now.bytes.now }
+    requires contents { AreContents elf.now.bytes.now contents.now }
+    ensures { result.now ≡ body_given elf.now.bytes.now contents.now section }
+{
+    match &contents[section as usize] {
+        Some(body) => body.as_slice(),
+        None => elf.contents(section),
+    }
+}
+
+/// A section that stays is given other bytes than it has.
+#[tactic(auto, unfolding(crate::specs::Given::body_given))]
+fn changes(elf: &ElfFile, end: u64, contents: &[Option<Vec<u8>>], section: u32) -> bool
+    requires end { end ≡ fixed_end elf.now.bytes.now }
+    requires there { section < section_count elf.now.bytes.now }
+    requires contents { AreContents elf.now.bytes.now contents.now }
+    ensures { IsTrue result ↔ Changes elf.now.bytes.now (body_given elf.now.bytes.now contents.now) section }
+{
+    match &contents[section as usize] {
+        Some(body) => elf.is_fixed_by(section, end) && body.as_slice() != elf.contents(section),
+        None => false,
+    }
+}
+
+/// A section can be written. Refused as `Fixed` at (its number, 0) exactly where it lies across the
+/// fixed end, begins in the file header, or stays and is given other bytes than it has.
+#[tactic(auto, using(crate::proofs::Rows::stays_rows))]
+fn section_fits(elf: &ElfFile, end: u64, contents: &[Option<Vec<u8>>], section: u32) -> Result<(), Refusal>
+    requires end { end ≡ fixed_end elf.now.bytes.now }
+    requires there { section < section_count elf.now.bytes.now }
+    requires contents { AreContents elf.now.bytes.now contents.now }
+    ensures none { OnOk result ((r : Refusal)
+        → SectionStays elf.now.bytes.now (body_given elf.now.bytes.now contents.now) section r → ⊥) }
+    ensures refused { IfErr result (SectionStays elf.now.bytes.now (body_given elf.now.bytes.now contents.now) section) }
+{
+    let head = head_of(elf, section);
+    if lies_across(elf, end, &head) {
+        return Err(Refusal { kind: Kind::Fixed, section, offset: 0 });
+    }
+    if begins_in_header(elf, &head) {
+        return Err(Refusal { kind: Kind::Fixed, section, offset: 0 });
+    }
+    if changes(elf, end, contents, section) {
+        return Err(Refusal { kind: Kind::Fixed, section, offset: 0 });
+    }
+    Ok(())
+}
+
+/// Each section can be written. Refused as `Fixed` exactly where one can't.
+#[tactic(auto, using(crate::proofs::Rows::stays_rows))]
+fn sections_fit(elf: &ElfFile, end: u64, contents: &[Option<Vec<u8>>]) -> Result<(), Refusal>
+    requires end { end ≡ fixed_end elf.now.bytes.now }
+    requires contents { AreContents elf.now.bytes.now contents.now }
+    ensures none { OnOk result ((i : ℕ) (r : Refusal) → i < section_count elf.now.bytes.now
+        → SectionStays elf.now.bytes.now (body_given elf.now.bytes.now contents.now) i r → ⊥) }
+    ensures refused { IfErr result (LayoutFails elf.now.bytes.now (body_given elf.now.bytes.now contents.now)) }
+{
+    for section in 0..section_count(elf) {
+        section_fits(elf, end, contents, section)?;
+    }
+    Ok(())
+}
+
+/// Lays out a section, where it moves; its new header.
+#[tactic(auto, unfolding(dw_base::specs::Layout::part_of))]
+fn lay_section(
+    elf: &ElfFile,
+    end: u64,
+    contents: &[Option<Vec<u8>>],
+    section: u32,
+    out: &mut Vec<u8>,
+) -> Result<Section, Fault>
+    requires end { end ≡ fixed_end elf.now.bytes.now }
+    requires there { section < section_count elf.now.bytes.now }
+    requires contents { AreContents elf.now.bytes.now contents.now }
+    requires small { vec_len out.old ≤ output_limit }
+    ensures laid { OnOk result (out.new.items ≡ extended out.old.items
+        (part_of elf.now.bytes.now (body_given elf.now.bytes.now contents.now) section)) }
+    ensures head { IfOk result (λ head. head ≡ new_head (length out.old.items)
+        (part_of elf.now.bytes.now (body_given elf.now.bytes.now contents.now) section)) }
+    ensures small { OnOk result (vec_len out.new ≤ output_limit) }
+    ensures longer { OnOk result (vec_len out.old ≤ vec_len out.new) }
+    ensures refused { IfErr result (Blames (TooLong (length (extended out.old.items
+        (part_of elf.now.bytes.now (body_given elf.now.bytes.now contents.now) section))))) }
+{
+    let head = head_of(elf, section);
+    let moves = !takes_no_room(&head) && !elf.is_fixed_by(section, end);
+    lay(out, &head, moves, body_of(elf, contents, section))
+}
+
+/// Lays out the sections that move; the new headers of all.
+#[tactic(auto, using(crate::proofs::Rows::laid_rows))]
+fn lay_sections(
+    alloc: Global,
+    elf: &ElfFile,
+    end: u64,
+    contents: &[Option<Vec<u8>>],
+    out: &mut Vec<u8>,
+) -> Result<Vec<Section>, Fault>
+    requires end { end ≡ fixed_end elf.now.bytes.now }
+    requires contents { AreContents elf.now.bytes.now contents.now }
+    requires small { vec_len out.old ≤ output_limit }
+    ensures laid { OnOk result (out.new.items ≡ laid out.old.items
+        (tabulate (part_of elf.now.bytes.now (body_given elf.now.bytes.now contents.now)) (section_count elf.now.bytes.now))) }
+    ensures heads { IfOk result (λ heads. heads.items ≡ new_heads out.old.items
+        (tabulate (part_of elf.now.bytes.now (body_given elf.now.bytes.now contents.now)) (section_count elf.now.bytes.now))) }
+    ensures small { OnOk result (vec_len out.new ≤ output_limit) }
+    ensures longer { OnOk result (vec_len out.old ≤ vec_len out.new) }
+    ensures refused { IfErr result (Blames (TooLong (length (laid out.old.items
+        (tabulate (part_of elf.now.bytes.now (body_given elf.now.bytes.now contents.now)) (section_count elf.now.bytes.now)))))) }
+{
+    let mut heads = Vec::with_capacity(alloc, elf.sections.len())?;
+    for section in 0..section_count(elf) {
+        heads.push(lay_section(elf, end, contents, section, out)?)?;
+    }
+    Ok(heads)
+}
+
+/// The file of the front up to the fixed end, the sections that move, and the new headers.
+#[tactic(auto, using(crate::proofs::Rows::file_rows), unfolding(dw_base::specs::Layout::laid_out))]
+fn lay_out(alloc: Global, elf: &ElfFile, end: u64, contents: &[Option<Vec<u8>>]) -> Result<Vec<u8>, Fault>
+    requires end { end ≡ fixed_end elf.now.bytes.now }
+    requires header { ehdr_size elf.now.class ≤ end }
+    requires within { end ≤ length elf.now.bytes.now }
+    requires contents { AreContents elf.now.bytes.now contents.now }
+    ensures file { IfOk result (λ file. file.items ≡ laid_out elf.now.class elf.now.order (take end elf.now.bytes.now)
+        (tabulate (part_of elf.now.bytes.now (body_given elf.now.bytes.now contents.now)) (section_count elf.now.bytes.now))) }
+    ensures small { IfOk result (λ file. vec_len file ≤ output_limit) }
+    ensures refused { IfErr result (Blames (TooLong (length (laid_out elf.now.class elf.now.order (take end elf.now.bytes.now)
+        (tabulate (part_of elf.now.bytes.now (body_given elf.now.bytes.now contents.now)) (section_count elf.now.bytes.now)))))) }
+{
+    let mut out = Vec::from_slice(alloc, &elf.bytes[..end as usize])?;
+    let heads = lay_sections(alloc, elf, end, contents, &mut out)?;
+    append_table(out, elf.class, elf.order, &heads)
+}
+
+/// The file with new section bodies, one item for each section: its new body, or none where it keeps
+/// its own. Refused as `Fixed` at (a section, 0) only where that section lies across the fixed end,
+/// begins in the file header, or stays and is given other bytes than it has; as `TooLarge` only where
+/// the file would pass the limit. Where none of these holds it is written, or memory is short.
+#[tactic(auto, using(crate::proofs::Rows::emit_rows), unfolding(dw_base::specs::Layout::with_bodies))]
+pub fn emit(alloc: Global, elf: &ElfFile, contents: &[Option<Vec<u8>>]) -> Result<Vec<u8>, Fault>
+    requires segments { SegmentsRead elf.now.bytes.now }
+    requires contents { AreContents elf.now.bytes.now contents.now }
+    ensures file { IfOk result (λ file. file.items ≡ with_bodies elf.now.bytes.now (body_given elf.now.bytes.now contents.now)) }
+    ensures none { OnOk result ((r : Refusal) → LayoutFails elf.now.bytes.now (body_given elf.now.bytes.now contents.now) r → ⊥) }
+    ensures refused { IfErr result (Blames (LayoutFails elf.now.bytes.now (body_given elf.now.bytes.now contents.now))) }
+{
+    let end = elf.fixed_end();
+    sections_fit(elf, end, contents)?;
+    if elf.sections.is_empty() {
+        return Ok(Vec::from_slice(alloc, elf.bytes)?);
+    }
+    let file = lay_out(alloc, elf, end, contents)?;
+    Ok(file)
+}

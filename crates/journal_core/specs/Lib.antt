@@ -1,0 +1,10 @@
+pub mod Table
+pub mod Fit
+pub mod Cores
+pub mod Names
+pub mod Marks
+pub mod Shapes
+pub mod Relation
+pub mod Starts
+pub mod Law
+pub mod Calls
