@@ -6,3 +6,4 @@ pub mod CauseLaws
 pub mod SortLaws
 pub mod Sayings
 pub mod RisingLaws
+pub mod ImageLaws

@@ -1,6 +1,6 @@
 -- What a read or a list gives of the tree of places in order.
-use Rattle.std.proofs.Common.{◌≡◌, ℕ, ◌<◌, ◌≤◌, Bool, true, false, T, ◌&&◌, List, [], ◌∷◌, map, length, refl, sym, ap, ◌∙◌, arith, nat_le}
-use Rattle.std.specs.Prelude.{Option, Some, None, ⊤}
+use Rattle.std.proofs.Common.{◌≡◌, ℕ, ◌<◌, ◌≤◌, Bool, true, false, ◌&&◌, List, [], ◌∷◌, length, refl, sym, arith, nat_le}
+use Rattle.std.specs.Prelude.{Some}
 use Rattle.std.specs.declared.cmp.Ordering.{Ordering}
 use Rattle.std.specs.declared.cmp.Ordering.TheVariants.{Less, Equal, Greater}
 use Rattle.std.specs.Ordering.{nat_cmp, is_lt}
@@ -9,10 +9,8 @@ use Rattle.std.specs.List.{filter, list_any, AllByRecursion}
 use Rattle.std.specs.List.Sorted.{IsStrictlySortedBy}
 use Rattle.std.proofs.lemmas.List.Kept.{IsStrictlySortedBy-filter}
 use Rattle.std.specs.String.{string_bytes}
-use Rattle.std.specs.FinMap as fin
 use Rattle.std.specs.FinMap.Entries as entry
 use Rattle.file_tree.specs.declared.node.Found.{Found}
-use Rattle.file_tree.specs.declared.node.Listed.{Listed}
 use Rattle.file_tree.specs.declared.node.Listed.TheVariants as listed
 use Rattle.file_tree.specs.declared.node.Node.{Node}
 use Rattle.std.proofs.lemmas.Bool.Decides.{nat_tests}

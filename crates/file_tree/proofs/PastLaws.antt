@@ -1,5 +1,5 @@
 -- A past with one call more: the map that it leads to, and the same of calls and effects side by side.
-use Rattle.std.proofs.Common.{◌≡◌, ℕ, suc, List, [], ◌∷◌, ◌++◌, length, refl, sym, ap, ◌∙◌, arith, true}
+use Rattle.std.proofs.Common.{◌≡◌, ℕ, List, [], ◌∷◌, ◌++◌, length, refl, sym, ap, ◌∙◌, arith, true}
 use Rattle.std.specs.Prelude.{count_by}
 use Rattle.std.specs.FinMap as fin
 use Rattle.file_tree.specs.declared.node.Node.{Node}

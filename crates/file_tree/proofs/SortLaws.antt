@@ -1,6 +1,10 @@
 -- Places sorted by taking them from the end of a list.
-use Rattle.std.proofs.Common.{◌≡◌, ℕ, suc, ◌+◌, List, [], ◌∷◌, ◌++◌, length, take, drop, refl, sym, ap, ◌∙◌, arith, length-append, true}
+use Rattle.std.proofs.Common.{◌≡◌, ℕ, suc, List, [], ◌∷◌, ◌++◌, length, take, drop, refl, sym, ap, ◌∙◌, arith, length-append, true}
+use Rattle.std.specs.Prelude.{Bool}
+use Rattle.std.specs.Ordering.{nat_cmp}
+use Rattle.std.specs.Cmp.Lexicographic.{slice_cmp}
 use Rattle.std.specs.FinMap as fin
+use Rattle.file_tree.specs.declared.node.Node.{Node}
 use Rattle.std.specs.String.{string_bytes}
 use Rattle.file_tree.specs.Trees.{with_node}
 use Rattle.file_tree.specs.Logs.{Place, tree_of, entries_of, are_sorted}
@@ -59,3 +63,11 @@ pub sorting_ends : (all left places : List Place) → Sorting all left places �
 sorting_ends all left places so none = so.tree ∙ rw none refl
 
 pub ruleset sort_laws = (sorting_starts, sorting_goes_on, sorting_ends)
+
+entries_in_order : List (List ℕ × Node) → Bool
+entries_in_order es = fin.is_sorted (slice_cmp nat_cmp) es
+
+-- a copy of places in order is in order
+pub sorted_copy : (copy places : List Place) → entries_of copy ≡ entries_of places → are_sorted copy ≡ are_sorted places
+unfolding are_sorted entries_in_order
+sorted_copy copy places same = ap entries_in_order same

@@ -1,7 +1,6 @@
 -- The tree of places: what putting and taking out does to it, and what it holds.
-use Rattle.std.proofs.Common.{◌≡◌, ℕ, Bool, true, false, not, cond, T, List, [], ◌∷◌, map, refl, sym, ap, subst, ◌∙◌, length}
-use Rattle.std.specs.Prelude.{Option, Some, None, String, option_map}
-use Rattle.std.specs.declared.alloc.Global.{Global}
+use Rattle.std.proofs.Common.{◌≡◌, ℕ, Bool, true, false, not, cond, T, List, [], ◌∷◌, map, refl, sym, ap, ◌∙◌}
+use Rattle.std.specs.Prelude.{Some, None}
 use Rattle.std.specs.String.{string_bytes}
 use Rattle.std.specs.declared.cmp.Ordering.{Ordering}
 use Rattle.std.specs.declared.cmp.Ordering.TheVariants.{Less, Equal, Greater}
@@ -12,9 +11,9 @@ use Rattle.std.specs.FinMap as fin
 use Rattle.std.specs.FinMap.Entries as entry
 use Rattle.std.specs.FinMap.{slice_cmp-IsAntisymmetric, nat_cmp-IsAntisymmetric}
 use Rattle.file_tree.specs.declared.node.Node.{Node}
-use Rattle.file_tree.specs.Trees.{TreeMap, with_node, without, moved, carried}
-use Rattle.file_tree.specs.Logs.{Place, entry_of, entries_of, tree_of, are_sorted, paths_of}
-use Rattle.file_tree.proofs.PlaceLaws.{sorted_put, sorted_where_key, find_goes}
+use Rattle.file_tree.specs.Trees.{TreeMap, with_node, without, moved}
+use Rattle.file_tree.specs.Logs.{Place, entries_of, tree_of, are_sorted, paths_of}
+use Rattle.file_tree.proofs.PlaceLaws.{sorted_put, sorted_where_key}
 
 abbrev entries_map : List (List ℕ × Node) → TreeMap
 entries_map es = fin.from_entries es

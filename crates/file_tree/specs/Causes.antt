@@ -1,5 +1,5 @@
 -- What the calls of a tree answer and why: causes of errors, what a read or a list was told by, what else stays.
-use Rattle.std.specs.Prelude.{◌≡◌, ◌≢◌, ◌+◌, ◌-◌, ◌^◌, ◌≤◌, ◌<◌, ℕ, Bool, List, length, min, IsErrOf, is_some, ⊤}
+use Rattle.std.specs.Prelude.{◌≡◌, ◌≢◌, ◌+◌, ◌-◌, ◌^◌, ◌≤◌, ◌<◌, ℕ, List, length, min, IsErrOf, is_some, ⊤}
 use Rattle.std.specs.Prelude.{Option, Some, Result, option_map}
 use Rattle.std.specs.Ordering.{nat_cmp}
 use Rattle.std.specs.Cmp.Lexicographic.{slice_cmp}

@@ -1,12 +1,12 @@
 -- What a stop may leave of a tree: the last settled map with a first part of the changes made since,
 -- in which a file that was put since then holds any bytes and any mode, also after it was renamed.
-use Rattle.std.specs.Prelude.{◌≡◌, ℕ, ◌≤◌, List, [], ◌∷◌, ◌++◌, length, take}
+use Rattle.std.specs.Prelude.{◌≡◌, ℕ, ◌≤◌, List, [], ◌∷◌, ◌++◌, length, take, map}
 use Rattle.file_tree.specs.declared.node.Node.TheVariants as node
 use Rattle.file_tree.specs.declared.call.Change.{Change}
 use Rattle.file_tree.specs.declared.call.Change.TheVariants as change
 use Rattle.file_tree.specs.declared.call.Effect.{Effect}
 use Rattle.file_tree.specs.declared.call.Effect.TheVariants as effect
-use Rattle.file_tree.specs.Trees.{TreeMap, after_change, with_node}
+use Rattle.file_tree.specs.Trees.{TreeMap, after_change, after_changes, with_node}
 use Rattle.file_tree.specs.Seen.{Past, Happened}
 
 -- a tree at one moment: the map that was stored last, the changes made since, and the map now
@@ -64,3 +64,14 @@ pub record LeavesOnly (P : TreeMap → Type 0) (old new : Past) : Type 0 where
   pub first : new.first ≡ old.first
   pub log : new.log ≡ old.log ++ rest
   pub each : Always P (state_of old) rest
+
+-- the change with a put file's bytes torn
+abbrev pub torn_change : List ℕ → Change → Change
+torn_change left (change.Put path (node.File bytes mode)) = change.Put path (node.File left mode)
+torn_change left (change.Put path (node.Link target)) = change.Put path (node.Link target)
+torn_change left (change.Move from to) = change.Move from to
+torn_change left (change.Take path) = change.Take path
+
+-- the map that a stop leaves where it keeps this many of the changes, and of each file that was put these bytes
+unfoldable pub image_at : State → ℕ → List ℕ → TreeMap
+image_at s kept left = after_changes s.settled (map (torn_change left) (take kept s.changes))

@@ -8,3 +8,4 @@ pub mod Logs
 pub mod Places
 pub mod Codes
 pub mod MemTrees
+pub mod Pending

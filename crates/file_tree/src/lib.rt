@@ -19,6 +19,7 @@ mod os_tree;
 mod places;
 mod sink;
 mod sorts;
+mod stops;
 #[cfg(test)]
 mod tests;
 mod text;
@@ -31,5 +32,6 @@ pub use node::{Found, Listed, Node, TreeErr};
 pub use os_sink::OsSink;
 pub use os_tree::OsTree;
 pub use sink::{Sink, SinkErr};
+pub use stops::image_laws;
 pub use text::{Blob, Paths, Text};
 pub use tree::Tree;

@@ -1,7 +1,7 @@
 //! A sink in memory, for tests: it tells what went out, and fails where it is told to.
 //!
 //! Read first: `specs/Heard.antt`, `specs/Sinks.antt`.
-ghost use Rattle.std.specs.Prelude.{◌≡◌, ◌+◌, ◌-◌, ◌^◌, ◌≤◌, ◌↔◌, min, length, vec_len, vec_capacity, [], IfOk, OnOk, OnErr, IsOk, IsOkUnless, IsTrue, is_some};
+ghost use Rattle.std.specs.Prelude.{◌≡◌, ◌+◌, ◌-◌, ◌^◌, ◌≤◌, ◌↔◌, min, length, vec_capacity, [], IfOk, OnOk, OnErr, IsOk, IsOkUnless, IsTrue, is_some};
 ghost use Rattle.file_tree.specs.Heard.{grown, Said};
 ghost use Rattle.file_tree.specs.Causes.{Rose};
 

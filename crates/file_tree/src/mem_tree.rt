@@ -2,9 +2,10 @@
 //!
 //! This layer promises: the meanings of `Tree` in full; a call fails only where it is set to.
 //! Read first: `specs/Logs.antt`, `specs/MemTrees.antt`.
-ghost use Rattle.std.specs.Prelude.{◌≡◌, ◌+◌, ◌-◌, ◌^◌, ◌<◌, ◌≤◌, true, [], ◌∷◌, ◌++◌, min, length, vec_len, vec_capacity, Some, None, IfOk, OnOk, IsErrOf, IsOkUnless, option_map, map};
+ghost use Rattle.std.specs.Prelude.{◌≡◌, ◌+◌, ◌-◌, ◌^◌, ◌<◌, ◌≤◌, true, [], min, vec_len, vec_capacity, Some, None, IfOk, OnOk, IsErrOf, IsOkUnless, option_map, map};
 ghost use Rattle.file_tree.specs.Trees.{with_node, without, moved};
 ghost use Rattle.file_tree.specs.Seen.{now_of, map_now, adds, calls_of, settles_of};
+ghost use Rattle.file_tree.specs.Images.{Image, state_of, image_at};
 ghost use Rattle.file_tree.specs.Causes.{Rose, HasCause, Stood, Lay, IsWithin, IsListed, OnlyAt, MadeOrNot, Fails, PutFails, MoveFails, TakeFails};
 ghost use Rattle.file_tree.specs.Logs.{tree_of, are_sorted, past_with, is_due, entries_of};
 ghost use Rattle.file_tree.specs.Codes.{same_tree_once};
@@ -16,6 +17,7 @@ use crate::looks::{list_in, look};
 use crate::node::{Found, Listed, Node, TreeErr};
 use crate::places::{move_node, put_node, take_node};
 use crate::sorts::{copies, sorted};
+use crate::stops::leave;
 use crate::text::Text;
 use crate::tree::Tree;
 use std::alloc::{AllocError, Global};
@@ -31,6 +33,7 @@ pub struct MemTree {
     stop: Option<u64>,
     faults: u64,
     ghost in_order: { are_sorted nodes.items ≡ true },
+    ghost began_in_order: { are_sorted first.items ≡ true },
     ghost is_now: { tree_of nodes.items ≡ map_now (past_with first.items log.calls.items log.effects.items) } by { same_tree_once _ _ },
 }
 
@@ -75,6 +78,31 @@ impl MemTree {
     {
         let number = self.log.calls.len() as u64;
         self.stop = Some(number.saturating_add(calls));
+    }
+
+    /// What a stop leaves of the tree that keeps the first `kept` of the changes that aren't stored, all
+    /// where there are fewer; each file that was put since the last settle holds the bytes `torn`, and
+    /// keeps its mode. The new tree has no calls and nothing that is to fail.
+    #[tactic(auto, using(crate::proofs::ImageLaws::stop_laws))]
+    pub fn stopped(self, kept: u64, torn: &[u8]) -> Result<MemTree, TreeErr>
+        ensures seen { IfOk result (λ m. seen_of m ≡ record { tells = true; past = record { first = image_at (state_of (seen_of self).past) kept torn.now; log = [] }; faults = 0 }) }
+        ensures image { Image (state_of (seen_of self).past) (image_at (state_of (seen_of self).past) kept torn.now) }
+        ensures set { IfOk result (λ m. to_fail_of m ≡ record { listed = []; from = None }) }
+        ensures memory { IsOkUnless result TreeErr.NoMemory }
+    {
+        let MemTree {
+            alloc,
+            nodes: _,
+            first,
+            log,
+            listed: _,
+            stop: _,
+            faults: _,
+        } = self;
+        let mut places = first;
+        leave(alloc, &mut places, &log.effects, kept, torn)?;
+        let tree = MemTree::from_places(alloc, places)?;
+        Ok(tree)
     }
 
     /// The calls with these numbers fail, counted from 0 over all calls so far. They take the place of

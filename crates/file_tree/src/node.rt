@@ -1,6 +1,5 @@
 //! What a tree holds, what a read or a list of it answers, and its errors.
 ghost use Rattle.std.specs.Prelude.{◌≡◌, IfOk};
-ghost use Rattle.std.specs.Coded.{Coded};
 
 use crate::text::{Blob, Paths, Text};
 use std::alloc::{AllocError, AllocFailed, Global};

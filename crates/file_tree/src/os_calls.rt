@@ -2,8 +2,7 @@
 //!
 //! This layer promises: they are safe and return, and what they find is within the limits. What the
 //! system does isn't proved.
-ghost use Rattle.std.specs.Prelude.{IfOk, IsTrue, map};
-ghost use Rattle.std.specs.String.{string_bytes};
+ghost use Rattle.std.specs.Prelude.{IfOk, IsTrue};
 ghost use Rattle.file_tree.specs.Causes.{IsWithin, IsListed, AreInOrder};
 
 use crate::node::{Found, Listed, Node};

@@ -2,8 +2,7 @@
 //!
 //! This layer promises: a write fails only where its count of faults rose. What the writer does with
 //! the bytes isn't proved.
-ghost use Rattle.std.specs.Prelude.{None};
-ghost use Rattle.file_tree.specs.Heard.{Heard};
+ghost use Rattle.std.specs.Prelude.{◌≡◌, None};
 
 use crate::sink::{Sink, SinkErr};
 use std::io::{ErrorKind, Write};
@@ -17,7 +16,9 @@ pub struct OsSink<W> {
 
 impl<W: Write> OsSink<W> {
     /// A sink over the writer.
-    pub fn new(writer: W) -> OsSink<W> {
+    pub fn new(writer: W) -> OsSink<W>
+        ensures heard { ⟦<OsSink<W> as Sink>⟧.heard result ≡ record { bytes = None; faults = 0 } }
+    {
         OsSink { writer, faults: 0 }
     }
 }

@@ -2,7 +2,7 @@
 //!
 //! This layer promises: a call fails only where the count of faults rose, and what it finds is within
 //! the limits and in order. It does not promise what the system keeps: that is trusted.
-ghost use Rattle.std.specs.Prelude.{◌≡◌, ◌≤◌, ◌+◌, ◌-◌, ◌^◌, false, OnOk, IfOk, Ok, IsErrOf};
+ghost use Rattle.std.specs.Prelude.{◌≡◌, ◌≤◌, ◌+◌, ◌-◌, false, IfOk, Ok, IsErrOf};
 ghost use Rattle.file_tree.specs.Seen.{no_past};
 ghost use Rattle.file_tree.specs.Causes.{Rose};
 
@@ -23,7 +23,9 @@ pub struct OsTree<R> {
 
 impl<R: Files + AllocGlobal + Clone + Drop> OsTree<R> {
     /// The file system of the runtime.
-    pub fn new(rt: R) -> OsTree<R> {
+    pub fn new(rt: R) -> OsTree<R>
+        ensures seen { ⟦<OsTree<R> as Tree>⟧.seen result ≡ record { tells = false; past = no_past; faults = 0 } }
+    {
         let touched = BTreeSet::new(rt.alloc());
         OsTree {
             rt,

@@ -1,7 +1,7 @@
 //! Nodes in byte order of their paths, in a vector: looked up, put, taken out and moved.
 //!
 //! Read first: `specs/Logs.antt`, `specs/Places.antt`.
-ghost use Rattle.std.specs.Prelude.{◌≡◌, ◌<◌, ◌≤◌, true, not, length, vec_len, vec_capacity, is_ok, MatchResult, MatchOption, IfOk, IfErr, OnSome, OnOk, OnErr, option_map};
+ghost use Rattle.std.specs.Prelude.{◌≡◌, ◌<◌, ◌≤◌, true, vec_len, vec_capacity, is_ok, MatchResult, IfOk, IfErr, OnSome, option_map};
 ghost use Rattle.std.specs.String.{string_bytes};
 ghost use Rattle.std.specs.FinMap as fin;
 ghost use Rattle.file_tree.specs.Trees.{with_node, without, moved};

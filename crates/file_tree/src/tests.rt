@@ -249,3 +249,39 @@ fn a_writer_that_takes_nothing_is_a_fault(rt: HostRuntime) -> Result<(), Fail> {
     assert_eq!(rt; out.write(b"sink\n"), Ok(()));
     Ok(())
 }
+
+/// A put, a rename of it over a file, and a removal, all pending.
+const PENDING: [(Step, &str); 6] = [
+    (Step::Put("r/b", 0o644, "old b"), "ok"),
+    (Step::Put("r/d", 0o644, "old d"), "ok"),
+    (Step::Settle, "ok"),
+    (Step::Put("r/n", 0o600, "new"), "ok"),
+    (Step::Rename("r/n", "r/b"), "ok"),
+    (Step::Remove("r/d"), "ok"),
+];
+
+/// For each number of changes that are kept: the paths, and what is at the target of the rename.
+const LEFT: [(u64, &str, &str); 5] = [
+    (0, "paths r/b r/d", "file 644 old b"),
+    (1, "paths r/b r/d r/n", "file 644 old b"),
+    (2, "paths r/b r/d", "file 600 torn"),
+    (3, "paths r/b", "file 600 torn"),
+    (4, "paths r/b", "file 600 torn"),
+];
+
+#[test]
+fn a_stop_keeps_a_first_part_of_the_changes(rt: HostRuntime) -> Result<(), Fail> {
+    let alloc = rt.alloc();
+    for (kept, paths, at_target) in LEFT {
+        let mut tree = MemTree::new(alloc, Vec::new(alloc))?;
+        try_steps(&rt, alloc, &mut tree, &PENDING)?;
+        let mut left = tree.stopped(kept, b"torn")?;
+        assert_eq!(rt; left.calls().len(), 0);
+        let seen = [
+            (Step::List("r", 9), paths),
+            (Step::Read("r/b", 9), at_target),
+        ];
+        try_steps(&rt, alloc, &mut left, &seen)?;
+    }
+    Ok(())
+}

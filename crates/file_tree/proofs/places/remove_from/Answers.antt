@@ -1,6 +1,4 @@
-use Rattle.std.proofs.Common.{◌≡◌, true, sym, ◌∙◌}
-use Rattle.file_tree.specs.Logs.{entries_of}
-use Rattle.file_tree.specs.Places.{entry_at}
+use Rattle.std.proofs.Common.{sym}
 use Rattle.file_tree.proofs.PlaceLaws.{find_stands}
 use Rattle.file_tree.proofs.places.remove_from.Goals as goal
 

@@ -1,4 +1,4 @@
-use Rattle.std.proofs.Common.{◌≡◌, ◌+◌, ◌≤◌, drop, vec_len}
+use Rattle.std.proofs.Common.{◌≡◌, ◌+◌, drop}
 use Rattle.file_tree.specs.Logs.{entries_of}
 use Rattle.file_tree.specs.Places.{rank, stands}
 use Rattle.file_tree.proofs.places.seek.Given as goal

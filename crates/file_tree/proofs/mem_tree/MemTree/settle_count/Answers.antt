@@ -1,4 +1,4 @@
-use Rattle.std.proofs.Common.{◌∙◌, sym, ap}
+use Rattle.std.proofs.Common.{◌∙◌, sym}
 use Rattle.file_tree.proofs.PastLaws.{settles_happened}
 use Rattle.file_tree.proofs.mem_tree.MemTree.settle_count.Goals as goal
 

@@ -1,7 +1,6 @@
-use Rattle.std.proofs.Common.{◌≡◌, ◌∙◌, ap}
+use Rattle.std.proofs.Common.{◌∙◌, ap}
 use Rattle.file_tree.specs.declared.call.Change.{Change}
 use Rattle.file_tree.specs.declared.call.Effect.TheVariants as effect
-use Rattle.file_tree.specs.Trees.{with_node}
 use Rattle.file_tree.specs.Seen.{map_now, after_effect}
 use Rattle.file_tree.specs.Logs.{past_with}
 use Rattle.file_tree.proofs.CauseLaws.{only_put}
