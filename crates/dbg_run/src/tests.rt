@@ -276,3 +276,53 @@ fn a_read_that_fails_is_a_tree_fault(rt: HostRuntime) -> Result<(), Fail> {
     assert_ends(&rt, alloc, &mut tree, 6, "tree fault\n")?;
     Ok(())
 }
+
+#[test]
+fn a_relocatable_file_is_refused_and_nothing_is_put(rt: HostRuntime) -> Result<(), Fail> {
+    let alloc = rt.alloc();
+    let mut bytes = built_file(alloc)?;
+    if let Some(kind) = bytes.get_mut(16) {
+        *kind = 1;
+    }
+    let mut tree = tree_with(alloc, "in", file_of(bytes))?;
+    assert_ends(
+        &rt,
+        alloc,
+        &mut tree,
+        3,
+        "refused: in: unbuilt section 0 offset 0\n",
+    )?;
+    Ok(())
+}
+
+#[test]
+fn an_edit_gives_the_worked_file_byte_for_byte(rt: HostRuntime) -> Result<(), Fail> {
+    let alloc = rt.alloc();
+    let mut tree = tree_with(alloc, "in", file_of(built_file(alloc)?))?;
+    let ran = run(alloc, &EDIT, &mut tree)?;
+    assert_eq!(rt; ran.status, 0);
+    assert!(rt; ran.output.bytes().is_empty());
+    assert!(rt; ran.errors.bytes().is_empty());
+    let wanted = installed_file(alloc)?;
+    assert_eq!(rt; wanted.len(), 528);
+    match tree.nodes() {
+        [(input, _), (output, Node::File { bytes, mode })] => {
+            assert_eq!(rt; input.as_str(), "in");
+            assert_eq!(rt; output.as_str(), "out");
+            assert_eq!(rt; bytes.as_slice(), wanted.as_slice());
+            assert_eq!(rt; *mode, 0o755);
+        }
+        _ => assert!(rt; false, "two files are there"),
+    }
+    assert_eq!(rt; tree.settle_count(), 1);
+    Ok(())
+}
+
+#[test]
+fn a_write_that_fails_is_a_tree_fault(rt: HostRuntime) -> Result<(), Fail> {
+    let alloc = rt.alloc();
+    let mut tree = tree_with(alloc, "in", file_of(built_file(alloc)?))?;
+    tree.stop_after(1);
+    assert_ends(&rt, alloc, &mut tree, 6, "tree fault\n")?;
+    Ok(())
+}
