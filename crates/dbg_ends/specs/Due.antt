@@ -1,0 +1,33 @@
+-- Which status is due, and how far that binds the one that comes.
+use Rattle.std.specs.Prelude.{◌≡◌, ℕ, List, ◌⊎◌}
+use Rattle.file_tree.specs.declared.node.Found.{Found}
+use Rattle.file_tree.specs.declared.node.Found.TheVariants as found
+
+-- where P holds the first, elsewhere the second
+pub data Where (P A B : Type 0) : Type 0 where
+  here : P → A → Where P A B
+  elsewhere : (P → ⊥) → B → Where P A B
+
+-- the status that is due of a word that names an input, by what is found there: of a file it is what its bytes are due
+abbrev pub InputDue : Found → ℕ → (List ℕ → Type 0) → Type 0
+InputDue found.Absent n of_file = n ≡ 4
+InputDue found.Folder n of_file = n ≡ 4
+InputDue (found.Link target) n of_file = n ≡ 4
+InputDue (found.TooLarge size) n of_file = n ≡ 3
+InputDue (found.File bytes mode) n of_file = of_file bytes
+
+-- statuses that may come in place of the one that is due: of a fault, and of want of memory
+pub data IsCut (n : ℕ) : Type 0 where
+  tree_fault : n ≡ 6 → IsCut n
+  no_memory : n ≡ 13 → IsCut n
+
+-- statuses that come before anything is written
+pub data IsRefusal (n : ℕ) : Type 0 where
+  usage : n ≡ 2 → IsRefusal n
+  refused : n ≡ 3 → IsRefusal n
+  no_file : n ≡ 4 → IsRefusal n
+
+-- the status is this one only where it is due, and is it wherever it is due, cuts aside
+pub record Exactly (answer status : ℕ) (due : Type 0) : Type 0 where
+  pub only : answer ≡ status → due ⊎ IsCut status
+  pub comes : due → (answer ≡ status) ⊎ IsCut answer

@@ -1,0 +1,4 @@
+pub mod Ends
+pub mod Due
+pub mod Steps
+pub mod Told

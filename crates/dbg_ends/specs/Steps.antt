@@ -1,0 +1,30 @@
+-- The steps that commands share: how each may end, and what became of the tree.
+use Rattle.std.specs.Prelude.{◌≡◌, ℕ, List}
+use Rattle.dw_base.specs.Refusals.{at}
+use Rattle.dw_base.specs.declared.fault.Kind.TheVariants as kinds
+use Rattle.file_tree.specs.declared.node.Found.TheVariants as found
+use Rattle.file_tree.specs.declared.call.Call.TheVariants as call
+use Rattle.file_tree.specs.declared.call.Effect.TheVariants as effect
+use Rattle.file_tree.specs.Seen.{Seen, Past, adds, now_of}
+use Rattle.file_tree.specs.Causes.{Rose, Stood, OnlyAt}
+use Rattle.dbg_ends.specs.declared.end.End.{End}
+use Rattle.dbg_ends.specs.declared.end.End.TheVariants as end
+
+-- how the reading of an input ends where it gives no file within the limit; the tree is as it was
+pub data InputEnds (path : List ℕ) (limit : ℕ) (old new : Seen) : End → Type 0 where
+  absent : Stood (now_of old) path limit found.Absent → InputEnds path limit old new (end.Absent path)
+  folder : Stood (now_of old) path limit found.Folder → InputEnds path limit old new (end.Folder path)
+  link : {target : List ℕ} → Stood (now_of old) path limit (found.Link target) → InputEnds path limit old new (end.Link path)
+  large : {size : ℕ} → Stood (now_of old) path limit (found.TooLarge size) → InputEnds path limit old new (end.Refused path (at kinds.Unbuilt 0 0))
+  failed : Rose old.faults new.faults → InputEnds path limit old new end.TreeFault
+  memory : InputEnds path limit old new end.NoMemory
+
+-- how the writing of an output ends where it isn't done; its path holds anything or nothing, and all else is as it was
+pub data OutputEnds (path : List ℕ) (old new : Seen) : End → Type 0 where
+  failed : Rose old.faults new.faults → OnlyAt path (now_of old) (now_of new) → OutputEnds path old new end.TreeFault
+  memory : OnlyAt path (now_of old) (now_of new) → OutputEnds path old new end.NoMemory
+
+-- the last call stored all changes
+pub record IsSettled (past : Past) : Type 0 where
+  pub before : Past
+  pub is : past ≡ adds before call.Settle effect.Settled

@@ -1,0 +1,19 @@
+//! How a command ends: its status, its line on the error sink, and the steps that commands share.
+//!
+//! This layer promises: each end has one status and one line; the line goes to the error sink by one
+//! call of `write`, and at status 0 that sink isn't called; a file is read and written as the trait
+//! `Tree` says, and each end of a step has its cause.
+//! It does not promise: when a command comes to an end; `dbg_run` states that.
+//! Read first: `specs/Ends.antt`, `specs/Steps.antt`, `specs/Due.antt`.
+#![tactic(auto)]
+
+pub mod end;
+pub mod input;
+pub mod line;
+pub mod output;
+pub mod telling;
+
+pub use end::End;
+pub use input::read_input;
+pub use output::write_output;
+pub use telling::tell;

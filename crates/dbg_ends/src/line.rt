@@ -1,0 +1,82 @@
+//! The lines of ends.
+ghost use Rattle.std.specs.Prelude.{◌≡◌, IfOk};
+ghost use Rattle.std.specs.String.{string_bytes};
+ghost use Rattle.dbg_ends.specs.declared.end.End.TheVariants as end;
+ghost use Rattle.dbg_ends.specs.Ends.{line_of, kind_text};
+
+use crate::end::End;
+use dw_base::{Kind, Refusal};
+use std::alloc::{AllocError, Global};
+
+/// A kind of refusal as it is printed.
+#[tactic(auto, unfolding(crate::specs::Ends::kind_text))]
+pub fn kind_name(kind: Kind) -> &'static str
+    ensures text { result.now ≡ kind_text kind }
+{
+    match kind {
+        Kind::Header => "header",
+        Kind::Range => "range",
+        Kind::Fixed => "fixed",
+        Kind::Compressed => "compressed",
+        Kind::Supplementary => "supplementary",
+        Kind::SplitDwarf => "split dwarf",
+        Kind::UnknownDebug => "unknown debug",
+        Kind::Twice => "twice",
+        Kind::Unit => "unit",
+        Kind::Abbreviation => "abbreviation",
+        Kind::Form => "form",
+        Kind::Entry => "entry",
+        Kind::StringOffset => "string offset",
+        Kind::StringTable => "string table",
+        Kind::SharedIndex => "shared index",
+        Kind::Line => "line",
+        Kind::Stray => "stray",
+        Kind::Macro => "macro",
+        Kind::InlineGrows => "inline grows",
+        Kind::Relocation => "relocation",
+        Kind::TooWide => "too wide",
+        Kind::BuildId => "build id",
+        Kind::NameTable => "name table",
+        Kind::TooLarge => "too large",
+        Kind::DefinedPath => "defined path",
+        Kind::FileType => "file type",
+        Kind::Unbuilt => "unbuilt",
+    }
+}
+
+/// The line of a refusal of the file at the path.
+#[tactic(auto, unfolding(crate::specs::Ends::line_of))]
+fn refused_line(alloc: Global, path: &str, refusal: Refusal) -> Result<String, AllocError>
+    ensures text { IfOk result (λ s. string_bytes s ≡ line_of (end.Refused path.now refusal)) }
+{
+    let kind = kind_name(refusal.kind);
+    let section = refusal.section;
+    let offset = refusal.offset;
+    format!(in alloc; "refused: {path}: {kind} section {section} offset {offset}\n")
+}
+
+/// The line of an end; nothing where the command is done.
+#[tactic(auto, unfolding(crate::specs::Ends::line_of))]
+pub fn line(alloc: Global, end: &End) -> Result<String, AllocError>
+    ensures text { IfOk result (λ s. string_bytes s ≡ line_of end.now) }
+{
+    match end {
+        End::Done => Ok(String::new(alloc)),
+        End::Usage => String::from_str(alloc, "usage\n"),
+        End::Refused { path, refusal } => refused_line(alloc, path.as_str(), *refusal),
+        End::Absent { path } => {
+            let path = path.as_str();
+            format!(in alloc; "absent: {path}\n")
+        }
+        End::Folder { path } => {
+            let path = path.as_str();
+            format!(in alloc; "folder: {path}\n")
+        }
+        End::Link { path } => {
+            let path = path.as_str();
+            format!(in alloc; "link: {path}\n")
+        }
+        End::TreeFault => String::from_str(alloc, "tree fault\n"),
+        End::NoMemory => String::from_str(alloc, "no memory\n"),
+    }
+}

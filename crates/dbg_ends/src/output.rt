@@ -1,0 +1,34 @@
+//! The step that writes an output.
+ghost use Rattle.std.specs.Prelude.{◌≡◌, ◌≢◌, true, IfErr, OnOk, option_map};
+ghost use Rattle.file_tree.specs.declared.node.Node.TheVariants as node;
+ghost use Rattle.file_tree.specs.Seen.{now_of};
+ghost use Rattle.file_tree.specs.Trees.{with_node};
+ghost use Rattle.file_tree.specs.Causes.{Rose, OnlyAt};
+ghost use Rattle.dbg_ends.specs.Ends.{status_of};
+ghost use Rattle.dbg_ends.specs.Due.{IsCut};
+ghost use Rattle.dbg_ends.specs.Steps.{OutputEnds, IsSettled};
+
+use crate::end::End;
+use file_tree::{Blob, Node, Tree};
+
+/// Sets the path to a file of these bytes and this mode, and then settles the tree.
+#[tactic(auto, using(crate::proofs::Rows::output_rows))]
+pub fn write_output<T: Tree>(path: &str, bytes: Vec<u8>, mode: u32, tree: &mut T) -> Result<(), End>
+    ensures done { OnOk result (now_of (T.seen tree.new) ≡ option_map (with_node path.now (node.File bytes.items mode)) (now_of (T.seen tree.old))) }
+    ensures ends { IfErr result (OutputEnds path.now (T.seen tree.old) (T.seen tree.new)) }
+    ensures due { IfErr result (λ e. IsCut (status_of e)) }
+    ensures settled { (T.seen tree.old).tells ≡ true → OnOk result (IsSettled (T.seen tree.new).past) }
+    ensures not_done { IfErr result (λ e. 0 ≢ status_of e) }
+    ensures not_usage { IfErr result (λ e. 2 ≢ status_of e) }
+    ensures fault { IfErr result (λ e. status_of e ≡ 6 → Rose (T.seen tree.old).faults (T.seen tree.new).faults) }
+    ensures others { OnlyAt path.now (now_of (T.seen tree.old)) (now_of (T.seen tree.new)) }
+    ensures tells { (T.seen tree.new).tells ≡ (T.seen tree.old).tells }
+{
+    let node = Node::File {
+        bytes: Blob::new(bytes),
+        mode,
+    };
+    tree.put(path, &node)?;
+    tree.settle()?;
+    Ok(())
+}

@@ -1,0 +1,31 @@
+//! The last step of every call: an end becomes a status and a line.
+ghost use Rattle.std.specs.Prelude.{◌≡◌, ◌⊎◌};
+ghost use Rattle.dbg_ends.specs.Ends.{status_of};
+ghost use Rattle.dbg_ends.specs.Told.{Told};
+
+use crate::end::{End, status};
+use crate::line::line;
+use file_tree::Sink;
+use std::alloc::Global;
+
+/// The status of the end. Its line goes to the error sink by one write; a fault of that sink changes nothing.
+#[tactic(auto, using(crate::proofs::Rows::told_rows), unfolding(crate::specs::Ends::line_of))]
+pub fn tell<E: Sink>(alloc: Global, end: &End, err: &mut E) -> u8
+    ensures told { Told end.now (E.heard err.old) (E.heard err.new) result }
+    ensures status { (result ≡ status_of end.now) ⊎ (result ≡ 13) }
+    ensures quiet { result ≡ 0 → E.heard err.new ≡ E.heard err.old }
+{
+    if let End::Done = end {
+        return 0;
+    }
+    match line(alloc, end) {
+        Ok(text) => {
+            let _ = err.write(text.as_bytes());
+            status(end)
+        }
+        Err(_) => {
+            let _ = err.write(b"no memory\n");
+            13
+        }
+    }
+}

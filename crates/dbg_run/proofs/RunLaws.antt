@@ -1,0 +1,75 @@
+-- Laws on runs: one status is due, and an end may give way to want of memory.
+use Rattle.std.proofs.Common.{◌≡◌, ◌≢◌, ℕ, List, refl, sym, ap, subst, ◌∙◌, ◌⊎◌, inl, inr}
+use Rattle.std.specs.Prelude.{Option, Some, None, is_some}
+use Rattle.dw_base.specs.First.{IsFirst, file_limit}
+use Rattle.dw_base.specs.Paths.{PathMap}
+use Rattle.file_tree.specs.declared.node.Found.{Found}
+use Rattle.file_tree.specs.declared.node.Found.TheVariants as found
+use Rattle.file_tree.specs.Trees.{TreeMap, stands_at}
+use Rattle.file_tree.specs.Seen.{Seen, now_of}
+use Rattle.file_tree.specs.Causes.{Calm, OnlyAt}
+use Rattle.file_tree.specs.Heard.{Heard}
+use Rattle.dbg_ends.specs.declared.end.End.{End}
+use Rattle.dbg_ends.specs.declared.end.End.TheVariants as end
+use Rattle.dbg_ends.specs.Due.{Where, IsCut, Exactly}
+use Rattle.dbg_ends.specs.Due.Where.{here, elsewhere}
+use Rattle.dbg_ends.specs.Steps.{OutputEnds as output_}
+use Rattle.dbg_ends.specs.Told.{Told, Ended}
+use Rattle.dbg_ends.specs.Told.{Told as told}
+use Rattle.dbg_run.specs.declared.words.Command.{Command}
+use Rattle.dbg_run.specs.declared.words.Command.TheVariants.{Edit}
+use Rattle.dbg_run.specs.Edits.{EditEnds, EditDue}
+use Rattle.dbg_run.specs.Edits.{EditEnds as edit}
+use Rattle.dbg_run.specs.Runs.{Ends, Due}
+use Rattle.dbg_run.specs.Runs.{Ends as ends}
+
+-- of two numbers, one where P holds and one elsewhere, only one can be
+where-one : (P : Type 0) (a b n m : ℕ) → Where P (n ≡ a) (n ≡ b) → Where P (m ≡ a) (m ≡ b) → n ≡ m
+where-one P a b n m (here p is) (here q also) = is ∙ sym also
+where-one P a b n m (here p is) (elsewhere un also) = absurd (un p)
+where-one P a b n m (elsewhere un is) (here q also) = absurd (un q)
+where-one P a b n m (elsewhere un is) (elsewhere vn also) = is ∙ sym also
+
+edit-one : (m : PathMap) (what : Found) (n k : ℕ) → EditDue m what n → EditDue m what k → n ≡ k
+edit-one m found.Absent n k is also = is ∙ sym also
+edit-one m found.Folder n k is also = is ∙ sym also
+edit-one m (found.Link target) n k is also = is ∙ sym also
+edit-one m (found.TooLarge size) n k is also = is ∙ sym also
+edit-one m (found.File b mode) n k is also = where-one (IsFirst m b) 0 3 n k is also
+
+-- one status is due
+due-one : (c : Option Command) (t : TreeMap) (n k : ℕ) → Due c t n → Due c t k → n ≡ k
+due-one None t n k is also = is ∙ sym also
+due-one (Some (Edit input output m)) t n k is also = edit-one m (stands_at t input file_limit) n k is also
+
+pub due_exact : (c : Option Command) (t : TreeMap) (answer n : ℕ) → Due c t answer ⊎ IsCut answer → Exactly answer n (Due c t n)
+due_exact c t answer n (inl due) = record { only = λ is. inl (subst (λ k. Due c t k) is due); comes = λ other. inl (due-one c t answer n due other) }
+due_exact c t answer n (inr cut) = record { only = λ is. inr (subst IsCut is cut); comes = λ other. inr cut }
+
+-- a map that is as it was differs nowhere
+same-at : (path : List ℕ) (old new : Option TreeMap) → new ≡ old → OnlyAt path old new
+same-at path old new e = record { tells = ap is_some e; others = λ t u q of_old of_new other. let same : Some u ≡ Some t = sym of_new ∙ (e ∙ of_old) in cc }
+
+calm-at : (path : List ℕ) (old mid : Seen) (new : Option TreeMap) → Calm old mid → OnlyAt path (now_of mid) new → OnlyAt path (now_of old) new
+calm-at path old mid new calm at = let P : Option TreeMap → Type 0 = λ x. OnlyAt path x new in subst P calm.now at
+
+edit-memory : (input output : List ℕ) (m : PathMap) (old new : Seen) (e : End) → EditEnds input output m old new e → e ≢ end.Done → EditEnds input output m old new end.NoMemory
+edit-memory input output m old new e (edit.reading ends calm) undone = edit.memory (same-at output _ _ calm.now)
+edit-memory input output m old new e (edit.rewriting stood ends calm) undone = edit.memory (same-at output _ _ calm.now)
+edit-memory input output m old new e (edit.writing {mid = mid} stood first calm (output_.failed rose at)) undone = edit.memory (calm-at output old mid _ calm at)
+edit-memory input output m old new e (edit.writing {mid = mid} stood first calm (output_.memory at)) undone = edit.memory (calm-at output old mid _ calm at)
+edit-memory input output m old new e (edit.memory at) undone = edit.memory at
+edit-memory input output m old new e (edit.done is) undone = absurd (undone refl)
+
+-- where a command isn't done, it may as well want memory
+ends-memory : (words : List (List ℕ)) (old new : Seen) (heard said : Heard) (e : End) → Ends words old new heard said e → e ≢ end.Done → Ends words old new heard said end.NoMemory
+ends-memory words old new heard said e (ends.usage none same silent) undone = ends.memory same silent
+ends-memory words old new heard said e (ends.memory same silent) undone = ends.memory same silent
+ends-memory words old new heard said e (ends.edit is row silent) undone = ends.edit is (edit-memory _ _ _ old new e row undone) silent
+
+-- an end that is told is how the run ended, or want of memory is
+pub told_run : (words : List (List ℕ)) (old new : Seen) (heard said : Heard) (e : End) (before after : Heard) (answer : ℕ)
+    → Ends words old new heard said e → Told e before after answer → Ended (Ends words old new heard said) before after answer
+told_run words old new heard said e before after answer row (told.as_it_is status goes) = record { end = e; way = row; status = status; line = goes }
+told_run words old new heard said e before after answer row (told.out_of_memory undone status goes) =
+    record { end = end.NoMemory; way = ends-memory words old new heard said e row undone; status = status; line = goes }

@@ -1,0 +1,7 @@
+-- Sets of laws on runs that functions name.
+use Rattle.dbg_ends.specs.Due.IsCut.{tree_fault, no_memory}
+use Rattle.dbg_run.proofs.RunLaws.{due_exact}
+
+pub ruleset told_rows = (tree_fault, no_memory)
+
+pub ruleset exact_rows = (due_exact)

@@ -1,0 +1,47 @@
+-- The command `edit`: how each of its steps may end, when it is done, and which status is due.
+use Rattle.std.specs.Prelude.{◌≡◌, ℕ, true, List, option_map}
+use Rattle.dw_base.specs.declared.fault.Refusal.{Refusal}
+use Rattle.dw_base.specs.First.{IsFirst, FirstFails, file_limit}
+use Rattle.dw_base.specs.Output.{IsOutput}
+use Rattle.dw_base.specs.Paths.{PathMap}
+use Rattle.file_tree.specs.declared.node.Found.{Found}
+use Rattle.file_tree.specs.declared.node.Found.TheVariants as found
+use Rattle.file_tree.specs.declared.node.Node.TheVariants as node
+use Rattle.file_tree.specs.Trees.{with_node}
+use Rattle.file_tree.specs.Seen.{Seen, now_of}
+use Rattle.file_tree.specs.Causes.{Stood, Calm, OnlyAt}
+use Rattle.dbg_ends.specs.declared.end.End.{End}
+use Rattle.dbg_ends.specs.declared.end.End.TheVariants as end
+use Rattle.dbg_ends.specs.Due.{Where, InputDue}
+use Rattle.dbg_ends.specs.Steps.{InputEnds, OutputEnds, IsSettled}
+
+-- how the rewriting of the bytes of a path ends where it gives no output
+pub data RewriteEnds (path : List ℕ) (m : PathMap) (b : List ℕ) : End → Type 0 where
+  refused : {r : Refusal} → FirstFails m b r → RewriteEnds path m b (end.Refused path r)
+  memory : RewriteEnds path m b end.NoMemory
+
+-- the edit is done: the input held a First file, the output holds its output file with its mode, and nothing else changed
+pub record EditDone (input output : List ℕ) (m : PathMap) (old new : Seen) : Type 0 where
+  pub b : List ℕ
+  pub mode : ℕ
+  pub out : List ℕ
+  pub read : Stood (now_of old) input file_limit (found.File b mode)
+  pub first : IsFirst m b
+  pub is : IsOutput m b out
+  pub only : (o : List ℕ) → IsOutput m b o → o ≡ out
+  pub written : now_of new ≡ option_map (with_node output (node.File out mode)) (now_of old)
+  pub settled : old.tells ≡ true → IsSettled new.past
+
+-- how an edit ends, by the step at which it does
+pub data EditEnds (input output : List ℕ) (m : PathMap) (old new : Seen) : End → Type 0 where
+  reading : {e : End} → InputEnds input file_limit old new e → Calm old new → EditEnds input output m old new e
+  rewriting : {b : List ℕ} {mode : ℕ} {e : End} → Stood (now_of old) input file_limit (found.File b mode) → RewriteEnds input m b e
+      → Calm old new → EditEnds input output m old new e
+  writing : {b : List ℕ} {mode : ℕ} {mid : Seen} {e : End} → Stood (now_of old) input file_limit (found.File b mode) → IsFirst m b
+      → Calm old mid → OutputEnds output mid new e → EditEnds input output m old new e
+  memory : OnlyAt output (now_of old) (now_of new) → EditEnds input output m old new end.NoMemory
+  done : EditDone input output m old new → EditEnds input output m old new end.Done
+
+-- the status that is due of an edit, by what is found at its input
+abbrev pub EditDue : PathMap → Found → ℕ → Type 0
+EditDue m what n = InputDue what n (λ b. Where (IsFirst m b) (n ≡ 0) (n ≡ 3))

@@ -1,0 +1,5 @@
+pub mod PathWords
+pub mod Words
+pub mod PlainPaths
+pub mod Edits
+pub mod Runs

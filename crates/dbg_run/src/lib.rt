@@ -1,0 +1,18 @@
+//! The commands of the program, over any tree and any sinks.
+//!
+//! This layer promises: `run_words` returns for every list of words; each status comes exactly where
+//! it is due, with its one line; at status 0 the command is done, and at every other status what was
+//! written is said.
+//! It does not promise: what a real file system or terminal does (`file_tree`).
+//! Read first: `specs/Words.antt`, `specs/Edits.antt`, `specs/Runs.antt`.
+#![tactic(auto)]
+
+pub mod edit;
+pub mod path_words;
+pub mod run;
+#[cfg(test)]
+mod tests;
+pub mod words;
+
+pub use run::run_words;
+pub use words::Command;

@@ -1,0 +1,102 @@
+//! The top call: a run of the program, from its words to its status.
+ghost use Rattle.std.specs.Prelude.{◌≡◌, ◌⊎◌, ℕ, None};
+ghost use Rattle.std.specs.Option.{ForSome};
+ghost use Rattle.file_tree.specs.Seen.{now_of};
+ghost use Rattle.file_tree.specs.Heard.{Heard};
+ghost use Rattle.file_tree.specs.Causes.{Rose};
+ghost use Rattle.dbg_ends.specs.Ends.{status_of};
+ghost use Rattle.dbg_ends.specs.Due.{IsCut, IsRefusal, Exactly};
+ghost use Rattle.dbg_ends.specs.Told.{Ended};
+ghost use Rattle.dbg_run.specs.Words.{command, texts};
+ghost use Rattle.dbg_run.specs.Runs.{Ends, Done, Due, OnlyOutputs};
+
+use crate::edit::edit;
+use crate::words::Command;
+use dbg_ends::{End, tell};
+use file_tree::{Sink, Tree};
+use std::alloc::Global;
+
+/// How the command of these words ends.
+#[tactic(auto, using(crate::proofs::Rows::run_rows))]
+fn run_command<T: Tree>(alloc: Global, words: &[String], tree: &mut T) -> End
+    ensures ends { (h : Heard) → Ends (texts words.now) (T.seen tree.old) (T.seen tree.new) h h result }
+    ensures done { 0 ≡ status_of result → (h : Heard) → Done (command (texts words.now)) (T.seen tree.old) (T.seen tree.new) h h }
+    ensures due { ForSome (now_of (T.seen tree.old)) (λ t. Due (command (texts words.now)) t (status_of result) ⊎ IsCut (status_of result)) }
+    ensures usage { status_of result ≡ 2 → command (texts words.now) ≡ None }
+    ensures no_command { command (texts words.now) ≡ None → (status_of result ≡ 2) ⊎ (status_of result ≡ 13) }
+    ensures fault { status_of result ≡ 6 → Rose (T.seen tree.old).faults (T.seen tree.new).faults }
+    ensures kept { IsRefusal (status_of result) → now_of (T.seen tree.new) ≡ now_of (T.seen tree.old) }
+    ensures others { OnlyOutputs (command (texts words.now)) (T.seen tree.old) (T.seen tree.new) }
+    ensures tells { (T.seen tree.new).tells ≡ (T.seen tree.old).tells }
+{
+    let Ok(read) = Command::read(alloc, words) else {
+        return End::NoMemory;
+    };
+    let Some(command) = read else {
+        return End::Usage;
+    };
+    match command {
+        Command::Edit {
+            input,
+            output,
+            maps,
+        } => edit(alloc, input.as_str(), output.as_str(), &maps, tree),
+    }
+}
+
+/// The status of the command of these words, whose line goes to the error sink.
+#[tactic(auto, using(crate::proofs::RunRows::told_rows))]
+fn run_told<T: Tree, O: Sink, E: Sink>(
+    alloc: Global,
+    words: &[String],
+    tree: &mut T,
+    out: &mut O,
+    err: &mut E,
+) -> u8
+    ensures ended { Ended (Ends (texts words.now) (T.seen tree.old) (T.seen tree.new) (O.heard out.old) (O.heard out.new)) (E.heard err.old) (E.heard err.new) result }
+    ensures due { ForSome (now_of (T.seen tree.old)) (λ t. Due (command (texts words.now)) t result ⊎ IsCut result) }
+    ensures done { result ≡ 0 → Done (command (texts words.now)) (T.seen tree.old) (T.seen tree.new) (O.heard out.old) (O.heard out.new) }
+    ensures usage { result ≡ 2 → command (texts words.now) ≡ None }
+    ensures no_command { command (texts words.now) ≡ None → (result ≡ 2) ⊎ (result ≡ 13) }
+    ensures fault { result ≡ 6 → Rose (T.seen tree.old).faults (T.seen tree.new).faults }
+    ensures kept { IsRefusal result → now_of (T.seen tree.new) ≡ now_of (T.seen tree.old) }
+    ensures others { OnlyOutputs (command (texts words.now)) (T.seen tree.old) (T.seen tree.new) }
+    ensures quiet { result ≡ 0 → E.heard err.new ≡ E.heard err.old }
+    ensures silent { O.heard out.new ≡ O.heard out.old }
+    ensures tells { (T.seen tree.new).tells ≡ (T.seen tree.old).tells }
+{
+    let end = run_command(alloc, words, tree);
+    tell(alloc, &end, err)
+}
+
+/// Runs the program on these words: its status. Its text goes to the output, and at each status but 0
+/// its one line to the error sink.
+#[tactic(auto, using(crate::proofs::RunRows::exact_rows))]
+pub fn run_words<T: Tree, O: Sink, E: Sink>(
+    alloc: Global,
+    words: &[String],
+    tree: &mut T,
+    out: &mut O,
+    err: &mut E,
+) -> u8
+    ensures ended { Ended (Ends (texts words.now) (T.seen tree.old) (T.seen tree.new) (O.heard out.old) (O.heard out.new)) (E.heard err.old) (E.heard err.new) result }
+
+    // Where the tree tells, each status comes exactly where it is due. Usage does on every tree, want of
+    // memory aside.
+    ensures exact { ForSome (now_of (T.seen tree.old)) (λ t. (n : ℕ) → Exactly result n (Due (command (texts words.now)) t n)) }
+    ensures usage { result ≡ 2 → command (texts words.now) ≡ None }
+    ensures no_command { command (texts words.now) ≡ None → (result ≡ 2) ⊎ (result ≡ 13) }
+    ensures fault { result ≡ 6 → Rose (T.seen tree.old).faults (T.seen tree.new).faults }
+
+    // At 0 the command is done, and the error sink isn't called; a refusal leaves the tree as it was.
+    ensures done { result ≡ 0 → Done (command (texts words.now)) (T.seen tree.old) (T.seen tree.new) (O.heard out.old) (O.heard out.new) }
+    ensures quiet { result ≡ 0 → E.heard err.new ≡ E.heard err.old }
+    ensures kept { IsRefusal result → now_of (T.seen tree.new) ≡ now_of (T.seen tree.old) }
+
+    // At every status all but the command's outputs is as it was, and nothing went to the output sink.
+    ensures others { OnlyOutputs (command (texts words.now)) (T.seen tree.old) (T.seen tree.new) }
+    ensures silent { O.heard out.new ≡ O.heard out.old }
+    ensures tells { (T.seen tree.new).tells ≡ (T.seen tree.old).tells }
+{
+    run_told(alloc, words, tree, out, err)
+}

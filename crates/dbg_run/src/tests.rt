@@ -1,0 +1,328 @@
+//! Runs over trees and sinks in memory: a worked file, and each status with its line.
+use crate::run::run_words;
+use file_tree::{Blob, MemSink, MemTree, Node, Text, TreeErr};
+use std::alloc::{AllocError, Global};
+use std::process::Abort;
+use std::test::Fail;
+
+/// The words of an edit of `in`.
+const EDIT: [&str; 7] = [
+    "edit",
+    "in",
+    "out",
+    "--base-dir",
+    "/build/p",
+    "--dest-dir",
+    "/usr/src/debug/p",
+];
+
+/// The abbreviation table of a compilation unit with a name and a directory, both offsets into `.debug_str`.
+const ABBREVIATIONS: [u8; 10] = [0x01, 0x11, 0x00, 0x03, 0x0e, 0x1b, 0x0e, 0x00, 0x00, 0x00];
+
+/// The names of the sections.
+const SECTION_NAMES: &str = "\0.debug_info\0.debug_abbrev\0.debug_str\0.shstrtab\0";
+
+/// The texts of the worked file.
+const BUILD_PATHS: &str = "/build/p/a.c\0/build/p\0";
+
+/// The texts that are added to them.
+const INSTALL_PATHS: &str = "/usr/src/debug/p/a.c\0/usr/src/debug/p\0";
+
+/// The file header of a 64-bit little-endian executable for x86-64, with five section headers from
+/// `headers_at` on, the last of them that of the section names.
+fn file_header(headers_at: u8) -> [u8; 64] {
+    [
+        0x7f, 0x45, 0x4c, 0x46, 2, 1, 1, 0, 0, 0, 0, 0, 0, 0, 0, 0, 2, 0, 62, 0, 1, 0, 0, 0, 0, 0,
+        0, 0, 0, 0, 0, 0, 0, 0, 0, 0, 0, 0, 0, 0, headers_at, 0, 0, 0, 0, 0, 0, 0, 0, 0, 0, 0, 64,
+        0, 0, 0, 0, 0, 64, 0, 5, 0, 4, 0,
+    ]
+}
+
+/// A unit of version 4 with one entry: the places of its name and of its directory in `.debug_str`.
+fn unit(name: u8, directory: u8) -> [u8; 20] {
+    [
+        0x10, 0, 0, 0, 4, 0, 0, 0, 0, 0, 8, 1, name, 0, 0, 0, directory, 0, 0, 0,
+    ]
+}
+
+/// The header of a section with alignment 1.
+fn section_header(name: u8, kind: u8, offset: u8, size: u8) -> [u8; 64] {
+    [
+        name, 0, 0, 0, kind, 0, 0, 0, 0, 0, 0, 0, 0, 0, 0, 0, 0, 0, 0, 0, 0, 0, 0, 0, offset, 0, 0,
+        0, 0, 0, 0, 0, size, 0, 0, 0, 0, 0, 0, 0, 0, 0, 0, 0, 0, 0, 0, 0, 1, 0, 0, 0, 0, 0, 0, 0,
+        0, 0, 0, 0, 0, 0, 0, 0,
+    ]
+}
+
+/// The headers of the five sections: the texts have `texts_len` bytes, and the section names start at `names_at`.
+fn section_headers(alloc: Global, texts_len: u8, names_at: u8) -> Result<Vec<u8>, AllocError> {
+    let mut headers = Vec::from_slice(alloc, &[0; 64])?;
+    headers.extend_from_slice(&section_header(1, 1, 64, 20))?;
+    headers.extend_from_slice(&section_header(13, 1, 84, 10))?;
+    headers.extend_from_slice(&section_header(27, 1, 94, texts_len))?;
+    headers.extend_from_slice(&section_header(38, 3, names_at, 48))?;
+    Ok(headers)
+}
+
+/// A file of 488 bytes whose one unit has the name `/build/p/a.c` and the directory `/build/p`.
+fn built_file(alloc: Global) -> Result<Vec<u8>, AllocError> {
+    let mut file = Vec::from_slice(alloc, &file_header(168))?;
+    file.extend_from_slice(&unit(0, 13))?;
+    file.extend_from_slice(&ABBREVIATIONS)?;
+    file.extend_from_slice(BUILD_PATHS.as_bytes())?;
+    file.extend_from_slice(SECTION_NAMES.as_bytes())?;
+    file.extend_from_slice(&[0; 4])?;
+    file.extend_from_slice(section_headers(alloc, 22, 116)?.as_slice())?;
+    Ok(file)
+}
+
+/// The same file with its paths mapped, of 528 bytes: the texts are added, and what follows them is moved.
+fn installed_file(alloc: Global) -> Result<Vec<u8>, AllocError> {
+    let mut file = Vec::from_slice(alloc, &file_header(208))?;
+    file.extend_from_slice(&unit(22, 43))?;
+    file.extend_from_slice(&ABBREVIATIONS)?;
+    file.extend_from_slice(BUILD_PATHS.as_bytes())?;
+    file.extend_from_slice(INSTALL_PATHS.as_bytes())?;
+    file.extend_from_slice(SECTION_NAMES.as_bytes())?;
+    file.extend_from_slice(&[0; 6])?;
+    file.extend_from_slice(section_headers(alloc, 60, 154)?.as_slice())?;
+    Ok(file)
+}
+
+/// A tree with one node.
+fn tree_with(alloc: Global, path: &str, node: Node) -> Result<MemTree, TreeErr> {
+    let mut nodes = Vec::new(alloc);
+    nodes.push((String::from_str(alloc, path)?, node))?;
+    MemTree::new(alloc, nodes)
+}
+
+/// A file with these bytes, which all may run.
+fn file_of(bytes: Vec<u8>) -> Node {
+    Node::File {
+        bytes: Blob::new(bytes),
+        mode: 0o755,
+    }
+}
+
+/// What a run answered, and what went to its sinks.
+#[derive(Drop)]
+struct Ran {
+    status: u8,
+    output: MemSink,
+    errors: MemSink,
+}
+
+fn run(alloc: Global, words: &[&str], tree: &mut MemTree) -> Result<Ran, TreeErr> {
+    let mut texts = Vec::new(alloc);
+    for word in words {
+        texts.push(String::from_str(alloc, *word)?)?;
+    }
+    let mut output = MemSink::new(alloc, 100, None)?;
+    let mut errors = MemSink::new(alloc, 100, None)?;
+    let status = run_words(alloc, texts.as_slice(), tree, &mut output, &mut errors);
+    Ok(Ran {
+        status,
+        output,
+        errors,
+    })
+}
+
+/// Asserts that an edit of `in` ends with this status and this line, and that nothing is put.
+fn assert_ends(
+    rt: &impl Abort,
+    alloc: Global,
+    tree: &mut MemTree,
+    status: u8,
+    line: &str,
+) -> Result<(), TreeErr> {
+    let before = tree.nodes().len();
+    let ran = run(alloc, &EDIT, tree)?;
+    assert_eq!(rt; ran.status, status, "where {line} is due");
+    assert_eq!(rt; ran.errors.bytes(), line.as_bytes());
+    assert!(rt; ran.output.bytes().is_empty());
+    assert_eq!(rt; tree.nodes().len(), before, "where {line} is due");
+    Ok(())
+}
+
+#[test]
+fn words_that_are_no_command_are_usage(rt: HostRuntime) -> Result<(), Fail> {
+    let alloc = rt.alloc();
+    let rows: [&[&str]; 12] = [
+        &[],
+        &["edit"],
+        &[
+            "edit",
+            "in",
+            "in",
+            "--base-dir",
+            "/build/p",
+            "--dest-dir",
+            "/usr/src/debug/p",
+        ],
+        &[
+            "edit",
+            "in",
+            "./out",
+            "--base-dir",
+            "/build/p",
+            "--dest-dir",
+            "/usr/src/debug/p",
+        ],
+        &[
+            "edit",
+            "in/",
+            "out",
+            "--base-dir",
+            "/build/p",
+            "--dest-dir",
+            "/usr/src/debug/p",
+        ],
+        &[
+            "edit",
+            "/",
+            "out",
+            "--base-dir",
+            "/build/p",
+            "--dest-dir",
+            "/usr/src/debug/p",
+        ],
+        &[
+            "edit",
+            "a//in",
+            "out",
+            "--base-dir",
+            "/build/p",
+            "--dest-dir",
+            "/usr/src/debug/p",
+        ],
+        &[
+            "edit",
+            "in",
+            "../out",
+            "--base-dir",
+            "/build/p",
+            "--dest-dir",
+            "/usr/src/debug/p",
+        ],
+        &[
+            "edit",
+            "-in",
+            "out",
+            "--base-dir",
+            "/build/p",
+            "--dest-dir",
+            "/usr/src/debug/p",
+        ],
+        &[
+            "edit",
+            "in",
+            "out",
+            "--base-dir",
+            "build/p",
+            "--dest-dir",
+            "/usr/src/debug/p",
+        ],
+        &[
+            "edit",
+            "in",
+            "out",
+            "--dest-dir",
+            "/usr/src/debug/p",
+            "--base-dir",
+            "/build/p",
+        ],
+        &[
+            "edit",
+            "in",
+            "out",
+            "--base-dir",
+            "/build/p",
+            "--dest-dir",
+            "/usr/src/debug/p",
+            "more",
+        ],
+    ];
+    for words in rows {
+        let mut tree = tree_with(alloc, "in", file_of(built_file(alloc)?))?;
+        let ran = run(alloc, words, &mut tree)?;
+        assert_eq!(rt; ran.status, 2);
+        assert_eq!(rt; ran.errors.bytes(), b"usage\n".as_slice());
+        assert!(rt; ran.output.bytes().is_empty());
+        assert_eq!(rt; tree.nodes().len(), 1);
+    }
+    Ok(())
+}
+
+#[test]
+fn an_input_that_is_no_file_is_named_as_what_it_is(rt: HostRuntime) -> Result<(), Fail> {
+    let alloc = rt.alloc();
+    let mut tree = MemTree::new(alloc, Vec::new(alloc))?;
+    assert_ends(&rt, alloc, &mut tree, 4, "absent: in\n")?;
+    let mut tree = tree_with(alloc, "in/a", file_of(Vec::new(alloc)))?;
+    assert_ends(&rt, alloc, &mut tree, 4, "folder: in\n")?;
+    let target = Text::copy_of(alloc, "a")?;
+    let mut tree = tree_with(alloc, "in", Node::Link { target })?;
+    assert_ends(&rt, alloc, &mut tree, 4, "link: in\n")?;
+    Ok(())
+}
+
+#[test]
+fn a_read_that_fails_is_a_tree_fault(rt: HostRuntime) -> Result<(), Fail> {
+    let alloc = rt.alloc();
+    let mut tree = tree_with(alloc, "in", file_of(built_file(alloc)?))?;
+    let mut calls = Vec::new(alloc);
+    calls.push(0)?;
+    tree.fail_calls(calls);
+    assert_ends(&rt, alloc, &mut tree, 6, "tree fault\n")?;
+    Ok(())
+}
+
+#[test]
+fn a_relocatable_file_is_refused_and_nothing_is_put(rt: HostRuntime) -> Result<(), Fail> {
+    let alloc = rt.alloc();
+    let mut bytes = built_file(alloc)?;
+    if let Some(kind) = bytes.get_mut(16) {
+        *kind = 1;
+    }
+    let mut tree = tree_with(alloc, "in", file_of(bytes))?;
+    assert_ends(
+        &rt,
+        alloc,
+        &mut tree,
+        3,
+        "refused: in: unbuilt section 0 offset 0\n",
+    )?;
+    Ok(())
+}
+
+#[test]
+fn an_edit_gives_the_worked_file_byte_for_byte(rt: HostRuntime) -> Result<(), Fail> {
+    let alloc = rt.alloc();
+    let mut tree = tree_with(alloc, "in", file_of(built_file(alloc)?))?;
+    let ran = run(alloc, &EDIT, &mut tree)?;
+    assert_eq!(rt; ran.status, 0);
+    assert!(rt; ran.output.bytes().is_empty());
+    assert!(rt; ran.errors.bytes().is_empty());
+    let wanted = installed_file(alloc)?;
+    assert_eq!(rt; wanted.len(), 528);
+    match tree.nodes() {
+        [(input, _), (output, Node::File { bytes, mode })] => {
+            assert_eq!(rt; input.as_str(), "in");
+            assert_eq!(rt; output.as_str(), "out");
+            assert_eq!(rt; bytes.as_slice(), wanted.as_slice());
+            assert_eq!(rt; *mode, 0o755);
+        }
+        _ => assert!(rt; false, "two files are there"),
+    }
+    assert_eq!(rt; tree.settle_count(), 1);
+    Ok(())
+}
+
+#[test]
+fn a_write_that_fails_is_a_tree_fault(rt: HostRuntime) -> Result<(), Fail> {
+    let alloc = rt.alloc();
+    let mut tree = tree_with(alloc, "in", file_of(built_file(alloc)?))?;
+    tree.stop_after(1);
+    assert_ends(&rt, alloc, &mut tree, 6, "tree fault\n")?;
+    Ok(())
+}
