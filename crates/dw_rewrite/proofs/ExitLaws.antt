@@ -35,7 +35,8 @@ use Rattle.dw_rewrite.specs.Rewritten.Unwritten.{unbuilt as unwritten}
 use Rattle.dw_rewrite.specs.declared.judge.Sections.{Sections}
 use Rattle.dw_rewrite.proofs.JudgeLaws.{section_called-once}
 use Rattle.dw_rewrite.proofs.RewriteLaws.{is_first, is_output, too_long_file, refused_units_found, refused_written, stays_same, full_kind, paths_found}
-use Rattle.dw_rewrite.proofs.WrittenLaws.{with_bodies_same, length-moved}
+use Rattle.dw_base.proofs.ReadsBackLaws.{with_bodies-same}
+use Rattle.dw_rewrite.proofs.WrittenLaws.{length-moved}
 
 -- a file that can't be read as ELF is refused for its sections
 pub refused_reads : (b : List ℕ) (f : Fault) → FirstHeaders b → Blames (ElfFails b) f → Blames (Refuses (FirstSections b)) (as_unbuilt_fault f)
@@ -83,7 +84,7 @@ layout_same : (b : List ℕ) (f g : ℕ → List ℕ) (r : Refusal) → ((i : �
 layout_same b f g r same (section i lt (changed h)) = section i lt (changed (record { stays = h.stays; body = λ e. h.body (same i lt ∙ e) }))
 layout_same b f g r same (section i lt (across h)) = section i lt (across h)
 layout_same b f g r same (section i lt (in_header h)) = section i lt (in_header h)
-layout_same b f g r same (large (long over)) = large (long (subst (λ (x : List ℕ). output_limit < length x) (with_bodies_same b f g same) over))
+layout_same b f g r same (large (long over)) = large (long (subst (λ (x : List ℕ). output_limit < length x) (with_bodies-same b f g same) over))
 
 layout_refused : (b : List ℕ) (items : List (Option (Vec ℕ Global))) (count : ℕ) (s : Sections) (info str : List ℕ) (f : Fault) → AreGiven items count s info str
     → Blames (LayoutFails b (body_given b items)) f → Blames (Unwritten b (body_with b s info str)) (as_unbuilt_fault f)
@@ -100,7 +101,7 @@ refused_layout b now items count s info str f is g h =
 pub written_file : (b : List ℕ) (now items : List (Option (Vec ℕ Global))) (count : ℕ) (s : Sections) (info str out : List ℕ) → now ≡ items
     → AreGiven items count s info str → out ≡ with_bodies b (body_given b now) → out ≡ with_bodies b (body_with b s info str)
 written_file b now items count s info str out same g is =
-    is ∙ ap (λ (l : List (Option (Vec ℕ Global))). with_bodies b (body_given b l)) same ∙ with_bodies_same b (body_given b items) (body_with b s info str) (λ (i : ℕ) (lt : i < section_count b). given_same b items count s info str i g)
+    is ∙ ap (λ (l : List (Option (Vec ℕ Global))). with_bodies b (body_given b l)) same ∙ with_bodies-same b (body_given b items) (body_with b s info str) (λ (i : ℕ) (lt : i < section_count b). given_same b items count s info str i g)
 
 pub written_small : (b : List ℕ) (items : List (Option (Vec ℕ Global))) (out : List ℕ) → out ≡ with_bodies b (body_given b items)
     → ((r : Refusal) → LayoutFails b (body_given b items) r → ⊥) → length out ≤ output_limit

@@ -44,7 +44,8 @@ use Rattle.dw_rewrite.specs.Rewritten.Unwritten.{unbuilt as unwritten}
 use Rattle.dw_rewrite.specs.declared.judge.Sections.{Sections}
 use Rattle.dw_rewrite.proofs.JudgeLaws.{section_called-once, contents_called-once}
 use Rattle.dw_rewrite.proofs.PathLaws.{new_str_is, new_info_is, read_paths}
-use Rattle.dw_rewrite.proofs.WrittenLaws.{with_bodies_same, length-moved}
+use Rattle.dw_base.proofs.ReadsBackLaws.{with_bodies-same}
+use Rattle.dw_rewrite.proofs.WrittenLaws.{length-moved}
 
 -- the bytes of the sections that were found
 info_contents : (b : List ℕ) (s : Sections) → AreFirst b s → contents_of b s.info ≡ contents_called b debug_info
@@ -109,7 +110,7 @@ str_same m b s places f p =
 output_same : (m : PathMap) (b : List ℕ) (s : Sections) (places : List ℕ) → AreFirst b s → (p : Pieces b s places)
     → output_of m b (readings p.xs) ≡ with_bodies b (body_found m b s places)
 unfolding output_of new_body
-output_same m b s places f p = with_bodies_same b (new_body m b (readings p.xs)) (body_found m b s places) (λ (i : ℕ) (lt : i < section_count b).
+output_same m b s places f p = with_bodies-same b (new_body m b (readings p.xs)) (body_found m b s places) (λ (i : ℕ) (lt : i < section_count b).
     ap (λ (n : ℕ). cond (i == n) (new_info m b (readings p.xs)) (cond (i == section_called b debug_str) (new_str m b (readings p.xs)) (contents_of b i))) (sym f.info_is)
     ∙ ap (λ (n : ℕ). cond (i == s.info) (new_info m b (readings p.xs)) (cond (i == n) (new_str m b (readings p.xs)) (contents_of b i))) (sym f.str_is)
     ∙ ap (λ (x : List ℕ). cond (i == s.info) x (cond (i == s.str) (new_str m b (readings p.xs)) (contents_of b i))) (info_same m b s places f p)

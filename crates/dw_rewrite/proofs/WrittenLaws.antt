@@ -1,4 +1,4 @@
--- Files written with new bodies: what they depend on, and how long they are.
+-- How long a file is that was written with new bodies.
 use Rattle.std.proofs.Common.{Bool, true, false, ◌≡◌, ℕ, zero, suc, ◌+◌, ◌-◌, ◌*◌, ◌<◌, ◌≤◌, ◌==◌, List, [], ◌∷◌, ◌++◌, length, take, drop, replicate, cond, sym, ap, ◌∙◌, refl, subst, arith}
 use Rattle.std.proofs.lemmas.List.{length-append, length-take}
 use Rattle.std.proofs.lemmas.Bool.Decides.{nat_tests}
@@ -6,27 +6,6 @@ use Rattle.dw_base.specs.Elf.{class_of, order_of, ehdr_size, section_count, nth_
 use Rattle.dw_base.specs.Layout.{Part, padding, part_of, laid, extended, placed, with_bodies, laid_out, fixed_end, new_heads, with_table}
 use Rattle.dw_base.specs.Lists.{tabulate}
 use Rattle.dw_base.proofs.LayoutLaws.{laid-append, laid_tabulate-longer, length-with_table, fixed_end-header}
-
--- a list made from a function is made from any that agrees with it
-tabulate_same : {X : Type 0} (f g : ℕ → X) (n : ℕ) → ((i : ℕ) → i < n → f i ≡ g i) → tabulate f n ≡ tabulate g n
-tabulate_same f g zero same = refl
-tabulate_same {X} f g (suc n) same =
-    let front : tabulate f n ≡ tabulate g n = tabulate_same f g n (λ (i : ℕ) lt. same i (omega arith)) in
-    let last : f n ≡ g n = same n (omega arith) in
-    ap (λ (r : List X). r ++ f n ∷ []) front ∙ ap (λ (x : X). tabulate g n ++ x ∷ []) last
-
--- a part depends on the body of its own section
-part_same : (b : List ℕ) (f g : ℕ → List ℕ) (i : ℕ) → f i ≡ g i → part_of b f i ≡ part_of b g i
-unfolding part_of
-part_same b f g i e = rw e refl
-
--- a written file depends on the bodies of its sections alone
-pub with_bodies_same : (b : List ℕ) (f g : ℕ → List ℕ) → ((i : ℕ) → i < section_count b → f i ≡ g i) → with_bodies b f ≡ with_bodies b g
-unfolding with_bodies
-with_bodies_same b f g same =
-    let parts : tabulate (part_of b f) (section_count b) ≡ tabulate (part_of b g) (section_count b) =
-    tabulate_same (part_of b f) (part_of b g) (section_count b) (λ (i : ℕ) lt. part_same b f g i (same i lt)) in
-    ap (λ (ps : List Part). cond (section_count b == 0) b (laid_out (class_of b) (order_of b) (take (fixed_end b) b) ps)) parts
 
 -- a section that is laid out anew is in the bytes
 length-placed : (p : Part) (n : ℕ) → length p.body ≤ length (placed n p)

@@ -9,10 +9,14 @@
 mod asks;
 mod change;
 mod file;
+#[cfg(test)]
+mod fixtures;
 mod judge;
 mod known;
 mod refusal;
 mod table;
+#[cfg(test)]
+mod tests;
 mod texts;
 mod units;
 

@@ -1,5 +1,5 @@
 -- The new offsets are those of the new texts.
-use Rattle.std.proofs.Common.{ap, ◌∙◌, []}
+use Rattle.std.proofs.Common.{ap, ◌∙◌}
 use Rattle.dw_base.specs.StringTables.{TextTable, appending}
 use Rattle.dw_rewrite.specs.Changes.{texts_at}
 use Rattle.dw_rewrite.proofs.ChangedLaws.{info_is}

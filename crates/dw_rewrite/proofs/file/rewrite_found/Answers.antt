@@ -6,14 +6,14 @@ use Rattle.dw_rewrite.proofs.file.rewrite_found.Goals as goal
 pub returns-clause-first : goal.returns-clause-first
 returns-clause-first c =
     found_first _ _ _ c.in_ok-places.places.items _ _ _ c.requires.found c.in_ok-places.ensures.read
-    (rw (c.in_ok-new.ensures.info, c.contents-info.ensures, c.contents-str.ensures, c.deref.ensures.value, c.args.elf.now.is_elf.order_is) refl)
-    (rw (c.in_ok-new.ensures.str, c.contents-info.ensures, c.contents-str.ensures, c.deref.ensures.value, c.args.elf.now.is_elf.order_is) refl)
+    (rw (c.in_ok-new.ensures.info, c.contents-info.ensures.contents, c.contents-str.ensures.contents, c.deref.ensures.value, c.args.elf.now.is_elf.order_is) refl)
+    (rw (c.in_ok-new.ensures.str, c.contents-info.ensures.contents, c.contents-str.ensures.contents, c.deref.ensures.value, c.args.elf.now.is_elf.order_is) refl)
     c.in_ok-out.ensures.file c.in_ok-out.ensures.small
 
 -- src/file.rt:70:1
 pub returns-clause-only : goal.returns-clause-only
 returns-clause-only c =
     one_output _ _ _ (found_output _ _ _ c.in_ok-places.places.items _ _ _ c.requires.found c.in_ok-places.ensures.read
-    (rw (c.in_ok-new.ensures.info, c.contents-info.ensures, c.contents-str.ensures, c.deref.ensures.value, c.args.elf.now.is_elf.order_is) refl)
-    (rw (c.in_ok-new.ensures.str, c.contents-info.ensures, c.contents-str.ensures, c.deref.ensures.value, c.args.elf.now.is_elf.order_is) refl)
+    (rw (c.in_ok-new.ensures.info, c.contents-info.ensures.contents, c.contents-str.ensures.contents, c.deref.ensures.value, c.args.elf.now.is_elf.order_is) refl)
+    (rw (c.in_ok-new.ensures.str, c.contents-info.ensures.contents, c.contents-str.ensures.contents, c.deref.ensures.value, c.args.elf.now.is_elf.order_is) refl)
     c.in_ok-out.ensures.file)

@@ -1,5 +1,5 @@
 -- One place more is known.
-use Rattle.std.proofs.Common.{sym, ◌∙◌, ℕ}
+use Rattle.std.proofs.Common.{sym, ◌∙◌}
 use Rattle.dw_rewrite.proofs.KnownLaws.{knows_added}
 use Rattle.dw_rewrite.proofs.known.note_path.Goals as goal
 

@@ -1,4 +1,4 @@
-use Rattle.std.proofs.Common.{◌≡◌, ℕ, ◌+◌, ◌-◌, ◌≤◌, length}
+use Rattle.std.proofs.Common.{◌-◌, ◌≤◌, length}
 use Rattle.dw_rewrite.proofs.Names.{NamesFrom}
 use Rattle.dw_rewrite.proofs.table.names_in.Given as goal
 

@@ -1,4 +1,4 @@
-use Rattle.std.proofs.Common.{◌≡◌, ◌≢◌, ℕ, ◌<◌, ◌≤◌, length, get_or}
+use Rattle.std.proofs.Common.{◌≤◌, length}
 use Rattle.dw_rewrite.proofs.TextLimits.{NoNulFrom}
 use Rattle.dw_rewrite.proofs.texts.text_limit.Given as goal
 

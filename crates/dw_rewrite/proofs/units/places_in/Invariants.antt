@@ -1,4 +1,4 @@
-use Rattle.std.proofs.Common.{◌≡◌, ℕ, ◌-◌, ◌≤◌, length}
+use Rattle.std.proofs.Common.{◌-◌, ◌≤◌, length}
 use Rattle.dw_rewrite.proofs.Walks.{Walked}
 use Rattle.dw_rewrite.proofs.units.places_in.Given as goal
 
