@@ -4,13 +4,15 @@
 #![tactic(auto)]
 
 use dbg_run::run_words;
-use file_tree::{OsSink, OsTree};
+use file_tree::{OsSink, OsTree, Sink};
 use std::process::ExitCode;
 use std::rt::Env;
 use std::{env, io};
 
 /// The status where there is no memory for the words.
 const NO_MEMORY: u8 = 13;
+/// The line of that status.
+const NO_MEMORY_LINE: &[u8] = b"no memory\n";
 
 /// The words behind the program's name.
 fn words<R: Env + AllocGlobal>(rt: &R) -> io::Result<Vec<String>> {
@@ -28,7 +30,10 @@ fn main(rt: HostRuntime) -> ExitCode {
     // A word that isn't UTF-8 is no word of a command: there are no words then, and the answer is `usage`.
     let words = match words(&rt) {
         Ok(words) => words,
-        Err(e) if e.kind() == io::ErrorKind::OutOfMemory => return ExitCode::from(NO_MEMORY),
+        Err(e) if e.kind() == io::ErrorKind::OutOfMemory => {
+            let _is_told = err.write(NO_MEMORY_LINE);
+            return ExitCode::from(NO_MEMORY);
+        }
         Err(_) => Vec::new(alloc),
     };
     let mut tree = OsTree::new(&rt);
