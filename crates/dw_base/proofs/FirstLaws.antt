@@ -21,14 +21,14 @@ not_extended : (n : ℕ) → n < 0xff00 → (n == 0xffff) ≡ false
 not_extended n h = grind arith
 
 -- its sections are counted in the file header
-first-count : (b : List ℕ) → FirstTable b → section_count b ≡ e_shnum b
+pub first-count : (b : List ℕ) → FirstTable b → section_count b ≡ e_shnum b
 unfolding section_count
 first-count b ok =
     let some = ok.some in
     rw (not_zero (e_shoff b) ok.there, not_zero (e_shnum b) (omega arith)) refl
 
 -- and so is the number of its name table
-first-names : (b : List ℕ) → FirstTable b → name_index b ≡ e_shstrndx b
+pub first-names : (b : List ℕ) → FirstTable b → name_index b ≡ e_shstrndx b
 unfolding name_index
 first-names b ok =
     let few = ok.few in

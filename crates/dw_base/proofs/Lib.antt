@@ -37,3 +37,11 @@ pub mod WrittenLaws
 pub mod WrittenSections
 pub mod PartsLaws
 pub mod PartsReadLaws
+pub mod FrameLaws
+pub mod UnitChangeLaws
+pub mod MeaningLaws
+pub mod TextMoveLaws
+pub mod SectionLaws
+pub mod ViewLaws
+pub mod MeaningOneLaws
+pub mod MeaningKeptLaws

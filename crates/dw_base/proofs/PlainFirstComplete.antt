@@ -5,8 +5,9 @@ use Rattle.std.specs.List.{list_all}
 use Rattle.std.proofs.lemmas.Bool.{true≢false, and_from, le-leb, eq-eqb}
 use Rattle.std.proofs.lemmas.Slice.Eq.{bytes_eq-Decides}
 use Rattle.dw_base.specs.Elf.{order_of}
-use Rattle.dw_base.specs.First.{EachStep, OneEntryBy, OneEntry, OneAbbreviationBy, OneAbbreviation, NamesTextBy, NamesText, FirstUnits, IsFirst, readings}
-use Rattle.dw_base.specs.Grammar.{Step, joined}
+use Rattle.dw_base.specs.First.{OneEntryBy, OneEntry, OneAbbreviationBy, OneAbbreviation, FirstUnits, IsFirst, readings}
+use Rattle.dw_base.specs.Mentions.{NamesTextBy, NamesText}
+use Rattle.dw_base.specs.Grammar.{Step, joined, EachStep}
 use Rattle.dw_base.specs.Layout.{fixed_end, output_limit}
 use Rattle.dw_base.specs.Output.{output_of}
 use Rattle.dw_base.specs.Paths.{PathMap}

@@ -3,8 +3,9 @@ use Rattle.std.proofs.Common.{◌≡◌, ℕ, ◌==◌, Bool, true, not, List, [
 use Rattle.std.specs.List.{list_all}
 use Rattle.std.proofs.lemmas.Bool.{and_parts, eqb-true}
 use Rattle.dw_base.specs.Elf.{order_of}
-use Rattle.dw_base.specs.First.{EachStep, OneEntryBy, OneEntry, OneAbbreviationBy, OneAbbreviation, NamesTextBy, NamesText, FirstUnits}
-use Rattle.dw_base.specs.Grammar.{Step}
+use Rattle.dw_base.specs.First.{OneEntryBy, OneEntry, OneAbbreviationBy, OneAbbreviation, FirstUnits}
+use Rattle.dw_base.specs.Mentions.{NamesTextBy, NamesText}
+use Rattle.dw_base.specs.Grammar.{Step, EachStep}
 use Rattle.dw_base.specs.Numbers.{spelled}
 use Rattle.dw_base.specs.PlainReading.{plain_pieces, plain_reads, plain_units}
 use Rattle.dw_base.specs.PlainFirst.{entry_test, abbreviation_test, text_test, units_test, abbreviations_test, texts_test}

@@ -2,10 +2,11 @@
 use Rattle.std.proofs.Common.{◌≡◌, ◌≢◌, ℕ, zero, suc, ◌+◌, ◌-◌, ◌*◌, ◌<◌, ◌≤◌, ◌⊎◌, ◌==◌, true, List, ◌++◌, length, take, drop, slice_index, refl, sym, ap, ◌∙◌, arith, inl, inr}
 use Rattle.std.proofs.lemmas.Bool.{cases_lt, or_cases}
 use Rattle.std.proofs.lemmas.List.{append_assoc, get_or_append_left, get_or-append-add, length-append, length-take-le, drop-drop, take-append-drop}
-use Rattle.dw_base.specs.Elf.{class_of, order_of, phdr_size, word_size, shoff_place, e_type, e_phoff, e_shoff, e_phnum, nth_segment, section_count, segments_of}
+use Rattle.dw_base.specs.Elf.{class_of, order_of, phdr_size, word_size, shoff_place, e_type, e_phoff, e_shoff, e_phnum, nth_section, nth_segment, section_count, name_index, segments_of}
 use Rattle.dw_base.specs.ElfFails.{DebugReads}
 use Rattle.dw_base.specs.Layout.{fixed_end, is_loaded_kind, part_of, before_table, with_table, with_bodies, shdrs_bytes}
-use Rattle.dw_base.specs.LayoutReads.{is_known_kind}
+use Rattle.dw_base.specs.LayoutReads.{is_known_kind, NamesEnd, ReadsBack}
+use Rattle.dw_base.specs.Texts.{ends_in}
 use Rattle.dw_base.specs.Lists.{tabulate}
 use Rattle.dw_base.specs.Numbers.{spelled, number_bytes, with_number}
 use Rattle.dw_base.specs.declared.elf_numbers.TheConstants.{ET_REL}
@@ -147,3 +148,26 @@ pub with_bodies-same : (b : List ℕ) (f g : ℕ → List ℕ) → ((i : ℕ) �
 unfolding with_bodies
 with_bodies-same b f g same =
     rw (tabulate-ext (part_of b f) (part_of b g) (section_count b) (λ i lt. part_of-same b f g i (same i lt))) refl
+
+-- so does what reads back
+names_end-same : (b : List ℕ) (f g : ℕ → List ℕ) → ((i : ℕ) → i < section_count b → f i ≡ g i) → (name_index b ≢ 0 → name_index b < section_count b)
+    → NamesEnd b g → NamesEnd b f
+names_end-same b f g same within n = record {
+  ends = λ i lt some. ap (λ (t : List ℕ). ends_in t (nth_section b i).name) (same (name_index b) (within some)) ∙ n.ends i lt some;
+}
+
+pub reads_back-same : (b out : List ℕ) (f g : ℕ → List ℕ) → ((i : ℕ) → i < section_count b → f i ≡ g i) → (name_index b ≢ 0 → name_index b < section_count b)
+    → ReadsBack b f out → ReadsBack b g out
+reads_back-same b out f g same within r = record {
+  class = r.class;
+  order = r.order;
+  kind = r.kind;
+  machine = r.machine;
+  count = r.count;
+  names = r.names;
+  heads = r.heads;
+  contents = λ i lt. r.contents i lt ∙ same i lt;
+  front = r.front;
+  segments = r.segments;
+  reads = λ known n. r.reads known (names_end-same b f g same within n);
+}

@@ -1,10 +1,8 @@
 -- Unit sections can be read in one way.
-use Rattle.std.proofs.Common.{Bool, true, false, ◌≡◌, ℕ, ◌+◌, ◌*◌, ◌%◌, ◌<◌, ◌≤◌, nat_lt, List, [], ◌∷◌, ◌++◌, length, Option, Some, None, sym, ap, ◌∙◌, refl, subst, arith, cond}
+use Rattle.std.proofs.Common.{◌≡◌, ℕ, List, [], ◌∷◌, ◌++◌, length, Option, Some, None, sym, ap, ◌∙◌, refl, arith}
 use Rattle.dw_base.specs.declared.shared.Order.{Order}
 use Rattle.dw_base.specs.declared.shared.Params.{Params}
-use Rattle.dw_base.specs.Abbreviations.{AttributeSpec}
-use Rattle.dw_base.specs.Grammar.{Grammar}
-use Rattle.dw_base.specs.Lebs.{uleb, uleb_more, uleb_within}
+use Rattle.dw_base.specs.Lebs.{uleb, uleb_within}
 use Rattle.dw_base.specs.Units.{ValueKind, text_offset, unlisted, kind_in, Mode, header, code, values, stuck, UnitState, FitsMode, Fills, EndsSection, IsHeader, unit_grammar, code_value}
 use Rattle.dw_base.proofs.GrammarLaws.{ReadsOneWay}
 use Rattle.dw_base.proofs.LebLaws.{uleb-append}

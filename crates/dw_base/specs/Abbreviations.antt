@@ -1,5 +1,5 @@
 -- Abbreviation tables (DWARF 5, 7.5.3): what an entry of a code has.
-use Rattle.std.specs.Prelude.{Bool, ◌≡◌, ℕ, ◌==◌, ◌&&◌, nat_lt, if◌then◌else◌, List, [], ◌∷◌, ◌++◌, drop, Option, Some, None}
+use Rattle.std.specs.Prelude.{Bool, ℕ, ◌==◌, ◌&&◌, nat_lt, if◌then◌else◌, List, [], ◌∷◌, ◌++◌, drop, Option, Some, None}
 use Rattle.dw_base.specs.Lebs.{uleb}
 
 -- an attribute of an entry, and the form of its value

@@ -1,5 +1,5 @@
 -- The records of an ELF file, as functions of its bytes (gABI ch. 4 "ELF Header", "Sections"; ch. 5 "Program Header").
-use Rattle.std.specs.Prelude.{Bool, ◌≡◌, ℕ, ◌+◌, ◌*◌, ◌==◌, ◌||◌, if◌then◌else◌, List, [], take, drop}
+use Rattle.std.specs.Prelude.{Bool, ℕ, ◌+◌, ◌*◌, ◌==◌, ◌||◌, if◌then◌else◌, List, [], take, drop}
 use Rattle.dw_base.specs.Lists.{tabulate}
 use Rattle.dw_base.specs.Numbers.{spelled}
 use Rattle.dw_base.specs.Texts.{text_in}

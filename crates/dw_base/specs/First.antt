@@ -1,19 +1,19 @@
--- First files: the shape of file that this version of the program takes. Its debug data are units of one
--- entry with a name and a directory, and nothing of it is loaded.
-use Rattle.std.specs.Prelude.{Bool, true, false, ◌≡◌, ◌≢◌, ℕ, ◌+◌, ◌*◌, ◌^◌, ◌<◌, ◌≤◌, ◌==◌, ◌&&◌, ◌||◌, not, bit_and, nat_eq, nat_lt, nat_le, if◌then◌else◌, List, [], ◌∷◌, ◌++◌, length, take, drop, Option, Some, None, IsTrue, is_some, option_map, ◌⊎◌, ⊤}
+-- First files: the shape of file that this version of the program takes. Its debug data are units, none or
+-- more, of one entry each, whose attributes are names and directories, none or more; and nothing of it is loaded.
+use Rattle.std.specs.Prelude.{Bool, false, ◌≡◌, ◌≢◌, ℕ, ◌+◌, ◌*◌, ◌^◌, ◌<◌, ◌≤◌, ◌==◌, ◌&&◌, ◌||◌, not, bit_and, nat_eq, nat_lt, if◌then◌else◌, List, [], ◌∷◌, length, drop, Option, Some, None, IsTrue, is_some, option_map, ◌⊎◌, ⊤}
 use Rattle.std.specs.List.{starts_with}
 use Rattle.std.specs.Int.{is_power_of_two}
 use Rattle.dw_base.specs.Elf.{e_type, e_phnum, e_shentsize, e_shoff, e_shnum, e_shstrndx, nth_section, section_count, section_name, name_table, is_empty_kind, order_of}
-use Rattle.dw_base.specs.Grammar.{Step}
+use Rattle.dw_base.specs.Grammar.{Step, EachStep}
 use Rattle.dw_base.specs.Layout.{output_limit}
 use Rattle.dw_base.specs.Numbers.{spelled}
 use Rattle.dw_base.specs.Output.{Readings, output_of}
-use Rattle.dw_base.specs.Mentions.{offset_of}
+use Rattle.dw_base.specs.Mentions.{NamesText}
 use Rattle.dw_base.specs.Paths.{PathMap}
 use Rattle.dw_base.specs.SectionNames.{debug_info, debug_abbrev, debug_str, debug_prefix, zdebug_prefix, debug_altlink, contents_called}
 use Rattle.dw_base.specs.Refusals.{at}
 use Rattle.dw_base.specs.Texts.{same_text, ends_in}
-use Rattle.dw_base.specs.Units.{UnitState, in_debug_str, Mode, header, code, values, stuck, code_value, Role, fixed, offset, role_of, Reads}
+use Rattle.dw_base.specs.Units.{UnitState, Mode, header, code, values, stuck, code_value, Reads}
 use Rattle.dw_base.specs.declared.shared.Order.{Order}
 use Rattle.dw_base.specs.declared.shared.Order.TheVariants.{Little}
 use Rattle.dw_base.specs.declared.fault.Refusal.{Refusal}
@@ -94,11 +94,6 @@ pub record FirstNames (b : List ℕ) : Type 0 where
   pub str : IsOnce b debug_str
   pub others : (i : ℕ) → i < section_count b → IsTrue (is_first_name (section_name b i))
 
--- this holds of each piece
-abbrev pub EachStep : (Step UnitState → Type 0) → List (Step UnitState) → Type 0
-EachStep P [] = ⊤
-EachStep P (x ∷ xs) = P x × EachStep P xs
-
 -- a unit has addresses of 8 bytes, and after its header it is one entry, to the unit's end: there is room for one,
 -- and each code is of the first entry and not 0
 abbrev pub OneEntryBy : Mode → Order → UnitState → List ℕ → Type 0
@@ -149,14 +144,6 @@ OneAbbreviationBy stuck order abbrevs p = ⊤
 
 abbrev pub OneAbbreviation : Order → List ℕ → Step UnitState → Type 0
 OneAbbreviation order abbrevs x = OneAbbreviationBy x.state.mode order abbrevs x.bytes
-
--- an offset of a text names one that ends in its table
-abbrev pub NamesTextBy : Role → Order → List ℕ → List ℕ → Type 0
-NamesTextBy fixed order str p = ⊤
-NamesTextBy (offset in_debug_str path) order str p = IsTrue (ends_in str (offset_of order p))
-
-abbrev pub NamesText : Order → List ℕ → Step UnitState → Type 0
-NamesText order str x = NamesTextBy (role_of x) order str x.bytes
 
 -- the three sections of a First file: .debug_info is filled by units of one entry, the abbreviations of each unit
 -- are one, and each offset names a text

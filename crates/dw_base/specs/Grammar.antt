@@ -1,5 +1,5 @@
 -- Sections as pieces, one after another: which bytes fit where, and what comes next. For any grammar.
-use Rattle.std.specs.Prelude.{◌≡◌, ℕ, List, [], ◌∷◌, ◌++◌}
+use Rattle.std.specs.Prelude.{◌≡◌, ℕ, List, [], ◌∷◌, ◌++◌, ⊤}
 
 -- a grammar: the states between pieces, which bytes fit a state, the state after them, and where a section may end
 pub record Grammar : Type 1 where
@@ -27,3 +27,8 @@ Chain g s (x ∷ xs) = (x.state ≡ s) × g.Fits x.state x.bytes × Chain g (g.n
 abbrev pub Leads : (g : Grammar) → g.State → List (Step g.State) → g.State → Type 0
 Leads g s [] t = s ≡ t
 Leads g s (x ∷ xs) t = (x.state ≡ s) × g.Fits x.state x.bytes × Leads g (g.next x.state x.bytes) xs t
+
+-- this holds of each piece
+abbrev pub EachStep : {S : Type 0} → (Step S → Type 0) → List (Step S) → Type 0
+EachStep P [] = ⊤
+EachStep P (x ∷ xs) = P x × EachStep P xs

@@ -21,3 +21,8 @@ pub mod Output
 pub mod First
 pub mod PlainReading
 pub mod PlainFirst
+pub mod Notes
+pub mod Views
+pub mod Meaning
+pub mod Mapped
+pub mod Loaded

@@ -1,11 +1,11 @@
 -- What pieces say of string tables, and what becomes of them when the tables change. The offset in a field
 -- is read and written by words of their own.
-use Rattle.std.specs.Prelude.{Bool, ◌≡◌, ℕ, List, [], ◌∷◌, ◌++◌, length, if◌then◌else◌}
-use Rattle.dw_base.specs.Grammar.{Step, joined}
+use Rattle.std.specs.Prelude.{Bool, ℕ, List, [], ◌∷◌, ◌++◌, length, if◌then◌else◌, IsTrue, ⊤}
+use Rattle.dw_base.specs.Grammar.{Step}
 use Rattle.dw_base.specs.Numbers.{spelled, number_bytes}
 use Rattle.dw_base.specs.Paths.{PathMap}
 use Rattle.dw_base.specs.StringTables.{Mention, Plan, new_place}
-use Rattle.dw_base.specs.Texts.{text_in}
+use Rattle.dw_base.specs.Texts.{text_in, ends_in}
 use Rattle.dw_base.specs.Units.{UnitState, StringTable, in_debug_str, Role, fixed, offset, role_of}
 use Rattle.dw_base.specs.declared.shared.Order.{Order}
 
@@ -72,3 +72,11 @@ edited changes around x = record { state = x.state; bytes = edited_by (role_of x
 abbrev pub edited_all : TableChanges → Around → List (Step UnitState) → List (Step UnitState)
 edited_all changes around [] = []
 edited_all changes around (x ∷ xs) = edited changes around x ∷ edited_all changes around xs
+
+-- an offset of a text names one that ends in its table
+abbrev pub NamesTextBy : Role → Order → List ℕ → List ℕ → Type 0
+NamesTextBy fixed order str p = ⊤
+NamesTextBy (offset in_debug_str path) order str p = IsTrue (ends_in str (offset_of order p))
+
+abbrev pub NamesText : Order → List ℕ → Step UnitState → Type 0
+NamesText order str x = NamesTextBy (role_of x) order str x.bytes

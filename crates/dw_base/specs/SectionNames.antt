@@ -1,5 +1,5 @@
 -- Sections by name (gABI ch. 4 "Special Sections"; DWARF 5, 7.31 appendix B).
-use Rattle.std.specs.Prelude.{Bool, ℕ, ◌+◌, suc, codes, if◌then◌else◌, List, [], ◌∷◌}
+use Rattle.std.specs.Prelude.{ℕ, suc, codes, if◌then◌else◌, List, [], ◌∷◌}
 use Rattle.dw_base.specs.Elf.{section_count, section_name, contents_of}
 use Rattle.dw_base.specs.Lists.{tabulate}
 use Rattle.dw_base.specs.Texts.{is_in, same_text}
@@ -27,6 +27,14 @@ zdebug_prefix = codes ".zdebug_"
 -- the link to a supplementary file
 abbrev pub debug_altlink : List ℕ
 debug_altlink = codes ".gnu_debugaltlink"
+
+-- the link from a stripped file to its debug file
+abbrev pub debug_link : List ℕ
+debug_link = codes ".gnu_debuglink"
+
+-- the note with the build-id
+abbrev pub note_build_id : List ℕ
+note_build_id = codes ".note.gnu.build-id"
 
 -- the names of the sections, in order
 unfoldable pub names_of : List ℕ → List (List ℕ)

@@ -1,6 +1,6 @@
 -- Unit sections as pieces (DWARF 5, 7.5.1 to 7.5.6): a header, then entries, each a code and its values.
 -- Here: 32-bit DWARF of version 4, and the form strp.
-use Rattle.std.specs.Prelude.{Bool, true, false, ◌≡◌, ◌≢◌, ℕ, ◌+◌, ◌-◌, ◌<◌, ◌≤◌, ◌==◌, ◌&&◌, ◌||◌, if◌then◌else◌, List, [], ◌∷◌, ◌++◌, length, Option, Some, None, IsTrue, is_some}
+use Rattle.std.specs.Prelude.{Bool, ◌≡◌, ◌≢◌, ℕ, ◌+◌, ◌-◌, ◌<◌, ◌≤◌, ◌==◌, ◌&&◌, ◌||◌, if◌then◌else◌, List, [], ◌∷◌, length, Option, Some, None, IsTrue, is_some}
 use Rattle.dw_base.specs.Abbreviations.{Abbreviation, AttributeSpec, abbreviations_at, abbreviation_of, leb_value}
 use Rattle.dw_base.specs.Grammar.{Grammar, Step, Chain, joined}
 use Rattle.dw_base.specs.Lebs.{uleb, uleb_within}

@@ -58,3 +58,6 @@ pub const PN_XNUM: u16 = 0xffff;
 
 /// `p_type`: a segment that is loaded.
 pub const PT_LOAD: u32 = 1;
+
+/// The type of the note with the build-id, under the name `GNU`.
+pub const NT_GNU_BUILD_ID: u32 = 3;

@@ -7,15 +7,18 @@ use Rattle.std.specs.declared.alloc.Global.{Global}
 use Rattle.std.specs.declared.vec.Vec.{Vec}
 use Rattle.dw_base.specs.Elf.{section_count, section_name, nth_section, contents_of, contents_at, is_empty_kind, order_of}
 use Rattle.dw_base.specs.ElfFails.{ElfFails, ElfReads}
-use Rattle.dw_base.specs.First.{IsFirst, FirstFails, FirstHeader, FirstTable, FirstSections, FirstNames, FirstUnits, IsOnce, file_limit}
+use Rattle.dw_base.specs.First.{IsFirst, FirstFails, FirstHeader, FirstTable, FirstSections, FirstNames, FirstUnits, IsOnce, file_limit, readings}
 use Rattle.dw_base.specs.First.FirstFails.{unbuilt as not_first}
 use Rattle.dw_base.specs.Layout.{output_limit, with_bodies, fixed_end, is_fixed, part_of}
 use Rattle.dw_base.specs.LayoutFails.{LayoutFails, SectionStays, TooLong}
 use Rattle.dw_base.specs.LayoutFails.LayoutFails.{section, large}
 use Rattle.dw_base.specs.LayoutFails.SectionStays.{changed, across, in_header}
 use Rattle.dw_base.specs.LayoutFails.TooLong.{long}
-use Rattle.dw_base.specs.Output.{IsOutput}
-use Rattle.dw_base.specs.Paths.{PathMap}
+use Rattle.dw_base.specs.LayoutReads.{ReadsBack}
+use Rattle.dw_base.specs.Loaded.{LoadedKept}
+use Rattle.dw_base.specs.Mapped.{MeaningKept}
+use Rattle.dw_base.specs.Output.{IsOutput, new_body}
+use Rattle.dw_base.specs.Paths.{PathMap, IsPathMap}
 use Rattle.dw_base.specs.Refusals.{Blames, at}
 use Rattle.dw_base.specs.declared.fault.Kind.TheVariants as kinds
 use Rattle.dw_base.specs.SectionNames.{debug_info, debug_str}
@@ -33,9 +36,10 @@ use Rattle.dw_rewrite.specs.Refuses.Refuses.{unbuilt}
 use Rattle.dw_rewrite.specs.Rewritten.{AreGiven, Found, UnitsFound, PlacesFound, info_found, str_found, body_with, body_found, Unwritten, as_unbuilt_fault}
 use Rattle.dw_rewrite.specs.Rewritten.Unwritten.{unbuilt as unwritten}
 use Rattle.dw_rewrite.specs.declared.judge.Sections.{Sections}
-use Rattle.dw_rewrite.proofs.JudgeLaws.{section_called-once}
-use Rattle.dw_rewrite.proofs.RewriteLaws.{is_first, is_output, too_long_file, refused_units_found, refused_written, stays_same, full_kind, paths_found}
-use Rattle.dw_base.proofs.ReadsBackLaws.{with_bodies-same}
+use Rattle.dw_base.proofs.SectionLaws.{section_called-once, length-contents}
+use Rattle.dw_rewrite.proofs.RewriteLaws.{is_first, is_output, bodies_of_units, too_long_file, refused_units_found, refused_written, stays_same, full_kind, paths_found}
+use Rattle.dw_base.proofs.ReadsBackLaws.{with_bodies-same, reads_back-same}
+use Rattle.dw_base.proofs.MeaningKeptLaws.{first-meaning, first-loaded}
 use Rattle.dw_rewrite.proofs.WrittenLaws.{length-moved}
 
 -- a file that can't be read as ELF is refused for its sections
@@ -103,6 +107,13 @@ pub written_file : (b : List ℕ) (now items : List (Option (Vec ℕ Global))) (
 written_file b now items count s info str out same g is =
     is ∙ ap (λ (l : List (Option (Vec ℕ Global))). with_bodies b (body_given b l)) same ∙ with_bodies-same b (body_given b items) (body_with b s info str) (λ (i : ℕ) (lt : i < section_count b). given_same b items count s info str i g)
 
+-- and reads back
+pub written_back : (b : List ℕ) (now items : List (Option (Vec ℕ Global))) (count : ℕ) (s : Sections) (info str out : List ℕ) → ElfReads b → now ≡ items
+    → AreGiven items count s info str → ReadsBack b (body_given b now) out → ReadsBack b (body_with b s info str) out
+written_back b now items count s info str out reads same g back =
+    reads_back-same b out (body_given b items) (body_with b s info str) (λ (i : ℕ) (lt : i < section_count b). given_same b items count s info str i g)
+    reads.debug.index.there (subst (λ (l : List (Option (Vec ℕ Global))). ReadsBack b (body_given b l) out) same back)
+
 pub written_small : (b : List ℕ) (items : List (Option (Vec ℕ Global))) (out : List ℕ) → out ≡ with_bodies b (body_given b items)
     → ((r : Refusal) → LayoutFails b (body_given b items) r → ⊥) → length out ≤ output_limit
 written_small b items out is none = elim (cases_lt output_limit (length out)) [
@@ -135,17 +146,7 @@ apart b s f same =
     differ : (n : ℕ) → n ≡ 11 → n ≡ 10 → ⊥
     differ n eleven ten = omega arith
 
--- the bytes of a section are no more than those of the file
-length-contents : (b : List ℕ) (i : ℕ) → length (contents_of b i) ≤ length b
-unfolding contents_of contents_at
-length-contents b i = by_kind (is_empty_kind (nth_section b i))
-  where
-    by_kind : (e : Bool) → length (cond e [] (take (nth_section b i).size (drop (nth_section b i).offset b))) ≤ length b
-    by_kind true = omega arith
-    by_kind false =
-        let rest : ℕ = length (drop (nth_section b i).offset b) in
-        omega (arith, length-take (nth_section b i).size (drop (nth_section b i).offset b), length-drop (nth_section b i).offset b)
-
+-- the bytes of a section are no more than the limit
 pub small_contents : (b : List ℕ) (i : ℕ) → FirstHeader b → length (contents_of b i) ≤ output_limit
 small_contents b i h = omega (arith, length-contents b i, h.small)
 
@@ -207,6 +208,31 @@ pub found_output : (m : PathMap) (b : List ℕ) (s : Sections) (places info str 
 found_output m b s places info str out f p info_is str_is is =
     is_output m b s places out f p (is ∙ bodies_are m b s places info str info_is str_is)
 
+-- the written file has the bodies of its output, so its meaning is kept, and what is loaded of it
+back_found : (m : PathMap) (b : List ℕ) (s : Sections) (places info str out : List ℕ) → Found b s → PlacesFound b s places
+    → info ≡ info_found m b s places → str ≡ str_found m b s places → (f : IsFirst m b)
+    → ReadsBack b (body_with b s info str) out → ReadsBack b (new_body m b (readings f.units.pieces)) out
+back_found m b s places info str out found p info_is str_is f back =
+    reads_back-same b out (body_with b s info str) (new_body m b (readings f.units.pieces))
+    (λ (i : ℕ) (lt : i < section_count b).
+    ap (λ (x : List ℕ). body_with b s x str i) info_is ∙ ap (λ (x : List ℕ). body_with b s (info_found m b s places) x i) str_is
+    ∙ sym (bodies_of_units m b s places i found.sections p f.units))
+    found.reads.debug.index.there back
+
+pub found_meaning : (m : PathMap) (b : List ℕ) (s : Sections) (places info str out : List ℕ) → IsPathMap m → Found b s → PlacesFound b s places
+    → info ≡ info_found m b s places → str ≡ str_found m b s places
+    → out ≡ with_bodies b (body_with b s info str) → length out ≤ output_limit → ReadsBack b (body_with b s info str) out → MeaningKept m b out
+found_meaning m b s places info str out map f p info_is str_is is small back =
+    let first : IsFirst m b = found_first m b s places info str out f p info_is str_is is small in
+    first-meaning m b out map first (back_found m b s places info str out f p info_is str_is first back) small
+
+pub found_loaded : (m : PathMap) (b : List ℕ) (s : Sections) (places info str out : List ℕ) → Found b s → PlacesFound b s places
+    → info ≡ info_found m b s places → str ≡ str_found m b s places
+    → out ≡ with_bodies b (body_with b s info str) → length out ≤ output_limit → ReadsBack b (body_with b s info str) out → LoadedKept b out
+found_loaded m b s places info str out f p info_is str_is is small back =
+    let first : IsFirst m b = found_first m b s places info str out f p info_is str_is is small in
+    first-loaded m b out first (back_found m b s places info str out f p info_is str_is first back)
+
 pub found_refused : (m : PathMap) (b : List ℕ) (s : Sections) (places info str : List ℕ) (f : Fault) → Found b s → PlacesFound b s places
     → info ≡ info_found m b s places → str ≡ str_found m b s places
     → Blames (Unwritten b (body_with b s info str)) f → Blames (FirstFails m b) f
@@ -219,8 +245,8 @@ found_refused m b s places info str f found p info_is str_is h =
 pub one_output : (m : PathMap) (b out : List ℕ) → IsOutput m b out → (o : List ℕ) → IsOutput m b o → o ≡ out
 one_output m b out is o other = output-complete m b o other ∙ sym (output-complete m b out is)
 
-pub ruleset found_rules = (refused_units_found, changed_paths, small_contents, refused_changed, one_output, found_first, found_output, found_refused)
+pub ruleset found_rules = (refused_units_found, changed_paths, small_contents, refused_changed, one_output, found_first, found_output, found_meaning, found_loaded, found_refused)
 
-pub ruleset written_rules = (apart, given_contents, refused_layout, written_file, written_small)
+pub ruleset written_rules = (apart, given_contents, refused_layout, written_file, written_back, written_small)
 
 pub ruleset rewrite_rules = (refused_headers, refused_sections, refused_names)

@@ -1,7 +1,8 @@
 -- The grammar of the units of First files: unit sections in which each unit is one entry as First files have it.
 use Rattle.std.proofs.Common.{◌≡◌, ℕ, ◌+◌, List, [], ◌∷◌, ◌++◌, length}
-use Rattle.dw_base.specs.First.{EachStep, OneEntry, OneEntryBy, OneAbbreviation, OneAbbreviationBy, NamesText, NamesTextBy}
-use Rattle.dw_base.specs.Grammar.{Grammar, Step, Chain, joined}
+use Rattle.dw_base.specs.First.{OneEntry, OneEntryBy, OneAbbreviation, OneAbbreviationBy}
+use Rattle.dw_base.specs.Mentions.{NamesText, NamesTextBy}
+use Rattle.dw_base.specs.Grammar.{Grammar, Step, Chain, joined, EachStep}
 use Rattle.dw_base.specs.Units.{UnitState, FitsMode, past, role_of_mode, role_of, EndsSection, unit_grammar}
 use Rattle.dw_base.specs.declared.shared.Order.{Order}
 use Rattle.dw_base.proofs.GrammarLaws.{ReadsOneWay}

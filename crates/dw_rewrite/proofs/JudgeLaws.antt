@@ -14,6 +14,8 @@ use Rattle.dw_base.specs.declared.elf_numbers.TheConstants.{SHT_PROGBITS}
 use Rattle.dw_base.specs.declared.shared.Class.TheVariants.{C64}
 use Rattle.dw_base.specs.declared.shared.Order.TheVariants.{Little}
 use Rattle.dw_base.proofs.ListLaws.{get_or-tabulate, length-tabulate}
+use Rattle.dw_base.proofs.SectionLaws.{same_text-other, section_called-once}
+use Rattle.dw_base.proofs.SectionLaws.{section_called-only as first_called}
 use Rattle.dw_base.proofs.TextLaws.{same_text-from, same_text-true}
 use Rattle.dw_rewrite.specs.Judged.{AllFit, AreFirst, FirstIdent, IsOnly, IsPlaced, NextCalled, NoneCalled, SectionFits}
 use Rattle.dw_rewrite.specs.declared.judge.Sections.{Sections}
@@ -179,56 +181,9 @@ once-only b name ok = record { within = ok.within; named = ok.named; kind = ok.k
 pub only-once : (b name : List ℕ) (i : ℕ) → IsOnly b name i → IsOnce b name
 only-once b name i ok = record { index = i; within = ok.within; named = ok.named; kind = ok.kind; only = ok.only }
 
--- two texts are not the same
-same_text-other : (t u : List ℕ) → t ≢ u → same_text t u ≡ false
-same_text-other t u other = false_from_ne_true (same_text t u) (λ e. other (same_text-true t u e))
-
--- the first of a list that is this text
-index_in-found : (us : List (List ℕ)) (i : ℕ) (t d : List ℕ) → i < length us → get_or us i d ≡ t → ((k : ℕ) → k < i → get_or us k d ≢ t)
-    → index_in us t ≡ i
-index_in-found [] i t d lt e none = absurd (omega arith)
-index_in-found (u ∷ us) zero t d lt e none = rw (same_text-from u t e) refl
-index_in-found (u ∷ us) (suc i) t d lt e none =
-    rw (same_text-other u t (none 0 (omega arith)), index_in-found us i t d (omega arith) e (λ k below. none (suc k) (omega arith))) refl
-
-is_in-found : (us : List (List ℕ)) (i : ℕ) (t d : List ℕ) → i < length us → get_or us i d ≡ t → is_in us t ≡ true
-is_in-found [] i t d lt e = absurd (omega arith)
-is_in-found (u ∷ us) zero t d lt e = rw (same_text-from u t e) refl
-is_in-found (u ∷ us) (suc i) t d lt e = in_rest (same_text u t) (is_in us t) (is_in-found us i t d (omega arith) e)
-  where
-    in_rest : (here rest : Bool) → rest ≡ true → cond here true rest ≡ true
-    in_rest true rest h = refl
-    in_rest false rest h = h
-
--- the names, by number
-length-names_of : (b : List ℕ) → length (names_of b) ≡ section_count b
-unfolding names_of
-length-names_of b = length-tabulate (section_name b) (section_count b)
-
-get_or-names_of : (b : List ℕ) (i : ℕ) → i < section_count b → get_or (names_of b) i [] ≡ section_name b i
-unfolding names_of
-get_or-names_of b i lt = get_or-tabulate (section_name b) (section_count b) i [] lt
-
 -- its number is that of the first section of its name
 pub section_called-only : (b name : List ℕ) (i : ℕ) → IsOnly b name i → i ≡ section_called b name
-unfolding section_called
-section_called-only b name i ok =
-    let within = ok.within in
-    sym (index_in-found (names_of b) i name [] (omega (arith, length-names_of b)) (get_or-names_of b i within ∙ ok.named)
-    (λ k below e.
-    let lt : k < section_count b = omega arith in
-    let same : k ≡ i = ok.only k lt (sym (get_or-names_of b k lt) ∙ e) in
-    omega arith))
-
-pub section_called-once : (b name : List ℕ) (ok : IsOnce b name) → ok.index ≡ section_called b name
-section_called-once b name ok = section_called-only b name ok.index (once-only b name ok)
-
--- its bytes are those of the first section of its name
-pub contents_called-once : (b name : List ℕ) → IsOnce b name → contents_called b name ≡ contents_of b (section_called b name)
-unfolding contents_called
-contents_called-once b name ok =
-    let within = ok.within in
-    rw (is_in-found (names_of b) ok.index name [] (omega (arith, length-names_of b)) (get_or-names_of b ok.index within ∙ ok.named)) refl
+section_called-only b name i ok = first_called b name i ok.within ok.named ok.only
 
 -- Sections that fit.
 pub fits-first : (b : List ℕ) → FirstSections b → FirstNames b → AllFit b

@@ -2,9 +2,9 @@
 use Rattle.std.proofs.Common.{Bool, true, false, ◌≡◌, ℕ, zero, suc, ◌+◌, ◌-◌, ◌<◌, ◌≤◌, List, [], ◌∷◌, ◌++◌, length, get_or, drop, IsTrue, sym, ap, ◌∙◌, refl, subst, arith}
 use Rattle.std.proofs.lemmas.List.{length-append, length-drop}
 use Rattle.dw_base.specs.Elf.{order_of}
-use Rattle.dw_base.specs.First.{EachStep, NamesText, NamesTextBy, FirstUnits, readings}
-use Rattle.dw_base.specs.Grammar.{Step, joined}
-use Rattle.dw_base.specs.Mentions.{Around, TableChange, offset_of}
+use Rattle.dw_base.specs.First.{FirstUnits, readings}
+use Rattle.dw_base.specs.Grammar.{Step, joined, EachStep}
+use Rattle.dw_base.specs.Mentions.{Around, TableChange, offset_of, NamesText, NamesTextBy}
 use Rattle.dw_base.specs.Numbers.{spelled}
 use Rattle.dw_base.specs.Output.{around_of, str_change, changes_of, new_info, new_str}
 use Rattle.dw_base.specs.Paths.{PathMap}

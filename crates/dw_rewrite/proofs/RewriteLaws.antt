@@ -28,8 +28,7 @@ use Rattle.dw_base.specs.declared.fault.Fault.TheVariants.{NoMemory, Refused}
 use Rattle.dw_base.specs.declared.fault.Refusal.{Refusal}
 use Rattle.dw_base.specs.declared.records.Section.{Section}
 use Rattle.dw_base.specs.declared.shared.Order.{Order}
-use Rattle.dw_base.proofs.GrammarLaws.{chain-unique}
-use Rattle.dw_base.proofs.UnitLaws.{units_one_way}
+use Rattle.dw_base.proofs.MeaningOneLaws.{reads-unique}
 use Rattle.dw_base.proofs.ElfLaws.{elf_excludes}
 use Rattle.dw_base.specs.declared.shared.Class.TheVariants.{C64}
 use Rattle.dw_base.proofs.PlainFixedPart.{first_fixed}
@@ -42,7 +41,7 @@ use Rattle.dw_rewrite.specs.Refuses.Refuses.{unbuilt}
 use Rattle.dw_rewrite.specs.Rewritten.{Found, UnitsFound, PlacesFound, info_found, str_found, body_with, body_found, Unwritten, as_unbuilt_fault}
 use Rattle.dw_rewrite.specs.Rewritten.Unwritten.{unbuilt as unwritten}
 use Rattle.dw_rewrite.specs.declared.judge.Sections.{Sections}
-use Rattle.dw_rewrite.proofs.JudgeLaws.{section_called-once, contents_called-once}
+use Rattle.dw_base.proofs.SectionLaws.{section_called-once, contents_called-once}
 use Rattle.dw_rewrite.proofs.PathLaws.{new_str_is, new_info_is, read_paths}
 use Rattle.dw_base.proofs.ReadsBackLaws.{with_bodies-same}
 use Rattle.dw_rewrite.proofs.WrittenLaws.{length-moved}
@@ -71,11 +70,6 @@ units_by_number b s f u =
     subst (λ (i : List ℕ). FirstUnits (order_of b) i (contents_of b s.«abbrev») (contents_of b s.str)) (sym (info_contents b s f))
     (subst (λ (a : List ℕ). FirstUnits (order_of b) (contents_called b debug_info) a (contents_of b s.str)) (sym (abbrev_contents b s f))
     (subst (λ (str : List ℕ). FirstUnits (order_of b) (contents_called b debug_info) (contents_called b debug_abbrev) str) (sym (str_contents b s f)) u))
-
--- a unit section is pieces in one way
-reads_unique : (order : Order) (info abbrevs : List ℕ) (xs ys : List (Step UnitState)) → Reads order info abbrevs 0 xs → Reads order info abbrevs 0 ys → xs ≡ ys
-reads_unique order info abbrevs xs ys r t =
-    chain-unique (unit_grammar order abbrevs) (units_one_way order abbrevs) (before_unit (length info) 0 0) xs ys r.chain t.chain (r.bytes ∙ sym t.bytes)
 
 -- the pieces that were read, as pieces of the sections of these names
 record Pieces (b : List ℕ) (s : Sections) (places : List ℕ) : Type 0 where
@@ -106,15 +100,22 @@ str_same m b s places f p =
     ∙ ap (λ (t : List ℕ). str_after m (order_of b) (contents_of b s.info) t (path_places p.xs)) (sym (str_contents b s f))
     ∙ ap (str_after m (order_of b) (contents_of b s.info) (contents_of b s.str)) p.places_are
 
--- so the output is the file written with them
-output_same : (m : PathMap) (b : List ℕ) (s : Sections) (places : List ℕ) → AreFirst b s → (p : Pieces b s places)
-    → output_of m b (readings p.xs) ≡ with_bodies b (body_found m b s places)
-unfolding output_of new_body
-output_same m b s places f p = with_bodies-same b (new_body m b (readings p.xs)) (body_found m b s places) (λ (i : ℕ) (lt : i < section_count b).
+-- so the new bodies are those of the sections that were found
+bodies_same : (m : PathMap) (b : List ℕ) (s : Sections) (places : List ℕ) (i : ℕ) → AreFirst b s → (p : Pieces b s places)
+    → new_body m b (readings p.xs) i ≡ body_found m b s places i
+unfolding new_body
+bodies_same m b s places i f p =
     ap (λ (n : ℕ). cond (i == n) (new_info m b (readings p.xs)) (cond (i == section_called b debug_str) (new_str m b (readings p.xs)) (contents_of b i))) (sym f.info_is)
     ∙ ap (λ (n : ℕ). cond (i == s.info) (new_info m b (readings p.xs)) (cond (i == n) (new_str m b (readings p.xs)) (contents_of b i))) (sym f.str_is)
     ∙ ap (λ (x : List ℕ). cond (i == s.info) x (cond (i == s.str) (new_str m b (readings p.xs)) (contents_of b i))) (info_same m b s places f p)
-    ∙ ap (λ (x : List ℕ). cond (i == s.info) (info_found m b s places) (cond (i == s.str) x (contents_of b i))) (str_same m b s places f p))
+    ∙ ap (λ (x : List ℕ). cond (i == s.info) (info_found m b s places) (cond (i == s.str) x (contents_of b i))) (str_same m b s places f p)
+
+-- and the output is the file written with them
+output_same : (m : PathMap) (b : List ℕ) (s : Sections) (places : List ℕ) → AreFirst b s → (p : Pieces b s places)
+    → output_of m b (readings p.xs) ≡ with_bodies b (body_found m b s places)
+unfolding output_of
+output_same m b s places f p =
+    with_bodies-same b (new_body m b (readings p.xs)) (body_found m b s places) (λ (i : ℕ) (lt : i < section_count b). bodies_same m b s places i f p)
 
 -- the output of any reading of the units is that file
 output_of_units : (m : PathMap) (b : List ℕ) (s : Sections) (places : List ℕ) → AreFirst b s → PlacesFound b s places
@@ -122,8 +123,17 @@ output_of_units : (m : PathMap) (b : List ℕ) (s : Sections) (places : List ℕ
     → output_of m b (readings u.pieces) ≡ with_bodies b (body_found m b s places)
 output_of_units m b s places f r u =
     let p : Pieces b s places = pieces_named b s places f r in
-    let same : u.pieces ≡ p.xs = reads_unique (order_of b) (contents_called b debug_info) (contents_called b debug_abbrev) u.pieces p.xs u.units p.reads in
+    let same : u.pieces ≡ p.xs = reads-unique (order_of b) (contents_called b debug_info) (contents_called b debug_abbrev) 0 u.pieces p.xs u.units p.reads in
     ap (λ (xs : List (Step UnitState)). output_of m b (readings xs)) same ∙ output_same m b s places f p
+
+-- and its bodies are those
+pub bodies_of_units : (m : PathMap) (b : List ℕ) (s : Sections) (places : List ℕ) (i : ℕ) → AreFirst b s → PlacesFound b s places
+    → (u : FirstUnits (order_of b) (contents_called b debug_info) (contents_called b debug_abbrev) (contents_called b debug_str))
+    → new_body m b (readings u.pieces) i ≡ body_found m b s places i
+bodies_of_units m b s places i f r u =
+    let p : Pieces b s places = pieces_named b s places f r in
+    let same : u.pieces ≡ p.xs = reads-unique (order_of b) (contents_called b debug_info) (contents_called b debug_abbrev) 0 u.pieces p.xs u.units p.reads in
+    ap (λ (xs : List (Step UnitState)). new_body m b (readings xs) i) same ∙ bodies_same m b s places i f p
 
 -- a file that can be written is First
 pub is_first : (m : PathMap) (b : List ℕ) (s : Sections) (places : List ℕ) → Found b s → PlacesFound b s places

@@ -3,7 +3,8 @@ use Rattle.std.proofs.Common.{Bool, true, false, ◌≡◌, ◌≢◌, ℕ, zero
 use Rattle.std.proofs.lemmas.List.{length-append, length-drop, drop-drop}
 use Rattle.std.proofs.lemmas.Bool.Decides.{nat_tests}
 use Rattle.dw_base.specs.Abbreviations.{Abbreviation, abbreviations_at, abbreviation_of, leb_value, read_value}
-use Rattle.dw_base.specs.First.{first_table, OneEntryBy, OneAbbreviationBy, NamesTextBy}
+use Rattle.dw_base.specs.First.{first_table, OneEntryBy, OneAbbreviationBy}
+use Rattle.dw_base.specs.Mentions.{NamesTextBy}
 use Rattle.dw_base.specs.Grammar.{Grammar, Step, Chain, Leads, joined}
 use Rattle.dw_base.specs.Lebs.{uleb, uleb_within}
 use Rattle.dw_base.specs.Numbers.{spelled}

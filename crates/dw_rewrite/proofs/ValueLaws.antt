@@ -3,9 +3,8 @@ use Rattle.std.proofs.Common.{Bool, true, false, ◌≡◌, ◌≢◌, ℕ, zero
 use Rattle.std.proofs.Math.Seq.{take-add, take-append_seam, drop-append_seam}
 use Rattle.std.proofs.lemmas.List.{length-take, length-drop, take-append-drop, drop-drop}
 use Rattle.std.proofs.lemmas.Bool.Decides.{nat_tests}
-use Rattle.dw_base.specs.First.{NamesTextBy}
 use Rattle.dw_base.specs.Grammar.{Grammar, Step, Chain, Leads, joined}
-use Rattle.dw_base.specs.Mentions.{offset_of}
+use Rattle.dw_base.specs.Mentions.{offset_of, NamesTextBy}
 use Rattle.dw_base.specs.Numbers.{spelled}
 use Rattle.dw_base.specs.Texts.{ends_in}
 use Rattle.dw_base.specs.Units.{UnitState, Mode, header, code, values, between, inside, in_unit, before_unit, kind_in, offset_size, is_path, role_of, role_of_mode, past, FitsMode, EndsSection}

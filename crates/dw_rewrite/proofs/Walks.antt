@@ -2,8 +2,9 @@
 use Rattle.std.proofs.Common.{Bool, true, false, ◌≡◌, ℕ, ◌+◌, ◌-◌, ◌<◌, ◌≤◌, List, [], ◌∷◌, ◌++◌, length, take, drop, sym, ap, ◌∙◌, refl, subst, arith, append_assoc}
 use Rattle.std.proofs.Math.Seq.{take-add, take-length}
 use Rattle.std.proofs.lemmas.List.{take-append-drop}
-use Rattle.dw_base.specs.First.{FirstUnits, EachStep, OneEntry, OneAbbreviation, NamesText}
-use Rattle.dw_base.specs.Grammar.{Grammar, Step, Chain, Leads, joined}
+use Rattle.dw_base.specs.First.{FirstUnits, OneEntry, OneAbbreviation}
+use Rattle.dw_base.specs.Mentions.{NamesText}
+use Rattle.dw_base.specs.Grammar.{Grammar, Step, Chain, Leads, joined, EachStep}
 use Rattle.dw_base.specs.Refusals.{Blames}
 use Rattle.dw_base.specs.Units.{UnitState, before_unit, Reads, role_of}
 use Rattle.dw_base.specs.declared.shared.Order.{Order}

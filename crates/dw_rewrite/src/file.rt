@@ -4,6 +4,9 @@ ghost use Rattle.std.specs.Prelude.{◌≡◌, ◌≢◌, ◌<◌, ◌≤◌, �
 ghost use Rattle.dw_base.specs.ElfFails.{ElfReads};
 ghost use Rattle.dw_base.specs.First.{FirstFails, FirstSections, IsFirst};
 ghost use Rattle.dw_base.specs.Layout.{output_limit, with_bodies};
+ghost use Rattle.dw_base.specs.LayoutReads.{ReadsBack};
+ghost use Rattle.dw_base.specs.Loaded.{LoadedKept};
+ghost use Rattle.dw_base.specs.Mapped.{MeaningKept};
 ghost use Rattle.dw_base.specs.Output.{IsOutput};
 ghost use Rattle.dw_base.specs.Refusals.{Blames};
 ghost use Rattle.dw_rewrite.specs.Judged.{FirstHeaders};
@@ -29,6 +32,10 @@ pub fn rewrite(alloc: Global, bytes: &[u8], maps: &Maps) -> Result<Vec<u8>, Faul
     ensures first { OnOk result (IsFirst maps.now bytes.now) }
     ensures output { IfOk result (λ out. IsOutput maps.now bytes.now out.items) }
     ensures only { IfOk result (λ out. (o : List ℕ) → IsOutput maps.now bytes.now o → o ≡ out.items) }
+
+    // What it means is what the file means, with each source path mapped, and what is loaded of it is as it was.
+    ensures meaning { IfOk result (λ out. MeaningKept maps.now bytes.now out.items) }
+    ensures loaded { IfOk result (λ out. LoadedKept bytes.now out.items) }
     ensures refused { IfErr result (Blames (FirstFails maps.now bytes.now)) }
 {
     if !has_first_header(bytes) {
@@ -78,8 +85,12 @@ fn rewrite_found(
     ensures first { OnOk result (IsFirst maps.now elf.now.bytes.now) }
     ensures output { IfOk result (λ out. IsOutput maps.now elf.now.bytes.now out.items) }
     ensures only { IfOk result (λ out. (o : List ℕ) → IsOutput maps.now elf.now.bytes.now o → o ≡ out.items) }
+    ensures meaning { IfOk result (λ out. MeaningKept maps.now elf.now.bytes.now out.items) }
+    ensures loaded { IfOk result (λ out. LoadedKept elf.now.bytes.now out.items) }
     ensures refused { IfErr result (Blames (FirstFails maps.now elf.now.bytes.now)) }
 {
+    // What a map obeys is known where one of its fields is used: no text that it makes has a NUL.
+    let _ = &maps.base;
     let info = elf.contents(sections.info);
     let str = elf.contents(sections.str);
     let places = found_places(alloc, elf, sections)?;
@@ -110,6 +121,7 @@ fn written(
 ) -> Result<Vec<u8>, Fault>
     requires found { Found elf.now.bytes.now sections }
     ensures file { IfOk result (λ out. out.items ≡ with_bodies elf.now.bytes.now (body_with elf.now.bytes.now sections new.info.items new.str.items)) }
+    ensures back { IfOk result (λ out. ReadsBack elf.now.bytes.now (body_with elf.now.bytes.now sections new.info.items new.str.items) out.items) }
     ensures small { IfOk result (λ out. length out.items ≤ output_limit) }
     ensures refused { IfErr result (Blames (Unwritten elf.now.bytes.now (body_with elf.now.bytes.now sections new.info.items new.str.items))) }
 {

@@ -1,4 +1,4 @@
-use Rattle.dw_rewrite.proofs.ExitLaws.{given_contents, refused_layout, written_file}
+use Rattle.dw_rewrite.proofs.ExitLaws.{given_contents, refused_layout, written_back, written_file}
 use Rattle.dw_rewrite.proofs.file.written.Goals as goal
 
 -- src/file.rt:107:11
@@ -15,3 +15,7 @@ returns-in-Ok-clause-file c =
 pub returns-clause-refused : goal.returns-clause-refused
 returns-clause-refused c =
     rw c.as_unbuilt.ensures (refused_layout _ _ _ _ _ _ _ c.in-Err.fault c.deref.ensures.value c.in_ok-contents.ensures c.in-Err.ensures.refused)
+
+pub returns-in-Ok-clause-back : goal.returns-in-Ok-clause-back
+returns-in-Ok-clause-back c =
+    written_back _ _ _ _ _ _ _ _ c.requires.found.reads c.deref.ensures.value c.in_ok-contents.ensures c.in-Ok.ensures.reads_back

@@ -1,0 +1,72 @@
+-- Laws of sections by name: the one section of a name is the first of it, and has its bytes.
+use Rattle.std.proofs.Common.{◌≡◌, ◌≢◌, ℕ, zero, suc, ◌<◌, ◌≤◌, Bool, true, false, cond, List, [], ◌∷◌, length, get_or, take, drop, refl, sym, ◌∙◌, arith}
+use Rattle.std.proofs.lemmas.Bool.{false_from_ne_true}
+use Rattle.std.proofs.lemmas.List.{length-take, length-drop}
+use Rattle.dw_base.specs.Elf.{contents_of, contents_at, is_empty_kind, nth_section, section_count, section_name}
+use Rattle.dw_base.specs.First.{IsOnce}
+use Rattle.dw_base.specs.SectionNames.{contents_called, index_in, names_of, section_called}
+use Rattle.dw_base.specs.Texts.{is_in, same_text}
+use Rattle.dw_base.proofs.ListLaws.{get_or-tabulate, length-tabulate}
+use Rattle.dw_base.proofs.TextLaws.{same_text-from, same_text-true}
+
+-- two texts are not the same
+pub same_text-other : (t u : List ℕ) → t ≢ u → same_text t u ≡ false
+same_text-other t u other = false_from_ne_true (same_text t u) (λ e. other (same_text-true t u e))
+
+-- the first of a list that is this text
+pub index_in-found : (us : List (List ℕ)) (i : ℕ) (t d : List ℕ) → i < length us → get_or us i d ≡ t → ((k : ℕ) → k < i → get_or us k d ≢ t)
+    → index_in us t ≡ i
+index_in-found [] i t d lt e none = absurd (omega arith)
+index_in-found (u ∷ us) zero t d lt e none = rw (same_text-from u t e) refl
+index_in-found (u ∷ us) (suc i) t d lt e none =
+    rw (same_text-other u t (none 0 (omega arith)), index_in-found us i t d (omega arith) e (λ k below. none (suc k) (omega arith))) refl
+
+is_in-found : (us : List (List ℕ)) (i : ℕ) (t d : List ℕ) → i < length us → get_or us i d ≡ t → is_in us t ≡ true
+is_in-found [] i t d lt e = absurd (omega arith)
+is_in-found (u ∷ us) zero t d lt e = rw (same_text-from u t e) refl
+is_in-found (u ∷ us) (suc i) t d lt e = in_rest (same_text u t) (is_in us t) (is_in-found us i t d (omega arith) e)
+  where
+    in_rest : (here rest : Bool) → rest ≡ true → cond here true rest ≡ true
+    in_rest true rest h = refl
+    in_rest false rest h = h
+
+-- the names, by number
+length-names_of : (b : List ℕ) → length (names_of b) ≡ section_count b
+unfolding names_of
+length-names_of b = length-tabulate (section_name b) (section_count b)
+
+get_or-names_of : (b : List ℕ) (i : ℕ) → i < section_count b → get_or (names_of b) i [] ≡ section_name b i
+unfolding names_of
+get_or-names_of b i lt = get_or-tabulate (section_name b) (section_count b) i [] lt
+
+-- its number is that of the first section of its name
+pub section_called-only : (b name : List ℕ) (i : ℕ) → i < section_count b → section_name b i ≡ name
+    → ((k : ℕ) → k < section_count b → section_name b k ≡ name → k ≡ i) → i ≡ section_called b name
+unfolding section_called
+section_called-only b name i within named only =
+    sym (index_in-found (names_of b) i name [] (omega (arith, length-names_of b)) (get_or-names_of b i within ∙ named)
+    (λ k below e.
+    let lt : k < section_count b = omega arith in
+    let same : k ≡ i = only k lt (sym (get_or-names_of b k lt) ∙ e) in
+    omega arith))
+
+pub section_called-once : (b name : List ℕ) (ok : IsOnce b name) → ok.index ≡ section_called b name
+section_called-once b name ok = section_called-only b name ok.index ok.within ok.named ok.only
+
+-- its bytes are those of the first section of its name
+pub contents_called-once : (b name : List ℕ) → IsOnce b name → contents_called b name ≡ contents_of b (section_called b name)
+unfolding contents_called
+contents_called-once b name ok =
+    let within = ok.within in
+    rw (is_in-found (names_of b) ok.index name [] (omega (arith, length-names_of b)) (get_or-names_of b ok.index within ∙ ok.named)) refl
+
+-- the bytes of a section are no more than those of the file
+pub length-contents : (b : List ℕ) (i : ℕ) → length (contents_of b i) ≤ length b
+unfolding contents_of contents_at
+length-contents b i = by_kind (is_empty_kind (nth_section b i))
+  where
+    by_kind : (e : Bool) → length (cond e [] (take (nth_section b i).size (drop (nth_section b i).offset b))) ≤ length b
+    by_kind true = omega arith
+    by_kind false =
+        let rest : ℕ = length (drop (nth_section b i).offset b) in
+        omega (arith, length-take (nth_section b i).size (drop (nth_section b i).offset b), length-drop (nth_section b i).offset b)
