@@ -37,3 +37,9 @@ pub mod WrittenLaws
 pub mod WrittenSections
 pub mod PartsLaws
 pub mod PartsReadLaws
+pub mod EditLaws
+pub mod PlainEditLaws
+pub mod WorkedEdits
+pub mod WorkedEditRows
+pub mod ElfReadsLaws
+pub mod EditReadsLaws

@@ -43,7 +43,7 @@ power-sound (suc k) n h =
       | inr below ↦ power-sound k n below
     ]
 
-align-sound : (n : ℕ) → is_plain_alignment n ≡ true → is_alignment n ≡ true
+pub align-sound : (n : ℕ) → is_plain_alignment n ≡ true → is_alignment n ≡ true
 align-sound n h =
     elim (or_cases (n == 0) (is_power_below 64 n || (nat_le (2 ^ 64) n && is_power_of_two n)) h) [
       | inl none ↦ or_left (n == 0) (is_power_of_two n) none
@@ -89,7 +89,7 @@ named-sound : (b : List ℕ) (s : Section) → is_named b s ≡ true → FirstNa
 named-sound b s h = let t = passes-true (named_rules b s) h in record { align = align-sound s.align t.0; name = t.1.0 }
 
 -- one of two holds, and not the first
-other-true : (x y : Bool) → (x || y) ≡ true → x ≡ false → y ≡ true
+pub other-true : (x y : Bool) → (x || y) ≡ true → x ≡ false → y ≡ true
 other-true true y h e = absurd (true≢false e)
 other-true false y h e = h
 

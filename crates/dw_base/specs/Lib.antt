@@ -19,5 +19,8 @@ pub mod Mentions
 pub mod SectionNames
 pub mod Output
 pub mod First
+pub mod EntryUnits
+pub mod EditFails
 pub mod PlainReading
 pub mod PlainFirst
+pub mod PlainEdit
