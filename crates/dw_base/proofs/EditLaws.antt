@@ -4,10 +4,11 @@ use Rattle.std.proofs.lemmas.Bool.{true≢false}
 use Rattle.std.proofs.lemmas.Slice.Eq.{bytes_eq-Decides}
 use Rattle.std.specs.Str.{bytes_eq}
 use Rattle.dw_base.specs.Elf.{e_type, order_of, contents_of, section_count}
-use Rattle.dw_base.specs.EditFails.{StandsWrong, NamesFail, NamesRead, UnitsOf, EditFails, IsAccepted}
+use Rattle.dw_base.specs.EditFails.{StandsWrong, NamesFail, NamesRead, UnitsOf, FileFails, EditFails, IsAccepted}
 use Rattle.dw_base.specs.EditFails.StandsWrong.{loaded, across as stands_across, in_header as stands_in_header}
 use Rattle.dw_base.specs.EditFails.NamesFail.{other, twice, compressed, names}
-use Rattle.dw_base.specs.EditFails.EditFails.{elf, file_type, placed, relocatable, named, units, output}
+use Rattle.dw_base.specs.EditFails.FileFails.{elf, file_type, placed, relocatable, named, units}
+use Rattle.dw_base.specs.EditFails.EditFails.{file, output}
 use Rattle.dw_base.specs.First.{readings}
 use Rattle.dw_base.specs.Grammar.{Step}
 use Rattle.dw_base.specs.Layout.{is_loaded_kind, output_limit, with_bodies}
@@ -71,14 +72,17 @@ stands_excludes m b i r ok lt (loaded h) = ok.unloaded i lt h
 stands_excludes m b i r ok lt (stands_across h) = ok.fits.across i lt h
 stands_excludes m b i r ok lt (stands_in_header h) = ok.fits.in_header i lt h
 
+file_excludes : (m : PathMap) (b : List ℕ) (r : Refusal) → IsAccepted m b → FileFails b r → ⊥
+file_excludes m b r ok (elf h) = elf_excludes b r ok.reads.elf h
+file_excludes m b r ok (file_type head differs h) = true≢false (sym ok.reads.kind ∙ h)
+file_excludes m b r ok (placed i reads lt h) = stands_excludes m b i r ok lt h
+file_excludes m b r ok (relocatable head e) = loaded-kind b ok.reads.kind e
+file_excludes m b r ok (named reads h) = names_exclude b ok.reads.names h
+file_excludes m b r ok (units reads h) = h ok.reads.units
+
 -- where a file is taken, no row holds
 pub edit_excludes : (m : PathMap) (b : List ℕ) (r : Refusal) → IsAccepted m b → EditFails m b r → ⊥
-edit_excludes m b r ok (elf h) = elf_excludes b r ok.reads.elf h
-edit_excludes m b r ok (file_type head differs h) = true≢false (sym ok.reads.kind ∙ h)
-edit_excludes m b r ok (placed i reads lt h) = stands_excludes m b i r ok lt h
-edit_excludes m b r ok (relocatable head e) = loaded-kind b ok.reads.kind e
-edit_excludes m b r ok (named reads h) = names_exclude b ok.reads.names h
-edit_excludes m b r ok (units reads h) = h ok.reads.units
+edit_excludes m b r ok (file h) = file_excludes m b r ok h
 edit_excludes m b r ok (output others h) =
     layout_excludes b (new_body m b (readings others.units.pieces)) r
     (subst (λ (xs : List (Step UnitState)). LayoutFits b (new_body m b (readings xs))) (pieces_one b ok.reads.units others.units) ok.fits)

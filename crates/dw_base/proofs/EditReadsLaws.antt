@@ -3,10 +3,11 @@
 use Rattle.std.proofs.Common.{◌≡◌, ℕ, Bool, true, false, List, refl, sym, ap, ◌∙◌, inl, inr, bit_and}
 use Rattle.std.specs.List.{list_all}
 use Rattle.std.proofs.lemmas.Bool.{true≢false, and_from, cases_eq, eq-eqb}
-use Rattle.dw_base.specs.EditFails.{is_read_name, NamesFail, NamesRead, UnitsOf, FileReads, EditFails, IsAccepted}
+use Rattle.dw_base.specs.EditFails.{is_read_name, NamesFail, NamesRead, UnitsOf, FileFails, FileReads, EditFails, IsAccepted}
 use Rattle.dw_base.specs.EditFails.StandsWrong.{loaded}
 use Rattle.dw_base.specs.EditFails.NamesFail.{other, twice, compressed, names}
-use Rattle.dw_base.specs.EditFails.EditFails.{elf, file_type, placed, relocatable, named, units, output}
+use Rattle.dw_base.specs.EditFails.FileFails.{elf, file_type, placed, relocatable, named, units}
+use Rattle.dw_base.specs.EditFails.EditFails.{file, output}
 use Rattle.dw_base.specs.Elf.{e_type, order_of, nth_section, section_name, name_index}
 use Rattle.dw_base.specs.ElfFails.{ElfReads}
 use Rattle.dw_base.specs.EntryUnits.{LoneEntryBy, LoneEntry}
@@ -78,26 +79,30 @@ entries-complete b h =
       ),
     )
 
+-- where that test doesn't pass there are none
+pub no_units : (b : List ℕ) → entries_test b ≡ false → UnitsOf b → ⊥
+no_units b e h = true≢false (sym (entries-complete b h) ∙ e)
+
 -- units that can't be missing are there
 pub units_there : (b : List ℕ) → ((UnitsOf b → ⊥) → ⊥) → UnitsOf b
 units_there b holds =
-    entries-sound b (test_true (entries_test b) (λ e. holds (λ h. true≢false (sym (entries-complete b h) ∙ e))))
+    entries-sound b (test_true (entries_test b) (λ e. holds (no_units b e)))
 
 -- a file that reads and is of none of the other types is one that is loaded
-kind_loaded : (m : PathMap) (b : List ℕ) → ElfReads b → ((r : Refusal) → EditFails m b r → ⊥) → is_loaded_kind b ≡ true
-kind_loaded m b reads holds =
+kind_loaded : (b : List ℕ) → ElfReads b → ((r : Refusal) → FileFails b r → ⊥) → is_loaded_kind b ≡ true
+kind_loaded b reads holds =
     test_true (is_loaded_kind b) (λ e. elim (cases_eq (e_type b) ET_REL) [
       | inl rel ↦ holds _ (relocatable reads.debug.header rel)
       | inr differs ↦ holds _ (file_type reads.debug.header differs e)
     ])
 
--- where no row holds, the file reads as a whole
-file_reads : (m : PathMap) (b : List ℕ) → ((r : Refusal) → EditFails m b r → ⊥) → FileReads b
-file_reads m b holds =
+-- where no row of the file holds, it reads as a whole
+pub file_reads : (b : List ℕ) → ((r : Refusal) → FileFails b r → ⊥) → FileReads b
+file_reads b holds =
     let records : ElfReads b = elf_reads b (λ r h. holds r (elf h)) in
     record {
       elf = records;
-      kind = kind_loaded m b records holds;
+      kind = kind_loaded b records holds;
       names = names_read b (λ h. holds _ (named records h));
       units = units_there b (λ h. holds _ (units records h));
     }
@@ -105,9 +110,9 @@ file_reads m b holds =
 -- where no row holds, the file is taken
 pub edit_accepts : (m : PathMap) (b : List ℕ) → ((r : Refusal) → EditFails m b r → ⊥) → IsAccepted m b
 edit_accepts m b holds =
-    let reads : FileReads b = file_reads m b holds in
+    let reads : FileReads b = file_reads b (λ r h. holds r (file h)) in
     record {
       reads = reads;
-      unloaded = λ i lt h. holds _ (placed i reads.elf lt (loaded h));
+      unloaded = λ i lt h. holds _ (file (placed i reads.elf lt (loaded h)));
       fits = layout_fits b (new_body m b (readings reads.units.pieces)) (λ r h. holds r (output reads h));
     }

@@ -61,14 +61,18 @@ pub record FileReads (b : List ℕ) : Type 0 where
   pub names : NamesRead b
   pub units : UnitsOf b
 
--- every row, for a prefix map. The output can be too long, and a section in the part that stays can have to change.
+-- the rows of which the prefix map doesn't decide
+pub data FileFails (b : List ℕ) : Refusal → Type 0 where
+  elf : {r : Refusal} → ElfFails b r → FileFails b r
+  file_type : HeaderReads b → e_type b ≢ ET_REL → is_loaded_kind b ≡ false → FileFails b (at FileType 0 16)
+  placed : (i : ℕ) {r : Refusal} → ElfReads b → i < section_count b → StandsWrong b i r → FileFails b r
+  relocatable : HeaderReads b → e_type b ≡ ET_REL → FileFails b (at Unbuilt 0 0)
+  named : ElfReads b → NamesFail b → FileFails b (at Unbuilt 0 0)
+  units : ElfReads b → (UnitsOf b → ⊥) → FileFails b (at Unbuilt 0 0)
+
+-- every row, for a prefix map: the output can be too long, and a section in the part that stays can have to change
 pub data EditFails (m : PathMap) (b : List ℕ) : Refusal → Type 0 where
-  elf : {r : Refusal} → ElfFails b r → EditFails m b r
-  file_type : HeaderReads b → e_type b ≢ ET_REL → is_loaded_kind b ≡ false → EditFails m b (at FileType 0 16)
-  placed : (i : ℕ) {r : Refusal} → ElfReads b → i < section_count b → StandsWrong b i r → EditFails m b r
-  relocatable : HeaderReads b → e_type b ≡ ET_REL → EditFails m b (at Unbuilt 0 0)
-  named : ElfReads b → NamesFail b → EditFails m b (at Unbuilt 0 0)
-  units : ElfReads b → (UnitsOf b → ⊥) → EditFails m b (at Unbuilt 0 0)
+  file : {r : Refusal} → FileFails b r → EditFails m b r
   output : {r : Refusal} → (ok : FileReads b) → LayoutFails b (new_body m b (readings ok.units.pieces)) r → EditFails m b r
 
 -- the file is taken: it has an output that can be written, and no section that is read is loaded
