@@ -45,3 +45,9 @@ pub mod SectionLaws
 pub mod ViewLaws
 pub mod MeaningOneLaws
 pub mod MeaningKeptLaws
+pub mod EditLaws
+pub mod PlainEditLaws
+pub mod WorkedEdits
+pub mod WorkedEditRows
+pub mod ElfReadsLaws
+pub mod EditReadsLaws

@@ -1,8 +1,9 @@
 -- The output of a First file means what the file means, with each source path mapped; and what is loaded is as it was.
 use Rattle.std.proofs.Common.{Bool, true, false, ◌≡◌, ◌≢◌, ℕ, zero, suc, ◌<◌, ◌≤◌, ◌⊎◌, ◌==◌, ◌||◌, List, [], length, cond, sym, ap, ◌∙◌, refl, subst, arith, inl, inr}
-use Rattle.std.proofs.lemmas.Bool.{eq-eqb}
+use Rattle.std.proofs.lemmas.Bool.{eq-eqb, false_from_ne_true}
 use Rattle.std.specs.Prelude.{bit_and, ◌&&◌, Option, Some, None}
 use Rattle.dw_base.specs.Elf.{order_of, e_type, e_phnum, nth_section, section_count, section_name, name_index, name_table, segments_of, contents_of}
+use Rattle.dw_base.specs.EditFails.{NamesRead}
 use Rattle.dw_base.specs.ElfFails.{ElfReads}
 use Rattle.dw_base.specs.First.{IsFirst, FirstHeader, FirstNames, IsOnce, readings}
 use Rattle.dw_base.specs.Grammar.{Step, EachStep, joined}
@@ -10,13 +11,13 @@ use Rattle.dw_base.specs.Layout.{is_loaded_kind, output_limit}
 use Rattle.dw_base.specs.LayoutReads.{ReadsBack, NamesEnd, is_known_kind}
 use Rattle.dw_base.specs.Lists.{tabulate}
 use Rattle.dw_base.specs.Loaded.{LoadedKept, loaded_bytes}
-use Rattle.dw_base.specs.Mapped.{mapped, mapped_units, ReadsSections, ReadsView, Means, MeaningKept}
-use Rattle.dw_base.specs.Meaning.{UnitMeaning, NamedBytes, unit_meanings, is_read_name, other_sections, bytes_named, around_view, meaning_of}
+use Rattle.dw_base.specs.Mapped.{mapped, mapped_units, ReadsView, Means, MeaningKept}
+use Rattle.dw_base.specs.Meaning.{UnitMeaning, NamedBytes, unit_meanings, other_sections, bytes_named, around_view, meaning_of}
 use Rattle.dw_base.specs.Mentions.{Around, NamesText, edited_all}
 use Rattle.dw_base.specs.Notes.{is_id_section, or_this, first_below, BuildId, build_id_in, build_id_of}
 use Rattle.dw_base.specs.Output.{Readings, around_of, str_change, changes_of, new_info, new_str, new_body}
 use Rattle.dw_base.specs.Paths.{PathMap, IsPathMap}
-use Rattle.dw_base.specs.SectionNames.{debug_info, debug_abbrev, debug_str, note_build_id, section_called, contents_called}
+use Rattle.dw_base.specs.SectionNames.{debug_info, debug_abbrev, debug_str, note_build_id, section_called, contents_called, is_read_name}
 use Rattle.dw_base.specs.Texts.{same_text, ends_in}
 use Rattle.dw_base.specs.Units.{UnitState, before_unit}
 use Rattle.dw_base.specs.Views.{ViewSection, view_of, view_section, contents_named, number_named, without_id}
@@ -396,34 +397,45 @@ read_some : (b : List ℕ) (i : ℕ) → (nth_section b 0).kind ≡ 0 → (nth_s
 read_some b zero null kind = absurd (omega arith)
 read_some b (suc i) null kind = omega arith
 
-sections-old : (m : PathMap) (b : List ℕ) → IsFirst m b → ReadsSections b
-sections-old m b f = record {
-  kind = loaded_kind b f.header;
-  names = f.names.others;
-  once = λ i k lt kt is same. reads_once b i k f.names lt kt is same;
-  compressed = λ i lt is. (f.sections.placed i (read_some b i f.sections.null (reads_kind b i f.names lt is)) lt).compressed;
+names-old : (m : PathMap) (b : List ℕ) → IsFirst m b → NamesRead b
+names-old m b f = record {
+  listed = f.names.others;
+  once = λ i j below lt is same. let here : j ≡ i = reads_once b i j f.names (omega arith) lt is same in omega arith;
+  plain = λ i lt is. (f.sections.placed i (read_some b i f.sections.null (reads_kind b i f.names lt is)) lt).compressed;
+  apart = λ some. not_read b (name_index b) (λ is. names_kind m b f (reads_kind b (name_index b) f.names (names_within m b f) is));
 }
+  where
+    not_read : (b : List ℕ) (i : ℕ) → (is_read_name (section_name b i) ≡ true → ⊥) → is_read_name (section_name b i) ≡ false
+    not_read b i none = false_from_ne_true (is_read_name (section_name b i)) none
+
+    names_kind : (m : PathMap) (b : List ℕ) → IsFirst m b → (nth_section b (name_index b)).kind ≡ 1 → ⊥
+    names_kind m b f kind =
+        let table : (nth_section b (name_index b)).kind ≡ 3 = ap (λ (i : ℕ). (nth_section b i).kind) (first-names b f.table) ∙ f.table.strings in
+        omega (arith, table, kind)
 
 kind-same : (m : PathMap) (b out : List ℕ) → FirstWritten m b out → is_loaded_kind out ≡ is_loaded_kind b
 kind-same m b out w = rw w.back.kind refl
 
-sections-new : (m : PathMap) (b out : List ℕ) → (w : FirstWritten m b out) → ReadsSections out
-sections-new m b out w =
+names-new : (m : PathMap) (b out : List ℕ) → (w : FirstWritten m b out) → NamesRead out
+names-new m b out w =
     let f : IsFirst m b = w.first in
-    let old : ReadsSections b = sections-old m b f in
+    let old : NamesRead b = names-old m b f in
     let count : section_count out ≡ section_count b = w.back.count in
     let name : (i : ℕ) → i < section_count b → section_name out i ≡ section_name b i =
     λ i lt. section_name-back b out (new_body m b (readings f.units.pieces)) i w.back (keeps_names m b (readings f.units.pieces) f) lt in
+    let index : name_index out ≡ name_index b = w.back.names in
     record {
-      kind = kind-same m b out w ∙ old.kind;
-      names = λ i lt. let here : i < section_count b = rw count at lt in rw (name i here) (old.names i here);
-      once = λ i k lt kt is same.
-          let i_here : i < section_count b = rw count at lt in
-          let k_here : k < section_count b = rw count at kt in
-          old.once i k i_here k_here (ap is_read_name (sym (name i i_here)) ∙ is) (sym (name k k_here) ∙ same ∙ name i i_here);
-      compressed = λ i lt is.
+      listed = λ i lt. let here : i < section_count b = rw count at lt in rw (name i here) (old.listed i here);
+      once = λ i j below lt is same.
+          let j_here : j < section_count b = rw count at lt in
+          let i_here : i < section_count b = omega arith in
+          old.once i j below j_here (ap is_read_name (sym (name i i_here)) ∙ is) (sym (name j j_here) ∙ same ∙ name i i_here);
+      plain = λ i lt is.
           let here : i < section_count b = rw count at lt in
-          ap (λ (n : ℕ). bit_and n 2048) (w.back.heads i here).flags ∙ old.compressed i here (ap is_read_name (sym (name i here)) ∙ is);
+          ap (λ (n : ℕ). bit_and n 2048) (w.back.heads i here).flags ∙ old.plain i here (ap is_read_name (sym (name i here)) ∙ is);
+      apart = λ some.
+          let there : name_index b ≢ 0 = rw index at some in
+          rw index (ap is_read_name (name (name_index b) (names_within m b f)) ∙ old.apart there);
     }
 
 -- the meaning is kept
@@ -434,7 +446,8 @@ first-meaning m b out map f back small =
     let old : Means b (meaning_of (view_of b) (readings f.units.pieces)) =
     record {
       elf = first-reads b f.header f.table f.sections;
-      sections = sections-old m b f;
+      kind = loaded_kind b f.header;
+      names = names-old m b f;
       readings = readings f.units.pieces;
       reads = reads-old m b f;
       says = refl;
@@ -442,7 +455,8 @@ first-meaning m b out map f back small =
     let new : Means out (mapped m (meaning_of (view_of b) (readings f.units.pieces))) =
     record {
       elf = elf_reads m b out w;
-      sections = sections-new m b out w;
+      kind = kind-same m b out w ∙ loaded_kind b f.header;
+      names = names-new m b out w;
       readings = readings (new_pieces m b f);
       reads = reads-new m b out w;
       says = meaning-mapped m b out w;

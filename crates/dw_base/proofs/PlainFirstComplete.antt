@@ -23,7 +23,7 @@ use Rattle.dw_base.proofs.PlainUnitComplete.{cut-pieces, pieces-complete, chain-
 use Rattle.dw_base.proofs.PlainOutputLaws.{length-plain, first-sound}
 
 -- a section that is pieces can be read
-reads-complete : (order : Order) (info abbrevs : List ℕ) (xs : List (Step UnitState)) → Reads order info abbrevs 0 xs
+pub reads-complete : (order : Order) (info abbrevs : List ℕ) (xs : List (Step UnitState)) → Reads order info abbrevs 0 xs
     → plain_reads order info abbrevs ≡ true
 unfolding plain_reads
 reads-complete order info abbrevs xs h =
@@ -33,7 +33,7 @@ reads-complete order info abbrevs xs h =
     ((bytes_eq-Decides (joined (plain_pieces order info abbrevs)) info).1 (ap joined (pieces-complete order info abbrevs xs h) ∙ h.bytes))
 
 -- what holds of each piece, all pass
-each-complete : (P : Step UnitState → Type 0) (test : Step UnitState → Bool) → ((x : Step UnitState) → P x → test x ≡ true)
+pub each-complete : (P : Step UnitState → Type 0) (test : Step UnitState → Bool) → ((x : Step UnitState) → P x → test x ≡ true)
     → (xs : List (Step UnitState)) → EachStep P xs → list_all test xs ≡ true
 each-complete P test one [] h = refl
 each-complete P test one (x ∷ xs) h = and_from (test x) (list_all test xs) (one x h.0) (each-complete P test one xs h.1)
@@ -44,14 +44,14 @@ entry-complete code order s p h = and_from _ _ (eq-eqb _ _ h.0) (true-differs _ 
 entry-complete (values number tag specs) order s p h = refl
 entry-complete stuck order s p h = refl
 
-abbreviation-complete : (mode : Mode) (order : Order) (abbrevs p : List ℕ) → OneAbbreviationBy mode order abbrevs p
+pub abbreviation-complete : (mode : Mode) (order : Order) (abbrevs p : List ℕ) → OneAbbreviationBy mode order abbrevs p
     → abbreviation_test mode order abbrevs p ≡ true
 abbreviation-complete header order abbrevs p h = h
 abbreviation-complete code order abbrevs p h = refl
 abbreviation-complete (values number tag specs) order abbrevs p h = refl
 abbreviation-complete stuck order abbrevs p h = refl
 
-text-complete : (role : Role) (order : Order) (str p : List ℕ) → NamesTextBy role order str p → text_test role order str p ≡ true
+pub text-complete : (role : Role) (order : Order) (str p : List ℕ) → NamesTextBy role order str p → text_test role order str p ≡ true
 text-complete fixed order str p h = refl
 text-complete (offset in_debug_str path) order str p h = h
 

@@ -16,7 +16,7 @@ use Rattle.dw_base.proofs.PlainLaws.{reads-sound}
 use Rattle.dw_base.proofs.PlainRuleLaws.{differs}
 
 -- what all pieces pass, holds of each
-each-sound : (P : Step UnitState → Type 0) (test : Step UnitState → Bool) → ((x : Step UnitState) → test x ≡ true → P x)
+pub each-sound : (P : Step UnitState → Type 0) (test : Step UnitState → Bool) → ((x : Step UnitState) → test x ≡ true → P x)
     → (xs : List (Step UnitState)) → list_all test xs ≡ true → EachStep P xs
 each-sound P test one [] h = tt
 each-sound P test one (x ∷ xs) h =
@@ -30,14 +30,14 @@ entry-sound code order s p h =
 entry-sound (values number tag specs) order s p h = tt
 entry-sound stuck order s p h = tt
 
-abbreviation-sound : (mode : Mode) (order : Order) (abbrevs p : List ℕ) → abbreviation_test mode order abbrevs p ≡ true
+pub abbreviation-sound : (mode : Mode) (order : Order) (abbrevs p : List ℕ) → abbreviation_test mode order abbrevs p ≡ true
     → OneAbbreviationBy mode order abbrevs p
 abbreviation-sound header order abbrevs p h = h
 abbreviation-sound code order abbrevs p h = tt
 abbreviation-sound (values number tag specs) order abbrevs p h = tt
 abbreviation-sound stuck order abbrevs p h = tt
 
-text-sound : (role : Role) (order : Order) (str p : List ℕ) → text_test role order str p ≡ true → NamesTextBy role order str p
+pub text-sound : (role : Role) (order : Order) (str p : List ℕ) → text_test role order str p ≡ true → NamesTextBy role order str p
 text-sound fixed order str p h = tt
 text-sound (offset in_debug_str path) order str p h = h
 

@@ -3,10 +3,10 @@ use Rattle.std.proofs.Common.{◌≡◌, ℕ, zero, suc, ◌==◌, ◌<◌, ◌�
 use Rattle.std.proofs.lemmas.Bool.{true≢false, eqb-false, lt-ltb, eq-eqb}
 use Rattle.std.proofs.lemmas.Slice.Eq.{bytes_eq-Decides}
 use Rattle.dw_base.specs.Elf.{section_count, section_name}
-use Rattle.dw_base.specs.First.{IsOnce, is_first_name, FirstNames}
+use Rattle.dw_base.specs.First.{IsOnce, FirstNames}
 use Rattle.dw_base.specs.Lists.{tabulate}
 use Rattle.dw_base.specs.PlainFirst.{once_rules, once_at, names_rules, names_test}
-use Rattle.dw_base.specs.SectionNames.{debug_info, debug_abbrev, debug_str, names_of, index_in, section_called}
+use Rattle.dw_base.specs.SectionNames.{debug_info, debug_abbrev, debug_str, names_of, index_in, section_called, is_first_name}
 use Rattle.dw_base.specs.Texts.{same_text}
 use Rattle.dw_base.proofs.ListLaws.{length-tabulate, get_or-tabulate}
 use Rattle.dw_base.proofs.PlainLaws.{same_text-true}

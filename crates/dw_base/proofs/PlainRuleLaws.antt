@@ -6,9 +6,9 @@ use Rattle.std.proofs.lemmas.Bool.{true≢false, and_parts, or_cases, or_left, o
 use Rattle.std.proofs.lemmas.Nat.{ones_cat, pow_pos}
 use Rattle.std.proofs.lemmas.Slice.Eq.{bytes_eq-Decides}
 use Rattle.dw_base.specs.Elf.{e_type, nth_section, section_count, section_name, is_empty_kind}
-use Rattle.dw_base.specs.First.{FirstHeader, FirstTable, is_alignment, FirstNamed, FirstPlaced, FirstSections, IsOnce, is_first_name, FirstNames}
+use Rattle.dw_base.specs.First.{FirstHeader, FirstTable, is_alignment, FirstNamed, FirstPlaced, FirstSections, IsOnce, FirstNames}
 use Rattle.dw_base.specs.PlainFirst.{header_rules, header_test, table_rules, table_test, all_below, is_power_below, is_plain_alignment, named_rules, is_named, place_rules, is_placed, sections_rules, sections_test, once_rules, once_at, names_rules, names_test}
-use Rattle.dw_base.specs.SectionNames.{debug_info, debug_abbrev, debug_str, section_called}
+use Rattle.dw_base.specs.SectionNames.{debug_info, debug_abbrev, debug_str, section_called, is_first_name}
 use Rattle.dw_base.specs.Texts.{same_text}
 use Rattle.dw_base.specs.declared.records.Section.{Section}
 use Rattle.dw_base.specs.declared.elf_numbers.TheConstants.{ET_EXEC, ET_DYN}
@@ -43,7 +43,7 @@ power-sound (suc k) n h =
       | inr below ↦ power-sound k n below
     ]
 
-align-sound : (n : ℕ) → is_plain_alignment n ≡ true → is_alignment n ≡ true
+pub align-sound : (n : ℕ) → is_plain_alignment n ≡ true → is_alignment n ≡ true
 align-sound n h =
     elim (or_cases (n == 0) (is_power_below 64 n || (nat_le (2 ^ 64) n && is_power_of_two n)) h) [
       | inl none ↦ or_left (n == 0) (is_power_of_two n) none
@@ -89,7 +89,7 @@ named-sound : (b : List ℕ) (s : Section) → is_named b s ≡ true → FirstNa
 named-sound b s h = let t = passes-true (named_rules b s) h in record { align = align-sound s.align t.0; name = t.1.0 }
 
 -- one of two holds, and not the first
-other-true : (x y : Bool) → (x || y) ≡ true → x ≡ false → y ≡ true
+pub other-true : (x y : Bool) → (x || y) ≡ true → x ≡ false → y ≡ true
 other-true true y h e = absurd (true≢false e)
 other-true false y h e = h
 

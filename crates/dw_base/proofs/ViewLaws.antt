@@ -6,9 +6,9 @@ use Rattle.std.proofs.lemmas.Bool.{cases_lt}
 use Rattle.dw_base.specs.Elf.{order_of, nth_section, section_count, section_name, name_index, name_table, contents_of}
 use Rattle.dw_base.specs.LayoutReads.{ReadsBack}
 use Rattle.dw_base.specs.Lists.{tabulate}
-use Rattle.dw_base.specs.Meaning.{NamedBytes, is_read_name, is_other, other_sections}
+use Rattle.dw_base.specs.Meaning.{NamedBytes, is_other, other_sections}
 use Rattle.dw_base.specs.Notes.{BuildId, zeroed}
-use Rattle.dw_base.specs.SectionNames.{debug_link}
+use Rattle.dw_base.specs.SectionNames.{debug_link, is_read_name}
 use Rattle.dw_base.specs.Texts.{same_text, text_in}
 use Rattle.dw_base.specs.Views.{ViewSection, view_section, view_of, is_filled, contents_named, number_named, zeroed_at, without_id}
 use Rattle.dw_base.proofs.SectionLaws.{same_text-other}

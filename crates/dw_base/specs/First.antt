@@ -10,7 +10,7 @@ use Rattle.dw_base.specs.Numbers.{spelled}
 use Rattle.dw_base.specs.Output.{Readings, output_of}
 use Rattle.dw_base.specs.Mentions.{NamesText}
 use Rattle.dw_base.specs.Paths.{PathMap}
-use Rattle.dw_base.specs.SectionNames.{debug_info, debug_abbrev, debug_str, debug_prefix, zdebug_prefix, debug_altlink, contents_called}
+use Rattle.dw_base.specs.SectionNames.{debug_info, debug_abbrev, debug_str, debug_prefix, zdebug_prefix, debug_altlink, contents_called, is_first_name}
 use Rattle.dw_base.specs.Refusals.{at}
 use Rattle.dw_base.specs.Texts.{same_text, ends_in}
 use Rattle.dw_base.specs.Units.{UnitState, Mode, header, code, values, stuck, code_value, Reads}
@@ -79,13 +79,6 @@ pub record IsOnce (b name : List ℕ) : Type 0 where
   pub named : section_name b index ≡ name
   pub kind : (nth_section b index).kind ≡ SHT_PROGBITS
   pub only : (i : ℕ) → i < section_count b → section_name b i ≡ name → i ≡ index
-
--- a name that a section may have: of those that begin with .debug_ the three, none that begins with .zdebug_, and not .gnu_debugaltlink
-abbrev pub is_first_name : List ℕ → Bool
-is_first_name name =
-    if starts_with nat_eq name debug_prefix
-    then same_text name debug_info || same_text name debug_abbrev || same_text name debug_str
-    else not (starts_with nat_eq name zdebug_prefix || same_text name debug_altlink)
 
 -- the three debug sections are there, each once, and no others
 pub record FirstNames (b : List ℕ) : Type 0 where

@@ -1,6 +1,6 @@
 -- What refuses a file that would be written with new section bodies: the kinds Fixed and TooLarge. Each constructor is a
 -- row, named by what is wrong, and its conclusion has the place that the refusal names. This project's profile.
-use Rattle.std.specs.Prelude.{true, false, ◌≡◌, ◌≢◌, ℕ, ◌+◌, ◌<◌, List, length}
+use Rattle.std.specs.Prelude.{true, false, ◌≡◌, ◌≢◌, ℕ, ◌+◌, ◌<◌, ◌≤◌, List, length}
 use Rattle.dw_base.specs.Elf.{class_of, ehdr_size, nth_section, section_count, is_empty_kind, contents_of}
 use Rattle.dw_base.specs.Layout.{output_limit, is_loaded_kind, is_alloc, fixed_end, is_fixed, with_bodies}
 use Rattle.dw_base.specs.Refusals.{at}
@@ -41,3 +41,11 @@ pub data SectionStays (b : List ℕ) (bodies : ℕ → List ℕ) (i : ℕ) : Ref
 pub data LayoutFails (b : List ℕ) (bodies : ℕ → List ℕ) : Refusal → Type 0 where
   section : (i : ℕ) {r : Refusal} → i < section_count b → SectionStays b bodies i r → LayoutFails b bodies r
   large : {r : Refusal} → TooLong (length (with_bodies b bodies)) r → LayoutFails b bodies r
+
+-- where no row holds: what stays keeps its bytes, no section lies across or begins in the file header, and the file isn't
+-- too long
+pub record LayoutFits (b : List ℕ) (bodies : ℕ → List ℕ) : Type 0 where
+  pub stays : (i : ℕ) → i < section_count b → is_fixed b (nth_section b i) ≡ true → bodies i ≡ contents_of b i
+  pub across : (i : ℕ) → i < section_count b → LiesAcross b (nth_section b i) → ⊥
+  pub in_header : (i : ℕ) → i < section_count b → BeginsInHeader b (nth_section b i) → ⊥
+  pub small : length (with_bodies b bodies) ≤ output_limit

@@ -19,6 +19,8 @@ pub mod Mentions
 pub mod SectionNames
 pub mod Output
 pub mod First
+pub mod EntryUnits
+pub mod EditFails
 pub mod PlainReading
 pub mod PlainFirst
 pub mod Notes
@@ -26,3 +28,4 @@ pub mod Views
 pub mod Meaning
 pub mod Mapped
 pub mod Loaded
+pub mod PlainEdit

@@ -1,19 +1,17 @@
 -- The meaning with a prefix map applied: once to each source path, and to nothing else. What a file means, and that
 -- another means the same, mapped.
-use Rattle.std.specs.Prelude.{true, false, ◌≡◌, ℕ, ◌<◌, bit_and, IsTrue, List, [], ◌∷◌}
-use Rattle.dw_base.specs.Elf.{nth_section, section_count, section_name}
+use Rattle.std.specs.Prelude.{true, false, ◌≡◌, ℕ, List, [], ◌∷◌}
+use Rattle.dw_base.specs.EditFails.{NamesRead}
 use Rattle.dw_base.specs.ElfFails.{ElfReads}
-use Rattle.dw_base.specs.First.{is_first_name}
 use Rattle.dw_base.specs.Grammar.{EachStep}
 use Rattle.dw_base.specs.Layout.{is_loaded_kind}
-use Rattle.dw_base.specs.Meaning.{ValueMeaning, string, raw, AttributeMeaning, Forest, no_entries, entry, UnitMeaning, Meaning, is_read_name, meaning_of}
+use Rattle.dw_base.specs.Meaning.{ValueMeaning, string, raw, AttributeMeaning, Forest, no_entries, entry, UnitMeaning, Meaning, meaning_of}
 use Rattle.dw_base.specs.Mentions.{NamesText}
 use Rattle.dw_base.specs.Output.{Readings}
 use Rattle.dw_base.specs.Paths.{PathMap, mapped_path}
 use Rattle.dw_base.specs.SectionNames.{debug_info, debug_abbrev, debug_str}
 use Rattle.dw_base.specs.Units.{Reads}
 use Rattle.dw_base.specs.Views.{View, view_of, contents_named}
-use Rattle.dw_base.specs.declared.elf_numbers.TheConstants.{SHF_COMPRESSED}
 
 -- a string that is a path is mapped
 abbrev pub mapped_value : PathMap → ValueMeaning → ValueMeaning
@@ -45,25 +43,16 @@ mapped_units m (u ∷ rest) = mapped_unit m u ∷ mapped_units m rest
 abbrev pub mapped : PathMap → Meaning → Meaning
 mapped m x = record x { units = mapped_units m x.units }
 
--- the sections of a file can be read: none is of debug data that isn't read, and one that is read is the only one of its
--- name, and isn't compressed
-pub record ReadsSections (b : List ℕ) : Type 0 where
-  pub kind : is_loaded_kind b ≡ true
-  pub names : (i : ℕ) → i < section_count b → IsTrue (is_first_name (section_name b i))
-  pub once : (i k : ℕ) → i < section_count b → k < section_count b → is_read_name (section_name b i) ≡ true
-      → section_name b k ≡ section_name b i → k ≡ i
-  pub compressed : (i : ℕ) → i < section_count b → is_read_name (section_name b i) ≡ true
-      → bit_and (nth_section b i).flags SHF_COMPRESSED ≡ 0
-
 -- the debug data of a view can be read: its units are these pieces, and each offset names a text that ends
 pub record ReadsView (v : View) (r : Readings) : Type 0 where
   pub info : Reads v.order (contents_named v.sections debug_info) (contents_named v.sections debug_abbrev) 0 r.info
   pub texts : EachStep (NamesText v.order (contents_named v.sections debug_str)) r.info
 
--- the file can be read, and its debug data mean this
+-- the file can be read: its records, and the names of its sections; and its debug data mean this
 pub record Means (b : List ℕ) (x : Meaning) : Type 0 where
   pub elf : ElfReads b
-  pub sections : ReadsSections b
+  pub kind : is_loaded_kind b ≡ true
+  pub names : NamesRead b
   pub readings : Readings
   pub reads : ReadsView (view_of b) readings
   pub says : meaning_of (view_of b) readings ≡ x

@@ -5,7 +5,7 @@ use Rattle.dw_base.specs.Abbreviations.{Abbreviation, abbreviation_of}
 use Rattle.dw_base.specs.Grammar.{Step}
 use Rattle.dw_base.specs.Mentions.{Around, table_of, offset_of}
 use Rattle.dw_base.specs.Output.{Readings}
-use Rattle.dw_base.specs.SectionNames.{debug_info, debug_abbrev, debug_str, debug_link}
+use Rattle.dw_base.specs.SectionNames.{debug_info, debug_abbrev, debug_str, debug_link, is_read_name}
 use Rattle.dw_base.specs.Texts.{same_text, text_in}
 use Rattle.dw_base.specs.Units.{ValueKind, text_offset, unlisted, kind_in, Mode, header, code, values, stuck, UnitState, header_params, code_value, is_path}
 use Rattle.dw_base.specs.Views.{View, ViewSection, contents_named, number_named, without_id}
@@ -135,10 +135,6 @@ following section around (x ∷ xs) = with_mark section (mark_of around x) (foll
 -- what the units of a section of a number mean
 abbrev pub unit_meanings : ℕ → Around → List (Step UnitState) → List UnitMeaning
 unit_meanings section around xs = (following section around xs).units
-
--- a section whose bytes are read as units, or for them
-abbrev pub is_read_name : List ℕ → Bool
-is_read_name name = same_text name debug_info || same_text name debug_abbrev || same_text name debug_str
 
 -- a section whose bytes are meant as they stand: it isn't loaded and isn't read. The section name table and the link to a
 -- debug file are left out, since they say how the sections are divided between files.

@@ -3,14 +3,14 @@ use Rattle.std.specs.Prelude.{Bool, true, false, ℕ, zero, suc, ◌+◌, ◌*�
 use Rattle.std.specs.List.{list_all}
 use Rattle.std.specs.Int.{is_power_of_two}
 use Rattle.dw_base.specs.Elf.{order_of, e_type, e_phnum, e_shentsize, e_shoff, e_shnum, e_shstrndx, nth_section, section_count, section_name, name_table, is_empty_kind}
-use Rattle.dw_base.specs.First.{file_limit, is_first_name, first_table}
+use Rattle.dw_base.specs.First.{file_limit, first_table}
 use Rattle.dw_base.specs.Grammar.{Step}
 use Rattle.dw_base.specs.Layout.{output_limit, fixed_end}
 use Rattle.dw_base.specs.Mentions.{offset_of}
 use Rattle.dw_base.specs.Numbers.{spelled}
 use Rattle.dw_base.specs.Paths.{PathMap}
 use Rattle.dw_base.specs.PlainReading.{passes, plain_reads, plain_units, plain_length}
-use Rattle.dw_base.specs.SectionNames.{debug_info, debug_abbrev, debug_str, section_called, contents_called}
+use Rattle.dw_base.specs.SectionNames.{debug_info, debug_abbrev, debug_str, section_called, contents_called, is_first_name}
 use Rattle.dw_base.specs.Texts.{ends_in, same_text}
 use Rattle.dw_base.specs.Units.{in_debug_str, Mode, header, code, values, stuck, UnitState, code_value, Role, fixed, offset, role_of}
 use Rattle.dw_base.specs.declared.shared.Order.{Order}

@@ -6,9 +6,9 @@ use Rattle.std.proofs.lemmas.Bool.{cases_lt, eq-eqb, false_from_ne_true}
 use Rattle.std.proofs.lemmas.List.{drop_more, take_more, take-take, take_all, take_at, drop_all, append-nil, append_assoc, length-take-le}
 use Rattle.dw_base.specs.Elf.{class_of, order_of, e_type, e_phnum, e_shentsize, e_shoff, e_shnum, e_shstrndx, contents_of, name_index, name_table, nth_section, section_at, section_count, section_name}
 use Rattle.dw_base.specs.ElfFails.{ElfReads, SectionReads}
-use Rattle.dw_base.specs.First.{FirstNamed, FirstNames, FirstPlaced, FirstSections, FirstTable, IsOnce, is_alignment, is_first_name}
+use Rattle.dw_base.specs.First.{FirstNamed, FirstNames, FirstPlaced, FirstSections, FirstTable, IsOnce, is_alignment}
 use Rattle.dw_base.specs.Numbers.{spelled}
-use Rattle.dw_base.specs.SectionNames.{debug_abbrev, debug_altlink, debug_info, debug_prefix, debug_str, zdebug_prefix, contents_called, index_in, names_of, section_called}
+use Rattle.dw_base.specs.SectionNames.{debug_abbrev, debug_altlink, debug_info, debug_prefix, debug_str, zdebug_prefix, contents_called, index_in, names_of, section_called, is_first_name}
 use Rattle.dw_base.specs.Texts.{is_in, same_text, text}
 use Rattle.dw_base.specs.declared.elf_numbers.TheConstants.{SHT_PROGBITS}
 use Rattle.dw_base.specs.declared.shared.Class.TheVariants.{C64}

@@ -1,9 +1,9 @@
 -- What is judged of a file by its headers and the names of its sections.
 use Rattle.std.specs.Prelude.{Bool, ◌≡◌, ◌≢◌, ℕ, ◌<◌, ◌≤◌, ◌==◌, ◌||◌, ◌⊎◌, List, length, IsTrue}
 use Rattle.dw_base.specs.Elf.{e_type, e_phnum, e_shentsize, nth_section, section_count, section_name}
-use Rattle.dw_base.specs.First.{FirstHeader, FirstNames, FirstPlaced, FirstSections, FirstTable, file_limit, is_first_name}
+use Rattle.dw_base.specs.First.{FirstHeader, FirstNames, FirstPlaced, FirstSections, FirstTable, file_limit}
 use Rattle.dw_base.specs.Numbers.{spelled}
-use Rattle.dw_base.specs.SectionNames.{debug_abbrev, debug_info, debug_str, section_called}
+use Rattle.dw_base.specs.SectionNames.{debug_abbrev, debug_info, debug_str, section_called, is_first_name}
 use Rattle.dw_base.specs.Texts.{same_text}
 use Rattle.dw_base.specs.declared.elf_numbers.TheConstants.{EI_CLASS, EI_DATA, EI_VERSION, ELFCLASS64, ELFDATA2LSB, ELFMAG, ET_EXEC, ET_DYN, EV_CURRENT, SHT_PROGBITS}
 use Rattle.dw_base.specs.declared.shared.Order.TheVariants.{Little}

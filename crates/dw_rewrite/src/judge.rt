@@ -9,9 +9,10 @@
 //! Read first: `specs/Judged.antt`.
 
 ghost use Rattle.std.specs.Prelude.{ℕ, ◌≡◌, ◌↔◌, ◌+◌, ◌≤◌, ◌<◌, length, take, IsTrue, IsNone, IfSome};
+ghost use Rattle.dw_base.specs.SectionNames.{is_first_name};
 ghost use Rattle.dw_base.specs.Elf.{is_empty_kind, name_table, nth_section, section_count, section_name};
 ghost use Rattle.dw_base.specs.ElfFails.{ElfReads};
-ghost use Rattle.dw_base.specs.First.{FirstHeader, FirstNames, FirstPlaced, FirstSections, FirstTable, IsOnce, is_first_name};
+ghost use Rattle.dw_base.specs.First.{FirstHeader, FirstNames, FirstPlaced, FirstSections, FirstTable, IsOnce};
 ghost use Rattle.dw_base.specs.Texts.{text, text_in};
 ghost use Rattle.dw_rewrite.specs.Judged.{AllFit, AreFirst, FirstFields, FirstHeaders, FirstIdent, IsOnly, IsPlaced, NextCalled, NoneCalled, SectionFits, is_debug_name, is_loaded_type};
 
