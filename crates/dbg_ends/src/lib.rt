@@ -1,9 +1,10 @@
 //! How a command ends: its status, its line on the error sink, and the steps that commands share.
 //!
-//! This layer promises: each end has one status and one line; the line goes to the error sink by one
-//! call of `write`, and at status 0 that sink isn't called; a file is read and written as the trait
-//! `Tree` says, and each end of a step has its cause.
-//! It does not promise: when a command comes to an end; `dbg_run` states that.
+//! This layer promises: each end has one status and one line; the line goes to the error sink, and at
+//! status 0 that sink isn't called; a file is read and written as the trait `Tree` says, and each end
+//! of a step has its cause.
+//! It does not promise: when a command comes to an end, which `dbg_run` states; that a line goes out in
+//! one call of `write`.
 //! Read first: `specs/Ends.antt`, `specs/Steps.antt`, `specs/Due.antt`.
 #![tactic(auto)]
 

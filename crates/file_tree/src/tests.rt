@@ -206,6 +206,50 @@ fn a_listed_call_fails_and_is_counted(rt: HostRuntime) -> Result<(), Fail> {
     Ok(())
 }
 
+/// Asserts that this was answered at a step.
+fn assert_answered(rt: &impl Abort, given: &str, wanted: &str, step: usize) {
+    assert_eq!(rt; given, wanted, "at step {step}");
+}
+
+/// Tries the steps up to the one of this number, which is to fail; those before it are answered as
+/// they are where none fails.
+fn try_failing<T: Tree>(
+    rt: &impl Abort,
+    alloc: Global,
+    tree: &mut T,
+    steps: &[(Step, &'static str)],
+    failing: usize,
+) -> Result<(), AllocError> {
+    for i in 0..steps.len() {
+        let given = answer(alloc, tree, &steps[i].0)?;
+        if i == failing {
+            assert_answered(rt, given.as_str(), "failed", i);
+            return Ok(());
+        }
+        assert_answered(rt, given.as_str(), steps[i].1, i);
+    }
+    Ok(())
+}
+
+/// A tree in memory whose call of this number fails.
+fn failing_tree(alloc: Global, failing: usize) -> Result<MemTree, TreeErr> {
+    let mut listed = Vec::new(alloc);
+    listed.push(failing as u64)?;
+    let mut tree = MemTree::new(alloc, Vec::new(alloc))?;
+    tree.fail_calls(listed);
+    Ok(tree)
+}
+
+#[test]
+fn each_call_fails_where_it_is_listed(rt: HostRuntime) -> Result<(), Fail> {
+    for failing in 0..COMMON.len() {
+        let mut tree = failing_tree(rt.alloc(), failing)?;
+        try_failing(&rt, rt.alloc(), &mut tree, &COMMON, failing)?;
+        assert_eq!(rt; tree.calls().len(), failing + 1);
+    }
+    Ok(())
+}
+
 #[test]
 fn a_sink_in_memory_takes_what_there_is_room_for(rt: HostRuntime) -> Result<(), Fail> {
     let mut sink = MemSink::new(rt.alloc(), 4, Some(4))?;
