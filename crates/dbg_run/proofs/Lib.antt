@@ -4,3 +4,4 @@ pub mod EditLaws
 pub mod RunLaws
 pub mod RunRows
 pub mod Rows
+pub mod KeptLaws

@@ -1,13 +1,16 @@
 -- The command `edit`: how each of its steps may end, when it is done, and which status is due.
-use Rattle.std.specs.Prelude.{◌≡◌, ℕ, true, List, option_map}
+use Rattle.std.specs.Prelude.{◌≡◌, ℕ, true, List, Option, Some, option_map}
 use Rattle.dw_base.specs.declared.fault.Refusal.{Refusal}
 use Rattle.dw_base.specs.First.{IsFirst, FirstFails, file_limit}
+use Rattle.dw_base.specs.Loaded.{LoadedKept}
+use Rattle.dw_base.specs.Mapped.{MeaningKept}
 use Rattle.dw_base.specs.Output.{IsOutput}
 use Rattle.dw_base.specs.Paths.{PathMap}
 use Rattle.file_tree.specs.declared.node.Found.{Found}
 use Rattle.file_tree.specs.declared.node.Found.TheVariants as found
 use Rattle.file_tree.specs.declared.node.Node.TheVariants as node
-use Rattle.file_tree.specs.Trees.{with_node}
+use Rattle.std.specs.FinMap as fin
+use Rattle.file_tree.specs.Trees.{TreeMap, with_node}
 use Rattle.file_tree.specs.Seen.{Seen, now_of}
 use Rattle.file_tree.specs.Causes.{Stood, Calm, OnlyAt}
 use Rattle.dbg_ends.specs.declared.end.End.{End}
@@ -20,6 +23,10 @@ pub data RewriteEnds (path : List ℕ) (m : PathMap) (b : List ℕ) : End → Ty
   refused : {r : Refusal} → FirstFails m b r → RewriteEnds path m b (end.Refused path r)
   memory : RewriteEnds path m b end.NoMemory
 
+-- the output keeps what the input means, with the map applied once to each source path, and what is loaded of it
+pub data Keeps (m : PathMap) (b out : List ℕ) : Type 0 where
+  both : MeaningKept m b out → LoadedKept b out → Keeps m b out
+
 -- the edit is done: the input held a First file, the output holds its output file with its mode, and nothing else changed
 pub record EditDone (input output : List ℕ) (m : PathMap) (old new : Seen) : Type 0 where
   pub b : List ℕ
@@ -29,8 +36,14 @@ pub record EditDone (input output : List ℕ) (m : PathMap) (old new : Seen) : T
   pub first : IsFirst m b
   pub is : IsOutput m b out
   pub only : (o : List ℕ) → IsOutput m b o → o ≡ out
+  pub keeps : Keeps m b out
   pub written : now_of new ≡ option_map (with_node output (node.File out mode)) (now_of old)
   pub settled : old.tells ≡ true → IsSettled new.past
+
+-- this holds of what the input held and what the output holds, where the tree tells
+pub record OfFiles (P : List ℕ → List ℕ → Type 0) (input output : List ℕ) (old new : Option TreeMap) : Type 0 where
+  pub is : (t u : TreeMap) (b out : List ℕ) (mode out_mode : ℕ) → old ≡ Some t → new ≡ Some u
+      → fin.get t input ≡ Some (node.File b mode) → fin.get u output ≡ Some (node.File out out_mode) → P b out
 
 -- how an edit ends, by the step at which it does
 pub data EditEnds (input output : List ℕ) (m : PathMap) (old new : Seen) : End → Type 0 where

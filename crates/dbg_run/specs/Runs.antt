@@ -1,6 +1,8 @@
 -- Runs of the program: how each command ends, when it is done, which status is due, and what stays as it is.
 use Rattle.std.specs.Prelude.{◌≡◌, ℕ, List, Option, Some, None}
 use Rattle.dw_base.specs.First.{file_limit}
+use Rattle.dw_base.specs.Loaded.{LoadedKept}
+use Rattle.dw_base.specs.Mapped.{MeaningKept}
 use Rattle.dw_base.specs.Paths.{PathMap}
 use Rattle.file_tree.specs.Trees.{TreeMap, stands_at}
 use Rattle.file_tree.specs.Seen.{Seen, now_of}
@@ -11,7 +13,7 @@ use Rattle.dbg_ends.specs.declared.end.End.TheVariants as end
 use Rattle.dbg_run.specs.declared.words.Command.{Command}
 use Rattle.dbg_run.specs.declared.words.Command.TheVariants.{Edit}
 use Rattle.dbg_run.specs.Words.{command}
-use Rattle.dbg_run.specs.Edits.{EditDone, EditEnds, EditDue}
+use Rattle.dbg_run.specs.Edits.{EditDone, OfFiles, EditEnds, EditDue}
 
 -- how a run of these words ends: the tree and the output sink before it, and after it
 pub data Ends (words : List (List ℕ)) (old new : Seen) (heard said : Heard) : End → Type 0 where
@@ -24,6 +26,16 @@ pub data Ends (words : List (List ℕ)) (old new : Seen) (heard said : Heard) : 
 abbrev pub Done : Option Command → Seen → Seen → Heard → Heard → Type 0
 Done None old new heard said = ⊥
 Done (Some (Edit input output m)) old new heard said = EditDone input output m old new × (said ≡ heard)
+
+-- what the output means is what the input meant, with each source path mapped
+abbrev pub KeepsMeaning : Option Command → Option TreeMap → Option TreeMap → Type 0
+KeepsMeaning None old new = ⊥
+KeepsMeaning (Some (Edit input output m)) old new = OfFiles (MeaningKept m) input output old new
+
+-- what is loaded of the output is what was loaded of the input
+abbrev pub KeepsLoaded : Option Command → Option TreeMap → Option TreeMap → Type 0
+KeepsLoaded None old new = ⊥
+KeepsLoaded (Some (Edit input output m)) old new = OfFiles LoadedKept input output old new
 
 -- the status that is due, where the tree tells that it holds this map
 abbrev pub Due : Option Command → TreeMap → ℕ → Type 0

@@ -8,7 +8,7 @@ ghost use Rattle.file_tree.specs.Trees.{stands_at};
 ghost use Rattle.file_tree.specs.Causes.{Rose, OnlyAt};
 ghost use Rattle.dbg_ends.specs.Ends.{status_of};
 ghost use Rattle.dbg_ends.specs.Due.{Where, IsCut, IsRefusal};
-ghost use Rattle.dbg_run.specs.Edits.{RewriteEnds, EditDone, EditEnds, EditDue};
+ghost use Rattle.dbg_run.specs.Edits.{Keeps, RewriteEnds, EditDone, EditEnds, EditDue};
 
 use dbg_ends::{End, read_input, write_output};
 use dw_base::Fault;
@@ -28,6 +28,7 @@ fn rewrite_bytes(alloc: Global, path: &str, bytes: &Vec<u8>, maps: &Maps) -> Res
     ensures first { OnOk result (IsFirst maps.now bytes.now.items) }
     ensures output { IfOk result (λ out. IsOutput maps.now bytes.now.items out.items) }
     ensures only { IfOk result (λ out. (o : List ℕ) → IsOutput maps.now bytes.now.items o → o ≡ out.items) }
+    ensures keeps { IfOk result (λ out. Keeps maps.now bytes.now.items out.items) }
     ensures ends { IfErr result (RewriteEnds path.now maps.now bytes.now.items) }
     ensures due { IfErr result (λ e. Where (IsFirst maps.now bytes.now.items) (status_of e ≡ 0) (status_of e ≡ 3) ⊎ IsCut (status_of e)) }
     ensures not_done { IfErr result (λ e. 0 ≢ status_of e) }

@@ -8,7 +8,7 @@ ghost use Rattle.dbg_ends.specs.Ends.{status_of};
 ghost use Rattle.dbg_ends.specs.Due.{IsCut, IsRefusal, Exactly};
 ghost use Rattle.dbg_ends.specs.Told.{Ended};
 ghost use Rattle.dbg_run.specs.Words.{command, texts};
-ghost use Rattle.dbg_run.specs.Runs.{Ends, Done, Due, OnlyOutputs};
+ghost use Rattle.dbg_run.specs.Runs.{Ends, Done, Due, KeepsLoaded, KeepsMeaning, OnlyOutputs};
 
 use crate::edit::edit;
 use crate::words::Command;
@@ -92,6 +92,11 @@ pub fn run_words<T: Tree, O: Sink, E: Sink>(
     ensures done { result ≡ 0 → Done (command (texts words.now)) (T.seen tree.old) (T.seen tree.new) (O.heard out.old) (O.heard out.new) }
     ensures quiet { result ≡ 0 → E.heard err.new ≡ E.heard err.old }
     ensures kept { IsRefusal result → now_of (T.seen tree.new) ≡ now_of (T.seen tree.old) }
+
+    // The debug data of the output mean what those of the input meant, with the map applied once to each source path,
+    // and what is loaded is as it was.
+    ensures meaning { result ≡ 0 → KeepsMeaning (command (texts words.now)) (now_of (T.seen tree.old)) (now_of (T.seen tree.new)) }
+    ensures loaded { result ≡ 0 → KeepsLoaded (command (texts words.now)) (now_of (T.seen tree.old)) (now_of (T.seen tree.new)) }
 
     // At every status all but the command's outputs is as it was, and nothing went to the output sink.
     ensures others { OnlyOutputs (command (texts words.now)) (T.seen tree.old) (T.seen tree.new) }

@@ -51,3 +51,10 @@ pub mod WorkedEdits
 pub mod WorkedEditRows
 pub mod ElfReadsLaws
 pub mod EditReadsLaws
+pub mod WorkedMeaning
+pub mod WorkedNotes
+pub mod WorkedForests
+pub mod WorkedLoaded
+pub mod WorkedMeaningLaws
+pub mod WorkedNoMeaning
+pub mod WorkedKept

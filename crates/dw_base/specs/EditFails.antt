@@ -1,7 +1,7 @@
 -- What refuses a file that is to be edited, and the record of what holds where nothing does. Each constructor is a row,
 -- named by what is wrong, and its conclusion has the kind and the place that the refusal names. A row counts only where
 -- what it rests on reads. Which files are taken is this project's profile.
-use Rattle.std.specs.Prelude.{true, false, ◌≡◌, ◌≢◌, ℕ, ◌<◌, ◌||◌, Bool, bit_and, List, IsTrue}
+use Rattle.std.specs.Prelude.{true, false, ◌≡◌, ◌≢◌, ℕ, ◌<◌, bit_and, List, IsTrue}
 use Rattle.dw_base.specs.Elf.{e_type, order_of, nth_section, section_count, section_name, name_index, is_empty_kind}
 use Rattle.dw_base.specs.ElfFails.{HeaderReads, ElfFails, ElfReads}
 use Rattle.dw_base.specs.EntryUnits.{EntryUnits}
@@ -12,7 +12,6 @@ use Rattle.dw_base.specs.Output.{new_body}
 use Rattle.dw_base.specs.Paths.{PathMap}
 use Rattle.dw_base.specs.Refusals.{at}
 use Rattle.dw_base.specs.SectionNames.{debug_info, debug_abbrev, debug_str, contents_called, is_first_name, is_read_name}
-use Rattle.dw_base.specs.Texts.{same_text}
 use Rattle.dw_base.specs.declared.fault.Kind.TheVariants.{Fixed, FileType, Unbuilt}
 use Rattle.dw_base.specs.declared.fault.Refusal.{Refusal}
 use Rattle.dw_base.specs.declared.elf_numbers.TheConstants.{ET_REL, SHF_COMPRESSED}

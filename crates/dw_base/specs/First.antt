@@ -1,7 +1,6 @@
 -- First files: the shape of file that this version of the program takes. Its debug data are units, none or
 -- more, of one entry each, whose attributes are names and directories, none or more; and nothing of it is loaded.
-use Rattle.std.specs.Prelude.{Bool, false, ◌≡◌, ◌≢◌, ℕ, ◌+◌, ◌*◌, ◌^◌, ◌<◌, ◌≤◌, ◌==◌, ◌&&◌, ◌||◌, not, bit_and, nat_eq, nat_lt, if◌then◌else◌, List, [], ◌∷◌, length, drop, Option, Some, None, IsTrue, is_some, option_map, ◌⊎◌, ⊤}
-use Rattle.std.specs.List.{starts_with}
+use Rattle.std.specs.Prelude.{Bool, false, ◌≡◌, ◌≢◌, ℕ, ◌+◌, ◌*◌, ◌^◌, ◌<◌, ◌≤◌, ◌==◌, ◌&&◌, ◌||◌, bit_and, nat_lt, if◌then◌else◌, List, [], ◌∷◌, length, drop, Option, Some, None, IsTrue, is_some, option_map, ◌⊎◌, ⊤}
 use Rattle.std.specs.Int.{is_power_of_two}
 use Rattle.dw_base.specs.Elf.{e_type, e_phnum, e_shentsize, e_shoff, e_shnum, e_shstrndx, nth_section, section_count, section_name, name_table, is_empty_kind, order_of}
 use Rattle.dw_base.specs.Grammar.{Step, EachStep}
@@ -10,9 +9,9 @@ use Rattle.dw_base.specs.Numbers.{spelled}
 use Rattle.dw_base.specs.Output.{Readings, output_of}
 use Rattle.dw_base.specs.Mentions.{NamesText}
 use Rattle.dw_base.specs.Paths.{PathMap}
-use Rattle.dw_base.specs.SectionNames.{debug_info, debug_abbrev, debug_str, debug_prefix, zdebug_prefix, debug_altlink, contents_called, is_first_name}
+use Rattle.dw_base.specs.SectionNames.{debug_info, debug_abbrev, debug_str, contents_called, is_first_name}
 use Rattle.dw_base.specs.Refusals.{at}
-use Rattle.dw_base.specs.Texts.{same_text, ends_in}
+use Rattle.dw_base.specs.Texts.{ends_in}
 use Rattle.dw_base.specs.Units.{UnitState, Mode, header, code, values, stuck, code_value, Reads}
 use Rattle.dw_base.specs.declared.shared.Order.{Order}
 use Rattle.dw_base.specs.declared.shared.Order.TheVariants.{Little}

@@ -5,7 +5,7 @@ use Rattle.dw_base.specs.Abbreviations.{Abbreviation, abbreviation_of}
 use Rattle.dw_base.specs.Grammar.{Step}
 use Rattle.dw_base.specs.Mentions.{Around, table_of, offset_of}
 use Rattle.dw_base.specs.Output.{Readings}
-use Rattle.dw_base.specs.SectionNames.{debug_info, debug_abbrev, debug_str, debug_link, is_read_name}
+use Rattle.dw_base.specs.SectionNames.{debug_info, debug_str, debug_link, is_read_name}
 use Rattle.dw_base.specs.Texts.{same_text, text_in}
 use Rattle.dw_base.specs.Units.{ValueKind, text_offset, unlisted, kind_in, Mode, header, code, values, stuck, UnitState, header_params, code_value, is_path}
 use Rattle.dw_base.specs.Views.{View, ViewSection, contents_named, number_named, without_id}

@@ -1,5 +1,5 @@
--- Plain readings of small files: slow functions that compute what the definitions of unit sections and of the
--- output file say. They are here to be run on worked examples; nothing else stands on them.
+-- Plain readings of small files: slow functions that compute what the definitions of unit sections, of the output file
+-- and of the meaning say. They are here to be run on worked examples; nothing else stands on them.
 use Rattle.std.specs.Prelude.{Bool, true, false, ℕ, zero, suc, ◌+◌, ◌*◌, ◌==◌, ◌&&◌, ◌||◌, nat_lt, nat_le, if◌then◌else◌, List, [], ◌∷◌, length, take, drop, Option, Some, None, is_some, ⊤}
 use Rattle.dw_base.specs.Abbreviations.{abbreviation_of}
 use Rattle.dw_base.specs.Elf.{class_of, order_of, word_size, shdr_size, section_count}
@@ -8,12 +8,14 @@ use Rattle.dw_base.specs.Grammar.{Step, joined}
 use Rattle.dw_base.specs.Layout.{Part, part_of, padding, fixed_end}
 use Rattle.dw_base.specs.Lebs.{uleb, uleb_within}
 use Rattle.dw_base.specs.Lists.{tabulate}
+use Rattle.dw_base.specs.Meaning.{Meaning, meaning_of}
 use Rattle.dw_base.specs.Numbers.{spelled}
 use Rattle.dw_base.specs.Output.{output_of, new_body}
 use Rattle.dw_base.specs.Paths.{PathMap}
 use Rattle.dw_base.specs.SectionNames.{debug_info, debug_abbrev, contents_called}
 use Rattle.dw_base.specs.Texts.{same_text}
 use Rattle.dw_base.specs.Units.{ValueKind, text_offset, unlisted, kind_in, offset_size, Mode, header, code, values, stuck, UnitState, before_unit, past, code_value, is_address_size}
+use Rattle.dw_base.specs.Views.{view_of}
 use Rattle.dw_base.specs.declared.shared.Order.{Order}
 use Rattle.dw_base.specs.declared.shared.Params.{Params}
 
@@ -152,3 +154,7 @@ unfoldable pub plain_length : PathMap → List ℕ → ℕ
 plain_length m b =
     if section_count b == 0 then length b
     else length_with_table b (laid_length (fixed_end b) (tabulate (part_of b (new_body m b (readings (plain_units b)))) (section_count b)))
+
+-- what a file means
+unfoldable pub plain_meaning : List ℕ → Meaning
+plain_meaning b = meaning_of (view_of b) (readings (plain_units b))

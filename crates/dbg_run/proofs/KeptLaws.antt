@@ -1,0 +1,89 @@
+-- What a finished edit keeps, in words of the two files.
+use Rattle.std.proofs.Common.{◌≡◌, ℕ, List, length, sym, ap, ◌∙◌, cond, true, false, refl, Bool, subst}
+use Rattle.std.specs.Prelude.{if◌then◌else◌, Option, Some, None, option_map, nat_le, unwrap_or}
+use Rattle.std.specs.List.{list_any}
+use Rattle.std.specs.Ordering.{eq_by_cmp, nat_cmp}
+use Rattle.std.specs.Cmp.Lexicographic.{slice_cmp, nat_list_cmp_total}
+use Rattle.std.specs.FinMap as fin
+use Rattle.std.proofs.lemmas.Cmp.{eq_by_cmp_equiv}
+use Rattle.dw_base.specs.First.{file_limit}
+use Rattle.dw_base.specs.Loaded.{LoadedKept}
+use Rattle.dw_base.specs.Mapped.{MeaningKept}
+use Rattle.dw_base.specs.Paths.{PathMap}
+use Rattle.file_tree.specs.declared.node.Found.{Found}
+use Rattle.file_tree.specs.declared.node.Found.TheVariants as found
+use Rattle.file_tree.specs.declared.node.Node.{Node}
+use Rattle.file_tree.specs.declared.node.Node.TheVariants as node
+use Rattle.file_tree.specs.Causes.{Stood}
+use Rattle.file_tree.specs.Heard.{Heard}
+use Rattle.file_tree.specs.Seen.{Seen, now_of}
+use Rattle.file_tree.specs.Trees.{TreeMap, found_of, is_below, stands_at, with_node}
+use Rattle.dbg_run.specs.declared.words.Command.{Command}
+use Rattle.dbg_run.specs.declared.words.Command.TheVariants.{Edit}
+use Rattle.dbg_run.specs.Edits.{EditDone, OfFiles, Keeps}
+use Rattle.dbg_run.specs.Edits.Keeps.{both}
+use Rattle.dbg_run.specs.Runs.{Done, KeepsMeaning, KeepsLoaded}
+
+-- a path that was put holds what was put there
+get_put : (t : TreeMap) (path : List ℕ) (n : Node) → fin.get (with_node path n t) path ≡ Some n
+get_put t path n =
+    fin.get-insert nat_list_cmp_total t path n path
+    ∙ ap (λ (b : Bool). cond b (Some n) (fin.get t path)) ((eq_by_cmp_equiv nat_list_cmp_total).refl path)
+
+-- a file that was read within a limit is the one that is there
+bytes_of : List ℕ → Found → List ℕ
+bytes_of other (found.File b mode) = b
+bytes_of other found.Absent = other
+bytes_of other found.Folder = other
+bytes_of other (found.Link target) = other
+bytes_of other (found.TooLarge size) = other
+
+found-file : (b c : List ℕ) (mode other : ℕ) (test : Bool) → (if test then found.File b mode else found.TooLarge (length b)) ≡ found.File c other → b ≡ c
+unfolding bytes_of
+found-file b c mode other true e = ap (bytes_of b) e
+found-file b c mode other false e = ap (bytes_of b) e
+
+read-file : (t : TreeMap) (path b c : List ℕ) (mode other limit : ℕ) → fin.get t path ≡ Some (node.File b mode) → stands_at t path limit ≡ found.File c other → b ≡ c
+unfolding stands_at
+read-file t path b c mode other limit there read =
+    found-file b c mode other (nat_le (length b) limit)
+    (ap (λ (n : Option Node). found_of n (list_any (is_below path) (fin.keys t)) limit) (sym there) ∙ read)
+
+node_bytes : List ℕ → Option Node → List ℕ
+node_bytes other (Some (node.File b mode)) = b
+node_bytes other (Some (node.Link target)) = other
+node_bytes other None = other
+
+written-file : (t u : TreeMap) (path out other : List ℕ) (mode out_mode : ℕ) → Some u ≡ Some (with_node path (node.File out mode) t)
+    → fin.get u path ≡ Some (node.File other out_mode) → out ≡ other
+unfolding node_bytes
+written-file t u path out other mode out_mode is there =
+    let map : u ≡ with_node path (node.File out mode) t = ap (λ (o : Option TreeMap). unwrap_or o u) is in
+    ap (node_bytes out) (sym (get_put t path (node.File out mode)) ∙ ap (λ (v : TreeMap). fin.get v path) (sym map) ∙ there)
+
+-- so what holds of the two files that an edit speaks of holds of what the input and the output hold
+of_files : (P : List ℕ → List ℕ → Type 0) (input output : List ℕ) (m : PathMap) (old new : Seen) → (d : EditDone input output m old new) → P d.b d.out
+    → OfFiles P input output (now_of old) (now_of new)
+of_files P input output m old new d holds = record {
+  is = λ t u b out mode out_mode old_is new_is there put.
+      let input_is : b ≡ d.b = read-file t input b d.b mode d.mode file_limit there (d.read.is t old_is) in
+      let map : Some u ≡ Some (with_node output (node.File d.out d.mode) t) =
+      sym new_is ∙ d.written ∙ ap (option_map (with_node output (node.File d.out d.mode))) old_is in
+      let output_is : d.out ≡ out = written-file t u output d.out out d.mode out_mode map put in
+      subst (λ (o : List ℕ). P b o) output_is (subst (λ (i : List ℕ). P i d.out) (sym input_is) holds);
+}
+
+meaning_kept : (m : PathMap) (b out : List ℕ) → Keeps m b out → MeaningKept m b out
+meaning_kept m b out (both meaning loaded) = meaning
+
+loaded_kept : (m : PathMap) (b out : List ℕ) → Keeps m b out → LoadedKept b out
+loaded_kept m b out (both meaning loaded) = loaded
+
+pub keeps_meaning : (c : Option Command) (old new : Seen) (heard said : Heard) → Done c old new heard said → KeepsMeaning c (now_of old) (now_of new)
+keeps_meaning None old new heard said d = d
+keeps_meaning (Some (Edit input output m)) old new heard said d =
+    of_files (MeaningKept m) input output m old new d.0 (meaning_kept m d.0.b d.0.out d.0.keeps)
+
+pub keeps_loaded : (c : Option Command) (old new : Seen) (heard said : Heard) → Done c old new heard said → KeepsLoaded c (now_of old) (now_of new)
+keeps_loaded None old new heard said d = d
+keeps_loaded (Some (Edit input output m)) old new heard said d = of_files LoadedKept input output m old new d.0 (loaded_kept m d.0.b d.0.out d.0.keeps)

@@ -1,0 +1,127 @@
+-- The output of the smallest file keeps its meaning and what is loaded of it; and the meaning that is kept is the one that is
+-- written out.
+use Rattle.std.proofs.Common.{◌≡◌, ℕ, zero, suc, ◌<◌, List, [], ◌∷◌, refl, sym, ap, subst, ◌∙◌, arith}
+use Rattle.dw_base.proofs.FirstLaws.{first-reads}
+use Rattle.dw_base.proofs.MeaningKeptLaws.{first-loaded, first-meaning}
+use Rattle.dw_base.proofs.PlainFirstComplete.{units-same}
+use Rattle.dw_base.proofs.PlainOutputLaws.{first-sound}
+use Rattle.dw_base.proofs.WorkedFiles1.{one_unit, one_unit-first, one_unit_out}
+use Rattle.dw_base.proofs.WorkedMeaning.{alone, mapped_paths, one_unit-meaning, paths, unit_of}
+use Rattle.dw_base.proofs.WorkedMeaningLaws.{means-plain}
+use Rattle.dw_base.proofs.WorkedParts.{worked_map}
+use Rattle.dw_base.specs.Abbreviations.{abbreviations_at}
+use Rattle.dw_base.specs.Elf.{class_of, contents_at, contents_of, e_machine, e_phnum, e_phoff, e_shentsize, e_shnum, e_shoff, e_shstrndx, e_type, name_index, name_table, nth_section, nth_segment, order_of, section_at, section_count, section_name, sections_of, segment_at, segments_of}
+use Rattle.dw_base.specs.First.{IsFirst, readings}
+use Rattle.dw_base.specs.Grammar.{Step}
+use Rattle.dw_base.specs.Layout.{fixed_end, is_fixed, padding, part_of}
+use Rattle.dw_base.specs.LayoutReads.{ReadsBack, SameButPlace}
+use Rattle.dw_base.specs.Loaded.{LoadedKept}
+use Rattle.dw_base.specs.Mapped.{MeaningKept, mapped, mapped_units}
+use Rattle.dw_base.specs.Meaning.{Meaning}
+use Rattle.dw_base.specs.Notes.{build_id_of}
+use Rattle.dw_base.specs.Numbers.{spelled, with_number}
+use Rattle.dw_base.specs.Output.{new_body, new_info, new_str, str_change}
+use Rattle.dw_base.specs.Paths.{IsPathMap, is_prefix, lies_under, mapped_path}
+use Rattle.dw_base.specs.PlainFirst.{abbreviations_test, header_test, length_test, names_test, sections_test, table_test, texts_test, units_test}
+use Rattle.dw_base.specs.PlainReading.{plain_cut, plain_length, plain_pieces, plain_reads, plain_units}
+use Rattle.dw_base.specs.SectionNames.{contents_called, names_of, section_called}
+use Rattle.dw_base.specs.Texts.{ends_in, text_in}
+use Rattle.dw_base.specs.Units.{UnitState, after_code, between, headed, kind_in, role_of}
+use Rattle.dw_base.specs.Views.{view_of, view_section}
+
+-- the map of the worked files is one of two words
+worked_map-map : IsPathMap worked_map
+unfolding is_prefix
+worked_map-map = record { base = refl; dest = refl; base_cut = refl; dest_cut = refl }
+
+-- no section has a greater number than 4
+five : (i : ℕ) → suc (suc (suc (suc (suc i)))) < section_count one_unit → ⊥
+unfolding spelled e_type e_phnum e_phoff e_shoff e_shentsize e_shnum e_shstrndx class_of order_of nth_section section_at
+    section_count name_index name_table section_name contents_of contents_at text_in ends_in
+five i lt =
+    let count : section_count one_unit ≡ 5 = refl in
+    let below : suc (suc (suc (suc (suc i)))) < 5 = subst (λ (n : ℕ). suc (suc (suc (suc (suc i)))) < n) count lt in
+    omega (arith, below)
+
+-- the sections of the output are those of the file, but for their places
+heads : (i : ℕ) → i < section_count one_unit → SameButPlace (nth_section one_unit i) (nth_section one_unit_out i)
+unfolding spelled e_type e_phnum e_phoff e_shoff e_shentsize e_shnum e_shstrndx class_of order_of nth_section section_at
+    section_count name_index name_table section_name contents_of contents_at text_in ends_in
+heads zero lt = record { name = refl; kind = refl; flags = refl; addr = refl; link = refl; info = refl; align = refl; entry_size = refl }
+heads (suc zero) lt = record { name = refl; kind = refl; flags = refl; addr = refl; link = refl; info = refl; align = refl; entry_size = refl }
+heads (suc (suc zero)) lt = record { name = refl; kind = refl; flags = refl; addr = refl; link = refl; info = refl; align = refl; entry_size = refl }
+heads (suc (suc (suc zero))) lt = record { name = refl; kind = refl; flags = refl; addr = refl; link = refl; info = refl; align = refl; entry_size = refl }
+heads (suc (suc (suc (suc zero)))) lt = record { name = refl; kind = refl; flags = refl; addr = refl; link = refl; info = refl; align = refl; entry_size = refl }
+heads (suc (suc (suc (suc (suc i))))) lt = absurd (five i lt)
+
+-- with their new bytes
+contents : (i : ℕ) → i < section_count one_unit → contents_of one_unit_out i ≡ new_body worked_map one_unit (readings (plain_units one_unit)) i
+unfolding spelled e_type e_phnum e_phoff e_shoff e_shentsize e_shnum e_shstrndx class_of order_of nth_section section_at
+    section_count name_index name_table section_name contents_of contents_at text_in ends_in names_of section_called
+    contents_called plain_cut between headed after_code kind_in abbreviations_at plain_pieces plain_units new_body new_info
+    new_str str_change lies_under mapped_path role_of
+contents zero lt = refl
+contents (suc zero) lt = refl
+contents (suc (suc zero)) lt = refl
+contents (suc (suc (suc zero))) lt = refl
+contents (suc (suc (suc (suc zero)))) lt = refl
+contents (suc (suc (suc (suc (suc i))))) lt = absurd (five i lt)
+
+-- the output is itself a First file
+one_unit_out-first : IsFirst worked_map one_unit_out
+unfolding spelled e_type e_phnum e_phoff e_shoff e_shentsize e_shnum e_shstrndx class_of order_of nth_section section_at
+    section_count name_index name_table section_name contents_of contents_at text_in ends_in names_of section_called
+    contents_called plain_cut between headed after_code kind_in abbreviations_at plain_pieces plain_units new_body new_info
+    new_str str_change lies_under mapped_path header_test table_test sections_test names_test units_test abbreviations_test
+    texts_test length_test plain_reads plain_length part_of is_fixed fixed_end padding segments_of nth_segment segment_at
+    sections_of role_of
+one_unit_out-first = first-sound worked_map one_unit_out refl
+
+-- so the output reads back
+one_unit-back : ReadsBack one_unit (new_body worked_map one_unit (readings (plain_units one_unit))) one_unit_out
+unfolding spelled e_type e_phnum e_phoff e_shoff e_shentsize e_shnum e_shstrndx class_of order_of nth_section section_at
+    section_count name_index name_table section_name contents_of contents_at text_in ends_in e_machine fixed_end with_number
+    segments_of nth_segment segment_at sections_of
+one_unit-back = record {
+  class = refl;
+  order = refl;
+  kind = refl;
+  machine = refl;
+  count = refl;
+  names = refl;
+  heads = heads;
+  contents = contents;
+  front = refl;
+  segments = λ known. refl;
+  reads = λ known names. first-reads one_unit_out one_unit_out-first.header one_unit_out-first.table one_unit_out-first.sections;
+}
+
+-- for the pieces that its rules speak of
+one_unit-reads_back : ReadsBack one_unit (new_body worked_map one_unit (readings one_unit-first.units.pieces)) one_unit_out
+one_unit-reads_back =
+    subst (λ (xs : List (Step UnitState)). ReadsBack one_unit (new_body worked_map one_unit (readings xs)) one_unit_out)
+    (units-same one_unit one_unit-first.units) one_unit-back
+
+pub one_unit-kept : MeaningKept worked_map one_unit one_unit_out
+one_unit-kept = first-meaning worked_map one_unit one_unit_out worked_map-map one_unit-first one_unit-reads_back (omega arith)
+
+pub one_unit-loaded : LoadedKept one_unit one_unit_out
+one_unit-loaded = first-loaded worked_map one_unit one_unit_out one_unit-first one_unit-reads_back
+
+-- what is kept: these units, and for the output those with the map applied
+pub one_unit-kept-old : one_unit-kept.meaning.units ≡ unit_of 1 (alone 17 paths) ∷ []
+unfolding spelled e_type e_phnum e_phoff e_shoff e_shentsize e_shnum e_shstrndx class_of order_of nth_section section_at
+    section_count name_index name_table section_name contents_of contents_at text_in ends_in names_of section_called
+    contents_called plain_cut between headed after_code kind_in abbreviations_at plain_pieces plain_units view_of view_section
+    build_id_of
+one_unit-kept-old =
+    ap (λ (x : Meaning). x.units) (sym (means-plain one_unit one_unit-kept.meaning (record { info = refl; abbrevs = refl }) one_unit-kept.old))
+    ∙ one_unit-meaning.old
+
+-- the map leads from the one to the other
+paths-mapped : mapped_units worked_map (unit_of 1 (alone 17 paths) ∷ []) ≡ unit_of 1 (alone 17 mapped_paths) ∷ []
+unfolding lies_under mapped_path
+paths-mapped = refl
+
+pub one_unit-kept-new : (mapped worked_map one_unit-kept.meaning).units ≡ unit_of 1 (alone 17 mapped_paths) ∷ []
+one_unit-kept-new = ap (mapped_units worked_map) one_unit-kept-old ∙ paths-mapped
