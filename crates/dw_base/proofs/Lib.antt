@@ -45,6 +45,8 @@ pub mod SectionLaws
 pub mod ViewLaws
 pub mod MeaningOneLaws
 pub mod MeaningKeptLaws
+pub mod LoadedLaws
+pub mod FirstKeptLaws
 pub mod EditLaws
 pub mod PlainEditLaws
 pub mod WorkedEdits

@@ -5,7 +5,7 @@ use Rattle.std.proofs.Math.Nat.{mul-le-mul_right}
 use Rattle.std.specs.Int.{is_power_of_two}
 use Rattle.dw_base.specs.Elf.{class_of, order_of, phdr_size, shdr_size, word_size, shoff_place, e_shoff, e_phnum, is_empty_kind, nth_section, section_count, name_index, name_table}
 use Rattle.dw_base.specs.ElfFails.{ident_byte, HeaderReads, ShapeReads, SegmentTableReads, TableReads, IndexReads, SectionReads, SegmentReads, SegmentsRead, DebugReads, ElfReads}
-use Rattle.dw_base.specs.Layout.{fixed_end, is_fixed, part_of, with_bodies}
+use Rattle.dw_base.specs.Layout.{fixed_end, is_fixed, padding, part_of, with_bodies}
 use Rattle.dw_base.specs.LayoutFails.{LayoutFails}
 use Rattle.dw_base.specs.LayoutReads.{is_known_kind, NamesEnd, ReadsBack}
 use Rattle.dw_base.specs.Numbers.{spelled, with_number}
@@ -16,10 +16,10 @@ use Rattle.dw_base.specs.declared.records.Segment.{Segment}
 use Rattle.dw_base.specs.declared.shared.Order.TheVariants.{Little}
 use Rattle.dw_base.proofs.ElfLaws.{e_shoff-some}
 use Rattle.dw_base.proofs.FixedPartLaws.{segment-fixed, fixed-ends}
-use Rattle.dw_base.proofs.LayoutLaws.{fixed_end-header, fixed_end-within}
+use Rattle.dw_base.proofs.LayoutLaws.{fixed_end-header, fixed_end-within, laid_tabulate-longer}
 use Rattle.dw_base.proofs.NumberLaws.{spelled-take}
 use Rattle.std.proofs.lemmas.List.{length-take, length-take-le, get_or-take, get_or_past}
-use Rattle.dw_base.proofs.WrittenLaws.{IsWritten, eq-differ, shoff_place-within, out-spelled}
+use Rattle.dw_base.proofs.WrittenLaws.{IsWritten, front_of, eq-differ, shoff_place-within, out-spelled}
 use Rattle.dw_base.proofs.WrittenHeaders.{header_places, lengths, class-same, order-same, e_type-same, e_machine-same, e_phentsize-same, e_phnum-same, e_shentsize-same, e_phoff-same, e_shoff-is}
 use Rattle.dw_base.proofs.WrittenSections.{before_of, part-moves, moved-length, laid-with, nth-is}
 use Rattle.dw_base.proofs.WrittenContents.{head-same, head-stays, first-same, count-same, name_index-same, empty-same, new_head-moves, full-moves, fixed-stays, contents-is}
@@ -182,6 +182,26 @@ elf-reads b bodies w known names = record {
 }
 
 -- a file with sections reads back
+-- a section that stays has its header, and one that moves stands behind the fixed end
+section-stays : (b : List ℕ) (bodies : ℕ → List ℕ) (i : ℕ) → IsWritten b bodies → i < section_count b → is_fixed b (nth_section b i) ≡ true
+    → nth_section (with_bodies b bodies) i ≡ nth_section b i
+section-stays b bodies i w lt fixed =
+    head-stays b bodies i w lt (part-moves b bodies i ∙ fixed-stays (is_empty_kind (nth_section b i)) (is_fixed b (nth_section b i)) fixed)
+
+moved-offset : (b : List ℕ) (bodies : ℕ → List ℕ) (i : ℕ) → IsWritten b bodies → i < section_count b → is_empty_kind (nth_section b i) ≡ false
+    → is_fixed b (nth_section b i) ≡ false
+    → (nth_section (with_bodies b bodies) i).offset ≡ length (before_of b bodies i) + padding (length (before_of b bodies i)) (part_of b bodies i).head.align
+moved-offset b bodies i w lt full free =
+    let moves : (part_of b bodies i).moves ≡ true = part-moves b bodies i ∙ rw (full, free) refl in
+    ap (λ (s : Section). s.offset) (nth-is b bodies i w lt ∙ new_head-moves (length (before_of b bodies i)) (part_of b bodies i) moves)
+
+section-behind : (b : List ℕ) (bodies : ℕ → List ℕ) (i : ℕ) → IsWritten b bodies → i < section_count b → is_empty_kind (nth_section b i) ≡ false
+    → is_fixed b (nth_section b i) ≡ false → fixed_end b ≤ (nth_section (with_bodies b bodies) i).offset
+section-behind b bodies i w lt full free =
+    let size = lengths b bodies w in
+    let longer = laid_tabulate-longer (front_of b) (part_of b bodies) 0 i (omega arith) in
+    omega (arith, moved-offset b bodies i w lt full free, size.front, longer)
+
 written-reads_back : (b : List ℕ) (bodies : ℕ → List ℕ) → IsWritten b bodies → ReadsBack b bodies (with_bodies b bodies)
 written-reads_back b bodies w = record {
   class = class-same b bodies w;
@@ -191,6 +211,8 @@ written-reads_back b bodies w = record {
   count = count-same b bodies w;
   names = name_index-same b bodies w;
   heads = λ i lt. head-same b bodies i w lt;
+  stays = λ i lt fixed. section-stays b bodies i w lt fixed;
+  behind = λ i lt full free. section-behind b bodies i w lt full free;
   contents = λ i lt. contents-is b bodies i w lt;
   front = front-is b bodies w;
   segments = segments-same b bodies w;
@@ -234,6 +256,8 @@ bare-reads_back b bodies none reads segments bytes = record {
   count = refl;
   names = refl;
   heads = λ i lt. absurd (omega arith);
+  stays = λ i lt fixed. absurd (omega arith);
+  behind = λ i lt full free. absurd (omega arith);
   contents = λ i lt. absurd (omega arith);
   front = bare-front b reads segments bytes;
   segments = λ known. refl;

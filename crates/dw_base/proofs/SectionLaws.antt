@@ -70,3 +70,50 @@ length-contents b i = by_kind (is_empty_kind (nth_section b i))
     by_kind false =
         let rest : ℕ = length (drop (nth_section b i).offset b) in
         omega (arith, length-take (nth_section b i).size (drop (nth_section b i).offset b), length-drop (nth_section b i).offset b)
+
+-- a place in the list holds the text, and behind its end there is none
+index_in-named : (us : List (List ℕ)) (t : List ℕ) → index_in us t < length us → get_or us (index_in us t) [] ≡ t
+index_in-named [] t lt = absurd (omega arith)
+index_in-named (u ∷ us) t lt = by_test (same_text u t) refl lt (index_in-named us t)
+  where
+    by_test : (test : Bool) → same_text u t ≡ test → cond test 0 (suc (index_in us t)) < suc (length us) → (index_in us t < length us → get_or us (index_in us t) [] ≡ t)
+        → get_or (u ∷ us) (cond test 0 (suc (index_in us t))) [] ≡ t
+    by_test true is lt rest = same_text-true u t is
+    by_test false is lt rest = rest (omega arith)
+
+index_in-past : (us : List (List ℕ)) (t : List ℕ) → length us ≤ index_in us t → is_in us t ≡ false
+index_in-past [] t le = refl
+index_in-past (u ∷ us) t le = by_test (same_text u t) le (index_in-past us t)
+  where
+    by_test : (test : Bool) → suc (length us) ≤ cond test 0 (suc (index_in us t)) → (length us ≤ index_in us t → is_in us t ≡ false) → cond test true (is_in us t) ≡ false
+    by_test true le rest = absurd (omega arith)
+    by_test false le rest = rest (omega arith)
+
+-- the first section of a name that there is has the name, and its bytes are those of the name
+pub section_called-named : (b name : List ℕ) → section_called b name < section_count b → section_name b (section_called b name) ≡ name
+unfolding section_called
+section_called-named b name lt =
+    sym (get_or-names_of b (index_in (names_of b) name) lt) ∙ index_in-named (names_of b) name (omega (arith, length-names_of b, lt))
+
+pub contents_called-there : (b name : List ℕ) → section_called b name < section_count b → contents_called b name ≡ contents_of b (section_called b name)
+unfolding contents_called
+contents_called-there b name lt =
+    rw (is_in-found (names_of b) (section_called b name) name [] (omega (arith, length-names_of b, lt))
+    (get_or-names_of b (section_called b name) lt ∙ section_called-named b name lt)) refl
+
+-- a name that there isn't has no section and no bytes
+section_called-is : (b name : List ℕ) → section_called b name ≡ index_in (names_of b) name
+unfolding section_called
+section_called-is b name = refl
+
+pub contents_called-none : (b name : List ℕ) → section_count b ≤ section_called b name → contents_called b name ≡ []
+unfolding contents_called
+contents_called-none b name le =
+    rw (index_in-past (names_of b) name (omega (arith, length-names_of b, section_called-is b name, le))) refl
+
+pub section_called-other : (b name : List ℕ) (k : ℕ) → section_count b ≤ section_called b name → k < section_count b → section_name b k ≢ name
+section_called-other b name k le lt is =
+    let there : is_in (names_of b) name ≡ true = is_in-found (names_of b) k name [] (omega (arith, length-names_of b)) (get_or-names_of b k lt ∙ is) in
+    let none : is_in (names_of b) name ≡ false = index_in-past (names_of b) name (omega (arith, length-names_of b, section_called-is b name, le)) in
+    let no : true ≡ false = sym there ∙ none in
+    cc

@@ -1,9 +1,9 @@
 -- Laws of views: the sections of a name, and the view of a file that was written with new section bodies.
-use Rattle.std.proofs.Common.{Bool, true, false, ◌≡◌, ◌≢◌, ℕ, zero, suc, ◌<◌, ◌==◌, ◌&&◌, ◌||◌, not, List, [], ◌∷◌, ◌++◌, cond, ap, ◌∙◌, refl, arith, inl, inr}
+use Rattle.std.proofs.Common.{take, drop, sym, Bool, true, false, ◌≡◌, ◌≢◌, ℕ, zero, suc, ◌<◌, ◌==◌, ◌&&◌, ◌||◌, not, List, [], ◌∷◌, ◌++◌, cond, ap, ◌∙◌, refl, arith, inl, inr}
 use Rattle.std.specs.Bool.{⊤}
 use Rattle.std.specs.Prelude.{Option, Some, None}
-use Rattle.std.proofs.lemmas.Bool.{cases_lt}
-use Rattle.dw_base.specs.Elf.{order_of, nth_section, section_count, section_name, name_index, name_table, contents_of}
+use Rattle.std.proofs.lemmas.Bool.{cases_lt, cases_Bool}
+use Rattle.dw_base.specs.Elf.{order_of, nth_section, section_count, section_name, name_index, name_table, contents_of, contents_at, is_empty_kind}
 use Rattle.dw_base.specs.LayoutReads.{ReadsBack}
 use Rattle.dw_base.specs.Lists.{tabulate}
 use Rattle.dw_base.specs.Meaning.{NamedBytes, is_other, other_sections}
@@ -12,7 +12,7 @@ use Rattle.dw_base.specs.SectionNames.{debug_link, is_read_name}
 use Rattle.dw_base.specs.Texts.{same_text, text_in}
 use Rattle.dw_base.specs.Views.{ViewSection, view_section, view_of, is_filled, contents_named, number_named, zeroed_at, without_id}
 use Rattle.dw_base.proofs.SectionLaws.{same_text-other}
-use Rattle.dw_base.proofs.TextLaws.{same_text-from}
+use Rattle.dw_base.proofs.TextLaws.{same_text-from, same_text-true}
 
 -- equally many, and each pair of the same place is related
 abbrev pub AllPairs : {X : Type 0} → (X → X → Type 0) → List X → List X → Type 0
@@ -65,21 +65,63 @@ contents_named-first : (ss : List ViewSection) (s : ViewSection) (name : List �
 contents_named-first [] s name none is full = rw (full, same_text-from s.name name is) refl
 contents_named-first (x ∷ ss) s name none is full = rw (filled-other x name none.0) (contents_named-first ss s name none.1 is full)
 
+-- where none of the sections of a name has bytes there are none
+abbrev NoneFilled : List ℕ → List ViewSection → Type 0
+NoneFilled name [] = ⊤
+NoneFilled name (s ∷ ss) = (is_filled name s ≡ false) × NoneFilled name ss
+
+unfilled-push : (name : List ℕ) (ss : List ViewSection) (s : ViewSection) → NoneFilled name ss → is_filled name s ≡ false → NoneFilled name (ss ++ s ∷ [])
+unfilled-push name [] s none other = (other, tt)
+unfilled-push name (x ∷ ss) s none other = (none.0, unfilled-push name ss s none.1 other)
+
+tabulate-unfilled : (f : ℕ → ViewSection) (n : ℕ) (name : List ℕ) → ((k : ℕ) → k < n → is_filled name (f k) ≡ false) → NoneFilled name (tabulate f n)
+tabulate-unfilled f zero name none = tt
+tabulate-unfilled f (suc n) name none =
+    unfilled-push name (tabulate f n) (f n) (tabulate-unfilled f n name (λ k lt. none k (omega arith))) (none n (omega arith))
+
+contents_named-unfilled : (ss : List ViewSection) (name : List ℕ) → NoneFilled name ss → contents_named ss name ≡ []
+contents_named-unfilled [] name none = refl
+contents_named-unfilled (s ∷ ss) name none = rw none.0 (contents_named-unfilled ss name none.1)
+
+-- a name that no section has
+pub named-none : (f : ℕ → ViewSection) (n : ℕ) (name : List ℕ) → ((k : ℕ) → k < n → (f k).name ≢ name) → contents_named (tabulate f n) name ≡ []
+named-none f n name none =
+    contents_named-unfilled (tabulate f n) name (tabulate-unfilled f n name (λ k lt. filled-other (f k) name (none k lt)))
+
 -- the bytes of a name that one section has
-pub named-once : (f : ℕ → ViewSection) (n i : ℕ) (name : List ℕ) → i < n → (f i).name ≡ name → (f i).has_bytes ≡ true
+filled-once : (f : ℕ → ViewSection) (n i : ℕ) (name : List ℕ) → i < n → (f i).name ≡ name → (f i).has_bytes ≡ true
     → ((k : ℕ) → k < n → (f k).name ≡ name → k ≡ i) → contents_named (tabulate f n) name ≡ (f i).contents
-named-once f zero i name lt is full only = absurd (omega arith)
-named-once f (suc n) i name lt is full only =
+filled-once f zero i name lt is full only = absurd (omega arith)
+filled-once f (suc n) i name lt is full only =
     elim (cases_lt i n) [
       | inl below ↦
           contents_named-other (tabulate f n) (f n) name (λ same. let at : n ≡ i = only n (omega arith) same in omega arith)
-          ∙ named-once f n i name below is full (λ k before same. only k (omega arith) same)
+          ∙ filled-once f n i name below is full (λ k before same. only k (omega arith) same)
       | inr past ↦
           let last : n ≡ i = omega arith in
           contents_named-first (tabulate f n) (f n) name
           (tabulate-none f n name (λ k before same. let at : k ≡ i = only k (omega arith) same in omega arith))
           (ap (λ (k : ℕ). (f k).name) last ∙ is) (ap (λ (k : ℕ). (f k).has_bytes) last ∙ full)
           ∙ ap (λ (k : ℕ). (f k).contents) last
+    ]
+
+empty-unfilled : (s : ViewSection) (name : List ℕ) → s.has_bytes ≡ false → is_filled name s ≡ false
+empty-unfilled s name empty = rw empty refl
+
+pub named-once : (f : ℕ → ViewSection) (n i : ℕ) (name : List ℕ) → i < n → (f i).name ≡ name → ((f i).has_bytes ≡ false → (f i).contents ≡ [])
+    → ((k : ℕ) → k < n → (f k).name ≡ name → k ≡ i) → contents_named (tabulate f n) name ≡ (f i).contents
+named-once f n i name lt is empty only =
+    elim (cases_Bool (f i).has_bytes) [
+      | inl full ↦ filled-once f n i name lt is full only
+      | inr none ↦
+          contents_named-unfilled (tabulate f n) name (tabulate-unfilled f n name (λ k below.
+          elim (cases_Bool (same_text (f k).name name)) [
+            | inl same ↦
+                let here : k ≡ i = only k below (same_text-true (f k).name name same) in
+                empty-unfilled (f k) name (ap (λ (j : ℕ). (f j).has_bytes) here ∙ none)
+            | inr other ↦ filled-other (f k) name (λ (e : (f k).name ≡ name). let yes : same_text (f k).name name ≡ true = same_text-from (f k).name name e in cc)
+          ]))
+          ∙ sym (empty none)
     ]
 
 -- two sections are the same, but for the bytes of one that is read
@@ -219,3 +261,12 @@ name-view b i = refl
 pub contents-view : (b : List ℕ) (i : ℕ) → (view_section b i).contents ≡ contents_of b i
 unfolding view_section
 contents-view b i = refl
+
+-- a section without bytes in the file has none
+pub empty-view : (b : List ℕ) (i : ℕ) → (view_section b i).has_bytes ≡ false → (view_section b i).contents ≡ []
+unfolding view_section contents_of contents_at
+empty-view b i none = by_kind (is_empty_kind (nth_section b i)) none
+  where
+    by_kind : (e : Bool) → not e ≡ false → cond e [] (take (nth_section b i).size (drop (nth_section b i).offset b)) ≡ []
+    by_kind true h = refl
+    by_kind false h = let no : true ≡ false = h in cc

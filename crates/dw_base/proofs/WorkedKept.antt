@@ -1,8 +1,9 @@
 -- The output of the smallest file keeps its meaning and what is loaded of it; and the meaning that is kept is the one that is
 -- written out.
-use Rattle.std.proofs.Common.{◌≡◌, ℕ, zero, suc, ◌<◌, List, [], ◌∷◌, refl, sym, ap, subst, ◌∙◌, arith}
+use Rattle.std.proofs.Common.{◌≡◌, ℕ, zero, suc, ◌<◌, ◌≤◌, true, false, List, [], ◌∷◌, refl, sym, ap, subst, ◌∙◌, arith}
+use Rattle.std.proofs.lemmas.Bool.{leb-true}
 use Rattle.dw_base.proofs.FirstLaws.{first-reads}
-use Rattle.dw_base.proofs.MeaningKeptLaws.{first-loaded, first-meaning}
+use Rattle.dw_base.proofs.FirstKeptLaws.{first-loaded, first-meaning}
 use Rattle.dw_base.proofs.PlainFirstComplete.{units-same}
 use Rattle.dw_base.proofs.PlainOutputLaws.{first-sound}
 use Rattle.dw_base.proofs.WorkedFiles1.{one_unit, one_unit-first, one_unit_out}
@@ -10,7 +11,7 @@ use Rattle.dw_base.proofs.WorkedMeaning.{alone, mapped_paths, one_unit-meaning, 
 use Rattle.dw_base.proofs.WorkedMeaningLaws.{means-plain}
 use Rattle.dw_base.proofs.WorkedParts.{worked_map}
 use Rattle.dw_base.specs.Abbreviations.{abbreviations_at}
-use Rattle.dw_base.specs.Elf.{class_of, contents_at, contents_of, e_machine, e_phnum, e_phoff, e_shentsize, e_shnum, e_shoff, e_shstrndx, e_type, name_index, name_table, nth_section, nth_segment, order_of, section_at, section_count, section_name, sections_of, segment_at, segments_of}
+use Rattle.dw_base.specs.Elf.{class_of, contents_at, contents_of, is_empty_kind, e_machine, e_phnum, e_phoff, e_shentsize, e_shnum, e_shoff, e_shstrndx, e_type, name_index, name_table, nth_section, nth_segment, order_of, section_at, section_count, section_name, sections_of, segment_at, segments_of}
 use Rattle.dw_base.specs.First.{IsFirst, readings}
 use Rattle.dw_base.specs.Grammar.{Step}
 use Rattle.dw_base.specs.Layout.{fixed_end, is_fixed, padding, part_of}
@@ -77,6 +78,27 @@ unfolding spelled e_type e_phnum e_phoff e_shoff e_shentsize e_shnum e_shstrndx 
     sections_of role_of
 one_unit_out-first = first-sound worked_map one_unit_out refl
 
+-- section 0 stays, and the others are laid out anew behind the file header
+stays : (i : ℕ) → i < 5 → is_fixed one_unit (nth_section one_unit i) ≡ true → nth_section one_unit_out i ≡ nth_section one_unit i
+unfolding spelled e_type e_phnum e_phoff e_shoff e_shentsize e_shnum e_shstrndx class_of order_of nth_section section_at
+    section_count fixed_end is_fixed segments_of nth_segment segment_at sections_of
+stays zero lt fixed = refl
+stays (suc zero) lt fixed = let no : false ≡ true = fixed in cc
+stays (suc (suc zero)) lt fixed = let no : false ≡ true = fixed in cc
+stays (suc (suc (suc zero))) lt fixed = let no : false ≡ true = fixed in cc
+stays (suc (suc (suc (suc zero)))) lt fixed = let no : false ≡ true = fixed in cc
+stays (suc (suc (suc (suc (suc i))))) lt fixed = absurd (omega arith)
+
+behind : (i : ℕ) → i < 5 → is_empty_kind (nth_section one_unit i) ≡ false → fixed_end one_unit ≤ (nth_section one_unit_out i).offset
+unfolding spelled e_type e_phnum e_phoff e_shoff e_shentsize e_shnum e_shstrndx class_of order_of nth_section section_at
+    section_count fixed_end segments_of nth_segment segment_at sections_of
+behind zero lt full = let no : true ≡ false = full in cc
+behind (suc zero) lt full = leb-true 64 64 refl
+behind (suc (suc zero)) lt full = leb-true 64 84 refl
+behind (suc (suc (suc zero))) lt full = leb-true 64 94 refl
+behind (suc (suc (suc (suc zero)))) lt full = leb-true 64 154 refl
+behind (suc (suc (suc (suc (suc i))))) lt full = absurd (omega arith)
+
 -- so the output reads back
 one_unit-back : ReadsBack one_unit (new_body worked_map one_unit (readings (plain_units one_unit))) one_unit_out
 unfolding spelled e_type e_phnum e_phoff e_shoff e_shentsize e_shnum e_shstrndx class_of order_of nth_section section_at
@@ -90,6 +112,8 @@ one_unit-back = record {
   count = refl;
   names = refl;
   heads = heads;
+  stays = stays;
+  behind = λ i lt full free. behind i lt full;
   contents = contents;
   front = refl;
   segments = λ known. refl;

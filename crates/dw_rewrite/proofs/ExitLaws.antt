@@ -39,7 +39,7 @@ use Rattle.dw_rewrite.specs.declared.judge.Sections.{Sections}
 use Rattle.dw_base.proofs.SectionLaws.{section_called-once, length-contents}
 use Rattle.dw_rewrite.proofs.RewriteLaws.{is_first, is_output, bodies_of_units, too_long_file, refused_units_found, refused_written, stays_same, full_kind, paths_found}
 use Rattle.dw_base.proofs.ReadsBackLaws.{with_bodies-same, reads_back-same}
-use Rattle.dw_base.proofs.MeaningKeptLaws.{first-meaning, first-loaded}
+use Rattle.dw_base.proofs.FirstKeptLaws.{first-meaning, first-loaded}
 use Rattle.dw_rewrite.proofs.WrittenLaws.{length-moved}
 
 -- a file that can't be read as ELF is refused for its sections
