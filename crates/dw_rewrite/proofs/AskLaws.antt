@@ -1,16 +1,14 @@
 -- Whether a text lies under a base, by the bytes of the table that it stands in.
-use Rattle.std.proofs.Common.{Bool, true, false, ◌≡◌, ◌≢◌, ℕ, zero, suc, ◌+◌, ◌-◌, ◌<◌, ◌≤◌, ◌==◌, ◌&&◌, ◌||◌, not, nat_eq, List, [], ◌∷◌, ◌++◌, length, take, drop, get_or, cond, IsTrue, sym, ap, ◌∙◌, refl, subst, arith, inl, inr}
-use Rattle.std.proofs.Math.Seq.{take-append_seam}
+use Rattle.std.proofs.Common.{Bool, true, false, ◌≡◌, ℕ, zero, suc, ◌<◌, ◌≤◌, ◌==◌, ◌&&◌, ◌||◌, not, nat_eq, List, [], ◌∷◌, ◌++◌, length, take, drop, get_or, cond, sym, ap, ◌∙◌, refl, arith, inl, inr}
 use Rattle.std.proofs.lemmas.Bool.{cases_lt}
 use Rattle.std.proofs.lemmas.Bool.Decides.{nat_tests}
-use Rattle.std.proofs.lemmas.List.{length-append, length-take, take-append-le, append_cancel_right}
+use Rattle.std.proofs.lemmas.List.{length-take, take-append-le, append_cancel_right}
 use Rattle.std.proofs.lemmas.Slice.Eq.{bytes_eq-Decides}
 use Rattle.std.specs.List.{starts_with}
 use Rattle.dw_base.specs.Paths.{PathMap, IsPathMap, lies_under, mapped_path}
-use Rattle.dw_base.specs.StringTables.{appending, Mention}
-use Rattle.dw_base.specs.Texts.{has_nul, text, text_in, ends_in, same_text}
+use Rattle.dw_base.specs.Texts.{has_nul, text, same_text}
 use Rattle.dw_base.proofs.TextLaws.{text-split, has_nul-text, length-text, same_text-true, same_text-from}
-use Rattle.dw_base.proofs.PathLaws.{lies_under-split, IsPrefix, is_prefix-parts}
+use Rattle.dw_base.proofs.PathLaws.{lies_under-split, is_prefix-parts}
 
 -- a list begins with a needle where its front is the needle
 starts : (xs needle : List ℕ) → starts_with nat_eq xs needle ≡ true → needle ≡ take (length needle) xs

@@ -1,24 +1,24 @@
 -- New texts one place after another, and the new offsets of fields.
-use Rattle.std.proofs.Common.{Bool, true, false, ◌≡◌, ◌≢◌, ℕ, zero, suc, ◌+◌, ◌-◌, ◌^◌, ◌<◌, ◌≤◌, List, [], ◌∷◌, ◌++◌, length, get_or, take, drop, Option, Some, None, is_some, cond, sym, ap, ◌∙◌, refl, subst, arith, inl, inr}
+use Rattle.std.proofs.Common.{Bool, true, false, ◌≡◌, ℕ, suc, ◌+◌, ◌^◌, ◌<◌, ◌≤◌, List, [], ◌∷◌, ◌++◌, length, get_or, take, drop, Option, Some, None, is_some, cond, sym, ap, ◌∙◌, refl, subst, arith, inl, inr}
 use Rattle.std.proofs.lemmas.Bool.{cases_lt}
 use Rattle.std.proofs.Math.Seq.{drop-cons, drop-length, take-length}
 use Rattle.std.proofs.lemmas.List.{length-append, append-nil}
 use Rattle.dw_base.specs.Layout.{output_limit}
-use Rattle.dw_base.specs.Mentions.{Around, TableChange}
+use Rattle.dw_base.specs.LayoutFails.{TooLong}
+use Rattle.dw_base.specs.LayoutFails.TooLong.{long}
+use Rattle.dw_base.specs.Mentions.{Around}
 use Rattle.dw_base.specs.Numbers.{spelled, with_number}
-use Rattle.dw_base.specs.Paths.{PathMap, mapped_path}
+use Rattle.dw_base.specs.Paths.{PathMap}
 use Rattle.dw_base.specs.Refusals.{Blames}
-use Rattle.dw_base.specs.StringTables.{Mention, Plan, TextTable, appending, new_place, new_text, with_mention, with_text, place_in, table_bytes}
-use Rattle.dw_base.specs.Texts.{is_in, text_in, laid_texts}
+use Rattle.dw_base.specs.StringTables.{Mention, Plan, appending, new_place, new_text, with_mention, with_text, table_bytes}
+use Rattle.dw_base.specs.Texts.{is_in, laid_texts}
 use Rattle.dw_base.specs.declared.shared.Order.{Order}
 use Rattle.dw_base.specs.declared.fault.Fault.{Fault}
 use Rattle.dw_base.specs.declared.fault.Fault.TheVariants.{NoMemory, Refused}
 use Rattle.dw_base.proofs.NumberLaws.{length-with_number}
 use Rattle.dw_base.proofs.TextLaws.{laid_texts-append, place_in-lt}
 use Rattle.std.specs.Option.{ForSome}
-use Rattle.dw_rewrite.specs.Changes.{path_of, path_at, texts_at, patched, patched_at, KnownPlace, Knows, IsNoted, Remembers, ArePaths, IsPathPlace, AreNoted, AllFit, with_known, with_all_known, info_after}
-use Rattle.dw_rewrite.specs.Refuses.{Refuses}
-use Rattle.dw_rewrite.specs.Refuses.Refuses.{unbuilt}
+use Rattle.dw_rewrite.specs.Changes.{path_of, path_at, texts_at, patched, patched_at, KnownPlace, Knows, IsNoted, Remembers, AreNoted, AllFit, with_known, with_all_known, info_after}
 
 -- one place more of a list
 pub place_front : (places : List ℕ) (i : ℕ) → i < length places → drop i places ≡ get_or places i 0 ∷ drop (i + 1) places
@@ -57,16 +57,15 @@ texts_step plan m around info ts places i lt = rw (place_front places i lt) refl
 -- a table that is too long at a place is too long at the end
 pub refused_at : (plan : Plan) (m : PathMap) (around : Around) (info str : List ℕ) (ts first : List (List ℕ)) (places : List ℕ) (i : ℕ) (f : Fault) → i < length places
     → texts_at plan m around info ts (drop i places) ≡ texts_at plan m around info first places
-    → Blames (Refuses (length (table_bytes (record { kept = str; texts = with_mention plan m ts (path_at around info (get_or places i 0)) })) ≤ output_limit)) f
-    → Blames (Refuses (length (table_bytes (record { kept = str; texts = texts_at plan m around info first places })) ≤ output_limit)) f
+    → Blames (TooLong (length (table_bytes (record { kept = str; texts = with_mention plan m ts (path_at around info (get_or places i 0)) })))) f
+    → Blames (TooLong (length (table_bytes (record { kept = str; texts = texts_at plan m around info first places })))) f
 refused_at plan m around info str ts first places i NoMemory lt same b = tt
-refused_at plan m around info str ts first places i (Refused _) lt same (unbuilt h) =
+refused_at plan m around info str ts first places i (Refused _) lt same (long over) =
     let next : List (List ℕ) = with_mention plan m ts (path_at around info (get_or places i 0)) in
     let whole : texts_at plan m around info next (drop (i + 1) places) ≡ texts_at plan m around info first places = texts_step plan m around info ts places i lt ∙ same in
     let longer : length (laid_texts next) ≤ length (laid_texts (texts_at plan m around info first places)) =
     subst (λ (us : List (List ℕ)). length (laid_texts next) ≤ length (laid_texts us)) whole (length-texts_at plan m around info next (drop (i + 1) places)) in
-    unbuilt (λ (small : length (str ++ laid_texts (texts_at plan m around info first places)) ≤ output_limit).
-    h (omega (arith, longer, small, length-append str (laid_texts next), length-append str (laid_texts (texts_at plan m around info first places)))))
+    long (omega (arith, longer, over, length-append str (laid_texts next), length-append str (laid_texts (texts_at plan m around info first places))))
 
 -- one more place is noted
 pub noted_step : (plan : Plan) (around : Around) (info places : List ℕ) (i : ℕ) (old new : ℕ → Option ℕ) → AreNoted plan around info places i old

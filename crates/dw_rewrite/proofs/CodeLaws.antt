@@ -1,5 +1,5 @@
 -- The code of an entry as a piece: a number and its own bytes.
-use Rattle.std.proofs.Common.{Bool, true, false, ◌≡◌, ℕ, suc, ◌+◌, ◌*◌, ◌%◌, ◌<◌, ◌≤◌, ◌^◌, nat_lt, List, [], ◌∷◌, ◌++◌, length, take, Option, Some, None, sym, ap, ◌∙◌, refl, subst, arith, cond}
+use Rattle.std.proofs.Common.{Bool, true, false, ◌≡◌, ℕ, suc, ◌+◌, ◌<◌, ◌≤◌, ◌^◌, nat_lt, List, [], ◌∷◌, length, take, Option, Some, None, ap, refl, subst, arith, cond}
 use Rattle.dw_base.specs.Lebs.{uleb, uleb_more, uleb_within}
 
 -- the length of what was read, 0 where nothing was

@@ -1,252 +1,235 @@
--- How the calls on a whole file end: what they refuse is not First, and what they give is its output.
-use Rattle.std.proofs.Common.{Bool, true, false, ◌≡◌, ◌≢◌, ℕ, ◌+◌, ◌^◌, ◌<◌, ◌≤◌, ◌==◌, ◌&&◌, not, List, [], length, take, drop, min, Option, Some, None, cond, IsTrue, ◌↔◌, sym, ap, ◌∙◌, refl, subst, arith, inl, inr}
-use Rattle.std.proofs.lemmas.Bool.{cases_lt}
-use Rattle.std.proofs.lemmas.Bool.Decides.{nat_tests}
-use Rattle.std.proofs.lemmas.List.{length-take, length-take-le, length-drop}
+-- How the calls on a whole file end: what they refuse has a row, and what they give is the output of a file that is taken.
+use Rattle.std.proofs.Common.{Bool, true, false, ◌≡◌, ◌≢◌, ℕ, ◌<◌, ◌≤◌, ◌||◌, List, length, Option, Some, None, IsTrue, sym, ap, ◌∙◌, refl, subst, arith}
+use Rattle.std.proofs.lemmas.Bool.{true≢false}
 use Rattle.std.specs.declared.alloc.Global.{Global}
 use Rattle.std.specs.declared.vec.Vec.{Vec}
-use Rattle.dw_base.specs.Elf.{section_count, section_name, nth_section, contents_of, contents_at, is_empty_kind, order_of}
-use Rattle.dw_base.specs.ElfFails.{ElfFails, ElfReads}
-use Rattle.dw_base.specs.First.{IsFirst, FirstFails, FirstHeader, FirstTable, FirstSections, FirstNames, FirstUnits, IsOnce, file_limit, readings}
-use Rattle.dw_base.specs.First.FirstFails.{unbuilt as not_first}
-use Rattle.dw_base.specs.Layout.{output_limit, with_bodies, fixed_end, is_fixed, part_of}
-use Rattle.dw_base.specs.LayoutFails.{LayoutFails, SectionStays, TooLong}
-use Rattle.dw_base.specs.LayoutFails.LayoutFails.{section, large}
-use Rattle.dw_base.specs.LayoutFails.SectionStays.{changed, across, in_header}
-use Rattle.dw_base.specs.LayoutFails.TooLong.{long}
+use Rattle.dw_base.specs.EditFails.{EditFails, FileFails, FileReads, IsAccepted, NamesRead, UnitsOf}
+use Rattle.dw_base.specs.EditFails.EditFails.{file, output}
+use Rattle.dw_base.specs.EditFails.FileFails.{elf, units}
+use Rattle.dw_base.specs.Elf.{contents_of, is_empty_kind, nth_section, section_count, section_name}
+use Rattle.dw_base.specs.ElfFails.{ElfFails}
+use Rattle.dw_base.specs.First.{readings}
+use Rattle.dw_base.specs.Layout.{output_limit, with_bodies}
+use Rattle.dw_base.specs.LayoutFails.{LayoutFails, LayoutFits}
 use Rattle.dw_base.specs.LayoutReads.{ReadsBack}
 use Rattle.dw_base.specs.Loaded.{LoadedKept}
 use Rattle.dw_base.specs.Mapped.{MeaningKept}
-use Rattle.dw_base.specs.Output.{IsOutput, new_body}
-use Rattle.dw_base.specs.Paths.{PathMap, IsPathMap}
-use Rattle.dw_base.specs.Refusals.{Blames, at}
-use Rattle.dw_base.specs.declared.fault.Kind.TheVariants as kinds
-use Rattle.dw_base.specs.SectionNames.{debug_info, debug_str}
+use Rattle.dw_base.specs.Output.{IsOutput, new_body, output_of}
+use Rattle.dw_base.specs.Paths.{IsPathMap, PathMap}
+use Rattle.dw_base.specs.Refusals.{Blames}
+use Rattle.dw_base.specs.SectionNames.{debug_abbrev, debug_info, debug_str, is_read_name}
+use Rattle.dw_base.specs.Texts.{same_text}
 use Rattle.dw_base.specs.declared.fault.Fault.{Fault}
 use Rattle.dw_base.specs.declared.fault.Fault.TheVariants.{NoMemory, Refused}
 use Rattle.dw_base.specs.declared.fault.Refusal.{Refusal}
-use Rattle.dw_base.proofs.FirstLaws.{first-excludes}
-use Rattle.dw_base.proofs.PlainFixedPart.{first_fixed}
+use Rattle.dw_base.proofs.EditLaws.{layout_fits}
+use Rattle.dw_base.proofs.LoadedLaws.{file-loaded}
+use Rattle.dw_base.proofs.MeaningKeptLaws.{file-meaning}
+use Rattle.dw_base.proofs.ReadsBackLaws.{reads_back-same, with_bodies-same}
+use Rattle.dw_base.proofs.TextLaws.{same_text-true}
 use Rattle.dw_base.proofs.WorkedLaws.{output-complete}
-use Rattle.elf_layout.specs.Given.{AreContents, body_given, given_or, item_of}
-use Rattle.dw_rewrite.specs.Changes.{ArePaths}
-use Rattle.dw_rewrite.specs.Judged.{AreFirst, FirstHeaders}
+use Rattle.elf_layout.specs.Given.{AreContents, body_given}
+use Rattle.dw_rewrite.specs.Judged.{AtMostOnce, Found, IsFound}
+use Rattle.dw_rewrite.specs.Judged.IsFound.{nowhere, there}
 use Rattle.dw_rewrite.specs.Refuses.{Refuses}
 use Rattle.dw_rewrite.specs.Refuses.Refuses.{unbuilt}
-use Rattle.dw_rewrite.specs.Rewritten.{AreGiven, Found, UnitsFound, PlacesFound, info_found, str_found, body_with, body_found, Unwritten, as_unbuilt_fault}
-use Rattle.dw_rewrite.specs.Rewritten.Unwritten.{unbuilt as unwritten}
+use Rattle.dw_rewrite.specs.Rewritten.{AreGiven, PlacesFound, body_found, body_with, info_found, is_number, str_found}
 use Rattle.dw_rewrite.specs.declared.judge.Sections.{Sections}
-use Rattle.dw_base.proofs.SectionLaws.{section_called-once, length-contents}
-use Rattle.dw_rewrite.proofs.RewriteLaws.{is_first, is_output, bodies_of_units, too_long_file, refused_units_found, refused_written, stays_same, full_kind, paths_found}
-use Rattle.dw_base.proofs.ReadsBackLaws.{with_bodies-same, reads_back-same}
-use Rattle.dw_base.proofs.FirstKeptLaws.{first-meaning, first-loaded}
-use Rattle.dw_rewrite.proofs.WrittenLaws.{length-moved}
+use Rattle.dw_rewrite.proofs.RewriteLaws.{are_apart, bodies_same, fits_same, info_within, layout_same, number_is, str_within}
 
--- a file that can't be read as ELF is refused for its sections
-pub refused_reads : (b : List ℕ) (f : Fault) → FirstHeaders b → Blames (ElfFails b) f → Blames (Refuses (FirstSections b)) (as_unbuilt_fault f)
-refused_reads b NoMemory h fails = tt
-refused_reads b (Refused r) h fails = unbuilt (λ (s : FirstSections b). first-excludes b r h.header h.table s fails)
+-- a file that can't be read as ELF is refused, and one whose sections don't fit
+pub refused_elf : (m : PathMap) (b : List ℕ) (f : Fault) → Blames (ElfFails b) f → Blames (EditFails m b) f
+refused_elf m b NoMemory h = tt
+refused_elf m b (Refused r) h = file (elf h)
 
--- no First file is refused for its headers, its sections, or its names
-pub refused_headers : (m : PathMap) (b : List ℕ) (t : Bool) (f : Fault) → (IsTrue t ↔ FirstHeaders b) → t ≡ false → f ≡ Refused (at kinds.Unbuilt 0 0) → Blames (FirstFails m b) f
-refused_headers m b t f exact test is = subst (λ (x : Fault). Blames (FirstFails m b) x) (sym is) (not_first (λ (first : IsFirst m b).
-    let there : t ≡ true = exact.1 (record { header = first.header; table = first.table }) in
-    absurd cc))
+pub refused_file : (m : PathMap) (b : List ℕ) (r : Refusal) (f : Fault) → FileFails b r → f ≡ Refused r → Blames (EditFails m b) f
+refused_file m b r f h is = subst (λ (x : Fault). Blames (EditFails m b) x) (sym is) (file h)
 
-pub refused_sections : (m : PathMap) (b : List ℕ) (f : Fault) → Blames (Refuses (FirstSections b)) f → Blames (FirstFails m b) f
-refused_sections m b NoMemory h = tt
-refused_sections m b (Refused _) (unbuilt none) = not_first (λ (first : IsFirst m b). none first.sections)
+-- the names of a file whose sections were found
+one_name : (t u v : Bool) → (t || u || v) ≡ true → (t ≡ false → u ≡ false → v ≡ true)
+one_name true u v h a c = absurd (true≢false a)
+one_name false true v h a c = absurd (true≢false c)
+one_name false false v h a c = h
 
-pub refused_names : (m : PathMap) (b : List ℕ) (f : Fault) → ((FirstSections b × FirstNames b) → ⊥) → f ≡ Refused (at kinds.Unbuilt 0 0) → Blames (FirstFails m b) f
-refused_names m b f none is = subst (λ (x : Fault). Blames (FirstFails m b) x) (sym is) (not_first (λ (first : IsFirst m b). none (first.sections, first.names)))
+once_by : (b name : List ℕ) (i j : ℕ) → AtMostOnce b name → i < j → j < section_count b → section_name b i ≡ name → section_name b j ≢ section_name b i
+once_by b name i j once less lt named same =
+    let equal : i ≡ j = once.same i j (omega arith) lt named (same ∙ named) in
+    omega arith
 
--- the body that is given for a section
-pub given_same : (b : List ℕ) (items : List (Option (Vec ℕ Global))) (count : ℕ) (s : Sections) (info str : List ℕ) (i : ℕ) → AreGiven items count s info str
-    → body_given b items i ≡ body_with b s info str i
-unfolding body_given
-given_same b items count s info str i g = by_info (i == s.info) refl
+pub names_found : (b : List ℕ) (s : Sections) → Found b s → NamesRead b
+names_found b s f = record {
+  listed = λ i lt. (f.fits.each i lt).listed;
+  once = λ i j less lt read.
+      by_name (same_text (section_name b i) debug_info) (same_text (section_name b i) debug_abbrev) i j less lt refl refl read;
+  plain = λ i lt read. (f.fits.each i lt).plain read;
+  apart = f.names.apart;
+}
   where
-    own : i ≢ s.info → i ≢ s.str → given_or (item_of items i) (contents_of b i) ≡ contents_of b i
-    own other neither = ap (λ (o : Option (Vec ℕ Global)). given_or o (contents_of b i)) (g.others i other neither)
+    by_name : (t u : Bool) (i j : ℕ) → i < j → j < section_count b → same_text (section_name b i) debug_info ≡ t → same_text (section_name b i) debug_abbrev ≡ u
+        → IsTrue (is_read_name (section_name b i)) → section_name b j ≢ section_name b i
+    by_name true u i j less lt info abbrevs read =
+        once_by b debug_info i j f.info.once less lt (same_text-true (section_name b i) debug_info info)
+    by_name false true i j less lt info abbrevs read =
+        once_by b debug_abbrev i j f.abbrevs.once less lt (same_text-true (section_name b i) debug_abbrev abbrevs)
+    by_name false false i j less lt info abbrevs read =
+        once_by b debug_str i j f.str.once less lt (same_text-true (section_name b i) debug_str
+        (one_name (same_text (section_name b i) debug_info) (same_text (section_name b i) debug_abbrev) (same_text (section_name b i) debug_str) read info abbrevs))
 
-    of_str : i ≡ s.str → given_or (item_of items i) (contents_of b i) ≡ str
-    of_str is = ap (λ (n : ℕ). given_or (item_of items n) (contents_of b i)) is ∙ g.str_is (contents_of b i)
+-- where its units were read, the file reads as a whole
+pub reads_found : (b : List ℕ) (s : Sections) → Found b s → UnitsOf b → FileReads b
+reads_found b s f u = record { elf = f.elf; kind = f.kind; names = names_found b s f; units = u }
 
-    of_info : i ≡ s.info → given_or (item_of items i) (contents_of b i) ≡ info
-    of_info is = ap (λ (n : ℕ). given_or (item_of items n) (contents_of b i)) is ∙ g.info_is (contents_of b i)
+-- and where they aren't there, it is refused
+pub refused_units : (m : PathMap) (b : List ℕ) (s : Sections) (fault : Fault) → Found b s → Blames (Refuses (UnitsOf b)) fault → Blames (EditFails m b) fault
+refused_units m b s NoMemory f h = tt
+refused_units m b s (Refused _) f (unbuilt none) = file (units f.elf none)
 
-    by_str : (t : Bool) → (i == s.str) ≡ t → i ≢ s.info → given_or (item_of items i) (contents_of b i) ≡ cond t str (contents_of b i)
-    by_str true test other = of_str (grind (arith, nat_tests))
-    by_str false test other = own other (grind (arith, nat_tests))
+-- The body that is given for a section.
+given_same : (b : List ℕ) (items : List (Option (Vec ℕ Global))) (count : ℕ) (s : Sections) (info str : List ℕ) → AreGiven items count s info str → count ≡ section_count b
+    → (i : ℕ) → i < section_count b → body_given b items i ≡ body_with b s info str i
+unfolding body_given
+given_same b items count s info str g is i lt = g.body i (contents_of b i) (omega (arith, is))
 
-    by_info : (t : Bool) → (i == s.info) ≡ t → given_or (item_of items i) (contents_of b i) ≡ cond t info (cond (i == s.str) str (contents_of b i))
-    by_info true test = of_info (grind (arith, nat_tests))
-    by_info false test = by_str (i == s.str) refl (grind (arith, nat_tests))
+-- a section that is given another body takes room in the file
+full_at : (b name : List ℕ) (o : Option ℕ) (i : ℕ) → IsFound b name o → is_empty_kind (nth_section b i) ≡ true → is_number o i ≡ false
+full_at b name None i (nowhere stands) empty = refl
+full_at b name (Some n) i (there stands) empty = by_number (is_number (Some n) i) refl
+  where
+    by_number : (here : Bool) → is_number (Some n) i ≡ here → here ≡ false
+    by_number true e =
+        let full : is_empty_kind (nth_section b i) ≡ false = ap (λ (k : ℕ). is_empty_kind (nth_section b k)) (number_is n i e) ∙ stands.full in
+        absurd (true≢false (sym empty ∙ full))
+    by_number false e = refl
 
--- what stands in the way of a layout depends on the bodies of the sections alone
-layout_same : (b : List ℕ) (f g : ℕ → List ℕ) (r : Refusal) → ((i : ℕ) → i < section_count b → f i ≡ g i) → LayoutFails b f r → LayoutFails b g r
-layout_same b f g r same (section i lt (changed h)) = section i lt (changed (record { stays = h.stays; body = λ e. h.body (same i lt ∙ e) }))
-layout_same b f g r same (section i lt (across h)) = section i lt (across h)
-layout_same b f g r same (section i lt (in_header h)) = section i lt (in_header h)
-layout_same b f g r same (large (long over)) = large (long (subst (λ (x : List ℕ). output_limit < length x) (with_bodies-same b f g same) over))
+pub given_contents : (b : List ℕ) (now items : List (Option (Vec ℕ Global))) (count : ℕ) (s : Sections) (info str : List ℕ) → Found b s → now ≡ items
+    → AreGiven items count s info str → count ≡ section_count b → AreContents b now
+given_contents b now items count s info str f same g is = subst (λ (l : List (Option (Vec ℕ Global))). AreContents b l) (sym same) (record {
+  each = g.each ∙ is;
+  none = λ i lt empty.
+      g.others i (omega (arith, is)) (full_at b debug_info s.info i f.info.found empty) (full_at b debug_str s.str i f.str.found empty);
+})
 
-layout_refused : (b : List ℕ) (items : List (Option (Vec ℕ Global))) (count : ℕ) (s : Sections) (info str : List ℕ) (f : Fault) → AreGiven items count s info str
-    → Blames (LayoutFails b (body_given b items)) f → Blames (Unwritten b (body_with b s info str)) (as_unbuilt_fault f)
-layout_refused b items count s info str NoMemory g h = tt
-layout_refused b items count s info str (Refused r) g h =
-    unwritten r (layout_same b (body_given b items) (body_with b s info str) r (λ (i : ℕ) (lt : i < section_count b). given_same b items count s info str i g) h)
-
+-- a layout that is refused
 pub refused_layout : (b : List ℕ) (now items : List (Option (Vec ℕ Global))) (count : ℕ) (s : Sections) (info str : List ℕ) (f : Fault) → now ≡ items
-    → AreGiven items count s info str → Blames (LayoutFails b (body_given b now)) f → Blames (Unwritten b (body_with b s info str)) (as_unbuilt_fault f)
-refused_layout b now items count s info str f is g h =
-    layout_refused b items count s info str f g (subst (λ (l : List (Option (Vec ℕ Global))). Blames (LayoutFails b (body_given b l)) f) is h)
+    → AreGiven items count s info str → count ≡ section_count b → Blames (LayoutFails b (body_given b now)) f → Blames (LayoutFails b (body_with b s info str)) f
+refused_layout b now items count s info str NoMemory same g is h = tt
+refused_layout b now items count s info str (Refused r) same g is h =
+    layout_same b (body_given b items) (body_with b s info str) r (given_same b items count s info str g is)
+    (subst (λ (l : List (Option (Vec ℕ Global))). LayoutFails b (body_given b l) r) same h)
 
 -- what was written
 pub written_file : (b : List ℕ) (now items : List (Option (Vec ℕ Global))) (count : ℕ) (s : Sections) (info str out : List ℕ) → now ≡ items
-    → AreGiven items count s info str → out ≡ with_bodies b (body_given b now) → out ≡ with_bodies b (body_with b s info str)
-written_file b now items count s info str out same g is =
-    is ∙ ap (λ (l : List (Option (Vec ℕ Global))). with_bodies b (body_given b l)) same ∙ with_bodies-same b (body_given b items) (body_with b s info str) (λ (i : ℕ) (lt : i < section_count b). given_same b items count s info str i g)
+    → AreGiven items count s info str → count ≡ section_count b → out ≡ with_bodies b (body_given b now) → out ≡ with_bodies b (body_with b s info str)
+written_file b now items count s info str out same g is made =
+    made ∙ ap (λ (l : List (Option (Vec ℕ Global))). with_bodies b (body_given b l)) same
+    ∙ with_bodies-same b (body_given b items) (body_with b s info str) (given_same b items count s info str g is)
 
--- and reads back
-pub written_back : (b : List ℕ) (now items : List (Option (Vec ℕ Global))) (count : ℕ) (s : Sections) (info str out : List ℕ) → ElfReads b → now ≡ items
-    → AreGiven items count s info str → ReadsBack b (body_given b now) out → ReadsBack b (body_with b s info str) out
-written_back b now items count s info str out reads same g back =
-    reads_back-same b out (body_given b items) (body_with b s info str) (λ (i : ℕ) (lt : i < section_count b). given_same b items count s info str i g)
-    reads.debug.index.there (subst (λ (l : List (Option (Vec ℕ Global))). ReadsBack b (body_given b l) out) same back)
+-- reads back
+pub written_back : (b : List ℕ) (now items : List (Option (Vec ℕ Global))) (count : ℕ) (s : Sections) (info str out : List ℕ) → Found b s → now ≡ items
+    → AreGiven items count s info str → count ≡ section_count b → ReadsBack b (body_given b now) out → ReadsBack b (body_with b s info str) out
+written_back b now items count s info str out f same g is back =
+    reads_back-same b out (body_given b items) (body_with b s info str) (given_same b items count s info str g is)
+    f.elf.debug.index.there (subst (λ (l : List (Option (Vec ℕ Global))). ReadsBack b (body_given b l) out) same back)
 
-pub written_small : (b : List ℕ) (items : List (Option (Vec ℕ Global))) (out : List ℕ) → out ≡ with_bodies b (body_given b items)
-    → ((r : Refusal) → LayoutFails b (body_given b items) r → ⊥) → length out ≤ output_limit
-written_small b items out is none = elim (cases_lt output_limit (length out)) [
-  | inl over ↦ absurd (none _ (large (long (subst (λ (x : List ℕ). output_limit < length x) is over))))
-  | inr within ↦ omega arith
-]
+-- and fits
+pub written_fits : (b : List ℕ) (now items : List (Option (Vec ℕ Global))) (count : ℕ) (s : Sections) (info str : List ℕ) → now ≡ items
+    → AreGiven items count s info str → count ≡ section_count b → ((r : Refusal) → LayoutFails b (body_given b now) r → ⊥)
+    → LayoutFits b (body_with b s info str)
+written_fits b now items count s info str same g is none =
+    fits_same b (body_given b items) (body_with b s info str) (given_same b items count s info str g is)
+    (subst (λ (l : List (Option (Vec ℕ Global))). LayoutFits b (body_given b l)) same (layout_fits b (body_given b now) none))
 
--- the two sections that change take room in the file, and are two
-pub given_contents : (b : List ℕ) (now items : List (Option (Vec ℕ Global))) (count : ℕ) (s : Sections) (info str : List ℕ) → now ≡ items → AreFirst b s
-    → AreGiven items count s info str → count ≡ section_count b → AreContents b now
-given_contents b now items count s info str same f g is = subst (λ (l : List (Option (Vec ℕ Global))). AreContents b l) (sym same) (record {
-  each = g.each ∙ is;
-  none = λ i lt empty. g.others i
-      (λ (e : i ≡ s.info). full s.info f.info_kind i e empty)
-      (λ (e : i ≡ s.str). full s.str f.str_kind i e empty);
-})
-  where
-    full : (n : ℕ) → (nth_section b n).kind ≡ 1 → (i : ℕ) → i ≡ n → is_empty_kind (nth_section b i) ≡ true → ⊥
-    full n kind i e empty =
-        let not : is_empty_kind (nth_section b i) ≡ false = ap (λ (k : ℕ). is_empty_kind (nth_section b k)) e ∙ full_kind b n kind in
-        cc
+pub ruleset written_rules = (are_apart, info_within, str_within, given_contents, refused_layout, written_file, written_back, written_fits)
 
-pub apart : (b : List ℕ) (s : Sections) → AreFirst b s → s.info ≢ s.str
-apart b s f same =
-    let info : section_name b s.info ≡ debug_info = ap (section_name b) (f.info_is ∙ sym (section_called-once b debug_info f.names.info)) ∙ f.names.info.named in
-    let str : section_name b s.str ≡ debug_str = ap (section_name b) (f.str_is ∙ sym (section_called-once b debug_str f.names.str)) ∙ f.names.str.named in
-    let names : debug_info ≡ debug_str = sym info ∙ ap (section_name b) same ∙ str in
-    differ (length debug_info) refl (ap (λ (t : List ℕ). length t) names)
-  where
-    differ : (n : ℕ) → n ≡ 11 → n ≡ 10 → ⊥
-    differ n eleven ten = omega arith
+-- The bodies that were written are those of the output.
+pub written_same : (m : PathMap) (b : List ℕ) (s : Sections) (places info str : List ℕ) → Found b s → (r : PlacesFound b places)
+    → info ≡ info_found m b places → str ≡ str_found m b places → (i : ℕ) → i < section_count b
+    → body_with b s info str i ≡ new_body m b (readings r.units.pieces) i
+written_same m b s places info str f r info_is str_is i lt =
+    ap (λ (x : List ℕ). body_with b s x str i) info_is ∙ ap (λ (x : List ℕ). body_with b s (info_found m b places) x i) str_is
+    ∙ sym (bodies_same m b s places f r i lt)
 
--- the bytes of a section are no more than the limit
-pub small_contents : (b : List ℕ) (i : ℕ) → FirstHeader b → length (contents_of b i) ≤ output_limit
-small_contents b i h = omega (arith, length-contents b i, h.small)
+-- so a file that was written is taken
+pub found_accepted : (m : PathMap) (b : List ℕ) (s : Sections) (places info str : List ℕ) → Found b s → (r : PlacesFound b places)
+    → info ≡ info_found m b places → str ≡ str_found m b places → LayoutFits b (body_with b s info str) → IsAccepted m b
+unfolding reads_found
+found_accepted m b s places info str f r info_is str_is fits = record {
+  reads = reads_found b s f r.units;
+  unloaded = λ i lt. (f.fits.each i lt).unloaded;
+  fits = fits_same b (body_with b s info str) (new_body m b (readings r.units.pieces)) (written_same m b s places info str f r info_is str_is) fits;
+}
 
--- a string table that is too long makes a file that is
-long_str : (m : PathMap) (b : List ℕ) (s : Sections) (places : List ℕ) → Found b s → PlacesFound b s places
-    → length (with_bodies b (body_found m b s places)) ≤ output_limit → length (str_found m b s places) ≤ output_limit
-unfolding part_of
-long_str m b s places f p small = by_fixed (is_fixed b (nth_section b s.str)) refl
-  where
-    body_is : body_found m b s places s.str ≡ str_found m b s places
-    body_is =
-        let other : (s.str == s.info) ≡ false = grind (arith, nat_tests, apart b s f.sections) in
-        let here : (s.str == s.str) ≡ true = grind (arith, nat_tests) in
-        rw (other, here) refl
+-- and is its output
+pub found_output : (m : PathMap) (b : List ℕ) (s : Sections) (places info str out : List ℕ) → Found b s → (r : PlacesFound b places)
+    → info ≡ info_found m b places → str ≡ str_found m b places → out ≡ with_bodies b (body_with b s info str) → IsOutput m b out
+unfolding output_of
+found_output m b s places info str out f r info_is str_is made = record {
+  readings = readings r.units.pieces;
+  reads = record { info = r.units.units };
+  is = made ∙ with_bodies-same b (body_with b s info str) (new_body m b (readings r.units.pieces)) (written_same m b s places info str f r info_is str_is);
+}
 
-    by_fixed : (t : Bool) → is_fixed b (nth_section b s.str) ≡ t → length (str_found m b s places) ≤ output_limit
-    by_fixed true fixed =
-        let same : str_found m b s places ≡ contents_of b s.str = sym body_is ∙ stays_same m b s places s.str f p f.sections.str_there fixed in
-        subst (λ (x : List ℕ). length x ≤ output_limit) (sym same) (small_contents b s.str f.header)
-    by_fixed false moves =
-        let full : is_empty_kind (nth_section b s.str) ≡ false = full_kind b s.str f.sections.str_kind in
-        let there : (part_of b (body_found m b s places) s.str).moves ≡ true = rw (full, moves) refl in
-        let whole = f.header.whole in
-        let inside : fixed_end b ≤ length b = omega (arith, first_fixed b f.header f.sections.sections) in
-        let longer : length (body_found m b s places s.str) ≤ length (with_bodies b (body_found m b s places)) =
-        length-moved b (body_found m b s places) s.str f.sections.str_there inside there in
-        let size : length (body_found m b s places s.str) ≡ length (str_found m b s places) = ap length body_is in
-        omega arith
-
--- the file with the new bytes of its two sections
-bodies_are : (m : PathMap) (b : List ℕ) (s : Sections) (places info str : List ℕ) → info ≡ info_found m b s places → str ≡ str_found m b s places
-    → with_bodies b (body_with b s info str) ≡ with_bodies b (body_found m b s places)
-bodies_are m b s places info str info_is str_is =
-    ap (λ (x : List ℕ). with_bodies b (body_with b s x str)) info_is
-    ∙ ap (λ (x : List ℕ). with_bodies b (body_with b s (info_found m b s places) x)) str_is
-
--- what becomes of the sections that were found
-pub changed_paths : (b : List ℕ) (s : Sections) (places : List ℕ) → PlacesFound b s places → ArePaths (order_of b) (contents_of b s.info) (contents_of b s.str) places
-changed_paths b s places r = paths_found b s places r
-
-pub refused_changed : (m : PathMap) (b : List ℕ) (s : Sections) (places : List ℕ) (f : Fault) → Found b s → PlacesFound b s places
-    → Blames (Refuses (length (str_found m b s places) ≤ output_limit)) f → Blames (FirstFails m b) f
-refused_changed m b s places NoMemory found p h = tt
-refused_changed m b s places (Refused _) found p (unbuilt none) = not_first (λ (first : IsFirst m b). elim (cases_lt output_limit (length (with_bodies b (body_found m b s places)))) [
-  | inl over ↦ too_long_file m b s places found p over first
-  | inr within ↦ none (long_str m b s places found p (omega arith))
-])
-
--- a file that was written is First, and is its output
-pub found_first : (m : PathMap) (b : List ℕ) (s : Sections) (places info str out : List ℕ) → Found b s → PlacesFound b s places
-    → info ≡ info_found m b s places → str ≡ str_found m b s places
-    → out ≡ with_bodies b (body_with b s info str) → length out ≤ output_limit → IsFirst m b
-found_first m b s places info str out f p info_is str_is is small =
-    is_first m b s places f p (subst (λ (x : List ℕ). length x ≤ output_limit) (is ∙ bodies_are m b s places info str info_is str_is) small)
-
-pub found_output : (m : PathMap) (b : List ℕ) (s : Sections) (places info str out : List ℕ) → Found b s → PlacesFound b s places
-    → info ≡ info_found m b s places → str ≡ str_found m b s places
-    → out ≡ with_bodies b (body_with b s info str) → IsOutput m b out
-found_output m b s places info str out f p info_is str_is is =
-    is_output m b s places out f p (is ∙ bodies_are m b s places info str info_is str_is)
-
--- the written file has the bodies of its output, so its meaning is kept, and what is loaded of it
-back_found : (m : PathMap) (b : List ℕ) (s : Sections) (places info str out : List ℕ) → Found b s → PlacesFound b s places
-    → info ≡ info_found m b s places → str ≡ str_found m b s places → (f : IsFirst m b)
-    → ReadsBack b (body_with b s info str) out → ReadsBack b (new_body m b (readings f.units.pieces)) out
-back_found m b s places info str out found p info_is str_is f back =
-    reads_back-same b out (body_with b s info str) (new_body m b (readings f.units.pieces))
-    (λ (i : ℕ) (lt : i < section_count b).
-    ap (λ (x : List ℕ). body_with b s x str i) info_is ∙ ap (λ (x : List ℕ). body_with b s (info_found m b s places) x i) str_is
-    ∙ sym (bodies_of_units m b s places i found.sections p f.units))
-    found.reads.debug.index.there back
-
-pub found_meaning : (m : PathMap) (b : List ℕ) (s : Sections) (places info str out : List ℕ) → IsPathMap m → Found b s → PlacesFound b s places
-    → info ≡ info_found m b s places → str ≡ str_found m b s places
-    → out ≡ with_bodies b (body_with b s info str) → length out ≤ output_limit → ReadsBack b (body_with b s info str) out → MeaningKept m b out
-found_meaning m b s places info str out map f p info_is str_is is small back =
-    let first : IsFirst m b = found_first m b s places info str out f p info_is str_is is small in
-    first-meaning m b out map first (back_found m b s places info str out f p info_is str_is first back) small
-
-pub found_loaded : (m : PathMap) (b : List ℕ) (s : Sections) (places info str out : List ℕ) → Found b s → PlacesFound b s places
-    → info ≡ info_found m b s places → str ≡ str_found m b s places
-    → out ≡ with_bodies b (body_with b s info str) → length out ≤ output_limit → ReadsBack b (body_with b s info str) out → LoadedKept b out
-found_loaded m b s places info str out f p info_is str_is is small back =
-    let first : IsFirst m b = found_first m b s places info str out f p info_is str_is is small in
-    first-loaded m b out first (back_found m b s places info str out f p info_is str_is first back)
-
-pub found_refused : (m : PathMap) (b : List ℕ) (s : Sections) (places info str : List ℕ) (f : Fault) → Found b s → PlacesFound b s places
-    → info ≡ info_found m b s places → str ≡ str_found m b s places
-    → Blames (Unwritten b (body_with b s info str)) f → Blames (FirstFails m b) f
-found_refused m b s places info str f found p info_is str_is h =
-    refused_written m b s places f found p
-    (subst (λ (x : List ℕ). Blames (Unwritten b (body_with b s (info_found m b s places) x)) f) str_is
-    (subst (λ (x : List ℕ). Blames (Unwritten b (body_with b s x str)) f) info_is h))
-
--- there is one output at most
+-- which there is one of at most
 pub one_output : (m : PathMap) (b out : List ℕ) → IsOutput m b out → (o : List ℕ) → IsOutput m b o → o ≡ out
 one_output m b out is o other = output-complete m b o other ∙ sym (output-complete m b out is)
 
-pub ruleset found_rules = (refused_units_found, changed_paths, small_contents, refused_changed, one_output, found_first, found_output, found_meaning, found_loaded, found_refused)
+-- it reads back with the bodies of the output
+back_found : (m : PathMap) (b : List ℕ) (s : Sections) (places info str out : List ℕ) → Found b s → (r : PlacesFound b places)
+    → info ≡ info_found m b places → str ≡ str_found m b places → ReadsBack b (body_with b s info str) out
+    → ReadsBack b (new_body m b (readings r.units.pieces)) out
+back_found m b s places info str out f r info_is str_is back =
+    reads_back-same b out (body_with b s info str) (new_body m b (readings r.units.pieces)) (written_same m b s places info str f r info_is str_is)
+    f.elf.debug.index.there back
 
-pub ruleset written_rules = (apart, given_contents, refused_layout, written_file, written_back, written_small)
+-- a refusal of new bytes, or of the layout
+pub refused_output : (m : PathMap) (b : List ℕ) (s : Sections) (places : List ℕ) (fault : Fault) → Found b s → PlacesFound b places
+    → Blames (LayoutFails b (body_found m b s places)) fault → Blames (EditFails m b) fault
+unfolding reads_found
+refused_output m b s places NoMemory f r h = tt
+refused_output m b s places (Refused x) f r h =
+    output (reads_found b s f r.units)
+    (layout_same b (body_found m b s places) (new_body m b (readings r.units.pieces)) x (λ i lt. sym (bodies_same m b s places f r i lt)) h)
 
-pub ruleset rewrite_rules = (refused_headers, refused_sections, refused_names)
+pub refused_written : (m : PathMap) (b : List ℕ) (s : Sections) (places info str : List ℕ) (fault : Fault) → Found b s → PlacesFound b places
+    → info ≡ info_found m b places → str ≡ str_found m b places → Blames (LayoutFails b (body_with b s info str)) fault → Blames (EditFails m b) fault
+refused_written m b s places info str fault f r info_is str_is h =
+    refused_output m b s places fault f r
+    (subst (λ (x : List ℕ). Blames (LayoutFails b (body_with b s (info_found m b places) x)) fault) str_is
+    (subst (λ (x : List ℕ). Blames (LayoutFails b (body_with b s x str)) fault) info_is h))
+
+-- the same of places that were lent
+pub refused_new : (m : PathMap) (b : List ℕ) (s : Sections) (places now : List ℕ) (fault : Fault) → Found b s → PlacesFound b places → now ≡ places
+    → Blames (LayoutFails b (body_found m b s now)) fault → Blames (EditFails m b) fault
+refused_new m b s places now fault f r same h =
+    refused_output m b s places fault f r (subst (λ (x : List ℕ). Blames (LayoutFails b (body_found m b s x)) fault) same h)
+
+-- what a lent list of places gives is what the list gives
+pub info_lent : (m : PathMap) (b places now new : List ℕ) → now ≡ places → new ≡ info_found m b now → new ≡ info_found m b places
+info_lent m b places now new same is = is ∙ ap (info_found m b) same
+
+pub str_lent : (m : PathMap) (b places now new : List ℕ) → now ≡ places → new ≡ str_found m b now → new ≡ str_found m b places
+str_lent m b places now new same is = is ∙ ap (str_found m b) same
+
+-- what was written isn't too long
+small_found : (b : List ℕ) (bodies : ℕ → List ℕ) (out : List ℕ) → LayoutFits b bodies → out ≡ with_bodies b bodies → length out ≤ output_limit
+small_found b bodies out fits made = subst (λ (x : List ℕ). length x ≤ output_limit) (sym made) fits.small
+
+-- so its meaning is kept, and what is loaded of it
+pub found_meaning : (m : PathMap) (b : List ℕ) (s : Sections) (places info str out : List ℕ) → IsPathMap m → Found b s → PlacesFound b places
+    → info ≡ info_found m b places → str ≡ str_found m b places → LayoutFits b (body_with b s info str) → out ≡ with_bodies b (body_with b s info str)
+    → ReadsBack b (body_with b s info str) out → MeaningKept m b out
+unfolding reads_found
+found_meaning m b s places info str out map f r info_is str_is fits made back =
+    file-meaning m b out map (reads_found b s f r.units) (back_found m b s places info str out f r info_is str_is back)
+    (small_found b (body_with b s info str) out fits made)
+
+pub found_loaded : (m : PathMap) (b : List ℕ) (s : Sections) (places info str out : List ℕ) → Found b s → PlacesFound b places
+    → info ≡ info_found m b places → str ≡ str_found m b places → LayoutFits b (body_with b s info str)
+    → ReadsBack b (body_with b s info str) out → LoadedKept b out
+unfolding reads_found
+found_loaded m b s places info str out f r info_is str_is fits back =
+    file-loaded m b out (reads_found b s f r.units) fits.across (back_found m b s places info str out f r info_is str_is back)
+
+pub ruleset found_rules = (refused_units, found_accepted, found_output, one_output, refused_output, refused_written)
+
+pub ruleset rewrite_rules = (refused_elf, refused_file)

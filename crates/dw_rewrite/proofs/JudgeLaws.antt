@@ -1,116 +1,139 @@
--- Laws of the headers of First files, and of their sections by name.
-use Rattle.std.proofs.Common.{◌≡◌, ◌≢◌, ℕ, zero, suc, ◌+◌, ◌*◌, ◌<◌, ◌≤◌, ◌==◌, Bool, true, false, cond, ◌||◌, IsTrue, List, [], ◌∷◌, ◌++◌, length, get_or, take, drop, min, refl, sym, ap, ◌∙◌, arith, inl, inr, subst, ◌↔◌}
+-- Laws of the sections of a file by name, and of what refuses it by them.
+use Rattle.std.proofs.Common.{◌≡◌, ◌≢◌, ℕ, zero, suc, ◌+◌, ◌*◌, ◌^◌, ◌<◌, ◌≤◌, ◌==◌, Bool, true, false, cond, ◌&&◌, ◌||◌, not, bit_and, List, [], ◌∷◌, ◌++◌, length, get_or, take, drop, min, Some, None, refl, sym, ap, ◌∙◌, arith, inl, inr, subst}
 use Rattle.std.specs.List.{starts_with}
-use Rattle.std.specs.Int.{is_power_of_two}
-use Rattle.std.proofs.lemmas.Bool.{cases_lt, eq-eqb, false_from_ne_true}
+use Rattle.std.proofs.lemmas.Bool.{cases_lt, cases_eq, eq-eqb, true≢false}
+use Rattle.std.proofs.lemmas.Bool.Decides.{nat_tests}
 use Rattle.std.proofs.lemmas.List.{drop_more, take_more, take-take, take_all, take_at, drop_all, append-nil, append_assoc, length-take-le}
-use Rattle.dw_base.specs.Elf.{class_of, order_of, e_type, e_phnum, e_shentsize, e_shoff, e_shnum, e_shstrndx, contents_of, name_index, name_table, nth_section, section_at, section_count, section_name}
-use Rattle.dw_base.specs.ElfFails.{ElfReads, SectionReads}
-use Rattle.dw_base.specs.First.{FirstNamed, FirstNames, FirstPlaced, FirstSections, FirstTable, IsOnce, is_alignment}
-use Rattle.dw_base.specs.Numbers.{spelled}
-use Rattle.dw_base.specs.SectionNames.{debug_abbrev, debug_altlink, debug_info, debug_prefix, debug_str, zdebug_prefix, contents_called, index_in, names_of, section_called, is_first_name}
-use Rattle.dw_base.specs.Texts.{is_in, same_text, text}
-use Rattle.dw_base.specs.declared.elf_numbers.TheConstants.{SHT_PROGBITS}
-use Rattle.dw_base.specs.declared.shared.Class.TheVariants.{C64}
-use Rattle.dw_base.specs.declared.shared.Order.TheVariants.{Little}
-use Rattle.dw_base.proofs.ListLaws.{get_or-tabulate, length-tabulate}
-use Rattle.dw_base.proofs.SectionLaws.{same_text-other, section_called-once}
-use Rattle.dw_base.proofs.SectionLaws.{section_called-only as first_called}
+use Rattle.dw_base.specs.EditFails.{FileFails}
+use Rattle.dw_base.specs.EditFails.FileFails.{file_type, named, placed, relocatable}
+use Rattle.dw_base.specs.EditFails.NamesFail.{compressed, names, other as unlisted, twice}
+use Rattle.dw_base.specs.EditFails.StandsWrong.{loaded}
+use Rattle.dw_base.specs.Elf.{class_of, contents_at, contents_of, e_shoff, e_type, file_kind, is_empty_kind, name_index, name_table, nth_section, section_count, section_name, shdr_size}
+use Rattle.dw_base.specs.ElfFails.{ElfReads}
+use Rattle.dw_base.specs.Layout.{is_alloc, is_loaded_kind}
+use Rattle.dw_base.specs.Refusals.{at}
+use Rattle.dw_base.specs.SectionNames.{debug_abbrev, debug_altlink, debug_info, debug_prefix, debug_str, zdebug_prefix, is_first_name, is_read_name}
+use Rattle.dw_base.specs.Texts.{same_text, text, text_in}
+use Rattle.dw_base.specs.declared.elf_numbers.TheConstants.{ET_DYN, ET_EXEC, ET_REL, SHF_COMPRESSED}
+use Rattle.dw_base.specs.declared.fault.Kind.TheVariants.{Fixed, FileType, Unbuilt}
+use Rattle.dw_base.specs.declared.fault.Refusal.{Refusal}
+use Rattle.dw_base.specs.declared.records.FileKind.{FileKind}
+use Rattle.dw_base.specs.declared.records.FileKind.TheVariants.{Dyn, Exec, Other, Rel}
+use Rattle.dw_base.specs.declared.records.Section.{Section}
+use Rattle.dw_base.specs.declared.shared.Class.{Class}
+use Rattle.dw_base.specs.declared.shared.Class.TheVariants.{C32, C64}
 use Rattle.dw_base.proofs.TextLaws.{same_text-from, same_text-true}
-use Rattle.dw_rewrite.specs.Judged.{AllFit, AreFirst, FirstIdent, IsOnly, IsPlaced, NextCalled, NoneCalled, SectionFits}
-use Rattle.dw_rewrite.specs.declared.judge.Sections.{Sections}
+use Rattle.dw_rewrite.specs.Judged.{AllFit, AtMostOnce, IsOnly, NamesApart, NextCalled, NoneCalled, SectionFits}
+use Rattle.dw_rewrite.specs.Judged.IsFound.{nowhere, there}
+use Rattle.dw_rewrite.proofs.CalledLaws.{called-first, called-none, contents-first, contents-none}
 
--- The fields of a header with this identification.
-pub class-first : (b : List ℕ) → FirstIdent b → class_of b ≡ C64
-unfolding class_of
-class-first b ok = rw ok.class refl
+-- The type of a file, by its three tests.
+exec_by : (t x d : Bool) (n : ℕ) → cond t Rel (cond x Exec (cond d Dyn (Other n))) ≡ Exec → (x || d) ≡ true
+exec_by true x d n e = absurd cc
+exec_by false true d n e = refl
+exec_by false false true n e = absurd cc
+exec_by false false false n e = absurd cc
 
-pub order-first : (b : List ℕ) → FirstIdent b → order_of b ≡ Little
-unfolding order_of
-order-first b ok = rw ok.order refl
+dyn_by : (t x d : Bool) (n : ℕ) → cond t Rel (cond x Exec (cond d Dyn (Other n))) ≡ Dyn → (x || d) ≡ true
+dyn_by true x d n e = absurd cc
+dyn_by false true d n e = absurd cc
+dyn_by false false true n e = refl
+dyn_by false false false n e = absurd cc
 
-pub e_type-first : (b : List ℕ) → FirstIdent b → e_type b ≡ spelled Little b 16 2
-unfolding e_type
-e_type-first b ok = rw (order-first b ok) refl
+rel_by : (t x d : Bool) (n : ℕ) → cond t Rel (cond x Exec (cond d Dyn (Other n))) ≡ Rel → t ≡ true
+rel_by true x d n e = refl
+rel_by false true d n e = absurd cc
+rel_by false false true n e = absurd cc
+rel_by false false false n e = absurd cc
 
-pub e_phnum-first : (b : List ℕ) → FirstIdent b → e_phnum b ≡ spelled Little b 56 2
-unfolding e_phnum
-e_phnum-first b ok = rw (order-first b ok, class-first b ok) refl
+other_by : (t x d : Bool) (n m : ℕ) → cond t Rel (cond x Exec (cond d Dyn (Other n))) ≡ Other m → (t ≡ false) × ((x || d) ≡ false)
+other_by true x d n m e = absurd cc
+other_by false true d n m e = absurd cc
+other_by false false true n m e = absurd cc
+other_by false false false n m e = (refl, refl)
 
-pub e_shentsize-first : (b : List ℕ) → FirstIdent b → e_shentsize b ≡ spelled Little b 58 2
-unfolding e_shentsize
-e_shentsize-first b ok = rw (order-first b ok, class-first b ok) refl
+pub kind_exec : (b : List ℕ) (k : FileKind) → k ≡ file_kind b → k ≡ Exec → is_loaded_kind b ≡ true
+unfolding file_kind
+kind_exec b k is exec = exec_by (e_type b == ET_REL) (e_type b == ET_EXEC) (e_type b == ET_DYN) (e_type b) (sym is ∙ exec)
 
-pub e_shnum-first : (b : List ℕ) → FirstIdent b → e_shnum b ≡ spelled Little b 60 2
-unfolding e_shnum
-e_shnum-first b ok = rw (order-first b ok, class-first b ok) refl
+pub kind_dyn : (b : List ℕ) (k : FileKind) → k ≡ file_kind b → k ≡ Dyn → is_loaded_kind b ≡ true
+unfolding file_kind
+kind_dyn b k is dyn = dyn_by (e_type b == ET_REL) (e_type b == ET_EXEC) (e_type b == ET_DYN) (e_type b) (sym is ∙ dyn)
 
-pub e_shstrndx-first : (b : List ℕ) → FirstIdent b → e_shstrndx b ≡ spelled Little b 62 2
-unfolding e_shstrndx
-e_shstrndx-first b ok = rw (order-first b ok, class-first b ok) refl
+-- a relocatable file is refused, and one of another type
+pub refused_rel : (b : List ℕ) (k : FileKind) (r : Refusal) → ElfReads b → k ≡ file_kind b → k ≡ Rel → r ≡ at Unbuilt 0 0 → FileFails b r
+unfolding file_kind
+refused_rel b k r reads is rel r_is =
+    let test : (e_type b == ET_REL) ≡ true =
+    rel_by (e_type b == ET_REL) (e_type b == ET_EXEC) (e_type b == ET_DYN) (e_type b) (sym is ∙ rel) in
+    subst (FileFails b) (sym r_is) (relocatable reads.debug.header (grind (arith, nat_tests, test)))
 
-pub e_shoff-first : (b : List ℕ) → FirstIdent b → e_shoff b ≡ spelled Little b 40 8
-unfolding e_shoff
-e_shoff-first b ok = rw (order-first b ok, class-first b ok) refl
+pub refused_type : (b : List ℕ) (k : FileKind) (n : ℕ) (r : Refusal) → ElfReads b → k ≡ file_kind b → k ≡ Other n → r ≡ at FileType 0 16 → FileFails b r
+unfolding file_kind
+refused_type b k n r reads is other r_is =
+    let tests = other_by (e_type b == ET_REL) (e_type b == ET_EXEC) (e_type b == ET_DYN) (e_type b) n (sym is ∙ other) in
+    subst (FileFails b) (sym r_is)
+    (file_type reads.debug.header (λ e. (let yes : (e_type b == ET_REL) ≡ true = eq-eqb (e_type b) ET_REL e in
+    let no_ : (e_type b == ET_REL) ≡ false = tests.0 in cc)) tests.1)
 
--- the type of a section of such a file
-kind-first : (b : List ℕ) (i : ℕ) → FirstIdent b → (nth_section b i).kind ≡ spelled Little b (e_shoff b + i * 64 + 4) 4
-unfolding nth_section section_at
-kind-first b i ok = rw (order-first b ok, class-first b ok) refl
+pub ruleset kind_laws = (kind_exec, kind_dyn, refused_rel, refused_type)
 
--- the type of the section of names, at the place of its number
-pub names_kind-first : (b : List ℕ) (start names : ℕ) → FirstIdent b → start ≡ spelled Little b 40 8 → names ≡ spelled Little b 62 2
-    → (nth_section b (e_shstrndx b)).kind ≡ spelled Little b (start + names * 64 + 4) 4
-names_kind-first b start names ok start_is names_are =
-    let start_of : e_shoff b ≡ start = e_shoff-first b ok ∙ sym start_is in
-    let names_of : e_shstrndx b ≡ names = e_shstrndx-first b ok ∙ sym names_are in
-    kind-first b (e_shstrndx b) ok ∙ rw (start_of, names_of) refl
+-- How many sections there are: each has a header in the file.
+section_count-none : (b : List ℕ) → e_shoff b ≡ 0 → section_count b ≡ 0
+unfolding section_count
+section_count-none b none = rw none refl
 
-pub ruleset field_laws = (e_type-first, e_phnum-first, e_shentsize-first)
+few : (c : Class) (n start len : ℕ) → start + n * shdr_size c ≤ len → len ≤ 2 ^ 31 → n < 2 ^ 31
+few C32 n start len lies small = omega arith
+few C64 n start len lies small = omega arith
 
-pub ruleset table_laws = (e_shnum-first, e_shstrndx-first, e_shoff-first, names_kind-first)
+pub section_count-few : (b : List ℕ) → ElfReads b → length b ≤ 2 ^ 31 → section_count b < 2 ^ 31
+section_count-few b reads small = elim (cases_eq (e_shoff b) 0) [
+  | inl none ↦ omega (arith, section_count-none b none)
+  | inr some ↦
+      few (class_of b) (section_count b) (e_shoff b) (length b) (reads.debug.table.lies some) small
+]
+
+-- where there are sections, there is a section header table
+table_there : (b : List ℕ) (i : ℕ) → i < section_count b → e_shoff b ≢ 0
+table_there b i lt none = omega (arith, section_count-none b none)
+
+-- and its name table is the section of the number that is said, which is empty for section 0
+name_table-some : (b : List ℕ) → name_index b ≢ 0 → name_table b ≡ contents_of b (name_index b)
+unfolding name_table
+name_table-some b some = by_index (name_index b == 0) refl
+  where
+    by_index : (zero_is : Bool) → (name_index b == 0) ≡ zero_is → cond zero_is [] (contents_of b (name_index b)) ≡ contents_of b (name_index b)
+    by_index true e = absurd (some (grind (arith, nat_tests, e)))
+    by_index false e = refl
+
+name_table-none : (b : List ℕ) → name_index b ≡ 0 → name_table b ≡ []
+unfolding name_table
+name_table-none b none = rw none refl
+
+contents-null : (b : List ℕ) (i : ℕ) → is_empty_kind (nth_section b i) ≡ true → contents_of b i ≡ []
+unfolding contents_of contents_at
+contents-null b i empty = rw empty refl
+
+pub name_table-read : (b : List ℕ) (i : ℕ) → ElfReads b → i < section_count b → name_table b ≡ contents_of b (name_index b)
+name_table-read b i reads lt = elim (cases_eq (name_index b) 0) [
+  | inl none ↦
+      let null : (nth_section b 0).kind ≡ 0 = reads.debug.index.null (table_there b i lt) in
+      let empty : is_empty_kind (nth_section b 0) ≡ true = rw null refl in
+      name_table-none b none ∙ sym (ap (contents_of b) none ∙ contents-null b 0 empty)
+  | inr some ↦ name_table-some b some
+]
+
+pub name_index-there : (b : List ℕ) (i : ℕ) → ElfReads b → i < section_count b → name_index b < section_count b
+name_index-there b i reads lt = elim (cases_eq (name_index b) 0) [
+  | inl none ↦ omega arith
+  | inr some ↦ reads.debug.index.there some
+]
+
+pub ruleset count_laws = (section_count-few)
 
 not_zero : (n : ℕ) → n ≢ 0 → (n == 0) ≡ false
 not_zero n h = grind arith
-
-not_extended : (n : ℕ) → n < 0xff00 → (n == 0xffff) ≡ false
-not_extended n h = grind arith
-
--- its sections are counted in the file header
-pub section_count-first : (b : List ℕ) → FirstTable b → section_count b ≡ e_shnum b
-unfolding section_count
-section_count-first b ok =
-    let some = ok.some in
-    rw (not_zero (e_shoff b) ok.there, not_zero (e_shnum b) (omega arith)) refl
-
--- and so is the number of its name table
-pub name_index-first : (b : List ℕ) → FirstTable b → name_index b ≡ e_shstrndx b
-unfolding name_index
-name_index-first b ok =
-    let few = ok.few in
-    let below = ok.names in
-    rw (not_zero (e_shoff b) ok.there, not_extended (e_shstrndx b) (omega arith)) refl
-
--- there are few of them
-pub section_count-few : (b : List ℕ) → FirstTable b → section_count b < 0xff00
-section_count-few b ok =
-    let few = ok.few in
-    omega (arith, section_count-first b ok)
-
--- its name table is the section of that number
-pub name_index-some : (b : List ℕ) → FirstTable b → name_index b ≢ 0
-name_index-some b ok e = ok.named (sym (name_index-first b ok) ∙ e)
-
-pub name_index-there : (b : List ℕ) → FirstTable b → name_index b < section_count b
-name_index-there b ok =
-    let below = ok.names in
-    omega (arith, section_count-first b ok, name_index-first b ok)
-
-pub name_table-first : (b : List ℕ) → FirstTable b → name_table b ≡ contents_of b (name_index b)
-unfolding name_table
-name_table-first b ok = rw (not_zero (name_index b) (name_index-some b ok)) refl
-
-pub ruleset count_laws = (section_count-few, name_index-there, name_table-first)
 
 -- The first bytes of a text.
 -- the text goes on behind so many of its bytes
@@ -174,42 +197,112 @@ is_first_name-take t =
       same_text-take 18 t debug_altlink (omega arith),
     ) refl
 
--- the section of this number is the one of this name
-pub once-only : (b name : List ℕ) (ok : IsOnce b name) → IsOnly b name ok.index
-once-only b name ok = record { within = ok.within; named = ok.named; kind = ok.kind; only = ok.only }
+pub is_read_name-take : (t : List ℕ) → is_read_name (take 18 t) ≡ is_read_name t
+is_read_name-take t =
+    rw (
+      same_text-take 18 t debug_info (omega arith),
+      same_text-take 18 t debug_abbrev (omega arith),
+      same_text-take 18 t debug_str (omega arith),
+    ) refl
 
-pub only-once : (b name : List ℕ) (i : ℕ) → IsOnly b name i → IsOnce b name
-only-once b name i ok = record { index = i; within = ok.within; named = ok.named; kind = ok.kind; only = ok.only }
+-- the first bytes of a section's name
+pub front_named : (b : List ℕ) (i n : ℕ) (s : Section) (table front : List ℕ) → ElfReads b → i < section_count b → n ≡ name_index b
+    → table ≡ contents_of b n → s ≡ nth_section b i → front ≡ take 18 (text_in table s.name) → front ≡ take 18 (section_name b i)
+unfolding section_name
+front_named b i n s table front reads lt n_is table_is s_is is =
+    let same : table ≡ name_table b = table_is ∙ ap (contents_of b) n_is ∙ sym (name_table-read b i reads lt) in
+    is ∙ ap (λ (t : List ℕ). take 18 (text_in t s.name)) same ∙ ap (λ (x : Section). take 18 (text_in (name_table b) x.name)) s_is
 
--- its number is that of the first section of its name
-pub section_called-only : (b name : List ℕ) (i : ℕ) → IsOnly b name i → i ≡ section_called b name
-section_called-only b name i ok = first_called b name i ok.within ok.named ok.only
+pub ruleset name_laws = (name_index-there, front_named)
 
--- Sections that fit.
-pub fits-first : (b : List ℕ) → FirstSections b → FirstNames b → AllFit b
-fits-first b sections names = record {
-  each = λ i lt. record { placed = record { placed = λ some. sections.placed i some lt }; named = names.others i lt };
+-- What the first bytes of a section's name tell.
+listed_is : (b : List ℕ) (i : ℕ) (front : List ℕ) (t v : Bool) → front ≡ take 18 (section_name b i) → t ≡ is_first_name front → t ≡ v
+    → is_first_name (section_name b i) ≡ v
+listed_is b i front t v front_is t_is is =
+    sym (is_first_name-take (section_name b i)) ∙ ap (λ (n : List ℕ). is_first_name n) (sym front_is) ∙ sym t_is ∙ is
+
+read_is : (b : List ℕ) (i : ℕ) (front : List ℕ) (t v : Bool) → front ≡ take 18 (section_name b i) → t ≡ is_read_name front → t ≡ v
+    → is_read_name (section_name b i) ≡ v
+read_is b i front t v front_is t_is is =
+    sym (is_read_name-take (section_name b i)) ∙ ap (λ (n : List ℕ). is_read_name n) (sym front_is) ∙ sym t_is ∙ is
+
+-- a section is refused for its name
+pub refused_listed : (b : List ℕ) (i : ℕ) (front : List ℕ) (t : Bool) (r : Refusal) → ElfReads b → i < section_count b
+    → front ≡ take 18 (section_name b i) → t ≡ is_first_name front → t ≡ false → r ≡ at Unbuilt 0 0 → FileFails b r
+refused_listed b i front t r reads lt front_is t_is no_ r_is =
+    subst (FileFails b) (sym r_is) (named reads (unlisted i lt (listed_is b i front t false front_is t_is no_)))
+
+-- or where it is compressed
+pub refused_packed : (b : List ℕ) (i : ℕ) (front : List ℕ) (t u : Bool) (s : Section) (r : Refusal) → ElfReads b → i < section_count b
+    → front ≡ take 18 (section_name b i) → t ≡ is_read_name front → t ≡ true → s ≡ nth_section b i
+    → u ≡ not (bit_and s.flags SHF_COMPRESSED == 0) → u ≡ true → r ≡ at Unbuilt 0 0 → FileFails b r
+refused_packed b i front t u s r reads lt front_is t_is yes_ s_is u_is packed r_is =
+    let set : not (bit_and (nth_section b i).flags SHF_COMPRESSED == 0) ≡ true =
+    ap (λ (x : Section). not (bit_and x.flags SHF_COMPRESSED == 0)) (sym s_is) ∙ sym u_is ∙ packed in
+    subst (FileFails b) (sym r_is)
+    (named reads (compressed i lt (read_is b i front t true front_is t_is yes_)
+    (λ e. (let zero_is : (bit_and (nth_section b i).flags SHF_COMPRESSED == 0) ≡ true = eq-eqb (bit_and (nth_section b i).flags SHF_COMPRESSED) 0 e in
+    let unset : not (bit_and (nth_section b i).flags SHF_COMPRESSED == 0) ≡ false = ap not zero_is in cc))))
+
+-- both of two tests
+both : (x y : Bool) → (x && not y) ≡ true → (x ≡ true) × (y ≡ false)
+both true true h = absurd cc
+both true false h = (refl, refl)
+both false y h = absurd cc
+
+-- or where it is loaded
+pub refused_loaded : (b : List ℕ) (i : ℕ) (front : List ℕ) (t u : Bool) (s : Section) (r : Refusal) → ElfReads b → i < section_count b
+    → front ≡ take 18 (section_name b i) → t ≡ is_read_name front → t ≡ true → s ≡ nth_section b i
+    → u ≡ (is_alloc s && not (is_empty_kind s)) → u ≡ true → r ≡ at Fixed i 0 → FileFails b r
+refused_loaded b i front t u s r reads lt front_is t_is yes_ s_is u_is stands r_is =
+    let tests : (is_alloc (nth_section b i) && not (is_empty_kind (nth_section b i))) ≡ true =
+    ap (λ (x : Section). is_alloc x && not (is_empty_kind x)) (sym s_is) ∙ sym u_is ∙ stands in
+    let parts = both (is_alloc (nth_section b i)) (is_empty_kind (nth_section b i)) tests in
+    subst (FileFails b) (sym r_is)
+    (placed i reads lt (loaded (record { read = read_is b i front t true front_is t_is yes_; bytes = parts.1; alloc = parts.0 })))
+
+-- a section that isn't read may stand anywhere
+pub fits_unread : (b : List ℕ) (i : ℕ) (front : List ℕ) (t v : Bool) → front ≡ take 18 (section_name b i) → t ≡ is_first_name front → t ≡ true
+    → v ≡ is_read_name front → v ≡ false → SectionFits b i
+fits_unread b i front t v front_is t_is yes_ v_is no_ =
+    let unread : is_read_name (section_name b i) ≡ false = read_is b i front v false front_is v_is no_ in
+    record {
+      listed = listed_is b i front t true front_is t_is yes_;
+      plain = λ read. absurd cc;
+      unloaded = λ h. (let read : is_read_name (section_name b i) ≡ true = h.read in cc);
+    }
+
+-- a number that isn't other than 0
+zero_by : (n : ℕ) (z : Bool) → (n == 0) ≡ z → not z ≡ false → n ≡ 0
+zero_by n true test e = grind (arith, nat_tests, test)
+zero_by n false test e = absurd (true≢false e)
+
+zero_from : (n : ℕ) → not (n == 0) ≡ false → n ≡ 0
+zero_from n e = zero_by n (n == 0) refl e
+
+-- not both of two tests
+neither : (x y : Bool) → x ≡ true → y ≡ false → (x && not y) ≡ false → ⊥
+neither true false a n h = true≢false h
+neither true true a n h = true≢false n
+neither false y a n h = true≢false (sym a)
+
+-- one that is read is neither compressed nor loaded
+pub fits_read : (b : List ℕ) (i : ℕ) (front : List ℕ) (t u v : Bool) (s : Section) → front ≡ take 18 (section_name b i) → t ≡ is_first_name front
+    → t ≡ true → s ≡ nth_section b i → u ≡ not (bit_and s.flags SHF_COMPRESSED == 0) → u ≡ false
+    → v ≡ (is_alloc s && not (is_empty_kind s)) → v ≡ false → SectionFits b i
+fits_read b i front t u v s front_is t_is yes_ s_is u_is plain v_is apart = record {
+  listed = listed_is b i front t true front_is t_is yes_;
+  plain = λ read.
+      let unset : not (bit_and (nth_section b i).flags SHF_COMPRESSED == 0) ≡ false =
+      ap (λ (x : Section). not (bit_and x.flags SHF_COMPRESSED == 0)) (sym s_is) ∙ sym u_is ∙ plain in
+      zero_from (bit_and (nth_section b i).flags SHF_COMPRESSED) unset;
+  unloaded = λ h.
+      let tests : (is_alloc (nth_section b i) && not (is_empty_kind (nth_section b i))) ≡ false =
+      ap (λ (x : Section). is_alloc x && not (is_empty_kind x)) (sym s_is) ∙ sym v_is ∙ apart in
+      neither (is_alloc (nth_section b i)) (is_empty_kind (nth_section b i)) h.alloc h.bytes tests;
 }
 
--- section 0 may stand anywhere
-pub placed-null : (b : List ℕ) → IsPlaced b 0
-placed-null b = record { placed = λ some. absurd (omega arith) }
-
-pub placed-some : (b : List ℕ) (i : ℕ) → FirstPlaced b (nth_section b i) → IsPlaced b i
-placed-some b i is = record { placed = λ some. is }
-
-pub placed-other : (b : List ℕ) (i : ℕ) → 0 < i → (FirstPlaced b (nth_section b i) → ⊥) → IsPlaced b i → ⊥
-placed-other b i some other is = other (is.placed some)
-
-pub ruleset place_laws = (placed-null, placed-some, placed-other)
-
--- a section that is placed fits where its name does, which its first bytes tell
-pub fits-tested : (b : List ℕ) (i : ℕ) (front : List ℕ) (test : Bool) → IsPlaced b i → front ≡ take 18 (section_name b i)
-    → test ≡ is_first_name front → IsTrue test ↔ SectionFits b i
-fits-tested b i front test placed front_is test_is =
-    let same : test ≡ is_first_name (section_name b i) =
-    test_is ∙ ap (λ (t : List ℕ). is_first_name t) front_is ∙ is_first_name-take (section_name b i) in
-    (λ yes. record { placed = placed; named = sym same ∙ yes }, λ fits. same ∙ fits.named)
+pub ruleset section_laws = (refused_listed, refused_packed, refused_loaded, fits_unread, fits_read)
 
 -- the sections below a number fit
 pub record FitBelow (b : List ℕ) (i : ℕ) : Type 0 where
@@ -229,61 +322,29 @@ fits-more b i here below = record {
 pub fits-end : (b : List ℕ) (i : ℕ) → section_count b ≤ i → FitBelow b i → AllFit b
 fits-end b i end below = record { each = λ k lt. below.each k (omega arith) }
 
-pub fits-none : (b : List ℕ) (i : ℕ) → i < section_count b → (SectionFits b i → ⊥) → AllFit b → ⊥
-fits-none b i lt other all = other (all.each i lt)
+pub ruleset fit_laws = (fits-start, fits-more, fits-end)
 
-pub ruleset fit_laws = (fits-start, fits-more, fits-end, fits-none)
+-- the section name table is no section that is read
+pub apart_none : (b : List ℕ) (n : ℕ) → n ≡ name_index b → n ≡ 0 → NamesApart b
+apart_none b n is none = record { apart = λ some. absurd (some (sym is ∙ none)) }
 
--- an alignment, by its two cases
-alignment : (n : ℕ) → (n ≢ 0 → is_power_of_two n ≡ true) → IsTrue (is_alignment n)
-alignment n power = by_zero (n == 0) refl
-  where
-    by_zero : (zero_is : Bool) → (n == 0) ≡ zero_is → IsTrue (zero_is || is_power_of_two n)
-    by_zero true e = refl
-    by_zero false e = power (λ none. cc)
-
--- each section of a file that reads has an alignment and a name that ends
-named-reads : (b : List ℕ) (i : ℕ) → FirstTable b → ElfReads b → i < section_count b → FirstNamed b (nth_section b i)
-named-reads b i table reads lt =
-    let is : SectionReads b (nth_section b i) = reads.debug.sections.all i lt in
-    record { align = alignment (nth_section b i).align is.place.align; name = is.name (name_index-some b table) }
-
--- so the sections are as First files have them
-pub sections-judged : (b : List ℕ) → FirstTable b → ElfReads b → AllFit b → FirstSections b
-sections-judged b table reads fit = record {
-  null = reads.debug.index.null table.there;
-  named = λ i lt. named-reads b i table reads lt;
-  placed = λ i some lt. (fit.each i lt).placed.placed some;
+pub apart_some : (b : List ℕ) (n : ℕ) (front : List ℕ) (t : Bool) → n ≡ name_index b → front ≡ take 18 (section_name b n) → t ≡ is_read_name front
+    → t ≡ false → NamesApart b
+apart_some b n front t is front_is t_is no_ = record {
+  apart = λ some. subst (λ (i : ℕ). is_read_name (section_name b i) ≡ false) is (read_is b n front t false front_is t_is no_);
 }
 
--- and the names, where the three are there
-pub names-judged : (b : List ℕ) (info abbrevs str : ℕ) → AllFit b → IsOnly b debug_info info → IsOnly b debug_abbrev abbrevs → IsOnly b debug_str str
-    → FirstNames b
-names-judged b info abbrevs str fit info_is abbrevs_are str_is = record {
-  info = only-once b debug_info info info_is;
-  abbrev_ = only-once b debug_abbrev abbrevs abbrevs_are;
-  str = only-once b debug_str str str_is;
-  others = λ i lt. (fit.each i lt).named;
-}
+-- or it is one
+pub refused_table : (b : List ℕ) (n : ℕ) (front : List ℕ) (t : Bool) (r : Refusal) → ElfReads b → n ≡ name_index b → n ≢ 0
+    → front ≡ take 18 (section_name b n) → t ≡ is_read_name front → t ≡ true → r ≡ at Unbuilt 0 0 → FileFails b r
+refused_table b n front t r reads is some front_is t_is yes_ r_is =
+    subst (FileFails b) (sym r_is)
+    (named reads (names (λ none. some (is ∙ none)) (subst (λ (i : ℕ). is_read_name (section_name b i) ≡ true) is (read_is b n front t true front_is t_is yes_))))
 
--- these are the three sections of debug data
-pub are-first : (b : List ℕ) (s : Sections) → FirstTable b → ElfReads b → AllFit b
-    → IsOnly b debug_info s.info → IsOnly b debug_abbrev s.«abbrev» → IsOnly b debug_str s.str → AreFirst b s
-are-first b s table reads fit info abbrevs str = record {
-  sections = sections-judged b table reads fit;
-  names = names-judged b s.info s.«abbrev» s.str fit info abbrevs str;
-  info_is = section_called-only b debug_info s.info info;
-  abbrev_is = section_called-only b debug_abbrev s.«abbrev» abbrevs;
-  str_is = section_called-only b debug_str s.str str;
-  info_there = info.within;
-  abbrev_there = abbrevs.within;
-  str_there = str.within;
-  info_kind = info.kind;
-  abbrev_kind = abbrevs.kind;
-  str_kind = str.kind;
-}
+pub there_names : (b : List ℕ) (n : ℕ) → ElfReads b → n ≡ name_index b → n ≢ 0 → n < section_count b
+there_names b n reads is some = rw is (reads.debug.index.there (λ none. some (is ∙ none)))
 
-pub ruleset section_laws = (are-first, fits-first)
+pub ruleset apart_laws = (apart_none, apart_some, refused_table, there_names)
 
 -- The sections of a name, from a number on.
 -- none of those between two numbers has the name
@@ -328,37 +389,68 @@ not_yet-end b name from i end yet = record { none = λ k le lt. yet.none k le (o
 
 pub ruleset called_laws = (not_yet-start, not_yet-more, not_yet-found, not_yet-end)
 
--- the one section of a name: it is the first, and none follows
-pub only-found : (b name : List ℕ) (i : ℕ) → NextCalled b name 0 i → NoneCalled b name (i + 1) → (nth_section b i).kind ≡ SHT_PROGBITS → IsOnly b name i
-only-found b name i next none kind = record {
-  within = next.within;
-  named = next.named;
-  kind = kind;
-  only = λ k lt named. elim (cases_lt k i) [
-    | inl below ↦ absurd (next.before k (omega arith) below named)
-    | inr above ↦ elim (cases_lt i k) [
-      | inl behind ↦ absurd (none.none k (omega arith) lt named)
-      | inr same ↦ omega arith
-    ]
-  ];
+-- Of the sections of a name there is the first, and no other.
+once_first : (b name : List ℕ) (i : ℕ) → NextCalled b name 0 i → NoneCalled b name (i + 1) → (k : ℕ) → k < section_count b → section_name b k ≡ name → k ≡ i
+once_first b name i next none k lt is = elim (cases_lt k i) [
+  | inl below ↦ absurd (next.before k (omega arith) below is)
+  | inr above ↦ elim (cases_lt i k) [
+    | inl behind ↦ absurd (none.none k (omega arith) lt is)
+    | inr same ↦ omega arith
+  ]
+]
+
+at_most_once : (b name : List ℕ) (i : ℕ) → NextCalled b name 0 i → NoneCalled b name (i + 1) → AtMostOnce b name
+at_most_once b name i next none = record {
+  same = λ j k lt within one two. once_first b name i next none j lt one ∙ sym (once_first b name i next none k within two);
 }
 
--- there is none
-pub only-absent : (b name : List ℕ) → NoneCalled b name 0 → IsOnce b name → ⊥
-only-absent b name none once = none.none once.index (omega arith) once.within once.named
+-- none has the name
+pub only-none : (b name : List ℕ) → NoneCalled b name 0 → IsOnly b name None
+only-none b name none =
+    let absent : (k : ℕ) → k < section_count b → section_name b k ≢ name = λ k lt. none.none k (omega arith) lt in
+    record {
+      found = nowhere (record {
+        bytes = contents-none b name absent;
+        own = λ lt. absurd (omega (arith, called-none b name absent));
+      });
+      once = record { same = λ i j lt within one two. absurd (absent i lt one) };
+    }
 
--- there are two
-pub only-twice : (b name : List ℕ) (i j : ℕ) → NextCalled b name 0 i → NextCalled b name (i + 1) j → IsOnce b name → ⊥
-only-twice b name i j next more once =
-    let first : i ≡ once.index = once.only i next.within next.named in
-    let second : j ≡ once.index = once.only j more.within more.named in
-    let behind = more.behind in
-    omega arith
+-- the one that has it has no room in the file
+pub only-empty : (b name : List ℕ) (i : ℕ) (s : Section) (t : Bool) → NextCalled b name 0 i → NoneCalled b name (i + 1) → s ≡ nth_section b i
+    → t ≡ is_empty_kind s → t ≡ true → IsOnly b name None
+only-empty b name i s t next none s_is t_is empty =
+    let before : (k : ℕ) → k < i → section_name b k ≢ name = λ k lt. next.before k (omega arith) lt in
+    let own : contents_of b i ≡ [] = contents-null b i (ap (λ (x : Section). is_empty_kind x) (sym s_is) ∙ sym t_is ∙ empty) in
+    record {
+      found = nowhere (record {
+        bytes = contents-first b name i next.within next.named before ∙ own;
+        own = λ lt. ap (contents_of b) (sym (called-first b name i next.within next.named before)) ∙ own;
+      });
+      once = at_most_once b name i next none;
+    }
 
--- it is of another type
-pub only-other : (b name : List ℕ) (i : ℕ) → NextCalled b name 0 i → (nth_section b i).kind ≢ SHT_PROGBITS → IsOnce b name → ⊥
-only-other b name i next other once =
-    let first : i ≡ once.index = once.only i next.within next.named in
-    other (ap (λ (n : ℕ). (nth_section b n).kind) first ∙ once.kind)
+-- or it has room there
+pub only-found : (b name : List ℕ) (i : ℕ) (s : Section) (t : Bool) → NextCalled b name 0 i → NoneCalled b name (i + 1) → s ≡ nth_section b i
+    → t ≡ is_empty_kind s → t ≡ false → IsOnly b name (Some i)
+only-found b name i s t next none s_is t_is full =
+    let before : (k : ℕ) → k < i → section_name b k ≢ name = λ k lt. next.before k (omega arith) lt in
+    record {
+      found = there (record {
+        within = next.within;
+        named = next.named;
+        called = called-first b name i next.within next.named before;
+        full = ap (λ (x : Section). is_empty_kind x) (sym s_is) ∙ sym t_is ∙ full;
+        bytes = contents-first b name i next.within next.named before;
+      });
+      once = at_most_once b name i next none;
+    }
 
-pub ruleset only_laws = (section_count-few, only-found, only-absent, only-twice, only-other)
+-- two have it
+pub refused_twice : (b name : List ℕ) (i j : ℕ) (r : Refusal) → ElfReads b → is_read_name name ≡ true → NextCalled b name 0 i → NextCalled b name (i + 1) j
+    → r ≡ at Unbuilt 0 0 → FileFails b r
+refused_twice b name i j r reads read next more r_is =
+    subst (FileFails b) (sym r_is)
+    (named reads (twice i j (omega (arith, more.behind)) more.within (ap (λ (t : List ℕ). is_read_name t) next.named ∙ read) (more.named ∙ sym next.named)))
+
+pub ruleset only_laws = (section_count-few, only-none, only-empty, only-found, refused_twice)

@@ -1,13 +1,13 @@
 -- The places of new texts, one more at a time.
-use Rattle.std.proofs.Common.{Bool, true, false, ◌≡◌, ◌≢◌, ℕ, ◌+◌, ◌<◌, ◌≤◌, ◌==◌, List, ◌++◌, length, Option, Some, None, is_some, cond, sym, ap, ◌∙◌, refl, subst, arith}
+use Rattle.std.proofs.Common.{Bool, true, false, ◌≡◌, ◌≢◌, ℕ, ◌+◌, ◌≤◌, ◌==◌, List, length, Option, Some, None, is_some, sym, ap, ◌∙◌, refl, subst, arith}
 use Rattle.std.proofs.lemmas.Bool.Decides.{nat_tests}
 use Rattle.dw_base.specs.Mentions.{Around}
 use Rattle.dw_base.specs.Paths.{PathMap, IsPathMap, mapped_path}
-use Rattle.dw_base.specs.StringTables.{Mention, Plan, TextTable, appending, new_place, new_text, with_mention, with_text, place_in, table_bytes, with_added, text_place}
+use Rattle.dw_base.specs.StringTables.{Plan, TextTable, appending, with_mention, with_text, place_in, with_added, text_place}
 use Rattle.dw_base.specs.Texts.{is_in, text_in, ends_in, has_nul}
 use Rattle.dw_base.proofs.TextLaws.{is_in-with_text, is_in-with_text_kept, place_in-with_text, has_nul-text_in, ends_in-inside}
 use Rattle.dw_base.proofs.PathLaws.{has_nul-mapped_path}
-use Rattle.dw_rewrite.specs.Changes.{path_of, path_at, KnownPlace, Knows, IsNoted, Remembers, Adds, place_after}
+use Rattle.dw_rewrite.specs.Changes.{path_of, KnownPlace, Knows, IsNoted, Remembers, Adds, place_after}
 
 -- the place of a text that was added
 pub place_added : (table : TextTable) (t : List ℕ) (place : ℕ) → text_place (with_added table t) t ≡ Some place → place ≡ place_after table t
@@ -16,15 +16,11 @@ place_added table t place e =
     let same : Some (place_after table t) ≡ Some place = sym (rw there refl) ∙ e in
     cc
 
--- what is too long isn't short
-pub too_long : (limit n : ℕ) → limit < n → n ≤ limit → ⊥
-too_long limit n over within = omega arith
-
 -- a text of a table has no NUL, and neither has the mapped one
 pub mapped_plain : (m : PathMap) (table : List ℕ) (offset : ℕ) → IsPathMap m → has_nul (mapped_path m (text_in table offset)) ≡ false
 mapped_plain m table offset ok = has_nul-mapped_path m (text_in table offset) ok (has_nul-text_in table offset)
 
-pub ruleset add_rules = (place_added, too_long, has_nul-text_in)
+pub ruleset add_rules = (place_added, has_nul-text_in)
 
 -- an offset at which a text ends lies in the table
 pub ends_inside : (table : List ℕ) (offset : ℕ) → ends_in table offset ≡ true → offset ≤ length table

@@ -1,4 +1,4 @@
-pub mod FirstGrammar
+pub mod EntryGrammar
 pub mod TableLaws
 pub mod ValueLaws
 pub mod CodeLaws
@@ -13,6 +13,7 @@ pub mod PlacedLaws
 pub mod ChangeLaws
 pub mod AskLaws
 pub mod KnownLaws
+pub mod CalledLaws
 pub mod JudgeLaws
 pub mod ChangedLaws
 pub mod WrittenLaws

@@ -1,10 +1,9 @@
 -- The pairs of a table of abbreviations, one after another, as the code reads them.
-use Rattle.std.proofs.Common.{Bool, true, false, ◌≡◌, ◌≢◌, ℕ, zero, suc, ◌+◌, ◌-◌, ◌<◌, ◌≤◌, ◌==◌, ◌&&◌, List, [], ◌∷◌, ◌++◌, length, drop, get_or, Option, Some, None, option_map, is_some, cond, sym, ap, ◌∙◌, refl, subst, arith}
+use Rattle.std.proofs.Common.{Bool, true, false, ◌≡◌, ℕ, suc, ◌+◌, ◌-◌, ◌<◌, ◌≤◌, ◌==◌, ◌&&◌, List, [], ◌∷◌, length, drop, get_or, Option, Some, None, option_map, is_some, cond, ap, ◌∙◌, refl, subst, arith}
 use Rattle.std.proofs.Math.Seq.{drop-cons}
-use Rattle.std.proofs.lemmas.Bool.Decides.{nat_tests}
 use Rattle.std.proofs.lemmas.List.{length-drop}
 use Rattle.dw_base.specs.First.{closed, first_names, first_table, is_first_head, is_first_pair}
-use Rattle.dw_rewrite.specs.FirstUnits.{IsNames, IsTable}
+use Rattle.dw_rewrite.specs.EntryFacts.{IsNames, IsTable}
 
 -- what is read from a place on, with so many names before it, is what is read of the whole
 pub record NamesFrom (bytes : List ℕ) (at place count : ℕ) : Type 0 where

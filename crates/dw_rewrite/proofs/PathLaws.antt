@@ -1,10 +1,10 @@
--- The places of the paths of a First file's units, and what becomes of the two sections.
-use Rattle.std.proofs.Common.{Bool, true, false, ◌≡◌, ℕ, zero, suc, ◌+◌, ◌-◌, ◌<◌, ◌≤◌, List, [], ◌∷◌, ◌++◌, length, get_or, drop, IsTrue, sym, ap, ◌∙◌, refl, subst, arith}
+-- The places of the paths of units of one entry, and what becomes of the two sections.
+use Rattle.std.proofs.Common.{true, false, ◌≡◌, ℕ, zero, suc, ◌+◌, ◌-◌, ◌<◌, List, [], ◌∷◌, ◌++◌, length, get_or, drop, IsTrue, sym, ap, ◌∙◌, refl, subst, arith}
 use Rattle.std.proofs.lemmas.List.{length-append, length-drop}
 use Rattle.dw_base.specs.Elf.{order_of}
-use Rattle.dw_base.specs.First.{FirstUnits, readings}
+use Rattle.dw_base.specs.First.{readings}
 use Rattle.dw_base.specs.Grammar.{Step, joined, EachStep}
-use Rattle.dw_base.specs.Mentions.{Around, TableChange, offset_of, NamesText, NamesTextBy}
+use Rattle.dw_base.specs.Mentions.{TableChange, NamesText, NamesTextBy}
 use Rattle.dw_base.specs.Numbers.{spelled}
 use Rattle.dw_base.specs.Output.{around_of, str_change, changes_of, new_info, new_str}
 use Rattle.dw_base.specs.Paths.{PathMap}
@@ -14,7 +14,7 @@ use Rattle.dw_base.specs.Texts.{ends_in}
 use Rattle.dw_base.specs.Units.{UnitState, before_unit, Reads, Role, fixed, offset, in_debug_str, role_of}
 use Rattle.dw_base.specs.declared.shared.Order.{Order}
 use Rattle.dw_rewrite.specs.Changes.{ArePaths, IsPathPlace, str_change_at, str_after, info_after, patched}
-use Rattle.dw_rewrite.specs.FirstUnits.{PlacesRead}
+use Rattle.dw_rewrite.specs.EntryFacts.{PlacesRead}
 use Rattle.dw_rewrite.specs.PathPlaces.{path_place, path_places}
 use Rattle.dw_rewrite.proofs.ChangeLaws.{piece_number, texts_by_places, written_by_places}
 use Rattle.dw_rewrite.proofs.PlacedLaws.{Placed, placed, SizeBy}

@@ -1,6 +1,6 @@
 -- The places of values, one after another.
-use Rattle.std.proofs.Common.{◌≡◌, ℕ, zero, suc, ◌+◌, ◌-◌, ◌*◌, ◌<◌, List, [], ◌∷◌, ◌++◌, sym, ap, ◌∙◌, refl, subst, arith, append_assoc}
-use Rattle.dw_rewrite.specs.FirstUnits.{value_places}
+use Rattle.std.proofs.Common.{◌≡◌, ℕ, suc, ◌+◌, ◌-◌, ◌*◌, ◌<◌, List, [], ◌∷◌, ◌++◌, refl, arith, append_assoc}
+use Rattle.dw_rewrite.specs.EntryFacts.{value_places}
 
 -- the first of the places that are left, and those behind it
 pub places_front : (front : List ℕ) (place count i : ℕ) → i < count

@@ -1,8 +1,8 @@
--- The table of abbreviations of a First unit declares its one abbreviation.
-use Rattle.std.proofs.Common.{Bool, true, false, ◌≡◌, ℕ, ◌+◌, ◌<◌, ◌==◌, ◌&&◌, ◌||◌, nat_lt, List, [], ◌∷◌, ◌++◌, length, drop, map, Option, Some, None, option_map, sym, ap, ◌∙◌, refl, subst, arith, cond, append_assoc}
+-- The table of abbreviations of such a unit declares its one abbreviation.
+use Rattle.std.proofs.Common.{Bool, true, false, ◌≡◌, ℕ, ◌<◌, ◌==◌, ◌&&◌, ◌||◌, nat_lt, List, [], ◌∷◌, ◌++◌, drop, Option, Some, None, option_map, sym, ap, ◌∙◌, refl, subst, arith, cond, append_assoc}
 use Rattle.std.proofs.lemmas.List.{append-nil}
 use Rattle.std.proofs.lemmas.Bool.Decides.{nat_tests}
-use Rattle.dw_base.specs.Abbreviations.{Abbreviation, AttributeSpec, leb_numbers, leb_value, declared, at_code, at_name, bare, with_spec, abbreviations_at, abbreviation_of}
+use Rattle.dw_base.specs.Abbreviations.{Abbreviation, AttributeSpec, leb_numbers, leb_value, declared, at_code, at_name, bare, with_spec, abbreviations_at}
 use Rattle.dw_base.specs.First.{first_table, first_names, closed}
 use Rattle.dw_base.specs.Units.{is_path}
 
@@ -80,9 +80,9 @@ names_declared (n ∷ f ∷ rest) names a e =
     names_by n f rest names a false true is_end pair e more = names_more n f rest names a (first_names rest) refl is_end pair e more
     names_by n f rest names a false false is_end pair e more = absurd cc
 
--- the abbreviation of a First unit
-abbrev pub first_entry : ℕ → List ℕ → Abbreviation
-first_entry code names = record { code = code; tag = 0x11; children = false; specs = specs_of names }
+-- the abbreviation of such a unit
+abbrev pub one_abbreviation : ℕ → List ℕ → Abbreviation
+one_abbreviation code names = record { code = code; tag = 0x11; children = false; specs = specs_of names }
 
 -- more attributes stand behind those before
 with_specs_is : (a : Abbreviation) (names : List ℕ) → with_specs a names ≡ record a { specs = a.specs ++ specs_of names }
@@ -95,15 +95,15 @@ abbrev found_or : (ℕ × List ℕ) → Option (ℕ × List ℕ) → ℕ × List
 found_or other None = other
 found_or other (Some x) = x
 
--- what a First table declares, and that its code is a byte below 128 other than 0
-pub record FirstDeclares (bytes : List ℕ) (code : ℕ) (names : List ℕ) : Type 0 where
+-- what such a table declares, and that its code is a byte below 128 other than 0
+pub record DeclaresOne (bytes : List ℕ) (code : ℕ) (names : List ℕ) : Type 0 where
   pub above : 0 < code
   pub below : code < 128
-  pub declares : declared at_code (leb_numbers bytes) ≡ first_entry code names ∷ []
+  pub declares : declared at_code (leb_numbers bytes) ≡ one_abbreviation code names ∷ []
 
 table_more : (c t k : ℕ) (rest : List ℕ) (code : ℕ) (names : List ℕ) (parsed : Option (List ℕ)) → first_names rest ≡ parsed
     → (nat_lt 0 c && nat_lt c 128 && t == 0x11 && k == 0) ≡ true → option_map {U = ℕ × List ℕ} (λ ns. (c, ns)) parsed ≡ Some (code, names)
-    → FirstDeclares (c ∷ t ∷ k ∷ rest) code names
+    → DeclaresOne (c ∷ t ∷ k ∷ rest) code names
 table_more c t k rest code names None was test e = absurd cc
 table_more c t k rest code names (Some ns) was test e =
     let above : 0 < c = grind (arith, nat_tests) in
@@ -121,38 +121,38 @@ table_more c t k rest code names (Some ns) was test e =
     low_number c (t ∷ k ∷ rest) below ∙ ap (λ (r : List (List ℕ)). (c ∷ []) ∷ r)
     (low_number t (k ∷ rest) low_t ∙ ap (λ (r : List (List ℕ)). (t ∷ []) ∷ r) (low_number k rest low_k)) in
     let tail = names_declared rest ns (bare c t k) was in
-    let whole : declared at_code (leb_numbers (c ∷ t ∷ k ∷ rest)) ≡ first_entry c ns ∷ [] =
+    let whole : declared at_code (leb_numbers (c ∷ t ∷ k ∷ rest)) ≡ one_abbreviation c ns ∷ [] =
     rw (numbers, low_value c below, not_end, low_value t low_t, low_value k low_k, tail, with_specs_is (bare c t k) ns, t_is, k_is) refl in
     record {
       above = subst (λ (x : ℕ). 0 < x) code_is above;
       below = subst (λ (x : ℕ). x < 128) code_is below;
-      declares = whole ∙ ap (λ (p : ℕ × List ℕ). first_entry p.0 p.1 ∷ []) pair;
+      declares = whole ∙ ap (λ (p : ℕ × List ℕ). one_abbreviation p.0 p.1 ∷ []) pair;
     }
 
--- a First table declares its one abbreviation
-pub table_declares : (bytes : List ℕ) (code : ℕ) (names : List ℕ) → first_table bytes ≡ Some (code, names) → FirstDeclares bytes code names
+-- such a table declares its one abbreviation
+pub table_declares : (bytes : List ℕ) (code : ℕ) (names : List ℕ) → first_table bytes ≡ Some (code, names) → DeclaresOne bytes code names
 table_declares [] code names e = absurd cc
 table_declares (c ∷ []) code names e = absurd cc
 table_declares (c ∷ t ∷ []) code names e = absurd cc
 table_declares (c ∷ t ∷ k ∷ rest) code names e = table_by c t k rest code names (nat_lt 0 c && nat_lt c 128 && t == 0x11 && k == 0) refl e
   where
     table_by : (c t k : ℕ) (rest : List ℕ) (code : ℕ) (names : List ℕ) (b : Bool) → (nat_lt 0 c && nat_lt c 128 && t == 0x11 && k == 0) ≡ b
-        → cond b (option_map {U = ℕ × List ℕ} (λ ns. (c, ns)) (first_names rest)) None ≡ Some (code, names) → FirstDeclares (c ∷ t ∷ k ∷ rest) code names
+        → cond b (option_map {U = ℕ × List ℕ} (λ ns. (c, ns)) (first_names rest)) None ≡ Some (code, names) → DeclaresOne (c ∷ t ∷ k ∷ rest) code names
     table_by c t k rest code names true test e = table_more c t k rest code names (first_names rest) refl test e
     table_by c t k rest code names false test e = absurd cc
 
 -- the abbreviations of a table at an offset
-pub first_abbreviations_at : (abbrevs : List ℕ) (offset code : ℕ) (names : List ℕ) → first_table (drop offset abbrevs) ≡ Some (code, names)
-    → abbreviations_at abbrevs offset ≡ first_entry code names ∷ []
+pub one_abbreviation_at : (abbrevs : List ℕ) (offset code : ℕ) (names : List ℕ) → first_table (drop offset abbrevs) ≡ Some (code, names)
+    → abbreviations_at abbrevs offset ≡ one_abbreviation code names ∷ []
 unfolding abbreviations_at
-first_abbreviations_at abbrevs offset code names e = (table_declares (drop offset abbrevs) code names e).declares
+one_abbreviation_at abbrevs offset code names e = (table_declares (drop offset abbrevs) code names e).declares
 
 -- the attributes are those that hold paths
 abbrev pub AllPaths : List ℕ → Type 0
 AllPaths [] = Unit {0}
 AllPaths (n ∷ ns) = (is_path 0 0x11 n ≡ true) × AllPaths ns
 
--- the attributes of a First table hold paths
+-- the attributes of such a table hold paths
 names_paths : (n f : ℕ) (rest names : List ℕ) (parsed : Option (List ℕ)) → first_names rest ≡ parsed → ((n == 3 || n == 27) && f == 14) ≡ true
     → option_map (λ ns. n ∷ ns) parsed ≡ Some names → ((ns : List ℕ) → first_names rest ≡ Some ns → AllPaths ns) → AllPaths names
 names_paths n f rest names None was pair e more = absurd cc
@@ -177,7 +177,7 @@ all_paths (n ∷ f ∷ rest) names e = paths_by n f rest names (n == 0 && f == 0
     paths_by n f rest names false true pair e more = names_paths n f rest names (first_names rest) refl pair e more
     paths_by n f rest names false false pair e more = absurd cc
 
--- the attributes of a First table, from its front
+-- the attributes of such a table, from its front
 table_paths : (c t k : ℕ) (rest : List ℕ) (code : ℕ) (names : List ℕ) (b : Bool) (parsed : Option (List ℕ)) → first_names rest ≡ parsed
     → cond b (option_map {U = ℕ × List ℕ} (λ ns. (c, ns)) parsed) None ≡ Some (code, names) → AllPaths names
 table_paths c t k rest code names true None was e = absurd cc
@@ -187,9 +187,9 @@ table_paths c t k rest code names true (Some ns) was e =
     subst AllPaths names_are (all_paths rest ns was)
 table_paths c t k rest code names false parsed was e = absurd cc
 
-pub first_paths : (bytes : List ℕ) (code : ℕ) (names : List ℕ) → first_table bytes ≡ Some (code, names) → AllPaths names
-first_paths [] code names e = absurd cc
-first_paths (c ∷ []) code names e = absurd cc
-first_paths (c ∷ t ∷ []) code names e = absurd cc
-first_paths (c ∷ t ∷ k ∷ rest) code names e =
+pub declared_paths : (bytes : List ℕ) (code : ℕ) (names : List ℕ) → first_table bytes ≡ Some (code, names) → AllPaths names
+declared_paths [] code names e = absurd cc
+declared_paths (c ∷ []) code names e = absurd cc
+declared_paths (c ∷ t ∷ []) code names e = absurd cc
+declared_paths (c ∷ t ∷ k ∷ rest) code names e =
     table_paths c t k rest code names (nat_lt 0 c && nat_lt c 128 && t == 0x11 && k == 0) (first_names rest) refl e

@@ -1,10 +1,10 @@
 -- Texts begin below the offset behind the last NUL.
-use Rattle.std.proofs.Common.{Bool, true, false, ◌≡◌, ◌≢◌, ℕ, zero, suc, ◌+◌, ◌-◌, ◌<◌, ◌≤◌, ◌==◌, nat_lt, List, [], ◌∷◌, length, drop, get_or, sym, ap, ◌∙◌, refl, subst, arith, inl, inr}
+use Rattle.std.proofs.Common.{true, false, ◌≡◌, ◌≢◌, ℕ, zero, suc, ◌+◌, ◌-◌, ◌<◌, ◌≤◌, ◌==◌, nat_lt, List, [], ◌∷◌, length, drop, get_or, sym, ap, ◌∙◌, refl, arith, inl, inr}
 use Rattle.std.proofs.lemmas.Bool.{cases_lt}
 use Rattle.std.proofs.lemmas.Bool.Decides.{nat_tests}
 use Rattle.std.proofs.lemmas.List.{length-drop, get_or-drop}
 use Rattle.dw_base.specs.Texts.{has_nul, ends_in}
-use Rattle.dw_rewrite.specs.FirstUnits.{IsTextLimit}
+use Rattle.dw_rewrite.specs.EntryFacts.{IsTextLimit}
 
 -- no byte from this index on is a NUL
 pub record NoNulFrom (xs : List ℕ) (from : ℕ) : Type 0 where

@@ -1,5 +1,5 @@
--- Where no unit of a First file stands, by what the code finds.
-use Rattle.std.proofs.Common.{Bool, true, false, ◌≡◌, ◌≢◌, ℕ, ◌+◌, ◌*◌, ◌<◌, ◌≤◌, List, [], ◌++◌, length, drop, Option, Some, None, is_some, IsTrue, sym, ap, ◌∙◌, refl, subst, arith}
+-- Where no unit of one entry stands, by what the code finds.
+use Rattle.std.proofs.Common.{true, false, ◌≡◌, ◌≢◌, ℕ, ◌+◌, ◌*◌, ◌<◌, ◌≤◌, List, [], ◌++◌, length, drop, Option, Some, None, is_some, IsTrue, sym, ap, ◌∙◌, subst, arith}
 use Rattle.std.proofs.lemmas.List.{length-drop}
 use Rattle.dw_base.specs.First.{first_table}
 use Rattle.dw_base.specs.Lebs.{uleb, uleb_within, uleb_at}
@@ -12,10 +12,10 @@ use Rattle.dw_base.specs.declared.fault.Fault.TheVariants.{NoMemory, Refused}
 use Rattle.dw_rewrite.proofs.CodeLaws.{OwnBytes, uleb-own, within_is}
 use Rattle.dw_rewrite.specs.Refuses.{Refuses}
 use Rattle.dw_rewrite.specs.Refuses.Refuses.{unbuilt}
-use Rattle.dw_rewrite.specs.FirstUnits.{HasCode, HeaderFacts, ValueFacts, UnitFacts, IsFirstUnit, IsTable, TextsEnd, UnitRead, unit_end, table_of, value_places}
+use Rattle.dw_rewrite.specs.EntryFacts.{HasCode, HeaderFacts, IsEntryUnit, IsTable, TextsEnd, UnitRead, unit_end, value_places}
 
 -- no header
-pub no_header : (order : Order) (info abbrevs str : List ℕ) (at : ℕ) → (HeaderFacts order info at → ⊥) → IsFirstUnit order info abbrevs str at → ⊥
+pub no_header : (order : Order) (info abbrevs str : List ℕ) (at : ℕ) → (HeaderFacts order info at → ⊥) → IsEntryUnit order info abbrevs str at → ⊥
 no_header order info abbrevs str at h u = h u.facts.head
 
 -- the value of what was read, and its length
@@ -37,7 +37,7 @@ names_or d (Some x) = x.1
 
 -- no table
 pub no_table : (order : Order) (info abbrevs str : List ℕ) (at offset : ℕ) → offset ≡ spelled order info (at + 6) 4
-    → first_table (drop offset abbrevs) ≡ None → IsFirstUnit order info abbrevs str at → ⊥
+    → first_table (drop offset abbrevs) ≡ None → IsEntryUnit order info abbrevs str at → ⊥
 no_table order info abbrevs str at offset is none u =
     let table : first_table (drop offset abbrevs) ≡ Some (u.code, u.names) = ap (λ (i : ℕ). first_table (drop i abbrevs)) is ∙ u.facts.table in
     let here : is_some (first_table (drop offset abbrevs)) ≡ true = ap is_some table in
@@ -73,12 +73,12 @@ code_within info at n size has =
 pub ruleset code_rules = (code_none, code_other, code_found)
 
 -- what is known of a unit once its table was read
-record Known (order : Order) (info abbrevs str : List ℕ) (at n count : ℕ) (u : IsFirstUnit order info abbrevs str at) : Type 0 where
+record Known (order : Order) (info abbrevs str : List ℕ) (at n count : ℕ) (u : IsEntryUnit order info abbrevs str at) : Type 0 where
   code_is : u.code ≡ n
   count_is : length u.names ≡ count
 
 known : (order : Order) (info abbrevs str : List ℕ) (at offset n count : ℕ) → offset ≡ spelled order info (at + 6) 4
-    → IsTable (drop offset abbrevs) n count → (u : IsFirstUnit order info abbrevs str at) → Known order info abbrevs str at n count u
+    → IsTable (drop offset abbrevs) n count → (u : IsEntryUnit order info abbrevs str at) → Known order info abbrevs str at n count u
 known order info abbrevs str at offset n count is table u =
     let same : Some (n, table.names) ≡ Some (u.code, u.names) = sym table.read ∙ ap (λ (i : ℕ). first_table (drop i abbrevs)) is ∙ u.facts.table in
     record {
@@ -88,13 +88,13 @@ known order info abbrevs str at offset n count is table u =
 
 -- no code of the table's
 pub no_code : (order : Order) (info abbrevs str : List ℕ) (at offset n count : ℕ) → offset ≡ spelled order info (at + 6) 4
-    → IsTable (drop offset abbrevs) n count → ((size : ℕ) → HasCode info (at + 11) n size → ⊥) → IsFirstUnit order info abbrevs str at → ⊥
+    → IsTable (drop offset abbrevs) n count → ((size : ℕ) → HasCode info (at + 11) n size → ⊥) → IsEntryUnit order info abbrevs str at → ⊥
 no_code order info abbrevs str at offset n count is table none u =
     let k : Known order info abbrevs str at n count u = known order info abbrevs str at offset n count is table u in
     none u.size (record { spells = u.facts.spells ∙ ap (λ (x : ℕ). Some (x, u.size)) k.code_is })
 
 -- the size of the code that was read
-size_known : (order : Order) (info abbrevs str : List ℕ) (at n size : ℕ) → HasCode info (at + 11) n size → (u : IsFirstUnit order info abbrevs str at) → u.size ≡ size
+size_known : (order : Order) (info abbrevs str : List ℕ) (at n size : ℕ) → HasCode info (at + 11) n size → (u : IsEntryUnit order info abbrevs str at) → u.size ≡ size
 size_known order info abbrevs str at n size has u =
     let same : Some (n, size) ≡ Some (u.code, u.size) = sym has.spells ∙ u.facts.spells in
     sym (ap (size_or 0) same)
@@ -102,7 +102,7 @@ size_known order info abbrevs str at n size has u =
 -- the values don't end where the unit does
 pub not_filled : (order : Order) (info abbrevs str : List ℕ) (at offset n size count finish : ℕ) → offset ≡ spelled order info (at + 6) 4
     → IsTable (drop offset abbrevs) n count → HasCode info (at + 11) n size → finish ≡ unit_end order info at → (finish ≡ at + 11 + size + 4 * count → ⊥)
-    → IsFirstUnit order info abbrevs str at → ⊥
+    → IsEntryUnit order info abbrevs str at → ⊥
 not_filled order info abbrevs str at offset n size count finish is table has ends other u =
     let k : Known order info abbrevs str at n count u = known order info abbrevs str at offset n count is table u in
     let long : u.size ≡ size = size_known order info abbrevs str at n size has u in
@@ -111,7 +111,7 @@ not_filled order info abbrevs str at offset n size count finish is table has end
 -- a value names no text
 pub no_texts : (order : Order) (info abbrevs str : List ℕ) (at offset n size count : ℕ) → offset ≡ spelled order info (at + 6) 4
     → IsTable (drop offset abbrevs) n count → HasCode info (at + 11) n size → (TextsEnd order info str (at + 11 + size) count → ⊥)
-    → IsFirstUnit order info abbrevs str at → ⊥
+    → IsEntryUnit order info abbrevs str at → ⊥
 no_texts order info abbrevs str at offset n size count is table has other u =
     let k : Known order info abbrevs str at n count u = known order info abbrevs str at offset n count is table u in
     let long : u.size ≡ size = size_known order info abbrevs str at n size has u in
@@ -123,7 +123,7 @@ no_texts order info abbrevs str at offset n size count is table has other u =
 -- and so the refusal of a value is one of the unit
 pub refused_texts : (order : Order) (info abbrevs str : List ℕ) (at offset n size count : ℕ) (f : Fault) → offset ≡ spelled order info (at + 6) 4
     → IsTable (drop offset abbrevs) n count → HasCode info (at + 11) n size → Blames (Refuses (TextsEnd order info str (at + 11 + size) count)) f
-    → Blames (Refuses (IsFirstUnit order info abbrevs str at)) f
+    → Blames (Refuses (IsEntryUnit order info abbrevs str at)) f
 refused_texts order info abbrevs str at offset n size count NoMemory is table has b = tt
 refused_texts order info abbrevs str at offset n size count (Refused _) is table has (unbuilt h) =
     unbuilt (no_texts order info abbrevs str at offset n size count is table has h)

@@ -1,19 +1,19 @@
--- The values of the one entry of a First unit, as pieces: from the bytes to the pieces and back.
-use Rattle.std.proofs.Common.{Bool, true, false, ◌≡◌, ◌≢◌, ℕ, zero, suc, ◌+◌, ◌-◌, ◌*◌, ◌<◌, ◌≤◌, ◌==◌, List, [], ◌∷◌, ◌++◌, length, take, drop, IsTrue, sym, ap, ◌∙◌, refl, subst, arith}
+-- The values of the one entry of such a unit, as pieces: from the bytes to the pieces and back.
+use Rattle.std.proofs.Common.{Bool, true, false, ◌≡◌, ℕ, zero, suc, ◌+◌, ◌*◌, ◌<◌, ◌≤◌, ◌==◌, List, [], ◌∷◌, ◌++◌, length, take, drop, IsTrue, sym, ap, ◌∙◌, refl, subst, arith}
 use Rattle.std.proofs.Math.Seq.{take-add, take-append_seam, drop-append_seam}
-use Rattle.std.proofs.lemmas.List.{length-take, length-drop, take-append-drop, drop-drop}
+use Rattle.std.proofs.lemmas.List.{length-take, length-drop, drop-drop}
 use Rattle.std.proofs.lemmas.Bool.Decides.{nat_tests}
-use Rattle.dw_base.specs.Grammar.{Grammar, Step, Chain, Leads, joined}
-use Rattle.dw_base.specs.Mentions.{offset_of, NamesTextBy}
+use Rattle.dw_base.specs.Grammar.{Step, Chain, Leads, joined}
+use Rattle.dw_base.specs.Mentions.{NamesTextBy}
 use Rattle.dw_base.specs.Numbers.{spelled}
 use Rattle.dw_base.specs.Texts.{ends_in}
 use Rattle.dw_base.specs.Units.{UnitState, Mode, header, code, values, between, inside, in_unit, before_unit, kind_in, offset_size, is_path, role_of, role_of_mode, past, FitsMode, EndsSection}
 use Rattle.dw_base.specs.declared.shared.Order.{Order}
 use Rattle.dw_base.specs.declared.shared.Width.TheVariants.{W32}
 use Rattle.dw_base.proofs.NumberLaws.{spelled-take, spelled-drop, spelled-append}
-use Rattle.dw_rewrite.specs.FirstUnits.{ValueFacts, value_places}
-use Rattle.dw_rewrite.specs.PathPlaces.{path_place, path_places}
-use Rattle.dw_rewrite.proofs.FirstGrammar.{FirstFits, first_grammar}
+use Rattle.dw_rewrite.specs.EntryFacts.{ValueFacts, value_places}
+use Rattle.dw_rewrite.specs.PathPlaces.{path_places}
+use Rattle.dw_rewrite.proofs.EntryGrammar.{EntryFits, entry_grammar}
 use Rattle.dw_rewrite.proofs.TableLaws.{specs_of, AllPaths}
 
 -- a piece of bytes has its length
@@ -32,7 +32,7 @@ piece_joined info place n m =
 -- the bytes from one place to another are pieces that lead from one state to another
 pub record LeadsTo (order : Order) (abbrevs str info : List ℕ) (s t : UnitState) (from size : ℕ) (places : List ℕ) : Type 0 where
   pub pieces : List (Step UnitState)
-  pub leads : Leads (first_grammar order abbrevs str) s pieces t
+  pub leads : Leads (entry_grammar order abbrevs str) s pieces t
   pub bytes : joined pieces ≡ take size (drop from info)
   pub places_are : path_places pieces ≡ places
 
@@ -53,7 +53,7 @@ value_front order abbrevs str info s t place n ns size places width room before 
     let same : spelled order p 0 4 ≡ spelled order info place 4 = spelled-piece order info place 4 0 4 (omega arith) ∙ ap (λ (i : ℕ). spelled order info i 4) (omega arith) in
     let state : UnitState = at_values s place (n ∷ ns) in
     let names : IsTrue (ends_in str (spelled order p 0 (length p))) = rw (long, same) text in
-    let fit : FirstFits order abbrevs str state p = record {
+    let fit : EntryFits order abbrevs str state p = record {
       fits = record { fills = long ∙ sym (ap offset_size width); before = omega arith };
       entry = tt;
       abbreviation = tt;
@@ -62,7 +62,7 @@ value_front order abbrevs str info s t place n ns size places width room before 
     let next : at_values state (place + length p) ns ≡ at_values state (place + 4) ns = ap (λ (i : ℕ). at_values state (place + i) ns) long in
     record {
       pieces = record { state = state; bytes = p } ∷ l.pieces;
-      leads = (refl, fit, subst (λ (z : UnitState). Leads (first_grammar order abbrevs str) z l.pieces t) (sym next) l.leads);
+      leads = (refl, fit, subst (λ (z : UnitState). Leads (entry_grammar order abbrevs str) z l.pieces t) (sym next) l.leads);
       bytes = ap (λ (r : List ℕ). p ++ r) l.bytes ∙ piece_joined info place 4 size;
       places_are = rw (path, l.places_are) refl;
     }
@@ -109,19 +109,19 @@ values_lead order abbrevs str info s place size (n ∷ ns) width room facts path
 pub record Front (order : Order) (abbrevs str : List ℕ) (s : UnitState) (bytes : List ℕ) : Type 0 where
   pub piece : List ℕ
   pub rest : List (Step UnitState)
-  pub fit : FirstFits order abbrevs str s piece
-  pub chain : Chain (first_grammar order abbrevs str) (past s.mode order abbrevs s piece) rest
+  pub fit : EntryFits order abbrevs str s piece
+  pub chain : Chain (entry_grammar order abbrevs str) (past s.mode order abbrevs s piece) rest
   pub joins : piece ++ joined rest ≡ bytes
 
 -- a section that can't end in a state goes on with a piece
 pub chain_front : (order : Order) (abbrevs str : List ℕ) (s : UnitState) (ws : List (Step UnitState)) (bytes : List ℕ)
-    → Chain (first_grammar order abbrevs str) s ws → joined ws ≡ bytes → (EndsSection s → ⊥) → Front order abbrevs str s bytes
+    → Chain (entry_grammar order abbrevs str) s ws → joined ws ≡ bytes → (EndsSection s → ⊥) → Front order abbrevs str s bytes
 chain_front order abbrevs str s [] bytes c e goes = absurd (goes c)
 chain_front order abbrevs str s (w ∷ ws) bytes c e goes = record {
   piece = w.bytes;
   rest = ws;
-  fit = subst (λ (z : UnitState). FirstFits order abbrevs str z w.bytes) c.0 c.1;
-  chain = subst (λ (z : UnitState). Chain (first_grammar order abbrevs str) (past z.mode order abbrevs z w.bytes) ws) c.0 c.2;
+  fit = subst (λ (z : UnitState). EntryFits order abbrevs str z w.bytes) c.0 c.1;
+  chain = subst (λ (z : UnitState). Chain (entry_grammar order abbrevs str) (past z.mode order abbrevs z w.bytes) ws) c.0 c.2;
   joins = e;
 }
 
@@ -147,7 +147,7 @@ between_code s place h = rw h refl
 
 -- a value's piece has four bytes
 value_size : (order : Order) (abbrevs str : List ℕ) (state : UnitState) (p : List ℕ) (n : ℕ) (ns : List ℕ) → state.params.width ≡ W32
-    → state.mode ≡ values 0 0x11 (specs_of (n ∷ ns)) → FirstFits order abbrevs str state p → length p ≡ 4
+    → state.mode ≡ values 0 0x11 (specs_of (n ∷ ns)) → EntryFits order abbrevs str state p → length p ≡ 4
 unfolding kind_in
 value_size order abbrevs str state p n ns width mode fit =
     let fits : FitsMode (values 0 0x11 (specs_of (n ∷ ns))) order state p = subst (λ (m : Mode). FitsMode m order state p) mode fit.fits in
@@ -155,7 +155,7 @@ value_size order abbrevs str state p n ns width mode fit =
 
 -- and names a text
 value_text : (order : Order) (abbrevs str : List ℕ) (state : UnitState) (p : List ℕ) (n : ℕ) (ns : List ℕ)
-    → state.mode ≡ values 0 0x11 (specs_of (n ∷ ns)) → FirstFits order abbrevs str state p → IsTrue (ends_in str (spelled order p 0 (length p)))
+    → state.mode ≡ values 0 0x11 (specs_of (n ∷ ns)) → EntryFits order abbrevs str state p → IsTrue (ends_in str (spelled order p 0 (length p)))
 unfolding kind_in
 value_text order abbrevs str state p n ns mode fit =
     subst (λ (m : Mode). NamesTextBy (role_of_mode m state.params) order str p) mode fit.text
@@ -184,18 +184,18 @@ values_more order info str finish place k text facts = record {
 
 -- the values of an entry, from pieces to the bytes
 pub values_facts : (order : Order) (abbrevs str info : List ℕ) (s : UnitState) (place : ℕ) (names : List ℕ) (ws : List (Step UnitState))
-    → s.params.width ≡ W32 → Chain (first_grammar order abbrevs str) (at_values s place names) ws → joined ws ≡ drop place info
+    → s.params.width ≡ W32 → Chain (entry_grammar order abbrevs str) (at_values s place names) ws → joined ws ≡ drop place info
     → ValueFacts order info str s.finish place (length names)
 values_facts order abbrevs str info s place [] ws width c e = no_more order abbrevs str info s place ws (place == s.finish) refl c e
   where
     no_more : (order : Order) (abbrevs str info : List ℕ) (s : UnitState) (place : ℕ) (ws : List (Step UnitState)) (here : Bool)
-        → (place == s.finish) ≡ here → Chain (first_grammar order abbrevs str) (between s place 1 0) ws → joined ws ≡ drop place info
+        → (place == s.finish) ≡ here → Chain (entry_grammar order abbrevs str) (between s place 1 0) ws → joined ws ≡ drop place info
         → ValueFacts order info str s.finish place 0
     no_more order abbrevs str info s place ws true here c e =
         no_values order info str s.finish place (grind (arith, nat_tests))
     no_more order abbrevs str info s place ws false here c e =
-        let at_code : Chain (first_grammar order abbrevs str) (in_unit s place 1 0 code) ws =
-        subst (λ (z : UnitState). Chain (first_grammar order abbrevs str) z ws) (between_code s place here) c in
+        let at_code : Chain (entry_grammar order abbrevs str) (in_unit s place 1 0 code) ws =
+        subst (λ (z : UnitState). Chain (entry_grammar order abbrevs str) z ws) (between_code s place here) c in
         let front = chain_front order abbrevs str (in_unit s place 1 0 code) ws (drop place info) at_code e
         (λ (ends : EndsSection (in_unit s place 1 0 code)). let m : code ≡ header = ends.mode in absurd cc) in
         absurd (let first : 1 ≡ 0 = front.fit.entry.0 in omega arith)
@@ -206,8 +206,8 @@ values_facts order abbrevs str info s place (n ∷ ns) ws width c e =
     let size : length front.piece ≡ 4 = value_size order abbrevs str state front.piece n ns width refl front.fit in
     let text : IsTrue (ends_in str (spelled order front.piece 0 (length front.piece))) = value_text order abbrevs str state front.piece n ns refl front.fit in
     let behind : joined front.rest ≡ drop (place + 4) info = rest_is front.piece (joined front.rest) info place 4 front.joins size in
-    let tail : Chain (first_grammar order abbrevs str) (at_values state (place + 4) ns) front.rest =
-    subst (λ (i : ℕ). Chain (first_grammar order abbrevs str) (at_values state (place + i) ns) front.rest) size front.chain in
+    let tail : Chain (entry_grammar order abbrevs str) (at_values state (place + 4) ns) front.rest =
+    subst (λ (i : ℕ). Chain (entry_grammar order abbrevs str) (at_values state (place + i) ns) front.rest) size front.chain in
     let number : spelled order front.piece 0 (length front.piece) ≡ spelled order info place 4 =
     ap (spelled order front.piece 0) size
     ∙ spelled_front order front.piece (joined front.rest) info place 0 4 front.joins (omega arith)

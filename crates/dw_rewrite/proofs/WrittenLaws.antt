@@ -1,9 +1,9 @@
 -- How long a file is that was written with new bodies.
-use Rattle.std.proofs.Common.{Bool, true, false, ◌≡◌, ℕ, zero, suc, ◌+◌, ◌-◌, ◌*◌, ◌<◌, ◌≤◌, ◌==◌, List, [], ◌∷◌, ◌++◌, length, take, drop, replicate, cond, sym, ap, ◌∙◌, refl, subst, arith}
+use Rattle.std.proofs.Common.{Bool, true, false, ◌≡◌, ℕ, suc, ◌<◌, ◌≤◌, ◌==◌, List, [], ◌∷◌, ◌++◌, length, take, replicate, cond, sym, subst, arith}
 use Rattle.std.proofs.lemmas.List.{length-append, length-take}
 use Rattle.std.proofs.lemmas.Bool.Decides.{nat_tests}
-use Rattle.dw_base.specs.Elf.{class_of, order_of, ehdr_size, section_count, nth_section}
-use Rattle.dw_base.specs.Layout.{Part, padding, part_of, laid, extended, placed, with_bodies, laid_out, fixed_end, new_heads, with_table}
+use Rattle.dw_base.specs.Elf.{class_of, order_of, ehdr_size, section_count}
+use Rattle.dw_base.specs.Layout.{Part, padding, part_of, laid, extended, placed, with_bodies, laid_out, fixed_end, new_heads}
 use Rattle.dw_base.specs.Lists.{tabulate}
 use Rattle.dw_base.proofs.LayoutLaws.{laid-append, laid_tabulate-longer, length-with_table, fixed_end-header}
 

@@ -1,4 +1,4 @@
-pub mod FirstUnits
+pub mod EntryFacts
 pub mod PathPlaces
 pub mod Refuses
 pub mod Changes

@@ -1,5 +1,5 @@
 -- Where the offsets of paths stand in a unit section.
-use Rattle.std.specs.Prelude.{Bool, true, false, ℕ, List, [], ◌∷◌, ◌++◌}
+use Rattle.std.specs.Prelude.{true, false, ℕ, List, [], ◌∷◌, ◌++◌}
 use Rattle.dw_base.specs.Grammar.{Step}
 use Rattle.dw_base.specs.Units.{UnitState, Role, fixed, offset, in_debug_str, role_of}
 

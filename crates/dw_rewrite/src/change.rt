@@ -1,4 +1,4 @@
-//! The sections of a First file that change: `.debug_info` gets new offsets at the places of its
+//! The sections that change: `.debug_info` gets new offsets at the places of its
 //! paths, and `.debug_str` the mapped paths behind its old bytes.
 //!
 //! Read first: `specs/Changes.antt`.
@@ -8,10 +8,10 @@ ghost use Rattle.std.specs.BTreeMap.{get};
 ghost use Rattle.std.specs.Option.{ForSome};
 ghost use Rattle.std.specs.Ordering.{nat_cmp};
 ghost use Rattle.dw_base.specs.Layout.{output_limit};
+ghost use Rattle.dw_base.specs.LayoutFails.{TooLong};
 ghost use Rattle.dw_base.specs.Refusals.{Blames};
 ghost use Rattle.dw_base.specs.StringTables.{appending, table_bytes};
 ghost use Rattle.dw_rewrite.specs.Changes.{AllFit, ArePaths, AreNoted, Knows, info_after, str_after, texts_at, with_all_known, with_known};
-ghost use Rattle.dw_rewrite.specs.Refuses.{Refuses};
 
 use crate::known::note_path;
 use dw_base::{Fault, Order, number_in, put_number};
@@ -45,7 +45,7 @@ pub(crate) fn changed(
     ensures info { IfOk result (λ c. c.info.items ≡ info_after maps.now order info.now str.now places.now) }
     ensures str { IfOk result (λ c. c.str.items ≡ str_after maps.now order info.now str.now places.now) }
     ensures small { IfOk result (λ c. length c.str.items ≤ output_limit) }
-    ensures refused { IfErr result (Blames (Refuses (length (str_after maps.now order info.now str.now places.now) ≤ output_limit))) }
+    ensures refused { IfErr result (Blames (TooLong (length (str_after maps.now order info.now str.now places.now)))) }
 {
     let mut pool = Pool::new(alloc, str)?;
     let mut known = BTreeMap::new(alloc);
@@ -78,7 +78,7 @@ fn note_all(
     ensures small { OnOk result (length (table_bytes pool.new) ≤ output_limit) }
     ensures knows { OnOk result (Knows (appending maps.now str.now) maps.now (record { order = order; str = str.now }) pool.new.texts (λ o. get nat_cmp known.new o)) }
     ensures noted { OnOk result (AreNoted (appending maps.now str.now) (record { order = order; str = str.now }) info.now places.now (length places.now) (λ o. get nat_cmp known.new o)) }
-    ensures refused { IfErr result (Blames (Refuses (length (table_bytes (record { kept = str.now; texts = texts_at (appending maps.now str.now) maps.now (record { order = order; str = str.now }) info.now pool.old.texts places.now })) ≤ output_limit))) }
+    ensures refused { IfErr result (Blames (TooLong (length (table_bytes (record { kept = str.now; texts = texts_at (appending maps.now str.now) maps.now (record { order = order; str = str.now }) info.now pool.old.texts places.now }))))) }
 {
     for at in places {
         note_path(alloc, order, info, str, maps, *at, pool, known)?;

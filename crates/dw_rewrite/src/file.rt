@@ -1,23 +1,26 @@
 //! The whole of a file rewritten: judged, read, changed, and written.
 
-ghost use Rattle.std.specs.Prelude.{◌≡◌, ◌≢◌, ◌<◌, ◌≤◌, ◌^◌, ℕ, List, length, OnOk, IfOk, IfErr};
-ghost use Rattle.dw_base.specs.ElfFails.{ElfReads};
-ghost use Rattle.dw_base.specs.First.{FirstFails, FirstSections, IsFirst};
-ghost use Rattle.dw_base.specs.Layout.{output_limit, with_bodies};
+ghost use Rattle.std.specs.Prelude.{◌≡◌, ◌<◌, ◌≤◌, ◌^◌, ℕ, List, length, OnOk, IfOk, IfErr};
+ghost use Rattle.std.specs.Option.{ForSome};
+ghost use Rattle.dw_base.specs.EditFails.{EditFails, IsAccepted, UnitsOf};
+ghost use Rattle.dw_base.specs.Elf.{section_count};
+ghost use Rattle.dw_base.specs.ElfFails.{SegmentsRead};
+ghost use Rattle.dw_base.specs.Layout.{with_bodies};
+ghost use Rattle.dw_base.specs.LayoutFails.{LayoutFails, LayoutFits};
 ghost use Rattle.dw_base.specs.LayoutReads.{ReadsBack};
 ghost use Rattle.dw_base.specs.Loaded.{LoadedKept};
 ghost use Rattle.dw_base.specs.Mapped.{MeaningKept};
 ghost use Rattle.dw_base.specs.Output.{IsOutput};
 ghost use Rattle.dw_base.specs.Refusals.{Blames};
-ghost use Rattle.dw_rewrite.specs.Judged.{FirstHeaders};
+ghost use Rattle.dw_rewrite.specs.Judged.{Found};
 ghost use Rattle.dw_rewrite.specs.Refuses.{Refuses};
-ghost use Rattle.dw_rewrite.specs.Rewritten.{AreGiven, Found, PlacesFound, UnitsFound, Unwritten, as_unbuilt_fault, body_with};
+ghost use Rattle.dw_rewrite.specs.Rewritten.{AreApart, AreGiven, PlacesFound, body_found, body_with, bytes_at, info_found, long_fault, long_refusal, str_found, with_item};
 
 use crate::change::{NewBytes, changed};
-use crate::judge::{Sections, first_sections, has_first_header, section_count};
-use crate::refusal::unbuilt;
+use crate::judge::{Sections, debug_sections, section_count};
+use crate::refusal::fixed;
 use crate::units::places_in;
-use dw_base::Fault;
+use dw_base::{Fault, Refusal};
 use dw_paths::Maps;
 use elf_file::ElfFile;
 use elf_layout::emit;
@@ -25,52 +28,23 @@ use std::alloc::{AllocError, Global};
 
 /// The file with each source path mapped: each offset of a path in `.debug_info` names the mapped
 /// text, which stands behind the old bytes of `.debug_str` where it differs, and the file is laid out
-/// anew. Refused as `Unbuilt` at (0, 0) exactly where the file isn't First.
+/// anew. Refused only by a condition that holds in the file, at its place; where none holds, it is
+/// rewritten, or there was not enough memory.
 #[tactic(auto, using(crate::proofs::ExitLaws::rewrite_rules))]
 pub fn rewrite(alloc: Global, bytes: &[u8], maps: &Maps) -> Result<Vec<u8>, Fault>
     requires small { length bytes.now ≤ 2 ^ 31 }
-    ensures first { OnOk result (IsFirst maps.now bytes.now) }
+    ensures accepted { OnOk result (IsAccepted maps.now bytes.now) }
     ensures output { IfOk result (λ out. IsOutput maps.now bytes.now out.items) }
     ensures only { IfOk result (λ out. (o : List ℕ) → IsOutput maps.now bytes.now o → o ≡ out.items) }
 
     // What it means is what the file means, with each source path mapped, and what is loaded of it is as it was.
     ensures meaning { IfOk result (λ out. MeaningKept maps.now bytes.now out.items) }
     ensures loaded { IfOk result (λ out. LoadedKept bytes.now out.items) }
-    ensures refused { IfErr result (Blames (FirstFails maps.now bytes.now)) }
+    ensures refused { IfErr result (Blames (EditFails maps.now bytes.now)) }
 {
-    if !has_first_header(bytes) {
-        return Err(unbuilt().into());
-    }
-    let elf = first_elf(alloc, bytes)?;
-    let Some(sections) = first_sections(&elf) else {
-        return Err(unbuilt().into());
-    };
+    let elf = ElfFile::read(alloc, bytes)?;
+    let sections = debug_sections(&elf)?;
     rewrite_found(alloc, &elf, sections, maps)
-}
-
-/// The file as ELF, which a First file can be read as.
-#[tactic(auto, using(crate::proofs::ExitLaws::refused_reads))]
-fn first_elf(alloc: Global, bytes: &[u8]) -> Result<ElfFile<'_>, Fault>
-    requires small { length bytes.now ≤ 2 ^ 31 }
-    requires headers { FirstHeaders bytes.now }
-    ensures bytes { IfOk result (λ elf. elf.bytes.now ≡ bytes.now) }
-    ensures reads { OnOk result (ElfReads bytes.now) }
-    ensures refused { IfErr result (Blames (Refuses (FirstSections bytes.now))) }
-{
-    match ElfFile::read(alloc, bytes) {
-        Ok(elf) => Ok(elf),
-        Err(fault) => Err(as_unbuilt(fault)),
-    }
-}
-
-/// The same fault, with the one refusal of this version for each.
-fn as_unbuilt(fault: Fault) -> Fault
-    ensures { result ≡ as_unbuilt_fault fault }
-{
-    match fault {
-        Fault::NoMemory => Fault::NoMemory,
-        Fault::Refused(_) => Fault::Refused(unbuilt()),
-    }
 }
 
 /// The file rewritten, where its sections of debug data were found.
@@ -82,33 +56,94 @@ fn rewrite_found(
     maps: &Maps,
 ) -> Result<Vec<u8>, Fault>
     requires found { Found elf.now.bytes.now sections }
-    ensures first { OnOk result (IsFirst maps.now elf.now.bytes.now) }
+    ensures accepted { OnOk result (IsAccepted maps.now elf.now.bytes.now) }
     ensures output { IfOk result (λ out. IsOutput maps.now elf.now.bytes.now out.items) }
     ensures only { IfOk result (λ out. (o : List ℕ) → IsOutput maps.now elf.now.bytes.now o → o ≡ out.items) }
     ensures meaning { IfOk result (λ out. MeaningKept maps.now elf.now.bytes.now out.items) }
     ensures loaded { IfOk result (λ out. LoadedKept elf.now.bytes.now out.items) }
-    ensures refused { IfErr result (Blames (FirstFails maps.now elf.now.bytes.now)) }
+    ensures refused { IfErr result (Blames (EditFails maps.now elf.now.bytes.now)) }
 {
     // What a map obeys is known where one of its fields is used: no text that it makes has a NUL.
     let _ = &maps.base;
-    let info = elf.contents(sections.info);
-    let str = elf.contents(sections.str);
     let places = found_places(alloc, elf, sections)?;
-    let new = changed(alloc, elf.order, info, str, &places, maps)?;
+    let new = new_bytes(alloc, elf, sections, &places, maps)?;
     let out = written(alloc, elf, sections, new)?;
     Ok(out)
 }
 
+/// The bytes of a section, none where there is none.
+fn bytes_of<'a>(elf: &'a ElfFile, section: Option<u32>) -> &'a [u8]
+    requires there { ForSome section (λ i. i < section_count elf.now.bytes.now) }
+    ensures { result.now ≡ bytes_at elf.now.bytes.now section }
+{
+    match section {
+        Some(index) => elf.contents(index),
+        None => &elf.bytes[..0],
+    }
+}
+
 /// The places of the paths in the sections that were found.
+#[tactic(auto, using(crate::proofs::RewriteLaws::read_rules))]
 fn found_places(alloc: Global, elf: &ElfFile, sections: Sections) -> Result<Vec<u64>, Fault>
     requires found { Found elf.now.bytes.now sections }
-    ensures read { IfOk result (λ places. PlacesFound elf.now.bytes.now sections places.items) }
-    ensures refused { IfErr result (Blames (Refuses (UnitsFound elf.now.bytes.now sections))) }
+    ensures read { IfOk result (λ places. PlacesFound elf.now.bytes.now places.items) }
+    ensures refused { IfErr result (Blames (Refuses (UnitsOf elf.now.bytes.now))) }
 {
-    let info = elf.contents(sections.info);
-    let abbrevs = elf.contents(sections.abbrev);
-    let str = elf.contents(sections.str);
+    let info = bytes_of(elf, sections.info);
+    let abbrevs = bytes_of(elf, sections.abbrev);
+    let str = bytes_of(elf, sections.str);
     places_in(alloc, elf.order, info, abbrevs, str)
+}
+
+/// The new bytes of the two sections that change.
+#[tactic(auto, using(crate::proofs::RewriteLaws::bytes_rules))]
+fn new_bytes(
+    alloc: Global,
+    elf: &ElfFile,
+    sections: Sections,
+    places: &[u64],
+    maps: &Maps,
+) -> Result<NewBytes, Fault>
+    requires found { Found elf.now.bytes.now sections }
+    requires read { PlacesFound elf.now.bytes.now places.now }
+    ensures info { IfOk result (λ new. new.info.items ≡ info_found maps.now elf.now.bytes.now places.now) }
+    ensures str { IfOk result (λ new. new.str.items ≡ str_found maps.now elf.now.bytes.now places.now) }
+    ensures refused { IfErr result (Blames (LayoutFails elf.now.bytes.now (body_found maps.now elf.now.bytes.now sections places.now))) }
+{
+    let info = bytes_of(elf, sections.info);
+    let str = bytes_of(elf, sections.str);
+    match changed(alloc, elf.order, info, str, places, maps) {
+        Ok(new) => Ok(new),
+        Err(fault) => Err(refuse_long(elf, sections.str, fault)),
+    }
+}
+
+/// The fault of a string table that is too long.
+fn refuse_long(elf: &ElfFile, str: Option<u32>, fault: Fault) -> Fault
+    requires segments { SegmentsRead elf.now.bytes.now }
+    requires there { ForSome str (λ i. i < section_count elf.now.bytes.now) }
+    ensures { result ≡ long_fault elf.now.bytes.now str fault }
+{
+    match fault {
+        Fault::NoMemory => Fault::NoMemory,
+        Fault::Refused(refusal) => Fault::Refused(long_refusal(elf, str, refusal)),
+    }
+}
+
+/// What refuses a string table that is too long: a section that stays may not change, and one that is
+/// laid out anew makes the file too long.
+fn long_refusal(elf: &ElfFile, str: Option<u32>, refusal: Refusal) -> Refusal
+    requires segments { SegmentsRead elf.now.bytes.now }
+    requires there { ForSome str (λ i. i < section_count elf.now.bytes.now) }
+    ensures { result ≡ long_refusal elf.now.bytes.now str refusal }
+{
+    let Some(section) = str else {
+        return refusal;
+    };
+    if elf.is_fixed(section) {
+        return fixed(section);
+    }
+    refusal
 }
 
 /// The file written with new bytes of the two sections.
@@ -122,34 +157,42 @@ fn written(
     requires found { Found elf.now.bytes.now sections }
     ensures file { IfOk result (λ out. out.items ≡ with_bodies elf.now.bytes.now (body_with elf.now.bytes.now sections new.info.items new.str.items)) }
     ensures back { IfOk result (λ out. ReadsBack elf.now.bytes.now (body_with elf.now.bytes.now sections new.info.items new.str.items) out.items) }
-    ensures small { IfOk result (λ out. length out.items ≤ output_limit) }
-    ensures refused { IfErr result (Blames (Unwritten elf.now.bytes.now (body_with elf.now.bytes.now sections new.info.items new.str.items))) }
+    ensures fits { OnOk result (LayoutFits elf.now.bytes.now (body_with elf.now.bytes.now sections new.info.items new.str.items)) }
+    ensures refused { IfErr result (Blames (LayoutFails elf.now.bytes.now (body_with elf.now.bytes.now sections new.info.items new.str.items))) }
 {
     let contents = contents_of(alloc, section_count(elf) as usize, sections, new)?;
-    match emit(alloc, elf, &contents) {
-        Ok(out) => Ok(out),
-        Err(fault) => Err(as_unbuilt(fault)),
-    }
+    let out = emit(alloc, elf, &contents)?;
+    Ok(out)
 }
 
-/// The items of so many sections: new bytes for two, and none for the others.
-#[tactic(auto)]
+/// The items of so many sections: new bytes for two, where they are there, and none for the others.
+#[tactic(auto, using(crate::proofs::RewriteLaws::given_rules))]
 fn contents_of(
     alloc: Global,
     count: usize,
     sections: Sections,
     new: NewBytes,
 ) -> Result<Vec<Option<Vec<u8>>>, AllocError>
-    requires info { sections.info < count }
-    requires str { sections.str < count }
-    requires apart { sections.info ≢ sections.str }
+    requires info { ForSome sections.info (λ i. i < count) }
+    requires str { ForSome sections.str (λ i. i < count) }
+    requires apart { AreApart sections.info sections.str }
     ensures { IfOk result (λ items. AreGiven items.items count sections new.info.items new.str.items) }
 {
     let mut items = Vec::with_capacity(alloc, count)?;
     for _i in 0..count {
         items.push(None)?;
     }
-    items[sections.info as usize] = Some(new.info);
-    items[sections.str as usize] = Some(new.str);
+    give(&mut items, sections.info, new.info);
+    give(&mut items, sections.str, new.str);
     Ok(items)
+}
+
+/// Gives the bytes of a section, where it is there.
+fn give(items: &mut [Option<Vec<u8>>], section: Option<u32>, bytes: Vec<u8>)
+    requires { ForSome section (λ i. i < length items.old) }
+    ensures { items.new ≡ with_item items.old section bytes }
+{
+    if let Some(index) = section {
+        items[index as usize] = Some(bytes);
+    }
 }

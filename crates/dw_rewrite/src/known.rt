@@ -6,16 +6,16 @@ ghost use Rattle.std.specs.Prelude.{◌≡◌, ◌+◌, ◌≤◌, true, false, 
 ghost use Rattle.std.specs.BTreeMap.{get};
 ghost use Rattle.std.specs.Ordering.{nat_cmp};
 ghost use Rattle.dw_base.specs.Layout.{output_limit};
+ghost use Rattle.dw_base.specs.LayoutFails.{TooLong};
 ghost use Rattle.dw_base.specs.Numbers.{spelled};
 ghost use Rattle.dw_base.specs.Paths.{mapped_path};
 ghost use Rattle.dw_base.specs.Refusals.{Blames};
 ghost use Rattle.dw_base.specs.StringTables.{appending, table_bytes, with_added, with_mention};
 ghost use Rattle.dw_base.specs.Texts.{ends_in, text_in};
 ghost use Rattle.dw_rewrite.specs.Changes.{path_at, Adds, Knows, IsNoted, Remembers, place_after};
-ghost use Rattle.dw_rewrite.specs.Refuses.{Refuses};
 
 use crate::asks::asks;
-use crate::refusal::{OUTPUT_LIMIT, unbuilt};
+use crate::refusal::{OUTPUT_LIMIT, too_large};
 use dw_base::{Fault, Order, number_in};
 use dw_paths::{Maps, map_path};
 use dw_strings::{Pool, text_at};
@@ -24,7 +24,7 @@ use std::collections::BTreeMap;
 
 /// Notes the new place of the path whose offset stands at a place, if it asks for one: where the offset
 /// was met before nothing is done.
-#[tactic(auto, using(crate::proofs::Rows::refusal_rows, crate::proofs::KnownLaws::note_rules))]
+#[tactic(auto, using(crate::proofs::Rows::long_rows, crate::proofs::KnownLaws::note_rules))]
 pub(crate) fn note_path(
     alloc: Global,
     order: Order,
@@ -46,7 +46,7 @@ pub(crate) fn note_path(
     ensures noted { OnOk result (IsNoted (appending maps.now str.now) (record { order = order; str = str.now }) (λ o. get nat_cmp known.new o) (spelled order info.now at 4)) }
     ensures small { OnOk result (length (table_bytes pool.new) ≤ output_limit) }
     ensures remembers { OnOk result (Remembers (λ o. get nat_cmp known.old o) (λ o. get nat_cmp known.new o)) }
-    ensures refused { IfErr result (Blames (Refuses (length (table_bytes (record { kept = str.now; texts = with_mention (appending maps.now str.now) maps.now pool.old.texts (path_at (record { order = order; str = str.now }) info.now at) })) ≤ output_limit))) }
+    ensures refused { IfErr result (Blames (TooLong (length (table_bytes (record { kept = str.now; texts = with_mention (appending maps.now str.now) maps.now pool.old.texts (path_at (record { order = order; str = str.now }) info.now at) }))))) }
 {
     let offset = number_in(order, info, at, 4);
     if known.contains_key(&offset) {
@@ -60,7 +60,7 @@ pub(crate) fn note_path(
 }
 
 /// Adds the mapped text of the path at an offset, which asks for a new place, and notes the place.
-#[tactic(auto, using(crate::proofs::Rows::refusal_rows, crate::proofs::KnownLaws::add_rules))]
+#[tactic(auto, using(crate::proofs::Rows::long_rows, crate::proofs::KnownLaws::add_rules))]
 fn add_path(
     alloc: Global,
     str: &[u8],
@@ -73,7 +73,7 @@ fn add_path(
     ensures pool { OnOk result (pool.new ≡ with_added pool.old (mapped_path maps.now (text_in str.now offset))) }
     ensures small { OnOk result (length (table_bytes pool.new) ≤ output_limit) }
     ensures known { OnOk result (Adds (λ o. get nat_cmp known.old o) (λ o. get nat_cmp known.new o) offset (place_after pool.old (mapped_path maps.now (text_in str.now offset)))) }
-    ensures refused { IfErr result (Blames (Refuses (length (table_bytes (with_added pool.old (mapped_path maps.now (text_in str.now offset)))) ≤ output_limit))) }
+    ensures refused { IfErr result (Blames (TooLong (length (table_bytes (with_added pool.old (mapped_path maps.now (text_in str.now offset))))))) }
 {
     let text = match text_at(0, str, offset) {
         Ok(text) => text,
@@ -83,7 +83,7 @@ fn add_path(
     let place = pool.add(&mapped)?;
     known.insert(offset, place)?;
     if pool.bytes().len() as u64 > OUTPUT_LIMIT {
-        return Err(unbuilt().into());
+        return Err(too_large().into());
     }
     Ok(())
 }

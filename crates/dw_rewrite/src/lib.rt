@@ -1,9 +1,10 @@
 //! Files with mapped source paths: what an edit makes of a file.
 //!
-//! This layer promises: a file is taken exactly where it has the shape that this version takes (a
-//! First file), and the output is then the defined one, byte for byte.
+//! This layer promises: a file of either class and byte order is refused only by a condition that holds
+//! in it, at its place; want of memory aside, every other file is rewritten, and the output is the
+//! defined one, byte for byte.
 //! It does not promise: anything of how the file came from disk, or goes back to it.
-//! Read first: `dw_base/specs/First.antt` and `dw_base/specs/Output.antt`.
+//! Read first: `dw_base/specs/EditFails.antt` and `dw_base/specs/Output.antt`.
 #![tactic(auto)]
 
 mod asks;

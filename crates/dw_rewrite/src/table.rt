@@ -1,8 +1,8 @@
-//! The table of abbreviations of a First unit (DWARF 5, 7.5.3).
+//! The table of abbreviations of such a unit (DWARF 5, 7.5.3).
 
 ghost use Rattle.std.specs.Prelude.{◌≡◌, ◌==◌, ◌&&◌, ◌≤◌, length, drop, None, Some, IfSome, IsNone, is_some};
 ghost use Rattle.dw_base.specs.First.{closed, first_names, first_table, is_first_head, is_first_pair};
-ghost use Rattle.dw_rewrite.specs.FirstUnits.{IsTable, IsNames};
+ghost use Rattle.dw_rewrite.specs.EntryFacts.{IsTable, IsNames};
 
 use dw_base::dwarf_numbers::{DW_AT_comp_dir, DW_AT_name, DW_FORM_strp, DW_TAG_compile_unit};
 
@@ -15,7 +15,7 @@ pub(crate) struct Table {
     pub count: u64,
 }
 
-/// The table at an offset of `.debug_abbrev`, where it is as First files have it.
+/// The table at an offset of `.debug_abbrev`, where it declares one compilation unit without children, of names and directories.
 #[tactic(auto, using(crate::proofs::Names::table_rules))]
 pub(crate) fn table_in(abbrevs: &[u8], at: u64) -> Option<Table>
     ensures found { IfSome result (λ t. IsTable (drop at abbrevs.now) t.code t.count) }

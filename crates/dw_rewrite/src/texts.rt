@@ -1,6 +1,6 @@
 //! Where texts begin in a string table.
 
-ghost use Rattle.dw_rewrite.specs.FirstUnits.{IsTextLimit};
+ghost use Rattle.dw_rewrite.specs.EntryFacts.{IsTextLimit};
 
 /// The offset behind the last NUL of a table: a text begins at each offset below it, and at no other.
 #[tactic(auto, using(crate::proofs::TextLimits::limit_laws))]

@@ -1,14 +1,15 @@
-//! The units of a First file (DWARF 5, 7.5.1 to 7.5.6): where the offsets of their paths stand.
+//! The units of one entry (DWARF 5, 7.5.1 to 7.5.6): where the offsets of their paths stand.
 //!
 //! This layer promises: it gives the places of all paths of a section that is filled by such units,
 //! in order, and refuses a section only where it isn't.
-//! Read first: `specs/FirstUnits.antt`.
+//! Read first: `specs/EntryFacts.antt`.
 
 ghost use Rattle.std.specs.Prelude.{ℕ, ◌≡◌, ◌↔◌, ◌+◌, ◌*◌, ◌≤◌, ◌<◌, ◌++◌, length, IsTrue, OnOk, IfOk, IfErr, IfSome, IsNone};
-ghost use Rattle.dw_base.specs.First.{FirstUnits};
+ghost use Rattle.dw_base.specs.EntryUnits.{EntryUnits};
 ghost use Rattle.dw_base.specs.Numbers.{spelled};
 ghost use Rattle.dw_base.specs.Refusals.{Blames};
-ghost use Rattle.dw_rewrite.specs.FirstUnits.{HasCode, HeaderFacts, IsFirstUnit, IsTextLimit, PlacesRead, TextsEnd, UnitRead, unit_end, value_places};
+ghost use Rattle.dw_base.specs.Units.{is_address_size};
+ghost use Rattle.dw_rewrite.specs.EntryFacts.{HasCode, HeaderFacts, IsEntryUnit, IsTextLimit, PlacesRead, TextsEnd, UnitRead, unit_end, value_places};
 ghost use Rattle.dw_rewrite.specs.Refuses.{Refuses};
 
 use crate::refusal::unbuilt;
@@ -18,7 +19,7 @@ use dw_base::{Fault, Order, number_in, uleb_at};
 use std::alloc::Global;
 
 /// The places of the offsets of all paths in `.debug_info`, in bytes from its start, in order.
-/// Refused where the section isn't filled by units as First files have them.
+/// Refused where the section isn't filled by units of one entry.
 #[tactic(auto, using(crate::proofs::Walks::walk_rules))]
 pub(crate) fn places_in(
     alloc: Global,
@@ -28,7 +29,7 @@ pub(crate) fn places_in(
     str: &[u8],
 ) -> Result<Vec<u64>, Fault>
     ensures read { IfOk result (λ places. PlacesRead order info.now abbrevs.now str.now places.items) }
-    ensures refused { IfErr result (Blames (Refuses (FirstUnits order info.now abbrevs.now str.now))) }
+    ensures refused { IfErr result (Blames (Refuses (EntryUnits order info.now abbrevs.now str.now))) }
 {
     let limit = text_limit(str);
     let len = info.len() as u64;
@@ -40,8 +41,8 @@ pub(crate) fn places_in(
     Ok(places)
 }
 
-/// Where the unit at a place ends; the places of its paths are noted. Refused where no unit as First
-/// files have them is there.
+/// Where the unit at a place ends; the places of its paths are noted. Refused where no unit of one entry
+/// is there.
 #[tactic(auto, using(crate::proofs::Rows::refusal_rows, crate::proofs::UnitExits::unit_rules))]
 fn unit_in(
     order: Order,
@@ -57,7 +58,7 @@ fn unit_in(
     ensures read { IfOk result (λ z. UnitRead order info.now abbrevs.now str.now at z places.old.items places.new.items) }
     ensures further { IfOk result (λ z. at < z) }
     ensures within { IfOk result (λ z. z ≤ length info.now) }
-    ensures refused { IfErr result (Blames (Refuses (IsFirstUnit order info.now abbrevs.now str.now at))) }
+    ensures refused { IfErr result (Blames (Refuses (IsEntryUnit order info.now abbrevs.now str.now at))) }
 {
     let Some(head) = header_in(order, info, at) else {
         return Err(unbuilt().into());
@@ -112,8 +113,15 @@ struct Head {
     abbrevs: u64,
 }
 
-/// The header of a unit, as First files have it: 32-bit DWARF of version 4, addresses of 8 bytes, and
-/// room behind it in the unit.
+/// The size of an address that a unit may have, in bytes (DWARF 5, 7.5.1).
+fn is_address_size(size: u64) -> bool
+    ensures { result ≡ is_address_size size }
+{
+    size == 2 || size == 4 || size == 8
+}
+
+/// The header of a unit: 32-bit DWARF of version 4, addresses of 2, 4 or 8 bytes, and room behind it in
+/// the unit (DWARF 5, 7.5.1).
 fn header_in(order: Order, info: &[u8], at: u64) -> Option<Head>
     requires { at < length info.now }
     ensures found { IfSome result (λ h. HeaderFacts order info.now at) }
@@ -138,7 +146,7 @@ fn header_in(order: Order, info: &[u8], at: u64) -> Option<Head>
     if number_in(order, info, at + 4, 2) != 4 {
         return None;
     }
-    if number_in(order, info, at + 10, 1) != 8 {
+    if !is_address_size(number_in(order, info, at + 10, 1)) {
         return None;
     }
     let abbrevs = number_in(order, info, at + 6, 4);

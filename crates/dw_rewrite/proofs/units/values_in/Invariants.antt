@@ -1,7 +1,7 @@
 use Rattle.std.proofs.Common.{◌≡◌, ℕ, ◌+◌, ◌-◌, ◌*◌, ◌<◌, ◌++◌, IsTrue}
 use Rattle.dw_base.specs.Numbers.{spelled}
 use Rattle.dw_base.specs.Texts.{ends_in}
-use Rattle.dw_rewrite.specs.FirstUnits.{value_places}
+use Rattle.dw_rewrite.specs.EntryFacts.{value_places}
 use Rattle.dw_rewrite.proofs.units.values_in.Given as goal
 
 abbrev pub invariant-loop-i : goal.invariant-loop-i

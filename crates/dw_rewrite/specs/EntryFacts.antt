@@ -1,9 +1,11 @@
--- One unit of a First file, by the bytes from its place on: its header, its table of abbreviations, its one entry.
-use Rattle.std.specs.Prelude.{◌≡◌, ℕ, zero, suc, ◌+◌, ◌*◌, ◌<◌, ◌≤◌, List, [], ◌∷◌, ◌++◌, length, drop, nat_lt, Option, Some, None, IsTrue}
-use Rattle.dw_base.specs.First.{first_names, first_table, FirstUnits}
+-- One unit of one entry, by the bytes from its place on: its header, its table of abbreviations, its one entry.
+use Rattle.std.specs.Prelude.{◌≡◌, ℕ, zero, suc, ◌+◌, ◌*◌, ◌<◌, ◌≤◌, List, [], ◌∷◌, ◌++◌, length, drop, nat_lt, Some, IsTrue}
+use Rattle.dw_base.specs.EntryUnits.{EntryUnits}
+use Rattle.dw_base.specs.First.{first_names, first_table}
 use Rattle.dw_base.specs.Lebs.{uleb, uleb_within}
 use Rattle.dw_base.specs.Numbers.{spelled}
 use Rattle.dw_base.specs.Texts.{ends_in}
+use Rattle.dw_base.specs.Units.{is_address_size}
 use Rattle.dw_base.specs.declared.shared.Order.{Order}
 use Rattle.dw_rewrite.specs.PathPlaces.{path_places}
 
@@ -15,12 +17,12 @@ unit_end order info at = at + 4 + spelled order info at 4
 abbrev pub table_of : Order → List ℕ → List ℕ → ℕ → List ℕ
 table_of order info abbrevs at = drop (spelled order info (at + 6) 4) abbrevs
 
--- a header of 32-bit DWARF 4 with addresses of 8 bytes is at the place, and there is room behind it in the unit
+-- a header of 32-bit DWARF 4 with addresses of 2, 4 or 8 bytes is at the place, and there is room behind it in the unit
 pub record HeaderFacts (order : Order) (info : List ℕ) (at : ℕ) : Type 0 where
   pub room : at + 11 ≤ length info
   pub length_32 : spelled order info at 4 < 0xfffffff0
   pub version : spelled order info (at + 4) 2 ≡ 4
-  pub address : spelled order info (at + 10) 1 ≡ 8
+  pub address : IsTrue (is_address_size (spelled order info (at + 10) 1))
   pub filled : 7 < spelled order info at 4
   pub within : unit_end order info at ≤ length info
 
@@ -33,15 +35,15 @@ pub record ValueFacts (order : Order) (info str : List ℕ) (finish place count 
 pub record HasCode (info : List ℕ) (at code size : ℕ) : Type 0 where
   pub spells : uleb_within (uleb (drop at info)) ≡ Some (code, size)
 
--- a unit of a First file is at the place, with this code, of this size, and these attributes
+-- a unit of one entry is at the place, with this code, of this size, and these attributes
 pub record UnitFacts (order : Order) (info abbrevs str : List ℕ) (at code size : ℕ) (names : List ℕ) : Type 0 where
   pub head : HeaderFacts order info at
   pub table : first_table (table_of order info abbrevs at) ≡ Some (code, names)
   pub spells : uleb_within (uleb (drop (at + 11) info)) ≡ Some (code, size)
   pub values : ValueFacts order info str (unit_end order info at) (at + 11 + size) (length names)
 
--- a unit of a First file is at the place
-pub record IsFirstUnit (order : Order) (info abbrevs str : List ℕ) (at : ℕ) : Type 0 where
+-- a unit of one entry is at the place
+pub record IsEntryUnit (order : Order) (info abbrevs str : List ℕ) (at : ℕ) : Type 0 where
   pub code : ℕ
   pub size : ℕ
   pub names : List ℕ
@@ -72,7 +74,7 @@ pub record IsTable (bytes : List ℕ) (code count : ℕ) : Type 0 where
   pub read : first_table bytes ≡ Some (code, names)
   pub count_is : count ≡ length names
 
--- a unit of a First file was read: where it ends, and the places of its paths behind those before
+-- a unit of one entry was read: where it ends, and the places of its paths behind those before
 pub record UnitRead (order : Order) (info abbrevs str : List ℕ) (at finish : ℕ) (old new : List ℕ) : Type 0 where
   pub code : ℕ
   pub size : ℕ
@@ -81,7 +83,7 @@ pub record UnitRead (order : Order) (info abbrevs str : List ℕ) (at finish : �
   pub finish_is : finish ≡ unit_end order info at
   pub places : new ≡ old ++ value_places (at + 11 + size) (length names)
 
--- the units of a First file were read: these are the places of their paths
+-- the units of a section were read: these are the places of their paths
 pub record PlacesRead (order : Order) (info abbrevs str places : List ℕ) : Type 0 where
-  pub units : FirstUnits order info abbrevs str
+  pub units : EntryUnits order info abbrevs str
   pub places_are : path_places units.pieces ≡ places
