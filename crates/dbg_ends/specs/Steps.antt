@@ -1,10 +1,12 @@
 -- The steps that commands share: how each may end, and what became of the tree.
-use Rattle.std.specs.Prelude.{◌≡◌, ◌<◌, ℕ, List}
+use Rattle.std.specs.Prelude.{◌≡◌, ◌<◌, ℕ, List, Option, Some}
 use Rattle.file_tree.specs.declared.node.Found.TheVariants as found
 use Rattle.file_tree.specs.declared.call.Call.TheVariants as call
 use Rattle.file_tree.specs.declared.call.Effect.TheVariants as effect
+use Rattle.file_tree.specs.Trees.{TreeMap, stands_at}
 use Rattle.file_tree.specs.Seen.{Seen, Past, adds, now_of}
 use Rattle.file_tree.specs.Causes.{Rose, Stood, OnlyAt}
+use Rattle.dbg_ends.specs.Due.{IsFree}
 use Rattle.dbg_ends.specs.declared.end.End.{End}
 use Rattle.dbg_ends.specs.declared.end.End.TheVariants as end
 
@@ -24,6 +26,10 @@ pub data OutputTaken (path : List ℕ) (old new : Seen) : End → Type 0 where
   link : {target : List ℕ} → Stood (now_of old) path 0 (found.Link target) → OutputTaken path old new (end.Taken path)
   failed : Rose old.faults new.faults → OutputTaken path old new end.TreeFault
   memory : OutputTaken path old new end.NoMemory
+
+-- where the tree tells, a file may be put at the path
+pub record OutputFree (old : Option TreeMap) (path : List ℕ) : Type 0 where
+  pub is : (t : TreeMap) → old ≡ Some t → IsFree (stands_at t path 0)
 
 -- how the writing of an output ends where it isn't done; its path holds anything or nothing, and all else is as it was
 pub data OutputEnds (path : List ℕ) (old new : Seen) : End → Type 0 where

@@ -6,8 +6,8 @@ ghost use Rattle.file_tree.specs.Seen.{now_of};
 ghost use Rattle.file_tree.specs.Trees.{stands_at, with_node};
 ghost use Rattle.file_tree.specs.Causes.{Rose, Calm, OnlyAt};
 ghost use Rattle.dbg_ends.specs.Ends.{status_of};
-ghost use Rattle.dbg_ends.specs.Due.{IsFree, OutputDue, IsCut};
-ghost use Rattle.dbg_ends.specs.Steps.{OutputTaken, OutputEnds, IsSettled};
+ghost use Rattle.dbg_ends.specs.Due.{OutputDue, IsCut};
+ghost use Rattle.dbg_ends.specs.Steps.{OutputTaken, OutputFree, OutputEnds, IsSettled};
 
 use crate::end::End;
 use file_tree::{Blob, Found, Node, Text, Tree};
@@ -17,7 +17,7 @@ use std::alloc::Global;
 /// there ends as `Taken`. The tree stays as it was, and no bytes of a file that is there are read.
 #[tactic(auto, using(crate::proofs::Rows::taken_rows))]
 pub fn free_output<T: Tree>(alloc: Global, path: &str, tree: &mut T) -> Result<(), End>
-    ensures done { OnOk result (ForSome (now_of (T.seen tree.old)) (λ t. IsFree (stands_at t path.now 0))) }
+    ensures done { OnOk result (OutputFree (now_of (T.seen tree.old)) path.now) }
     ensures ends { IfErr result (OutputTaken path.now (T.seen tree.old) (T.seen tree.new)) }
     ensures due { IfErr result (λ e. ForSome (now_of (T.seen tree.old)) (λ t. OutputDue (stands_at t path.now 0) (status_of e) ⊥ ⊎ IsCut (status_of e))) }
     ensures not_done { IfErr result (λ e. 0 ≢ status_of e) }
