@@ -16,7 +16,9 @@ status_of (end.Refused path refusal) = 3
 status_of (end.Absent path) = 4
 status_of (end.Folder path) = 4
 status_of (end.Link path) = 4
+status_of (end.Taken path) = 5
 status_of end.TreeFault = 6
+status_of (end.Limit path size) = 8
 status_of end.NoMemory = 13
 
 -- how a command ends where a call of the tree fails
@@ -62,5 +64,7 @@ line_of (end.Refused path r) = codes "refused: " ++ (path ++ (codes ": " ++ (kin
 line_of (end.Absent path) = codes "absent: " ++ (path ++ codes "\n")
 line_of (end.Folder path) = codes "folder: " ++ (path ++ codes "\n")
 line_of (end.Link path) = codes "link: " ++ (path ++ codes "\n")
+line_of (end.Taken path) = codes "taken: " ++ (path ++ codes "\n")
+line_of (end.Limit path size) = codes "limit: file " ++ (path ++ (codes " " ++ (decimal size ++ codes "\n")))
 line_of end.TreeFault = codes "tree fault\n"
 line_of end.NoMemory = codes "no memory\n"

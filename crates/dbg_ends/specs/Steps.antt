@@ -1,12 +1,12 @@
 -- The steps that commands share: how each may end, and what became of the tree.
-use Rattle.std.specs.Prelude.{◌≡◌, ℕ, List}
-use Rattle.dw_base.specs.Refusals.{at}
-use Rattle.dw_base.specs.declared.fault.Kind.TheVariants as kinds
+use Rattle.std.specs.Prelude.{◌≡◌, ◌<◌, ℕ, List, Option, Some}
 use Rattle.file_tree.specs.declared.node.Found.TheVariants as found
 use Rattle.file_tree.specs.declared.call.Call.TheVariants as call
 use Rattle.file_tree.specs.declared.call.Effect.TheVariants as effect
+use Rattle.file_tree.specs.Trees.{TreeMap, stands_at}
 use Rattle.file_tree.specs.Seen.{Seen, Past, adds, now_of}
 use Rattle.file_tree.specs.Causes.{Rose, Stood, OnlyAt}
+use Rattle.dbg_ends.specs.Due.{IsFree}
 use Rattle.dbg_ends.specs.declared.end.End.{End}
 use Rattle.dbg_ends.specs.declared.end.End.TheVariants as end
 
@@ -15,9 +15,21 @@ pub data InputEnds (path : List ℕ) (limit : ℕ) (old new : Seen) : End → Ty
   absent : Stood (now_of old) path limit found.Absent → InputEnds path limit old new (end.Absent path)
   folder : Stood (now_of old) path limit found.Folder → InputEnds path limit old new (end.Folder path)
   link : {target : List ℕ} → Stood (now_of old) path limit (found.Link target) → InputEnds path limit old new (end.Link path)
-  large : {size : ℕ} → Stood (now_of old) path limit (found.TooLarge size) → InputEnds path limit old new (end.Refused path (at kinds.Unbuilt 0 0))
+  large : {size : ℕ} → limit < size → Stood (now_of old) path limit (found.TooLarge size) → InputEnds path limit old new (end.Limit path size)
   failed : Rose old.faults new.faults → InputEnds path limit old new end.TreeFault
   memory : InputEnds path limit old new end.NoMemory
+
+-- how the look at an output's path ends where no file may be put there; the tree is as it was. It is read with limit 0,
+-- so that of a file that is there no bytes are taken
+pub data OutputTaken (path : List ℕ) (old new : Seen) : End → Type 0 where
+  folder : Stood (now_of old) path 0 found.Folder → OutputTaken path old new (end.Taken path)
+  link : {target : List ℕ} → Stood (now_of old) path 0 (found.Link target) → OutputTaken path old new (end.Taken path)
+  failed : Rose old.faults new.faults → OutputTaken path old new end.TreeFault
+  memory : OutputTaken path old new end.NoMemory
+
+-- where the tree tells, a file may be put at the path
+pub record OutputFree (old : Option TreeMap) (path : List ℕ) : Type 0 where
+  pub is : (t : TreeMap) → old ≡ Some t → IsFree (stands_at t path 0)
 
 -- how the writing of an output ends where it isn't done; its path holds anything or nothing, and all else is as it was
 pub data OutputEnds (path : List ℕ) (old new : Seen) : End → Type 0 where

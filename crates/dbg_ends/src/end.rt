@@ -21,6 +21,10 @@ pub enum End {
     Folder { path: Text },
     /// A symbolic link is at the path, where a file is wanted.
     Link { path: Text },
+    /// A folder or a symbolic link is at the path, where a file is to be put.
+    Taken { path: Text },
+    /// The file at the path has this many bytes, more than may be read.
+    Limit { path: Text, size: u64 },
     /// A call of the tree failed.
     TreeFault,
     /// There was not enough memory.
@@ -61,7 +65,9 @@ pub fn status(end: &End) -> u8
         End::Absent { .. } => 4,
         End::Folder { .. } => 4,
         End::Link { .. } => 4,
+        End::Taken { .. } => 5,
         End::TreeFault => 6,
+        End::Limit { .. } => 8,
         End::NoMemory => 13,
     }
 }

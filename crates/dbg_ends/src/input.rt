@@ -10,12 +10,12 @@ ghost use Rattle.dbg_ends.specs.Due.{InputDue, IsCut};
 ghost use Rattle.dbg_ends.specs.Steps.{InputEnds};
 
 use crate::end::End;
-use dw_base::{Kind, Refusal};
 use file_tree::{Found, Text, Tree};
 use std::alloc::Global;
 
 /// The bytes and the mode of the file at the path, which has at most `limit` bytes. The tree stays as
-/// it was. A file of more bytes is refused as `Unbuilt`, as a whole.
+/// it was. What else is at the path, or that nothing is, is the end; a file of more bytes ends as `Limit`,
+/// with the number of its bytes.
 #[tactic(auto, using(crate::proofs::Rows::input_rows))]
 pub fn read_input<T: Tree>(
     alloc: Global,
@@ -45,13 +45,9 @@ pub fn read_input<T: Tree>(
         Found::Link { .. } => Err(End::Link {
             path: Text::copy_of(alloc, path)?,
         }),
-        Found::TooLarge { .. } => Err(End::Refused {
+        Found::TooLarge { size } => Err(End::Limit {
             path: Text::copy_of(alloc, path)?,
-            refusal: Refusal {
-                kind: Kind::Unbuilt,
-                section: 0,
-                offset: 0,
-            },
+            size,
         }),
     }
 }

@@ -13,8 +13,10 @@ pub mod input;
 pub mod line;
 pub mod output;
 pub mod telling;
+#[cfg(test)]
+mod tests;
 
 pub use end::End;
 pub use input::read_input;
-pub use output::write_output;
+pub use output::{free_output, write_output};
 pub use telling::tell;

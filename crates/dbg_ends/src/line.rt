@@ -55,6 +55,14 @@ fn refused_line(alloc: Global, path: &str, refusal: Refusal) -> Result<String, A
     format!(in alloc; "refused: {path}: {kind} section {section} offset {offset}\n")
 }
 
+/// The line of a file at the path that has `size` bytes, more than may be read.
+#[tactic(auto, unfolding(crate::specs::Ends::line_of))]
+fn limit_line(alloc: Global, path: &str, size: u64) -> Result<String, AllocError>
+    ensures text { IfOk result (λ s. string_bytes s ≡ line_of (end.Limit path.now size)) }
+{
+    format!(in alloc; "limit: file {path} {size}\n")
+}
+
 /// The line of an end; nothing where the command is done.
 #[tactic(auto, unfolding(crate::specs::Ends::line_of))]
 pub fn line(alloc: Global, end: &End) -> Result<String, AllocError>
@@ -76,6 +84,11 @@ pub fn line(alloc: Global, end: &End) -> Result<String, AllocError>
             let path = path.as_str();
             format!(in alloc; "link: {path}\n")
         }
+        End::Taken { path } => {
+            let path = path.as_str();
+            format!(in alloc; "taken: {path}\n")
+        }
+        End::Limit { path, size } => limit_line(alloc, path.as_str(), *size),
         End::TreeFault => String::from_str(alloc, "tree fault\n"),
         End::NoMemory => String::from_str(alloc, "no memory\n"),
     }

@@ -1,15 +1,44 @@
-//! The step that writes an output.
-ghost use Rattle.std.specs.Prelude.{◌≡◌, ◌≢◌, true, IfErr, OnOk, option_map};
+//! The steps that look at an output's path and that write it.
+ghost use Rattle.std.specs.Prelude.{◌≡◌, ◌≢◌, ◌⊎◌, true, IfErr, OnOk, option_map};
+ghost use Rattle.std.specs.Option.{ForSome};
 ghost use Rattle.file_tree.specs.declared.node.Node.TheVariants as node;
 ghost use Rattle.file_tree.specs.Seen.{now_of};
-ghost use Rattle.file_tree.specs.Trees.{with_node};
-ghost use Rattle.file_tree.specs.Causes.{Rose, OnlyAt};
+ghost use Rattle.file_tree.specs.Trees.{stands_at, with_node};
+ghost use Rattle.file_tree.specs.Causes.{Rose, Calm, OnlyAt};
 ghost use Rattle.dbg_ends.specs.Ends.{status_of};
-ghost use Rattle.dbg_ends.specs.Due.{IsCut};
-ghost use Rattle.dbg_ends.specs.Steps.{OutputEnds, IsSettled};
+ghost use Rattle.dbg_ends.specs.Due.{OutputDue, IsCut};
+ghost use Rattle.dbg_ends.specs.Steps.{OutputTaken, OutputFree, OutputEnds, IsSettled};
 
 use crate::end::End;
-use file_tree::{Blob, Node, Tree};
+use file_tree::{Blob, Found, Node, Text, Tree};
+use std::alloc::Global;
+
+/// Looks whether a file may be put at the path: nothing is there, or a file. A folder or a symbolic link
+/// there ends as `Taken`. The tree stays as it was, and no bytes of a file that is there are read.
+#[tactic(auto, using(crate::proofs::Rows::taken_rows))]
+pub fn free_output<T: Tree>(alloc: Global, path: &str, tree: &mut T) -> Result<(), End>
+    ensures done { OnOk result (OutputFree (now_of (T.seen tree.old)) path.now) }
+    ensures ends { IfErr result (OutputTaken path.now (T.seen tree.old) (T.seen tree.new)) }
+    ensures due { IfErr result (λ e. ForSome (now_of (T.seen tree.old)) (λ t. OutputDue (stands_at t path.now 0) (status_of e) ⊥ ⊎ IsCut (status_of e))) }
+    ensures not_done { IfErr result (λ e. 0 ≢ status_of e) }
+    ensures not_usage { IfErr result (λ e. 2 ≢ status_of e) }
+    ensures fault { IfErr result (λ e. status_of e ≡ 6 → Rose (T.seen tree.old).faults (T.seen tree.new).faults) }
+    ensures kept { Calm (T.seen tree.old) (T.seen tree.new) }
+    ensures tells { (T.seen tree.new).tells ≡ (T.seen tree.old).tells }
+{
+    let found = tree.read(path, 0)?;
+    match found {
+        Found::Absent => Ok(()),
+        Found::File { .. } => Ok(()),
+        Found::TooLarge { .. } => Ok(()),
+        Found::Folder => Err(End::Taken {
+            path: Text::copy_of(alloc, path)?,
+        }),
+        Found::Link { .. } => Err(End::Taken {
+            path: Text::copy_of(alloc, path)?,
+        }),
+    }
+}
 
 /// Sets the path to a file of these bytes and this mode, and then settles the tree.
 #[tactic(auto, using(crate::proofs::Rows::output_rows))]

@@ -1,17 +1,19 @@
 -- Laws on runs: one status is due, and an end may give way to want of memory.
 use Rattle.std.proofs.Common.{◌≡◌, ◌≢◌, ℕ, List, refl, sym, ap, subst, ◌∙◌, ◌⊎◌, inl, inr}
 use Rattle.std.specs.Prelude.{Option, Some, None, is_some}
-use Rattle.dw_base.specs.First.{IsFirst, file_limit}
+use Rattle.dw_base.specs.EditFails.{IsAccepted}
+use Rattle.dw_base.specs.First.{file_limit}
 use Rattle.dw_base.specs.Paths.{PathMap}
 use Rattle.file_tree.specs.declared.node.Found.{Found}
 use Rattle.file_tree.specs.declared.node.Found.TheVariants as found
 use Rattle.file_tree.specs.Trees.{TreeMap, stands_at}
 use Rattle.file_tree.specs.Seen.{Seen, now_of}
-use Rattle.file_tree.specs.Causes.{Calm, OnlyAt}
+use Rattle.file_tree.specs.Causes.{Rose, Calm, OnlyAt}
 use Rattle.file_tree.specs.Heard.{Heard}
 use Rattle.dbg_ends.specs.declared.end.End.{End}
 use Rattle.dbg_ends.specs.declared.end.End.TheVariants as end
-use Rattle.dbg_ends.specs.Due.{Where, IsCut, Exactly}
+use Rattle.dbg_ends.specs.Due.{Where, OutputDue, IsCut, Exactly}
+use Rattle.dbg_ends.specs.Due.{IsCut as cut}
 use Rattle.dbg_ends.specs.Due.Where.{here, elsewhere}
 use Rattle.dbg_ends.specs.Steps.{OutputEnds as output_}
 use Rattle.dbg_ends.specs.Told.{Told, Ended}
@@ -19,8 +21,9 @@ use Rattle.dbg_ends.specs.Told.{Told as told}
 use Rattle.dbg_run.specs.declared.words.Command.{Command}
 use Rattle.dbg_run.specs.declared.words.Command.TheVariants.{Edit}
 use Rattle.dbg_run.specs.Edits.{EditEnds, EditDue}
+use Rattle.dbg_run.proofs.EditLaws.{unopposed_due}
 use Rattle.dbg_run.specs.Edits.{EditEnds as edit}
-use Rattle.dbg_run.specs.Runs.{Ends, Due}
+use Rattle.dbg_run.specs.Runs.{Ends, Due, Unopposed}
 use Rattle.dbg_run.specs.Runs.{Ends as ends}
 
 -- of two numbers, one where P holds and one elsewhere, only one can be
@@ -30,17 +33,37 @@ where-one P a b n m (here p is) (elsewhere un also) = absurd (un p)
 where-one P a b n m (elsewhere un is) (here q also) = absurd (un q)
 where-one P a b n m (elsewhere un is) (elsewhere vn also) = is ∙ sym also
 
-edit-one : (m : PathMap) (what : Found) (n k : ℕ) → EditDue m what n → EditDue m what k → n ≡ k
-edit-one m found.Absent n k is also = is ∙ sym also
-edit-one m found.Folder n k is also = is ∙ sym also
-edit-one m (found.Link target) n k is also = is ∙ sym also
-edit-one m (found.TooLarge size) n k is also = is ∙ sym also
-edit-one m (found.File b mode) n k is also = where-one (IsFirst m b) 0 3 n k is also
+-- of an output as of what comes after
+output-one : (there : Found) (n k : ℕ) (P Q : Type 0) → (P → Q → n ≡ k) → OutputDue there n P → OutputDue there k Q → n ≡ k
+output-one found.Absent n k P Q after is also = after is also
+output-one found.Folder n k P Q after is also = is ∙ sym also
+output-one (found.Link target) n k P Q after is also = is ∙ sym also
+output-one (found.TooLarge size) n k P Q after is also = after is also
+output-one (found.File b mode) n k P Q after is also = after is also
+
+edit-one : (m : PathMap) (what there : Found) (n k : ℕ) → EditDue m what there n → EditDue m what there k → n ≡ k
+edit-one m found.Absent there n k is also = is ∙ sym also
+edit-one m found.Folder there n k is also = is ∙ sym also
+edit-one m (found.Link target) there n k is also = is ∙ sym also
+edit-one m (found.TooLarge size) there n k is also = is ∙ sym also
+edit-one m (found.File b mode) there n k is also = output-one there n k _ _ (where-one (IsAccepted m b) 0 3 n k) is also
 
 -- one status is due
 due-one : (c : Option Command) (t : TreeMap) (n k : ℕ) → Due c t n → Due c t k → n ≡ k
 due-one None t n k is also = is ∙ sym also
-due-one (Some (Edit input output m)) t n k is also = edit-one m (stands_at t input file_limit) n k is also
+due-one (Some (Edit input output m)) t n k is also = edit-one m (stands_at t input file_limit) (stands_at t output 0) n k is also
+
+-- where nothing is against a command, it is due to be done
+unopposed-due : (c : Option Command) (t : TreeMap) → Unopposed c t → Due c t 0
+unopposed-due None t is = absurd is
+unopposed-due (Some (Edit input output m)) t is = unopposed_due m (stands_at t input file_limit) (stands_at t output 0) is
+
+-- where nothing is against a command, and no fault came, it is done, want of memory aside
+pub completed : (c : Option Command) (t : TreeMap) (answer before now : ℕ) → Due c t answer ⊎ IsCut answer → (answer ≡ 6 → Rose before now)
+    → Unopposed c t → (Rose before now → ⊥) → (answer ≡ 0) ⊎ (answer ≡ 13)
+completed c t answer before now (inl due) fault is calm = inl (due-one c t answer 0 due (unopposed-due c t is))
+completed c t answer before now (inr (cut.tree_fault six)) fault is calm = absurd (calm (fault six))
+completed c t answer before now (inr (cut.no_memory want)) fault is calm = inr want
 
 pub due_exact : (c : Option Command) (t : TreeMap) (answer n : ℕ) → Due c t answer ⊎ IsCut answer → Exactly answer n (Due c t n)
 due_exact c t answer n (inl due) = record { only = λ is. inl (subst (λ k. Due c t k) is due); comes = λ other. inl (due-one c t answer n due other) }
@@ -55,9 +78,10 @@ calm-at path old mid new calm at = let P : Option TreeMap → Type 0 = λ x. Onl
 
 edit-memory : (input output : List ℕ) (m : PathMap) (old new : Seen) (e : End) → EditEnds input output m old new e → e ≢ end.Done → EditEnds input output m old new end.NoMemory
 edit-memory input output m old new e (edit.reading ends calm) undone = edit.memory (same-at output _ _ calm.now)
-edit-memory input output m old new e (edit.rewriting stood ends calm) undone = edit.memory (same-at output _ _ calm.now)
-edit-memory input output m old new e (edit.writing {mid = mid} stood first calm (output_.failed rose at)) undone = edit.memory (calm-at output old mid _ calm at)
-edit-memory input output m old new e (edit.writing {mid = mid} stood first calm (output_.memory at)) undone = edit.memory (calm-at output old mid _ calm at)
+edit-memory input output m old new e (edit.taking stood calm ends still) undone = edit.memory (same-at output _ _ (still.now ∙ calm.now))
+edit-memory input output m old new e (edit.rewriting stood free ends calm) undone = edit.memory (same-at output _ _ calm.now)
+edit-memory input output m old new e (edit.writing {mid = mid} stood free ok calm (output_.failed rose at)) undone = edit.memory (calm-at output old mid _ calm at)
+edit-memory input output m old new e (edit.writing {mid = mid} stood free ok calm (output_.memory at)) undone = edit.memory (calm-at output old mid _ calm at)
 edit-memory input output m old new e (edit.memory at) undone = edit.memory at
 edit-memory input output m old new e (edit.done is) undone = absurd (undone refl)
 

@@ -13,7 +13,7 @@ use Rattle.dbg_ends.specs.declared.end.End.TheVariants as end
 use Rattle.dbg_run.specs.declared.words.Command.{Command}
 use Rattle.dbg_run.specs.declared.words.Command.TheVariants.{Edit}
 use Rattle.dbg_run.specs.Words.{command}
-use Rattle.dbg_run.specs.Edits.{EditDone, OfFiles, EditEnds, EditDue}
+use Rattle.dbg_run.specs.Edits.{EditDone, OfFiles, EditEnds, EditDue, EditUnopposed}
 
 -- how a run of these words ends: the tree and the output sink before it, and after it
 pub data Ends (words : List (List ℕ)) (old new : Seen) (heard said : Heard) : End → Type 0 where
@@ -40,7 +40,12 @@ KeepsLoaded (Some (Edit input output m)) old new = OfFiles LoadedKept input outp
 -- the status that is due, where the tree tells that it holds this map
 abbrev pub Due : Option Command → TreeMap → ℕ → Type 0
 Due None t n = n ≡ 2
-Due (Some (Edit input output m)) t n = EditDue m (stands_at t input file_limit) n
+Due (Some (Edit input output m)) t n = EditDue m (stands_at t input file_limit) (stands_at t output 0) n
+
+-- nothing is against the command, where the tree tells that it holds this map
+abbrev pub Unopposed : Option Command → TreeMap → Type 0
+Unopposed None t = ⊥
+Unopposed (Some (Edit input output m)) t = EditUnopposed m (stands_at t input file_limit) (stands_at t output 0)
 
 -- the command's outputs hold anything or nothing, and all else stays
 abbrev pub OnlyOutputs : Option Command → Seen → Seen → Type 0

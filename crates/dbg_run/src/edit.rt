@@ -1,7 +1,8 @@
 //! The command `edit`: a file with each source path in its debug data mapped.
 ghost use Rattle.std.specs.Prelude.{◌≡◌, ◌≢◌, ◌⊎◌, ◌≤◌, ◌^◌, ℕ, List, length, IfOk, IfErr, OnOk};
 ghost use Rattle.std.specs.Option.{ForSome};
-ghost use Rattle.dw_base.specs.First.{IsFirst, file_limit};
+ghost use Rattle.dw_base.specs.EditFails.{IsAccepted};
+ghost use Rattle.dw_base.specs.First.{file_limit};
 ghost use Rattle.dw_base.specs.Output.{IsOutput};
 ghost use Rattle.file_tree.specs.Seen.{now_of};
 ghost use Rattle.file_tree.specs.Trees.{stands_at};
@@ -10,7 +11,7 @@ ghost use Rattle.dbg_ends.specs.Ends.{status_of};
 ghost use Rattle.dbg_ends.specs.Due.{Where, IsCut, IsRefusal};
 ghost use Rattle.dbg_run.specs.Edits.{Keeps, RewriteEnds, EditDone, EditEnds, EditDue};
 
-use dbg_ends::{End, read_input, write_output};
+use dbg_ends::{End, free_output, read_input, write_output};
 use dw_base::Fault;
 use dw_paths::Maps;
 use dw_rewrite::rewrite;
@@ -20,17 +21,17 @@ use std::alloc::Global;
 /// The longest file that is read, in bytes.
 const FILE_LIMIT: u64 = 0x4000_0000;
 
-/// The bytes of the file at the path with each source path mapped. Refused as `Unbuilt`, as a whole,
-/// exactly where the file isn't First.
+/// The bytes of the file at the path with each source path mapped. Refused only where a
+/// condition holds of the file, or of its output, of that kind and at that place.
 #[tactic(auto, using(crate::proofs::Rows::rewrite_rows))]
 fn rewrite_bytes(alloc: Global, path: &str, bytes: &Vec<u8>, maps: &Maps) -> Result<Vec<u8>, End>
     requires small { length bytes.now.items ≤ 2 ^ 31 }
-    ensures first { OnOk result (IsFirst maps.now bytes.now.items) }
+    ensures accepted { OnOk result (IsAccepted maps.now bytes.now.items) }
     ensures output { IfOk result (λ out. IsOutput maps.now bytes.now.items out.items) }
     ensures only { IfOk result (λ out. (o : List ℕ) → IsOutput maps.now bytes.now.items o → o ≡ out.items) }
     ensures keeps { IfOk result (λ out. Keeps maps.now bytes.now.items out.items) }
     ensures ends { IfErr result (RewriteEnds path.now maps.now bytes.now.items) }
-    ensures due { IfErr result (λ e. Where (IsFirst maps.now bytes.now.items) (status_of e ≡ 0) (status_of e ≡ 3) ⊎ IsCut (status_of e)) }
+    ensures due { IfErr result (λ e. Where (IsAccepted maps.now bytes.now.items) (status_of e ≡ 0) (status_of e ≡ 3) ⊎ IsCut (status_of e)) }
     ensures not_done { IfErr result (λ e. 0 ≢ status_of e) }
     ensures not_usage { IfErr result (λ e. 2 ≢ status_of e) }
     ensures no_fault { IfErr result (λ e. 6 ≢ status_of e) }
@@ -45,7 +46,7 @@ fn rewrite_bytes(alloc: Global, path: &str, bytes: &Vec<u8>, maps: &Maps) -> Res
     }
 }
 
-/// Reads the input, rewrites it, and writes the output.
+/// Reads the input, looks whether the output may be put, rewrites the input, and writes the output.
 #[tactic(auto, using(crate::proofs::Rows::edit_rows))]
 fn edit_steps<T: Tree>(
     alloc: Global,
@@ -56,8 +57,8 @@ fn edit_steps<T: Tree>(
 ) -> Result<(), End>
     ensures done { OnOk result (EditDone input.now output.now maps.now (T.seen tree.old) (T.seen tree.new)) }
     ensures ends { IfErr result (EditEnds input.now output.now maps.now (T.seen tree.old) (T.seen tree.new)) }
-    ensures due { IfErr result (λ e. ForSome (now_of (T.seen tree.old)) (λ t. EditDue maps.now (stands_at t input.now file_limit) (status_of e) ⊎ IsCut (status_of e))) }
-    ensures due_done { OnOk result (ForSome (now_of (T.seen tree.old)) (λ t. EditDue maps.now (stands_at t input.now file_limit) 0)) }
+    ensures due { IfErr result (λ e. ForSome (now_of (T.seen tree.old)) (λ t. EditDue maps.now (stands_at t input.now file_limit) (stands_at t output.now 0) (status_of e) ⊎ IsCut (status_of e))) }
+    ensures due_done { OnOk result (ForSome (now_of (T.seen tree.old)) (λ t. EditDue maps.now (stands_at t input.now file_limit) (stands_at t output.now 0) 0)) }
     ensures not_done { IfErr result (λ e. 0 ≢ status_of e) }
     ensures not_usage { IfErr result (λ e. 2 ≢ status_of e) }
     ensures fault { IfErr result (λ e. status_of e ≡ 6 → Rose (T.seen tree.old).faults (T.seen tree.new).faults) }
@@ -66,6 +67,7 @@ fn edit_steps<T: Tree>(
     ensures tells { (T.seen tree.new).tells ≡ (T.seen tree.old).tells }
 {
     let (bytes, mode) = read_input(alloc, input, FILE_LIMIT, tree)?;
+    free_output(alloc, output, tree)?;
     let out = rewrite_bytes(alloc, input, &bytes, maps)?;
     write_output(output, out, mode, tree)?;
     Ok(())
@@ -76,7 +78,7 @@ fn edit_steps<T: Tree>(
 pub fn edit<T: Tree>(alloc: Global, input: &str, output: &str, maps: &Maps, tree: &mut T) -> End
     ensures ends { EditEnds input.now output.now maps.now (T.seen tree.old) (T.seen tree.new) result }
     ensures done { 0 ≡ status_of result → EditDone input.now output.now maps.now (T.seen tree.old) (T.seen tree.new) }
-    ensures due { ForSome (now_of (T.seen tree.old)) (λ t. EditDue maps.now (stands_at t input.now file_limit) (status_of result) ⊎ IsCut (status_of result)) }
+    ensures due { ForSome (now_of (T.seen tree.old)) (λ t. EditDue maps.now (stands_at t input.now file_limit) (stands_at t output.now 0) (status_of result) ⊎ IsCut (status_of result)) }
     ensures not_usage { 2 ≢ status_of result }
     ensures fault { status_of result ≡ 6 → Rose (T.seen tree.old).faults (T.seen tree.new).faults }
     ensures kept { IsRefusal (status_of result) → now_of (T.seen tree.new) ≡ now_of (T.seen tree.old) }

@@ -8,7 +8,7 @@ ghost use Rattle.dbg_ends.specs.Ends.{status_of};
 ghost use Rattle.dbg_ends.specs.Due.{IsCut, IsRefusal, Exactly};
 ghost use Rattle.dbg_ends.specs.Told.{Ended};
 ghost use Rattle.dbg_run.specs.Words.{command, texts};
-ghost use Rattle.dbg_run.specs.Runs.{Ends, Done, Due, KeepsLoaded, KeepsMeaning, OnlyOutputs};
+ghost use Rattle.dbg_run.specs.Runs.{Ends, Done, Due, Unopposed, KeepsLoaded, KeepsMeaning, OnlyOutputs};
 
 use crate::edit::edit;
 use crate::words::Command;
@@ -87,6 +87,9 @@ pub fn run_words<T: Tree, O: Sink, E: Sink>(
     ensures usage { result ≡ 2 → command (texts words.now) ≡ None }
     ensures no_command { command (texts words.now) ≡ None → (result ≡ 2) ⊎ (result ≡ 13) }
     ensures fault { result ≡ 6 → Rose (T.seen tree.old).faults (T.seen tree.new).faults }
+
+    // Where nothing is against the command, and no fault came, it is done, want of memory aside.
+    ensures completes { ForSome (now_of (T.seen tree.old)) (λ t. Unopposed (command (texts words.now)) t → (Rose (T.seen tree.old).faults (T.seen tree.new).faults → ⊥) → (result ≡ 0) ⊎ (result ≡ 13)) }
 
     // At 0 the command is done, and the error sink isn't called; a refusal leaves the tree as it was.
     ensures done { result ≡ 0 → Done (command (texts words.now)) (T.seen tree.old) (T.seen tree.new) (O.heard out.old) (O.heard out.new) }

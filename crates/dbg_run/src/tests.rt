@@ -16,6 +16,17 @@ const EDIT: [&str; 7] = [
     "/usr/src/debug/p",
 ];
 
+/// A byte of the worked file, what it is set to, and the line of its refusal.
+const REFUSALS: [(usize, u8, &str); 7] = [
+    (4, 3, "refused: in: header section 0 offset 4\n"),
+    (16, 1, "refused: in: unbuilt section 0 offset 0\n"),
+    (16, 4, "refused: in: file type section 0 offset 16\n"),
+    (64, 0x11, "refused: in: unbuilt section 0 offset 0\n"),
+    (240, 2, "refused: in: fixed section 1 offset 0\n"),
+    (369, 8, "refused: in: unbuilt section 0 offset 0\n"),
+    (394, 1, "refused: in: range section 3 offset 0\n"),
+];
+
 /// The abbreviation table of a compilation unit with a name and a directory, both offsets into `.debug_str`.
 const ABBREVIATIONS: [u8; 10] = [0x01, 0x11, 0x00, 0x03, 0x0e, 0x1b, 0x0e, 0x00, 0x00, 0x00];
 
@@ -89,9 +100,40 @@ fn installed_file(alloc: Global) -> Result<Vec<u8>, AllocError> {
     Ok(file)
 }
 
+/// The file with its number of sections and the number of the section names in the section header 0, which begins at
+/// `headers_at`, and not in the file header.
+fn numbered_in_section_0(mut file: Vec<u8>, headers_at: u8) -> Vec<u8> {
+    let header = usize::from(headers_at);
+    for (place, value) in [
+        (60, 0),
+        (62, 0xff),
+        (63, 0xff),
+        (header + 32, 5),
+        (header + 40, 4),
+    ] {
+        if let Some(byte) = file.get_mut(place) {
+            *byte = value;
+        }
+    }
+    file
+}
+
 /// A tree with one node.
 fn tree_with(alloc: Global, path: &str, node: Node) -> Result<MemTree, TreeErr> {
     let mut nodes = Vec::new(alloc);
+    nodes.push((String::from_str(alloc, path)?, node))?;
+    MemTree::new(alloc, nodes)
+}
+
+/// A tree with a file of these bytes at `in`, and a node at another path.
+fn tree_with_input(
+    alloc: Global,
+    bytes: Vec<u8>,
+    path: &str,
+    node: Node,
+) -> Result<MemTree, TreeErr> {
+    let mut nodes = Vec::new(alloc);
+    nodes.push((String::from_str(alloc, "in")?, file_of(bytes)))?;
     nodes.push((String::from_str(alloc, path)?, node))?;
     MemTree::new(alloc, nodes)
 }
@@ -267,49 +309,85 @@ fn an_input_that_is_no_file_is_named_as_what_it_is(rt: HostRuntime) -> Result<()
 }
 
 #[test]
+fn an_output_that_is_no_file_is_taken(rt: HostRuntime) -> Result<(), Fail> {
+    let alloc = rt.alloc();
+    let inside = file_of(Vec::new(alloc));
+    let mut tree = tree_with_input(alloc, built_file(alloc)?, "out/a", inside)?;
+    assert_ends(&rt, alloc, &mut tree, 5, "taken: out\n")?;
+    let target = Text::copy_of(alloc, "a")?;
+    let mut tree = tree_with_input(alloc, built_file(alloc)?, "out", Node::Link { target })?;
+    assert_ends(&rt, alloc, &mut tree, 5, "taken: out\n")?;
+
+    // That IN isn't there is told before that, and that it is refused, after it.
+    let mut tree = tree_with(alloc, "out/a", file_of(Vec::new(alloc)))?;
+    assert_ends(&rt, alloc, &mut tree, 4, "absent: in\n")?;
+    let inside = file_of(Vec::new(alloc));
+    let mut tree = tree_with_input(alloc, Vec::new(alloc), "out/a", inside)?;
+    assert_ends(&rt, alloc, &mut tree, 5, "taken: out\n")?;
+    Ok(())
+}
+
+#[test]
 fn a_read_that_fails_is_a_tree_fault(rt: HostRuntime) -> Result<(), Fail> {
     let alloc = rt.alloc();
-    let mut tree = tree_with(alloc, "in", file_of(built_file(alloc)?))?;
-    let mut calls = Vec::new(alloc);
-    calls.push(0)?;
-    tree.fail_calls(calls);
-    assert_ends(&rt, alloc, &mut tree, 6, "tree fault\n")?;
-    Ok(())
-}
-
-#[test]
-fn a_relocatable_file_is_refused_and_nothing_is_put(rt: HostRuntime) -> Result<(), Fail> {
-    let alloc = rt.alloc();
-    let mut bytes = built_file(alloc)?;
-    if let Some(kind) = bytes.get_mut(16) {
-        *kind = 1;
+    for call in [0, 1] {
+        let mut tree = tree_with(alloc, "in", file_of(built_file(alloc)?))?;
+        let mut calls = Vec::new(alloc);
+        calls.push(call)?;
+        tree.fail_calls(calls);
+        assert_ends(&rt, alloc, &mut tree, 6, "tree fault\n")?;
     }
-    let mut tree = tree_with(alloc, "in", file_of(bytes))?;
-    assert_ends(
-        &rt,
-        alloc,
-        &mut tree,
-        3,
-        "refused: in: unbuilt section 0 offset 0\n",
-    )?;
     Ok(())
 }
 
 #[test]
-fn an_edit_gives_the_worked_file_byte_for_byte(rt: HostRuntime) -> Result<(), Fail> {
+fn a_refused_file_is_named_with_what_is_wrong_in_it(rt: HostRuntime) -> Result<(), Fail> {
     let alloc = rt.alloc();
-    let mut tree = tree_with(alloc, "in", file_of(built_file(alloc)?))?;
+    for (place, value, line) in REFUSALS {
+        let mut bytes = built_file(alloc)?;
+        if let Some(byte) = bytes.get_mut(place) {
+            *byte = value;
+        }
+        let mut tree = tree_with(alloc, "in", file_of(bytes))?;
+        assert_ends(&rt, alloc, &mut tree, 3, line)?;
+    }
+    Ok(())
+}
+
+#[test]
+fn a_file_that_is_cut_is_refused(rt: HostRuntime) -> Result<(), Fail> {
+    let alloc = rt.alloc();
+    for len in 0..488 {
+        let mut bytes = built_file(alloc)?;
+        bytes.truncate(len);
+        let mut tree = tree_with(alloc, "in", file_of(bytes))?;
+        let line = if len < 64 {
+            "refused: in: header section 0 offset 0\n"
+        } else {
+            "refused: in: range section 0 offset 168\n"
+        };
+        assert_ends(&rt, alloc, &mut tree, 3, line)?;
+    }
+    Ok(())
+}
+
+/// Asserts that an edit of a file of these bytes, which all may run, is done, and puts a file of the wanted bytes.
+fn assert_edited(
+    rt: &impl Abort,
+    alloc: Global,
+    input: Vec<u8>,
+    wanted: &[u8],
+) -> Result<(), TreeErr> {
+    let mut tree = tree_with(alloc, "in", file_of(input))?;
     let ran = run(alloc, &EDIT, &mut tree)?;
     assert_eq!(rt; ran.status, 0);
     assert!(rt; ran.output.bytes().is_empty());
     assert!(rt; ran.errors.bytes().is_empty());
-    let wanted = installed_file(alloc)?;
-    assert_eq!(rt; wanted.len(), 528);
     match tree.nodes() {
         [(input, _), (output, Node::File { bytes, mode })] => {
             assert_eq!(rt; input.as_str(), "in");
             assert_eq!(rt; output.as_str(), "out");
-            assert_eq!(rt; bytes.as_slice(), wanted.as_slice());
+            assert_eq!(rt; bytes.as_slice(), wanted);
             assert_eq!(rt; *mode, 0o755);
         }
         _ => assert!(rt; false, "two files are there"),
@@ -319,10 +397,28 @@ fn an_edit_gives_the_worked_file_byte_for_byte(rt: HostRuntime) -> Result<(), Fa
 }
 
 #[test]
+fn an_edit_gives_the_worked_file_byte_for_byte(rt: HostRuntime) -> Result<(), Fail> {
+    let alloc = rt.alloc();
+    let wanted = installed_file(alloc)?;
+    assert_eq!(rt; wanted.len(), 528);
+    assert_edited(&rt, alloc, built_file(alloc)?, wanted.as_slice())?;
+    Ok(())
+}
+
+#[test]
+fn numbers_that_stand_in_section_0_are_read_there(rt: HostRuntime) -> Result<(), Fail> {
+    let alloc = rt.alloc();
+    let input = numbered_in_section_0(built_file(alloc)?, 168);
+    let wanted = numbered_in_section_0(installed_file(alloc)?, 208);
+    assert_edited(&rt, alloc, input, wanted.as_slice())?;
+    Ok(())
+}
+
+#[test]
 fn a_write_that_fails_is_a_tree_fault(rt: HostRuntime) -> Result<(), Fail> {
     let alloc = rt.alloc();
     let mut tree = tree_with(alloc, "in", file_of(built_file(alloc)?))?;
-    tree.stop_after(1);
+    tree.stop_after(2);
     assert_ends(&rt, alloc, &mut tree, 6, "tree fault\n")?;
     Ok(())
 }
