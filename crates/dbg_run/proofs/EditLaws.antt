@@ -1,5 +1,5 @@
 -- Laws on the steps of an edit.
-use Rattle.std.proofs.Common.{ℕ, List, refl, sym, subst, arith}
+use Rattle.std.proofs.Common.{ℕ, List, refl, sym, subst}
 use Rattle.dw_base.specs.EditFails.{IsAccepted, EditFails}
 use Rattle.dw_base.specs.Paths.{PathMap}
 use Rattle.dw_base.proofs.EditLaws.{edit_excludes}
@@ -7,8 +7,6 @@ use Rattle.dw_base.proofs.EditReadsLaws.{edit_accepts}
 use Rattle.dw_base.specs.declared.fault.Refusal.{Refusal}
 use Rattle.file_tree.specs.declared.node.Found.{Found}
 use Rattle.file_tree.specs.declared.node.Found.TheVariants as found
-use Rattle.file_tree.specs.Causes.{Calm, Rose}
-use Rattle.file_tree.specs.Seen.{Seen}
 use Rattle.dbg_ends.specs.Due.{InputDue, IsFree, OutputDue}
 use Rattle.dbg_ends.specs.Due.Where.{here}
 use Rattle.dbg_run.specs.Edits.{EditDue, EditUnopposed}
@@ -40,10 +38,6 @@ free_due (found.TooLarge size) n P free due = due
 -- a file that is refused isn't taken
 pub not_accepted : (m : PathMap) (b : List ℕ) (r : Refusal) → EditFails m b r → IsAccepted m b → ⊥
 not_accepted m b r fails ok = edit_excludes m b r ok fails
-
--- a fault of the writing is one of the edit
-pub fault_after : (old mid new : Seen) → Calm old mid → Rose mid.faults new.faults → Rose old.faults new.faults
-fault_after old mid new calm rose = omega (arith, calm.later, rose)
 
 -- where nothing is against an edit, it is due to be done
 pub unopposed_due : (m : PathMap) (what there : Found) → EditUnopposed m what there → EditDue m what there 0
