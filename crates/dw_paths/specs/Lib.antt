@@ -1,1 +1,3 @@
 pub use Rattle.dw_base.specs.Paths
+pub mod Components
+pub mod PlainPaths

@@ -7,7 +7,9 @@
 #![tactic(auto)]
 
 mod maps;
+mod plain;
 mod prefix;
 
 pub use maps::{Maps, map_len, map_path};
+pub use plain::is_plain;
 pub use prefix::{is_prefix, lies_under};
