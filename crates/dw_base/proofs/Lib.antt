@@ -60,3 +60,4 @@ pub mod WorkedLoaded
 pub mod WorkedMeaningLaws
 pub mod WorkedNoMeaning
 pub mod WorkedKept
+pub mod WorkedForms

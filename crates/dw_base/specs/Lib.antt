@@ -29,3 +29,8 @@ pub mod Meaning
 pub mod Mapped
 pub mod Loaded
 pub mod PlainEdit
+pub mod Forms
+pub mod Values
+pub mod FormFails
+pub mod AbbreviationTables
+pub mod AbbreviationFails

@@ -15,9 +15,11 @@ mod lebs;
 mod numbers;
 mod records;
 mod shared;
+mod values;
 
 pub use fault::{Fault, Kind, NoMemory, Refusal};
 pub use lebs::{initial_length_at, sleb_at, uleb_at};
 pub use numbers::{number_at, number_in, put_number};
 pub use records::{FileKind, Section, Segment};
 pub use shared::{Class, Order, Params, Width};
+pub use values::{Spec, Value, ValueClass};
