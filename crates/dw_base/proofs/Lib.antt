@@ -61,3 +61,4 @@ pub mod WorkedMeaningLaws
 pub mod WorkedNoMeaning
 pub mod WorkedKept
 pub mod WorkedForms
+pub mod WorkedUnits

@@ -34,3 +34,10 @@ pub mod Values
 pub mod FormFails
 pub mod AbbreviationTables
 pub mod AbbreviationFails
+pub mod Cells
+pub mod Pieces
+pub mod UnitHeaders
+pub mod UnitFails
+pub mod EntryScans
+pub mod AbbreviationBytes
+pub mod UnitPieces

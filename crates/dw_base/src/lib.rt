@@ -15,6 +15,7 @@ mod lebs;
 mod numbers;
 mod records;
 mod shared;
+mod units;
 mod values;
 
 pub use fault::{Fault, Kind, NoMemory, Refusal};
@@ -22,4 +23,5 @@ pub use lebs::{initial_length_at, sleb_at, uleb_at};
 pub use numbers::{number_at, number_in, put_number};
 pub use records::{FileKind, Section, Segment};
 pub use shared::{Class, Order, Params, Width};
+pub use units::{Scanned, UnitHeader};
 pub use values::{Spec, Value, ValueClass};
