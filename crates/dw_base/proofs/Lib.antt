@@ -4,6 +4,7 @@ pub mod FieldLaws
 pub mod LebLaws
 pub mod StandardFacts
 pub mod TextLaws
+pub mod NulLaws
 pub mod TableLaws
 pub mod PathLaws
 pub mod GrammarLaws

@@ -1,5 +1,5 @@
 -- Texts: bytes before a NUL (DWARF 5, 7.5.5, class string; gABI ch. 4 "String Table").
-use Rattle.std.specs.Prelude.{Bool, ℕ, ◌==◌, if◌then◌else◌, List, [], ◌∷◌, ◌++◌, drop, true, false}
+use Rattle.std.specs.Prelude.{Bool, ℕ, ◌≡◌, ◌==◌, nat_lt, if◌then◌else◌, List, [], ◌∷◌, ◌++◌, drop, true, false}
 use Rattle.std.specs.List.{list_any}
 use Rattle.std.specs.Str.{bytes_eq}
 
@@ -19,6 +19,10 @@ text_in table at = text (drop at table)
 -- a NUL follows the place, so that a text begins there
 unfoldable pub ends_in : List ℕ → ℕ → Bool
 ends_in table at = has_nul (drop at table)
+
+-- a NUL follows a place of the table exactly where the place is before `end`
+pub record IsNulEnd (table : List ℕ) (end : ℕ) : Type 0 where
+  pub ends : (place : ℕ) → ends_in table place ≡ nat_lt place end
 
 -- two texts have the same bytes
 abbrev pub same_text : List ℕ → List ℕ → Bool

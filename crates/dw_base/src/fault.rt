@@ -1,5 +1,7 @@
 //! Refusals, each a kind and a place, and want of memory.
+
 ghost use Rattle.std.specs.Prelude.{◌≡◌};
+ghost use Rattle.dw_base.specs.Refusals.{at};
 ghost use Rattle.dw_base.specs.declared.fault.Fault.TheVariants.{NoMemory as no_memory, Refused as refused};
 
 use std::alloc::{AllocError, AllocFailed};
@@ -72,6 +74,26 @@ pub struct Refusal {
     pub section: u32,
     /// In bytes from the section's start, or from the file's.
     pub offset: u64,
+}
+
+impl Refusal {
+    /// The refusal of this kind at this place.
+    pub fn at(kind: Kind, section: u32, offset: u64) -> Refusal
+        ensures { result ≡ at kind section offset }
+    {
+        Refusal {
+            kind,
+            section,
+            offset,
+        }
+    }
+
+    /// The refusal of this kind of the whole file.
+    pub fn of_file(kind: Kind) -> Refusal
+        ensures { result ≡ at kind 0 0 }
+    {
+        Refusal::at(kind, 0, 0)
+    }
 }
 
 /// There was not enough memory.

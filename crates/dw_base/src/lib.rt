@@ -11,17 +11,22 @@
 pub mod dwarf_numbers;
 pub mod elf_numbers;
 mod fault;
+mod file_header;
 mod lebs;
+mod limits;
 mod numbers;
 mod records;
 mod shared;
 mod units;
 mod values;
+mod texts;
 
 pub use fault::{Fault, Kind, NoMemory, Refusal};
 pub use lebs::{initial_length_at, sleb_at, uleb_at};
+pub use limits::{FILE_LIMIT, OUTPUT_LIMIT};
 pub use numbers::{number_at, number_in, put_number};
 pub use records::{FileKind, Section, Segment};
 pub use shared::{Class, Order, Params, Width};
 pub use units::{Scanned, UnitHeader};
 pub use values::{Spec, Value, ValueClass};
+pub use texts::nul_end;

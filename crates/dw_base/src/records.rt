@@ -1,5 +1,11 @@
 //! The records of an ELF file as values (gABI ch. 4 "ELF Header", "Sections"; ch. 5 "Program Header").
 
+ghost use Rattle.std.specs.Prelude.{◌≡◌};
+ghost use Rattle.dw_base.specs.Elf.{is_empty_kind};
+ghost use Rattle.dw_base.specs.Layout.{is_alloc};
+
+use crate::elf_numbers::{SHF_ALLOC, SHT_NOBITS, SHT_NULL};
+
 /// What a file is (`e_type`).
 #[derive(Clone, Copy, Debug, PartialEq, Eq)]
 pub enum FileKind {
@@ -36,6 +42,22 @@ pub struct Section {
     pub align: u64,
     /// `sh_entsize`, in bytes.
     pub entry_size: u64,
+}
+
+impl Section {
+    /// The section takes no room in the file: it is of type NULL or NOBITS.
+    pub fn takes_no_room(&self) -> bool
+        ensures { result ≡ is_empty_kind self.now }
+    {
+        self.kind == SHT_NULL || self.kind == SHT_NOBITS
+    }
+
+    /// The flag ALLOC is set: the section is in the image of the running program.
+    pub fn is_alloc(&self) -> bool
+        ensures { result ≡ is_alloc self.now }
+    {
+        self.flags & SHF_ALLOC != 0
+    }
 }
 
 /// One entry of the program header table.

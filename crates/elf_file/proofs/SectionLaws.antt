@@ -7,8 +7,8 @@ use Rattle.dw_base.specs.ElfFails.SectionsFail.{one}
 use Rattle.dw_base.specs.Refusals.{at}
 use Rattle.dw_base.specs.declared.fault.Kind.TheVariants.{Range}
 use Rattle.dw_base.specs.declared.records.Section.{Section}
-use Rattle.elf_file.specs.Names.{IsNulEnd}
-use Rattle.elf_file.proofs.NulLaws.{name-ends, name-unended}
+use Rattle.dw_base.specs.Texts.{IsNulEnd}
+use Rattle.dw_base.proofs.NulLaws.{name-ends, name-unended}
 
 -- a string table takes room
 pub string_table-takes_room : (s : Section) → s.kind ≡ 3 → is_empty_kind s ≡ false

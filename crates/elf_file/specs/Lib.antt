@@ -1,4 +1,3 @@
 pub mod FileHeader
 pub mod IsElf
-pub mod Names
 pub mod Fixed

@@ -1,15 +1,16 @@
 //! A file that was read.
 
-ghost use Rattle.std.specs.Prelude.{◌≡◌, ◌≤◌, ◌<◌, ◌^◌, ℕ, length, IfOk, OnOk, IfErr};
+ghost use Rattle.std.specs.Prelude.{◌≡◌, ◌≤◌, ◌<◌, ℕ, length, IfOk, OnOk, IfErr};
 ghost use Rattle.dw_base.specs.Elf.{e_type, file_kind, contents_of, nth_section, section_count, section_name};
 ghost use Rattle.dw_base.specs.ElfFails.{DebugFails, DebugReads, ElfFails, ElfReads, HeaderReads};
+ghost use Rattle.dw_base.specs.Layout.{is_loaded_kind, output_limit};
 ghost use Rattle.dw_base.specs.Refusals.{Blames};
 ghost use Rattle.dw_base.specs.declared.fault.Refusal.{Refusal};
 ghost use Rattle.elf_file.specs.FileHeader.{file_header};
 ghost use Rattle.elf_file.specs.IsElf.{IsElf};
 
-use crate::header::{header_in, shape_fits};
-use crate::names::text_at;
+use crate::header::{checked_header, shape_fits};
+use crate::names::text_in;
 use crate::records::FileHeader;
 use crate::sections::{contents_in, names_end, sections_in};
 use crate::segments::{segments_in, segments_lie};
@@ -58,7 +59,7 @@ fn kind_of(bytes: &[u8], number: u16) -> FileKind
 #[tactic(auto, using(crate::proofs::Rows::debug_rows, crate::proofs::ElfFileLaws::count_laws), unfolding(crate::specs::FileHeader::file_header))]
 fn file_of<'a>(alloc: Global, bytes: &'a [u8], header: &FileHeader) -> Result<ElfFile<'a>, Fault>
     requires is { header.now ≡ file_header bytes.now }
-    requires small { length bytes.now ≤ 2 ^ 31 }
+    requires small { length bytes.now ≤ output_limit }
     requires header { HeaderReads bytes.now }
     ensures bytes { IfOk result (λ file. file.bytes.now ≡ bytes.now) }
     ensures value { IfOk result (λ file. IsElf bytes.now file.class file.order file.kind file.machine file.names file.sections.items file.segments.items) }
@@ -85,13 +86,32 @@ fn file_of<'a>(alloc: Global, bytes: &'a [u8], header: &FileHeader) -> Result<El
 }
 
 impl ElfFile<'_> {
+    /// How many sections there are.
+    #[tactic(auto, using(crate::proofs::ElfFileLaws::number_laws))]
+    pub fn section_count(&self) -> u32
+        ensures { result ≡ section_count self.now.bytes.now }
+    {
+        self.sections.len() as u32
+    }
+
     /// The section of a number.
     #[tactic(auto, using(crate::proofs::ElfFileLaws::file_laws))]
-    pub(crate) fn section_of(&self, section: u32) -> Section
+    pub fn section(&self, section: u32) -> Section
         requires there { section < section_count self.now.bytes.now }
         ensures { result ≡ nth_section self.now.bytes.now section }
     {
         self.sections[section as usize]
+    }
+
+    /// The file is of type EXEC or DYN: one that is loaded as it stands.
+    #[tactic(auto, unfolding(dw_base::specs::Elf::file_kind))]
+    pub fn is_loaded_kind(&self) -> bool
+        ensures { result ≡ is_loaded_kind self.now.bytes.now }
+    {
+        match self.kind {
+            FileKind::Exec | FileKind::Dyn => true,
+            FileKind::Rel | FileKind::Other(_) => false,
+        }
     }
 
     /// The bytes of the section of a number, none of type NULL and NOBITS.
@@ -100,7 +120,7 @@ impl ElfFile<'_> {
         requires there { section < section_count self.now.bytes.now }
         ensures contents { result.now ≡ contents_of self.now.bytes.now section }
     {
-        contents_in(self.bytes, &self.section_of(section))
+        contents_in(self.bytes, &self.section(section))
     }
 
     /// The name of the section of a number, empty where the file has no section name table.
@@ -112,9 +132,9 @@ impl ElfFile<'_> {
         if self.names == 0 {
             return &self.bytes[..0];
         }
-        text_at(
+        text_in(
             self.contents(self.names),
-            u64::from(self.section_of(section).name),
+            u64::from(self.section(section).name),
         )
     }
 
@@ -122,28 +142,28 @@ impl ElfFile<'_> {
     /// exactly where one of their conditions holds, the one on segments past the end aside.
     #[tactic(auto, using(crate::proofs::Rows::debug_rows, dw_base::proofs::ElfLaws::debug_excludes))]
     pub fn read_debug(alloc: Global, bytes: &[u8]) -> Result<ElfFile<'_>, Fault>
-        requires small { length bytes.now ≤ 2 ^ 31 }
+        requires small { length bytes.now ≤ output_limit }
         ensures reads { OnOk result (DebugReads bytes.now) }
         ensures none { OnOk result ((r : Refusal) → DebugFails bytes.now r → ⊥) }
         ensures bytes { IfOk result (λ file. file.bytes.now ≡ bytes.now) }
         ensures value { IfOk result (λ file. IsElf bytes.now file.class file.order file.kind file.machine file.names file.sections.items file.segments.items) }
         ensures refused { IfErr result (Blames (DebugFails bytes.now)) }
     {
-        let header = header_in(bytes)?;
+        let header = checked_header(bytes)?;
         file_of(alloc, bytes, &header)
     }
 
     /// Reads a file. Refused as `Header` or `Range` exactly where one of their conditions holds.
     #[tactic(auto, using(crate::proofs::Rows::elf_rows, dw_base::proofs::ElfLaws::elf_excludes))]
     pub fn read(alloc: Global, bytes: &[u8]) -> Result<ElfFile<'_>, Fault>
-        requires small { length bytes.now ≤ 2 ^ 31 }
+        requires small { length bytes.now ≤ output_limit }
         ensures reads { OnOk result (ElfReads bytes.now) }
         ensures none { OnOk result ((r : Refusal) → ElfFails bytes.now r → ⊥) }
         ensures bytes { IfOk result (λ file. file.bytes.now ≡ bytes.now) }
         ensures value { IfOk result (λ file. IsElf bytes.now file.class file.order file.kind file.machine file.names file.sections.items file.segments.items) }
         ensures refused { IfErr result (Blames (ElfFails bytes.now)) }
     {
-        let header = header_in(bytes)?;
+        let header = checked_header(bytes)?;
         let file = file_of(alloc, bytes, &header)?;
         segments_lie(bytes, &header)?;
         Ok(file)

@@ -4,14 +4,12 @@ ghost use Rattle.std.specs.Prelude.{◌≡◌, ◌≢◌, ◌+◌, ◌<◌, ◌�
 ghost use Rattle.dw_base.specs.Elf.{e_phoff, nth_section, section_count};
 ghost use Rattle.dw_base.specs.ElfFails.{SegmentsRead};
 ghost use Rattle.elf_file.specs.Fixed.{is_loaded_section};
-ghost use Rattle.dw_base.specs.Layout.{alloc_ends, fixed_end, greatest, is_fixed, is_loaded_kind, segment_ends, segment_table_end};
+ghost use Rattle.dw_base.specs.Layout.{alloc_ends, fixed_end, greatest, is_fixed, segment_ends, segment_table_end};
 
 use crate::elf::ElfFile;
-use crate::places::{file_header_size, program_header_place};
-use crate::sections::{lies_within, takes_no_room};
+use crate::sections::lies_within;
 use crate::slots::{off32_in, off64_in};
-use dw_base::elf_numbers::SHF_ALLOC;
-use dw_base::{Class, FileKind, Section, Segment};
+use dw_base::{Class, Section, Segment};
 
 /// The end so far, or that of a segment with bytes in the file where it is greater.
 fn with_segment(end: u64, segment: &Segment) -> u64
@@ -28,7 +26,7 @@ fn with_segment(end: u64, segment: &Segment) -> u64
 fn is_loaded_section(section: &Section) -> bool
     ensures { result ≡ is_loaded_section section.now }
 {
-    section.flags & SHF_ALLOC != 0 && !takes_no_room(section) && section.size != 0
+    section.is_alloc() && !section.takes_no_room() && section.size != 0
 }
 
 /// The end so far, or that of an ALLOC section with bytes in the file where it is greater.
@@ -43,19 +41,6 @@ fn with_section(end: u64, section: &Section) -> u64
 }
 
 impl ElfFile<'_> {
-    /// The file is of type EXEC or DYN.
-    #[tactic(auto, unfolding(dw_base::specs::Elf::file_kind))]
-    fn is_loaded(&self) -> bool
-        ensures { result ≡ is_loaded_kind self.now.bytes.now }
-    {
-        match self.kind {
-            FileKind::Exec => true,
-            FileKind::Dyn => true,
-            FileKind::Rel => false,
-            FileKind::Other(_) => false,
-        }
-    }
-
     /// `e_phoff`: where the program header table begins, in bytes from the start of the file.
     #[tactic(auto, using(crate::proofs::FixedLaws::place_laws), unfolding(dw_base::specs::Elf::e_phoff))]
     fn phoff(&self) -> u64
@@ -75,7 +60,8 @@ impl ElfFile<'_> {
         if self.segments.is_empty() {
             return 0;
         }
-        program_header_place(self.class, self.phoff(), self.segments.len() as u64)
+        self.class
+            .program_header_place(self.phoff(), self.segments.len() as u64)
     }
 
     /// The greatest of the end so far and the ends of the segments with bytes in the file.
@@ -109,8 +95,8 @@ impl ElfFile<'_> {
         requires segments { SegmentsRead self.now.bytes.now }
         ensures end { result ≡ fixed_end self.now.bytes.now }
     {
-        let end = file_header_size(self.class);
-        if !self.is_loaded() {
+        let end = self.class.file_header_size();
+        if !self.is_loaded_kind() {
             return end;
         }
         self.allocs_end(self.segments_end(end.max(self.segment_table_end())))
@@ -124,11 +110,11 @@ impl ElfFile<'_> {
         requires end { end ≡ fixed_end self.now.bytes.now }
         ensures fixed { result ≡ is_fixed self.now.bytes.now (nth_section self.now.bytes.now section) }
     {
-        if !self.is_loaded() {
+        if !self.is_loaded_kind() {
             return false;
         }
-        let section = self.section_of(section);
-        section.flags & SHF_ALLOC != 0 || lies_within(section.offset, section.size, end)
+        let section = self.section(section);
+        section.is_alloc() || lies_within(section.offset, section.size, end)
     }
 
     /// The section stays at its place: it is ALLOC, or ends at or before the fixed end, in a file of type

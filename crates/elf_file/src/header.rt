@@ -6,10 +6,6 @@ ghost use Rattle.dw_base.specs.Elf.{class_of, order_of, ehdr_size};
 ghost use Rattle.dw_base.specs.ElfFails.{ident_byte, HeaderFails, HeaderReads, ShapeFails, ShapeReads};
 ghost use Rattle.elf_file.specs.FileHeader.{file_header};
 
-use crate::places::{
-    file_header_size, place_of_phentsize, place_of_phnum, place_of_phoff, place_of_shentsize,
-    program_header_size, section_header_size,
-};
 use crate::records::FileHeader;
 use crate::slots::file_header_in;
 use dw_base::elf_numbers::{
@@ -29,11 +25,7 @@ fn class_in(bytes: &[u8]) -> Result<Class, Refusal>
     match number_in(Order::Little, bytes, EI_CLASS, 1) {
         ELFCLASS32 => Ok(Class::C32),
         ELFCLASS64 => Ok(Class::C64),
-        _ => Err(Refusal {
-            kind: Kind::Header,
-            section: 0,
-            offset: EI_CLASS,
-        }),
+        _ => Err(Refusal::at(Kind::Header, 0, EI_CLASS)),
     }
 }
 
@@ -48,52 +40,32 @@ fn order_in(bytes: &[u8]) -> Result<Order, Refusal>
     match number_in(Order::Little, bytes, EI_DATA, 1) {
         ELFDATA2LSB => Ok(Order::Little),
         ELFDATA2MSB => Ok(Order::Big),
-        _ => Err(Refusal {
-            kind: Kind::Header,
-            section: 0,
-            offset: EI_DATA,
-        }),
+        _ => Err(Refusal::at(Kind::Header, 0, EI_DATA)),
     }
 }
 
 /// The file header. Refused as `Header` exactly where the file is shorter than it, or its first
-/// bytes, class, order or version are wrong.
+/// bytes, class, order or version are wrong: at the first place where one of these is.
 #[tactic(auto, using(crate::proofs::Rows::header_rows))]
-pub fn header_in(bytes: &[u8]) -> Result<FileHeader, Refusal>
+pub fn checked_header(bytes: &[u8]) -> Result<FileHeader, Refusal>
     ensures value { IfOk result (λ header. header ≡ file_header bytes.now) }
     ensures reads { OnOk result (HeaderReads bytes.now) }
     ensures refused { IfErr result (HeaderFails bytes.now) }
 {
     let len = bytes.len() as u64;
-    if len < 52 {
-        return Err(Refusal {
-            kind: Kind::Header,
-            section: 0,
-            offset: 0,
-        });
-    }
-    let class = class_in(bytes)?;
-    if len < file_header_size(class) {
-        return Err(Refusal {
-            kind: Kind::Header,
-            section: 0,
-            offset: 0,
-        });
+    if len < Class::C32.file_header_size() {
+        return Err(Refusal::of_file(Kind::Header));
     }
     if number_in(Order::Little, bytes, 0, 4) != ELFMAG {
-        return Err(Refusal {
-            kind: Kind::Header,
-            section: 0,
-            offset: 0,
-        });
+        return Err(Refusal::of_file(Kind::Header));
+    }
+    let class = class_in(bytes)?;
+    if len < class.file_header_size() {
+        return Err(Refusal::of_file(Kind::Header));
     }
     let order = order_in(bytes)?;
     if number_in(Order::Little, bytes, EI_VERSION, 1) != EV_CURRENT {
-        return Err(Refusal {
-            kind: Kind::Header,
-            section: 0,
-            offset: EI_VERSION,
-        });
+        return Err(Refusal::at(Kind::Header, 0, EI_VERSION));
     }
     Ok(file_header_in(class, order, bytes))
 }
@@ -106,39 +78,19 @@ pub fn shape_fits(bytes: &[u8], header: &FileHeader) -> Result<(), Refusal>
     ensures refused { IfErr result (ShapeFails bytes.now) }
 {
     if header.phnum == PN_XNUM {
-        return Err(Refusal {
-            kind: Kind::Header,
-            section: 0,
-            offset: place_of_phnum(header.class),
-        });
+        return Err(Refusal::at(Kind::Header, 0, header.class.phnum_place()));
     }
     if header.kind == ET_REL && header.phnum != 0 {
-        return Err(Refusal {
-            kind: Kind::Header,
-            section: 0,
-            offset: place_of_phnum(header.class),
-        });
+        return Err(Refusal::at(Kind::Header, 0, header.class.phnum_place()));
     }
-    if header.phnum != 0 && header.phentsize != program_header_size(header.class) {
-        return Err(Refusal {
-            kind: Kind::Header,
-            section: 0,
-            offset: place_of_phentsize(header.class),
-        });
+    if header.phnum != 0 && header.phentsize != header.class.program_header_size() {
+        return Err(Refusal::at(Kind::Header, 0, header.class.phentsize_place()));
     }
-    if header.shoff != 0 && header.shentsize != section_header_size(header.class) {
-        return Err(Refusal {
-            kind: Kind::Header,
-            section: 0,
-            offset: place_of_shentsize(header.class),
-        });
+    if header.shoff != 0 && header.shentsize != header.class.section_header_size() {
+        return Err(Refusal::at(Kind::Header, 0, header.class.shentsize_place()));
     }
-    if header.shoff != 0 && header.phnum != 0 && header.phoff < file_header_size(header.class) {
-        return Err(Refusal {
-            kind: Kind::Header,
-            section: 0,
-            offset: place_of_phoff(header.class),
-        });
+    if header.shoff != 0 && header.phnum != 0 && header.phoff < header.class.file_header_size() {
+        return Err(Refusal::at(Kind::Header, 0, header.class.phoff_place()));
     }
     Ok(())
 }

@@ -11,7 +11,6 @@ mod elf;
 mod fixed;
 mod header;
 mod names;
-mod places;
 mod records;
 mod sections;
 mod segments;

@@ -2,25 +2,9 @@
 
 ghost use Rattle.std.specs.Prelude.{◌≡◌, ◌≤◌, length, take};
 ghost use Rattle.dw_base.specs.Texts.{text, text_in};
-ghost use Rattle.elf_file.specs.Names.{IsNulEnd};
-
-/// The place behind the last NUL of a string table, 0 where there is none.
-#[tactic(auto, using(crate::proofs::NulLaws::nul_laws))]
-pub fn nul_end(table: &[u8]) -> usize
-    ensures { IsNulEnd table.now result }
-{
-    let mut end = table.len();
-    'bytes: while end > 0 {
-        if table[end - 1] == 0 {
-            return end;
-        }
-        end -= 1;
-    }
-    0
-}
 
 /// How many bytes stand before the first NUL.
-#[tactic(auto, using(crate::proofs::NulLaws::text_laws))]
+#[tactic(auto, using(crate::proofs::TextLaws::text_laws))]
 fn text_len(bytes: &[u8]) -> usize
     ensures short { result ≤ length bytes.now }
     ensures text { take result bytes.now ≡ text bytes.now }
@@ -34,8 +18,8 @@ fn text_len(bytes: &[u8]) -> usize
 }
 
 /// The text at a place, in bytes from the start of the table: the bytes before the next NUL.
-#[tactic(auto, using(crate::proofs::NulLaws::text_laws), unfolding(dw_base::specs::Texts::text_in))]
-pub fn text_at(table: &[u8], place: u64) -> &[u8]
+#[tactic(auto, using(crate::proofs::TextLaws::text_laws), unfolding(dw_base::specs::Texts::text_in))]
+pub fn text_in(table: &[u8], place: u64) -> &[u8]
     ensures { result.now ≡ text_in table.now place }
 {
     if place >= table.len() as u64 {

@@ -4,23 +4,15 @@
 ghost use Rattle.std.specs.Prelude.{◌≡◌, ◌≢◌, ◌+◌, ◌≤◌, ◌<◌, ◌^◌, ◌↔◌, false, length, IsTrue, IfOk, OnOk, IfErr};
 ghost use Rattle.dw_base.specs.Elf.{contents_at, is_empty_kind, name_index, name_table, nth_section, section_count, sections_of};
 ghost use Rattle.dw_base.specs.ElfFails.{PlaceFails, PlaceReads, SectionFails, SectionReads, SectionsFail, SectionsRead, TableReads, IndexReads, NameTableReads};
+ghost use Rattle.dw_base.specs.Layout.{output_limit};
 ghost use Rattle.dw_base.specs.Refusals.{Blames};
 ghost use Rattle.elf_file.specs.FileHeader.{file_header};
-ghost use Rattle.elf_file.specs.Names.{IsNulEnd};
+ghost use Rattle.dw_base.specs.Texts.{IsNulEnd};
 
-use crate::names::nul_end;
 use crate::records::FileHeader;
 use crate::tables::nth_section_in;
-use dw_base::elf_numbers::{SHT_NOBITS, SHT_NULL};
-use dw_base::{Fault, Kind, Refusal, Section};
+use dw_base::{Fault, Kind, Refusal, Section, nul_end};
 use std::alloc::Global;
-
-/// The section takes no room in the file: it is of type NULL or NOBITS.
-pub fn takes_no_room(section: &Section) -> bool
-    ensures { result ≡ is_empty_kind section.now }
-{
-    section.kind == SHT_NULL || section.kind == SHT_NOBITS
-}
 
 /// `size` bytes from `offset` lie in a file of `len` bytes.
 pub fn lies_within(offset: u64, size: u64, len: u64) -> bool
@@ -35,7 +27,7 @@ pub fn contents_in<'a>(bytes: &'a [u8], section: &Section) -> &'a [u8]
     requires { is_empty_kind section.now ≡ false → section.now.size ≢ 0 → section.now.offset + section.now.size ≤ length bytes.now }
     ensures { result.now ≡ contents_at bytes.now section.now }
 {
-    if takes_no_room(section) {
+    if section.takes_no_room() {
         return &bytes[..0];
     }
     if section.size == 0 {
@@ -52,22 +44,14 @@ fn place_fits(bytes: &[u8], section: &Section, index: u32) -> Result<(), Refusal
     ensures refused { IfErr result (PlaceFails bytes.now section.now index) }
 {
     let len = bytes.len() as u64;
-    if !takes_no_room(section)
+    if !section.takes_no_room()
         && section.size != 0
         && !lies_within(section.offset, section.size, len)
     {
-        return Err(Refusal {
-            kind: Kind::Range,
-            section: index,
-            offset: 0,
-        });
+        return Err(Refusal::at(Kind::Range, index, 0));
     }
     if section.align != 0 && !section.align.is_power_of_two() {
-        return Err(Refusal {
-            kind: Kind::Range,
-            section: index,
-            offset: 0,
-        });
+        return Err(Refusal::at(Kind::Range, index, 0));
     }
     Ok(())
 }
@@ -77,7 +61,7 @@ fn place_fits(bytes: &[u8], section: &Section, index: u32) -> Result<(), Refusal
 #[tactic(auto, using(crate::proofs::Rows::section_rows, crate::proofs::SectionLaws::name_table_laws), unfolding(dw_base::specs::Elf::name_table, dw_base::specs::Elf::contents_of))]
 pub fn names_end(bytes: &[u8], header: &FileHeader, names: u32) -> Result<usize, Refusal>
     requires is { header.now ≡ file_header bytes.now }
-    requires small { length bytes.now ≤ 2 ^ 31 }
+    requires small { length bytes.now ≤ output_limit }
     requires table { TableReads bytes.now }
     requires names { names ≡ name_index bytes.now }
     requires index { IndexReads bytes.now }
@@ -104,7 +88,7 @@ fn section_of(
     index: u32,
 ) -> Result<Section, Refusal>
     requires is { header.now ≡ file_header bytes.now }
-    requires small { length bytes.now ≤ 2 ^ 31 }
+    requires small { length bytes.now ≤ output_limit }
     requires table { TableReads bytes.now }
     requires names { names ≡ name_index bytes.now }
     requires named { NameTableReads bytes.now }
@@ -117,11 +101,7 @@ fn section_of(
     let section = nth_section_in(bytes, header, index);
     place_fits(bytes, &section, index)?;
     if names != 0 && section.name as usize >= end {
-        return Err(Refusal {
-            kind: Kind::Range,
-            section: index,
-            offset: u64::from(section.name),
-        });
+        return Err(Refusal::at(Kind::Range, index, u64::from(section.name)));
     }
     Ok(section)
 }
@@ -137,7 +117,7 @@ pub fn sections_in(
     end: usize,
 ) -> Result<Vec<Section>, Fault>
     requires is { header.now ≡ file_header bytes.now }
-    requires small { length bytes.now ≤ 2 ^ 31 }
+    requires small { length bytes.now ≤ output_limit }
     requires table { TableReads bytes.now }
     requires count { count ≡ section_count bytes.now }
     requires names { names ≡ name_index bytes.now }

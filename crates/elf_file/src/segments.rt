@@ -3,9 +3,9 @@
 ghost use Rattle.std.specs.Prelude.{◌≡◌, ◌≤◌, ◌^◌, length, IfOk, OnOk, IfErr};
 ghost use Rattle.dw_base.specs.Elf.{segments_of};
 ghost use Rattle.dw_base.specs.ElfFails.{SegmentFails, SegmentsRead, SegmentTableReads};
+ghost use Rattle.dw_base.specs.Layout.{output_limit};
 ghost use Rattle.elf_file.specs.FileHeader.{file_header};
 
-use crate::places::program_header_place;
 use crate::records::FileHeader;
 use crate::sections::lies_within;
 use crate::tables::nth_segment_in;
@@ -20,7 +20,7 @@ pub fn segments_in(
     header: &FileHeader,
 ) -> Result<Vec<Segment>, AllocError>
     requires is { header.now ≡ file_header bytes.now }
-    requires small { length bytes.now ≤ 2 ^ 31 }
+    requires small { length bytes.now ≤ output_limit }
     requires table { SegmentTableReads bytes.now }
     ensures { IfOk result (λ segments. segments.items ≡ segments_of bytes.now) }
 {
@@ -37,7 +37,7 @@ pub fn segments_in(
 #[tactic(auto, using(crate::proofs::Rows::segment_rows), unfolding(crate::specs::FileHeader::file_header))]
 pub fn segments_lie(bytes: &[u8], header: &FileHeader) -> Result<(), Refusal>
     requires is { header.now ≡ file_header bytes.now }
-    requires small { length bytes.now ≤ 2 ^ 31 }
+    requires small { length bytes.now ≤ output_limit }
     requires table { SegmentTableReads bytes.now }
     ensures reads { OnOk result (SegmentsRead bytes.now) }
     ensures refused { IfErr result (SegmentFails bytes.now) }
@@ -45,12 +45,10 @@ pub fn segments_lie(bytes: &[u8], header: &FileHeader) -> Result<(), Refusal>
     for index in 0..header.phnum {
         let segment = nth_segment_in(bytes, header, index);
         if segment.filesz != 0 && !lies_within(segment.offset, segment.filesz, bytes.len() as u64) {
-            let offset = program_header_place(header.class, header.phoff, u64::from(index));
-            return Err(Refusal {
-                kind: Kind::Range,
-                section: 0,
-                offset,
-            });
+            let offset = header
+                .class
+                .program_header_place(header.phoff, u64::from(index));
+            return Err(Refusal::at(Kind::Range, 0, offset));
         }
     }
     Ok(())

@@ -4,12 +4,9 @@
 ghost use Rattle.std.specs.Prelude.{◌≡◌, ◌≢◌, ◌+◌, ◌*◌, ◌≤◌, ◌<◌, ◌^◌, length, IfOk, OnOk, IfErr};
 ghost use Rattle.dw_base.specs.Elf.{class_of, e_shoff, e_phnum, shdr_size, name_index, nth_section, nth_segment, section_count};
 ghost use Rattle.dw_base.specs.ElfFails.{SegmentTableFails, SegmentTableReads, TableFails, TableReads, IndexFails, IndexReads};
+ghost use Rattle.dw_base.specs.Layout.{output_limit};
 ghost use Rattle.elf_file.specs.FileHeader.{file_header};
 
-use crate::places::{
-    holds_program_headers, holds_section_headers, place_of_shnum, place_of_shoff,
-    place_of_shstrndx, program_header_place, section_header_place,
-};
 use crate::records::FileHeader;
 use crate::slots::{section_in, segment_in};
 use dw_base::elf_numbers::{SHN_XINDEX, SHT_NULL, SHT_STRTAB};
@@ -25,17 +22,11 @@ pub fn segment_table_lies(bytes: &[u8], header: &FileHeader) -> Result<(), Refus
     if header.phnum == 0 {
         return Ok(());
     }
-    if !holds_program_headers(
-        header.class,
-        header.phoff,
-        u64::from(header.phnum),
-        bytes.len() as u64,
-    ) {
-        return Err(Refusal {
-            kind: Kind::Range,
-            section: 0,
-            offset: header.phoff,
-        });
+    if !header
+        .class
+        .holds_program_headers(header.phoff, u64::from(header.phnum), bytes.len() as u64)
+    {
+        return Err(Refusal::at(Kind::Range, 0, header.phoff));
     }
     Ok(())
 }
@@ -59,7 +50,7 @@ fn count_in(bytes: &[u8], header: &FileHeader) -> u64
 #[tactic(auto, using(crate::proofs::Rows::table_rows), unfolding(crate::specs::FileHeader::file_header))]
 pub fn counted(bytes: &[u8], header: &FileHeader) -> Result<u32, Refusal>
     requires is { header.now ≡ file_header bytes.now }
-    requires small { length bytes.now ≤ 2 ^ 31 }
+    requires small { length bytes.now ≤ output_limit }
     ensures value { IfOk result (λ count. count ≡ section_count bytes.now) }
     ensures reads { OnOk result (TableReads bytes.now) }
     ensures refused { IfErr result (TableFails bytes.now) }
@@ -68,20 +59,12 @@ pub fn counted(bytes: &[u8], header: &FileHeader) -> Result<u32, Refusal>
         return Ok(0);
     }
     let len = bytes.len() as u64;
-    if !holds_section_headers(header.class, header.shoff, 1, len) {
-        return Err(Refusal {
-            kind: Kind::Range,
-            section: 0,
-            offset: header.shoff,
-        });
+    if !header.class.holds_section_headers(header.shoff, 1, len) {
+        return Err(Refusal::at(Kind::Range, 0, header.shoff));
     }
     let count = count_in(bytes, header);
-    if !holds_section_headers(header.class, header.shoff, count, len) {
-        return Err(Refusal {
-            kind: Kind::Range,
-            section: 0,
-            offset: header.shoff,
-        });
+    if !header.class.holds_section_headers(header.shoff, count, len) {
+        return Err(Refusal::at(Kind::Range, 0, header.shoff));
     }
     Ok(count as u32)
 }
@@ -90,12 +73,14 @@ pub fn counted(bytes: &[u8], header: &FileHeader) -> Result<u32, Refusal>
 #[tactic(auto, using(crate::proofs::Rows::table_laws), unfolding(crate::specs::FileHeader::file_header, dw_base::specs::Elf::nth_section))]
 pub fn nth_section_in(bytes: &[u8], header: &FileHeader, index: u32) -> Section
     requires is { header.now ≡ file_header bytes.now }
-    requires small { length bytes.now ≤ 2 ^ 31 }
+    requires small { length bytes.now ≤ output_limit }
     requires table { TableReads bytes.now }
     requires there { index < section_count bytes.now }
     ensures { result ≡ nth_section bytes.now index }
 {
-    let place = section_header_place(header.class, header.shoff, u64::from(index));
+    let place = header
+        .class
+        .section_header_place(header.shoff, u64::from(index));
     section_in(header.class, header.order, bytes, place)
 }
 
@@ -103,12 +88,14 @@ pub fn nth_section_in(bytes: &[u8], header: &FileHeader, index: u32) -> Section
 #[tactic(auto, using(crate::proofs::Rows::table_laws), unfolding(crate::specs::FileHeader::file_header, dw_base::specs::Elf::nth_segment))]
 pub fn nth_segment_in(bytes: &[u8], header: &FileHeader, index: u16) -> Segment
     requires is { header.now ≡ file_header bytes.now }
-    requires small { length bytes.now ≤ 2 ^ 31 }
+    requires small { length bytes.now ≤ output_limit }
     requires table { SegmentTableReads bytes.now }
     requires there { index < e_phnum bytes.now }
     ensures { result ≡ nth_segment bytes.now index }
 {
-    let place = program_header_place(header.class, header.phoff, u64::from(index));
+    let place = header
+        .class
+        .program_header_place(header.phoff, u64::from(index));
     segment_in(header.class, header.order, bytes, place)
 }
 
@@ -132,7 +119,7 @@ fn name_index_in(header: &FileHeader, first: &Section, bytes: &[u8]) -> u32
 #[tactic(auto, using(crate::proofs::Rows::index_rows), unfolding(crate::specs::FileHeader::file_header))]
 pub fn indexed(bytes: &[u8], header: &FileHeader, count: u32) -> Result<u32, Refusal>
     requires is { header.now ≡ file_header bytes.now }
-    requires small { length bytes.now ≤ 2 ^ 31 }
+    requires small { length bytes.now ≤ output_limit }
     requires table { TableReads bytes.now }
     requires count { count ≡ section_count bytes.now }
     ensures value { IfOk result (λ names. names ≡ name_index bytes.now) }
@@ -143,38 +130,22 @@ pub fn indexed(bytes: &[u8], header: &FileHeader, count: u32) -> Result<u32, Ref
         return Ok(0);
     }
     if count == 0 {
-        return Err(Refusal {
-            kind: Kind::Header,
-            section: 0,
-            offset: place_of_shnum(header.class),
-        });
+        return Err(Refusal::at(Kind::Header, 0, header.class.shnum_place()));
     }
     let first = nth_section_in(bytes, header, 0);
     if first.kind != SHT_NULL {
-        return Err(Refusal {
-            kind: Kind::Header,
-            section: 0,
-            offset: place_of_shoff(header.class),
-        });
+        return Err(Refusal::at(Kind::Header, 0, header.class.shoff_place()));
     }
     let names = name_index_in(header, &first, bytes);
     if names == 0 {
         return Ok(0);
     }
     if names >= count {
-        return Err(Refusal {
-            kind: Kind::Header,
-            section: 0,
-            offset: place_of_shstrndx(header.class),
-        });
+        return Err(Refusal::at(Kind::Header, 0, header.class.shstrndx_place()));
     }
     let table = nth_section_in(bytes, header, names);
     if table.kind != SHT_STRTAB {
-        return Err(Refusal {
-            kind: Kind::Header,
-            section: 0,
-            offset: place_of_shstrndx(header.class),
-        });
+        return Err(Refusal::at(Kind::Header, 0, header.class.shstrndx_place()));
     }
     Ok(names)
 }

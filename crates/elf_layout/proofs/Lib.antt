@@ -1,4 +1,3 @@
 pub mod Rows
 pub mod ByteLaws
-pub mod FixedLaws
 pub mod PartRows

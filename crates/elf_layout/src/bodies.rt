@@ -11,29 +11,12 @@ ghost use Rattle.dw_base.specs.Refusals.{Blames};
 ghost use Rattle.dw_base.specs.declared.fault.Refusal.{Refusal};
 ghost use Rattle.elf_layout.specs.Given.{AreContents, body_given};
 
-use crate::fixed::{begins_in_header, lies_across, takes_no_room};
+use crate::fixed::{begins_in_header, lies_across};
 use crate::laying::lay;
-use crate::table::append_table;
+use crate::section_headers::append_table;
 use dw_base::{Fault, Kind, Refusal, Section};
 use elf_file::ElfFile;
 use std::alloc::Global;
-
-/// How many sections there are.
-#[tactic(auto, using(crate::proofs::FixedLaws::count_laws))]
-pub(crate) fn section_count(elf: &ElfFile) -> u32
-    ensures { result ≡ section_count elf.now.bytes.now }
-{
-    elf.sections.len() as u32
-}
-
-/// The header of the section of a number.
-#[tactic(auto, using(crate::proofs::FixedLaws::section_laws))]
-pub(crate) fn head_of(elf: &ElfFile, section: u32) -> Section
-    requires there { section < section_count elf.now.bytes.now }
-    ensures { result ≡ nth_section elf.now.bytes.now section }
-{
-    elf.sections[section as usize]
-}
 
 /// The body of a section: the given one, else its own contents.
 #[tactic(auto, unfolding(crate::specs::Given::body_given))]
@@ -65,7 +48,7 @@ fn changes(elf: &ElfFile, end: u64, contents: &[Option<Vec<u8>>], section: u32) 
 /// A section can be written. Refused as `Fixed` at (its number, 0) exactly where it lies across the
 /// fixed end, begins in the file header, or stays and is given other bytes than it has.
 #[tactic(auto, using(crate::proofs::Rows::stays_rows))]
-fn section_fits(
+fn can_be_written(
     elf: &ElfFile,
     end: u64,
     contents: &[Option<Vec<u8>>],
@@ -78,42 +61,30 @@ fn section_fits(
         → SectionStays elf.now.bytes.now (body_given elf.now.bytes.now contents.now) section r → ⊥) }
     ensures refused { IfErr result (SectionStays elf.now.bytes.now (body_given elf.now.bytes.now contents.now) section) }
 {
-    let head = head_of(elf, section);
+    let head = elf.section(section);
     if lies_across(elf, end, &head) {
-        return Err(Refusal {
-            kind: Kind::Fixed,
-            section,
-            offset: 0,
-        });
+        return Err(Refusal::at(Kind::Fixed, section, 0));
     }
     if begins_in_header(elf, &head) {
-        return Err(Refusal {
-            kind: Kind::Fixed,
-            section,
-            offset: 0,
-        });
+        return Err(Refusal::at(Kind::Fixed, section, 0));
     }
     if changes(elf, end, contents, section) {
-        return Err(Refusal {
-            kind: Kind::Fixed,
-            section,
-            offset: 0,
-        });
+        return Err(Refusal::at(Kind::Fixed, section, 0));
     }
     Ok(())
 }
 
 /// Each section can be written. Refused as `Fixed` exactly where one can't.
 #[tactic(auto, using(crate::proofs::Rows::stays_rows))]
-fn sections_fit(elf: &ElfFile, end: u64, contents: &[Option<Vec<u8>>]) -> Result<(), Refusal>
+fn all_can_be_written(elf: &ElfFile, end: u64, contents: &[Option<Vec<u8>>]) -> Result<(), Refusal>
     requires end { end ≡ fixed_end elf.now.bytes.now }
     requires contents { AreContents elf.now.bytes.now contents.now }
     ensures none { OnOk result ((i : ℕ) (r : Refusal) → i < section_count elf.now.bytes.now
         → SectionStays elf.now.bytes.now (body_given elf.now.bytes.now contents.now) i r → ⊥) }
     ensures refused { IfErr result (LayoutFails elf.now.bytes.now (body_given elf.now.bytes.now contents.now)) }
 {
-    for section in 0..section_count(elf) {
-        section_fits(elf, end, contents, section)?;
+    for section in 0..elf.section_count() {
+        can_be_written(elf, end, contents, section)?;
     }
     Ok(())
 }
@@ -140,8 +111,8 @@ fn lay_section(
     ensures refused { IfErr result (Blames (TooLong (length (extended out.old.items
         (part_of elf.now.bytes.now (body_given elf.now.bytes.now contents.now) section))))) }
 {
-    let head = head_of(elf, section);
-    let moves = !takes_no_room(&head) && !elf.is_fixed_by(section, end);
+    let head = elf.section(section);
+    let moves = !head.takes_no_room() && !elf.is_fixed_by(section, end);
     lay(out, &head, moves, body_of(elf, contents, section))
 }
 
@@ -167,7 +138,7 @@ fn lay_sections(
         (tabulate (part_of elf.now.bytes.now (body_given elf.now.bytes.now contents.now)) (section_count elf.now.bytes.now)))))) }
 {
     let mut heads = Vec::with_capacity(alloc, elf.sections.len())?;
-    for section in 0..section_count(elf) {
+    for section in 0..elf.section_count() {
         heads.push(lay_section(elf, end, contents, section, out)?)?;
     }
     Ok(heads)
@@ -198,7 +169,7 @@ fn lay_out(
 
 /// What `emit` gives, for a file of these bytes.
 #[tactic(auto, using(crate::proofs::Rows::emit_rows), unfolding(dw_base::specs::Layout::with_bodies))]
-fn written(
+fn with_new_bodies(
     alloc: Global,
     bytes: &[u8],
     elf: &ElfFile,
@@ -213,7 +184,7 @@ fn written(
     ensures refused { IfErr result (Blames (LayoutFails bytes.now (body_given bytes.now contents.now))) }
 {
     let end = elf.fixed_end();
-    sections_fit(elf, end, contents)?;
+    all_can_be_written(elf, end, contents)?;
     if elf.sections.is_empty() {
         return Ok(Vec::from_slice(alloc, bytes)?);
     }
@@ -234,6 +205,6 @@ pub fn emit(alloc: Global, elf: &ElfFile, contents: &[Option<Vec<u8>>]) -> Resul
     ensures none { OnOk result ((r : Refusal) → LayoutFails elf.now.bytes.now (body_given elf.now.bytes.now contents.now) r → ⊥) }
     ensures refused { IfErr result (Blames (LayoutFails elf.now.bytes.now (body_given elf.now.bytes.now contents.now))) }
 {
-    let file = written(alloc, elf.bytes, elf, contents)?;
+    let file = with_new_bodies(alloc, elf.bytes, elf, contents)?;
     Ok(file)
 }

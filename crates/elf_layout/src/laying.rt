@@ -6,20 +6,13 @@ ghost use Rattle.dw_base.specs.LayoutFails.{TooLong};
 ghost use Rattle.dw_base.specs.Refusals.{Blames};
 ghost use Rattle.elf_layout.specs.Given.{part, refused_length};
 
-use dw_base::{Fault, Kind, Refusal, Section};
-
-/// The longest file that is written, in bytes.
-pub(crate) const OUTPUT_LIMIT: u64 = 0x8000_0000;
+use dw_base::{Fault, Kind, OUTPUT_LIMIT, Refusal, Section};
 
 /// The refusal of a file that would be too long.
 pub(crate) fn too_long() -> Fault
     ensures { result ≡ refused_length }
 {
-    Fault::Refused(Refusal {
-        kind: Kind::TooLarge,
-        section: 0,
-        offset: 0,
-    })
+    Fault::Refused(Refusal::of_file(Kind::TooLarge))
 }
 
 /// How many zeros lead from a place to the next multiple of an alignment; none for alignment 0.

@@ -15,7 +15,7 @@ mod fixtures;
 mod laying;
 mod part;
 mod parts;
-mod table;
+mod section_headers;
 #[cfg(test)]
 mod tests;
 

@@ -12,12 +12,11 @@ ghost use Rattle.elf_layout.specs.Given.{given_or};
 ghost use Rattle.elf_layout.specs.declared.part.Part.{Part as GivenPart};
 ghost use Rattle.elf_layout.specs.PartsGiven.{ArePartsFor, part_given, parts_given};
 
-use crate::fixed::takes_no_room;
-use crate::laying::{OUTPUT_LIMIT, lay, too_long};
+use crate::laying::{lay, too_long};
 use crate::part::Part;
-use crate::table::append_table;
+use crate::section_headers::append_table;
 use dw_base::elf_numbers::{SHN_LORESERVE, SHN_XINDEX};
-use dw_base::{Class, Fault, Order, Section, put_number};
+use dw_base::{Class, Fault, OUTPUT_LIMIT, Order, Section, put_number};
 use elf_file::ElfFile;
 use std::alloc::{AllocError, Global};
 
@@ -44,18 +43,6 @@ fn in_header(elsewhere: u16, number: u64) -> u64
     }
 }
 
-/// Where the number of sections, and that of the section name table behind it, stand in the file header.
-fn shnum_place(class: Class) -> u64
-    ensures place { result ≡ shnum_place class }
-    ensures next { result + 2 ≡ shstrndx_place class }
-    ensures inside { result + 4 ≡ ehdr_size class }
-{
-    match class {
-        Class::C32 => 48,
-        Class::C64 => 60,
-    }
-}
-
 /// Section 0 with the number of sections and that of the section name table.
 fn numbered_head(head: &Section, count: u64, names: u32) -> Section
     ensures { result ≡ numbered_head count names head.now }
@@ -78,13 +65,12 @@ fn put_numbers(front: &mut [u8], class: Class, order: Order, count: u64, names: 
     requires header { ehdr_size class ≤ length front.old }
     ensures { front.new ≡ numbered_front class order front.old count names }
 {
-    let place = shnum_place(class);
-    let counted = put_number(order, front, place, 2, in_header(0, count));
+    let counted = put_number(order, front, class.shnum_place(), 2, in_header(0, count));
     prove!(counted);
     let named = put_number(
         order,
         front,
-        place + 2,
+        class.shstrndx_place(),
         2,
         in_header(SHN_XINDEX, u64::from(names)),
     );
@@ -100,7 +86,7 @@ fn lay_part(out: &mut Vec<u8>, part: &Part) -> Result<Section, Fault>
     ensures longer { OnOk result (vec_len out.old ≤ vec_len out.new) }
     ensures refused { IfErr result (Blames (TooLong (length (extended out.old.items (part_given part.now))))) }
 {
-    let moves = !part.kept && !takes_no_room(&part.head);
+    let moves = !part.kept && !part.head.takes_no_room();
     match &part.body {
         Some(body) => lay(out, &part.head, moves, body.as_slice()),
         None => lay(out, &part.head, moves, &[]),
@@ -166,7 +152,7 @@ fn lay_all(
 
 /// What `write_parts` gives, byte for byte.
 #[tactic(auto, using(crate::proofs::PartRows::file_rows), unfolding(dw_base::specs::Parts::parts_file, dw_base::specs::Layout::laid_out))]
-fn written(
+fn file_of_parts(
     alloc: Global,
     elf: &ElfFile,
     front: &[u8],
@@ -208,6 +194,6 @@ pub fn write_parts(
         → TooLong (length (parts_file elf.now.class elf.now.order front.now (parts_given parts.now) names)) r → ⊥) }
     ensures refused { IfErr result (Blames (TooLong (length (parts_file elf.now.class elf.now.order front.now (parts_given parts.now) names)))) }
 {
-    let file = written(alloc, elf, front, parts, names)?;
+    let file = file_of_parts(alloc, elf, front, parts, names)?;
     Ok(file)
 }

@@ -4,8 +4,7 @@ ghost use Rattle.std.specs.Prelude.{◌≡◌, true, None, IfOk};
 ghost use Rattle.dw_base.specs.Elf.{is_empty_kind};
 ghost use Rattle.elf_layout.specs.Given.{AreContents};
 
-use crate::bodies::{emit, head_of, section_count};
-use crate::fixed::takes_no_room;
+use crate::bodies::emit;
 use crate::fixtures::{
     BARE, BIG, BIG_SHORTER, KINDS, KINDS_BEHIND, KINDS_FRONT, LOADED, LOADED_LONGER, OVERLAP,
     OVERLAP_APART, PARTS, PARTS_FRONT,
@@ -27,7 +26,7 @@ fn item_for(
 ) -> Result<Option<Vec<u8>>, AllocError>
     ensures none { IfOk result (λ item. is_empty_kind head.now ≡ true → item ≡ None) }
 {
-    if takes_no_room(head) {
+    if head.takes_no_room() {
         return Ok(None);
     }
     if !given {
@@ -47,8 +46,8 @@ fn contents_with(
     ensures items { IfOk result (λ items. AreContents elf.now.bytes.now items.items) }
 {
     let mut items = Vec::new(alloc);
-    for section in 0..section_count(elf) {
-        items.push(item_for(alloc, &head_of(elf, section), section == changed, body)?)?;
+    for section in 0..elf.section_count() {
+        items.push(item_for(alloc, &elf.section(section), section == changed, body)?)?;
     }
     Ok(items)
 }

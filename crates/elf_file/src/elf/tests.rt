@@ -143,8 +143,14 @@ type Change = (u64, u8, u64);
 const NONE: Change = (0, 0, 0);
 
 /// Changes, and how the file is then refused: the kind, the section and the offset.
-const CHANGED: [([Change; 3], Option<(Kind, u32, u64)>); 31] = [
+const CHANGED: [([Change; 3], Option<(Kind, u32, u64)>); 33] = [
     ([(0, 1, 0x7e), NONE, NONE], Some((Kind::Header, 0, 0))),
+    // of several wrong places of the identification the first one is told: a text "#!/bin/s", and a class and an order
+    (
+        [(0, 8, 0x732f_6e69_622f_2123), NONE, NONE],
+        Some((Kind::Header, 0, 0)),
+    ),
+    ([(4, 3, 0x02_0003), NONE, NONE], Some((Kind::Header, 0, 4))),
     ([(4, 1, 3), NONE, NONE], Some((Kind::Header, 0, 4))),
     ([(5, 1, 0), NONE, NONE], Some((Kind::Header, 0, 5))),
     ([(5, 1, 3), NONE, NONE], Some((Kind::Header, 0, 5))),

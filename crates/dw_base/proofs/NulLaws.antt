@@ -1,10 +1,9 @@
--- Laws of texts and of where the last NUL of a table stands.
+-- Laws of where the last NUL of a string table stands.
 use Rattle.std.proofs.Common.{◌≡◌, ◌≢◌, ℕ, zero, suc, ◌+◌, ◌-◌, ◌<◌, ◌≤◌, ◌==◌, true, false, nat_lt, List, [], ◌∷◌, length, drop, slice_index, refl, sym, ap, ◌∙◌, arith, inl, inr}
 use Rattle.std.proofs.lemmas.List.{drop_more, drop-drop, get_or-drop, length-drop}
 use Rattle.std.proofs.lemmas.List.Folds.{list_any_at}
 use Rattle.std.proofs.lemmas.Bool.{cases_lt}
-use Rattle.dw_base.specs.Texts.{has_nul, ends_in, text}
-use Rattle.elf_file.specs.Names.{IsNulEnd}
+use Rattle.dw_base.specs.Texts.{has_nul, ends_in, IsNulEnd}
 
 not_below : (m n : ℕ) → n ≤ m → nat_lt m n ≡ false
 not_below m n h = grind arith
@@ -65,16 +64,6 @@ pub nul_end-none : (xs : List ℕ) → has_nul (drop 0 xs) ≡ false → IsNulEn
 nul_end-none xs none = record { ends = λ place. ends_in-behind xs 0 place (omega arith) none ∙ sym (not_below place 0 (omega arith)) }
 
 pub ruleset nul_laws = (has_nul-before, nul_end-found, nul_end-none)
-
--- one byte more of a text
-pub text-more : (xs : List ℕ) (i : ℕ) → i < length xs → slice_index xs i ≢ 0 → text (drop i xs) ≡ slice_index xs i ∷ text (drop (i + 1) xs)
-text-more xs i lt other = rw (drop_more xs i 0 lt) (grind arith)
-
--- a text ends at a NUL
-pub text-nul : (xs : List ℕ) (i : ℕ) → i < length xs → slice_index xs i ≡ 0 → text (drop i xs) ≡ []
-text-nul xs i lt nul = rw (drop_more xs i 0 lt, nul) refl
-
-pub ruleset text_laws = (text-more, text-nul)
 
 -- a name that begins before the last NUL ends
 pub name-ends : (table : List ℕ) (end place : ℕ) → IsNulEnd table end → place < end → ends_in table place ≡ true

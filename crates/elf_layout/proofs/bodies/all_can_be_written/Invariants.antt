@@ -3,7 +3,7 @@ use Rattle.std.proofs.Common.{ℕ, ◌<◌}
 use Rattle.dw_base.specs.LayoutFails.{SectionStays}
 use Rattle.dw_base.specs.declared.fault.Refusal.{Refusal}
 use Rattle.elf_layout.specs.Given.{body_given}
-use Rattle.elf_layout.proofs.bodies.sections_fit.Given as goal
+use Rattle.elf_layout.proofs.bodies.all_can_be_written.Given as goal
 
 abbrev pub invariant-loop-section : goal.invariant-loop-section
 invariant-loop-section l =

@@ -1,6 +1,6 @@
 use Rattle.std.proofs.Common.{◌≡◌, ◌≤◌, length, drop, false}
 use Rattle.dw_base.specs.Texts.{has_nul}
-use Rattle.elf_file.proofs.names.nul_end.Given as goal
+use Rattle.dw_base.proofs.texts.nul_end.Given as goal
 
 -- no NUL stands from here on
 abbrev pub invariant-bytes : goal.invariant-bytes

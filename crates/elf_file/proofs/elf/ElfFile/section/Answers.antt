@@ -1,5 +1,5 @@
 use Rattle.elf_file.proofs.ElfFileLaws.{section-here}
-use Rattle.elf_file.proofs.elf.ElfFile.section_of.Goals as goal
+use Rattle.elf_file.proofs.elf.ElfFile.section.Goals as goal
 
 pub returns : goal.returns
 returns c =

@@ -7,8 +7,8 @@ ghost use Rattle.dw_base.specs.LayoutFails.{TooLong};
 ghost use Rattle.dw_base.specs.Refusals.{Blames};
 ghost use Rattle.dw_base.specs.Numbers.{number_bytes, with_number};
 
-use crate::laying::{OUTPUT_LIMIT, append_padded, padding_at, too_long};
-use dw_base::{Class, Fault, Order, Section, put_number};
+use crate::laying::{padding_at, too_long};
+use dw_base::{Class, Fault, OUTPUT_LIMIT, Order, Section, put_number};
 use std::alloc::AllocError;
 
 /// Appends the four bytes that spell a number, or its lowest four bytes where it has more.
@@ -92,36 +92,6 @@ fn push_shdrs(
     Ok(())
 }
 
-/// Whether so many section headers fit what is left of the file.
-fn fits_table(class: Class, count: u64, room: u64) -> bool
-    ensures { IsTrue result ↔ (count * shdr_size class ≤ room) }
-{
-    match class {
-        Class::C32 => count <= room / 40,
-        Class::C64 => count <= room / 64,
-    }
-}
-
-/// The size of an address or an offset, in bytes.
-pub(crate) fn word_size(class: Class) -> u8
-    ensures { result ≡ word_size class }
-{
-    match class {
-        Class::C32 => 4,
-        Class::C64 => 8,
-    }
-}
-
-/// Where the place of the section headers stands in the file header.
-fn shoff_place(class: Class) -> u64
-    ensures { result ≡ shoff_place class }
-{
-    match class {
-        Class::C32 => 32,
-        Class::C64 => 40,
-    }
-}
-
 /// Appends zeros up to the next multiple of the class's word. Refused as `TooLarge` only where that
 /// passes the limit.
 #[tactic(auto, using(crate::proofs::Rows::zeros_rows), unfolding(dw_base::specs::Layout::before_table))]
@@ -133,7 +103,7 @@ fn pad_to_word(out: &mut Vec<u8>, class: Class) -> Result<(), Fault>
     ensures refused { IfErr result (Blames (TooLong (length (before_table class out.old.items)))) }
 {
     let len = out.len() as u64;
-    let zeros = padding_at(len, u64::from(word_size(class)));
+    let zeros = padding_at(len, u64::from(class.word_size()));
     if zeros > OUTPUT_LIMIT - len {
         return Err(too_long());
     }
@@ -147,7 +117,7 @@ fn put_shoff(file: &mut [u8], class: Class, order: Order, place: u64)
     requires small { place ≤ output_limit }
     ensures put { file.new ≡ with_number order file.old (shoff_place class) (word_size class) place }
 {
-    let fits = put_number(order, file, shoff_place(class), word_size(class), place);
+    let fits = put_number(order, file, class.shoff_place(), class.word_size(), place);
     prove!(fits);
 }
 
@@ -169,7 +139,7 @@ pub(crate) fn append_table(
     let mut file = out;
     pad_to_word(&mut file, class)?;
     let place = file.len() as u64;
-    if !fits_table(class, heads.len() as u64, OUTPUT_LIMIT - place) {
+    if !class.holds_section_headers(place, heads.len() as u64, OUTPUT_LIMIT) {
         return Err(too_long());
     }
     push_shdrs(&mut file, class, order, heads)?;

@@ -1,0 +1,19 @@
+//! Where the texts of a string table end (gABI ch. 4 "String Table").
+
+ghost use Rattle.dw_base.specs.Texts.{IsNulEnd};
+
+/// The place behind the last NUL of a string table, 0 where there is none, in bytes from its start: a
+/// text begins at each place before it, and at no other.
+#[tactic(auto, using(crate::proofs::NulLaws::nul_laws))]
+pub fn nul_end(table: &[u8]) -> usize
+    ensures { IsNulEnd table.now result }
+{
+    let mut end = table.len();
+    'bytes: while end > 0 {
+        if table[end - 1] == 0 {
+            return end;
+        }
+        end -= 1;
+    }
+    0
+}
