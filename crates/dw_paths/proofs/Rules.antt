@@ -5,6 +5,7 @@ use Rattle.std.proofs.lemmas.Bool.{ne_eqb}
 use Rattle.dw_base.specs.Paths.{slash, without_end_slashes, PathMap, IsPathMap, mapped_path}
 use Rattle.dw_base.specs.Texts.{has_nul}
 use Rattle.dw_base.proofs.PathLaws.{without_end_slashes-slash, without_end_slashes-other, IsPathMap-base, IsPathMap-dest, IsPathMap-made, length-lies_under, has_nul-mapped_path, length-mapped_path}
+use Rattle.dw_paths.proofs.InlineLaws.{inline-bare, inline-room}
 
 -- one slash less
 pub cut-slash : (xs : List ℕ) (n : ℕ) → 0 < n → n ≤ length xs → get_or xs (n - 1) 0 ≡ 47 → without_end_slashes (take n xs) ≡ without_end_slashes xs
@@ -36,3 +37,7 @@ pub mapped-within : (m : PathMap) (t path : List ℕ) → path ≡ mapped_path m
 mapped-within m t path e p = rw e (length-mapped_path m t p)
 
 pub ruleset path_rules = (mapped-no_nul, mapped-within)
+
+pub ruleset inline_rules = (inline-bare, inline-room)
+
+pub ruleset fitted_rules = (IsPathMap-base, IsPathMap-dest, length-lies_under)

@@ -6,10 +6,14 @@
 //! Read first: `dw_base/specs/Paths.antt`.
 #![tactic(auto)]
 
+mod inline;
+mod join;
 mod maps;
 mod plain;
 mod prefix;
 
+pub use inline::map_inline;
+pub use join::join_path;
 pub use maps::{Maps, map_len, map_path};
 pub use plain::is_plain;
 pub use prefix::{is_prefix, lies_under};

@@ -1,0 +1,102 @@
+//! Paths that are held inline (DWARF 5, 7.5.5, class string, `DW_FORM_string`): the mapped path takes
+//! the room of the old one, so that nothing behind it moves (this project's profile).
+//!
+//! `map_inline` answers the definition's path, and `None` exactly where it would be longer.
+
+ghost use Rattle.std.specs.Prelude.{◌≡◌, ◌↔◌, ◌-◌, false, length, IsTrue, IfOk, IfSome, IsSome};
+ghost use Rattle.dw_base.specs.Texts.{has_nul};
+ghost use Rattle.dw_paths.specs.InlinePaths.{inline_fits, mapped_inline};
+
+use crate::maps::{Maps, map_len};
+use crate::prefix::lies_under;
+use dw_base::NoMemory;
+use std::alloc::Global;
+
+/// The mapped path in the room of the old one, and as long as it: the destination, slashes that fill
+/// the room, and what follows the base. A path that doesn't lie under the base stays. `None` exactly
+/// where the mapped path is longer than the old one.
+#[tactic(auto, using(crate::proofs::Rules::inline_rules))]
+pub fn map_inline(alloc: Global, maps: &Maps, text: &[u8]) -> Result<Option<Vec<u8>>, NoMemory>
+    ensures some { IfOk result (λ o. IsSome o ↔ IsTrue (inline_fits maps.now text.now)) }
+    ensures value { IfOk result (λ o. IfSome o (λ path. path.items ≡ mapped_inline maps.now text.now)) }
+    ensures len { IfOk result (λ o. IfSome o (λ path. length path.items ≡ length text.now)) }
+    ensures no_nul { has_nul text.now ≡ false → IfOk result (λ o. IfSome o (λ path. has_nul path.items ≡ false)) }
+{
+    // a look at a field brings in what holds of every map
+    let _ = &maps.base;
+    if map_len(maps, text) > text.len() as u64 {
+        return Ok(None);
+    }
+    let path = fitted(alloc, maps, text)?;
+    Ok(Some(path))
+}
+
+/// The mapped path in the room of the old one.
+#[tactic(auto, using(crate::proofs::Rules::fitted_rules), unfolding(crate::specs::InlinePaths::mapped_inline))]
+fn fitted(alloc: Global, maps: &Maps, text: &[u8]) -> Result<Vec<u8>, NoMemory>
+    requires fits { IsTrue (inline_fits maps.now text.now) }
+    ensures value { IfOk result (λ path. path.items ≡ mapped_inline maps.now text.now) }
+{
+    if !lies_under(&maps.base, text) {
+        return Ok(Vec::from_slice(alloc, text)?);
+    }
+    let rest = &text[maps.base.len()..];
+    let room = text.len() - map_len(maps, text) as usize;
+    let mut path = Vec::with_capacity(alloc, text.len())?;
+    path.extend_from_slice(&maps.dest)?;
+    path.resize(path.len() + room, b'/')?;
+    path.extend_from_slice(rest)?;
+    Ok(path)
+}
+
+#[cfg(test)]
+mod tests {
+    use super::*;
+    use std::process::Abort;
+    use std::test::Fail;
+
+    fn check<R: Abort + AllocGlobal>(
+        rt: &R,
+        maps: &Maps,
+        text: &[u8],
+        mapped: &[u8],
+    ) -> Result<(), Fail> {
+        let path = map_inline(rt.alloc(), maps, text)?.ok_or("longer")?;
+        assert_eq!(rt; path.as_slice(), mapped);
+        Ok(())
+    }
+
+    #[test]
+    fn slashes_fill_the_room_of_an_inline_path(rt: HostRuntime) -> Result<(), Fail> {
+        let maps = Maps::new(rt.alloc(), b"/build/package-1.0", b"/usr/src/debug")?.ok_or(
+            "no map",
+        )?;
+        check(
+            &rt,
+            &maps,
+            b"/build/package-1.0/a.c",
+            b"/usr/src/debug/////a.c",
+        )?;
+        check(&rt, &maps, b"/build/package-1.0", b"/usr/src/debug////")?;
+        check(&rt, &maps, b"/build/package-1.0.c", b"/build/package-1.0.c")?;
+        check(&rt, &maps, b"", b"")
+    }
+
+    #[test]
+    fn a_path_that_would_grow_has_no_inline_path(rt: HostRuntime) -> Result<(), Fail> {
+        let maps = Maps::new(
+            rt.alloc(),
+            b"/build/package-1.0",
+            b"/usr/src/debug/package-1.0-1",
+        )?
+        .ok_or("no map")?;
+        assert!(rt; map_inline(rt.alloc(), &maps, b"/build/package-1.0/a.c")?.is_none());
+        Ok(())
+    }
+
+    #[test]
+    fn a_map_of_equal_lengths_leaves_no_room(rt: HostRuntime) -> Result<(), Fail> {
+        let maps = Maps::new(rt.alloc(), b"/build/p", b"/usr/src")?.ok_or("no map")?;
+        check(&rt, &maps, b"/build/p/a.c", b"/usr/src/a.c")
+    }
+}
