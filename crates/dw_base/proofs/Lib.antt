@@ -63,3 +63,6 @@ pub mod WorkedNoMeaning
 pub mod WorkedKept
 pub mod WorkedForms
 pub mod WorkedUnits
+pub mod DebugSectionLaws
+pub mod DebugSectionFailsLaws
+pub mod FileViewLaws

@@ -41,3 +41,6 @@ pub mod UnitFails
 pub mod EntryScans
 pub mod AbbreviationBytes
 pub mod UnitPieces
+pub mod DebugSections
+pub mod DebugSectionFails
+pub mod FileViews

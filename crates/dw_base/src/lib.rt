@@ -8,6 +8,7 @@
 //! Read first: `specs/Numbers.antt`, then `specs/Elf.antt` and `specs/Units.antt`.
 #![tactic(auto)]
 
+mod debug_sections;
 pub mod dwarf_numbers;
 pub mod elf_numbers;
 mod fault;
@@ -20,7 +21,9 @@ mod shared;
 mod units;
 mod values;
 mod texts;
+mod view_fields;
 
+pub use debug_sections::{DebugRow, DebugSection, LISTED_COUNT, listed_number};
 pub use fault::{Fault, Kind, NoMemory, Refusal};
 pub use lebs::{initial_length_at, sleb_at, uleb_at};
 pub use limits::{FILE_LIMIT, OUTPUT_LIMIT};
@@ -30,3 +33,4 @@ pub use shared::{Class, Order, Params, Width};
 pub use units::{Scanned, UnitHeader};
 pub use values::{Spec, Value, ValueClass};
 pub use texts::nul_end;
+pub use view_fields::Field;

@@ -1,0 +1,92 @@
+-- Laws of the view of a file: its sections are the file's, and a section of a name is found by going through them in order.
+use Rattle.std.proofs.Common.{◌≡◌, ℕ, zero, suc, ◌+◌, ◌<◌, ◌≤◌, Bool, true, false, if◌then◌else◌, List, [], ◌∷◌, length, get_or, drop, Option, Some, None, refl, ap, ◌∙◌, arith, subst}
+use Rattle.std.proofs.lemmas.List.{drop_more, drop_all, length-drop}
+use Rattle.dw_base.specs.Elf.{order_of, section_count, contents_of}
+use Rattle.dw_base.specs.FileViews.{View, ViewSection, view_of, view_section, contents_in, section_bytes, is_filled, first_filled, section_after}
+use Rattle.dw_base.proofs.ListLaws.{length-tabulate, get_or-tabulate}
+
+pub order-view_of : (b : List ℕ) → (view_of b).order ≡ order_of b
+unfolding view_of
+order-view_of b = refl
+
+pub length-view_of : (b : List ℕ) → length (view_of b).sections ≡ section_count b
+unfolding view_of
+length-view_of b = length-tabulate (view_section b) (section_count b)
+
+-- the section of a number of the view is the file's
+pub get_or-view_of : (b : List ℕ) (i : ℕ) (d : ViewSection) → i < section_count b → get_or (view_of b).sections i d ≡ view_section b i
+unfolding view_of
+get_or-view_of b i d lt = get_or-tabulate (view_section b) (section_count b) i d lt
+
+contents_in-get_or : (ss : List ViewSection) (i : ℕ) (d : ViewSection) → i < length ss → contents_in ss i ≡ (get_or ss i d).contents
+contents_in-get_or [] i d lt = absurd (omega arith)
+contents_in-get_or (s ∷ ss) zero d lt = refl
+contents_in-get_or (s ∷ ss) (suc i) d lt = contents_in-get_or ss i d (omega arith)
+
+-- its bytes are the contents of the file's section
+pub section_bytes-view_of : (b : List ℕ) (i : ℕ) → i < section_count b → section_bytes (view_of b) i ≡ contents_of b i
+unfolding section_bytes view_section
+section_bytes-view_of b i lt =
+    contents_in-get_or (view_of b).sections i (view_section b i) (omega (arith, length-view_of b))
+    ∙ ap (λ (s : ViewSection). s.contents) (get_or-view_of b i (view_section b i) lt)
+
+-- One section further, in search for one that has a name and bytes.
+found_by : (t : Bool) (i : ℕ) (rest : Option ℕ) → t ≡ true → (if t then Some i else rest) ≡ Some i
+found_by true i rest e = refl
+found_by false i rest e = absurd cc
+
+passed_by : (t : Bool) (i : ℕ) (rest : Option ℕ) → t ≡ false → (if t then Some i else rest) ≡ rest
+passed_by true i rest e = absurd cc
+passed_by false i rest e = refl
+
+-- the sections from a number on are the section of that number and those behind it
+sections-drop : (b : List ℕ) (i : ℕ) → i < section_count b → drop i (view_of b).sections ≡ view_section b i ∷ drop (i + 1) (view_of b).sections
+sections-drop b i lt =
+    drop_more (view_of b).sections i (view_section b i) (omega (arith, length-view_of b))
+    ∙ ap (λ (s : ViewSection). s ∷ drop (i + 1) (view_of b).sections) (get_or-view_of b i (view_section b i) lt)
+
+pub first_filled-here : (b name : List ℕ) (i : ℕ) → i < section_count b → is_filled name (view_section b i) ≡ true
+    → first_filled name i (drop i (view_of b).sections) ≡ Some i
+first_filled-here b name i lt filled =
+    ap (first_filled name i) (sections-drop b i lt)
+    ∙ found_by (is_filled name (view_section b i)) i (first_filled name (suc i) (drop (i + 1) (view_of b).sections)) filled
+
+pub first_filled-further : (b name : List ℕ) (i : ℕ) → i < section_count b → is_filled name (view_section b i) ≡ false
+    → first_filled name i (drop i (view_of b).sections) ≡ first_filled name (i + 1) (drop (i + 1) (view_of b).sections)
+first_filled-further b name i lt other =
+    let next : suc i ≡ i + 1 = omega arith in
+    ap (first_filled name i) (sections-drop b i lt)
+    ∙ passed_by (is_filled name (view_section b i)) i (first_filled name (suc i) (drop (i + 1) (view_of b).sections)) other
+    ∙ ap (λ (k : ℕ). first_filled name k (drop (i + 1) (view_of b).sections)) next
+
+pub first_filled-end : (b name : List ℕ) (i : ℕ) → section_count b ≤ i → first_filled name i (drop i (view_of b).sections) ≡ None
+first_filled-end b name i end = ap (first_filled name i) (drop_all i (view_of b).sections (omega (arith, length-view_of b)))
+
+-- What was found is one of the sections, above the number, with the name and bytes.
+-- a section, of a number in a list whose first section has another, is one of the list with the name and bytes
+pub record IsFilledFrom (name : List ℕ) (first : ℕ) (ss : List ViewSection) (i : ℕ) : Type 0 where
+  pub from : first ≤ i
+  pub within : i < first + length ss
+
+within-further : (name : List ℕ) (first : ℕ) (s : ViewSection) (ss : List ViewSection) (i : ℕ) → IsFilledFrom name (suc first) ss i
+    → IsFilledFrom name first (s ∷ ss) i
+within-further name first s ss i there = let from = there.from in let within = there.within in record { from = omega arith; within = omega arith }
+
+some-number : (t : Bool) (i j : ℕ) (rest : Option ℕ) (P : ℕ → Type 0) → P i → (rest ≡ Some j → P j) → (if t then Some i else rest) ≡ Some j → P j
+some-number true i j rest P here further e = let same : i ≡ j = cc in subst P same here
+some-number false i j rest P here further e = further e
+
+first_filled-within : (name : List ℕ) (first : ℕ) (ss : List ViewSection) (i : ℕ) → first_filled name first ss ≡ Some i → IsFilledFrom name first ss i
+first_filled-within name first [] i e = absurd cc
+first_filled-within name first (s ∷ ss) i e =
+    some-number (is_filled name s) first i (first_filled name (suc first) ss) (IsFilledFrom name first (s ∷ ss))
+    (record { from = omega arith; within = omega arith }) (λ there. within-further name first s ss i (first_filled-within name (suc first) ss i there)) e
+
+pub section_after-within : (v : View) (name : List ℕ) (after i : ℕ) → section_after v name after ≡ Some i → (after < i) × (i < length v.sections)
+unfolding section_after
+section_after-within v name after i e =
+    let there = first_filled-within name (suc after) (drop (suc after) v.sections) i e in
+    let from = there.from in
+    let within = there.within in
+    let size = length-drop (suc after) v.sections in
+    (omega arith, omega (arith, size))

@@ -1,0 +1,90 @@
+-- The view of a file: the sections from which its debug data are read, by number, each with its name and its contents
+-- (gABI ch. 4 "Sections"), and what a field of one reads as.
+use Rattle.std.specs.Prelude.{Bool, ℕ, zero, suc, ◌==◌, ◌&&◌, not, if◌then◌else◌, List, [], ◌∷◌, drop, Option, Some, None}
+use Rattle.dw_base.specs.Elf.{order_of, nth_section, section_count, section_name, name_index, contents_of, is_empty_kind}
+use Rattle.dw_base.specs.Layout.{is_alloc}
+use Rattle.dw_base.specs.Lists.{tabulate}
+use Rattle.dw_base.specs.Notes.{BuildId, build_id_of}
+use Rattle.dw_base.specs.Numbers.{spelled}
+use Rattle.dw_base.specs.Texts.{same_text}
+use Rattle.dw_base.specs.declared.shared.Order.{Order}
+use Rattle.dw_base.specs.declared.view_fields.Field.{Field}
+use Rattle.dw_base.specs.declared.view_fields.Field.TheVariants.{Num}
+
+-- the contents of a section: bytes. Of a relocatable file each will be a byte and the relocation that begins there, so all
+-- else says contents by this word and the two below it.
+abbrev pub Contents : Type 0
+Contents = List ℕ
+
+-- bytes on which no relocation lies, as contents
+abbrev pub plain_contents : List ℕ → Contents
+plain_contents bytes = bytes
+
+-- the bytes of contents
+abbrev pub bytes_in : Contents → List ℕ
+bytes_in contents = contents
+
+-- a section of a view: its name; whether it is in the image of the running program (flag ALLOC), is the section name
+-- table, and has bytes in the file; and its contents
+pub record ViewSection : Type 0 where
+  pub name : List ℕ
+  pub alloc : Bool
+  pub is_name_table : Bool
+  pub has_bytes : Bool
+  pub contents : Contents
+
+-- the byte order, the sections in order of their numbers, and where in them the build-id is
+pub record View : Type 0 where
+  pub order : Order
+  pub sections : List ViewSection
+  pub id : Option BuildId
+
+-- the section of a number is the section name table
+abbrev pub is_name_section : List ℕ → ℕ → Bool
+is_name_section b i = not (name_index b == 0) && i == name_index b
+
+-- the section of a number of a file
+unfoldable pub view_section : List ℕ → ℕ → ViewSection
+view_section b i = record {
+  name = section_name b i;
+  alloc = is_alloc (nth_section b i);
+  is_name_table = is_name_section b i;
+  has_bytes = not (is_empty_kind (nth_section b i));
+  contents = plain_contents (contents_of b i);
+}
+
+-- the view of one file
+unfoldable pub view_of : List ℕ → View
+view_of b = record { order = order_of b; sections = tabulate (view_section b) (section_count b); id = build_id_of b }
+
+-- the contents of the section of a number of a list: none where it has no such section
+abbrev pub contents_in : List ViewSection → ℕ → Contents
+contents_in [] i = plain_contents []
+contents_in (s ∷ ss) zero = s.contents
+contents_in (s ∷ ss) (suc i) = contents_in ss i
+
+-- the bytes of the section of a number
+unfoldable pub section_bytes : View → ℕ → List ℕ
+section_bytes v i = bytes_in (contents_in v.sections i)
+
+-- the section has this name, and bytes in the file
+abbrev pub is_filled : List ℕ → ViewSection → Bool
+is_filled name s = s.has_bytes && same_text s.name name
+
+-- of sections numbered from i on, the number of the first that has a name and bytes
+abbrev pub first_filled : List ℕ → ℕ → List ViewSection → Option ℕ
+first_filled name i [] = None
+first_filled name i (s ∷ ss) = if is_filled name s then Some i else first_filled name (suc i) ss
+
+-- the first section above a number that has a name and bytes
+unfoldable pub section_after : View → List ℕ → ℕ → Option ℕ
+section_after v name after = first_filled name (suc after) (drop (suc after) v.sections)
+
+-- the section of a name: the first that has it and bytes. Section 0 is inactive in every file.
+unfoldable pub section_named : View → List ℕ → Option ℕ
+section_named v name = section_after v name 0
+
+-- what a field reads as: n bytes from a place of a section. In a file that isn't relocatable it is the number that they
+-- spell; relocations are not in the view yet.
+unfoldable pub field_at : View → ℕ → ℕ → ℕ → Field
+field_at v section place n = Num (spelled v.order (section_bytes v section) place n)

@@ -1,0 +1,201 @@
+//! The sections of debug data (DWARF 5, Appendix B; gABI ch. 4 "Special Sections").
+//!
+//! This layer promises: each section that is read has its name and its part in a file that is edited,
+//! by one table; which section a name is, and which names are those of sections that are carried as
+//! they are.
+//! It does not promise: anything of the sections of a file.
+//! Read first: `specs/DebugSections.antt`.
+
+ghost use Rattle.std.specs.Prelude.{◌≡◌, ◌<◌, ◌≤◌, ◌↔◌, IsTrue, map, length};
+ghost use Rattle.dw_base.specs.DebugSections.{debug_section, is_listed, listed_number, name_of, row_of, section_in};
+ghost use Rattle.dw_base.specs.SectionNames.{index_in};
+
+/// A section of debug data whose bytes are read.
+#[derive(Clone, Copy, Debug, PartialEq, Eq)]
+pub enum DebugSection {
+    /// `.debug_info`: units with their entries.
+    Info,
+    /// `.debug_types`: units of one type each (DWARF 4).
+    Types,
+    /// `.debug_abbrev`: tables of abbreviations.
+    Abbrev,
+    /// `.debug_str`: texts that values name by an offset.
+    Str,
+    /// `.debug_line_str`: texts that line tables name by an offset.
+    LineStr,
+    /// `.debug_str_offsets`: offsets of texts that values name by an index.
+    StrOffsets,
+    /// `.debug_line`: line tables.
+    Line,
+    /// `.debug_macro`: macro units.
+    Macro,
+    /// `.debug_names`: name tables.
+    Names,
+}
+
+/// A row of the table of sections that are read.
+#[derive(Clone, Copy, Debug, PartialEq, Eq)]
+pub struct DebugRow {
+    /// The section's name.
+    pub name: &'static [u8],
+    /// A file that is edited may get other bytes for it.
+    pub rewritten: bool,
+    /// A relocatable file may have several, one for each group of sections.
+    pub repeats: bool,
+}
+
+/// The sections that are read, in the order of the table.
+const READ: [DebugSection; 9] = [
+    DebugSection::Info,
+    DebugSection::Types,
+    DebugSection::Abbrev,
+    DebugSection::Str,
+    DebugSection::LineStr,
+    DebugSection::StrOffsets,
+    DebugSection::Line,
+    DebugSection::Macro,
+    DebugSection::Names,
+];
+
+/// The names of the sections that are carried as they are.
+const CARRIED: [&[u8]; 13] = [
+    b".debug_aranges",
+    b".debug_pubnames",
+    b".debug_pubtypes",
+    b".debug_gnu_pubnames",
+    b".debug_gnu_pubtypes",
+    b".debug_ranges",
+    b".debug_rnglists",
+    b".debug_loc",
+    b".debug_loclists",
+    b".debug_addr",
+    b".debug_frame",
+    b".debug_macinfo",
+    b".debug_gdb_scripts",
+];
+
+/// How many names a section of debug data may have.
+pub const LISTED_COUNT: usize = 22;
+
+/// A row of a section that is rewritten or not, and repeats or not.
+fn row(name: &'static [u8], rewritten: bool, repeats: bool) -> DebugRow
+    ensures { (result.name.now ≡ name.now) × (result.rewritten ≡ rewritten) × (result.repeats ≡ repeats) }
+{
+    DebugRow {
+        name,
+        rewritten,
+        repeats,
+    }
+}
+
+impl DebugSection {
+    /// The table.
+    pub fn row(self) -> DebugRow
+        ensures name { result.name.now ≡ (row_of self).name }
+        ensures rewritten { result.rewritten ≡ (row_of self).rewritten }
+        ensures repeats { result.repeats ≡ (row_of self).repeats }
+    {
+        match self {
+            DebugSection::Info => row(b".debug_info", true, true),
+            DebugSection::Types => row(b".debug_types", true, true),
+            DebugSection::Abbrev => row(b".debug_abbrev", false, false),
+            DebugSection::Str => row(b".debug_str", true, false),
+            DebugSection::LineStr => row(b".debug_line_str", true, false),
+            DebugSection::StrOffsets => row(b".debug_str_offsets", true, false),
+            DebugSection::Line => row(b".debug_line", true, false),
+            DebugSection::Macro => row(b".debug_macro", true, true),
+            DebugSection::Names => row(b".debug_names", true, false),
+        }
+    }
+
+    /// The section's name.
+    pub fn name(self) -> &'static [u8]
+        ensures name { result.now ≡ name_of self }
+    {
+        self.row().name
+    }
+
+    /// The section of a name; none exactly where it is the name of no section that is read.
+    #[tactic(auto, unfolding(crate::specs::DebugSections::debug_section))]
+    pub fn called(name: &[u8]) -> Option<DebugSection>
+        ensures section { result ≡ debug_section name.now }
+    {
+        section_in(&READ, name)
+    }
+}
+
+/// The first of these sections that has a name.
+fn section_in(sections: &[DebugSection], name: &[u8]) -> Option<DebugSection>
+    ensures { result ≡ section_in sections.now name.now }
+{
+    for section in sections {
+        if name == section.name() {
+            return Some(*section);
+        }
+    }
+    None
+}
+
+/// The place of the first of these sections that has a name, their number where none has it.
+fn number_in(sections: &[DebugSection], name: &[u8]) -> usize
+    ensures { result ≡ index_in (map name_of sections.now) name.now }
+{
+    for i in 0..sections.len() {
+        if sections[i].name() == name {
+            return i;
+        }
+    }
+    sections.len()
+}
+
+/// The place of the first of these names that is this one, their number where none is.
+fn index_in(names: &[&[u8]], name: &[u8]) -> usize
+    ensures place { result ≡ index_in (map (λ n. n.now) names.now) name.now }
+    ensures few { result ≤ length names.now }
+{
+    for i in 0..names.len() {
+        if names[i] == name {
+            return i;
+        }
+    }
+    names.len()
+}
+
+/// The place of a name among all those that a section of debug data may have; `LISTED_COUNT` exactly
+/// where it is none of them.
+pub fn listed_number(name: &[u8]) -> usize
+    ensures number { result ≡ listed_number name.now }
+    ensures listed { IsTrue (is_listed name.now) ↔ (result < LISTED_COUNT) }
+    ensures few { result ≤ LISTED_COUNT }
+{
+    let read = number_in(&READ, name);
+    if read < READ.len() {
+        return read;
+    }
+    READ.len() + index_in(&CARRIED, name)
+}
+
+#[cfg(test)]
+mod tests {
+    use super::*;
+
+    /// Names of DWARF 5, Appendix B, one of GDB, and names that are none of them.
+    const NAMES: [(&[u8], Option<DebugSection>, bool); 8] = [
+        (b".debug_info", Some(DebugSection::Info), true),
+        (b".debug_str_offsets", Some(DebugSection::StrOffsets), true),
+        (b".debug_names", Some(DebugSection::Names), true),
+        (b".debug_rnglists", None, true),
+        (b".debug_gdb_scripts", None, true),
+        (b".debug_str_offsets.dwo", None, false),
+        (b".debug_inf", None, false),
+        (b".text", None, false),
+    ];
+
+    #[test]
+    fn a_name_is_that_of_a_listed_section(rt: HostRuntime) {
+        for (name, section, listed) in NAMES {
+            assert_eq!(rt; DebugSection::called(name), section);
+            assert_eq!(rt; listed_number(name) < LISTED_COUNT, listed);
+        }
+    }
+}
