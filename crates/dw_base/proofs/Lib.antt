@@ -38,6 +38,7 @@ pub mod WrittenLaws
 pub mod WrittenSections
 pub mod PartsLaws
 pub mod PartsReadLaws
+pub mod PartsAgainLaws
 pub mod FrameLaws
 pub mod UnitChangeLaws
 pub mod MeaningLaws

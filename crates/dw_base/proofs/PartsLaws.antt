@@ -185,7 +185,7 @@ ident-same c o front parts names at w lt =
     ∙ spelled-ext Little (front_of c o front parts names) front at at 1
     (λ k below. front-kept c o front (length parts) names (at + k) w.fit.header (inl (omega arith)))
 
-class-front : (c : Class) (o : Order) (front : List ℕ) (parts : List Part) (names : ℕ) → IsParts c o front parts names → class_of (parts_file c o front parts names) ≡ class_of front
+pub class-front : (c : Class) (o : Order) (front : List ℕ) (parts : List Part) (names : ℕ) → IsParts c o front parts names → class_of (parts_file c o front parts names) ≡ class_of front
 unfolding class_of
 class-front c o front parts names w = rw (ident-same c o front parts names 4 w (omega arith)) refl
 

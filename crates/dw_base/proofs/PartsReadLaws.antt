@@ -1,11 +1,11 @@
--- What a file that was written from parts reads back as.
-use Rattle.std.proofs.Common.{◌≡◌, ◌≢◌, ℕ, suc, ◌+◌, ◌<◌, ◌≤◌, ◌==◌, true, false, List, ◌++◌, length, take, drop, get_or, slice_index, if◌then◌else◌, refl, sym, ap, ◌∙◌, arith, inl, inr, subst}
+-- The sections of a file that was written from parts, and its front.
+use Rattle.std.proofs.Common.{◌≡◌, ◌≢◌, ℕ, suc, ◌+◌, ◌<◌, ◌==◌, true, false, List, ◌++◌, length, take, drop, get_or, slice_index, if◌then◌else◌, refl, sym, ap, ◌∙◌, arith, inl, inr, subst}
 use Rattle.std.proofs.lemmas.Bool.{cases_lt, cases_eq, cases_Bool}
 use Rattle.std.proofs.lemmas.List.{length-take-le, length-drop, length-append, get_or_append_left, get_or-take, get_or-drop}
 use Rattle.dw_base.specs.Elf.{word_size, shoff_place, e_shoff, is_empty_kind, nth_section, section_count, name_index, contents_at, contents_of}
-use Rattle.dw_base.specs.Layout.{output_limit, Part, padding, extended, before_table, with_table, shdrs_bytes}
+use Rattle.dw_base.specs.Layout.{Part, padding, extended, before_table, with_table, shdrs_bytes}
 use Rattle.dw_base.specs.Numbers.{with_number}
-use Rattle.dw_base.specs.Parts.{in_section_0, in_header, numbered_head, parts_file, part_contents, FitParts, IsPartHead, PartsReadBack}
+use Rattle.dw_base.specs.Parts.{in_section_0, in_header, numbered_head, parts_file, part_contents, IsPartHead}
 use Rattle.dw_base.specs.declared.elf_numbers.TheConstants.{SHT_NULL, SHN_LORESERVE, SHN_XINDEX}
 use Rattle.dw_base.specs.declared.records.Section.{Section}
 use Rattle.dw_base.specs.declared.shared.Class.{Class}
@@ -17,17 +17,17 @@ use Rattle.dw_base.proofs.WrittenHeaders.{header_places}
 use Rattle.dw_base.proofs.WrittenSections.{moved-length, moved-byte}
 use Rattle.dw_base.proofs.WrittenContents.{part-is, empty-same, contents-empty, contents-full, new_head-same, new_head-stays, new_head-moves}
 use Rattle.dw_base.proofs.ReadsBackLaws.{put-byte}
-use Rattle.dw_base.proofs.PartsLaws.{IsParts, front_of, parts_of, laid_of, heads_of, table_of, before_of, out-is, front-kept, lt-true, lt-false, lengths, out-kept, class-same, order-same, shnum-is, shstrndx-is, shoff-is, some-parts, numbered-later, numbered-zero, numbered-part, with-part, nth-is}
+use Rattle.dw_base.proofs.PartsLaws.{IsParts, front_of, parts_of, laid_of, heads_of, table_of, before_of, out-is, front-kept, lt-true, lt-false, lengths, out-kept, shnum-is, shstrndx-is, shoff-is, some-parts, numbered-later, numbered-zero, numbered-part, with-part, nth-is}
 
 -- where a part isn't laid out, its header is its own
-stays-is : (c : Class) (o : Order) (front : List ℕ) (parts : List Part) (names i : ℕ) (d : Part) → IsParts c o front parts names → i < length parts
+pub stays-is : (c : Class) (o : Order) (front : List ℕ) (parts : List Part) (names i : ℕ) (d : Part) → IsParts c o front parts names → i < length parts
     → (get_or parts i d).moves ≡ false → nth_section (parts_file c o front parts names) i ≡ (get_or (parts_of parts names) i d).head
 stays-is c o front parts names i d w lt stays =
     nth-is c o front parts names i d w lt
     ∙ new_head-stays (length (before_of c o front parts names i)) (get_or (parts_of parts names) i d) ((numbered-part (length parts) names parts i d lt).moves ∙ stays)
 
 -- each header is the part's, as far as that is promised
-head-is : (c : Class) (o : Order) (front : List ℕ) (parts : List Part) (names i : ℕ) (d : Part) → IsParts c o front parts names → i < length parts
+pub head-is : (c : Class) (o : Order) (front : List ℕ) (parts : List Part) (names i : ℕ) (d : Part) → IsParts c o front parts names → i < length parts
     → IsPartHead i (get_or parts i d) (nth_section (parts_file c o front parts names) i)
 head-is c o front parts names i d w lt =
     let q = get_or (parts_of parts names) i d in
@@ -58,7 +58,7 @@ zero-stays c o front parts names d w stays =
     ∙ new_head-stays (length (before_of c o front parts names 0)) (get_or (parts_of parts names) 0 d) stays
     ∙ ap (λ (p : Part). p.head) (numbered-zero (length parts) names parts d (some-parts c o front parts names w))
 
-table-there : (c : Class) (o : Order) (front : List ℕ) (parts : List Part) (names : ℕ) → IsParts c o front parts names → e_shoff (parts_file c o front parts names) ≢ 0
+pub table-there : (c : Class) (o : Order) (front : List ℕ) (parts : List Part) (names : ℕ) → IsParts c o front parts names → e_shoff (parts_file c o front parts names) ≢ 0
 table-there c o front parts names w none =
     let size = lengths c o front parts names w in
     let places = header_places c in
@@ -80,7 +80,7 @@ names-by n link is =
       | inr high ↦ let own : in_section_0 n ≡ n = rw (lt-false n SHN_LORESERVE high) refl in rw (lt-false n SHN_LORESERVE high) (is ∙ own)
     ]
 
-count-is : (c : Class) (o : Order) (front : List ℕ) (parts : List Part) (names : ℕ) (d : Part) → IsParts c o front parts names
+pub count-is : (c : Class) (o : Order) (front : List ℕ) (parts : List Part) (names : ℕ) (d : Part) → IsParts c o front parts names
     → (get_or (parts_of parts names) 0 d).moves ≡ false → section_count (parts_file c o front parts names) ≡ length parts
 unfolding section_count
 count-is c o front parts names d w stays =
@@ -89,7 +89,7 @@ count-is c o front parts names d w stays =
     (count-by (length parts) (nth_section (parts_file c o front parts names) 0).size (λ none. omega arith)
     (ap (λ (s : Section). s.size) (zero-stays c o front parts names d w stays)))
 
-names-is : (c : Class) (o : Order) (front : List ℕ) (parts : List Part) (names : ℕ) (d : Part) → IsParts c o front parts names
+pub names-is : (c : Class) (o : Order) (front : List ℕ) (parts : List Part) (names : ℕ) (d : Part) → IsParts c o front parts names
     → (get_or (parts_of parts names) 0 d).moves ≡ false → name_index (parts_file c o front parts names) ≡ names
 unfolding name_index
 names-is c o front parts names d w stays =
@@ -221,7 +221,7 @@ front-byte c o front parts names k w lt =
     (put-byte o (before_table c (laid_of c o front parts names) ++ shdrs_bytes c o (heads_of c o front parts names)) (front_of c o front parts names)
     (shoff_place c) (word_size c) (table_of c o front parts names) k (omega arith) (omega arith) (table-kept c o front parts names k w lt))
 
-front-is : (c : Class) (o : Order) (front : List ℕ) (parts : List Part) (names : ℕ) → IsParts c o front parts names
+pub front-is : (c : Class) (o : Order) (front : List ℕ) (parts : List Part) (names : ℕ) → IsParts c o front parts names
     → take (length front) (parts_file c o front parts names)
     ≡ with_number o (front_of c o front parts names) (shoff_place c) (word_size c) (e_shoff (parts_file c o front parts names))
 front-is c o front parts names w =
@@ -236,7 +236,7 @@ front-is c o front parts names w =
     (λ k lt. let none : 0 + k ≡ k = omega arith in rw none (front-byte c o front parts names k w (omega arith))))
 
 -- section 0 isn't laid out
-zero-kept : (parts : List Part) (d : Part) → (get_or parts 0 d).head.kind ≡ SHT_NULL
+pub zero-kept : (parts : List Part) (d : Part) → (get_or parts 0 d).head.kind ≡ SHT_NULL
     → ((get_or parts 0 d).moves ≡ true → is_empty_kind (get_or parts 0 d).head ≡ false) → (get_or parts 0 d).moves ≡ false
 zero-kept parts d null full =
     elim (cases_Bool (get_or parts 0 d).moves) [
@@ -248,7 +248,7 @@ zero-kept parts d null full =
     ]
 
 -- what each part has
-contents-is : (c : Class) (o : Order) (front : List ℕ) (parts : List Part) (names i : ℕ) (d : Part) → IsParts c o front parts names → i < length parts
+pub contents-is : (c : Class) (o : Order) (front : List ℕ) (parts : List Part) (names i : ℕ) (d : Part) → IsParts c o front parts names → i < length parts
     → ((get_or parts i d).moves ≡ true → is_empty_kind (get_or parts i d).head ≡ false)
     → contents_of (parts_file c o front parts names) i ≡ part_contents front (get_or parts i d)
 unfolding contents_of
@@ -264,23 +264,3 @@ contents-is c o front parts names i d w lt full =
             | inr later ↦ kept-contents c o front parts names i d w lt kept (omega arith) ∙ sym (part-full front (get_or parts i d) kept)
           ]
     ]
-
--- a file that was written from parts reads back
-pub parts_read_back : (c : Class) (o : Order) (front : List ℕ) (parts : List Part) (names : ℕ) → FitParts c o front parts names
-    → length (parts_file c o front parts names) ≤ output_limit
-    → ((i : ℕ) (d : Part) → i < length parts → (get_or parts i d).moves ≡ true → is_empty_kind (get_or parts i d).head ≡ false) → (any : Part)
-    → PartsReadBack c o front parts names (parts_file c o front parts names)
-parts_read_back c o front parts names fit small full any =
-    let w : IsParts c o front parts names = record { fit = fit; small = small } in
-    let some = some-parts c o front parts names w in
-    let kept = zero-kept parts any (fit.null any) (full 0 any some) in
-    let stays = (numbered-part (length parts) names parts 0 any some).moves ∙ kept in
-    record {
-      class_is = class-same c o front parts names w;
-      order_is = order-same c o front parts names w;
-      count = count-is c o front parts names any w stays;
-      named = names-is c o front parts names any w stays;
-      heads = λ i d lt. head-is c o front parts names i d w lt;
-      contents = λ i d lt. contents-is c o front parts names i d w lt (full i d lt);
-      front_is = front-is c o front parts names w;
-    }

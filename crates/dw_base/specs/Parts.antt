@@ -1,15 +1,18 @@
 -- Files written from parts: a front that is given whole, and sections with their headers; this project's profile. A number
 -- of sections of 0xff00 or more, and such a number of the section name table, stand in section 0 (gABI ch. 4 "ELF Header",
 -- `e_shnum`, `e_shstrndx`).
-use Rattle.std.specs.Prelude.{false, ◌≡◌, ◌≢◌, ℕ, ◌+◌, ◌<◌, ◌≤◌, nat_lt, if◌then◌else◌, List, [], ◌∷◌, length, take, slice_index_or}
+use Rattle.std.specs.Prelude.{true, false, ◌≡◌, ◌≢◌, ℕ, ◌+◌, ◌<◌, ◌≤◌, nat_lt, if◌then◌else◌, List, [], ◌∷◌, length, take, slice_index_or}
+use Rattle.std.specs.Int.{is_power_of_two}
 use Rattle.dw_base.specs.Elf.{class_of, order_of, ehdr_size, word_size, shoff_place, shnum_place, shstrndx_place, e_shoff, is_empty_kind, nth_section, section_count, name_index, contents_at, contents_of}
+use Rattle.dw_base.specs.ElfFails.{HeaderReads, ShapeReads, SegmentTableReads, SegmentsRead, ElfReads}
 use Rattle.dw_base.specs.Fields.{FieldsFit}
 use Rattle.dw_base.specs.Layout.{Part, laid_out, shdr_fields}
 use Rattle.dw_base.specs.Numbers.{with_number}
+use Rattle.dw_base.specs.Texts.{ends_in}
 use Rattle.dw_base.specs.declared.shared.Order.{Order}
 use Rattle.dw_base.specs.declared.shared.Class.{Class}
 use Rattle.dw_base.specs.declared.records.Section.{Section}
-use Rattle.dw_base.specs.declared.elf_numbers.TheConstants.{SHT_NULL, SHN_LORESERVE, SHN_XINDEX}
+use Rattle.dw_base.specs.declared.elf_numbers.TheConstants.{SHT_NULL, SHT_STRTAB, SHN_LORESERVE, SHN_XINDEX}
 
 -- what section 0 has of a number: the number itself, where it is 0xff00 or more
 abbrev pub in_section_0 : ℕ → ℕ
@@ -72,8 +75,28 @@ pub record IsPartHead (i : ℕ) (p : Part) (new : Section) : Type 0 where
   pub align : new.align ≡ p.head.align
   pub entry_size : new.entry_size ≡ p.head.entry_size
 
--- the file `out` has these parts as sections, in the class and order, and the name table of this number; what stands in
--- the front is as it was, but for the numbers of sections and of the name table and the place of the section headers
+-- the front reads as that of a file with sections: its file header and its program headers do, and each segment with bytes
+-- ends in it
+pub record FrontReads (front : List ℕ) : Type 0 where
+  pub header : HeaderReads front
+  pub sections : e_shoff front ≢ 0
+  pub shape : ShapeReads front
+  pub segment_table : SegmentTableReads front
+  pub segments : SegmentsRead front
+
+-- the parts read as sections: each alignment is 0 or a power of two, the section name table is a string table, and each name
+-- ends in it
+pub record PartsRead (front : List ℕ) (parts : List Part) (names : ℕ) : Type 0 where
+  pub align : (i : ℕ) (d : Part) → i < length parts → (slice_index_or parts i d).head.align ≢ 0
+      → is_power_of_two (slice_index_or parts i d).head.align ≡ true
+  pub strings : (d : Part) → names ≢ 0 → (slice_index_or parts names d).head.kind ≡ SHT_STRTAB
+  pub ends : (i : ℕ) (d : Part) → i < length parts → names ≢ 0
+      → ends_in (part_contents front (slice_index_or parts names d)) (slice_index_or parts i d).head.name ≡ true
+
+-- the file `out` has these parts as sections, in the class and order, and the name table of this number: a part that is
+-- laid out anew has the size of its body, and stands behind the front. What stands in the front is as it was, but for the
+-- numbers of sections and of the name table and the place of the section headers; and it reads as a file where front and
+-- parts read
 pub record PartsReadBack (class : Class) (order : Order) (front : List ℕ) (parts : List Part) (names : ℕ) (out : List ℕ) : Type 0 where
   pub class_is : class_of out ≡ class
   pub order_is : order_of out ≡ order
@@ -81,5 +104,9 @@ pub record PartsReadBack (class : Class) (order : Order) (front : List ℕ) (par
   pub named : name_index out ≡ names
   pub heads : (i : ℕ) (d : Part) → i < length parts → IsPartHead i (slice_index_or parts i d) (nth_section out i)
   pub contents : (i : ℕ) (d : Part) → i < length parts → contents_of out i ≡ part_contents front (slice_index_or parts i d)
+  pub size : (i : ℕ) (d : Part) → i < length parts → (slice_index_or parts i d).moves ≡ true
+      → (nth_section out i).size ≡ length (slice_index_or parts i d).body
+  pub behind : (i : ℕ) (d : Part) → i < length parts → (slice_index_or parts i d).moves ≡ true → length front ≤ (nth_section out i).offset
   pub front_is : take (length front) out
       ≡ with_number order (numbered_front class order front (length parts) names) (shoff_place class) (word_size class) (e_shoff out)
+  pub reads : FrontReads front → PartsRead front parts names → ElfReads out

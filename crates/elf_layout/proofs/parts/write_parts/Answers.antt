@@ -2,7 +2,7 @@
 use Rattle.std.proofs.Common.{◌≤◌, List, ℕ, length, subst, sym}
 use Rattle.dw_base.specs.Layout.{output_limit}
 use Rattle.dw_base.specs.Parts.{PartsReadBack, parts_file}
-use Rattle.dw_base.proofs.PartsReadLaws.{parts_read_back}
+use Rattle.dw_base.proofs.PartsAgainLaws.{parts_read_back}
 use Rattle.elf_layout.specs.PartsGiven.{parts_given}
 use Rattle.elf_layout.proofs.PartRows.{given-full, any_part}
 use Rattle.elf_layout.proofs.parts.write_parts.Goals as goal
