@@ -67,3 +67,4 @@ pub mod WorkedUnits
 pub mod DebugSectionLaws
 pub mod DebugSectionFailsLaws
 pub mod FileViewLaws
+pub mod WorkedEntries

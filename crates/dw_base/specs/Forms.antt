@@ -8,9 +8,9 @@ use Rattle.dw_base.specs.declared.values.ValueClass.TheVariants.{Address, Number
 use Rattle.dw_base.specs.declared.dwarf_numbers.TheConstants.{DW_FORM_addr, DW_FORM_block2, DW_FORM_block4, DW_FORM_data2, DW_FORM_data4, DW_FORM_data8, DW_FORM_string, DW_FORM_block, DW_FORM_block1, DW_FORM_data1, DW_FORM_flag, DW_FORM_sdata, DW_FORM_strp, DW_FORM_udata, DW_FORM_ref_addr, DW_FORM_ref1, DW_FORM_ref2, DW_FORM_ref4, DW_FORM_ref8, DW_FORM_ref_udata, DW_FORM_indirect, DW_FORM_sec_offset, DW_FORM_exprloc, DW_FORM_flag_present, DW_FORM_strx, DW_FORM_addrx, DW_FORM_ref_sup4, DW_FORM_strp_sup, DW_FORM_data16, DW_FORM_line_strp, DW_FORM_ref_sig8, DW_FORM_implicit_const, DW_FORM_loclistx, DW_FORM_rnglistx, DW_FORM_ref_sup8, DW_FORM_strx1, DW_FORM_strx2, DW_FORM_strx3, DW_FORM_strx4, DW_FORM_addrx1, DW_FORM_addrx2, DW_FORM_addrx3, DW_FORM_addrx4, DW_FORM_GNU_ref_alt, DW_FORM_GNU_strp_alt}
 
 -- the tables that hold texts (DWARF 5, 7.5.5, class string)
-pub data TextTable : Type 0 where
-  in_str : TextTable
-  in_line_str : TextTable
+pub data TextSection : Type 0 where
+  in_str : TextSection
+  in_line_str : TextSection
 
 -- what a value of a form is: a number of a class in so many bytes, or in LEB128; a signed number; so many bytes, or a block
 -- behind a count of so many bytes, or of LEB128; a text, or an offset of so many bytes of one in a table; a flag without
@@ -24,7 +24,7 @@ pub data ValueKind : Type 0 where
   counted : ℕ → ValueKind
   counted_leb : ValueKind
   inline_text : ValueKind
-  text_offset : TextTable → ℕ → ValueKind
+  text_offset : TextSection → ℕ → ValueKind
   present : ValueKind
   in_abbreviation : ValueKind
   form_in_front : ValueKind

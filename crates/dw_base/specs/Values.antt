@@ -1,7 +1,7 @@
 -- The value that stands at a place, by its form (DWARF 5, 7.5.5 and 7.5.6). A value lies in the bytes that are given,
 -- which are those of its section up to the end of its unit.
 use Rattle.std.specs.Prelude.{ℕ, ℤ, pos, negsuc, ◌+◌, ◌-◌, ◌^◌, if◌then◌else◌, List, length, Option, Some, None, nat_le}
-use Rattle.dw_base.specs.Forms.{TextTable, in_str, in_line_str, ValueKind, number_of, leb_number, signed_leb, block_of, counted, counted_leb, inline_text, text_offset, present, in_abbreviation, form_in_front, supplementary, unlisted, kind_in}
+use Rattle.dw_base.specs.Forms.{TextSection, in_str, in_line_str, ValueKind, number_of, leb_number, signed_leb, block_of, counted, counted_leb, inline_text, text_offset, present, in_abbreviation, form_in_front, supplementary, unlisted, kind_in}
 use Rattle.dw_base.specs.Lebs.{uleb_at, sleb_at}
 use Rattle.dw_base.specs.Numbers.{number_at}
 use Rattle.dw_base.specs.Texts.{text_in, ends_in}
@@ -59,7 +59,7 @@ bare_value bytes at class n =
     if nat_le at (length bytes) then Some (record { class = class; number = n; at = at; len = 0; size = 0 }) else None
 
 -- an offset of a text in a table
-abbrev pub offset_class : TextTable → ValueClass
+abbrev pub offset_class : TextSection → ValueClass
 offset_class in_str = StrOffset
 offset_class in_line_str = LineStrOffset
 

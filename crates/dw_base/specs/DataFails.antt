@@ -1,0 +1,56 @@
+-- Why debug data can't be read, or not be mapped: what is wrong with a unit, its table of abbreviations or its entries; an
+-- offset of a text that names none; and a path that stands in its value and would grow.
+use Rattle.std.specs.Prelude.{true, false, ◌≡◌, ℕ, List, ◌∷◌, ◌++◌, Option, Some, None}
+use Rattle.dw_base.specs.AbbreviationFails.{AbbreviationFails}
+use Rattle.dw_base.specs.AbbreviationTables.{Abbreviation}
+use Rattle.dw_base.specs.Cells.{Located, cells_at, offset_of}
+use Rattle.dw_base.specs.DebugData.{DebugData}
+use Rattle.dw_base.specs.EntryScans.{EntryFails}
+use Rattle.dw_base.specs.EntryValues.{HasUnit, HasTable, HasValue, bytes_up_to}
+use Rattle.dw_base.specs.InlinePaths.{inline_fits}
+use Rattle.dw_base.specs.Paths.{PathMap}
+use Rattle.dw_base.specs.Refusals.{at}
+use Rattle.dw_base.specs.Roles.{is_path}
+use Rattle.dw_base.specs.Texts.{text_in, ends_in}
+use Rattle.dw_base.specs.UnitFails.{UnitFails}
+use Rattle.dw_base.specs.UnitHeaders.{UnitSection}
+use Rattle.dw_base.specs.declared.fault.Kind.TheVariants.{StringOffset, InlineGrows}
+use Rattle.dw_base.specs.declared.fault.Refusal.{Refusal}
+use Rattle.dw_base.specs.declared.units.UnitHeader.{UnitHeader}
+use Rattle.dw_base.specs.declared.values.Spec.{Spec}
+use Rattle.dw_base.specs.declared.values.Value.{Value}
+use Rattle.dw_base.specs.declared.values.ValueClass.{ValueClass}
+use Rattle.dw_base.specs.declared.values.ValueClass.TheVariants.{InlineText, StrOffset, LineStrOffset}
+
+-- the table of texts that offsets of a class are of
+abbrev pub text_table : DebugData → ValueClass → Option Located
+text_table d StrOffset = Some d.str
+text_table d LineStrOffset = Some d.line_str
+text_table d class = None
+
+-- the offset that a value's field holds into a table
+abbrev pub value_offset : DebugData → UnitSection → Value → Located → ℕ
+value_offset d z v table = offset_of d.base.order table (cells_at z.contents v.at v.len)
+
+-- the rows of units, tables and entries
+pub data DataFails (d : DebugData) : Refusal → Type 0 where
+  unit : (z : UnitSection) (before behind : List UnitSection) {r : Refusal} → d.units ≡ before ++ z ∷ behind → UnitFails d.base z r
+      → DataFails d r
+  table : (z : UnitSection) (h : UnitHeader) {r : Refusal} → HasUnit d z h
+      → AbbreviationFails d.base.abbrevs.bytes d.base.abbrevs.number h.abbrevs r → DataFails d r
+  entries : (z : UnitSection) (h : UnitHeader) (list : List Abbreviation) {r : Refusal} → HasTable d z h list
+      → EntryFails h list (bytes_up_to z h) r → DataFails d r
+
+-- the row of texts, at the field of the offset
+pub data TextFails (d : DebugData) : Refusal → Type 0 where
+  no_text : (z : UnitSection) (h : UnitHeader) (list : List Abbreviation) (number : ℕ) (a : Abbreviation) (x : Spec) (place : ℕ)
+      (v : Value) (table : Located) → HasTable d z h list → HasValue h list (bytes_up_to z h) number a x place v
+      → text_table d v.class ≡ Some table → ends_in table.bytes (value_offset d z v table) ≡ false
+      → TextFails d (at StringOffset z.number v.at)
+
+-- the row of paths that stand in their values, at the text
+pub data InlineFails (m : PathMap) (d : DebugData) : Refusal → Type 0 where
+  grows : (z : UnitSection) (h : UnitHeader) (list : List Abbreviation) (number : ℕ) (a : Abbreviation) (x : Spec) (place : ℕ)
+      (v : Value) → HasTable d z h list → HasValue h list (bytes_up_to z h) number a x place v
+      → is_path number a.tag x.name ≡ true → v.class ≡ InlineText
+      → inline_fits m (text_in (bytes_up_to z h) v.at) ≡ false → InlineFails m d (at InlineGrows z.number v.at)

@@ -1,0 +1,56 @@
+-- What an attribute is to an edit, and what an edit may do to a piece of a unit.
+use Rattle.std.specs.Prelude.{Bool, true, false, ℕ, ◌==◌, ◌&&◌, ◌||◌, if◌then◌else◌, ◌∷◌}
+use Rattle.dw_base.specs.Forms.{TextSection, ValueKind, inline_text, text_offset, kind_in}
+use Rattle.dw_base.specs.Pieces.{Piece}
+use Rattle.dw_base.specs.UnitStates.{Mode, at_values, at_chosen, UnitState}
+use Rattle.dw_base.specs.declared.shared.Params.{Params}
+use Rattle.dw_base.specs.declared.dwarf_numbers.TheConstants.{DW_TAG_compile_unit, DW_TAG_partial_unit, DW_TAG_type_unit, DW_AT_name, DW_AT_comp_dir, DW_AT_stmt_list, DW_AT_macros, DW_AT_GNU_macros}
+
+-- what an attribute says, as far as an edit goes by it: a source path, the place of a line table, that of a macro unit, or
+-- something else
+pub data Use : Type 0 where
+  names_path : Use
+  names_line_table : Use
+  names_macro_unit : Use
+  names_other : Use
+
+-- a unit's own tag (DWARF 5, 3.1.1 and 3.1.4)
+abbrev pub is_unit_tag : ℕ → Bool
+is_unit_tag tag = tag == DW_TAG_compile_unit || tag == DW_TAG_partial_unit || tag == DW_TAG_type_unit
+
+-- an attribute that says a source path where its value is a text: name or comp_dir of the first entry of a unit whose tag is
+-- a unit's (DWARF 5, 3.1.1)
+abbrev pub is_path : ℕ → ℕ → ℕ → Bool
+is_path number tag name = number == 0 && is_unit_tag tag && (name == DW_AT_name || name == DW_AT_comp_dir)
+
+-- what an attribute of entry `number` of a unit, of a tag, says
+abbrev pub use_of : ℕ → ℕ → ℕ → Use
+use_of number tag name =
+    if is_path number tag name then names_path else
+    (if name == DW_AT_stmt_list then names_line_table else
+    (if name == DW_AT_macros || name == DW_AT_GNU_macros then names_macro_unit else names_other))
+
+abbrev pub is_path_use : Use → Bool
+is_path_use names_path = true
+is_path_use u = false
+
+-- what an edit may do to a piece: nothing; give its offset into a table of texts, of a path or not, another value; or, where
+-- a path stands in it, map that
+pub data Role : Type 0 where
+  fixed : Role
+  offset : TextSection → Bool → Role
+  inline_path : Role
+
+abbrev pub role_of_kind : ValueKind → Use → Role
+role_of_kind (text_offset table n) u = offset table (is_path_use u)
+role_of_kind inline_text u = if is_path_use u then inline_path else fixed
+role_of_kind k u = fixed
+
+abbrev pub role_of_mode : Mode → Params → Role
+role_of_mode (at_values number tag (x ∷ xs)) params = role_of_kind (kind_in params x.form) (use_of number tag x.name)
+role_of_mode (at_chosen number tag start x xs) params = role_of_kind (kind_in params x.form) (use_of number tag x.name)
+role_of_mode m params = fixed
+
+-- the role of a piece
+unfoldable pub role_of : Piece UnitState → Role
+role_of x = role_of_mode x.state.mode x.state.header.params

@@ -1,0 +1,114 @@
+-- The texts that pieces of units name, and what becomes of the pieces when the tables of texts change. The offset in a field
+-- is read and written by words of their own.
+use Rattle.std.specs.Prelude.{Bool, ◌+◌, ◌-◌, ◌%◌, ◌^◌, ℕ, List, [], ◌∷◌, ◌++◌, length, if◌then◌else◌, IsTrue, ⊤, Option, Some, None}
+use Rattle.dw_base.specs.Cells.{Cell, Relocation, bytes_of, with_bytes, first_relocation, offset_of}
+use Rattle.dw_base.specs.DebugData.{Around, Readings, table_of}
+use Rattle.dw_base.specs.Forms.{TextSection, in_str, in_line_str}
+use Rattle.dw_base.specs.InlinePaths.{inline_fits, mapped_inline}
+use Rattle.dw_base.specs.Numbers.{number_bytes}
+use Rattle.dw_base.specs.Paths.{PathMap}
+use Rattle.dw_base.specs.Pieces.{Piece}
+use Rattle.dw_base.specs.Roles.{Role, fixed, offset, inline_path, role_of}
+use Rattle.dw_base.specs.StringTables.{Mention, Plan, new_place}
+use Rattle.dw_base.specs.Texts.{text, text_in, ends_in}
+use Rattle.dw_base.specs.UnitStates.{UnitState}
+use Rattle.dw_base.specs.declared.shared.Order.{Order}
+
+-- the value of the symbol of a relocation, 0 where it isn't defined
+abbrev pub symbol_value : Option (ℕ × ℕ) → ℕ
+symbol_value None = 0
+symbol_value (Some t) = t.1
+
+-- a relocation whose addend makes its field the offset n
+abbrev pub moved_relocation : Relocation → ℕ → Relocation
+moved_relocation r n = record r { addend = Some ((n + 2 ^ 64 - symbol_value r.target) % 2 ^ 64) }
+
+abbrev pub with_relocation : List Cell → Relocation → List Cell
+with_relocation [] r = []
+with_relocation (c ∷ cs) r = record c { relocation = Some r } ∷ cs
+
+-- a field of the same size with another offset: without a relocation its bytes spell it; with one the addend of its record
+-- makes it, or where that has none the number in the field (gABI ch. 4 "Relocation")
+abbrev pub by_addend : Option ℕ → Order → Relocation → List Cell → ℕ → List Cell
+by_addend None order r p n =
+    with_bytes p (number_bytes order (length p) ((n + 256 ^ length p - symbol_value r.target) % 256 ^ length p))
+by_addend (Some a) order r p n = with_relocation p (moved_relocation r n)
+
+abbrev pub with_offset_by : Option Relocation → Order → List Cell → ℕ → List Cell
+with_offset_by None order p n = with_bytes p (number_bytes order (length p) n)
+with_offset_by (Some r) order p n = by_addend r.addend order r p n
+
+unfoldable pub with_offset : Order → List Cell → ℕ → List Cell
+with_offset order p n = with_offset_by (first_relocation p) order p n
+
+-- the offset that a field holds into a table
+abbrev pub offset_in : Around → TextSection → List Cell → ℕ
+offset_in around table p = offset_of around.lasting.base.order (table_of around table) p
+
+-- the mention that a field of an offset into a table makes
+abbrev pub mention_at : Around → TextSection → Bool → List Cell → Mention
+mention_at around table path p = record { path = path; text = text_in (table_of around table).bytes (offset_in around table p) }
+
+-- the mentions of texts of a table in pieces, in order
+abbrev pub mentions_by : Role → TextSection → Around → List Cell → List Mention
+mentions_by (offset in_str path) in_str around p = mention_at around in_str path p ∷ []
+mentions_by (offset in_line_str path) in_line_str around p = mention_at around in_line_str path p ∷ []
+mentions_by r table around p = []
+
+abbrev pub mentions_of : TextSection → Around → List (Piece UnitState) → List Mention
+mentions_of table around [] = []
+mentions_of table around (x ∷ xs) = mentions_by (role_of x) table around x.cells ++ mentions_of table around xs
+
+abbrev pub all_mentions : TextSection → Around → Readings → List Mention
+all_mentions table around [] = []
+all_mentions table around (r ∷ rs) = mentions_of table around r.pieces ++ all_mentions table around rs
+
+-- what becomes of a table: its plan, and its new texts
+pub record TableChange : Type 0 where
+  pub plan : Plan
+  pub texts : List (List ℕ)
+
+-- what becomes of all tables, and the map of paths
+pub record TableChanges : Type 0 where
+  pub map : PathMap
+  pub str : TableChange
+  pub line_str : TableChange
+
+abbrev pub change_of : TableChanges → TextSection → TableChange
+change_of changes in_str = changes.str
+change_of changes in_line_str = changes.line_str
+
+-- a field whose mention asks for a new place has it
+abbrev pub moved_field : TableChange → PathMap → Order → Mention → List Cell → List Cell
+moved_field change m order mention p =
+    if change.plan.asks mention then with_offset order p (new_place change.plan m change.texts mention) else p
+
+-- what becomes of cells of a role
+abbrev pub edited_by : Role → TableChanges → Around → List Cell → List Cell
+edited_by fixed changes around p = p
+edited_by (offset table path) changes around p =
+    moved_field (change_of changes table) changes.map around.lasting.base.order (mention_at around table path p) p
+edited_by inline_path changes around p = with_bytes p (mapped_inline changes.map (text (bytes_of p)))
+
+abbrev pub edited : TableChanges → Around → Piece UnitState → Piece UnitState
+edited changes around x = record { state = x.state; cells = edited_by (role_of x) changes around x.cells }
+
+abbrev pub edited_all : TableChanges → Around → List (Piece UnitState) → List (Piece UnitState)
+edited_all changes around [] = []
+edited_all changes around (x ∷ xs) = edited changes around x ∷ edited_all changes around xs
+
+-- an offset of a text names one that ends in its table
+abbrev pub NamesTextBy : Role → Around → List Cell → Type 0
+NamesTextBy (offset table path) around p = IsTrue (ends_in (table_of around table).bytes (offset_in around table p))
+NamesTextBy r around p = ⊤
+
+abbrev pub NamesText : Around → Piece UnitState → Type 0
+NamesText around x = NamesTextBy (role_of x) around x.cells
+
+-- a mapped path fits the room of one that stands in its value
+abbrev pub InlineFitsBy : Role → PathMap → List Cell → Type 0
+InlineFitsBy inline_path m p = IsTrue (inline_fits m (text (bytes_of p)))
+InlineFitsBy r m p = ⊤
+
+abbrev pub InlineFits : PathMap → Piece UnitState → Type 0
+InlineFits m x = InlineFitsBy (role_of x) m x.cells

@@ -1,0 +1,112 @@
+-- What a value of an attribute means (DWARF 5, 7.5.5). It is said in names, numbers and texts: where a text stands in its
+-- table, which form holds it and where a section lies are not in it.
+use Rattle.std.specs.Prelude.{Bool, true, false, ◌+◌, ℕ, ℤ, pos, ◌==◌, ◌&&◌, if◌then◌else◌, List, [], ◌∷◌, drop, length, Option, Some, None}
+use Rattle.dw_base.specs.Cells.{Cell, Relocation, FieldValue, num, into, sym, bytes_of, field_of, offset_of, first_relocation, addend_of}
+use Rattle.dw_base.specs.DebugData.{Lasting, Around, EntryPlace, table_of}
+use Rattle.dw_base.specs.Forms.{ValueKind, number_of, leb_number, signed_leb, block_of, counted, counted_leb, inline_text, text_offset, present, in_abbreviation, form_in_front, supplementary, unlisted}
+use Rattle.dw_base.specs.Lebs.{uleb_at, sleb_at}
+use Rattle.dw_base.specs.Numbers.{spelled}
+use Rattle.dw_base.specs.Roles.{Use, is_path_use}
+use Rattle.dw_base.specs.Texts.{text, text_in}
+use Rattle.dw_base.specs.UnitStates.{UnitState, code_value}
+use Rattle.dw_base.specs.declared.shared.Order.{Order}
+use Rattle.dw_base.specs.declared.values.Spec.{Spec}
+use Rattle.dw_base.specs.declared.values.ValueClass.{ValueClass}
+use Rattle.dw_base.specs.declared.values.ValueClass.TheVariants.{Address, Flag, LocalRef, GlobalRef}
+
+-- how a text is held: where its value stands, by an offset into a table, or by the slot of a number
+pub data TextForm : Type 0 where
+  inline : TextForm
+  by_offset : TextForm
+  by_slot : ℕ → TextForm
+
+-- what a value means: a string, which is a source path or not; an entry, by the numbers of its unit and in it; a reference
+-- to a place where no entry starts; the line table or the macro unit of a number; bytes; a signed number; or a number, with
+-- the class that says of what
+pub data ValueMeaning : Type 0 where
+  string : Bool → TextForm → List ℕ → ValueMeaning
+  entry_of : ℕ → ℕ → ValueMeaning
+  stray : ℕ → ValueMeaning
+  table_number : ℕ → ValueMeaning
+  macro_number : ℕ → ValueMeaning
+  raw : List Cell → ValueMeaning
+  signed_number : ℤ → ValueMeaning
+  of_class : ValueClass → FieldValue → ValueMeaning
+
+-- the entry that starts at a place of a section; where none does, the offset that was to name one
+abbrev pub found_entry : List EntryPlace → ℕ → ℕ → ℕ → ValueMeaning
+found_entry [] section place n = stray n
+found_entry (e ∷ es) section place n =
+    if e.section == section && e.place == place then entry_of e.unit e.number else found_entry es section place n
+
+-- the first section of a list, or 0
+abbrev pub first_of : List ℕ → ℕ
+first_of [] = 0
+first_of (i ∷ rest) = i
+
+abbrev pub holds_number : List ℕ → ℕ → Bool
+holds_number [] n = false
+holds_number (i ∷ rest) n = if i == n then true else holds_number rest n
+
+-- what a field refers to in .debug_info
+abbrev pub global_entry : Lasting → FieldValue → ValueMeaning
+global_entry g (num n) = found_entry g.entries (first_of g.infos) n n
+global_entry g (into z n) = if holds_number g.infos z then found_entry g.entries z n n else stray n
+global_entry g (sym s k a) = of_class GlobalRef (sym s k a)
+
+abbrev pub number_of_field : FieldValue → ℕ
+number_of_field (num n) = n
+number_of_field (into z n) = n
+number_of_field (sym s k a) = a
+
+-- what a field refers to in its unit, from whose start it counts
+abbrev pub local_entry : Lasting → UnitState → FieldValue → ValueMeaning
+local_entry g s f = found_entry g.entries s.section (s.header.start + number_of_field f) (number_of_field f)
+
+-- an address: the number, or where a relocation begins at it, its symbol, type and addend
+abbrev pub address_by : Option Relocation → ℕ → FieldValue
+address_by None n = num n
+address_by (Some r) n = sym r.symbol r.kind (addend_of r.addend n)
+
+unfoldable pub address_of : Order → List Cell → FieldValue
+address_of order p = address_by (first_relocation p) (spelled order (bytes_of p) 0 (length p))
+
+-- what the cells of a number of a class mean
+abbrev pub meaning_of_number : Lasting → UnitState → ValueClass → List Cell → ValueMeaning
+meaning_of_number g s Address p = of_class Address (address_of g.base.order p)
+meaning_of_number g s LocalRef p = local_entry g s (field_of g.base.order p)
+meaning_of_number g s GlobalRef p = global_entry g (field_of g.base.order p)
+meaning_of_number g s class p = of_class class (field_of g.base.order p)
+
+-- and those of one in LEB128
+abbrev pub meaning_of_leb : Lasting → UnitState → ValueClass → ℕ → ValueMeaning
+meaning_of_leb g s LocalRef n = local_entry g s (num n)
+meaning_of_leb g s class n = of_class class (num n)
+
+-- how many bytes a count in front of a block has
+abbrev pub read_size : Option (ℕ × ℕ) → ℕ
+read_size None = 0
+read_size (Some n) = n.1
+
+-- the value of a signed number that was read, 0 where nothing was
+abbrev pub read_signed : Option (ℤ × ℕ) → ℤ
+read_signed None = pos 0
+read_signed (Some n) = n.0
+
+-- what the cells of a value of a kind mean, of an attribute of a unit; cells of a form that isn't listed are never read
+abbrev pub meaning_of_value : Around → UnitState → Use → Spec → ValueKind → List Cell → ValueMeaning
+meaning_of_value around s u x (number_of class n) p = meaning_of_number around.lasting s class p
+meaning_of_value around s u x (leb_number class) p = meaning_of_leb around.lasting s class (code_value p)
+meaning_of_value around s u x signed_leb p = signed_number (read_signed (sleb_at (bytes_of p) 0))
+meaning_of_value around s u x (block_of n) p = raw p
+meaning_of_value around s u x (counted n) p = raw (drop n p)
+meaning_of_value around s u x counted_leb p = raw (drop (read_size (uleb_at (bytes_of p) 0)) p)
+meaning_of_value around s u x inline_text p = string (is_path_use u) inline (text (bytes_of p))
+meaning_of_value around s u x (text_offset table n) p =
+    string (is_path_use u) by_offset
+    (text_in (table_of around table).bytes (offset_of around.lasting.base.order (table_of around table) p))
+meaning_of_value around s u x present p = of_class Flag (num 1)
+meaning_of_value around s u x in_abbreviation p = signed_number x.implicit
+meaning_of_value around s u x form_in_front p = raw p
+meaning_of_value around s u x supplementary p = raw p
+meaning_of_value around s u x unlisted p = raw p
