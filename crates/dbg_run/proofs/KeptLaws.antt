@@ -5,7 +5,7 @@ use Rattle.std.specs.List.{list_any}
 use Rattle.std.specs.Cmp.Lexicographic.{nat_list_cmp_total}
 use Rattle.std.specs.FinMap as fin
 use Rattle.std.proofs.lemmas.Cmp.{eq_by_cmp_equiv}
-use Rattle.dw_base.specs.First.{file_limit}
+use Rattle.dw_base.specs.Layout.{file_limit}
 use Rattle.dw_base.specs.Loaded.{LoadedKept}
 use Rattle.dw_base.specs.Mapped.{MeaningKept}
 use Rattle.dw_base.specs.Paths.{PathMap}

@@ -2,7 +2,7 @@
 use Rattle.std.proofs.Common.{◌≡◌, ◌≢◌, ℕ, List, refl, sym, ap, subst, ◌∙◌, ◌⊎◌, inl, inr}
 use Rattle.std.specs.Prelude.{Option, Some, None, is_some}
 use Rattle.dw_base.specs.EditFails.{IsAccepted}
-use Rattle.dw_base.specs.First.{file_limit}
+use Rattle.dw_base.specs.Layout.{file_limit}
 use Rattle.dw_base.specs.Paths.{PathMap}
 use Rattle.file_tree.specs.declared.node.Found.{Found}
 use Rattle.file_tree.specs.declared.node.Found.TheVariants as found

@@ -2,7 +2,7 @@
 use Rattle.std.specs.Prelude.{◌≡◌, ℕ, true, List, Option, Some, option_map}
 use Rattle.dw_base.specs.declared.fault.Refusal.{Refusal}
 use Rattle.dw_base.specs.EditFails.{IsAccepted, EditFails}
-use Rattle.dw_base.specs.First.{file_limit}
+use Rattle.dw_base.specs.Layout.{file_limit}
 use Rattle.dw_base.specs.Loaded.{LoadedKept}
 use Rattle.dw_base.specs.Mapped.{MeaningKept}
 use Rattle.dw_base.specs.Output.{IsOutput}

@@ -1,6 +1,6 @@
 -- Runs of the program: how each command ends, when it is done, which status is due, and what stays as it is.
 use Rattle.std.specs.Prelude.{◌≡◌, ℕ, List, Option, Some, None}
-use Rattle.dw_base.specs.First.{file_limit}
+use Rattle.dw_base.specs.Layout.{file_limit}
 use Rattle.dw_base.specs.Loaded.{LoadedKept}
 use Rattle.dw_base.specs.Mapped.{MeaningKept}
 use Rattle.dw_base.specs.Paths.{PathMap}

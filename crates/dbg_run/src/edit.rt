@@ -1,8 +1,8 @@
 //! The command `edit`: a file with each source path in its debug data mapped.
-ghost use Rattle.std.specs.Prelude.{◌≡◌, ◌≢◌, ◌⊎◌, ◌≤◌, ◌^◌, ℕ, List, length, IfOk, IfErr, OnOk};
+ghost use Rattle.std.specs.Prelude.{◌≡◌, ◌≢◌, ◌⊎◌, ◌≤◌, ℕ, List, length, IfOk, IfErr, OnOk};
 ghost use Rattle.std.specs.Option.{ForSome};
 ghost use Rattle.dw_base.specs.EditFails.{IsAccepted};
-ghost use Rattle.dw_base.specs.First.{file_limit};
+ghost use Rattle.dw_base.specs.Layout.{file_limit, output_limit};
 ghost use Rattle.dw_base.specs.Output.{IsOutput};
 ghost use Rattle.file_tree.specs.Seen.{now_of};
 ghost use Rattle.file_tree.specs.Trees.{stands_at};
@@ -12,20 +12,17 @@ ghost use Rattle.dbg_ends.specs.Due.{Where, IsCut, IsRefusal};
 ghost use Rattle.dbg_run.specs.Edits.{Keeps, RewriteEnds, EditDone, EditEnds, EditDue};
 
 use dbg_ends::{End, free_output, read_input, write_output};
-use dw_base::Fault;
+use dw_base::{FILE_LIMIT, Fault};
 use dw_paths::Maps;
 use dw_rewrite::rewrite;
 use file_tree::{Text, Tree};
 use std::alloc::Global;
 
-/// The longest file that is read, in bytes.
-const FILE_LIMIT: u64 = 0x4000_0000;
-
 /// The bytes of the file at the path with each source path mapped. Refused only where a
 /// condition holds of the file, or of its output, of that kind and at that place.
 #[tactic(auto, using(crate::proofs::Rows::rewrite_rows))]
 fn rewrite_bytes(alloc: Global, path: &str, bytes: &Vec<u8>, maps: &Maps) -> Result<Vec<u8>, End>
-    requires small { length bytes.now.items ≤ 2 ^ 31 }
+    requires small { length bytes.now.items ≤ output_limit }
     ensures accepted { OnOk result (IsAccepted maps.now bytes.now.items) }
     ensures output { IfOk result (λ out. IsOutput maps.now bytes.now.items out.items) }
     ensures only { IfOk result (λ out. (o : List ℕ) → IsOutput maps.now bytes.now.items o → o ≡ out.items) }

@@ -1,22 +1,20 @@
 -- Laws of the refusals of an edit: where a file is taken, no row holds; and of the layout, the rows and the record.
-use Rattle.std.proofs.Common.{◌≡◌, ℕ, ◌<◌, Bool, true, false, List, length, refl, sym, ◌∙◌, subst, arith}
+use Rattle.std.proofs.Common.{◌≡◌, ℕ, Bool, true, false, List, length, refl, sym, ◌∙◌, subst, arith}
 use Rattle.std.proofs.lemmas.Bool.{true≢false}
 use Rattle.std.proofs.lemmas.Slice.Eq.{bytes_eq-Decides}
 use Rattle.std.specs.Str.{bytes_eq}
-use Rattle.dw_base.specs.Elf.{e_type, order_of, contents_of, section_count}
-use Rattle.dw_base.specs.EditFails.{StandsWrong, NamesFail, NamesRead, UnitsOf, FileFails, EditFails, IsAccepted}
-use Rattle.dw_base.specs.EditFails.StandsWrong.{loaded, across as stands_across, in_header as stands_in_header}
+use Rattle.dw_base.specs.Elf.{e_type, order_of, contents_of}
+use Rattle.dw_base.specs.EditFails.{NamesFail, NamesRead, UnitsOf, FileFails, EditFails, IsAccepted}
 use Rattle.dw_base.specs.EditFails.NamesFail.{other, twice, compressed, names}
-use Rattle.dw_base.specs.EditFails.FileFails.{elf, file_type, placed, relocatable, named, units}
+use Rattle.dw_base.specs.EditFails.FileFails.{elf, file_type, loaded, relocatable, named, units}
 use Rattle.dw_base.specs.EditFails.EditFails.{file, output}
-use Rattle.dw_base.specs.First.{readings}
 use Rattle.dw_base.specs.Grammar.{Step}
 use Rattle.dw_base.specs.Layout.{is_loaded_kind, output_limit, with_bodies}
 use Rattle.dw_base.specs.LayoutFails.{LayoutFails, LayoutFits}
 use Rattle.dw_base.specs.LayoutFails.TooLong.{long}
 use Rattle.dw_base.specs.LayoutFails.SectionStays.{changed, across, in_header}
 use Rattle.dw_base.specs.LayoutFails.LayoutFails.{section, large}
-use Rattle.dw_base.specs.Output.{IsOutput, new_body, output_of}
+use Rattle.dw_base.specs.Output.{IsOutput, new_body, output_of, readings}
 use Rattle.dw_base.specs.Paths.{PathMap}
 use Rattle.dw_base.specs.SectionNames.{debug_info, debug_abbrev, contents_called}
 use Rattle.dw_base.specs.Units.{UnitState}
@@ -67,15 +65,10 @@ names_exclude b ok (twice i j lt there read same) = ok.once i j lt there read sa
 names_exclude b ok (compressed i lt read h) = h (ok.plain i lt read)
 names_exclude b ok (names some read) = true≢false (sym read ∙ ok.apart some)
 
-stands_excludes : (m : PathMap) (b : List ℕ) (i : ℕ) (r : Refusal) → IsAccepted m b → i < section_count b → StandsWrong b i r → ⊥
-stands_excludes m b i r ok lt (loaded h) = ok.unloaded i lt h
-stands_excludes m b i r ok lt (stands_across h) = ok.fits.across i lt h
-stands_excludes m b i r ok lt (stands_in_header h) = ok.fits.in_header i lt h
-
 file_excludes : (m : PathMap) (b : List ℕ) (r : Refusal) → IsAccepted m b → FileFails b r → ⊥
 file_excludes m b r ok (elf h) = elf_excludes b r ok.reads.elf h
 file_excludes m b r ok (file_type head differs h) = true≢false (sym ok.reads.kind ∙ h)
-file_excludes m b r ok (placed i reads lt h) = stands_excludes m b i r ok lt h
+file_excludes m b r ok (loaded i reads lt h) = ok.unloaded i lt h
 file_excludes m b r ok (relocatable head e) = loaded-kind b ok.reads.kind e
 file_excludes m b r ok (named reads h) = names_exclude b ok.reads.names h
 file_excludes m b r ok (units reads h) = h ok.reads.units

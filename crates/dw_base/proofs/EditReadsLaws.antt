@@ -5,20 +5,17 @@ use Rattle.std.specs.List.{list_all}
 use Rattle.std.proofs.lemmas.Bool.{true≢false, and_from, cases_eq, eq-eqb}
 use Rattle.dw_base.specs.Mentions.{NamesText}
 use Rattle.dw_base.specs.EditFails.{NamesFail, NamesRead, UnitsOf, FileFails, FileReads, EditFails, IsAccepted}
-use Rattle.dw_base.specs.EditFails.StandsWrong.{loaded}
 use Rattle.dw_base.specs.EditFails.NamesFail.{other, twice, compressed, names}
-use Rattle.dw_base.specs.EditFails.FileFails.{elf, file_type, placed, relocatable, named, units}
+use Rattle.dw_base.specs.EditFails.FileFails.{elf, file_type, loaded, relocatable, named, units}
 use Rattle.dw_base.specs.EditFails.EditFails.{file, output}
 use Rattle.dw_base.specs.Elf.{e_type, order_of, nth_section, section_name, name_index}
 use Rattle.dw_base.specs.ElfFails.{ElfReads}
-use Rattle.dw_base.specs.EntryUnits.{LoneEntryBy, LoneEntry}
-use Rattle.dw_base.specs.First.{OneAbbreviation, readings}
+use Rattle.dw_base.specs.EntryUnits.{LoneEntryBy, LoneEntry, OneAbbreviation}
 use Rattle.dw_base.specs.Grammar.{Step}
 use Rattle.dw_base.specs.Layout.{is_loaded_kind}
-use Rattle.dw_base.specs.Output.{new_body}
+use Rattle.dw_base.specs.Output.{new_body, readings}
 use Rattle.dw_base.specs.Paths.{PathMap}
-use Rattle.dw_base.specs.PlainEdit.{lone_test, entry_rules, entries_test}
-use Rattle.dw_base.specs.PlainFirst.{abbreviation_test, text_test, abbreviations_test, texts_test}
+use Rattle.dw_base.specs.PlainEdit.{lone_test, entry_rules, entries_test, abbreviation_test, abbreviations_test, text_test, texts_test}
 use Rattle.dw_base.specs.PlainReading.{plain_units}
 use Rattle.dw_base.specs.SectionNames.{debug_info, debug_abbrev, debug_str, contents_called, is_first_name, is_read_name}
 use Rattle.dw_base.specs.Units.{Mode, header, code, values, stuck, UnitState, role_of}
@@ -28,9 +25,8 @@ use Rattle.dw_base.specs.declared.shared.Order.{Order}
 use Rattle.dw_base.proofs.EditLaws.{layout_fits}
 use Rattle.dw_base.proofs.ElfReadsLaws.{same_number, test_true, elf_reads}
 use Rattle.dw_base.proofs.PlainEditLaws.{entries-sound}
-use Rattle.dw_base.proofs.PlainFirstComplete.{reads-complete, each-complete, abbreviation-complete, text-complete}
-use Rattle.dw_base.proofs.PlainRuleComplete.{true-passes, true-differs}
-use Rattle.dw_base.proofs.PlainUnitComplete.{pieces-complete}
+use Rattle.dw_base.proofs.PlainRuleLaws.{true-passes, true-differs}
+use Rattle.dw_base.proofs.PlainUnitComplete.{pieces-complete, reads-complete, each-complete, abbreviation-complete, text-complete}
 
 -- a test that isn't true is false
 test_false : (t : Bool) → (t ≡ true → ⊥) → t ≡ false
@@ -114,6 +110,6 @@ edit_accepts m b holds =
     let reads : FileReads b = file_reads b (λ r h. holds r (file h)) in
     record {
       reads = reads;
-      unloaded = λ i lt h. holds _ (file (placed i reads.elf lt (loaded h)));
+      unloaded = λ i lt h. holds _ (file (loaded i reads.elf lt h));
       fits = layout_fits b (new_body m b (readings reads.units.pieces)) (λ r h. holds r (output reads h));
     }

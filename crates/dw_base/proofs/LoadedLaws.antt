@@ -7,14 +7,13 @@ use Rattle.std.specs.Bool.{⊤}
 use Rattle.std.specs.Prelude.{◌++◌, map, filter, Option, Some, None}
 use Rattle.dw_base.specs.EditFails.{FileReads}
 use Rattle.dw_base.specs.Elf.{class_of, order_of, word_size, shoff_place, shnum_place, shstrndx_place, e_shoff, nth_section, nth_segment, section_count, segments_of, e_phnum, contents_of, contents_at, is_empty_kind}
-use Rattle.dw_base.specs.First.{readings}
 use Rattle.dw_base.specs.Layout.{fixed_end, is_fixed, is_alloc, is_loaded_kind}
 use Rattle.dw_base.specs.LayoutFails.{LiesAcross}
 use Rattle.dw_base.specs.LayoutReads.{ReadsBack, is_known_kind}
 use Rattle.dw_base.specs.Lists.{tabulate}
 use Rattle.dw_base.specs.Loaded.{LoadedKept, lies_within, unless_left_out, in_section_field, in_id_at, loaded_byte, segment_image, is_load, loaded_bytes}
 use Rattle.dw_base.specs.Notes.{BuildId, build_id_of, id_in}
-use Rattle.dw_base.specs.Output.{new_body}
+use Rattle.dw_base.specs.Output.{new_body, readings}
 use Rattle.dw_base.specs.Paths.{PathMap}
 use Rattle.dw_base.specs.declared.records.Section.{Section}
 use Rattle.dw_base.specs.declared.records.Segment.{Segment}

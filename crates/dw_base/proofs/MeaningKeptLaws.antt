@@ -7,7 +7,6 @@ use Rattle.std.specs.Prelude.{bit_and, ◌&&◌, Option, Some, None}
 use Rattle.dw_base.specs.Elf.{order_of, e_type, nth_section, section_count, section_name, name_index, name_table, contents_of}
 use Rattle.dw_base.specs.EditFails.{NamesRead, FileReads}
 use Rattle.dw_base.specs.ElfFails.{ElfReads}
-use Rattle.dw_base.specs.First.{readings}
 use Rattle.dw_base.specs.Grammar.{Step, EachStep, joined}
 use Rattle.dw_base.specs.Layout.{is_loaded_kind, output_limit}
 use Rattle.dw_base.specs.LayoutReads.{ReadsBack, NamesEnd, is_known_kind}
@@ -17,7 +16,7 @@ use Rattle.dw_base.specs.Meaning.{UnitMeaning, NamedBytes, unit_meanings, other_
 use Rattle.dw_base.specs.Mentions.{Around, NamesText, NamesTextBy, edited_all, mentions_by, mentions_of, offset_of}
 use Rattle.dw_base.specs.StringTables.{Mention}
 use Rattle.dw_base.specs.Notes.{Descriptor, id_in, is_id_section, or_this, first_below, BuildId, build_id_at, build_id_in, build_id_of}
-use Rattle.dw_base.specs.Output.{Readings, around_of, str_change, changes_of, new_info, new_str, new_body}
+use Rattle.dw_base.specs.Output.{Readings, around_of, str_change, changes_of, new_info, new_str, new_body, readings}
 use Rattle.dw_base.specs.Paths.{PathMap, IsPathMap}
 use Rattle.dw_base.specs.SectionNames.{debug_info, debug_abbrev, debug_str, note_build_id, is_read_name, section_called, contents_called}
 use Rattle.dw_base.specs.Texts.{same_text, ends_in}

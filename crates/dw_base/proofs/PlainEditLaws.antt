@@ -5,12 +5,11 @@ use Rattle.std.specs.Int.{is_power_of_two}
 use Rattle.std.proofs.lemmas.Bool.{true≢false, and_parts, or_cases, eqb-true, ltb-true, leb-true, not-true, ne_eqb, eq-eqb}
 use Rattle.std.proofs.lemmas.Slice.Eq.{bytes_eq-Decides}
 use Rattle.dw_base.specs.Mentions.{NamesText}
-use Rattle.dw_base.specs.EditFails.{IsLoaded, NamesRead, UnitsOf, FileReads, EditFails, IsAccepted}
+use Rattle.dw_base.specs.EditFails.{ReadIsLoaded, NamesRead, UnitsOf, FileReads, EditFails, IsAccepted}
 use Rattle.dw_base.specs.EditFails.EditFails.{output}
 use Rattle.dw_base.specs.Elf.{order_of, e_type, e_shoff, e_phnum, nth_section, nth_segment, section_count, section_name, name_index, is_empty_kind, contents_of}
 use Rattle.dw_base.specs.ElfFails.{HeaderReads, ShapeReads, SegmentTableReads, TableReads, IndexReads, SectionReads, SegmentReads, ElfReads}
-use Rattle.dw_base.specs.EntryUnits.{LoneEntryBy, LoneEntry}
-use Rattle.dw_base.specs.First.{OneAbbreviation, readings}
+use Rattle.dw_base.specs.EntryUnits.{LoneEntryBy, LoneEntry, OneAbbreviation}
 use Rattle.dw_base.specs.Grammar.{Step}
 use Rattle.dw_base.specs.Layout.{is_loaded_kind, is_alloc, is_fixed, fixed_end, output_limit, with_bodies}
 use Rattle.dw_base.specs.LayoutFails.{LiesAcross, BeginsInHeader, LayoutFails, LayoutFits}
@@ -20,10 +19,9 @@ use Rattle.dw_base.specs.LayoutFails.LayoutFails.{section, large}
 use Rattle.dw_base.specs.Refusals.{at}
 use Rattle.dw_base.specs.declared.fault.Kind.TheVariants.{Fixed, TooLarge}
 use Rattle.dw_base.specs.declared.fault.Refusal.{Refusal}
-use Rattle.dw_base.specs.Output.{new_body, output_of, IsOutput}
+use Rattle.dw_base.specs.Output.{new_body, output_of, IsOutput, readings}
 use Rattle.dw_base.specs.Paths.{PathMap}
-use Rattle.dw_base.specs.PlainEdit.{ident_rules, shape_rules, extent_rules, index_rules, section_rules, is_section, is_segment, elf_rules, elf_test, is_once, is_uncompressed, name_rules, name_test, lone_test, entry_rules, entries_test, is_unloaded, is_kept, is_beside, is_behind, places_test, edit_rules, plain_accepts}
-use Rattle.dw_base.specs.PlainFirst.{all_below, abbreviation_test, text_test, abbreviations_test, texts_test, length_test}
+use Rattle.dw_base.specs.PlainEdit.{ident_rules, shape_rules, extent_rules, index_rules, section_rules, is_section, is_segment, elf_rules, elf_test, is_once, is_uncompressed, name_rules, name_test, lone_test, entry_rules, entries_test, is_unloaded, is_kept, is_beside, is_behind, places_test, edit_rules, plain_accepts, abbreviation_test, abbreviations_test, all_below, length_test, text_test, texts_test}
 use Rattle.dw_base.specs.PlainReading.{plain_pieces, plain_units, plain_length, plain_output}
 use Rattle.dw_base.specs.SectionNames.{debug_info, debug_abbrev, debug_str, contents_called, is_first_name, is_read_name}
 use Rattle.dw_base.specs.Texts.{same_text}
@@ -31,7 +29,7 @@ use Rattle.dw_base.specs.Units.{Mode, header, code, values, stuck, code_value, U
 use Rattle.dw_base.specs.declared.records.Section.{Section}
 use Rattle.dw_base.specs.declared.shared.Order.{Order}
 use Rattle.dw_base.specs.declared.elf_numbers.TheConstants.{ET_REL}
-use Rattle.dw_base.proofs.PlainFirstLaws.{each-sound, abbreviation-sound, text-sound}
+use Rattle.dw_base.proofs.PlainUnitLaws.{each-sound, abbreviation-sound, text-sound}
 use Rattle.dw_base.proofs.PlainLaws.{AllTrue, passes-true, reads-sound, same_text-true}
 use Rattle.dw_base.proofs.PlainOutputLaws.{length-plain}
 use Rattle.dw_base.proofs.PlainRuleLaws.{differs, below-true, align-sound, other-true}
@@ -164,7 +162,7 @@ pub entries-pieces : (b : List ℕ) (h : entries_test b ≡ true) → (entries-s
 unfolding entries-sound plain_units entries_test abbreviations_test texts_test
 entries-pieces b h = refl
 
-unloaded-sound : (b : List ℕ) (i : ℕ) → is_unloaded b i ≡ true → IsLoaded b i → ⊥
+unloaded-sound : (b : List ℕ) (i : ℕ) → is_unloaded b i ≡ true → ReadIsLoaded b i → ⊥
 unloaded-sound b i h l =
     true≢false (sym l.alloc
     ∙ not-true (is_alloc (nth_section b i))
@@ -188,7 +186,7 @@ behind-sound b s h l =
 
 -- what the places of the sections are, by their tests
 record Places (b : List ℕ) (bodies : ℕ → List ℕ) : Type 0 where
-  unloaded : (i : ℕ) → i < section_count b → IsLoaded b i → ⊥
+  unloaded : (i : ℕ) → i < section_count b → ReadIsLoaded b i → ⊥
   stays : (i : ℕ) → i < section_count b → is_fixed b (nth_section b i) ≡ true → bodies i ≡ contents_of b i
   across : (i : ℕ) → i < section_count b → LiesAcross b (nth_section b i) → ⊥
   in_header : (i : ℕ) → i < section_count b → BeginsInHeader b (nth_section b i) → ⊥

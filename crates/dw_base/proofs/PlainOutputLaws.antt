@@ -1,20 +1,12 @@
--- The plain length of an output is its length; so where all plain tests pass, a file is First, and its plain
--- output is the output.
-use Rattle.std.proofs.Common.{◌≡◌, ℕ, ◌+◌, ◌*◌, ◌==◌, ◌≤◌, Bool, true, false, if◌then◌else◌, List, [], ◌∷◌, ◌++◌, length, take, replicate, max, refl, sym, ap, ◌∙◌, subst, arith}
-use Rattle.std.specs.Prelude.{nat_le}
-use Rattle.std.proofs.lemmas.Bool.{and_parts, leb-true}
+-- The plain length of an output is its length.
+use Rattle.std.proofs.Common.{◌≡◌, ℕ, ◌+◌, ◌*◌, ◌==◌, ◌≤◌, Bool, true, false, if◌then◌else◌, List, [], ◌∷◌, ◌++◌, length, take, replicate, max, refl, ap, ◌∙◌, arith}
 use Rattle.std.proofs.lemmas.List.{length-append, length-replicate, length-take}
 use Rattle.dw_base.specs.Elf.{class_of, order_of, word_size, ehdr_size, shdr_size, shoff_place, section_count, segments_of, sections_of}
-use Rattle.dw_base.specs.First.{IsFirst, readings}
-use Rattle.dw_base.specs.Grammar.{Step}
-use Rattle.dw_base.specs.Layout.{Part, part_of, padding, placed, extended, laid, new_head, new_heads, shdr_fields, shdr_bytes, shdrs_bytes, before_table, with_table, laid_out, with_bodies, greatest, fixed_end, output_limit, is_loaded_kind, segment_table_end, segment_ends, alloc_ends}
+use Rattle.dw_base.specs.Layout.{Part, part_of, padding, placed, extended, laid, new_head, new_heads, shdr_fields, shdr_bytes, shdrs_bytes, before_table, with_table, laid_out, with_bodies, greatest, fixed_end, is_loaded_kind, segment_table_end, segment_ends, alloc_ends}
 use Rattle.dw_base.specs.Lists.{tabulate}
-use Rattle.dw_base.specs.Output.{output_of, new_body, IsOutput}
+use Rattle.dw_base.specs.Output.{output_of, new_body, readings}
 use Rattle.dw_base.specs.Paths.{PathMap}
-use Rattle.dw_base.specs.PlainFirst.{plain_rules, plain_first, units_test, length_test}
-use Rattle.dw_base.specs.PlainReading.{laid_length, length_with_table, plain_length, plain_reads, plain_units, plain_output}
-use Rattle.dw_base.specs.SectionNames.{debug_info, debug_abbrev, contents_called}
-use Rattle.dw_base.specs.Units.{UnitState}
+use Rattle.dw_base.specs.PlainReading.{laid_length, length_with_table, plain_length, plain_units}
 use Rattle.dw_base.specs.declared.records.Section.{Section}
 use Rattle.dw_base.specs.declared.shared.Class.{Class}
 use Rattle.dw_base.specs.declared.shared.Class.TheVariants.{C32, C64}
@@ -22,9 +14,6 @@ use Rattle.dw_base.specs.declared.shared.Order.{Order}
 use Rattle.dw_base.proofs.FieldLaws.{length-fields_bytes}
 use Rattle.dw_base.proofs.ListLaws.{length-tabulate}
 use Rattle.dw_base.proofs.NumberLaws.{length-with_number}
-use Rattle.dw_base.proofs.PlainLaws.{passes-true, reads-sound}
-use Rattle.dw_base.proofs.PlainRuleLaws.{first_header-sound, first_table-sound, first_sections-sound, first_names-sound}
-use Rattle.dw_base.proofs.PlainFirstLaws.{first_units-sound, first_pieces}
 
 -- one more section, by whether it is laid out anew
 length-extended : (moves : Bool) (out more : List ℕ) → length (if moves then out ++ more else out) ≡ (if moves then length out + length more else length out)
@@ -145,32 +134,3 @@ length-with_bodies b bodies h = choice (section_count b == 0) b (laid_out (class
 pub length-plain : (m : PathMap) (b : List ℕ) → fixed_end b ≤ length b → length (output_of m b (readings (plain_units b))) ≡ plain_length m b
 unfolding output_of plain_length
 length-plain m b h = length-with_bodies b (new_body m b (readings (plain_units b))) h
-
--- a file of which all tests pass is First
-pub first-sound : (m : PathMap) (b : List ℕ) → plain_first m b ≡ true → IsFirst m b
-unfolding length_test
-first-sound m b h =
-    let t = passes-true (plain_rules m b) h in
-    let size = and_parts (nat_le (fixed_end b) (length b)) (nat_le (plain_length m b) output_limit) t.1.1.1.1.1.1.1.0 in
-    let limit : plain_length m b ≤ output_limit = leb-true _ _ size.1 in
-    let e = length-plain m b (leb-true _ _ size.0) in
-    let same = first_pieces b t.1.1.1.1.0 t.1.1.1.1.1.0 t.1.1.1.1.1.1.0 in
-    record {
-      header = first_header-sound b t.0;
-      table = first_table-sound b t.1.0;
-      sections = first_sections-sound b t.1.1.0;
-      names = first_names-sound b t.1.1.1.0;
-      units = first_units-sound b t.1.1.1.1.0 t.1.1.1.1.1.0 t.1.1.1.1.1.1.0;
-      fits = subst (λ (xs : List (Step UnitState)). length (output_of m b (readings xs)) ≤ output_limit) (sym same) (omega (arith, limit, e));
-    }
-
--- and the plain output is the output
-pub output-sound : (m : PathMap) (b : List ℕ) → units_test b ≡ true → IsOutput m b (plain_output m b)
-unfolding units_test plain_units plain_output
-output-sound m b h =
-    let t = and_parts (plain_reads (order_of b) (contents_called b debug_info) (contents_called b debug_abbrev)) _ h in
-    record {
-      readings = readings (plain_units b);
-      reads = record { info = reads-sound (order_of b) (contents_called b debug_info) (contents_called b debug_abbrev) t.0 };
-      is = refl;
-    }

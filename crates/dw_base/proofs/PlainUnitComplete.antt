@@ -1,16 +1,21 @@
--- Where a unit section is pieces, the plain cut finds them; so where a file is First, the plain tests of its units pass.
+-- Where a unit section is pieces, the plain cut finds them, and the plain tests of its units pass.
 use Rattle.std.proofs.Common.{◌≡◌, ◌≢◌, ℕ, zero, suc, ◌==◌, ◌<◌, ◌≤◌, Bool, true, false, ◌||◌, List, [], ◌∷◌, ◌++◌, length, take, drop, Option, Some, refl, sym, ap, ◌∙◌, subst, arith}
 use Rattle.std.proofs.lemmas.Bool.{and_from, eqb-false, le-leb, lt-ltb, eq-eqb}
+use Rattle.std.specs.List.{list_all}
 use Rattle.std.proofs.lemmas.List.{length-append}
+use Rattle.std.proofs.lemmas.Slice.Eq.{bytes_eq-Decides}
 use Rattle.std.proofs.Math.Seq.{take-append_seam, drop-append_seam}
-use Rattle.dw_base.specs.Grammar.{Step, Chain, joined}
-use Rattle.dw_base.specs.PlainReading.{value_size, size_read, piece_size, is_over, unless, cut_from, plain_cut, stepped, plain_pieces, header_tests, read_is, code_tests, kind_fits, fits, may_end, all_fit}
-use Rattle.dw_base.specs.Units.{ValueKind, text_offset, unlisted, kind_in, offset_size, Mode, header, code, values, stuck, UnitState, before_unit, past, code_value, Fills, FitsMode, unit_grammar, Reads}
+use Rattle.dw_base.specs.Grammar.{Step, Chain, joined, EachStep}
+use Rattle.dw_base.specs.Mentions.{NamesTextBy}
+use Rattle.dw_base.specs.EntryUnits.{OneAbbreviationBy}
+use Rattle.dw_base.specs.PlainEdit.{abbreviation_test, text_test}
+use Rattle.dw_base.specs.PlainReading.{plain_reads, value_size, size_read, piece_size, is_over, unless, cut_from, plain_cut, stepped, plain_pieces, header_tests, read_is, code_tests, kind_fits, fits, may_end, all_fit}
+use Rattle.dw_base.specs.Units.{in_debug_str, Role, fixed, offset, ValueKind, text_offset, unlisted, kind_in, offset_size, Mode, header, code, values, stuck, UnitState, before_unit, past, code_value, Fills, FitsMode, unit_grammar, Reads}
 use Rattle.dw_base.specs.declared.shared.Order.{Order}
 use Rattle.dw_base.specs.declared.shared.Params.{Params}
 use Rattle.dw_base.specs.declared.shared.Width.{Width}
 use Rattle.dw_base.specs.declared.shared.Width.TheVariants.{W32, W64}
-use Rattle.dw_base.proofs.PlainRuleComplete.{true-passes}
+use Rattle.dw_base.proofs.PlainRuleLaws.{true-passes}
 use Rattle.dw_base.proofs.UnitLaws.{uleb_64-append}
 
 -- the bytes of pieces
@@ -165,3 +170,30 @@ chain-complete order abbrevs s (x ∷ xs) c =
     let tail : Chain (unit_grammar order abbrevs) (past s.mode order abbrevs s x.bytes) xs =
     subst (λ (z : UnitState). Chain (unit_grammar order abbrevs) (past z.mode order abbrevs z x.bytes) xs) c.0 c.2 in
     and_from _ _ (fits-complete s.mode order s x.bytes fit) (chain-complete order abbrevs (past s.mode order abbrevs s x.bytes) xs tail)
+
+-- a section that is pieces can be read
+pub reads-complete : (order : Order) (info abbrevs : List ℕ) (xs : List (Step UnitState)) → Reads order info abbrevs 0 xs
+    → plain_reads order info abbrevs ≡ true
+unfolding plain_reads
+reads-complete order info abbrevs xs h =
+    and_from _ _
+    (subst (λ (ps : List (List ℕ)). all_fit order abbrevs (before_unit (length info) 0 0) ps ≡ true) (sym (cut-pieces order info abbrevs xs h))
+    (chain-complete order abbrevs (before_unit (length info) 0 0) xs h.chain))
+    ((bytes_eq-Decides (joined (plain_pieces order info abbrevs)) info).1 (ap joined (pieces-complete order info abbrevs xs h) ∙ h.bytes))
+
+-- what holds of each piece, all pass
+pub each-complete : (P : Step UnitState → Type 0) (test : Step UnitState → Bool) → ((x : Step UnitState) → P x → test x ≡ true)
+    → (xs : List (Step UnitState)) → EachStep P xs → list_all test xs ≡ true
+each-complete P test one [] h = refl
+each-complete P test one (x ∷ xs) h = and_from (test x) (list_all test xs) (one x h.0) (each-complete P test one xs h.1)
+
+pub abbreviation-complete : (mode : Mode) (order : Order) (abbrevs p : List ℕ) → OneAbbreviationBy mode order abbrevs p
+    → abbreviation_test mode order abbrevs p ≡ true
+abbreviation-complete header order abbrevs p h = h
+abbreviation-complete code order abbrevs p h = refl
+abbreviation-complete (values number tag specs) order abbrevs p h = refl
+abbreviation-complete stuck order abbrevs p h = refl
+
+pub text-complete : (role : Role) (order : Order) (str p : List ℕ) → NamesTextBy role order str p → text_test role order str p ≡ true
+text-complete fixed order str p h = refl
+text-complete (offset in_debug_str path) order str p h = h

@@ -3,7 +3,6 @@ use Rattle.std.proofs.Common.{◌≡◌, ◌≢◌, ℕ, zero, suc, ◌<◌, ◌
 use Rattle.std.proofs.lemmas.Bool.{false_from_ne_true}
 use Rattle.std.proofs.lemmas.List.{length-take, length-drop}
 use Rattle.dw_base.specs.Elf.{contents_of, contents_at, is_empty_kind, nth_section, section_count, section_name}
-use Rattle.dw_base.specs.First.{IsOnce}
 use Rattle.dw_base.specs.SectionNames.{contents_called, index_in, names_of, section_called}
 use Rattle.dw_base.specs.Texts.{is_in, same_text}
 use Rattle.dw_base.proofs.ListLaws.{get_or-tabulate, length-tabulate}
@@ -49,16 +48,6 @@ section_called-only b name i within named only =
     let lt : k < section_count b = omega arith in
     let same : k ≡ i = only k lt (sym (get_or-names_of b k lt) ∙ e) in
     omega arith))
-
-pub section_called-once : (b name : List ℕ) (ok : IsOnce b name) → ok.index ≡ section_called b name
-section_called-once b name ok = section_called-only b name ok.index ok.within ok.named ok.only
-
--- its bytes are those of the first section of its name
-pub contents_called-once : (b name : List ℕ) → IsOnce b name → contents_called b name ≡ contents_of b (section_called b name)
-unfolding contents_called
-contents_called-once b name ok =
-    let within = ok.within in
-    rw (is_in-found (names_of b) ok.index name [] (omega (arith, length-names_of b)) (get_or-names_of b ok.index within ∙ ok.named)) refl
 
 -- the bytes of a section are no more than those of the file
 pub length-contents : (b : List ℕ) (i : ℕ) → length (contents_of b i) ≤ length b

@@ -10,20 +10,20 @@ use Rattle.dw_base.proofs.WorkedParts.{worked_map, changed}
 use Rattle.dw_base.specs.Abbreviations.{abbreviations_at}
 use Rattle.dw_base.specs.EditFails.{EditFails}
 use Rattle.dw_base.specs.EditFails.EditFails.{file}
-use Rattle.dw_base.specs.EditFails.FileFails.{elf, file_type, placed, relocatable, named, units}
+use Rattle.dw_base.specs.EditFails.FileFails.{elf, file_type, loaded, relocatable, named, units}
 use Rattle.dw_base.specs.EditFails.NamesFail.{other, twice, compressed, names}
-use Rattle.dw_base.specs.EditFails.StandsWrong.{loaded, across, in_header}
 use Rattle.dw_base.specs.Elf.{e_type, e_phnum, e_phoff, e_phentsize, e_shoff, e_shentsize, e_shnum, e_shstrndx, class_of, order_of, nth_section, section_at, section_count, name_index, name_table, section_name, contents_of, contents_at, segments_of, nth_segment, segment_at, sections_of}
 use Rattle.dw_base.specs.ElfFails.ElfFails.{debug}
 use Rattle.dw_base.specs.ElfFails.DebugFails.{header, table}
 use Rattle.dw_base.specs.ElfFails.HeaderFails.{short}
 use Rattle.dw_base.specs.ElfFails.TableFails.{past}
 use Rattle.dw_base.specs.Layout.{part_of, is_fixed, fixed_end, padding}
+use Rattle.dw_base.specs.LayoutFails.LayoutFails.{section}
+use Rattle.dw_base.specs.LayoutFails.SectionStays.{across, in_header}
 use Rattle.dw_base.specs.Numbers.{spelled}
 use Rattle.dw_base.specs.Output.{new_body, new_info, new_str, str_change}
 use Rattle.dw_base.specs.Paths.{lies_under, mapped_path}
-use Rattle.dw_base.specs.PlainEdit.{ident_rules, elf_test, name_test, entries_test}
-use Rattle.dw_base.specs.PlainFirst.{abbreviations_test, texts_test}
+use Rattle.dw_base.specs.PlainEdit.{ident_rules, elf_test, name_test, entries_test, abbreviations_test, texts_test}
 use Rattle.dw_base.specs.PlainReading.{plain_cut, plain_pieces, plain_reads, plain_units, plain_length}
 use Rattle.dw_base.specs.Refusals.{at}
 use Rattle.dw_base.specs.SectionNames.{names_of, section_called, contents_called}
@@ -66,7 +66,7 @@ type-refused = (
 -- a section that is read is loaded; one begins in the file header; one lies across the end of a segment
 pub places-refused :
     EditFails worked_map (changed 240 (2 ∷ []) one_unit) (at Fixed 1 0)
-    × EditFails worked_map (changed 256 (63 ∷ []) one_unit) (at Fixed 1 0)
+    × EditFails worked_map (changed 344 (60 ∷ []) with_a_segment) (at Fixed 1 0)
     × EditFails worked_map (changed 96 (150 ∷ []) with_a_segment) (at Fixed 5 0)
 unfolding spelled e_type e_phnum e_phoff e_phentsize e_shoff e_shentsize e_shnum e_shstrndx class_of order_of nth_section
     section_at section_count name_index name_table section_name contents_of contents_at names_of section_called
@@ -74,10 +74,10 @@ unfolding spelled e_type e_phnum e_phoff e_phentsize e_shoff e_shentsize e_shnum
     entries_test abbreviations_test texts_test plain_pieces plain_reads plain_units plain_length new_body new_info new_str
     str_change part_of is_fixed fixed_end padding lies_under mapped_path segments_of nth_segment segment_at sections_of
 places-refused = (
-  file (placed 1 (elf-sound _ refl) (ltb-true _ _ refl) (loaded (record { read = refl; bytes = refl; alloc = refl }))),
-  file (placed 1 (elf-sound _ refl) (ltb-true _ _ refl)
+  file (loaded 1 (elf-sound _ refl) (ltb-true _ _ refl) (record { read = refl; bytes = refl; alloc = refl })),
+  output-refuses worked_map _ _ refl refl refl refl (section 1 (ltb-true _ _ refl)
       (in_header (record { loaded = refl; bytes = refl; some = eqb-false _ _ refl; begins = ltb-true _ _ refl }))),
-  file (placed 5 (elf-sound _ refl) (ltb-true _ _ refl)
+  output-refuses worked_map _ _ refl refl refl refl (section 5 (ltb-true _ _ refl)
       (across (record { bytes = refl; alloc = refl; begins = ltb-true _ _ refl; ends = ltb-true _ _ refl }))),
 )
 

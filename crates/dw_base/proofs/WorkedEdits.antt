@@ -11,8 +11,7 @@ use Rattle.dw_base.specs.Layout.{part_of, is_fixed, fixed_end, padding, with_bod
 use Rattle.dw_base.specs.Numbers.{spelled, with_number}
 use Rattle.dw_base.specs.Output.{IsOutput, new_body, new_info, new_str, str_change, output_of}
 use Rattle.dw_base.specs.Paths.{lies_under, mapped_path}
-use Rattle.dw_base.specs.PlainEdit.{edit_rules, plain_accepts, elf_test, name_test, entries_test, places_test}
-use Rattle.dw_base.specs.PlainFirst.{abbreviations_test, texts_test, length_test}
+use Rattle.dw_base.specs.PlainEdit.{edit_rules, plain_accepts, elf_test, name_test, entries_test, places_test, abbreviations_test, length_test, texts_test}
 use Rattle.dw_base.specs.PlainReading.{plain_cut, plain_pieces, plain_reads, plain_units, plain_length, plain_output}
 use Rattle.dw_base.specs.SectionNames.{names_of, section_called, contents_called}
 use Rattle.dw_base.specs.Texts.{text_in, ends_in}

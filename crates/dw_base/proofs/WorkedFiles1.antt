@@ -1,15 +1,12 @@
--- First files and their outputs: one unit, an empty section that stays, and sections out of order.
+-- Files and their outputs: one unit, an empty section that stays, and sections out of order.
 use Rattle.std.proofs.Common.{ℕ, List, [], ◌∷◌, ◌++◌, replicate, codes, refl}
-use Rattle.dw_base.proofs.WorkedParts.{worked_map, file_header, section_header, unit, word, unit_pieces, Worked}
-use Rattle.dw_base.proofs.WorkedLaws.{worked_first, worked_output}
-use Rattle.dw_base.specs.First.{IsFirst}
+use Rattle.dw_base.proofs.WorkedParts.{worked_map, file_header, section_header, unit, Shown, shown-output}
 use Rattle.dw_base.specs.Abbreviations.{abbreviations_at}
 use Rattle.dw_base.specs.Elf.{e_type, e_phnum, e_phoff, e_shoff, e_shentsize, e_shnum, e_shstrndx, class_of, order_of, nth_section, section_at, section_count, name_index, name_table, section_name, contents_of, contents_at, segments_of, nth_segment, segment_at, sections_of}
 use Rattle.dw_base.specs.Layout.{part_of, is_fixed, fixed_end, padding, with_bodies, placed, new_head, shdr_bytes, before_table, with_table, laid_out}
 use Rattle.dw_base.specs.Numbers.{spelled, with_number}
 use Rattle.dw_base.specs.Output.{IsOutput, new_body, new_info, new_str, str_change, output_of}
 use Rattle.dw_base.specs.Paths.{lies_under, mapped_path}
-use Rattle.dw_base.specs.PlainFirst.{header_test, table_test, sections_test, names_test, units_test, abbreviations_test, texts_test, length_test}
 use Rattle.dw_base.specs.PlainReading.{plain_cut, plain_pieces, plain_reads, plain_units, plain_length, plain_output}
 use Rattle.dw_base.specs.SectionNames.{names_of, section_called, contents_called}
 use Rattle.dw_base.specs.Texts.{text_in, ends_in}
@@ -31,23 +28,17 @@ one_unit_out =
     ++ codes "\0.debug_info\0.debug_abbrev\0.debug_str\0.shstrtab\0" ++ replicate 6 0 ++ section_header 0 0 0 0 0 0
     ++ section_header 1 1 0 64 20 1 ++ section_header 13 1 0 84 10 1 ++ section_header 27 1 0 94 60 1 ++ section_header 38 3 0 154 48 1
 
--- its pieces, the rules, and the output
-pub one_unit-worked : Worked one_unit
-    (unit_pieces 16 0 (1 ∷ []) (word 0 ∷ word 13 ∷ []))
-    one_unit_out
+pub one_unit-shown : Shown one_unit one_unit_out
 unfolding spelled e_type e_phnum e_phoff e_shoff e_shentsize e_shnum e_shstrndx class_of order_of nth_section section_at section_count
     name_index name_table section_name contents_of contents_at names_of section_called contents_called text_in ends_in plain_cut between
-    headed after_code kind_in role_of abbreviations_at header_test table_test sections_test names_test units_test abbreviations_test
-    texts_test length_test plain_pieces plain_reads plain_units plain_length new_body new_info new_str str_change part_of is_fixed
+    headed after_code kind_in role_of abbreviations_at
+    plain_pieces plain_reads plain_units plain_length new_body new_info new_str str_change part_of is_fixed
     fixed_end padding lies_under mapped_path segments_of nth_segment segment_at sections_of plain_output output_of with_bodies placed
     new_head shdr_bytes before_table with_table laid_out with_number
-one_unit-worked = record { cut = refl; rules = refl; first = refl; output = refl; size = refl }
-
-pub one_unit-first : IsFirst worked_map one_unit
-one_unit-first = worked_first one_unit-worked
+one_unit-shown = record { reads = refl; output = refl; size = refl }
 
 pub one_unit-output : IsOutput worked_map one_unit one_unit_out
-one_unit-output = worked_output one_unit-worked
+one_unit-output = shown-output one_unit-shown
 
 -- the last section is empty and stands at the end of the file header, so it stays there
 abbrev pub empty_behind : List ℕ
@@ -66,23 +57,17 @@ empty_behind_out =
     ++ section_header 0 0 0 0 0 0 ++ section_header 1 1 0 64 20 1 ++ section_header 13 1 0 84 10 1 ++ section_header 27 1 0 94 60 1
     ++ section_header 38 3 0 154 61 1 ++ section_header 48 1 0 216 3 4 ++ section_header 54 1 0 64 0 16
 
--- its pieces, the rules, and the output
-pub empty_behind-worked : Worked empty_behind
-    (unit_pieces 16 0 (1 ∷ []) (word 0 ∷ word 13 ∷ []))
-    empty_behind_out
+pub empty_behind-shown : Shown empty_behind empty_behind_out
 unfolding spelled e_type e_phnum e_phoff e_shoff e_shentsize e_shnum e_shstrndx class_of order_of nth_section section_at section_count
     name_index name_table section_name contents_of contents_at names_of section_called contents_called text_in ends_in plain_cut between
-    headed after_code kind_in role_of abbreviations_at header_test table_test sections_test names_test units_test abbreviations_test
-    texts_test length_test plain_pieces plain_reads plain_units plain_length new_body new_info new_str str_change part_of is_fixed
+    headed after_code kind_in role_of abbreviations_at
+    plain_pieces plain_reads plain_units plain_length new_body new_info new_str str_change part_of is_fixed
     fixed_end padding lies_under mapped_path segments_of nth_segment segment_at sections_of plain_output output_of with_bodies placed
     new_head shdr_bytes before_table with_table laid_out with_number
-empty_behind-worked = record { cut = refl; rules = refl; first = refl; output = refl; size = refl }
-
-pub empty_behind-first : IsFirst worked_map empty_behind
-empty_behind-first = worked_first empty_behind-worked
+empty_behind-shown = record { reads = refl; output = refl; size = refl }
 
 pub empty_behind-output : IsOutput worked_map empty_behind empty_behind_out
-empty_behind-output = worked_output empty_behind-worked
+empty_behind-output = shown-output empty_behind-shown
 
 -- sections out of order behind their headers, aligned to 8 and 16, and one that takes no room
 abbrev pub scattered : List ℕ
@@ -103,20 +88,14 @@ scattered_out =
     ++ section_header 22 8 0 4000 100 16 ++ section_header 27 1 0 192 10 8 ++ section_header 41 1 0 208 20 16
     ++ section_header 53 1 0 228 8 1
 
--- its pieces, the rules, and the output
-pub scattered-worked : Worked scattered
-    (unit_pieces 16 0 (1 ∷ []) (word 0 ∷ word 13 ∷ []))
-    scattered_out
+pub scattered-shown : Shown scattered scattered_out
 unfolding spelled e_type e_phnum e_phoff e_shoff e_shentsize e_shnum e_shstrndx class_of order_of nth_section section_at section_count
     name_index name_table section_name contents_of contents_at names_of section_called contents_called text_in ends_in plain_cut between
-    headed after_code kind_in role_of abbreviations_at header_test table_test sections_test names_test units_test abbreviations_test
-    texts_test length_test plain_pieces plain_reads plain_units plain_length new_body new_info new_str str_change part_of is_fixed
+    headed after_code kind_in role_of abbreviations_at
+    plain_pieces plain_reads plain_units plain_length new_body new_info new_str str_change part_of is_fixed
     fixed_end padding lies_under mapped_path segments_of nth_segment segment_at sections_of plain_output output_of with_bodies placed
     new_head shdr_bytes before_table with_table laid_out with_number
-scattered-worked = record { cut = refl; rules = refl; first = refl; output = refl; size = refl }
-
-pub scattered-first : IsFirst worked_map scattered
-scattered-first = worked_first scattered-worked
+scattered-shown = record { reads = refl; output = refl; size = refl }
 
 pub scattered-output : IsOutput worked_map scattered scattered_out
-scattered-output = worked_output scattered-worked
+scattered-output = shown-output scattered-shown

@@ -1,15 +1,12 @@
--- First files and their outputs: units that share texts, texts that no map reaches, and no unit at all.
+-- Files and their outputs: units that share texts, texts that no map reaches, and no unit at all.
 use Rattle.std.proofs.Common.{ℕ, List, [], ◌∷◌, ◌++◌, replicate, codes, refl}
-use Rattle.dw_base.proofs.WorkedParts.{worked_map, file_header, section_header, unit, word, unit_pieces, Worked}
-use Rattle.dw_base.proofs.WorkedLaws.{worked_first, worked_output}
-use Rattle.dw_base.specs.First.{IsFirst}
+use Rattle.dw_base.proofs.WorkedParts.{worked_map, file_header, section_header, unit, Shown, shown-output}
 use Rattle.dw_base.specs.Abbreviations.{abbreviations_at}
 use Rattle.dw_base.specs.Elf.{e_type, e_phnum, e_phoff, e_shoff, e_shentsize, e_shnum, e_shstrndx, class_of, order_of, nth_section, section_at, section_count, name_index, name_table, section_name, contents_of, contents_at, segments_of, nth_segment, segment_at, sections_of}
 use Rattle.dw_base.specs.Layout.{part_of, is_fixed, fixed_end, padding, with_bodies, placed, new_head, shdr_bytes, before_table, with_table, laid_out}
 use Rattle.dw_base.specs.Numbers.{spelled, with_number}
 use Rattle.dw_base.specs.Output.{IsOutput, new_body, new_info, new_str, str_change, output_of}
 use Rattle.dw_base.specs.Paths.{lies_under, mapped_path}
-use Rattle.dw_base.specs.PlainFirst.{header_test, table_test, sections_test, names_test, units_test, abbreviations_test, texts_test, length_test}
 use Rattle.dw_base.specs.PlainReading.{plain_cut, plain_pieces, plain_reads, plain_units, plain_length, plain_output}
 use Rattle.dw_base.specs.SectionNames.{names_of, section_called, contents_called}
 use Rattle.dw_base.specs.Texts.{text_in, ends_in}
@@ -35,24 +32,17 @@ three_units_out =
     ++ codes "\0.debug_info\0.debug_abbrev\0.debug_str\0.shstrtab\0" ++ replicate 5 0 ++ section_header 0 0 0 0 0 0
     ++ section_header 1 1 0 64 61 1 ++ section_header 13 1 0 125 20 1 ++ section_header 27 1 0 145 98 1 ++ section_header 38 3 0 243 48 1
 
--- its pieces, the rules, and the output
-pub three_units-worked : Worked three_units
-    (unit_pieces 16 0 (1 ∷ []) (word 0 ∷ word 13 ∷ []) ++ unit_pieces 16 10 (2 ∷ []) (word 13 ∷ word 22 ∷ [])
-    ++ unit_pieces 17 0 (129 ∷ 0 ∷ []) (word 35 ∷ word 13 ∷ []))
-    three_units_out
+pub three_units-shown : Shown three_units three_units_out
 unfolding spelled e_type e_phnum e_phoff e_shoff e_shentsize e_shnum e_shstrndx class_of order_of nth_section section_at section_count
     name_index name_table section_name contents_of contents_at names_of section_called contents_called text_in ends_in plain_cut between
-    headed after_code kind_in role_of abbreviations_at header_test table_test sections_test names_test units_test abbreviations_test
-    texts_test length_test plain_pieces plain_reads plain_units plain_length new_body new_info new_str str_change part_of is_fixed
+    headed after_code kind_in role_of abbreviations_at
+    plain_pieces plain_reads plain_units plain_length new_body new_info new_str str_change part_of is_fixed
     fixed_end padding lies_under mapped_path segments_of nth_segment segment_at sections_of plain_output output_of with_bodies placed
     new_head shdr_bytes before_table with_table laid_out with_number
-three_units-worked = record { cut = refl; rules = refl; first = refl; output = refl; size = refl }
-
-pub three_units-first : IsFirst worked_map three_units
-three_units-first = worked_first three_units-worked
+three_units-shown = record { reads = refl; output = refl; size = refl }
 
 pub three_units-output : IsOutput worked_map three_units three_units_out
-three_units-output = worked_output three_units-worked
+three_units-output = shown-output three_units-shown
 
 -- a name that begins with the base and no slash, and a directory above the base: nothing is mapped
 abbrev pub under_no_base : List ℕ
@@ -70,23 +60,17 @@ under_no_base_out =
     ++ section_header 0 0 0 0 0 0 ++ section_header 1 1 0 64 20 1 ++ section_header 13 1 0 84 10 1 ++ section_header 27 1 0 94 21 1
     ++ section_header 38 3 0 115 48 1
 
--- its pieces, the rules, and the output
-pub under_no_base-worked : Worked under_no_base
-    (unit_pieces 16 0 (1 ∷ []) (word 0 ∷ word 14 ∷ []))
-    under_no_base_out
+pub under_no_base-shown : Shown under_no_base under_no_base_out
 unfolding spelled e_type e_phnum e_phoff e_shoff e_shentsize e_shnum e_shstrndx class_of order_of nth_section section_at section_count
     name_index name_table section_name contents_of contents_at names_of section_called contents_called text_in ends_in plain_cut between
-    headed after_code kind_in role_of abbreviations_at header_test table_test sections_test names_test units_test abbreviations_test
-    texts_test length_test plain_pieces plain_reads plain_units plain_length new_body new_info new_str str_change part_of is_fixed
+    headed after_code kind_in role_of abbreviations_at
+    plain_pieces plain_reads plain_units plain_length new_body new_info new_str str_change part_of is_fixed
     fixed_end padding lies_under mapped_path segments_of nth_segment segment_at sections_of plain_output output_of with_bodies placed
     new_head shdr_bytes before_table with_table laid_out with_number
-under_no_base-worked = record { cut = refl; rules = refl; first = refl; output = refl; size = refl }
-
-pub under_no_base-first : IsFirst worked_map under_no_base
-under_no_base-first = worked_first under_no_base-worked
+under_no_base-shown = record { reads = refl; output = refl; size = refl }
 
 pub under_no_base-output : IsOutput worked_map under_no_base under_no_base_out
-under_no_base-output = worked_output under_no_base-worked
+under_no_base-output = shown-output under_no_base-shown
 
 -- no unit, and nothing in any of the three sections but a text
 abbrev pub no_unit : List ℕ
@@ -102,20 +86,14 @@ no_unit_out =
     ++ section_header 0 0 0 0 0 0 ++ section_header 1 1 0 64 0 1 ++ section_header 13 1 0 64 0 1 ++ section_header 27 1 0 64 9 1
     ++ section_header 38 3 0 73 48 1
 
--- its pieces, the rules, and the output
-pub no_unit-worked : Worked no_unit
-    []
-    no_unit_out
+pub no_unit-shown : Shown no_unit no_unit_out
 unfolding spelled e_type e_phnum e_phoff e_shoff e_shentsize e_shnum e_shstrndx class_of order_of nth_section section_at section_count
     name_index name_table section_name contents_of contents_at names_of section_called contents_called text_in ends_in plain_cut between
-    headed after_code kind_in role_of abbreviations_at header_test table_test sections_test names_test units_test abbreviations_test
-    texts_test length_test plain_pieces plain_reads plain_units plain_length new_body new_info new_str str_change part_of is_fixed
+    headed after_code kind_in role_of abbreviations_at
+    plain_pieces plain_reads plain_units plain_length new_body new_info new_str str_change part_of is_fixed
     fixed_end padding lies_under mapped_path segments_of nth_segment segment_at sections_of plain_output output_of with_bodies placed
     new_head shdr_bytes before_table with_table laid_out with_number
-no_unit-worked = record { cut = refl; rules = refl; first = refl; output = refl; size = refl }
-
-pub no_unit-first : IsFirst worked_map no_unit
-no_unit-first = worked_first no_unit-worked
+no_unit-shown = record { reads = refl; output = refl; size = refl }
 
 pub no_unit-output : IsOutput worked_map no_unit no_unit_out
-no_unit-output = worked_output no_unit-worked
+no_unit-output = shown-output no_unit-shown

@@ -2,30 +2,32 @@
 -- written out.
 use Rattle.std.proofs.Common.{◌≡◌, ℕ, zero, suc, ◌<◌, ◌≤◌, true, false, List, [], ◌∷◌, refl, sym, ap, subst, ◌∙◌, arith}
 use Rattle.std.proofs.lemmas.Bool.{leb-true}
-use Rattle.dw_base.proofs.FirstLaws.{first-reads}
-use Rattle.dw_base.proofs.FirstKeptLaws.{first-loaded, first-meaning}
-use Rattle.dw_base.proofs.PlainFirstComplete.{units-same}
-use Rattle.dw_base.proofs.PlainOutputLaws.{first-sound}
-use Rattle.dw_base.proofs.WorkedFiles1.{one_unit, one_unit-first, one_unit_out}
+use Rattle.dw_base.proofs.LoadedLaws.{file-loaded}
+use Rattle.dw_base.proofs.MeaningKeptLaws.{file-meaning}
+use Rattle.dw_base.proofs.PlainEditLaws.{elf-sound}
+use Rattle.dw_base.proofs.PlainUnitComplete.{pieces-complete}
+use Rattle.dw_base.proofs.WorkedEdits.{one_unit-taken, taken-accepted}
+use Rattle.dw_base.proofs.WorkedFiles1.{one_unit, one_unit_out}
 use Rattle.dw_base.proofs.WorkedMeaning.{alone, mapped_paths, one_unit-meaning, paths, unit_of}
 use Rattle.dw_base.proofs.WorkedMeaningLaws.{means-plain}
 use Rattle.dw_base.proofs.WorkedParts.{worked_map}
 use Rattle.dw_base.specs.Abbreviations.{abbreviations_at}
-use Rattle.dw_base.specs.Elf.{class_of, contents_at, contents_of, is_empty_kind, e_machine, e_phnum, e_phoff, e_shentsize, e_shnum, e_shoff, e_shstrndx, e_type, name_index, name_table, nth_section, nth_segment, order_of, section_at, section_count, section_name, sections_of, segment_at, segments_of}
-use Rattle.dw_base.specs.First.{IsFirst, readings}
+use Rattle.dw_base.specs.EditFails.{FileReads}
+use Rattle.dw_base.specs.Elf.{class_of, contents_at, contents_of, is_empty_kind, e_machine, e_phnum, e_phoff, e_phentsize, e_shentsize, e_shnum, e_shoff, e_shstrndx, e_type, name_index, name_table, nth_section, nth_segment, order_of, section_at, section_count, section_name, sections_of, segment_at, segments_of}
+use Rattle.dw_base.specs.ElfFails.{ElfReads}
 use Rattle.dw_base.specs.Grammar.{Step}
-use Rattle.dw_base.specs.Layout.{fixed_end, is_fixed, padding, part_of}
+use Rattle.dw_base.specs.Layout.{fixed_end, is_fixed}
 use Rattle.dw_base.specs.LayoutReads.{ReadsBack, SameButPlace}
 use Rattle.dw_base.specs.Loaded.{LoadedKept}
 use Rattle.dw_base.specs.Mapped.{MeaningKept, mapped, mapped_units}
 use Rattle.dw_base.specs.Meaning.{Meaning}
 use Rattle.dw_base.specs.Notes.{build_id_of}
 use Rattle.dw_base.specs.Numbers.{spelled, with_number}
-use Rattle.dw_base.specs.Output.{new_body, new_info, new_str, str_change}
+use Rattle.dw_base.specs.Output.{new_body, new_info, new_str, str_change, readings}
 use Rattle.dw_base.specs.Paths.{IsPathMap, is_prefix, lies_under, mapped_path}
-use Rattle.dw_base.specs.PlainFirst.{abbreviations_test, header_test, length_test, names_test, sections_test, table_test, texts_test, units_test}
-use Rattle.dw_base.specs.PlainReading.{plain_cut, plain_length, plain_pieces, plain_reads, plain_units}
-use Rattle.dw_base.specs.SectionNames.{contents_called, names_of, section_called}
+use Rattle.dw_base.specs.PlainEdit.{elf_test}
+use Rattle.dw_base.specs.PlainReading.{plain_cut, plain_pieces, plain_units}
+use Rattle.dw_base.specs.SectionNames.{debug_info, debug_abbrev, contents_called, names_of, section_called}
 use Rattle.dw_base.specs.Texts.{ends_in, text_in}
 use Rattle.dw_base.specs.Units.{UnitState, after_code, between, headed, kind_in, role_of}
 use Rattle.dw_base.specs.Views.{view_of, view_section}
@@ -68,15 +70,12 @@ contents (suc (suc (suc zero))) lt = refl
 contents (suc (suc (suc (suc zero)))) lt = refl
 contents (suc (suc (suc (suc (suc i))))) lt = absurd (five i lt)
 
--- the output is itself a First file
-one_unit_out-first : IsFirst worked_map one_unit_out
-unfolding spelled e_type e_phnum e_phoff e_shoff e_shentsize e_shnum e_shstrndx class_of order_of nth_section section_at
-    section_count name_index name_table section_name contents_of contents_at text_in ends_in names_of section_called
-    contents_called plain_cut between headed after_code kind_in abbreviations_at plain_pieces plain_units new_body new_info
-    new_str str_change lies_under mapped_path header_test table_test sections_test names_test units_test abbreviations_test
-    texts_test length_test plain_reads plain_length part_of is_fixed fixed_end padding segments_of nth_segment segment_at
-    sections_of role_of
-one_unit_out-first = first-sound worked_map one_unit_out refl
+-- the records of the output read
+one_unit_out-reads : ElfReads one_unit_out
+unfolding spelled e_type e_phnum e_phoff e_shoff e_phentsize e_shentsize e_shnum e_shstrndx class_of order_of nth_section section_at
+    section_count name_index name_table section_name contents_of contents_at text_in ends_in elf_test segments_of nth_segment segment_at
+    sections_of
+one_unit_out-reads = elf-sound one_unit_out refl
 
 -- section 0 stays, and the others are laid out anew behind the file header
 stays : (i : ℕ) → i < 5 → is_fixed one_unit (nth_section one_unit i) ≡ true → nth_section one_unit_out i ≡ nth_section one_unit i
@@ -117,20 +116,25 @@ one_unit-back = record {
   contents = contents;
   front = refl;
   segments = λ known. refl;
-  reads = λ known names. first-reads one_unit_out one_unit_out-first.header one_unit_out-first.table one_unit_out-first.sections;
+  reads = λ known names. one_unit_out-reads;
 }
 
 -- for the pieces that its rules speak of
-one_unit-reads_back : ReadsBack one_unit (new_body worked_map one_unit (readings one_unit-first.units.pieces)) one_unit_out
+one_unit-file : FileReads one_unit
+one_unit-file = (taken-accepted one_unit-taken).reads
+
+one_unit-reads_back : ReadsBack one_unit (new_body worked_map one_unit (readings one_unit-file.units.pieces)) one_unit_out
+unfolding plain_units
 one_unit-reads_back =
     subst (λ (xs : List (Step UnitState)). ReadsBack one_unit (new_body worked_map one_unit (readings xs)) one_unit_out)
-    (units-same one_unit one_unit-first.units) one_unit-back
+    (pieces-complete (order_of one_unit) (contents_called one_unit debug_info) (contents_called one_unit debug_abbrev) one_unit-file.units.pieces
+    one_unit-file.units.units) one_unit-back
 
 pub one_unit-kept : MeaningKept worked_map one_unit one_unit_out
-one_unit-kept = first-meaning worked_map one_unit one_unit_out worked_map-map one_unit-first one_unit-reads_back (omega arith)
+one_unit-kept = file-meaning worked_map one_unit one_unit_out worked_map-map one_unit-file one_unit-reads_back (omega arith)
 
 pub one_unit-loaded : LoadedKept one_unit one_unit_out
-one_unit-loaded = first-loaded worked_map one_unit one_unit_out one_unit-first one_unit-reads_back
+one_unit-loaded = file-loaded worked_map one_unit one_unit_out one_unit-file (taken-accepted one_unit-taken).fits.across one_unit-reads_back
 
 -- what is kept: these units, and for the output those with the map applied
 pub one_unit-kept-old : one_unit-kept.meaning.units ≡ unit_of 1 (alone 17 paths) ∷ []

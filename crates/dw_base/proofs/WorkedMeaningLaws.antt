@@ -2,20 +2,18 @@
 -- says something else isn't one that keeps the meaning.
 use Rattle.std.proofs.Common.{◌≡◌, ℕ, true, false, List, sym, ap, ◌∙◌, subst}
 use Rattle.dw_base.specs.Elf.{order_of}
-use Rattle.dw_base.specs.First.{readings}
 use Rattle.dw_base.specs.Grammar.{Step, EachStep}
 use Rattle.dw_base.specs.Mapped.{mapped, ReadsView, Means, MeaningKept}
 use Rattle.dw_base.specs.Meaning.{Meaning, meaning_of}
 use Rattle.dw_base.specs.Mentions.{NamesText}
-use Rattle.dw_base.specs.Output.{Readings}
+use Rattle.dw_base.specs.Output.{Readings, readings}
 use Rattle.dw_base.specs.Paths.{PathMap}
 use Rattle.dw_base.specs.PlainReading.{plain_reads, plain_units, plain_meaning}
 use Rattle.dw_base.specs.SectionNames.{debug_info, debug_abbrev, debug_str, contents_called}
 use Rattle.dw_base.specs.Units.{UnitState, Reads}
 use Rattle.dw_base.specs.Views.{view_of, contents_named}
 use Rattle.dw_base.specs.declared.shared.Order.{Order}
-use Rattle.dw_base.proofs.PlainFirstComplete.{reads-complete}
-use Rattle.dw_base.proofs.PlainUnitComplete.{pieces-complete}
+use Rattle.dw_base.proofs.PlainUnitComplete.{pieces-complete, reads-complete}
 use Rattle.dw_base.proofs.ViewLaws.{order-view}
 
 -- the bytes that the view has under each of these names are those of the first section of the name

@@ -1,13 +1,14 @@
 -- Words to spell files by their parts, the map of the worked files, and what is computed of one.
-use Rattle.std.proofs.Common.{◌≡◌, ℕ, ◌+◌, List, [], ◌∷◌, ◌++◌, length, take, drop, replicate, codes, true, false}
+use Rattle.std.proofs.Common.{◌≡◌, ℕ, ◌+◌, List, [], ◌∷◌, ◌++◌, length, take, drop, replicate, codes, true, subst}
 use Rattle.byteorder.specs.Endian.{little_bytes}
 use Rattle.dw_base.specs.Elf.{order_of}
 use Rattle.dw_base.specs.Numbers.{number_bytes}
+use Rattle.dw_base.specs.Output.{IsOutput}
 use Rattle.dw_base.specs.Paths.{PathMap}
-use Rattle.dw_base.specs.PlainFirst.{plain_rules, plain_first}
-use Rattle.dw_base.specs.PlainReading.{plain_cut, plain_reads, plain_output, plain_length}
+use Rattle.dw_base.specs.PlainReading.{plain_reads, plain_output, plain_length}
 use Rattle.dw_base.specs.SectionNames.{debug_info, debug_abbrev, contents_called}
 use Rattle.dw_base.specs.declared.shared.Order.{Order}
+use Rattle.dw_base.proofs.OutputLaws.{output-sound}
 
 -- the map of the worked files
 abbrev pub worked_map : PathMap
@@ -48,29 +49,16 @@ words (n ∷ ns) = word n ++ words ns
 abbrev pub unit : ℕ → ℕ → List ℕ → List ℕ → List ℕ
 unit length table code offsets = word length ++ half 4 ++ word table ++ (8 ∷ code) ++ words offsets
 
--- a header, a code and offsets of a unit, as pieces
-abbrev pub unit_pieces : ℕ → ℕ → List ℕ → List (List ℕ) → List (List ℕ)
-unit_pieces length table code fields = (word length ++ half 4 ++ word table ++ (8 ∷ [])) ∷ code ∷ fields
-
--- what is computed of a First file: the bytes of its pieces, each rule, and the output with its length
-pub record Worked (b : List ℕ) (pieces : List (List ℕ)) (out : List ℕ) : Type 0 where
-  pub cut : plain_cut (order_of b) (contents_called b debug_info) (contents_called b debug_abbrev) ≡ pieces
-  pub rules : plain_rules worked_map b ≡ replicate 8 true
-  pub first : plain_first worked_map b ≡ true
-  pub output : plain_output worked_map b ≡ out
-  pub size : plain_length worked_map b ≡ length out
-
 -- a file with other bytes at a place
 abbrev pub changed : ℕ → List ℕ → List ℕ → List ℕ
 changed at xs b = take at b ++ xs ++ drop (at + length xs) b
-
--- what is computed of a file that isn't First: the rules before the first that fails, and that one
-pub record Fails (b : List ℕ) (before : ℕ) : Type 0 where
-  pub rules : take (before + 1) (plain_rules worked_map b) ≡ replicate before true ++ false ∷ []
-  pub first : plain_first worked_map b ≡ false
 
 -- what is computed of any file: its units can be read, and the output with its length
 pub record Shown (b out : List ℕ) : Type 0 where
   pub reads : plain_reads (order_of b) (contents_called b debug_info) (contents_called b debug_abbrev) ≡ true
   pub output : plain_output worked_map b ≡ out
   pub size : plain_length worked_map b ≡ length out
+
+-- so that is its output
+pub shown-output : {b out : List ℕ} → Shown b out → IsOutput worked_map b out
+shown-output {b} s = subst (λ (xs : List ℕ). IsOutput worked_map b xs) s.output (output-sound worked_map b s.reads)

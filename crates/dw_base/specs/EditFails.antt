@@ -5,10 +5,9 @@ use Rattle.std.specs.Prelude.{true, false, ◌≡◌, ◌≢◌, ℕ, ◌<◌, b
 use Rattle.dw_base.specs.Elf.{e_type, order_of, nth_section, section_count, section_name, name_index, is_empty_kind}
 use Rattle.dw_base.specs.ElfFails.{HeaderReads, ElfFails, ElfReads}
 use Rattle.dw_base.specs.EntryUnits.{EntryUnits}
-use Rattle.dw_base.specs.First.{readings}
 use Rattle.dw_base.specs.Layout.{is_loaded_kind, is_alloc}
-use Rattle.dw_base.specs.LayoutFails.{LiesAcross, BeginsInHeader, LayoutFails, LayoutFits}
-use Rattle.dw_base.specs.Output.{new_body}
+use Rattle.dw_base.specs.LayoutFails.{LayoutFails, LayoutFits}
+use Rattle.dw_base.specs.Output.{new_body, readings}
 use Rattle.dw_base.specs.Paths.{PathMap}
 use Rattle.dw_base.specs.Refusals.{at}
 use Rattle.dw_base.specs.SectionNames.{debug_info, debug_abbrev, debug_str, contents_called, is_first_name, is_read_name}
@@ -17,20 +16,13 @@ use Rattle.dw_base.specs.declared.fault.Refusal.{Refusal}
 use Rattle.dw_base.specs.declared.elf_numbers.TheConstants.{ET_REL, SHF_COMPRESSED}
 
 -- a section that is read, of a number, is ALLOC and has bytes (gABI ch. 4 "Sections", `sh_flags`)
-pub record IsLoaded (b : List ℕ) (i : ℕ) : Type 0 where
+pub record ReadIsLoaded (b : List ℕ) (i : ℕ) : Type 0 where
   pub read : IsTrue (is_read_name (section_name b i))
   pub bytes : is_empty_kind (nth_section b i) ≡ false
   pub alloc : is_alloc (nth_section b i) ≡ true
 
--- why a section, of a number, stands where none may that is to be read, or moved: it is loaded, it lies across the end of
--- the part of the file that stays, or it begins in the file header
-pub data StandsWrong (b : List ℕ) (i : ℕ) : Refusal → Type 0 where
-  loaded : IsLoaded b i → StandsWrong b i (at Fixed i 0)
-  across : LiesAcross b (nth_section b i) → StandsWrong b i (at Fixed i 0)
-  in_header : BeginsInHeader b (nth_section b i) → StandsWrong b i (at Fixed i 0)
-
 -- the sections of debug data are others than this version takes: there are some beside the three that are read, or one of
--- these is there twice, is compressed, or is the section name table (DWARF 5, 7.31 appendix B; gABI ch. 4 "Sections",
+-- these is there twice, is compressed, or is the section name table (DWARF 5, Appendix B; gABI ch. 4 "Sections",
 -- "Special Sections")
 pub data NamesFail (b : List ℕ) : Type 0 where
   other : (i : ℕ) → i < section_count b → is_first_name (section_name b i) ≡ false → NamesFail b
@@ -60,12 +52,13 @@ pub record FileReads (b : List ℕ) : Type 0 where
 pub data FileFails (b : List ℕ) : Refusal → Type 0 where
   elf : {r : Refusal} → ElfFails b r → FileFails b r
   file_type : HeaderReads b → e_type b ≢ ET_REL → is_loaded_kind b ≡ false → FileFails b (at FileType 0 16)
-  placed : (i : ℕ) {r : Refusal} → ElfReads b → i < section_count b → StandsWrong b i r → FileFails b r
+  loaded : (i : ℕ) → ElfReads b → i < section_count b → ReadIsLoaded b i → FileFails b (at Fixed i 0)
   relocatable : HeaderReads b → e_type b ≡ ET_REL → FileFails b (at Unbuilt 0 0)
   named : ElfReads b → NamesFail b → FileFails b (at Unbuilt 0 0)
   units : ElfReads b → (UnitsOf b → ⊥) → FileFails b (at Unbuilt 0 0)
 
--- every row, for a prefix map: the output can be too long, and a section in the part that stays can have to change
+-- every row, for a prefix map: the output can be too long, and a section can lie across the end of the part that stays, begin
+-- in the file header, or stay and have to change
 pub data EditFails (m : PathMap) (b : List ℕ) : Refusal → Type 0 where
   file : {r : Refusal} → FileFails b r → EditFails m b r
   output : {r : Refusal} → (ok : FileReads b) → LayoutFails b (new_body m b (readings ok.units.pieces)) r → EditFails m b r
@@ -73,5 +66,5 @@ pub data EditFails (m : PathMap) (b : List ℕ) : Refusal → Type 0 where
 -- the file is taken: it has an output that can be written, and no section that is read is loaded
 pub record IsAccepted (m : PathMap) (b : List ℕ) : Type 0 where
   pub reads : FileReads b
-  pub unloaded : (i : ℕ) → i < section_count b → IsLoaded b i → ⊥
+  pub unloaded : (i : ℕ) → i < section_count b → ReadIsLoaded b i → ⊥
   pub fits : LayoutFits b (new_body m b (readings reads.units.pieces))

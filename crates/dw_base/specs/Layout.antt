@@ -12,6 +12,10 @@ use Rattle.dw_base.specs.declared.records.Section.{Section}
 use Rattle.dw_base.specs.declared.records.Segment.{Segment}
 use Rattle.dw_base.specs.declared.elf_numbers.TheConstants.{ET_EXEC, ET_DYN, SHF_ALLOC}
 
+-- the longest file that is read, in bytes
+abbrev pub file_limit : ℕ
+file_limit = 2 ^ 30
+
 -- the longest file that is written, in bytes
 abbrev pub output_limit : ℕ
 output_limit = 2 ^ 31

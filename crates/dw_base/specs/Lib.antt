@@ -18,11 +18,9 @@ pub mod Units
 pub mod Mentions
 pub mod SectionNames
 pub mod Output
-pub mod First
 pub mod EntryUnits
 pub mod EditFails
 pub mod PlainReading
-pub mod PlainFirst
 pub mod Notes
 pub mod Views
 pub mod Meaning

@@ -17,6 +17,10 @@ around_of b = record { order = order_of b; str = contents_called b debug_str }
 pub record Readings : Type 0 where
   pub info : List (Step UnitState)
 
+-- the readings of a file whose units are these pieces
+abbrev pub readings : List (Step UnitState) → Readings
+readings pieces = record { info = pieces }
+
 -- what becomes of .debug_str: old bytes are kept, and mapped texts that differ get a place behind them
 unfoldable pub str_change : PathMap → List ℕ → Readings → TableChange
 str_change m b r =

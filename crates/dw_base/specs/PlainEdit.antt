@@ -1,24 +1,39 @@
 -- Whether a small file is taken: each rule as a test that computes. For worked examples, and to show that the rules can be
--- decided; nothing else stands on it.
-use Rattle.std.specs.Prelude.{Bool, true, ℕ, ◌+◌, ◌*◌, ◌==◌, ◌&&◌, ◌||◌, not, bit_and, nat_lt, nat_le, List, [], ◌∷◌, length}
+-- decided: a file of which no row holds is one that is taken.
+use Rattle.std.specs.Prelude.{Bool, true, false, ℕ, zero, suc, ◌+◌, ◌*◌, ◌^◌, ◌==◌, ◌&&◌, ◌||◌, not, bit_and, nat_lt, nat_le, List, [], ◌∷◌, length, drop, is_some}
 use Rattle.std.specs.List.{list_all}
+use Rattle.std.specs.Int.{is_power_of_two}
 use Rattle.dw_base.specs.Elf.{class_of, order_of, ehdr_size, phdr_size, shdr_size, e_type, e_phoff, e_shoff, e_phentsize, e_phnum, e_shentsize, nth_section, nth_segment, section_count, section_name, name_index, name_table, is_empty_kind, contents_of}
 use Rattle.dw_base.specs.ElfFails.{ident_byte}
-use Rattle.dw_base.specs.First.{readings}
+use Rattle.dw_base.specs.EntryUnits.{first_table}
 use Rattle.dw_base.specs.Grammar.{Step}
-use Rattle.dw_base.specs.Layout.{is_loaded_kind, is_alloc, fixed_end, is_fixed}
+use Rattle.dw_base.specs.Layout.{output_limit, is_loaded_kind, is_alloc, fixed_end, is_fixed}
+use Rattle.dw_base.specs.Mentions.{offset_of}
 use Rattle.dw_base.specs.Numbers.{spelled}
-use Rattle.dw_base.specs.Output.{new_body}
+use Rattle.dw_base.specs.Output.{new_body, readings}
 use Rattle.dw_base.specs.Paths.{PathMap}
-use Rattle.dw_base.specs.PlainFirst.{all_below, is_plain_alignment, abbreviations_test, texts_test, length_test}
-use Rattle.dw_base.specs.PlainReading.{passes, plain_reads, plain_units}
-use Rattle.dw_base.specs.SectionNames.{debug_info, debug_abbrev, contents_called, is_first_name, is_read_name}
+use Rattle.dw_base.specs.PlainReading.{passes, plain_reads, plain_units, plain_length}
+use Rattle.dw_base.specs.SectionNames.{debug_info, debug_abbrev, debug_str, contents_called, is_first_name, is_read_name}
 use Rattle.dw_base.specs.Texts.{ends_in, same_text}
-use Rattle.dw_base.specs.Units.{Mode, header, code, values, stuck, UnitState, code_value}
+use Rattle.dw_base.specs.Units.{in_debug_str, Mode, header, code, values, stuck, UnitState, code_value, Role, fixed, offset, role_of}
 use Rattle.dw_base.specs.declared.records.Section.{Section}
 use Rattle.dw_base.specs.declared.shared.Order.{Order}
 use Rattle.dw_base.specs.declared.shared.Order.TheVariants.{Little}
 use Rattle.dw_base.specs.declared.elf_numbers.TheConstants.{EI_CLASS, EI_DATA, EI_VERSION, ELFMAG, ELFCLASS32, ELFCLASS64, ELFDATA2LSB, ELFDATA2MSB, EV_CURRENT, ET_REL, PN_XNUM, SHT_NULL, SHT_STRTAB, SHF_COMPRESSED}
+
+-- a test passes at each number below one
+abbrev pub all_below : (ℕ → Bool) → ℕ → Bool
+all_below test zero = true
+all_below test (suc n) = all_below test n && test n
+
+-- a number is 2 to a power below k
+abbrev pub is_power_below : ℕ → ℕ → Bool
+is_power_below zero n = false
+is_power_below (suc k) n = n == 2 ^ k || is_power_below k n
+
+-- an alignment is 0 or a power of two; a count of digits would compute on small numbers alone
+abbrev pub is_plain_alignment : ℕ → Bool
+is_plain_alignment n = n == 0 || (is_power_below 64 n || (nat_le (2 ^ 64) n && is_power_of_two n))
 
 -- the tests of the file header
 abbrev pub ident_rules : List ℕ → List Bool
@@ -86,6 +101,31 @@ name_rules b =
 
 unfoldable pub name_test : List ℕ → Bool
 name_test b = passes (name_rules b)
+
+-- a header names a table of one abbreviation
+abbrev pub abbreviation_test : Mode → Order → List ℕ → List ℕ → Bool
+abbreviation_test header order abbrevs p = is_some (first_table (drop (spelled order p 6 4) abbrevs))
+abbreviation_test code order abbrevs p = true
+abbreviation_test (values number tag specs) order abbrevs p = true
+abbreviation_test stuck order abbrevs p = true
+
+-- an offset of a text names one that ends
+abbrev pub text_test : Role → Order → List ℕ → List ℕ → Bool
+text_test fixed order str p = true
+text_test (offset in_debug_str path) order str p = ends_in str (offset_of order p)
+
+-- the tables of abbreviations
+unfoldable pub abbreviations_test : List ℕ → Bool
+abbreviations_test b =
+    list_all (λ (x : Step UnitState). abbreviation_test x.state.mode (order_of b) (contents_called b debug_abbrev) x.bytes) (plain_units b)
+
+-- the texts
+unfoldable pub texts_test : List ℕ → Bool
+texts_test b = list_all (λ (x : Step UnitState). text_test (role_of x) (order_of b) (contents_called b debug_str) x.bytes) (plain_units b)
+
+-- the length of the output, of a file in which the part that stays lies
+unfoldable pub length_test : PathMap → List ℕ → Bool
+length_test m b = nat_le (fixed_end b) (length b) && nat_le (plain_length m b) output_limit
 
 -- a piece of a unit of one entry
 abbrev pub lone_test : Mode → Order → UnitState → List ℕ → Bool

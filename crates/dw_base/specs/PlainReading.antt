@@ -3,14 +3,13 @@
 use Rattle.std.specs.Prelude.{Bool, true, false, ℕ, zero, suc, ◌+◌, ◌*◌, ◌==◌, ◌&&◌, ◌||◌, nat_lt, nat_le, if◌then◌else◌, List, [], ◌∷◌, length, take, drop, Option, Some, None, is_some, ⊤}
 use Rattle.dw_base.specs.Abbreviations.{abbreviation_of}
 use Rattle.dw_base.specs.Elf.{class_of, order_of, word_size, shdr_size, section_count}
-use Rattle.dw_base.specs.First.{readings}
 use Rattle.dw_base.specs.Grammar.{Step, joined}
 use Rattle.dw_base.specs.Layout.{Part, part_of, padding, fixed_end}
 use Rattle.dw_base.specs.Lebs.{uleb, uleb_within}
 use Rattle.dw_base.specs.Lists.{tabulate}
 use Rattle.dw_base.specs.Meaning.{Meaning, meaning_of}
 use Rattle.dw_base.specs.Numbers.{spelled}
-use Rattle.dw_base.specs.Output.{output_of, new_body}
+use Rattle.dw_base.specs.Output.{output_of, new_body, readings}
 use Rattle.dw_base.specs.Paths.{PathMap}
 use Rattle.dw_base.specs.SectionNames.{debug_info, debug_abbrev, contents_called}
 use Rattle.dw_base.specs.Texts.{same_text}

@@ -11,6 +11,9 @@ ghost use Rattle.dw_base.specs.Lebs.{uleb_at, uleb, uleb_within, sleb_at, sleb, 
 use crate::numbers::number_at;
 use crate::shared::{Order, Width};
 
+/// The first of the first words of an initial length that say no length themselves (DWARF 5, 7.4).
+pub const FIRST_RESERVED_LENGTH: u64 = 0xffff_fff0;
+
 /// The unsigned LEB128 number at `at`, in bytes from the front: its value, and how many bytes it has.
 /// `None` exactly where no byte below 0x80 follows, or the value needs more than 64 bits.
 #[tactic(auto, unfolding(crate::specs::Lebs::uleb_at))]
@@ -147,7 +150,7 @@ pub fn initial_length_at(order: Order, bytes: &[u8], at: u64) -> Option<(Width, 
     ensures inside { IfSome result (λ read. at + read.2 ≤ length bytes.now) }
 {
     let word = number_at(order, bytes, at, 4)?;
-    if word < 0xffff_fff0 {
+    if word < FIRST_RESERVED_LENGTH {
         return Some((Width::W32, word, 4));
     }
     if word != 0xffff_ffff {

@@ -25,7 +25,7 @@ mod view_fields;
 
 pub use debug_sections::{DebugRow, DebugSection, LISTED_COUNT, listed_number};
 pub use fault::{Fault, Kind, NoMemory, Refusal};
-pub use lebs::{initial_length_at, sleb_at, uleb_at};
+pub use lebs::{FIRST_RESERVED_LENGTH, initial_length_at, sleb_at, uleb_at};
 pub use limits::{FILE_LIMIT, OUTPUT_LIMIT};
 pub use numbers::{number_at, number_in, put_number};
 pub use records::{FileKind, Section, Segment};

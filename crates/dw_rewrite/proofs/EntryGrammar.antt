@@ -1,7 +1,6 @@
 -- The grammar of the units of one entry: unit sections in which each unit is one entry.
 use Rattle.std.proofs.Common.{ℕ, List, [], ◌∷◌}
-use Rattle.dw_base.specs.EntryUnits.{LoneEntry, LoneEntryBy}
-use Rattle.dw_base.specs.First.{OneAbbreviation, OneAbbreviationBy}
+use Rattle.dw_base.specs.EntryUnits.{LoneEntry, LoneEntryBy, OneAbbreviation, OneAbbreviationBy}
 use Rattle.dw_base.specs.Mentions.{NamesText, NamesTextBy}
 use Rattle.dw_base.specs.Grammar.{Grammar, Step, Chain, EachStep}
 use Rattle.dw_base.specs.Units.{UnitState, FitsMode, past, role_of_mode, role_of, EndsSection, unit_grammar}

@@ -8,13 +8,12 @@ use Rattle.dw_base.specs.EditFails.EditFails.{file, output}
 use Rattle.dw_base.specs.EditFails.FileFails.{elf, units}
 use Rattle.dw_base.specs.Elf.{contents_of, is_empty_kind, nth_section, section_count, section_name}
 use Rattle.dw_base.specs.ElfFails.{ElfFails}
-use Rattle.dw_base.specs.First.{readings}
 use Rattle.dw_base.specs.Layout.{output_limit, with_bodies}
 use Rattle.dw_base.specs.LayoutFails.{LayoutFails, LayoutFits}
 use Rattle.dw_base.specs.LayoutReads.{ReadsBack}
 use Rattle.dw_base.specs.Loaded.{LoadedKept}
 use Rattle.dw_base.specs.Mapped.{MeaningKept}
-use Rattle.dw_base.specs.Output.{IsOutput, new_body, output_of}
+use Rattle.dw_base.specs.Output.{IsOutput, new_body, output_of, readings}
 use Rattle.dw_base.specs.Paths.{IsPathMap, PathMap}
 use Rattle.dw_base.specs.Refusals.{Blames}
 use Rattle.dw_base.specs.SectionNames.{debug_abbrev, debug_info, debug_str, is_read_name}
@@ -27,7 +26,7 @@ use Rattle.dw_base.proofs.LoadedLaws.{file-loaded}
 use Rattle.dw_base.proofs.MeaningKeptLaws.{file-meaning}
 use Rattle.dw_base.proofs.ReadsBackLaws.{reads_back-same, with_bodies-same}
 use Rattle.dw_base.proofs.TextLaws.{same_text-true}
-use Rattle.dw_base.proofs.WorkedLaws.{output-complete}
+use Rattle.dw_base.proofs.OutputLaws.{output-complete}
 use Rattle.elf_layout.specs.Given.{AreContents, body_given}
 use Rattle.dw_rewrite.specs.Judged.{AtMostOnce, Found, IsFound}
 use Rattle.dw_rewrite.specs.Judged.IsFound.{nowhere, there}

@@ -5,9 +5,8 @@ use Rattle.std.proofs.lemmas.Bool.{cases_lt, cases_eq, eq-eqb, true≢false}
 use Rattle.std.proofs.lemmas.Bool.Decides.{nat_tests}
 use Rattle.std.proofs.lemmas.List.{drop_more, take_more, take-take, take_all, take_at, drop_all, append-nil, append_assoc, length-take-le}
 use Rattle.dw_base.specs.EditFails.{FileFails}
-use Rattle.dw_base.specs.EditFails.FileFails.{file_type, named, placed, relocatable}
+use Rattle.dw_base.specs.EditFails.FileFails.{file_type, loaded, named, relocatable}
 use Rattle.dw_base.specs.EditFails.NamesFail.{compressed, names, other as unlisted, twice}
-use Rattle.dw_base.specs.EditFails.StandsWrong.{loaded}
 use Rattle.dw_base.specs.Elf.{class_of, contents_at, contents_of, e_shoff, e_type, file_kind, is_empty_kind, name_index, name_table, nth_section, section_count, section_name, shdr_size}
 use Rattle.dw_base.specs.ElfFails.{ElfReads}
 use Rattle.dw_base.specs.Layout.{is_alloc, is_loaded_kind}
@@ -23,6 +22,7 @@ use Rattle.dw_base.specs.declared.records.Section.{Section}
 use Rattle.dw_base.specs.declared.shared.Class.{Class}
 use Rattle.dw_base.specs.declared.shared.Class.TheVariants.{C32, C64}
 use Rattle.dw_base.proofs.TextLaws.{same_text-from, same_text-true}
+use Rattle.dw_rewrite.specs.declared.judge.TheConstants.{FRONT_SIZE}
 use Rattle.dw_rewrite.specs.Judged.{AllFit, AtMostOnce, IsOnly, NamesApart, NextCalled, NoneCalled, SectionFits}
 use Rattle.dw_rewrite.specs.Judged.IsFound.{nowhere, there}
 use Rattle.dw_rewrite.proofs.CalledLaws.{called-first, called-none, contents-first, contents-none}
@@ -130,8 +130,6 @@ name_index-there b i reads lt = elim (cases_eq (name_index b) 0) [
   | inr some ↦ reads.debug.index.there some
 ]
 
-pub ruleset count_laws = (section_count-few)
-
 not_zero : (n : ℕ) → n ≢ 0 → (n == 0) ≡ false
 not_zero n h = grind arith
 
@@ -155,23 +153,23 @@ text-further xs i lt other from =
     }
 
 -- it ends at a NUL
-pub text-ended : (xs : List ℕ) (i : ℕ) → i < length xs → i ≤ 18 → get_or xs i 0 ≡ 0 → TextFrom xs i → take i xs ≡ take 18 (text xs)
+pub text-ended : (xs : List ℕ) (i : ℕ) → i < length xs → i ≤ FRONT_SIZE → get_or xs i 0 ≡ 0 → TextFrom xs i → take i xs ≡ take FRONT_SIZE (text xs)
 text-ended xs i lt le nul from =
     let test : (get_or xs i 0 == 0) ≡ true = eq-eqb (get_or xs i 0) 0 nul in
     let none : text (drop i xs) ≡ [] = rw (drop_more xs i 0 lt, test) refl in
     let whole : text xs ≡ take i xs = from.is ∙ ap (λ (r : List ℕ). take i xs ++ r) none ∙ append-nil (take i xs) in
-    sym (take_all 18 (take i xs) (omega (arith, length-take-le i xs (omega arith)))) ∙ ap (take 18) (sym whole)
+    sym (take_all FRONT_SIZE (take i xs) (omega (arith, length-take-le i xs (omega arith)))) ∙ ap (take FRONT_SIZE) (sym whole)
 
 -- or it has so many bytes, or all
-pub text-filled : (xs : List ℕ) (i : ℕ) → i ≡ min (length xs) 18 → TextFrom xs i → take i xs ≡ take 18 (text xs)
-text-filled xs i end from = elim (cases_lt (length xs) 18) [
+pub text-filled : (xs : List ℕ) (i : ℕ) → i ≡ min (length xs) FRONT_SIZE → TextFrom xs i → take i xs ≡ take FRONT_SIZE (text xs)
+text-filled xs i end from = elim (cases_lt (length xs) FRONT_SIZE) [
   | inl few ↦
       let none : text (drop i xs) ≡ [] = rw (drop_all i xs (omega arith)) refl in
       let whole : text xs ≡ take i xs = from.is ∙ ap (λ (r : List ℕ). take i xs ++ r) none ∙ append-nil (take i xs) in
-      sym (take_all 18 (take i xs) (omega (arith, length-take-le i xs (omega arith)))) ∙ ap (take 18) (sym whole)
+      sym (take_all FRONT_SIZE (take i xs) (omega (arith, length-take-le i xs (omega arith)))) ∙ ap (take FRONT_SIZE) (sym whole)
   | inr many ↦
-      let size : length (take i xs) ≡ 18 = omega (arith, length-take-le i xs (omega arith)) in
-      sym (take_at (take i xs) (text (drop i xs)) 18 size) ∙ ap (take 18) (sym from.is)
+      let size : length (take i xs) ≡ FRONT_SIZE = omega (arith, length-take-le i xs (omega arith)) in
+      sym (take_at (take i xs) (text (drop i xs)) FRONT_SIZE size) ∙ ap (take FRONT_SIZE) (sym from.is)
 ]
 
 pub ruleset front_laws = (text-start, text-further, text-ended, text-filled)
@@ -186,55 +184,55 @@ same_text-take (suc n) (x ∷ xs) (y ∷ ys) short = rw (same_text-take n xs ys 
 pub starts_with-take : (n : ℕ) (t p : List ℕ) → length p ≤ n → starts_with (λ x y. x == y) (take n t) p ≡ starts_with (λ x y. x == y) t p
 starts_with-take n t p short = rw (take-take (length p) n t short) refl
 
-pub is_first_name-take : (t : List ℕ) → is_first_name (take 18 t) ≡ is_first_name t
+pub is_first_name-take : (t : List ℕ) → is_first_name (take FRONT_SIZE t) ≡ is_first_name t
 is_first_name-take t =
     rw (
-      starts_with-take 18 t debug_prefix (omega arith),
-      starts_with-take 18 t zdebug_prefix (omega arith),
-      same_text-take 18 t debug_info (omega arith),
-      same_text-take 18 t debug_abbrev (omega arith),
-      same_text-take 18 t debug_str (omega arith),
-      same_text-take 18 t debug_altlink (omega arith),
+      starts_with-take FRONT_SIZE t debug_prefix (omega arith),
+      starts_with-take FRONT_SIZE t zdebug_prefix (omega arith),
+      same_text-take FRONT_SIZE t debug_info (omega arith),
+      same_text-take FRONT_SIZE t debug_abbrev (omega arith),
+      same_text-take FRONT_SIZE t debug_str (omega arith),
+      same_text-take FRONT_SIZE t debug_altlink (omega arith),
     ) refl
 
-pub is_read_name-take : (t : List ℕ) → is_read_name (take 18 t) ≡ is_read_name t
+pub is_read_name-take : (t : List ℕ) → is_read_name (take FRONT_SIZE t) ≡ is_read_name t
 is_read_name-take t =
     rw (
-      same_text-take 18 t debug_info (omega arith),
-      same_text-take 18 t debug_abbrev (omega arith),
-      same_text-take 18 t debug_str (omega arith),
+      same_text-take FRONT_SIZE t debug_info (omega arith),
+      same_text-take FRONT_SIZE t debug_abbrev (omega arith),
+      same_text-take FRONT_SIZE t debug_str (omega arith),
     ) refl
 
 -- the first bytes of a section's name
 pub front_named : (b : List ℕ) (i n : ℕ) (s : Section) (table front : List ℕ) → ElfReads b → i < section_count b → n ≡ name_index b
-    → table ≡ contents_of b n → s ≡ nth_section b i → front ≡ take 18 (text_in table s.name) → front ≡ take 18 (section_name b i)
+    → table ≡ contents_of b n → s ≡ nth_section b i → front ≡ take FRONT_SIZE (text_in table s.name) → front ≡ take FRONT_SIZE (section_name b i)
 unfolding section_name
 front_named b i n s table front reads lt n_is table_is s_is is =
     let same : table ≡ name_table b = table_is ∙ ap (contents_of b) n_is ∙ sym (name_table-read b i reads lt) in
-    is ∙ ap (λ (t : List ℕ). take 18 (text_in t s.name)) same ∙ ap (λ (x : Section). take 18 (text_in (name_table b) x.name)) s_is
+    is ∙ ap (λ (t : List ℕ). take FRONT_SIZE (text_in t s.name)) same ∙ ap (λ (x : Section). take FRONT_SIZE (text_in (name_table b) x.name)) s_is
 
 pub ruleset name_laws = (name_index-there, front_named)
 
 -- What the first bytes of a section's name tell.
-listed_is : (b : List ℕ) (i : ℕ) (front : List ℕ) (t v : Bool) → front ≡ take 18 (section_name b i) → t ≡ is_first_name front → t ≡ v
+listed_is : (b : List ℕ) (i : ℕ) (front : List ℕ) (t v : Bool) → front ≡ take FRONT_SIZE (section_name b i) → t ≡ is_first_name front → t ≡ v
     → is_first_name (section_name b i) ≡ v
 listed_is b i front t v front_is t_is is =
     sym (is_first_name-take (section_name b i)) ∙ ap (λ (n : List ℕ). is_first_name n) (sym front_is) ∙ sym t_is ∙ is
 
-read_is : (b : List ℕ) (i : ℕ) (front : List ℕ) (t v : Bool) → front ≡ take 18 (section_name b i) → t ≡ is_read_name front → t ≡ v
+read_is : (b : List ℕ) (i : ℕ) (front : List ℕ) (t v : Bool) → front ≡ take FRONT_SIZE (section_name b i) → t ≡ is_read_name front → t ≡ v
     → is_read_name (section_name b i) ≡ v
 read_is b i front t v front_is t_is is =
     sym (is_read_name-take (section_name b i)) ∙ ap (λ (n : List ℕ). is_read_name n) (sym front_is) ∙ sym t_is ∙ is
 
 -- a section is refused for its name
 pub refused_listed : (b : List ℕ) (i : ℕ) (front : List ℕ) (t : Bool) (r : Refusal) → ElfReads b → i < section_count b
-    → front ≡ take 18 (section_name b i) → t ≡ is_first_name front → t ≡ false → r ≡ at Unbuilt 0 0 → FileFails b r
+    → front ≡ take FRONT_SIZE (section_name b i) → t ≡ is_first_name front → t ≡ false → r ≡ at Unbuilt 0 0 → FileFails b r
 refused_listed b i front t r reads lt front_is t_is no_ r_is =
     subst (FileFails b) (sym r_is) (named reads (unlisted i lt (listed_is b i front t false front_is t_is no_)))
 
 -- or where it is compressed
 pub refused_packed : (b : List ℕ) (i : ℕ) (front : List ℕ) (t u : Bool) (s : Section) (r : Refusal) → ElfReads b → i < section_count b
-    → front ≡ take 18 (section_name b i) → t ≡ is_read_name front → t ≡ true → s ≡ nth_section b i
+    → front ≡ take FRONT_SIZE (section_name b i) → t ≡ is_read_name front → t ≡ true → s ≡ nth_section b i
     → u ≡ not (bit_and s.flags SHF_COMPRESSED == 0) → u ≡ true → r ≡ at Unbuilt 0 0 → FileFails b r
 refused_packed b i front t u s r reads lt front_is t_is yes_ s_is u_is packed r_is =
     let set : not (bit_and (nth_section b i).flags SHF_COMPRESSED == 0) ≡ true =
@@ -252,17 +250,17 @@ both false y h = absurd cc
 
 -- or where it is loaded
 pub refused_loaded : (b : List ℕ) (i : ℕ) (front : List ℕ) (t u : Bool) (s : Section) (r : Refusal) → ElfReads b → i < section_count b
-    → front ≡ take 18 (section_name b i) → t ≡ is_read_name front → t ≡ true → s ≡ nth_section b i
+    → front ≡ take FRONT_SIZE (section_name b i) → t ≡ is_read_name front → t ≡ true → s ≡ nth_section b i
     → u ≡ (is_alloc s && not (is_empty_kind s)) → u ≡ true → r ≡ at Fixed i 0 → FileFails b r
 refused_loaded b i front t u s r reads lt front_is t_is yes_ s_is u_is stands r_is =
     let tests : (is_alloc (nth_section b i) && not (is_empty_kind (nth_section b i))) ≡ true =
     ap (λ (x : Section). is_alloc x && not (is_empty_kind x)) (sym s_is) ∙ sym u_is ∙ stands in
     let parts = both (is_alloc (nth_section b i)) (is_empty_kind (nth_section b i)) tests in
     subst (FileFails b) (sym r_is)
-    (placed i reads lt (loaded (record { read = read_is b i front t true front_is t_is yes_; bytes = parts.1; alloc = parts.0 })))
+    (loaded i reads lt (record { read = read_is b i front t true front_is t_is yes_; bytes = parts.1; alloc = parts.0 }))
 
 -- a section that isn't read may stand anywhere
-pub fits_unread : (b : List ℕ) (i : ℕ) (front : List ℕ) (t v : Bool) → front ≡ take 18 (section_name b i) → t ≡ is_first_name front → t ≡ true
+pub fits_unread : (b : List ℕ) (i : ℕ) (front : List ℕ) (t v : Bool) → front ≡ take FRONT_SIZE (section_name b i) → t ≡ is_first_name front → t ≡ true
     → v ≡ is_read_name front → v ≡ false → SectionFits b i
 fits_unread b i front t v front_is t_is yes_ v_is no_ =
     let unread : is_read_name (section_name b i) ≡ false = read_is b i front v false front_is v_is no_ in
@@ -287,7 +285,7 @@ neither true true a n h = true≢false n
 neither false y a n h = true≢false (sym a)
 
 -- one that is read is neither compressed nor loaded
-pub fits_read : (b : List ℕ) (i : ℕ) (front : List ℕ) (t u v : Bool) (s : Section) → front ≡ take 18 (section_name b i) → t ≡ is_first_name front
+pub fits_read : (b : List ℕ) (i : ℕ) (front : List ℕ) (t u v : Bool) (s : Section) → front ≡ take FRONT_SIZE (section_name b i) → t ≡ is_first_name front
     → t ≡ true → s ≡ nth_section b i → u ≡ not (bit_and s.flags SHF_COMPRESSED == 0) → u ≡ false
     → v ≡ (is_alloc s && not (is_empty_kind s)) → v ≡ false → SectionFits b i
 fits_read b i front t u v s front_is t_is yes_ s_is u_is plain v_is apart = record {
@@ -328,7 +326,7 @@ pub ruleset fit_laws = (fits-start, fits-more, fits-end)
 pub apart_none : (b : List ℕ) (n : ℕ) → n ≡ name_index b → n ≡ 0 → NamesApart b
 apart_none b n is none = record { apart = λ some. absurd (some (sym is ∙ none)) }
 
-pub apart_some : (b : List ℕ) (n : ℕ) (front : List ℕ) (t : Bool) → n ≡ name_index b → front ≡ take 18 (section_name b n) → t ≡ is_read_name front
+pub apart_some : (b : List ℕ) (n : ℕ) (front : List ℕ) (t : Bool) → n ≡ name_index b → front ≡ take FRONT_SIZE (section_name b n) → t ≡ is_read_name front
     → t ≡ false → NamesApart b
 apart_some b n front t is front_is t_is no_ = record {
   apart = λ some. subst (λ (i : ℕ). is_read_name (section_name b i) ≡ false) is (read_is b n front t false front_is t_is no_);
@@ -336,7 +334,7 @@ apart_some b n front t is front_is t_is no_ = record {
 
 -- or it is one
 pub refused_table : (b : List ℕ) (n : ℕ) (front : List ℕ) (t : Bool) (r : Refusal) → ElfReads b → n ≡ name_index b → n ≢ 0
-    → front ≡ take 18 (section_name b n) → t ≡ is_read_name front → t ≡ true → r ≡ at Unbuilt 0 0 → FileFails b r
+    → front ≡ take FRONT_SIZE (section_name b n) → t ≡ is_read_name front → t ≡ true → r ≡ at Unbuilt 0 0 → FileFails b r
 refused_table b n front t r reads is some front_is t_is yes_ r_is =
     subst (FileFails b) (sym r_is)
     (named reads (names (λ none. some (is ∙ none)) (subst (λ (i : ℕ). is_read_name (section_name b i) ≡ true) is (read_is b n front t true front_is t_is yes_))))
@@ -355,20 +353,20 @@ pub not_yet-start : (b name : List ℕ) (from : ℕ) → NotYet b name from from
 not_yet-start b name from = record { none = λ k le lt. absurd (omega arith) }
 
 -- the first bytes of a name tell it from another
-front-same : (b name : List ℕ) (i : ℕ) (front : List ℕ) → front ≡ take 18 (section_name b i) → length name < 18 → same_text front name ≡ true
+front-same : (b name : List ℕ) (i : ℕ) (front : List ℕ) → front ≡ take FRONT_SIZE (section_name b i) → length name < FRONT_SIZE → same_text front name ≡ true
     → section_name b i ≡ name
 front-same b name i front is short e =
     same_text-true (section_name b i) name
-    (sym (same_text-take 18 (section_name b i) name short) ∙ ap (λ (t : List ℕ). same_text t name) (sym is) ∙ e)
+    (sym (same_text-take FRONT_SIZE (section_name b i) name short) ∙ ap (λ (t : List ℕ). same_text t name) (sym is) ∙ e)
 
-front-other : (b name : List ℕ) (i : ℕ) (front : List ℕ) → front ≡ take 18 (section_name b i) → length name < 18 → same_text front name ≡ false
+front-other : (b name : List ℕ) (i : ℕ) (front : List ℕ) → front ≡ take FRONT_SIZE (section_name b i) → length name < FRONT_SIZE → same_text front name ≡ false
     → section_name b i ≢ name
 front-other b name i front is short e same =
     let yes : same_text front name ≡ true =
-    ap (λ (t : List ℕ). same_text t name) is ∙ same_text-take 18 (section_name b i) name short ∙ same_text-from (section_name b i) name same in
+    ap (λ (t : List ℕ). same_text t name) is ∙ same_text-take FRONT_SIZE (section_name b i) name short ∙ same_text-from (section_name b i) name same in
     cc
 
-pub not_yet-more : (b name : List ℕ) (from i : ℕ) (front : List ℕ) → front ≡ take 18 (section_name b i) → length name < 18
+pub not_yet-more : (b name : List ℕ) (from i : ℕ) (front : List ℕ) → front ≡ take FRONT_SIZE (section_name b i) → length name < FRONT_SIZE
     → same_text front name ≡ false → NotYet b name from i → NotYet b name from (i + 1)
 not_yet-more b name from i front is short e yet = record {
   none = λ k le lt. elim (cases_lt k i) [
@@ -379,7 +377,7 @@ not_yet-more b name from i front is short e yet = record {
   ];
 }
 
-pub not_yet-found : (b name : List ℕ) (from i : ℕ) (front : List ℕ) → front ≡ take 18 (section_name b i) → length name < 18
+pub not_yet-found : (b name : List ℕ) (from i : ℕ) (front : List ℕ) → front ≡ take FRONT_SIZE (section_name b i) → length name < FRONT_SIZE
     → same_text front name ≡ true → from ≤ i → i < section_count b → NotYet b name from i → NextCalled b name from i
 not_yet-found b name from i front is short e behind within yet =
     record { behind = behind; within = within; named = front-same b name i front is short e; before = yet.none }

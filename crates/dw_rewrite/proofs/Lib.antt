@@ -5,7 +5,6 @@ pub mod CodeLaws
 pub mod UnitFactLaws
 pub mod PlaceLaws
 pub mod Rows
-pub mod TextLimits
 pub mod Names
 pub mod UnitExits
 pub mod Walks

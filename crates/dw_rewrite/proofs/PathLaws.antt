@@ -2,11 +2,10 @@
 use Rattle.std.proofs.Common.{true, false, ◌≡◌, ℕ, zero, suc, ◌+◌, ◌-◌, ◌<◌, List, [], ◌∷◌, ◌++◌, length, get_or, drop, IsTrue, sym, ap, ◌∙◌, refl, subst, arith}
 use Rattle.std.proofs.lemmas.List.{length-append, length-drop}
 use Rattle.dw_base.specs.Elf.{order_of}
-use Rattle.dw_base.specs.First.{readings}
 use Rattle.dw_base.specs.Grammar.{Step, joined, EachStep}
 use Rattle.dw_base.specs.Mentions.{TableChange, NamesText, NamesTextBy}
 use Rattle.dw_base.specs.Numbers.{spelled}
-use Rattle.dw_base.specs.Output.{around_of, str_change, changes_of, new_info, new_str}
+use Rattle.dw_base.specs.Output.{around_of, str_change, changes_of, new_info, new_str, readings}
 use Rattle.dw_base.specs.Paths.{PathMap}
 use Rattle.dw_base.specs.SectionNames.{debug_info, debug_abbrev, debug_str, contents_called}
 use Rattle.dw_base.specs.StringTables.{appending, new_table}

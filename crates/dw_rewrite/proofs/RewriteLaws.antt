@@ -9,14 +9,13 @@ use Rattle.std.specs.declared.vec.Vec.{Vec}
 use Rattle.dw_base.specs.EditFails.{UnitsOf}
 use Rattle.dw_base.specs.Elf.{contents_of, nth_section, order_of, section_count, section_name}
 use Rattle.dw_base.specs.EntryUnits.{EntryUnits}
-use Rattle.dw_base.specs.First.{readings}
 use Rattle.dw_base.specs.Layout.{is_fixed, output_limit, part_of, with_bodies}
 use Rattle.dw_base.specs.LayoutFails.{LayoutFails, LayoutFits, TooLong}
 use Rattle.dw_base.specs.LayoutFails.LayoutFails.{section, large}
 use Rattle.dw_base.specs.LayoutFails.SectionStays.{changed, across, in_header}
 use Rattle.dw_base.specs.LayoutFails.TooLong.{long}
 use Rattle.dw_base.specs.Numbers.{spelled}
-use Rattle.dw_base.specs.Output.{new_body, new_info, new_str}
+use Rattle.dw_base.specs.Output.{new_body, new_info, new_str, readings}
 use Rattle.dw_base.specs.Paths.{PathMap}
 use Rattle.dw_base.specs.Refusals.{Blames, at}
 use Rattle.dw_base.specs.SectionNames.{debug_abbrev, debug_info, debug_str, contents_called, section_called}

@@ -3,7 +3,7 @@ use Rattle.std.proofs.Common.{Bool, true, false, ◌≡◌, ℕ, ◌<◌, ◌==�
 use Rattle.std.proofs.lemmas.List.{append-nil}
 use Rattle.std.proofs.lemmas.Bool.Decides.{nat_tests}
 use Rattle.dw_base.specs.Abbreviations.{Abbreviation, AttributeSpec, leb_numbers, leb_value, declared, at_code, at_name, bare, with_spec, abbreviations_at}
-use Rattle.dw_base.specs.First.{first_table, first_names, closed}
+use Rattle.dw_base.specs.EntryUnits.{closed, first_names, first_table}
 use Rattle.dw_base.specs.Units.{is_path}
 
 -- the attributes of these numbers, each with the form strp

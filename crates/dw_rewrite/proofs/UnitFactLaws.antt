@@ -3,8 +3,7 @@ use Rattle.std.proofs.Common.{Bool, true, false, ◌≡◌, ◌≢◌, ℕ, ◌+
 use Rattle.std.proofs.lemmas.List.{length-append, length-drop}
 use Rattle.std.proofs.lemmas.Bool.Decides.{nat_tests}
 use Rattle.dw_base.specs.Abbreviations.{Abbreviation, abbreviations_at, abbreviation_of, leb_value, read_value}
-use Rattle.dw_base.specs.EntryUnits.{LoneEntryBy}
-use Rattle.dw_base.specs.First.{first_table, OneAbbreviationBy}
+use Rattle.dw_base.specs.EntryUnits.{LoneEntryBy, OneAbbreviationBy, first_table}
 use Rattle.dw_base.specs.Mentions.{NamesTextBy}
 use Rattle.dw_base.specs.Grammar.{Grammar, Step, Chain, Leads, joined}
 use Rattle.dw_base.specs.Lebs.{uleb, uleb_within}

@@ -1,7 +1,6 @@
 -- One unit of one entry, by the bytes from its place on: its header, its table of abbreviations, its one entry.
 use Rattle.std.specs.Prelude.{◌≡◌, ℕ, zero, suc, ◌+◌, ◌*◌, ◌<◌, ◌≤◌, List, [], ◌∷◌, ◌++◌, length, drop, nat_lt, Some, IsTrue}
-use Rattle.dw_base.specs.EntryUnits.{EntryUnits}
-use Rattle.dw_base.specs.First.{first_names, first_table}
+use Rattle.dw_base.specs.EntryUnits.{EntryUnits, first_names, first_table}
 use Rattle.dw_base.specs.Lebs.{uleb, uleb_within}
 use Rattle.dw_base.specs.Numbers.{spelled}
 use Rattle.dw_base.specs.Texts.{ends_in}
@@ -57,10 +56,6 @@ value_places place (suc n) = place ∷ value_places (place + 4) n
 -- each of so many offsets names a text that ends in the table
 pub record TextsEnd (order : Order) (info str : List ℕ) (place count : ℕ) : Type 0 where
   pub each : (i : ℕ) → i < count → IsTrue (ends_in str (spelled order info (place + 4 * i) 4))
-
--- the texts of a table begin below this offset, and at each offset below it one does
-pub record IsTextLimit (str : List ℕ) (limit : ℕ) : Type 0 where
-  pub is : (place : ℕ) → ends_in str place ≡ nat_lt place limit
 
 -- the bytes begin with so many pairs of an attribute that holds a path and the form strp, and the closing numbers
 pub record IsNames (bytes : List ℕ) (count : ℕ) : Type 0 where

@@ -1,9 +1,9 @@
 -- What is judged of a file by its records and the names of its sections, and the sections that were found by it.
-use Rattle.std.specs.Prelude.{true, false, ◌≡◌, ◌≢◌, ℕ, ◌^◌, ◌<◌, ◌≤◌, bit_and, List, [], length, IsTrue, Option, Some, None}
-use Rattle.dw_base.specs.EditFails.{IsLoaded}
+use Rattle.std.specs.Prelude.{true, false, ◌≡◌, ◌≢◌, ℕ, ◌<◌, ◌≤◌, bit_and, List, [], length, IsTrue, Option, Some, None}
+use Rattle.dw_base.specs.EditFails.{ReadIsLoaded}
 use Rattle.dw_base.specs.Elf.{contents_of, is_empty_kind, name_index, nth_section, section_count, section_name}
 use Rattle.dw_base.specs.ElfFails.{ElfReads}
-use Rattle.dw_base.specs.Layout.{is_loaded_kind}
+use Rattle.dw_base.specs.Layout.{is_loaded_kind, output_limit}
 use Rattle.dw_base.specs.SectionNames.{debug_abbrev, debug_info, debug_str, contents_called, is_first_name, is_read_name, section_called}
 use Rattle.dw_base.specs.declared.elf_numbers.TheConstants.{SHF_COMPRESSED}
 use Rattle.dw_rewrite.specs.declared.judge.Sections.{Sections}
@@ -12,7 +12,7 @@ use Rattle.dw_rewrite.specs.declared.judge.Sections.{Sections}
 pub record SectionFits (b : List ℕ) (i : ℕ) : Type 0 where
   pub listed : IsTrue (is_first_name (section_name b i))
   pub plain : IsTrue (is_read_name (section_name b i)) → bit_and (nth_section b i).flags SHF_COMPRESSED ≡ 0
-  pub unloaded : IsLoaded b i → ⊥
+  pub unloaded : ReadIsLoaded b i → ⊥
 
 -- the same of each section
 pub record AllFit (b : List ℕ) : Type 0 where
@@ -63,7 +63,7 @@ pub record IsOnly (b name : List ℕ) (section : Option ℕ) : Type 0 where
 -- nothing is wrong with the records of the file, its type, and where its sections stand and how they are named, and these
 -- are its sections of debug data
 pub record Found (b : List ℕ) (s : Sections) : Type 0 where
-  pub small : length b ≤ 2 ^ 31
+  pub small : length b ≤ output_limit
   pub elf : ElfReads b
   pub kind : is_loaded_kind b ≡ true
   pub fits : AllFit b

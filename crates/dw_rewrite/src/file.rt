@@ -1,11 +1,11 @@
 //! The whole of a file rewritten: judged, read, changed, and written.
 
-ghost use Rattle.std.specs.Prelude.{◌≡◌, ◌<◌, ◌≤◌, ◌^◌, ℕ, List, length, OnOk, IfOk, IfErr};
+ghost use Rattle.std.specs.Prelude.{◌≡◌, ◌<◌, ◌≤◌, ℕ, List, length, OnOk, IfOk, IfErr};
 ghost use Rattle.std.specs.Option.{ForSome};
 ghost use Rattle.dw_base.specs.EditFails.{EditFails, IsAccepted, UnitsOf};
 ghost use Rattle.dw_base.specs.Elf.{section_count};
 ghost use Rattle.dw_base.specs.ElfFails.{SegmentsRead};
-ghost use Rattle.dw_base.specs.Layout.{with_bodies};
+ghost use Rattle.dw_base.specs.Layout.{output_limit, with_bodies};
 ghost use Rattle.dw_base.specs.LayoutFails.{LayoutFails, LayoutFits};
 ghost use Rattle.dw_base.specs.LayoutReads.{ReadsBack};
 ghost use Rattle.dw_base.specs.Loaded.{LoadedKept};
@@ -17,7 +17,7 @@ ghost use Rattle.dw_rewrite.specs.Refuses.{Refuses};
 ghost use Rattle.dw_rewrite.specs.Rewritten.{AreApart, AreGiven, PlacesFound, body_found, body_with, bytes_at, info_found, long_fault, long_refusal, str_found, with_item};
 
 use crate::change::{NewBytes, changed};
-use crate::judge::{Sections, debug_sections, section_count};
+use crate::judge::{Sections, debug_sections};
 use crate::refusal::fixed;
 use crate::units::places_in;
 use dw_base::{Fault, Refusal};
@@ -32,7 +32,7 @@ use std::alloc::{AllocError, Global};
 /// rewritten, or there was not enough memory.
 #[tactic(auto, using(crate::proofs::ExitLaws::rewrite_rules))]
 pub fn rewrite(alloc: Global, bytes: &[u8], maps: &Maps) -> Result<Vec<u8>, Fault>
-    requires small { length bytes.now ≤ 2 ^ 31 }
+    requires small { length bytes.now ≤ output_limit }
     ensures accepted { OnOk result (IsAccepted maps.now bytes.now) }
     ensures output { IfOk result (λ out. IsOutput maps.now bytes.now out.items) }
     ensures only { IfOk result (λ out. (o : List ℕ) → IsOutput maps.now bytes.now o → o ≡ out.items) }
@@ -160,7 +160,7 @@ fn written(
     ensures fits { OnOk result (LayoutFits elf.now.bytes.now (body_with elf.now.bytes.now sections new.info.items new.str.items)) }
     ensures refused { IfErr result (Blames (LayoutFails elf.now.bytes.now (body_with elf.now.bytes.now sections new.info.items new.str.items))) }
 {
-    let contents = contents_of(alloc, section_count(elf) as usize, sections, new)?;
+    let contents = contents_of(alloc, elf.section_count() as usize, sections, new)?;
     let out = emit(alloc, elf, &contents)?;
     Ok(out)
 }

@@ -17,7 +17,7 @@ ghost use Rattle.dw_base.specs.Texts.{text, text_in};
 ghost use Rattle.dw_rewrite.specs.Judged.{AllFit, Found, IsOnly, NamesApart, NextCalled, NoneCalled, SectionFits};
 
 use crate::refusal::{file_type, fixed, unbuilt};
-use dw_base::elf_numbers::{SHF_ALLOC, SHF_COMPRESSED, SHT_NOBITS, SHT_NULL};
+use dw_base::elf_numbers::SHF_COMPRESSED;
 use dw_base::{FileKind, Refusal, Section};
 use elf_file::ElfFile;
 
@@ -86,32 +86,15 @@ fn all_fit(elf: &ElfFile) -> Result<(), Refusal>
     ensures fit { OnOk result (AllFit elf.now.bytes.now) }
     ensures refused { IfErr result (FileFails elf.now.bytes.now) }
 {
-    let count = section_count(elf);
+    let count = elf.section_count();
     for index in 0..count {
         section_fits(elf, index)?;
     }
     Ok(())
 }
 
-/// How many sections there are.
-#[tactic(auto, using(crate::proofs::JudgeLaws::count_laws))]
-pub(crate) fn section_count(elf: &ElfFile) -> u32
-    requires reads { ElfReads elf.now.bytes.now }
-    ensures { result ≡ section_count elf.now.bytes.now }
-{
-    elf.sections.len() as u32
-}
-
-/// The section of a number.
-fn section_of(elf: &ElfFile, index: u32) -> Section
-    requires there { index < section_count elf.now.bytes.now }
-    ensures { result ≡ nth_section elf.now.bytes.now index }
-{
-    elf.sections[index as usize]
-}
-
 /// The section of a number has a name that one may have; where it is read, it is neither compressed nor
-/// loaded (gABI ch. 4 "Sections"; DWARF 5, 7.31 appendix B). One that is loaded is refused as `Fixed` at
+/// loaded (gABI ch. 4 "Sections"; DWARF 5, Appendix B). One that is loaded is refused as `Fixed` at
 /// its number, all else as `Unbuilt`.
 #[tactic(auto, using(crate::proofs::JudgeLaws::section_laws))]
 fn section_fits(elf: &ElfFile, index: u32) -> Result<(), Refusal>
@@ -127,7 +110,7 @@ fn section_fits(elf: &ElfFile, index: u32) -> Result<(), Refusal>
     if !is_read_name(name) {
         return Ok(());
     }
-    let section = section_of(elf, index);
+    let section = elf.section(index);
     if is_compressed(&section) {
         return Err(unbuilt());
     }
@@ -148,14 +131,7 @@ fn is_compressed(section: &Section) -> bool
 fn is_loaded(section: &Section) -> bool
     ensures { result ≡ (is_alloc section.now && not (is_empty_kind section.now)) }
 {
-    section.flags & SHF_ALLOC != 0 && !takes_no_room(section)
-}
-
-/// The section takes no room in the file: it is of type NULL or NOBITS.
-fn takes_no_room(section: &Section) -> bool
-    ensures { result ≡ is_empty_kind section.now }
-{
-    section.kind == SHT_NULL || section.kind == SHT_NOBITS
+    section.is_alloc() && !section.takes_no_room()
 }
 
 /// The section name table is no section that is read.
@@ -179,19 +155,16 @@ fn names_apart(elf: &ElfFile) -> Result<(), Refusal>
 fn name_front<'a>(elf: &'a ElfFile, index: u32) -> &'a [u8]
     requires reads { ElfReads elf.now.bytes.now }
     requires there { index < section_count elf.now.bytes.now }
-    ensures { result.now ≡ take 18 (section_name elf.now.bytes.now index) }
+    ensures { result.now ≡ take FRONT_SIZE (section_name elf.now.bytes.now index) }
 {
-    front_at(
-        elf.contents(elf.names),
-        u64::from(section_of(elf, index).name),
-    )
+    front_at(elf.contents(elf.names), u64::from(elf.section(index).name))
 }
 
 /// The first `FRONT_SIZE` bytes of the text at a place, in bytes from the start of a string table
 /// (gABI ch. 4 "String Table").
 #[tactic(auto, using(crate::proofs::JudgeLaws::front_laws), unfolding(dw_base::specs::Texts::text_in))]
 fn front_at(table: &[u8], place: u64) -> &[u8]
-    ensures { result.now ≡ take 18 (text_in table.now place) }
+    ensures { result.now ≡ take FRONT_SIZE (text_in table.now place) }
 {
     if place >= table.len() as u64 {
         return &table[..0];
@@ -204,7 +177,7 @@ fn front_at(table: &[u8], place: u64) -> &[u8]
 #[tactic(auto, using(crate::proofs::JudgeLaws::front_laws))]
 fn front_len(bytes: &[u8]) -> usize
     ensures short { result ≤ length bytes.now }
-    ensures front { take result bytes.now ≡ take 18 (text bytes.now) }
+    ensures front { take result bytes.now ≡ take FRONT_SIZE (text bytes.now) }
 {
     let end = bytes.len().min(FRONT_SIZE);
     for i in 0..end {
@@ -239,7 +212,7 @@ fn is_read_name(name: &[u8]) -> bool
 fn only_called(elf: &ElfFile, name: &[u8]) -> Result<Option<u32>, Refusal>
     requires reads { ElfReads elf.now.bytes.now }
     requires read { is_read_name name.now ≡ true }
-    requires short { length name.now < 18 }
+    requires short { length name.now < FRONT_SIZE }
     ensures found { IfOk result (IsOnly elf.now.bytes.now name.now) }
     ensures refused { IfErr result (FileFails elf.now.bytes.now) }
 {
@@ -249,7 +222,7 @@ fn only_called(elf: &ElfFile, name: &[u8]) -> Result<Option<u32>, Refusal>
     if next_called(elf, name, index + 1).is_some() {
         return Err(unbuilt());
     }
-    if takes_no_room(&section_of(elf, index)) {
+    if elf.section(index).takes_no_room() {
         return Ok(None);
     }
     Ok(Some(index))
@@ -259,12 +232,12 @@ fn only_called(elf: &ElfFile, name: &[u8]) -> Result<Option<u32>, Refusal>
 #[tactic(auto, using(crate::proofs::JudgeLaws::called_laws))]
 fn next_called(elf: &ElfFile, name: &[u8], from: u32) -> Option<u32>
     requires reads { ElfReads elf.now.bytes.now }
-    requires short { length name.now < 18 }
+    requires short { length name.now < FRONT_SIZE }
     requires from { from ≤ section_count elf.now.bytes.now }
     ensures found { IfSome result (NextCalled elf.now.bytes.now name.now from) }
     ensures none { IsNone result → NoneCalled elf.now.bytes.now name.now from }
 {
-    let count = section_count(elf);
+    let count = elf.section_count();
     for index in from..count {
         if name_front(elf, index) == name {
             return Some(index);

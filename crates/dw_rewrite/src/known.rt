@@ -15,8 +15,8 @@ ghost use Rattle.dw_base.specs.Texts.{ends_in, text_in};
 ghost use Rattle.dw_rewrite.specs.Changes.{path_at, Adds, Knows, IsNoted, Remembers, place_after};
 
 use crate::asks::asks;
-use crate::refusal::{OUTPUT_LIMIT, too_large};
-use dw_base::{Fault, Order, number_in};
+use crate::refusal::too_large;
+use dw_base::{Fault, OUTPUT_LIMIT, Order, number_in};
 use dw_paths::{Maps, map_path};
 use dw_strings::{Pool, text_at};
 use std::alloc::Global;

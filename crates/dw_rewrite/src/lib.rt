@@ -18,7 +18,6 @@ mod refusal;
 mod table;
 #[cfg(test)]
 mod tests;
-mod texts;
 mod units;
 
 pub use file::rewrite;

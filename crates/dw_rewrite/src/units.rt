@@ -8,14 +8,14 @@ ghost use Rattle.std.specs.Prelude.{ℕ, ◌≡◌, ◌↔◌, ◌+◌, ◌*◌,
 ghost use Rattle.dw_base.specs.EntryUnits.{EntryUnits};
 ghost use Rattle.dw_base.specs.Numbers.{spelled};
 ghost use Rattle.dw_base.specs.Refusals.{Blames};
+ghost use Rattle.dw_base.specs.Texts.{IsNulEnd};
 ghost use Rattle.dw_base.specs.Units.{is_address_size};
-ghost use Rattle.dw_rewrite.specs.EntryFacts.{HasCode, HeaderFacts, IsEntryUnit, IsTextLimit, PlacesRead, TextsEnd, UnitRead, unit_end, value_places};
+ghost use Rattle.dw_rewrite.specs.EntryFacts.{HasCode, HeaderFacts, IsEntryUnit, PlacesRead, TextsEnd, UnitRead, unit_end, value_places};
 ghost use Rattle.dw_rewrite.specs.Refuses.{Refuses};
 
 use crate::refusal::unbuilt;
 use crate::table::table_in;
-use crate::texts::text_limit;
-use dw_base::{Fault, Order, number_in, uleb_at};
+use dw_base::{FIRST_RESERVED_LENGTH, Fault, Order, nul_end, number_in, uleb_at};
 use std::alloc::Global;
 
 /// The places of the offsets of all paths in `.debug_info`, in bytes from its start, in order.
@@ -31,7 +31,7 @@ pub(crate) fn places_in(
     ensures read { IfOk result (λ places. PlacesRead order info.now abbrevs.now str.now places.items) }
     ensures refused { IfErr result (Blames (Refuses (EntryUnits order info.now abbrevs.now str.now))) }
 {
-    let limit = text_limit(str);
+    let limit = nul_end(str) as u64;
     let len = info.len() as u64;
     let mut places = Vec::new(alloc);
     let mut at = 0;
@@ -54,7 +54,7 @@ fn unit_in(
     places: &mut Vec<u64>,
 ) -> Result<u64, Fault>
     requires inside { at < length info.now }
-    requires limit { IsTextLimit str.now limit }
+    requires limit { IsNulEnd str.now limit }
     ensures read { IfOk result (λ z. UnitRead order info.now abbrevs.now str.now at z places.old.items places.new.items) }
     ensures further { IfOk result (λ z. at < z) }
     ensures within { IfOk result (λ z. z ≤ length info.now) }
@@ -134,7 +134,7 @@ fn header_in(order: Order, info: &[u8], at: u64) -> Option<Head>
         return None;
     }
     let length = number_in(order, info, at, 4);
-    if length >= 0xffff_fff0 {
+    if length >= FIRST_RESERVED_LENGTH {
         return None;
     }
     if length <= 7 {
@@ -169,7 +169,7 @@ fn values_in(
     places: &mut Vec<u64>,
 ) -> Result<(), Fault>
     requires inside { place + 4 * count ≤ length info.now }
-    requires limit { IsTextLimit str.now limit }
+    requires limit { IsNulEnd str.now limit }
     ensures texts { OnOk result (TextsEnd order info.now str.now place count) }
     ensures places { OnOk result (places.new.items ≡ places.old.items ++ value_places place count) }
     ensures refused { IfErr result (Blames (Refuses (TextsEnd order info.now str.now place count))) }

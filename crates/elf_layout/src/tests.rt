@@ -6,13 +6,13 @@ ghost use Rattle.elf_layout.specs.Given.{AreContents};
 
 use crate::bodies::emit;
 use crate::fixtures::{
-    BARE, BIG, BIG_SHORTER, KINDS, KINDS_BEHIND, KINDS_FRONT, LOADED, LOADED_LONGER, OVERLAP,
-    OVERLAP_APART, PARTS, PARTS_FRONT,
+    BARE, BIG, BIG_SHORTER, FRONT, KINDS, KINDS_LONGER, LOADED, LOADED_LONGER, OVERLAP,
+    OVERLAP_APART, PARTS, Sample, built,
 };
 use crate::part::Part;
 use crate::parts::write_parts;
 use dw_base::elf_numbers::SHT_NULL;
-use dw_base::{Fault, Kind, Refusal, Section};
+use dw_base::{Fault, Kind, OUTPUT_LIMIT, Refusal, Section};
 use elf_file::ElfFile;
 use std::alloc::{AllocError, Global};
 use std::test::Fail;
@@ -54,7 +54,7 @@ fn contents_with(
 
 /// The file with a new body for one section.
 fn emitted(alloc: Global, bytes: &[u8], changed: u32, body: &[u8]) -> Result<Vec<u8>, Fault> {
-    if bytes.len() > 0x8000_0000 {
+    if bytes.len() as u64 > OUTPUT_LIMIT {
         return Err(Fault::NoMemory);
     }
     let elf = ElfFile::read(alloc, bytes)?;
@@ -70,7 +70,7 @@ fn of_parts(
     parts: &[Part],
     names: u32,
 ) -> Result<Vec<u8>, Fault> {
-    if bytes.len() > 0x8000_0000 || front.len() < 64 || parts.is_empty() {
+    if bytes.len() as u64 > OUTPUT_LIMIT || front.len() < 64 || parts.is_empty() {
         return Err(Fault::NoMemory);
     }
     if parts[0].head.kind != SHT_NULL {
@@ -78,22 +78,6 @@ fn of_parts(
     }
     let elf = ElfFile::read(alloc, bytes)?;
     write_parts(alloc, &elf, front, parts, names)
-}
-
-/// These bytes stand at a place.
-fn stands_at(file: &[u8], at: usize, bytes: &[u8]) -> bool {
-    if at > file.len() || bytes.len() > file.len() - at {
-        return false;
-    }
-    &file[at..at + bytes.len()] == bytes
-}
-
-/// All bytes from a place up to another are zero.
-fn is_zero(file: &[u8], from: usize, to: usize) -> bool {
-    if from > to || to > file.len() {
-        return false;
-    }
-    file[from..to].iter().all(|byte| *byte == 0)
 }
 
 /// A section header of a name, a type, a place, a size and an alignment.
@@ -112,71 +96,41 @@ fn head(name: u32, kind: u32, offset: u64, size: u64, align: u64) -> Section {
     }
 }
 
-#[test]
-fn a_loaded_part_stays_and_the_rest_moves_behind_it(rt: HostRuntime) -> Result<(), Fail> {
-    let file = emitted(rt.alloc(), &LOADED, 2, b"a\0bc\0longer\0")?;
-    assert_eq!(rt; file.as_slice(), LOADED_LONGER.as_slice());
-    Ok(())
-}
+/// An input, the number of a section and its new body, and the output.
+type Case = (Sample, u32, &'static [u8], Sample);
+
+const EMITTED: [Case; 5] = [
+    // a loaded part stays, and the rest moves behind it
+    (LOADED, 2, b"a\0bc\0longer\0", LOADED_LONGER),
+    // each kind of section has its place
+    (KINDS, 3, b"xyz12", KINDS_LONGER),
+    // a file without sections stays as it is
+    (BARE, 0, b"", BARE),
+    // numbers stand highest byte first
+    (BIG, 1, b"ab", BIG_SHORTER),
+    // sections that overlap are laid apart
+    (OVERLAP, 2, b"!", OVERLAP_APART),
+];
 
 #[test]
-fn a_loaded_section_keeps_its_own_bytes_alone(rt: HostRuntime) -> Result<(), Fail> {
-    let same = emitted(rt.alloc(), &LOADED, 1, b"\x90\x90\x90\xc3")?;
-    assert_eq!(rt; same.len(), LOADED.len());
-    let fixed = Fault::Refused(Refusal {
-        kind: Kind::Fixed,
-        section: 1,
-        offset: 0,
-    });
-    assert_eq!(rt;
-        emitted(rt.alloc(), &LOADED, 1, b"\x90\x90\xc3\xc3").err(),
-        Some(fixed)
-    );
-    assert_eq!(rt;
-        emitted(rt.alloc(), &LOADED, 1, b"\x90\x90\x90").err(),
-        Some(fixed)
-    );
-    Ok(())
-}
-
-#[test]
-fn each_kind_of_section_has_its_place(rt: HostRuntime) -> Result<(), Fail> {
-    let file = emitted(rt.alloc(), &KINDS, 3, b"xyz12")?;
-    assert_eq!(rt; file.len(), 0x1000 + KINDS_BEHIND.len());
-    assert!(rt; stands_at(file.as_slice(), 0, &KINDS_FRONT));
-    assert!(rt; is_zero(file.as_slice(), 0x45, 0x1000));
-    assert!(rt; stands_at(file.as_slice(), 0x1000, &KINDS_BEHIND));
-    Ok(())
-}
-
-#[test]
-fn a_file_without_sections_stays_as_it_is(rt: HostRuntime) -> Result<(), Fail> {
-    let file = emitted(rt.alloc(), &BARE, 0, b"")?;
-    assert_eq!(rt; file.as_slice(), BARE.as_slice());
-    Ok(())
-}
-
-#[test]
-fn wide_numbers_of_32_bits_stand_highest_byte_first(rt: HostRuntime) -> Result<(), Fail> {
-    let file = emitted(rt.alloc(), &BIG, 1, b"ab")?;
-    assert_eq!(rt; file.as_slice(), BIG_SHORTER.as_slice());
-    Ok(())
-}
-
-#[test]
-fn sections_that_overlap_are_laid_apart(rt: HostRuntime) -> Result<(), Fail> {
-    let file = emitted(rt.alloc(), &OVERLAP, 2, b"!")?;
-    assert_eq!(rt; file.as_slice(), OVERLAP_APART.as_slice());
+fn files_are_written_with_new_bodies(rt: HostRuntime) -> Result<(), Fail> {
+    for (input, section, body, output) in EMITTED.iter() {
+        let input = built(rt.alloc(), input)?;
+        let output = built(rt.alloc(), output)?;
+        let file = emitted(rt.alloc(), &input, *section, body)?;
+        assert_eq!(rt; file.as_slice(), output.as_slice());
+    }
     Ok(())
 }
 
 #[test]
 fn parts_are_kept_or_laid_out(rt: HostRuntime) -> Result<(), Fail> {
     let mut parts = Vec::new(rt.alloc());
-    let mut first = head(0, 0, 7, 9, 0);
-    first.link = 3;
     parts.push(Part {
-        head: first,
+        head: Section {
+            link: 3,
+            ..head(0, 0, 7, 9, 0)
+        },
         body: None,
         kept: false,
     })?;
@@ -191,51 +145,28 @@ fn parts_are_kept_or_laid_out(rt: HostRuntime) -> Result<(), Fail> {
         body: None,
         kept: true,
     })?;
-    let file = of_parts(rt.alloc(), &BIG, &PARTS_FRONT, &parts, 2)?;
-    assert_eq!(rt; file.as_slice(), PARTS.as_slice());
+    let like = built(rt.alloc(), &BIG)?;
+    let front = built(rt.alloc(), &FRONT)?;
+    let file = of_parts(rt.alloc(), &like, &front, &parts, 2)?;
+    assert_eq!(rt; file.as_slice(), built(rt.alloc(), &PARTS)?.as_slice());
     Ok(())
 }
 
+/// No memory is asked for the zeros that would stand before the part.
 #[test]
 fn an_alignment_that_passes_the_limit_is_refused_at_once(rt: HostRuntime) -> Result<(), Fail> {
     let mut parts = Vec::new(rt.alloc());
-    parts.push(Part {
-        head: head(0, 0, 0, 0, 0),
-        body: None,
-        kept: false,
-    })?;
-    parts.push(Part {
-        head: head(1, 1, 0, 0, 0x8000_0000_0000_0000),
-        body: None,
-        kept: false,
-    })?;
-    let large = Fault::Refused(Refusal {
-        kind: Kind::TooLarge,
-        section: 0,
-        offset: 0,
-    });
-    assert_eq!(rt;
-        of_parts(rt.alloc(), &LOADED, &LOADED, &parts, 0).err(),
-        Some(large)
-    );
-    Ok(())
-}
-
-#[test]
-fn many_parts_are_counted_in_section_0(rt: HostRuntime) -> Result<(), Fail> {
-    let mut parts = Vec::new(rt.alloc());
-    for _ in 0..0xff00 {
+    for (kind, align) in [(0, 0), (1, 0x8000_0000_0000_0000)] {
         parts.push(Part {
-            head: head(0, 0, 0, 0, 0),
+            head: head(kind, kind, 0, 0, align),
             body: None,
             kept: false,
         })?;
     }
-    let file = of_parts(rt.alloc(), &BIG, &PARTS_FRONT, &parts, 0xfeff)?;
-    // The sections begin at the next multiple of 4 behind the front. `e_shnum` is 0, and `e_shstrndx` and
-    // the size of section 0 are the numbers.
-    assert_eq!(rt; file.len(), 68 + 0xff00 * 40);
-    assert!(rt; stands_at(file.as_slice(), 48, &[0, 0, 0xfe, 0xff]));
-    assert!(rt; stands_at(file.as_slice(), 68 + 20, &[0, 0, 0xff, 0x00]));
+    let like = built(rt.alloc(), &LOADED)?;
+    assert_eq!(rt;
+        of_parts(rt.alloc(), &like, &like, &parts, 0).err(),
+        Some(Fault::Refused(Refusal::of_file(Kind::TooLarge)))
+    );
     Ok(())
 }
