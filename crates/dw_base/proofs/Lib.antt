@@ -61,3 +61,7 @@ pub mod DebugSectionLaws
 pub mod DebugSectionFailsLaws
 pub mod FileViewLaws
 pub mod WorkedEntries
+pub mod FormLaws
+pub mod NumberBytes
+pub mod AbbreviationLaws
+pub mod AbbreviationRowLaws
