@@ -45,10 +45,11 @@ abbrev pub slashed : List (List ℕ) → List ℕ
 slashed [] = []
 slashed (part ∷ parts) = slash ∷ part ++ slashed parts
 
+-- the slash that a path begins with
+abbrev pub root : Bool → List ℕ
+root rooted = if rooted then slash ∷ [] else []
+
 -- the cleaned path: a slash where the path begins with one, and then the components that are left, with
 -- slashes between them
 unfoldable pub cleaned_path : List ℕ → List ℕ
-cleaned_path path =
-    if is_rooted path
-    then slash ∷ join_with_byte slash (left_components path)
-    else join_with_byte slash (left_components path)
+cleaned_path path = root (is_rooted path) ++ join_with_byte slash (left_components path)
