@@ -45,7 +45,7 @@ pub struct DebugRow {
 }
 
 /// The sections that are read, in the order of the table.
-const READ: [DebugSection; 9] = [
+pub const READ_SECTIONS: [DebugSection; 9] = [
     DebugSection::Info,
     DebugSection::Types,
     DebugSection::Abbrev,
@@ -120,7 +120,7 @@ impl DebugSection {
     pub fn called(name: &[u8]) -> Option<DebugSection>
         ensures section { result ≡ debug_section name.now }
     {
-        section_in(&READ, name)
+        section_in(&READ_SECTIONS, name)
     }
 }
 
@@ -168,11 +168,11 @@ pub fn listed_number(name: &[u8]) -> usize
     ensures listed { IsTrue (is_listed name.now) ↔ (result < LISTED_COUNT) }
     ensures few { result ≤ LISTED_COUNT }
 {
-    let read = number_in(&READ, name);
-    if read < READ.len() {
+    let read = number_in(&READ_SECTIONS, name);
+    if read < READ_SECTIONS.len() {
         return read;
     }
-    READ.len() + index_in(&CARRIED, name)
+    READ_SECTIONS.len() + index_in(&CARRIED, name)
 }
 
 #[cfg(test)]

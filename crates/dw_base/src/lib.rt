@@ -23,7 +23,7 @@ mod values;
 mod texts;
 mod view_fields;
 
-pub use debug_sections::{DebugRow, DebugSection, LISTED_COUNT, listed_number};
+pub use debug_sections::{DebugRow, DebugSection, LISTED_COUNT, READ_SECTIONS, listed_number};
 pub use fault::{Fault, Kind, NoMemory, Refusal};
 pub use lebs::{FIRST_RESERVED_LENGTH, initial_length_at, sleb_at, uleb_at};
 pub use limits::{FILE_LIMIT, OUTPUT_LIMIT};

@@ -1,0 +1,16 @@
+-- What a view keeps beside the file, and what is known of a field.
+use Rattle.std.specs.Prelude.{◌≡◌, ℕ, ◌<◌, ◌^◌, List, map, Option, ⊤}
+use Rattle.dw_base.specs.DebugSections.{name_of, read_sections}
+use Rattle.dw_base.specs.FileViews.{View, section_named}
+use Rattle.dw_base.specs.declared.view_fields.Field.{Field}
+use Rattle.dw_base.specs.declared.view_fields.Field.TheVariants.{Num, Into, Sym}
+
+-- of each section that is read, in the order of the table, the first that has its name and bytes
+pub record FirstsAre (v : View) (firsts : List (Option ℕ)) : Type 0 where
+  pub are : firsts ≡ map (λ s. section_named v (name_of s)) read_sections
+
+-- a field of n bytes that reads as a number reads as one of n bytes
+abbrev pub FieldFits : ℕ → Field → Type 0
+FieldFits n (Num x) = x < 256 ^ n
+FieldFits n (Into section offset) = ⊤
+FieldFits n (Sym symbol kind addend) = ⊤

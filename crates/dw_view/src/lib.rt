@@ -1,0 +1,19 @@
+//! The view of a file: the sections from which its debug data are read, by number and by name (gABI ch. 4
+//! "Sections"; DWARF 5, Appendix B).
+//!
+//! This layer promises: a file has a view only where its type and the names and flags of its sections are
+//! ones that are handled, and then its sections, their names and their bytes are the file's; it is refused
+//! only by a condition of the kinds `Compressed`, `Supplementary`, `SplitDwarf`, `UnknownDebug`, `Twice`
+//! and `FileType` that holds, at its place. A section of a name is the first that has it and bytes.
+//! It does not promise: anything of what the sections hold; relocations are not read yet.
+//! Read first: `dw_base/specs/DebugSectionFails.antt`, then `dw_base/specs/FileViews.antt`.
+#![tactic(auto)]
+
+mod found;
+mod fronts;
+mod names;
+mod repeats;
+mod view;
+
+pub use dw_base::{DebugSection, Fault, Field, Kind, Order, Refusal};
+pub use view::View;

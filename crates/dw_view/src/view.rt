@@ -1,0 +1,125 @@
+//! The view of one file.
+
+ghost use Rattle.std.specs.Prelude.{◌≡◌, ◌+◌, ◌<◌, ◌≤◌, ◌^◌, Ok, length, IfErr, IfOk, IfSome, OnOk};
+ghost use Rattle.dw_base.specs.DebugSections.{name_of};
+ghost use Rattle.dw_base.specs.DebugSectionFails.{DebugSectionsFail, DebugSectionsRead};
+ghost use Rattle.dw_base.specs.FileViews.{View as FileView, field_at, section_after, section_bytes, section_named, view_of};
+ghost use Rattle.dw_base.specs.Refusals.{Blames};
+ghost use Rattle.dw_base.specs.declared.fault.Refusal.{Refusal};
+ghost use Rattle.dw_view.specs.Seen.{FieldFits, FirstsAre};
+
+use crate::found::{firsts_of, next_filled};
+use crate::names::{kind_fits, names_apart, names_fit};
+use crate::repeats::names_once;
+use dw_base::{DebugSection, Fault, Field, Order, READ_SECTIONS, Refusal, number_in};
+use elf_file::ElfFile;
+use std::marker::Model;
+
+/// The view of a file: its sections by number and by name.
+#[derive(Drop)]
+pub struct View<'a> {
+    /// The file.
+    elf: &'a ElfFile<'a>,
+    /// For each section that is read, in the order of the table, the first that has its name and bytes.
+    firsts: Vec<Option<u32>>,
+}
+
+impl<'a> Model for View<'a> {
+    ghost Value = { FileView };
+
+    ghost view = { λ v. view_of v.elf.now.bytes.now };
+
+    ghost invariant = { λ v. FirstsAre (view_of v.elf.now.bytes.now) v.firsts.items };
+}
+
+impl<'a> View<'a> {
+    /// The view of one file. Refused exactly where a condition of `DebugSectionsFail` holds, at its place:
+    /// by the type of the file as `FileType`, by its sections as `Compressed`, `Supplementary`,
+    /// `SplitDwarf`, `UnknownDebug` and `Twice`.
+    #[tactic(auto, using(crate::proofs::ViewLaws::one_laws))]
+    pub fn one(elf: &'a ElfFile<'a>) -> Result<View<'a>, Fault>
+        ensures reads { OnOk result (DebugSectionsRead elf.now.bytes.now) }
+        ensures none { OnOk result ((r : Refusal) → DebugSectionsFail elf.now.bytes.now r → ⊥) }
+        ensures value { IfOk result (λ view. view ≡ view_of elf.now.bytes.now) }
+        ensures refused { IfErr result (Blames (DebugSectionsFail elf.now.bytes.now)) }
+    {
+        kind_fits(elf)?;
+        names_fit(elf)?;
+        names_once(elf)?;
+        names_apart(elf)?;
+        let firsts = firsts_of(elf, &READ_SECTIONS)?;
+        Ok(View { elf, firsts })
+    }
+
+    /// The byte order of the file.
+    #[tactic(auto, using(crate::proofs::ViewLaws::view_laws))]
+    pub fn order(&self) -> Order
+        ensures order { result ≡ self.now.order }
+    {
+        self.elf.order
+    }
+
+    /// The first section of those that are read: the first of its name that has bytes in the file. None
+    /// exactly where there is no such section. Takes the same time in every file.
+    pub fn first(&self, section: DebugSection) -> Option<u32>
+        ensures section { result ≡ section_named self.now (name_of section) }
+        ensures there { IfSome result (λ section. section < length self.now.sections) }
+    {
+        self.kept(section)
+    }
+
+    /// The same, from the list that is kept.
+    fn kept(&self, section: DebugSection) -> Option<u32>
+        ensures { result ≡ section_named self.now (name_of section) }
+    {
+        self.firsts[section as usize]
+    }
+
+    /// The first section above a number that has a name, and bytes in the file. None exactly where there
+    /// is no such section.
+    #[tactic(auto, using(crate::proofs::ViewLaws::section_laws))]
+    pub fn section(&self, name: &[u8], after: u32) -> Option<u32>
+        ensures section { result ≡ section_after self.now name.now after }
+        ensures above { IfSome result (λ section. after < section) }
+        ensures there { IfSome result (λ section. section < length self.now.sections) }
+    {
+        self.found(name, after)
+    }
+
+    /// The same: the first of all is kept for each section that is read.
+    #[tactic(auto, using(crate::proofs::ViewLaws::found_laws))]
+    fn found(&self, name: &[u8], after: u32) -> Option<u32>
+        ensures { result ≡ section_after self.now name.now after }
+    {
+        if after == 0
+            && let Some(section) = DebugSection::called(name)
+        {
+            return self.kept(section);
+        }
+        next_filled(self.elf, name, after)
+    }
+
+    /// The bytes of the section of a number, none where it has none in the file.
+    #[tactic(auto, using(crate::proofs::ViewLaws::view_laws))]
+    pub fn bytes(&self, section: u32) -> &[u8]
+        requires there { section < length self.now.sections }
+        ensures bytes { result.now ≡ section_bytes self.now section }
+        ensures small { length result.now ≤ 2 ^ 31 }
+    {
+        self.elf.contents(section)
+    }
+
+    /// What a field reads as: the `size` bytes from `at`, in bytes from the start of the section of a
+    /// number.
+    #[tactic(auto, using(crate::proofs::ViewLaws::view_laws), unfolding(dw_base::specs::FileViews::field_at))]
+    pub fn field(&self, section: u32, at: u64, size: u8) -> Result<Field, Refusal>
+        requires there { section < length self.now.sections }
+        requires some { 0 < size }
+        requires wide { size ≤ 8 }
+        requires inside { at + size ≤ length (section_bytes self.now section) }
+        ensures value { result ≡ Ok (field_at self.now section at size) }
+        ensures fits { IfOk result (FieldFits size) }
+    {
+        Ok(Field::Num(number_in(self.order(), self.bytes(section), at, size)))
+    }
+}
