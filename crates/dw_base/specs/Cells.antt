@@ -1,7 +1,9 @@
 -- The contents of a section as cells: a byte, and the relocation that begins there (gABI ch. 4 "Relocation").
-use Rattle.std.specs.Prelude.{ℕ, ◌+◌, ◌^◌, ◌%◌, ◌==◌, if◌then◌else◌, List, [], ◌∷◌, length, take, drop, Option, Some, None}
+use Rattle.std.specs.Prelude.{negsuc, ℕ, ◌^◌, ◌%◌, ◌==◌, if◌then◌else◌, List, [], ◌∷◌, length, take, drop, Option, Some, None, pos, ℤ, ◌+ℤ◌, ◌-◌}
 use Rattle.dw_base.specs.Numbers.{spelled}
 use Rattle.dw_base.specs.declared.shared.Order.{Order}
+use Rattle.dw_base.specs.declared.view_fields.Field.{Field}
+use Rattle.dw_base.specs.declared.view_fields.Field.TheVariants.{Num, Into, Sym}
 
 -- a relocation: its symbol and type, the size of the field where the type is absolute, the addend of its record where that
 -- has one, and section and value of the symbol where it is defined
@@ -9,7 +11,7 @@ pub record Relocation : Type 0 where
   pub symbol : ℕ
   pub kind : ℕ
   pub size : Option ℕ
-  pub addend : Option ℕ
+  pub addend : Option ℤ
   pub target : Option (ℕ × ℕ)
 
 -- a byte, and the relocation that begins there
@@ -32,35 +34,38 @@ with_bytes [] bs = []
 with_bytes (c ∷ cs) [] = c ∷ cs
 with_bytes (c ∷ cs) (b ∷ bs) = record c { byte = b } ∷ with_bytes cs bs
 
--- what a field reads as: a number, a place in a section, or a symbol with its relocation's type and an addend
-pub data FieldValue : Type 0 where
-  num : ℕ → FieldValue
-  into : ℕ → ℕ → FieldValue
-  sym : ℕ → ℕ → ℕ → FieldValue
-
 abbrev pub first_relocation : List Cell → Option Relocation
 first_relocation [] = None
 first_relocation (c ∷ cs) = c.relocation
 
 -- the addend of a relocation over a field of a number: that of the record, or the number
-abbrev pub addend_of : Option ℕ → ℕ → ℕ
-addend_of None n = n
+abbrev pub addend_of : Option ℤ → ℕ → ℤ
+addend_of None n = pos n
 addend_of (Some a) n = a
 
-abbrev pub targeted : Option (ℕ × ℕ) → Relocation → ℕ → ℕ → FieldValue
-targeted None r size n = sym r.symbol r.kind (addend_of r.addend n)
-targeted (Some t) r size n = into t.0 ((t.1 + addend_of r.addend n) % 256 ^ size)
+-- a number as one of so many bytes
+abbrev pub wrapped : ℤ → ℕ → ℕ
+wrapped (pos n) size = n % 256 ^ size
+wrapped (negsuc n) size = 256 ^ size - 1 - n % 256 ^ size
 
-abbrev pub relocated : Option ℕ → Relocation → ℕ → ℕ → FieldValue
-relocated None r size n = sym r.symbol r.kind (addend_of r.addend n)
-relocated (Some k) r size n = if k == size then targeted r.target r size n else sym r.symbol r.kind (addend_of r.addend n)
+-- the field of a symbol
+abbrev pub symbol_field : Relocation → ℕ → Field
+symbol_field r n = Sym r.symbol r.kind (addend_of r.addend n)
 
-abbrev pub field_by : Option Relocation → ℕ → ℕ → FieldValue
-field_by None size n = num n
+abbrev pub targeted : Option (ℕ × ℕ) → Relocation → ℕ → ℕ → Field
+targeted None r size n = symbol_field r n
+targeted (Some t) r size n = Into t.0 (wrapped (pos t.1 +ℤ addend_of r.addend n) size)
+
+abbrev pub relocated : Option ℕ → Relocation → ℕ → ℕ → Field
+relocated None r size n = symbol_field r n
+relocated (Some k) r size n = if k == size then targeted r.target r size n else symbol_field r n
+
+abbrev pub field_by : Option Relocation → ℕ → ℕ → Field
+field_by None size n = Num n
 field_by (Some r) size n = relocated r.size r size n
 
 -- the field of all these cells
-unfoldable pub field_of : Order → List Cell → FieldValue
+unfoldable pub field_of : Order → List Cell → Field
 field_of order p = field_by (first_relocation p) (length p) (spelled order (bytes_of p) 0 (length p))
 
 -- a section that offsets are of: its number, and its bytes
@@ -69,10 +74,10 @@ pub record Located : Type 0 where
   pub bytes : List ℕ
 
 -- the offset that a field holds into a section; one into another section counts as past it
-abbrev pub offset_into : Located → FieldValue → ℕ
-offset_into z (num n) = n
-offset_into z (into s n) = if s == z.number then n else length z.bytes
-offset_into z (sym s k a) = length z.bytes
+abbrev pub offset_into : Located → Field → ℕ
+offset_into z (Num n) = n
+offset_into z (Into s n) = if s == z.number then n else length z.bytes
+offset_into z (Sym s k a) = length z.bytes
 
 unfoldable pub offset_of : Order → Located → List Cell → ℕ
 offset_of order z p = offset_into z (field_of order p)

@@ -54,3 +54,8 @@ pub mod TextChanges
 pub mod EntryValues
 pub mod DataFails
 pub mod DataOutput
+pub mod DebugSections
+pub mod DebugSectionFails
+pub mod FileViews
+pub mod ViewData
+pub mod FileMeanings

@@ -1,7 +1,7 @@
 -- The texts that pieces of units name, and what becomes of the pieces when the tables of texts change. The offset in a field
 -- is read and written by words of their own.
-use Rattle.std.specs.Prelude.{Bool, ◌+◌, ◌-◌, ◌%◌, ◌^◌, ℕ, List, [], ◌∷◌, ◌++◌, length, if◌then◌else◌, IsTrue, ⊤, Option, Some, None}
-use Rattle.dw_base.specs.Cells.{Cell, Relocation, bytes_of, with_bytes, first_relocation, offset_of}
+use Rattle.std.specs.Prelude.{Bool, ℕ, List, [], ◌∷◌, ◌++◌, length, if◌then◌else◌, IsTrue, ⊤, Option, Some, None, pos, ℤ, ◌-ℤ◌}
+use Rattle.dw_base.specs.Cells.{Cell, Relocation, bytes_of, with_bytes, first_relocation, offset_of, wrapped}
 use Rattle.dw_base.specs.DebugData.{Around, Readings, table_of}
 use Rattle.dw_base.specs.Forms.{TextSection, in_str, in_line_str}
 use Rattle.dw_base.specs.InlinePaths.{inline_fits, mapped_inline}
@@ -21,7 +21,7 @@ symbol_value (Some t) = t.1
 
 -- a relocation whose addend makes its field the offset n
 abbrev pub moved_relocation : Relocation → ℕ → Relocation
-moved_relocation r n = record r { addend = Some ((n + 2 ^ 64 - symbol_value r.target) % 2 ^ 64) }
+moved_relocation r n = record r { addend = Some (pos n -ℤ pos (symbol_value r.target)) }
 
 abbrev pub with_relocation : List Cell → Relocation → List Cell
 with_relocation [] r = []
@@ -29,9 +29,8 @@ with_relocation (c ∷ cs) r = record c { relocation = Some r } ∷ cs
 
 -- a field of the same size with another offset: without a relocation its bytes spell it; with one the addend of its record
 -- makes it, or where that has none the number in the field (gABI ch. 4 "Relocation")
-abbrev pub by_addend : Option ℕ → Order → Relocation → List Cell → ℕ → List Cell
-by_addend None order r p n =
-    with_bytes p (number_bytes order (length p) ((n + 256 ^ length p - symbol_value r.target) % 256 ^ length p))
+abbrev pub by_addend : Option ℤ → Order → Relocation → List Cell → ℕ → List Cell
+by_addend None order r p n = with_bytes p (number_bytes order (length p) (wrapped (pos n -ℤ pos (symbol_value r.target)) (length p)))
 by_addend (Some a) order r p n = with_relocation p (moved_relocation r n)
 
 abbrev pub with_offset_by : Option Relocation → Order → List Cell → ℕ → List Cell

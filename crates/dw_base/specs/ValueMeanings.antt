@@ -1,7 +1,7 @@
 -- What a value of an attribute means (DWARF 5, 7.5.5). It is said in names, numbers and texts: where a text stands in its
 -- table, which form holds it and where a section lies are not in it.
 use Rattle.std.specs.Prelude.{Bool, true, false, ◌+◌, ℕ, ℤ, pos, ◌==◌, ◌&&◌, if◌then◌else◌, List, [], ◌∷◌, drop, length, Option, Some, None}
-use Rattle.dw_base.specs.Cells.{Cell, Relocation, FieldValue, num, into, sym, bytes_of, field_of, offset_of, first_relocation, addend_of}
+use Rattle.dw_base.specs.Cells.{Cell, Relocation, bytes_of, field_of, offset_of, first_relocation, symbol_field}
 use Rattle.dw_base.specs.DebugData.{Lasting, Around, EntryPlace, table_of}
 use Rattle.dw_base.specs.Forms.{ValueKind, number_of, leb_number, signed_leb, block_of, counted, counted_leb, inline_text, text_offset, present, in_abbreviation, form_in_front, supplementary, unlisted}
 use Rattle.dw_base.specs.Lebs.{uleb_at, sleb_at}
@@ -12,6 +12,8 @@ use Rattle.dw_base.specs.UnitStates.{UnitState, code_value}
 use Rattle.dw_base.specs.declared.shared.Order.{Order}
 use Rattle.dw_base.specs.declared.values.Spec.{Spec}
 use Rattle.dw_base.specs.declared.values.ValueClass.{ValueClass}
+use Rattle.dw_base.specs.declared.view_fields.Field.{Field}
+use Rattle.dw_base.specs.declared.view_fields.Field.TheVariants.{Num, Into, Sym}
 use Rattle.dw_base.specs.declared.values.ValueClass.TheVariants.{Address, Flag, LocalRef, GlobalRef}
 
 -- how a text is held: where its value stands, by an offset into a table, or by the slot of a number
@@ -31,7 +33,7 @@ pub data ValueMeaning : Type 0 where
   macro_number : ℕ → ValueMeaning
   raw : List Cell → ValueMeaning
   signed_number : ℤ → ValueMeaning
-  of_class : ValueClass → FieldValue → ValueMeaning
+  of_class : ValueClass → Field → ValueMeaning
 
 -- the entry that starts at a place of a section; where none does, the offset that was to name one
 abbrev pub found_entry : List EntryPlace → ℕ → ℕ → ℕ → ValueMeaning
@@ -49,26 +51,22 @@ holds_number [] n = false
 holds_number (i ∷ rest) n = if i == n then true else holds_number rest n
 
 -- what a field refers to in .debug_info
-abbrev pub global_entry : Lasting → FieldValue → ValueMeaning
-global_entry g (num n) = found_entry g.entries (first_of g.infos) n n
-global_entry g (into z n) = if holds_number g.infos z then found_entry g.entries z n n else stray n
-global_entry g (sym s k a) = of_class GlobalRef (sym s k a)
-
-abbrev pub number_of_field : FieldValue → ℕ
-number_of_field (num n) = n
-number_of_field (into z n) = n
-number_of_field (sym s k a) = a
+abbrev pub global_entry : Lasting → Field → ValueMeaning
+global_entry g (Num n) = found_entry g.entries (first_of g.infos) n n
+global_entry g (Into z n) = if holds_number g.infos z then found_entry g.entries z n n else stray n
+global_entry g (Sym s k a) = of_class GlobalRef (Sym s k a)
 
 -- what a field refers to in its unit, from whose start it counts
-abbrev pub local_entry : Lasting → UnitState → FieldValue → ValueMeaning
-local_entry g s f = found_entry g.entries s.section (s.header.start + number_of_field f) (number_of_field f)
+abbrev pub local_entry : Lasting → UnitState → Field → ValueMeaning
+local_entry g s (Num n) = found_entry g.entries s.section (s.header.start + n) n
+local_entry g s f = of_class LocalRef f
 
 -- an address: the number, or where a relocation begins at it, its symbol, type and addend
-abbrev pub address_by : Option Relocation → ℕ → FieldValue
-address_by None n = num n
-address_by (Some r) n = sym r.symbol r.kind (addend_of r.addend n)
+abbrev pub address_by : Option Relocation → ℕ → Field
+address_by None n = Num n
+address_by (Some r) n = symbol_field r n
 
-unfoldable pub address_of : Order → List Cell → FieldValue
+unfoldable pub address_of : Order → List Cell → Field
 address_of order p = address_by (first_relocation p) (spelled order (bytes_of p) 0 (length p))
 
 -- what the cells of a number of a class mean
@@ -80,8 +78,8 @@ meaning_of_number g s class p = of_class class (field_of g.base.order p)
 
 -- and those of one in LEB128
 abbrev pub meaning_of_leb : Lasting → UnitState → ValueClass → ℕ → ValueMeaning
-meaning_of_leb g s LocalRef n = local_entry g s (num n)
-meaning_of_leb g s class n = of_class class (num n)
+meaning_of_leb g s LocalRef n = local_entry g s (Num n)
+meaning_of_leb g s class n = of_class class (Num n)
 
 -- how many bytes a count in front of a block has
 abbrev pub read_size : Option (ℕ × ℕ) → ℕ
@@ -105,7 +103,7 @@ meaning_of_value around s u x inline_text p = string (is_path_use u) inline (tex
 meaning_of_value around s u x (text_offset table n) p =
     string (is_path_use u) by_offset
     (text_in (table_of around table).bytes (offset_of around.lasting.base.order (table_of around table) p))
-meaning_of_value around s u x present p = of_class Flag (num 1)
+meaning_of_value around s u x present p = of_class Flag (Num 1)
 meaning_of_value around s u x in_abbreviation p = signed_number x.implicit
 meaning_of_value around s u x form_in_front p = raw p
 meaning_of_value around s u x supplementary p = raw p

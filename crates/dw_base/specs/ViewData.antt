@@ -1,0 +1,105 @@
+-- The debug data of a view, its sections found by their names (DWARF 5, 7.31), and what a view means: its units, and by
+-- name the bytes of the sections that are meant as they stand.
+use Rattle.std.specs.Prelude.{Bool, ℕ, zero, suc, ◌||◌, not, is_some, if◌then◌else◌, List, [], ◌∷◌, ◌++◌, drop, Option, Some, None}
+use Rattle.dw_base.specs.Cells.{Cell, Located, plain_cells}
+use Rattle.dw_base.specs.DebugData.{DebugData, Readings}
+use Rattle.dw_base.specs.DebugSections.{debug_section, name_of}
+use Rattle.dw_base.specs.FileViews.{Contents, plain_contents, bytes_in, ViewSection, View, section_bytes, section_named}
+use Rattle.dw_base.specs.MappedUnits.{mapped_units}
+use Rattle.dw_base.specs.Notes.{BuildId, zeroed}
+use Rattle.dw_base.specs.Paths.{PathMap}
+use Rattle.dw_base.specs.SectionNames.{debug_link}
+use Rattle.dw_base.specs.Texts.{same_text}
+use Rattle.dw_base.specs.UnitHeaders.{UnitSection, SectionKind, in_info, in_types}
+use Rattle.dw_base.specs.UnitMeanings.{UnitMeaning, units_of}
+use Rattle.dw_base.specs.declared.debug_sections.DebugSection.{DebugSection}
+use Rattle.dw_base.specs.declared.debug_sections.DebugSection.TheVariants.{Info, Types, Abbrev, Str, LineStr}
+
+-- contents as cells
+abbrev pub cells_in : Contents → List Cell
+cells_in contents = plain_cells (bytes_in contents)
+
+-- a section that holds units, by the section that its name is
+abbrev pub unit_kind : Option DebugSection → Option SectionKind
+unit_kind (Some Info) = Some in_info
+unit_kind (Some Types) = Some in_types
+unit_kind s = None
+
+-- the units of a section of a number
+abbrev pub unit_section : ℕ → ViewSection → Option SectionKind → List UnitSection
+unit_section i s None = []
+unit_section i s (Some kind) = record { number = i; kind = kind; contents = cells_in s.contents } ∷ []
+
+-- the unit sections of a list whose first section has this number: those with bytes in the file
+abbrev pub unit_sections_from : ℕ → List ViewSection → List UnitSection
+unit_sections_from i [] = []
+unit_sections_from i (s ∷ ss) =
+    (if s.has_bytes then unit_section i s (unit_kind (debug_section s.name)) else []) ++ unit_sections_from (suc i) ss
+
+-- the unit sections of a view, in the order of their numbers. Section 0 is inactive in every file.
+unfoldable pub unit_sections : View → List UnitSection
+unit_sections v = unit_sections_from 1 (drop 1 v.sections)
+
+-- a section of the view for offsets: number 0 and no bytes where there is none
+abbrev pub located_at : View → Option ℕ → Located
+located_at v None = record { number = 0; bytes = [] }
+located_at v (Some i) = record { number = i; bytes = section_bytes v i }
+
+unfoldable pub located : View → DebugSection → Located
+located v s = located_at v (section_named v (name_of s))
+
+-- the debug data of a view
+unfoldable pub debug_data : View → DebugData
+debug_data v = record {
+  base = record { order = v.order; abbrevs = located v Abbrev };
+  units = unit_sections v;
+  str = located v Str;
+  line_str = located v LineStr;
+}
+
+-- a section whose bytes are meant as they stand: it isn't loaded and isn't read. The section name table and the link to a
+-- debug file are left out, since they say how the sections are divided between files.
+abbrev pub is_other : ViewSection → Bool
+is_other s = not (s.alloc || s.is_name_table || is_some (debug_section s.name) || same_text s.name debug_link)
+
+-- the bytes of a section, under its name
+pub record NamedBytes : Type 0 where
+  pub name : List ℕ
+  pub bytes : List ℕ
+
+abbrev pub other_sections : List ViewSection → List NamedBytes
+other_sections [] = []
+other_sections (s ∷ ss) =
+    if is_other s then record { name = s.name; bytes = bytes_in s.contents } ∷ other_sections ss else other_sections ss
+
+-- the bytes under a name, in order
+abbrev pub bytes_named : List NamedBytes → List ℕ → List (List ℕ)
+bytes_named [] name = []
+bytes_named (x ∷ xs) name = if same_text x.name name then x.bytes ∷ bytes_named xs name else bytes_named xs name
+
+-- the sections, with the bytes of a descriptor in the one of a number as zeros
+abbrev pub zeroed_at : ℕ → BuildId → List ViewSection → List ViewSection
+zeroed_at i id [] = []
+zeroed_at zero id (s ∷ ss) = record s { contents = plain_contents (zeroed id.descriptor (bytes_in s.contents)) } ∷ ss
+zeroed_at (suc i) id (s ∷ ss) = s ∷ zeroed_at i id ss
+
+-- the sections, with the bytes of the build-id as zeros
+abbrev pub without_id : Option BuildId → List ViewSection → List ViewSection
+without_id None ss = ss
+without_id (Some id) ss = zeroed_at id.section id ss
+
+-- what debug data mean: the units in order; and by name, in order, the bytes of the sections that are meant as they stand
+pub record Meaning : Type 0 where
+  pub units : List UnitMeaning
+  pub others : List ℕ → List (List ℕ)
+
+-- what a view means, for these readings; the bytes of the build-id count as zeros
+unfoldable pub meaning_of : View → Readings → Meaning
+meaning_of v r = record {
+  units = units_of (debug_data v) r;
+  others = bytes_named (other_sections (without_id v.id v.sections));
+}
+
+-- the meaning with each path mapped
+abbrev pub mapped : PathMap → Meaning → Meaning
+mapped m x = record x { units = mapped_units m x.units }
