@@ -1,0 +1,4 @@
+pub mod XorLaws
+pub mod SumLaws
+pub mod TableLaws
+pub mod LinkLaws

@@ -1,0 +1,111 @@
+//! CRC-32 (ISO 3309; ITU-T V.42, 8.1.1.6.2), eight bytes at a time by a table.
+//!
+//! `crc32` is the sum of the bitwise division, and takes no memory.
+
+ghost use Rattle.std.specs.Prelude.{◌≡◌, length};
+ghost use Rattle.debug_link.specs.Sums.{with_bits, with_bytes, crc32};
+ghost use Rattle.debug_link.specs.Tables.{times, IsTable};
+
+use crate::table::{ENTRIES, make_table};
+
+/// The CRC-32 of some bytes, as `zlib`, `gzip` and `.gnu_debuglink` have it.
+#[tactic(auto, unfolding(crate::specs::Sums::crc32))]
+pub fn crc32(bytes: &[u8]) -> u32
+    ensures value { result ≡ crc32 bytes.now }
+{
+    let table = make_table();
+    let rest = divide_words(&table, u32::MAX, bytes);
+    !rest
+}
+
+/// The remainder with the bytes more, eight at a time.
+#[tactic(auto, using(crate::proofs::SumLaws::word_rules))]
+fn divide_words(table: &[u32; ENTRIES], start: u32, bytes: &[u8]) -> u32
+    requires table { IsTable 2048 table.now }
+    ensures value { result ≡ with_bytes bytes.now start }
+{
+    let mut rest = start;
+    let mut bytes = bytes;
+    'words: while bytes.len() >= 8 {
+        let (word, more) = bytes.split_at(8);
+        rest = divide_word(table, rest, word);
+        bytes = more;
+    }
+    divide_bytes(table, rest, bytes)
+}
+
+/// The remainder with the bytes more, one at a time.
+fn divide_bytes(table: &[u32; ENTRIES], start: u32, bytes: &[u8]) -> u32
+    requires table { IsTable 2048 table.now }
+    ensures value { result ≡ with_bytes bytes.now start }
+{
+    let mut rest = start;
+    'bytes: for byte in bytes {
+        rest = divide_byte(table, rest, *byte);
+    }
+    rest
+}
+
+/// The remainder with a byte more.
+#[tactic(auto, using(crate::proofs::SumLaws::byte_rules))]
+fn divide_byte(table: &[u32; ENTRIES], rest: u32, byte: u8) -> u32
+    requires table { IsTable 2048 table.now }
+    ensures value { result ≡ with_bits 8 byte rest }
+{
+    let added = rest ^ u32::from(byte);
+    table[(added % 256) as usize] ^ (added / 256)
+}
+
+/// The remainder with eight bytes more.
+#[tactic(auto, using(crate::proofs::SumLaws::eight_rules))]
+fn divide_word(table: &[u32; ENTRIES], rest: u32, word: &[u8]) -> u32
+    requires table { IsTable 2048 table.now }
+    requires eight { length word.now ≡ 8 }
+    ensures value { result ≡ with_bytes word.now rest }
+{
+    let word = u64::from_le_bytes([
+        word[0], word[1], word[2], word[3], word[4], word[5], word[6], word[7],
+    ]);
+    times_x64(table, u64::from(rest) ^ word)
+}
+
+/// A remainder, to which eight bytes were added, times x to the power of 64.
+#[tactic(auto, using(crate::proofs::SumLaws::entry_rules))]
+fn times_x64(table: &[u32; ENTRIES], word: u64) -> u32
+    requires table { IsTable 2048 table.now }
+    ensures value { result ≡ times 64 word }
+{
+    let [a, b, c, d, e, f, g, h] = word.to_le_bytes();
+    let front = table[1792 + usize::from(a)]
+        ^ table[1536 + usize::from(b)]
+        ^ table[1280 + usize::from(c)]
+        ^ table[1024 + usize::from(d)];
+    let back = table[768 + usize::from(e)]
+        ^ table[512 + usize::from(f)]
+        ^ table[256 + usize::from(g)]
+        ^ table[usize::from(h)];
+    front ^ back
+}
+
+#[cfg(test)]
+mod tests {
+    use super::*;
+
+    /// `python3 -c 'import zlib; print(hex(zlib.crc32(..)))'`, and the check value of ITU-T V.42.
+    const SUMS: [(&[u8], u32); 7] = [
+        (b"", 0),
+        (b"123456789", 0xcbf4_3926),
+        (b"a", 0xe8b7_be43),
+        (b"abcdefg", 0x312a_6aa6),
+        (b"abcdefgh", 0xaeef_2a50),
+        (b"\0\0\0\0\0\0\0\0\0\0\0\0\0\0\0\0\0", 0xc9ef_f1bd),
+        (b"The quick brown fox jumps over the lazy dog", 0x414f_a339),
+    ];
+
+    #[test]
+    fn sums_are_those_of_zlib(rt: HostRuntime) {
+        for (bytes, sum) in SUMS.iter() {
+            assert_eq!(rt; crc32(bytes), *sum);
+        }
+    }
+}
