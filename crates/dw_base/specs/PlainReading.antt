@@ -1,5 +1,5 @@
 -- Plain readings of small files: slow functions that compute what the definitions of unit sections, of the output file
--- and of the meaning say. They are here to be run on worked examples; nothing else stands on them.
+-- and of the meaning say. They are here to be run on worked examples, and to show that the rules can be decided.
 use Rattle.std.specs.Prelude.{Bool, true, false, ℕ, zero, suc, ◌+◌, ◌*◌, ◌==◌, ◌&&◌, ◌||◌, nat_lt, nat_le, if◌then◌else◌, List, [], ◌∷◌, length, take, drop, Option, Some, None, is_some, ⊤}
 use Rattle.dw_base.specs.Abbreviations.{abbreviation_of}
 use Rattle.dw_base.specs.Elf.{class_of, order_of, word_size, shdr_size, section_count}

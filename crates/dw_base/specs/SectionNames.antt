@@ -1,4 +1,4 @@
--- Sections by name (gABI ch. 4 "Special Sections"; DWARF 5, 7.31 appendix B).
+-- Sections by name (gABI ch. 4 "Special Sections"; DWARF 5, Appendix B).
 use Rattle.std.specs.Prelude.{nat_eq, not, ◌||◌, Bool, ℕ, suc, codes, if◌then◌else◌, List, [], ◌∷◌}
 use Rattle.std.specs.List.{starts_with}
 use Rattle.dw_base.specs.Elf.{section_count, section_name, contents_of}

@@ -6,6 +6,13 @@
 //! It does not promise: anything of whole files; the crates above state that, in the words of
 //! `specs/`.
 //! Read first: `specs/Numbers.antt`, then `specs/Elf.antt` and `specs/Units.antt`.
+//!
+//! ```rust
+//! let bytes = [0x0b, 0x00, 0x00, 0x00, 0xe5, 0x8e, 0x26];
+//! assert_eq!(initial_length_at(Order::Little, &bytes, 0), Some((Width::W32, 11, 4)));
+//! assert_eq!(uleb_at(&bytes, 4), Some((624485, 3)));
+//! assert_eq!(number_at(Order::Big, &bytes, 6, 2), None);
+//! ```
 #![tactic(auto)]
 
 mod debug_sections;

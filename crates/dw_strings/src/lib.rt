@@ -5,6 +5,13 @@
 //! where each added text begins.
 //! It does not promise: which texts are added, and in which order; the crates above say that.
 //! Read first: `dw_base/specs/Texts.antt` and `dw_base/specs/StringTables.antt`.
+//!
+//! ```rust
+//! let mut pool = Pool::new(alloc, b"a.c\0")?;
+//! assert_eq!(pool.add(b"b.c")?, 4);
+//! assert_eq!(pool.add(b"b.c")?, 4);
+//! assert_eq!(text_at(3, pool.bytes(), 4), Ok(b"b.c".as_slice()));
+//! ```
 #![tactic(auto)]
 
 mod pool;

@@ -5,6 +5,16 @@
 //! extended numbering; it is refused only where such a condition holds, at its place.
 //! It does not promise: anything of what the sections hold.
 //! Read first: `dw_base/specs/Elf.antt`, then `dw_base/specs/ElfFails.antt`.
+//!
+//! ```rust
+//! // bytes.len() as u64 <= OUTPUT_LIMIT
+//! let elf = ElfFile::read(alloc, bytes)?;
+//! for section in 0..elf.section_count() {
+//!     if elf.section_name(section) == b".debug_info" {
+//!         return Ok(elf.contents(section).len());
+//!     }
+//! }
+//! ```
 #![tactic(auto)]
 
 mod elf;

@@ -3,9 +3,21 @@
 //!
 //! This layer promises: a file that is written is byte for byte the defined layout, and its sections
 //! read back as those that were given; a section that must stay is refused as `Fixed` and a file over
-//! the limit as `TooLarge`, each only where its condition holds, and nothing else is refused.
-//! It does not promise: that a file of parts has names that end, or segments that lie in it.
+//! the limit as `TooLarge`, each only where its condition holds, and nothing else is refused. A file
+//! with new bodies reads where its names end; a file of parts where its front reads, its alignments
+//! are such, and its names end.
+//! It does not promise: anything of what the bodies mean.
 //! Read first: `dw_base/specs/Layout.antt`, then `LayoutFails.antt`, `LayoutReads.antt`, `Parts.antt`.
+//!
+//! ```rust
+//! let elf = ElfFile::read(alloc, bytes)?;
+//! // One item for each section: a new body, or none where it keeps its own.
+//! let mut contents = Vec::new(alloc);
+//! for section in 0..elf.section_count() {
+//!     contents.push(if section == 3 { Some(Vec::from_slice(alloc, b"a.c\0")?) } else { None })?;
+//! }
+//! let file = emit(alloc, &elf, &contents)?;
+//! ```
 #![tactic(auto)]
 
 mod bodies;

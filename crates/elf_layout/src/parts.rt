@@ -178,7 +178,8 @@ fn file_of_parts(
 
 /// The file of a front and parts: the front, with the numbers of sections and of the section name table
 /// in its file header, the parts that are neither kept nor of type NULL or NOBITS, and the headers of
-/// all. Its sections read back as the parts, where these fit one another. Refused as `TooLarge` only where it would pass the limit; else it is written, or memory is short.
+/// all. Its sections read back as the parts, where these fit one another. Refused as `TooLarge` only
+/// where it would pass the limit; else it is written, or memory is short.
 pub fn write_parts(
     alloc: Global,
     elf: &ElfFile,

@@ -1,12 +1,11 @@
-//! Worked examples: a file of one unit, whole, cut and changed, and the headers of two real files
+//! Worked examples: a file of one unit, whole and changed, and the headers of two real files
 //! against what GNU readelf prints of them.
 
 use super::ElfFile;
-use super::samples::{
-    AARCH64_EHDR, AARCH64_LINES, AARCH64_NAMES, AARCH64_PHDRS, AARCH64_SHDRS, Line, POWERPC_EHDR,
-    POWERPC_LINES, POWERPC_NAMES, POWERPC_PHDRS, POWERPC_SHDRS,
+use super::samples::{AARCH64, Line, POWERPC, Real, SegmentLine};
+use dw_base::{
+    Class, Fault, FileKind, Kind, OUTPUT_LIMIT, Order, Refusal, Section, Segment, put_number,
 };
-use dw_base::{Class, Fault, FileKind, Kind, Order, Refusal, Section, Segment, put_number};
 use std::alloc::{AllocError, Global};
 use std::process::Abort;
 use std::test::Fail;
@@ -79,7 +78,7 @@ fn one_unit_file(alloc: Global) -> Result<Vec<u8>, AllocError> {
 
 /// What `read` answers, without the records.
 fn answer_of(rt: &impl Abort, alloc: Global, file: &[u8]) -> Result<(), Fault> {
-    assert!(rt; file.len() <= 0x8000_0000);
+    assert!(rt; file.len() as u64 <= OUTPUT_LIMIT);
     match ElfFile::read(alloc, file) {
         Ok(_) => Ok(()),
         Err(fault) => Err(fault),
@@ -89,11 +88,7 @@ fn answer_of(rt: &impl Abort, alloc: Global, file: &[u8]) -> Result<(), Fault> {
 /// The answer that a file is refused with: none where it is read.
 fn wanted(refusal: Option<(Kind, u32, u64)>) -> Result<(), Fault> {
     match refusal {
-        Some((kind, section, offset)) => Err(Fault::Refused(Refusal {
-            kind,
-            section,
-            offset,
-        })),
+        Some((kind, section, offset)) => Err(Fault::Refused(Refusal::at(kind, section, offset))),
         None => Ok(()),
     }
 }
@@ -117,33 +112,13 @@ fn the_records_of_a_small_file(rt: HostRuntime) -> Result<(), Fail> {
     Ok(())
 }
 
-#[test]
-fn a_file_that_is_cut_is_refused(rt: HostRuntime) -> Result<(), Fail> {
-    let file = one_unit_file(rt.alloc())?;
-    assert_eq!(rt; file.len(), 488);
-    for len in 0..488 {
-        let want = if len < 64 {
-            (Kind::Header, 0, 0)
-        } else {
-            (Kind::Range, 0, 168)
-        };
-        assert_eq!(rt;
-            answer_of(&rt, rt.alloc(), &file[..len]),
-            wanted(Some(want)),
-            "cut to {len}"
-        );
-    }
-    assert_eq!(rt; answer_of(&rt, rt.alloc(), file.as_slice()), Ok(()));
-    Ok(())
-}
-
 /// A change of `one_unit_file`: place, size and value of a number. A size of 0 changes nothing.
 type Change = (u64, u8, u64);
 
 const NONE: Change = (0, 0, 0);
 
 /// Changes, and how the file is then refused: the kind, the section and the offset.
-const CHANGED: [([Change; 3], Option<(Kind, u32, u64)>); 33] = [
+const CHANGED: [([Change; 3], Option<(Kind, u32, u64)>); 35] = [
     ([(0, 1, 0x7e), NONE, NONE], Some((Kind::Header, 0, 0))),
     // of several wrong places of the identification the first one is told: a text "#!/bin/s", and a class and an order
     (
@@ -185,6 +160,12 @@ const CHANGED: [([Change; 3], Option<(Kind, u32, u64)>); 33] = [
     ([(62, 2, 5), NONE, NONE], Some((Kind::Header, 0, 62))),
     ([(62, 2, 3), NONE, NONE], Some((Kind::Header, 0, 62))),
     ([(62, 2, 0), NONE, NONE], None),
+    // e_shstrndx, and the link of section 0 in its place
+    ([(62, 2, 0xffff), (208, 4, 4), NONE], None),
+    (
+        [(62, 2, 0xffff), (208, 4, 3), NONE],
+        Some((Kind::Header, 0, 62)),
+    ),
     // the size of section 3, and its type and offset too
     ([(392, 8, 500), NONE, NONE], Some((Kind::Range, 3, 0))),
     ([(392, 8, 394), NONE, NONE], None),
@@ -228,71 +209,35 @@ fn a_changed_file_is_refused_at_its_place(rt: HostRuntime) -> Result<(), Fail> {
     Ok(())
 }
 
-#[test]
-fn more_sections_than_the_header_counts(rt: HostRuntime) -> Result<(), Fail> {
-    // e_shnum 0 and the size of section 0, e_shstrndx 0xffff and its link
-    let changes = [(60, 2, 0), (200, 8, 5), (62, 2, 0xffff), (208, 4, 4)];
-    let file = changed_file(&rt, rt.alloc(), changes.as_slice())?;
-    assert_eq!(rt; file.len(), 488);
-    let elf = ElfFile::read(rt.alloc(), file.as_slice())?;
-    assert_eq!(rt; elf.names, 4);
-    assert_eq!(rt; elf.sections.len(), 5);
-    assert_eq!(rt; elf.section_name(1), b".debug_info".as_slice());
-    Ok(())
-}
+/// The two real files.
+const REAL: [Real; 2] = [POWERPC, AARCH64];
 
-/// A real file of its headers, with zeros between them: program headers, names and section headers
-/// at their places.
-fn real_file(
-    alloc: Global,
-    ehdr: &[u8],
-    phdrs: &[&[u8]],
-    names: (usize, &[u8]),
-    shdrs: (usize, &[&[u8]]),
-) -> Result<Vec<u8>, AllocError> {
+/// A real file of its headers, with zeros between them.
+fn real_file(alloc: Global, real: &Real) -> Result<Vec<u8>, AllocError> {
     let mut file = Vec::new(alloc);
-    file.extend_from_slice(ehdr)?;
-    for phdr in phdrs {
-        file.extend_from_slice(phdr)?;
+    file.extend_from_slice(real.file_header)?;
+    for header in real.program_headers {
+        file.extend_from_slice(header)?;
     }
-    for _ in file.len()..names.0 {
+    for _ in file.len()..real.names.0 {
         file.push(0)?;
     }
-    file.extend_from_slice(names.1)?;
-    for _ in file.len()..shdrs.0 {
+    file.extend_from_slice(real.names.1)?;
+    for _ in file.len()..real.section_headers.0 {
         file.push(0)?;
     }
-    for shdr in shdrs.1 {
-        file.extend_from_slice(shdr)?;
+    for header in real.section_headers.1 {
+        file.extend_from_slice(header)?;
     }
     Ok(file)
 }
 
-fn powerpc_file(alloc: Global) -> Result<Vec<u8>, AllocError> {
-    real_file(
-        alloc,
-        POWERPC_EHDR,
-        POWERPC_PHDRS.as_slice(),
-        (1764, POWERPC_NAMES),
-        (1900, POWERPC_SHDRS.as_slice()),
-    )
-}
-
-fn aarch64_file(alloc: Global) -> Result<Vec<u8>, AllocError> {
-    real_file(
-        alloc,
-        AARCH64_EHDR,
-        AARCH64_PHDRS.as_slice(),
-        (2200, AARCH64_NAMES),
-        (2352, AARCH64_SHDRS.as_slice()),
-    )
-}
-
 /// The section is what the line says.
 fn shows_section(rt: &impl Abort, elf: &ElfFile, index: u32, line: &Line) {
-    assert!(rt; (index as usize) < elf.sections.len());
+    assert!(rt; index < elf.section_count());
+    let section = elf.section(index);
     let shown = Section {
-        name: elf.sections[index as usize].name,
+        name: section.name,
         kind: line.1,
         flags: line.6,
         addr: line.2,
@@ -304,99 +249,60 @@ fn shows_section(rt: &impl Abort, elf: &ElfFile, index: u32, line: &Line) {
         entry_size: line.5,
     };
     assert_eq!(rt; elf.section_name(index), line.0.as_bytes());
-    assert_eq!(rt; elf.sections[index as usize], shown);
+    assert_eq!(rt; section, shown);
 }
 
-/// The segment is what a line of `readelf -lW` says: type, offset, address, physical address, size in
-/// the file and in memory, flags, alignment.
-fn shows_segment(rt: &impl Abort, elf: &ElfFile, index: usize, line: [u64; 7], kind: u32) {
+/// The segment is what the line says.
+fn shows_segment(rt: &impl Abort, elf: &ElfFile, index: usize, line: &SegmentLine) {
     assert!(rt; index < elf.segments.len());
-    assert!(rt; line[5] < 8);
     let shown = Segment {
-        kind,
-        flags: line[5] as u32,
-        offset: line[0],
-        vaddr: line[1],
-        paddr: line[2],
-        filesz: line[3],
-        memsz: line[4],
-        align: line[6],
+        kind: line.0,
+        flags: line.6,
+        offset: line.1,
+        vaddr: line.2,
+        paddr: line.3,
+        filesz: line.4,
+        memsz: line.5,
+        align: line.7,
     };
     assert_eq!(rt; elf.segments[index], shown);
 }
 
-#[test]
-fn a_big_endian_file_of_32_bits(rt: HostRuntime) -> Result<(), Fail> {
-    let file = powerpc_file(rt.alloc())?;
-    assert_eq!(rt; file.len(), 2420);
-    let elf = ElfFile::read(rt.alloc(), file.as_slice())?;
+/// The file has the records that readelf prints.
+fn shows(rt: &impl Abort, elf: &ElfFile, real: &Real) {
     assert_eq!(rt;
         (elf.class, elf.order, elf.kind),
-        (Class::C32, Order::Big, FileKind::Exec)
+        (real.class, real.order, FileKind::Exec)
     );
-    assert_eq!(rt; (elf.machine, elf.names), (20, 12));
-    assert_eq!(rt; elf.sections.len(), 13);
-    for index in 0..13 {
-        shows_section(&rt, &elf, index, &POWERPC_LINES[index as usize]);
+    assert_eq!(rt; (elf.machine, elf.names), (real.machine, real.names_index));
+    assert_eq!(rt; elf.sections.len(), real.sections.len());
+    for (index, line) in (0..elf.section_count()).zip(real.sections.iter()) {
+        shows_section(rt, elf, index, line);
     }
-    assert_eq!(rt; elf.segments.len(), 3);
-    shows_segment(
-        &rt,
-        &elf,
-        0,
-        [0, 0x10000000, 0x10000000, 0x230, 0x230, 5, 0x10000],
-        1,
-    );
-    shows_segment(
-        &rt,
-        &elf,
-        1,
-        [0x94, 0x10000094, 0x10000094, 0x24, 0x24, 4, 4],
-        4,
-    );
-    shows_segment(&rt, &elf, 2, [0, 0, 0, 0, 0, 6, 0x10], 0x6474e551);
-    Ok(())
+    assert_eq!(rt; elf.segments.len(), real.segments.len());
+    for (index, line) in real.segments.iter().enumerate() {
+        shows_segment(rt, elf, index, line);
+    }
 }
 
 #[test]
-fn a_little_endian_file_of_64_bits(rt: HostRuntime) -> Result<(), Fail> {
-    let file = aarch64_file(rt.alloc())?;
-    assert_eq!(rt; file.len(), 3248);
-    let elf = ElfFile::read(rt.alloc(), file.as_slice())?;
-    assert_eq!(rt;
-        (elf.class, elf.order, elf.kind),
-        (Class::C64, Order::Little, FileKind::Exec)
-    );
-    assert_eq!(rt; (elf.machine, elf.names), (183, 13));
-    assert_eq!(rt; elf.sections.len(), 14);
-    for index in 0..14 {
-        shows_section(&rt, &elf, index, &AARCH64_LINES[index as usize]);
+fn files_of_both_classes_and_byte_orders(rt: HostRuntime) -> Result<(), Fail> {
+    for real in REAL.iter() {
+        let file = real_file(rt.alloc(), real)?;
+        assert!(rt; file.len() as u64 <= OUTPUT_LIMIT);
+        let elf = ElfFile::read(rt.alloc(), file.as_slice())?;
+        shows(&rt, &elf, real);
+        // What is loaded ends with section 3, and the program headers end before.
+        assert_eq!(rt; elf.fixed_end(), real.fixed_end);
+        assert!(rt; elf.section_count() > 4);
+        assert_eq!(rt; (elf.is_fixed(3), elf.is_fixed(4)), (true, false));
     }
-    assert_eq!(rt; elf.segments.len(), 3);
-    shows_segment(
-        &rt,
-        &elf,
-        0,
-        [0, 0x400000, 0x400000, 0x1fc, 0x1fc, 5, 0x10000],
-        1,
-    );
-    shows_segment(
-        &rt,
-        &elf,
-        1,
-        [0xe8, 0x4000e8, 0x4000e8, 0x24, 0x24, 4, 4],
-        4,
-    );
-    shows_segment(&rt, &elf, 2, [0, 0, 0, 0, 0, 6, 0x10], 0x6474e551);
-    // What is loaded ends with section 3, and the program headers end before.
-    assert_eq!(rt; elf.fixed_end(), 0x1fc);
-    assert_eq!(rt; (elf.is_fixed(3), elf.is_fixed(4)), (true, false));
     Ok(())
 }
 
 #[test]
 fn a_segment_past_the_end_of_debug_data(rt: HostRuntime) -> Result<(), Fail> {
-    let mut file = aarch64_file(rt.alloc())?;
+    let mut file = real_file(rt.alloc(), &AARCH64)?;
     // p_filesz of segment 1
     assert!(rt; put_number(Order::Little, file.as_mut_slice(), 152, 8, 3017));
     assert_eq!(rt; file.len(), 3248);
