@@ -1,0 +1,4 @@
+pub mod Rows
+pub mod CodedLaws
+pub mod ChainLaws
+pub mod TableLaws
