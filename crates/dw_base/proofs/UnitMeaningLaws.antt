@@ -1,0 +1,191 @@
+-- The meaning law: units whose texts are moved and mapped mean the mapped meaning.
+use Rattle.std.proofs.Common.{Bool, true, false, ◌≡◌, ℕ, List, [], ◌∷◌, ap, ◌∙◌, refl}
+use Rattle.std.specs.Prelude.{◌==◌, ◌&&◌, ◌+◌, if◌then◌else◌, Option, Some, None}
+use Rattle.dw_base.specs.AbbreviationTables.{Abbreviation, abbreviation_of}
+use Rattle.dw_base.specs.Cells.{Cell, bytes_of, field_of}
+use Rattle.dw_base.specs.DebugData.{Lasting, EntryPlace, table_of}
+use Rattle.dw_base.specs.Forests.{AttributeMeaning, Forest, no_entries, entry, Mark, begins, opens, attribute, null, no_mark, followed_by, all_entries, innermost, outer, with_entry}
+use Rattle.dw_base.specs.Forms.{ValueKind, number_of, leb_number, inline_text, text_offset, form_in_front, kind_in}
+use Rattle.dw_base.specs.MappedUnits.{mapped_value, mapped_attribute, mapped_attributes, mapped_forest, mapped_units}
+use Rattle.dw_base.specs.Paths.{PathMap}
+use Rattle.dw_base.specs.Pieces.{Piece}
+use Rattle.dw_base.specs.Roles.{fixed, inline_path, role_of_kind, role_of_mode, Use, is_path_use, use_of}
+use Rattle.dw_base.specs.StringTables.{new_text}
+use Rattle.dw_base.specs.TextChanges.{offset_in}
+use Rattle.dw_base.specs.Texts.{text, text_in}
+use Rattle.dw_base.specs.UnitMeanings.{head_mark, entry_mark, code_mark, value_mark, mark_by, mark_of, Following, with_mark, following, unit_meanings}
+use Rattle.dw_base.specs.UnitStates.{Mode, at_header, at_code, at_values, at_chosen, stuck, UnitState, code_value, piece_header}
+use Rattle.dw_base.specs.ValueMeanings.{ValueMeaning, string, entry_of, stray, inline, by_offset, found_entry, first_of, holds_number, global_entry, local_entry, meaning_of_number, meaning_of_leb, meaning_of_value}
+use Rattle.dw_base.specs.declared.units.UnitHeader.{UnitHeader}
+use Rattle.dw_base.specs.declared.values.Spec.{Spec}
+use Rattle.dw_base.specs.declared.values.ValueClass.{ValueClass}
+use Rattle.dw_base.specs.declared.values.ValueClass.TheVariants.{Address, LocalRef, GlobalRef}
+use Rattle.dw_base.specs.declared.view_fields.Field.{Field}
+use Rattle.dw_base.specs.declared.view_fields.Field.TheVariants.{Num, Into, Sym}
+use Rattle.dw_base.proofs.UnitEditLaws.{Shift, Becomes, UnitsChanged}
+
+abbrev mapped_mark : PathMap → Mark → Mark
+mapped_mark m (attribute a) = attribute (mapped_attribute m a)
+mapped_mark m k = k
+
+text-meaning : (m : PathMap) (path : Bool) (t u : List ℕ) → u ≡ new_text m (record { path = path; text = t })
+    → string path by_offset u ≡ mapped_value m (string path by_offset t)
+text-meaning m true t u h = ap (string true by_offset) h
+text-meaning m false t u h = ap (string false by_offset) h
+
+-- what isn't a string is as it was
+found-mapped : (m : PathMap) (es : List EntryPlace) (section place n : ℕ) → found_entry es section place n ≡ mapped_value m (found_entry es section place n)
+found-mapped m [] section place n = refl
+found-mapped m (e ∷ es) section place n = by_here (e.section == section && e.place == place) (found-mapped m es section place n)
+  where
+    by_here : (b : Bool) → found_entry es section place n ≡ mapped_value m (found_entry es section place n)
+        → (if b then entry_of e.unit e.number else found_entry es section place n)
+        ≡ mapped_value m (if b then entry_of e.unit e.number else found_entry es section place n)
+    by_here true h = refl
+    by_here false h = h
+
+global-mapped : (m : PathMap) (g : Lasting) (f : Field) → global_entry g f ≡ mapped_value m (global_entry g f)
+global-mapped m g (Num n) = found-mapped m g.entries (first_of g.infos) n n
+global-mapped m g (Sym s k d) = refl
+global-mapped m g (Into z n) = by_info (holds_number g.infos z)
+  where
+    by_info : (b : Bool) → (if b then found_entry g.entries z n n else stray n) ≡ mapped_value m (if b then found_entry g.entries z n n else stray n)
+    by_info true = found-mapped m g.entries z n n
+    by_info false = refl
+
+local-mapped : (m : PathMap) (g : Lasting) (s : UnitState) (f : Field) → local_entry g s f ≡ mapped_value m (local_entry g s f)
+local-mapped m g s (Num n) = found-mapped m g.entries s.section (s.header.start + n) n
+local-mapped m g s f = refl
+
+number-mapped : (m : PathMap) (g : Lasting) (s : UnitState) (class : ValueClass) (p : List Cell)
+    → meaning_of_number g s class p ≡ mapped_value m (meaning_of_number g s class p)
+number-mapped m g s Address p = refl
+number-mapped m g s LocalRef p = local-mapped m g s (field_of g.base.order p)
+number-mapped m g s GlobalRef p = global-mapped m g (field_of g.base.order p)
+number-mapped m g s class p = refl
+
+leb-mapped : (m : PathMap) (g : Lasting) (s : UnitState) (class : ValueClass) (n : ℕ) → meaning_of_leb g s class n ≡ mapped_value m (meaning_of_leb g s class n)
+leb-mapped m g s LocalRef n = local-mapped m g s (Num n)
+leb-mapped m g s class n = refl
+
+inline-changed : (b : Bool) (c : Shift) (p q : List Cell) → Becomes (if b then inline_path else fixed) c p q
+    → string b inline (text (bytes_of q)) ≡ mapped_value c.map (string b inline (text (bytes_of p)))
+inline-changed true c p q h = ap (string true inline) h.says
+inline-changed false c p q h = ap (λ (z : List Cell). string false inline (text (bytes_of z))) h
+
+number-changed : (c : Shift) (s : UnitState) (class : ValueClass) (p q : List Cell) → q ≡ p
+    → meaning_of_number c.new.lasting s class q ≡ mapped_value c.map (meaning_of_number c.old.lasting s class p)
+number-changed c s class p q h =
+    ap (λ (g : Lasting). meaning_of_number g s class q) c.lasting
+    ∙ ap (λ (z : List Cell). meaning_of_number c.old.lasting s class z) h
+    ∙ number-mapped c.map c.old.lasting s class p
+
+leb-changed : (c : Shift) (s : UnitState) (class : ValueClass) (p q : List Cell) → q ≡ p
+    → meaning_of_leb c.new.lasting s class (code_value q) ≡ mapped_value c.map (meaning_of_leb c.old.lasting s class (code_value p))
+leb-changed c s class p q h =
+    ap (λ (g : Lasting). meaning_of_leb g s class (code_value q)) c.lasting
+    ∙ ap (λ (z : List Cell). meaning_of_leb c.old.lasting s class (code_value z)) h
+    ∙ leb-mapped c.map c.old.lasting s class (code_value p)
+
+-- what a value means after the change: a further form is a clause here
+value-changed : (k : ValueKind) (u : Use) (x : Spec) (c : Shift) (s : UnitState) (p q : List Cell) → Becomes (role_of_kind k u) c p q
+    → meaning_of_value c.new s u x k q ≡ mapped_value c.map (meaning_of_value c.old s u x k p)
+value-changed (text_offset table n) u x c s p q h =
+    text-meaning c.map (is_path_use u) (text_in (table_of c.old table).bytes (offset_in c.old table p))
+    (text_in (table_of c.new table).bytes (offset_in c.new table q)) h.says
+value-changed inline_text u x c s p q h = inline-changed (is_path_use u) c p q h
+value-changed (number_of class n) u x c s p q h = number-changed c s class p q h
+value-changed (leb_number class) u x c s p q h = leb-changed c s class p q h
+value-changed k u x c s p q h = ap (λ (z : List Cell). meaning_of_value c.old s u x k z) h
+
+-- marks of entries have no text
+entry_mark-mapped : (m : PathMap) (a : Option Abbreviation) → entry_mark a ≡ mapped_mark m (entry_mark a)
+entry_mark-mapped m None = refl
+entry_mark-mapped m (Some a) = refl
+
+code_mark-mapped : (m : PathMap) (table : List Abbreviation) (n : ℕ) → code_mark table n ≡ mapped_mark m (code_mark table n)
+code_mark-mapped m table n = by_null (n == 0)
+  where
+    by_null : (b : Bool) → (if b then null else entry_mark (abbreviation_of table n)) ≡ mapped_mark m (if b then null else entry_mark (abbreviation_of table n))
+    by_null true = refl
+    by_null false = entry_mark-mapped m (abbreviation_of table n)
+
+head-mapped : (m : PathMap) (g : Lasting) (h : Option UnitHeader) → head_mark g h ≡ mapped_mark m (head_mark g h)
+head-mapped m g None = refl
+head-mapped m g (Some h) = refl
+
+value_mark-changed : (k : ValueKind) (c : Shift) (s : UnitState) (n tag : ℕ) (x : Spec) (p q : List Cell) → Becomes (role_of_kind k (use_of n tag x.name)) c p q
+    → value_mark k c.new s n tag x q ≡ mapped_mark c.map (value_mark k c.old s n tag x p)
+value_mark-changed form_in_front c s n tag x p q h = refl
+value_mark-changed k c s n tag x p q h = ap (λ (v : ValueMeaning). attribute (record { name = x.name; value = v })) (value-changed k (use_of n tag x.name) x c s p q h)
+
+mark-changed : (mode : Mode) (c : Shift) (s : UnitState) (p q : List Cell) → Becomes (role_of_mode mode s.header.params) c p q
+    → mark_by mode c.new s q ≡ mapped_mark c.map (mark_by mode c.old s p)
+mark-changed at_header c s p q h =
+    ap (λ (g : Lasting). head_mark g (piece_header g.base s q)) c.lasting
+    ∙ ap (λ (z : List Cell). head_mark c.old.lasting (piece_header c.old.lasting.base s z)) h
+    ∙ head-mapped c.map c.old.lasting (piece_header c.old.lasting.base s p)
+mark-changed at_code c s p q h = ap (λ (z : List Cell). code_mark s.table (code_value z)) h ∙ code_mark-mapped c.map s.table (code_value p)
+mark-changed (at_values n tag []) c s p q h = refl
+mark-changed (at_values n tag (x ∷ xs)) c s p q h = value_mark-changed (kind_in s.header.params x.form) c s n tag x p q h
+mark-changed (at_chosen n tag start x xs) c s p q h = value_mark-changed (kind_in s.header.params x.form) c s n tag x p q h
+mark-changed stuck c s p q h = refl
+
+-- what follows a place, mapped
+abbrev mapped_levels : PathMap → List Forest → List Forest
+mapped_levels m [] = []
+mapped_levels m (f ∷ fs) = mapped_forest m f ∷ mapped_levels m fs
+
+abbrev mapped_following : PathMap → Following → Following
+mapped_following m r =
+    record { attributes = mapped_attributes m r.attributes; levels = mapped_levels m r.levels; units = mapped_units m r.units }
+
+innermost-mapped : (m : PathMap) (fs : List Forest) → innermost (mapped_levels m fs) ≡ mapped_forest m (innermost fs)
+innermost-mapped m [] = refl
+innermost-mapped m (f ∷ fs) = refl
+
+outer-mapped : (m : PathMap) (fs : List Forest) → outer (mapped_levels m fs) ≡ mapped_levels m (outer fs)
+outer-mapped m [] = refl
+outer-mapped m (f ∷ fs) = refl
+
+followed_by-mapped : (m : PathMap) (f g : Forest) → followed_by (mapped_forest m f) (mapped_forest m g) ≡ mapped_forest m (followed_by f g)
+followed_by-mapped m no_entries g = refl
+followed_by-mapped m (entry tag attributes children siblings) g =
+    ap (entry tag (mapped_attributes m attributes) (mapped_forest m children)) (followed_by-mapped m siblings g)
+
+all_entries-mapped : (m : PathMap) (fs : List Forest) → all_entries (mapped_levels m fs) ≡ mapped_forest m (all_entries fs)
+all_entries-mapped m [] = refl
+all_entries-mapped m (f ∷ fs) =
+    ap (followed_by (mapped_forest m f)) (all_entries-mapped m fs) ∙ followed_by-mapped m f (all_entries fs)
+
+with_entry-mapped : (m : PathMap) (tag : ℕ) (children : Bool) (attributes : List AttributeMeaning) (fs : List Forest)
+    → with_entry tag children (mapped_attributes m attributes) (mapped_levels m fs) ≡ mapped_levels m (with_entry tag children attributes fs)
+with_entry-mapped m tag true attributes fs =
+    rw (innermost-mapped m fs, outer-mapped m fs, innermost-mapped m (outer fs), outer-mapped m (outer fs)) refl
+with_entry-mapped m tag false attributes fs = rw (innermost-mapped m fs, outer-mapped m fs) refl
+
+with_mark-mapped : (m : PathMap) (section : ℕ) (mark : Mark) (r : Following) → with_mark section (mapped_mark m mark) (mapped_following m r) ≡ mapped_following m (with_mark section mark r)
+with_mark-mapped m section (begins h) r = rw (all_entries-mapped m r.levels) refl
+with_mark-mapped m section (opens tag children) r = rw (with_entry-mapped m tag children r.attributes r.levels) refl
+with_mark-mapped m section (attribute a) r = refl
+with_mark-mapped m section null r = refl
+with_mark-mapped m section no_mark r = refl
+
+pub following-changed : (c : Shift) (section : ℕ) (xs ys : List (Piece UnitState)) → UnitsChanged c xs ys
+    → following section c.new ys ≡ mapped_following c.map (following section c.old xs)
+following-changed c section [] [] h = refl
+following-changed c section [] (y ∷ ys) h = absurd h
+following-changed c section (x ∷ xs) [] h = absurd h
+following-changed c section (x ∷ xs) (y ∷ ys) h =
+    let state : mark_of c.new y ≡ mark_by x.state.mode c.new x.state y.cells =
+    ap (λ (s : UnitState). mark_by s.mode c.new s y.cells) h.0.state in
+    let mark : mark_of c.new y ≡ mapped_mark c.map (mark_of c.old x) =
+    state ∙ mark-changed x.state.mode c x.state x.cells y.cells h.0.cells in
+    ap (λ (k : Mark). with_mark section k (following section c.new ys)) mark
+    ∙ ap (with_mark section (mapped_mark c.map (mark_of c.old x))) (following-changed c section xs ys h.1)
+    ∙ with_mark-mapped c.map section (mark_of c.old x) (following section c.old xs)
+
+-- the meaning law: what the units of a section mean after the change is what they meant, mapped
+pub units-changed : (c : Shift) (section : ℕ) (xs ys : List (Piece UnitState)) → UnitsChanged c xs ys
+    → unit_meanings section c.new ys ≡ mapped_units c.map (unit_meanings section c.old xs)
+units-changed c section xs ys h = ap (λ (r : Following). r.units) (following-changed c section xs ys h)
