@@ -1,4 +1,2 @@
 pub mod Rows
 pub mod CodedLaws
-pub mod ChainLaws
-pub mod TableLaws

@@ -106,7 +106,6 @@ impl AbbrevTable {
     /// Reads the table at `at`, in bytes from the start of the section. Refused as `Abbreviation` at
     /// (`section`, `at`) exactly where the bytes spell no table there: a number passes their end, a flag
     /// for children is neither 0 nor 1, a pair has one zero, or a code stands twice.
-    #[tactic(auto, using(crate::proofs::TableLaws::table_excludes))]
     pub fn read(alloc: Global, section: u32, bytes: &[u8], at: u64) -> Result<AbbrevTable, Fault>
         ensures table { IfOk result (IsTable bytes.now at) }
         ensures none { OnOk result ((r : RefusalOf) → AbbreviationFails bytes.now section at r → ⊥) }
