@@ -72,3 +72,6 @@ pub mod PieceLaws
 pub mod PieceFrameLaws
 pub mod UnitEditLaws
 pub mod UnitMeaningLaws
+pub mod ReachLaws
+pub mod UnitRowLaws
+pub mod EntryRowLaws
