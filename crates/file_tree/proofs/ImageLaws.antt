@@ -26,7 +26,7 @@ pending_after s effect.Same so = so
 pending_after s (effect.Changed c) so = ap (λ t. after_change t c) so ∙ sym (after_changes-push s.settled s.changes c)
 pending_after s effect.Settled so = refl
 
-pending_all : (s : State) (hs : List Happened) → IsPending s → IsPending (states_after s hs)
+pub pending_all : (s : State) (hs : List Happened) → IsPending s → IsPending (states_after s hs)
 pending_all s [] so = so
 pending_all s (h ∷ hs) so = pending_all (state_after s h.effect) hs (pending_after s h.effect so)
 

@@ -7,3 +7,5 @@ pub mod SortLaws
 pub mod Sayings
 pub mod RisingLaws
 pub mod ImageLaws
+pub mod SeekLaws
+pub mod MomentLaws

@@ -15,7 +15,7 @@ use Rattle.file_tree.specs.declared.node.Node.{Node}
 use Rattle.file_tree.specs.Logs.{Place, entry_of, entries_of}
 use Rattle.file_tree.specs.Places.{rank, rank_by, stands, stands_by}
 
-same_path : (k q : List ℕ) → slice_cmp nat_cmp k q ≡ Equal → k ≡ q
+pub same_path : (k q : List ℕ) → slice_cmp nat_cmp k q ≡ Equal → k ≡ q
 same_path k q e = slice_cmp-IsAntisymmetric nat_cmp-IsAntisymmetric k q e
 
 -- a node in the place of a path that doesn't stand
@@ -46,15 +46,15 @@ insert_stands (q ∷ qs) p n is =
       | Greater ↦ λ o e. ap (λ es. entry_of q ∷ es) (insert_stands qs p n e)
     ] refl is
 
-both_l : (a b : Bool) → (a && b) ≡ true → a ≡ true
+pub both_l : (a b : Bool) → (a && b) ≡ true → a ≡ true
 both_l true b e = refl
 both_l false b e = cc
 
-both_r : (a b : Bool) → (a && b) ≡ true → b ≡ true
+pub both_r : (a b : Bool) → (a && b) ≡ true → b ≡ true
 both_r true b e = e
 both_r false b e = cc
 
-is_less : (o : Ordering) → is_lt o ≡ true → o ≡ Less
+pub is_less : (o : Ordering) → is_lt o ≡ true → o ≡ Less
 is_less Less e = refl
 is_less Equal e = cc
 is_less Greater e = cc

@@ -9,3 +9,4 @@ pub mod Places
 pub mod Codes
 pub mod MemTrees
 pub mod Pending
+pub mod Moments

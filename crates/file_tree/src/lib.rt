@@ -4,17 +4,30 @@
 //! kept in full by `MemTree` and `MemSink`, which tell what they hold.
 //! It does not promise: what the real file system or the terminal holds (`OsTree`, `OsSink`), of
 //! which only the causes of answers are proved.
-//! Read first: `specs/Seen.antt`, then `src/tree.rt`.
+//!
+//! ```
+//! let mut tree = MemTree::new(alloc, Vec::new(alloc))?;
+//! let bytes = Blob::from_slice(alloc, b"text")?;
+//! tree.put("folder/file", &Node::File { bytes, mode: 0o644 })?;
+//! tree.settle()?;
+//! let found = tree.read("folder/file", 100)?;
+//! // found is Found::File with these bytes and this mode, and tree.calls() are three
+//! ```
+//!
+//! Read first: `specs/Seen.antt`, then `src/tree.rt`; for stops `specs/Images.antt`, `specs/Moments.antt`.
 #![tactic(auto)]
 
 mod call;
+mod laws;
 mod log;
 mod looks;
 mod mem_sink;
 mod mem_tree;
 mod node;
-mod os_calls;
+mod os_changes;
+mod os_looks;
 mod os_sink;
+mod os_stores;
 mod os_tree;
 mod places;
 mod sink;
@@ -26,12 +39,12 @@ mod text;
 mod tree;
 
 pub use call::{Call, Change, Effect};
+pub use laws::{image_laws, moment_laws};
 pub use mem_sink::MemSink;
 pub use mem_tree::MemTree;
 pub use node::{Found, Listed, Node, TreeErr};
 pub use os_sink::OsSink;
 pub use os_tree::OsTree;
 pub use sink::{Sink, SinkErr};
-pub use stops::image_laws;
 pub use text::{Blob, Paths, Text};
 pub use tree::Tree;

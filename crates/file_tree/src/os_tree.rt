@@ -7,18 +7,19 @@ ghost use Rattle.file_tree.specs.Seen.{no_past};
 ghost use Rattle.file_tree.specs.Causes.{Rose};
 
 use crate::node::{Found, Listed, Node, TreeErr};
-use crate::os_calls::{list_at, note_folder, put_at, read_at, remove_at, rename_at, store_folders};
+use crate::os_changes::{put_at, remove_at, rename_at};
+use crate::os_looks::{list_at, read_at};
+use crate::os_stores::Unstored;
 use crate::tree::Tree;
-use std::collections::BTreeSet;
 use std::io;
 use std::rt::Files;
 
 /// A tree over the file system of a runtime.
 #[derive(Drop)]
-pub struct OsTree<R> {
+pub struct OsTree<R: Files> {
     rt: R,
     faults: u64,
-    touched: BTreeSet<String>,
+    unstored: Unstored<R>,
 }
 
 impl<R: Files + AllocGlobal + Clone + Drop> OsTree<R> {
@@ -26,11 +27,11 @@ impl<R: Files + AllocGlobal + Clone + Drop> OsTree<R> {
     pub fn new(rt: R) -> OsTree<R>
         ensures seen { ⟦<OsTree<R> as Tree>⟧.seen result ≡ record { tells = false; past = no_past; faults = 0 } }
     {
-        let touched = BTreeSet::new(rt.alloc());
+        let unstored = Unstored::new(rt.alloc());
         OsTree {
             rt,
             faults: 0,
-            touched,
+            unstored,
         }
     }
 
@@ -77,7 +78,7 @@ impl<R: Files + AllocGlobal + Clone + Drop> Tree for OsTree<R> {
     ghost seen = { λ s. record { tells = false; past = no_past; faults = s.faults } };
 
     fn list(&mut self, folder: &str, limit: u64) -> Result<Listed, TreeErr> {
-        let listed = list_at(&self.rt, folder, limit);
+        let listed = list_at(&self.rt, folder, limit, &mut self.unstored);
         self.answered(listed)
     }
 
@@ -87,29 +88,26 @@ impl<R: Files + AllocGlobal + Clone + Drop> Tree for OsTree<R> {
     }
 
     fn put(&mut self, path: &str, node: &Node) -> Result<(), TreeErr> {
-        note_folder(self.rt.alloc(), &mut self.touched, path)?;
-        let put = put_at(&self.rt, path, node, &mut self.touched);
+        self.unstored.note_name(self.rt.alloc(), path)?;
+        let put = put_at(&self.rt, path, node, &mut self.unstored);
         self.done(put)
     }
 
     fn rename(&mut self, from: &str, to: &str) -> Result<(), TreeErr> {
-        note_folder(self.rt.alloc(), &mut self.touched, from)?;
-        note_folder(self.rt.alloc(), &mut self.touched, to)?;
-        let renamed = rename_at(&self.rt, from, to, &mut self.touched);
+        self.unstored.note_name(self.rt.alloc(), from)?;
+        self.unstored.note_name(self.rt.alloc(), to)?;
+        let renamed = rename_at(&self.rt, from, to, &mut self.unstored);
         self.done(renamed)
     }
 
     fn remove(&mut self, path: &str) -> Result<(), TreeErr> {
-        note_folder(self.rt.alloc(), &mut self.touched, path)?;
+        self.unstored.note_name(self.rt.alloc(), path)?;
         let removed = remove_at(&self.rt, path);
         self.done(removed)
     }
 
     fn settle(&mut self) -> Result<(), TreeErr> {
-        let stored = store_folders(&self.rt, &self.touched);
-        if stored.is_ok() {
-            self.touched.clear();
-        }
+        let stored = self.unstored.store(&self.rt);
         self.done(stored)
     }
 }

@@ -11,28 +11,43 @@ ghost use Rattle.file_tree.specs.Places.{rank, stands, with_entry, without_entry
 use crate::node::Node;
 use std::cmp::Ordering;
 
-/// Where the path stands, or else where it would stand.
+/// The number in the middle.
+fn middle_of(first: usize, end: usize) -> usize
+    requires { first < end }
+    ensures least { first ≤ result }
+    ensures most { result < end }
+{
+    first + (end - first) / 2
+}
+
+/// Where the path stands, or else where it would stand: found by halving.
+#[tactic(auto, using(crate::proofs::SeekLaws::seek_laws))]
 fn seek(places: &Vec<(String, Node)>, path: &str) -> Result<usize, usize>
+    requires { are_rising (entries_of places.now.items) ≡ true }
     ensures rank { MatchResult result (λ i. i ≡ rank path.now (entries_of places.now.items)) (λ i. i ≡ rank path.now (entries_of places.now.items)) }
     ensures stands { is_ok result ≡ stands path.now (entries_of places.now.items) }
     ensures inside { IfOk result (λ i. i < vec_len places.now) }
     ensures within { IfErr result (λ i. i ≤ vec_len places.now) }
 {
-    for i in 0..places.len() {
-        let here = places[i].0.as_str();
+    let mut first = 0;
+    let mut end = places.len();
+    while first < end {
+        let middle = middle_of(first, end);
+        let here = places[middle].0.as_str();
         match path.cmp(&here) {
-            Ordering::Greater => {}
-            Ordering::Equal => return Ok(i),
-            Ordering::Less => return Err(i),
+            Ordering::Greater => first = middle + 1,
+            Ordering::Equal => return Ok(middle),
+            Ordering::Less => end = middle,
         }
     }
-    Err(places.len())
+    Err(first)
 }
 
 /// The places with the node in its place, in a vector with room for it.
 #[tactic(auto, using(crate::proofs::PlaceLaws::insert_goes, crate::proofs::PlaceLaws::insert_stands))]
 fn insert_in(places: &mut Vec<(String, Node)>, path: String, node: Node)
-    requires { vec_len places.old < vec_capacity places.old }
+    requires room { vec_len places.old < vec_capacity places.old }
+    requires order { are_rising (entries_of places.old.items) ≡ true }
     ensures { entries_of places.new.items ≡ with_entry (string_bytes path) node (entries_of places.old.items) }
 {
     let at = match seek(places, path.as_str()) {
@@ -76,11 +91,12 @@ pub(crate) fn node_at<'a>(places: &'a Vec<(String, Node)>, path: &str) -> Option
 }
 
 /// Puts the node at the path; there is room for it.
-#[tactic(auto, using(crate::proofs::TreeLaws::tree_laws))]
+#[tactic(auto, using(crate::proofs::TreeLaws::tree_laws), unfolding(crate::specs::Logs::are_sorted))]
 pub(crate) fn put_node(places: &mut Vec<(String, Node)>, path: String, node: Node)
-    requires { vec_len places.old < vec_capacity places.old }
+    requires room { vec_len places.old < vec_capacity places.old }
+    requires order { are_sorted places.old.items ≡ true }
     ensures tree { tree_of places.new.items ≡ with_node (string_bytes path) node (tree_of places.old.items) }
-    ensures sorted { are_sorted places.old.items ≡ true → are_sorted places.new.items ≡ true }
+    ensures sorted { are_sorted places.new.items ≡ true }
 {
     insert_in(places, path, node);
 }

@@ -2,25 +2,16 @@
 //!
 //! Read first: `specs/Images.antt`, `specs/Pending.antt`.
 ghost use Rattle.std.specs.Prelude.{◌≡◌, true, map, take, OnOk, IfOk};
-ghost use Rattle.file_tree.specs.Seen.{Past, map_now, adds};
-ghost use Rattle.file_tree.specs.Trees.{TreeMap, after_change, after_changes};
-ghost use Rattle.file_tree.specs.Images.{Image, image_at, state_of, state_after, settled_state, torn_change};
+ghost use Rattle.file_tree.specs.Trees.{after_change, after_changes};
+ghost use Rattle.file_tree.specs.Images.{image_at, state_after, settled_state, torn_change};
 ghost use Rattle.file_tree.specs.Pending.{states_by, pending_state};
 ghost use Rattle.file_tree.specs.Logs.{tree_of, are_sorted};
 
-use crate::call::{Call, Change, Effect};
+use crate::call::{Change, Effect};
 use crate::node::Node;
 use crate::places::{move_node, put_node, take_node};
 use crate::text::Blob;
 use std::alloc::{AllocError, Global};
-
-/// The laws of what a stop may leave: the map now, and after a settle nothing else.
-#[tactic(auto, using(crate::proofs::ImageLaws::image_laws))]
-pub fn image_laws()
-    ensures now { (p : Past) → Image (state_of p) (map_now p) }
-    ensures settled { (p : Past) (u : TreeMap) → Image (state_of (adds p Call.Settle Effect.Settled)) u → u ≡ map_now p }
-    ensures moment { (p : Past) → (state_of p).now ≡ map_now p }
-{}
 
 /// Makes the change again.
 pub(crate) fn apply(

@@ -113,7 +113,7 @@ const COMMON: [(Step, &str); 22] = [
     (Step::Put("tree_test/a.b", 0o600, "second"), "ok"),
     (Step::Link("tree_test/to", "../elsewhere"), "ok"),
     (Step::Read("tree_test/a/c", 5), "file 4666 first"),
-    (Step::Read("tree_test/a/c", 4), "too large 5"),
+    (Step::Read("tree_test/a/c", 3), "too large 5"),
     (Step::Read("tree_test/to", 0), "link ../elsewhere"),
     (Step::Read("tree_test/a", 9), "folder"),
     (
@@ -145,7 +145,7 @@ fn a_tree_in_memory_answers_as_its_map(rt: HostRuntime) -> Result<(), Fail> {
 }
 
 /// Calls on what only a real file system has, after `COMMON`.
-const REAL: [(Step, &str); 14] = [
+const REAL: [(Step, &str); 20] = [
     (
         Step::Put("tree_test/a", 0o600, "folder in the way"),
         "failed",
@@ -154,22 +154,46 @@ const REAL: [(Step, &str); 14] = [
         Step::Put("tree_test/a/c/d", 0o600, "file in the way"),
         "failed",
     ),
+    (Step::Put("/dev/full", 0o600, "device in the way"), "failed"),
+    (Step::Read("/dev/full", 99), "absent"),
+    (Step::Remove("/dev/full"), "ok"),
+    (Step::Rename("/dev/full", "tree_test/a/c"), "ok"),
+    (Step::Rename("tree_test/a/c", "tree_test/a"), "failed"),
     (Step::Read("tree_test/a/c/d", 9), "absent"),
     (Step::Rename("tree_test/a", "tree_test/b"), "ok"),
     (Step::Remove("tree_test/a"), "ok"),
     (Step::Read("tree_test/a", 9), "folder"),
-    (Step::Read("/dev/null", 9), "absent"),
-    (Step::Remove("/dev/null"), "ok"),
     (Step::Link("tree_test/to", "a/c"), "ok"),
     (Step::Put("tree_test/to", 0o7751, "link replaced"), "ok"),
     (Step::Read("tree_test/to", 99), "file 7751 link replaced"),
     (Step::Read("tree_test/a/c", 9), "file 444 third"),
+    (Step::Rename("tree_test/to", "tree_test/z/to"), "ok"),
+    (Step::Read("tree_test/to", 9), "absent"),
+    (Step::Put("tree_test/y", 0o600, "before z"), "ok"),
     (
         Step::List("tree_test", 9),
-        "paths tree_test/a/c tree_test/to",
+        "paths tree_test/a/c tree_test/y tree_test/z/to",
     ),
     (Step::Settle, "ok"),
 ];
+
+/// Tries that the steps note a folder: the next settle opens it, and fails where it became a loop of
+/// links.
+fn try_noting<T: Tree>(
+    rt: &impl Abort,
+    files: &HostRuntime,
+    tree: &mut T,
+    steps: &[(Step, &'static str)],
+) -> Result<(), Fail> {
+    let alloc = files.alloc();
+    try_steps(rt, alloc, tree, steps)?;
+    fs::remove_dir(files, "tree_test/noted")?;
+    std::os::unix::fs::symlink(files, "noted", "tree_test/noted")?;
+    try_steps(rt, alloc, tree, &[(Step::Settle, "failed")])?;
+    fs::remove_file(files, "tree_test/noted")?;
+    try_steps(rt, alloc, tree, &[(Step::Settle, "ok")])?;
+    Ok(())
+}
 
 #[test]
 fn the_real_file_system_answers_alike(rt: HostRuntime) -> Result<(), Fail> {
@@ -180,6 +204,19 @@ fn the_real_file_system_answers_alike(rt: HostRuntime) -> Result<(), Fail> {
     let mut tree = OsTree::new(&rt);
     try_steps(&rt, rt.alloc(), &mut tree, &COMMON)?;
     try_steps(&rt, rt.alloc(), &mut tree, &REAL)?;
+    let put = [
+        (Step::Put("tree_test/noted/file", 0o600, "put"), "ok"),
+        (Step::Settle, "ok"),
+        (Step::Remove("tree_test/noted/file"), "ok"),
+    ];
+    try_noting(&rt, &rt, &mut tree, &put)?;
+    fs::create_dir(&rt, "tree_test/noted")?;
+    let listed = [
+        (Step::Settle, "ok"),
+        (Step::List("tree_test/noted", 9), "paths"),
+        (Step::Read("tree_test/noted/file", 9), "absent"),
+    ];
+    try_noting(&rt, &rt, &mut tree, &listed)?;
     fs::remove_dir_all(&rt, "tree_test")?;
     Ok(())
 }
@@ -206,50 +243,6 @@ fn a_listed_call_fails_and_is_counted(rt: HostRuntime) -> Result<(), Fail> {
     Ok(())
 }
 
-/// Asserts that this was answered at a step.
-fn assert_answered(rt: &impl Abort, given: &str, wanted: &str, step: usize) {
-    assert_eq!(rt; given, wanted, "at step {step}");
-}
-
-/// Tries the steps up to the one of this number, which is to fail; those before it are answered as
-/// they are where none fails.
-fn try_failing<T: Tree>(
-    rt: &impl Abort,
-    alloc: Global,
-    tree: &mut T,
-    steps: &[(Step, &'static str)],
-    failing: usize,
-) -> Result<(), AllocError> {
-    for i in 0..steps.len() {
-        let given = answer(alloc, tree, &steps[i].0)?;
-        if i == failing {
-            assert_answered(rt, given.as_str(), "failed", i);
-            return Ok(());
-        }
-        assert_answered(rt, given.as_str(), steps[i].1, i);
-    }
-    Ok(())
-}
-
-/// A tree in memory whose call of this number fails.
-fn failing_tree(alloc: Global, failing: usize) -> Result<MemTree, TreeErr> {
-    let mut listed = Vec::new(alloc);
-    listed.push(failing as u64)?;
-    let mut tree = MemTree::new(alloc, Vec::new(alloc))?;
-    tree.fail_calls(listed);
-    Ok(tree)
-}
-
-#[test]
-fn each_call_fails_where_it_is_listed(rt: HostRuntime) -> Result<(), Fail> {
-    for failing in 0..COMMON.len() {
-        let mut tree = failing_tree(rt.alloc(), failing)?;
-        try_failing(&rt, rt.alloc(), &mut tree, &COMMON, failing)?;
-        assert_eq!(rt; tree.calls().len(), failing + 1);
-    }
-    Ok(())
-}
-
 #[test]
 fn a_sink_in_memory_takes_what_there_is_room_for(rt: HostRuntime) -> Result<(), Fail> {
     let mut sink = MemSink::new(rt.alloc(), 4, Some(4))?;
@@ -264,12 +257,12 @@ fn a_sink_in_memory_takes_what_there_is_room_for(rt: HostRuntime) -> Result<(), 
 
 /// A writer that takes two bytes at a time, and nothing once it is full.
 #[derive(Drop)]
-struct Drip {
-    taken: Vec<u8>,
+struct Drip<'a> {
+    taken: &'a mut Vec<u8>,
     room: usize,
 }
 
-impl io::Write for Drip {
+impl io::Write for Drip<'_> {
     fn write(&mut self, buf: &[u8]) -> io::Result<usize> {
         let n = buf.len().min(2).min(self.room);
         self.taken.extend_from_slice(&buf[..n])?;
@@ -283,12 +276,17 @@ impl io::Write for Drip {
 }
 
 #[test]
-fn a_writer_that_takes_nothing_is_a_fault(rt: HostRuntime) -> Result<(), Fail> {
-    let taken = Vec::new(rt.alloc());
-    let mut sink = OsSink::new(Drip { taken, room: 7 });
+fn a_writer_takes_each_byte_until_it_is_full(rt: HostRuntime) -> Result<(), Fail> {
+    let mut taken = Vec::new(rt.alloc());
+    let drip = Drip {
+        taken: &mut taken,
+        room: 7,
+    };
+    let mut sink = OsSink::new(drip);
     assert_eq!(rt; sink.write(b"abcde"), Ok(()));
     assert_eq!(rt; sink.write(b""), Ok(()));
     assert_eq!(rt; sink.write(b"fgh"), Err(SinkErr::Failed));
+    assert!(rt; taken.as_slice() == b"abcdefg".as_slice());
     let mut out = OsSink::new(rt.stdout());
     assert_eq!(rt; out.write(b"sink\n"), Ok(()));
     Ok(())

@@ -1,12 +1,12 @@
--- Each event but a settle keeps the relation, in either reading.
-use Rattle.std.proofs.Common.{◌≡◌, ℕ, suc, ◌<◌, Bool, true, false, ◌&&◌, eqb, ltb, List, sym, arith, IsTrue, eqb-true, ltb-true}
+-- Each event but a settle keeps the relation, in either reading, where a rename's source is there.
+use Rattle.std.proofs.Common.{◌≡◌, ℕ, suc, ◌<◌, Bool, true, false, ◌&&◌, eqb, ltb, List, [], ◌∷◌, sym, arith, IsTrue, eqb-true, ltb-true}
 use Rattle.std.proofs.lemmas.Bool.{and_parts}
 use Rattle.journal_core.specs.declared.event.Event.{Event}
 use Rattle.journal_core.specs.declared.event.Event.TheVariants.{Propose, Adopt, Stage, Settle, Commit, Move, Finish, Close, Clear}
 use Rattle.journal_core.specs.declared.event.JobState.{JobState}
 use Rattle.journal_core.specs.Names.{Name, EachHasStep, plan_new, fresh, final}
 use Rattle.journal_core.specs.Table.{CoreState, allows, after, all_done, closed_next}
-use Rattle.journal_core.specs.Marks.{Mark, Marking, absent, is_any, marked, changes_of, all_changed}
+use Rattle.journal_core.specs.Marks.{Mark, Marking, MarkChange, put, rename, remove, absent, is_any, mark, marked, changes_of}
 use Rattle.journal_core.specs.Relation.{IsNear, IsFor, IsEarly, IsLive, IsFinishing, IsClosing, Shows, empty, proposed, settled, running, finishing, closing, closed}
 use Rattle.journal_core.specs.Law.{is_settle}
 use Rattle.journal_core.proofs.Rows.{all_done_each}
@@ -79,71 +79,81 @@ close_next p steps ss m part moved_parts h al =
 
 -- ### Each event, in each phase
 
+-- the marking after a change whose source is there
+abbrev pub plainly : Mark → Marking → MarkChange → Marking
+plainly x m (put n) = marked m n x
+plainly x m (rename a b) = marked (marked m b (mark m a)) a absent
+plainly x m (remove n) = marked m n absent
+
+abbrev pub all_plainly : Mark → Marking → List MarkChange → Marking
+all_plainly x m [] = m
+all_plainly x m (d ∷ ds) = all_plainly x (plainly x m d) ds
+
 -- p is what a name may hold that was put and not settled since, and x how what is put now is marked
-pub event_shows : (p : Mark → Bool) (x : Mark) → IsTrue (p x) → IsTrue (is_any x)
+pub event_plain : (p : Mark → Bool) (x : Mark) → IsTrue (p x) → IsTrue (is_any x)
     → (steps : List ℕ) → EachHasStep steps → (c : CoreState) (m : Marking) (e : Event) (n : Name)
     → Shows p steps c m → IsTrue (allows c e) → IsNear c e → IsFor e n → is_settle e ≡ false
-    → Shows p steps (after c e) (all_changed x m (changes_of e n))
-event_shows p x px ax steps some c m Propose n (empty h l) al near named ns = proposed (early_proposed _ _ m x h) px
-event_shows p x px ax steps some c m Adopt n (empty h l) al near named ns = never al
-event_shows p x px ax steps some c m (Stage job step) n (empty h l) al near named ns = never al
-event_shows p x px ax steps some c m Settle n (empty h l) al near named ns = never (sym ns)
-event_shows p x px ax steps some c m (Commit job) n (empty h l) al near named ns = absurd (early_not_ready _ _ _ _ h al)
-event_shows p x px ax steps some c m (Move job step) n (empty h l) al near named ns = absurd (early_not_going _ _ _ _ _ h al)
-event_shows p x px ax steps some c m (Finish part) n (empty h l) al near named ns = never al
-event_shows p x px ax steps some c m (Close part) n (empty h l) al near named ns = never al
-event_shows p x px ax steps some c m Clear n (empty h l) al near named ns = never al
-event_shows p x px ax steps some c m Propose n (proposed h l) al near named ns = never al
-event_shows p x px ax steps some c m Adopt n (proposed h l) al near named ns = never al
-event_shows p x px ax steps some c m (Stage job step) n (proposed h l) al near named ns = never al
-event_shows p x px ax steps some c m Settle n (proposed h l) al near named ns = never (sym ns)
-event_shows p x px ax steps some c m (Commit job) n (proposed h l) al near named ns = absurd (early_not_ready _ _ _ _ h al)
-event_shows p x px ax steps some c m (Move job step) n (proposed h l) al near named ns = absurd (early_not_going _ _ _ _ _ h al)
-event_shows p x px ax steps some c m (Finish part) n (proposed h l) al near named ns = never al
-event_shows p x px ax steps some c m (Close part) n (proposed h l) al near named ns = never al
-event_shows p x px ax steps some c m Clear n (proposed h l) al near named ns = never al
-event_shows p x px ax steps some c m Propose n (settled h l) al near named ns = never al
-event_shows p x px ax steps some c m Adopt n (settled h l) al near named ns = running (adopted p _ _ _ some h l)
-event_shows p x px ax steps some c m (Stage job step) n (settled h l) al near named ns = never al
-event_shows p x px ax steps some c m Settle n (settled h l) al near named ns = never (sym ns)
-event_shows p x px ax steps some c m (Commit job) n (settled h l) al near named ns = absurd (early_not_ready _ _ _ _ h al)
-event_shows p x px ax steps some c m (Move job step) n (settled h l) al near named ns = absurd (early_not_going _ _ _ _ _ h al)
-event_shows p x px ax steps some c m (Finish part) n (settled h l) al near named ns = never al
-event_shows p x px ax steps some c m (Close part) n (settled h l) al near named ns = never al
-event_shows p x px ax steps some c m Clear n (settled h l) al near named ns = never al
-event_shows p x px ax steps some c m Propose n (running h) al near named ns = never al
-event_shows p x px ax steps some c m Adopt n (running h) al near named ns = never al
-event_shows p x px ax steps some c m (Stage job step) n (running h) al near named ns = running (stage_shows p x _ _ _ _ _ px h al near)
-event_shows p x px ax steps some c m Settle n (running h) al near named ns = never (sym ns)
-event_shows p x px ax steps some c m (Commit job) n (running h) al near named ns = running (commit_shows p x _ _ _ _ ax some h al)
-event_shows p x px ax steps some c m (Move job step) n (running h) al near named ns = running (move_shows p _ _ _ _ _ h al)
-event_shows p x px ax steps some c m (Finish part) n (running h) al near named ns = finishing (finish_first p x _ _ _ _ px ax h al)
-event_shows p x px ax steps some c m (Close part) n (running h) al near named ns = never al
-event_shows p x px ax steps some c m Clear n (running h) al near named ns = never al
-event_shows p x px ax steps some c m Propose n (finishing h) al near named ns = never al
-event_shows p x px ax steps some c m Adopt n (finishing h) al near named ns = never al
-event_shows p x px ax steps some c m (Stage job step) n (finishing h) al near named ns = never al
-event_shows p x px ax steps some c m Settle n (finishing h) al near named ns = never (sym ns)
-event_shows p x px ax steps some c m (Commit job) n (finishing h) al near named ns = absurd (done_not_ready _ _ h.all_done al)
-event_shows p x px ax steps some c m (Move job step) n (finishing h) al near named ns = absurd (done_not_going _ _ _ h.all_done al)
-event_shows p x px ax steps some c m (Finish part) n (finishing h) al near named ns = finishing (finish_next p x _ _ _ _ _ _ px ax h al)
-event_shows p x px ax steps some c m (Close part) n (finishing h) al near named ns = close_first p _ _ _ _ _ _ h al
-event_shows p x px ax steps some c m Clear n (finishing h) al near named ns = never al
-event_shows p x px ax steps some c m Propose n (closing h) al near named ns = never al
-event_shows p x px ax steps some c m Adopt n (closing h) al near named ns = never al
-event_shows p x px ax steps some c m (Stage job step) n (closing h) al near named ns = never al
-event_shows p x px ax steps some c m Settle n (closing h) al near named ns = never (sym ns)
-event_shows p x px ax steps some c m (Commit job) n (closing h) al near named ns = absurd (done_not_ready _ _ h.all_done al)
-event_shows p x px ax steps some c m (Move job step) n (closing h) al near named ns = absurd (done_not_going _ _ _ h.all_done al)
-event_shows p x px ax steps some c m (Finish part) n (closing h) al near named ns = never al
-event_shows p x px ax steps some c m (Close part) n (closing h) al near named ns = close_next p _ _ _ _ _ h al
-event_shows p x px ax steps some c m Clear n (closing h) al near named ns = never al
-event_shows p x px ax steps some c m Propose n (closed d h) al near named ns = never al
-event_shows p x px ax steps some c m Adopt n (closed d h) al near named ns = never al
-event_shows p x px ax steps some c m (Stage job step) n (closed d h) al near named ns = never al
-event_shows p x px ax steps some c m Settle n (closed d h) al near named ns = never (sym ns)
-event_shows p x px ax steps some c m (Commit job) n (closed d h) al near named ns = absurd (done_not_ready _ _ d al)
-event_shows p x px ax steps some c m (Move job step) n (closed d h) al near named ns = absurd (done_not_going _ _ _ d al)
-event_shows p x px ax steps some c m (Finish part) n (closed d h) al near named ns = never al
-event_shows p x px ax steps some c m (Close part) n (closed d h) al near named ns = never al
-event_shows p x px ax steps some c m Clear n (closed d h) al near named ns = closed d (cleared _ _ n named h)
+    → Shows p steps (after c e) (all_plainly x m (changes_of e n))
+event_plain p x px ax steps some c m Propose n (empty h l) al near named ns = proposed (early_proposed _ _ m x h) px
+event_plain p x px ax steps some c m Adopt n (empty h l) al near named ns = never al
+event_plain p x px ax steps some c m (Stage job step) n (empty h l) al near named ns = never al
+event_plain p x px ax steps some c m Settle n (empty h l) al near named ns = never (sym ns)
+event_plain p x px ax steps some c m (Commit job) n (empty h l) al near named ns = absurd (early_not_ready _ _ _ _ h al)
+event_plain p x px ax steps some c m (Move job step) n (empty h l) al near named ns = absurd (early_not_going _ _ _ _ _ h al)
+event_plain p x px ax steps some c m (Finish part) n (empty h l) al near named ns = never al
+event_plain p x px ax steps some c m (Close part) n (empty h l) al near named ns = never al
+event_plain p x px ax steps some c m Clear n (empty h l) al near named ns = never al
+event_plain p x px ax steps some c m Propose n (proposed h l) al near named ns = never al
+event_plain p x px ax steps some c m Adopt n (proposed h l) al near named ns = never al
+event_plain p x px ax steps some c m (Stage job step) n (proposed h l) al near named ns = never al
+event_plain p x px ax steps some c m Settle n (proposed h l) al near named ns = never (sym ns)
+event_plain p x px ax steps some c m (Commit job) n (proposed h l) al near named ns = absurd (early_not_ready _ _ _ _ h al)
+event_plain p x px ax steps some c m (Move job step) n (proposed h l) al near named ns = absurd (early_not_going _ _ _ _ _ h al)
+event_plain p x px ax steps some c m (Finish part) n (proposed h l) al near named ns = never al
+event_plain p x px ax steps some c m (Close part) n (proposed h l) al near named ns = never al
+event_plain p x px ax steps some c m Clear n (proposed h l) al near named ns = never al
+event_plain p x px ax steps some c m Propose n (settled h l) al near named ns = never al
+event_plain p x px ax steps some c m Adopt n (settled h l) al near named ns = running (adopted p _ _ _ some h l)
+event_plain p x px ax steps some c m (Stage job step) n (settled h l) al near named ns = never al
+event_plain p x px ax steps some c m Settle n (settled h l) al near named ns = never (sym ns)
+event_plain p x px ax steps some c m (Commit job) n (settled h l) al near named ns = absurd (early_not_ready _ _ _ _ h al)
+event_plain p x px ax steps some c m (Move job step) n (settled h l) al near named ns = absurd (early_not_going _ _ _ _ _ h al)
+event_plain p x px ax steps some c m (Finish part) n (settled h l) al near named ns = never al
+event_plain p x px ax steps some c m (Close part) n (settled h l) al near named ns = never al
+event_plain p x px ax steps some c m Clear n (settled h l) al near named ns = never al
+event_plain p x px ax steps some c m Propose n (running h) al near named ns = never al
+event_plain p x px ax steps some c m Adopt n (running h) al near named ns = never al
+event_plain p x px ax steps some c m (Stage job step) n (running h) al near named ns = running (stage_shows p x _ _ _ _ _ px h al near)
+event_plain p x px ax steps some c m Settle n (running h) al near named ns = never (sym ns)
+event_plain p x px ax steps some c m (Commit job) n (running h) al near named ns = running (commit_shows p x _ _ _ _ ax some h al)
+event_plain p x px ax steps some c m (Move job step) n (running h) al near named ns = running (move_shows p _ _ _ _ _ h al)
+event_plain p x px ax steps some c m (Finish part) n (running h) al near named ns = finishing (finish_first p x _ _ _ _ px ax h al)
+event_plain p x px ax steps some c m (Close part) n (running h) al near named ns = never al
+event_plain p x px ax steps some c m Clear n (running h) al near named ns = never al
+event_plain p x px ax steps some c m Propose n (finishing h) al near named ns = never al
+event_plain p x px ax steps some c m Adopt n (finishing h) al near named ns = never al
+event_plain p x px ax steps some c m (Stage job step) n (finishing h) al near named ns = never al
+event_plain p x px ax steps some c m Settle n (finishing h) al near named ns = never (sym ns)
+event_plain p x px ax steps some c m (Commit job) n (finishing h) al near named ns = absurd (done_not_ready _ _ h.all_done al)
+event_plain p x px ax steps some c m (Move job step) n (finishing h) al near named ns = absurd (done_not_going _ _ _ h.all_done al)
+event_plain p x px ax steps some c m (Finish part) n (finishing h) al near named ns = finishing (finish_next p x _ _ _ _ _ _ px ax h al)
+event_plain p x px ax steps some c m (Close part) n (finishing h) al near named ns = close_first p _ _ _ _ _ _ h al
+event_plain p x px ax steps some c m Clear n (finishing h) al near named ns = never al
+event_plain p x px ax steps some c m Propose n (closing h) al near named ns = never al
+event_plain p x px ax steps some c m Adopt n (closing h) al near named ns = never al
+event_plain p x px ax steps some c m (Stage job step) n (closing h) al near named ns = never al
+event_plain p x px ax steps some c m Settle n (closing h) al near named ns = never (sym ns)
+event_plain p x px ax steps some c m (Commit job) n (closing h) al near named ns = absurd (done_not_ready _ _ h.all_done al)
+event_plain p x px ax steps some c m (Move job step) n (closing h) al near named ns = absurd (done_not_going _ _ _ h.all_done al)
+event_plain p x px ax steps some c m (Finish part) n (closing h) al near named ns = never al
+event_plain p x px ax steps some c m (Close part) n (closing h) al near named ns = close_next p _ _ _ _ _ h al
+event_plain p x px ax steps some c m Clear n (closing h) al near named ns = never al
+event_plain p x px ax steps some c m Propose n (closed d h) al near named ns = never al
+event_plain p x px ax steps some c m Adopt n (closed d h) al near named ns = never al
+event_plain p x px ax steps some c m (Stage job step) n (closed d h) al near named ns = never al
+event_plain p x px ax steps some c m Settle n (closed d h) al near named ns = never (sym ns)
+event_plain p x px ax steps some c m (Commit job) n (closed d h) al near named ns = absurd (done_not_ready _ _ d al)
+event_plain p x px ax steps some c m (Move job step) n (closed d h) al near named ns = absurd (done_not_going _ _ _ d al)
+event_plain p x px ax steps some c m (Finish part) n (closed d h) al near named ns = never al
+event_plain p x px ax steps some c m (Close part) n (closed d h) al near named ns = never al
+event_plain p x px ax steps some c m Clear n (closed d h) al near named ns = closed d (cleared _ _ n named h)

@@ -10,8 +10,10 @@ pub mod Targets
 pub mod Fits
 pub mod Loops
 pub mod Calls
+pub mod Kept
 pub mod Safe
 pub mod Starts
+pub mod Alike
 pub mod Uncommitted
 pub mod ByName
 mod WorkedFacts

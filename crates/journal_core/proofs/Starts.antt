@@ -1,16 +1,19 @@
 -- Every marking of a shape shows one core, and what each of its jobs shows is computed from its names.
-use Rattle.std.proofs.Common.{◌≡◌, ◌≢◌, ℕ, suc, zero, ◌+◌, ◌<◌, Bool, true, false, ◌&&◌, cond, List, length, get_or, refl, sym, ◌∙◌, ap, subst, inl, inr, arith, IsTrue, lt-ltb}
+use Rattle.std.proofs.Common.{◌≡◌, ◌≢◌, ℕ, suc, zero, ◌+◌, ◌<◌, Bool, true, false, ◌&&◌, cond, List, length, get_or, map, refl, sym, ◌∙◌, ap, subst, inl, inr, arith, IsTrue, lt-ltb}
 use Rattle.std.proofs.lemmas.Bool.{cases_lt, cases_Bool, false_from_ne_true}
-use Rattle.std.proofs.lemmas.List.{ext_get_or}
+use Rattle.std.proofs.lemmas.List.{ext_get_or, length-map, get_or_past, length-replicate, get_or-replicate}
+use Rattle.std.specs.Prelude.{replicate}
+use Rattle.journal_core.specs.declared.event.Phase.TheVariants.{Empty}
+use Rattle.journal_core.proofs.Rows.{settled_at}
 use Rattle.std.proofs.lemmas.List.FromFn.{length-map-range_with_len, get_or-map-range_with_len}
 use Rattle.journal_core.specs.declared.event.JobState.{JobState}
 use Rattle.journal_core.specs.declared.event.JobState.TheVariants.{Fresh, Going, Done}
 use Rattle.journal_core.specs.Names.{EachHasStep}
 use Rattle.journal_core.specs.Fit.{fits, AreFit}
-use Rattle.journal_core.specs.Table.{CoreState, new_core, resumed_core, closed_core}
+use Rattle.journal_core.specs.Table.{CoreState, settled_job, new_core, resumed_core, closed_core}
 use Rattle.journal_core.specs.Marks.{Mark, Marking, absent, whole, is_absent, is_any}
 use Rattle.journal_core.specs.Shapes.{JobShape, untouched, committed, none_there, IsUnplanned, IsUnderway, IsFinished, HasShape}
-use Rattle.journal_core.specs.Starts.{JobShown, anew, going, done, EachShown, Shown, least_there, shown_state, shown_states, EveryShapeShown}
+use Rattle.journal_core.specs.Starts.{JobShown, anew, going, done, EachShown, Shown, least_there, shown_state, shown_states, shown_core, EveryShapeShown, EveryShownSettled, EveryShownFit}
 use Rattle.journal_core.proofs.Ends.{is-absent, none_there_from, none_there_each}
 
 -- the least that is there, where one is
@@ -80,13 +83,13 @@ job_shown_is n c t s (done there gone) =
     let none = none_there_from t n gone in
     rw (there, none) refl
 
-shown_at : (steps : List ℕ) (m : Marking) (j : ℕ) → j < length steps
+pub shown_at : (steps : List ℕ) (m : Marking) (j : ℕ) → j < length steps
     → get_or (shown_states steps m) j Done ≡ shown_state (get_or steps j 0) (m.commit j) (m.temp j)
 shown_at steps m j l =
     let f : ℕ → JobState = λ (i : ℕ). shown_state (get_or steps i 0) (m.commit i) (m.temp i) in
     get_or-map-range_with_len f 0 (length steps) j j Done l (omega arith)
 
-length_shown : (steps : List ℕ) (m : Marking) → length (shown_states steps m) ≡ length steps
+pub length_shown : (steps : List ℕ) (m : Marking) → length (shown_states steps m) ≡ length steps
 length_shown steps m = length-map-range_with_len (λ (i : ℕ). shown_state (get_or steps i 0) (m.commit i) (m.temp i)) 0 (length steps)
 
 states_are : (steps : List ℕ) (m : Marking) (ss : List JobState) → length ss ≡ length steps → EachShown steps ss m → ss ≡ shown_states steps m
@@ -108,14 +111,50 @@ only_finished steps m h c (Shown.unplanned k) = let e : absent ≡ whole = sym (
 only_finished steps m h c (Shown.underway k same shown) = let e : absent ≡ whole = sym k.finished ∙ h.final 3 (omega arith) in cc
 only_finished steps m h c (Shown.finished k) = refl
 
+unplanned_core : (steps : List ℕ) (m : Marking) → IsUnplanned steps m → shown_core steps m ≡ new_core steps
+unplanned_core steps m h = rw (h.rest.final 3 (omega arith), h.rest.plan) refl
+
+underway_core : (steps : List ℕ) (m : Marking) → IsUnderway steps m → shown_core steps m ≡ resumed_core steps (shown_states steps m)
+underway_core steps m h = rw (h.finished, h.plan) refl
+
+finished_core : (steps : List ℕ) (m : Marking) → IsFinished steps m → shown_core steps m ≡ closed_core
+finished_core steps m h = rw (h.final 3 (omega arith)) refl
+
 pub shape_shown : EveryShapeShown
-shape_shown steps m (HasShape.unplanned h) = record { core = new_core steps; shown = Shown.unplanned h; only = only_unplanned steps m h }
-shape_shown steps m (HasShape.underway h) = record {
-  core = resumed_core steps (shown_states steps m);
-  shown = Shown.underway h (length_shown steps m) (each_shown steps m h);
-  only = only_underway steps m h;
+shape_shown steps m (HasShape.unplanned h) = let e = unplanned_core steps m h in record {
+  shown = subst (λ (c : CoreState). Shown steps m c) (sym e) (Shown.unplanned h);
+  only = λ o k. only_unplanned steps m h o k ∙ sym e;
 }
-shape_shown steps m (HasShape.finished h) = record { core = closed_core; shown = Shown.finished h; only = only_finished steps m h }
+shape_shown steps m (HasShape.underway h) = let e = underway_core steps m h in record {
+  shown = subst (λ (c : CoreState). Shown steps m c) (sym e) (Shown.underway h (length_shown steps m) (each_shown steps m h));
+  only = λ o k. only_underway steps m h o k ∙ sym e;
+}
+shape_shown steps m (HasShape.finished h) = let e = finished_core steps m h in record {
+  shown = subst (λ (c : CoreState). Shown steps m c) (sym e) (Shown.finished h);
+  only = λ o k. only_finished steps m h o k ∙ sym e;
+}
+
+-- ### A settle changes nothing of it
+
+job_settled : (n : ℕ) (c : Mark) (t : ℕ → Mark) (s : JobState) → JobShown n c t s → settled_job s ≡ s
+job_settled n c t s (anew gone) = refl
+job_settled n c t s (going there least l at before) = refl
+job_settled n c t s (done there gone) = refl
+
+states_settled : (ss : List JobState) → ((j : ℕ) → j < length ss → settled_job (get_or ss j Done) ≡ get_or ss j Done) → map settled_job ss ≡ ss
+states_settled ss each = ext_get_or Done (map settled_job ss) ss (length-map ss settled_job)
+    (λ j l. settled_at ss j ∙ each j (omega (arith, length-map ss settled_job)))
+
+new_settled : (n j : ℕ) → settled_job (get_or (replicate n (Fresh 0)) j Done) ≡ get_or (replicate n (Fresh 0)) j Done
+new_settled n j = elim (cases_lt j n) [
+  | inl l ↦ rw (get_or-replicate n j (Fresh 0) Done l) refl
+  | inr l ↦ rw (get_or_past (replicate n (Fresh 0)) j Done (omega (arith, length-replicate n (Fresh 0)))) refl
+]
+
+pub shown_settled : EveryShownSettled
+shown_settled steps m c (Shown.unplanned h) = ap (λ (ss : List JobState). record { phase = Empty; steps = steps; states = ss }) (states_settled _ (λ j l. new_settled (length steps) j))
+shown_settled steps m c (Shown.underway h same shown) = ap (resumed_core steps) (states_settled _ (λ j l. job_settled _ _ _ _ (shown j (omega (arith, same)))))
+shown_settled steps m c (Shown.finished h) = refl
 
 -- ### What is shown fits
 
@@ -131,3 +170,6 @@ shown_are_fit steps ss m some same shown = record {
   has_step = some;
   each_fits = λ j l. shown_fits _ _ _ _ (some j l) (shown j l);
 }
+
+pub underway_fit : EveryShownFit
+underway_fit steps m some h = shown_are_fit steps (shown_states steps m) m some (length_shown steps m) (each_shown steps m h)

@@ -14,7 +14,7 @@ use Rattle.journal_core.specs.Relation.{Shows}
 use Rattle.journal_core.specs.Starts.{Shown}
 use Rattle.journal_core.specs.Law.{NamedEvent, World, begun, with_changes, with_settle, is_settle, stepped, run, MayCome, MayRun, stopped, EveryStop, SettledWhole, EverySettledWhole, EveryRunShows}
 use Rattle.journal_core.proofs.Settled.{shows_wider, settle_shows}
-use Rattle.journal_core.proofs.Events.{event_shows}
+use Rattle.journal_core.proofs.Kept.{event_shows}
 use Rattle.journal_core.proofs.Safe.{shows_settled, settled_kept}
 use Rattle.journal_core.proofs.Ends.{shows_shape, shown_shows}
 

@@ -1,18 +1,19 @@
 -- What the definitions say of small cores and of one whole run, worked by hand, so that a wrong row of
 -- the table, a wrong shape or a premise that no run meets doesn't check.
-use Rattle.std.proofs.Common.{◌≡◌, ℕ, ◌<◌, true, false, List, [], ◌∷◌, length, refl, sym, ◌∙◌, inl, inr, arith, lit<, IsTrue}
+use Rattle.std.proofs.Common.{◌≡◌, ◌≢◌, ℕ, suc, zero, ◌<◌, ◌≤◌, true, false, get_or, List, [], ◌∷◌, length, refl, sym, ◌∙◌, inl, inr, arith, lit<, IsTrue}
 use Rattle.std.proofs.lemmas.Bool.{cases_lt}
+use Rattle.std.specs.Prelude.{◌==◌, if◌then◌else◌}
 use Rattle.journal_core.specs.declared.event.Event.{Event}
 use Rattle.journal_core.specs.declared.event.Event.TheVariants.{Propose, Adopt, Stage, Settle, Commit, Move, Finish, Close, Clear}
 use Rattle.journal_core.specs.declared.event.JobState.{JobState}
 use Rattle.journal_core.specs.declared.event.JobState.TheVariants.{Fresh, Staged, Ready, Going, Done}
 use Rattle.journal_core.specs.declared.event.Phase.TheVariants.{Closed}
-use Rattle.journal_core.specs.Names.{IsStep, plan}
-use Rattle.journal_core.specs.Table.{CoreState, allows, after, new_core, resumed_core}
-use Rattle.journal_core.specs.Marks.{Mark, Marking, absent, first, whole, any, is_any}
-use Rattle.journal_core.specs.Shapes.{JobShape, untouched, committed, HasShape}
+use Rattle.journal_core.specs.Names.{IsStep, plan, temp, target}
+use Rattle.journal_core.specs.Table.{CoreState, allows, after, new_core, resumed_core, closed_core}
+use Rattle.journal_core.specs.Marks.{Mark, Marking, absent, first, whole, any, is_any, rename, changed}
+use Rattle.journal_core.specs.Shapes.{IsMoved, IsLeft, JobShape, untouched, committed, waiting, IsUnderway, HasShape}
 use Rattle.journal_core.specs.Relation.{ahead}
-use Rattle.journal_core.specs.Starts.{Shown}
+use Rattle.journal_core.specs.Starts.{going, EachShown, Shown, shown_core}
 use Rattle.journal_core.specs.Law.{NamedEvent, World, begun, run, MayRun, stopped}
 use Rattle.journal_core.proofs.Targets.{targets_law}
 
@@ -190,3 +191,111 @@ new_target_after_the_move = refl
 
 torn_mark_of_the_commit : (stopped (run start half_way) 1).commit 0 ≡ any
 torn_mark_of_the_commit = refl
+
+-- ### Markings that have a shape
+
+-- a job of two steps, committed: the first is at its target, and the second is left
+abbrev half_moved : Marking
+half_moved = record {
+  plan_new = absent;
+  plan = whole;
+  temp = λ j k. if k == 1 then whole else absent;
+  commit = λ j. any;
+  fresh = λ i. absent;
+  final = λ i. absent;
+  target = λ j k. if k == 0 then whole else first;
+}
+
+half_moved_first : (k : ℕ) → k < 1 → IsMoved (if k == 1 then whole else absent) (if k == 0 then whole else first)
+half_moved_first zero l = record { temp_gone = refl; target_whole = refl }
+half_moved_first (suc k) l = absurd (omega arith)
+
+half_moved_left : (k : ℕ) → 1 ≤ k → k < 2 → IsLeft (if k == 1 then whole else absent) (if k == 0 then whole else first)
+half_moved_left zero m l = absurd (omega arith)
+half_moved_left (suc zero) m l = record { temp_whole = refl; target_first = refl }
+half_moved_left (suc (suc k)) m l = absurd (omega arith)
+
+half_moved_jobs : (j : ℕ) → j < 1 → JobShape (get_or (2 ∷ []) j 0) any (half_moved.temp j) (half_moved.target j)
+half_moved_jobs zero l = committed refl 1 (omega arith) half_moved_first half_moved_left
+half_moved_jobs (suc j) l = absurd (omega arith)
+
+half_moved_window : (j k : ℕ) → IsStep (2 ∷ []) j k → half_moved.temp j k ≢ absent → waiting (2 ∷ []) half_moved j < 64
+half_moved_window zero k st there = lit< tt
+half_moved_window (suc j) k st there = let l : suc j < 1 = st.job_in in absurd (omega (arith, l))
+
+half_moved_shape : IsUnderway (2 ∷ []) half_moved
+half_moved_shape = record {
+  plan_new = refl;
+  plan = refl;
+  finished = refl;
+  jobs = half_moved_jobs;
+  window = half_moved_window;
+  fresh = λ i l. refl;
+  lists = λ i l. refl;
+  end_last = inr (record { fresh = λ i l. refl; final = λ i l. refl });
+}
+
+-- all is at its place, and the plan and a torn commit mark are left
+abbrev all_moved : Marking
+all_moved = record {
+  plan_new = absent;
+  plan = whole;
+  temp = λ j k. absent;
+  commit = λ j. any;
+  fresh = λ i. absent;
+  final = λ i. whole;
+  target = λ j k. whole;
+}
+
+all_moved_shape : HasShape (2 ∷ []) all_moved
+all_moved_shape = HasShape.finished (record {
+  plan_new = refl;
+  plan = refl;
+  temp = λ j k st. refl;
+  commit = λ j l. refl;
+  fresh = λ i l. refl;
+  final = λ i l. refl;
+  target = λ j k st. refl;
+})
+
+finished_is_closed : shown_core (2 ∷ []) all_moved ≡ closed_core
+finished_is_closed = refl
+
+-- ### A run that is resumed there
+
+half_moved_core : shown_core (2 ∷ []) half_moved ≡ resumed_core (2 ∷ []) (Going 1 ∷ [])
+half_moved_core = refl
+
+half_moved_each : EachShown (2 ∷ []) (Going 1 ∷ []) half_moved
+half_moved_each zero l = going refl 1 (omega arith) (λ e. let d : whole ≡ absent = e in cc) before
+  where
+    before : (k : ℕ) → k < 1 → half_moved.temp 0 k ≡ absent
+    before zero b = refl
+    before (suc k) b = absurd (omega arith)
+half_moved_each (suc j) l = absurd (omega arith)
+
+resumed_start : Shown (2 ∷ []) half_moved (resumed_core (2 ∷ []) (Going 1 ∷ []))
+resumed_start = Shown.underway half_moved_shape refl half_moved_each
+
+abbrev the_rest : List NamedEvent
+the_rest = named (Move 0 1) ∷ named (Finish 0) ∷ named (Finish 1) ∷ named (Finish 2) ∷ named (Finish 3) ∷ named Settle
+    ∷ named (Close 0) ∷ named (Close 1) ∷ named (Close 2) ∷ named (Close 3) ∷ []
+
+abbrev resumed : World
+resumed = run (begun (resumed_core (2 ∷ []) (Going 1 ∷ [])) half_moved) the_rest
+
+resumed_runs : MayRun (begun (resumed_core (2 ∷ []) (Going 1 ∷ [])) half_moved) the_rest
+resumed_runs = (record { allowed = refl; near = tt; named = tt }, (record { allowed = refl; near = tt; named = tt }, (record { allowed = refl; near = tt; named = tt }, (record { allowed = refl; near = tt; named = tt }, (record { allowed = refl; near = tt; named = tt }, (record { allowed = refl; near = tt; named = tt }, (record { allowed = refl; near = tt; named = tt }, (record { allowed = refl; near = tt; named = tt }, (record { allowed = refl; near = tt; named = tt }, (record { allowed = refl; near = tt; named = tt }, tt))))))))))
+
+resumed_ends_closed : resumed.core.phase ≡ Closed
+resumed_ends_closed = refl
+
+resumed_ends_with_both : (resumed.now.target 0 0 ≡ whole) × (resumed.now.target 0 1 ≡ whole)
+resumed_ends_with_both = (refl, refl)
+
+resumed_ends_without_new : resumed.now.temp 0 1 ≡ absent
+resumed_ends_without_new = refl
+
+-- a rename of what isn't there changes nothing
+absent_is_not_renamed : (changed whole nothing_yet (rename (temp 0 0) (target 0 0))).target 0 0 ≡ first
+absent_is_not_renamed = refl

@@ -1,5 +1,5 @@
 -- What each name of a run holds, as the core sees it, and how calls and a stop change it.
-use Rattle.std.specs.Prelude.{ℕ, Bool, true, false, ◌==◌, if◌then◌else◌, List, [], ◌∷◌}
+use Rattle.std.specs.Prelude.{◌≡◌, ◌≢◌, ℕ, Bool, true, false, ◌==◌, if◌then◌else◌, List, [], ◌∷◌}
 use Rattle.journal_core.specs.Names.{Name, plan_new, plan, temp, commit, fresh, final, target}
 use Rattle.journal_core.specs.declared.event.Event.{Event}
 use Rattle.journal_core.specs.declared.event.Event.TheVariants.{Propose, Adopt, Stage, Settle, Commit, Move, Finish, Close, Clear}
@@ -10,6 +10,43 @@ pub data Mark : Type 0 where
   first : Mark
   whole : Mark
   any : Mark
+
+-- ### Tests of one mark
+
+abbrev pub is_absent : Mark → Bool
+is_absent absent = true
+is_absent first = false
+is_absent whole = false
+is_absent any = false
+
+abbrev pub is_whole : Mark → Bool
+is_whole absent = false
+is_whole first = false
+is_whole whole = true
+is_whole any = false
+
+-- it is there, and may hold anything
+abbrev pub is_any : Mark → Bool
+is_any absent = false
+is_any first = false
+is_any whole = true
+is_any any = true
+
+-- it may be there, and then may hold anything
+abbrev pub is_loose : Mark → Bool
+is_loose absent = true
+is_loose first = false
+is_loose whole = true
+is_loose any = true
+
+-- it may be there, and then is whole
+abbrev pub is_kept : Mark → Bool
+is_kept absent = true
+is_kept first = false
+is_kept whole = true
+is_kept any = false
+
+-- ### Markings
 
 -- the mark of each name
 pub record Marking : Type 0 where
@@ -52,10 +89,11 @@ pub data MarkChange : Type 0 where
   rename : Name → Name → MarkChange
   remove : Name → MarkChange
 
--- the marking after a change, where what is put is marked so
+-- the marking after a change, where what is put is marked so; what isn't there can't be renamed, and
+-- then nothing changes
 abbrev pub changed : Mark → Marking → MarkChange → Marking
 changed x m (put n) = marked m n x
-changed x m (rename a b) = marked (marked m b (mark m a)) a absent
+changed x m (rename a b) = if is_absent (mark m a) then m else marked (marked m b (mark m a)) a absent
 changed x m (remove n) = marked m n absent
 
 abbrev pub all_changed : Mark → Marking → List MarkChange → Marking
@@ -74,37 +112,11 @@ changes_of (Finish part) n = put (fresh part) ∷ []
 changes_of (Close part) n = rename (fresh part) (final part) ∷ []
 changes_of Clear n = remove n ∷ []
 
--- ### Tests of one mark
+-- ### By name
 
-abbrev pub is_absent : Mark → Bool
-is_absent absent = true
-is_absent first = false
-is_absent whole = false
-is_absent any = false
+-- the name that is marked, and the others
+abbrev pub EveryMarkHere : Type 0
+EveryMarkHere = (m : Marking) (n : Name) (x : Mark) → mark (marked m n x) n ≡ x
 
-abbrev pub is_whole : Mark → Bool
-is_whole absent = false
-is_whole first = false
-is_whole whole = true
-is_whole any = false
-
--- it is there, and may hold anything
-abbrev pub is_any : Mark → Bool
-is_any absent = false
-is_any first = false
-is_any whole = true
-is_any any = true
-
--- it may be there, and then may hold anything
-abbrev pub is_loose : Mark → Bool
-is_loose absent = true
-is_loose first = false
-is_loose whole = true
-is_loose any = true
-
--- it may be there, and then is whole
-abbrev pub is_kept : Mark → Bool
-is_kept absent = true
-is_kept first = false
-is_kept whole = true
-is_kept any = false
+abbrev pub EveryMarkOther : Type 0
+EveryMarkOther = (m : Marking) (n o : Name) (x : Mark) → o ≢ n → mark (marked m n x) o ≡ mark m o

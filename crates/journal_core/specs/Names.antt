@@ -30,6 +30,16 @@ IsName steps (fresh part) = part < 4
 IsName steps (final part) = part < 4
 IsName steps (target job step) = IsStep steps job step
 
+-- a name of such a run in its work folder
+abbrev pub IsWorkName : List ℕ → Name → Type 0
+IsWorkName steps plan_new = Unit {0}
+IsWorkName steps plan = Unit {0}
+IsWorkName steps (temp job step) = IsStep steps job step
+IsWorkName steps (commit job) = job < length steps
+IsWorkName steps (fresh part) = part < 4
+IsWorkName steps (final part) = part < 4
+IsWorkName steps (target job step) = ⊥
+
 -- a name of the work folder that a clearing start may remove
 abbrev pub IsClearable : Name → Type 0
 IsClearable plan_new = Unit {0}

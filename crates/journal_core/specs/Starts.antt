@@ -3,8 +3,11 @@ use Rattle.std.specs.Prelude.{◌≡◌, ◌≢◌, ℕ, zero, suc, ◌<◌, if�
 use Rattle.std.specs.List.{range_with_len}
 use Rattle.journal_core.specs.declared.event.JobState.{JobState}
 use Rattle.journal_core.specs.declared.event.JobState.TheVariants.{Fresh, Going, Done}
-use Rattle.journal_core.specs.Table.{CoreState, new_core, resumed_core, closed_core}
-use Rattle.journal_core.specs.Marks.{Mark, Marking, absent, is_any}
+use Rattle.journal_core.specs.declared.event.Event.TheVariants.{Settle}
+use Rattle.journal_core.specs.Names.{Name, EachHasStep, IsWorkName}
+use Rattle.journal_core.specs.Fit.{AreFit}
+use Rattle.journal_core.specs.Table.{CoreState, new_core, resumed_core, closed_core, after}
+use Rattle.journal_core.specs.Marks.{Mark, Marking, mark, absent, is_any, is_loose}
 use Rattle.journal_core.specs.Shapes.{none_there, IsUnplanned, IsUnderway, IsFinished, HasShape}
 
 -- a job of n steps: not committed, so nothing of it counts as staged; committed, with a least
@@ -48,10 +51,40 @@ abbrev pub shown_states : List ℕ → Marking → List JobState
 shown_states steps m = map (λ j. shown_state (get_or steps j 0) (m.commit j) (m.temp j)) (range_with_len 0 (length steps))
 
 -- the one core that a marking of a shape shows
-pub record ShownCore (steps : List ℕ) (m : Marking) : Type 0 where
-  pub core : CoreState
-  pub shown : Shown steps m core
-  pub only : (other : CoreState) → Shown steps m other → other ≡ core
+abbrev pub shown_core : List ℕ → Marking → CoreState
+shown_core steps m =
+    if is_any (m.final 3)
+    then closed_core
+    else (if is_any m.plan then resumed_core steps (shown_states steps m) else new_core steps)
+
+pub record ShowsOne (steps : List ℕ) (m : Marking) : Type 0 where
+  pub shown : Shown steps m (shown_core steps m)
+  pub only : (other : CoreState) → Shown steps m other → other ≡ shown_core steps m
 
 abbrev pub EveryShapeShown : Type 0
-EveryShapeShown = (steps : List ℕ) (m : Marking) → HasShape steps m → ShownCore steps m
+EveryShapeShown = (steps : List ℕ) (m : Marking) → HasShape steps m → ShowsOne steps m
+
+-- a settle changes nothing of such a core
+abbrev pub EveryShownSettled : Type 0
+EveryShownSettled = (steps : List ℕ) (m : Marking) (c : CoreState) → Shown steps m c → after c Settle ≡ c
+
+-- and the states that a plan's names show fit its jobs
+abbrev pub EveryShownFit : Type 0
+EveryShownFit = (steps : List ℕ) (m : Marking) → EachHasStep steps → IsUnderway steps m → AreFit steps (shown_states steps m)
+
+-- ### What is shown hangs on which names are there
+
+-- two marks of a name that is there in both, or in neither
+pub data AreAlike (x y : Mark) : Type 0 where
+  both_gone : x ≡ absent → y ≡ absent → AreAlike x y
+  both_there : IsTrue (is_any x) → IsTrue (is_any y) → AreAlike x y
+
+-- the same names of the work folder show the same core
+abbrev pub EverySameShown : Type 0
+EverySameShown = (steps : List ℕ) (m n : Marking)
+    → ((x : Name) → IsWorkName steps x → AreAlike (mark m x) (mark n x))
+    → shown_core steps m ≡ shown_core steps n
+
+-- in a shape each of them is there or not, and holds nothing from before the run
+abbrev pub EveryWorkOwn : Type 0
+EveryWorkOwn = (steps : List ℕ) (m : Marking) (x : Name) → HasShape steps m → IsWorkName steps x → IsTrue (is_loose (mark m x))

@@ -15,8 +15,9 @@ ghost use Rattle.journal_core.specs.Law.{
   EveryTornHasShape,
 };
 ghost use Rattle.journal_core.specs.Calls.{EveryPutNamed, EveryMoveNamed, EverySourceWhole, EveryPutUndone, EveryUncommittedOld};
+ghost use Rattle.journal_core.specs.Marks.{EveryMarkHere, EveryMarkOther};
 ghost use Rattle.journal_core.specs.Shapes.{TargetsOldOrWhole};
-ghost use Rattle.journal_core.specs.Starts.{EveryShapeShown};
+ghost use Rattle.journal_core.specs.Starts.{EveryShapeShown, EveryShownSettled, EveryShownFit, EverySameShown, EveryWorkOwn};
 
 /// From a marking of one of the three shapes, with the core that it shows, and after any events
 /// that the table allows, in any interleaving of jobs, with each staging of one of the first 64
@@ -46,6 +47,13 @@ pub fn every_step()
     ensures shown { EveryShapeShown }
     ensures start { EveryStartShown }
 
+    // A settle changes nothing of that core, a core of a plan can be resumed, and which core it is
+    // hangs on the names that are there alone.
+    ensures calm { EveryShownSettled }
+    ensures fit { EveryShownFit }
+    ensures same { EverySameShown }
+    ensures own { EveryWorkOwn }
+
     // Each event but a settle keeps the relation, in either reading. A settle keeps it as it reads
     // what is there, and that reading implies what a stop may leave.
     ensures event { EveryEventKept }
@@ -58,6 +66,10 @@ pub fn every_step()
 
 /// What the relation says of the names that a call writes.
 pub fn every_call()
+    // A name that is marked has the mark, and the others have theirs.
+    ensures here { EveryMarkHere }
+    ensures other { EveryMarkOther }
+
     // What an allowed event puts or renames is a name of the run, and what it renames is whole.
     ensures put_named { EveryPutNamed }
     ensures move_named { EveryMoveNamed }

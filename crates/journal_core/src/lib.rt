@@ -4,6 +4,14 @@
 //! next state. From any shape of a run, after any allowed events, any stop leaves a shape, and in
 //! every shape each target is as it was at first, or whole.
 //! It does not promise: that a tree is changed as the events say (the layer above makes the calls).
+//!
+//! ```
+//! let mut core = Core::new(alloc, [2].to_vec(alloc)?)?;
+//! let refused = core.step(Event::Adopt);
+//! let proposed = core.step(Event::Propose) && core.step(Event::Settle) && core.step(Event::Adopt);
+//! // refused is false, proposed is true, and core.phase() is Phase::Running
+//! ```
+//!
 //! Read first: `specs/Table.antt`, then `specs/Shapes.antt`, `specs/Relation.antt`, `specs/Law.antt`.
 #![tactic(auto)]
 

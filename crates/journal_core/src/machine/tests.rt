@@ -2,161 +2,40 @@
 
 use crate::event::{Event, JobState, Phase};
 use crate::machine::Core;
-use std::process::Abort;
 use std::test::Fail;
 
-// each of these events is allowed, and comes
-fn all_come(rt: &impl Abort, core: &mut Core, events: &[Event]) {
-    for event in events {
-        assert!(rt; core.step(*event), "{event:?}");
-    }
-}
-
-fn stage(job: u32, step: u8) -> Event {
-    Event::Stage { job, step }
-}
-
-fn move_(job: u32, step: u8) -> Event {
-    Event::Move { job, step }
-}
-
-#[test]
-fn jobs_are_staged_together_and_moved_in_turn(rt: HostRuntime) -> Result<(), Fail> {
-    let mut core = Core::new(rt.alloc(), [4, 2].to_vec(rt.alloc())?)?;
-    assert_eq!(rt; core.phase(), Phase::Empty);
-    assert_eq!(rt; core.job(1), JobState::Fresh { staged: 0 });
-
-    all_come(
-        &rt,
-        &mut core,
-        &[Event::Propose, Event::Settle, Event::Adopt],
-    );
-    assert_eq!(rt; core.phase(), Phase::Running);
-    all_come(
-        &rt,
-        &mut core,
-        &[
-            stage(0, 0),
-            stage(1, 0),
-            stage(0, 1),
-            stage(1, 1),
-            stage(0, 2),
-        ],
-    );
-    assert_eq!(rt; core.state_at(0), JobState::Fresh { staged: 3 });
-    assert_eq!(rt; core.state_at(1), JobState::Staged);
-    all_come(
-        &rt,
-        &mut core,
-        &[
-            stage(0, 3),
-            Event::Settle,
-            Event::Commit { job: 0 },
-            Event::Commit { job: 1 },
-        ],
-    );
-    all_come(
-        &rt,
-        &mut core,
-        &[
-            move_(0, 0),
-            move_(1, 0),
-            move_(1, 1),
-            move_(0, 1),
-            move_(0, 2),
-        ],
-    );
-    assert_eq!(rt; core.state_at(0), JobState::Going { moved: 3 });
-    assert_eq!(rt; core.state_at(1), JobState::Done);
-    all_come(
-        &rt,
-        &mut core,
-        &[
-            move_(0, 3),
-            Event::Finish { part: 0 },
-            Event::Finish { part: 1 },
-        ],
-    );
-    all_come(
-        &rt,
-        &mut core,
-        &[
-            Event::Finish { part: 2 },
-            Event::Finish { part: 3 },
-            Event::Settle,
-        ],
-    );
-    assert_eq!(rt;
-        core.phase(),
-        Phase::Finishing {
-            put: 4,
-            settled: true
-        }
-    );
-    all_come(
-        &rt,
-        &mut core,
-        &[
-            Event::Close { part: 0 },
-            Event::Close { part: 1 },
-            Event::Close { part: 2 },
-        ],
-    );
-    assert_eq!(rt; core.phase(), Phase::Closing { moved: 3 });
-    all_come(
-        &rt,
-        &mut core,
-        &[Event::Close { part: 3 }, Event::Clear, Event::Clear],
-    );
-    assert_eq!(rt; core.phase(), Phase::Closed);
-    Ok(())
-}
+// two jobs of four steps and of two, the first committed and half moved when an earlier start was
+// stopped: each event, and whether it is allowed
+const RESUMED: [(Event, bool); 17] = [
+    (Event::Stage { job: 1, step: 0 }, true),
+    (Event::Move { job: 0, step: 2 }, true),
+    (Event::Stage { job: 1, step: 1 }, true),
+    (Event::Commit { job: 1 }, false),
+    (Event::Settle, true),
+    (Event::Move { job: 0, step: 3 }, true),
+    (Event::Commit { job: 1 }, true),
+    (Event::Move { job: 1, step: 0 }, true),
+    (Event::Finish { part: 0 }, false),
+    (Event::Move { job: 1, step: 1 }, true),
+    (Event::Finish { part: 0 }, true),
+    (Event::Settle, true),
+    (Event::Close { part: 0 }, false),
+    (Event::Finish { part: 1 }, true),
+    (Event::Finish { part: 2 }, true),
+    (Event::Finish { part: 3 }, true),
+    (Event::Close { part: 0 }, false),
+];
 
 #[test]
 fn a_job_is_moved_while_another_is_staged(rt: HostRuntime) -> Result<(), Fail> {
-    // the first job was committed and half moved when an earlier start was stopped
     let states = [JobState::Going { moved: 2 }, JobState::Fresh { staged: 0 }].to_vec(rt.alloc())?;
     let mut core = Core::resumed([4, 2].to_vec(rt.alloc())?, states)?;
     assert_eq!(rt; core.phase(), Phase::Running);
     assert_eq!(rt; core.job(0), JobState::Going { moved: 2 });
-
-    all_come(&rt, &mut core, &[stage(1, 0), move_(0, 2), stage(1, 1)]);
-    assert!(rt;
-        !core.step(Event::Commit { job: 1 }),
-        "a staged job isn't settled yet"
-    );
-    all_come(
-        &rt,
-        &mut core,
-        &[
-            Event::Settle,
-            move_(0, 3),
-            Event::Commit { job: 1 },
-            move_(1, 0),
-        ],
-    );
-    assert_eq!(rt; core.state_at(0), JobState::Done);
-    assert!(rt;
-        !core.step(Event::Finish { part: 0 }),
-        "a job isn't done yet"
-    );
-    all_come(
-        &rt,
-        &mut core,
-        &[move_(1, 1), Event::Finish { part: 0 }, Event::Settle],
-    );
-    assert!(rt;
-        !core.step(Event::Close { part: 0 }),
-        "three texts aren't put yet"
-    );
-    all_come(&rt, &mut core, &[Event::Finish { part: 1 }]);
-    assert_eq!(rt;
-        core.phase(),
-        Phase::Finishing {
-            put: 2,
-            settled: false
-        }
-    );
+    for (event, allowed) in RESUMED {
+        assert_eq!(rt; core.step(event), allowed, "{event:?}");
+    }
+    assert_eq!(rt; core.state_at(1), JobState::Done);
     Ok(())
 }
 

@@ -11,4 +11,4 @@ loop-path-preserved c =
     let reserved = c.in_ok-reserve.ensures.items in
     sorting_goes_on _ _ _ c.loop-path.places.items _ taken c.loop-path.invariant c.in-Some.ensures.items
     (rw reserved at c.put_node.ensures.tree)
-    (c.put_node.ensures.sorted (rw reserved c.loop-path.invariant.order))
+    c.put_node.ensures.sorted

@@ -1,7 +1,8 @@
-use Rattle.journal_core.proofs.Events.{event_shows}
+use Rattle.journal_core.proofs.Kept.{event_shows}
 use Rattle.journal_core.proofs.Settled.{settle_shows, shows_wider}
 use Rattle.journal_core.proofs.Ends.{shows_shape, shown_shows}
-use Rattle.journal_core.proofs.Starts.{shape_shown}
+use Rattle.journal_core.proofs.Starts.{shape_shown, shown_settled, underway_fit}
+use Rattle.journal_core.proofs.Alike.{same_shown, work_own}
 use Rattle.journal_core.proofs.law.every_step.Goals as goal
 
 pub returns-clause-event : goal.returns-clause-event
@@ -21,3 +22,15 @@ returns-clause-shape c = shows_shape
 
 pub returns-clause-shown : goal.returns-clause-shown
 returns-clause-shown c = shape_shown
+
+pub returns-clause-calm : goal.returns-clause-calm
+returns-clause-calm c = shown_settled
+
+pub returns-clause-fit : goal.returns-clause-fit
+returns-clause-fit c = underway_fit
+
+pub returns-clause-same : goal.returns-clause-same
+returns-clause-same c = same_shown
+
+pub returns-clause-own : goal.returns-clause-own
+returns-clause-own c = work_own
