@@ -1,4 +1,13 @@
 -- The rows of refusals, each group as a set of rules for the functions that refuse by it.
+use Rattle.std.proofs.Common.{◌≡◌, ◌≢◌, ℕ, List}
+use Rattle.dw_base.specs.ElfFails.{HeaderReads}
+use Rattle.dw_base.specs.Numbers.{spelled}
+use Rattle.dw_base.specs.Refusals.{at}
+use Rattle.dw_base.specs.declared.elf_numbers.TheConstants.{ELFMAG}
+use Rattle.dw_base.specs.declared.fault.Fault.{Fault}
+use Rattle.dw_base.specs.declared.fault.Fault.TheVariants.{Refused}
+use Rattle.dw_base.specs.declared.fault.Kind.TheVariants.{Header}
+use Rattle.dw_base.specs.declared.shared.Order.TheVariants.{Little}
 use Rattle.dw_base.specs.ElfFails.HeaderFails.{short, magic, class, order, version}
 use Rattle.dw_base.specs.ElfFails.ShapeFails.{shentsize, phentsize, phoff, many, rel}
 use Rattle.dw_base.specs.ElfFails.SegmentTableFails.{past as segment_table_past}
@@ -11,6 +20,10 @@ use Rattle.dw_base.specs.ElfFails.SegmentFails.{past as segment_past}
 use Rattle.dw_base.specs.ElfFails.DebugFails.{header, shape, segment_table, table, index, section}
 use Rattle.dw_base.specs.ElfFails.ElfFails.{debug, segment}
 use Rattle.dw_base.proofs.ElfLaws.{ehdr_size-least, section_place, segment_place, section_count-none, name_index-none, first_place}
+
+-- a header that reads begins with the magic bytes, whatever is said of another
+pub magic_reads : (b : List ℕ) (f : Fault) → HeaderReads b → spelled Little b 0 4 ≢ ELFMAG → f ≡ Refused (at Header 0 0)
+magic_reads b f reads other = absurd (other reads.magic)
 
 pub ruleset header_rows = (short, magic, class, order, version, ehdr_size-least)
 
@@ -30,6 +43,6 @@ pub ruleset section_rows = (place, unended, one)
 
 pub ruleset segment_rows = (segment_past)
 
-pub ruleset debug_rows = (header, shape, segment_table, table, index, section)
+pub ruleset debug_rows = (magic_reads, header, shape, segment_table, table, index, section)
 
-pub ruleset elf_rows = (header, shape, segment_table, table, index, section, debug, segment)
+pub ruleset elf_rows = (magic_reads, header, shape, segment_table, table, index, section, debug, segment)

@@ -1,10 +1,11 @@
 //! A file that was read.
 
-ghost use Rattle.std.specs.Prelude.{◌≡◌, ◌≤◌, ◌<◌, ℕ, length, IfOk, OnOk, IfErr};
+ghost use Rattle.std.specs.Prelude.{◌≡◌, ◌≢◌, ◌≤◌, ◌<◌, ℕ, length, IfOk, OnOk, IfErr};
 ghost use Rattle.dw_base.specs.Elf.{e_type, file_kind, contents_of, nth_section, section_count, section_name};
 ghost use Rattle.dw_base.specs.ElfFails.{DebugFails, DebugReads, ElfFails, ElfReads, HeaderReads};
 ghost use Rattle.dw_base.specs.Layout.{is_loaded_kind, output_limit};
-ghost use Rattle.dw_base.specs.Refusals.{Blames};
+ghost use Rattle.dw_base.specs.Numbers.{spelled};
+ghost use Rattle.dw_base.specs.Refusals.{Blames, at};
 ghost use Rattle.dw_base.specs.declared.fault.Refusal.{Refusal};
 ghost use Rattle.elf_file.specs.FileHeader.{file_header};
 ghost use Rattle.elf_file.specs.IsElf.{IsElf};
@@ -15,8 +16,8 @@ use crate::records::FileHeader;
 use crate::sections::{contents_in, names_end, sections_in};
 use crate::segments::{segments_in, segments_lie};
 use crate::tables::{counted, indexed, segment_table_lies};
-use dw_base::elf_numbers::{ET_DYN, ET_EXEC, ET_REL};
-use dw_base::{Class, Fault, FileKind, Order, Section, Segment};
+use dw_base::elf_numbers::{ELFMAG, ET_DYN, ET_EXEC, ET_REL};
+use dw_base::{Class, Fault, FileKind, Kind, Order, Section, Segment};
 use std::alloc::Global;
 
 /// An ELF file: its bytes, and the records that they spell.
@@ -148,6 +149,9 @@ impl ElfFile<'_> {
         ensures bytes { IfOk result (λ file. file.bytes.now ≡ bytes.now) }
         ensures value { IfOk result (λ file. IsElf bytes.now file.class file.order file.kind file.machine file.names file.sections.items file.segments.items) }
         ensures refused { IfErr result (Blames (DebugFails bytes.now)) }
+
+        // Other bytes at the front than ELF's are told before all else that is wrong.
+        ensures magic { spelled Order.Little bytes.now 0 4 ≢ ELFMAG → IfErr result (λ fault. fault ≡ Fault.Refused (at Kind.Header 0 0)) }
     {
         let header = checked_header(bytes)?;
         file_of(alloc, bytes, &header)
@@ -162,6 +166,9 @@ impl ElfFile<'_> {
         ensures bytes { IfOk result (λ file. file.bytes.now ≡ bytes.now) }
         ensures value { IfOk result (λ file. IsElf bytes.now file.class file.order file.kind file.machine file.names file.sections.items file.segments.items) }
         ensures refused { IfErr result (Blames (ElfFails bytes.now)) }
+
+        // Other bytes at the front than ELF's are told before all else that is wrong.
+        ensures magic { spelled Order.Little bytes.now 0 4 ≢ ELFMAG → IfErr result (λ fault. fault ≡ Fault.Refused (at Kind.Header 0 0)) }
     {
         let header = checked_header(bytes)?;
         let file = file_of(alloc, bytes, &header)?;

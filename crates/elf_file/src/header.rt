@@ -1,9 +1,11 @@
 //! The file header: it is there, its identification is ELF's, and its numbers fit one another
 //! (gABI ch. 4 "ELF Header", "ELF Identification").
 
-ghost use Rattle.std.specs.Prelude.{◌≡◌, ◌≤◌, ◌||◌, ◌==◌, length, IsTrue, IfOk, OnOk, IfErr};
+ghost use Rattle.std.specs.Prelude.{◌≡◌, ◌≢◌, ◌≤◌, ◌||◌, ◌==◌, length, IsTrue, IfOk, OnOk, IfErr};
 ghost use Rattle.dw_base.specs.Elf.{class_of, order_of, ehdr_size};
 ghost use Rattle.dw_base.specs.ElfFails.{ident_byte, HeaderFails, HeaderReads, ShapeFails, ShapeReads};
+ghost use Rattle.dw_base.specs.Numbers.{spelled};
+ghost use Rattle.dw_base.specs.Refusals.{at};
 ghost use Rattle.elf_file.specs.FileHeader.{file_header};
 
 use crate::records::FileHeader;
@@ -51,6 +53,9 @@ pub fn checked_header(bytes: &[u8]) -> Result<FileHeader, Refusal>
     ensures value { IfOk result (λ header. header ≡ file_header bytes.now) }
     ensures reads { OnOk result (HeaderReads bytes.now) }
     ensures refused { IfErr result (HeaderFails bytes.now) }
+
+    // Other bytes at the front are told before all else that is wrong.
+    ensures magic { spelled Order.Little bytes.now 0 4 ≢ ELFMAG → IfErr result (λ r. r ≡ at Kind.Header 0 0) }
 {
     let len = bytes.len() as u64;
     if len < Class::C32.file_header_size() {
