@@ -75,3 +75,6 @@ pub mod UnitMeaningLaws
 pub mod ReachLaws
 pub mod UnitRowLaws
 pub mod EntryRowLaws
+pub mod UnitHeaderLaws
+pub mod ValueLaws
+pub mod UnitOneLaws
