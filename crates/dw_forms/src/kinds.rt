@@ -1,0 +1,132 @@
+//! What a value of a form is: the table of forms (DWARF 5, table 7.6), each form once.
+
+ghost use Rattle.std.specs.Prelude.{◌≡◌, IsTrue};
+ghost use Rattle.dw_base.specs.Forms.{kind_in, reference_size, width_size};
+ghost use Rattle.dw_base.specs.UnitHeaders.{is_address_size};
+ghost use Rattle.dw_forms.specs.Kinds.{as_kind, HasFields};
+
+use dw_base::dwarf_numbers::{
+    DW_FORM_GNU_ref_alt, DW_FORM_GNU_strp_alt, DW_FORM_addr, DW_FORM_addrx, DW_FORM_addrx1,
+    DW_FORM_addrx2, DW_FORM_addrx3, DW_FORM_addrx4, DW_FORM_block, DW_FORM_block1, DW_FORM_block2,
+    DW_FORM_block4, DW_FORM_data1, DW_FORM_data16, DW_FORM_data2, DW_FORM_data4, DW_FORM_data8,
+    DW_FORM_exprloc, DW_FORM_flag, DW_FORM_flag_present, DW_FORM_implicit_const, DW_FORM_indirect,
+    DW_FORM_line_strp, DW_FORM_loclistx, DW_FORM_ref1, DW_FORM_ref2, DW_FORM_ref4, DW_FORM_ref8,
+    DW_FORM_ref_addr, DW_FORM_ref_sig8, DW_FORM_ref_sup4, DW_FORM_ref_sup8, DW_FORM_ref_udata,
+    DW_FORM_rnglistx, DW_FORM_sdata, DW_FORM_sec_offset, DW_FORM_string, DW_FORM_strp,
+    DW_FORM_strp_sup, DW_FORM_strx, DW_FORM_strx1, DW_FORM_strx2, DW_FORM_strx3, DW_FORM_strx4,
+    DW_FORM_udata,
+};
+use dw_base::{Params, ValueClass, Width};
+
+/// What a value of a form is.
+#[derive(Clone, Copy)]
+pub(crate) enum FormKind {
+    /// A number of a class, in so many bytes.
+    Number(ValueClass, u8),
+    /// A number of a class, in LEB128.
+    LebNumber(ValueClass),
+    /// A signed number, in LEB128.
+    SignedLeb,
+    /// So many bytes.
+    Block(u8),
+    /// Bytes behind their count, which has so many bytes.
+    Counted(u8),
+    /// Bytes behind their count in LEB128.
+    CountedLeb,
+    /// A text with its NUL.
+    InlineText,
+    /// An offset into `.debug_str`, of so many bytes.
+    StrOffset(u8),
+    /// An offset into `.debug_line_str`, of so many bytes.
+    LineStrOffset(u8),
+    /// A flag that is set, without bytes.
+    Present,
+    /// A number that stands in the abbreviation.
+    InAbbreviation,
+    /// A value behind its own form.
+    FormInFront,
+    /// A value of a supplementary file.
+    Supplementary,
+    /// Of a form that isn't listed.
+    Unlisted,
+}
+
+/// The size of an offset, in bytes (DWARF 5, 7.4).
+fn width_size(width: Width) -> u8
+    ensures size { result ≡ width_size width }
+{
+    match width {
+        Width::W32 => 4,
+        Width::W64 => 8,
+    }
+}
+
+/// The size of a reference into another unit, in bytes: that of an address in version 2 (DWARF 2, 7.5.4).
+fn reference_size(params: &Params) -> u8
+    ensures size { result ≡ reference_size params.now }
+{
+    if params.version == 2 {
+        params.address
+    } else {
+        width_size(params.width)
+    }
+}
+
+/// What a value of a form is, in a unit of these parameters.
+#[rattlefmt::skip]
+#[tactic(auto, unfolding(dw_base::specs::Forms::kind_in, dw_base::specs::Forms::form_rows))]
+pub(crate) fn form_kind(form: u64, params: &Params) -> FormKind
+    requires address { IsTrue (is_address_size params.now.address) }
+    ensures kind { as_kind result ≡ kind_in params.now form }
+    ensures fields { HasFields result }
+{
+    let offset = width_size(params.width);
+    match form {
+        DW_FORM_addr => FormKind::Number(ValueClass::Address, params.address),
+        DW_FORM_block2 => FormKind::Counted(2),
+        DW_FORM_block4 => FormKind::Counted(4),
+        DW_FORM_data2 => FormKind::Number(ValueClass::Number, 2),
+        DW_FORM_data4 => FormKind::Number(ValueClass::Number, 4),
+        DW_FORM_data8 => FormKind::Number(ValueClass::Number, 8),
+        DW_FORM_string => FormKind::InlineText,
+        DW_FORM_block => FormKind::CountedLeb,
+        DW_FORM_block1 => FormKind::Counted(1),
+        DW_FORM_data1 => FormKind::Number(ValueClass::Number, 1),
+        DW_FORM_flag => FormKind::Number(ValueClass::Flag, 1),
+        DW_FORM_sdata => FormKind::SignedLeb,
+        DW_FORM_strp => FormKind::StrOffset(offset),
+        DW_FORM_udata => FormKind::LebNumber(ValueClass::Number),
+        DW_FORM_ref_addr => FormKind::Number(ValueClass::GlobalRef, reference_size(params)),
+        DW_FORM_ref1 => FormKind::Number(ValueClass::LocalRef, 1),
+        DW_FORM_ref2 => FormKind::Number(ValueClass::LocalRef, 2),
+        DW_FORM_ref4 => FormKind::Number(ValueClass::LocalRef, 4),
+        DW_FORM_ref8 => FormKind::Number(ValueClass::LocalRef, 8),
+        DW_FORM_ref_udata => FormKind::LebNumber(ValueClass::LocalRef),
+        DW_FORM_indirect => FormKind::FormInFront,
+        DW_FORM_sec_offset => FormKind::Number(ValueClass::SecOffset, offset),
+        DW_FORM_exprloc => FormKind::CountedLeb,
+        DW_FORM_flag_present => FormKind::Present,
+        DW_FORM_strx => FormKind::LebNumber(ValueClass::StrIndex),
+        DW_FORM_addrx => FormKind::LebNumber(ValueClass::AddrIndex),
+        DW_FORM_ref_sup4 => FormKind::Supplementary,
+        DW_FORM_strp_sup => FormKind::Supplementary,
+        DW_FORM_data16 => FormKind::Block(16),
+        DW_FORM_line_strp => FormKind::LineStrOffset(offset),
+        DW_FORM_ref_sig8 => FormKind::Number(ValueClass::Signature, 8),
+        DW_FORM_implicit_const => FormKind::InAbbreviation,
+        DW_FORM_loclistx => FormKind::LebNumber(ValueClass::ListIndex),
+        DW_FORM_rnglistx => FormKind::LebNumber(ValueClass::ListIndex),
+        DW_FORM_ref_sup8 => FormKind::Supplementary,
+        DW_FORM_strx1 => FormKind::Number(ValueClass::StrIndex, 1),
+        DW_FORM_strx2 => FormKind::Number(ValueClass::StrIndex, 2),
+        DW_FORM_strx3 => FormKind::Number(ValueClass::StrIndex, 3),
+        DW_FORM_strx4 => FormKind::Number(ValueClass::StrIndex, 4),
+        DW_FORM_addrx1 => FormKind::Number(ValueClass::AddrIndex, 1),
+        DW_FORM_addrx2 => FormKind::Number(ValueClass::AddrIndex, 2),
+        DW_FORM_addrx3 => FormKind::Number(ValueClass::AddrIndex, 3),
+        DW_FORM_addrx4 => FormKind::Number(ValueClass::AddrIndex, 4),
+        DW_FORM_GNU_ref_alt => FormKind::Supplementary,
+        DW_FORM_GNU_strp_alt => FormKind::Supplementary,
+        _ => FormKind::Unlisted,
+    }
+}
