@@ -65,9 +65,6 @@ pub mod FormLaws
 pub mod NumberBytes
 pub mod AbbreviationLaws
 pub mod AbbreviationRowLaws
-pub mod DebugSectionLaws
-pub mod DebugSectionFailsLaws
-pub mod FileViewLaws
 pub mod PieceLaws
 pub mod PieceFrameLaws
 pub mod UnitEditLaws
