@@ -18,7 +18,7 @@ use Rattle.dw_base.specs.declared.fault.Refusal.{Refusal}
 use Rattle.dw_base.specs.declared.records.Section.{Section}
 use Rattle.dw_base.proofs.DebugSectionLaws.{listed_number-listed}
 use Rattle.dw_base.proofs.TextLaws.{same_text-true}
-use Rattle.dw_view.specs.Judged.{FitsAt, NamesApart, NamesFit}
+use Rattle.dw_view.specs.NamesFit.{FitsAt, NamesApart, NamesFit}
 use Rattle.dw_view.proofs.FrontLaws.{same_text-take, starts_with-take}
 
 -- The first 20 bytes of a name tell whether it is any of the names that are told apart.

@@ -13,7 +13,7 @@ use Rattle.dw_base.specs.declared.fault.Kind.TheVariants.{Twice}
 use Rattle.dw_base.specs.declared.fault.Refusal.{Refusal}
 use Rattle.dw_base.specs.declared.records.Section.{Section}
 use Rattle.dw_base.proofs.DebugSectionLaws.{listed_number-once}
-use Rattle.dw_view.specs.Judged.{HasNumber, IsNoted, IsSingle, NamesOnce}
+use Rattle.dw_view.specs.NamesFit.{HasNumber, IsNoted, IsSingle, NamesOnce}
 use Rattle.dw_view.proofs.FrontLaws.{section-first}
 use Rattle.dw_view.proofs.NameLaws.{debug_section-take, listed_below, not_listed, number_is}
 

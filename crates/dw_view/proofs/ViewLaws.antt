@@ -11,7 +11,7 @@ use Rattle.dw_base.specs.declared.debug_sections.DebugSection.{DebugSection}
 use Rattle.dw_base.proofs.DebugSectionFailsLaws.{debug_sections_exclude}
 use Rattle.dw_base.proofs.DebugSectionLaws.{debug_section-named}
 use Rattle.dw_base.proofs.FileViewLaws.{order-view_of, length-view_of, section_bytes-view_of, section_after-within}
-use Rattle.dw_view.specs.Judged.{NamesApart, NamesFit, NamesOnce}
+use Rattle.dw_view.specs.NamesFit.{NamesApart, NamesFit, NamesOnce}
 
 -- what was found part by part is all that is asked
 pub reads-all : (b : List ℕ) → (e_type b == ET_REL || is_loaded_kind b) ≡ true → NamesFit b → NamesOnce b → NamesApart b → DebugSectionsRead b

@@ -1,2 +1,2 @@
-pub mod Judged
-pub mod Seen
+pub mod NamesFit
+pub mod Kept

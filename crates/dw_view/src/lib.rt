@@ -7,6 +7,16 @@
 //! and `FileType` that holds, at its place. A section of a name is the first that has it and bytes.
 //! It does not promise: anything of what the sections hold; relocations are not read yet.
 //! Read first: `dw_base/specs/DebugSectionFails.antt`, then `dw_base/specs/FileViews.antt`.
+//!
+//! # Example
+//!
+//! ```
+//! let elf = ElfFile::read(alloc, bytes)?;
+//! let view = View::one(&elf)?;
+//! if let Some(section) = view.first(DebugSection::Info) {
+//!     let units = view.bytes(section);
+//! }
+//! ```
 #![tactic(auto)]
 
 mod found;

@@ -7,7 +7,7 @@ ghost use Rattle.dw_base.specs.DebugSectionFails.{DebugSectionsFail, NameFails, 
 ghost use Rattle.dw_base.specs.Elf.{e_type, name_index, nth_section, section_count, section_name};
 ghost use Rattle.dw_base.specs.Layout.{is_loaded_kind};
 ghost use Rattle.dw_base.specs.Refusals.{at};
-ghost use Rattle.dw_view.specs.Judged.{FitsAt, NamesApart, NamesFit};
+ghost use Rattle.dw_view.specs.NamesFit.{FitsAt, NamesApart, NamesFit};
 
 use crate::fronts::{is_active, name_front, section_count, section_of};
 use dw_base::elf_numbers::{ET_REL, SHF_COMPRESSED};

@@ -5,7 +5,7 @@ ghost use Rattle.std.specs.Prelude.{◌≡◌, ◌+◌, ◌<◌, ◌==◌, lengt
 ghost use Rattle.dw_base.specs.DebugSections.{debug_section};
 ghost use Rattle.dw_base.specs.DebugSectionFails.{DebugSectionsFail, may_repeat, repeats_by};
 ghost use Rattle.dw_base.specs.Elf.{e_type, section_count};
-ghost use Rattle.dw_view.specs.Judged.{IsNoted, NamesOnce};
+ghost use Rattle.dw_view.specs.NamesFit.{IsNoted, NamesOnce};
 
 use crate::fronts::{is_active, name_front, section_count, section_of};
 use crate::names::{FRONT_SIZE, of_section};

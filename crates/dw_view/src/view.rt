@@ -6,7 +6,7 @@ ghost use Rattle.dw_base.specs.DebugSectionFails.{DebugSectionsFail, DebugSectio
 ghost use Rattle.dw_base.specs.FileViews.{View as FileView, field_at, section_after, section_bytes, section_named, view_of};
 ghost use Rattle.dw_base.specs.Refusals.{Blames};
 ghost use Rattle.dw_base.specs.declared.fault.Refusal.{Refusal};
-ghost use Rattle.dw_view.specs.Seen.{FieldFits, FirstsAre};
+ghost use Rattle.dw_view.specs.Kept.{FieldFits, FirstsAre};
 
 use crate::found::{firsts_of, next_filled};
 use crate::names::{kind_fits, names_apart, names_fit};
@@ -123,3 +123,6 @@ impl<'a> View<'a> {
         Ok(Field::Num(number_in(self.order(), self.bytes(section), at, size)))
     }
 }
+
+#[cfg(test)]
+mod tests;

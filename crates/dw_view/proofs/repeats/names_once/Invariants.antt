@@ -1,5 +1,5 @@
 use Rattle.std.proofs.Common.{◌≡◌, length}
-use Rattle.dw_view.specs.Judged.{IsNoted}
+use Rattle.dw_view.specs.NamesFit.{IsNoted}
 use Rattle.dw_view.proofs.repeats.names_once.Given as goal
 
 abbrev pub invariant-loop-index : goal.invariant-loop-index
