@@ -1,12 +1,12 @@
 -- What a file means, its output, and that an output means what the file meant, mapped.
-use Rattle.std.specs.Prelude.{◌≡◌, ℕ, List}
+use Rattle.std.specs.Prelude.{true, ◌≡◌, ℕ, List}
 use Rattle.dw_base.specs.DataOutput.{DataReads, DataFits, body_in, new_bodies}
 use Rattle.dw_base.specs.DebugData.{DebugData, Readings}
 use Rattle.dw_base.specs.DebugSectionFails.{DebugSectionsRead}
 use Rattle.dw_base.specs.Elf.{contents_of}
 use Rattle.dw_base.specs.ElfFails.{ElfReads}
 use Rattle.dw_base.specs.FileViews.{view_of}
-use Rattle.dw_base.specs.Layout.{with_bodies}
+use Rattle.dw_base.specs.Layout.{is_loaded_kind, with_bodies}
 use Rattle.dw_base.specs.Paths.{PathMap}
 use Rattle.dw_base.specs.ViewData.{debug_data, Meaning, meaning_of, mapped}
 
@@ -14,9 +14,11 @@ use Rattle.dw_base.specs.ViewData.{debug_data, Meaning, meaning_of, mapped}
 abbrev pub file_data : List ℕ → DebugData
 file_data b = debug_data (view_of b)
 
--- a file can be read: its records, the names of its sections, and its debug data, which are these pieces
+-- a file can be read: its records, its type (a relocatable file's relocations aren't in its view yet), the names of its
+-- sections, and its debug data, which are these pieces
 pub record FileReads (b : List ℕ) (r : Readings) : Type 0 where
   pub elf : ElfReads b
+  pub kind : is_loaded_kind b ≡ true
   pub names : DebugSectionsRead b
   pub data_reads : DataReads (file_data b) r
 

@@ -59,3 +59,5 @@ pub mod DebugSectionFails
 pub mod FileViews
 pub mod ViewData
 pub mod FileMeanings
+pub mod FileFails
+pub mod EditRows

@@ -1,6 +1,6 @@
 -- The debug data of a view, its sections found by their names (DWARF 5, 7.31), and what a view means: its units, and by
 -- name the bytes of the sections that are meant as they stand.
-use Rattle.std.specs.Prelude.{Bool, ℕ, zero, suc, ◌||◌, not, is_some, if◌then◌else◌, List, [], ◌∷◌, ◌++◌, drop, Option, Some, None}
+use Rattle.std.specs.Prelude.{Bool, ℕ, zero, suc, ◌||◌, not, if◌then◌else◌, List, [], ◌∷◌, ◌++◌, drop, Option, Some, None, true, false}
 use Rattle.dw_base.specs.Cells.{Cell, Located, plain_cells}
 use Rattle.dw_base.specs.DebugData.{DebugData, Readings}
 use Rattle.dw_base.specs.DebugSections.{debug_section, name_of}
@@ -57,10 +57,19 @@ debug_data v = record {
   line_str = located v LineStr;
 }
 
+-- a section whose bytes are read: units, their abbreviations, and the tables of texts
+abbrev pub is_read : Option DebugSection → Bool
+is_read (Some Info) = true
+is_read (Some Types) = true
+is_read (Some Abbrev) = true
+is_read (Some Str) = true
+is_read (Some LineStr) = true
+is_read s = false
+
 -- a section whose bytes are meant as they stand: it isn't loaded and isn't read. The section name table and the link to a
 -- debug file are left out, since they say how the sections are divided between files.
 abbrev pub is_other : ViewSection → Bool
-is_other s = not (s.alloc || s.is_name_table || is_some (debug_section s.name) || same_text s.name debug_link)
+is_other s = not (s.alloc || s.is_name_table || is_read (debug_section s.name) || same_text s.name debug_link)
 
 -- the bytes of a section, under its name
 pub record NamedBytes : Type 0 where
