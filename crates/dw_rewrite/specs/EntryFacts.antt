@@ -1,5 +1,5 @@
 -- One unit of one entry, by the bytes from its place on: its header, its table of abbreviations, its one entry.
-use Rattle.std.specs.Prelude.{◌≡◌, ℕ, zero, suc, ◌+◌, ◌*◌, ◌<◌, ◌≤◌, List, [], ◌∷◌, ◌++◌, length, drop, nat_lt, Some, IsTrue}
+use Rattle.std.specs.Prelude.{◌≡◌, ℕ, zero, suc, ◌+◌, ◌*◌, ◌<◌, ◌≤◌, List, [], ◌∷◌, ◌++◌, length, drop, Some, IsTrue}
 use Rattle.dw_base.specs.EntryUnits.{EntryUnits, first_names, first_table}
 use Rattle.dw_base.specs.Lebs.{uleb, uleb_within}
 use Rattle.dw_base.specs.Numbers.{spelled}
