@@ -1,0 +1,5 @@
+pub mod NoteLaws
+pub mod TextLaws
+pub mod SectionLaws
+pub mod OwnLaws
+pub mod IdLaws
