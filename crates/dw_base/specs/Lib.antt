@@ -54,9 +54,6 @@ pub mod TextChanges
 pub mod EntryValues
 pub mod DataFails
 pub mod DataOutput
-pub mod DebugSections
-pub mod DebugSectionFails
-pub mod FileViews
 pub mod ViewData
 pub mod FileMeanings
 pub mod FileFails

@@ -28,7 +28,6 @@ mod shared;
 mod texts;
 mod units;
 mod values;
-mod texts;
 mod view_fields;
 
 pub use debug_sections::{DebugRow, DebugSection, LISTED_COUNT, READ_SECTIONS, listed_number};
@@ -41,5 +40,4 @@ pub use shared::{Class, Order, Params, Width};
 pub use texts::nul_end;
 pub use units::{Scanned, UnitHeader};
 pub use values::{Spec, Value, ValueClass};
-pub use texts::nul_end;
 pub use view_fields::Field;

@@ -12,12 +12,6 @@
 //! let joined = join_path(alloc, b"/build/p", b"../p/a.c")?; // /build/p/../p/a.c
 //! let cleaned = clean_path(alloc, &joined)?; // /build/p/a.c
 //! let mapped = map_path(alloc, &maps, &cleaned)?; // /usr/src/debug/p/a.c
-//! Read first: `dw_base/specs/Paths.antt`.
-//!
-//! ```rust
-//! let maps = Maps::new(alloc, b"/build/p/", b"/usr/src/debug/p")?.unwrap();
-//! assert_eq!(map_path(alloc, &maps, b"/build/p/a.c")?.as_slice(), b"/usr/src/debug/p/a.c");
-//! assert_eq!(map_path(alloc, &maps, b"/build/pq/a.c")?.as_slice(), b"/build/pq/a.c");
 //! ```
 #![tactic(auto)]
 
