@@ -1,0 +1,17 @@
+pub mod Formats
+pub mod OneField
+pub mod Words
+pub mod Numerals
+pub mod DigitLaws
+pub mod RisingTexts
+pub mod KeyReader
+pub mod ManyReader
+pub mod JobReader
+pub mod TextReaders
+pub mod FieldRules
+pub mod SlashRules
+pub mod PathRules
+pub mod Loops
+pub mod WholeLaws
+pub mod WriteRules
+pub mod KeyRules
