@@ -143,7 +143,11 @@ pub size-excludes : (params : Params) (spec : Spec) (bytes : List ℕ) (section 
 size-excludes params spec bytes section start n e r f = size-some (value_at params spec bytes start) n e (form_fails-none params spec bytes section start r f)
 
 pub ruleset kind_laws = (kind-refused)
+
 pub ruleset front_laws = (front-is, front-cut, front-again, front-implicit, front-refused, front-value)
+
 pub ruleset own_laws = (own-value, own-refused, own-size)
+
 pub ruleset size_laws = (size-refused)
+
 pub ruleset public_laws = (value-excludes, size-excludes, form_fails-none)

@@ -3,20 +3,20 @@
 ghost use Rattle.std.specs.Prelude.{◌≡◌, IsTrue};
 ghost use Rattle.dw_base.specs.Forms.{kind_in, reference_size, width_size};
 ghost use Rattle.dw_base.specs.UnitHeaders.{is_address_size};
-ghost use Rattle.dw_forms.specs.Kinds.{as_kind, HasFields};
+ghost use Rattle.dw_forms.specs.Kinds.{as_kind, refused_as, HasFields};
 
 use dw_base::dwarf_numbers::{
     DW_FORM_GNU_ref_alt, DW_FORM_GNU_strp_alt, DW_FORM_addr, DW_FORM_addrx, DW_FORM_addrx1,
     DW_FORM_addrx2, DW_FORM_addrx3, DW_FORM_addrx4, DW_FORM_block, DW_FORM_block1, DW_FORM_block2,
-    DW_FORM_block4, DW_FORM_data1, DW_FORM_data16, DW_FORM_data2, DW_FORM_data4, DW_FORM_data8,
+    DW_FORM_block4, DW_FORM_data1, DW_FORM_data2, DW_FORM_data4, DW_FORM_data8, DW_FORM_data16,
     DW_FORM_exprloc, DW_FORM_flag, DW_FORM_flag_present, DW_FORM_implicit_const, DW_FORM_indirect,
-    DW_FORM_line_strp, DW_FORM_loclistx, DW_FORM_ref1, DW_FORM_ref2, DW_FORM_ref4, DW_FORM_ref8,
-    DW_FORM_ref_addr, DW_FORM_ref_sig8, DW_FORM_ref_sup4, DW_FORM_ref_sup8, DW_FORM_ref_udata,
+    DW_FORM_line_strp, DW_FORM_loclistx, DW_FORM_ref_addr, DW_FORM_ref_sig8, DW_FORM_ref_sup4,
+    DW_FORM_ref_sup8, DW_FORM_ref_udata, DW_FORM_ref1, DW_FORM_ref2, DW_FORM_ref4, DW_FORM_ref8,
     DW_FORM_rnglistx, DW_FORM_sdata, DW_FORM_sec_offset, DW_FORM_string, DW_FORM_strp,
     DW_FORM_strp_sup, DW_FORM_strx, DW_FORM_strx1, DW_FORM_strx2, DW_FORM_strx3, DW_FORM_strx4,
     DW_FORM_udata,
 };
-use dw_base::{Params, ValueClass, Width};
+use dw_base::{Kind, Params, ValueClass, Width};
 
 /// What a value of a form is.
 #[derive(Clone, Copy)]
@@ -128,5 +128,16 @@ pub(crate) fn form_kind(form: u64, params: &Params) -> FormKind
         DW_FORM_GNU_ref_alt => FormKind::Supplementary,
         DW_FORM_GNU_strp_alt => FormKind::Supplementary,
         _ => FormKind::Unlisted,
+    }
+}
+
+/// As what a value of a kind is refused where none stands.
+pub(crate) fn refused_kind(kind: FormKind) -> Kind
+    ensures kind { result ≡ refused_as (as_kind kind) }
+{
+    match kind {
+        FormKind::Unlisted => Kind::Form,
+        FormKind::Supplementary => Kind::Supplementary,
+        _ => Kind::Entry,
     }
 }

@@ -20,10 +20,11 @@
 //! ```
 #![tactic(auto)]
 
+mod fixed;
+mod kind_sizes;
+mod kind_values;
 mod kinds;
-mod reads;
-mod sizes;
+mod size;
 mod value;
 
 pub use dw_base::{Kind, Order, Params, Refusal, Spec, Value, ValueClass, Width};
-

@@ -8,7 +8,7 @@ ghost use Rattle.dw_base.specs.Values.{bare_value, block_value, counted_leb_valu
 ghost use Rattle.dw_forms.specs.Kinds.{as_kind, HasFields};
 
 use crate::kinds::FormKind;
-use dw_base::{number_at, sleb_at, uleb_at, Order, Value, ValueClass};
+use dw_base::{Order, Value, ValueClass, number_at, sleb_at, uleb_at};
 use dw_strings::text_at;
 
 /// A number of a class, in `size` bytes.

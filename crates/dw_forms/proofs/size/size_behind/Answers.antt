@@ -1,7 +1,7 @@
 -- The size of the value takes in its form.
 use Rattle.std.proofs.Common.{sym}
 use Rattle.dw_forms.proofs.KindLaws.{front-size}
-use Rattle.dw_forms.proofs.value.size_behind.Goals as goal
+use Rattle.dw_forms.proofs.size.size_behind.Goals as goal
 
 pub returns-in_ok-behind-in_default-kind-clause-size : goal.returns-in_ok-behind-in_default-kind-clause-size
 returns-in_ok-behind-in_default-kind-clause-size c =

@@ -8,7 +8,7 @@ ghost use Rattle.dw_forms.specs.Kinds.{as_kind, HasFields};
 ghost use Rattle.dw_forms.specs.Reads.{read_length, room_size};
 
 use crate::kinds::FormKind;
-use dw_base::{number_at, sleb_at, uleb_at, Order};
+use dw_base::{Order, number_at, sleb_at, uleb_at};
 use dw_strings::text_at;
 
 /// `size` bytes.
