@@ -1,7 +1,7 @@
 -- Laws of forms whose values take as many bytes everywhere.
 use Rattle.std.proofs.Common.{◌≡◌, ℕ, ℤ, ◌+◌, Bool, true, false, if◌then◌else◌, nat_le, List, length, Option, Some, None, refl, sym, ap, ◌∙◌, arith, subst}
 use Rattle.dw_base.specs.Forms.{ValueKind, number_of, leb_number, signed_leb, block_of, counted, counted_leb, inline_text, text_offset, present, in_abbreviation, form_in_front, supplementary, unlisted, kind_in}
-use Rattle.dw_base.specs.Values.{block_value, offset_class, signed_bits, value_at, value_of, value_size}
+use Rattle.dw_base.specs.Values.{block_value, offset_class, signed_bits, value_of, value_size}
 use Rattle.dw_base.specs.declared.shared.Order.{Order}
 use Rattle.dw_base.specs.declared.shared.Params.{Params}
 use Rattle.dw_base.specs.declared.values.Spec.{Spec}

@@ -8,7 +8,6 @@ use Rattle.dw_base.specs.Lebs.{uleb_at}
 use Rattle.dw_base.specs.Refusals.{at}
 use Rattle.dw_base.specs.Values.{behind, chosen_value, value_at, value_by, value_of, value_size}
 use Rattle.dw_base.proofs.FormLaws.{value_by-own, chosen_value-own, form_excludes, form_fails-none}
-use Rattle.dw_base.specs.declared.fault.Kind.{Kind}
 use Rattle.dw_base.specs.declared.fault.Kind.TheVariants.{Entry, Form}
 use Rattle.dw_base.specs.declared.fault.Refusal.{Refusal}
 use Rattle.dw_base.specs.declared.shared.Params.{Params}

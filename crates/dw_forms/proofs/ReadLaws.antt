@@ -1,9 +1,9 @@
 -- Laws of values at a place: their sizes, and that they lie within the bytes.
-use Rattle.std.proofs.Common.{◌≡◌, ℕ, ℤ, ◌+◌, ◌<◌, ◌≤◌, Bool, true, false, if◌then◌else◌, nat_le, List, length, drop, Option, Some, None, refl, sym, ap, ◌∙◌, arith}
+use Rattle.std.proofs.Common.{◌≡◌, ℕ, ℤ, ◌+◌, ◌≤◌, Bool, true, false, if◌then◌else◌, nat_le, List, length, drop, Option, Some, None, refl, ap, ◌∙◌, arith}
 use Rattle.std.proofs.lemmas.List.{length-drop}
 use Rattle.dw_base.specs.Lebs.{uleb_at, sleb_at}
 use Rattle.dw_base.specs.Numbers.{number_at, spelled}
-use Rattle.dw_base.specs.Texts.{text_in, ends_in, text, has_nul}
+use Rattle.dw_base.specs.Texts.{text_in, ends_in}
 use Rattle.dw_base.specs.Values.{bare_value, leb_value_at, number_value, signed_value_at, value_size}
 use Rattle.dw_base.proofs.TextLaws.{length-text}
 use Rattle.dw_base.specs.declared.shared.Order.{Order}
