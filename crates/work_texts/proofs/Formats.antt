@@ -1,6 +1,9 @@
 -- Formats: what a reader has to do to read texts of some fields exactly, and that readers one after
 -- another do it where each does.
 use Rattle.std.proofs.Common.{◌≡◌, ℕ, List, [], ◌∷◌, ◌++◌, length, Result, Ok, Err, refl, sym, ap, subst, ◌∙◌, append_assoc}
+use Rattle.std.specs.List.{AllByRecursion}
+use Rattle.std.proofs.Common.{false}
+use Rattle.dw_base.specs.Texts.{has_nul}
 use Rattle.dw_base.proofs.TextLaws.{laid_texts-append}
 use Rattle.work_texts.specs.Fields.{Field, text_of}
 use Rattle.work_texts.specs.BadFields.{Begins}
@@ -35,11 +38,20 @@ pub record BadField {X : Type 0} (fields : X → List Field) (Fits : X → Type 
   pub begins : Begins fields Fits good
   pub no_field : (f : Field) (behind : List ℕ) → bad ≡ f ++ 0 ∷ behind → (x : X) (more : List Field) → Fits x → fields x ≡ good ++ f ∷ more → ⊥
 
+-- no field has a NUL
+abbrev pub AllBare : List Field → Type 0
+AllBare fs = AllByRecursion (λ f. has_nul f ≡ false) fs
+
+bare_append : (fs gs : List Field) → AllBare fs → AllBare gs → AllBare (fs ++ gs)
+bare_append [] gs a b = b
+bare_append (f ∷ fs) gs a b = (a.0, bare_append fs gs a.1 b)
+
 -- what is read is spelled so, what is spelled so is read, and else the first bad field is found
 pub record IsReader {X : Type 0} (fields : X → List Field) (Fits : X → Type 0) (read : List ℕ → Reading X) : Type 0 where
   pub takes : (bytes : List ℕ) (x : X) (rest : List ℕ) → read bytes ≡ Ok (x, rest) → (bytes ≡ text_of (fields x) ++ rest) × Fits x
   pub again : (x : X) (rest : List ℕ) → Fits x → read (text_of (fields x) ++ rest) ≡ Ok (x, rest)
   pub bad : (bytes : List ℕ) (left : ℕ) → read bytes ≡ Err left → BadField fields Fits bytes left
+  pub bare : (x : X) → Fits x → AllBare (fields x)
   pub sample : X
   pub fits : Fits sample
 
@@ -48,7 +60,7 @@ pub text_of-append : (fs gs : List Field) (rest : List ℕ) → text_of (fs ++ g
 text_of-append fs gs rest = ap (λ (t : List ℕ). t ++ rest) (laid_texts-append fs gs) ∙ append_assoc (text_of fs) (text_of gs) rest
 
 -- what stands in front of equal lists can be taken off
-append-cancel : {A : Type 0} (a b c : List A) → a ++ b ≡ a ++ c → b ≡ c
+pub append-cancel : {A : Type 0} (a b c : List A) → a ++ b ≡ a ++ c → b ≡ c
 append-cancel [] b c e = e
 append-cancel (x ∷ a) b c e = append-cancel a b c (let t : a ++ b ≡ a ++ c = cc in t)
 
@@ -63,6 +75,7 @@ nothing_reader {X} Fits x fits only = record {
       (left, subst Fits is fits);
   again = λ y rest f. ap (λ (z : X). Ok (z, rest)) (sym (only y f));
   bad = λ bytes left e. absurd cc;
+  bare = λ y f. tt;
   sample = x;
   fits = fits;
 }
@@ -85,6 +98,7 @@ same_reader {X} fields other Fits read same r = record {
         begins = (g.0, g.1, g.2, sym (same g.0 g.2) ∙ g.3);
         no_field = λ f behind h x more fit e. b.no_field f behind h x more fit (same x fit ∙ e);
       };
+  bare = λ x f. subst AllBare (same x f) (r.bare x f);
   sample = r.sample;
   fits = r.fits;
 }
@@ -105,6 +119,7 @@ refit_reader fields Fits Other read to from r = record {
         begins = (g.0, g.1, to g.0 g.2, g.3);
         no_field = λ f behind h x more fit e. b.no_field f behind h x more (from x fit) e;
       };
+  bare = λ x f. r.bare x (from x f);
   sample = r.sample;
   fits = to r.sample r.fits;
 }
@@ -222,6 +237,7 @@ then_reader {A} {X} fa FA first rest Fits read k p =
       takes = λ bytes x r e. then_takes fa FA first rest Fits read k p bytes x r e;
       again = λ x r f. then_again fa FA first rest Fits read k p x r f;
       bad = λ bytes left e. then_bad fa FA first rest Fits read k p bytes left (bind_err (read bytes) (λ a. k a.0 a.1) left e);
+      bare = λ x f. bare_append (fa (first x)) (rest x) (p.reader.bare (first x) (p.has x f)) ((p.next (first x) (p.has x f)).bare x (f, refl));
       sample = s.sample;
       fits = s.fits.0;
     }

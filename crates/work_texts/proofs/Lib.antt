@@ -15,3 +15,4 @@ pub mod Loops
 pub mod WholeLaws
 pub mod WriteRules
 pub mod KeyRules
+pub mod OnePlace

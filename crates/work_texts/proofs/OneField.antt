@@ -132,6 +132,7 @@ value_reader parse spell Fits s = record {
   takes = λ bytes x rest e. value_takes parse spell Fits s bytes x rest e;
   again = λ x rest fit. ap (value_at parse) (append_assoc (spell x) (0 ∷ []) rest) ∙ value_again parse spell Fits s x rest fit;
   bad = λ bytes left e. value_bad parse spell Fits s bytes left (bind_err (field_at bytes) (λ f. valued (length bytes) (parse f.0) f.1) left e);
+  bare = λ x fit. (s.bare x fit, tt);
   sample = s.sample;
   fits = s.fits;
 }
