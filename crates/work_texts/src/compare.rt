@@ -2,7 +2,6 @@
 //!
 //! Read first: `specs/Keys.antt`.
 ghost use Rattle.std.specs.Prelude.{◌≡◌, ◌↔◌, IsTrue, IsOk, IfErr, IfOk, OnOk};
-ghost use Rattle.std.specs.String.{string_bytes};
 ghost use Rattle.std.specs.Fmt.{decimal};
 ghost use Rattle.work_texts.specs.Keys.{IsOtherRun, KeyBlames};
 

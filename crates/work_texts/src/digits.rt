@@ -1,7 +1,7 @@
 //! Digests and ids as fields: lower-case hexadecimal digits (this project's profile).
 //!
 //! Read first: `specs/Reading.antt`.
-ghost use Rattle.std.specs.Prelude.{◌≡◌, ◌≤◌, ℕ, List, length, IfOk, IfErr, option_map};
+ghost use Rattle.std.specs.Prelude.{◌≡◌, ℕ, List, length, IfOk, IfErr, option_map};
 ghost use Rattle.hex.specs.Hex.{decode_of, encode_lower};
 ghost use Rattle.dw_base.specs.Texts.{same_text};
 ghost use Rattle.work_texts.specs.Lists.{bytes_of};

@@ -3,8 +3,7 @@
 //! **This layer promises**: each reader answers the value of the first field and the bytes behind it,
 //! or how many bytes are left at the field that is bad.
 //! Read first: `specs/Reading.antt`.
-ghost use Rattle.std.specs.Prelude.{◌≡◌, ◌≤◌, ◌==◌, ◌∷◌, position, IfOk, MatchOption, option_map, true, false, codes};
-ghost use Rattle.dw_base.specs.Texts.{has_nul, text};
+ghost use Rattle.std.specs.Prelude.{◌≡◌, ◌==◌, position};
 ghost use Rattle.work_texts.specs.Reading.{Gives, field_at, value_at, word_in, choice_in, text_in};
 
 use crate::stop::Stop;

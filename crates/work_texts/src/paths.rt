@@ -1,7 +1,7 @@
 //! Paths as fields: the sides of a prefix map, paths of jobs, names of sources (this project's profile).
 //!
 //! Read first: `specs/Rules.antt`, `specs/Reading.antt`.
-ghost use Rattle.std.specs.Prelude.{◌≡◌, not, true, false, ℕ, List, IfOk, MatchOption, map};
+ghost use Rattle.std.specs.Prelude.{◌≡◌, not, true, false, MatchOption, map};
 ghost use Rattle.std.specs.Str.{is_utf8};
 ghost use Rattle.dw_base.specs.Paths.{is_prefix, without_end_slashes};
 ghost use Rattle.dw_base.specs.Texts.{same_text};

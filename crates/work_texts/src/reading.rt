@@ -1,7 +1,7 @@
 //! The texts of the work folder, read field by field (this project's profile).
 //!
 //! Read first: `specs/Reading.antt`.
-ghost use Rattle.std.specs.Prelude.{◌≡◌, ◌≤◌, ◌^◌, None, codes, length, map};
+ghost use Rattle.std.specs.Prelude.{◌≡◌, ◌≤◌, None, map};
 ghost use Rattle.work_texts.specs.Lists.{bytes_of};
 ghost use Rattle.work_texts.specs.Rules.{path_of, number_limit};
 ghost use Rattle.work_texts.specs.Reading.{Gives, key_at, job_at, source_at, many_at, last_text, itself, plan_at, finished_at};

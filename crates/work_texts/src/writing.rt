@@ -7,12 +7,10 @@ ghost use Rattle.work_texts.specs.Lists.{bytes_of};
 ghost use Rattle.std.specs.Fmt.{decimal};
 ghost use Rattle.hex.specs.Hex.{encode_lower};
 ghost use Rattle.work_texts.specs.Fields.{text_of, flag_field, key_fields, job_fields, plan_fields, finished_fields};
-ghost use Rattle.work_texts.specs.declared.plan.FinishedData.{FinishedData};
 
 use crate::key::RunKey;
 use crate::plan::{JobLine, PlanData};
 use dw_base::NoMemory;
-use file_tree::Blob;
 use std::alloc::{AllocError, Global};
 
 /// Appends a field and its NUL.
