@@ -75,3 +75,7 @@ pub mod EntryRowLaws
 pub mod UnitHeaderLaws
 pub mod ValueLaws
 pub mod UnitOneLaws
+pub mod InlineLaws
+pub mod FormSizeLaws
+pub mod PlainCellLaws
+pub mod TextEditLaws

@@ -1,0 +1,348 @@
+-- The text law, for both plans of tables of texts: where the tables change, each field of an offset names the new text of
+-- its mention, and each path that stands in its value is mapped there. Of files that aren't relocatable.
+use Rattle.std.proofs.Common.{Bool, true, false, ◌≡◌, ℕ, ◌+◌, ◌^◌, ◌<◌, ◌≤◌, List, [], ◌∷◌, ◌++◌, length, drop, IsTrue, not, sym, ap, ◌∙◌, refl, subst, arith, if◌then◌else◌, None, Some, append_assoc}
+use Rattle.std.specs.Bool.{⊤}
+use Rattle.std.proofs.lemmas.List.{length-append, drop_all}
+use Rattle.dw_base.specs.Cells.{Cell, Located, bytes_of, with_bytes, plain_cells, offset_of}
+use Rattle.dw_base.specs.DebugData.{Around}
+use Rattle.dw_base.specs.Forms.{TextSection, in_str, in_line_str, ValueKind, number_of, leb_number, signed_leb, block_of, counted, counted_leb, inline_text, text_offset, present, in_abbreviation, form_in_front, supplementary, unlisted, kind_in, width_size}
+use Rattle.dw_base.specs.InlinePaths.{mapped_inline}
+use Rattle.dw_base.specs.Paths.{PathMap, IsPathMap, mapped_path}
+use Rattle.dw_base.specs.Pieces.{Piece, Chain, EachPiece}
+use Rattle.dw_base.specs.Roles.{Role, fixed, offset, inline_path, role_of_kind, role_of_mode, role_of, Use, is_path_use, use_of}
+use Rattle.dw_base.specs.StringTables.{Mention, Plan, new_text, appending, rebuilding, with_mention, texts_after, place_in, new_table, new_place}
+use Rattle.dw_base.specs.TextChanges.{with_offset, mention_at, mentions_by, mentions_of, TableChange, TableChanges, change_of, moved_field, edited_by, edited_all, NamesTextBy, NamesText, InlineFitsBy, InlineFits}
+use Rattle.dw_base.specs.Texts.{text, has_nul, text_in, ends_in, is_in, same_text, laid_texts}
+use Rattle.dw_base.specs.UnitHeaders.{UnitBase}
+use Rattle.dw_base.specs.UnitPieces.{IsValue, FitsKind, FitsMode, unit_grammar}
+use Rattle.dw_base.specs.UnitStates.{Mode, at_header, at_code, at_values, at_chosen, stuck, UnitState}
+use Rattle.dw_base.specs.declared.shared.Order.{Order}
+use Rattle.dw_base.specs.declared.shared.Width.{Width}
+use Rattle.dw_base.specs.declared.shared.Width.TheVariants.{W32, W64}
+use Rattle.dw_base.specs.Values.{value_of, text_value, offset_class}
+use Rattle.dw_base.specs.declared.values.Spec.{Spec}
+use Rattle.dw_base.specs.declared.values.Value.{Value}
+use Rattle.dw_base.specs.declared.values.ValueClass.TheVariants.{InlineText}
+use Rattle.dw_base.proofs.FormSizeLaws.{is_sized, offset_sized, offset-size}
+use Rattle.dw_base.proofs.InlineLaws.{has_nul-mapped_inline, length-mapped_inline}
+use Rattle.dw_base.proofs.PathLaws.{has_nul-mapped_path}
+use Rattle.dw_base.proofs.PlainCellLaws.{IsPlain, bytes_of-plain, with_bytes-is, length-with_offset, length-plain_cells, offset-put, offset_of-plain}
+use Rattle.dw_base.proofs.TableLaws.{is_in-texts_after, is_in-with_mention}
+use Rattle.dw_base.proofs.TextLaws.{has_nul-append, text-append_nul, has_nul-text, drop-text, has_nul-text_in, same_text-true, text_in-append, ends_in-append, ends_in-inside, text_in-place_in, ends_in-place_in, place_in-lt}
+use Rattle.dw_base.proofs.UnitEditLaws.{Shift, Rewritten, Becomes, UnitsChanged, length-bytes_of, number-there}
+
+-- a plan under which a mention that asks for no place keeps its text, which stays where it is
+pub record KeepsTexts (plan : Plan) (m : PathMap) (table : List ℕ) : Type 0 where
+  pub text : (x : Mention) → plan.asks x ≡ false → new_text m x ≡ x.text
+  pub kept : (x : Mention) → plan.asks x ≡ false → plan.kept ≡ table
+
+-- where old bytes are kept, a mention that asks for no place is no path, or is one that the map leaves as it is
+appending-text : (m : PathMap) (path : Bool) (t : List ℕ) → (appending m []).asks (record { path = path; text = t }) ≡ false → new_text m (record { path = path; text = t }) ≡ t
+appending-text m false t e = refl
+appending-text m true t e = same_text-true (mapped_path m t) t (not_false (same_text (mapped_path m t) t) e)
+  where
+    not_false : (b : Bool) → not b ≡ false → b ≡ true
+    not_false true e = refl
+    not_false false e = cc
+
+pub appending-keeps : (m : PathMap) (table : List ℕ) → KeepsTexts (appending m table) m table
+appending-keeps m table = record { text = λ x e. appending-text m x.path x.text e; kept = λ x e. refl }
+
+-- where tables are rebuilt, each mention asks for a place
+pub rebuilding-keeps : (m : PathMap) (table : List ℕ) → KeepsTexts rebuilding m table
+rebuilding-keeps m table = record { text = λ x e. absurd cc; kept = λ x e. absurd cc }
+
+-- the new text of a mention has no NUL
+has_nul-new_text : (m : PathMap) (path : Bool) (t : List ℕ) → IsPathMap m → has_nul t ≡ false → has_nul (new_text m (record { path = path; text = t })) ≡ false
+has_nul-new_text m true t is none = has_nul-mapped_path m t is none
+has_nul-new_text m false t is none = none
+
+-- a place in a table of at most 2^32 bytes fits an offset
+offset-fits : (w : Width) (size n most : ℕ) → size ≡ width_size w → n < most → most ≤ 2 ^ 32 → n < 256 ^ size
+offset-fits W32 size n most is lt fits = subst (λ (k : ℕ). n < 256 ^ k) (sym is) (omega arith)
+offset-fits W64 size n most is lt fits = subst (λ (k : ℕ). n < 256 ^ k) (sym is) (omega arith)
+
+-- a table after its change
+abbrev pub moved_table : Located → TableChange → Located
+moved_table z c = record { number = z.number; bytes = new_table c.plan c.texts }
+
+-- what holds of the change of a table: it keeps the texts, and the new table has at most 2^32 bytes
+pub record TableMoves (m : PathMap) (c : TableChange) (z : Located) : Type 0 where
+  pub keeps : KeepsTexts c.plan m z.bytes
+  pub small : length (new_table c.plan c.texts) ≤ 2 ^ 32
+
+-- and of the changes of all tables
+pub record TablesMove (c : TableChanges) (around : Around) : Type 0 where
+  pub map : IsPathMap c.map
+  pub str : TableMoves c.map c.str around.str
+  pub line_str : TableMoves c.map c.line_str around.line_str
+
+-- the mention of a field of an offset into a table
+abbrev mention_in : Order → Located → Bool → List Cell → Mention
+mention_in order z path p = record { path = path; text = text_in z.bytes (offset_of order z p) }
+
+-- a field of an offset into a table, of the size that its unit gives it
+record FieldMoves (m : PathMap) (order : Order) (c : TableChange) (z : Located) (path : Bool) (p : List Cell) : Type 0 where
+  map : IsPathMap m
+  moves : TableMoves m c z
+  plain : IsPlain p
+  width : Width
+  size : length p ≡ width_size width
+  names : IsTrue (ends_in z.bytes (offset_of order z p))
+  there : c.plan.asks (mention_in order z path p) ≡ true → is_in c.texts (new_text m (mention_in order z path p)) ≡ true
+
+-- it is another field of the same size, which names the new text in the new table
+record FieldRenamed (m : PathMap) (order : Order) (c : TableChange) (z : Located) (path : Bool) (p q : List Cell) : Type 0 where
+  size : length q ≡ length p
+  says : text_in (new_table c.plan c.texts) (offset_of order (moved_table z c) q) ≡ new_text m (mention_in order z path p)
+  ends : IsTrue (ends_in (new_table c.plan c.texts) (offset_of order (moved_table z c) q))
+
+moved-asked : (m : PathMap) (order : Order) (c : TableChange) (z : Located) (path : Bool) (p : List Cell) → FieldMoves m order c z path p
+    → c.plan.asks (mention_in order z path p) ≡ true
+    → FieldRenamed m order c z path p (with_offset order p (new_place c.plan m c.texts (mention_in order z path p)))
+moved-asked m order c z path p f asks =
+    let t : List ℕ = new_text m (mention_in order z path p) in
+    let here : is_in c.texts t ≡ true = f.there asks in
+    let bare : has_nul t ≡ false = has_nul-new_text m path (text_in z.bytes (offset_of order z p)) f.map (has_nul-text_in z.bytes (offset_of order z p)) in
+    let n : ℕ = length c.plan.kept + place_in c.texts t in
+    let whole = length-append c.plan.kept (laid_texts c.texts) in
+    let within = place_in-lt c.texts t here in
+    let below : n < length (new_table c.plan c.texts) = omega arith in
+    let back : offset_of order (moved_table z c) (with_offset order p n) ≡ n =
+    offset-put order (moved_table z c) p n f.plain (offset-fits f.width (length p) n (length (new_table c.plan c.texts)) f.size below f.moves.small) in
+    record {
+      size = length-with_offset order p n f.plain;
+      says = ap (text_in (new_table c.plan c.texts)) back ∙ text_in-place_in c.plan.kept c.texts t here bare;
+      ends = ap (ends_in (new_table c.plan c.texts)) back ∙ ends_in-place_in c.plan.kept c.texts t here;
+    }
+
+-- of plain cells the offset is the same in each table
+offset-same : (order : Order) (z w : Located) (p : List Cell) → IsPlain p → offset_of order z p ≡ offset_of order w p
+offset-same order z w p h = offset_of-plain order z p h ∙ sym (offset_of-plain order w p h)
+
+moved-stays : (m : PathMap) (order : Order) (c : TableChange) (z : Located) (path : Bool) (p : List Cell) → FieldMoves m order c z path p
+    → c.plan.asks (mention_in order z path p) ≡ false → FieldRenamed m order c z path p p
+moved-stays m order c z path p f none =
+    let at : ℕ = offset_of order z p in
+    let same : new_table c.plan c.texts ≡ z.bytes ++ laid_texts c.texts =
+    ap (λ (k : List ℕ). k ++ laid_texts c.texts) (f.moves.keeps.kept (mention_in order z path p) none) in
+    let inside : at < length z.bytes = ends_in-inside z.bytes at f.names in
+    let moved : offset_of order (moved_table z c) p ≡ at = offset-same order (moved_table z c) z p f.plain in
+    record {
+      size = refl;
+      says = ap (text_in (new_table c.plan c.texts)) moved ∙ ap (λ (t : List ℕ). text_in t at) same
+          ∙ text_in-append z.bytes (laid_texts c.texts) at (omega arith) f.names ∙ sym (f.moves.keeps.text (mention_in order z path p) none);
+      ends = ap (ends_in (new_table c.plan c.texts)) moved ∙ ap (λ (t : List ℕ). ends_in t at) same
+          ∙ ends_in-append z.bytes (laid_texts c.texts) at (omega arith) f.names;
+    }
+
+field-moves : (m : PathMap) (order : Order) (c : TableChange) (z : Located) (path : Bool) (p : List Cell) → FieldMoves m order c z path p
+    → FieldRenamed m order c z path p (moved_field c m order (mention_in order z path p) p)
+field-moves m order c z path p f = by_asks (c.plan.asks (mention_in order z path p)) refl
+  where
+    by_asks : (b : Bool) → c.plan.asks (mention_in order z path p) ≡ b
+        → FieldRenamed m order c z path p (if b then with_offset order p (new_place c.plan m c.texts (mention_in order z path p)) else p)
+    by_asks true e = moved-asked m order c z path p f e
+    by_asks false e = moved-stays m order c z path p f e
+
+-- the change of the tables, as a change of what stands around the units
+abbrev pub shift_of : TableChanges → Around → Shift
+shift_of c around = record {
+  map = c.map;
+  old = around;
+  new = record { lasting = around.lasting; str = moved_table around.str c.str; line_str = moved_table around.line_str c.line_str };
+  lasting = refl;
+}
+
+-- the new texts have the text that cells of a role ask for
+abbrev Provided : Role → TableChanges → Around → List Cell → Type 0
+Provided (offset table path) c around p =
+    (change_of c table).plan.asks (mention_at around table path p) ≡ true
+    → is_in (change_of c table).texts (new_text c.map (mention_at around table path p)) ≡ true
+Provided r c around p = ⊤
+
+-- a field of an offset
+offset-moves : (table : TextSection) (path : Bool) (c : TableChanges) (around : Around) (p : List Cell) (w : Width) → TablesMove c around → IsPlain p
+    → length p ≡ width_size w → NamesTextBy (offset table path) around p → Provided (offset table path) c around p
+    → Becomes (offset table path) (shift_of c around) p (edited_by (offset table path) c around p)
+offset-moves in_str path c around p w t plain size names there =
+    let f = field-moves c.map around.lasting.base.order c.str around.str path p
+    (record { map = t.map; moves = t.str; plain = plain; width = w; size = size; names = names; there = there }) in
+    record { size = f.size; says = f.says; ends = f.ends }
+offset-moves in_line_str path c around p w t plain size names there =
+    let f = field-moves c.map around.lasting.base.order c.line_str around.line_str path p
+    (record { map = t.map; moves = t.line_str; plain = plain; width = w; size = size; names = names; there = there }) in
+    record { size = f.size; says = f.says; ends = f.ends }
+
+-- a text that stands in its value
+text-there : (bs : List ℕ) (v : Value) → text_value bs 0 ≡ Some v → (ends_in bs 0 ≡ true) × (v.size ≡ length (text_in bs 0) + 1)
+text-there bs v e = by_end (ends_in bs 0) refl e
+  where
+    text_size : ℕ → Value
+    text_size n = record { class = InlineText; number = 0; at = 0; len = n; size = n + 1 }
+
+    by_end : (b : Bool) → ends_in bs 0 ≡ b → (if b then Some (text_size (length (text_in bs 0))) else None) ≡ Some v → (ends_in bs 0 ≡ true) × (v.size ≡ length (text_in bs 0) + 1)
+    by_end true is e = (is, cc)
+    by_end false is e = absurd cc
+
+-- the bytes of one are the text and its NUL
+text-bytes : (bs : List ℕ) → has_nul bs ≡ true → length (text bs) + 1 ≡ length bs → drop (length (text bs)) bs ≡ 0 ∷ []
+text-bytes bs nul size =
+    drop-text bs nul ∙ ap (λ (rest : List ℕ). 0 ∷ rest) (drop_all (length (text bs) + 1) bs (omega (arith, size)))
+
+text-in-front : (bs : List ℕ) → (ends_in bs 0 ≡ has_nul bs) × (text_in bs 0 ≡ text bs)
+unfolding ends_in text_in
+text-in-front bs = (refl, refl)
+
+nul-behind : (u : List ℕ) → has_nul u ≡ false → has_nul (u ++ 0 ∷ []) ≡ true
+nul-behind u bare = has_nul-append u (0 ∷ []) ∙ rw bare refl
+
+-- a path that stands in its value, mapped in its room
+inline-moves : (c : TableChanges) (around : Around) (s : UnitState) (x : Spec) (p : List Cell) → IsPathMap c.map → IsPlain p → IsValue s x inline_text p
+    → InlineFitsBy inline_path c.map p → Rewritten (shift_of c around) p (edited_by inline_path c around p)
+unfolding value_of
+inline-moves c around s x p is_map plain f fits =
+    let bs : List ℕ = bytes_of p in
+    let t : List ℕ = text (bytes_of p) in
+    let u : List ℕ = mapped_inline c.map (text (bytes_of p)) in
+    let there = text-there (bytes_of p) f.value f.is in
+    let front = text-in-front (bytes_of p) in
+    let nul : has_nul (bytes_of p) ≡ true = sym front.0 ∙ there.0 in
+    let size : length (text (bytes_of p)) + 1 ≡ length p = ap (λ (y : List ℕ). length y + 1) (sym front.1) ∙ sym there.1 ∙ f.size in
+    let whole : length (text (bytes_of p)) + 1 ≡ length (bytes_of p) = size ∙ sym (length-bytes_of p) in
+    let room : length (mapped_inline c.map (text (bytes_of p))) ≡ length (text (bytes_of p)) = length-mapped_inline c.map (text (bytes_of p)) fits in
+    let bare : has_nul (mapped_inline c.map (text (bytes_of p))) ≡ false = has_nul-mapped_inline c.map (text (bytes_of p)) is_map (has_nul-text (bytes_of p)) in
+    let new : with_bytes p (mapped_inline c.map (text (bytes_of p))) ≡ plain_cells (mapped_inline c.map (text (bytes_of p)) ++ 0 ∷ []) =
+    with_bytes-is p (mapped_inline c.map (text (bytes_of p))) plain (omega (arith, room, size))
+    ∙ ap (λ (n : ℕ). plain_cells (mapped_inline c.map (text (bytes_of p)) ++ drop n (bytes_of p))) room
+    ∙ ap (λ (rest : List ℕ). plain_cells (mapped_inline c.map (text (bytes_of p)) ++ rest)) (text-bytes (bytes_of p) nul whole) in
+    let bytes : bytes_of (with_bytes p (mapped_inline c.map (text (bytes_of p)))) ≡ mapped_inline c.map (text (bytes_of p)) ++ 0 ∷ [] =
+    ap bytes_of new ∙ bytes_of-plain (mapped_inline c.map (text (bytes_of p)) ++ 0 ∷ []) in
+    let says : text (bytes_of (with_bytes p (mapped_inline c.map (text (bytes_of p))))) ≡ mapped_inline c.map (text (bytes_of p)) =
+    ap text bytes ∙ text-append_nul (mapped_inline c.map (text (bytes_of p))) [] bare in
+    let length_new : length (with_bytes p (mapped_inline c.map (text (bytes_of p)))) ≡ length (mapped_inline c.map (text (bytes_of p))) + 1 =
+    ap length new ∙ length-plain_cells (mapped_inline c.map (text (bytes_of p)) ++ 0 ∷ []) ∙ length-append (mapped_inline c.map (text (bytes_of p))) (0 ∷ []) in
+    let front_new = text-in-front (bytes_of (with_bytes p (mapped_inline c.map (text (bytes_of p))))) in
+    record {
+      size = omega (arith, length_new, room, size);
+      ends = front_new.0 ∙ ap has_nul bytes ∙ nul-behind (mapped_inline c.map (text (bytes_of p))) bare;
+      whole = ap (λ (y : List ℕ). length y + 1) (front_new.1 ∙ says) ∙ sym length_new;
+      says = says;
+    }
+
+-- an offset's size in its unit
+offset-length : (s : UnitState) (x : Spec) (table : TextSection) (n : ℕ) (p : List Cell) → IsValue s x (text_offset table n) p → length p ≡ n
+unfolding value_of
+offset-length s x table n p f =
+    sym f.size ∙ (number-there s.header.params.order (bytes_of p) (offset_class table) n f.value f.is).1
+
+inline-role : (b : Bool) (c : TableChanges) (around : Around) (s : UnitState) (x : Spec) (p : List Cell) → IsPathMap c.map → IsPlain p → IsValue s x inline_text p
+    → InlineFitsBy (if b then inline_path else fixed) c.map p
+    → Becomes (if b then inline_path else fixed) (shift_of c around) p (edited_by (if b then inline_path else fixed) c around p)
+inline-role true c around s x p is_map plain f fits = inline-moves c around s x p is_map plain f fits
+inline-role false c around s x p is_map plain f fits = refl
+
+-- cells of a value
+value-moves : (k : ValueKind) (u : Use) (c : TableChanges) (around : Around) (s : UnitState) (x : Spec) (p : List Cell) → TablesMove c around → IsPlain p
+    → is_sized s.header.params.width k ≡ true → FitsKind k s x p → NamesTextBy (role_of_kind k u) around p → InlineFitsBy (role_of_kind k u) c.map p
+    → Provided (role_of_kind k u) c around p → Becomes (role_of_kind k u) (shift_of c around) p (edited_by (role_of_kind k u) c around p)
+value-moves (text_offset table n) u c around s x p t plain sized f names fits there =
+    offset-moves table (is_path_use u) c around p s.header.params.width t plain
+    (offset-length s x table n p f ∙ offset-size s.header.params (text_offset table n) table n sized refl) names there
+value-moves inline_text u c around s x p t plain sized f names fits there = inline-role (is_path_use u) c around s x p t.map plain f fits
+value-moves k u c around s x p t plain sized f names fits there = refl
+
+-- a value whose form was read fits as a value of its kind
+chosen-fits : (k : ValueKind) (s : UnitState) (x : Spec) (p : List Cell) → IsValue s x k p → FitsKind k s x p
+unfolding value_of
+chosen-fits form_in_front s x p f = absurd (none-some f.value f.is)
+  where
+    none-some : (v : Value) → None ≡ Some v → ⊥
+    none-some v e = cc
+chosen-fits (number_of class n) s x p f = f
+chosen-fits (leb_number class) s x p f = f
+chosen-fits signed_leb s x p f = f
+chosen-fits (block_of n) s x p f = f
+chosen-fits (counted n) s x p f = f
+chosen-fits counted_leb s x p f = f
+chosen-fits inline_text s x p f = f
+chosen-fits (text_offset table n) s x p f = f
+chosen-fits present s x p f = f
+chosen-fits in_abbreviation s x p f = f
+chosen-fits supplementary s x p f = f
+chosen-fits unlisted s x p f = f
+
+-- cells of a mode
+mode-moves : (m : Mode) (base : UnitBase) (s : UnitState) (c : TableChanges) (around : Around) (p : List Cell) → TablesMove c around → IsPlain p
+    → FitsMode m base s p → NamesTextBy (role_of_mode m s.header.params) around p → InlineFitsBy (role_of_mode m s.header.params) c.map p
+    → Provided (role_of_mode m s.header.params) c around p
+    → Becomes (role_of_mode m s.header.params) (shift_of c around) p (edited_by (role_of_mode m s.header.params) c around p)
+mode-moves at_header base s c around p t plain f names fits there = refl
+mode-moves at_code base s c around p t plain f names fits there = refl
+mode-moves (at_values n tag []) base s c around p t plain f names fits there = refl
+mode-moves (at_values n tag (x ∷ xs)) base s c around p t plain f names fits there =
+    value-moves (kind_in s.header.params x.form) (use_of n tag x.name) c around s x p t plain (offset_sized s.header.params x.form) f names fits there
+mode-moves (at_chosen n tag start x xs) base s c around p t plain f names fits there =
+    value-moves (kind_in s.header.params x.form) (use_of n tag x.name) c around s x p t plain (offset_sized s.header.params x.form)
+    (chosen-fits (kind_in s.header.params x.form) s x p f) names fits there
+mode-moves stuck base s c around p t plain f names fits there = refl
+
+-- texts after mentions, and after more of them
+texts_after-append : (plan : Plan) (m : PathMap) (ts : List (List ℕ)) (xs ys : List Mention)
+    → texts_after plan m ts (xs ++ ys) ≡ texts_after plan m (texts_after plan m ts xs) ys
+texts_after-append plan m ts [] ys = refl
+texts_after-append plan m ts (x ∷ xs) ys = texts_after-append plan m (with_mention plan m ts x) xs ys
+
+-- the new texts of the tables are those after these mentions, from these texts on
+pub record TextsAre (c : TableChanges) (ts us : List (List ℕ)) (ms ns : List Mention) : Type 0 where
+  pub str : c.str.texts ≡ texts_after c.str.plan c.map ts ms
+  pub line_str : c.line_str.texts ≡ texts_after c.line_str.plan c.map us ns
+
+-- each text that is asked for is among those after all mentions
+provided : (r : Role) (c : TableChanges) (around : Around) (ts us : List (List ℕ)) (p : List Cell) (ms ns : List Mention)
+    → TextsAre c ts us (mentions_by r in_str around p ++ ms) (mentions_by r in_line_str around p ++ ns) → Provided r c around p
+provided fixed c around ts us p ms ns all = tt
+provided inline_path c around ts us p ms ns all = tt
+provided (offset in_str path) c around ts us p ms ns all = λ asks.
+    let x : Mention = mention_at around in_str path p in
+    subst (λ (vs : List (List ℕ)). is_in vs (new_text c.map x) ≡ true) (sym all.str)
+    (is_in-texts_after c.str.plan c.map (with_mention c.str.plan c.map ts x) ms (new_text c.map x) (is_in-with_mention c.str.plan c.map ts x asks))
+provided (offset in_line_str path) c around ts us p ms ns all = λ asks.
+    let x : Mention = mention_at around in_line_str path p in
+    subst (λ (vs : List (List ℕ)). is_in vs (new_text c.map x) ≡ true) (sym all.line_str)
+    (is_in-texts_after c.line_str.plan c.map (with_mention c.line_str.plan c.map us x) ns (new_text c.map x) (is_in-with_mention c.line_str.plan c.map us x asks))
+
+-- the texts, behind the mentions of a piece
+behind_piece : (c : TableChanges) (ts us : List (List ℕ)) (heres lines ms ns : List Mention) → TextsAre c ts us (heres ++ ms) (lines ++ ns)
+    → TextsAre c (texts_after c.str.plan c.map ts heres) (texts_after c.line_str.plan c.map us lines) ms ns
+behind_piece c ts us heres lines ms ns all = record {
+  str = all.str ∙ texts_after-append c.str.plan c.map ts heres ms;
+  line_str = all.line_str ∙ texts_after-append c.line_str.plan c.map us lines ns;
+}
+
+-- no relocation begins in a piece
+pub record PlainPiece (x : Piece UnitState) : Type 0 where
+  pub plain : IsPlain x.cells
+
+-- the text law, for the pieces of a section
+pub edited-changed : (base : UnitBase) (c : TableChanges) (around : Around) (ts us : List (List ℕ)) (s : UnitState) (xs : List (Piece UnitState))
+    (ms ns : List Mention) → TablesMove c around → TextsAre c ts us (mentions_of in_str around xs ++ ms) (mentions_of in_line_str around xs ++ ns)
+    → Chain (unit_grammar base) s xs → EachPiece PlainPiece xs → EachPiece (NamesText around) xs → EachPiece (InlineFits c.map) xs
+    → UnitsChanged (shift_of c around) xs (edited_all c around xs)
+unfolding role_of
+edited-changed base c around ts us s [] ms ns t all chain plain names fits = tt
+edited-changed base c around ts us s (x ∷ xs) ms ns t all chain plain names fits =
+    let heres : List Mention = mentions_by (role_of x) in_str around x.cells in
+    let lines : List Mention = mentions_by (role_of x) in_line_str around x.cells in
+    let rest : TextsAre c ts us (heres ++ (mentions_of in_str around xs ++ ms)) (lines ++ (mentions_of in_line_str around xs ++ ns)) =
+    record {
+      str = all.str ∙ ap (texts_after c.str.plan c.map ts) (append_assoc heres (mentions_of in_str around xs) ms);
+      line_str = all.line_str ∙ ap (texts_after c.line_str.plan c.map us) (append_assoc lines (mentions_of in_line_str around xs) ns);
+    } in
+    let there = provided (role_of x) c around ts us x.cells (mentions_of in_str around xs ++ ms) (mentions_of in_line_str around xs ++ ns) rest in (
+      record { state = refl; cells = mode-moves x.state.mode base x.state c around x.cells t plain.0.plain chain.1 names.0 fits.0 there },
+      edited-changed base c around (texts_after c.str.plan c.map ts heres) (texts_after c.line_str.plan c.map us lines)
+          ((unit_grammar base).next x.state x.cells) xs ms ns t
+          (behind_piece c ts us heres lines (mentions_of in_str around xs ++ ms) (mentions_of in_line_str around xs ++ ns) rest)
+          chain.2 plain.1 names.1 fits.1,
+    )
