@@ -79,3 +79,4 @@ pub mod InlineLaws
 pub mod FormSizeLaws
 pub mod PlainCellLaws
 pub mod TextEditLaws
+pub mod DataKeptLaws

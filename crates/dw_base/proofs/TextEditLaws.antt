@@ -313,7 +313,7 @@ provided (offset in_line_str path) c around ts us p ms ns all = λ asks.
     (is_in-texts_after c.line_str.plan c.map (with_mention c.line_str.plan c.map us x) ns (new_text c.map x) (is_in-with_mention c.line_str.plan c.map us x asks))
 
 -- the texts, behind the mentions of a piece
-behind_piece : (c : TableChanges) (ts us : List (List ℕ)) (heres lines ms ns : List Mention) → TextsAre c ts us (heres ++ ms) (lines ++ ns)
+pub behind_piece : (c : TableChanges) (ts us : List (List ℕ)) (heres lines ms ns : List Mention) → TextsAre c ts us (heres ++ ms) (lines ++ ns)
     → TextsAre c (texts_after c.str.plan c.map ts heres) (texts_after c.line_str.plan c.map us lines) ms ns
 behind_piece c ts us heres lines ms ns all = record {
   str = all.str ∙ texts_after-append c.str.plan c.map ts heres ms;
