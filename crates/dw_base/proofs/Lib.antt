@@ -80,3 +80,4 @@ pub mod FormSizeLaws
 pub mod PlainCellLaws
 pub mod TextEditLaws
 pub mod DataKeptLaws
+pub mod DataOneLaws
