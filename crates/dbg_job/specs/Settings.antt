@@ -1,0 +1,21 @@
+-- What a user wants done with files, as the options of a command say it. This project's profile.
+use Rattle.std.specs.Prelude.{Bool, ℕ, ◌≤◌, List}
+use Rattle.dw_base.specs.Paths.{PathMap}
+
+-- the longest file that may be asked for, in bytes
+abbrev pub most_file : ℕ
+most_file = 1073741824
+
+-- the prefix map; whether build-ids are made anew, and of which seed; whether a file that is refused is passed over; and the
+-- longest file that is read, in bytes
+pub record Settings : Type 0 where
+  pub maps : PathMap
+  pub build_id : Bool
+  pub seed : List ℕ
+  pub skip : Bool
+  pub max_file : ℕ
+
+-- the limit on files is at least one byte, and within the most that may be asked for
+pub record IsWithin (most : ℕ) : Type 0 where
+  pub least : 1 ≤ most
+  pub greatest : most ≤ most_file

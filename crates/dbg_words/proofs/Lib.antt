@@ -1,0 +1,16 @@
+pub mod BoolLaws
+pub mod DashLaws
+pub mod LookLaws
+pub mod ParserLaws
+pub mod WalkLaws
+pub mod ReadLaws
+pub mod UseLaws
+pub mod TakenLaws
+pub mod DecimalLaws
+pub mod ListLaws
+pub mod ClapRules
+pub mod PathWordLaws
+pub mod StrayLaws
+pub mod ParsedLaws
+pub mod LineLaws
+pub mod WordLaws

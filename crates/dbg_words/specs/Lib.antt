@@ -1,0 +1,6 @@
+pub mod CommandLines
+pub mod PathWords
+pub mod Decimals
+pub mod Dashes
+pub mod Matches
+pub mod Words

@@ -1,0 +1,135 @@
+//! The parser of the crate clap, told of the program's options, and what it finds in words.
+ghost use Rattle.std.specs.Prelude.{◌≡◌, ◌≢◌, false, IfOk, None, [], option_map, unwrap_or, map, codes};
+ghost use Rattle.clap.specs.Words.{app_of, found_of, rows_of, rule_of, first_of, all_of, kind_of};
+ghost use Rattle.clap.specs.declared.error.kind.ErrorKind.TheVariants.{OutOfMemory};
+ghost use Rattle.dbg_words.specs.Matches.{valued_arg, flag_arg, path_arg, options_app, program_app, line_of_rows, is_true_text, taken_line};
+ghost use Rattle.dbg_words.specs.Words.{texts};
+
+use crate::line::Line;
+use clap::builder::ValueParser;
+use clap::error::ErrorKind;
+use clap::{Arg, ArgAction, ArgMatches, Command, Error};
+use dw_base::NoMemory;
+use std::alloc::{AllocError, Global};
+
+/// An option with a value that isn't empty.
+fn valued<'a>(alloc: Global, name: &'a str) -> Arg<'a>
+    ensures rule { rule_of result ≡ valued_arg name.now }
+    ensures local { result.global ≡ false }
+{
+    Arg::new(alloc, name)
+        .long(name)
+        .action(ArgAction::Set)
+        .value_parser(ValueParser::NonEmptyString)
+}
+
+/// An option without a value.
+fn flag<'a>(alloc: Global, name: &'a str) -> Arg<'a>
+    ensures rule { rule_of result ≡ flag_arg name.now }
+    ensures local { result.global ≡ false }
+{
+    Arg::new(alloc, name).long(name).action(ArgAction::SetTrue)
+}
+
+/// The paths.
+fn paths<'a>(alloc: Global) -> Arg<'a>
+    ensures rule { rule_of result ≡ path_arg }
+    ensures local { result.global ≡ false }
+{
+    Arg::new(alloc, "path").action(ArgAction::Append)
+}
+
+/// The program with the options that take a value.
+fn options<'a>(alloc: Global) -> Result<Command<'a>, AllocError>
+    ensures app { IfOk result (λ c. app_of c ≡ options_app) }
+{
+    let command = Command::new(alloc, "deilmuko")
+        .disable_help_flag(true)
+        .arg(valued(alloc, "base-dir"))?
+        .arg(valued(alloc, "dest-dir"))?
+        .arg(valued(alloc, "seed"))?
+        .arg(valued(alloc, "list-file"))?
+        .arg(valued(alloc, "max-file"))?
+        .arg(valued(alloc, "jobs"))?;
+    Ok(command)
+}
+
+/// The program with all its options.
+fn program<'a>(alloc: Global) -> Result<Command<'a>, AllocError>
+    ensures app { IfOk result (λ c. app_of c ≡ program_app) }
+{
+    let command = options(alloc)?
+        .arg(flag(alloc, "build-id"))?
+        .arg(flag(alloc, "skip-refused"))?
+        .arg(paths(alloc))?;
+    Ok(command)
+}
+
+/// The value of an option.
+#[tactic(auto, using(crate::proofs::ClapRules::clap_rules))]
+fn value_of<'a>(matches: &ArgMatches<'a>, name: &str) -> Option<&'a str>
+    ensures value { option_map (λ text. text.now) result ≡ first_of name.now (rows_of (found_of matches.now)) }
+{
+    matches.get_str(name)
+}
+
+/// Whether a flag is set.
+fn is_set(matches: &ArgMatches<'_>, name: &str) -> bool
+    ensures value { result ≡ is_true_text (first_of name.now (rows_of (found_of matches.now))) }
+{
+    match value_of(matches, name) {
+        None => false,
+        Some(text) => text == "true",
+    }
+}
+
+/// The paths, in order.
+#[tactic(auto, using(crate::proofs::ClapRules::clap_rules))]
+fn paths_of<'a>(alloc: Global, matches: &ArgMatches<'a>) -> Result<Vec<&'a str>, AllocError>
+    ensures value { IfOk result (λ v. map (λ text. text.now) v.items ≡ unwrap_or (all_of (codes "path") (rows_of (found_of matches.now))) []) }
+{
+    match matches.get_strs("path") {
+        None => Ok(Vec::new(alloc)),
+        Some(paths) => Vec::from_slice(alloc, paths),
+    }
+}
+
+/// What the matches say of the paths and of each option.
+fn line_of<'a>(alloc: Global, matches: &ArgMatches<'a>) -> Result<Line<'a>, AllocError>
+    ensures value { IfOk result (λ line. line ≡ line_of_rows (rows_of (found_of matches.now))) }
+{
+    Ok(Line {
+        paths: paths_of(alloc, matches)?,
+        base_dir: value_of(matches, "base-dir"),
+        dest_dir: value_of(matches, "dest-dir"),
+        build_id: is_set(matches, "build-id"),
+        seed: value_of(matches, "seed"),
+        list_file: value_of(matches, "list-file"),
+        max_file: value_of(matches, "max-file"),
+        jobs: value_of(matches, "jobs"),
+        skip_refused: is_set(matches, "skip-refused"),
+    })
+}
+
+/// What an error of the parser says: that memory ran out, or that it doesn't take the words.
+fn refused<'a>(error: &Error) -> Result<Option<Line<'a>>, NoMemory>
+    ensures none { IfOk result (λ line. (line ≡ None) × (kind_of error.now ≢ OutOfMemory)) }
+{
+    if error.kind() == ErrorKind::OutOfMemory {
+        return Err(NoMemory);
+    }
+    Ok(None)
+}
+
+/// What the parser finds in the words behind the first, where it takes them.
+pub fn parsed<'a>(alloc: Global, words: &'a [String]) -> Result<Option<Line<'a>>, NoMemory>
+    ensures value { IfOk result (λ line. line ≡ taken_line (texts words.now)) }
+{
+    match program(alloc)?.try_get_matches_from(words) {
+        Ok(matches) => {
+            let line = line_of(alloc, &matches)?;
+            Ok(Some(line))
+        }
+        Err(error) => refused(&error),
+    }
+}
