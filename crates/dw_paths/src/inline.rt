@@ -3,9 +3,9 @@
 //!
 //! `map_inline` answers the definition's path, and `None` exactly where it would be longer.
 
-ghost use Rattle.std.specs.Prelude.{◌≡◌, ◌↔◌, ◌-◌, false, length, IsTrue, IfOk, IfSome, IsSome};
+ghost use Rattle.std.specs.Prelude.{◌≡◌, false, length, option_map, IsTrue, IfOk, IfSome};
 ghost use Rattle.dw_base.specs.Texts.{has_nul};
-ghost use Rattle.dw_paths.specs.InlinePaths.{inline_fits, mapped_inline};
+ghost use Rattle.dw_paths.specs.InlinePaths.{inline_fits, inline_path, mapped_inline};
 
 use crate::maps::{Maps, map_len};
 use crate::prefix::lies_under;
@@ -17,8 +17,7 @@ use std::alloc::Global;
 /// where the mapped path is longer than the old one.
 #[tactic(auto, using(crate::proofs::Rules::inline_rules))]
 pub fn map_inline(alloc: Global, maps: &Maps, text: &[u8]) -> Result<Option<Vec<u8>>, NoMemory>
-    ensures some { IfOk result (λ o. IsSome o ↔ IsTrue (inline_fits maps.now text.now)) }
-    ensures value { IfOk result (λ o. IfSome o (λ path. path.items ≡ mapped_inline maps.now text.now)) }
+    ensures value { IfOk result (λ o. option_map (λ path. path.items) o ≡ inline_path maps.now text.now) }
     ensures len { IfOk result (λ o. IfSome o (λ path. length path.items ≡ length text.now)) }
     ensures no_nul { has_nul text.now ≡ false → IfOk result (λ o. IfSome o (λ path. has_nul path.items ≡ false)) }
 {
