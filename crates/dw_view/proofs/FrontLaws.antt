@@ -1,33 +1,19 @@
 -- Laws of the sections of a file that was read, and of the first bytes of their names.
-use Rattle.std.proofs.Common.{◌≡◌, ◌≢◌, ℕ, zero, suc, ◌+◌, ◌*◌, ◌^◌, ◌<◌, ◌≤◌, ◌==◌, Bool, true, false, cond, List, [], ◌∷◌, ◌++◌, length, get_or, take, drop, min, refl, sym, ap, ◌∙◌, arith, inl, inr}
+use Rattle.std.proofs.Common.{◌≡◌, ◌≢◌, ℕ, zero, suc, ◌+◌, ◌<◌, ◌≤◌, ◌==◌, Bool, true, false, cond, List, [], ◌∷◌, ◌++◌, length, get_or, take, drop, min, refl, sym, ap, ◌∙◌, arith, inl, inr}
 use Rattle.std.specs.List.{starts_with}
 use Rattle.std.proofs.lemmas.Bool.{cases_lt, cases_eq, eq-eqb}
 use Rattle.std.proofs.lemmas.Bool.Decides.{nat_tests}
 use Rattle.std.proofs.lemmas.List.{drop_more, take_more, take-take, take_all, take_at, drop_all, append-nil, append_assoc, length-take-le}
 use Rattle.dw_base.specs.DebugSectionFails.{is_active}
-use Rattle.dw_base.specs.Elf.{class_of, contents_at, contents_of, e_shoff, is_empty_kind, name_index, name_table, nth_section, section_count, section_name, shdr_size}
+use Rattle.dw_base.specs.Elf.{contents_at, contents_of, e_shoff, is_empty_kind, name_index, name_table, nth_section, section_count, section_name}
 use Rattle.dw_base.specs.ElfFails.{DebugReads}
 use Rattle.dw_base.specs.Texts.{same_text, text, text_in}
 use Rattle.dw_base.specs.declared.records.Section.{Section}
-use Rattle.dw_base.specs.declared.shared.Class.{Class}
-use Rattle.dw_base.specs.declared.shared.Class.TheVariants.{C32, C64}
 
--- How many sections there are: each has a header in the file.
+-- without section headers there are no sections
 section_count-none : (b : List ℕ) → e_shoff b ≡ 0 → section_count b ≡ 0
 unfolding section_count
 section_count-none b none = rw none refl
-
-few : (c : Class) (n start len : ℕ) → start + n * shdr_size c ≤ len → len ≤ 2 ^ 31 → n < 2 ^ 31
-few C32 n start len lies small = omega arith
-few C64 n start len lies small = omega arith
-
-pub section_count-few : (b : List ℕ) → DebugReads b → length b ≤ 2 ^ 31 → section_count b < 2 ^ 31
-section_count-few b reads small = elim (cases_eq (e_shoff b) 0) [
-  | inl none ↦ omega (arith, section_count-none b none)
-  | inr some ↦ few (class_of b) (section_count b) (e_shoff b) (length b) (reads.table.lies some) small
-]
-
-pub ruleset count_laws = (section_count-few)
 
 -- where there are sections, there is a section header table
 table_there : (b : List ℕ) (i : ℕ) → i < section_count b → e_shoff b ≢ 0

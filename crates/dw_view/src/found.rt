@@ -5,7 +5,7 @@ ghost use Rattle.dw_base.specs.DebugSections.{name_of};
 ghost use Rattle.dw_base.specs.Elf.{section_count};
 ghost use Rattle.dw_base.specs.FileViews.{is_filled, section_after, section_named, view_of, view_section};
 
-use crate::fronts::{name_front, section_count, section_of, takes_no_room};
+use crate::fronts::name_front;
 use dw_base::{DebugSection, NoMemory};
 use elf_file::ElfFile;
 
@@ -15,7 +15,7 @@ fn is_filled(elf: &ElfFile, index: u32, name: &[u8]) -> bool
     requires there { index < section_count elf.now.bytes.now }
     ensures { result ≡ is_filled name.now (view_section elf.now.bytes.now index) }
 {
-    !takes_no_room(&section_of(elf, index)) && name_front(elf, index, name.len() + 1) == name
+    !elf.section(index).takes_no_room() && name_front(elf, index, name.len() + 1) == name
 }
 
 /// The first section above a number that has a name and bytes; none exactly where there is none.
@@ -23,7 +23,7 @@ fn is_filled(elf: &ElfFile, index: u32, name: &[u8]) -> bool
 pub fn next_filled(elf: &ElfFile, name: &[u8], after: u32) -> Option<u32>
     ensures { result ≡ section_after (view_of elf.now.bytes.now) name.now after }
 {
-    let count = section_count(elf);
+    let count = elf.section_count();
     if after >= count {
         return None;
     }

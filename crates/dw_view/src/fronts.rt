@@ -2,36 +2,13 @@
 //! long it is (gABI ch. 4 "String Table").
 
 ghost use Rattle.std.specs.Prelude.{◌≡◌, ◌<◌, ◌≤◌, length, take};
-ghost use Rattle.dw_base.specs.Elf.{is_empty_kind, nth_section, section_count, section_name};
+ghost use Rattle.dw_base.specs.Elf.{section_count, section_name};
 ghost use Rattle.dw_base.specs.DebugSectionFails.{is_active};
 ghost use Rattle.dw_base.specs.Texts.{text, text_in};
 
 use dw_base::Section;
-use dw_base::elf_numbers::{SHT_NOBITS, SHT_NULL};
+use dw_base::elf_numbers::SHT_NULL;
 use elf_file::ElfFile;
-
-/// How many sections there are.
-#[tactic(auto, using(crate::proofs::FrontLaws::count_laws))]
-pub fn section_count(elf: &ElfFile) -> u32
-    ensures { result ≡ section_count elf.now.bytes.now }
-{
-    elf.sections.len() as u32
-}
-
-/// The section of a number.
-pub fn section_of(elf: &ElfFile, index: u32) -> Section
-    requires there { index < section_count elf.now.bytes.now }
-    ensures { result ≡ nth_section elf.now.bytes.now index }
-{
-    elf.sections[index as usize]
-}
-
-/// The section takes no room in the file: it is of type NULL or NOBITS.
-pub fn takes_no_room(section: &Section) -> bool
-    ensures { result ≡ is_empty_kind section.now }
-{
-    section.kind == SHT_NULL || section.kind == SHT_NOBITS
-}
 
 /// The section's header isn't inactive.
 pub fn is_active(section: &Section) -> bool
@@ -48,7 +25,7 @@ pub fn name_front<'a>(elf: &'a ElfFile, index: u32, size: usize) -> &'a [u8]
 {
     front_at(
         elf.contents(elf.names),
-        u64::from(section_of(elf, index).name),
+        u64::from(elf.section(index).name),
         size,
     )
 }

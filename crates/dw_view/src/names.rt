@@ -9,7 +9,7 @@ ghost use Rattle.dw_base.specs.Layout.{is_loaded_kind};
 ghost use Rattle.dw_base.specs.Refusals.{at};
 ghost use Rattle.dw_view.specs.NamesFit.{FitsAt, NamesApart, NamesFit};
 
-use crate::fronts::{is_active, name_front, section_count, section_of};
+use crate::fronts::{is_active, name_front};
 use dw_base::elf_numbers::{ET_REL, SHF_COMPRESSED};
 use dw_base::{FileKind, Kind, LISTED_COUNT, Refusal, Section, listed_number};
 use elf_file::ElfFile;
@@ -33,17 +33,6 @@ pub const FRONT_SIZE: usize = 20;
 /// Where a file header has `e_type`, in bytes (gABI ch. 4 "ELF Header").
 const TYPE_PLACE: u64 = 16;
 
-/// The refusal of a section of a number.
-pub fn of_section(kind: Kind, section: u32) -> Refusal
-    ensures { result ≡ at kind section 0 }
-{
-    Refusal {
-        kind,
-        section,
-        offset: 0,
-    }
-}
-
 /// The file is relocatable, executable or a shared object.
 #[tactic(auto, using(crate::proofs::KindLaws::kind_laws))]
 pub fn kind_fits(elf: &ElfFile) -> Result<(), Refusal>
@@ -54,11 +43,7 @@ pub fn kind_fits(elf: &ElfFile) -> Result<(), Refusal>
         FileKind::Rel => Ok(()),
         FileKind::Exec => Ok(()),
         FileKind::Dyn => Ok(()),
-        FileKind::Other(_) => Err(Refusal {
-            kind: Kind::FileType,
-            section: 0,
-            offset: TYPE_PLACE,
-        }),
+        FileKind::Other(_) => Err(Refusal::at(Kind::FileType, 0, TYPE_PLACE)),
     }
 }
 
@@ -68,7 +53,7 @@ pub fn names_fit(elf: &ElfFile) -> Result<(), Refusal>
     ensures fit { OnOk result (NamesFit elf.now.bytes.now) }
     ensures refused { IfErr result (DebugSectionsFail elf.now.bytes.now) }
 {
-    let count = section_count(elf);
+    let count = elf.section_count();
     for index in 0..count {
         section_fits(elf, index)?;
     }
@@ -82,7 +67,7 @@ fn section_fits(elf: &ElfFile, index: u32) -> Result<(), Refusal>
     ensures fits { OnOk result (FitsAt elf.now.bytes.now index) }
     ensures refused { IfErr result (DebugSectionsFail elf.now.bytes.now) }
 {
-    if !is_active(&section_of(elf, index)) {
+    if !is_active(&elf.section(index)) {
         return Ok(());
     }
     name_fits(elf, index)?;
@@ -98,24 +83,24 @@ fn name_fits(elf: &ElfFile, index: u32) -> Result<(), Refusal>
 {
     let front = name_front(elf, index, FRONT_SIZE);
     if is_zdebug_name(front) {
-        return Err(of_section(Kind::Compressed, index));
+        return Err(Refusal::at(Kind::Compressed, index, 0));
     }
     if is_supplementary_name(front) {
-        return Err(of_section(Kind::Supplementary, index));
+        return Err(Refusal::at(Kind::Supplementary, index, 0));
     }
     if !is_debug_name(front) {
         return Ok(());
     }
-    if is_compressed(&section_of(elf, index)) {
-        return Err(of_section(Kind::Compressed, index));
+    if is_compressed(&elf.section(index)) {
+        return Err(Refusal::at(Kind::Compressed, index, 0));
     }
     if listed_number(front) < LISTED_COUNT {
         return Ok(());
     }
     if is_split_name(elf.section_name(index)) {
-        return Err(of_section(Kind::SplitDwarf, index));
+        return Err(Refusal::at(Kind::SplitDwarf, index, 0));
     }
-    Err(of_section(Kind::UnknownDebug, index))
+    Err(Refusal::at(Kind::UnknownDebug, index, 0))
 }
 
 /// The name of a section of debug data.
@@ -165,7 +150,7 @@ pub fn names_apart(elf: &ElfFile) -> Result<(), Refusal>
     }
     let front = name_front(elf, elf.names, FRONT_SIZE);
     if listed_number(front) < LISTED_COUNT {
-        return Err(of_section(Kind::Twice, elf.names));
+        return Err(Refusal::at(Kind::Twice, elf.names, 0));
     }
     Ok(())
 }

@@ -7,8 +7,8 @@ ghost use Rattle.dw_base.specs.DebugSectionFails.{DebugSectionsFail, may_repeat,
 ghost use Rattle.dw_base.specs.Elf.{e_type, section_count};
 ghost use Rattle.dw_view.specs.NamesFit.{IsNoted, NamesOnce};
 
-use crate::fronts::{is_active, name_front, section_count, section_of};
-use crate::names::{FRONT_SIZE, of_section};
+use crate::fronts::{is_active, name_front};
+use crate::names::FRONT_SIZE;
 use dw_base::elf_numbers::ET_REL;
 use dw_base::{DebugSection, FileKind, Kind, LISTED_COUNT, Refusal, listed_number};
 use elf_file::ElfFile;
@@ -20,7 +20,7 @@ pub fn names_once(elf: &ElfFile) -> Result<(), Refusal>
     ensures once { OnOk result (NamesOnce elf.now.bytes.now) }
     ensures refused { IfErr result (DebugSectionsFail elf.now.bytes.now) }
 {
-    let count = section_count(elf);
+    let count = elf.section_count();
     let mut firsts = [0u32; LISTED_COUNT];
     for index in 0..count {
         note(elf, &mut firsts, index)?;
@@ -37,7 +37,7 @@ fn note(elf: &ElfFile, firsts: &mut [u32], index: u32) -> Result<(), Refusal>
     ensures noted { OnOk result (IsNoted elf.now.bytes.now (index + 1) firsts.new) }
     ensures refused { IfErr result (DebugSectionsFail elf.now.bytes.now) }
 {
-    if !is_active(&section_of(elf, index)) {
+    if !is_active(&elf.section(index)) {
         return Ok(());
     }
     let front = name_front(elf, index, FRONT_SIZE);
@@ -49,7 +49,7 @@ fn note(elf: &ElfFile, firsts: &mut [u32], index: u32) -> Result<(), Refusal>
         return Ok(());
     }
     if firsts[number] != 0 {
-        return Err(of_section(Kind::Twice, index));
+        return Err(Refusal::at(Kind::Twice, index, 0));
     }
     firsts[number] = index;
     Ok(())

@@ -6,19 +6,19 @@ use Rattle.dw_view.proofs.repeats.note.Goals as goal
 pub returns-then-firsts-number-ne0-clause-refused : goal.returns-then-firsts-number-ne0-clause-refused
 returns-then-firsts-number-ne0-clause-refused c =
     let up : LookedUp c.args.elf.now.bytes.now c.args.index c.listed_number-number.result =
-    looked_up c.args.elf.now.bytes.now c.name_front-front.result.now c.args.index c.listed_number-number.result c.section_of.result
-    c.is_active.result c.may_repeat.result c.requires.there c.section_of.ensures c.is_active.ensures c.if-not-is_active.false
+    looked_up c.args.elf.now.bytes.now c.name_front-front.result.now c.args.index c.listed_number-number.result c.section.result
+    c.is_active.result c.may_repeat.result c.requires.there c.section.ensures c.is_active.ensures c.if-not-is_active.false
     c.name_front-front.ensures c.listed_number-number.ensures.number c.if-number-eq-LISTED_COUNT.false
     c.listed_number-number.ensures.few c.may_repeat.ensures c.if-may_repeat.false in
     refused_twice c.args.elf.now.bytes.now c.args.firsts.now c.args.index c.listed_number-number.result
-    (get_or c.args.firsts.now c.listed_number-number.result 0) c.of_section.result c.requires.noted up refl
-    c.if-firsts-number-ne0.true c.of_section.ensures
+    (get_or c.args.firsts.now c.listed_number-number.result 0) c.at.result c.requires.noted up refl
+    c.if-firsts-number-ne0.true c.at.ensures
 
 pub returns-clause-noted : goal.returns-clause-noted
 returns-clause-noted c =
     let up : LookedUp c.args.elf.now.bytes.now c.args.index c.listed_number-number.result =
-    looked_up c.args.elf.now.bytes.now c.name_front-front.result.now c.args.index c.listed_number-number.result c.section_of.result
-    c.is_active.result c.may_repeat.result c.requires.there c.section_of.ensures c.is_active.ensures c.if-not-is_active.false
+    looked_up c.args.elf.now.bytes.now c.name_front-front.result.now c.args.index c.listed_number-number.result c.section.result
+    c.is_active.result c.may_repeat.result c.requires.there c.section.ensures c.is_active.ensures c.if-not-is_active.false
     c.name_front-front.ensures c.listed_number-number.ensures.number c.if-number-eq-LISTED_COUNT.false
     c.listed_number-number.ensures.few c.may_repeat.ensures c.if-may_repeat.false in
     noted-further c.args.elf.now.bytes.now c.args.firsts.now _ c.args.index c.listed_number-number.result
