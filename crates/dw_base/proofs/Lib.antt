@@ -81,3 +81,4 @@ pub mod PlainCellLaws
 pub mod TextEditLaws
 pub mod DataKeptLaws
 pub mod DataOneLaws
+pub mod ValueCutLaws

@@ -287,3 +287,19 @@ signed-breaks a name list bytes at e = by_read (sleb (drop at bytes)) refl e
         ∙ ap (λ (o : Option (ℤ × ℕ)). after_all (if_signed a name list o) (drop (at + v.1) bytes)) none in
         ends-otherwise (after_all (at_place (number_next a name) list) (drop at bytes))
         (ap (λ (s : TableState). s.place) same ∙ broken-stays list (drop (at + v.1) bytes))
+
+-- a signed number is read of its own bytes
+pub signed-cut : (bytes : List ℕ) (at : ℕ) (v : ℤ) (n : ℕ) → sleb_at bytes at ≡ Some (v, n)
+    → (sleb_at (take n (drop at bytes)) 0 ≡ Some (v, n)) × (n ≤ length (drop at bytes))
+unfolding sleb_at
+signed-cut bytes at v n e =
+    let f : SignedFront (drop at bytes) (v, n) = sleb-front_of (drop at bytes) (v, n) (signed_within-some (sleb (drop at bytes)) (v, n) e) in
+    (ap sleb_within f.reads ∙ sym (ap sleb_within (signed_within-some (sleb (drop at bytes)) (v, n) e)) ∙ e, f.within)
+
+-- and so is an unsigned one
+pub number-cut : (bytes : List ℕ) (at v n : ℕ) → uleb_at bytes at ≡ Some (v, n)
+    → (uleb_at (take n (drop at bytes)) 0 ≡ Some (v, n)) × (n ≤ length (drop at bytes))
+unfolding uleb_at
+number-cut bytes at v n e =
+    let f : Front (drop at bytes) (v, n) = uleb-front_of (drop at bytes) (v, n) (within-some (uleb (drop at bytes)) (v, n) e) in
+    (ap uleb_within f.reads ∙ sym (ap uleb_within (within-some (uleb (drop at bytes)) (v, n) e)) ∙ e, f.within)
