@@ -82,3 +82,4 @@ pub mod TextEditLaws
 pub mod DataKeptLaws
 pub mod DataOneLaws
 pub mod ValueCutLaws
+pub mod ScanPieceLaws

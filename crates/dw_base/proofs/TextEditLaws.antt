@@ -253,7 +253,7 @@ value-moves inline_text u c around s x p t plain sized f names fits there = inli
 value-moves k u c around s x p t plain sized f names fits there = refl
 
 -- a value whose form was read fits as a value of its kind
-chosen-fits : (k : ValueKind) (s : UnitState) (x : Spec) (p : List Cell) → IsValue s x k p → FitsKind k s x p
+pub chosen-fits : (k : ValueKind) (s : UnitState) (x : Spec) (p : List Cell) → IsValue s x k p → FitsKind k s x p
 unfolding value_of
 chosen-fits form_in_front s x p f = absurd (none-some f.value f.is)
   where
