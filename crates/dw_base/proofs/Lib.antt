@@ -83,3 +83,4 @@ pub mod DataKeptLaws
 pub mod DataOneLaws
 pub mod ValueCutLaws
 pub mod ScanPieceLaws
+pub mod ScanUnitLaws

@@ -79,7 +79,7 @@ part-length n a end cells h =
     length-take-le n (drop a cells) (omega (arith, h, length-take end (bytes_of cells), length-bytes_of cells, length-drop a cells))
 
 -- a state of the same unit
-inside-same : (s : UnitState) (p e d : ℕ) (m : Mode) (q f g n tag : ℕ) (xs : List Spec) → inside (in_unit s p e d m) q f g n tag xs ≡ inside s q f g n tag xs
+pub inside-same : (s : UnitState) (p e d : ℕ) (m : Mode) (q f g n tag : ℕ) (xs : List Spec) → inside (in_unit s p e d m) q f g n tag xs ≡ inside s q f g n tag xs
 unfolding between
 inside-same s p e d m q f g n tag [] = refl
 inside-same s p e d m q f g n tag (x ∷ xs) = refl
