@@ -1,0 +1,11 @@
+use Rattle.work_journal.proofs.StepLaws.{call_kept, step_kept, failure_partway}
+use Rattle.work_journal.proofs.law.bridge_laws.Goals as goal
+
+pub returns-clause-call : goal.returns-clause-call
+returns-clause-call c = call_kept
+
+pub returns-clause-step : goal.returns-clause-step
+returns-clause-step c = step_kept
+
+pub returns-clause-failure : goal.returns-clause-failure
+returns-clause-failure c = failure_partway

@@ -1,0 +1,9 @@
+pub mod Work
+pub mod Wanted
+pub mod Keeps
+pub mod Laws
+pub mod Events
+pub mod Views
+pub mod Runs
+pub mod Jobs
+pub mod Groups

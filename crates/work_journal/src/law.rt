@@ -1,0 +1,15 @@
+//! The laws that tie the core of a run to the calls of a tree.
+//!
+//! These functions compute nothing: each one's clauses state facts of every run. Read first:
+//! `specs/Wanted.antt`, `specs/Keeps.antt`, `specs/Laws.antt`.
+ghost use Rattle.work_journal.specs.Laws.{EveryCallKept, EveryStepKept, EveryFailurePartway};
+
+/// What the calls of a run keep.
+pub fn bridge_laws()
+    // A call that is a step of the core keeps the relation of core and tree, in whatever order of jobs.
+    ensures call { EveryCallKept }
+    ensures step { EveryStepKept }
+
+    // A call that failed, whatever it did, leaves the run partway at every moment.
+    ensures failure { EveryFailurePartway }
+{}

@@ -1,0 +1,29 @@
+//! The journal of a run over a build root: a run that may be stopped at any moment and started again,
+//! over any tree and any maker of files.
+//!
+//! This layer promises: a desk changes its tree only by events that the core of the run allows, one call
+//! an event; and whatever calls keep to that, also one that failed, leave the run partway at every moment,
+//! with each output as it was or whole.
+//! It does not promise: what a maker makes, or what a real disk keeps.
+//!
+//! ```
+//! let mut desk = Desk::new(&mut tree, Core::new(alloc, steps)?);
+//! desk.put(Event::Propose, "root/.dbgwork/plan.new", &node)?;
+//! desk.settle()?;
+//! let tree = desk.into_tree();
+//! ```
+//!
+//! Read first: `specs/Wanted.antt`, `specs/Keeps.antt`, `specs/Runs.antt`.
+#![tactic(auto)]
+
+mod desk;
+mod groups;
+mod jobs;
+mod law;
+mod maker;
+mod names;
+mod steps;
+
+pub use desk::Desk;
+pub use law::bridge_laws;
+pub use maker::{MakeErr, Maker};
