@@ -84,3 +84,4 @@ pub mod DataOneLaws
 pub mod ValueCutLaws
 pub mod ScanPieceLaws
 pub mod ScanUnitLaws
+pub mod UnitCutLaws

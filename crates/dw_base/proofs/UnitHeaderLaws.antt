@@ -20,7 +20,7 @@ pub bytes_of-append : (p r : List Cell) → bytes_of (p ++ r) ≡ bytes_of p ++ 
 bytes_of-append [] r = refl
 bytes_of-append (c ∷ cs) r = ap (λ (bs : List ℕ). c.byte ∷ bs) (bytes_of-append cs r)
 
-spelled-more : (o : Order) (p r : List Cell) (at n : ℕ) → at + n ≤ length p → spelled o (bytes_of (p ++ r)) at n ≡ spelled o (bytes_of p) at n
+pub spelled-more : (o : Order) (p r : List Cell) (at n : ℕ) → at + n ≤ length p → spelled o (bytes_of (p ++ r)) at n ≡ spelled o (bytes_of p) at n
 spelled-more o p r at n h =
     let size : length (bytes_of p) ≡ length p = length-bytes_of p in
     let inside : at + n ≤ length (bytes_of p) = omega arith in
@@ -111,7 +111,7 @@ places_if new width at =
     else record { address = at + 2 + width_size width; abbrevs = at + 2; behind = at + 3 + width_size width }
 
 -- the size of a header whose version stands at a place
-abbrev size_by : Width → ℕ → ℕ → ℕ → ℕ
+abbrev pub size_by : Width → ℕ → ℕ → ℕ → ℕ
 size_by width version kind at = (header_places width version at).behind + further_size width kind
 
 size-open : (width : Width) (version kind at : ℕ)
@@ -123,7 +123,7 @@ size-open width version kind at = by_new (version == 5)
     by_new true = refl
     by_new false = refl
 
-version-inside : (width : Width) (version kind at n : ℕ) → size_by width version kind at ≤ n → at + 3 ≤ n
+pub version-inside : (width : Width) (version kind at n : ℕ) → size_by width version kind at ≤ n → at + 3 ≤ n
 version-inside width version kind at n h = by_new (version == 5) (subst (λ (m : ℕ). m ≤ n) (size-open width version kind at) h)
   where
     by_new : (b : Bool) → (if b then at + 4 + width_size width else at + 3 + width_size width) + further_size width kind ≤ n → at + 3 ≤ n
@@ -131,7 +131,7 @@ version-inside width version kind at n h = by_new (version == 5) (subst (λ (m :
     by_new false g = omega arith
 
 -- the unit type is read with more behind it
-type_of-more : (o : Order) (kind : SectionKind) (p r : List Cell) (version at : ℕ) → at + 3 ≤ length p
+pub type_of-more : (o : Order) (kind : SectionKind) (p r : List Cell) (version at : ℕ) → at + 3 ≤ length p
     → unit_type o kind (bytes_of (p ++ r)) version at ≡ unit_type o kind (bytes_of p) version at
 type_of-more o kind p r version at h =
     ap (λ (n : ℕ). if version == 5 then n else old_unit_type kind) (spelled-more o p r (at + 2) 1 (omega arith))
@@ -159,7 +159,7 @@ if-more kind p r g h e =
     ap (λ (b : Bool). if b && nat_le g.first g.end && is_version kind g.params.version && is_unit_type g.kind && is_address_size g.params.address then Some g else None)
     (more ∙ sym was) ∙ e
 
-version-more : (base : UnitBase) (kind : SectionKind) (section start : ℕ) (p r : List Cell) (width : Width) (extent at version : ℕ)
+pub version-more : (base : UnitBase) (kind : SectionKind) (section start : ℕ) (p r : List Cell) (width : Width) (extent at version : ℕ)
     → size_by width version (unit_type base.order kind (bytes_of p) version at) at ≤ length p
     → header_of_version base kind section start (p ++ r) width extent at version ≡ header_of_version base kind section start p width extent at version
 version-more base kind section start p r width extent at version h =
