@@ -85,3 +85,4 @@ pub mod ValueCutLaws
 pub mod ScanPieceLaws
 pub mod ScanUnitLaws
 pub mod UnitCutLaws
+pub mod ScanSectionLaws

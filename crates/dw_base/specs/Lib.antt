@@ -58,3 +58,4 @@ pub mod ViewData
 pub mod FileMeanings
 pub mod FileFails
 pub mod EditRows
+pub mod UnitScans
