@@ -5,7 +5,6 @@ use Rattle.std.specs.List.{list_any}
 use Rattle.std.specs.Cmp.Lexicographic.{nat_list_cmp_total}
 use Rattle.std.specs.FinMap as fin
 use Rattle.std.proofs.lemmas.Cmp.{eq_by_cmp_equiv}
-use Rattle.dw_base.specs.Layout.{file_limit}
 use Rattle.dw_base.specs.Loaded.{LoadedKept}
 use Rattle.dw_base.specs.Mapped.{MeaningKept}
 use Rattle.dw_base.specs.Paths.{PathMap}
@@ -16,8 +15,8 @@ use Rattle.file_tree.specs.declared.node.Node.TheVariants as node
 use Rattle.file_tree.specs.Heard.{Heard}
 use Rattle.file_tree.specs.Seen.{Seen, now_of}
 use Rattle.file_tree.specs.Trees.{TreeMap, found_of, is_below, stands_at, with_node}
-use Rattle.dbg_run.specs.declared.words.Command.{Command}
-use Rattle.dbg_run.specs.declared.words.Command.TheVariants.{Edit}
+use Rattle.dbg_words.specs.declared.command.Command.{Command}
+use Rattle.dbg_words.specs.declared.command.Command.TheVariants.{Edit}
 use Rattle.dbg_run.specs.Edits.{EditDone, OfFiles, Keeps}
 use Rattle.dbg_run.specs.Edits.Keeps.{both}
 use Rattle.dbg_run.specs.Runs.{Done, KeepsMeaning, KeepsLoaded}
@@ -60,11 +59,11 @@ written-file t u path out other mode out_mode is there =
     ap (node_bytes out) (sym (get_put t path (node.File out mode)) ∙ ap (λ (v : TreeMap). fin.get v path) (sym map) ∙ there)
 
 -- so what holds of the two files that an edit speaks of holds of what the input and the output hold
-of_files : (P : List ℕ → List ℕ → Type 0) (input output : List ℕ) (m : PathMap) (old new : Seen) → (d : EditDone input output m old new) → P d.b d.out
+of_files : (P : List ℕ → List ℕ → Type 0) (input output : List ℕ) (m : PathMap) (limit : ℕ) (old new : Seen) → (d : EditDone input output m limit old new) → P d.b d.out
     → OfFiles P input output (now_of old) (now_of new)
-of_files P input output m old new d holds = record {
+of_files P input output m limit old new d holds = record {
   is = λ t u b out mode out_mode old_is new_is there put.
-      let input_is : b ≡ d.b = read-file t input b d.b mode d.mode file_limit there (d.read.is t old_is) in
+      let input_is : b ≡ d.b = read-file t input b d.b mode d.mode limit there (d.read.is t old_is) in
       let map : Some u ≡ Some (with_node output (node.File d.out d.mode) t) =
       sym new_is ∙ d.written ∙ ap (option_map (with_node output (node.File d.out d.mode))) old_is in
       let output_is : d.out ≡ out = written-file t u output d.out out d.mode out_mode map put in
@@ -78,10 +77,11 @@ loaded_kept : (m : PathMap) (b out : List ℕ) → Keeps m b out → LoadedKept 
 loaded_kept m b out (both meaning loaded) = loaded
 
 pub keeps_meaning : (c : Option Command) (old new : Seen) (heard said : Heard) → Done c old new heard said → KeepsMeaning c (now_of old) (now_of new)
-keeps_meaning None old new heard said d = d
-keeps_meaning (Some (Edit input output m)) old new heard said d =
-    of_files (MeaningKept m) input output m old new d.0 (meaning_kept m d.0.b d.0.out d.0.keeps)
+keeps_meaning (Some (Edit input output o list)) old new heard said d =
+    of_files (MeaningKept o.maps) input output o.maps o.max_file old new d.0 (meaning_kept o.maps d.0.b d.0.out d.0.keeps)
+keeps_meaning c old new heard said d = d
 
 pub keeps_loaded : (c : Option Command) (old new : Seen) (heard said : Heard) → Done c old new heard said → KeepsLoaded c (now_of old) (now_of new)
-keeps_loaded None old new heard said d = d
-keeps_loaded (Some (Edit input output m)) old new heard said d = of_files LoadedKept input output m old new d.0 (loaded_kept m d.0.b d.0.out d.0.keeps)
+keeps_loaded (Some (Edit input output o list)) old new heard said d =
+    of_files LoadedKept input output o.maps o.max_file old new d.0 (loaded_kept o.maps d.0.b d.0.out d.0.keeps)
+keeps_loaded c old new heard said d = d

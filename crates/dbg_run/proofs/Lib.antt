@@ -1,5 +1,4 @@
-pub mod PathLaws
-pub mod WordLaws
+pub mod BuiltLaws
 pub mod EditLaws
 pub mod RunLaws
 pub mod RunRows

@@ -1,8 +1,7 @@
 -- Laws on runs: one status is due, and an end may give way to want of memory.
 use Rattle.std.proofs.Common.{◌≡◌, ◌≢◌, ℕ, List, refl, sym, ap, subst, ◌∙◌, ◌⊎◌, inl, inr}
-use Rattle.std.specs.Prelude.{Option, Some, None, is_some}
+use Rattle.std.specs.Prelude.{Option, Some, is_some}
 use Rattle.dw_base.specs.EditFails.{IsAccepted}
-use Rattle.dw_base.specs.Layout.{file_limit}
 use Rattle.dw_base.specs.Paths.{PathMap}
 use Rattle.file_tree.specs.declared.node.Found.{Found}
 use Rattle.file_tree.specs.declared.node.Found.TheVariants as found
@@ -18,8 +17,10 @@ use Rattle.dbg_ends.specs.Due.Where.{here, elsewhere}
 use Rattle.dbg_ends.specs.Steps.{OutputEnds as output_}
 use Rattle.dbg_ends.specs.Told.{Told, Ended}
 use Rattle.dbg_ends.specs.Told.{Told as told}
-use Rattle.dbg_run.specs.declared.words.Command.{Command}
-use Rattle.dbg_run.specs.declared.words.Command.TheVariants.{Edit}
+use Rattle.dbg_words.specs.declared.command.Command.{Command}
+use Rattle.dbg_words.specs.declared.command.Command.TheVariants.{Edit}
+use Rattle.dbg_job.specs.Settings.{Settings}
+use Rattle.dbg_run.specs.Built.{built}
 use Rattle.dbg_run.specs.Edits.{EditEnds, EditDue}
 use Rattle.dbg_run.proofs.EditLaws.{unopposed_due}
 use Rattle.dbg_run.specs.Edits.{EditEnds as edit}
@@ -50,13 +51,13 @@ edit-one m (found.File b mode) there n k is also = output-one there n k _ _ (whe
 
 -- one status is due
 due-one : (c : Option Command) (t : TreeMap) (n k : ℕ) → Due c t n → Due c t k → n ≡ k
-due-one None t n k is also = is ∙ sym also
-due-one (Some (Edit input output m)) t n k is also = edit-one m (stands_at t input file_limit) (stands_at t output 0) n k is also
+due-one (Some (Edit input output o list)) t n k is also = edit-one o.maps (stands_at t input o.max_file) (stands_at t output 0) n k is also
+due-one c t n k is also = is ∙ sym also
 
 -- where nothing is against a command, it is due to be done
 unopposed-due : (c : Option Command) (t : TreeMap) → Unopposed c t → Due c t 0
-unopposed-due None t is = absurd is
-unopposed-due (Some (Edit input output m)) t is = unopposed_due m (stands_at t input file_limit) (stands_at t output 0) is
+unopposed-due (Some (Edit input output o list)) t is = unopposed_due o.maps (stands_at t input o.max_file) (stands_at t output 0) is
+unopposed-due c t is = absurd is
 
 -- where nothing is against a command, and no fault came, it is done, want of memory aside
 pub completed : (c : Option Command) (t : TreeMap) (answer before now : ℕ) → Due c t answer ⊎ IsCut answer → (answer ≡ 6 → Rose before now)
@@ -76,20 +77,29 @@ same-at path old new e = record { tells = ap is_some e; others = λ t u q of_old
 calm-at : (path : List ℕ) (old mid : Seen) (new : Option TreeMap) → Calm old mid → OnlyAt path (now_of mid) new → OnlyAt path (now_of old) new
 calm-at path old mid new calm at = let P : Option TreeMap → Type 0 = λ x. OnlyAt path x new in subst P calm.now at
 
-edit-memory : (input output : List ℕ) (m : PathMap) (old new : Seen) (e : End) → EditEnds input output m old new e → e ≢ end.Done → EditEnds input output m old new end.NoMemory
-edit-memory input output m old new e (edit.reading ends calm) undone = edit.memory (same-at output _ _ calm.now)
-edit-memory input output m old new e (edit.taking stood calm ends still) undone = edit.memory (same-at output _ _ (still.now ∙ calm.now))
-edit-memory input output m old new e (edit.rewriting stood free ends calm) undone = edit.memory (same-at output _ _ calm.now)
-edit-memory input output m old new e (edit.writing {mid = mid} stood free ok calm (output_.failed rose at)) undone = edit.memory (calm-at output old mid _ calm at)
-edit-memory input output m old new e (edit.writing {mid = mid} stood free ok calm (output_.memory at)) undone = edit.memory (calm-at output old mid _ calm at)
-edit-memory input output m old new e (edit.memory at) undone = edit.memory at
-edit-memory input output m old new e (edit.done is) undone = absurd (undone refl)
+edit-memory : (input output : List ℕ) (m : PathMap) (limit : ℕ) (old new : Seen) (e : End) → EditEnds input output m limit old new e → e ≢ end.Done → EditEnds input output m limit old new end.NoMemory
+edit-memory input output m limit old new e (edit.reading ends calm) undone = edit.memory (same-at output _ _ calm.now)
+edit-memory input output m limit old new e (edit.taking stood calm ends still) undone = edit.memory (same-at output _ _ (still.now ∙ calm.now))
+edit-memory input output m limit old new e (edit.rewriting stood free ends calm) undone = edit.memory (same-at output _ _ calm.now)
+edit-memory input output m limit old new e (edit.writing {mid = mid} stood free ok calm (output_.failed rose at)) undone = edit.memory (calm-at output old mid _ calm at)
+edit-memory input output m limit old new e (edit.writing {mid = mid} stood free ok calm (output_.memory at)) undone = edit.memory (calm-at output old mid _ calm at)
+edit-memory input output m limit old new e (edit.memory at) undone = edit.memory at
+edit-memory input output m limit old new e (edit.done is) undone = absurd (undone refl)
+
+-- an edit of these words ends as the edit of their paths
+pub edit_ends : (words : List (List ℕ)) (old new : Seen) (heard : Heard) (e : End) (input output read written : List ℕ) (o : Settings) (list : Option (List ℕ))
+    → built words ≡ Some (Edit input output o list) → read ≡ input → written ≡ output → EditEnds read written o.maps o.max_file old new e
+    → Ends words old new heard heard e
+edit_ends words old new heard e input output read written o list is of_input of_output row =
+    let P : List ℕ → Type 0 = λ x. EditEnds x output o.maps o.max_file old new e in
+    let Q : List ℕ → Type 0 = λ x. EditEnds read x o.maps o.max_file old new e in
+    ends.edit is (subst P of_input (subst Q of_output row)) refl
 
 -- where a command isn't done, it may as well want memory
 ends-memory : (words : List (List ℕ)) (old new : Seen) (heard said : Heard) (e : End) → Ends words old new heard said e → e ≢ end.Done → Ends words old new heard said end.NoMemory
 ends-memory words old new heard said e (ends.usage none same silent) undone = ends.memory same silent
 ends-memory words old new heard said e (ends.memory same silent) undone = ends.memory same silent
-ends-memory words old new heard said e (ends.edit is row silent) undone = ends.edit is (edit-memory _ _ _ old new e row undone) silent
+ends-memory words old new heard said e (ends.edit is row silent) undone = ends.edit is (edit-memory _ _ _ _ old new e row undone) silent
 
 -- an end that is told is how the run ended, or want of memory is
 pub told_run : (words : List (List ℕ)) (old new : Seen) (heard said : Heard) (e : End) (before after : Heard) (answer : ℕ)

@@ -2,7 +2,6 @@
 use Rattle.std.specs.Prelude.{◌≡◌, ℕ, true, List, Option, Some, option_map}
 use Rattle.dw_base.specs.declared.fault.Refusal.{Refusal}
 use Rattle.dw_base.specs.EditFails.{IsAccepted, EditFails}
-use Rattle.dw_base.specs.Layout.{file_limit}
 use Rattle.dw_base.specs.Loaded.{LoadedKept}
 use Rattle.dw_base.specs.Mapped.{MeaningKept}
 use Rattle.dw_base.specs.Output.{IsOutput}
@@ -30,11 +29,11 @@ pub data Keeps (m : PathMap) (b out : List ℕ) : Type 0 where
 
 -- the edit is done: the input held a file that is taken, and a file might be put at the output; the output holds the
 -- input's output file with its mode, and nothing else changed
-pub record EditDone (input output : List ℕ) (m : PathMap) (old new : Seen) : Type 0 where
+pub record EditDone (input output : List ℕ) (m : PathMap) (limit : ℕ) (old new : Seen) : Type 0 where
   pub b : List ℕ
   pub mode : ℕ
   pub out : List ℕ
-  pub read : Stood (now_of old) input file_limit (found.File b mode)
+  pub read : Stood (now_of old) input limit (found.File b mode)
   pub free : OutputFree (now_of old) output
   pub accepted : IsAccepted m b
   pub is : IsOutput m b out
@@ -49,16 +48,16 @@ pub record OfFiles (P : List ℕ → List ℕ → Type 0) (input output : List �
       → fin.get t input ≡ Some (node.File b mode) → fin.get u output ≡ Some (node.File out out_mode) → P b out
 
 -- how an edit ends, by the step at which it does
-pub data EditEnds (input output : List ℕ) (m : PathMap) (old new : Seen) : End → Type 0 where
-  reading : {e : End} → InputEnds input file_limit old new e → Calm old new → EditEnds input output m old new e
-  taking : {b : List ℕ} {mode : ℕ} {mid : Seen} {e : End} → Stood (now_of old) input file_limit (found.File b mode) → Calm old mid
-      → OutputTaken output mid new e → Calm mid new → EditEnds input output m old new e
-  rewriting : {b : List ℕ} {mode : ℕ} {e : End} → Stood (now_of old) input file_limit (found.File b mode) → OutputFree (now_of old) output
-      → RewriteEnds input m b e → Calm old new → EditEnds input output m old new e
-  writing : {b : List ℕ} {mode : ℕ} {mid : Seen} {e : End} → Stood (now_of old) input file_limit (found.File b mode)
-      → OutputFree (now_of old) output → IsAccepted m b → Calm old mid → OutputEnds output mid new e → EditEnds input output m old new e
-  memory : OnlyAt output (now_of old) (now_of new) → EditEnds input output m old new end.NoMemory
-  done : EditDone input output m old new → EditEnds input output m old new end.Done
+pub data EditEnds (input output : List ℕ) (m : PathMap) (limit : ℕ) (old new : Seen) : End → Type 0 where
+  reading : {e : End} → InputEnds input limit old new e → Calm old new → EditEnds input output m limit old new e
+  taking : {b : List ℕ} {mode : ℕ} {mid : Seen} {e : End} → Stood (now_of old) input limit (found.File b mode) → Calm old mid
+      → OutputTaken output mid new e → Calm mid new → EditEnds input output m limit old new e
+  rewriting : {b : List ℕ} {mode : ℕ} {e : End} → Stood (now_of old) input limit (found.File b mode) → OutputFree (now_of old) output
+      → RewriteEnds input m b e → Calm old new → EditEnds input output m limit old new e
+  writing : {b : List ℕ} {mode : ℕ} {mid : Seen} {e : End} → Stood (now_of old) input limit (found.File b mode)
+      → OutputFree (now_of old) output → IsAccepted m b → Calm old mid → OutputEnds output mid new e → EditEnds input output m limit old new e
+  memory : OnlyAt output (now_of old) (now_of new) → EditEnds input output m limit old new end.NoMemory
+  done : EditDone input output m limit old new → EditEnds input output m limit old new end.Done
 
 -- the status that is due of an edit, by what is found at its input, and then at its output
 abbrev pub EditDue : PathMap → Found → Found → ℕ → Type 0

@@ -1,5 +1,3 @@
-pub mod PathWords
-pub mod Words
-pub mod PlainPaths
+pub mod Built
 pub mod Edits
 pub mod Runs

@@ -2,7 +2,7 @@
 ghost use Rattle.std.specs.Prelude.{◌≡◌, ◌≢◌, ◌⊎◌, ◌≤◌, ℕ, List, length, IfOk, IfErr, OnOk};
 ghost use Rattle.std.specs.Option.{ForSome};
 ghost use Rattle.dw_base.specs.EditFails.{IsAccepted};
-ghost use Rattle.dw_base.specs.Layout.{file_limit, output_limit};
+ghost use Rattle.dw_base.specs.Layout.{output_limit};
 ghost use Rattle.dw_base.specs.Output.{IsOutput};
 ghost use Rattle.file_tree.specs.Seen.{now_of};
 ghost use Rattle.file_tree.specs.Trees.{stands_at};
@@ -12,7 +12,8 @@ ghost use Rattle.dbg_ends.specs.Due.{Where, IsCut, IsRefusal};
 ghost use Rattle.dbg_run.specs.Edits.{Keeps, RewriteEnds, EditDone, EditEnds, EditDue};
 
 use dbg_ends::{End, free_output, read_input, write_output};
-use dw_base::{FILE_LIMIT, Fault};
+use dbg_job::Options;
+use dw_base::Fault;
 use dw_paths::Maps;
 use dw_rewrite::rewrite;
 use file_tree::{Text, Tree};
@@ -50,12 +51,14 @@ fn edit_steps<T: Tree>(
     input: &str,
     output: &str,
     maps: &Maps,
+    limit: u64,
     tree: &mut T,
 ) -> Result<(), End>
-    ensures done { OnOk result (EditDone input.now output.now maps.now (T.seen tree.old) (T.seen tree.new)) }
-    ensures ends { IfErr result (EditEnds input.now output.now maps.now (T.seen tree.old) (T.seen tree.new)) }
-    ensures due { IfErr result (λ e. ForSome (now_of (T.seen tree.old)) (λ t. EditDue maps.now (stands_at t input.now file_limit) (stands_at t output.now 0) (status_of e) ⊎ IsCut (status_of e))) }
-    ensures due_done { OnOk result (ForSome (now_of (T.seen tree.old)) (λ t. EditDue maps.now (stands_at t input.now file_limit) (stands_at t output.now 0) 0)) }
+    requires limit { limit ≤ output_limit }
+    ensures done { OnOk result (EditDone input.now output.now maps.now limit (T.seen tree.old) (T.seen tree.new)) }
+    ensures ends { IfErr result (EditEnds input.now output.now maps.now limit (T.seen tree.old) (T.seen tree.new)) }
+    ensures due { IfErr result (λ e. ForSome (now_of (T.seen tree.old)) (λ t. EditDue maps.now (stands_at t input.now limit) (stands_at t output.now 0) (status_of e) ⊎ IsCut (status_of e))) }
+    ensures due_done { OnOk result (ForSome (now_of (T.seen tree.old)) (λ t. EditDue maps.now (stands_at t input.now limit) (stands_at t output.now 0) 0)) }
     ensures not_done { IfErr result (λ e. 0 ≢ status_of e) }
     ensures not_usage { IfErr result (λ e. 2 ≢ status_of e) }
     ensures fault { IfErr result (λ e. status_of e ≡ 6 → Rose (T.seen tree.old).faults (T.seen tree.new).faults) }
@@ -63,7 +66,7 @@ fn edit_steps<T: Tree>(
     ensures others { OnlyAt output.now (now_of (T.seen tree.old)) (now_of (T.seen tree.new)) }
     ensures tells { (T.seen tree.new).tells ≡ (T.seen tree.old).tells }
 {
-    let (bytes, mode) = read_input(alloc, input, FILE_LIMIT, tree)?;
+    let (bytes, mode) = read_input(alloc, input, limit, tree)?;
     free_output(alloc, output, tree)?;
     let out = rewrite_bytes(alloc, input, &bytes, maps)?;
     write_output(output, out, mode, tree)?;
@@ -72,17 +75,23 @@ fn edit_steps<T: Tree>(
 
 /// How the edit ends. The output is set to the rewritten input, with the input's mode.
 #[tactic(auto, using(crate::proofs::Rows::edit_rows))]
-pub fn edit<T: Tree>(alloc: Global, input: &str, output: &str, maps: &Maps, tree: &mut T) -> End
-    ensures ends { EditEnds input.now output.now maps.now (T.seen tree.old) (T.seen tree.new) result }
-    ensures done { 0 ≡ status_of result → EditDone input.now output.now maps.now (T.seen tree.old) (T.seen tree.new) }
-    ensures due { ForSome (now_of (T.seen tree.old)) (λ t. EditDue maps.now (stands_at t input.now file_limit) (stands_at t output.now 0) (status_of result) ⊎ IsCut (status_of result)) }
+pub fn edit<T: Tree>(
+    alloc: Global,
+    input: &str,
+    output: &str,
+    options: &Options,
+    tree: &mut T,
+) -> End
+    ensures ends { EditEnds input.now output.now options.now.maps options.now.max_file (T.seen tree.old) (T.seen tree.new) result }
+    ensures done { 0 ≡ status_of result → EditDone input.now output.now options.now.maps options.now.max_file (T.seen tree.old) (T.seen tree.new) }
+    ensures due { ForSome (now_of (T.seen tree.old)) (λ t. EditDue options.now.maps (stands_at t input.now options.now.max_file) (stands_at t output.now 0) (status_of result) ⊎ IsCut (status_of result)) }
     ensures not_usage { 2 ≢ status_of result }
     ensures fault { status_of result ≡ 6 → Rose (T.seen tree.old).faults (T.seen tree.new).faults }
     ensures kept { IsRefusal (status_of result) → now_of (T.seen tree.new) ≡ now_of (T.seen tree.old) }
     ensures others { OnlyAt output.now (now_of (T.seen tree.old)) (now_of (T.seen tree.new)) }
     ensures tells { (T.seen tree.new).tells ≡ (T.seen tree.old).tells }
 {
-    match edit_steps(alloc, input, output, maps, tree) {
+    match edit_steps(alloc, input, output, &options.maps, options.max_file, tree) {
         Ok(()) => End::Done,
         Err(end) => end,
     }

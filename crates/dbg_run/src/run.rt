@@ -7,12 +7,14 @@ ghost use Rattle.file_tree.specs.Causes.{Rose};
 ghost use Rattle.dbg_ends.specs.Ends.{status_of};
 ghost use Rattle.dbg_ends.specs.Due.{IsCut, IsRefusal, Exactly};
 ghost use Rattle.dbg_ends.specs.Told.{Ended};
-ghost use Rattle.dbg_run.specs.Words.{command, texts};
+ghost use Rattle.dbg_words.specs.Words.{texts};
+ghost use Rattle.dbg_run.specs.Built.{built};
 ghost use Rattle.dbg_run.specs.Runs.{Ends, Done, Due, Unopposed, KeepsLoaded, KeepsMeaning, OnlyOutputs};
 
+use crate::built::built;
 use crate::edit::edit;
-use crate::words::Command;
 use dbg_ends::{End, tell};
+use dbg_words::Command;
 use file_tree::{Sink, Tree};
 use std::alloc::Global;
 
@@ -20,16 +22,16 @@ use std::alloc::Global;
 #[tactic(auto, using(crate::proofs::Rows::run_rows))]
 fn run_command<T: Tree>(alloc: Global, words: &[String], tree: &mut T) -> End
     ensures ends { (h : Heard) → Ends (texts words.now) (T.seen tree.old) (T.seen tree.new) h h result }
-    ensures done { 0 ≡ status_of result → (h : Heard) → Done (command (texts words.now)) (T.seen tree.old) (T.seen tree.new) h h }
-    ensures due { ForSome (now_of (T.seen tree.old)) (λ t. Due (command (texts words.now)) t (status_of result) ⊎ IsCut (status_of result)) }
-    ensures usage { status_of result ≡ 2 → command (texts words.now) ≡ None }
-    ensures no_command { command (texts words.now) ≡ None → (status_of result ≡ 2) ⊎ (status_of result ≡ 13) }
+    ensures done { 0 ≡ status_of result → (h : Heard) → Done (built (texts words.now)) (T.seen tree.old) (T.seen tree.new) h h }
+    ensures due { ForSome (now_of (T.seen tree.old)) (λ t. Due (built (texts words.now)) t (status_of result) ⊎ IsCut (status_of result)) }
+    ensures usage { status_of result ≡ 2 → built (texts words.now) ≡ None }
+    ensures no_command { built (texts words.now) ≡ None → (status_of result ≡ 2) ⊎ (status_of result ≡ 13) }
     ensures fault { status_of result ≡ 6 → Rose (T.seen tree.old).faults (T.seen tree.new).faults }
     ensures kept { IsRefusal (status_of result) → now_of (T.seen tree.new) ≡ now_of (T.seen tree.old) }
-    ensures others { OnlyOutputs (command (texts words.now)) (T.seen tree.old) (T.seen tree.new) }
+    ensures others { OnlyOutputs (built (texts words.now)) (T.seen tree.old) (T.seen tree.new) }
     ensures tells { (T.seen tree.new).tells ≡ (T.seen tree.old).tells }
 {
-    let Ok(read) = Command::read(alloc, words) else {
+    let Ok(read) = built(alloc, words) else {
         return End::NoMemory;
     };
     let Some(command) = read else {
@@ -39,8 +41,10 @@ fn run_command<T: Tree>(alloc: Global, words: &[String], tree: &mut T) -> End
         Command::Edit {
             input,
             output,
-            maps,
-        } => edit(alloc, input.as_str(), output.as_str(), &maps, tree),
+            options,
+            ..
+        } => edit(alloc, input.as_str(), output.as_str(), &options, tree),
+        _ => End::Usage,
     }
 }
 
@@ -54,13 +58,13 @@ fn run_told<T: Tree, O: Sink, E: Sink>(
     err: &mut E,
 ) -> u8
     ensures ended { Ended (Ends (texts words.now) (T.seen tree.old) (T.seen tree.new) (O.heard out.old) (O.heard out.new)) (E.heard err.old) (E.heard err.new) result }
-    ensures due { ForSome (now_of (T.seen tree.old)) (λ t. Due (command (texts words.now)) t result ⊎ IsCut result) }
-    ensures done { result ≡ 0 → Done (command (texts words.now)) (T.seen tree.old) (T.seen tree.new) (O.heard out.old) (O.heard out.new) }
-    ensures usage { result ≡ 2 → command (texts words.now) ≡ None }
-    ensures no_command { command (texts words.now) ≡ None → (result ≡ 2) ⊎ (result ≡ 13) }
+    ensures due { ForSome (now_of (T.seen tree.old)) (λ t. Due (built (texts words.now)) t result ⊎ IsCut result) }
+    ensures done { result ≡ 0 → Done (built (texts words.now)) (T.seen tree.old) (T.seen tree.new) (O.heard out.old) (O.heard out.new) }
+    ensures usage { result ≡ 2 → built (texts words.now) ≡ None }
+    ensures no_command { built (texts words.now) ≡ None → (result ≡ 2) ⊎ (result ≡ 13) }
     ensures fault { result ≡ 6 → Rose (T.seen tree.old).faults (T.seen tree.new).faults }
     ensures kept { IsRefusal result → now_of (T.seen tree.new) ≡ now_of (T.seen tree.old) }
-    ensures others { OnlyOutputs (command (texts words.now)) (T.seen tree.old) (T.seen tree.new) }
+    ensures others { OnlyOutputs (built (texts words.now)) (T.seen tree.old) (T.seen tree.new) }
     ensures quiet { result ≡ 0 → E.heard err.new ≡ E.heard err.old }
     ensures silent { O.heard out.new ≡ O.heard out.old }
     ensures tells { (T.seen tree.new).tells ≡ (T.seen tree.old).tells }
@@ -83,26 +87,26 @@ pub fn run_words<T: Tree, O: Sink, E: Sink>(
 
     // Where the tree tells, each status comes exactly where it is due. Usage does on every tree, want of
     // memory aside.
-    ensures exact { ForSome (now_of (T.seen tree.old)) (λ t. (n : ℕ) → Exactly result n (Due (command (texts words.now)) t n)) }
-    ensures usage { result ≡ 2 → command (texts words.now) ≡ None }
-    ensures no_command { command (texts words.now) ≡ None → (result ≡ 2) ⊎ (result ≡ 13) }
+    ensures exact { ForSome (now_of (T.seen tree.old)) (λ t. (n : ℕ) → Exactly result n (Due (built (texts words.now)) t n)) }
+    ensures usage { result ≡ 2 → built (texts words.now) ≡ None }
+    ensures no_command { built (texts words.now) ≡ None → (result ≡ 2) ⊎ (result ≡ 13) }
     ensures fault { result ≡ 6 → Rose (T.seen tree.old).faults (T.seen tree.new).faults }
 
     // Where nothing is against the command, and no fault came, it is done, want of memory aside.
-    ensures completes { ForSome (now_of (T.seen tree.old)) (λ t. Unopposed (command (texts words.now)) t → (Rose (T.seen tree.old).faults (T.seen tree.new).faults → ⊥) → (result ≡ 0) ⊎ (result ≡ 13)) }
+    ensures completes { ForSome (now_of (T.seen tree.old)) (λ t. Unopposed (built (texts words.now)) t → (Rose (T.seen tree.old).faults (T.seen tree.new).faults → ⊥) → (result ≡ 0) ⊎ (result ≡ 13)) }
 
     // At 0 the command is done, and the error sink isn't called; a refusal leaves the tree as it was.
-    ensures done { result ≡ 0 → Done (command (texts words.now)) (T.seen tree.old) (T.seen tree.new) (O.heard out.old) (O.heard out.new) }
+    ensures done { result ≡ 0 → Done (built (texts words.now)) (T.seen tree.old) (T.seen tree.new) (O.heard out.old) (O.heard out.new) }
     ensures quiet { result ≡ 0 → E.heard err.new ≡ E.heard err.old }
     ensures kept { IsRefusal result → now_of (T.seen tree.new) ≡ now_of (T.seen tree.old) }
 
     // The debug data of the output mean what those of the input meant, with the map applied once to each source path,
     // and what is loaded is as it was.
-    ensures meaning { result ≡ 0 → KeepsMeaning (command (texts words.now)) (now_of (T.seen tree.old)) (now_of (T.seen tree.new)) }
-    ensures loaded { result ≡ 0 → KeepsLoaded (command (texts words.now)) (now_of (T.seen tree.old)) (now_of (T.seen tree.new)) }
+    ensures meaning { result ≡ 0 → KeepsMeaning (built (texts words.now)) (now_of (T.seen tree.old)) (now_of (T.seen tree.new)) }
+    ensures loaded { result ≡ 0 → KeepsLoaded (built (texts words.now)) (now_of (T.seen tree.old)) (now_of (T.seen tree.new)) }
 
     // At every status all but the command's outputs is as it was, and nothing went to the output sink.
-    ensures others { OnlyOutputs (command (texts words.now)) (T.seen tree.old) (T.seen tree.new) }
+    ensures others { OnlyOutputs (built (texts words.now)) (T.seen tree.old) (T.seen tree.new) }
     ensures silent { O.heard out.new ≡ O.heard out.old }
     ensures tells { (T.seen tree.new).tells ≡ (T.seen tree.old).tells }
 {

@@ -5,15 +5,27 @@ use std::alloc::{AllocError, Global};
 use std::process::Abort;
 use std::test::Fail;
 
-/// The words of an edit of `in`.
-const EDIT: [&str; 7] = [
+/// The words of an edit of `in`, with a space between each two.
+const EDIT: &str = "edit in out --base-dir /build/p --dest-dir /usr/src/debug/p";
+
+/// The words of the same edit in another order, with paths that aren't in their cleaned forms.
+const MIXED_EDIT: &str = "edit --dest-dir=/usr/src/debug/p/ ./in --base-dir /build/p -- out//";
+
+/// Words that are no command, and words of commands that aren't carried out.
+const USAGE: [&str; 13] = [
     "edit",
-    "in",
-    "out",
-    "--base-dir",
-    "/build/p",
-    "--dest-dir",
-    "/usr/src/debug/p",
+    "edit in ./in --base-dir /build/p --dest-dir /usr/src/debug/p",
+    "edit in out --base-dir /build/p --dest-dir /usr/src/debug/p --max-file 01",
+    "edit in out --base-dir /build/p --dest-dir /usr/src/debug/p --list-file l",
+    "edit in out --base-dir /build/p --dest-dir /usr/src/debug/p --build-id",
+    "edit in out --base-dir /build/p --dest-dir /usr/src/debug/p --seed s",
+    "split in out out.debug",
+    "run /r --base-dir /build/p --dest-dir /usr/src/debug/p",
+    "run /r --base-dir /build/p --dest-dir /usr/src/debug/p --jobs 2",
+    "show in",
+    "show in out",
+    "exercise 0 1",
+    "check in out out.debug",
 ];
 
 /// A byte of the worked file, what it is set to, and the line of its refusal.
@@ -154,10 +166,11 @@ struct Ran {
     errors: MemSink,
 }
 
-fn run(alloc: Global, words: &[&str], tree: &mut MemTree) -> Result<Ran, TreeErr> {
+/// Runs the program on the words of the line.
+fn run(alloc: Global, line: &str, tree: &mut MemTree) -> Result<Ran, TreeErr> {
     let mut texts = Vec::new(alloc);
-    for word in words {
-        texts.push(String::from_str(alloc, *word)?)?;
+    for word in line.split(' ') {
+        texts.push(String::from_str(alloc, word)?)?;
     }
     let mut output = MemSink::new(alloc, 100, None)?;
     let mut errors = MemSink::new(alloc, 100, None)?;
@@ -178,7 +191,7 @@ fn assert_ends(
     line: &str,
 ) -> Result<(), TreeErr> {
     let before = tree.nodes().len();
-    let ran = run(alloc, &EDIT, tree)?;
+    let ran = run(alloc, EDIT, tree)?;
     assert_eq!(rt; ran.status, status, "where {line} is due");
     assert_eq!(rt; ran.errors.bytes(), line.as_bytes());
     assert!(rt; ran.output.bytes().is_empty());
@@ -187,110 +200,30 @@ fn assert_ends(
 }
 
 #[test]
-fn words_that_are_no_command_are_usage(rt: HostRuntime) -> Result<(), Fail> {
+fn words_that_are_no_command_and_commands_to_come_are_usage(rt: HostRuntime) -> Result<(), Fail> {
     let alloc = rt.alloc();
-    let rows: [&[&str]; 12] = [
-        &[],
-        &["edit"],
-        &[
-            "edit",
-            "in",
-            "in",
-            "--base-dir",
-            "/build/p",
-            "--dest-dir",
-            "/usr/src/debug/p",
-        ],
-        &[
-            "edit",
-            "in",
-            "./out",
-            "--base-dir",
-            "/build/p",
-            "--dest-dir",
-            "/usr/src/debug/p",
-        ],
-        &[
-            "edit",
-            "in/",
-            "out",
-            "--base-dir",
-            "/build/p",
-            "--dest-dir",
-            "/usr/src/debug/p",
-        ],
-        &[
-            "edit",
-            "/",
-            "out",
-            "--base-dir",
-            "/build/p",
-            "--dest-dir",
-            "/usr/src/debug/p",
-        ],
-        &[
-            "edit",
-            "a//in",
-            "out",
-            "--base-dir",
-            "/build/p",
-            "--dest-dir",
-            "/usr/src/debug/p",
-        ],
-        &[
-            "edit",
-            "in",
-            "../out",
-            "--base-dir",
-            "/build/p",
-            "--dest-dir",
-            "/usr/src/debug/p",
-        ],
-        &[
-            "edit",
-            "-in",
-            "out",
-            "--base-dir",
-            "/build/p",
-            "--dest-dir",
-            "/usr/src/debug/p",
-        ],
-        &[
-            "edit",
-            "in",
-            "out",
-            "--base-dir",
-            "build/p",
-            "--dest-dir",
-            "/usr/src/debug/p",
-        ],
-        &[
-            "edit",
-            "in",
-            "out",
-            "--dest-dir",
-            "/usr/src/debug/p",
-            "--base-dir",
-            "/build/p",
-        ],
-        &[
-            "edit",
-            "in",
-            "out",
-            "--base-dir",
-            "/build/p",
-            "--dest-dir",
-            "/usr/src/debug/p",
-            "more",
-        ],
-    ];
-    for words in rows {
+    for line in USAGE {
         let mut tree = tree_with(alloc, "in", file_of(built_file(alloc)?))?;
-        let ran = run(alloc, words, &mut tree)?;
-        assert_eq!(rt; ran.status, 2);
+        let ran = run(alloc, line, &mut tree)?;
+        assert_eq!(rt; ran.status, 2, "{line}");
         assert_eq!(rt; ran.errors.bytes(), b"usage\n".as_slice());
         assert!(rt; ran.output.bytes().is_empty());
         assert_eq!(rt; tree.nodes().len(), 1);
+    }
+    Ok(())
+}
+
+#[test]
+fn a_file_over_the_limit_of_the_words_is_named_with_its_length(
+    rt: HostRuntime,
+) -> Result<(), Fail> {
+    let alloc = rt.alloc();
+    for (limit, status, line) in [("487", 8, "limit: file in 488\n"), ("488", 0, "")] {
+        let mut tree = tree_with(alloc, "in", file_of(built_file(alloc)?))?;
+        let words = format!(in alloc; "{EDIT} --max-file {limit}")?;
+        let ran = run(alloc, words.as_str(), &mut tree)?;
+        assert_eq!(rt; ran.status, status);
+        assert_eq!(rt; ran.errors.bytes(), line.as_bytes());
     }
     Ok(())
 }
@@ -375,11 +308,12 @@ fn a_file_that_is_cut_is_refused(rt: HostRuntime) -> Result<(), Fail> {
 fn assert_edited(
     rt: &impl Abort,
     alloc: Global,
+    words: &str,
     input: Vec<u8>,
     wanted: &[u8],
 ) -> Result<(), TreeErr> {
     let mut tree = tree_with(alloc, "in", file_of(input))?;
-    let ran = run(alloc, &EDIT, &mut tree)?;
+    let ran = run(alloc, words, &mut tree)?;
     assert_eq!(rt; ran.status, 0);
     assert!(rt; ran.output.bytes().is_empty());
     assert!(rt; ran.errors.bytes().is_empty());
@@ -401,7 +335,14 @@ fn an_edit_gives_the_worked_file_byte_for_byte(rt: HostRuntime) -> Result<(), Fa
     let alloc = rt.alloc();
     let wanted = installed_file(alloc)?;
     assert_eq!(rt; wanted.len(), 528);
-    assert_edited(&rt, alloc, built_file(alloc)?, wanted.as_slice())?;
+    assert_edited(&rt, alloc, EDIT, built_file(alloc)?, wanted.as_slice())?;
+    assert_edited(
+        &rt,
+        alloc,
+        MIXED_EDIT,
+        built_file(alloc)?,
+        wanted.as_slice(),
+    )?;
     Ok(())
 }
 
@@ -410,7 +351,7 @@ fn numbers_that_stand_in_section_0_are_read_there(rt: HostRuntime) -> Result<(),
     let alloc = rt.alloc();
     let input = numbered_in_section_0(built_file(alloc)?, 168);
     let wanted = numbered_in_section_0(installed_file(alloc)?, 208);
-    assert_edited(&rt, alloc, input, wanted.as_slice())?;
+    assert_edited(&rt, alloc, EDIT, input, wanted.as_slice())?;
     Ok(())
 }
 

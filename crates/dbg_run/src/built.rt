@@ -1,0 +1,36 @@
+//! The commands that are carried out.
+ghost use Rattle.std.specs.Prelude.{◌≡◌, IfOk};
+ghost use Rattle.dbg_words.specs.Words.{texts};
+ghost use Rattle.dbg_run.specs.Built.{built, is_built};
+
+use dbg_words::Command;
+use dw_base::NoMemory;
+use std::alloc::Global;
+
+/// Whether the command is carried out: an edit that makes no build-id and lists no sources.
+fn is_built(command: &Command) -> bool
+    ensures value { result ≡ is_built command.now }
+{
+    match command {
+        Command::Edit {
+            options,
+            list: None,
+            ..
+        } => !options.build_id && options.seed.len() == 0,
+        _ => false,
+    }
+}
+
+/// The command that the words are, where it is carried out.
+#[tactic(auto, unfolding(crate::specs::Built::built))]
+pub fn built(alloc: Global, words: &[String]) -> Result<Option<Command>, NoMemory>
+    ensures command { IfOk result (λ c. c ≡ built (texts words.now)) }
+{
+    let Some(command) = Command::read(alloc, words)? else {
+        return Ok(None);
+    };
+    if !is_built(&command) {
+        return Ok(None);
+    }
+    Ok(Some(command))
+}
