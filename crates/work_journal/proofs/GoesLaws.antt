@@ -23,9 +23,9 @@ use Rattle.journal_core.specs.Calls.{Puts, Moves, puts_plan, puts_step, puts_mar
 use Rattle.work_journal.specs.Work.{work_path}
 use Rattle.work_journal.specs.Wanted.{Wanted, path_of, IsPartway}
 use Rattle.work_journal.specs.Keeps.{MaySweep, Does, Broke, puts_broke, moves_broke, sweeps_broke, looks_broke, Keeps, Kept}
-use Rattle.work_journal.specs.Keeps.Does.{settles as does_settles, puts as does_puts, moves as does_moves, sweeps as does_sweeps}
+use Rattle.work_journal.specs.Keeps.Does.{reads as does_reads, settles as does_settles, puts as does_puts, moves as does_moves, sweeps as does_sweeps}
 use Rattle.work_journal.specs.Runs.{RunsOne, Runs, Ran, IsGiven, Goes, Came}
-use Rattle.work_journal.specs.Runs.RunsOne.{settles as one_settles, puts as one_puts, renames as one_renames, removes as one_removes}
+use Rattle.work_journal.specs.Runs.RunsOne.{reads as one_reads, settles as one_settles, puts as one_puts, renames as one_renames, removes as one_removes}
 use Rattle.work_journal.specs.Runs.Runs.{none as runs_none, more as runs_more}
 use Rattle.work_journal.proofs.StepLaws.{step_kept, failure_partway, no_call}
 
@@ -120,11 +120,11 @@ goes_failed work may c d e old new r s is a = record {
 
 -- fewer wanted files
 pub goes_given : {A E : Type 0} (work : List ℕ) (may less : Wanted → Type 0) (c d : CoreState) (old new : Past) (r : Result A E)
-    → ((w : Wanted) → less w → may w) → Goes work may c old d new r → Goes work less c old d new r
+    → ((w : Wanted) → IsGiven w work → less w → Keeps w c (state_of old) → may w) → Goes work may c old d new r → Goes work less c old d new r
 goes_given work may less c d old new r all a = record {
   ran = a.ran;
-  moments = λ w given m k. a.moments w given (all w m) k;
-  keeps = λ w given m k. a.keeps w given (all w m) k;
+  moments = λ w given m k. a.moments w given (all w given m k) k;
+  keeps = λ w given m k. a.keeps w given (all w given m k) k;
 }
 
 -- ### One call of a desk
@@ -342,12 +342,12 @@ came_failed f g work may c d e old new r s is fault a = record {
 }
 
 pub came_given : {A E : Type 0} (f : E) (work : List ℕ) (may less : Wanted → Type 0) (c d : CoreState) (old new : Seen) (r : Result A E)
-    → ((w : Wanted) → less w → may w) → Came f work may c old d new r → Came f work less c old d new r
+    → ((w : Wanted) → IsGiven w work → old.tells ≡ true → less w → Keeps w c (state_of old.past) → may w) → Came f work may c old d new r → Came f work less c old d new r
 came_given f work may less c d old new r all a = record {
   tells = a.tells;
   later = a.later;
   failed = a.failed;
-  goes = λ tells. goes_given work may less c d old.past new.past r all (a.goes tells);
+  goes = λ tells. goes_given work may less c d old.past new.past r (λ w given m k. all w given tells m k) (a.goes tells);
 }
 
 -- an error of another call stands for this one's
@@ -360,7 +360,7 @@ no_clash r a b = let d : Err NoMemory ≡ Err Failed = sym a ∙ b in cc
 same_error : {A B E : Type 0} (r : Result A E) (s : Result B E) (x f : E) → r ≡ Err x → s ≡ Err x → s ≡ Err f → r ≡ Err f
 same_error r s x f a b h = cc
 
-err_is : {A E : Type 0} (r : Result A E) (x : E) → r ≡ Err x → IsErr r
+pub err_is : {A E : Type 0} (r : Result A E) (x : E) → r ≡ Err x → IsErr r
 err_is r x e = rw e refl
 
 -- memory ran out before any call
@@ -405,9 +405,28 @@ came_well work may c d old new r x is a = record {
 pub came_next : {A : Type 0} (work : List ℕ) (may one : Wanted → Type 0) (c d e : CoreState) (old mid new : Seen) (r : Result A TreeErr) → ((w : Wanted) → may w → one w)
     → Came Failed work may c old d mid well → Came Failed work one d mid e new r → Came Failed work may c old e new r
 came_next work may one c d e old mid new r all a b =
-    came_then Failed Failed work may c d e old mid new well r refl a (came_given Failed work one may d e mid new r all b)
+    came_then Failed Failed work may c d e old mid new well r refl a (came_given Failed work one may d e mid new r (λ w given tells m k. all w m) b)
 
 -- for fewer wanted files
 pub came_only : {A : Type 0} (work : List ℕ) (may less : Wanted → Type 0) (c d : CoreState) (old new : Seen) (r : Result A TreeErr)
     → ((w : Wanted) → less w → may w) → Came Failed work may c old d new r → Came Failed work less c old d new r
-came_only work may less c d old new r all a = came_given Failed work may less c d old new r all a
+came_only work may less c d old new r all a = came_given Failed work may less c d old new r (λ w given tells m k. all w m) a
+
+-- ### Looks
+
+look_step : (work : List ℕ) (may : Wanted → Type 0) (c d : CoreState) (old new : Seen) (A : Type 0) (r : Result A TreeErr) (path : List ℕ) → d ≡ c
+    → (old.tells ≡ true → OnOk r (new.past ≡ adds old.past (call.Read path) effect.Same))
+    → (old.tells ≡ true → IsErrOf r Failed → new.past ≡ adds old.past (call.Read path) effect.Same)
+    → HasCause old new r → old.tells ≡ true → Goes work may c old.past d new.past r
+look_step work may c d old new A r path core made failed cause tells =
+    subst (λ (x : CoreState). Goes work may c old.past x new.past r) (sym core)
+    (step_goes work may c c old.past new.past r (call.Read path) effect.Same SettleFails one_reads
+    (λ w given m. does_reads) (λ w given m f. fails_same w c old.past new.past (call.Read path) f)
+    (made tells) (λ e. same_fails old.past new.past (call.Read path) (failed tells e)) (past_same old new r cause))
+
+pub came_reads : {A : Type 0} (work : List ℕ) (may : Wanted → Type 0) (c d : CoreState) (old new : Seen) (r : Result A TreeErr) (path : List ℕ) → d ≡ c
+    → (old.tells ≡ true → OnOk r (new.past ≡ adds old.past (call.Read path) effect.Same))
+    → (old.tells ≡ true → IsErrOf r Failed → new.past ≡ adds old.past (call.Read path) effect.Same)
+    → HasCause old new r → new.tells ≡ old.tells → Came Failed work may c old d new r
+came_reads {A = A} work may c d old new r path core made failed cause tells =
+    came_by work may c d old new r tells cause (look_step work may c d old new A r path core made failed cause)

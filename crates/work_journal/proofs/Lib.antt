@@ -5,3 +5,5 @@ pub mod StepLaws
 pub mod GoesLaws
 pub mod JobLaws
 pub mod GroupLaws
+pub mod FileLaws
+pub mod JobErrLaws

@@ -7,3 +7,4 @@ pub mod Views
 pub mod Runs
 pub mod Jobs
 pub mod Groups
+pub mod Files

@@ -18,12 +18,15 @@
 
 mod desk;
 mod groups;
+mod job_err;
 mod jobs;
 mod law;
 mod maker;
 mod names;
 mod steps;
+mod taking;
 
 pub use desk::Desk;
+pub use job_err::JobErr;
 pub use law::bridge_laws;
 pub use maker::{MakeErr, Maker};

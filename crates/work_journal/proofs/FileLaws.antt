@@ -1,0 +1,75 @@
+-- A job's file is as it was before the run until the job is committed, so the nodes that are made of it are the wanted ones.
+use Rattle.std.proofs.Common.{◌≡◌, ℕ, ◌<◌, ◌≤◌, true, List, length, refl, sym, ◌∙◌, ap, subst, IsTrue}
+use Rattle.std.specs.Prelude.{Option, Some}
+use Rattle.std.specs.FinMap as fin
+use Rattle.std.proofs.Common.{le-leb}
+use Rattle.file_tree.specs.declared.node.Node.{Node}
+use Rattle.file_tree.specs.declared.node.Node.TheVariants as node
+use Rattle.file_tree.specs.declared.node.Found.TheVariants as found
+use Rattle.file_tree.specs.Trees.{TreeMap, stands_at}
+use Rattle.file_tree.specs.Seen.{Seen, map_now}
+use Rattle.file_tree.specs.Images.{State, state_of}
+use Rattle.file_tree.proofs.ImageLaws.{state_now}
+use Rattle.journal_core.specs.Names.{target}
+use Rattle.journal_core.specs.Table.{CoreState, state_of as job_state}
+use Rattle.journal_core.specs.Marks.{Mark, first, whole, any, absent, is_whole}
+use Rattle.journal_core.specs.Calls.{is_uncommitted}
+use Rattle.journal_core.proofs.Uncommitted.{uncommitted_old}
+use Rattle.work_journal.specs.Wanted.{Wanted, MarkHas}
+use Rattle.work_journal.specs.Keeps.{Keeps}
+use Rattle.work_journal.specs.Views.{MakerView}
+use Rattle.work_journal.specs.Jobs.{AreNodes, MayStage}
+use Rattle.work_journal.specs.Files.{file_limit, FileStands, IsSource, is_output, is_apart, IsFile, IsWanted}
+
+first_has : (x : Mark) (was : Option Node) (n : Node) (is : Option Node) → x ≡ first → MarkHas x was n is → is ≡ was
+first_has absent was n is e h = let d : absent ≡ first = e in cc
+first_has first was n is e h = h
+first_has whole was n is e h = let d : whole ≡ first = e in cc
+first_has any was n is e h = let d : any ≡ first = e in cc
+
+-- where a job isn't committed, its file is as it was
+pub source_same : (w : Wanted) (c : CoreState) (s : State) (j : ℕ) (path : List ℕ) → Keeps w c s → IsTrue (is_uncommitted (job_state c j)) → IsSource w j path
+    → fin.get s.now path ≡ fin.get w.start path
+source_same w c s j path k free (is_output i st e) =
+    let m = k.exact.marking in
+    let old : m.target j i ≡ first = uncommitted_old is_whole w.steps c m j i k.exact.shows st free in
+    let here : fin.get s.now (w.output j i) ≡ fin.get w.start (w.output j i) = first_has (m.target j i) _ _ _ old (k.exact.has.named (target j i) st) in
+    subst (λ (q : List ℕ). fin.get s.now q ≡ fin.get w.start q) e here
+source_same w c s j path k free (is_apart other) = k.exact.has.others path other
+
+-- a file that stands is read whole
+file_found : (t : TreeMap) (path bytes : List ℕ) (mode limit : ℕ) → fin.get t path ≡ Some (node.File bytes mode) → length bytes ≤ limit → stands_at t path limit ≡ found.File bytes mode
+unfolding stands_at
+file_found t path bytes mode limit there few = rw (there, le-leb (length bytes) limit few) refl
+
+same_bytes : (a b : List ℕ) (m n : ℕ) → found.File a m ≡ found.File b n → a ≡ b
+same_bytes a b m n e = cc
+
+same_mode : (a b : List ℕ) (m n : ℕ) → found.File a m ≡ found.File b n → m ≡ n
+same_mode a b m n e = cc
+
+same_some : (a b : List Node) → Some a ≡ Some b → a ≡ b
+same_some a b e = cc
+
+-- what is read is the planned file
+pub read_planned : (w : Wanted) (v : MakerView) (c : CoreState) (seen : Seen) (j : ℕ) (bytes : List ℕ) (mode : ℕ) (f : IsFile w v j) → seen.tells ≡ true → Keeps w c (state_of seen.past)
+    → IsTrue (is_uncommitted (job_state c j)) → FileStands seen (v.source j) bytes mode → found.File f.bytes f.mode ≡ found.File bytes mode
+read_planned w v c seen j bytes mode f tells k free stands =
+    let same : fin.get (state_of seen.past).now (v.source j) ≡ fin.get w.start (v.source j) = source_same w c (state_of seen.past) j (v.source j) k free f.source in
+    let there : fin.get (map_now seen.past) (v.source j) ≡ Some (node.File f.bytes f.mode) = ap (λ (t : TreeMap). fin.get t (v.source j)) (sym (state_now seen.past)) ∙ same ∙ f.there in
+    sym (file_found (map_now seen.past) (v.source j) f.bytes f.mode file_limit there f.few) ∙ stands.is tells
+
+-- and the nodes that are made of it are the wanted ones
+pub made_wanted : (w : Wanted) (v : MakerView) (c : CoreState) (seen : Seen) (j : ℕ) (bytes : List ℕ) (mode : ℕ) (ns : List Node) → IsWanted w v → j < length v.steps → seen.tells ≡ true → Keeps w c (state_of seen.past)
+    → IsTrue (is_uncommitted (job_state c j)) → FileStands seen (v.source j) bytes mode → v.nodes j bytes mode ≡ Some ns → AreNodes w j ns
+made_wanted w v c seen j bytes mode ns wanted l tells k free stands made =
+    let f = wanted.files j l in
+    let read = read_planned w v c seen j bytes mode f tells k free stands in
+    let eb : f.bytes ≡ bytes = same_bytes _ _ _ _ read in
+    let em : f.mode ≡ mode = same_mode _ _ _ _ read in
+    let both : v.nodes j f.bytes f.mode ≡ v.nodes j bytes mode = ap (λ (b : List ℕ). v.nodes j b f.mode) eb ∙ ap (λ (m : ℕ). v.nodes j bytes m) em in
+    let same : f.nodes ≡ ns = same_some f.nodes ns (sym f.made ∙ both ∙ made) in
+    subst (λ (l : List Node). AreNodes w j l) same f.are_nodes
+
+pub new_uncommitted : (c : CoreState) (j n : ℕ) → MayStage c j n → IsTrue (is_uncommitted (job_state c j))
+new_uncommitted c j n may = rw may.is_new refl

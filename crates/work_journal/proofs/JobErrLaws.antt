@@ -1,0 +1,93 @@
+-- A job that isn't taken: which of its errors are faults of the tree.
+use Rattle.std.proofs.Common.{◌≡◌, ℕ, List, refl, ap, ◌∙◌}
+use Rattle.std.specs.Prelude.{Result, Ok, Err, IsErrAnd, IsOk}
+use Rattle.std.proofs.lemmas.Result.{err_from_is_err_and}
+use Rattle.file_tree.specs.declared.node.TreeErr.{TreeErr}
+use Rattle.file_tree.specs.declared.node.TreeErr.TheVariants as tree
+use Rattle.file_tree.specs.Seen.{Past, Seen}
+use Rattle.journal_core.specs.Table.{CoreState}
+use Rattle.work_journal.specs.declared.job_err.JobErr.{JobErr}
+use Rattle.work_journal.specs.declared.job_err.JobErr.TheVariants as job
+use Rattle.work_journal.specs.declared.maker.MakeErr.{MakeErr}
+use Rattle.work_journal.specs.declared.maker.MakeErr.TheVariants as make
+use Rattle.work_journal.specs.Wanted.{Wanted}
+use Rattle.work_journal.specs.Runs.{Goes, Came}
+use Rattle.work_journal.specs.Files.{tree_stops, make_stops}
+use Rattle.work_journal.proofs.GoesLaws.{came_still, came_failed, came_well, well, err_is}
+
+-- the answer of a loop over jobs so far
+abbrev pub taken : Result (Unit {0}) JobErr
+taken = Ok tt
+
+tree_is_fault : (x : TreeErr) → tree_stops x ≡ job.Tree → x ≡ tree.Failed
+tree_is_fault tree.Failed e = refl
+tree_is_fault tree.NoMemory e = let d : job.NoMemory ≡ job.Tree = e in cc
+
+make_is_no_fault : (x : MakeErr) → make_stops x ≡ job.Tree → ⊥
+make_is_no_fault (make.Changed p f) e = cc
+make_is_no_fault (make.Refused r) e = cc
+make_is_no_fault make.NoMemory e = cc
+
+err_same : {B : Type 0} (s : Result B JobErr) (x y : JobErr) → s ≡ Err x → s ≡ Err y → x ≡ y
+err_same s x y a b = cc
+
+-- a fault of the tree is passed on as one of the job
+pub came_turned : {A B : Type 0} (work : List ℕ) (may : Wanted → Type 0) (c d e : CoreState) (old new : Seen) (r : Result A TreeErr) (s : Result B JobErr) (x : TreeErr)
+    → r ≡ Err x → IsErrAnd s (λ y. y ≡ tree_stops x) → Came tree.Failed work may c old d new r → Came job.Tree work may c old e new s
+came_turned work may c d e old new r s x was is a =
+    let p = err_from_is_err_and s is in
+    let now : s ≡ Err (tree_stops x) = rw p.2 at p.1 in
+    came_failed tree.Failed job.Tree work may c d e old new r s (err_is s (tree_stops x) now)
+    (λ h. was ∙ ap (λ (y : TreeErr). Err y) (tree_is_fault x (err_same s (tree_stops x) job.Tree now h))) a
+
+-- nothing was called, and what is answered is no fault
+pub came_unmade : {B : Type 0} (work : List ℕ) (may : Wanted → Type 0) (c : CoreState) (seen : Seen) (s : Result B JobErr) (x : MakeErr)
+    → IsErrAnd s (λ y. y ≡ make_stops x) → Came job.Tree work may c seen c seen s
+came_unmade work may c seen s x is =
+    let p = err_from_is_err_and s is in
+    let now : s ≡ Err (make_stops x) = rw p.2 at p.1 in
+    came_still job.Tree work may c seen s (λ h. make_is_no_fault x (err_same s (make_stops x) job.Tree now h))
+
+no_fault : {B : Type 0} (s : Result B JobErr) → s ≡ Err job.NoMemory → s ≡ Err job.Tree → ⊥
+no_fault s a b = let d : job.NoMemory ≡ job.Tree = err_same s job.NoMemory job.Tree a b in cc
+
+pub came_no_room : {B : Type 0} (work : List ℕ) (may : Wanted → Type 0) (c : CoreState) (seen : Seen) (s : Result B JobErr)
+    → IsErrAnd s (λ y. y ≡ job.NoMemory) → Came job.Tree work may c seen c seen s
+came_no_room work may c seen s is =
+    let p = err_from_is_err_and s is in
+    came_still job.Tree work may c seen s (no_fault s (rw p.2 at p.1))
+
+abbrev ok_of : {B : Type 0} → B → Result B JobErr
+ok_of y = Ok y
+
+abbrev err_of : {B : Type 0} → JobErr → Result B JobErr
+err_of y = Err y
+
+-- another value of calls that went well
+pub came_fine : {A B : Type 0} (work : List ℕ) (may : Wanted → Type 0) (c d : CoreState) (old new : Seen) (r : Result A TreeErr) (x : A) (y : B)
+    → r ≡ Ok x → Came tree.Failed work may c old d new r → Came job.Tree work may c old d new (ok_of y)
+came_fine work may c d old new r x y is a = record {
+  tells = b.tells;
+  later = b.later;
+  failed = λ h. absurd (let e : ok_of y ≡ Err job.Tree = h in cc);
+  goes = λ tells. goes_as work may c d old.past new.past y (b.goes tells);
+}
+  where
+    b : Came tree.Failed work may c old d new well
+    b = came_well work may c d old new r x is a
+
+    goes_as : {B : Type 0} (work : List ℕ) (may : Wanted → Type 0) (c d : CoreState) (old new : Past) (y : B) → Goes work may c old d new well → Goes work may c old d new (ok_of y)
+    goes_as work may c d old new y a = record {
+      ran = record { rest = a.ran.rest; last = a.ran.last; first = a.ran.first; log = a.ran.log; runs = a.ran.runs; ends = a.ran.ends };
+      moments = a.moments;
+      keeps = a.keeps;
+    }
+
+-- an answer of the job itself, after calls that went well
+pub came_answered : {A B : Type 0} (work : List ℕ) (may : Wanted → Type 0) (c d e : CoreState) (old new : Seen) (r : Result A TreeErr) (x : A) (y : JobErr)
+    → r ≡ Ok x → (y ≡ job.Tree → ⊥) → Came tree.Failed work may c old d new r → Came job.Tree work may c old e new (err_of {B = B} y)
+came_answered {B = B} work may c d e old new r x y is none a =
+    came_failed tree.Failed job.Tree work may c d e old new r (err_of {B = B} y) refl (λ h. absurd (none (err_same (err_of {B = B} y) y job.Tree refl h))) a
+
+pub ok_by : {A E : Type 0} (r : Result A E) (x : A) → r ≡ Ok x → IsOk r
+ok_by r x e = rw e refl

@@ -1,0 +1,69 @@
+//! A job taken: its file read, its nodes made and staged.
+//!
+//! Read first: `specs/Files.antt`, `specs/Runs.antt`.
+ghost use Rattle.std.specs.Prelude.{◌≡◌, ◌<◌, IfOk, OnOk, length, get_or, ⊤, List, ℕ};
+ghost use Rattle.work_journal.specs.declared.job_err.JobErr.TheVariants.{Tree as tree_fault};
+ghost use Rattle.dw_base.specs.declared.fault.Refusal.{Refusal};
+ghost use Rattle.journal_core.specs.declared.event.JobState.TheVariants.{Staged};
+ghost use Rattle.journal_core.specs.Table.{with_state};
+ghost use Rattle.journal_core.specs.Cores.{core_of};
+ghost use Rattle.work_journal.specs.Jobs.{MayStage};
+ghost use Rattle.work_journal.specs.Files.{FileStands, IsWanted};
+ghost use Rattle.work_journal.specs.Runs.{Came};
+
+use crate::desk::Desk;
+use crate::job_err::JobErr;
+use crate::jobs::stage_job;
+use crate::maker::Maker;
+use file_tree::{Blob, Found, Tree};
+use std::alloc::Global;
+
+/// The longest file that is read.
+const FILE_LIMIT: u64 = 0x4000_0000;
+
+/// Reads a job's file: its bytes and its mode.
+fn read_job<T: Tree, M: Maker>(
+    alloc: Global,
+    desk: &mut Desk<T>,
+    work: &str,
+    maker: &M,
+    job: u32,
+) -> Result<(Blob, u32), JobErr>
+    requires there { job < length (M.view maker.now).steps }
+    ensures same_tree { desk.new.tree.ghost_name ≡ desk.old.tree.ghost_name }
+    ensures core { core_of desk.new.core ≡ core_of desk.old.core }
+    ensures found { IfOk result (λ p. FileStands (T.seen desk.new.tree.now) ((M.view maker.now).source job) p.0 p.1) }
+    ensures came { Came tree_fault work.now (λ w. ⊤) (core_of desk.old.core) (T.seen desk.old.tree.now) (core_of desk.new.core) (T.seen desk.new.tree.now) result }
+{
+    let _ = work;
+    let path = maker.source(alloc, job)?;
+    match desk.read(path.as_str(), FILE_LIMIT)? {
+        Found::File { bytes, mode } => Ok((bytes, mode)),
+        _ => Err(JobErr::Changed {
+            planned: maker.planned(job),
+            found: None,
+        }),
+    }
+}
+
+/// Reads a job's file, makes its nodes, and puts them under their temporary names.
+pub(crate) fn take_job<T: Tree, M: Maker>(
+    alloc: Global,
+    desk: &mut Desk<T>,
+    work: &str,
+    maker: &mut M,
+    job: u32,
+) -> Result<(), JobErr>
+    requires there { job < length (M.view maker.old).steps }
+    requires may { MayStage (core_of desk.old.core) job (get_or (M.view maker.old).steps job 0) }
+    ensures same_tree { desk.new.tree.ghost_name ≡ desk.old.tree.ghost_name }
+    ensures same_view { M.view maker.new ≡ M.view maker.old }
+    ensures same_refusals { (j : ℕ) (b : List ℕ) (r : Refusal) → M.refuses maker.new j b r → M.refuses maker.old j b r }
+    ensures core { OnOk result (core_of desk.new.core ≡ with_state (core_of desk.old.core) job Staged) }
+    ensures came { Came tree_fault work.now (λ w. IsWanted w (M.view maker.old)) (core_of desk.old.core) (T.seen desk.old.tree.now) (core_of desk.new.core) (T.seen desk.new.tree.now) result }
+{
+    let (bytes, mode) = read_job(alloc, desk, work, maker, job)?;
+    let nodes = maker.make(alloc, job, bytes.as_slice(), mode)?;
+    stage_job(alloc, desk, work, job, &nodes)?;
+    Ok(())
+}
