@@ -137,7 +137,7 @@ type_of-more o kind p r version at h =
     ap (λ (n : ℕ). if version == 5 then n else old_unit_type kind) (spelled-more o p r (at + 2) 1 (omega arith))
 
 -- where the test of a header holds, the header ends in the cells
-header-inside : (kind : SectionKind) (p : List Cell) (h : UnitHeader) → is_header kind p h ≡ true → h.first ≤ h.start + length p
+pub header-inside : (kind : SectionKind) (p : List Cell) (h : UnitHeader) → is_header kind p h ≡ true → h.first ≤ h.start + length p
 header-inside kind p h e = by_test (nat_le h.first (h.start + length p)) refl (nat_le h.first h.end) (is_version kind h.params.version) (is_unit_type h.kind) (is_address_size h.params.address) e
   where
     by_test : (a : Bool) → nat_le h.first (h.start + length p) ≡ a → (b c d f : Bool) → (a && b && c && d && f) ≡ true → h.first ≤ h.start + length p
