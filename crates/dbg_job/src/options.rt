@@ -1,12 +1,13 @@
 //! The options of a command that rewrites files.
 ghost use Rattle.dbg_job.specs.Settings.{Settings, IsWithin};
 
+use dw_base::FILE_LIMIT;
 use dw_paths::Maps;
 use file_tree::Blob;
 use std::marker::Model;
 
 /// The longest file that may be asked for, in bytes.
-pub const MOST_FILE: u64 = 0x4000_0000;
+pub const MOST_FILE: u64 = FILE_LIMIT;
 
 /// What a user wants done with files.
 #[derive(Drop)]
