@@ -1,0 +1,5 @@
+pub mod PassLaws
+pub mod InsideLaws
+pub mod ValueLaws
+pub mod StepLaws
+pub mod ScanLaws
