@@ -50,13 +50,13 @@ group_settled v c d first job g e = subst (λ (x : CoreState). IsFlush v x first
 
 -- ### One state
 
-under_set : (v : MakerView) (c : CoreState) (j : ℕ) (s : JobState) → IsUnder v c → IsUnder v (with_state c j s)
+pub under_set : (v : MakerView) (c : CoreState) (j : ℕ) (s : JobState) → IsUnder v c → IsUnder v (with_state c j s)
 under_set v c j s u = record { running = u.running; steps_are = u.steps_are; same_length = length-set c.states j s ∙ u.same_length }
 
-at_other : (c : CoreState) (j i : ℕ) (s : JobState) → i ≢ j → state_of (with_state c j s) i ≡ state_of c i
+pub at_other : (c : CoreState) (j i : ℕ) (s : JobState) → i ≢ j → state_of (with_state c j s) i ≡ state_of c i
 at_other c j i s ne = get_or-set_other c.states j i s Done ne
 
-at_here : (c : CoreState) (j : ℕ) (s : JobState) → j < length c.states → state_of (with_state c j s) j ≡ s
+pub at_here : (c : CoreState) (j : ℕ) (s : JobState) → j < length c.states → state_of (with_state c j s) j ≡ s
 at_here c j s l = set_here c.states j s l
 
 -- ### A flush

@@ -1,6 +1,6 @@
 -- A job that isn't taken: which of its errors are faults of the tree.
 use Rattle.std.proofs.Common.{◌≡◌, ℕ, List, refl, ap, ◌∙◌}
-use Rattle.std.specs.Prelude.{Result, Ok, Err, IsErrAnd, IsOk}
+use Rattle.std.specs.Prelude.{Result, Ok, Err, IsErrAnd, IsOk, OnOk}
 use Rattle.std.proofs.lemmas.Result.{err_from_is_err_and}
 use Rattle.file_tree.specs.declared.node.TreeErr.{TreeErr}
 use Rattle.file_tree.specs.declared.node.TreeErr.TheVariants as tree
@@ -13,7 +13,7 @@ use Rattle.work_journal.specs.declared.maker.MakeErr.TheVariants as make
 use Rattle.work_journal.specs.Wanted.{Wanted}
 use Rattle.work_journal.specs.Runs.{Goes, Came}
 use Rattle.work_journal.specs.Files.{tree_stops, make_stops}
-use Rattle.work_journal.proofs.GoesLaws.{came_still, came_failed, came_well, well, err_is}
+use Rattle.work_journal.proofs.GoesLaws.{came_still, came_failed, came_well, well, err_is, came_then, came_given}
 
 -- the answer of a loop over jobs so far
 abbrev pub taken : Result (Unit {0}) JobErr
@@ -91,3 +91,34 @@ came_answered {B = B} work may c d e old new r x y is none a =
 
 pub ok_by : {A E : Type 0} (r : Result A E) (x : A) → r ≡ Ok x → IsOk r
 ok_by r x e = rw e refl
+
+-- another value after jobs that went well
+pub came_took : {A B : Type 0} (work : List ℕ) (may : Wanted → Type 0) (c d : CoreState) (old new : Seen) (r : Result A JobErr) (x : A) (y : B)
+    → r ≡ Ok x → Came job.Tree work may c old d new r → Came job.Tree work may c old d new (ok_of y)
+came_took work may c d old new r x y is a = record {
+  tells = a.tells;
+  later = a.later;
+  failed = λ h. absurd (let e : ok_of y ≡ Err job.Tree = h in cc);
+  goes = λ tells. goes_on work may c d old.past new.past r x y is (a.goes tells);
+}
+  where
+    at_ok : {A : Type 0} (r : Result A JobErr) (x : A) (P : Type 0) → r ≡ Ok x → OnOk r P → P
+    at_ok r x P e h = rw e at h
+
+    goes_on : {A B : Type 0} (work : List ℕ) (may : Wanted → Type 0) (c d : CoreState) (old new : Past) (r : Result A JobErr) (x : A) (y : B) → r ≡ Ok x → Goes work may c old d new r → Goes work may c old d new (ok_of y)
+    goes_on work may c d old new r x y is a = record {
+      ran = record { rest = a.ran.rest; last = a.ran.last; first = a.ran.first; log = a.ran.log; runs = a.ran.runs; ends = at_ok r x _ is a.ran.ends };
+      moments = a.moments;
+      keeps = λ w given m k. at_ok r x _ is (a.keeps w given m k);
+    }
+
+-- a job more after those that went well
+pub came_then_job : {A : Type 0} (work : List ℕ) (may one : Wanted → Type 0) (c d e : CoreState) (old mid new : Seen) (r : Result A JobErr) → ((w : Wanted) → may w → one w)
+    → Came job.Tree work may c old d mid taken → Came job.Tree work one d mid e new r → Came job.Tree work may c old e new r
+came_then_job work may one c d e old mid new r all a b =
+    came_then job.Tree job.Tree work may c d e old mid new taken r refl a (came_given job.Tree work one may d e mid new r (λ w given tells m k. all w m) b)
+
+-- calls of the tree first
+pub came_first : {A : Type 0} (work : List ℕ) (may : Wanted → Type 0) (c d : CoreState) (old new : Seen) (r : Result A TreeErr) (x : A)
+    → r ≡ Ok x → Came tree.Failed work may c old d new r → Came job.Tree work may c old d new taken
+came_first work may c d old new r x is a = came_fine work may c d old new r x tt is a

@@ -7,3 +7,4 @@ pub mod JobLaws
 pub mod GroupLaws
 pub mod FileLaws
 pub mod JobErrLaws
+pub mod RoundLaws

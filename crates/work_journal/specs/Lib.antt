@@ -8,3 +8,4 @@ pub mod Runs
 pub mod Jobs
 pub mod Groups
 pub mod Files
+pub mod Rounds

@@ -23,6 +23,7 @@ mod jobs;
 mod law;
 mod maker;
 mod names;
+mod rounds;
 mod steps;
 mod taking;
 
@@ -30,3 +31,4 @@ pub use desk::Desk;
 pub use job_err::JobErr;
 pub use law::bridge_laws;
 pub use maker::{MakeErr, Maker};
+pub use rounds::run_jobs;

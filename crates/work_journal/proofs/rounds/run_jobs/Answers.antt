@@ -1,0 +1,46 @@
+use Rattle.std.proofs.Common.{sym, refl, subst}
+use Rattle.file_tree.specs.declared.node.TreeErr.TheVariants.{Failed}
+use Rattle.work_journal.specs.declared.job_err.JobErr.TheVariants as job
+use Rattle.work_journal.specs.Views.{MakerView}
+use Rattle.work_journal.specs.Groups.{IsMade}
+use Rattle.work_journal.proofs.GoesLaws.{came_then, came_given, came_passed}
+use Rattle.work_journal.proofs.JobErrLaws.{came_turned, came_fine, came_took, came_first, came_then_job, ok_by}
+use Rattle.work_journal.proofs.RoundLaws.{round_empty}
+use Rattle.work_journal.proofs.rounds.run_jobs.Goals as goal
+
+pub returns-in_err-mend_all-clause-came : goal.returns-in_err-mend_all-clause-came
+returns-in_err-mend_all-clause-came g c = came_turned _ _ _ _ _ _ _ _ _ _ (c.in_err-mend_all.was) c.from_residual.ensures.1
+    (came_given Failed _ _ _ _ _ _ _ _ (λ w given tells wanted k. wanted.made) c.mend_all.ensures.came)
+
+pub returns-in_err-round-clause-came : goal.returns-in_err-round-clause-came
+returns-in_err-round-clause-came g c = came_passed job.Tree _ _ _ _ _ _ _ _ _ _ (c.in_err-round.was) c.from_residual-in_err-round.ensures.1
+    (came_then_job _ _ _ _ _ _ _ _ _ _ (λ w wanted. wanted)
+    (came_first _ _ _ _ _ _ _ _ (c.in_ok-mend_all.was) (came_given Failed _ _ _ _ _ _ _ _ (λ w given tells wanted k. wanted.made) c.mend_all.ensures.came))
+    c.take_all.ensures.came)
+
+pub returns-in_err-flush_group-clause-came : goal.returns-in_err-flush_group-clause-came
+returns-in_err-flush_group-clause-came g c =
+    came_then job.Tree job.Tree _ _ _ _ _ _ _ _ _ _ (ok_by _ _ (c.in_ok-round.was))
+    (came_then_job _ _ _ _ _ _ _ _ _ _ (λ w wanted. wanted)
+    (came_first _ _ _ _ _ _ _ _ (c.in_ok-mend_all.was) (came_given Failed _ _ _ _ _ _ _ _ (λ w given tells wanted k. wanted.made) c.mend_all.ensures.came))
+    c.take_all.ensures.came)
+    (came_turned _ _ _ _ _ _ _ _ _ _ (c.in_err-flush_group.was) c.from_residual-in_err-flush_group.ensures.1
+    (came_given Failed _ _ _ _ _ _ _ _ (λ w given tells wanted k. subst (λ (v : MakerView). IsMade w v) (sym c.take_all.ensures.same_view) wanted.made) c.flush_group.ensures.came))
+
+pub returns-clause-came : goal.returns-clause-came
+returns-clause-came g c =
+    came_then job.Tree job.Tree _ _ _ _ _ _ _ _ _ _ (ok_by _ _ (c.in_ok-round.was))
+    (came_then_job _ _ _ _ _ _ _ _ _ _ (λ w wanted. wanted)
+    (came_first _ _ _ _ _ _ _ _ (c.in_ok-mend_all.was) (came_given Failed _ _ _ _ _ _ _ _ (λ w given tells wanted k. wanted.made) c.mend_all.ensures.came))
+    c.take_all.ensures.came)
+    (came_fine _ _ _ _ _ _ _ _ _ (c.in_ok-flush_group.was)
+    (came_given Failed _ _ _ _ _ _ _ _ (λ w given tells wanted k. subst (λ (v : MakerView). IsMade w v) (sym c.take_all.ensures.same_view) wanted.made) c.flush_group.ensures.came))
+
+pub returns-then-round-eq0-clause-done : goal.returns-then-round-eq0-clause-done
+returns-then-round-eq0-clause-done g c = round_empty _ _ c.in_ok-round.round _ _ refl c.if-round-eq0.true c.in_ok-round.ensures.round
+
+pub returns-then-round-eq0-clause-came : goal.returns-then-round-eq0-clause-came
+returns-then-round-eq0-clause-came g c = came_took _ _ _ _ _ _ _ _ _ (c.in_ok-round.was)
+    (came_then_job _ _ _ _ _ _ _ _ _ _ (λ w wanted. wanted)
+    (came_first _ _ _ _ _ _ _ _ (c.in_ok-mend_all.was) (came_given Failed _ _ _ _ _ _ _ _ (λ w given tells wanted k. wanted.made) c.mend_all.ensures.came))
+    c.take_all.ensures.came)

@@ -1,0 +1,16 @@
+use Rattle.std.proofs.Common.{◌≡◌}
+use Rattle.journal_core.specs.Cores.{core_of}
+use Rattle.work_journal.specs.declared.job_err.JobErr.TheVariants as job
+use Rattle.work_journal.specs.Files.{IsWanted}
+use Rattle.work_journal.specs.Rounds.{IsRound}
+use Rattle.work_journal.specs.Runs.{Came}
+use Rattle.work_journal.proofs.JobErrLaws.{taken}
+use Rattle.work_journal.proofs.rounds.take_all.Given as goal
+
+abbrev pub invariant-loop-job : goal.invariant-loop-job
+invariant-loop-job g l = record {
+  same_tree : l.desk.tree.ghost_name ≡ l.fn.desk.tree.ghost_name;
+  same_view : g.M.Maker.view l.maker ≡ g.M.Maker.view l.fn.maker;
+  round : IsRound (g.M.Maker.view l.fn.maker) (core_of l.desk.core) l.round l.job l.in_flight;
+  came : Came job.Tree l.work (λ w. IsWanted w (g.M.Maker.view l.fn.maker)) (core_of l.fn.desk.core) (g.T.Tree.seen l.fn.desk.tree.now) (core_of l.desk.core) (g.T.Tree.seen l.desk.tree.now) taken;
+}

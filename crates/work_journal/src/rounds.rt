@@ -1,0 +1,161 @@
+//! All jobs of a run: those that an earlier start committed are moved, and the others taken in rounds
+//! that share a settle.
+//!
+//! This layer promises: at `Ok` each job is done; whatever is answered, every stop leaves the run partway
+//! where it was, for the files that the maker wants.
+//! Read first: `specs/Rounds.antt`, `specs/Files.antt`, `specs/Runs.antt`.
+ghost use Rattle.std.specs.Prelude.{◌≡◌, ◌≤◌, ◌<◌, ◌+◌, IfOk, OnOk, length, List, ℕ};
+ghost use Rattle.file_tree.specs.declared.node.TreeErr.TheVariants.{Failed};
+ghost use Rattle.dw_base.specs.declared.fault.Refusal.{Refusal};
+ghost use Rattle.journal_core.specs.Cores.{core_of};
+ghost use Rattle.work_journal.specs.declared.job_err.JobErr.TheVariants.{Tree as tree_fault};
+ghost use Rattle.work_journal.specs.Groups.{IsGroup, IsMade};
+ghost use Rattle.work_journal.specs.Files.{IsWanted};
+ghost use Rattle.work_journal.specs.Runs.{Came};
+ghost use Rattle.work_journal.specs.Rounds.{IsMending, IsBegun, IsRound, AreDone};
+
+use crate::desk::Desk;
+use crate::groups::flush_group;
+use crate::job_err::JobErr;
+use crate::jobs::move_job;
+use crate::maker::Maker;
+use crate::taking::take_job;
+use file_tree::{Tree, TreeErr};
+use journal_core::JobState;
+use std::alloc::Global;
+
+/// The jobs since the last settle: those from `first` on, of which so many were taken.
+#[derive(Clone, Copy)]
+pub(crate) struct Round {
+    pub first: u32,
+    pub taken: u8,
+}
+
+/// Moves what is left of a committed job; another job stays.
+fn mend_job<T: Tree, M: Maker>(
+    alloc: Global,
+    desk: &mut Desk<T>,
+    work: &str,
+    maker: &M,
+    job: u32,
+) -> Result<(), TreeErr>
+    requires there { job < length (M.view maker.now).steps }
+    requires mending { IsMending (M.view maker.now) (core_of desk.old.core) job }
+    ensures same_tree { desk.new.tree.ghost_name ≡ desk.old.tree.ghost_name }
+    ensures mending { OnOk result (IsMending (M.view maker.now) (core_of desk.new.core) (job + 1)) }
+    ensures came { Came Failed work.now (λ w. IsMade w (M.view maker.now)) (core_of desk.old.core) (T.seen desk.old.tree.now) (core_of desk.new.core) (T.seen desk.new.tree.now) result }
+{
+    match desk.core().job(job) {
+        JobState::Going { moved } => {
+            move_job(alloc, desk, work, maker, job, moved)?;
+            Ok(())
+        }
+        _ => Ok(()),
+    }
+}
+
+/// Moves what is left of each committed job.
+fn mend_all<T: Tree, M: Maker>(
+    alloc: Global,
+    desk: &mut Desk<T>,
+    work: &str,
+    maker: &M,
+) -> Result<(), TreeErr>
+    requires begun { IsBegun (M.view maker.now) (core_of desk.old.core) }
+    ensures same_tree { desk.new.tree.ghost_name ≡ desk.old.tree.ghost_name }
+    ensures group { OnOk result (IsGroup (M.view maker.now) (core_of desk.new.core) 0 0) }
+    ensures came { Came Failed work.now (λ w. IsMade w (M.view maker.now)) (core_of desk.old.core) (T.seen desk.old.tree.now) (core_of desk.new.core) (T.seen desk.new.tree.now) result }
+{
+    for job in 0..maker.jobs() {
+        mend_job(alloc, desk, work, maker, job)?;
+    }
+    Ok(())
+}
+
+/// Takes a job that isn't done into the round; a round that is full is settled, committed and moved.
+fn take_one<T: Tree, M: Maker>(
+    alloc: Global,
+    desk: &mut Desk<T>,
+    work: &str,
+    maker: &mut M,
+    in_flight: u8,
+    round: Round,
+    job: u32,
+) -> Result<Round, JobErr>
+    requires there { job < length (M.view maker.old).steps }
+    requires most { in_flight ≤ 64 }
+    requires round { IsRound (M.view maker.old) (core_of desk.old.core) round job in_flight }
+    ensures same_tree { desk.new.tree.ghost_name ≡ desk.old.tree.ghost_name }
+    ensures same_view { M.view maker.new ≡ M.view maker.old }
+    ensures round { IfOk result (λ r. IsRound (M.view maker.old) (core_of desk.new.core) r (job + 1) in_flight) }
+    ensures came { Came tree_fault work.now (λ w. IsWanted w (M.view maker.old)) (core_of desk.old.core) (T.seen desk.old.tree.now) (core_of desk.new.core) (T.seen desk.new.tree.now) result }
+{
+    let is_done = desk.core().job(job) == JobState::Done;
+    if is_done {
+        return Ok(round);
+    }
+    take_job(alloc, desk, work, maker, job)?;
+    let taken = round.taken + 1;
+    if taken < in_flight {
+        return Ok(Round {
+            first: round.first,
+            taken,
+        });
+    }
+    flush_group(alloc, desk, work, maker, round.first, job + 1)?;
+    Ok(Round {
+        first: job + 1,
+        taken: 0,
+    })
+}
+
+/// Takes all jobs, in rounds of so many.
+fn take_all<T: Tree, M: Maker>(
+    alloc: Global,
+    desk: &mut Desk<T>,
+    work: &str,
+    maker: &mut M,
+    in_flight: u8,
+) -> Result<Round, JobErr>
+    requires some { 0 < in_flight }
+    requires most { in_flight ≤ 64 }
+    requires group { IsGroup (M.view maker.old) (core_of desk.old.core) 0 0 }
+    ensures same_tree { desk.new.tree.ghost_name ≡ desk.old.tree.ghost_name }
+    ensures same_view { M.view maker.new ≡ M.view maker.old }
+    ensures round { IfOk result (λ r. IsRound (M.view maker.old) (core_of desk.new.core) r (length (M.view maker.old).steps) in_flight) }
+    ensures came { Came tree_fault work.now (λ w. IsWanted w (M.view maker.old)) (core_of desk.old.core) (T.seen desk.old.tree.now) (core_of desk.new.core) (T.seen desk.new.tree.now) result }
+{
+    let jobs = maker.jobs();
+    let mut round = Round { first: 0, taken: 0 };
+    for job in 0..jobs {
+        round = take_one(alloc, desk, work, maker, in_flight, round, job)?;
+    }
+    Ok(round)
+}
+
+/// Brings each job of the run to its end, with up to so many in flight, 1 to 64: jobs that an earlier
+/// start committed are moved first; of each other job the file is read, and its nodes made and put under
+/// temporary names; then one settle serves the jobs of a round, which are committed and moved.
+pub fn run_jobs<T: Tree, M: Maker>(
+    alloc: Global,
+    desk: &mut Desk<T>,
+    work: &str,
+    maker: &mut M,
+    in_flight: u8,
+) -> Result<(), JobErr>
+    requires some { 0 < in_flight }
+    requires most { in_flight ≤ 64 }
+    requires begun { IsBegun (M.view maker.old) (core_of desk.old.core) }
+    ensures same_tree { desk.new.tree.ghost_name ≡ desk.old.tree.ghost_name }
+    ensures same_view { M.view maker.new ≡ M.view maker.old }
+    ensures done { OnOk result (AreDone (M.view maker.old) (core_of desk.new.core)) }
+    ensures came { Came tree_fault work.now (λ w. IsWanted w (M.view maker.old)) (core_of desk.old.core) (T.seen desk.old.tree.now) (core_of desk.new.core) (T.seen desk.new.tree.now) result }
+{
+    mend_all(alloc, desk, work, maker)?;
+    let round = take_all(alloc, desk, work, maker, in_flight)?;
+    if round.taken == 0 {
+        return Ok(());
+    }
+    flush_group(alloc, desk, work, maker, round.first, maker.jobs())?;
+    Ok(())
+}
