@@ -1,2 +1,4 @@
 pub mod Passes
 pub mod ScanStates
+pub mod ViewUnits
+pub mod Fronts
