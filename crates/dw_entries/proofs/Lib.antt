@@ -6,3 +6,5 @@ pub mod ScanLaws
 pub mod HeaderLaws
 pub mod FrontLaws
 pub mod OffsetLaws
+pub mod UnitSectionLaws
+pub mod UnitListLaws

@@ -1,5 +1,5 @@
 -- The unit sections of a view by their numbers, and what their units are read by (DWARF 5, 7.5.1).
-use Rattle.std.specs.Prelude.{ℕ, ◌==◌, if◌then◌else◌, List, [], ◌∷◌, Option, Some, None}
+use Rattle.std.specs.Prelude.{◌≡◌, ℕ, ◌==◌, if◌then◌else◌, List, [], ◌∷◌, Option, Some, None}
 use Rattle.dw_base.specs.DebugData.{DebugData}
 use Rattle.dw_base.specs.FileViews.{View}
 use Rattle.dw_base.specs.UnitHeaders.{UnitBase, UnitSection, SectionKind, in_info, in_types}
@@ -28,3 +28,7 @@ unit_section_at v i = section_or_empty i (numbered (unit_sections v) i)
 abbrev pub as_kind : UnitsOf → SectionKind
 as_kind Info = in_info
 as_kind Types = in_types
+
+-- the view has a unit section of the number
+abbrev pub IsUnitSection : View → ℕ → Type 0
+IsUnitSection v i = numbered (unit_sections v) i ≡ Some (unit_section_at v i)

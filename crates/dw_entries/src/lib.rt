@@ -3,6 +3,7 @@
 
 mod front;
 mod header;
+mod headers;
 mod nulls;
 mod places;
 mod scan;

@@ -1,0 +1,207 @@
+-- The unit section of a number is a section of the view: its name, its bytes, and where it is.
+use Rattle.std.proofs.Common.{Bool, true, false, ◌≡◌, ℕ, zero, suc, ◌+◌, ◌-◌, ◌≤◌, ◌<◌, ◌==◌, ◌&&◌, if◌then◌else◌, List, [], ◌∷◌, ◌++◌, length, take, drop, Option, Some, None, refl, sym, ap, ◌∙◌, subst, arith}
+use Rattle.std.proofs.lemmas.Bool.{eqb-true}
+use Rattle.std.proofs.lemmas.List.{drop-drop}
+use Rattle.dw_base.specs.Cells.{Cell, plain_cells}
+use Rattle.dw_base.specs.DebugSections.{debug_section, name_of}
+use Rattle.dw_base.specs.FileViews.{View, ViewSection, contents_in, section_bytes, is_filled, first_filled, section_after}
+use Rattle.dw_base.specs.Texts.{same_text}
+use Rattle.dw_base.specs.UnitHeaders.{UnitSection, SectionKind, in_info, in_types}
+use Rattle.dw_base.specs.ViewData.{cells_in, unit_kind, unit_section, unit_sections_from, unit_sections}
+use Rattle.dw_base.specs.declared.debug_sections.DebugSection.{DebugSection}
+use Rattle.dw_base.specs.declared.debug_sections.DebugSection.TheVariants.{Info, Types, Abbrev, Str, LineStr, StrOffsets, Line, Macro, Names}
+use Rattle.dw_base.proofs.DebugSectionLaws.{debug_section-name, debug_section-named}
+use Rattle.dw_base.proofs.FileViewLaws.{section_after-within}
+use Rattle.dw_base.proofs.TextLaws.{same_text-true, same_text-refl}
+use Rattle.dw_entries.specs.Fronts.{IsOfView}
+use Rattle.dw_entries.specs.ViewUnits.{numbered, section_or_empty, unit_section_at, IsUnitSection}
+
+-- a unit section of a list of sections, so many behind the first
+record Placed (ss : List ViewSection) (k n : ℕ) (z : UnitSection) : Type 0 where
+  section : ViewSection
+  rest : List ViewSection
+  there : drop k ss ≡ section ∷ rest
+  has : section.has_bytes ≡ true
+  kind : unit_kind (debug_section section.name) ≡ Some z.kind
+  number : z.number ≡ n
+  contents : z.contents ≡ cells_in section.contents
+
+-- and how many behind the first it is
+record PlacedFrom (i : ℕ) (ss : List ViewSection) (n : ℕ) (z : UnitSection) : Type 0 where
+  index : ℕ
+  at : n ≡ i + index
+  placed : Placed ss index n z
+
+placed-further : (i : ℕ) (s : ViewSection) (ss : List ViewSection) (n : ℕ) (z : UnitSection) → PlacedFrom (suc i) ss n z → PlacedFrom i (s ∷ ss) n z
+placed-further i s ss n z p =
+    let at : n ≡ suc i + p.index = p.at in
+    record {
+      index = suc p.index;
+      at = omega (arith, at);
+      placed = record { section = p.placed.section; rest = p.placed.rest; there = p.placed.there; has = p.placed.has; kind = p.placed.kind; number = p.placed.number; contents = p.placed.contents };
+    }
+
+-- one section, in front of the others
+one-placed : (i : ℕ) (s : ViewSection) (ss : List ViewSection) (n : ℕ) (z : UnitSection) (has : Bool) (kind : Option SectionKind)
+    → s.has_bytes ≡ has → unit_kind (debug_section s.name) ≡ kind → (numbered (unit_sections_from (suc i) ss) n ≡ Some z → PlacedFrom i (s ∷ ss) n z)
+    → numbered ((if has then unit_section i s kind else []) ++ unit_sections_from (suc i) ss) n ≡ Some z → PlacedFrom i (s ∷ ss) n z
+one-placed i s ss n z false kind h k further e = further e
+one-placed i s ss n z true None h k further e = further e
+one-placed i s ss n z true (Some kind) h k further e = by_number (i == n) refl e
+  where
+    by_number : (b : Bool) → (i == n) ≡ b
+        → (if b then Some (record { number = i; kind = kind; contents = cells_in s.contents }) else numbered (unit_sections_from (suc i) ss) n) ≡ Some z
+        → PlacedFrom i (s ∷ ss) n z
+    by_number true same e =
+        let z_is : record { number = i; kind = kind; contents = cells_in s.contents } ≡ z = cc in
+        let at : i ≡ n = eqb-true i n same in
+        record {
+          index = 0;
+          at = omega (arith, at);
+          placed = record {
+            section = s;
+            rest = ss;
+            there = refl;
+            has = h;
+            kind = k ∙ ap (λ (y : UnitSection). Some y.kind) z_is;
+            number = ap (λ (y : UnitSection). y.number) (sym z_is) ∙ at;
+            contents = ap (λ (y : UnitSection). y.contents) (sym z_is);
+          };
+        }
+    by_number false other e = further e
+
+numbered-placed : (i : ℕ) (ss : List ViewSection) (n : ℕ) (z : UnitSection) → numbered (unit_sections_from i ss) n ≡ Some z → PlacedFrom i ss n z
+numbered-placed i [] n z e = absurd cc
+numbered-placed i (s ∷ ss) n z e =
+    one-placed i s ss n z s.has_bytes (unit_kind (debug_section s.name)) refl refl
+    (λ f. placed-further i s ss n z (numbered-placed (suc i) ss n z f)) e
+
+-- the contents of a section, and that it is there
+contents-there : (ss : List ViewSection) (n : ℕ) (s : ViewSection) (rest : List ViewSection) → drop n ss ≡ s ∷ rest → contents_in ss n ≡ s.contents
+contents-there [] zero s rest e = absurd cc
+contents-there [] (suc n) s rest e = absurd cc
+contents-there (x ∷ xs) zero s rest e = ap (λ (ys : List ViewSection). contents_in ys 0) e
+contents-there (x ∷ xs) (suc n) s rest e = contents-there xs n s rest e
+
+drop-below : (ss : List ViewSection) (n : ℕ) (s : ViewSection) (rest : List ViewSection) → drop n ss ≡ s ∷ rest → n < length ss
+drop-below [] zero s rest e = absurd cc
+drop-below [] (suc n) s rest e = absurd cc
+drop-below (x ∷ xs) zero s rest e = omega arith
+drop-below (x ∷ xs) (suc n) s rest e = let lt = drop-below xs n s rest e in omega arith
+
+-- the unit section of a number, as a section of the view
+pub record FoundSection (v : View) (n : ℕ) (z : UnitSection) : Type 0 where
+  pub section : ViewSection
+  pub rest : List ViewSection
+  pub there : drop n v.sections ≡ section ∷ rest
+  pub above : 1 ≤ n
+  pub has : section.has_bytes ≡ true
+  pub kind : unit_kind (debug_section section.name) ≡ Some z.kind
+  pub number : z.number ≡ n
+  pub contents : z.contents ≡ cells_in section.contents
+
+pub found-section : (v : View) (n : ℕ) (z : UnitSection) → numbered (unit_sections v) n ≡ Some z → FoundSection v n z
+unfolding unit_sections
+found-section v n z e =
+    let p = numbered-placed 1 (drop 1 v.sections) n z e in
+    let at : n ≡ 1 + p.index = p.at in
+    record {
+      section = p.placed.section;
+      rest = p.placed.rest;
+      there = ap (λ (k : ℕ). drop k v.sections) (omega (arith, at)) ∙ sym (drop-drop p.index 1 v.sections) ∙ p.placed.there;
+      above = omega (arith, at);
+      has = p.placed.has;
+      kind = p.placed.kind;
+      number = p.placed.number;
+      contents = p.placed.contents;
+    }
+
+pub of-view : (v : View) (n : ℕ) (z : UnitSection) → numbered (unit_sections v) n ≡ Some z → IsOfView v n z
+unfolding section_bytes
+of-view v n z e =
+    let f = found-section v n z e in
+    record {
+      there = drop-below v.sections n f.section f.rest f.there;
+      number = f.number;
+      contents = f.contents ∙ ap plain_cells (sym (contents-there v.sections n f.section f.rest f.there));
+    }
+
+pub is-of-view : (v : View) (n : ℕ) → IsUnitSection v n → IsOfView v n (unit_section_at v n)
+is-of-view v n e = of-view v n (unit_section_at v n) e
+
+-- Which of the two kinds it is: the section of types is the first of that name from its number on.
+after-here : (v : View) (n : ℕ) (z : UnitSection) (name : List ℕ) → (f : FoundSection v n z)
+    → section_after v name (n - 1) ≡ (if f.section.has_bytes && same_text f.section.name name then Some n else section_after v name n)
+unfolding section_after
+after-here v n z name f =
+    let above : 1 ≤ n = f.above in
+    let number : suc (n - 1) ≡ n = omega (arith, above) in
+    let one : suc n ≡ n + 1 = omega arith in
+    let tail : drop (suc n) v.sections ≡ f.rest = ap (λ (k : ℕ). drop k v.sections) one ∙ sym (drop-drop 1 n v.sections) ∙ ap (drop 1) f.there in
+    ap (λ (k : ℕ). first_filled name k (drop k v.sections)) number ∙ ap (first_filled name n) f.there
+    ∙ ap (λ (ss : List ViewSection). if f.section.has_bytes && same_text f.section.name name then Some n else first_filled name (suc n) ss) (sym tail)
+
+here-or-after : (v : View) (n : ℕ) (z : UnitSection) (name : List ℕ) → (f : FoundSection v n z)
+    → section_after v name (n - 1) ≡ (if same_text f.section.name name then Some n else section_after v name n)
+here-or-after v n z name f =
+    after-here v n z name f ∙ ap (λ (b : Bool). if b && same_text f.section.name name then Some n else section_after v name n) f.has
+
+types-only : (o : Option DebugSection) → unit_kind o ≡ Some in_types → o ≡ Some Types
+types-only None e = absurd cc
+types-only (Some Info) e = absurd (other (some-kind in_info in_types e))
+  where
+    some-kind : (a b : SectionKind) → Some a ≡ Some b → a ≡ b
+    some-kind a b e = cc
+
+    other : in_info ≡ in_types → ⊥
+    other e = cc
+types-only (Some Types) e = refl
+types-only (Some Abbrev) e = absurd cc
+types-only (Some Str) e = absurd cc
+types-only (Some LineStr) e = absurd cc
+types-only (Some StrOffsets) e = absurd cc
+types-only (Some Line) e = absurd cc
+types-only (Some Macro) e = absurd cc
+types-only (Some Names) e = absurd cc
+
+same-kind : (a b : SectionKind) (o : Option SectionKind) → o ≡ Some a → o ≡ Some b → a ≡ b
+same-kind a b o e f = cc
+
+-- the number was found
+pub is-types : (v : View) (n : ℕ) (z : UnitSection) (name : List ℕ) (found : ℕ) → numbered (unit_sections v) n ≡ Some z → name ≡ name_of Types
+    → Some found ≡ section_after v name (n - 1) → found ≡ n → in_types ≡ z.kind
+is-types v n z name found e name_is found_is same =
+    let f = found-section v n z e in
+    by_name f (same_text f.section.name (name_of Types)) refl
+    (sym (here-or-after v n z (name_of Types) f) ∙ ap (λ (t : List ℕ). section_after v t (n - 1)) (sym name_is) ∙ sym found_is ∙ ap Some same)
+  where
+    after-itself : section_after v (name_of Types) n ≡ Some n → ⊥
+    after-itself e = let above = (section_after-within v (name_of Types) n n e).0 in omega (arith, above)
+
+    by_name : (f : FoundSection v n z) (b : Bool) → same_text f.section.name (name_of Types) ≡ b
+        → (if same_text f.section.name (name_of Types) then Some n else section_after v (name_of Types) n) ≡ Some n → in_types ≡ z.kind
+    by_name f true is g =
+        same-kind in_types z.kind (unit_kind (debug_section f.section.name))
+        (ap (λ (t : List ℕ). unit_kind (debug_section t)) (same_text-true f.section.name (name_of Types) is) ∙ ap unit_kind (debug_section-name Types)) f.kind
+    by_name f false is g =
+        absurd (after-itself (ap (λ (b : Bool). if b then Some n else section_after v (name_of Types) n) (sym is) ∙ g))
+
+-- it wasn't
+pub is-info : (v : View) (n : ℕ) (z : UnitSection) (name : List ℕ) (o : Option ℕ) → numbered (unit_sections v) n ≡ Some z → name ≡ name_of Types
+    → o ≡ section_after v name (n - 1) → (o ≡ Some n → ⊥) → in_info ≡ z.kind
+is-info v n z name o e name_is o_is other = by_kind z.kind refl
+  where
+    f : FoundSection v n z
+    f = found-section v n z e
+
+    by_kind : (k : SectionKind) → z.kind ≡ k → in_info ≡ z.kind
+    by_kind in_info is = sym is
+    by_kind in_types is =
+        let found : debug_section f.section.name ≡ Some Types = types-only (debug_section f.section.name) (f.kind ∙ ap Some is) in
+        let same : same_text f.section.name (name_of Types) ≡ true =
+        ap (λ (t : List ℕ). same_text t (name_of Types)) (debug_section-named f.section.name Types found) ∙ same_text-refl (name_of Types) in
+        absurd (other (o_is ∙ ap (λ (t : List ℕ). section_after v t (n - 1)) name_is ∙ here-or-after v n z (name_of Types) f
+        ∙ ap (λ (b : Bool). if b then Some n else section_after v (name_of Types) n) same))
+
+pub above-none : (v : View) (n : ℕ) → IsUnitSection v n → 1 ≤ n
+above-none v n e = (found-section v n (unit_section_at v n) e).above

@@ -1,0 +1,90 @@
+//! The units of a section (DWARF 5, 7.5.1).
+
+ghost use Rattle.std.specs.Prelude.{◌≡◌, ◌≤◌, List, length, IfOk, IfErr, OnOk};
+ghost use Rattle.dw_base.specs.FileViews.{section_bytes};
+ghost use Rattle.dw_base.specs.Refusals.{Blames};
+ghost use Rattle.dw_base.specs.UnitFails.{UnitFails};
+ghost use Rattle.dw_base.specs.UnitHeaders.{AreUnits};
+ghost use Rattle.dw_base.specs.declared.fault.Refusal.{Refusal as RefusalOf};
+ghost use Rattle.dw_base.specs.declared.units.UnitHeader.{UnitHeader as HeaderOf};
+ghost use Rattle.dw_entries.specs.ViewUnits.{as_kind, IsUnitSection, unit_base, unit_section_at};
+
+use crate::header::unit_at;
+use crate::unit_kinds::UnitsOf;
+use dw_base::{DebugSection, Fault, UnitHeader};
+use dw_view::View;
+use std::alloc::Global;
+use std::marker::Model;
+
+/// The units of a section, in the order of their places.
+#[derive(Drop, Debug)]
+pub struct UnitHeaders {
+    list: Vec<UnitHeader>,
+}
+
+impl Model for UnitHeaders {
+    ghost Value = { List HeaderOf };
+
+    ghost view = { λ u. u.list.items };
+}
+
+impl UnitHeaders {
+    /// The units.
+    pub fn as_slice(&self) -> &[UnitHeader]
+        ensures value { result.now ≡ self.now }
+    {
+        self.list.as_slice()
+    }
+
+    /// The units, as a vector.
+    pub fn into_vec(self) -> Vec<UnitHeader>
+        ensures value { result.items ≡ self }
+    {
+        let UnitHeaders { list } = self;
+        list
+    }
+
+    /// How many units there are.
+    pub fn len(&self) -> usize
+        ensures value { result ≡ length self.now }
+    {
+        self.list.len()
+    }
+}
+
+/// Which of the two kinds a unit section is.
+fn kind_of(view: &View, section: u32) -> UnitsOf
+    requires there { IsUnitSection view.now section }
+    requires above { 1 ≤ section }
+    ensures kind { as_kind result ≡ (unit_section_at view.now section).kind }
+{
+    let Some(types) = view.section(DebugSection::Types.name(), section - 1) else {
+        return UnitsOf::Info;
+    };
+    if types == section {
+        return UnitsOf::Types;
+    }
+    UnitsOf::Info
+}
+
+/// The units of the section of a number, a unit section of the view. Refused at the unit exactly where
+/// the units don't fill the section: as `SplitDwarf` where one is of split DWARF, else as `Unit` where no
+/// header that a unit may have stands behind the units so far, or its unit passes the section's end.
+#[tactic(auto, using(crate::proofs::UnitListLaws::list_laws))]
+pub fn unit_headers(alloc: Global, view: &View, section: u32) -> Result<UnitHeaders, Fault>
+    requires there { IsUnitSection view.now section }
+    ensures units { IfOk result (AreUnits (unit_base view.now) (unit_section_at view.now section)) }
+    ensures none { OnOk result ((r : RefusalOf) → UnitFails (unit_base view.now) (unit_section_at view.now section) r → ⊥) }
+    ensures refused { IfErr result (Blames (UnitFails (unit_base view.now) (unit_section_at view.now section))) }
+{
+    let kind = kind_of(view, section);
+    let len = view.bytes(section).len() as u64;
+    let mut list = Vec::new(alloc);
+    let mut start = 0;
+    'units: while start < len {
+        let unit = unit_at(view, section, kind, start)?;
+        start = unit.end;
+        list.push(unit)?;
+    }
+    Ok(UnitHeaders { list })
+}
