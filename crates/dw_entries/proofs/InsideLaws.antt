@@ -1,10 +1,10 @@
 -- A value that stands at a place lies within the bytes.
-use Rattle.std.proofs.Common.{◌≡◌, ℕ, ℤ, ◌+◌, ◌≤◌, ◌<◌, Bool, true, false, if◌then◌else◌, List, length, drop, Option, Some, None, IfSome, refl, sym, ap, ◌∙◌, subst, arith}
+use Rattle.std.proofs.Common.{◌≡◌, ℕ, ℤ, ◌+◌, ◌≤◌, Bool, true, false, if◌then◌else◌, List, length, drop, Option, Some, None, IfSome, refl, ap, subst, arith}
 use Rattle.std.specs.Prelude.{nat_le}
 use Rattle.std.proofs.lemmas.Bool.{leb-true}
 use Rattle.std.proofs.lemmas.List.{length-drop}
 use Rattle.dw_base.specs.Forms.{ValueKind, number_of, leb_number, signed_leb, block_of, counted, counted_leb, inline_text, text_offset, present, in_abbreviation, form_in_front, supplementary, unlisted, kind_in}
-use Rattle.dw_base.specs.Lebs.{uleb, uleb_at, uleb_within, sleb, sleb_at, sleb_within, IsSized}
+use Rattle.dw_base.specs.Lebs.{uleb_at, sleb_at, IsSized}
 use Rattle.dw_base.specs.Numbers.{number_at, spelled}
 use Rattle.dw_base.specs.Texts.{text_in, ends_in}
 use Rattle.dw_base.specs.Values.{number_value, leb_value_at, signed_value_at, block_value, counted_value, counted_leb_value, text_value, bare_value, offset_class, value_of, chosen_value, behind, indirect_value, value_by, value_at}

@@ -8,3 +8,4 @@ pub mod FrontLaws
 pub mod OffsetLaws
 pub mod UnitSectionLaws
 pub mod UnitListLaws
+pub mod HasUnitLaws

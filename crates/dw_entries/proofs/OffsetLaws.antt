@@ -1,7 +1,7 @@
 -- What the code reads of a header, in the words of its section.
-use Rattle.std.proofs.Common.{Bool, true, false, ◌≡◌, ℕ, zero, suc, ◌+◌, ◌-◌, ◌≤◌, ◌<◌, ◌==◌, if◌then◌else◌, List, [], ◌∷◌, length, take, drop, Option, Some, None, refl, sym, ap, ◌∙◌, subst, arith}
-use Rattle.std.proofs.lemmas.List.{length-take, length-drop, drop-drop}
-use Rattle.dw_base.specs.Cells.{Cell, Located, bytes_of, plain_cells, cells_at, offset_into, offset_of}
+use Rattle.std.proofs.Common.{◌≡◌, ℕ, zero, suc, ◌+◌, ◌≤◌, ◌==◌, if◌then◌else◌, List, [], ◌∷◌, length, take, drop, Option, None, refl, sym, ap, ◌∙◌, arith}
+use Rattle.std.proofs.lemmas.List.{length-take, length-drop}
+use Rattle.dw_base.specs.Cells.{Cell, bytes_of, plain_cells, cells_at, offset_into, offset_of}
 use Rattle.dw_base.specs.DebugSections.{name_of}
 use Rattle.dw_base.specs.FileViews.{View, section_bytes, section_named, field_at}
 use Rattle.dw_base.specs.Forms.{width_size}
@@ -13,10 +13,9 @@ use Rattle.dw_base.specs.declared.debug_sections.DebugSection.TheVariants.{Abbre
 use Rattle.dw_base.specs.declared.dwarf_numbers.TheConstants.{DW_UT_type}
 use Rattle.dw_base.specs.declared.shared.Order.{Order}
 use Rattle.dw_base.specs.declared.shared.Width.{Width}
-use Rattle.dw_base.specs.declared.units.UnitHeader.{UnitHeader}
 use Rattle.dw_base.specs.declared.view_fields.Field.{Field}
 use Rattle.dw_base.proofs.NumberLaws.{spelled-take, spelled-drop}
-use Rattle.dw_base.proofs.PlainCellLaws.{IsPlain, bytes_of-plain, plain_cells-plain, length-plain_cells, offset_of-plain}
+use Rattle.dw_base.proofs.PlainCellLaws.{bytes_of-plain, plain_cells-plain, length-plain_cells, offset_of-plain}
 use Rattle.dw_entries.specs.Fronts.{IsOfView}
 use Rattle.dw_entries.specs.ViewUnits.{unit_base}
 use Rattle.dw_entries.proofs.FrontLaws.{number-read}
@@ -88,8 +87,17 @@ pub header-built : (base : UnitBase) (z : UnitSection) (start section extent end
     → signature ≡ (if kind == DW_UT_type then spelled base.order (bytes_from z start) places.behind 8 else 0)
     → type_offset ≡ (if kind == DW_UT_type then spelled base.order (bytes_from z start) (places.behind + 8) (width_size width) else 0)
     → first ≡ start + places.behind + further_size width kind
-    → record { section = section; start = start; end = end; params = record { order = order; width = width; version = version; address = address }; kind = kind;
-      abbrevs = abbrevs; signature = signature; type_offset = type_offset; first = first }
+    → record {
+      section = section;
+      start = start;
+      end = end;
+      params = record { order = order; width = width; version = version; address = address };
+      kind = kind;
+      abbrevs = abbrevs;
+      signature = signature;
+      type_offset = type_offset;
+      first = first;
+    }
     ≡ header_with base z.number start (drop start z.contents) width extent version kind places
 header-built base z start section extent end version kind address abbrevs signature type_offset first width order places e1 e2 e3 e4 e5 e6 e7 e8 =
     rw (e1, e2, e3, e4, e5, e6, e7, e8) refl

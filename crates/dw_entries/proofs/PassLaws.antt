@@ -1,5 +1,5 @@
 -- The parts of a step make the step.
-use Rattle.std.proofs.Common.{◌≡◌, ◌≢◌, ℕ, ◌+◌, ◌-◌, ◌≤◌, ◌<◌, List, [], ◌∷◌, ◌++◌, length, take, drop, Option, Some, None, sym, ap, ◌∙◌, subst, arith, refl}
+use Rattle.std.proofs.Common.{◌≡◌, ℕ, ◌+◌, ◌-◌, ◌≤◌, List, length, Some, None, ap, subst}
 use Rattle.dw_base.specs.Lebs.{uleb_at, uleb, uleb_within}
 use Rattle.std.proofs.lemmas.List.{drop_all}
 use Rattle.dw_entries.specs.Passes.{Nulls, no_nulls, more_nulls, IsCode}

@@ -1,13 +1,12 @@
 -- A step of the pass over a unit, as the iterator gives it.
-use Rattle.std.proofs.Common.{Bool, true, false, ◌≡◌, ℕ, ◌+◌, ◌≤◌, List, [], ◌∷◌, ◌++◌, length, refl, sym, ap, ◌∙◌, arith}
+use Rattle.std.proofs.Common.{Bool, true, false, ◌≡◌, ℕ, ◌+◌, List, [], ◌∷◌, refl, sym, ap, ◌∙◌, arith}
 use Rattle.std.proofs.lemmas.List.{length-append}
 use Rattle.dw_base.specs.AbbreviationTables.{Abbreviation}
-use Rattle.dw_base.specs.EntryScans.{Scans}
 use Rattle.dw_base.specs.declared.fault.Refusal.{Refusal}
 use Rattle.dw_base.specs.declared.units.Scanned.{Scanned}
 use Rattle.dw_base.specs.declared.units.UnitHeader.{UnitHeader}
 use Rattle.dw_entries.specs.Passes.{ComesNext, StopsHere, IsWhole}
-use Rattle.dw_entries.specs.ScanStates.{ScanState, HasGiven, GivesEntry, GivesRefusal, GivesNothing}
+use Rattle.dw_entries.specs.ScanStates.{ScanState, GivesEntry, GivesRefusal, GivesNothing}
 
 abbrev state_of : UnitHeader → List Abbreviation → List ℕ → ℕ → ℕ → ℕ → Bool → ScanState
 state_of h table bytes place depth number over =

@@ -1,10 +1,9 @@
 -- The parts of a step through the entries of a unit.
-use Rattle.std.proofs.Common.{Bool, true, false, ◌≡◌, ◌≢◌, ℕ, ◌+◌, ◌-◌, ◌≤◌, ◌<◌, List, [], ◌∷◌, ◌++◌, length, Option, Some, None, refl, sym, ap, ◌∙◌, subst, arith}
+use Rattle.std.proofs.Common.{Bool, true, false, ◌≡◌, ◌≢◌, ℕ, ◌+◌, List, [], ◌∷◌, ◌++◌, Some, None, refl, sym, ap, ◌∙◌, subst}
 use Rattle.dw_base.specs.AbbreviationTables.{Abbreviation, abbreviation_of}
-use Rattle.dw_base.specs.EntryScans.{SpellsValues, ValuesFail, is_split_root, IsEntry, depth_behind, scanned, Scans, starts, null, entry, AreEntries, EntryFails, code_passes, no_code, split, values, open_list}
+use Rattle.dw_base.specs.EntryScans.{SpellsValues, ValuesFail, is_split_root, depth_behind, scanned, Scans, null, entry, EntryFails, code_passes, no_code, split, values, open_list}
 use Rattle.dw_base.specs.Lebs.{uleb_at}
 use Rattle.dw_base.specs.Refusals.{at}
-use Rattle.dw_base.specs.declared.fault.Kind.{Kind}
 use Rattle.dw_base.specs.declared.fault.Kind.TheVariants.{Entry, SplitDwarf}
 use Rattle.dw_base.specs.declared.fault.Refusal.{Refusal}
 use Rattle.dw_base.specs.declared.units.Scanned.{Scanned}

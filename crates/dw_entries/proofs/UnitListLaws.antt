@@ -1,12 +1,11 @@
 -- The units of a section, one after another.
-use Rattle.std.proofs.Common.{◌≡◌, ℕ, ◌≤◌, ◌<◌, List, [], ◌∷◌, ◌++◌, length, sym, ap, ◌∙◌, subst, arith}
+use Rattle.std.proofs.Common.{◌≡◌, ℕ, ◌≤◌, ◌<◌, List, length, subst, arith}
 use Rattle.dw_base.specs.FileViews.{View, section_bytes}
 use Rattle.dw_base.specs.UnitFails.{HeaderFails, UnitFails, unit}
 use Rattle.dw_base.specs.UnitHeaders.{UnitBase, UnitSection, IsUnit, UnitsUpTo, no_units, more_units, AreUnits}
 use Rattle.dw_base.specs.declared.fault.Refusal.{Refusal}
 use Rattle.dw_base.specs.declared.units.UnitHeader.{UnitHeader}
 use Rattle.dw_base.proofs.UnitRowLaws.{units-exclude}
-use Rattle.dw_entries.specs.Fronts.{IsOfView}
 use Rattle.dw_entries.specs.ViewUnits.{IsUnitSection, unit_base, unit_section_at}
 use Rattle.dw_entries.proofs.OffsetLaws.{length-contents}
 use Rattle.dw_entries.proofs.UnitSectionLaws.{above-none, is-of-view}

@@ -1,10 +1,10 @@
 -- The unit section of a number is a section of the view: its name, its bytes, and where it is.
-use Rattle.std.proofs.Common.{Bool, true, false, ◌≡◌, ℕ, zero, suc, ◌+◌, ◌-◌, ◌≤◌, ◌<◌, ◌==◌, ◌&&◌, if◌then◌else◌, List, [], ◌∷◌, ◌++◌, length, take, drop, Option, Some, None, refl, sym, ap, ◌∙◌, subst, arith}
+use Rattle.std.proofs.Common.{Bool, true, false, ◌≡◌, ℕ, zero, suc, ◌+◌, ◌-◌, ◌≤◌, ◌<◌, ◌==◌, ◌&&◌, if◌then◌else◌, List, [], ◌∷◌, ◌++◌, length, drop, Option, Some, None, refl, sym, ap, ◌∙◌, arith}
 use Rattle.std.proofs.lemmas.Bool.{eqb-true}
 use Rattle.std.proofs.lemmas.List.{drop-drop}
-use Rattle.dw_base.specs.Cells.{Cell, plain_cells}
+use Rattle.dw_base.specs.Cells.{plain_cells}
 use Rattle.dw_base.specs.DebugSections.{debug_section, name_of}
-use Rattle.dw_base.specs.FileViews.{View, ViewSection, contents_in, section_bytes, is_filled, first_filled, section_after}
+use Rattle.dw_base.specs.FileViews.{View, ViewSection, contents_in, section_bytes, first_filled, section_after}
 use Rattle.dw_base.specs.Texts.{same_text}
 use Rattle.dw_base.specs.UnitHeaders.{UnitSection, SectionKind, in_info, in_types}
 use Rattle.dw_base.specs.ViewData.{cells_in, unit_kind, unit_section, unit_sections_from, unit_sections}
@@ -14,7 +14,7 @@ use Rattle.dw_base.proofs.DebugSectionLaws.{debug_section-name, debug_section-na
 use Rattle.dw_base.proofs.FileViewLaws.{section_after-within}
 use Rattle.dw_base.proofs.TextLaws.{same_text-true, same_text-refl}
 use Rattle.dw_entries.specs.Fronts.{IsOfView}
-use Rattle.dw_entries.specs.ViewUnits.{numbered, section_or_empty, unit_section_at, IsUnitSection}
+use Rattle.dw_entries.specs.ViewUnits.{numbered, unit_section_at, IsUnitSection}
 
 -- a unit section of a list of sections, so many behind the first
 record Placed (ss : List ViewSection) (k n : ℕ) (z : UnitSection) : Type 0 where
@@ -75,6 +75,12 @@ numbered-placed i [] n z e = absurd cc
 numbered-placed i (s ∷ ss) n z e =
     one-placed i s ss n z s.has_bytes (unit_kind (debug_section s.name)) refl refl
     (λ f. placed-further i s ss n z (numbered-placed (suc i) ss n z f)) e
+
+pub numbered-above : (i : ℕ) (ss : List ViewSection) (n : ℕ) (z : UnitSection) → numbered (unit_sections_from i ss) n ≡ Some z → i ≤ n
+numbered-above i ss n z e =
+    let p = numbered-placed i ss n z e in
+    let at : n ≡ i + p.index = p.at in
+    omega (arith, at)
 
 -- the contents of a section, and that it is there
 contents-there : (ss : List ViewSection) (n : ℕ) (s : ViewSection) (rest : List ViewSection) → drop n ss ≡ s ∷ rest → contents_in ss n ≡ s.contents

@@ -1,6 +1,5 @@
 -- The unit sections of a view by their numbers, and what their units are read by (DWARF 5, 7.5.1).
 use Rattle.std.specs.Prelude.{◌≡◌, ℕ, ◌==◌, if◌then◌else◌, List, [], ◌∷◌, Option, Some, None}
-use Rattle.dw_base.specs.DebugData.{DebugData}
 use Rattle.dw_base.specs.FileViews.{View}
 use Rattle.dw_base.specs.UnitHeaders.{UnitBase, UnitSection, SectionKind, in_info, in_types}
 use Rattle.dw_base.specs.ViewData.{debug_data, unit_sections}

@@ -19,9 +19,7 @@ use crate::front::{Front, bytes_behind, front_at, refused};
 use crate::places::{further_size, width_size};
 use crate::unit_kinds::{UnitsOf, is_address_size};
 use dw_base::dwarf_numbers::DW_UT_type;
-use dw_base::{
-    DebugSection, Field, Kind, Order, Params, Refusal, UnitHeader, Width, number_in,
-};
+use dw_base::{DebugSection, Field, Kind, Order, Params, Refusal, UnitHeader, Width, number_in};
 use dw_view::View;
 
 /// The section of abbreviations: its number and its length, both 0 where there is none.
@@ -43,26 +41,14 @@ fn offset_into(view: &View, field: Field) -> u64
     let (number, len) = abbrevs_of(view);
     match field {
         Field::Num(offset) => offset,
-        Field::Into { section, offset } => {
-            if section == number {
-                offset
-            } else {
-                len
-            }
-        }
+        Field::Into { section, offset } => { if section == number { offset } else { len } }
         Field::Sym { .. } => len,
     }
 }
 
 /// The offset of the abbreviations in the field at a place of a unit.
 #[tactic(auto, using(crate::proofs::OffsetLaws::offset_rules))]
-fn abbrevs_at(
-    view: &View,
-    section: u32,
-    start: u64,
-    at: u64,
-    size: u8,
-) -> Result<u64, Refusal>
+fn abbrevs_at(view: &View, section: u32, start: u64, at: u64, size: u8) -> Result<u64, Refusal>
     requires of_view { IsOfView view.now section (unit_section_at view.now section) }
     requires start { start ≤ 2 ^ 31 }
     requires near { at ≤ 24 }

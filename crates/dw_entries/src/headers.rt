@@ -1,4 +1,7 @@
 //! The units of a section (DWARF 5, 7.5.1).
+//!
+//! This file promises: the units that are given fill the section, and it is refused only where one of them
+//! can't be read, at that unit. It takes one look at each header, and none at the entries.
 
 ghost use Rattle.std.specs.Prelude.{◌≡◌, ◌≤◌, List, length, IfOk, IfErr, OnOk};
 ghost use Rattle.dw_base.specs.FileViews.{section_bytes};

@@ -1,6 +1,32 @@
-//! The units of a section, and the entries of a unit (DWARF 5, 7.5.1 to 7.5.3).
+//! The units of a section, and the entries of a unit (DWARF 5, 7.5.1 to 7.5.3; for versions 2 to 4 the
+//! standards' own).
+//!
+//! This layer promises: the units that are given fill their section, with the headers that stand there, in
+//! 32-bit and 64-bit DWARF of versions 2 to 5; the entries that a pass gives are those of the unit, in the
+//! order of their places, each with its depth; both are refused only where a unit or an entry can't be
+//! read, at its place. A pass takes no memory and doesn't recurse, and it ends without an error only where
+//! all lists of children are closed at the unit's end.
+//! It does not promise: anything of tags, and of attributes no more than that their values can be read.
+//! Read first: `dw_base/specs/UnitHeaders.antt`, `dw_base/specs/EntryScans.antt`, then
+//! `specs/ScanStates.antt`.
+//!
+//! ```
+//! use dw_entries::{unit_headers, EntryScan};
+//!
+//! if let Some(info) = view.first(DebugSection::Info) {
+//!     let units = unit_headers(alloc, &view, info)?;
+//!     for unit in units.as_slice() {
+//!         let table = AbbrevTable::read(alloc, abbrevs, view.bytes(abbrevs), unit.abbrevs)?;
+//!         for entry in EntryScan::new(&view, unit, &table) {
+//!             let entry = entry?;
+//!             let code = entry.code;
+//!         }
+//!     }
+//! }
+//! ```
 #![tactic(auto)]
 
+mod entry_values;
 mod front;
 mod header;
 mod headers;
@@ -9,5 +35,7 @@ mod places;
 mod scan;
 mod step;
 mod unit_kinds;
-mod entry_values;
+
+pub use dw_base::{Fault, Kind, NoMemory, Params, Refusal, Scanned, UnitHeader};
+pub use headers::{UnitHeaders, unit_headers};
 pub use scan::EntryScan;

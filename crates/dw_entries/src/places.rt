@@ -5,9 +5,7 @@ ghost use Rattle.dw_base.specs.Forms.{width_size};
 ghost use Rattle.dw_base.specs.UnitHeaders.{further_size, header_places};
 
 use dw_base::Width;
-use dw_base::dwarf_numbers::{
-    DW_UT_skeleton, DW_UT_split_compile, DW_UT_split_type, DW_UT_type,
-};
+use dw_base::dwarf_numbers::{DW_UT_skeleton, DW_UT_split_compile, DW_UT_split_type, DW_UT_type};
 
 /// How many bytes an offset has.
 pub(crate) fn width_size(width: Width) -> u8

@@ -1,19 +1,25 @@
 //! The pass over the entries of a unit, as an iterator (DWARF 5, 7.5.2 and 7.5.3).
+//!
+//! This file promises: what a step gives is the next entry, a refusal for which a reason holds, or that the
+//! entries so far are those of the whole unit (`Gives` in `specs/ScanStates.antt`). After a refusal the
+//! pass is over.
 
-ghost use Rattle.std.specs.Prelude.{◌≡◌, ◌≤◌, ◌<◌, ◌+◌, ◌^◌, false, take, length};
-ghost use Rattle.dw_base.specs.FileViews.{section_bytes};
-ghost use Rattle.dw_base.specs.UnitHeaders.{UnitSection};
-ghost use Rattle.dw_base.specs.EntryValues.{HasUnit};
-ghost use Rattle.dw_base.specs.ViewData.{debug_data};
-ghost use Rattle.dw_entries.specs.ScanStates.{Gives, ScanFits, ScanState, scan_start, steps_left};
+ghost use Rattle.std.specs.Prelude.{◌≡◌, []};
 ghost use Rattle.std.specs.Iterator.{at_most};
+ghost use Rattle.dw_base.specs.EntryValues.{HasUnit, bytes_up_to};
+ghost use Rattle.dw_base.specs.ViewData.{debug_data};
+ghost use Rattle.dw_entries.specs.ScanStates.{Gives, HasGiven, ScanFits, ScanState, scan_start, steps_left};
+ghost use Rattle.dw_entries.specs.ViewUnits.{unit_section_at};
 
 use crate::step::{Stand, next_step};
 use dw_abbrev::AbbrevTable;
 use dw_base::{Refusal, Scanned, UnitHeader};
+use dw_view::View;
 use std::marker::Model;
 
-/// A pass over the entries of a unit, in the order of their places.
+/// A pass over the entries of a unit, in the order of their places. It is an iterator of entries and
+/// refusals, and ends after a refusal: `Entry` at the entry, value or unit's end, `Form` and `Supplementary`
+/// at the value, `SplitDwarf` at the first entry.
 #[derive(Drop)]
 pub struct EntryScan<'a> {
     /// The unit.
@@ -41,14 +47,21 @@ impl<'a> Model for EntryScan<'a> {
 }
 
 impl<'a> EntryScan<'a> {
-    /// What stands where the pass is.
-    fn stand(&self) -> Stand
-        ensures { result ≡ record { place = self.now.place; depth = self.now.depth; number = self.now.number } }
+    /// The pass over a unit of the view before its first entry, with the table at the unit's `abbrevs`.
+    pub fn new(view: &'a View<'a>, unit: &UnitHeader, table: &'a AbbrevTable) -> EntryScan<'a>
+        requires unit { HasUnit (debug_data view.now) (unit_section_at view.now unit.now.section) unit.now }
+        ensures start { result ≡ scan_start unit.now table.now (bytes_up_to (unit_section_at view.now unit.now.section) unit.now) }
+        ensures given { HasGiven result [] }
     {
-        Stand {
-            place: self.place,
-            depth: self.depth,
-            number: self.number,
+        let bytes = &view.bytes(unit.section)[..unit.end as usize];
+        EntryScan {
+            unit: *unit,
+            table,
+            bytes,
+            place: unit.first,
+            depth: 0,
+            number: 0,
+            over: false,
         }
     }
 }

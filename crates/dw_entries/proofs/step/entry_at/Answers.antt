@@ -1,5 +1,5 @@
 -- Why an entry can't be read.
-use Rattle.std.proofs.Common.{sym, ap, ◌∙◌}
+use Rattle.std.proofs.Common.{ap, ◌∙◌}
 use Rattle.std.proofs.lemmas.Result.{err_from_is_err_and}
 use Rattle.dw_base.specs.AbbreviationTables.{Abbreviation}
 use Rattle.dw_entries.proofs.StepLaws.{no_code-stops, split-stops, values-stop}
