@@ -16,6 +16,7 @@
 //! Read first: `specs/Wanted.antt`, `specs/Keeps.antt`, `specs/Runs.antt`.
 #![tactic(auto)]
 
+mod closing;
 mod desk;
 mod groups;
 mod job_err;
@@ -23,12 +24,16 @@ mod jobs;
 mod law;
 mod maker;
 mod names;
+mod planning;
 mod rounds;
 mod steps;
+mod sweeping;
 mod taking;
 
+pub use closing::close_run;
 pub use desk::Desk;
 pub use job_err::JobErr;
 pub use law::bridge_laws;
 pub use maker::{MakeErr, Maker};
+pub use planning::commit_plan;
 pub use rounds::run_jobs;
