@@ -86,3 +86,4 @@ pub mod ScanPieceLaws
 pub mod ScanUnitLaws
 pub mod UnitCutLaws
 pub mod ScanSectionLaws
+pub mod FileBackLaws
