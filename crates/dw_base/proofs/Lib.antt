@@ -87,3 +87,4 @@ pub mod ScanUnitLaws
 pub mod UnitCutLaws
 pub mod ScanSectionLaws
 pub mod FileBackLaws
+pub mod TableKeptLaws
