@@ -88,3 +88,4 @@ pub mod UnitCutLaws
 pub mod ScanSectionLaws
 pub mod FileBackLaws
 pub mod TableKeptLaws
+pub mod SectionKeptLaws
