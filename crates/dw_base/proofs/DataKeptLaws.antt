@@ -180,7 +180,7 @@ pieces-plain (x ∷ xs) h =
     let both = plain-parts x.cells (joined xs) h in
     (record { plain = both.0 }, pieces-plain xs both.1)
 
-readings-plain : (base : UnitBase) (first : ℕ) (zs : List UnitSection) (rs : Readings) → ReadsAll base first zs rs → EachPlain zs → EachReading PlainPiece rs
+pub readings-plain : (base : UnitBase) (first : ℕ) (zs : List UnitSection) (rs : Readings) → ReadsAll base first zs rs → EachPlain zs → EachReading PlainPiece rs
 readings-plain base first zs [] reads plain = tt
 readings-plain base first [] (r ∷ rs) reads plain = absurd reads
 readings-plain base first (z ∷ zs) (r ∷ rs) reads plain = (

@@ -109,7 +109,7 @@ section_name-back b bodies out i w lt =
     ap (λ (t : List ℕ). text_in t (nth_section out i).name) (name_table-back b bodies out w) ∙ ap (text_in (name_table b)) (w.back.heads i lt).name
 
 -- and its sections are such that can be read
-names-back : (b : List ℕ) (bodies : ℕ → List ℕ) (out : List ℕ) → Back b bodies out → DebugSectionsRead out
+pub names-back : (b : List ℕ) (bodies : ℕ → List ℕ) (out : List ℕ) → Back b bodies out → DebugSectionsRead out
 names-back b bodies out w =
     let count : section_count out ≡ section_count b = w.back.count in
     let index : name_index out ≡ name_index b = w.back.names in

@@ -89,3 +89,5 @@ pub mod ScanSectionLaws
 pub mod FileBackLaws
 pub mod TableKeptLaws
 pub mod SectionKeptLaws
+pub mod FileKeptLaws
+pub mod FileMeaningLaws

@@ -1,17 +1,16 @@
 -- The unit sections of an output are those of the file, edited.
-use Rattle.std.proofs.Common.{Bool, true, false, ◌≡◌, ◌≢◌, ℕ, suc, ◌+◌, ◌<◌, ◌≤◌, List, [], ◌∷◌, ◌++◌, length, Option, Some, None, sym, ap, ◌∙◌, refl, subst, arith, if◌then◌else◌}
-use Rattle.std.specs.Bool.{⊤}
+use Rattle.std.proofs.Common.{Bool, true, false, ◌≡◌, ◌≢◌, ℕ, suc, ◌+◌, ◌<◌, ◌≤◌, List, [], ◌∷◌, ◌++◌, Option, Some, None, sym, ap, ◌∙◌, refl, subst, arith, if◌then◌else◌}
 use Rattle.std.specs.Prelude.{◌==◌}
 use Rattle.std.proofs.lemmas.Bool.{ne_eqb, eq-eqb}
 use Rattle.dw_base.specs.Cells.{Cell, bytes_of, plain_cells, with_bytes}
 use Rattle.dw_base.specs.DataOutput.{Body, unit_body, unit_bodies, body_in}
-use Rattle.dw_base.specs.DebugData.{Around, Reading, Readings, units_in, ReadsAll, EachReading}
+use Rattle.dw_base.specs.DebugData.{Around, Readings, units_in, ReadsAll, EachReading}
 use Rattle.dw_base.specs.DebugSections.{debug_section}
 use Rattle.dw_base.specs.Elf.{section_count, section_name, contents_of}
 use Rattle.dw_base.specs.FileViews.{ViewSection, bytes_in}
 use Rattle.dw_base.specs.Pieces.{Piece, joined, EachPiece}
 use Rattle.dw_base.specs.Roles.{Role, fixed, offset, inline_path, role_of}
-use Rattle.dw_base.specs.StringTables.{Mention, new_place}
+use Rattle.dw_base.specs.StringTables.{new_place}
 use Rattle.dw_base.specs.TextChanges.{TableChanges, change_of, mention_at, with_offset, edited_by, edited_all}
 use Rattle.dw_base.specs.UnitHeaders.{UnitBase, UnitSection, SectionKind}
 use Rattle.dw_base.specs.UnitStates.{UnitState}
@@ -79,7 +78,7 @@ units-skip b bodies base c around i none first k (s ∷ ss) (t ∷ ts) rs all re
     by_section true (Some kind) is (q ∷ qs) f rest =
         let some : unit_kind (debug_section (section_name b k)) ≡ Some kind = ap (λ (n : List ℕ). unit_kind (debug_section n)) (sym all.0.named) ∙ is in
         let other : i ≢ q.number = λ (e : i ≡ q.number).
-            clash kind (sym (ap (λ (j : ℕ). unit_kind (debug_section (section_name b j))) (e ∙ f.0) ∙ some) ∙ none) in
+        clash kind (sym (ap (λ (j : ℕ). unit_kind (debug_section (section_name b j))) (e ∙ f.0) ∙ some) ∙ none) in
         skip-other (unit_body c around q) (unit_bodies c around qs) (contents_of b) i other ∙ rest (first + units_in q.pieces) qs f.2
       where
         clash : (kind : SectionKind) → Some kind ≡ None → ⊥
@@ -89,7 +88,7 @@ units-skip b bodies base c around i none first k (s ∷ ss) (t ∷ ts) rs all re
 pub units-edited : (b : List ℕ) (bodies : ℕ → List ℕ) (base : UnitBase) (c : TableChanges) (around : Around) (first k : ℕ) (ss ts : List ViewSection) (rs : Readings)
     → AllAt (SectionBack b bodies) k ss ts → ReadsAll base first (unit_sections_from k ss) rs → EachReading PlainPiece rs
     → ((i : ℕ) (kind : SectionKind) → k ≤ i → i < section_count b → unit_kind (debug_section (section_name b i)) ≡ Some kind
-        → bodies i ≡ body_in (unit_bodies c around rs) (contents_of b) i)
+    → bodies i ≡ body_in (unit_bodies c around rs) (contents_of b) i)
     → unit_sections_from k ts ≡ edited_sections (unit_sections_from k ss) (edited_readings c around rs)
 units-edited b bodies base c around first k [] [] rs all reads plain holds = refl
 units-edited b bodies base c around first k [] (t ∷ ts) rs all reads plain holds = absurd all
@@ -98,15 +97,16 @@ units-edited b bodies base c around first k (s ∷ ss) (t ∷ ts) rs all reads p
     ap (λ (x : Bool). (if x then unit_section k t (unit_kind (debug_section t.name)) else []) ++ unit_sections_from (suc k) ts) all.0.has_bytes
     ∙ ap (λ (n : List ℕ). (if s.has_bytes then unit_section k t (unit_kind (debug_section n)) else []) ++ unit_sections_from (suc k) ts) all.0.name
     ∙ by_section s.has_bytes (unit_kind (debug_section s.name)) refl rs reads plain holds
-        (λ n qs f p h. units-edited b bodies base c around n (suc k) ss ts qs all.1 f p h)
+    (λ n qs f p h. units-edited b bodies base c around n (suc k) ss ts qs all.1 f p h)
   where
     Holds : ℕ → Readings → Type 0
     Holds n qs = (i : ℕ) (kind : SectionKind) → n ≤ i → i < section_count b → unit_kind (debug_section (section_name b i)) ≡ Some kind
         → bodies i ≡ body_in (unit_bodies c around qs) (contents_of b) i
+
     by_section : (full : Bool) (o : Option SectionKind) → unit_kind (debug_section s.name) ≡ o → (qs : Readings)
         → ReadsAll base first ((if full then unit_section k s o else []) ++ unit_sections_from (suc k) ss) qs → EachReading PlainPiece qs → Holds k qs
         → ((n : ℕ) (ps : Readings) → ReadsAll base n (unit_sections_from (suc k) ss) ps → EachReading PlainPiece ps → Holds (suc k) ps
-            → unit_sections_from (suc k) ts ≡ edited_sections (unit_sections_from (suc k) ss) (edited_readings c around ps))
+        → unit_sections_from (suc k) ts ≡ edited_sections (unit_sections_from (suc k) ss) (edited_readings c around ps))
         → (if full then unit_section k t o else []) ++ unit_sections_from (suc k) ts
         ≡ edited_sections ((if full then unit_section k s o else []) ++ unit_sections_from (suc k) ss) (edited_readings c around qs)
     by_section false o is qs f p h rest = rest first qs f p (λ i kind le lt e. h i kind (omega arith) lt e)
@@ -121,10 +121,11 @@ units-edited b bodies base c around first k (s ∷ ss) (t ∷ ts) rs all reads p
         ap (λ (x : List Cell). record { number = k; kind = kind; contents = x } ∷ unit_sections_from (suc k) ts) contents
         ∙ ap (λ (zs : List UnitSection). record { number = k; kind = kind; contents = joined (edited_all c around q.pieces) } ∷ zs)
         (rest (first + units_in q.pieces) qs f.2 p.1 (λ i other le lt e.
-            h i other (omega arith) lt e
-            ∙ skip-other (unit_body c around q) (unit_bodies c around qs) (contents_of b) i (λ (same : i ≡ q.number). not_here i le (same ∙ f.0))))
+        h i other (omega arith) lt e
+        ∙ skip-other (unit_body c around q) (unit_bodies c around qs) (contents_of b) i (λ (same : i ≡ q.number). not_here i le (same ∙ f.0))))
       where
         found_first : (k == q.number) ≡ true → body_in (unit_body c around q ∷ unit_bodies c around qs) (contents_of b) k ≡ bytes_of (joined (edited_all c around q.pieces))
         found_first e = rw e refl
+
         not_here : (i : ℕ) → suc k ≤ i → i ≡ k → ⊥
         not_here i le e = omega arith

@@ -1,26 +1,25 @@
 -- Where the tables of texts of a file lie, and what becomes of a file's sections in its output, by their numbers.
-use Rattle.std.proofs.Common.{Bool, true, false, ◌≡◌, ◌≢◌, ◌⊎◌, inl, inr, ℕ, zero, suc, ◌+◌, ◌<◌, ◌≤◌, List, [], ◌∷◌, ◌++◌, length, drop, IsTrue, Option, Some, None, sym, ap, ◌∙◌, refl, subst, arith, if◌then◌else◌}
-use Rattle.std.specs.Prelude.{◌==◌, ◌&&◌}
+use Rattle.std.proofs.Common.{Bool, true, false, ◌≡◌, ℕ, suc, ◌<◌, ◌≤◌, List, [], ◌∷◌, ◌++◌, drop, IsTrue, Option, Some, None, sym, ap, ◌∙◌, refl, subst, arith, if◌then◌else◌}
 use Rattle.std.proofs.lemmas.List.{append-nil}
-use Rattle.std.proofs.lemmas.Bool.{ne_eqb, eq-eqb, and_parts}
-use Rattle.dw_base.specs.Cells.{Cell, Located}
+use Rattle.std.proofs.lemmas.Bool.{and_parts}
+use Rattle.dw_base.specs.Cells.{Located}
 use Rattle.dw_base.specs.DataOutput.{table_change}
-use Rattle.dw_base.specs.DebugData.{Around, Reading, Readings, EachReading, table_of}
-use Rattle.dw_base.specs.DebugSections.{debug_section, name_of}
+use Rattle.dw_base.specs.DebugData.{Around, Readings, EachReading, table_of}
+use Rattle.dw_base.specs.DebugSections.{name_of}
 use Rattle.dw_base.specs.Elf.{section_count, section_name, contents_of}
-use Rattle.dw_base.specs.FileViews.{View, ViewSection, view_section, view_of, is_filled, first_filled, section_named, section_after, section_bytes}
+use Rattle.dw_base.specs.FileViews.{ViewSection, view_section, view_of, is_filled, first_filled, section_named, section_after}
 use Rattle.dw_base.specs.Forms.{TextSection, in_str, in_line_str}
 use Rattle.dw_base.specs.Paths.{PathMap}
 use Rattle.dw_base.specs.Pieces.{Piece, EachPiece}
 use Rattle.dw_base.specs.Roles.{Role, fixed, offset, inline_path, role_of}
-use Rattle.dw_base.specs.StringTables.{Mention, Plan, new_table, new_texts, appending}
+use Rattle.dw_base.specs.StringTables.{Mention, new_table, new_texts, appending}
 use Rattle.dw_base.specs.TextChanges.{offset_in, mentions_by, mentions_of, all_mentions, NamesText, NamesTextBy}
 use Rattle.dw_base.specs.Texts.{same_text, ends_in}
 use Rattle.dw_base.specs.UnitStates.{UnitState}
 use Rattle.dw_base.specs.ViewData.{located, located_at}
 use Rattle.dw_base.specs.declared.debug_sections.DebugSection.{DebugSection}
 use Rattle.dw_base.proofs.FileBackLaws.{AllAt, SectionBack, tabulate-at}
-use Rattle.dw_base.proofs.FileViewLaws.{section_bytes-view_of, length-view_of}
+use Rattle.dw_base.proofs.FileViewLaws.{section_bytes-view_of}
 use Rattle.dw_base.proofs.TextLaws.{same_text-true, ends_in-inside}
 
 -- a section that was found by its name has it
@@ -91,7 +90,7 @@ table-place b s = by_found (section_named (view_of b) (name_of s)) refl
     by_found (Some i) e =
         let f : FoundAt b (name_of s) 1 i =
         found-named b (contents_of b) (name_of s) 1 i (drop 1 (view_of b).sections) (drop 1 (view_of b).sections)
-            (drop-at (SectionBack b (contents_of b)) (view_of b).sections (view_of b).sections (sections-self b)) e in
+        (drop-at (SectionBack b (contents_of b)) (view_of b).sections (view_of b).sections (sections-self b)) e in
         let from = f.from in
         lies_at (omega arith) f.within f.named (section_bytes-view_of b i f.within)
 
@@ -108,6 +107,7 @@ mentions-none table around (x ∷ xs) none names =
     clash u empty text =
         let ends : ends_in [] (offset_in around u x.cells) ≡ true = ap (λ (t : List ℕ). ends_in t (offset_in around u x.cells)) (sym empty) ∙ text in
         omega (arith, ends_in-inside [] (offset_in around u x.cells) ends)
+
     by_role : (r : Role) (u : TextSection) → (table_of around u).bytes ≡ [] → NamesTextBy r around x.cells → mentions_by r u around x.cells ≡ []
     by_role fixed u empty text = refl
     by_role inline_path u empty text = refl
