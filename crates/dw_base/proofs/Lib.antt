@@ -91,3 +91,4 @@ pub mod TableKeptLaws
 pub mod SectionKeptLaws
 pub mod FileKeptLaws
 pub mod FileMeaningLaws
+pub mod ForestLaws

@@ -59,3 +59,4 @@ pub mod FileMeanings
 pub mod FileFails
 pub mod EditRows
 pub mod UnitScans
+pub mod SpelledUnits
