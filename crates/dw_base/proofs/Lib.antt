@@ -92,3 +92,4 @@ pub mod SectionKeptLaws
 pub mod FileKeptLaws
 pub mod FileMeaningLaws
 pub mod ForestLaws
+pub mod SpelledLaws

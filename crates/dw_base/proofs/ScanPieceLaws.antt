@@ -85,12 +85,12 @@ inside-same s p e d m q f g n tag [] = refl
 inside-same s p e d m q f g n tag (x ∷ xs) = refl
 
 -- the state behind a value that isn't a form
-after-own : (k : ValueKind) (s : UnitState) (p form n tag : ℕ) (x : Spec) (xs : List Spec) → k ≢ form_in_front
+pub after-own : (k : ValueKind) (s : UnitState) (p form n tag : ℕ) (x : Spec) (xs : List Spec) → k ≢ form_in_front
     → after_value k s p form n tag x xs ≡ inside s p s.entry s.depth n tag xs
 after-own form_in_front s p form n tag x xs other = absurd (other refl)
 after-own k s p form n tag x xs other = refl
 
-is_front : (k : ValueKind) → (k ≡ form_in_front) ⊎ (k ≡ form_in_front → ⊥)
+pub is_front : (k : ValueKind) → (k ≡ form_in_front) ⊎ (k ≡ form_in_front → ⊥)
 is_front form_in_front = inl refl
 is_front (number_of class n) = inr (λ e. cc)
 is_front (leb_number class) = inr (λ e. cc)
