@@ -93,3 +93,4 @@ pub mod FileKeptLaws
 pub mod FileMeaningLaws
 pub mod ForestLaws
 pub mod SpelledLaws
+pub mod WorkedData
