@@ -94,3 +94,5 @@ pub mod FileMeaningLaws
 pub mod ForestLaws
 pub mod SpelledLaws
 pub mod WorkedData
+pub mod ValuePasteLaws
+pub mod ScanBackLaws

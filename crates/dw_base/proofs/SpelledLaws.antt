@@ -71,7 +71,7 @@ stuck-fits at_code base s p e f = cc
 stuck-fits (at_values n tag xs) base s p e f = cc
 stuck-fits (at_chosen n tag start x xs) base s p e f = cc
 
-stuck-none : (base : UnitBase) (s : UnitState) (xs : List (Piece UnitState)) → s.mode ≡ stuck → Chain (unit_grammar base) s xs → ⊥
+pub stuck-none : (base : UnitBase) (s : UnitState) (xs : List (Piece UnitState)) → s.mode ≡ stuck → Chain (unit_grammar base) s xs → ⊥
 stuck-none base s [] e c = other s.mode e c.mode
   where
     other : (m : Mode) → m ≡ stuck → m ≡ at_header → ⊥
