@@ -23,12 +23,27 @@ use Rattle.dw_base.specs.declared.values.Spec.{Spec}
 use Rattle.dw_base.specs.declared.values.Value.{Value}
 use Rattle.dw_base.proofs.FormLaws.{value_by-own, chosen_value-own}
 use Rattle.dw_base.proofs.ScanPieceLaws.{is_front, after-own}
+use Rattle.dw_base.specs.UnitHeaders.{SectionKind}
+use Rattle.dw_base.proofs.ScanSectionLaws.{HeaderPlaced, header-placed}
 use Rattle.dw_base.proofs.SpelledLaws.{stuck-none}
 use Rattle.dw_base.proofs.UnitHeaderLaws.{header-more}
 use Rattle.dw_base.proofs.ValuePasteLaws.{Placed, Stands, number-paste, value-paste}
 
+-- a state is of this section
+record OfSection (z : UnitSection) (s : UnitState) : Type 0 where
+  section : s.section ≡ z.number
+  kind : s.kind ≡ z.kind
+  whole : s.whole ≡ length z.contents
+
+-- before a unit: the units before it have been read
+record BeforeUnit (base : UnitBase) (z : UnitSection) (s : UnitState) : Type 0 where
+  own : OfSection z s
+  list : List UnitHeader
+  scanned_ : UnitsScanned base z list s.place
+
 -- in a unit of a section, between entries: the units before it, its header and table, and the entries up to the place
 record InUnit (base : UnitBase) (z : UnitSection) (s : UnitState) (place e d : ℕ) : Type 0 where
+  own : OfSection z s
   list : List UnitHeader
   before : UnitsScanned base z list s.header.start
   unit : IsUnit base z s.header.start s.header
@@ -71,7 +86,7 @@ record InChosen (base : UnitBase) (z : UnitSection) (s : UnitState) (place e d :
 
 -- what is known at a state
 abbrev Reached : Mode → UnitBase → UnitSection → UnitState → Type 0
-Reached at_header base z s = (list : List UnitHeader) × UnitsScanned base z list s.place
+Reached at_header base z s = BeforeUnit base z s
 Reached at_code base z s = InUnit base z s s.place s.entry s.depth
 Reached (at_values n tag specs) base z s = InEntry base z s s.place s.entry s.depth specs
 Reached (at_chosen n tag start x specs) base z s = InChosen base z s s.place s.entry s.depth x specs
@@ -88,7 +103,7 @@ entry-done base z s place e d h =
     } in
     let root : is_split_root (length h.unit.items) h.a ≡ false = ap (λ (n : ℕ). is_split_root n h.a) h.unit.count ∙ h.root in
     record {
-      list = h.unit.list; before = h.unit.before; unit = h.unit.unit; table = h.unit.table;
+      own = h.unit.own; list = h.unit.list; before = h.unit.before; unit = h.unit.unit; table = h.unit.table;
       items = h.unit.items ++ scanned h.start h.depth h.a place ∷ [];
       count = length-append h.unit.items (scanned h.start h.depth h.a place ∷ []) ∙ ap (λ (n : ℕ). n + 1) h.unit.count ∙ sym h.behind;
       scans = subst (λ (n : ℕ). Scans s.header s.table (bytes_up_to z s.header) (h.unit.items ++ scanned h.start h.depth h.a place ∷ []) place n) (sym h.deep)
@@ -122,15 +137,19 @@ between-reached base z s place e d xs h c = by_end (place == s.header.end) refl 
         let entries : AreEntries s.header s.table (bytes_up_to z s.header) h.items =
         subst (λ (n : ℕ). Scans s.header s.table (bytes_up_to z s.header) h.items n 0) end
             (subst (λ (n : ℕ). Scans s.header s.table (bytes_up_to z s.header) h.items place n) zero_ h.scans) in
-        (h.list ++ s.header ∷ [], subst (λ (n : ℕ). UnitsScanned base z (h.list ++ s.header ∷ []) n) (sym end)
-            (more_scanned h.list s.header s.header.start s.table h.items h.before h.unit h.table entries))
+        record {
+          own = record { section = h.own.section; kind = h.own.kind; whole = h.own.whole };
+          list = h.list ++ s.header ∷ [];
+          scanned_ = subst (λ (n : ℕ). UnitsScanned base z (h.list ++ s.header ∷ []) n) (sym end)
+              (more_scanned h.list s.header s.header.start s.table h.items h.before h.unit h.table entries);
+        }
     by_depth false is end c = absurd (stuck-none base (in_unit s place e d stuck) xs refl c)
     by_end : (t : Bool) → (place == s.header.end) ≡ t
         → Chain (unit_grammar base) (if t then (if d == 0 then before_unit s.section s.kind s.whole place (s.unit + 1) else in_unit s place e d stuck) else in_unit s place e d at_code) xs
         → Reached (if t then (if d == 0 then before_unit s.section s.kind s.whole place (s.unit + 1) else in_unit s place e d stuck) else in_unit s place e d at_code).mode base z
             (if t then (if d == 0 then before_unit s.section s.kind s.whole place (s.unit + 1) else in_unit s place e d stuck) else in_unit s place e d at_code)
     by_end true is c = by_depth (d == 0) refl (eqb-true place s.header.end is) c
-    by_end false is c = record { list = h.list; before = h.before; unit = h.unit; table = h.table; items = h.items; count = h.count; scans = h.scans }
+    by_end false is c = record { own = record { section = h.own.section; kind = h.own.kind; whole = h.own.whole }; list = h.list; before = h.before; unit = h.unit; table = h.table; items = h.items; count = h.count; scans = h.scans }
 
 inside-reached : (base : UnitBase) (z : UnitSection) (s : UnitState) (place e d n tag : ℕ) (specs : List Spec) (xs : List (Piece UnitState))
     → InEntry base z s place e d specs → Chain (unit_grammar base) (inside s place e d n tag specs) xs
@@ -139,8 +158,85 @@ inside-reached base z s place e d n tag [] xs h c = between-reached base z s pla
 inside-reached base z s place e d n tag (y ∷ ys) xs h c = record {
   start = h.start; number = h.number; depth = h.depth;
   unit = record {
+    own = record { section = h.unit.own.section; kind = h.unit.own.kind; whole = h.unit.own.whole };
     list = h.unit.list; before = h.unit.before; unit = h.unit.unit; table = h.unit.table; items = h.unit.items; count = h.unit.count; scans = h.unit.scans;
   };
   a = h.a; code = h.code; size = h.size; spells = h.spells; some = h.some; listed = h.listed; root = h.root; front = h.front; attributes = h.attributes;
   values = h.values; behind = h.behind; deep = h.deep;
 }
+
+-- a piece of a unit stands in it
+unit-placed : (base : UnitBase) (z : UnitSection) (s : UnitState) (place e d : ℕ) (p rest : List Cell) → InUnit base z s place e d → p ++ rest ≡ drop place z.contents
+    → place + length p ≤ s.header.end → Placed z.contents p rest place s.header.end
+unit-placed base z s place e d p rest h stands before = record { stands = stands; before = before; within = h.unit.within }
+
+-- a header
+header-step : (base : UnitBase) (z : UnitSection) (s : UnitState) (p rest : List Cell) (xs : List (Piece UnitState)) → BeforeUnit base z s → IsHeader base s p
+    → p ++ rest ≡ drop s.place z.contents → Chain (unit_grammar base) (past at_header base s p) xs → Reached (past at_header base s p).mode base z (past at_header base s p)
+header-step base z s p rest xs h fits stands c =
+    let there : header_at base z s.place ≡ Some fits.header =
+    ap (unit_header base z.kind z.number s.place) (sym stands)
+    ∙ header-more base z.kind z.number s.place p rest fits.header
+    (ap (λ (k : SectionKind). unit_header base k z.number s.place p) (sym h.own.kind) ∙ ap (λ (n : ℕ). unit_header base s.kind n s.place p) (sym h.own.section) ∙ fits.is) in
+    let placed : HeaderPlaced z s.place fits.header = header-placed base z s.place fits.header there in
+    let unit_ : IsUnit base z s.place fits.header = record { header = there; whole = fits.own; within = subst (λ (n : ℕ). fits.header.end ≤ n) h.own.whole fits.within } in
+    let known : InUnit base z (headed base s fits.header) (s.place + length p) 0 0 =
+    record {
+      own = record { section = h.own.section; kind = h.own.kind; whole = h.own.whole };
+      list = h.list;
+      before = subst (λ (n : ℕ). UnitsScanned base z h.list n) (sym placed.start_is) h.scanned_;
+      unit = subst (λ (n : ℕ). IsUnit base z n fits.header) (sym placed.start_is) unit_;
+      table = fits.table;
+      items = [];
+      count = refl;
+      scans = subst (λ (n : ℕ). Scans fits.header (abbreviations_at base.abbrevs.bytes fits.header.abbrevs) (bytes_up_to z fits.header) [] n 0) (sym fits.size) starts;
+    } in
+    let next : past at_header base s p ≡ between (headed base s fits.header) (s.place + length p) 0 0 = ap (after_header base s (s.place + length p)) fits.is in
+    subst (λ (t : UnitState). Reached t.mode base z t) (sym next)
+    (between-reached base z (headed base s fits.header) (s.place + length p) 0 0 xs known (subst (λ (t : UnitState). Chain (unit_grammar base) t xs) next c))
+
+-- an entry's code
+stands-some : (e : ℕ) (o : Option Abbreviation) → IsTrue (may_stand e o) → (a : Abbreviation) × (o ≡ Some a) × (is_split_root e a ≡ false)
+stands-some e None h =
+    let no : false ≡ true = h in
+    absurd cc
+stands-some e (Some a) h = (a, refl, not_true (is_split_root e a) h)
+  where
+    not_true : (b : Bool) → not b ≡ true → b ≡ false
+    not_true true f = cc
+    not_true false f = refl
+
+code-step : (base : UnitBase) (z : UnitSection) (s : UnitState) (p rest : List Cell) (xs : List (Piece UnitState)) → InUnit base z s s.place s.entry s.depth → IsCode s p
+    → p ++ rest ≡ drop s.place z.contents → Chain (unit_grammar base) (after_code s (s.place + length p) (code_value p)) xs
+    → Reached (after_code s (s.place + length p) (code_value p)).mode base z (after_code s (s.place + length p) (code_value p))
+unfolding after_code
+code-step base z s p rest xs h fits stands c = by_null (code_value p == 0) refl c
+  where
+    there : uleb_at (bytes_up_to z s.header) s.place ≡ Some (code_value p, length p)
+    there =
+        number-paste z.contents p rest s.place s.header.end (code_value p) (length p) (unit-placed base z s s.place s.entry s.depth p rest h stands fits.before) fits.spells
+    by_null : (t : Bool) → (code_value p == 0) ≡ t
+        → Chain (unit_grammar base) (if t then between s (s.place + length p) s.entry (s.depth - 1) else after_entry s (s.place + length p) (abbreviation_of s.table (code_value p))) xs
+        → Reached (if t then between s (s.place + length p) s.entry (s.depth - 1) else after_entry s (s.place + length p) (abbreviation_of s.table (code_value p))).mode base z
+            (if t then between s (s.place + length p) s.entry (s.depth - 1) else after_entry s (s.place + length p) (abbreviation_of s.table (code_value p)))
+    by_null true is c =
+        let zero_ : code_value p ≡ 0 = eqb-true (code_value p) 0 is in
+        let code : uleb_at (bytes_up_to z s.header) s.place ≡ Some (0, length p) = there ∙ ap (λ (n : ℕ). Some (n, length p)) zero_ in
+        between-reached base z s (s.place + length p) s.entry (s.depth - 1) xs
+        (record {
+            own = h.own; list = h.list; before = h.before; unit = h.unit; table = h.table; items = h.items; count = h.count;
+            scans = null h.items s.place s.depth (length p) h.scans code;
+        }) c
+    by_null false is c =
+        let some : code_value p ≢ 0 = eqb-false (code_value p) 0 is in
+        let a = stands-some s.entry (abbreviation_of s.table (code_value p)) (fits.listed some) in
+        let next : after_entry s (s.place + length p) (abbreviation_of s.table (code_value p))
+            ≡ inside s (s.place + length p) (s.entry + 1) (depth_behind a.0 s.depth) s.entry a.0.tag a.0.specs = ap (after_entry s (s.place + length p)) a.1 in
+        let known : InEntry base z s (s.place + length p) (s.entry + 1) (depth_behind a.0 s.depth) a.0.specs =
+        record {
+          start = s.place; number = s.entry; depth = s.depth; unit = h; a = a.0; code = code_value p; size = length p; spells = there; some = some;
+          listed = a.1; root = a.2; front = []; attributes = refl; values = no_values; behind = refl; deep = refl;
+        } in
+        subst (λ (t : UnitState). Reached t.mode base z t) (sym next)
+        (inside-reached base z s (s.place + length p) (s.entry + 1) (depth_behind a.0 s.depth) s.entry a.0.tag a.0.specs xs known
+        (subst (λ (t : UnitState). Chain (unit_grammar base) t xs) next c))
