@@ -1,0 +1,5 @@
+pub mod Records
+pub mod Symbols
+pub mod Relocs
+pub mod RelocChanges
+pub mod AbsoluteTypes

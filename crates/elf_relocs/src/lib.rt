@@ -1,0 +1,32 @@
+//! Symbols and relocations (gABI ch. 4 "Symbol Table", "Relocation"), on the bytes of their sections.
+//!
+//! This layer promises: a symbol or a relocation is what the bytes of its record spell, in both classes
+//! and byte orders, with and without addends, and `None` comes exactly where no whole record stands
+//! there; a record that is written has the new place and addend, reads back, and no other byte
+//! changes. No call takes memory, and each index is taken.
+//! It does not promise: that a relocation's symbol is there, or that its place lies in a section.
+//! Read first: `specs/Symbols.antt`, then `specs/Relocs.antt` and `specs/AbsoluteTypes.antt`.
+//!
+//! ```rust
+//! // `.debug_abbrev + 5` at 8, by R_X86_64_32 (type 10) and symbol 7.
+//! let mut table = [8, 0, 0, 0, 0, 0, 0, 0, 10, 0, 0, 0, 7, 0, 0, 0, 5, 0, 0, 0, 0, 0, 0, 0];
+//! let (class, order) = (Class::C64, Order::Little);
+//! let reloc = Reloc { offset: 8, symbol: 7, kind: 10, addend: Some(5) };
+//! assert_eq!(rt; reloc_at(class, order, true, &table, 0), Some(reloc));
+//! assert_eq!(rt; absolute_size(EM_X86_64, reloc.kind), Some(4));
+//! assert!(rt; set_reloc(class, order, true, &mut table, 0, 8, Some(-1)));
+//! ```
+#![tactic(auto)]
+
+mod absolute_types;
+mod records;
+pub mod relocation_numbers;
+mod relocs;
+mod symbols;
+#[cfg(test)]
+mod tests;
+
+pub use absolute_types::absolute_size;
+pub use dw_base::{Class, Order};
+pub use relocs::{Reloc, reloc_at, set_reloc};
+pub use symbols::{Symbol, symbol_at};
