@@ -9,7 +9,7 @@ use Rattle.dw_base.specs.AbbreviationTables.{Abbreviation, abbreviation_of, IsTa
 use Rattle.dw_base.specs.Cells.{Cell, bytes_of}
 use Rattle.dw_base.specs.EntryScans.{SpellsValues, no_values, more_values, is_split_root, IsEntry, depth_behind, scanned, Scans, starts, null, entry, AreEntries}
 use Rattle.dw_base.specs.EntryValues.{bytes_up_to}
-use Rattle.dw_base.specs.Forms.{ValueKind, in_abbreviation, form_in_front, kind_in}
+use Rattle.dw_base.specs.Forms.{ValueKind, number_of, leb_number, signed_leb, block_of, counted, counted_leb, inline_text, text_offset, present, in_abbreviation, form_in_front, supplementary, unlisted, kind_in}
 use Rattle.dw_base.specs.Lebs.{uleb_at}
 use Rattle.dw_base.specs.Pieces.{Piece, joined, Chain}
 use Rattle.dw_base.specs.UnitHeaders.{UnitBase, UnitSection, unit_header, header_at, IsUnit}
@@ -21,6 +21,8 @@ use Rattle.dw_base.specs.declared.units.Scanned.{Scanned}
 use Rattle.dw_base.specs.declared.units.UnitHeader.{UnitHeader}
 use Rattle.dw_base.specs.declared.values.Spec.{Spec}
 use Rattle.dw_base.specs.declared.values.Value.{Value}
+use Rattle.std.proofs.Math.Seq.{drop-append_seam}
+use Rattle.std.proofs.lemmas.List.{drop-drop}
 use Rattle.dw_base.proofs.FormLaws.{value_by-own, chosen_value-own}
 use Rattle.dw_base.proofs.ScanPieceLaws.{is_front, after-own}
 use Rattle.dw_base.specs.UnitHeaders.{SectionKind}
@@ -240,3 +242,185 @@ code-step base z s p rest xs h fits stands c = by_null (code_value p == 0) refl 
         subst (λ (t : UnitState). Reached t.mode base z t) (sym next)
         (inside-reached base z s (s.place + length p) (s.entry + 1) (depth_behind a.0 s.depth) s.entry a.0.tag a.0.specs xs known
         (subst (λ (t : UnitState). Chain (unit_grammar base) t xs) next c))
+
+-- a value that isn't behind a form
+value-read : (base : UnitBase) (z : UnitSection) (s : UnitState) (x : Spec) (ys : List Spec) (p rest : List Cell) → InEntry base z s s.place s.entry s.depth (x ∷ ys)
+    → kind_in s.header.params x.form ≢ form_in_front → IsValue s x (kind_in s.header.params x.form) p → p ++ rest ≡ drop s.place z.contents
+    → InEntry base z s (s.place + length p) s.entry s.depth ys
+unfolding value_at
+value-read base z s x ys p rest h other fits stands =
+    let placed : Placed z.contents p rest s.place s.header.end = record { stands = stands; before = fits.before; within = h.unit.unit.within } in
+    let there : Stands (kind_in s.header.params x.form) s.header.params.order (bytes_up_to z s.header) s.place x.implicit fits.value.size =
+    value-paste (kind_in s.header.params x.form) s.header.params.order z.contents p rest s.place s.header.end x.implicit fits.value placed fits.is in
+    let read : value_at s.header.params x (bytes_up_to z s.header) s.place ≡ Some there.value =
+    value_by-own (kind_in s.header.params x.form) s.header.params x (bytes_up_to z s.header) s.place other ∙ there.is in
+    subst (λ (n : ℕ). InEntry base z s (s.place + n) s.entry s.depth ys) (there.same ∙ fits.size)
+    (value-done base z s s.place s.entry s.depth x ys there.value h read)
+
+-- a kind's own fit
+own-fits : (k : ValueKind) (s : UnitState) (x : Spec) (p : List Cell) → k ≢ form_in_front → FitsKind k s x p → IsValue s x k p
+own-fits form_in_front s x p other f = absurd (other refl)
+own-fits (number_of class n) s x p other f = f
+own-fits (leb_number class) s x p other f = f
+own-fits signed_leb s x p other f = f
+own-fits (block_of n) s x p other f = f
+own-fits (counted n) s x p other f = f
+own-fits counted_leb s x p other f = f
+own-fits inline_text s x p other f = f
+own-fits (text_offset table n) s x p other f = f
+own-fits present s x p other f = f
+own-fits in_abbreviation s x p other f = f
+own-fits supplementary s x p other f = f
+own-fits unlisted s x p other f = f
+
+-- a value, or a form in front of one
+value-step : (base : UnitBase) (z : UnitSection) (s : UnitState) (n tag : ℕ) (x : Spec) (ys : List Spec) (p rest : List Cell) (xs : List (Piece UnitState))
+    → InEntry base z s s.place s.entry s.depth (x ∷ ys) → FitsKind (kind_in s.header.params x.form) s x p → p ++ rest ≡ drop s.place z.contents
+    → Chain (unit_grammar base) (after_value (kind_in s.header.params x.form) s (s.place + length p) (code_value p) n tag x ys) xs
+    → Reached (after_value (kind_in s.header.params x.form) s (s.place + length p) (code_value p) n tag x ys).mode base z
+        (after_value (kind_in s.header.params x.form) s (s.place + length p) (code_value p) n tag x ys)
+value-step base z s n tag x ys p rest xs h fits stands c = by_front (is_front (kind_in s.header.params x.form))
+  where
+    by_front : (kind_in s.header.params x.form ≡ form_in_front) ⊎ (kind_in s.header.params x.form ≡ form_in_front → ⊥)
+        → Reached (after_value (kind_in s.header.params x.form) s (s.place + length p) (code_value p) n tag x ys).mode base z
+            (after_value (kind_in s.header.params x.form) s (s.place + length p) (code_value p) n tag x ys)
+    by_front (inl front) =
+        let f : IsFrontForm s p = subst (λ (k : ValueKind). FitsKind k s x p) front fits in
+        let there : uleb_at (bytes_up_to z s.header) s.place ≡ Some (code_value p, length p) =
+        number-paste z.contents p rest s.place s.header.end (code_value p) (length p)
+            (record { stands = stands; before = f.before; within = h.unit.unit.within }) f.spells in
+        let t : UnitState = in_unit s (s.place + length p) s.entry s.depth (at_chosen n tag s.place (of_chosen x (code_value p)) ys) in
+        let known : InChosen base z s (s.place + length p) s.entry s.depth (of_chosen x (code_value p)) ys =
+        record { own = x; start = s.place; form = code_value p; size = length p; entry_ = h; front = front; spells = there; at_ = refl; is = refl; plain = f.own } in
+        subst (λ (k : ValueKind). Reached (after_value k s (s.place + length p) (code_value p) n tag x ys).mode base z (after_value k s (s.place + length p) (code_value p) n tag x ys))
+        (sym front) (in-chosen s (s.place + length p) s.entry s.depth n tag s.place (of_chosen x (code_value p)) ys known)
+      where
+        in-chosen : (s : UnitState) (place e d n tag start : ℕ) (x : Spec) (ys : List Spec) → InChosen base z s place e d x ys
+            → InChosen base z (in_unit s place e d (at_chosen n tag start x ys)) place e d x ys
+        in-chosen s place e d n tag start x ys h = record {
+          own = h.own; start = h.start; form = h.form; size = h.size;
+          entry_ = record {
+            start = h.entry_.start; number = h.entry_.number; depth = h.entry_.depth;
+            unit = record {
+              own = record { section = h.entry_.unit.own.section; kind = h.entry_.unit.own.kind; whole = h.entry_.unit.own.whole };
+              list = h.entry_.unit.list; before = h.entry_.unit.before; unit = h.entry_.unit.unit; table = h.entry_.unit.table;
+              items = h.entry_.unit.items; count = h.entry_.unit.count; scans = h.entry_.unit.scans;
+            };
+            a = h.entry_.a; code = h.entry_.code; size = h.entry_.size; spells = h.entry_.spells; some = h.entry_.some; listed = h.entry_.listed;
+            root = h.entry_.root; front = h.entry_.front; attributes = h.entry_.attributes; values = h.entry_.values; behind = h.entry_.behind; deep = h.entry_.deep;
+          };
+          front = h.front; spells = h.spells; at_ = h.at_; is = h.is; plain = h.plain;
+        }
+    by_front (inr other) =
+        let f : IsValue s x (kind_in s.header.params x.form) p = own-fits (kind_in s.header.params x.form) s x p other fits in
+        let next : after_value (kind_in s.header.params x.form) s (s.place + length p) (code_value p) n tag x ys ≡ inside s (s.place + length p) s.entry s.depth n tag ys =
+        after-own (kind_in s.header.params x.form) s (s.place + length p) (code_value p) n tag x ys other in
+        subst (λ (t : UnitState). Reached t.mode base z t) (sym next)
+        (inside-reached base z s (s.place + length p) s.entry s.depth n tag ys xs (value-read base z s x ys p rest h other f stands)
+        (subst (λ (t : UnitState). Chain (unit_grammar base) t xs) next c))
+
+-- a value whose form was read
+chosen-step : (base : UnitBase) (z : UnitSection) (s : UnitState) (n tag : ℕ) (x : Spec) (ys : List Spec) (p rest : List Cell) (xs : List (Piece UnitState))
+    → InChosen base z s s.place s.entry s.depth x ys → IsValue s x (kind_in s.header.params x.form) p → p ++ rest ≡ drop s.place z.contents
+    → Chain (unit_grammar base) (inside s (s.place + length p) s.entry s.depth n tag ys) xs
+    → Reached (inside s (s.place + length p) s.entry s.depth n tag ys).mode base z (inside s (s.place + length p) s.entry s.depth n tag ys)
+unfolding value_at
+chosen-step base z s n tag x ys p rest xs h fits stands c =
+    let own_fits : IsValue s (of_chosen h.own h.form) (kind_in s.header.params h.form) p = subst (λ (y : Spec). IsValue s y (kind_in s.header.params y.form) p) h.is fits in
+    let placed : Placed z.contents p rest s.place s.header.end = record { stands = stands; before = fits.before; within = h.entry_.unit.unit.within } in
+    let there : Stands (kind_in s.header.params h.form) s.header.params.order (bytes_up_to z s.header) s.place h.own.implicit own_fits.value.size =
+    value-paste (kind_in s.header.params h.form) s.header.params.order z.contents p rest s.place s.header.end h.own.implicit own_fits.value placed own_fits.is in
+    let whole : Value = record there.value { size = h.size + there.value.size } in
+    let read : value_at s.header.params h.own (bytes_up_to z s.header) h.start ≡ Some (record there.value { size = h.size + there.value.size }) =
+    ap (λ (k : ValueKind). value_by k s.header.params h.own (bytes_up_to z s.header) h.start) h.front
+    ∙ ap (indirect_value s.header.params h.own (bytes_up_to z s.header) h.start) h.spells
+    ∙ ap (behind h.size)
+    (chosen_value-own (kind_in s.header.params h.form) s.header.params h.own (bytes_up_to z s.header) (h.start + h.size) h.plain
+    ∙ ap (λ (n : ℕ). value_of (kind_in s.header.params h.form) s.header.params.order (bytes_up_to z s.header) n h.own.implicit) (sym h.at_) ∙ there.is) in
+    let done : InEntry base z s (h.start + (h.size + there.value.size)) s.entry s.depth ys =
+    value-done base z s h.start s.entry s.depth h.own ys (record there.value { size = h.size + there.value.size }) h.entry_ read in
+    let place : h.start + (h.size + there.value.size) ≡ s.place + length p = omega (arith, h.at_, there.same, own_fits.size) in
+    inside-reached base z s (s.place + length p) s.entry s.depth n tag ys xs (subst (λ (m : ℕ). InEntry base z s m s.entry s.depth ys) place done) c
+
+-- a piece
+piece-step : (m : Mode) (base : UnitBase) (z : UnitSection) (s : UnitState) (p rest : List Cell) (xs : List (Piece UnitState)) → Reached m base z s → FitsMode m base s p
+    → p ++ rest ≡ drop s.place z.contents → Chain (unit_grammar base) (past m base s p) xs → Reached (past m base s p).mode base z (past m base s p)
+piece-step at_header base z s p rest xs h fits stands c = header-step base z s p rest xs h fits stands c
+piece-step at_code base z s p rest xs h fits stands c = code-step base z s p rest xs h fits stands c
+piece-step (at_values n tag []) base z s p rest xs h fits stands c = absurd fits
+piece-step (at_values n tag (x ∷ ys)) base z s p rest xs h fits stands c = value-step base z s n tag x ys p rest xs h fits stands c
+piece-step (at_chosen n tag start x ys) base z s p rest xs h fits stands c = chosen-step base z s n tag x ys p rest xs h fits stands c
+piece-step stuck base z s p rest xs h fits stands c = absurd fits
+
+-- the place behind a piece
+between-place : (s : UnitState) (place e d : ℕ) → (between s place e d).place ≡ place
+unfolding between
+between-place s place e d = by_end (place == s.header.end) (d == 0)
+  where
+    by_end : (t u : Bool) → (if t then (if u then before_unit s.section s.kind s.whole place (s.unit + 1) else in_unit s place e d stuck) else in_unit s place e d at_code).place ≡ place
+    by_end true true = refl
+    by_end true false = refl
+    by_end false u = refl
+
+inside-place : (s : UnitState) (place e d n tag : ℕ) (specs : List Spec) → (inside s place e d n tag specs).place ≡ place
+inside-place s place e d n tag [] = between-place s place e d
+inside-place s place e d n tag (x ∷ xs) = refl
+
+after-place : (k : ValueKind) (s : UnitState) (place form n tag : ℕ) (x : Spec) (xs : List Spec) → (after_value k s place form n tag x xs).place ≡ place
+after-place form_in_front s place form n tag x xs = refl
+after-place k s place form n tag x xs = inside-place s place s.entry s.depth n tag xs
+
+code-place : (s : UnitState) (place n : ℕ) → (after_code s place n).place ≡ place
+unfolding after_code
+code-place s place n = by_null (n == 0) (abbreviation_of s.table n)
+  where
+    by_null : (t : Bool) (o : Option Abbreviation) → (if t then between s place s.entry (s.depth - 1) else after_entry s place o).place ≡ place
+    by_null true o = between-place s place s.entry (s.depth - 1)
+    by_null false None = refl
+    by_null false (Some a) = inside-place s place (s.entry + 1) (depth_behind a s.depth) s.entry a.tag a.specs
+
+next-place : (m : Mode) (base : UnitBase) (s : UnitState) (p : List Cell) → FitsMode m base s p → (past m base s p).place ≡ s.place + length p
+next-place at_header base s p f =
+    ap (λ (o : Option UnitHeader). (after_header base s (s.place + length p) o).place) f.is ∙ between-place (headed base s f.header) (s.place + length p) 0 0
+next-place at_code base s p f = code-place s (s.place + length p) (code_value p)
+next-place (at_values n tag []) base s p f = absurd f
+next-place (at_values n tag (x ∷ xs)) base s p f = after-place (kind_in s.header.params x.form) s (s.place + length p) (code_value p) n tag x xs
+next-place (at_chosen n tag start x xs) base s p f = inside-place s (s.place + length p) s.entry s.depth n tag xs
+next-place stuck base s p f = absurd f
+
+-- the units of a section
+record ScannedAll (base : UnitBase) (z : UnitSection) : Type 0 where
+  list : List UnitHeader
+  scanned_ : AreScanned base z list
+
+at_end : (m : Mode) (base : UnitBase) (z : UnitSection) (s : UnitState) → m ≡ at_header → s.place ≡ s.whole → Reached m base z s → ScannedAll base z
+at_end at_header base z s e end h = record {
+  list = h.list;
+  scanned_ = subst (λ (n : ℕ). UnitsScanned base z h.list n) (end ∙ h.own.whole) h.scanned_;
+}
+at_end at_code base z s e end h = absurd cc
+at_end (at_values n tag specs) base z s e end h = absurd cc
+at_end (at_chosen n tag start x specs) base z s e end h = absurd cc
+at_end stuck base z s e end h = absurd cc
+
+rest-stands : (cells p rest : List Cell) (place : ℕ) → p ++ rest ≡ drop place cells → rest ≡ drop (place + length p) cells
+rest-stands cells p rest place h = sym (drop-append_seam p rest) ∙ ap (drop (length p)) h ∙ drop-drop (length p) place cells
+
+all-back : (base : UnitBase) (z : UnitSection) (s : UnitState) (xs : List (Piece UnitState)) → Reached s.mode base z s → Chain (unit_grammar base) s xs
+    → joined xs ≡ drop s.place z.contents → ScannedAll base z
+all-back base z s [] h c stands = at_end s.mode base z s c.mode c.place h
+all-back base z s (x ∷ xs) h c stands =
+    let here : Reached x.state.mode base z x.state = subst (λ (t : UnitState). Reached t.mode base z t) (sym c.0) h in
+    let own : x.cells ++ joined xs ≡ drop x.state.place z.contents = stands ∙ ap (λ (t : UnitState). drop t.place z.contents) (sym c.0) in
+    let next : (past x.state.mode base x.state x.cells).place ≡ x.state.place + length x.cells = next-place x.state.mode base x.state x.cells c.1 in
+    all-back base z (past x.state.mode base x.state x.cells) xs (piece-step x.state.mode base z x.state x.cells (joined xs) xs here c.1 own c.2) c.2
+    (rest-stands z.contents x.cells (joined xs) x.state.place own ∙ ap (λ (n : ℕ). drop n z.contents) (sym next))
+
+-- a section that is pieces has units that can be read one after another
+pub section-scanned : (base : UnitBase) (z : UnitSection) (first : ℕ) (xs : List (Piece UnitState)) → ReadsUnits base z first xs
+    → (list : List UnitHeader) × AreScanned base z list
+section-scanned base z first xs r =
+    let all : ScannedAll base z =
+    all-back base z (before_unit z.number z.kind (length z.contents) 0 first) xs
+        (record { own = record { section = refl; kind = refl; whole = refl }; list = []; scanned_ = none_scanned }) r.chain r.cells in
+    (all.list, all.scanned_)
