@@ -96,3 +96,4 @@ pub mod SpelledLaws
 pub mod WorkedData
 pub mod ValuePasteLaws
 pub mod ScanBackLaws
+pub mod DataRowLaws

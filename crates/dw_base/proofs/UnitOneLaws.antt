@@ -88,7 +88,7 @@ mode-length (at_chosen n tag start x xs) base s p q r t a b e = value-length s x
 mode-length stuck base s p q r t a b e = absurd a
 
 -- the header that was read isn't longer than its unit
-header-shorter : (kind : SectionKind) (p : List Cell) (h : UnitHeader) → is_header kind p h ≡ true → h.first ≤ h.end
+pub header-shorter : (kind : SectionKind) (p : List Cell) (h : UnitHeader) → is_header kind p h ≡ true → h.first ≤ h.end
 header-shorter kind p h e = by_test (nat_le h.first (h.start + length p)) (nat_le h.first h.end) refl (is_version kind h.params.version) (is_unit_type h.kind) (is_address_size h.params.address) e
   where
     by_test : (a b : Bool) → nat_le h.first h.end ≡ b → (c d f : Bool) → (a && b && c && d && f) ≡ true → h.first ≤ h.end

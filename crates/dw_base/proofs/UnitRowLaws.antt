@@ -12,28 +12,28 @@ use Rattle.dw_base.specs.declared.units.UnitHeader.{UnitHeader}
 use Rattle.dw_base.proofs.ReachLaws.{Reaches, here, reach-more, Determined, Stops, stops-one}
 
 -- units that were read, up to a place
-record UnitsRead : Type 0 where
-  list : List UnitHeader
-  place : ℕ
+pub record UnitsRead : Type 0 where
+  pub list : List UnitHeader
+  pub place : ℕ
 
-abbrev read_to : List UnitHeader → ℕ → UnitsRead
+abbrev pub read_to : List UnitHeader → ℕ → UnitsRead
 read_to list place = record { list = list; place = place }
 
 -- one more unit
-record NextUnit (base : UnitBase) (z : UnitSection) (s t : UnitsRead) : Type 0 where
-  header : UnitHeader
-  is : IsUnit base z s.place header
-  next : t ≡ read_to (s.list ++ header ∷ []) header.end
+pub record NextUnit (base : UnitBase) (z : UnitSection) (s t : UnitsRead) : Type 0 where
+  pub header : UnitHeader
+  pub is : IsUnit base z s.place header
+  pub next : t ≡ read_to (s.list ++ header ∷ []) header.end
 
-header-same : (g h : UnitHeader) (o : Option UnitHeader) → o ≡ Some g → o ≡ Some h → g ≡ h
+pub header-same : (g h : UnitHeader) (o : Option UnitHeader) → o ≡ Some g → o ≡ Some h → g ≡ h
 header-same g h o e f = cc
 
-next-determined : (base : UnitBase) (z : UnitSection) → Determined (NextUnit base z)
+pub next-determined : (base : UnitBase) (z : UnitSection) → Determined (NextUnit base z)
 next-determined base z s t u m n =
     let same : m.header ≡ n.header = header-same m.header n.header (header_at base z s.place) m.is.header n.is.header in
     m.next ∙ ap (λ (h : UnitHeader). read_to (s.list ++ h ∷ []) h.end) same ∙ sym n.next
 
-units-reach : (base : UnitBase) (z : UnitSection) (list : List UnitHeader) (place : ℕ) → UnitsUpTo base z list place
+pub units-reach : (base : UnitBase) (z : UnitSection) (list : List UnitHeader) (place : ℕ) → UnitsUpTo base z list place
     → Reaches (NextUnit base z) (read_to [] 0) (read_to list place)
 units-reach base z list place no_units = here (read_to [] 0)
 units-reach base z list place (more_units before h start u is) =
