@@ -1,5 +1,6 @@
 -- Debug data that can be read excludes the refusals of units, tables and entries.
 use Rattle.std.proofs.Common.{Bool, true, false, ◌≡◌, ◌≢◌, ◌⊎◌, inl, inr, ℕ, ◌+◌, ◌<◌, ◌≤◌, List, [], ◌∷◌, ◌++◌, length, drop, take, Option, Some, None, refl, sym, ap, ◌∙◌, subst, arith}
+use Rattle.std.specs.Bool.{⊤}
 use Rattle.std.proofs.lemmas.Bool.{cases_eq, cases_lt}
 use Rattle.std.proofs.lemmas.List.{drop_all, length-take}
 use Rattle.dw_base.specs.AbbreviationTables.{Abbreviation, IsTable}
@@ -96,3 +97,67 @@ whole-unit base z list all start y h up u (more_scanned scanned g at table items
         by_reach other rest
         (reach-total (NextUnit base z) (next-determined base z) (read_to [] 0) (read_to list start) (read_to scanned at)
         (units-reach base z list start up) (units-reach base z scanned at (scanned-units base z scanned at s)))
+
+-- the pieces of one section among all
+pub record SectionRead (base : UnitBase) (z : UnitSection) (P : Piece UnitState → Type 0) : Type 0 where
+  pub first : ℕ
+  pub pieces : List (Piece UnitState)
+  pub reads : ReadsUnits base z first pieces
+  pub each : EachPiece P pieces
+
+pub section-among : (base : UnitBase) (P : Piece UnitState → Type 0) (first : ℕ) (before behind : List UnitSection) (z : UnitSection) (rs : Readings)
+    → ReadsAll base first (before ++ z ∷ behind) rs → EachReading P rs → SectionRead base z P
+section-among base P first [] behind z [] reads each = absurd reads
+section-among base P first [] behind z (r ∷ rs) reads each = record { first = first; pieces = r.pieces; reads = reads.1; each = each.0 }
+section-among base P first (y ∷ ys) behind z [] reads each = absurd reads
+section-among base P first (y ∷ ys) behind z (r ∷ rs) reads each = section-among base P (first + units_in r.pieces) ys behind z rs reads.2 each.1
+
+abbrev Any : Piece UnitState → Type 0
+Any x = ⊤
+
+any-pieces : (xs : List (Piece UnitState)) → EachPiece Any xs
+any-pieces [] = tt
+any-pieces (x ∷ xs) = (tt, any-pieces xs)
+
+any-readings : (rs : Readings) → EachReading Any rs
+any-readings [] = tt
+any-readings (r ∷ rs) = (any-pieces r.pieces, any-readings rs)
+
+section-of : (d : DebugData) (rs : Readings) (z : UnitSection) (before behind : List UnitSection) → DataReads d rs → d.units ≡ before ++ z ∷ behind
+    → SectionRead d.base z Any
+section-of d rs z before behind reads split =
+    section-among d.base Any 0 before behind z rs (subst (λ (zs : List UnitSection). ReadsAll d.base 0 zs rs) split reads.units) (any-readings rs)
+
+-- a unit starts inside its section
+unit-inside : (base : UnitBase) (z : UnitSection) (start : ℕ) (h : UnitHeader) → header_at base z start ≡ Some h → start < length z.contents
+unit-inside base z start h e = by_order (cases_lt start (length z.contents))
+  where
+    none : length z.contents ≤ start → header_at base z start ≡ None
+    none past = ap (unit_header base z.kind z.number start) (drop_all start z.contents past) ∙ no_cells-header base z.kind z.number start
+    clash : header_at base z start ≡ None → ⊥
+    clash f = cc
+    by_order : (start < length z.contents) ⊎ (length z.contents ≤ start) → start < length z.contents
+    by_order (inl lt) = lt
+    by_order (inr past) = absurd (clash (none past))
+
+-- a unit of debug data that can be read is whole
+pub unit-whole : (d : DebugData) (rs : Readings) (z : UnitSection) (h : UnitHeader) → DataReads d rs → (u : HasUnit d z h) → WholeUnit d.base z u.start h
+unit-whole d rs z h reads u =
+    let s : SectionRead d.base z Any = section-of d rs z u.before u.behind reads u.sections in
+    let all = section-scanned d.base z s.first s.pieces s.reads in
+    whole-unit d.base z u.list all.0 u.start (length z.contents) h u.units u.is all.1 (unit-inside d.base z u.start h u.is.header)
+
+-- so debug data that can be read has none of the refusals
+pub data-excludes : (d : DebugData) (rs : Readings) (r : Refusal) → DataReads d rs → DataFails d r → ⊥
+data-excludes d rs r reads (unit_row z before behind split f) =
+    let s : SectionRead d.base z Any = section-of d rs z before behind reads split in
+    let all = section-scanned d.base z s.first s.pieces s.reads in
+    units-exclude d.base z all.0 r (scanned-units d.base z all.0 (length z.contents) all.1) f
+data-excludes d rs r reads (table_row z h u f) =
+    let w : WholeUnit d.base z u.start h = unit-whole d rs z h reads u in
+    table-excludes d.base.abbrevs.bytes d.base.abbrevs.number h.abbrevs w.table r w.is f
+data-excludes d rs r reads (entries_row z h list t f) =
+    let w : WholeUnit d.base z t.unit.start h = unit-whole d rs z h reads t.unit in
+    let same : w.table ≡ list = table-one d.base.abbrevs.bytes h.abbrevs w.table list w.is t.declares in
+    let entries : AreEntries h list (bytes_up_to z h) w.items = subst (λ (xs : List Abbreviation). AreEntries h xs (bytes_up_to z h) w.items) same w.entries in
+    entries-exclude h list (bytes_up_to z h) w.items r (omega (arith, length-take h.end (bytes_of z.contents))) entries f
