@@ -71,6 +71,7 @@ whole-unit base z list all start y h up u (more_scanned scanned g at table items
         let whole : WholeUnit base z start g =
         record { list = scanned; before = subst (λ (n : ℕ). UnitsScanned base z scanned n) (sym here_) s; table = table; is = t; items = items; entries = e } in
         subst (λ (x : UnitHeader). WholeUnit base z start x) one whole
+
     by_reach : start ≢ at → (start < at → WholeUnit base z start h)
         → Reaches (NextUnit base z) (read_to list start) (read_to scanned at) ⊎ Reaches (NextUnit base z) (read_to scanned at) (read_to list start) → WholeUnit base z start h
     by_reach other rest (inl r) =
@@ -91,6 +92,7 @@ whole-unit base z list all start y h up u (more_scanned scanned g at table items
             let more : q.place ≤ r.place = forward base z q r others in
             let last : r.place ≡ start = ap (λ (x : UnitsRead). x.place) eb in
             omega (arith, place, more, last, lt)
+
     by_place : (start ≡ at) ⊎ (start ≡ at → ⊥) → (start < at → WholeUnit base z start h) → WholeUnit base z start h
     by_place (inl here_) rest = same here_
     by_place (inr other) rest =
@@ -134,8 +136,10 @@ unit-inside base z start h e = by_order (cases_lt start (length z.contents))
   where
     none : length z.contents ≤ start → header_at base z start ≡ None
     none past = ap (unit_header base z.kind z.number start) (drop_all start z.contents past) ∙ no_cells-header base z.kind z.number start
+
     clash : header_at base z start ≡ None → ⊥
     clash f = cc
+
     by_order : (start < length z.contents) ⊎ (length z.contents ≤ start) → start < length z.contents
     by_order (inl lt) = lt
     by_order (inr past) = absurd (clash (none past))

@@ -100,12 +100,20 @@ entry-done base z s place e d h =
     let specs : h.a.specs ≡ h.front = h.attributes ∙ append-nil h.front in
     let is : IsEntry s.header.params s.table (bytes_up_to z s.header) h.start h.a place =
     record {
-      code = h.code; size = h.size; spells = h.spells; some = h.some; listed = h.listed;
+      code = h.code;
+      size = h.size;
+      spells = h.spells;
+      some = h.some;
+      listed = h.listed;
       values = subst (λ (xs : List Spec). SpellsValues s.header.params (bytes_up_to z s.header) (h.start + h.size) xs place) (sym specs) h.values;
     } in
     let root : is_split_root (length h.unit.items) h.a ≡ false = ap (λ (n : ℕ). is_split_root n h.a) h.unit.count ∙ h.root in
     record {
-      own = h.unit.own; list = h.unit.list; before = h.unit.before; unit = h.unit.unit; table = h.unit.table;
+      own = h.unit.own;
+      list = h.unit.list;
+      before = h.unit.before;
+      unit = h.unit.unit;
+      table = h.unit.table;
       items = h.unit.items ++ scanned h.start h.depth h.a place ∷ [];
       count = length-append h.unit.items (scanned h.start h.depth h.a place ∷ []) ∙ ap (λ (n : ℕ). n + 1) h.unit.count ∙ sym h.behind;
       scans = subst (λ (n : ℕ). Scans s.header s.table (bytes_up_to z s.header) (h.unit.items ++ scanned h.start h.depth h.a place ∷ []) place n) (sym h.deep)
@@ -116,12 +124,22 @@ entry-done base z s place e d h =
 value-done : (base : UnitBase) (z : UnitSection) (s : UnitState) (place e d : ℕ) (x : Spec) (xs : List Spec) (v : Value) → InEntry base z s place e d (x ∷ xs)
     → value_at s.header.params x (bytes_up_to z s.header) place ≡ Some v → InEntry base z s (place + v.size) e d xs
 value-done base z s place e d x xs v h is = record {
-  start = h.start; number = h.number; depth = h.depth; unit = h.unit; a = h.a; code = h.code; size = h.size; spells = h.spells; some = h.some;
-  listed = h.listed; root = h.root;
+  start = h.start;
+  number = h.number;
+  depth = h.depth;
+  unit = h.unit;
+  a = h.a;
+  code = h.code;
+  size = h.size;
+  spells = h.spells;
+  some = h.some;
+  listed = h.listed;
+  root = h.root;
   front = h.front ++ x ∷ [];
   attributes = h.attributes ∙ sym (append_assoc h.front (x ∷ []) xs);
   values = more_values h.front x place v h.values is;
-  behind = h.behind; deep = h.deep;
+  behind = h.behind;
+  deep = h.deep;
 }
 
 -- where a state in the unit leads: to the next entry, or behind the unit
@@ -133,12 +151,12 @@ between-reached base z s place e d xs h c = by_end (place == s.header.end) refl 
     by_depth : (t : Bool) → (d == 0) ≡ t → place ≡ s.header.end
         → Chain (unit_grammar base) (if t then before_unit s.section s.kind s.whole place (s.unit + 1) else in_unit s place e d stuck) xs
         → Reached (if t then before_unit s.section s.kind s.whole place (s.unit + 1) else in_unit s place e d stuck).mode base z
-            (if t then before_unit s.section s.kind s.whole place (s.unit + 1) else in_unit s place e d stuck)
+        (if t then before_unit s.section s.kind s.whole place (s.unit + 1) else in_unit s place e d stuck)
     by_depth true is end c =
         let zero_ : d ≡ 0 = eqb-true d 0 is in
         let entries : AreEntries s.header s.table (bytes_up_to z s.header) h.items =
         subst (λ (n : ℕ). Scans s.header s.table (bytes_up_to z s.header) h.items n 0) end
-            (subst (λ (n : ℕ). Scans s.header s.table (bytes_up_to z s.header) h.items place n) zero_ h.scans) in
+        (subst (λ (n : ℕ). Scans s.header s.table (bytes_up_to z s.header) h.items place n) zero_ h.scans) in
         record {
           own = record { section = h.own.section; kind = h.own.kind; whole = h.own.whole };
           list = h.list ++ s.header ∷ [];
@@ -146,10 +164,11 @@ between-reached base z s place e d xs h c = by_end (place == s.header.end) refl 
               (more_scanned h.list s.header s.header.start s.table h.items h.before h.unit h.table entries);
         }
     by_depth false is end c = absurd (stuck-none base (in_unit s place e d stuck) xs refl c)
+
     by_end : (t : Bool) → (place == s.header.end) ≡ t
         → Chain (unit_grammar base) (if t then (if d == 0 then before_unit s.section s.kind s.whole place (s.unit + 1) else in_unit s place e d stuck) else in_unit s place e d at_code) xs
         → Reached (if t then (if d == 0 then before_unit s.section s.kind s.whole place (s.unit + 1) else in_unit s place e d stuck) else in_unit s place e d at_code).mode base z
-            (if t then (if d == 0 then before_unit s.section s.kind s.whole place (s.unit + 1) else in_unit s place e d stuck) else in_unit s place e d at_code)
+        (if t then (if d == 0 then before_unit s.section s.kind s.whole place (s.unit + 1) else in_unit s place e d stuck) else in_unit s place e d at_code)
     by_end true is c = by_depth (d == 0) refl (eqb-true place s.header.end is) c
     by_end false is c = record { own = record { section = h.own.section; kind = h.own.kind; whole = h.own.whole }; list = h.list; before = h.before; unit = h.unit; table = h.table; items = h.items; count = h.count; scans = h.scans }
 
@@ -158,13 +177,31 @@ inside-reached : (base : UnitBase) (z : UnitSection) (s : UnitState) (place e d 
     → Reached (inside s place e d n tag specs).mode base z (inside s place e d n tag specs)
 inside-reached base z s place e d n tag [] xs h c = between-reached base z s place e d xs (entry-done base z s place e d h) c
 inside-reached base z s place e d n tag (y ∷ ys) xs h c = record {
-  start = h.start; number = h.number; depth = h.depth;
+  start = h.start;
+  number = h.number;
+  depth = h.depth;
   unit = record {
     own = record { section = h.unit.own.section; kind = h.unit.own.kind; whole = h.unit.own.whole };
-    list = h.unit.list; before = h.unit.before; unit = h.unit.unit; table = h.unit.table; items = h.unit.items; count = h.unit.count; scans = h.unit.scans;
+    list = h.unit.list;
+    before = h.unit.before;
+    unit = h.unit.unit;
+    table = h.unit.table;
+    items = h.unit.items;
+    count = h.unit.count;
+    scans = h.unit.scans;
   };
-  a = h.a; code = h.code; size = h.size; spells = h.spells; some = h.some; listed = h.listed; root = h.root; front = h.front; attributes = h.attributes;
-  values = h.values; behind = h.behind; deep = h.deep;
+  a = h.a;
+  code = h.code;
+  size = h.size;
+  spells = h.spells;
+  some = h.some;
+  listed = h.listed;
+  root = h.root;
+  front = h.front;
+  attributes = h.attributes;
+  values = h.values;
+  behind = h.behind;
+  deep = h.deep;
 }
 
 -- a piece of a unit stands in it
@@ -217,27 +254,48 @@ code-step base z s p rest xs h fits stands c = by_null (code_value p == 0) refl 
     there : uleb_at (bytes_up_to z s.header) s.place ≡ Some (code_value p, length p)
     there =
         number-paste z.contents p rest s.place s.header.end (code_value p) (length p) (unit-placed base z s s.place s.entry s.depth p rest h stands fits.before) fits.spells
+
     by_null : (t : Bool) → (code_value p == 0) ≡ t
         → Chain (unit_grammar base) (if t then between s (s.place + length p) s.entry (s.depth - 1) else after_entry s (s.place + length p) (abbreviation_of s.table (code_value p))) xs
         → Reached (if t then between s (s.place + length p) s.entry (s.depth - 1) else after_entry s (s.place + length p) (abbreviation_of s.table (code_value p))).mode base z
-            (if t then between s (s.place + length p) s.entry (s.depth - 1) else after_entry s (s.place + length p) (abbreviation_of s.table (code_value p)))
+        (if t then between s (s.place + length p) s.entry (s.depth - 1) else after_entry s (s.place + length p) (abbreviation_of s.table (code_value p)))
     by_null true is c =
         let zero_ : code_value p ≡ 0 = eqb-true (code_value p) 0 is in
         let code : uleb_at (bytes_up_to z s.header) s.place ≡ Some (0, length p) = there ∙ ap (λ (n : ℕ). Some (n, length p)) zero_ in
         between-reached base z s (s.place + length p) s.entry (s.depth - 1) xs
         (record {
-            own = h.own; list = h.list; before = h.before; unit = h.unit; table = h.table; items = h.items; count = h.count;
-            scans = null h.items s.place s.depth (length p) h.scans code;
+          own = h.own;
+          list = h.list;
+          before = h.before;
+          unit = h.unit;
+          table = h.table;
+          items = h.items;
+          count = h.count;
+          scans = null h.items s.place s.depth (length p) h.scans code;
         }) c
     by_null false is c =
         let some : code_value p ≢ 0 = eqb-false (code_value p) 0 is in
         let a = stands-some s.entry (abbreviation_of s.table (code_value p)) (fits.listed some) in
         let next : after_entry s (s.place + length p) (abbreviation_of s.table (code_value p))
-            ≡ inside s (s.place + length p) (s.entry + 1) (depth_behind a.0 s.depth) s.entry a.0.tag a.0.specs = ap (after_entry s (s.place + length p)) a.1 in
+        ≡ inside s (s.place + length p) (s.entry + 1) (depth_behind a.0 s.depth) s.entry a.0.tag a.0.specs = ap (after_entry s (s.place + length p)) a.1 in
         let known : InEntry base z s (s.place + length p) (s.entry + 1) (depth_behind a.0 s.depth) a.0.specs =
         record {
-          start = s.place; number = s.entry; depth = s.depth; unit = h; a = a.0; code = code_value p; size = length p; spells = there; some = some;
-          listed = a.1; root = a.2; front = []; attributes = refl; values = no_values; behind = refl; deep = refl;
+          start = s.place;
+          number = s.entry;
+          depth = s.depth;
+          unit = h;
+          a = a.0;
+          code = code_value p;
+          size = length p;
+          spells = there;
+          some = some;
+          listed = a.1;
+          root = a.2;
+          front = [];
+          attributes = refl;
+          values = no_values;
+          behind = refl;
+          deep = refl;
         } in
         subst (λ (t : UnitState). Reached t.mode base z t) (sym next)
         (inside-reached base z s (s.place + length p) (s.entry + 1) (depth_behind a.0 s.depth) s.entry a.0.tag a.0.specs xs known
@@ -278,17 +336,17 @@ value-step : (base : UnitBase) (z : UnitSection) (s : UnitState) (n tag : ℕ) (
     → InEntry base z s s.place s.entry s.depth (x ∷ ys) → FitsKind (kind_in s.header.params x.form) s x p → p ++ rest ≡ drop s.place z.contents
     → Chain (unit_grammar base) (after_value (kind_in s.header.params x.form) s (s.place + length p) (code_value p) n tag x ys) xs
     → Reached (after_value (kind_in s.header.params x.form) s (s.place + length p) (code_value p) n tag x ys).mode base z
-        (after_value (kind_in s.header.params x.form) s (s.place + length p) (code_value p) n tag x ys)
+    (after_value (kind_in s.header.params x.form) s (s.place + length p) (code_value p) n tag x ys)
 value-step base z s n tag x ys p rest xs h fits stands c = by_front (is_front (kind_in s.header.params x.form))
   where
     by_front : (kind_in s.header.params x.form ≡ form_in_front) ⊎ (kind_in s.header.params x.form ≡ form_in_front → ⊥)
         → Reached (after_value (kind_in s.header.params x.form) s (s.place + length p) (code_value p) n tag x ys).mode base z
-            (after_value (kind_in s.header.params x.form) s (s.place + length p) (code_value p) n tag x ys)
+        (after_value (kind_in s.header.params x.form) s (s.place + length p) (code_value p) n tag x ys)
     by_front (inl front) =
         let f : IsFrontForm s p = subst (λ (k : ValueKind). FitsKind k s x p) front fits in
         let there : uleb_at (bytes_up_to z s.header) s.place ≡ Some (code_value p, length p) =
         number-paste z.contents p rest s.place s.header.end (code_value p) (length p)
-            (record { stands = stands; before = f.before; within = h.unit.unit.within }) f.spells in
+        (record { stands = stands; before = f.before; within = h.unit.unit.within }) f.spells in
         let t : UnitState = in_unit s (s.place + length p) s.entry s.depth (at_chosen n tag s.place (of_chosen x (code_value p)) ys) in
         let known : InChosen base z s (s.place + length p) s.entry s.depth (of_chosen x (code_value p)) ys =
         record { own = x; start = s.place; form = code_value p; size = length p; entry_ = h; front = front; spells = there; at_ = refl; is = refl; plain = f.own } in
@@ -298,18 +356,42 @@ value-step base z s n tag x ys p rest xs h fits stands c = by_front (is_front (k
         in-chosen : (s : UnitState) (place e d n tag start : ℕ) (x : Spec) (ys : List Spec) → InChosen base z s place e d x ys
             → InChosen base z (in_unit s place e d (at_chosen n tag start x ys)) place e d x ys
         in-chosen s place e d n tag start x ys h = record {
-          own = h.own; start = h.start; form = h.form; size = h.size;
+          own = h.own;
+          start = h.start;
+          form = h.form;
+          size = h.size;
           entry_ = record {
-            start = h.entry_.start; number = h.entry_.number; depth = h.entry_.depth;
+            start = h.entry_.start;
+            number = h.entry_.number;
+            depth = h.entry_.depth;
             unit = record {
               own = record { section = h.entry_.unit.own.section; kind = h.entry_.unit.own.kind; whole = h.entry_.unit.own.whole };
-              list = h.entry_.unit.list; before = h.entry_.unit.before; unit = h.entry_.unit.unit; table = h.entry_.unit.table;
-              items = h.entry_.unit.items; count = h.entry_.unit.count; scans = h.entry_.unit.scans;
+              list = h.entry_.unit.list;
+              before = h.entry_.unit.before;
+              unit = h.entry_.unit.unit;
+              table = h.entry_.unit.table;
+              items = h.entry_.unit.items;
+              count = h.entry_.unit.count;
+              scans = h.entry_.unit.scans;
             };
-            a = h.entry_.a; code = h.entry_.code; size = h.entry_.size; spells = h.entry_.spells; some = h.entry_.some; listed = h.entry_.listed;
-            root = h.entry_.root; front = h.entry_.front; attributes = h.entry_.attributes; values = h.entry_.values; behind = h.entry_.behind; deep = h.entry_.deep;
+            a = h.entry_.a;
+            code = h.entry_.code;
+            size = h.entry_.size;
+            spells = h.entry_.spells;
+            some = h.entry_.some;
+            listed = h.entry_.listed;
+            root = h.entry_.root;
+            front = h.entry_.front;
+            attributes = h.entry_.attributes;
+            values = h.entry_.values;
+            behind = h.entry_.behind;
+            deep = h.entry_.deep;
           };
-          front = h.front; spells = h.spells; at_ = h.at_; is = h.is; plain = h.plain;
+          front = h.front;
+          spells = h.spells;
+          at_ = h.at_;
+          is = h.is;
+          plain = h.plain;
         }
     by_front (inr other) =
         let f : IsValue s x (kind_in s.header.params x.form) p = own-fits (kind_in s.header.params x.form) s x p other fits in
@@ -422,5 +504,5 @@ pub section-scanned : (base : UnitBase) (z : UnitSection) (first : ℕ) (xs : Li
 section-scanned base z first xs r =
     let all : ScannedAll base z =
     all-back base z (before_unit z.number z.kind (length z.contents) 0 first) xs
-        (record { own = record { section = refl; kind = refl; whole = refl }; list = []; scanned_ = none_scanned }) r.chain r.cells in
+    (record { own = record { section = refl; kind = refl; whole = refl }; list = []; scanned_ = none_scanned }) r.chain r.cells in
     (all.list, all.scanned_)

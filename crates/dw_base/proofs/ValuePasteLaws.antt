@@ -171,5 +171,5 @@ value-paste k o cells p rest place end i v h e =
     ap (λ (bs : List ℕ). value_of k o bs 0 i) (unit-front cells p rest place end h)
     ∙ value_of-append k o (bytes_of p) (take (end - place - length p) (bytes_of rest)) i v e in
     let there = together-some (value_of k o (drop place (take end (bytes_of cells))) 0 i) (value_of k o (take end (bytes_of cells)) place i) v
-        (both k o (take end (bytes_of cells)) place i (place-inside cells p rest place end h)) front in
+    (both k o (take end (bytes_of cells)) place i (place-inside cells p rest place end h)) front in
     record { value = there.0; is = there.1; same = there.2 }
