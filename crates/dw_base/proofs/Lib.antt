@@ -97,3 +97,4 @@ pub mod WorkedData
 pub mod ValuePasteLaws
 pub mod ScanBackLaws
 pub mod DataRowLaws
+pub mod ClassLaws

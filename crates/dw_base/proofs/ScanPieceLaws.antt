@@ -110,7 +110,7 @@ abbrev pub unit_bytes : UnitState → List Cell → List ℕ
 unit_bytes s cells = take s.header.end (bytes_of cells)
 
 -- a value of a kind at a place is a piece
-value-piece : (s : UnitState) (x : Spec) (k : ValueKind) (cells : List Cell) (place e d : ℕ) (m : Mode) (v : Value)
+pub value-piece : (s : UnitState) (x : Spec) (k : ValueKind) (cells : List Cell) (place e d : ℕ) (m : Mode) (v : Value)
     → value_of k s.header.params.order (unit_bytes s cells) place x.implicit ≡ Some v
     → IsValue (in_unit s place e d m) x k (take v.size (drop place cells))
 value-piece s x k cells place e d m v is =
@@ -126,7 +126,7 @@ value-piece s x k cells place e d m v is =
     }
 
 -- so a value of an attribute that isn't behind a form is one
-own-run : (base : UnitBase) (cells : List Cell) (s : UnitState) (place e d n tag : ℕ) (x : Spec) (xs : List Spec) (v : Value)
+pub own-run : (base : UnitBase) (cells : List Cell) (s : UnitState) (place e d n tag : ℕ) (x : Spec) (xs : List Spec) (v : Value)
     → kind_in s.header.params x.form ≢ form_in_front
     → value_of (kind_in s.header.params x.form) s.header.params.order (unit_bytes s cells) place x.implicit ≡ Some v
     → Run base cells (in_unit s place e d (at_values n tag (x ∷ xs))) (inside s (place + v.size) e d n tag xs) place (place + v.size)
@@ -167,15 +167,15 @@ number-piece s cells place v n e =
     }
 
 -- a value behind a form: the form's number, and the value that was read behind it
-record Chosen (params : Params) (x : Spec) (bytes : List ℕ) (place : ℕ) (v : Value) : Type 0 where
-  form : ℕ
-  size : ℕ
-  spells : uleb_at bytes place ≡ Some (form, size)
-  value : Value
-  is : value_of (kind_in params form) params.order bytes (place + size) x.implicit ≡ Some value
-  own : kind_in params form ≢ in_abbreviation
-  other : kind_in params form ≢ form_in_front
-  whole : v.size ≡ size + value.size
+pub record Chosen (params : Params) (x : Spec) (bytes : List ℕ) (place : ℕ) (v : Value) : Type 0 where
+  pub form : ℕ
+  pub size : ℕ
+  pub spells : uleb_at bytes place ≡ Some (form, size)
+  pub value : Value
+  pub is : value_of (kind_in params form) params.order bytes (place + size) x.implicit ≡ Some value
+  pub own : kind_in params form ≢ in_abbreviation
+  pub other : kind_in params form ≢ form_in_front
+  pub whole : v.size ≡ size + value.size
 
 -- what was chosen has a kind of its own
 chosen-kind : (k : ValueKind) (params : Params) (x : Spec) (bytes : List ℕ) (place : ℕ) (w : Value) → chosen_value k params.order bytes place x.implicit ≡ Some w
@@ -198,7 +198,7 @@ abbrev size_read : Option Value → ℕ
 size_read None = 0
 size_read (Some w) = w.size
 
-chosen-read : (params : Params) (x : Spec) (bytes : List ℕ) (place : ℕ) (v : Value) → kind_in params x.form ≡ form_in_front
+pub chosen-read : (params : Params) (x : Spec) (bytes : List ℕ) (place : ℕ) (v : Value) → kind_in params x.form ≡ form_in_front
     → value_at params x bytes place ≡ Some v → Chosen params x bytes place v
 unfolding value_at
 chosen-read params x bytes place v front e = by_read (uleb_at bytes place) refl (sym (ap (λ (k : ValueKind). value_by k params x bytes place) front) ∙ e)
@@ -224,7 +224,7 @@ chosen-read params x bytes place v front e = by_read (uleb_at bytes place) refl 
     by_read (Some (form, size)) is e = by_value form size (chosen_value (kind_in params form) params.order bytes (place + size) x.implicit) is refl e
 
 -- the form in front of a value is a piece
-front-run : (base : UnitBase) (cells : List Cell) (s : UnitState) (place e d n tag form size : ℕ) (x : Spec) (xs : List Spec)
+pub front-run : (base : UnitBase) (cells : List Cell) (s : UnitState) (place e d n tag form size : ℕ) (x : Spec) (xs : List Spec)
     → kind_in s.header.params x.form ≡ form_in_front → uleb_at (unit_bytes s cells) place ≡ Some (form, size)
     → kind_in s.header.params form ≢ form_in_front → kind_in s.header.params form ≢ in_abbreviation
     → Run base cells (in_unit s place e d (at_values n tag (x ∷ xs))) (in_unit s (place + size) e d (at_chosen n tag place (of_chosen x form) xs)) place (place + size)
@@ -248,7 +248,7 @@ front-run base cells s place e d n tag form size x xs front is other own =
     ∙ ap (λ (f : ℕ). in_unit s (place + size) e d (at_chosen n tag place (of_chosen x f) xs)) c.value)
 
 -- and the value behind it
-chosen-run : (base : UnitBase) (cells : List Cell) (s : UnitState) (place e d n tag start form : ℕ) (x : Spec) (xs : List Spec) (v : Value)
+pub chosen-run : (base : UnitBase) (cells : List Cell) (s : UnitState) (place e d n tag start form : ℕ) (x : Spec) (xs : List Spec) (v : Value)
     → value_of (kind_in s.header.params form) s.header.params.order (unit_bytes s cells) place x.implicit ≡ Some v
     → Run base cells (in_unit s place e d (at_chosen n tag start (of_chosen x form) xs)) (inside s (place + v.size) e d n tag xs) place (place + v.size)
 chosen-run base cells s place e d n tag start form x xs v is =

@@ -28,11 +28,11 @@ use Rattle.dw_base.specs.UnitHeaders.{is_header, header_if, header_of_version, h
 use Rattle.dw_base.specs.declared.shared.Width.{Width}
 
 -- before a unit of a section
-abbrev before : UnitSection → ℕ → ℕ → UnitState
+abbrev pub before : UnitSection → ℕ → ℕ → UnitState
 before z place unit = before_unit z.number z.kind (length z.contents) place unit
 
 -- in a unit that starts at a place
-abbrev in_headed : UnitBase → UnitSection → ℕ → ℕ → UnitHeader → UnitState
+abbrev pub in_headed : UnitBase → UnitSection → ℕ → ℕ → UnitHeader → UnitState
 in_headed base z start unit h = headed base (before z start unit) h
 
 -- the places of a header that was read
@@ -42,7 +42,7 @@ pub record HeaderPlaced (z : UnitSection) (start : ℕ) (h : UnitHeader) : Type 
   pub inside : h.first ≤ start + length (drop start z.contents)
 
 -- the header is a piece
-header-run : (base : UnitBase) (z : UnitSection) (start unit : ℕ) (h : UnitHeader) (table : List Abbreviation) → IsUnit base z start h
+pub header-run : (base : UnitBase) (z : UnitSection) (start unit : ℕ) (h : UnitHeader) (table : List Abbreviation) → IsUnit base z start h
     → HeaderPlaced z start h → IsTable base.abbrevs.bytes h.abbrevs table
     → Run base z.contents (before z start unit) (between (in_headed base z start unit h) h.first 0 0) start h.first
 header-run base z start unit h table u placed t =
@@ -118,7 +118,7 @@ header-placed base z start h e =
     record { start_is = s.0; behind = s.1; inside = omega (arith, inside_, s.0) }
 
 -- units one after another
-units-run : (base : UnitBase) (z : UnitSection) (first : ℕ) (list : List UnitHeader) (place : ℕ) → UnitsScanned base z list place
+pub units-run : (base : UnitBase) (z : UnitSection) (first : ℕ) (list : List UnitHeader) (place : ℕ) → UnitsScanned base z list place
     → Run base z.contents (before z 0 first) (before z place (first + length list)) 0 place
 units-run base z first list place none_scanned =
     run-none base z.contents (before z 0 first) (before z 0 (first + 0)) 0 (ap (λ (n : ℕ). before z 0 n) (omega arith))

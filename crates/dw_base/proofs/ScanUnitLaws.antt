@@ -15,7 +15,7 @@ use Rattle.dw_base.proofs.EntryRowLaws.{past-number}
 use Rattle.dw_base.proofs.ScanPieceLaws.{Run, run-more, run-none, run-one, unit_bytes, NumberPiece, number-piece, value-run, inside-same}
 
 -- values, one after another
-values-run : (base : UnitBase) (cells : List Cell) (s : UnitState) (start e d n tag : ℕ) (xs rest : List Spec) (place : ℕ)
+pub values-run : (base : UnitBase) (cells : List Cell) (s : UnitState) (start e d n tag : ℕ) (xs rest : List Spec) (place : ℕ)
     → SpellsValues s.header.params (unit_bytes s cells) start xs place
     → Run base cells (inside s start e d n tag (xs ++ rest)) (inside s place e d n tag rest) start place
 values-run base cells s start e d n tag xs rest place no_values = run-none base cells (inside s start e d n tag rest) (inside s start e d n tag rest) start refl
@@ -63,7 +63,7 @@ null-run base cells s place e d size is =
     (run-one base cells (in_unit s place e d at_code) (between s (place + size) e (d - 1)) place size fits next)
 
 -- the code of an entry
-code-run : (base : UnitBase) (cells : List Cell) (s : UnitState) (place e d code size : ℕ) (a : Abbreviation)
+pub code-run : (base : UnitBase) (cells : List Cell) (s : UnitState) (place e d code size : ℕ) (a : Abbreviation)
     → uleb_at (unit_bytes s cells) place ≡ Some (code, size) → code ≢ 0 → abbreviation_of s.table code ≡ Some a → is_split_root e a ≡ false
     → Run base cells (between s place e d) (inside s (place + size) (e + 1) (depth_behind a d) e a.tag a.specs) place (place + size)
 unfolding after_code
