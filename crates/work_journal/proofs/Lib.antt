@@ -8,6 +8,5 @@ pub mod GroupLaws
 pub mod FileLaws
 pub mod JobErrLaws
 pub mod RoundLaws
-pub mod ToyLaws
 pub mod SweepLaws
 pub mod EndLaws

@@ -9,6 +9,5 @@ pub mod Jobs
 pub mod Groups
 pub mod Files
 pub mod Rounds
-pub mod Toys
 pub mod Settling
 pub mod Ending

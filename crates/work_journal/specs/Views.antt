@@ -1,5 +1,5 @@
 -- What a maker holds: the numbers of steps of its jobs, paths, planned digests, and the nodes that it makes of a file.
-use Rattle.std.specs.Prelude.{◌≡◌, ◌≢◌, ℕ, ◌<◌, ◌≤◌, ◌^◌, List, length, get_or, Option, Some}
+use Rattle.std.specs.Prelude.{◌≡◌, ◌≢◌, ℕ, ◌<◌, ◌≤◌, List, length, get_or, Option, Some}
 use Rattle.file_tree.specs.declared.node.Node.{Node}
 
 pub record MakerView : Type 0 where
@@ -12,7 +12,6 @@ pub record MakerView : Type 0 where
 
 -- each job has 1 to 4 steps; nodes are made only of the planned file, one a step
 pub record IsMaker (v : MakerView) : Type 0 where
-  pub few : length v.steps < 2 ^ 32
   pub some : (j : ℕ) → j < length v.steps → 0 < get_or v.steps j 0
   pub most : (j : ℕ) → j < length v.steps → get_or v.steps j 0 ≤ 4
   pub of_planned : (j : ℕ) (bytes : List ℕ) (mode : ℕ) (ns : List Node) → v.nodes j bytes mode ≡ Some ns → v.digest bytes ≡ v.planned j

@@ -50,8 +50,6 @@ pub trait Maker {
     // what is refused of a job's file
     ghost refuses: { Self → ℕ → List ℕ → Refusal → Type 0 };
 
-    ghost fits: { (m : Self) → IsMaker (view m) };
-
     /// How many jobs there are.
     fn jobs(&self) -> u32
         ensures count { result ≡ length (view self.now).steps };
@@ -94,4 +92,7 @@ pub trait Maker {
         ensures refused { (r : Refusal) → result ≡ Err (MakeErr.Refused r) → refuses self.old job bytes.now r }
         ensures planned { (r : Refusal) → result ≡ Err (MakeErr.Refused r) → (view self.old).digest bytes.now ≡ (view self.old).planned job }
         ensures whole { (ns : List Node) → (view self.old).nodes job bytes.now mode ≡ Some ns → IsOkUnless result MakeErr.NoMemory };
+
+    // what each maker holds is fit
+    ghost fits: { (m : Self) → IsMaker (view m) };
 }

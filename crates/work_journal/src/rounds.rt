@@ -4,7 +4,7 @@
 //! This layer promises: at `Ok` each job is done; whatever is answered, every stop leaves the run partway
 //! where it was, for the files that the maker wants.
 //! Read first: `specs/Rounds.antt`, `specs/Files.antt`, `specs/Runs.antt`.
-ghost use Rattle.std.specs.Prelude.{◌≡◌, ◌≤◌, ◌<◌, ◌+◌, IfOk, OnOk, length, List, ℕ};
+ghost use Rattle.std.specs.Prelude.{◌≡◌, ◌≤◌, ◌<◌, ◌+◌, ◌^◌, IfOk, OnOk, length, List, ℕ};
 ghost use Rattle.file_tree.specs.declared.node.TreeErr.TheVariants.{Failed};
 ghost use Rattle.dw_base.specs.declared.fault.Refusal.{Refusal};
 ghost use Rattle.journal_core.specs.Cores.{core_of};
@@ -83,6 +83,7 @@ fn take_one<T: Tree, M: Maker>(
     job: u32,
 ) -> Result<Round, JobErr>
     requires there { job < length (M.view maker.old).steps }
+    requires next { job + 1 < 2 ^ 32 }
     requires most { in_flight ≤ 64 }
     requires round { IsRound (M.view maker.old) (core_of desk.old.core) round job in_flight }
     ensures same_tree { desk.new.tree.ghost_name ≡ desk.old.tree.ghost_name }
