@@ -19,7 +19,8 @@ pub struct AbsoluteTypes {
 }
 
 /// The size of the field of an absolute type, in bytes: 4 or 8. `None` exactly where the type isn't an
-/// absolute one of the machine, or the machine isn't listed. The machine is `e_machine`.
+/// absolute one of the machine, as 0 ("none") never is, or the machine isn't listed. The machine is
+/// `e_machine`.
 #[tactic(auto, unfolding(crate::specs::AbsoluteTypes::absolute_size))]
 pub fn absolute_size(machine: u16, kind: u32) -> Option<u8>
     ensures value { result ≡ absolute_size machine kind }

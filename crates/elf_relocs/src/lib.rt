@@ -8,6 +8,9 @@
 //! Read first: `specs/Symbols.antt`, then `specs/Relocs.antt` and `specs/AbsoluteTypes.antt`.
 //!
 //! ```rust
+//! use elf_relocs::relocation_numbers::EM_X86_64;
+//! use elf_relocs::{Class, Order, Reloc, absolute_size, reloc_at, set_reloc};
+//!
 //! // `.debug_abbrev + 5` at 8, by R_X86_64_32 (type 10) and symbol 7.
 //! let mut table = [8, 0, 0, 0, 0, 0, 0, 0, 10, 0, 0, 0, 7, 0, 0, 0, 5, 0, 0, 0, 0, 0, 0, 0];
 //! let (class, order) = (Class::C64, Order::Little);
