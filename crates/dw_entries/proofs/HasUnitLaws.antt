@@ -102,6 +102,9 @@ unit-facts base z start h e = by_length (initial_length_at base.order (bytes_of 
           address = ap (λ (x : UnitHeader). is_address_size x.params.address) same ∙ parts.1;
         }
 
+pub unit-section : (base : UnitBase) (z : UnitSection) (start : ℕ) (h : UnitHeader) → header_at base z start ≡ Some h → h.section ≡ z.number
+unit-section base z start h e = (unit-facts base z start h e).section
+
 -- a unit of a view: the section of its number, where it ends there, and what its values need
 pub record IsUnitOfView (v : View) (h : UnitHeader) : Type 0 where
   pub there : h.section < length v.sections

@@ -9,3 +9,4 @@ pub mod OffsetLaws
 pub mod UnitSectionLaws
 pub mod UnitListLaws
 pub mod HasUnitLaws
+pub mod CallerLaws

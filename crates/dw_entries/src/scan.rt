@@ -21,13 +21,13 @@ use std::marker::Model;
 /// refusals, and ends after a refusal: `Entry` at the entry, value or unit's end, `Form` and `Supplementary`
 /// at the value, `SplitDwarf` at the first entry.
 #[derive(Drop)]
-pub struct EntryScan<'a> {
+pub struct EntryScan<'v, 't> {
     /// The unit.
     unit: UnitHeader,
     /// Its abbreviations.
-    table: &'a AbbrevTable,
+    table: &'t AbbrevTable,
     /// The bytes of its section up to its end.
-    bytes: &'a [u8],
+    bytes: &'v [u8],
     /// The place that was reached.
     place: u64,
     /// How many lists of children are open there.
@@ -38,7 +38,7 @@ pub struct EntryScan<'a> {
     over: bool,
 }
 
-impl<'a> Model for EntryScan<'a> {
+impl<'v, 't> Model for EntryScan<'v, 't> {
     ghost Value = { ScanState };
 
     ghost view = { λ s. record { unit = s.unit; table = s.table.now; bytes = s.bytes.now; place = s.place; depth = s.depth; number = s.number; over = s.over } };
@@ -46,9 +46,13 @@ impl<'a> Model for EntryScan<'a> {
     ghost invariant = { λ s. ScanFits (record { unit = s.unit; table = s.table.now; bytes = s.bytes.now; place = s.place; depth = s.depth; number = s.number; over = s.over }) };
 }
 
-impl<'a> EntryScan<'a> {
+impl<'v, 't> EntryScan<'v, 't> {
     /// The pass over a unit of the view before its first entry, with the table at the unit's `abbrevs`.
-    pub fn new(view: &'a View<'a>, unit: &UnitHeader, table: &'a AbbrevTable) -> EntryScan<'a>
+    pub fn new<'f>(
+        view: &'v View<'f>,
+        unit: &UnitHeader,
+        table: &'t AbbrevTable,
+    ) -> EntryScan<'v, 't>
         requires unit { HasUnit (debug_data view.now) (unit_section_at view.now unit.now.section) unit.now }
         ensures start { result ≡ scan_start unit.now table.now (bytes_up_to (unit_section_at view.now unit.now.section) unit.now) }
         ensures given { HasGiven result [] }
@@ -66,7 +70,7 @@ impl<'a> EntryScan<'a> {
     }
 }
 
-impl<'a> Iterator for EntryScan<'a> {
+impl<'v, 't> Iterator for EntryScan<'v, 't> {
     type Item = Result<Scanned, Refusal>;
 
     ghost next_gives = { Gives };
