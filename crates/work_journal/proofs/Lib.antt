@@ -10,3 +10,4 @@ pub mod JobErrLaws
 pub mod RoundLaws
 pub mod SweepLaws
 pub mod EndLaws
+pub mod RestartLaws

@@ -1,8 +1,15 @@
 -- The laws that tie the core to a tree: each call keeps the relation, and a call that failed leaves the run partway.
+use Rattle.std.specs.Prelude.{◌≡◌, ◌≢◌, ℕ, ◌<◌, List, Some, None}
+use Rattle.std.specs.FinMap as fin
+use Rattle.file_tree.specs.Trees.{TreeMap}
 use Rattle.file_tree.specs.Seen.{Past, Happened, adds}
-use Rattle.file_tree.specs.Images.{State, state_after, state_of, LeavesOnly}
+use Rattle.file_tree.specs.Images.{State, state_after, state_of, settled_state, LeavesOnly}
+use Rattle.journal_core.specs.declared.event.Phase.TheVariants.{Closed}
+use Rattle.journal_core.specs.Names.{Name, IsStep, IsName, temp, final, target}
 use Rattle.journal_core.specs.Table.{CoreState}
-use Rattle.work_journal.specs.Wanted.{Wanted, IsApart, IsWork, IsPartway}
+use Rattle.journal_core.specs.Starts.{shown_core}
+use Rattle.work_journal.specs.Work.{work_path}
+use Rattle.work_journal.specs.Wanted.{Wanted, path_of, IsApart, IsWork, IsPartway}
 use Rattle.work_journal.specs.Keeps.{Does, Broke, Keeps, Kept}
 
 abbrev pub EveryCallKept : Type 0
@@ -16,3 +23,20 @@ EveryStepKept = (w : Wanted) → IsApart w → IsWork w → (c d : CoreState) (p
 abbrev pub EveryFailurePartway : Type 0
 EveryFailurePartway = (w : Wanted) → IsApart w → IsWork w → (c : CoreState) (old new : Past)
     → Keeps w c (state_of old) → Broke w c old new → LeavesOnly (IsPartway w) old new
+
+-- ### Where a run ends, and where it is taken up
+
+-- all outputs and texts of the end are whole, no temporary name is left, and all else is as before the run
+pub record IsEnded (w : Wanted) (t : TreeMap) : Type 0 where
+  pub outputs : (j k : ℕ) → IsStep w.steps j k → fin.get t (w.output j k) ≡ Some (w.node (target j k))
+  pub texts : (i : ℕ) → i < 4 → fin.get t (work_path w.work (final i)) ≡ Some (w.node (final i))
+  pub temps : (j k : ℕ) → IsStep w.steps j k → fin.get t (work_path w.work (temp j k)) ≡ None
+  pub others : (q : List ℕ) → ((n : Name) → IsName w.steps n → q ≢ path_of w n) → fin.get t q ≡ fin.get w.start q
+
+-- a run whose core is closed has ended
+abbrev pub EveryEndWhole : Type 0
+EveryEndWhole = (w : Wanted) (c : CoreState) (s : State) → Keeps w c s → c.phase ≡ Closed → IsEnded w s.now
+
+-- whatever a stop left partway can be taken up, by the core that its names show
+abbrev pub EveryStartKeeps : Type 0
+EveryStartKeeps = (w : Wanted) → IsApart w → (t : TreeMap) (p : IsPartway w t) → Keeps w (shown_core w.steps p.marking) (settled_state t)

@@ -2,7 +2,7 @@
 //!
 //! These functions compute nothing: each one's clauses state facts of every run. Read first:
 //! `specs/Wanted.antt`, `specs/Keeps.antt`, `specs/Laws.antt`.
-ghost use Rattle.work_journal.specs.Laws.{EveryCallKept, EveryStepKept, EveryFailurePartway};
+ghost use Rattle.work_journal.specs.Laws.{EveryCallKept, EveryStepKept, EveryFailurePartway, EveryEndWhole, EveryStartKeeps};
 
 /// What the calls of a run keep.
 pub fn bridge_laws()
@@ -12,4 +12,9 @@ pub fn bridge_laws()
 
     // A call that failed, whatever it did, leaves the run partway at every moment.
     ensures failure { EveryFailurePartway }
+
+    // A run whose core is closed has ended: all outputs are there. And what a stop left partway is taken
+    // up by the core that its names show.
+    ensures whole { EveryEndWhole }
+    ensures start { EveryStartKeeps }
 {}

@@ -1,4 +1,5 @@
 use Rattle.work_journal.proofs.StepLaws.{call_kept, step_kept, failure_partway}
+use Rattle.work_journal.proofs.RestartLaws.{end_whole, start_keeps}
 use Rattle.work_journal.proofs.law.bridge_laws.Goals as goal
 
 pub returns-clause-call : goal.returns-clause-call
@@ -9,3 +10,9 @@ returns-clause-step c = step_kept
 
 pub returns-clause-failure : goal.returns-clause-failure
 returns-clause-failure c = failure_partway
+
+pub returns-clause-whole : goal.returns-clause-whole
+returns-clause-whole c = end_whole
+
+pub returns-clause-start : goal.returns-clause-start
+returns-clause-start c = start_keeps
