@@ -105,3 +105,8 @@ impl<'v, 't> Iterator for EntryScan<'v, 't> {
         }
     }
 }
+
+#[cfg(test)]
+mod samples;
+#[cfg(test)]
+mod tests;

@@ -1,0 +1,180 @@
+//! Files of a few units: which entries are read, and which are refused and where.
+
+ghost use Rattle.dw_entries.specs.ViewUnits.{IsUnitSection};
+
+use super::EntryScan;
+use super::samples::{ABBREVS, POWERPC, POWERPC_ROWS, READ, REFUSED, Row};
+use crate::headers::unit_headers;
+use dw_abbrev::AbbrevTable;
+use dw_base::{DebugSection, Fault, Kind, Order, Refusal, put_number};
+use dw_view::View;
+use elf_file::ElfFile;
+use std::alloc::{AllocError, Global};
+use std::process::Abort;
+use std::test::Fail;
+
+/// The front of a file of 64 bits, of type EXEC, with the place of its section headers left open.
+const FRONT: &[u8] =
+    b"\x7fELF\x02\x01\x01\0\0\0\0\0\0\0\0\0\x02\0\x3e\0\x01\0\0\0\0\0\0\0\0\0\0\0\0\0\0\0\0\0\0\0\0\0\0\0\0\0\0\0\0\0\0\0\x40\0\0\0\0\0\x40\0\x05\0\x04\0";
+
+/// The names of its sections.
+const NAMES: &[u8] = b"\0.debug_info\0.debug_types\0.debug_abbrev\0.shstrtab\0";
+
+/// Appends a section and, to the headers, its header.
+fn push_section(
+    file: &mut Vec<u8>,
+    headers: &mut Vec<u8>,
+    name: u8,
+    kind: u8,
+    bytes: &[u8],
+) -> Result<(), AllocError> {
+    headers.extend_from_slice(&[name, 0, 0, 0, kind, 0, 0, 0])?;
+    headers.extend_from_slice(&[0, 0, 0, 0, 0, 0, 0, 0, 0, 0, 0, 0, 0, 0, 0, 0])?;
+    headers.extend_from_slice(&(file.len() as u64).to_le_bytes())?;
+    headers.extend_from_slice(&(bytes.len() as u64).to_le_bytes())?;
+    headers.extend_from_slice(&[0, 0, 0, 0, 0, 0, 0, 0])?;
+    headers.extend_from_slice(&[1, 0, 0, 0, 0, 0, 0, 0, 0, 0, 0, 0, 0, 0, 0, 0])?;
+    file.extend_from_slice(bytes)
+}
+
+/// A file of two unit sections, number 1 and 2, and their abbreviations.
+fn file_of(
+    rt: &impl Abort,
+    alloc: Global,
+    info: &[u8],
+    types: &[u8],
+) -> Result<Vec<u8>, AllocError> {
+    let mut file = Vec::new(alloc);
+    let mut headers = Vec::new(alloc);
+    file.extend_from_slice(FRONT)?;
+    for _ in 0..64 {
+        headers.push(0)?;
+    }
+    push_section(&mut file, &mut headers, 1, 1, info)?;
+    push_section(&mut file, &mut headers, 13, 1, types)?;
+    push_section(&mut file, &mut headers, 26, 1, ABBREVS)?;
+    push_section(&mut file, &mut headers, 40, 3, NAMES)?;
+    let place = file.len() as u64;
+    file.extend_from_slice(&headers)?;
+    assert!(rt; put_number(Order::Little, &mut file, 40, 8, place));
+    Ok(file)
+}
+
+/// Appends the entries of all units of a section.
+#[tactic(auto, using(crate::proofs::CallerLaws::caller_laws))]
+fn push_entries(
+    alloc: Global,
+    view: &View,
+    section: u32,
+    abbrevs: &[u8],
+    rows: &mut Vec<Row>,
+) -> Result<(), Fault>
+    requires there { IsUnitSection view.now section }
+{
+    let units = unit_headers(alloc, view, section)?;
+    for unit in units.as_slice() {
+        let table = AbbrevTable::read(alloc, 3, abbrevs, unit.abbrevs)?;
+        for item in EntryScan::new(view, unit, &table) {
+            let entry = item?;
+            rows.push((entry.offset, entry.depth, entry.code))?;
+        }
+    }
+    Ok(())
+}
+
+/// The entries of all units of a file.
+#[tactic(auto, using(crate::proofs::CallerLaws::caller_laws))]
+fn entries_of(rt: &impl Abort, alloc: Global, file: &[u8]) -> Result<Vec<Row>, Fault> {
+    assert!(rt; file.len() <= 0x8000_0000);
+    let elf = ElfFile::read(alloc, file)?;
+    let view = View::one(&elf)?;
+    let mut rows = Vec::new(alloc);
+    let Some(section) = view.first(DebugSection::Abbrev) else {
+        return Ok(rows);
+    };
+    let abbrevs = view.bytes(section);
+    if let Some(info) = view.first(DebugSection::Info) {
+        push_entries(alloc, &view, info, abbrevs, &mut rows)?;
+    }
+    if let Some(types) = view.first(DebugSection::Types) {
+        push_entries(alloc, &view, types, abbrevs, &mut rows)?;
+    }
+    Ok(rows)
+}
+
+#[test]
+fn entries_are_those_of_the_units(rt: HostRuntime) -> Result<(), Fail> {
+    for case in READ {
+        let &(info, types, rows) = case;
+        let file = file_of(&rt, rt.alloc(), info, types)?;
+        let found = entries_of(&rt, rt.alloc(), &file)?;
+        assert_eq!(rt; found.as_slice(), rows);
+    }
+    Ok(())
+}
+
+#[test]
+fn units_and_entries_are_refused_at_their_places(rt: HostRuntime) -> Result<(), Fail> {
+    for case in REFUSED {
+        let &(info, types, kind, section, offset) = case;
+        let file = file_of(&rt, rt.alloc(), info, types)?;
+        let refusal = Refusal {
+            kind,
+            section,
+            offset,
+        };
+        match entries_of(&rt, rt.alloc(), &file) {
+            Ok(_) => assert!(rt; false),
+            Err(fault) => assert_eq!(rt; fault, Fault::Refused(refusal)),
+        }
+    }
+    Ok(())
+}
+
+#[test]
+fn entries_of_a_big_endian_program_are_read(rt: HostRuntime) -> Result<(), Fail> {
+    let found = entries_of(&rt, rt.alloc(), POWERPC)?;
+    assert_eq!(rt; found.as_slice(), POWERPC_ROWS);
+    Ok(())
+}
+
+/// A unit in which each entry is a child of the one before it, and so many nulls.
+fn deep_unit(
+    rt: &impl Abort,
+    alloc: Global,
+    levels: u32,
+    nulls: u32,
+) -> Result<Vec<u8>, AllocError> {
+    let mut info = Vec::new(alloc);
+    info.extend_from_slice(b"\0\0\0\0\x04\0\0\0\0\0\x08")?;
+    for _ in 0..levels {
+        info.extend_from_slice(b"\x80\x80\x01")?;
+    }
+    for _ in 0..nulls {
+        info.push(0)?;
+    }
+    let size = (info.len() as u64).saturating_sub(4);
+    assert!(rt; put_number(Order::Little, &mut info, 0, 4, size));
+    Ok(info)
+}
+
+#[test]
+fn a_unit_of_100000_levels_is_read(rt: HostRuntime) -> Result<(), Fail> {
+    let info = deep_unit(&rt, rt.alloc(), 100_000, 100_000)?;
+    let file = file_of(&rt, rt.alloc(), &info, b"")?;
+    let found = entries_of(&rt, rt.alloc(), &file)?;
+    assert_eq!(rt; found.len(), 100_000);
+    assert_eq!(rt; found.last().copied(), Some((300_008, 99_999, 0x4000)));
+    let info = deep_unit(&rt, rt.alloc(), 100_000, 99_999)?;
+    let file = file_of(&rt, rt.alloc(), &info, b"")?;
+    let open = Refusal {
+        kind: Kind::Entry,
+        section: 1,
+        offset: 400_010,
+    };
+    match entries_of(&rt, rt.alloc(), &file) {
+        Ok(_) => assert!(rt; false),
+        Err(fault) => assert_eq!(rt; fault, Fault::Refused(open)),
+    }
+    Ok(())
+}
