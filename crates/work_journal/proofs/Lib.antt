@@ -10,4 +10,5 @@ pub mod JobErrLaws
 pub mod RoundLaws
 pub mod SweepLaws
 pub mod EndLaws
+pub mod ToyLaws
 pub mod RestartLaws

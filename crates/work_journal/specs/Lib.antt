@@ -11,3 +11,4 @@ pub mod Files
 pub mod Rounds
 pub mod Settling
 pub mod Ending
+pub mod Toys

@@ -29,6 +29,8 @@ mod rounds;
 mod steps;
 mod sweeping;
 mod taking;
+#[cfg(test)]
+mod tests;
 
 pub use closing::close_run;
 pub use desk::Desk;
