@@ -1,12 +1,12 @@
 -- What the class of a value says of its kind: texts and their offsets are of their own kinds alone.
-use Rattle.std.proofs.Common.{Bool, true, false, ◌≡◌, ℕ, ℤ, List, [], ◌∷◌, Option, Some, None, refl, sym, ap, ◌∙◌, subst, if◌then◌else◌}
+use Rattle.std.proofs.Common.{Bool, true, false, ◌≡◌, ℕ, ℤ, List, [], ◌∷◌, Option, Some, None, refl, sym, ap, ◌∙◌, if◌then◌else◌}
 use Rattle.std.specs.Prelude.{◌==◌, ◌&&◌}
 use Rattle.std.proofs.lemmas.Bool.{and_parts}
 use Rattle.dw_base.specs.Forms.{TextSection, in_str, in_line_str, ValueKind, number_of, leb_number, signed_leb, block_of, counted, counted_leb, inline_text, text_offset, present, in_abbreviation, form_in_front, supplementary, unlisted, FormRow, form_rows, kind_by, kind_in}
 use Rattle.dw_base.specs.Lebs.{uleb_at, sleb_at}
 use Rattle.dw_base.specs.Numbers.{number_at}
 use Rattle.dw_base.specs.Texts.{ends_in}
-use Rattle.dw_base.specs.Values.{value_of, number_value, leb_value_at, signed_value_at, block_value, counted_value, counted_leb_value, text_value, bare_value, offset_class}
+use Rattle.dw_base.specs.Values.{value_of, number_value, leb_value_at, signed_value_at, counted_value, counted_leb_value, offset_class}
 use Rattle.dw_base.specs.declared.shared.Order.{Order}
 use Rattle.dw_base.specs.declared.shared.Params.{Params}
 use Rattle.dw_base.specs.declared.values.Value.{Value}

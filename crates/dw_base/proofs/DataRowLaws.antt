@@ -1,5 +1,5 @@
 -- Debug data that can be read excludes the refusals of units, tables and entries.
-use Rattle.std.proofs.Common.{Bool, true, false, ◌≡◌, ◌≢◌, ◌⊎◌, inl, inr, ℕ, ◌+◌, ◌<◌, ◌≤◌, List, [], ◌∷◌, ◌++◌, length, drop, take, Option, Some, None, refl, sym, ap, ◌∙◌, subst, arith}
+use Rattle.std.proofs.Common.{◌≡◌, ◌≢◌, ◌⊎◌, inl, inr, ℕ, ◌+◌, ◌<◌, ◌≤◌, List, [], ◌∷◌, ◌++◌, length, drop, Some, None, refl, sym, ap, ◌∙◌, subst, arith}
 use Rattle.std.specs.Bool.{⊤}
 use Rattle.std.proofs.lemmas.Bool.{cases_eq, cases_lt}
 use Rattle.std.proofs.lemmas.List.{drop_all, length-take}
@@ -9,11 +9,11 @@ use Rattle.dw_base.specs.DataFails.{DataFails, unit as unit_row, table as table_
 use Rattle.dw_base.specs.DataOutput.{DataReads}
 use Rattle.dw_base.specs.DebugData.{DebugData, Readings, units_in, ReadsAll, EachReading}
 use Rattle.dw_base.specs.EntryScans.{AreEntries}
-use Rattle.dw_base.specs.EntryValues.{HasUnit, HasTable, bytes_up_to}
+use Rattle.dw_base.specs.EntryValues.{HasUnit, bytes_up_to}
 use Rattle.dw_base.specs.Pieces.{Piece, EachPiece}
-use Rattle.dw_base.specs.UnitHeaders.{UnitBase, UnitSection, header_at, unit_header, IsUnit, UnitsUpTo, no_units, more_units, AreUnits}
+use Rattle.dw_base.specs.UnitHeaders.{UnitBase, UnitSection, header_at, unit_header, IsUnit, UnitsUpTo, no_units, more_units}
 use Rattle.dw_base.specs.UnitPieces.{ReadsUnits}
-use Rattle.dw_base.specs.UnitScans.{UnitsScanned, none_scanned, more_scanned, AreScanned}
+use Rattle.dw_base.specs.UnitScans.{UnitsScanned, none_scanned, more_scanned}
 use Rattle.dw_base.specs.UnitStates.{UnitState}
 use Rattle.dw_base.specs.declared.fault.Refusal.{Refusal}
 use Rattle.dw_base.specs.declared.units.Scanned.{Scanned}

@@ -98,3 +98,6 @@ pub mod ValuePasteLaws
 pub mod ScanBackLaws
 pub mod DataRowLaws
 pub mod ClassLaws
+pub mod ValuePieceLaws
+pub mod ValueRowLaws
+pub mod EditRowLaws

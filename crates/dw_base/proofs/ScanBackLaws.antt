@@ -1,12 +1,12 @@
 -- From the pieces of a unit section back to what a pass over it meets: its units can be read one after another.
-use Rattle.std.proofs.Common.{Bool, true, false, ◌≡◌, ◌≢◌, ◌⊎◌, inl, inr, ℕ, suc, ◌+◌, ◌-◌, ◌<◌, ◌≤◌, List, [], ◌∷◌, ◌++◌, length, take, drop, Option, Some, None, IsTrue, refl, sym, ap, ◌∙◌, subst, arith, if◌then◌else◌, append_assoc, append-nil}
+use Rattle.std.proofs.Common.{Bool, true, false, ◌≡◌, ◌≢◌, ◌⊎◌, inl, inr, ℕ, ◌+◌, ◌-◌, ◌≤◌, List, [], ◌∷◌, ◌++◌, length, drop, Option, Some, None, IsTrue, refl, sym, ap, ◌∙◌, subst, arith, if◌then◌else◌, append_assoc, append-nil}
 use Rattle.std.specs.Bool.{⊤}
 use Rattle.std.specs.Prelude.{◌==◌, not}
 use Rattle.std.proofs.lemmas.Bool.{eqb-true, eqb-false}
 use Rattle.std.proofs.lemmas.List.{length-append}
 use Rattle.dw_base.specs.AbbreviationBytes.{abbreviations_at}
 use Rattle.dw_base.specs.AbbreviationTables.{Abbreviation, abbreviation_of, IsTable}
-use Rattle.dw_base.specs.Cells.{Cell, bytes_of}
+use Rattle.dw_base.specs.Cells.{Cell}
 use Rattle.dw_base.specs.EntryScans.{SpellsValues, no_values, more_values, is_split_root, IsEntry, depth_behind, scanned, Scans, starts, null, entry, AreEntries}
 use Rattle.dw_base.specs.EntryValues.{bytes_up_to}
 use Rattle.dw_base.specs.Forms.{ValueKind, number_of, leb_number, signed_leb, block_of, counted, counted_leb, inline_text, text_offset, present, in_abbreviation, form_in_front, supplementary, unlisted, kind_in}
@@ -16,7 +16,7 @@ use Rattle.dw_base.specs.UnitHeaders.{UnitBase, UnitSection, unit_header, header
 use Rattle.dw_base.specs.UnitPieces.{IsHeader, IsCode, IsValue, IsFrontForm, FitsKind, may_stand, FitsMode, ReadsUnits, unit_grammar}
 use Rattle.dw_base.specs.UnitScans.{UnitsScanned, none_scanned, more_scanned, AreScanned}
 use Rattle.dw_base.specs.UnitStates.{Mode, at_header, at_code, at_values, at_chosen, stuck, UnitState, before_unit, in_unit, between, inside, headed, after_header, after_entry, after_code, code_value, of_chosen, after_value, past}
-use Rattle.dw_base.specs.Values.{value_of, value_at, value_by, chosen_value, indirect_value, behind}
+use Rattle.dw_base.specs.Values.{value_of, value_at, value_by, indirect_value, behind}
 use Rattle.dw_base.specs.declared.units.Scanned.{Scanned}
 use Rattle.dw_base.specs.declared.units.UnitHeader.{UnitHeader}
 use Rattle.dw_base.specs.declared.values.Spec.{Spec}

@@ -26,7 +26,7 @@ pub record Run (base : UnitBase) (cells : List Cell) (s t : UnitState) (a b : �
   pub covers : joined pieces ++ drop b cells ≡ drop a cells
 
 -- one after another
-pub run-more : (base : UnitBase) (cells : List Cell) (s t u : UnitState) (a b c : ℕ) → Run base cells s t a b → Run base cells t u b c → Run base cells s u a c
+unfoldable pub run-more : (base : UnitBase) (cells : List Cell) (s t u : UnitState) (a b c : ℕ) → Run base cells s t a b → Run base cells t u b c → Run base cells s u a c
 run-more base cells s t u a b c m n = record {
   pieces = m.pieces ++ n.pieces;
   leads = leads-more (unit_grammar base) s t u m.pieces n.pieces m.leads n.leads;
@@ -39,7 +39,7 @@ pub run-none : (base : UnitBase) (cells : List Cell) (s t : UnitState) (a : ℕ)
 run-none base cells s t a e = record { pieces = []; leads = e; covers = refl }
 
 -- a piece of so many cells
-pub run-one : (base : UnitBase) (cells : List Cell) (s t : UnitState) (a n : ℕ) → FitsMode s.mode base s (take n (drop a cells))
+unfoldable pub run-one : (base : UnitBase) (cells : List Cell) (s t : UnitState) (a n : ℕ) → FitsMode s.mode base s (take n (drop a cells))
     → past s.mode base s (take n (drop a cells)) ≡ t → Run base cells s t a (a + n)
 run-one base cells s t a n fits next = record {
   pieces = record { state = s; cells = take n (drop a cells) } ∷ [];
@@ -126,7 +126,7 @@ value-piece s x k cells place e d m v is =
     }
 
 -- so a value of an attribute that isn't behind a form is one
-pub own-run : (base : UnitBase) (cells : List Cell) (s : UnitState) (place e d n tag : ℕ) (x : Spec) (xs : List Spec) (v : Value)
+unfoldable pub own-run : (base : UnitBase) (cells : List Cell) (s : UnitState) (place e d n tag : ℕ) (x : Spec) (xs : List Spec) (v : Value)
     → kind_in s.header.params x.form ≢ form_in_front
     → value_of (kind_in s.header.params x.form) s.header.params.order (unit_bytes s cells) place x.implicit ≡ Some v
     → Run base cells (in_unit s place e d (at_values n tag (x ∷ xs))) (inside s (place + v.size) e d n tag xs) place (place + v.size)
@@ -176,6 +176,7 @@ pub record Chosen (params : Params) (x : Spec) (bytes : List ℕ) (place : ℕ) 
   pub own : kind_in params form ≢ in_abbreviation
   pub other : kind_in params form ≢ form_in_front
   pub whole : v.size ≡ size + value.size
+  pub parts : v ≡ record value { size = size + value.size }
 
 -- what was chosen has a kind of its own
 chosen-kind : (k : ValueKind) (params : Params) (x : Spec) (bytes : List ℕ) (place : ℕ) (w : Value) → chosen_value k params.order bytes place x.implicit ≡ Some w
@@ -192,6 +193,9 @@ chosen-kind k params x bytes place w e = (λ f. first f, λ f. second f)
     second f =
         let none : chosen_value k params.order bytes place x.implicit ≡ None = rw f refl in
         cc
+
+some-once : (v w : Value) → Some v ≡ Some w → v ≡ w
+some-once v w e = cc
 
 -- the size of a value that was read, 0 where none was
 abbrev size_read : Option Value → ℕ
@@ -217,6 +221,7 @@ chosen-read params x bytes place v front e = by_read (uleb_at bytes place) refl 
           own = kinds.0;
           other = kinds.1;
           whole = sym (ap size_read e);
+          parts = some-once v (record w { size = size + w.size }) (sym e);
         }
 
     by_read : (o : Option (ℕ × ℕ)) → uleb_at bytes place ≡ o → indirect_value params x bytes place o ≡ Some v → Chosen params x bytes place v
@@ -248,7 +253,7 @@ front-run base cells s place e d n tag form size x xs front is other own =
     ∙ ap (λ (f : ℕ). in_unit s (place + size) e d (at_chosen n tag place (of_chosen x f) xs)) c.value)
 
 -- and the value behind it
-pub chosen-run : (base : UnitBase) (cells : List Cell) (s : UnitState) (place e d n tag start form : ℕ) (x : Spec) (xs : List Spec) (v : Value)
+unfoldable pub chosen-run : (base : UnitBase) (cells : List Cell) (s : UnitState) (place e d n tag start form : ℕ) (x : Spec) (xs : List Spec) (v : Value)
     → value_of (kind_in s.header.params form) s.header.params.order (unit_bytes s cells) place x.implicit ≡ Some v
     → Run base cells (in_unit s place e d (at_chosen n tag start (of_chosen x form) xs)) (inside s (place + v.size) e d n tag xs) place (place + v.size)
 chosen-run base cells s place e d n tag start form x xs v is =

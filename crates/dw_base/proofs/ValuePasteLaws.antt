@@ -1,8 +1,8 @@
 -- A value that fills a piece stands at the piece's place in its unit.
-use Rattle.std.proofs.Common.{Bool, true, false, ◌≡◌, ℕ, ℤ, ◌+◌, ◌-◌, ◌<◌, ◌≤◌, List, [], ◌∷◌, ◌++◌, length, take, drop, Option, Some, None, refl, sym, ap, ◌∙◌, subst, arith, if◌then◌else◌}
+use Rattle.std.proofs.Common.{Bool, true, false, ◌≡◌, ℕ, ℤ, ◌+◌, ◌-◌, ◌<◌, ◌≤◌, List, ◌++◌, length, take, drop, Option, Some, None, refl, sym, ap, ◌∙◌, arith, if◌then◌else◌}
 use Rattle.std.specs.Prelude.{nat_le}
 use Rattle.std.proofs.lemmas.Bool.{leb-true, leb-false, le-leb}
-use Rattle.std.proofs.lemmas.List.{length-append, length-drop, length-take, drop-take, drop-drop, take-append-le}
+use Rattle.std.proofs.lemmas.List.{length-drop, length-take, drop-take}
 use Rattle.std.proofs.Math.Seq.{take-append-add}
 use Rattle.dw_base.specs.declared.values.ValueClass.TheVariants.{Bytes, InlineText, Flag, Signed}
 use Rattle.dw_base.specs.Cells.{Cell, bytes_of}

@@ -35,6 +35,17 @@ pub fails-whole : (params : Params) (x : Spec) (bytes : List ℕ) (section place
     → FormFails params x bytes section place r
 fails-whole params x bytes section place end r f is = subst (λ (bs : List ℕ). FormFails params x bs section place r) (take_all end bytes (omega (arith, is))) f
 
+-- a value that was found of the bytes up to their end
+pub value-whole : (params : Params) (x : Spec) (bytes : List ℕ) (place end : ℕ) (v : Value) → value_at params x (take end bytes) place ≡ Some v → end ≡ length bytes
+    → value_at params x bytes place ≡ Some v
+value-whole params x bytes place end v e is = ap (λ (bs : List ℕ). value_at params x bs place) (sym (take_all end bytes (omega (arith, is)))) ∙ e
+
+pub value-inside : (params : Params) (x : Spec) (bytes : List ℕ) (place end : ℕ) (v : Value) → value_at params x (take end bytes) place ≡ Some v → end ≡ length bytes
+    → place + v.size ≤ length bytes
+value-inside params x bytes place end v e is = value_at-inside params x bytes place v (value-whole params x bytes place end v e is)
+
+pub ruleset read_rules = (value-whole, value-inside, fails-whole)
+
 pub ruleset size_rules = (has-size, size-inside, fails-whole)
 
 -- one more value behind those so far

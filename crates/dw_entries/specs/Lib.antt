@@ -2,3 +2,4 @@ pub mod Passes
 pub mod ScanStates
 pub mod ViewUnits
 pub mod Fronts
+pub mod ValueWalks

@@ -35,7 +35,9 @@ mod places;
 mod scan;
 mod step;
 mod unit_kinds;
+mod values;
 
-pub use dw_base::{Fault, Kind, NoMemory, Params, Refusal, Scanned, UnitHeader};
+pub use dw_base::{Fault, Kind, NoMemory, Params, Refusal, Scanned, Spec, UnitHeader, Value};
 pub use headers::{UnitHeaders, unit_headers};
 pub use scan::EntryScan;
+pub use values::EntryValues;
