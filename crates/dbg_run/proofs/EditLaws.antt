@@ -1,9 +1,9 @@
 -- Laws on the steps of an edit.
 use Rattle.std.proofs.Common.{ℕ, List, refl, sym, subst}
-use Rattle.dw_base.specs.EditFails.{IsAccepted, EditFails}
+use Rattle.dw_meaning.specs.EditFails.{IsAccepted, EditFails}
 use Rattle.dw_base.specs.Paths.{PathMap}
-use Rattle.dw_base.proofs.EditLaws.{edit_excludes}
-use Rattle.dw_base.proofs.EditReadsLaws.{edit_accepts}
+use Rattle.dw_meaning.proofs.EditLaws.{edit_excludes}
+use Rattle.dw_meaning.proofs.EditReadsLaws.{edit_accepts}
 use Rattle.dw_base.specs.declared.fault.Refusal.{Refusal}
 use Rattle.file_tree.specs.declared.node.Found.{Found}
 use Rattle.file_tree.specs.declared.node.Found.TheVariants as found

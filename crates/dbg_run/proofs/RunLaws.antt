@@ -1,7 +1,7 @@
 -- Laws on runs: one status is due, and an end may give way to want of memory.
 use Rattle.std.proofs.Common.{◌≡◌, ◌≢◌, ℕ, List, refl, sym, ap, subst, ◌∙◌, ◌⊎◌, inl, inr}
 use Rattle.std.specs.Prelude.{Option, Some, is_some}
-use Rattle.dw_base.specs.EditFails.{IsAccepted}
+use Rattle.dw_meaning.specs.EditFails.{IsAccepted}
 use Rattle.dw_base.specs.Paths.{PathMap}
 use Rattle.file_tree.specs.declared.node.Found.{Found}
 use Rattle.file_tree.specs.declared.node.Found.TheVariants as found

@@ -1,4 +1,4 @@
--- The debug data of a view, its sections found by their names (DWARF 5, 7.31), and what a view means: its units, and by
+-- The debug data of a view, its sections found by their names (DWARF 5, Appendix B), and what a view means: its units, and by
 -- name the bytes of the sections that are meant as they stand.
 use Rattle.std.specs.Prelude.{Bool, ℕ, zero, suc, ◌||◌, not, if◌then◌else◌, List, [], ◌∷◌, ◌++◌, drop, Option, Some, None, true, false}
 use Rattle.dw_base.specs.Cells.{Cell, Located, plain_cells}

@@ -5,7 +5,7 @@
 //! where none stands there.
 //! It does not promise: anything of whole files; the crates above state that, in the words of
 //! `specs/`.
-//! Read first: `specs/Numbers.antt`, then `specs/Elf.antt` and `specs/Units.antt`.
+//! Read first: `specs/Numbers.antt`, then `specs/Elf.antt` and `specs/Forms.antt`.
 //!
 //! ```rust
 //! let bytes = [0x0b, 0x00, 0x00, 0x00, 0xe5, 0x8e, 0x26];

@@ -1,5 +1,4 @@
 pub use Rattle.dw_base.specs.Paths
 pub mod Components
 pub mod PlainPaths
-pub mod InlinePaths
 pub mod CleanPaths

@@ -5,7 +5,7 @@
 
 ghost use Rattle.std.specs.Prelude.{◌≡◌, false, length, option_map, IsTrue, IfOk, IfSome};
 ghost use Rattle.dw_base.specs.Texts.{has_nul};
-ghost use Rattle.dw_paths.specs.InlinePaths.{inline_fits, inline_path, mapped_inline};
+ghost use Rattle.dw_base.specs.InlinePaths.{inline_fits, inline_path, mapped_inline};
 
 use crate::maps::{Maps, map_len};
 use crate::prefix::lies_under;
@@ -31,7 +31,7 @@ pub fn map_inline(alloc: Global, maps: &Maps, text: &[u8]) -> Result<Option<Vec<
 }
 
 /// The mapped path in the room of the old one.
-#[tactic(auto, using(crate::proofs::Rules::fitted_rules), unfolding(crate::specs::InlinePaths::mapped_inline))]
+#[tactic(auto, using(crate::proofs::Rules::fitted_rules), unfolding(dw_base::specs::InlinePaths::mapped_inline))]
 fn fitted(alloc: Global, maps: &Maps, text: &[u8]) -> Result<Vec<u8>, NoMemory>
     requires fits { IsTrue (inline_fits maps.now text.now) }
     ensures value { IfOk result (λ path. path.items ≡ mapped_inline maps.now text.now) }

@@ -2,13 +2,13 @@
 use Rattle.std.proofs.Common.{Bool, true, false, ◌≡◌, ℕ, ◌+◌, List, [], ◌∷◌, ◌++◌, length, take, drop, cond, sym, ap, ◌∙◌, refl, arith, append_assoc}
 use Rattle.std.proofs.Math.Seq.{drop-append_seam, take-append_seam, drop-append-add}
 use Rattle.std.proofs.lemmas.List.{length-append}
-use Rattle.dw_base.specs.Grammar.{Step, joined}
-use Rattle.dw_base.specs.Mentions.{Around, TableChanges, with_offset, mention_at, mentions_by, mentions_of, moved_field, edited_by, edited_all}
+use Rattle.dw_meaning.specs.Grammar.{Step, joined}
+use Rattle.dw_meaning.specs.Mentions.{Around, TableChanges, with_offset, mention_at, mentions_by, mentions_of, moved_field, edited_by, edited_all}
 use Rattle.dw_base.specs.Numbers.{spelled, number_bytes, with_number}
 use Rattle.dw_base.specs.Paths.{PathMap}
 use Rattle.dw_base.specs.StringTables.{Mention, Plan, appending, with_mention, texts_after, new_place}
 use Rattle.dw_base.specs.Texts.{text_in}
-use Rattle.dw_base.specs.Units.{UnitState, in_debug_str, Role, fixed, offset, role_of}
+use Rattle.dw_meaning.specs.Units.{UnitState, in_debug_str, Role, fixed, offset, role_of}
 use Rattle.dw_base.specs.declared.shared.Order.{Order}
 use Rattle.dw_base.proofs.NumberLaws.{spelled-append, spelled-drop, length-number_bytes}
 use Rattle.dw_rewrite.specs.Changes.{path_at, texts_at, patched_at, patched}

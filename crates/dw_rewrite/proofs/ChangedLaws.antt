@@ -6,7 +6,7 @@ use Rattle.std.proofs.lemmas.List.{length-append, append-nil}
 use Rattle.dw_base.specs.Layout.{output_limit}
 use Rattle.dw_base.specs.LayoutFails.{TooLong}
 use Rattle.dw_base.specs.LayoutFails.TooLong.{long}
-use Rattle.dw_base.specs.Mentions.{Around}
+use Rattle.dw_meaning.specs.Mentions.{Around}
 use Rattle.dw_base.specs.Numbers.{spelled, with_number}
 use Rattle.dw_base.specs.Paths.{PathMap}
 use Rattle.dw_base.specs.Refusals.{Blames}

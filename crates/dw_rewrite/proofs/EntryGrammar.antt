@@ -1,12 +1,12 @@
 -- The grammar of the units of one entry: unit sections in which each unit is one entry.
 use Rattle.std.proofs.Common.{ℕ, List, [], ◌∷◌}
-use Rattle.dw_base.specs.EntryUnits.{LoneEntry, LoneEntryBy, OneAbbreviation, OneAbbreviationBy}
-use Rattle.dw_base.specs.Mentions.{NamesText, NamesTextBy}
-use Rattle.dw_base.specs.Grammar.{Grammar, Step, Chain, EachStep}
-use Rattle.dw_base.specs.Units.{UnitState, FitsMode, past, role_of_mode, role_of, EndsSection, unit_grammar}
+use Rattle.dw_meaning.specs.EntryUnits.{LoneEntry, LoneEntryBy, OneAbbreviation, OneAbbreviationBy}
+use Rattle.dw_meaning.specs.Mentions.{NamesText, NamesTextBy}
+use Rattle.dw_meaning.specs.Grammar.{Grammar, Step, Chain, EachStep}
+use Rattle.dw_meaning.specs.Units.{UnitState, FitsMode, past, role_of_mode, role_of, EndsSection, unit_grammar}
 use Rattle.dw_base.specs.declared.shared.Order.{Order}
-use Rattle.dw_base.proofs.GrammarLaws.{ReadsOneWay}
-use Rattle.dw_base.proofs.UnitLaws.{units_one_way}
+use Rattle.dw_meaning.proofs.GrammarLaws.{ReadsOneWay}
+use Rattle.dw_meaning.proofs.UnitLaws.{units_one_way}
 
 -- the bytes fit a state, and are of a unit of one entry
 pub record EntryFits (order : Order) (abbrevs str : List ℕ) (s : UnitState) (p : List ℕ) : Type 0 where

@@ -3,17 +3,17 @@ use Rattle.std.proofs.Common.{Bool, true, false, ◌≡◌, ◌≢◌, ℕ, ◌<
 use Rattle.std.proofs.lemmas.Bool.{true≢false}
 use Rattle.std.specs.declared.alloc.Global.{Global}
 use Rattle.std.specs.declared.vec.Vec.{Vec}
-use Rattle.dw_base.specs.EditFails.{EditFails, FileFails, FileReads, IsAccepted, NamesRead, UnitsOf}
-use Rattle.dw_base.specs.EditFails.EditFails.{file, output}
-use Rattle.dw_base.specs.EditFails.FileFails.{elf, units}
+use Rattle.dw_meaning.specs.EditFails.{EditFails, FileFails, FileReads, IsAccepted, NamesRead, UnitsOf}
+use Rattle.dw_meaning.specs.EditFails.EditFails.{file, output}
+use Rattle.dw_meaning.specs.EditFails.FileFails.{elf, units}
 use Rattle.dw_base.specs.Elf.{contents_of, is_empty_kind, nth_section, section_count, section_name}
 use Rattle.dw_base.specs.ElfFails.{ElfFails}
 use Rattle.dw_base.specs.Layout.{output_limit, with_bodies}
 use Rattle.dw_base.specs.LayoutFails.{LayoutFails, LayoutFits}
 use Rattle.dw_base.specs.LayoutReads.{ReadsBack}
-use Rattle.dw_base.specs.Loaded.{LoadedKept}
-use Rattle.dw_base.specs.Mapped.{MeaningKept}
-use Rattle.dw_base.specs.Output.{IsOutput, new_body, output_of, readings}
+use Rattle.dw_meaning.specs.Loaded.{LoadedKept}
+use Rattle.dw_meaning.specs.Mapped.{MeaningKept}
+use Rattle.dw_meaning.specs.Output.{IsOutput, new_body, output_of, readings}
 use Rattle.dw_base.specs.Paths.{IsPathMap, PathMap}
 use Rattle.dw_base.specs.Refusals.{Blames}
 use Rattle.dw_base.specs.SectionNames.{debug_abbrev, debug_info, debug_str, is_read_name}
@@ -21,12 +21,12 @@ use Rattle.dw_base.specs.Texts.{same_text}
 use Rattle.dw_base.specs.declared.fault.Fault.{Fault}
 use Rattle.dw_base.specs.declared.fault.Fault.TheVariants.{NoMemory, Refused}
 use Rattle.dw_base.specs.declared.fault.Refusal.{Refusal}
-use Rattle.dw_base.proofs.EditLaws.{layout_fits}
-use Rattle.dw_base.proofs.LoadedLaws.{file-loaded}
-use Rattle.dw_base.proofs.MeaningKeptLaws.{file-meaning}
+use Rattle.dw_meaning.proofs.EditLaws.{layout_fits}
+use Rattle.dw_meaning.proofs.LoadedLaws.{file-loaded}
+use Rattle.dw_meaning.proofs.MeaningKeptLaws.{file-meaning}
 use Rattle.dw_base.proofs.ReadsBackLaws.{reads_back-same, with_bodies-same}
 use Rattle.dw_base.proofs.TextLaws.{same_text-true}
-use Rattle.dw_base.proofs.OutputLaws.{output-complete}
+use Rattle.dw_meaning.proofs.OutputLaws.{output-complete}
 use Rattle.elf_layout.specs.Given.{AreContents, body_given}
 use Rattle.dw_rewrite.specs.Judged.{AtMostOnce, Found, IsFound}
 use Rattle.dw_rewrite.specs.Judged.IsFound.{nowhere, there}

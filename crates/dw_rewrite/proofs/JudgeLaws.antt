@@ -4,9 +4,9 @@ use Rattle.std.specs.List.{starts_with}
 use Rattle.std.proofs.lemmas.Bool.{cases_lt, cases_eq, eq-eqb, true≢false}
 use Rattle.std.proofs.lemmas.Bool.Decides.{nat_tests}
 use Rattle.std.proofs.lemmas.List.{drop_more, take_more, take-take, take_all, take_at, drop_all, append-nil, append_assoc, length-take-le}
-use Rattle.dw_base.specs.EditFails.{FileFails}
-use Rattle.dw_base.specs.EditFails.FileFails.{file_type, loaded, named, relocatable}
-use Rattle.dw_base.specs.EditFails.NamesFail.{compressed, names, other as unlisted, twice}
+use Rattle.dw_meaning.specs.EditFails.{FileFails}
+use Rattle.dw_meaning.specs.EditFails.FileFails.{file_type, loaded, named, relocatable}
+use Rattle.dw_meaning.specs.EditFails.NamesFail.{compressed, names, other as unlisted, twice}
 use Rattle.dw_base.specs.Elf.{class_of, contents_at, contents_of, e_shoff, e_type, file_kind, is_empty_kind, name_index, name_table, nth_section, section_count, section_name, shdr_size}
 use Rattle.dw_base.specs.ElfFails.{ElfReads}
 use Rattle.dw_base.specs.Layout.{is_alloc, is_loaded_kind}

@@ -1,7 +1,7 @@
 -- The places of new texts, one more at a time.
 use Rattle.std.proofs.Common.{Bool, true, false, ◌≡◌, ◌≢◌, ℕ, ◌+◌, ◌≤◌, ◌==◌, List, length, Option, Some, None, is_some, sym, ap, ◌∙◌, refl, subst, arith}
 use Rattle.std.proofs.lemmas.Bool.Decides.{nat_tests}
-use Rattle.dw_base.specs.Mentions.{Around}
+use Rattle.dw_meaning.specs.Mentions.{Around}
 use Rattle.dw_base.specs.Paths.{PathMap, IsPathMap, mapped_path}
 use Rattle.dw_base.specs.StringTables.{Plan, TextTable, appending, with_mention, with_text, place_in, with_added, text_place}
 use Rattle.dw_base.specs.Texts.{is_in, text_in, ends_in, has_nul}

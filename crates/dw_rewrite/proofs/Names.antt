@@ -2,7 +2,7 @@
 use Rattle.std.proofs.Common.{Bool, true, false, ◌≡◌, ℕ, suc, ◌+◌, ◌-◌, ◌<◌, ◌≤◌, ◌==◌, ◌&&◌, List, [], ◌∷◌, length, drop, get_or, Option, Some, None, option_map, is_some, cond, ap, ◌∙◌, refl, subst, arith}
 use Rattle.std.proofs.Math.Seq.{drop-cons}
 use Rattle.std.proofs.lemmas.List.{length-drop}
-use Rattle.dw_base.specs.EntryUnits.{closed, first_names, first_table, is_first_head, is_first_pair}
+use Rattle.dw_meaning.specs.EntryUnits.{closed, first_names, first_table, is_first_head, is_first_pair}
 use Rattle.dw_rewrite.specs.EntryFacts.{IsNames, IsTable}
 
 -- what is read from a place on, with so many names before it, is what is read of the whole

@@ -2,15 +2,15 @@
 use Rattle.std.proofs.Common.{true, false, ◌≡◌, ℕ, zero, suc, ◌+◌, ◌-◌, ◌<◌, List, [], ◌∷◌, ◌++◌, length, get_or, drop, IsTrue, sym, ap, ◌∙◌, refl, subst, arith}
 use Rattle.std.proofs.lemmas.List.{length-append, length-drop}
 use Rattle.dw_base.specs.Elf.{order_of}
-use Rattle.dw_base.specs.Grammar.{Step, joined, EachStep}
-use Rattle.dw_base.specs.Mentions.{TableChange, NamesText, NamesTextBy}
+use Rattle.dw_meaning.specs.Grammar.{Step, joined, EachStep}
+use Rattle.dw_meaning.specs.Mentions.{TableChange, NamesText, NamesTextBy}
 use Rattle.dw_base.specs.Numbers.{spelled}
-use Rattle.dw_base.specs.Output.{around_of, str_change, changes_of, new_info, new_str, readings}
+use Rattle.dw_meaning.specs.Output.{around_of, str_change, changes_of, new_info, new_str, readings}
 use Rattle.dw_base.specs.Paths.{PathMap}
 use Rattle.dw_base.specs.SectionNames.{debug_info, debug_abbrev, debug_str, contents_called}
 use Rattle.dw_base.specs.StringTables.{appending, new_table}
 use Rattle.dw_base.specs.Texts.{ends_in}
-use Rattle.dw_base.specs.Units.{UnitState, before_unit, Reads, Role, fixed, offset, in_debug_str, role_of}
+use Rattle.dw_meaning.specs.Units.{UnitState, before_unit, Reads, Role, fixed, offset, in_debug_str, role_of}
 use Rattle.dw_base.specs.declared.shared.Order.{Order}
 use Rattle.dw_rewrite.specs.Changes.{ArePaths, IsPathPlace, str_change_at, str_after, info_after, patched}
 use Rattle.dw_rewrite.specs.EntryFacts.{PlacesRead}

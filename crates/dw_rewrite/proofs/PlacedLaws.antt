@@ -2,9 +2,9 @@
 use Rattle.std.proofs.Common.{Bool, true, false, ◌≡◌, ℕ, ◌+◌, ◌-◌, ◌==◌, List, [], ◌∷◌, ◌++◌, length, drop, Option, Some, None, cond, sym, ap, ◌∙◌, refl, subst}
 use Rattle.std.proofs.Math.Seq.{drop-append_seam}
 use Rattle.std.proofs.lemmas.List.{drop-drop}
-use Rattle.dw_base.specs.Abbreviations.{Abbreviation, AttributeSpec, abbreviation_of}
-use Rattle.dw_base.specs.Grammar.{Step, Chain, joined}
-use Rattle.dw_base.specs.Units.{ValueKind, text_offset, unlisted, kind_in, offset_size, Mode, header, code, values, stuck, UnitState, before_unit, in_unit, between, inside, headed, after_entry, after_code, code_value, past, FitsMode, Fills, Role, fixed, offset, role_of_kind, role_of_mode, role_of, unit_grammar, is_path}
+use Rattle.dw_meaning.specs.Abbreviations.{Abbreviation, AttributeSpec, abbreviation_of}
+use Rattle.dw_meaning.specs.Grammar.{Step, Chain, joined}
+use Rattle.dw_meaning.specs.Units.{ValueKind, text_offset, unlisted, kind_in, offset_size, Mode, header, code, values, stuck, UnitState, before_unit, in_unit, between, inside, headed, after_entry, after_code, code_value, past, FitsMode, Fills, Role, fixed, offset, role_of_kind, role_of_mode, role_of, unit_grammar, is_path}
 use Rattle.dw_base.specs.declared.shared.Order.{Order}
 use Rattle.dw_base.specs.declared.shared.Params.{Params}
 use Rattle.dw_base.specs.declared.shared.Width.TheVariants.{W32}

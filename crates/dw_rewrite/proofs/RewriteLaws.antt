@@ -6,16 +6,16 @@ use Rattle.std.proofs.lemmas.List.{append-nil, get_or-replicate, get_or-set_othe
 use Rattle.std.specs.Option.{ForSome}
 use Rattle.std.specs.declared.alloc.Global.{Global}
 use Rattle.std.specs.declared.vec.Vec.{Vec}
-use Rattle.dw_base.specs.EditFails.{UnitsOf}
+use Rattle.dw_meaning.specs.EditFails.{UnitsOf}
 use Rattle.dw_base.specs.Elf.{contents_of, nth_section, order_of, section_count, section_name}
-use Rattle.dw_base.specs.EntryUnits.{EntryUnits}
+use Rattle.dw_meaning.specs.EntryUnits.{EntryUnits}
 use Rattle.dw_base.specs.Layout.{is_fixed, output_limit, part_of, with_bodies}
 use Rattle.dw_base.specs.LayoutFails.{LayoutFails, LayoutFits, TooLong}
 use Rattle.dw_base.specs.LayoutFails.LayoutFails.{section, large}
 use Rattle.dw_base.specs.LayoutFails.SectionStays.{changed, across, in_header}
 use Rattle.dw_base.specs.LayoutFails.TooLong.{long}
 use Rattle.dw_base.specs.Numbers.{spelled}
-use Rattle.dw_base.specs.Output.{new_body, new_info, new_str, readings}
+use Rattle.dw_meaning.specs.Output.{new_body, new_info, new_str, readings}
 use Rattle.dw_base.specs.Paths.{PathMap}
 use Rattle.dw_base.specs.Refusals.{Blames, at}
 use Rattle.dw_base.specs.SectionNames.{debug_abbrev, debug_info, debug_str, contents_called, section_called}

@@ -2,9 +2,9 @@
 use Rattle.std.proofs.Common.{Bool, true, false, ◌≡◌, ℕ, ◌<◌, ◌==◌, ◌&&◌, ◌||◌, nat_lt, List, [], ◌∷◌, ◌++◌, drop, Option, Some, None, option_map, sym, ap, ◌∙◌, refl, subst, arith, cond, append_assoc}
 use Rattle.std.proofs.lemmas.List.{append-nil}
 use Rattle.std.proofs.lemmas.Bool.Decides.{nat_tests}
-use Rattle.dw_base.specs.Abbreviations.{Abbreviation, AttributeSpec, leb_numbers, leb_value, declared, at_code, at_name, bare, with_spec, abbreviations_at}
-use Rattle.dw_base.specs.EntryUnits.{closed, first_names, first_table}
-use Rattle.dw_base.specs.Units.{is_path}
+use Rattle.dw_meaning.specs.Abbreviations.{Abbreviation, AttributeSpec, leb_numbers, leb_value, declared, at_code, at_name, bare, with_spec, abbreviations_at}
+use Rattle.dw_meaning.specs.EntryUnits.{closed, first_names, first_table}
+use Rattle.dw_meaning.specs.Units.{is_path}
 
 -- the attributes of these numbers, each with the form strp
 abbrev pub specs_of : List ℕ → List AttributeSpec

@@ -1,7 +1,7 @@
 -- Where no unit of one entry stands, by what the code finds.
 use Rattle.std.proofs.Common.{true, false, ◌≡◌, ◌≢◌, ℕ, ◌+◌, ◌*◌, ◌<◌, ◌≤◌, List, [], ◌++◌, length, drop, Option, Some, None, is_some, IsTrue, sym, ap, ◌∙◌, subst, arith}
 use Rattle.std.proofs.lemmas.List.{length-drop}
-use Rattle.dw_base.specs.EntryUnits.{first_table}
+use Rattle.dw_meaning.specs.EntryUnits.{first_table}
 use Rattle.dw_base.specs.Lebs.{uleb, uleb_within, uleb_at}
 use Rattle.dw_base.specs.Numbers.{spelled}
 use Rattle.dw_base.specs.declared.shared.Order.{Order}

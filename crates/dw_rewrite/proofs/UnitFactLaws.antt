@@ -2,16 +2,16 @@
 use Rattle.std.proofs.Common.{Bool, true, false, ◌≡◌, ◌≢◌, ℕ, ◌+◌, ◌-◌, ◌*◌, ◌<◌, ◌≤◌, ◌==◌, List, [], ◌∷◌, ◌++◌, length, take, drop, Option, Some, None, IsTrue, is_some, cond, sym, ap, ◌∙◌, refl, subst, arith}
 use Rattle.std.proofs.lemmas.List.{length-append, length-drop}
 use Rattle.std.proofs.lemmas.Bool.Decides.{nat_tests}
-use Rattle.dw_base.specs.Abbreviations.{Abbreviation, abbreviations_at, abbreviation_of, leb_value, read_value}
-use Rattle.dw_base.specs.EntryUnits.{LoneEntryBy, OneAbbreviationBy, first_table}
-use Rattle.dw_base.specs.Mentions.{NamesTextBy}
-use Rattle.dw_base.specs.Grammar.{Grammar, Step, Chain, Leads, joined}
+use Rattle.dw_meaning.specs.Abbreviations.{Abbreviation, abbreviations_at, abbreviation_of, leb_value, read_value}
+use Rattle.dw_meaning.specs.EntryUnits.{LoneEntryBy, OneAbbreviationBy, first_table}
+use Rattle.dw_meaning.specs.Mentions.{NamesTextBy}
+use Rattle.dw_meaning.specs.Grammar.{Grammar, Step, Chain, Leads, joined}
 use Rattle.dw_base.specs.Lebs.{uleb, uleb_within}
 use Rattle.dw_base.specs.Numbers.{spelled}
-use Rattle.dw_base.specs.Units.{UnitState, Mode, header, code, between, in_unit, before_unit, headed, past, after_code, code_value, FitsMode, IsHeader, is_address_size, EndsSection, role_of, role_of_mode}
+use Rattle.dw_meaning.specs.Units.{UnitState, Mode, header, code, between, in_unit, before_unit, headed, past, after_code, code_value, FitsMode, IsHeader, is_address_size, EndsSection, role_of, role_of_mode}
 use Rattle.dw_base.specs.declared.shared.Order.{Order}
 use Rattle.dw_base.specs.declared.shared.Width.TheVariants.{W32}
-use Rattle.dw_base.proofs.UnitLaws.{uleb_64-append}
+use Rattle.dw_meaning.proofs.UnitLaws.{uleb_64-append}
 use Rattle.dw_rewrite.specs.EntryFacts.{HeaderFacts, ValueFacts, UnitFacts, IsEntryUnit, unit_end, table_of, value_places}
 use Rattle.dw_rewrite.proofs.CodeLaws.{OwnBytes, uleb-own, within_is}
 use Rattle.dw_rewrite.proofs.EntryGrammar.{EntryFits, entry_grammar}

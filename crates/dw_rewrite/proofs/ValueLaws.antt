@@ -3,11 +3,11 @@ use Rattle.std.proofs.Common.{Bool, true, false, ◌≡◌, ℕ, zero, suc, ◌+
 use Rattle.std.proofs.Math.Seq.{take-add, take-append_seam, drop-append_seam}
 use Rattle.std.proofs.lemmas.List.{length-take, length-drop, drop-drop}
 use Rattle.std.proofs.lemmas.Bool.Decides.{nat_tests}
-use Rattle.dw_base.specs.Grammar.{Step, Chain, Leads, joined}
-use Rattle.dw_base.specs.Mentions.{NamesTextBy}
+use Rattle.dw_meaning.specs.Grammar.{Step, Chain, Leads, joined}
+use Rattle.dw_meaning.specs.Mentions.{NamesTextBy}
 use Rattle.dw_base.specs.Numbers.{spelled}
 use Rattle.dw_base.specs.Texts.{ends_in}
-use Rattle.dw_base.specs.Units.{UnitState, Mode, header, code, values, between, inside, in_unit, before_unit, kind_in, offset_size, is_path, role_of, role_of_mode, past, FitsMode, EndsSection}
+use Rattle.dw_meaning.specs.Units.{UnitState, Mode, header, code, values, between, inside, in_unit, before_unit, kind_in, offset_size, is_path, role_of, role_of_mode, past, FitsMode, EndsSection}
 use Rattle.dw_base.specs.declared.shared.Order.{Order}
 use Rattle.dw_base.specs.declared.shared.Width.TheVariants.{W32}
 use Rattle.dw_base.proofs.NumberLaws.{spelled-take, spelled-drop, spelled-append}

@@ -2,14 +2,14 @@
 use Rattle.std.proofs.Common.{◌≡◌, ℕ, ◌+◌, ◌-◌, ◌<◌, List, [], ◌∷◌, ◌++◌, length, take, drop, sym, ap, ◌∙◌, refl, subst, arith, append_assoc}
 use Rattle.std.proofs.Math.Seq.{take-add, take-length}
 use Rattle.std.proofs.lemmas.List.{take-append-drop}
-use Rattle.dw_base.specs.EntryUnits.{EntryUnits}
-use Rattle.dw_base.specs.Grammar.{Grammar, Step, Chain, Leads, joined}
+use Rattle.dw_meaning.specs.EntryUnits.{EntryUnits}
+use Rattle.dw_meaning.specs.Grammar.{Grammar, Step, Chain, Leads, joined}
 use Rattle.dw_base.specs.Refusals.{Blames}
-use Rattle.dw_base.specs.Units.{UnitState, before_unit, role_of}
+use Rattle.dw_meaning.specs.Units.{UnitState, before_unit, role_of}
 use Rattle.dw_base.specs.declared.shared.Order.{Order}
 use Rattle.dw_base.specs.declared.fault.Fault.{Fault}
 use Rattle.dw_base.specs.declared.fault.Fault.TheVariants.{NoMemory, Refused}
-use Rattle.dw_base.proofs.GrammarLaws.{Rest, chain-rest, leads-more, leads-chain, joined-append}
+use Rattle.dw_meaning.proofs.GrammarLaws.{Rest, chain-rest, leads-more, leads-chain, joined-append}
 use Rattle.dw_rewrite.specs.EntryFacts.{IsEntryUnit, UnitRead, PlacesRead, unit_end, value_places}
 use Rattle.dw_rewrite.specs.PathPlaces.{path_place, path_places}
 use Rattle.dw_rewrite.specs.Refuses.{Refuses}

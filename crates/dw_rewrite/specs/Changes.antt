@@ -1,6 +1,6 @@
 -- What becomes of a unit section and its string table, by the places of the paths.
 use Rattle.std.specs.Prelude.{true, ◌≡◌, ◌≢◌, ℕ, ◌+◌, ◌^◌, ◌<◌, ◌≤◌, List, length, get_or, [], ◌∷◌, ◌++◌, if◌then◌else◌, Option, Some, None, is_some}
-use Rattle.dw_base.specs.Mentions.{Around, TableChange}
+use Rattle.dw_meaning.specs.Mentions.{Around, TableChange}
 use Rattle.dw_base.specs.Numbers.{spelled, with_number}
 use Rattle.dw_base.specs.Paths.{PathMap}
 use Rattle.dw_base.specs.StringTables.{Mention, Plan, TextTable, appending, with_mention, with_text, place_in, new_place, new_text}

@@ -1,10 +1,10 @@
 -- One unit of one entry, by the bytes from its place on: its header, its table of abbreviations, its one entry.
 use Rattle.std.specs.Prelude.{◌≡◌, ℕ, zero, suc, ◌+◌, ◌*◌, ◌<◌, ◌≤◌, List, [], ◌∷◌, ◌++◌, length, drop, Some, IsTrue}
-use Rattle.dw_base.specs.EntryUnits.{EntryUnits, first_names, first_table}
+use Rattle.dw_meaning.specs.EntryUnits.{EntryUnits, first_names, first_table}
 use Rattle.dw_base.specs.Lebs.{uleb, uleb_within}
 use Rattle.dw_base.specs.Numbers.{spelled}
 use Rattle.dw_base.specs.Texts.{ends_in}
-use Rattle.dw_base.specs.Units.{is_address_size}
+use Rattle.dw_meaning.specs.Units.{is_address_size}
 use Rattle.dw_base.specs.declared.shared.Order.{Order}
 use Rattle.dw_rewrite.specs.PathPlaces.{path_places}
 

@@ -1,6 +1,6 @@
 -- What is judged of a file by its records and the names of its sections, and the sections that were found by it.
 use Rattle.std.specs.Prelude.{true, false, ◌≡◌, ◌≢◌, ℕ, ◌<◌, ◌≤◌, bit_and, List, [], length, IsTrue, Option, Some, None}
-use Rattle.dw_base.specs.EditFails.{ReadIsLoaded}
+use Rattle.dw_meaning.specs.EditFails.{ReadIsLoaded}
 use Rattle.dw_base.specs.Elf.{contents_of, is_empty_kind, name_index, nth_section, section_count, section_name}
 use Rattle.dw_base.specs.ElfFails.{ElfReads}
 use Rattle.dw_base.specs.Layout.{is_loaded_kind, output_limit}

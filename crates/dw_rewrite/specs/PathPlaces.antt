@@ -1,7 +1,7 @@
 -- Where the offsets of paths stand in a unit section.
 use Rattle.std.specs.Prelude.{true, false, ℕ, List, [], ◌∷◌, ◌++◌}
-use Rattle.dw_base.specs.Grammar.{Step}
-use Rattle.dw_base.specs.Units.{UnitState, Role, fixed, offset, in_debug_str, role_of}
+use Rattle.dw_meaning.specs.Grammar.{Step}
+use Rattle.dw_meaning.specs.Units.{UnitState, Role, fixed, offset, in_debug_str, role_of}
 
 -- a piece of this role at a place
 abbrev pub path_place : Role → ℕ → List ℕ

@@ -2,15 +2,15 @@
 
 ghost use Rattle.std.specs.Prelude.{◌≡◌, ◌<◌, ◌≤◌, ℕ, List, length, OnOk, IfOk, IfErr};
 ghost use Rattle.std.specs.Option.{ForSome};
-ghost use Rattle.dw_base.specs.EditFails.{EditFails, IsAccepted, UnitsOf};
+ghost use Rattle.dw_meaning.specs.EditFails.{EditFails, IsAccepted, UnitsOf};
 ghost use Rattle.dw_base.specs.Elf.{section_count};
 ghost use Rattle.dw_base.specs.ElfFails.{SegmentsRead};
 ghost use Rattle.dw_base.specs.Layout.{output_limit, with_bodies};
 ghost use Rattle.dw_base.specs.LayoutFails.{LayoutFails, LayoutFits};
 ghost use Rattle.dw_base.specs.LayoutReads.{ReadsBack};
-ghost use Rattle.dw_base.specs.Loaded.{LoadedKept};
-ghost use Rattle.dw_base.specs.Mapped.{MeaningKept};
-ghost use Rattle.dw_base.specs.Output.{IsOutput};
+ghost use Rattle.dw_meaning.specs.Loaded.{LoadedKept};
+ghost use Rattle.dw_meaning.specs.Mapped.{MeaningKept};
+ghost use Rattle.dw_meaning.specs.Output.{IsOutput};
 ghost use Rattle.dw_base.specs.Refusals.{Blames};
 ghost use Rattle.dw_rewrite.specs.Judged.{Found};
 ghost use Rattle.dw_rewrite.specs.Refuses.{Refuses};

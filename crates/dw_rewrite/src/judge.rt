@@ -5,10 +5,10 @@
 //! whose sections stand and are named as they may be, and refuses a file only by a condition that holds
 //! in it, at its place. The cost is linear in the number of sections.
 //! It does not promise: anything of what the sections hold.
-//! Read first: `dw_base/specs/EditFails.antt`, then `specs/Judged.antt`.
+//! Read first: `dw_meaning/specs/EditFails.antt`, then `specs/Judged.antt`.
 
 ghost use Rattle.std.specs.Prelude.{true, ◌≡◌, ◌+◌, ◌≤◌, ◌<◌, ◌==◌, ◌&&◌, not, bit_and, length, take, IsNone, IfErr, IfOk, IfSome, OnOk};
-ghost use Rattle.dw_base.specs.EditFails.{FileFails};
+ghost use Rattle.dw_meaning.specs.EditFails.{FileFails};
 ghost use Rattle.dw_base.specs.Elf.{is_empty_kind, nth_section, section_count, section_name};
 ghost use Rattle.dw_base.specs.ElfFails.{ElfReads};
 ghost use Rattle.dw_base.specs.Layout.{is_alloc, is_loaded_kind};

@@ -4,7 +4,7 @@
 //! in it, at its place; want of memory aside, every other file is rewritten, and the output is the
 //! defined one, byte for byte.
 //! It does not promise: anything of how the file came from disk, or goes back to it.
-//! Read first: `dw_base/specs/EditFails.antt` and `dw_base/specs/Output.antt`.
+//! Read first: `dw_meaning/specs/EditFails.antt` and `dw_meaning/specs/Output.antt`.
 #![tactic(auto)]
 
 mod asks;

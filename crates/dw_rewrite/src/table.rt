@@ -1,7 +1,7 @@
 //! The table of abbreviations of such a unit (DWARF 5, 7.5.3).
 
 ghost use Rattle.std.specs.Prelude.{◌≡◌, ◌==◌, ◌&&◌, ◌≤◌, length, drop, None, Some, IfSome, IsNone, is_some};
-ghost use Rattle.dw_base.specs.EntryUnits.{closed, first_names, first_table, is_first_head, is_first_pair};
+ghost use Rattle.dw_meaning.specs.EntryUnits.{closed, first_names, first_table, is_first_head, is_first_pair};
 ghost use Rattle.dw_rewrite.specs.EntryFacts.{IsTable, IsNames};
 
 use dw_base::dwarf_numbers::{DW_AT_comp_dir, DW_AT_name, DW_FORM_strp, DW_TAG_compile_unit};

@@ -5,11 +5,11 @@
 //! Read first: `specs/EntryFacts.antt`.
 
 ghost use Rattle.std.specs.Prelude.{ℕ, ◌≡◌, ◌↔◌, ◌+◌, ◌*◌, ◌≤◌, ◌<◌, ◌++◌, length, IsTrue, OnOk, IfOk, IfErr, IfSome, IsNone};
-ghost use Rattle.dw_base.specs.EntryUnits.{EntryUnits};
+ghost use Rattle.dw_meaning.specs.EntryUnits.{EntryUnits};
 ghost use Rattle.dw_base.specs.Numbers.{spelled};
 ghost use Rattle.dw_base.specs.Refusals.{Blames};
 ghost use Rattle.dw_base.specs.Texts.{IsNulEnd};
-ghost use Rattle.dw_base.specs.Units.{is_address_size};
+ghost use Rattle.dw_meaning.specs.Units.{is_address_size};
 ghost use Rattle.dw_rewrite.specs.EntryFacts.{HasCode, HeaderFacts, IsEntryUnit, PlacesRead, TextsEnd, UnitRead, unit_end, value_places};
 ghost use Rattle.dw_rewrite.specs.Refuses.{Refuses};
 

@@ -1,5 +1,5 @@
 use Rattle.std.proofs.Common.{◌≡◌, ℕ, List, IfOk, subst}
-use Rattle.dw_base.specs.Output.{IsOutput}
+use Rattle.dw_meaning.specs.Output.{IsOutput}
 use Rattle.dw_rewrite.proofs.file.rewrite.Goals as goal
 
 -- src/file.rt:26:1

@@ -1,0 +1,76 @@
+-- Units as pieces, what they mean and what becomes of them, worked: a program of one entry, and a unit of 64-bit DWARF 5 with
+-- a form in front of a value, a path that stands in its value, and values without bytes.
+use Rattle.std.proofs.Common.{true, ◌≡◌, ℕ, List, [], ◌∷◌, ◌++◌, codes, refl, None}
+use Rattle.dw_base.specs.AbbreviationBytes.{abbreviations_at}
+use Rattle.dw_base.specs.Cells.{plain_cells, field_of, offset_of}
+use Rattle.dw_base.specs.DebugData.{DebugData, Readings}
+use Rattle.dw_meaning.specs.DataOutput.{new_bodies, table_change}
+use Rattle.dw_base.specs.Forests.{AttributeMeaning, no_entries, entry}
+use Rattle.dw_base.specs.Forms.{kind_in, form_rows}
+use Rattle.dw_base.specs.InlinePaths.{mapped_inline}
+use Rattle.dw_base.specs.Lebs.{uleb_at, initial_length_at}
+use Rattle.dw_base.specs.Numbers.{spelled, number_at}
+use Rattle.dw_base.specs.Paths.{PathMap, lies_under, mapped_path}
+use Rattle.dw_base.specs.Pieces.{Piece}
+use Rattle.dw_base.specs.Roles.{role_of}
+use Rattle.dw_base.specs.TextChanges.{with_offset}
+use Rattle.dw_base.specs.Texts.{text_in}
+use Rattle.dw_base.specs.UnitHeaders.{UnitBase, in_info, unit_header}
+use Rattle.dw_base.specs.UnitMeanings.{units_of}
+use Rattle.dw_base.specs.UnitStates.{UnitState, before_unit, past, between, after_code}
+use Rattle.dw_base.specs.ValueMeanings.{string, by_offset}
+use Rattle.dw_base.specs.declared.shared.Order.TheVariants.{Little}
+use Rattle.dw_base.specs.declared.shared.Width.TheVariants.{W32}
+use Rattle.dw_meaning.proofs.WorkedParts.{half, word}
+
+-- pieces of these bytes, one after another
+abbrev pub pieces_from : UnitBase → UnitState → List (List ℕ) → List (Piece UnitState)
+pieces_from base s [] = []
+pieces_from base s (p ∷ ps) = record { state = s; cells = plain_cells p } ∷ pieces_from base (past s.mode base s (plain_cells p)) ps
+
+-- debug data whose one unit section is number 1, with the abbreviations in 2 and the texts in 3
+abbrev pub lone_data : List ℕ → List ℕ → List ℕ → DebugData
+lone_data info abbrevs str = record {
+  base = record { order = Little; abbrevs = record { number = 2; bytes = abbrevs } };
+  units = record { number = 1; kind = in_info; contents = plain_cells info } ∷ [];
+  str = record { number = 3; bytes = str };
+  line_str = record { number = 0; bytes = [] };
+}
+
+-- and its readings, by pieces of `.debug_info` of so many bytes
+abbrev pub lone_readings : DebugData → ℕ → List (List ℕ) → Readings
+lone_readings d whole pieces = record { number = 1; pieces = pieces_from d.base (before_unit 1 in_info whole 0 0) pieces } ∷ []
+
+abbrev pub build_map : PathMap
+build_map = record { base = codes "/build/p"; dest = codes "/usr/src/debug/p" }
+
+-- a program of one entry
+abbrev small_pieces : List (List ℕ)
+small_pieces = (word 16 ++ half 4 ++ word 0 ++ (8 ∷ [])) ∷ (1 ∷ []) ∷ word 0 ∷ word 13 ∷ []
+
+abbrev small_data : DebugData
+small_data = lone_data (joined_bytes small_pieces) (1 ∷ 17 ∷ 0 ∷ 3 ∷ 14 ∷ 27 ∷ 14 ∷ 0 ∷ 0 ∷ 0 ∷ []) (codes "/build/p/a.c\0/build/p\0")
+  where
+    joined_bytes : List (List ℕ) → List ℕ
+    joined_bytes [] = []
+    joined_bytes (p ∷ ps) = p ++ joined_bytes ps
+
+abbrev path_at : ℕ → List ℕ → AttributeMeaning
+path_at name t = record { name = name; value = string true by_offset t }
+
+pub small-meaning : units_of small_data (lone_readings small_data 20 small_pieces)
+    ≡ record {
+      section = 1;
+      head = record { version = 4; width = W32; address = 8; kind = 1; signature = 0; type_entry = None };
+      entries = entry 17 (path_at 3 (codes "/build/p/a.c") ∷ path_at 27 (codes "/build/p") ∷ []) no_entries no_entries;
+    } ∷ []
+unfolding units_of unit_header initial_length_at number_at spelled between after_code kind_in form_rows abbreviations_at uleb_at text_in offset_of field_of
+small-meaning = refl
+
+pub small-output : new_bodies build_map small_data (lone_readings small_data 20 small_pieces)
+    ≡ record { number = 3; bytes = codes "/build/p/a.c\0/build/p\0/usr/src/debug/p/a.c\0/usr/src/debug/p\0" }
+    ∷ record { number = 0; bytes = [] }
+    ∷ record { number = 1; bytes = word 16 ++ half 4 ++ word 0 ++ (8 ∷ 1 ∷ []) ++ word 22 ++ word 43 } ∷ []
+unfolding new_bodies table_change unit_header initial_length_at number_at spelled between after_code kind_in form_rows abbreviations_at
+    uleb_at text_in offset_of field_of role_of lies_under mapped_path mapped_inline with_offset
+small-output = refl

@@ -1,0 +1,30 @@
+-- Why a file isn't edited with a prefix map, and the record of what holds where it is.
+use Rattle.std.specs.Prelude.{◌<◌, ℕ, List}
+use Rattle.dw_meaning.specs.DataFails.{InlineFails}
+use Rattle.dw_meaning.specs.DataOutput.{DataFits}
+use Rattle.dw_base.specs.DebugData.{Readings}
+use Rattle.dw_base.specs.Elf.{section_count}
+use Rattle.dw_base.specs.ElfFails.{ElfReads}
+use Rattle.dw_meaning.specs.FileFails.{ReadIsLoaded, UnbuiltFile, FileFails}
+use Rattle.dw_meaning.specs.FileMeanings.{file_data, FileReads, new_body}
+use Rattle.dw_base.specs.LayoutFails.{LayoutFails, LayoutFits}
+use Rattle.dw_base.specs.Paths.{PathMap}
+use Rattle.dw_base.specs.declared.fault.Refusal.{Refusal}
+
+-- every row: those of the file; a path that stands in its value would grow; and the output can be too long, or a section lie
+-- across the end of the part that stays, begin in the file header, or stay and have to change
+pub data EditFails (m : PathMap) (b : List ℕ) : Refusal → Type 0 where
+  file : {r : Refusal} → FileFails b r → EditFails m b r
+  inline : {r : Refusal} → ElfReads b → InlineFails m (file_data b) r → EditFails m b r
+  output : (readings : Readings) {r : Refusal} → FileReads b readings → DataFits m readings
+      → LayoutFails b (new_body m b readings) r → EditFails m b r
+
+-- the file is taken: it can be read, its paths fit the rooms in which they stand, no section that is read is loaded, it is of
+-- a shape that is taken, and its output can be written
+pub record IsAccepted (m : PathMap) (b : List ℕ) : Type 0 where
+  pub readings : Readings
+  pub reads : FileReads b readings
+  pub fits : DataFits m readings
+  pub unloaded : (i : ℕ) → i < section_count b → ReadIsLoaded b i → ⊥
+  pub built : UnbuiltFile b → ⊥
+  pub written : LayoutFits b (new_body m b readings)
