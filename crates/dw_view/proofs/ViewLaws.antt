@@ -1,17 +1,19 @@
 -- Laws of a view that was made of a file.
-use Rattle.std.proofs.Common.{◌≡◌, ℕ, ◌<◌, ◌≤◌, Bool, true, false, ◌==◌, ◌||◌, if◌then◌else◌, List, [], length, take, drop, IfSome, Option, Some, None, sym, ap, ◌∙◌, arith}
+use Rattle.std.proofs.Common.{◌≡◌, ℕ, zero, suc, ◌<◌, ◌≤◌, Bool, true, false, ◌==◌, ◌||◌, if◌then◌else◌, List, [], ◌∷◌, length, get_or, take, drop, IfSome, Option, Some, None, refl, sym, ap, ◌∙◌, arith}
 use Rattle.std.proofs.lemmas.List.{length-take, length-drop}
 use Rattle.dw_base.specs.DebugSections.{debug_section, name_of}
 use Rattle.dw_base.specs.DebugSectionFails.{DebugSectionsRead}
-use Rattle.dw_base.specs.Elf.{contents_at, contents_of, e_type, is_empty_kind, nth_section}
-use Rattle.dw_base.specs.FileViews.{View, section_after, section_named}
+use Rattle.dw_base.specs.Elf.{contents_at, contents_of, e_type, is_empty_kind, nth_section, section_count, section_name}
+use Rattle.dw_base.specs.FileViews.{View, ViewSection, section_after, section_named, view_of, view_section}
 use Rattle.dw_base.specs.Layout.{is_loaded_kind}
 use Rattle.dw_base.specs.declared.elf_numbers.TheConstants.{ET_REL}
 use Rattle.dw_base.specs.declared.debug_sections.DebugSection.{DebugSection}
 use Rattle.dw_base.proofs.DebugSectionFailsLaws.{debug_sections_exclude}
 use Rattle.dw_base.proofs.DebugSectionLaws.{debug_section-named}
-use Rattle.dw_base.proofs.FileViewLaws.{order-view_of, length-view_of, section_bytes-view_of, section_after-within}
+use Rattle.dw_base.proofs.FileViewLaws.{order-view_of, length-view_of, get_or-view_of, section_bytes-view_of, section_after-within}
 use Rattle.dw_view.specs.NamesFit.{NamesApart, NamesFit, NamesOnce}
+use Rattle.dw_view.specs.SectionKinds.{kind_at, name_in}
+use Rattle.dw_view.proofs.NameLaws.{debug_section-take}
 
 -- what was found part by part is all that is asked
 pub reads-all : (b : List ℕ) → (e_type b == ET_REL || is_loaded_kind b) ≡ true → NamesFit b → NamesOnce b → NamesApart b → DebugSectionsRead b
@@ -62,3 +64,24 @@ pub ruleset section_laws = (above-some)
 pub there-first : (v : View) (s : DebugSection) (found : Option ℕ) → found ≡ section_named v (name_of s) → IfSome found (λ i. i < length v.sections)
 unfolding section_named
 there-first v s found is = there-some v (name_of s) 0 found is
+
+-- the name of a section of the view is the file's
+name_in-get_or : (ss : List ViewSection) (i : ℕ) (d : ViewSection) → i < length ss → name_in ss i ≡ (get_or ss i d).name
+name_in-get_or [] i d lt = absurd (omega arith)
+name_in-get_or (s ∷ ss) zero d lt = refl
+name_in-get_or (s ∷ ss) (suc i) d lt = name_in-get_or ss i d (omega arith)
+
+pub kind_at-view_of : (b : List ℕ) (i : ℕ) → i < section_count b → kind_at (view_of b) i ≡ debug_section (section_name b i)
+unfolding kind_at view_section
+kind_at-view_of b i lt =
+    ap debug_section
+    (name_in-get_or (view_of b).sections i (view_section b i) (omega (arith, length-view_of b))
+    ∙ ap (λ (s : ViewSection). s.name) (get_or-view_of b i (view_section b i) lt))
+
+-- and its first bytes tell which it is
+pub kind-front : (b front : List ℕ) (i : ℕ) (s : Option DebugSection) → i < section_count b → front ≡ take 20 (section_name b i)
+    → s ≡ debug_section front → s ≡ kind_at (view_of b) i
+kind-front b front i s lt front_is is =
+    is ∙ ap debug_section front_is ∙ debug_section-take (section_name b i) ∙ sym (kind_at-view_of b i lt)
+
+pub ruleset kind_laws = (length-view_of, kind-front)

@@ -1,2 +1,3 @@
 pub mod NamesFit
 pub mod Kept
+pub mod SectionKinds

@@ -7,9 +7,11 @@ ghost use Rattle.dw_base.specs.FileViews.{View as FileView, field_at, section_af
 ghost use Rattle.dw_base.specs.Refusals.{Blames};
 ghost use Rattle.dw_base.specs.declared.fault.Refusal.{Refusal};
 ghost use Rattle.dw_view.specs.Kept.{FieldFits, FirstsAre};
+ghost use Rattle.dw_view.specs.SectionKinds.{kind_at};
 
 use crate::found::{firsts_of, next_filled};
-use crate::names::{kind_fits, names_apart, names_fit};
+use crate::fronts::name_front;
+use crate::names::{FRONT_SIZE, kind_fits, names_apart, names_fit};
 use crate::repeats::names_once;
 use dw_base::{DebugSection, Fault, Field, Order, READ_SECTIONS, Refusal, number_in};
 use elf_file::ElfFile;
@@ -97,6 +99,16 @@ impl<'a> View<'a> {
             return self.kept(section);
         }
         next_filled(self.elf, name, after)
+    }
+
+    /// Which section that is read the one of a number is, by its name; none exactly where its name is
+    /// that of no such section. A name of any length takes the same time.
+    #[tactic(auto, using(crate::proofs::ViewLaws::kind_laws))]
+    pub fn kind(&self, section: u32) -> Option<DebugSection>
+        requires there { section < length self.now.sections }
+        ensures kind { result ≡ kind_at self.now section }
+    {
+        DebugSection::called(name_front(self.elf, section, FRONT_SIZE))
     }
 
     /// The bytes of the section of a number, none where it has none in the file.

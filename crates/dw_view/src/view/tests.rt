@@ -342,6 +342,14 @@ const FOUND: [(&[u8], u32, Option<u32>); 8] = [
     (b".debug_str", 0xffff_ffff, None),
 ];
 
+/// The number of a section, and which section that is read it is.
+const KINDS: [(u32, Option<DebugSection>); 4] = [
+    (0, None),
+    (3, Some(DebugSection::Types)),
+    (6, Some(DebugSection::Str)),
+    (7, None),
+];
+
 #[test]
 fn sections_and_fields_are_those_of_the_file(rt: HostRuntime) -> Result<(), Fail> {
     let file = file_of(&rt, rt.alloc(), &ONE_UNIT)?;
@@ -354,6 +362,9 @@ fn sections_and_fields_are_those_of_the_file(rt: HostRuntime) -> Result<(), Fail
     }
     assert_eq!(rt; view.first(DebugSection::Str), Some(6));
     assert_eq!(rt; view.first(DebugSection::LineStr), None);
+    for (section, kind) in KINDS {
+        assert_eq!(rt; view.kind(section), kind, "{section}");
+    }
     let info = view.first(DebugSection::Info).ok_or("no section")?;
     assert_eq!(rt; view.bytes(info).len(), 20);
     assert_eq!(rt; view.field(info, 0, 4), Ok(Field::Num(16)));
