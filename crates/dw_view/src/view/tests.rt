@@ -351,6 +351,7 @@ const KINDS: [(u32, Option<DebugSection>); 4] = [
 ];
 
 #[test]
+#[tactic(auto, using(crate::proofs::ViewLaws::view_laws))]
 fn sections_and_fields_are_those_of_the_file(rt: HostRuntime) -> Result<(), Fail> {
     let file = file_of(&rt, rt.alloc(), &ONE_UNIT)?;
     assert!(rt; file.len() <= 0x8000_0000);
@@ -363,6 +364,7 @@ fn sections_and_fields_are_those_of_the_file(rt: HostRuntime) -> Result<(), Fail
     assert_eq!(rt; view.first(DebugSection::Str), Some(6));
     assert_eq!(rt; view.first(DebugSection::LineStr), None);
     for (section, kind) in KINDS {
+        assert!(rt; section < elf.section_count());
         assert_eq!(rt; view.kind(section), kind, "{section}");
     }
     let info = view.first(DebugSection::Info).ok_or("no section")?;
