@@ -2,47 +2,12 @@
 ghost use Rattle.std.specs.Prelude.{◌≡◌, IfOk};
 ghost use Rattle.std.specs.String.{string_bytes};
 ghost use Rattle.dbg_ends.specs.declared.end.End.TheVariants as end;
-ghost use Rattle.dbg_ends.specs.Ends.{line_of, kind_text};
+ghost use Rattle.dbg_ends.specs.Ends.{line_of};
 
 use crate::end::End;
-use dw_base::{Kind, Refusal};
+use dbg_job::kind_name;
+use dw_base::Refusal;
 use std::alloc::{AllocError, Global};
-
-/// A kind of refusal as it is printed.
-#[tactic(auto, unfolding(crate::specs::Ends::kind_text))]
-pub fn kind_name(kind: Kind) -> &'static str
-    ensures text { result.now ≡ kind_text kind }
-{
-    match kind {
-        Kind::Header => "header",
-        Kind::Range => "range",
-        Kind::Fixed => "fixed",
-        Kind::Compressed => "compressed",
-        Kind::Supplementary => "supplementary",
-        Kind::SplitDwarf => "split dwarf",
-        Kind::UnknownDebug => "unknown debug",
-        Kind::Twice => "twice",
-        Kind::Unit => "unit",
-        Kind::Abbreviation => "abbreviation",
-        Kind::Form => "form",
-        Kind::Entry => "entry",
-        Kind::StringOffset => "string offset",
-        Kind::StringTable => "string table",
-        Kind::SharedIndex => "shared index",
-        Kind::Line => "line",
-        Kind::Stray => "stray",
-        Kind::Macro => "macro",
-        Kind::InlineGrows => "inline grows",
-        Kind::Relocation => "relocation",
-        Kind::TooWide => "too wide",
-        Kind::BuildId => "build id",
-        Kind::NameTable => "name table",
-        Kind::TooLarge => "too large",
-        Kind::DefinedPath => "defined path",
-        Kind::FileType => "file type",
-        Kind::Unbuilt => "unbuilt",
-    }
-}
 
 /// The line of a refusal of the file at the path.
 #[tactic(auto, unfolding(crate::specs::Ends::line_of))]

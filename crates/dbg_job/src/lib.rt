@@ -1,7 +1,7 @@
 //! What is to be done with one file, and what becomes of it.
 //!
 //! This layer has the types that the commands over one file and over a build root share: the options
-//! that a user gives, why a file is left, and what a job makes of one.
+//! that a user gives, why a file is left, what a job makes of one, and how a kind of refusal is printed.
 //! It promises of options that their map is one, and that their limit on files is within the most
 //! that may be asked for. It makes no output; the crates above do.
 //! Read first: `specs/Settings.antt`.
@@ -18,9 +18,11 @@
 //! ```
 #![tactic(auto)]
 
+mod kinds;
 mod options;
 mod outcome;
 
+pub use kinds::kind_name;
 pub use options::{MOST_FILE, Options};
 pub use outcome::{LeftWhy, Outcome, Sources};
 
