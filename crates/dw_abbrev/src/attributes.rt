@@ -1,21 +1,30 @@
 //! The attributes of an abbreviation, which contracts see as a list (DWARF 5, 7.5.3).
+//!
+//! The size of an entry's values is found once for its abbreviation, where all forms say it.
 
-ghost use Rattle.std.specs.Prelude.{◌≡◌, ℕ, List, length};
+ghost use Rattle.std.specs.Prelude.{◌≡◌, ◌^◌, ◌≤◌, ℕ, List, Some, length, IfNone, IfSome, IsTrue};
+ghost use Rattle.dw_base.specs.UnitHeaders.{is_address_size};
 ghost use Rattle.dw_base.specs.declared.values.Spec.{Spec as SpecOf};
+ghost use Rattle.dw_forms.specs.Fixed.{HasNoSize, IsSizeOf, values_size};
 
-use dw_base::Spec;
+use dw_base::{Params, Spec};
+use dw_forms::FixedSize;
 use std::marker::Model;
 
 /// The attributes of an abbreviation, in order.
 #[derive(Drop, Debug)]
 pub struct Specs {
     specs: Vec<Spec>,
+    /// How many bytes their values take together, where their forms say it.
+    size: Option<FixedSize>,
 }
 
 impl Model for Specs {
     ghost Value = { List SpecOf };
 
     ghost view = { λ s. s.specs.items };
+
+    ghost invariant = { λ s. IfSome s.size (IsSizeOf s.specs.items) × IfNone s.size (HasNoSize s.specs.items) };
 }
 
 impl Specs {
@@ -23,14 +32,15 @@ impl Specs {
     pub fn new(specs: Vec<Spec>) -> Specs
         ensures value { result ≡ specs.items }
     {
-        Specs { specs }
+        let size = FixedSize::of(&specs);
+        Specs { specs, size }
     }
 
     /// The attributes, as a vector.
     pub fn into_vec(self) -> Vec<Spec>
         ensures value { result.items ≡ self }
     {
-        let Specs { specs } = self;
+        let Specs { specs, .. } = self;
         specs
     }
 
@@ -39,6 +49,19 @@ impl Specs {
         ensures value { result.now ≡ self.now }
     {
         self.specs.as_slice()
+    }
+
+    /// How many bytes their values take in a unit of these parameters. `None` exactly where a form doesn't
+    /// say it, or they are 2^32 or more.
+    pub fn values_size(&self, params: &Params) -> Option<u64>
+        requires address { IsTrue (is_address_size params.now.address) }
+        ensures size { IfSome result (λ n. values_size params.now self.now ≡ Some n) }
+        ensures none { IfNone result (IfSome (values_size params.now self.now) (λ n. 2 ^ 32 ≤ n)) }
+    {
+        match self.size {
+            Some(size) => Some(size.bytes_in(params)),
+            None => None,
+        }
     }
 
     /// How many attributes there are.

@@ -78,27 +78,27 @@ front-value params spec bytes start form size k i e other =
     ∙ chosen_value-own k params spec bytes (start + size) other))
 
 -- a kind that isn't that of the abbreviation's numbers
-not-implicit : (j : FormKind) → (j ≡ InAbbreviation → ⊥) → as_kind j ≢ in_abbreviation
-not-implicit InAbbreviation h = absurd (h refl)
-not-implicit (Number class n) h = λ q. cc
-not-implicit (LebNumber class) h = λ q. cc
-not-implicit SignedLeb h = λ q. cc
-not-implicit (Block n) h = λ q. cc
-not-implicit (Counted n) h = λ q. cc
-not-implicit CountedLeb h = λ q. cc
-not-implicit InlineText h = λ q. cc
-not-implicit (StrOffset n) h = λ q. cc
-not-implicit (LineStrOffset n) h = λ q. cc
-not-implicit Present h = λ q. cc
-not-implicit FormInFront h = λ q. cc
-not-implicit Supplementary h = λ q. cc
-not-implicit Unlisted h = λ q. cc
+not-implicit : (params : Params) (j : FormKind) → (j ≡ InAbbreviation → ⊥) → as_kind params j ≢ in_abbreviation
+not-implicit params InAbbreviation h = absurd (h refl)
+not-implicit params (Number class n) h = λ q. cc
+not-implicit params (LebNumber class) h = λ q. cc
+not-implicit params SignedLeb h = λ q. cc
+not-implicit params (Block n) h = λ q. cc
+not-implicit params (Counted n) h = λ q. cc
+not-implicit params CountedLeb h = λ q. cc
+not-implicit params InlineText h = λ q. cc
+not-implicit params StrOffset h = λ q. cc
+not-implicit params LineStrOffset h = λ q. cc
+not-implicit params Present h = λ q. cc
+not-implicit params FormInFront h = λ q. cc
+not-implicit params Supplementary h = λ q. cc
+not-implicit params Unlisted h = λ q. cc
 
 pub front-found : (params : Params) (spec : Spec) (bytes : List ℕ) (start form size : ℕ) (k : FormKind) (v : Value) → kind_in params spec.form ≡ form_in_front
-    → uleb_at bytes start ≡ Some (form, size) → as_kind k ≡ kind_in params form → (k ≡ InAbbreviation → ⊥)
-    → value_of (as_kind k) params.order bytes (start + size) spec.implicit ≡ Some v → value_at params spec bytes start ≡ Some (record v { size = size + v.size })
+    → uleb_at bytes start ≡ Some (form, size) → as_kind params k ≡ kind_in params form → (k ≡ InAbbreviation → ⊥)
+    → value_of (as_kind params k) params.order bytes (start + size) spec.implicit ≡ Some v → value_at params spec bytes start ≡ Some (record v { size = size + v.size })
 front-found params spec bytes start form size k v f s e other found =
-    front-value params spec bytes start form size (as_kind k) (record { indirect = f; spells = s }) e (not-implicit k other)
+    front-value params spec bytes start form size (as_kind params k) (record { indirect = f; spells = s }) e (not-implicit params k other)
     ∙ ap (behind size) found
 
 -- the same of the size alone
@@ -126,11 +126,11 @@ size-behind size n (Some v) e = ap (λ (m : ℕ). Some (size + m)) (some-once v.
     some-once x y f = cc
 
 pub front-size : (params : Params) (spec : Spec) (bytes : List ℕ) (start form size : ℕ) (k : FormKind) (n : ℕ) → kind_in params spec.form ≡ form_in_front
-    → uleb_at bytes start ≡ Some (form, size) → as_kind k ≡ kind_in params form → (k ≡ InAbbreviation → ⊥)
-    → value_size (value_of (as_kind k) params.order bytes (start + size) spec.implicit) ≡ Some n → value_size (value_at params spec bytes start) ≡ Some (size + n)
+    → uleb_at bytes start ≡ Some (form, size) → as_kind params k ≡ kind_in params form → (k ≡ InAbbreviation → ⊥)
+    → value_size (value_of (as_kind params k) params.order bytes (start + size) spec.implicit) ≡ Some n → value_size (value_at params spec bytes start) ≡ Some (size + n)
 front-size params spec bytes start form size k n f s e other found =
-    ap value_size (front-value params spec bytes start form size (as_kind k) (record { indirect = f; spells = s }) e (not-implicit k other))
-    ∙ size-behind size n (value_of (as_kind k) params.order bytes (start + size) spec.implicit) found
+    ap value_size (front-value params spec bytes start form size (as_kind params k) (record { indirect = f; spells = s }) e (not-implicit params k other))
+    ∙ size-behind size n (value_of (as_kind params k) params.order bytes (start + size) spec.implicit) found
 
 -- a value or a size excludes every refusal
 pub value-excludes : (params : Params) (spec : Spec) (bytes : List ℕ) (section start : ℕ) (v : Value) → value_at params spec bytes start ≡ Some v

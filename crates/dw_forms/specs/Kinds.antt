@@ -1,39 +1,54 @@
 -- The kinds of values as the code has them, and the definition's (DWARF 5, 7.5.5 and 7.5.6).
 use Rattle.std.specs.Prelude.{ℕ, ◌<◌, ◌≤◌, ⊤}
-use Rattle.dw_base.specs.Forms.{ValueKind, in_str, in_line_str, number_of, leb_number, signed_leb, block_of, counted, counted_leb, inline_text, text_offset, present, in_abbreviation, form_in_front, supplementary, unlisted}
+use Rattle.dw_base.specs.Forms.{ValueKind, in_str, in_line_str, number_of, leb_number, signed_leb, block_of, counted, counted_leb, inline_text, text_offset, present, in_abbreviation, form_in_front, supplementary, unlisted, reference_size, width_size}
 use Rattle.dw_base.specs.declared.fault.Kind.{Kind}
 use Rattle.dw_base.specs.declared.fault.Kind.TheVariants.{Entry, Form, Supplementary as SupplementaryKind}
+use Rattle.dw_base.specs.declared.shared.Params.{Params}
+use Rattle.dw_forms.specs.declared.kinds.FieldSize.{FieldSize}
+use Rattle.dw_forms.specs.declared.kinds.FieldSize.TheVariants.{Bytes, Address, Offset, Reference}
 use Rattle.dw_forms.specs.declared.kinds.FormKind.{FormKind}
 use Rattle.dw_forms.specs.declared.kinds.FormKind.TheVariants.{Number, LebNumber, SignedLeb, Block, Counted, CountedLeb, InlineText, StrOffset, LineStrOffset, Present, InAbbreviation, FormInFront, Supplementary, Unlisted}
 
--- the definition's kind
-abbrev pub as_kind : FormKind → ValueKind
-as_kind (Number class n) = number_of class n
-as_kind (LebNumber class) = leb_number class
-as_kind SignedLeb = signed_leb
-as_kind (Block n) = block_of n
-as_kind (Counted n) = counted n
-as_kind CountedLeb = counted_leb
-as_kind InlineText = inline_text
-as_kind (StrOffset n) = text_offset in_str n
-as_kind (LineStrOffset n) = text_offset in_line_str n
-as_kind Present = present
-as_kind InAbbreviation = in_abbreviation
-as_kind FormInFront = form_in_front
-as_kind Supplementary = supplementary
-as_kind Unlisted = unlisted
+-- the size of a field in a unit of these parameters, in bytes
+abbrev pub field_size : Params → FieldSize → ℕ
+field_size params (Bytes n) = n
+field_size params Address = params.address
+field_size params Offset = width_size params.width
+field_size params Reference = reference_size params
+
+-- the definition's kind in such a unit
+abbrev pub as_kind : Params → FormKind → ValueKind
+as_kind params (Number class size) = number_of class (field_size params size)
+as_kind params (LebNumber class) = leb_number class
+as_kind params SignedLeb = signed_leb
+as_kind params (Block n) = block_of n
+as_kind params (Counted n) = counted n
+as_kind params CountedLeb = counted_leb
+as_kind params InlineText = inline_text
+as_kind params StrOffset = text_offset in_str (width_size params.width)
+as_kind params LineStrOffset = text_offset in_line_str (width_size params.width)
+as_kind params Present = present
+as_kind params InAbbreviation = in_abbreviation
+as_kind params FormInFront = form_in_front
+as_kind params Supplementary = supplementary
+as_kind params Unlisted = unlisted
 
 -- a number of so many bytes can be read
 pub record IsFieldSize (n : ℕ) : Type 0 where
   pub some : 0 < n
   pub few : n ≤ 8
 
+-- a number of this size can be read in every unit
+abbrev pub HasRoom : FieldSize → Type 0
+HasRoom (Bytes n) = IsFieldSize n
+HasRoom Address = ⊤
+HasRoom Offset = ⊤
+HasRoom Reference = ⊤
+
 -- the numbers of a kind can be read
 abbrev pub HasFields : FormKind → Type 0
-HasFields (Number class n) = IsFieldSize n
+HasFields (Number class size) = HasRoom size
 HasFields (Counted n) = IsFieldSize n
-HasFields (StrOffset n) = IsFieldSize n
-HasFields (LineStrOffset n) = IsFieldSize n
 HasFields k = ⊤
 
 -- as what a value of a kind is refused where none stands

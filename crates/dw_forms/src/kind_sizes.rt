@@ -1,14 +1,15 @@
 //! The size of a value of a kind at a place, without the value (DWARF 5, 7.5.5 and 7.5.6).
 
-ghost use Rattle.std.specs.Prelude.{◌≡◌, ◌+◌, ◌<◌, ◌≤◌, length, IfSome};
+ghost use Rattle.std.specs.Prelude.{◌≡◌, ◌+◌, ◌<◌, ◌≤◌, length, IfSome, IsTrue};
 ghost use Rattle.dw_base.specs.Lebs.{sleb_at, uleb_at};
 ghost use Rattle.dw_base.specs.Numbers.{number_at};
 ghost use Rattle.dw_base.specs.Values.{block_value, counted_leb_value, counted_value, text_value, value_of, value_size};
+ghost use Rattle.dw_base.specs.UnitHeaders.{is_address_size};
 ghost use Rattle.dw_forms.specs.Kinds.{as_kind, HasFields};
 ghost use Rattle.dw_forms.specs.Reads.{read_length, room_size};
 
-use crate::kinds::FormKind;
-use dw_base::{Order, number_at, sleb_at, uleb_at};
+use crate::kinds::{FormKind, width_size};
+use dw_base::{Order, Params, number_at, sleb_at, uleb_at};
 use dw_strings::text_at;
 
 /// `size` bytes.
@@ -100,25 +101,27 @@ fn text_size(bytes: &[u8], at: u64) -> Option<u64>
 #[tactic(auto, using(crate::proofs::ReadLaws::size_laws), unfolding(dw_base::specs::Values::value_of))]
 pub(crate) fn size_of_kind(
     kind: FormKind,
-    order: Order,
+    params: &Params,
     bytes: &[u8],
     at: u64,
     implicit: i64,
 ) -> Option<u64>
+    requires address { IsTrue (is_address_size params.now.address) }
     requires fields { HasFields kind }
-    ensures size { result ≡ value_size (value_of (as_kind kind) order bytes.now at implicit) }
+    ensures size { result ≡ value_size (value_of (as_kind params.now kind) params.now.order bytes.now at implicit) }
     ensures inside { IfSome result (λ n. at + n ≤ length bytes.now) }
 {
     match kind {
-        FormKind::Number(_, size) => room_size(bytes, at, size),
+        FormKind::Number(_, size) => room_size(bytes, at, size.bytes(params)),
         FormKind::LebNumber(_) => leb_size(bytes, at),
         FormKind::SignedLeb => signed_size(bytes, at),
         FormKind::Block(size) => block_size(bytes, at, 0, u64::from(size)),
-        FormKind::Counted(size) => counted_size(order, bytes, at, size),
+        FormKind::Counted(size) => counted_size(params.order, bytes, at, size),
         FormKind::CountedLeb => counted_leb_size(bytes, at),
         FormKind::InlineText => text_size(bytes, at),
-        FormKind::StrOffset(size) => room_size(bytes, at, size),
-        FormKind::LineStrOffset(size) => room_size(bytes, at, size),
+        FormKind::StrOffset | FormKind::LineStrOffset => {
+            room_size(bytes, at, width_size(params.width))
+        }
         FormKind::Present => room_size(bytes, at, 0),
         FormKind::InAbbreviation => room_size(bytes, at, 0),
         FormKind::FormInFront | FormKind::Supplementary | FormKind::Unlisted => None,

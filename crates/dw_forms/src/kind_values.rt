@@ -1,14 +1,16 @@
 //! The value of a kind at a place, one function for each way in which values stand
 //! (DWARF 5, 7.5.5 and 7.5.6).
 
-ghost use Rattle.std.specs.Prelude.{◌≡◌, ◌+◌, ◌<◌, ◌≤◌, length, IfSome};
+ghost use Rattle.std.specs.Prelude.{◌≡◌, ◌+◌, ◌<◌, ◌≤◌, length, IfSome, IsTrue};
+ghost use Rattle.dw_base.specs.Forms.{width_size};
 ghost use Rattle.dw_base.specs.Lebs.{sleb_at, uleb_at};
 ghost use Rattle.dw_base.specs.Numbers.{number_at};
 ghost use Rattle.dw_base.specs.Values.{bare_value, block_value, counted_leb_value, counted_value, leb_value_at, number_value, signed_bits, signed_value_at, text_value, value_of};
+ghost use Rattle.dw_base.specs.UnitHeaders.{is_address_size};
 ghost use Rattle.dw_forms.specs.Kinds.{as_kind, HasFields};
 
-use crate::kinds::FormKind;
-use dw_base::{Order, Value, ValueClass, number_at, sleb_at, uleb_at};
+use crate::kinds::{FormKind, width_size};
+use dw_base::{Order, Params, Value, ValueClass, number_at, sleb_at, uleb_at};
 use dw_strings::text_at;
 
 /// A number of a class, in `size` bytes.
@@ -27,6 +29,14 @@ fn number_value(order: Order, class: ValueClass, bytes: &[u8], at: u64, size: u8
         len: size,
         size,
     })
+}
+
+/// An offset of a class.
+fn offset_value(params: &Params, class: ValueClass, bytes: &[u8], at: u64) -> Option<Value>
+    ensures value { result ≡ number_value class at (width_size params.now.width) (number_at params.now.order bytes.now at (width_size params.now.width)) }
+    ensures inside { IfSome result (λ v. at + v.size ≤ length bytes.now) }
+{
+    number_value(params.order, class, bytes, at, width_size(params.width))
 }
 
 /// A number of a class, in LEB128.
@@ -150,27 +160,28 @@ fn bare_value(bytes: &[u8], at: u64, class: ValueClass, number: u64) -> Option<V
 #[tactic(auto, unfolding(dw_base::specs::Values::value_of))]
 pub(crate) fn value_of_kind(
     kind: FormKind,
-    order: Order,
+    params: &Params,
     bytes: &[u8],
     at: u64,
     implicit: i64,
 ) -> Option<Value>
+    requires address { IsTrue (is_address_size params.now.address) }
     requires fields { HasFields kind }
-    ensures value { result ≡ value_of (as_kind kind) order bytes.now at implicit }
+    ensures value { result ≡ value_of (as_kind params.now kind) params.now.order bytes.now at implicit }
     ensures inside { IfSome result (λ v. at + v.size ≤ length bytes.now) }
 {
     match kind {
-        FormKind::Number(class, size) => number_value(order, class, bytes, at, size),
+        FormKind::Number(class, size) => {
+            number_value(params.order, class, bytes, at, size.bytes(params))
+        }
         FormKind::LebNumber(class) => leb_value(class, bytes, at),
         FormKind::SignedLeb => signed_value(bytes, at),
         FormKind::Block(size) => block_value(bytes, at, 0, u64::from(size)),
-        FormKind::Counted(size) => counted_value(order, bytes, at, size),
+        FormKind::Counted(size) => counted_value(params.order, bytes, at, size),
         FormKind::CountedLeb => counted_leb_value(bytes, at),
         FormKind::InlineText => text_value(bytes, at),
-        FormKind::StrOffset(size) => number_value(order, ValueClass::StrOffset, bytes, at, size),
-        FormKind::LineStrOffset(size) => {
-            number_value(order, ValueClass::LineStrOffset, bytes, at, size)
-        }
+        FormKind::StrOffset => offset_value(params, ValueClass::StrOffset, bytes, at),
+        FormKind::LineStrOffset => offset_value(params, ValueClass::LineStrOffset, bytes, at),
         FormKind::Present => bare_value(bytes, at, ValueClass::Flag, 1),
         FormKind::InAbbreviation => {
             bare_value(bytes, at, ValueClass::Signed, number_of_signed(implicit))

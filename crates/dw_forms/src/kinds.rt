@@ -1,9 +1,10 @@
 //! What a value of a form is: the table of forms (DWARF 5, table 7.6), each form once.
 
-ghost use Rattle.std.specs.Prelude.{◌≡◌, IsTrue};
+ghost use Rattle.std.specs.Prelude.{◌≡◌, ◌<◌, ◌≤◌, IsTrue};
 ghost use Rattle.dw_base.specs.Forms.{kind_in, reference_size, width_size};
 ghost use Rattle.dw_base.specs.UnitHeaders.{is_address_size};
-ghost use Rattle.dw_forms.specs.Kinds.{as_kind, refused_as, HasFields};
+ghost use Rattle.dw_base.specs.declared.shared.Params.{Params as ParamsOf};
+ghost use Rattle.dw_forms.specs.Kinds.{as_kind, field_size, refused_as, HasFields, HasRoom};
 
 use dw_base::dwarf_numbers::{
     DW_FORM_GNU_ref_alt, DW_FORM_GNU_strp_alt, DW_FORM_addr, DW_FORM_addrx, DW_FORM_addrx1,
@@ -18,11 +19,24 @@ use dw_base::dwarf_numbers::{
 };
 use dw_base::{Kind, Params, ValueClass, Width};
 
+/// The size of a number's field, by what it depends on.
+#[derive(Clone, Copy)]
+pub(crate) enum FieldSize {
+    /// So many bytes.
+    Bytes(u8),
+    /// That of an address.
+    Address,
+    /// That of an offset.
+    Offset,
+    /// That of a reference into another unit.
+    Reference,
+}
+
 /// What a value of a form is.
 #[derive(Clone, Copy)]
 pub(crate) enum FormKind {
-    /// A number of a class, in so many bytes.
-    Number(ValueClass, u8),
+    /// A number of a class, in a field of this size.
+    Number(ValueClass, FieldSize),
     /// A number of a class, in LEB128.
     LebNumber(ValueClass),
     /// A signed number, in LEB128.
@@ -35,10 +49,10 @@ pub(crate) enum FormKind {
     CountedLeb,
     /// A text with its NUL.
     InlineText,
-    /// An offset into `.debug_str`, of so many bytes.
-    StrOffset(u8),
-    /// An offset into `.debug_line_str`, of so many bytes.
-    LineStrOffset(u8),
+    /// An offset into `.debug_str`.
+    StrOffset,
+    /// An offset into `.debug_line_str`.
+    LineStrOffset,
     /// A flag that is set, without bytes.
     Present,
     /// A number that stands in the abbreviation.
@@ -52,7 +66,7 @@ pub(crate) enum FormKind {
 }
 
 /// The size of an offset, in bytes (DWARF 5, 7.4).
-fn width_size(width: Width) -> u8
+pub(crate) fn width_size(width: Width) -> u8
     ensures size { result ≡ width_size width }
 {
     match width {
@@ -62,7 +76,7 @@ fn width_size(width: Width) -> u8
 }
 
 /// The size of a reference into another unit, in bytes: that of an address in version 2 (DWARF 2, 7.5.4).
-fn reference_size(params: &Params) -> u8
+pub(crate) fn reference_size(params: &Params) -> u8
     ensures size { result ≡ reference_size params.now }
 {
     if params.version == 2 {
@@ -72,38 +86,54 @@ fn reference_size(params: &Params) -> u8
     }
 }
 
-/// What a value of a form is, in a unit of these parameters.
+impl FieldSize {
+    /// The size in a unit of these parameters, in bytes.
+    pub(crate) fn bytes(self, params: &Params) -> u8
+        requires address { IsTrue (is_address_size params.now.address) }
+        requires room { HasRoom self }
+        ensures size { result ≡ field_size params.now self }
+        ensures some { 0 < result }
+        ensures few { result ≤ 8 }
+    {
+        match self {
+            FieldSize::Bytes(size) => size,
+            FieldSize::Address => params.address,
+            FieldSize::Offset => width_size(params.width),
+            FieldSize::Reference => reference_size(params),
+        }
+    }
+}
+
+/// What a value of a form is, in every unit.
 #[rattlefmt::skip]
 #[tactic(auto, unfolding(dw_base::specs::Forms::kind_in, dw_base::specs::Forms::form_rows))]
-pub(crate) fn form_kind(form: u64, params: &Params) -> FormKind
-    requires address { IsTrue (is_address_size params.now.address) }
-    ensures kind { as_kind result ≡ kind_in params.now form }
+pub(crate) fn form_kind(form: u64) -> FormKind
+    ensures kind { (params : ParamsOf) → as_kind params result ≡ kind_in params form }
     ensures fields { HasFields result }
 {
-    let offset = width_size(params.width);
     match form {
-        DW_FORM_addr => FormKind::Number(ValueClass::Address, params.address),
+        DW_FORM_addr => FormKind::Number(ValueClass::Address, FieldSize::Address),
         DW_FORM_block2 => FormKind::Counted(2),
         DW_FORM_block4 => FormKind::Counted(4),
-        DW_FORM_data2 => FormKind::Number(ValueClass::Number, 2),
-        DW_FORM_data4 => FormKind::Number(ValueClass::Number, 4),
-        DW_FORM_data8 => FormKind::Number(ValueClass::Number, 8),
+        DW_FORM_data2 => FormKind::Number(ValueClass::Number, FieldSize::Bytes(2)),
+        DW_FORM_data4 => FormKind::Number(ValueClass::Number, FieldSize::Bytes(4)),
+        DW_FORM_data8 => FormKind::Number(ValueClass::Number, FieldSize::Bytes(8)),
         DW_FORM_string => FormKind::InlineText,
         DW_FORM_block => FormKind::CountedLeb,
         DW_FORM_block1 => FormKind::Counted(1),
-        DW_FORM_data1 => FormKind::Number(ValueClass::Number, 1),
-        DW_FORM_flag => FormKind::Number(ValueClass::Flag, 1),
+        DW_FORM_data1 => FormKind::Number(ValueClass::Number, FieldSize::Bytes(1)),
+        DW_FORM_flag => FormKind::Number(ValueClass::Flag, FieldSize::Bytes(1)),
         DW_FORM_sdata => FormKind::SignedLeb,
-        DW_FORM_strp => FormKind::StrOffset(offset),
+        DW_FORM_strp => FormKind::StrOffset,
         DW_FORM_udata => FormKind::LebNumber(ValueClass::Number),
-        DW_FORM_ref_addr => FormKind::Number(ValueClass::GlobalRef, reference_size(params)),
-        DW_FORM_ref1 => FormKind::Number(ValueClass::LocalRef, 1),
-        DW_FORM_ref2 => FormKind::Number(ValueClass::LocalRef, 2),
-        DW_FORM_ref4 => FormKind::Number(ValueClass::LocalRef, 4),
-        DW_FORM_ref8 => FormKind::Number(ValueClass::LocalRef, 8),
+        DW_FORM_ref_addr => FormKind::Number(ValueClass::GlobalRef, FieldSize::Reference),
+        DW_FORM_ref1 => FormKind::Number(ValueClass::LocalRef, FieldSize::Bytes(1)),
+        DW_FORM_ref2 => FormKind::Number(ValueClass::LocalRef, FieldSize::Bytes(2)),
+        DW_FORM_ref4 => FormKind::Number(ValueClass::LocalRef, FieldSize::Bytes(4)),
+        DW_FORM_ref8 => FormKind::Number(ValueClass::LocalRef, FieldSize::Bytes(8)),
         DW_FORM_ref_udata => FormKind::LebNumber(ValueClass::LocalRef),
         DW_FORM_indirect => FormKind::FormInFront,
-        DW_FORM_sec_offset => FormKind::Number(ValueClass::SecOffset, offset),
+        DW_FORM_sec_offset => FormKind::Number(ValueClass::SecOffset, FieldSize::Offset),
         DW_FORM_exprloc => FormKind::CountedLeb,
         DW_FORM_flag_present => FormKind::Present,
         DW_FORM_strx => FormKind::LebNumber(ValueClass::StrIndex),
@@ -111,20 +141,20 @@ pub(crate) fn form_kind(form: u64, params: &Params) -> FormKind
         DW_FORM_ref_sup4 => FormKind::Supplementary,
         DW_FORM_strp_sup => FormKind::Supplementary,
         DW_FORM_data16 => FormKind::Block(16),
-        DW_FORM_line_strp => FormKind::LineStrOffset(offset),
-        DW_FORM_ref_sig8 => FormKind::Number(ValueClass::Signature, 8),
+        DW_FORM_line_strp => FormKind::LineStrOffset,
+        DW_FORM_ref_sig8 => FormKind::Number(ValueClass::Signature, FieldSize::Bytes(8)),
         DW_FORM_implicit_const => FormKind::InAbbreviation,
         DW_FORM_loclistx => FormKind::LebNumber(ValueClass::ListIndex),
         DW_FORM_rnglistx => FormKind::LebNumber(ValueClass::ListIndex),
         DW_FORM_ref_sup8 => FormKind::Supplementary,
-        DW_FORM_strx1 => FormKind::Number(ValueClass::StrIndex, 1),
-        DW_FORM_strx2 => FormKind::Number(ValueClass::StrIndex, 2),
-        DW_FORM_strx3 => FormKind::Number(ValueClass::StrIndex, 3),
-        DW_FORM_strx4 => FormKind::Number(ValueClass::StrIndex, 4),
-        DW_FORM_addrx1 => FormKind::Number(ValueClass::AddrIndex, 1),
-        DW_FORM_addrx2 => FormKind::Number(ValueClass::AddrIndex, 2),
-        DW_FORM_addrx3 => FormKind::Number(ValueClass::AddrIndex, 3),
-        DW_FORM_addrx4 => FormKind::Number(ValueClass::AddrIndex, 4),
+        DW_FORM_strx1 => FormKind::Number(ValueClass::StrIndex, FieldSize::Bytes(1)),
+        DW_FORM_strx2 => FormKind::Number(ValueClass::StrIndex, FieldSize::Bytes(2)),
+        DW_FORM_strx3 => FormKind::Number(ValueClass::StrIndex, FieldSize::Bytes(3)),
+        DW_FORM_strx4 => FormKind::Number(ValueClass::StrIndex, FieldSize::Bytes(4)),
+        DW_FORM_addrx1 => FormKind::Number(ValueClass::AddrIndex, FieldSize::Bytes(1)),
+        DW_FORM_addrx2 => FormKind::Number(ValueClass::AddrIndex, FieldSize::Bytes(2)),
+        DW_FORM_addrx3 => FormKind::Number(ValueClass::AddrIndex, FieldSize::Bytes(3)),
+        DW_FORM_addrx4 => FormKind::Number(ValueClass::AddrIndex, FieldSize::Bytes(4)),
         DW_FORM_GNU_ref_alt => FormKind::Supplementary,
         DW_FORM_GNU_strp_alt => FormKind::Supplementary,
         _ => FormKind::Unlisted,
@@ -132,8 +162,8 @@ pub(crate) fn form_kind(form: u64, params: &Params) -> FormKind
 }
 
 /// As what a value of a kind is refused where none stands.
-pub(crate) fn refused_kind(kind: FormKind) -> Kind
-    ensures kind { result ≡ refused_as (as_kind kind) }
+pub(crate) fn refused_kind(kind: FormKind, params: &Params) -> Kind
+    ensures kind { result ≡ refused_as (as_kind params.now kind) }
 {
     match kind {
         FormKind::Unlisted => Kind::Form,

@@ -28,6 +28,6 @@ mod size;
 mod value;
 
 pub use dw_base::{Kind, Order, Params, Refusal, Spec, Value, ValueClass, Width};
-pub use fixed::fixed_size;
+pub use fixed::{FixedSize, fixed_size};
 pub use size::size_at;
 pub use value::value_at;

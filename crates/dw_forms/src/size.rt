@@ -26,16 +26,17 @@ fn size_of_own(
     start: u64,
     place: u64,
 ) -> Result<u64, Refusal>
+    requires address { IsTrue (is_address_size params.now.address) }
     requires fields { HasFields kind }
-    requires other { as_kind kind ≢ form_in_front }
-    ensures size { IfOk result (λ n. value_size (value_of (as_kind kind) params.now.order bytes.now place spec.now.implicit) ≡ Some n) }
+    requires other { as_kind params.now kind ≢ form_in_front }
+    ensures size { IfOk result (λ n. value_size (value_of (as_kind params.now kind) params.now.order bytes.now place spec.now.implicit) ≡ Some n) }
     ensures inside { IfOk result (λ n. place + n ≤ length bytes.now) }
-    ensures refused { IfErr result (KindFails params.now spec.now bytes.now section start (as_kind kind) place) }
+    ensures refused { IfErr result (KindFails params.now spec.now bytes.now section start (as_kind params.now kind) place) }
 {
-    match size_of_kind(kind, params.order, bytes, place, spec.implicit) {
+    match size_of_kind(kind, params, bytes, place, spec.implicit) {
         Some(size) => Ok(size),
         None => Err(Refusal {
-            kind: refused_kind(kind),
+            kind: refused_kind(kind, params),
             section,
             offset: start,
         }),
@@ -63,7 +64,7 @@ fn size_behind(
             offset: at,
         });
     };
-    let kind = form_kind(form, params);
+    let kind = form_kind(form);
     match kind {
         FormKind::FormInFront => Err(Refusal {
             kind: Kind::Form,
@@ -95,7 +96,7 @@ fn size_in(
     ensures size { IfOk result (λ n. value_size (value_at params.now spec.now bytes.now at) ≡ Some n) }
     ensures refused { IfErr result (FormFails params.now spec.now bytes.now section at) }
 {
-    let kind = form_kind(spec.form, params);
+    let kind = form_kind(spec.form);
     match kind {
         FormKind::FormInFront => size_behind(spec, params, section, bytes, at),
         _ => {

@@ -26,16 +26,17 @@ fn value_of_own(
     start: u64,
     place: u64,
 ) -> Result<Value, Refusal>
+    requires address { IsTrue (is_address_size params.now.address) }
     requires fields { HasFields kind }
-    requires other { as_kind kind ≢ form_in_front }
-    ensures value { IfOk result (λ v. value_of (as_kind kind) params.now.order bytes.now place spec.now.implicit ≡ Some v) }
+    requires other { as_kind params.now kind ≢ form_in_front }
+    ensures value { IfOk result (λ v. value_of (as_kind params.now kind) params.now.order bytes.now place spec.now.implicit ≡ Some v) }
     ensures inside { IfOk result (λ v. place + v.size ≤ length bytes.now) }
-    ensures refused { IfErr result (KindFails params.now spec.now bytes.now section start (as_kind kind) place) }
+    ensures refused { IfErr result (KindFails params.now spec.now bytes.now section start (as_kind params.now kind) place) }
 {
-    match value_of_kind(kind, params.order, bytes, place, spec.implicit) {
+    match value_of_kind(kind, params, bytes, place, spec.implicit) {
         Some(value) => Ok(value),
         None => Err(Refusal {
-            kind: refused_kind(kind),
+            kind: refused_kind(kind, params),
             section,
             offset: start,
         }),
@@ -63,7 +64,7 @@ fn value_behind(
             offset: at,
         });
     };
-    let kind = form_kind(form, params);
+    let kind = form_kind(form);
     match kind {
         FormKind::FormInFront => Err(Refusal {
             kind: Kind::Form,
@@ -98,7 +99,7 @@ fn value_in(
     ensures value { IfOk result (λ v. value_at params.now spec.now bytes.now at ≡ Some v) }
     ensures refused { IfErr result (FormFails params.now spec.now bytes.now section at) }
 {
-    let kind = form_kind(spec.form, params);
+    let kind = form_kind(spec.form);
     match kind {
         FormKind::FormInFront => value_behind(spec, params, section, bytes, at),
         _ => {

@@ -6,7 +6,7 @@ ghost use Rattle.dw_base.specs.UnitHeaders.{is_address_size};
 
 use super::samples::{BIG, BIG_VALUES, WIDE, WIDE_VALUES};
 use super::value_at;
-use crate::fixed::fixed_size;
+use crate::fixed::{FixedSize, fixed_size};
 use crate::size::size_at;
 use dw_base::{Kind, Order, Params, Refusal, Spec, Value, ValueClass, Width};
 
@@ -289,6 +289,24 @@ fn a_form_of_one_size_says_it(rt: HostRuntime) {
     for (form, size) in FIXED.iter() {
         assert_eq!(rt; fixed_size(&of_form(*form, 0), &params), *size);
     }
+}
+
+#[test]
+fn the_size_of_attributes_follows_the_unit(rt: HostRuntime) {
+    // two addresses, a reference into another unit, a text's offset, a flag and 16 bytes
+    let specs = [0x01, 0x10, 0x0e, 0x19, 0x1e, 0x01].map(|form| of_form(form, 0));
+    let sizes = [
+        (Width::W32, 2, 8, 44),
+        (Width::W32, 3, 8, 40),
+        (Width::W64, 2, 4, 36),
+        (Width::W64, 5, 2, 36),
+    ];
+    for (width, version, address, size) in sizes {
+        let params = unit(Order::Little, width, version, address);
+        let found = FixedSize::of(&specs).map(|size| size.bytes_in(&params));
+        assert_eq!(rt; found, Some(size));
+    }
+    assert!(rt; FixedSize::of(&[of_form(0x0b, 0), of_form(0x08, 0)]).is_none());
 }
 
 #[test]
