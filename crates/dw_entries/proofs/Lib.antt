@@ -1,6 +1,7 @@
 pub mod PassLaws
 pub mod InsideLaws
 pub mod ValueLaws
+pub mod SizedLaws
 pub mod WalkLaws
 pub mod StepLaws
 pub mod ScanLaws

@@ -11,7 +11,7 @@ use Rattle.dw_base.specs.declared.values.Value.{Value}
 use Rattle.dw_entries.specs.Passes.{HasSize}
 use Rattle.dw_entries.proofs.InsideLaws.{value_at-inside}
 
-size-of : (params : Params) (x : Spec) (bytes : List ℕ) (place size : ℕ) (o : Option Value) → value_at params x bytes place ≡ o → value_size o ≡ Some size
+pub size-of : (params : Params) (x : Spec) (bytes : List ℕ) (place size : ℕ) (o : Option Value) → value_at params x bytes place ≡ o → value_size o ≡ Some size
     → HasSize params x bytes place size
 size-of params x bytes place size None is e = absurd cc
 size-of params x bytes place size (Some v) is e = record { value = v; is = is; size_is = cc }

@@ -114,8 +114,8 @@ fn entry_at(
     if is_split_root(here.number, abbrev) {
         return Err(refused(Kind::SplitDwarf, unit, here.place));
     }
-    let specs = abbrev.specs.as_slice();
-    let after = values_end(&unit.params, unit.section, bytes, specs, here.place + size)?;
+    let from = here.place + size;
+    let after = values_end(&unit.params, unit.section, bytes, &abbrev.specs, from)?;
     let item = Scanned {
         offset: here.place,
         depth: here.depth,

@@ -1,7 +1,7 @@
 -- A value that can't be read refuses the entry.
 use Rattle.std.proofs.lemmas.Result.{err_from_is_err_and}
 use Rattle.dw_entries.proofs.ValueLaws.{values-fail}
-use Rattle.dw_entries.proofs.entry_values.values_end.Goals as goal
+use Rattle.dw_entries.proofs.entry_values.walked_end.Goals as goal
 
 pub returns-in_err-place-clause-refused : goal.returns-in_err-place-clause-refused
 returns-in_err-place-clause-refused c =

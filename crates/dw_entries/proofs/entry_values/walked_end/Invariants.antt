@@ -1,6 +1,6 @@
 use Rattle.std.proofs.Common.{◌≤◌, length, take}
 use Rattle.dw_base.specs.EntryScans.{SpellsValues}
-use Rattle.dw_entries.proofs.entry_values.values_end.Given as goal
+use Rattle.dw_entries.proofs.entry_values.walked_end.Given as goal
 
 -- the values so far stand from the first place up to this one
 abbrev pub invariant-loop-spec : goal.invariant-loop-spec

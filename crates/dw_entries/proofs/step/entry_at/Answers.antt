@@ -1,5 +1,5 @@
 -- Why an entry can't be read.
-use Rattle.std.proofs.Common.{ap, ◌∙◌}
+use Rattle.std.proofs.Common.{ap}
 use Rattle.std.proofs.lemmas.Result.{err_from_is_err_and}
 use Rattle.dw_base.specs.AbbreviationTables.{Abbreviation}
 use Rattle.dw_entries.proofs.StepLaws.{no_code-stops, split-stops, values-stop}
@@ -20,5 +20,5 @@ pub returns-in_err-after-clause-refused : goal.returns-in_err-after-clause-refus
 returns-in_err-after-clause-refused c =
     let p = err_from_is_err_and c.from_residual.result c.from_residual.ensures.1 in
     rw (p.1, p.2) (values-stop c.args.unit.now c.args.table.now c.args.bytes.now c.args.here.place c.args.here.depth c.args.here.number c.args.code c.args.size
-    c.in-Some.abbrev.now c.as_slice-specs.result.now c.in_err-after.field-0.0 c.requires.code c.in-Some.ensures.value
-    (c.as_slice-specs.ensures.value ∙ ap (λ (a : Abbreviation). a.specs) c.abbrev.view_is) c.in_err-after.ensures.refused)
+    c.in-Some.abbrev.now _ c.in_err-after.field-0.0 c.requires.code c.in-Some.ensures.value
+    (ap (λ (a : Abbreviation). a.specs) c.abbrev.view_is) c.in_err-after.ensures.refused)

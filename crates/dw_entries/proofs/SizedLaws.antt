@@ -1,0 +1,62 @@
+-- The values of attributes whose forms say their sizes stand one after another wherever so many bytes are left.
+use Rattle.std.proofs.Common.{◌≡◌, ℕ, ◌+◌, ◌≤◌, List, [], ◌∷◌, ◌++◌, length, Option, Some, None, refl, sym, ap, ◌∙◌, subst, arith}
+use Rattle.std.proofs.lemmas.Bool.{le-leb}
+use Rattle.std.proofs.lemmas.List.{append_assoc, append-nil}
+use Rattle.dw_base.specs.EntryScans.{SpellsValues, no_values, more_values}
+use Rattle.dw_base.specs.Forms.{kind_in}
+use Rattle.dw_base.specs.Values.{value_at, value_size}
+use Rattle.dw_base.specs.declared.shared.Params.{Params}
+use Rattle.dw_base.specs.declared.values.Spec.{Spec}
+use Rattle.dw_entries.specs.Passes.{HasSize}
+use Rattle.dw_entries.proofs.ValueLaws.{size-of}
+use Rattle.dw_forms.specs.Fixed.{added, fixed_size, values_size}
+use Rattle.dw_forms.specs.Reads.{room_size}
+use Rattle.dw_forms.proofs.FixedLaws.{fixed-is}
+
+-- both parts of a sum that is known
+record IsSum (a b : Option ℕ) (n : ℕ) : Type 0 where
+  one : ℕ
+  others : ℕ
+  one_is : a ≡ Some one
+  others_are : b ≡ Some others
+  sum : one + others ≡ n
+
+sum-of : (a b : Option ℕ) (n : ℕ) → added a b ≡ Some n → IsSum a b n
+sum-of None b n e = absurd cc
+sum-of (Some m) None n e = absurd cc
+sum-of (Some m) (Some k) n e = record { one = m; others = k; one_is = refl; others_are = refl; sum = cc }
+
+some-room : (bytes : List ℕ) (place n : ℕ) → place + n ≤ length bytes → room_size bytes place n ≡ Some n
+some-room bytes place n le = rw (le-leb (place + n) (length bytes) le) refl
+
+-- one value of a known size
+sized-value : (params : Params) (x : Spec) (bytes : List ℕ) (place n : ℕ) → fixed_size (kind_in params x.form) ≡ Some n → place + n ≤ length bytes
+    → HasSize params x bytes place n
+sized-value params x bytes place n e le =
+    let fixed = fixed-is params x n e in
+    size-of params x bytes place n (value_at params x bytes place) refl (fixed.size bytes place ∙ some-room bytes place n le)
+
+-- the values of some attributes, and of those behind them
+values-from : (params : Params) (bytes : List ℕ) (from place n : ℕ) (before specs : List Spec) → SpellsValues params bytes from before place
+    → values_size params specs ≡ Some n → place + n ≤ length bytes → SpellsValues params bytes from (before ++ specs) (place + n)
+values-from params bytes from place n before [] s e le =
+    let none : 0 ≡ n = cc in
+    let here : place ≡ place + n = omega (arith, none) in
+    subst (λ (xs : List Spec). SpellsValues params bytes from xs (place + n)) (sym (append-nil before))
+    (subst (λ (k : ℕ). SpellsValues params bytes from before k) here s)
+values-from params bytes from place n before (x ∷ xs) s e le =
+    let parts = sum-of (fixed_size (kind_in params x.form)) (values_size params xs) n e in
+    let sum = parts.sum in
+    let has = sized-value params x bytes place parts.one parts.one_is (omega (arith, sum, le)) in
+    let more : SpellsValues params bytes from (before ++ x ∷ []) (place + parts.one) =
+    subst (λ (k : ℕ). SpellsValues params bytes from (before ++ x ∷ []) (place + k)) has.size_is (more_values before x place has.value s has.is) in
+    let rest = values-from params bytes from (place + parts.one) parts.others (before ++ x ∷ []) xs more parts.others_are (omega (arith, sum, le)) in
+    let ends : place + parts.one + parts.others ≡ place + n = omega (arith, sum) in
+    subst (λ (ys : List Spec). SpellsValues params bytes from ys (place + n)) (append_assoc before (x ∷ []) xs)
+    (subst (λ (k : ℕ). SpellsValues params bytes from ((before ++ x ∷ []) ++ xs) k) ends rest)
+
+pub sized-values : (params : Params) (bytes : List ℕ) (from n : ℕ) (specs : List Spec) → values_size params specs ≡ Some n → from + n ≤ length bytes
+    → SpellsValues params bytes from specs (from + n)
+sized-values params bytes from n specs e le = values-from params bytes from from n [] specs no_values e le
+
+pub ruleset sized_rules = (sized-values)
