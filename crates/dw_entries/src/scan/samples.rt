@@ -8,9 +8,10 @@ pub type Row = (u64, u32, u64);
 /// The abbreviations of all units here. 1: a compilation unit with children and a name by string.
 /// 2: a variable with a line by data1. 0x4000: a function with children. 3: a name in another file
 /// (GNU's form 0x1f21). 4: a form that isn't listed. 5: a skeleton unit. 6: a place by block1. 7: a
-/// unit with the name of a file of split DWARF.
+/// unit with the name of a file of split DWARF. 8: a variable with a type by ref_addr, a place by addr, a
+/// name by strp and a line by data1.
 pub const ABBREVS: &[u8] =
-    b"\x01\x11\x01\x03\x08\0\0\x024\0;\x0b\0\0\x80\x80\x01.\x01\0\0\x034\0\x03\xa1>\0\0\x044\0\x03~\0\0\x05J\0\0\0\x064\0\x02\x0a\0\0\x07\x11\0v\x0b\0\0\0";
+    b"\x01\x11\x01\x03\x08\0\0\x024\0;\x0b\0\0\x80\x80\x01.\x01\0\0\x034\0\x03\xa1>\0\0\x044\0\x03~\0\0\x05J\0\0\0\x064\0\x02\x0a\0\0\x07\x11\0v\x0b\0\0\x084\0I\x10\x11\x01\x03\x0e;\x0b\0\0\0";
 
 /// The bytes of both sections, and the entries of all their units, as GNU readelf 2.40 shows them; those of
 /// the units with codes of 0 in front by hand, since it ends there.
@@ -122,6 +123,19 @@ pub const READ: &[(&[u8], &[u8], &[Row])] = &[
         b"\x0a\0\0\0\x04\0\0\0\0\0\x08\x02\x07\x05",
         b"",
         &[(11, 0, 2), (13, 0, 5)],
+    ),
+    // the same abbreviations in units of other versions, widths and address sizes
+    (
+        b"\x1f\0\0\0\x02\0\0\0\0\0\x08\x08\0\0\0\0\0\0\0\0\0\0\0\0\0\0\0\0\0\0\0\0\x07\x02\x07\x1b\0\0\0\x03\0\0\0\0\0\x08\x08\0\0\0\0\0\0\0\0\0\0\0\0\0\0\0\0\x07\x02\x07\xff\xff\xff\xff$\0\0\0\0\0\0\0\x05\0\x01\x04\0\0\0\0\0\0\0\0\x08\0\0\0\0\0\0\0\0\0\0\0\0\0\0\0\0\0\0\0\0\x07\x02\x07",
+        b"",
+        &[
+            (11, 0, 8),
+            (33, 0, 2),
+            (46, 0, 8),
+            (64, 0, 2),
+            (90, 0, 8),
+            (112, 0, 2),
+        ],
     ),
 ];
 
@@ -318,6 +332,14 @@ pub const REFUSED: &[(&[u8], &[u8], Kind, u32, u64)] = &[
         Kind::Entry,
         1,
         12,
+    ),
+    // an entry of values of fixed sizes, whose third passes the unit
+    (
+        b"\x16\0\0\0\x04\0\0\0\0\0\x08\x08\0\0\0\0\0\0\0\0\0\0\0\0\0\0\x09\0\0\0\x04\0\0\0\0\0\x08\x02\x07",
+        b"",
+        Kind::Entry,
+        1,
+        24,
     ),
 ];
 
