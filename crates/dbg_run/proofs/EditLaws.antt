@@ -1,15 +1,21 @@
 -- Laws on the steps of an edit.
-use Rattle.std.proofs.Common.{ℕ, List, refl, sym, subst}
-use Rattle.dw_meaning.specs.EditFails.{IsAccepted, EditFails}
+use Rattle.std.proofs.Common.{◌≡◌, ◌⊎◌, inl, inr, ℕ, List, Some, refl, sym, ◌∙◌, subst}
+use Rattle.dw_meaning.specs.EditRows.{IsAccepted, EditFails}
 use Rattle.dw_base.specs.Paths.{PathMap}
-use Rattle.dw_meaning.proofs.EditLaws.{edit_excludes}
-use Rattle.dw_meaning.proofs.EditReadsLaws.{edit_accepts}
+use Rattle.dw_meaning.proofs.EditRowLaws.{edit-excludes}
 use Rattle.dw_base.specs.declared.fault.Refusal.{Refusal}
 use Rattle.file_tree.specs.declared.node.Found.{Found}
 use Rattle.file_tree.specs.declared.node.Found.TheVariants as found
-use Rattle.dbg_ends.specs.Due.{InputDue, IsFree, OutputDue}
-use Rattle.dbg_ends.specs.Due.Where.{here}
-use Rattle.dbg_run.specs.Edits.{EditDue, EditUnopposed}
+use Rattle.file_tree.specs.Seen.{Seen, now_of}
+use Rattle.file_tree.specs.Trees.{TreeMap, stands_at}
+use Rattle.dbg_ends.specs.declared.end.End.{End}
+use Rattle.dbg_ends.specs.Due.{InputDue, IsCut, IsFree, OutputDue}
+use Rattle.dbg_ends.specs.Due.IsCut.{tree_fault, no_memory}
+use Rattle.dbg_ends.specs.Ends.{status_of}
+use Rattle.dbg_ends.specs.Steps.{InputEnds, OutputTaken, OutputEnds}
+use Rattle.dbg_ends.specs.Steps.{InputEnds as inputs, OutputTaken as outputs, OutputEnds as written}
+use Rattle.dbg_run.specs.Edits.{EditEnds, EditUnopposed, RewriteEnds}
+use Rattle.dbg_run.specs.Edits.{EditEnds as edits, RewriteEnds as rewrites}
 
 -- what is due where no file is there is due whatever files are due
 pub input_due : (what : Found) (n : ℕ) (P : List ℕ → Type 0) → InputDue what n (λ _. ⊥) → InputDue what n P
@@ -37,10 +43,48 @@ free_due (found.TooLarge size) n P free due = due
 
 -- a file that is refused isn't taken
 pub not_accepted : (m : PathMap) (b : List ℕ) (r : Refusal) → EditFails m b r → IsAccepted m b → ⊥
-not_accepted m b r fails ok = edit_excludes m b r ok fails
+not_accepted m b r fails ok = edit-excludes m b r ok fails
 
--- where nothing is against an edit, it is due to be done
-pub unopposed_due : (m : PathMap) (what there : Found) → EditUnopposed m what there → EditDue m what there 0
-unopposed_due m what there is =
-    let P : Found → Type 0 = λ w. EditDue m w there 0 in
-    subst P (sym is.file) (free_due there 0 _ is.free (here (edit_accepts m is.b is.unrefused) refl))
+-- where nothing is against an edit, it ends with no refusal
+input_completes : (input : List ℕ) (limit : ℕ) (old new : Seen) (e : End) (t : TreeMap) (b : List ℕ) (mode : ℕ) → now_of old ≡ Some t
+    → stands_at t input limit ≡ found.File b mode → InputEnds input limit old new e → IsCut (status_of e)
+input_completes input limit old new e t b mode tells file (inputs.absent stood) = let no : found.Absent ≡ found.File b mode = sym (stood.is t tells) ∙ file in absurd cc
+input_completes input limit old new e t b mode tells file (inputs.folder stood) = let no : found.Folder ≡ found.File b mode = sym (stood.is t tells) ∙ file in absurd cc
+input_completes input limit old new e t b mode tells file (inputs.link {target = target} stood) =
+    let no : found.Link target ≡ found.File b mode = sym (stood.is t tells) ∙ file in absurd cc
+input_completes input limit old new e t b mode tells file (inputs.large {size = size} above stood) =
+    let no : found.TooLarge size ≡ found.File b mode = sym (stood.is t tells) ∙ file in absurd cc
+input_completes input limit old new e t b mode tells file (inputs.failed rose) = tree_fault refl
+input_completes input limit old new e t b mode tells file inputs.memory = no_memory refl
+
+output_completes : (output : List ℕ) (old new : Seen) (e : End) (t : TreeMap) → now_of old ≡ Some t → IsFree (stands_at t output 0) → OutputTaken output old new e
+    → IsCut (status_of e)
+output_completes output old new e t tells free (outputs.folder stood) = absurd (subst IsFree (stood.is t tells) free)
+output_completes output old new e t tells free (outputs.link stood) = absurd (subst IsFree (stood.is t tells) free)
+output_completes output old new e t tells free (outputs.failed rose) = tree_fault refl
+output_completes output old new e t tells free outputs.memory = no_memory refl
+
+-- a file is one of the same bytes
+same_bytes : (b c : List ℕ) (n k : ℕ) → found.File b n ≡ found.File c k → b ≡ c
+same_bytes b c n k e = cc
+
+rewrite_completes : (path : List ℕ) (m : PathMap) (b : List ℕ) (e : End) → ((r : Refusal) → EditFails m b r → ⊥) → RewriteEnds path m b e → IsCut (status_of e)
+rewrite_completes path m b e none (rewrites.refused fails) = absurd (none _ fails)
+rewrite_completes path m b e none rewrites.memory = no_memory refl
+
+written_completes : (path : List ℕ) (old new : Seen) (e : End) → OutputEnds path old new e → IsCut (status_of e)
+written_completes path old new e (written.failed rose at) = tree_fault refl
+written_completes path old new e (written.memory at) = no_memory refl
+
+pub edit_completes : (input output : List ℕ) (m : PathMap) (limit : ℕ) (old new : Seen) (e : End) (t : TreeMap) → now_of old ≡ Some t
+    → EditUnopposed m (stands_at t input limit) (stands_at t output 0) → EditEnds input output m limit old new e
+    → (status_of e ≡ 0) ⊎ IsCut (status_of e)
+edit_completes input output m limit old new e t tells is (edits.reading row calm) = inr (input_completes input limit old new e t is.b is.mode tells is.file row)
+edit_completes input output m limit old new e t tells is (edits.taking {mid = mid} stood calm row still) =
+    inr (output_completes output mid new e t (calm.now ∙ tells) is.free row)
+edit_completes input output m limit old new e t tells is (edits.rewriting {b = b} {mode = mode} stood free row calm) =
+    let same : is.b ≡ b = same_bytes is.b b is.mode mode (sym is.file ∙ stood.is t tells) in
+    inr (rewrite_completes input m b e (subst (λ (x : List ℕ). (r : Refusal) → EditFails m x r → ⊥) same is.unrefused) row)
+edit_completes input output m limit old new e t tells is (edits.writing {mid = mid} stood free ok calm row) = inr (written_completes output mid new e row)
+edit_completes input output m limit old new e t tells is (edits.memory at) = inr (no_memory refl)
+edit_completes input output m limit old new e t tells is (edits.done d) = inl refl

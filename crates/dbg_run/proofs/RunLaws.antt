@@ -1,7 +1,7 @@
 -- Laws on runs: one status is due, and an end may give way to want of memory.
 use Rattle.std.proofs.Common.{◌≡◌, ◌≢◌, ℕ, List, refl, sym, ap, subst, ◌∙◌, ◌⊎◌, inl, inr}
 use Rattle.std.specs.Prelude.{Option, Some, is_some}
-use Rattle.dw_meaning.specs.EditFails.{IsAccepted}
+use Rattle.dw_meaning.specs.EditRows.{IsAccepted}
 use Rattle.dw_base.specs.Paths.{PathMap}
 use Rattle.file_tree.specs.declared.node.Found.{Found}
 use Rattle.file_tree.specs.declared.node.Found.TheVariants as found
@@ -15,6 +15,7 @@ use Rattle.dbg_ends.specs.Due.{Where, OutputDue, IsCut, Exactly}
 use Rattle.dbg_ends.specs.Due.{IsCut as cut}
 use Rattle.dbg_ends.specs.Due.Where.{here, elsewhere}
 use Rattle.dbg_ends.specs.Steps.{OutputEnds as output_}
+use Rattle.dbg_ends.specs.Ends.{status_of}
 use Rattle.dbg_ends.specs.Told.{Told, Ended}
 use Rattle.dbg_ends.specs.Told.{Told as told}
 use Rattle.dbg_words.specs.declared.command.Command.{Command}
@@ -22,7 +23,7 @@ use Rattle.dbg_words.specs.declared.command.Command.TheVariants.{Edit}
 use Rattle.dbg_job.specs.Settings.{Settings}
 use Rattle.dbg_run.specs.Built.{built}
 use Rattle.dbg_run.specs.Edits.{EditEnds, EditDue}
-use Rattle.dbg_run.proofs.EditLaws.{unopposed_due}
+use Rattle.dbg_run.proofs.EditLaws.{edit_completes}
 use Rattle.dbg_run.specs.Edits.{EditEnds as edit}
 use Rattle.dbg_run.specs.Runs.{Ends, Due, Unopposed}
 use Rattle.dbg_run.specs.Runs.{Ends as ends}
@@ -54,17 +55,26 @@ due-one : (c : Option Command) (t : TreeMap) (n k : ℕ) → Due c t n → Due c
 due-one (Some (Edit input output o list)) t n k is also = edit-one o.maps (stands_at t input o.max_file) (stands_at t output 0) n k is also
 due-one c t n k is also = is ∙ sym also
 
--- where nothing is against a command, it is due to be done
-unopposed-due : (c : Option Command) (t : TreeMap) → Unopposed c t → Due c t 0
-unopposed-due (Some (Edit input output o list)) t is = unopposed_due o.maps (stands_at t input o.max_file) (stands_at t output 0) is
-unopposed-due c t is = absurd is
+-- where nothing is against a command, it is done, or cut
+way-completes : (words : List (List ℕ)) (old new : Seen) (heard said : Heard) (e : End) (t : TreeMap) → now_of old ≡ Some t → Unopposed (built words) t
+    → Ends words old new heard said e → (status_of e ≡ 0) ⊎ IsCut (status_of e)
+way-completes words old new heard said e t tells is (ends.usage none same silent) = absurd (subst (λ c. Unopposed c t) none is)
+way-completes words old new heard said e t tells is (ends.memory same silent) = inr (cut.no_memory refl)
+way-completes words old new heard said e t tells is (ends.edit {input = input} {output = output} {o = o} command row silent) =
+    edit_completes input output o.maps o.max_file old new e t tells (subst (λ c. Unopposed c t) command is) row
+
+cut_by : (answer before now : ℕ) → (answer ≡ 0) ⊎ IsCut answer → (answer ≡ 6 → Rose before now) → (Rose before now → ⊥) → (answer ≡ 0) ⊎ (answer ≡ 13)
+cut_by answer before now (inl done) fault calm = inl done
+cut_by answer before now (inr (cut.tree_fault six)) fault calm = absurd (calm (fault six))
+cut_by answer before now (inr (cut.no_memory want)) fault calm = inr want
 
 -- where nothing is against a command, and no fault came, it is done, want of memory aside
-pub completed : (c : Option Command) (t : TreeMap) (answer before now : ℕ) → Due c t answer ⊎ IsCut answer → (answer ≡ 6 → Rose before now)
-    → Unopposed c t → (Rose before now → ⊥) → (answer ≡ 0) ⊎ (answer ≡ 13)
-completed c t answer before now (inl due) fault is calm = inl (due-one c t answer 0 due (unopposed-due c t is))
-completed c t answer before now (inr (cut.tree_fault six)) fault is calm = absurd (calm (fault six))
-completed c t answer before now (inr (cut.no_memory want)) fault is calm = inr want
+pub completed : (words : List (List ℕ)) (old new : Seen) (heard said before after : Heard) (t : TreeMap) (answer first now : ℕ) → now_of old ≡ Some t
+    → Ended (Ends words old new heard said) before after answer → (answer ≡ 6 → Rose first now) → Unopposed (built words) t → (Rose first now → ⊥)
+    → (answer ≡ 0) ⊎ (answer ≡ 13)
+completed words old new heard said before after t answer first now tells ended fault is calm =
+    cut_by answer first now
+    (subst (λ (n : ℕ). (n ≡ 0) ⊎ IsCut n) (sym ended.status) (way-completes words old new heard said ended.end t tells is ended.way)) fault calm
 
 pub due_exact : (c : Option Command) (t : TreeMap) (answer n : ℕ) → Due c t answer ⊎ IsCut answer → Exactly answer n (Due c t n)
 due_exact c t answer n (inl due) = record { only = λ is. inl (subst (λ k. Due c t k) is due); comes = λ other. inl (due-one c t answer n due other) }

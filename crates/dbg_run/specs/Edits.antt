@@ -1,10 +1,9 @@
 -- The command `edit`: how each of its steps may end, when it is done, and which status is due.
 use Rattle.std.specs.Prelude.{◌≡◌, ℕ, true, List, Option, Some, option_map}
 use Rattle.dw_base.specs.declared.fault.Refusal.{Refusal}
-use Rattle.dw_meaning.specs.EditFails.{IsAccepted, EditFails}
+use Rattle.dw_meaning.specs.EditRows.{IsAccepted, EditFails}
+use Rattle.dw_meaning.specs.FileMeanings.{IsOutput, MeaningKept}
 use Rattle.dw_meaning.specs.Loaded.{LoadedKept}
-use Rattle.dw_meaning.specs.Mapped.{MeaningKept}
-use Rattle.dw_meaning.specs.Output.{IsOutput}
 use Rattle.dw_base.specs.Paths.{PathMap}
 use Rattle.file_tree.specs.declared.node.Found.{Found}
 use Rattle.file_tree.specs.declared.node.Found.TheVariants as found

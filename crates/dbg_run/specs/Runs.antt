@@ -1,7 +1,7 @@
 -- Runs of the program: how each command ends, when it is done, which status is due, and what stays as it is.
 use Rattle.std.specs.Prelude.{◌≡◌, ℕ, List, Option, Some, None}
 use Rattle.dw_meaning.specs.Loaded.{LoadedKept}
-use Rattle.dw_meaning.specs.Mapped.{MeaningKept}
+use Rattle.dw_meaning.specs.FileMeanings.{MeaningKept}
 use Rattle.dbg_job.specs.Settings.{Settings}
 use Rattle.file_tree.specs.Trees.{TreeMap, stands_at}
 use Rattle.file_tree.specs.Seen.{Seen, now_of}

@@ -1,9 +1,9 @@
 //! The command `edit`: a file with each source path in its debug data mapped.
 ghost use Rattle.std.specs.Prelude.{◌≡◌, ◌≢◌, ◌⊎◌, ◌≤◌, ℕ, List, length, IfOk, IfErr, OnOk};
 ghost use Rattle.std.specs.Option.{ForSome};
-ghost use Rattle.dw_meaning.specs.EditFails.{IsAccepted};
+ghost use Rattle.dw_meaning.specs.EditRows.{IsAccepted};
 ghost use Rattle.dw_base.specs.Layout.{output_limit};
-ghost use Rattle.dw_meaning.specs.Output.{IsOutput};
+ghost use Rattle.dw_meaning.specs.FileMeanings.{IsOutput};
 ghost use Rattle.file_tree.specs.Seen.{now_of};
 ghost use Rattle.file_tree.specs.Trees.{stands_at};
 ghost use Rattle.file_tree.specs.Causes.{Rose, OnlyAt};

@@ -10,7 +10,7 @@ use Rattle.dw_base.specs.declared.fault.Refusal.{Refusal}
 use Rattle.dw_meaning.proofs.DataOneLaws.{data-one}
 use Rattle.dw_meaning.proofs.DataRowLaws.{data-excludes}
 use Rattle.dw_base.proofs.DebugSectionFailsLaws.{debug_sections_exclude}
-use Rattle.dw_meaning.proofs.EditLaws.{layout_excludes}
+use Rattle.dw_meaning.proofs.LayoutRowLaws.{layout_excludes}
 use Rattle.dw_base.proofs.ElfLaws.{elf_excludes}
 use Rattle.dw_meaning.proofs.ValueRowLaws.{texts-exclude, inline-excludes}
 

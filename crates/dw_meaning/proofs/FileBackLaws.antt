@@ -18,6 +18,7 @@ use Rattle.dw_base.specs.Texts.{same_text, text_in, ends_in}
 use Rattle.dw_base.specs.ViewData.{is_read, is_other, NamedBytes, other_sections, zeroed_at, without_id}
 use Rattle.dw_base.specs.declared.debug_sections.DebugSection.{DebugSection}
 use Rattle.dw_base.specs.declared.debug_sections.DebugSection.TheVariants.{Info, Types, Abbrev, Str, LineStr, StrOffsets, Line, Macro, Names}
+use Rattle.dw_meaning.proofs.BuildIdLaws.{first_below-found}
 use Rattle.dw_base.proofs.DebugSectionLaws.{debug_section-named}
 use Rattle.dw_base.proofs.ListLaws.{length-tabulate}
 use Rattle.dw_base.proofs.TextLaws.{same_text-true}
@@ -34,7 +35,7 @@ pub record Back (b : List ℕ) (bodies : ℕ → List ℕ) (out : List ℕ) : Ty
   pub back : ReadsBack b bodies out
   pub unread : (i : ℕ) → i < section_count b → is_read_name (section_name b i) ≡ false → bodies i ≡ contents_of b i
 
-known_kind : (b : List ℕ) → is_loaded_kind b ≡ true → is_known_kind b ≡ true
+pub known_kind : (b : List ℕ) → is_loaded_kind b ≡ true → is_known_kind b ≡ true
 known_kind b loaded = rw loaded (or_true (e_type b == 1))
   where
     or_true : (p : Bool) → (p || true) ≡ true
@@ -155,23 +156,6 @@ first_below-ext f g zero same = refl
 first_below-ext f g (suc n) same =
     ap (λ (o : Option ℕ). or_this o n (f n)) (first_below-ext f g n (λ i lt. same i (omega arith)))
     ∙ ap (or_this (first_below g n) n) (same n (omega arith))
-
-or_this-cases : (f : ℕ → Bool) (o : Option ℕ) (n i : ℕ) → ((k : ℕ) → o ≡ Some k → (k < n) × (f k ≡ true)) → or_this o n (f n) ≡ Some i → (i < suc n) × (f i ≡ true)
-or_this-cases f (Some k) n i before e =
-    let here : k ≡ i = cc in
-    let rest = before k refl in
-    (omega (arith, rest.0), subst (λ (j : ℕ). f j ≡ true) here rest.1)
-or_this-cases f None n i before e = by_test (f n) refl e
-  where
-    by_test : (t : Bool) → f n ≡ t → cond t (Some n) None ≡ Some i → (i < suc n) × (f i ≡ true)
-    by_test true is same =
-        let here : n ≡ i = cc in
-        (omega arith, subst (λ (j : ℕ). f j ≡ true) here is)
-    by_test false is same = cc
-
-first_below-found : (f : ℕ → Bool) (n i : ℕ) → first_below f n ≡ Some i → (i < n) × (f i ≡ true)
-first_below-found f zero i e = cc
-first_below-found f (suc n) i e = or_this-cases f (first_below f n) n i (λ k is. first_below-found f n k is) e
 
 id-unread : (b : List ℕ) (i : ℕ) → is_id_section b i ≡ true → is_read_name (section_name b i) ≡ false
 unfolding is_id_section debug_section

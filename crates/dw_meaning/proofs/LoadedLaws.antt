@@ -5,7 +5,6 @@ use Rattle.std.proofs.lemmas.Bool.Decides.{nat_tests}
 use Rattle.std.proofs.lemmas.List.{get_or-take, length-take-le}
 use Rattle.std.specs.Bool.{⊤}
 use Rattle.std.specs.Prelude.{◌++◌, map, filter, Option, Some, None}
-use Rattle.dw_meaning.specs.EditFails.{FileReads}
 use Rattle.dw_base.specs.Elf.{class_of, order_of, word_size, shoff_place, shnum_place, shstrndx_place, e_shoff, nth_section, nth_segment, section_count, segments_of, e_phnum, contents_of, contents_at, is_empty_kind}
 use Rattle.dw_base.specs.Layout.{fixed_end, is_fixed, is_alloc, is_loaded_kind}
 use Rattle.dw_base.specs.LayoutFails.{LiesAcross}
@@ -13,14 +12,13 @@ use Rattle.dw_base.specs.LayoutReads.{ReadsBack, is_known_kind}
 use Rattle.dw_base.specs.Lists.{tabulate}
 use Rattle.dw_meaning.specs.Loaded.{LoadedKept, lies_within, unless_left_out, in_section_field, in_id_at, loaded_byte, segment_image, is_load, loaded_bytes}
 use Rattle.dw_base.specs.Notes.{BuildId, build_id_of, id_in}
-use Rattle.dw_meaning.specs.Output.{new_body, readings}
-use Rattle.dw_base.specs.Paths.{PathMap}
 use Rattle.dw_base.specs.declared.records.Section.{Section}
 use Rattle.dw_base.specs.declared.records.Segment.{Segment}
 use Rattle.dw_base.specs.ElfFails.{ElfReads}
 use Rattle.dw_base.proofs.FixedPartLaws.{segment-fixed}
 use Rattle.dw_base.proofs.LayoutLaws.{fixed_end-header, fixed_end-within}
-use Rattle.dw_meaning.proofs.MeaningKeptLaws.{known_kind, build_id-same, IdStands, build_id-stands}
+use Rattle.dw_meaning.proofs.BuildIdLaws.{IdStands, build_id-stands}
+use Rattle.dw_meaning.proofs.FileBackLaws.{known_kind}
 use Rattle.dw_base.proofs.ReadsBackLaws.{tabulate-ext}
 use Rattle.dw_base.proofs.WrittenLaws.{with_number-kept, shoff_place-within}
 
@@ -187,19 +185,19 @@ segments-are : (b : List ℕ) → segments_of b ≡ tabulate (nth_segment b) (e_
 unfolding segments_of
 segments-are b = refl
 
--- what is loaded is kept
-pub file-loaded : (m : PathMap) (b out : List ℕ) → (f : FileReads b) → NoneAcross b → ReadsBack b (new_body m b (readings f.units.pieces)) out → LoadedKept b out
-file-loaded m b out f none back =
-    let bodies : ℕ → List ℕ = new_body m b (readings f.units.pieces) in
-    let kind : is_loaded_kind out ≡ true = rw back.kind f.kind in
-    let known : is_known_kind b ≡ true = known_kind b f.kind in
+-- what is loaded is kept, where the build-id stays
+pub loaded-kept : (b out : List ℕ) (bodies : ℕ → List ℕ) → ElfReads b → is_loaded_kind b ≡ true → NoneAcross b → ReadsBack b bodies out
+    → build_id_of out ≡ build_id_of b → LoadedKept b out
+loaded-kept b out bodies elf is_loaded none back id =
+    let kind : is_loaded_kind out ≡ true = rw back.kind is_loaded in
+    let known : is_known_kind b ≡ true = known_kind b is_loaded in
     let each : EachSegment (λ s. segment_image out s ≡ segment_image b s) (segments_of b) =
     rw (segments-are b)
     (tabulate-each (λ s. segment_image out s ≡ segment_image b s) (nth_segment b) (e_phnum b)
-    (λ i lt. image-same b out bodies i f.elf f.kind none back (build_id-same m b out f back) lt)) in
+    (λ i lt. image-same b out bodies i elf is_loaded none back id lt)) in
     record {
       same = loaded-is out kind
           ∙ ap (λ (ss : List Segment). record { segments = ss; images = map (segment_image out) (filter is_load ss) }) (back.segments known)
           ∙ ap (λ (is : List (List (Option ℕ))). record { segments = segments_of b; images = is }) (images-same b out (segments_of b) each)
-          ∙ sym (loaded-is b f.kind);
+          ∙ sym (loaded-is b is_loaded);
     }

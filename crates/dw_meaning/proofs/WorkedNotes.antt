@@ -1,23 +1,15 @@
--- Build-ids in notes alone, in both byte orders, and in files: a file that has one, with what it and its output mean, the
--- same with other section headers, and with two sections of notes.
+-- Build-ids in notes alone, in both byte orders, and in files: a file that has one and its output, the same with other section
+-- headers, and with two sections of notes.
 use Rattle.std.proofs.Common.{◌≡◌, ℕ, List, [], ◌∷◌, ◌++◌, take, replicate, codes, refl}
 use Rattle.std.specs.Prelude.{Option, Some, None}
 use Rattle.dw_base.specs.declared.shared.Order.{Order}
 use Rattle.dw_base.specs.declared.shared.Order.TheVariants.{Little, Big}
-use Rattle.dw_meaning.proofs.WorkedMeaning.{MeaningShown, OthersShown, alone, mapped_paths, paths, unit_of}
 use Rattle.dw_meaning.proofs.WorkedParts.{changed, file_header, numbers, section_header, unit}
-use Rattle.dw_meaning.specs.Abbreviations.{abbreviations_at}
 use Rattle.dw_base.specs.Elf.{class_of, contents_at, contents_of, e_phnum, e_phoff, e_shentsize, e_shnum, e_shoff, e_shstrndx, e_type, name_index, name_table, nth_section, order_of, section_at, section_count, section_name}
 use Rattle.dw_base.specs.Layout.{padding}
-use Rattle.dw_meaning.specs.Meaning.{meaning_of}
 use Rattle.dw_base.specs.Notes.{BuildId, Descriptor, build_id_of, descriptor_at, id_in, is_id_note, is_id_section}
 use Rattle.dw_base.specs.Numbers.{spelled}
-use Rattle.dw_base.specs.Paths.{lies_under, mapped_path}
-use Rattle.dw_meaning.specs.PlainReading.{plain_cut, plain_meaning, plain_pieces, plain_units}
-use Rattle.dw_base.specs.SectionNames.{contents_called, names_of, section_called}
 use Rattle.dw_base.specs.Texts.{ends_in, text_in}
-use Rattle.dw_meaning.specs.Units.{after_code, between, headed, kind_in}
-use Rattle.dw_meaning.specs.Views.{view_of, view_section}
 
 -- a note: the sizes of its name and its descriptor, its type, its name, and what follows
 abbrev pub note : Order → ℕ → ℕ → ℕ → List ℕ → List ℕ → List ℕ
@@ -124,63 +116,7 @@ unfolding spelled e_type e_phnum e_phoff e_shoff e_shentsize e_shnum e_shstrndx 
     is_id_note descriptor_at padding
 with_id-id = (refl, refl)
 
--- their meaning
-pub with_id-meaning : MeaningShown with_id with_id_out
-    (unit_of 2 (alone 17 paths) ∷ []) (unit_of 2 (alone 17 mapped_paths) ∷ [])
-unfolding spelled e_type e_phnum e_phoff e_shoff e_shentsize e_shnum e_shstrndx class_of order_of nth_section section_at
-    section_count name_index name_table section_name contents_of contents_at text_in ends_in names_of section_called
-    contents_called plain_cut between headed after_code kind_in abbreviations_at plain_pieces plain_units plain_meaning meaning_of
-    view_of view_section build_id_of is_id_section id_in is_id_note descriptor_at lies_under mapped_path padding
-with_id-meaning = record { old = refl; new = refl; both = refl }
-
--- the notes are meant with zeros for the build-id, and the two of one name in order
-pub with_id-notes : OthersShown with_id with_id_out (codes ".note.gnu.build-id")
-    ((note Little 4 1 1 gnu (7 ∷ 0 ∷ 0 ∷ 0 ∷ []) ++ note Little 4 8 3 gnu (replicate 8 0)) ∷ [])
-unfolding spelled e_type e_phnum e_phoff e_shoff e_shentsize e_shnum e_shstrndx class_of order_of nth_section section_at
-    section_count name_index name_table section_name contents_of contents_at text_in ends_in names_of section_called
-    contents_called plain_cut between headed after_code kind_in abbreviations_at plain_pieces plain_units plain_meaning meaning_of
-    view_of view_section build_id_of is_id_section id_in is_id_note descriptor_at lies_under mapped_path padding
-with_id-notes = record { old = refl; new = refl; both = refl }
-
-pub with_id-comments : OthersShown with_id with_id_out (codes ".comment") (codes "cc 1\0" ∷ codes "ld 2\0" ∷ [])
-unfolding spelled e_type e_phnum e_phoff e_shoff e_shentsize e_shnum e_shstrndx class_of order_of nth_section section_at
-    section_count name_index name_table section_name contents_of contents_at text_in ends_in names_of section_called
-    contents_called plain_cut between headed after_code kind_in abbreviations_at plain_pieces plain_units plain_meaning meaning_of
-    view_of view_section build_id_of is_id_section id_in is_id_note descriptor_at lies_under mapped_path padding
-with_id-comments = record { old = refl; new = refl; both = refl }
-
--- so the output means the same with another build-id
-pub other_id-notes : OthersShown with_id (changed 296 (1 ∷ 2 ∷ 3 ∷ 4 ∷ 5 ∷ 6 ∷ 7 ∷ 8 ∷ []) with_id_out) (codes ".note.gnu.build-id")
-    ((note Little 4 1 1 gnu (7 ∷ 0 ∷ 0 ∷ 0 ∷ []) ++ note Little 4 8 3 gnu (replicate 8 0)) ∷ [])
-unfolding spelled e_type e_phnum e_phoff e_shoff e_shentsize e_shnum e_shstrndx class_of order_of nth_section section_at
-    section_count name_index name_table section_name contents_of contents_at text_in ends_in names_of section_called
-    contents_called plain_cut between headed after_code kind_in abbreviations_at plain_pieces plain_units plain_meaning meaning_of
-    view_of view_section build_id_of is_id_section id_in is_id_note descriptor_at lies_under mapped_path padding
-other_id-notes = record { old = refl; new = refl; both = refl }
-
--- what is loaded, the link and the table of names are not meant as bytes
-pub with_id-loaded : OthersShown with_id with_id_out (codes ".rodata") []
-unfolding spelled e_type e_phnum e_phoff e_shoff e_shentsize e_shnum e_shstrndx class_of order_of nth_section section_at
-    section_count name_index name_table section_name contents_of contents_at text_in ends_in names_of section_called
-    contents_called plain_cut between headed after_code kind_in abbreviations_at plain_pieces plain_units plain_meaning meaning_of
-    view_of view_section build_id_of is_id_section id_in is_id_note descriptor_at lies_under mapped_path padding
-with_id-loaded = record { old = refl; new = refl; both = refl }
-
-pub with_id-link : OthersShown with_id with_id_out (codes ".gnu_debuglink") []
-unfolding spelled e_type e_phnum e_phoff e_shoff e_shentsize e_shnum e_shstrndx class_of order_of nth_section section_at
-    section_count name_index name_table section_name contents_of contents_at text_in ends_in names_of section_called
-    contents_called plain_cut between headed after_code kind_in abbreviations_at plain_pieces plain_units plain_meaning meaning_of
-    view_of view_section build_id_of is_id_section id_in is_id_note descriptor_at lies_under mapped_path padding
-with_id-link = record { old = refl; new = refl; both = refl }
-
-pub with_id-names : OthersShown with_id with_id_out (codes ".shstrtab") []
-unfolding spelled e_type e_phnum e_phoff e_shoff e_shentsize e_shnum e_shstrndx class_of order_of nth_section section_at
-    section_count name_index name_table section_name contents_of contents_at text_in ends_in names_of section_called
-    contents_called plain_cut between headed after_code kind_in abbreviations_at plain_pieces plain_units plain_meaning meaning_of
-    view_of view_section build_id_of is_id_section id_in is_id_note descriptor_at lies_under mapped_path padding
-with_id-names = record { old = refl; new = refl; both = refl }
-
--- of another type than notes the section has no build-id, and all its bytes are meant
+-- of another type than notes the section has no build-id
 abbrev pub untyped : List ℕ
 untyped = changed 684 (1 ∷ []) with_id
 
@@ -189,14 +125,6 @@ unfolding spelled e_type e_phnum e_phoff e_shoff e_shentsize e_shnum e_shstrndx 
     section_count name_index name_table section_name contents_of contents_at text_in ends_in build_id_of is_id_section id_in
     is_id_note descriptor_at padding
 untyped-no_id = refl
-
-pub untyped-others : (plain_meaning untyped).others (codes ".note.gnu.build-id")
-    ≡ (note Little 4 1 1 gnu (7 ∷ 0 ∷ 0 ∷ 0 ∷ []) ++ note Little 4 8 3 gnu (17 ∷ 34 ∷ 51 ∷ 68 ∷ 85 ∷ 102 ∷ 119 ∷ 136 ∷ [])) ∷ []
-unfolding spelled e_type e_phnum e_phoff e_shoff e_shentsize e_shnum e_shstrndx class_of order_of nth_section section_at
-    section_count name_index name_table section_name contents_of contents_at text_in ends_in names_of section_called
-    contents_called plain_cut between headed after_code kind_in abbreviations_at plain_pieces plain_units plain_meaning meaning_of
-    view_of view_section build_id_of is_id_section id_in is_id_note descriptor_at lies_under mapped_path padding
-untyped-others = refl
 
 -- two sections of the name and type: the first counts, whose notes may be without a build-id
 abbrev pub two_sections : ℕ → ℕ → List ℕ

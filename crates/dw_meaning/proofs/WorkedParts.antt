@@ -1,14 +1,9 @@
--- Words to spell files by their parts, the map of the worked files, and what is computed of one.
-use Rattle.std.proofs.Common.{◌≡◌, ℕ, ◌+◌, List, [], ◌∷◌, ◌++◌, length, take, drop, replicate, codes, true, subst}
+-- Words to spell files by their parts, and the map of the worked files.
+use Rattle.std.proofs.Common.{ℕ, ◌+◌, List, [], ◌∷◌, ◌++◌, length, take, drop, replicate, codes}
 use Rattle.byteorder.specs.Endian.{little_bytes}
-use Rattle.dw_base.specs.Elf.{order_of}
 use Rattle.dw_base.specs.Numbers.{number_bytes}
-use Rattle.dw_meaning.specs.Output.{IsOutput}
 use Rattle.dw_base.specs.Paths.{PathMap}
-use Rattle.dw_meaning.specs.PlainReading.{plain_reads, plain_output, plain_length}
-use Rattle.dw_base.specs.SectionNames.{debug_info, debug_abbrev, contents_called}
 use Rattle.dw_base.specs.declared.shared.Order.{Order}
-use Rattle.dw_meaning.proofs.OutputLaws.{output-sound}
 
 -- the map of the worked files
 abbrev pub worked_map : PathMap
@@ -52,13 +47,3 @@ unit length table code offsets = word length ++ half 4 ++ word table ++ (8 ∷ c
 -- a file with other bytes at a place
 abbrev pub changed : ℕ → List ℕ → List ℕ → List ℕ
 changed at xs b = take at b ++ xs ++ drop (at + length xs) b
-
--- what is computed of any file: its units can be read, and the output with its length
-pub record Shown (b out : List ℕ) : Type 0 where
-  pub reads : plain_reads (order_of b) (contents_called b debug_info) (contents_called b debug_abbrev) ≡ true
-  pub output : plain_output worked_map b ≡ out
-  pub size : plain_length worked_map b ≡ length out
-
--- so that is its output
-pub shown-output : {b out : List ℕ} → Shown b out → IsOutput worked_map b out
-shown-output {b} s = subst (λ (xs : List ℕ). IsOutput worked_map b xs) s.output (output-sound worked_map b s.reads)

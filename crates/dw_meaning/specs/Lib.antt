@@ -1,16 +1,4 @@
-pub mod Grammar
-pub mod Abbreviations
-pub mod Units
-pub mod Mentions
-pub mod Output
-pub mod EntryUnits
-pub mod EditFails
-pub mod PlainReading
-pub mod Views
-pub mod Meaning
-pub mod Mapped
 pub mod Loaded
-pub mod PlainEdit
 pub mod DataFails
 pub mod DataOutput
 pub mod FileMeanings

@@ -1,16 +1,15 @@
 -- New texts one place after another, and the new offsets of fields.
-use Rattle.std.proofs.Common.{Bool, true, false, ◌≡◌, ℕ, suc, ◌+◌, ◌^◌, ◌<◌, ◌≤◌, List, [], ◌∷◌, ◌++◌, length, get_or, take, drop, Option, Some, None, is_some, cond, sym, ap, ◌∙◌, refl, subst, arith, inl, inr}
+use Rattle.std.proofs.Common.{Bool, true, false, ◌≡◌, ◌⊎◌, ℕ, zero, suc, ◌+◌, ◌^◌, ◌<◌, ◌≤◌, List, [], ◌∷◌, ◌++◌, length, get_or, drop, Option, Some, None, is_some, cond, sym, ap, ◌∙◌, refl, subst, arith, inl, inr}
 use Rattle.std.proofs.lemmas.Bool.{cases_lt}
-use Rattle.std.proofs.Math.Seq.{drop-cons, drop-length, take-length}
-use Rattle.std.proofs.lemmas.List.{length-append, append-nil}
+use Rattle.std.proofs.Math.Seq.{drop-cons}
+use Rattle.std.proofs.lemmas.List.{length-append}
 use Rattle.dw_base.specs.Layout.{output_limit}
 use Rattle.dw_base.specs.LayoutFails.{TooLong}
 use Rattle.dw_base.specs.LayoutFails.TooLong.{long}
-use Rattle.dw_meaning.specs.Mentions.{Around}
-use Rattle.dw_base.specs.Numbers.{spelled, with_number}
+use Rattle.dw_base.specs.Numbers.{with_number}
 use Rattle.dw_base.specs.Paths.{PathMap}
 use Rattle.dw_base.specs.Refusals.{Blames}
-use Rattle.dw_base.specs.StringTables.{Mention, Plan, appending, new_place, new_text, with_mention, with_text, table_bytes}
+use Rattle.dw_base.specs.StringTables.{Mention, Plan, new_place, new_text, with_mention, with_text, table_bytes}
 use Rattle.dw_base.specs.Texts.{is_in, laid_texts}
 use Rattle.dw_base.specs.declared.shared.Order.{Order}
 use Rattle.dw_base.specs.declared.fault.Fault.{Fault}
@@ -18,13 +17,15 @@ use Rattle.dw_base.specs.declared.fault.Fault.TheVariants.{NoMemory, Refused}
 use Rattle.dw_base.proofs.NumberLaws.{length-with_number}
 use Rattle.dw_base.proofs.TextLaws.{laid_texts-append, place_in-lt}
 use Rattle.std.specs.Option.{ForSome}
-use Rattle.dw_rewrite.specs.Changes.{path_of, path_at, texts_at, patched, patched_at, KnownPlace, Knows, IsNoted, Remembers, AreNoted, AllFit, with_known, with_all_known, info_after}
+use Rattle.dw_rewrite.proofs.KnownLaws.{remembers_all}
+use Rattle.dw_rewrite.specs.declared.fields.PathField.{PathField}
+use Rattle.dw_rewrite.specs.Changes.{OffsetTable, path_of, path_at, offset_at, texts_at, patched, patched_at, KnownPlace, Knows, IsNoted, Remembers, AreNoted, AllFit, with_known, with_all_known, ArePathFields, IsPathField}
 
--- one place more of a list
-pub place_front : (places : List ℕ) (i : ℕ) → i < length places → drop i places ≡ get_or places i 0 ∷ drop (i + 1) places
-place_front places i lt =
+-- one field more of a list
+pub field_front : (fields : List PathField) (d : PathField) (i : ℕ) → i < length fields → drop i fields ≡ get_or fields i d ∷ drop (i + 1) fields
+field_front fields d i lt =
     let next : suc i ≡ i + 1 = omega arith in
-    drop-cons places i 0 lt ∙ ap (λ (n : ℕ). get_or places i 0 ∷ drop n places) next
+    drop-cons fields i d lt ∙ ap (λ (n : ℕ). get_or fields i d ∷ drop n fields) next
 
 -- one more text at the end of the list
 length-with_text : (ts : List (List ℕ)) (t : List ℕ) → length (laid_texts ts) ≤ length (laid_texts (with_text ts t))
@@ -43,120 +44,131 @@ length-with_mention plan m ts x = by_asks (plan.asks x)
     by_asks false = omega arith
 
 -- nor do more of them
-pub length-texts_at : (plan : Plan) (m : PathMap) (around : Around) (info : List ℕ) (ts : List (List ℕ)) (places : List ℕ)
-    → length (laid_texts ts) ≤ length (laid_texts (texts_at plan m around info ts places))
-length-texts_at plan m around info ts [] = omega arith
-length-texts_at plan m around info ts (p ∷ ps) =
-    omega (arith, length-with_mention plan m ts (path_at around info p), length-texts_at plan m around info (with_mention plan m ts (path_at around info p)) ps)
+pub length-texts_at : (plan : Plan) (m : PathMap) (table : OffsetTable) (info : List ℕ) (ts : List (List ℕ)) (fields : List PathField)
+    → length (laid_texts ts) ≤ length (laid_texts (texts_at plan m table info ts fields))
+length-texts_at plan m table info ts [] = omega arith
+length-texts_at plan m table info ts (f ∷ fs) =
+    omega (arith, length-with_mention plan m ts (path_at table info f), length-texts_at plan m table info (with_mention plan m ts (path_at table info f)) fs)
 
--- the texts of the places that are left, from a place on
-pub texts_step : (plan : Plan) (m : PathMap) (around : Around) (info : List ℕ) (ts : List (List ℕ)) (places : List ℕ) (i : ℕ) → i < length places
-    → texts_at plan m around info (with_mention plan m ts (path_at around info (get_or places i 0))) (drop (i + 1) places) ≡ texts_at plan m around info ts (drop i places)
-texts_step plan m around info ts places i lt = rw (place_front places i lt) refl
+-- the texts of the fields that are left, from one on
+pub texts_step : (plan : Plan) (m : PathMap) (table : OffsetTable) (info : List ℕ) (ts : List (List ℕ)) (fields : List PathField) (i : ℕ) (f : PathField)
+    → i < length fields → f ≡ get_or fields i f
+    → texts_at plan m table info (with_mention plan m ts (path_at table info f)) (drop (i + 1) fields) ≡ texts_at plan m table info ts (drop i fields)
+texts_step plan m table info ts fields i f lt is =
+    sym (ap (texts_at plan m table info ts) (field_front fields f i lt ∙ ap (λ (g : PathField). g ∷ drop (i + 1) fields) (sym is)))
 
--- a table that is too long at a place is too long at the end
-pub refused_at : (plan : Plan) (m : PathMap) (around : Around) (info str : List ℕ) (ts first : List (List ℕ)) (places : List ℕ) (i : ℕ) (f : Fault) → i < length places
-    → texts_at plan m around info ts (drop i places) ≡ texts_at plan m around info first places
-    → Blames (TooLong (length (table_bytes (record { kept = str; texts = with_mention plan m ts (path_at around info (get_or places i 0)) })))) f
-    → Blames (TooLong (length (table_bytes (record { kept = str; texts = texts_at plan m around info first places })))) f
-refused_at plan m around info str ts first places i NoMemory lt same b = tt
-refused_at plan m around info str ts first places i (Refused _) lt same (long over) =
-    let next : List (List ℕ) = with_mention plan m ts (path_at around info (get_or places i 0)) in
-    let whole : texts_at plan m around info next (drop (i + 1) places) ≡ texts_at plan m around info first places = texts_step plan m around info ts places i lt ∙ same in
-    let longer : length (laid_texts next) ≤ length (laid_texts (texts_at plan m around info first places)) =
-    subst (λ (us : List (List ℕ)). length (laid_texts next) ≤ length (laid_texts us)) whole (length-texts_at plan m around info next (drop (i + 1) places)) in
-    long (omega (arith, longer, over, length-append str (laid_texts next), length-append str (laid_texts (texts_at plan m around info first places))))
+-- a table that is too long at a field is too long at the end
+pub refused_at : (plan : Plan) (m : PathMap) (table : OffsetTable) (info str : List ℕ) (ts first : List (List ℕ)) (fields : List PathField) (i : ℕ) (f : PathField) (fault : Fault)
+    → i < length fields → f ≡ get_or fields i f
+    → texts_at plan m table info ts (drop i fields) ≡ texts_at plan m table info first fields
+    → Blames (TooLong (length (table_bytes (record { kept = str; texts = with_mention plan m ts (path_at table info f) })))) fault
+    → Blames (TooLong (length (table_bytes (record { kept = str; texts = texts_at plan m table info first fields })))) fault
+refused_at plan m table info str ts first fields i f NoMemory lt is same b = tt
+refused_at plan m table info str ts first fields i f (Refused _) lt is same (long over) =
+    let next : List (List ℕ) = with_mention plan m ts (path_at table info f) in
+    let whole : texts_at plan m table info next (drop (i + 1) fields) ≡ texts_at plan m table info first fields = texts_step plan m table info ts fields i f lt is ∙ same in
+    let longer : length (laid_texts next) ≤ length (laid_texts (texts_at plan m table info first fields)) =
+    subst (λ (us : List (List ℕ)). length (laid_texts next) ≤ length (laid_texts us)) whole (length-texts_at plan m table info next (drop (i + 1) fields)) in
+    long (omega (arith, longer, over, length-append str (laid_texts next), length-append str (laid_texts (texts_at plan m table info first fields))))
 
--- one more place is noted
-pub noted_step : (plan : Plan) (around : Around) (info places : List ℕ) (i : ℕ) (old new : ℕ → Option ℕ) → AreNoted plan around info places i old
-    → Remembers old new → IsNoted plan around new (spelled around.order info (get_or places i 0) 4) → AreNoted plan around info places (i + 1) new
-noted_step plan around info places i old new noted remembers here = record {
-  each = λ (k : ℕ) (lt : k < i + 1). elim (cases_lt k i) [
-    | inl below ↦ record { noted = λ asks. remembers.each (spelled around.order info (get_or places k 0) 4) ((noted.each k below).noted asks) }
-    | inr past ↦ let same : i ≡ k = omega arith in subst (λ (z : ℕ). IsNoted plan around new (spelled around.order info (get_or places z 0) 4)) same here
+-- the default is not asked for inside a list
+get_or-any : (fields : List PathField) (i : ℕ) (d f : PathField) → i < length fields → get_or fields i d ≡ get_or fields i f
+get_or-any [] i d f lt = absurd (omega arith)
+get_or-any (g ∷ gs) zero d f lt = refl
+get_or-any (g ∷ gs) (suc i) d f lt = get_or-any gs i d f (omega arith)
+
+-- one more field is noted
+pub noted_step : (plan : Plan) (table : OffsetTable) (info : List ℕ) (fields : List PathField) (i : ℕ) (f : PathField) (old new : ℕ → Option ℕ)
+    → f ≡ get_or fields i f → AreNoted plan table info fields i old
+    → Remembers old new → IsNoted plan table new (offset_at table info f) → AreNoted plan table info fields (i + 1) new
+noted_step plan table info fields i f old new is noted remembers here = record {
+  each = λ (k : ℕ) (d : PathField) (lt : k < i + 1) (within : k < length fields). elim (cases_lt k i) [
+    | inl below ↦ record { noted = λ asks. remembers.each (offset_at table info (get_or fields k d)) ((noted.each k d below within).noted asks) }
+    | inr past ↦
+        let same : i ≡ k = omega arith in
+        let field : f ≡ get_or fields k d = is ∙ get_or-any fields i f d (omega arith) ∙ ap (λ (n : ℕ). get_or fields n d) same in
+        subst (λ (g : PathField). IsNoted plan table new (offset_at table info g)) field here
   ];
 }
 
 -- none is noted
-pub noted_start : (plan : Plan) (around : Around) (info places : List ℕ) (known : ℕ → Option ℕ) → AreNoted plan around info places 0 known
-noted_start plan around info places known = record { each = λ (k : ℕ) (lt : k < 0). absurd (omega arith) }
+pub noted_start : (plan : Plan) (table : OffsetTable) (info : List ℕ) (fields : List PathField) (known : ℕ → Option ℕ) → AreNoted plan table info fields 0 known
+noted_start plan table info fields known = record { each = λ (k : ℕ) (d : PathField) (lt : k < 0) within. absurd (omega arith) }
 
-pub ruleset note_all_rules = (texts_step, noted_step, noted_start)
+-- nothing was forgotten on the way
+pub remembers_on : (first old new : ℕ → Option ℕ) → Remembers first old → Remembers old new → Remembers first new
+remembers_on first old new a b = record { each = λ (o : ℕ) is. b.each o (a.each o is) }
 
--- the bytes of the places that are left, from a place on
-pub patch_step : (order : Order) (info out : List ℕ) (known : ℕ → Option ℕ) (places : List ℕ) (i : ℕ) → i < length places
-    → with_all_known order info known (with_known order out (get_or places i 0) (known (spelled order info (get_or places i 0) 4))) (drop (i + 1) places)
-    ≡ with_all_known order info known out (drop i places)
-patch_step order info out known places i lt = rw (place_front places i lt) refl
+-- a field of a list of them
+pub path_there : (table : OffsetTable) (info : List ℕ) (fields : List PathField) (i : ℕ) (f : PathField) → ArePathFields table info fields → i < length fields
+    → f ≡ get_or fields i f → IsPathField table info f
+path_there table info fields i f all lt is = subst (IsPathField table info) (sym is) (all.each i f lt)
+
+pub ruleset note_all_rules = (texts_step, noted_step, noted_start, remembers_all, remembers_on, path_there)
+
+-- the bytes of the fields that are left, from one on
+pub patch_step : (table : OffsetTable) (info out : List ℕ) (known : ℕ → Option ℕ) (fields : List PathField) (i : ℕ) (f : PathField) → i < length fields → f ≡ get_or fields i f
+    → with_all_known table info known (with_known table.order out f (known (offset_at table info f))) (drop (i + 1) fields)
+    ≡ with_all_known table info known out (drop i fields)
+patch_step table info out known fields i f lt is =
+    sym (ap (with_all_known table info known out) (field_front fields f i lt ∙ ap (λ (g : PathField). g ∷ drop (i + 1) fields) (sym is)))
 
 -- a field keeps the length of the bytes
-pub length-with_known : (order : Order) (out : List ℕ) (place : ℕ) (known : Option ℕ) → place + 4 ≤ length out → length (with_known order out place known) ≡ length out
-length-with_known order out place None room = refl
-length-with_known order out place (Some new) room = length-with_number order out place 4 new room
+pub length-with_known : (order : Order) (out : List ℕ) (f : PathField) (known : Option ℕ) → f.at + f.size ≤ length out → length (with_known order out f known) ≡ length out
+length-with_known order out f None room = refl
+length-with_known order out f (Some new) room = length-with_number order out f.at f.size new room
 
 -- what is known fits
 pub fits_known : (known : ℕ → Option ℕ) (offset : ℕ) → AllFit known → ForSome (known offset) (λ (place : ℕ). place < 2 ^ 32)
 fits_known known offset fits = fits.each offset
 
--- the whole of a vector was lent
-pub slice_back : (n : ℕ) (xs ys : List ℕ) → length xs ≡ length ys → n ≡ length ys → take n (xs ++ drop (length xs) ys) ≡ xs
-slice_back n xs ys size whole =
-    let none : drop (length xs) ys ≡ [] = ap (λ (k : ℕ). drop k ys) size ∙ drop-length ys in
-    ap (λ (r : List ℕ). take n (xs ++ r)) none ∙ ap (take n) (append-nil xs) ∙ ap (λ (k : ℕ). take k xs) (whole ∙ sym size) ∙ take-length xs
+-- what fits four bytes fits a field of an offset
+pub fits_field : (f : PathField) (place : ℕ) → (f.size ≡ 4) ⊎ (f.size ≡ 8) → place < 2 ^ 32 → place < 256 ^ f.size
+fits_field f place (inl four) small = rw four (omega (arith, small))
+fits_field f place (inr eight) small = rw eight (omega (arith, small))
 
-pub ruleset copy_rules = (slice_back)
+pub ruleset put_rules = (fits_field)
 
-pub ruleset patch_rules = (patch_step, fits_known)
+pub ruleset patch_rules = (patch_step, fits_known, path_there)
 
 -- the places that are known are below the end of the table
-pub known_fit : (plan : Plan) (m : PathMap) (around : Around) (ts : List (List ℕ)) (known : ℕ → Option ℕ) → length (plan.kept ++ laid_texts ts) ≤ output_limit
-    → Knows plan m around ts known → AllFit known
-known_fit plan m around ts known small knows = record {
+pub known_fit : (plan : Plan) (m : PathMap) (table : OffsetTable) (ts : List (List ℕ)) (known : ℕ → Option ℕ) → length (plan.kept ++ laid_texts ts) ≤ output_limit
+    → Knows plan m table ts known → AllFit known
+known_fit plan m table ts known small knows = record {
   each = λ (offset place : ℕ) is.
-      let k : KnownPlace plan m around ts offset place = knows.each offset place is in
-      omega (arith, k.place_is, small, length-append plan.kept (laid_texts ts), place_in-lt ts (new_text m (path_of around offset)) k.there);
+      let k : KnownPlace plan m table ts offset place = knows.each offset place is in
+      omega (arith, k.place_is, small, length-append plan.kept (laid_texts ts), place_in-lt ts (new_text m (path_of table offset)) k.there);
 }
 
 -- what is put where a place is known is what its path asks for
-put_is : (asks : Bool) (order : Order) (out : List ℕ) (p new : ℕ) (known : Option ℕ) → ((v : ℕ) → known ≡ Some v → (asks ≡ true) × (v ≡ new))
-    → (asks ≡ true → is_some known ≡ true) → with_known order out p known ≡ cond asks (with_number order out p 4 new) out
-put_is true order out p new None right noted = let gone : false ≡ true = noted refl in absurd cc
-put_is true order out p new (Some v) right noted = ap (with_number order out p 4) (right v refl).1
-put_is false order out p new None right noted = refl
-put_is false order out p new (Some v) right noted = let gone : false ≡ true = (right v refl).0 in absurd cc
+put_is : (asks : Bool) (order : Order) (out : List ℕ) (f : PathField) (new : ℕ) (known : Option ℕ) → ((v : ℕ) → known ≡ Some v → (asks ≡ true) × (v ≡ new))
+    → (asks ≡ true → is_some known ≡ true) → with_known order out f known ≡ cond asks (with_number order out f.at f.size new) out
+put_is true order out f new None right noted = let gone : false ≡ true = noted refl in absurd cc
+put_is true order out f new (Some v) right noted = ap (with_number order out f.at f.size) (right v refl).1
+put_is false order out f new None right noted = refl
+put_is false order out f new (Some v) right noted = let gone : false ≡ true = (right v refl).0 in absurd cc
 
 -- so the known places make the patched bytes
-pub put_is_patched : (plan : Plan) (m : PathMap) (around : Around) (ts : List (List ℕ)) (info out : List ℕ) (places : List ℕ) (known : ℕ → Option ℕ) → Knows plan m around ts known
-    → AreNoted plan around info places (length places) known
-    → with_all_known around.order info known out places ≡ patched (record { plan = plan; texts = ts }) m around info out places
-put_is_patched plan m around ts info out [] known knows noted = refl
-put_is_patched plan m around ts info out (p ∷ ps) known knows noted =
-    let offset : ℕ = spelled around.order info p 4 in
-    let first : IsNoted plan around known (spelled around.order info p 4) = noted.each 0 (omega arith) in
-    let here : with_known around.order out p (known offset) ≡ patched_at (record { plan = plan; texts = ts }) m around info out p =
-    put_is (plan.asks (path_of around offset)) around.order out p (new_place plan m ts (path_of around offset)) (known offset)
+pub put_is_patched : (plan : Plan) (m : PathMap) (table : OffsetTable) (ts : List (List ℕ)) (info out : List ℕ) (fields : List PathField) (known : ℕ → Option ℕ) → Knows plan m table ts known
+    → AreNoted plan table info fields (length fields) known
+    → with_all_known table info known out fields ≡ patched (record { plan = plan; texts = ts }) m table info out fields
+put_is_patched plan m table ts info out [] known knows noted = refl
+put_is_patched plan m table ts info out (f ∷ fs) known knows noted =
+    let offset : ℕ = offset_at table info f in
+    let first : IsNoted plan table known (offset_at table info f) = noted.each 0 f (omega arith) (omega arith) in
+    let here : with_known table.order out f (known offset) ≡ patched_at (record { plan = plan; texts = ts }) m table info out f =
+    put_is (plan.asks (path_of table offset)) table.order out f (new_place plan m ts (path_of table offset)) (known offset)
     (λ (v : ℕ) is. ((knows.each offset v is).asks, (knows.each offset v is).place_is)) first.noted in
-    let rest : AreNoted plan around info ps (length ps) known = record { each = λ (k : ℕ) (lt : k < length ps). noted.each (suc k) (omega arith) } in
-    ap (λ (b : List ℕ). with_all_known around.order info known b ps) here
-    ∙ put_is_patched plan m around ts info (patched_at (record { plan = plan; texts = ts }) m around info out p) ps known knows rest
+    let rest : AreNoted plan table info fs (length fs) known =
+    record { each = λ (k : ℕ) (d : PathField) (lt : k < length fs) (within : k < length fs). noted.each (suc k) d (omega arith) (omega arith) } in
+    ap (λ (b : List ℕ). with_all_known table info known b fs) here
+    ∙ put_is_patched plan m table ts info (patched_at (record { plan = plan; texts = ts }) m table info out f) fs known knows rest
 
 -- nothing is known at first
-pub knows_nothing : (plan : Plan) (m : PathMap) (around : Around) (ts : List (List ℕ)) (known : ℕ → Option ℕ) → ((o : ℕ) → known o ≡ None) → Knows plan m around ts known
-knows_nothing plan m around ts known none = record {
+pub knows_nothing : (plan : Plan) (m : PathMap) (table : OffsetTable) (ts : List (List ℕ)) (known : ℕ → Option ℕ) → ((o : ℕ) → known o ≡ None) → Knows plan m table ts known
+knows_nothing plan m table ts known none = record {
   each = λ (o p : ℕ) is.
       let here : is_some (known o) ≡ true = ap is_some is in
       let absent : is_some (known o) ≡ false = ap is_some (none o) in
       absurd cc;
 }
-
--- what was noted of a table, by the table
-pub info_is : (m : PathMap) (order : Order) (info str out : List ℕ) (places : List ℕ) (ts : List (List ℕ)) (known : ℕ → Option ℕ)
-    → ts ≡ texts_at (appending m str) m (record { order = order; str = str }) info [] places
-    → Knows (appending m str) m (record { order = order; str = str }) ts known
-    → AreNoted (appending m str) (record { order = order; str = str }) info places (length places) known
-    → out ≡ with_all_known order info known info places → out ≡ info_after m order info str places
-info_is m order info str out places ts known same knows noted is =
-    is ∙ put_is_patched (appending m str) m (record { order = order; str = str }) ts info info places known knows noted
-    ∙ ap (λ (us : List (List ℕ)). patched (record { plan = appending m str; texts = us }) m (record { order = order; str = str }) info info places) same
-
-pub ruleset changed_rules = (known_fit, knows_nothing, info_is)

@@ -1,234 +1,238 @@
 -- How the calls on a whole file end: what they refuse has a row, and what they give is the output of a file that is taken.
-use Rattle.std.proofs.Common.{Bool, true, false, ◌≡◌, ◌≢◌, ℕ, ◌<◌, ◌≤◌, ◌||◌, List, length, Option, Some, None, IsTrue, sym, ap, ◌∙◌, refl, subst, arith}
-use Rattle.std.proofs.lemmas.Bool.{true≢false}
-use Rattle.std.specs.declared.alloc.Global.{Global}
-use Rattle.std.specs.declared.vec.Vec.{Vec}
-use Rattle.dw_meaning.specs.EditFails.{EditFails, FileFails, FileReads, IsAccepted, NamesRead, UnitsOf}
-use Rattle.dw_meaning.specs.EditFails.EditFails.{file, output}
-use Rattle.dw_meaning.specs.EditFails.FileFails.{elf, units}
-use Rattle.dw_base.specs.Elf.{contents_of, is_empty_kind, nth_section, section_count, section_name}
-use Rattle.dw_base.specs.ElfFails.{ElfFails}
-use Rattle.dw_base.specs.Layout.{output_limit, with_bodies}
+use Rattle.std.proofs.Common.{Bool, true, false, ◌≡◌, ◌≢◌, ℕ, ◌<◌, ◌≤◌, ◌==◌, ◌||◌, List, length, cond, if◌then◌else◌, Option, Some, None, IsTrue, sym, ap, ◌∙◌, refl, subst, arith}
+use Rattle.std.proofs.lemmas.Bool.{eq-eqb, ne_eqb, true≢false}
+use Rattle.dw_meaning.specs.DataFails.{InlineFails}
+use Rattle.dw_meaning.specs.DataOutput.{Body, DataFits, DataReads, new_bodies}
+use Rattle.dw_base.specs.DebugData.{Readings, around_of, table_of}
+use Rattle.dw_base.specs.DebugSectionFails.{DebugSectionsFail, is_active}
+use Rattle.dw_base.specs.DebugSections.{debug_section, name_of}
+use Rattle.dw_meaning.specs.EditRows.{EditFails, IsAccepted}
+use Rattle.dw_meaning.specs.EditRows.EditFails.{file, inline, output}
+use Rattle.dw_base.specs.Elf.{contents_of, e_type, is_empty_kind, nth_section, section_count, section_name}
+use Rattle.dw_base.specs.ElfFails.{ElfFails, ElfReads}
+use Rattle.dw_meaning.specs.FileFails.{FileFails, UnbuiltFile, is_unbuilt_section}
+use Rattle.dw_meaning.specs.FileFails.FileFails.{elf, sections, units as units_row, texts as texts_row, unbuilt as unbuilt_row}
+use Rattle.dw_meaning.specs.FileFails.UnbuiltFile.{relocatable, section as section_row, value as value_row}
+use Rattle.dw_meaning.specs.FileMeanings.{FileReads, IsOutput, MeaningKept, file_data, new_body, output_of}
+use Rattle.dw_base.specs.FileViews.{View, view_of}
+use Rattle.dw_base.specs.Forms.{TextSection, in_str, in_line_str}
+use Rattle.dw_base.specs.Layout.{is_fixed, is_loaded_kind, output_limit, part_of, with_bodies}
 use Rattle.dw_base.specs.LayoutFails.{LayoutFails, LayoutFits}
+use Rattle.dw_base.specs.LayoutFails.LayoutFails.{section, large}
+use Rattle.dw_base.specs.LayoutFails.SectionStays.{changed}
+use Rattle.dw_base.specs.LayoutFails.TooLong.{long}
 use Rattle.dw_base.specs.LayoutReads.{ReadsBack}
 use Rattle.dw_meaning.specs.Loaded.{LoadedKept}
-use Rattle.dw_meaning.specs.Mapped.{MeaningKept}
-use Rattle.dw_meaning.specs.Output.{IsOutput, new_body, output_of, readings}
 use Rattle.dw_base.specs.Paths.{IsPathMap, PathMap}
-use Rattle.dw_base.specs.Refusals.{Blames}
-use Rattle.dw_base.specs.SectionNames.{debug_abbrev, debug_info, debug_str, is_read_name}
-use Rattle.dw_base.specs.Texts.{same_text}
+use Rattle.dw_base.specs.Refusals.{Blames, at}
+use Rattle.dw_base.specs.ViewData.{debug_data}
+use Rattle.dw_base.specs.declared.debug_sections.DebugSection.TheVariants.{Str, LineStr}
+use Rattle.dw_base.specs.declared.elf_numbers.TheConstants.{ET_DYN, ET_EXEC, ET_REL}
 use Rattle.dw_base.specs.declared.fault.Fault.{Fault}
 use Rattle.dw_base.specs.declared.fault.Fault.TheVariants.{NoMemory, Refused}
+use Rattle.dw_base.specs.declared.fault.Kind.TheVariants.{Fixed, TooLarge}
 use Rattle.dw_base.specs.declared.fault.Refusal.{Refusal}
-use Rattle.dw_meaning.proofs.EditLaws.{layout_fits}
-use Rattle.dw_meaning.proofs.LoadedLaws.{file-loaded}
-use Rattle.dw_meaning.proofs.MeaningKeptLaws.{file-meaning}
+use Rattle.dw_meaning.proofs.DataOneLaws.{data-one}
+use Rattle.dw_meaning.proofs.FileBackLaws.{build_id-back}
+use Rattle.dw_meaning.proofs.FileKeptLaws.{CanMap, body-line, body-str, file-back, line-place, str-place, tables-apart}
+use Rattle.dw_meaning.proofs.FileMeaningLaws.{file-meaning}
+use Rattle.dw_base.proofs.LayoutLaws.{fixed_end-within}
 use Rattle.dw_base.proofs.ReadsBackLaws.{reads_back-same, with_bodies-same}
-use Rattle.dw_base.proofs.TextLaws.{same_text-true}
-use Rattle.dw_meaning.proofs.OutputLaws.{output-complete}
-use Rattle.elf_layout.specs.Given.{AreContents, body_given}
-use Rattle.dw_rewrite.specs.Judged.{AtMostOnce, Found, IsFound}
-use Rattle.dw_rewrite.specs.Judged.IsFound.{nowhere, there}
-use Rattle.dw_rewrite.specs.Refuses.{Refuses}
-use Rattle.dw_rewrite.specs.Refuses.Refuses.{unbuilt}
-use Rattle.dw_rewrite.specs.Rewritten.{AreGiven, PlacesFound, body_found, body_with, info_found, is_number, str_found}
-use Rattle.dw_rewrite.specs.declared.judge.Sections.{Sections}
-use Rattle.dw_rewrite.proofs.RewriteLaws.{are_apart, bodies_same, fits_same, info_within, layout_same, number_is, str_within}
+use Rattle.dw_base.proofs.SectionLaws.{length-contents}
+use Rattle.dw_meaning.proofs.TableKeptLaws.{TablePlace, nowhere, lies_at}
+use Rattle.dw_rewrite.specs.Bodies.{BodiesMade, BodiesRefuse, PathsFound, PathsRefuse, long_table}
+use Rattle.dw_rewrite.specs.Bodies.BodiesRefuse.{long_table_of}
+use Rattle.dw_rewrite.specs.Bodies.PathsRefuse.{units as paths_units, inline as paths_inline}
+use Rattle.dw_rewrite.specs.Judged.{IsJudged}
+use Rattle.dw_rewrite.specs.Rewritten.{AllStand, IsInFile, body_with, long_fault, long_refusal}
+use Rattle.dw_rewrite.specs.UnitPaths.{UnitPaths}
+use Rattle.dw_rewrite.specs.UnitTexts.{HasUnbuilt, UnitsRefuse}
+use Rattle.dw_rewrite.specs.UnitTexts.UnitsRefuse.{data_fails, text_fails, unbuilt as value_unbuilt}
+use Rattle.dw_rewrite.proofs.BodyLaws.{bodies-same, bodies-stand, made-stand}
+use Rattle.dw_meaning.proofs.LoadedLaws.{loaded-kept}
+use Rattle.dw_rewrite.proofs.WrittenLaws.{fits_same, layout_same, length-moved}
 
--- a file that can't be read as ELF is refused, and one whose sections don't fit
+-- A file that can't be read as ELF is refused,
 pub refused_elf : (m : PathMap) (b : List ℕ) (f : Fault) → Blames (ElfFails b) f → Blames (EditFails m b) f
 refused_elf m b NoMemory h = tt
 refused_elf m b (Refused r) h = file (elf h)
 
+pub ruleset rewrite_rules = (refused_elf)
+
+-- one whose sections aren't handled,
+pub refused_view : (m : PathMap) (b : List ℕ) (f : Fault) → ElfReads b → Blames (DebugSectionsFail b) f → Blames (EditFails m b) f
+refused_view m b NoMemory reads h = tt
+refused_view m b (Refused r) reads h = file (sections reads h)
+
+-- and one that isn't taken as it was judged.
 pub refused_file : (m : PathMap) (b : List ℕ) (r : Refusal) (f : Fault) → FileFails b r → f ≡ Refused r → Blames (EditFails m b) f
 refused_file m b r f h is = subst (λ (x : Fault). Blames (EditFails m b) x) (sym is) (file h)
 
--- the names of a file whose sections were found
-one_name : (t u v : Bool) → (t || u || v) ≡ true → (t ≡ false → u ≡ false → v ≡ true)
-one_name true u v h a c = absurd (true≢false a)
-one_name false true v h a c = absurd (true≢false c)
-one_name false false v h a c = h
+pub ruleset elf_rules = (refused_view, refused_file)
 
-once_by : (b name : List ℕ) (i j : ℕ) → AtMostOnce b name → i < j → j < section_count b → section_name b i ≡ name → section_name b j ≢ section_name b i
-once_by b name i j once less lt named same =
-    let equal : i ≡ j = once.same i j (omega arith) lt named (same ∙ named) in
-    omega arith
+-- Units that can't be taken, and paths that would grow, are rows.
+units_fail : (m : PathMap) (b : List ℕ) (r : Refusal) → ElfReads b → PathsRefuse m (file_data b) r → EditFails m b r
+units_fail m b r reads (paths_units (data_fails h)) = file (units_row reads h)
+units_fail m b r reads (paths_units (text_fails h)) = file (texts_row reads h)
+units_fail m b _ reads (paths_units (value_unbuilt u)) =
+    file (unbuilt_row (value_row u.section u.header u.table u.number u.abbreviation u.spec u.place u.value reads u.there u.stands u.unbuilt))
+units_fail m b r reads (paths_inline h) = inline reads h
 
-pub names_found : (b : List ℕ) (s : Sections) → Found b s → NamesRead b
-names_found b s f = record {
-  listed = λ i lt. (f.fits.each i lt).listed;
-  once = λ i j less lt read.
-      by_name (same_text (section_name b i) debug_info) (same_text (section_name b i) debug_abbrev) i j less lt refl refl read;
-  plain = λ i lt read. (f.fits.each i lt).plain read;
-  apart = f.names.apart;
-}
+pub refused_paths : (m : PathMap) (b : List ℕ) (v : View) (f : Fault) → IsJudged b → v ≡ view_of b → Blames (PathsRefuse m (debug_data v)) f → Blames (EditFails m b) f
+refused_paths m b v NoMemory j is h = tt
+refused_paths m b v (Refused r) j is h = units_fail m b r j.elf (subst (λ (w : View). PathsRefuse m (debug_data w) r) is h)
+
+pub found_paths : (m : PathMap) (b : List ℕ) (v : View) (us : List UnitPaths) → v ≡ view_of b → PathsFound m (debug_data v) us → PathsFound m (file_data b) us
+found_paths m b v us is h = subst (λ (w : View). PathsFound m (debug_data w) us) is h
+
+pub ruleset paths_rules = (refused_paths, found_paths)
+
+-- A file whose debug data can be read reads as a whole.
+reads_judged : (b : List ℕ) (r : Readings) → IsJudged b → DataReads (file_data b) r → FileReads b r
+reads_judged b r j reads = record { elf = j.elf; kind = j.kind; names = j.names; data_reads = reads }
+
+pub seen_paths : (m : PathMap) (b : List ℕ) (v : View) (us : List UnitPaths) → v ≡ view_of b → PathsFound m (file_data b) us → PathsFound m (debug_data v) us
+seen_paths m b v us is h = subst (λ (w : View). PathsFound m (debug_data w) us) (sym is) h
+
+pub made_bodies : (m : PathMap) (b : List ℕ) (v : View) (bodies : List Body) → v ≡ view_of b → BodiesMade m (debug_data v) bodies → BodiesMade m (file_data b) bodies
+made_bodies m b v bodies is h = subst (λ (w : View). BodiesMade m (debug_data w) bodies) is h
+
+-- A table of texts that is too long may not change where it stays, and makes the file too long where it moves.
+-- the table is that of a section, with bytes, and these are its new ones
+record IsTableBody (m : PathMap) (b : List ℕ) (r : Readings) (table : TextSection) (i : ℕ) : Type 0 where
+  within : i < section_count b
+  full : is_empty_kind (nth_section b i) ≡ false
+  body : new_body m b r i ≡ long_table m (file_data b) r table
+
+table_body : (m : PathMap) (b : List ℕ) (r : Readings) (table : TextSection) → DataReads (file_data b) r
+    → (table_of (around_of (file_data b) r) table).number ≢ 0
+    → IsTableBody m b r table (table_of (around_of (file_data b) r) table).number
+unfolding new_bodies
+table_body m b r in_str reads some =
+    let stand = (bodies-stand m b r reads).0 in
+    record { within = stand.within some; full = stand.full some; body = body-str m b r }
+table_body m b r in_line_str reads some =
+    let stand = (bodies-stand m b r reads).1.0 in
+    record { within = stand.within some; full = stand.full some; body = body-line m b r (apart (line-place b)) }
   where
-    by_name : (t u : Bool) (i j : ℕ) → i < j → j < section_count b → same_text (section_name b i) debug_info ≡ t → same_text (section_name b i) debug_abbrev ≡ u
-        → IsTrue (is_read_name (section_name b i)) → section_name b j ≢ section_name b i
-    by_name true u i j less lt info abbrevs read =
-        once_by b debug_info i j f.info.once less lt (same_text-true (section_name b i) debug_info info)
-    by_name false true i j less lt info abbrevs read =
-        once_by b debug_abbrev i j f.abbrevs.once less lt (same_text-true (section_name b i) debug_abbrev abbrevs)
-    by_name false false i j less lt info abbrevs read =
-        once_by b debug_str i j f.str.once less lt (same_text-true (section_name b i) debug_str
-        (one_name (same_text (section_name b i) debug_info) (same_text (section_name b i) debug_abbrev) (same_text (section_name b i) debug_str) read info abbrevs))
+    apart : TablePlace b (name_of LineStr) (file_data b).line_str → (file_data b).line_str.number ≢ (file_data b).str.number
+    apart (nowhere zero none) = absurd (some zero)
+    apart (lies_at there within named bytes) = tables-apart b there named
 
--- where its units were read, the file reads as a whole
-pub reads_found : (b : List ℕ) (s : Sections) → Found b s → UnitsOf b → FileReads b
-reads_found b s f u = record { elf = f.elf; kind = f.kind; names = names_found b s f; units = u }
+long_at : (m : PathMap) (b : List ℕ) (r : Readings) (table : TextSection) (i : ℕ) → length b ≤ output_limit → IsJudged b → IsTableBody m b r table i
+    → output_limit < length (long_table m (file_data b) r table) → (fixed : Bool) → is_fixed b (nth_section b i) ≡ fixed
+    → LayoutFails b (new_body m b r) (if fixed then at Fixed i 0 else at TooLarge 0 0)
+unfolding part_of
+long_at m b r table i small j t over true fixed =
+    section i t.within (changed (record {
+      stays = fixed;
+      body = λ e. (let size : length (long_table m (file_data b) r table) ≡ length (contents_of b i) = ap (λ (x : List ℕ). length x) (sym t.body ∙ e) in
+          absurd (omega (arith, over, size, length-contents b i, small)));
+    }))
+long_at m b r table i small j t over false moves =
+    let there : (part_of b (new_body m b r) i).moves ≡ true = rw (t.full, moves) refl in
+    let longer : length (new_body m b r i) ≤ length (with_bodies b (new_body m b r)) =
+    length-moved b (new_body m b r) i t.within (fixed_end-within b j.elf.debug j.elf.segments) there in
+    let size : length (new_body m b r i) ≡ length (long_table m (file_data b) r table) = ap (λ (x : List ℕ). length x) t.body in
+    large (long (omega (arith, over, longer, size)))
 
--- and where they aren't there, it is refused
-pub refused_units : (m : PathMap) (b : List ℕ) (s : Sections) (fault : Fault) → Found b s → Blames (Refuses (UnitsOf b)) fault → Blames (EditFails m b) fault
-refused_units m b s NoMemory f h = tt
-refused_units m b s (Refused _) f (unbuilt none) = file (units f.elf none)
+long_fails : (m : PathMap) (b : List ℕ) (f : Fault) → length b ≤ output_limit → IsJudged b → Blames (BodiesRefuse m (file_data b)) f
+    → Blames (EditFails m b) (long_fault b f)
+long_fails m b NoMemory small j h = tt
+long_fails m b (Refused _) small j (long_table_of table r reads fits some over) =
+    let t = table_body m b r table reads some in
+    output r (reads_judged b r j reads) fits (long_at m b r table _ small j t over (is_fixed b (nth_section b _)) refl)
 
--- The body that is given for a section.
-given_same : (b : List ℕ) (items : List (Option (Vec ℕ Global))) (count : ℕ) (s : Sections) (info str : List ℕ) → AreGiven items count s info str → count ≡ section_count b
-    → (i : ℕ) → i < section_count b → body_given b items i ≡ body_with b s info str i
-unfolding body_given
-given_same b items count s info str g is i lt = g.body i (contents_of b i) (omega (arith, is))
+pub refused_bodies : (m : PathMap) (b : List ℕ) (v : View) (f told : Fault) → length b ≤ output_limit → IsJudged b → v ≡ view_of b
+    → Blames (BodiesRefuse m (debug_data v)) f → told ≡ long_fault b f → Blames (EditFails m b) told
+refused_bodies m b v f told small j v_is h is =
+    subst (λ (x : Fault). Blames (EditFails m b) x) (sym is)
+    (long_fails m b f small j (subst (λ (w : View). Blames (BodiesRefuse m (debug_data w)) f) v_is h))
 
--- a section that is given another body takes room in the file
-full_at : (b name : List ℕ) (o : Option ℕ) (i : ℕ) → IsFound b name o → is_empty_kind (nth_section b i) ≡ true → is_number o i ≡ false
-full_at b name None i (nowhere stands) empty = refl
-full_at b name (Some n) i (there stands) empty = by_number (is_number (Some n) i) refl
+in_file : (m : PathMap) (b : List ℕ) (f : Fault) → Blames (BodiesRefuse m (file_data b)) f → Blames (IsInFile b) f
+in_file m b NoMemory h = tt
+in_file m b (Refused _) (long_table_of table r reads fits some over) = record { within = (table_body m b r table reads some).within }
+
+pub told_in_file : (m : PathMap) (b : List ℕ) (v : View) (f : Fault) → v ≡ view_of b → Blames (BodiesRefuse m (debug_data v)) f → Blames (IsInFile b) f
+told_in_file m b v f v_is h = in_file m b f (subst (λ (w : View). Blames (BodiesRefuse m (debug_data w)) f) v_is h)
+
+pub ruleset bodies_rules = (seen_paths, made_bodies, refused_bodies, told_in_file)
+
+-- What was written is the output of a file that is taken.
+unbuilt_none : (b : List ℕ) → IsJudged b → (HasUnbuilt (file_data b) → ⊥) → UnbuiltFile b → ⊥
+unbuilt_none b j none (relocatable h is) = true≢false (sym j.kind ∙ other)
   where
-    by_number : (here : Bool) → is_number (Some n) i ≡ here → here ≡ false
-    by_number true e =
-        let full : is_empty_kind (nth_section b i) ≡ false = ap (λ (k : ℕ). is_empty_kind (nth_section b k)) (number_is n i e) ∙ stands.full in
-        absurd (true≢false (sym empty ∙ full))
-    by_number false e = refl
+    other : is_loaded_kind b ≡ false
+    other = rw is refl
+unbuilt_none b j none (section_row i reads lt active new) = true≢false (sym new ∙ (j.fits.each i lt).built active)
+unbuilt_none b j none (value_row z h list number a x place v reads there stands new) =
+    none (record { section = z; header = h; table = list; number = number; abbreviation = a; spec = x; place = place; value = v; there = there; stands = stands; unbuilt = new })
 
-pub given_contents : (b : List ℕ) (now items : List (Option (Vec ℕ Global))) (count : ℕ) (s : Sections) (info str : List ℕ) → Found b s → now ≡ items
-    → AreGiven items count s info str → count ≡ section_count b → AreContents b now
-given_contents b now items count s info str f same g is = subst (λ (l : List (Option (Vec ℕ Global))). AreContents b l) (sym same) (record {
-  each = g.each ∙ is;
-  none = λ i lt empty.
-      g.others i (omega (arith, is)) (full_at b debug_info s.info i f.info.found empty) (full_at b debug_str s.str i f.str.found empty);
-})
+can_map : (m : PathMap) (b : List ℕ) (bodies : List Body) → IsPathMap m → IsJudged b → (d : BodiesMade m (file_data b) bodies) → CanMap m b d.readings
+can_map m b bodies map j d = record { map = map; reads = reads_judged b d.readings j d.reads; fits = d.fits }
 
--- a layout that is refused
-pub refused_layout : (b : List ℕ) (now items : List (Option (Vec ℕ Global))) (count : ℕ) (s : Sections) (info str : List ℕ) (f : Fault) → now ≡ items
-    → AreGiven items count s info str → count ≡ section_count b → Blames (LayoutFails b (body_given b now)) f → Blames (LayoutFails b (body_with b s info str)) f
-refused_layout b now items count s info str NoMemory same g is h = tt
-refused_layout b now items count s info str (Refused r) same g is h =
-    layout_same b (body_given b items) (body_with b s info str) r (given_same b items count s info str g is)
-    (subst (λ (l : List (Option (Vec ℕ Global))). LayoutFails b (body_given b l) r) same h)
+made_same : (m : PathMap) (b : List ℕ) (bodies : List Body) → IsPathMap m → IsJudged b → (d : BodiesMade m (file_data b) bodies) → (i : ℕ) → i < section_count b
+    → body_with b bodies i ≡ new_body m b d.readings i
+made_same m b bodies map j d i lt = bodies-same m b d.readings bodies (can_map m b bodies map j d) d.is i lt
 
--- what was written
-pub written_file : (b : List ℕ) (now items : List (Option (Vec ℕ Global))) (count : ℕ) (s : Sections) (info str out : List ℕ) → now ≡ items
-    → AreGiven items count s info str → count ≡ section_count b → out ≡ with_bodies b (body_given b now) → out ≡ with_bodies b (body_with b s info str)
-written_file b now items count s info str out same g is made =
-    made ∙ ap (λ (l : List (Option (Vec ℕ Global))). with_bodies b (body_given b l)) same
-    ∙ with_bodies-same b (body_given b items) (body_with b s info str) (given_same b items count s info str g is)
-
--- reads back
-pub written_back : (b : List ℕ) (now items : List (Option (Vec ℕ Global))) (count : ℕ) (s : Sections) (info str out : List ℕ) → Found b s → now ≡ items
-    → AreGiven items count s info str → count ≡ section_count b → ReadsBack b (body_given b now) out → ReadsBack b (body_with b s info str) out
-written_back b now items count s info str out f same g is back =
-    reads_back-same b out (body_given b items) (body_with b s info str) (given_same b items count s info str g is)
-    f.elf.debug.index.there (subst (λ (l : List (Option (Vec ℕ Global))). ReadsBack b (body_given b l) out) same back)
-
--- and fits
-pub written_fits : (b : List ℕ) (now items : List (Option (Vec ℕ Global))) (count : ℕ) (s : Sections) (info str : List ℕ) → now ≡ items
-    → AreGiven items count s info str → count ≡ section_count b → ((r : Refusal) → LayoutFails b (body_given b now) r → ⊥)
-    → LayoutFits b (body_with b s info str)
-written_fits b now items count s info str same g is none =
-    fits_same b (body_given b items) (body_with b s info str) (given_same b items count s info str g is)
-    (subst (λ (l : List (Option (Vec ℕ Global))). LayoutFits b (body_given b l)) same (layout_fits b (body_given b now) none))
-
-pub ruleset written_rules = (are_apart, info_within, str_within, given_contents, refused_layout, written_file, written_back, written_fits)
-
--- The bodies that were written are those of the output.
-pub written_same : (m : PathMap) (b : List ℕ) (s : Sections) (places info str : List ℕ) → Found b s → (r : PlacesFound b places)
-    → info ≡ info_found m b places → str ≡ str_found m b places → (i : ℕ) → i < section_count b
-    → body_with b s info str i ≡ new_body m b (readings r.units.pieces) i
-written_same m b s places info str f r info_is str_is i lt =
-    ap (λ (x : List ℕ). body_with b s x str i) info_is ∙ ap (λ (x : List ℕ). body_with b s (info_found m b places) x i) str_is
-    ∙ sym (bodies_same m b s places f r i lt)
-
--- so a file that was written is taken
-pub found_accepted : (m : PathMap) (b : List ℕ) (s : Sections) (places info str : List ℕ) → Found b s → (r : PlacesFound b places)
-    → info ≡ info_found m b places → str ≡ str_found m b places → LayoutFits b (body_with b s info str) → IsAccepted m b
-unfolding reads_found
-found_accepted m b s places info str f r info_is str_is fits = record {
-  reads = reads_found b s f r.units;
-  unloaded = λ i lt. (f.fits.each i lt).unloaded;
-  fits = fits_same b (body_with b s info str) (new_body m b (readings r.units.pieces)) (written_same m b s places info str f r info_is str_is) fits;
+pub made_accepted : (m : PathMap) (b : List ℕ) (bodies : List Body) → IsPathMap m → IsJudged b → BodiesMade m (file_data b) bodies
+    → LayoutFits b (body_with b bodies) → IsAccepted m b
+made_accepted m b bodies map j d fits = record {
+  readings = d.readings;
+  reads = reads_judged b d.readings j d.reads;
+  fits = d.fits;
+  unloaded = λ i lt. (j.fits.each i lt).unloaded;
+  built = unbuilt_none b j d.built;
+  written = fits_same b (body_with b bodies) (new_body m b d.readings) (made_same m b bodies map j d) fits;
 }
 
--- and is its output
-pub found_output : (m : PathMap) (b : List ℕ) (s : Sections) (places info str out : List ℕ) → Found b s → (r : PlacesFound b places)
-    → info ≡ info_found m b places → str ≡ str_found m b places → out ≡ with_bodies b (body_with b s info str) → IsOutput m b out
+pub made_output : (m : PathMap) (b : List ℕ) (bodies : List Body) (out : List ℕ) → IsPathMap m → IsJudged b → BodiesMade m (file_data b) bodies
+    → out ≡ with_bodies b (body_with b bodies) → IsOutput m b out
 unfolding output_of
-found_output m b s places info str out f r info_is str_is made = record {
-  readings = readings r.units.pieces;
-  reads = record { info = r.units.units };
-  is = made ∙ with_bodies-same b (body_with b s info str) (new_body m b (readings r.units.pieces)) (written_same m b s places info str f r info_is str_is);
+made_output m b bodies out map j d made = record {
+  readings = d.readings;
+  reads = d.reads;
+  fits = d.fits;
+  is = made ∙ with_bodies-same b (body_with b bodies) (new_body m b d.readings) (made_same m b bodies map j d);
 }
 
--- which there is one of at most
+-- of which there is one at most
 pub one_output : (m : PathMap) (b out : List ℕ) → IsOutput m b out → (o : List ℕ) → IsOutput m b o → o ≡ out
-one_output m b out is o other = output-complete m b o other ∙ sym (output-complete m b out is)
+one_output m b out is o other =
+    other.is ∙ ap (output_of m b) (data-one (file_data b) other.readings is.readings other.reads is.reads) ∙ sym is.is
 
 -- it reads back with the bodies of the output
-back_found : (m : PathMap) (b : List ℕ) (s : Sections) (places info str out : List ℕ) → Found b s → (r : PlacesFound b places)
-    → info ≡ info_found m b places → str ≡ str_found m b places → ReadsBack b (body_with b s info str) out
-    → ReadsBack b (new_body m b (readings r.units.pieces)) out
-back_found m b s places info str out f r info_is str_is back =
-    reads_back-same b out (body_with b s info str) (new_body m b (readings r.units.pieces)) (written_same m b s places info str f r info_is str_is)
-    f.elf.debug.index.there back
+back_made : (m : PathMap) (b : List ℕ) (bodies : List Body) (out : List ℕ) → IsPathMap m → IsJudged b → (d : BodiesMade m (file_data b) bodies)
+    → ReadsBack b (body_with b bodies) out → ReadsBack b (new_body m b d.readings) out
+back_made m b bodies out map j d back =
+    reads_back-same b out (body_with b bodies) (new_body m b d.readings) (made_same m b bodies map j d) j.elf.debug.index.there back
 
--- a refusal of new bytes, or of the layout
-pub refused_output : (m : PathMap) (b : List ℕ) (s : Sections) (places : List ℕ) (fault : Fault) → Found b s → PlacesFound b places
-    → Blames (LayoutFails b (body_found m b s places)) fault → Blames (EditFails m b) fault
-unfolding reads_found
-refused_output m b s places NoMemory f r h = tt
-refused_output m b s places (Refused x) f r h =
-    output (reads_found b s f r.units)
-    (layout_same b (body_found m b s places) (new_body m b (readings r.units.pieces)) x (λ i lt. sym (bodies_same m b s places f r i lt)) h)
-
-pub refused_written : (m : PathMap) (b : List ℕ) (s : Sections) (places info str : List ℕ) (fault : Fault) → Found b s → PlacesFound b places
-    → info ≡ info_found m b places → str ≡ str_found m b places → Blames (LayoutFails b (body_with b s info str)) fault → Blames (EditFails m b) fault
-refused_written m b s places info str fault f r info_is str_is h =
-    refused_output m b s places fault f r
-    (subst (λ (x : List ℕ). Blames (LayoutFails b (body_with b s (info_found m b places) x)) fault) str_is
-    (subst (λ (x : List ℕ). Blames (LayoutFails b (body_with b s x str)) fault) info_is h))
-
--- the same of places that were lent
-pub refused_new : (m : PathMap) (b : List ℕ) (s : Sections) (places now : List ℕ) (fault : Fault) → Found b s → PlacesFound b places → now ≡ places
-    → Blames (LayoutFails b (body_found m b s now)) fault → Blames (EditFails m b) fault
-refused_new m b s places now fault f r same h =
-    refused_output m b s places fault f r (subst (λ (x : List ℕ). Blames (LayoutFails b (body_found m b s x)) fault) same h)
-
--- what a lent list of places gives is what the list gives
-pub info_lent : (m : PathMap) (b places now new : List ℕ) → now ≡ places → new ≡ info_found m b now → new ≡ info_found m b places
-info_lent m b places now new same is = is ∙ ap (info_found m b) same
-
-pub str_lent : (m : PathMap) (b places now new : List ℕ) → now ≡ places → new ≡ str_found m b now → new ≡ str_found m b places
-str_lent m b places now new same is = is ∙ ap (str_found m b) same
-
--- what was written isn't too long
-small_found : (b : List ℕ) (bodies : ℕ → List ℕ) (out : List ℕ) → LayoutFits b bodies → out ≡ with_bodies b bodies → length out ≤ output_limit
-small_found b bodies out fits made = subst (λ (x : List ℕ). length x ≤ output_limit) (sym made) fits.small
+small_out : (b : List ℕ) (bodies : ℕ → List ℕ) (out : List ℕ) → LayoutFits b bodies → out ≡ with_bodies b bodies → length out ≤ output_limit
+small_out b bodies out fits made = subst (λ (x : List ℕ). length x ≤ output_limit) (sym made) fits.small
 
 -- so its meaning is kept, and what is loaded of it
-pub found_meaning : (m : PathMap) (b : List ℕ) (s : Sections) (places info str out : List ℕ) → IsPathMap m → Found b s → PlacesFound b places
-    → info ≡ info_found m b places → str ≡ str_found m b places → LayoutFits b (body_with b s info str) → out ≡ with_bodies b (body_with b s info str)
-    → ReadsBack b (body_with b s info str) out → MeaningKept m b out
-unfolding reads_found
-found_meaning m b s places info str out map f r info_is str_is fits made back =
-    file-meaning m b out map (reads_found b s f r.units) (back_found m b s places info str out f r info_is str_is back)
-    (small_found b (body_with b s info str) out fits made)
+pub made_meaning : (m : PathMap) (b : List ℕ) (bodies : List Body) (out : List ℕ) → IsPathMap m → IsJudged b → BodiesMade m (file_data b) bodies
+    → LayoutFits b (body_with b bodies) → out ≡ with_bodies b (body_with b bodies) → ReadsBack b (body_with b bodies) out → MeaningKept m b out
+made_meaning m b bodies out map j d fits made back =
+    file-meaning m b d.readings out (can_map m b bodies map j d) (back_made m b bodies out map j d back) (small_out b (body_with b bodies) out fits made)
 
-pub found_loaded : (m : PathMap) (b : List ℕ) (s : Sections) (places info str out : List ℕ) → Found b s → PlacesFound b places
-    → info ≡ info_found m b places → str ≡ str_found m b places → LayoutFits b (body_with b s info str)
-    → ReadsBack b (body_with b s info str) out → LoadedKept b out
-unfolding reads_found
-found_loaded m b s places info str out f r info_is str_is fits back =
-    file-loaded m b out (reads_found b s f r.units) fits.across (back_found m b s places info str out f r info_is str_is back)
+pub made_loaded : (m : PathMap) (b : List ℕ) (bodies : List Body) (out : List ℕ) → IsPathMap m → IsJudged b → BodiesMade m (file_data b) bodies
+    → LayoutFits b (body_with b bodies) → ReadsBack b (body_with b bodies) out → LoadedKept b out
+made_loaded m b bodies out map j d fits back =
+    let w : CanMap m b d.readings = can_map m b bodies map j d in
+    let new : ReadsBack b (new_body m b d.readings) out = back_made m b bodies out map j d back in
+    loaded-kept b out (new_body m b d.readings) j.elf j.kind fits.across new
+    (build_id-back b (new_body m b d.readings) out (file-back m b d.readings out w new))
 
-pub ruleset found_rules = (refused_units, found_accepted, found_output, one_output, refused_output, refused_written)
+-- and a layout that is refused has a row
+pub refused_written : (m : PathMap) (b : List ℕ) (bodies : List Body) (f : Fault) → IsPathMap m → IsJudged b → BodiesMade m (file_data b) bodies
+    → Blames (LayoutFails b (body_with b bodies)) f → Blames (EditFails m b) f
+refused_written m b bodies NoMemory map j d h = tt
+refused_written m b bodies (Refused r) map j d h =
+    output d.readings (reads_judged b d.readings j d.reads) d.fits
+    (layout_same b (body_with b bodies) (new_body m b d.readings) r (made_same m b bodies map j d) h)
 
-pub ruleset rewrite_rules = (refused_elf, refused_file)
+pub made_stand : (m : PathMap) (b : List ℕ) (bodies : List Body) → BodiesMade m (file_data b) bodies → AllStand b bodies
+made_stand m b bodies d = made-stand m b d.readings bodies d.reads d.is
+
+pub ruleset judged_rules = (made_stand, made_accepted, made_output, one_output, made_meaning, made_loaded, refused_written)

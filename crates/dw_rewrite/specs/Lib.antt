@@ -1,6 +1,11 @@
-pub mod EntryFacts
-pub mod PathPlaces
-pub mod Refuses
 pub mod Changes
+pub mod UnitPaths
+pub mod TextPlaces
+pub mod EntryTexts
+pub mod UnitTexts
+pub mod InlineRooms
+pub mod Bodies
 pub mod Judged
 pub mod Rewritten
+pub mod SectionOrder
+pub mod NewTables

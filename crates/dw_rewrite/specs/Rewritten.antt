@@ -1,72 +1,67 @@
--- A file that can be read, once its sections of debug data were found: their bytes, and the new ones.
-use Rattle.std.specs.Prelude.{Bool, true, false, ◌≡◌, ℕ, ◌<◌, ◌==◌, List, [], length, if◌then◌else◌, slice_set, Option, Some, None}
+-- A file written with new bytes for some of its sections.
+use Rattle.std.specs.Prelude.{Bool, false, ◌≡◌, ◌≢◌, ℕ, ◌<◌, ◌==◌, ◌&&◌, not, List, [], ◌∷◌, length, if◌then◌else◌, ⊤, Option, Some, None}
 use Rattle.std.specs.declared.alloc.Global.{Global}
 use Rattle.std.specs.declared.vec.Vec.{Vec}
-use Rattle.dw_base.specs.Elf.{contents_of, nth_section, order_of}
+use Rattle.dw_meaning.specs.DataOutput.{Body}
+use Rattle.dw_base.specs.Elf.{contents_of, is_empty_kind, nth_section, section_count}
 use Rattle.dw_base.specs.Layout.{is_fixed}
-use Rattle.dw_base.specs.Paths.{PathMap}
 use Rattle.dw_base.specs.Refusals.{at}
-use Rattle.dw_base.specs.SectionNames.{debug_info, debug_abbrev, debug_str, contents_called}
 use Rattle.dw_base.specs.declared.fault.Fault.{Fault}
 use Rattle.dw_base.specs.declared.fault.Fault.TheVariants.{NoMemory, Refused}
+use Rattle.dw_base.specs.declared.fault.Kind.TheVariants.{Fixed, TooLarge}
 use Rattle.dw_base.specs.declared.fault.Refusal.{Refusal}
-use Rattle.dw_base.specs.declared.fault.Kind.TheVariants.{Fixed}
-use Rattle.elf_layout.specs.Given.{given_or, item_of}
-use Rattle.dw_rewrite.specs.Changes.{info_after, str_after}
-use Rattle.dw_rewrite.specs.EntryFacts.{PlacesRead}
-use Rattle.dw_rewrite.specs.declared.judge.Sections.{Sections}
+use Rattle.elf_layout.specs.Given.{item_of}
 
--- the bytes of a section, none where there is none
-abbrev pub bytes_at : List ℕ → Option ℕ → List ℕ
-bytes_at b None = []
-bytes_at b (Some i) = contents_of b i
+-- the body is that of the section of a number. A body of number 0 is that of no section.
+abbrev pub is_of : Body → ℕ → Bool
+is_of x i = not (x.number == 0) && i == x.number
 
--- the section is the one of this number
-abbrev pub is_number : Option ℕ → ℕ → Bool
-is_number None i = false
-is_number (Some n) i = i == n
+-- the bytes that are given for the section of a number: those of the first body that is its
+abbrev pub bytes_given : List Body → ℕ → Option (List ℕ)
+bytes_given [] i = None
+bytes_given (x ∷ xs) i = if is_of x i then Some x.bytes else bytes_given xs i
 
--- the units of the file were read, and these are the places of their paths
-abbrev pub PlacesFound : List ℕ → List ℕ → Type 0
-PlacesFound b places =
-    PlacesRead (order_of b) (contents_called b debug_info) (contents_called b debug_abbrev) (contents_called b debug_str) places
+abbrev pub bytes_or : Option (List ℕ) → List ℕ → List ℕ
+bytes_or None own = own
+bytes_or (Some bs) own = bs
 
--- the new bytes of the two sections that change
-abbrev pub info_found : PathMap → List ℕ → List ℕ → List ℕ
-info_found m b places = info_after m (order_of b) (contents_called b debug_info) (contents_called b debug_str) places
+-- the body of each section: the given one, else its own contents
+abbrev pub body_with : List ℕ → List Body → ℕ → List ℕ
+body_with b bodies i = bytes_or (bytes_given bodies i) (contents_of b i)
 
-abbrev pub str_found : PathMap → List ℕ → List ℕ → List ℕ
-str_found m b places = str_after m (order_of b) (contents_called b debug_info) (contents_called b debug_str) places
+-- a body is that of no section, or of one that has bytes in the file
+pub record Stands (b : List ℕ) (x : Body) : Type 0 where
+  pub within : x.number ≢ 0 → x.number < section_count b
+  pub full : x.number ≢ 0 → is_empty_kind (nth_section b x.number) ≡ false
 
--- the body of each section, where those of two are given
-abbrev pub body_with : List ℕ → Sections → List ℕ → List ℕ → ℕ → List ℕ
-body_with b s info str i = if is_number s.info i then info else (if is_number s.str i then str else contents_of b i)
+abbrev pub AllStand : List ℕ → List Body → Type 0
+AllStand b [] = ⊤
+AllStand b (x ∷ xs) = Stands b x × AllStand b xs
 
--- the body of each section in the output
-abbrev pub body_found : PathMap → List ℕ → Sections → List ℕ → ℕ → List ℕ
-body_found m b s places = body_with b s (info_found m b places) (str_found m b places)
+-- the bytes of an item
+abbrev pub item_bytes : Option (Vec ℕ Global) → Option (List ℕ)
+item_bytes None = None
+item_bytes (Some v) = Some v.items
 
--- what refuses a string table that is too long: it may not change where it stays
-abbrev pub long_refusal : List ℕ → Option ℕ → Refusal → Refusal
-long_refusal b None r = r
-long_refusal b (Some i) r = if is_fixed b (nth_section b i) then at Fixed i 0 else r
+-- there is one item for each section, with the bytes that are given for it
+pub record AreGiven (b : List ℕ) (items : List (Option (Vec ℕ Global))) (bodies : List Body) : Type 0 where
+  pub each : length items ≡ section_count b
+  pub given : (i : ℕ) → i < section_count b → item_bytes (item_of items i) ≡ bytes_given bodies i
 
-abbrev pub long_fault : List ℕ → Option ℕ → Fault → Fault
-long_fault b str NoMemory = NoMemory
-long_fault b str (Refused r) = Refused (long_refusal b str r)
+-- the items with one more body given
+pub record IsGiven (old new : List (Option (Vec ℕ Global))) (x : Body) : Type 0 where
+  pub size : length new ≡ length old
+  pub given : (i : ℕ) → i < length old → item_bytes (item_of new i) ≡ (if is_of x i then Some x.bytes else item_bytes (item_of old i))
 
--- the items with one more given, for a section
-abbrev pub with_item : List (Option (Vec ℕ Global)) → Option ℕ → Vec ℕ Global → List (Option (Vec ℕ Global))
-with_item items None v = items
-with_item items (Some i) v = slice_set items i (Some v)
+-- what refuses a table of texts that is too long, in the section of a number: it may not change where it stays, and makes
+-- the file too long where it is laid out anew
+abbrev pub long_refusal : List ℕ → ℕ → Refusal
+long_refusal b i = if is_fixed b (nth_section b i) then at Fixed i 0 else at TooLarge 0 0
 
--- no section is both
-pub record AreApart (info str : Option ℕ) : Type 0 where
-  pub apart : (i : ℕ) → is_number info i ≡ true → is_number str i ≡ false
+abbrev pub long_fault : List ℕ → Fault → Fault
+long_fault b NoMemory = NoMemory
+long_fault b (Refused r) = Refused (long_refusal b r.section)
 
--- items of sections: those of two are given, where they are there, and the others are none
-pub record AreGiven (items : List (Option (Vec ℕ Global))) (count : ℕ) (s : Sections) (info str : List ℕ) : Type 0 where
-  pub each : length items ≡ count
-  pub body : (i : ℕ) (own : List ℕ) → i < count
-      → given_or (item_of items i) own ≡ (if is_number s.info i then info else (if is_number s.str i then str else own))
-  pub others : (i : ℕ) → i < count → is_number s.info i ≡ false → is_number s.str i ≡ false → item_of items i ≡ None
+-- what is refused stands in a section of the file
+pub record IsInFile (b : List ℕ) (r : Refusal) : Type 0 where
+  pub within : r.section < section_count b

@@ -1,35 +1,38 @@
-//! The whole of a file rewritten: judged, read, changed, and written.
+//! The whole of a file rewritten: read, judged, its debug data changed, and written.
+//!
+//! Read first: `dw_meaning/specs/EditRows.antt` and `dw_meaning/specs/FileMeanings.antt`, then `specs/Rewritten.antt`.
 
-ghost use Rattle.std.specs.Prelude.{◌≡◌, ◌<◌, ◌≤◌, ℕ, List, length, OnOk, IfOk, IfErr};
-ghost use Rattle.std.specs.Option.{ForSome};
-ghost use Rattle.dw_meaning.specs.EditFails.{EditFails, IsAccepted, UnitsOf};
+ghost use Rattle.std.specs.Prelude.{◌≡◌, ◌≢◌, ◌<◌, ◌≤◌, ℕ, List, [], length, OnOk, IfOk, IfErr};
+ghost use Rattle.dw_meaning.specs.EditRows.{EditFails, IsAccepted};
 ghost use Rattle.dw_base.specs.Elf.{section_count};
-ghost use Rattle.dw_base.specs.ElfFails.{SegmentsRead};
+ghost use Rattle.dw_base.specs.ElfFails.{ElfReads, SegmentsRead};
+ghost use Rattle.dw_meaning.specs.FileMeanings.{IsOutput, MeaningKept, file_data};
+ghost use Rattle.dw_base.specs.FileViews.{view_of};
 ghost use Rattle.dw_base.specs.Layout.{output_limit, with_bodies};
 ghost use Rattle.dw_base.specs.LayoutFails.{LayoutFails, LayoutFits};
 ghost use Rattle.dw_base.specs.LayoutReads.{ReadsBack};
 ghost use Rattle.dw_meaning.specs.Loaded.{LoadedKept};
-ghost use Rattle.dw_meaning.specs.Mapped.{MeaningKept};
-ghost use Rattle.dw_meaning.specs.Output.{IsOutput};
 ghost use Rattle.dw_base.specs.Refusals.{Blames};
-ghost use Rattle.dw_rewrite.specs.Judged.{Found};
-ghost use Rattle.dw_rewrite.specs.Refuses.{Refuses};
-ghost use Rattle.dw_rewrite.specs.Rewritten.{AreApart, AreGiven, PlacesFound, body_found, body_with, bytes_at, info_found, long_fault, long_refusal, str_found, with_item};
+ghost use Rattle.dw_rewrite.specs.Bodies.{BodiesMade, PathsFound};
+ghost use Rattle.dw_rewrite.specs.Judged.{IsJudged};
+ghost use Rattle.dw_rewrite.specs.Rewritten.{AllStand, AreGiven, IsGiven, IsInFile, body_with, long_fault, long_refusal};
 
-use crate::change::{NewBytes, changed};
-use crate::judge::{Sections, debug_sections};
-use crate::refusal::fixed;
-use crate::units::places_in;
+use crate::bodies::{found_paths, new_bodies};
+use crate::found::UnitPaths;
+use crate::judge::judge;
+use crate::new_sections::Body;
+use crate::refusal::{fixed, too_large};
 use dw_base::{Fault, Refusal};
 use dw_paths::Maps;
+use dw_view::View;
 use elf_file::ElfFile;
 use elf_layout::emit;
 use std::alloc::{AllocError, Global};
 
-/// The file with each source path mapped: each offset of a path in `.debug_info` names the mapped
-/// text, which stands behind the old bytes of `.debug_str` where it differs, and the file is laid out
-/// anew. Refused only by a condition that holds in the file, at its place; where none holds, it is
-/// rewritten, or there was not enough memory.
+/// The file with each source path mapped: each field of a path's text names the mapped text, which stands behind the
+/// old bytes of its table where it differs; each path that stands in its value is mapped there; and the file is laid
+/// out anew. Refused only by a condition that holds in the file, at its place; where none holds, it is rewritten, or
+/// there was not enough memory.
 #[tactic(auto, using(crate::proofs::ExitLaws::rewrite_rules))]
 pub fn rewrite(alloc: Global, bytes: &[u8], maps: &Maps) -> Result<Vec<u8>, Fault>
     requires small { length bytes.now ≤ output_limit }
@@ -43,19 +46,32 @@ pub fn rewrite(alloc: Global, bytes: &[u8], maps: &Maps) -> Result<Vec<u8>, Faul
     ensures refused { IfErr result (Blames (EditFails maps.now bytes.now)) }
 {
     let elf = ElfFile::read(alloc, bytes)?;
-    let sections = debug_sections(&elf)?;
-    rewrite_found(alloc, &elf, sections, maps)
+    rewrite_elf(alloc, &elf, maps)
 }
 
-/// The file rewritten, where its sections of debug data were found.
-#[tactic(auto, using(crate::proofs::ExitLaws::found_rules))]
-fn rewrite_found(
-    alloc: Global,
-    elf: &ElfFile,
-    sections: Sections,
-    maps: &Maps,
-) -> Result<Vec<u8>, Fault>
-    requires found { Found elf.now.bytes.now sections }
+/// The file rewritten, where its records were read.
+#[tactic(auto, using(crate::proofs::ExitLaws::elf_rules))]
+fn rewrite_elf(alloc: Global, elf: &ElfFile, maps: &Maps) -> Result<Vec<u8>, Fault>
+    requires small { length elf.now.bytes.now ≤ output_limit }
+    requires reads { ElfReads elf.now.bytes.now }
+    ensures accepted { OnOk result (IsAccepted maps.now elf.now.bytes.now) }
+    ensures output { IfOk result (λ out. IsOutput maps.now elf.now.bytes.now out.items) }
+    ensures only { IfOk result (λ out. (o : List ℕ) → IsOutput maps.now elf.now.bytes.now o → o ≡ out.items) }
+    ensures meaning { IfOk result (λ out. MeaningKept maps.now elf.now.bytes.now out.items) }
+    ensures loaded { IfOk result (λ out. LoadedKept elf.now.bytes.now out.items) }
+    ensures refused { IfErr result (Blames (EditFails maps.now elf.now.bytes.now)) }
+{
+    let view = View::one(elf)?;
+    judge(elf, &view)?;
+    rewrite_judged(alloc, elf, &view, maps)
+}
+
+/// The file rewritten, where it was judged.
+#[tactic(auto, using(crate::proofs::ExitLaws::judged_rules))]
+fn rewrite_judged(alloc: Global, elf: &ElfFile, view: &View, maps: &Maps) -> Result<Vec<u8>, Fault>
+    requires small { length elf.now.bytes.now ≤ output_limit }
+    requires judged { IsJudged elf.now.bytes.now }
+    requires view { view.now ≡ view_of elf.now.bytes.now }
     ensures accepted { OnOk result (IsAccepted maps.now elf.now.bytes.now) }
     ensures output { IfOk result (λ out. IsOutput maps.now elf.now.bytes.now out.items) }
     ensures only { IfOk result (λ out. (o : List ℕ) → IsOutput maps.now elf.now.bytes.now o → o ≡ out.items) }
@@ -65,134 +81,135 @@ fn rewrite_found(
 {
     // What a map obeys is known where one of its fields is used: no text that it makes has a NUL.
     let _ = &maps.base;
-    let places = found_places(alloc, elf, sections)?;
-    let new = new_bytes(alloc, elf, sections, &places, maps)?;
-    let out = written(alloc, elf, sections, new)?;
+    let bodies = made_bodies(alloc, elf, view, maps)?;
+    let out = written(alloc, elf, bodies)?;
     Ok(out)
 }
 
-/// The bytes of a section, none where there is none.
-fn bytes_of<'a>(elf: &'a ElfFile, section: Option<u32>) -> &'a [u8]
-    requires there { ForSome section (λ i. i < section_count elf.now.bytes.now) }
-    ensures { result.now ≡ bytes_at elf.now.bytes.now section }
+/// The new bytes of the sections that change.
+fn made_bodies(alloc: Global, elf: &ElfFile, view: &View, maps: &Maps) -> Result<Vec<Body>, Fault>
+    requires small { length elf.now.bytes.now ≤ output_limit }
+    requires judged { IsJudged elf.now.bytes.now }
+    requires view { view.now ≡ view_of elf.now.bytes.now }
+    ensures made { IfOk result (λ bodies. BodiesMade maps.now (file_data elf.now.bytes.now) bodies.items) }
+    ensures refused { IfErr result (Blames (EditFails maps.now elf.now.bytes.now)) }
 {
-    match section {
-        Some(index) => elf.contents(index),
-        None => &elf.bytes[..0],
-    }
+    let paths = paths_in(alloc, elf, view, maps)?;
+    bodies_in(alloc, elf, view, maps, &paths)
 }
 
-/// The places of the paths in the sections that were found.
-#[tactic(auto, using(crate::proofs::RewriteLaws::read_rules))]
-fn found_places(alloc: Global, elf: &ElfFile, sections: Sections) -> Result<Vec<u64>, Fault>
-    requires found { Found elf.now.bytes.now sections }
-    ensures read { IfOk result (λ places. PlacesFound elf.now.bytes.now places.items) }
-    ensures refused { IfErr result (Blames (Refuses (UnitsOf elf.now.bytes.now))) }
+/// What the units of the file say of paths.
+#[tactic(auto, using(crate::proofs::ExitLaws::paths_rules))]
+fn paths_in(alloc: Global, elf: &ElfFile, view: &View, maps: &Maps) -> Result<Vec<UnitPaths>, Fault>
+    requires judged { IsJudged elf.now.bytes.now }
+    requires view { view.now ≡ view_of elf.now.bytes.now }
+    ensures found { IfOk result (λ paths. PathsFound maps.now (file_data elf.now.bytes.now) paths.items) }
+    ensures refused { IfErr result (Blames (EditFails maps.now elf.now.bytes.now)) }
 {
-    let info = bytes_of(elf, sections.info);
-    let abbrevs = bytes_of(elf, sections.abbrev);
-    let str = bytes_of(elf, sections.str);
-    places_in(alloc, elf.order, info, abbrevs, str)
+    let paths = found_paths(alloc, view, maps)?;
+    Ok(paths)
 }
 
-/// The new bytes of the two sections that change.
-#[tactic(auto, using(crate::proofs::RewriteLaws::bytes_rules))]
-fn new_bytes(
+/// The new bytes of the sections that change, by what the units say of paths.
+#[tactic(auto, using(crate::proofs::ExitLaws::bodies_rules))]
+fn bodies_in(
     alloc: Global,
     elf: &ElfFile,
-    sections: Sections,
-    places: &[u64],
+    view: &View,
     maps: &Maps,
-) -> Result<NewBytes, Fault>
-    requires found { Found elf.now.bytes.now sections }
-    requires read { PlacesFound elf.now.bytes.now places.now }
-    ensures info { IfOk result (λ new. new.info.items ≡ info_found maps.now elf.now.bytes.now places.now) }
-    ensures str { IfOk result (λ new. new.str.items ≡ str_found maps.now elf.now.bytes.now places.now) }
-    ensures refused { IfErr result (Blames (LayoutFails elf.now.bytes.now (body_found maps.now elf.now.bytes.now sections places.now))) }
+    paths: &[UnitPaths],
+) -> Result<Vec<Body>, Fault>
+    requires small { length elf.now.bytes.now ≤ output_limit }
+    requires judged { IsJudged elf.now.bytes.now }
+    requires view { view.now ≡ view_of elf.now.bytes.now }
+    requires found { PathsFound maps.now (file_data elf.now.bytes.now) paths.now }
+    ensures made { IfOk result (λ bodies. BodiesMade maps.now (file_data elf.now.bytes.now) bodies.items) }
+    ensures refused { IfErr result (Blames (EditFails maps.now elf.now.bytes.now)) }
 {
-    let info = bytes_of(elf, sections.info);
-    let str = bytes_of(elf, sections.str);
-    match changed(alloc, elf.order, info, str, places, maps) {
-        Ok(new) => Ok(new),
-        Err(fault) => Err(refuse_long(elf, sections.str, fault)),
+    match new_bodies(alloc, view, maps, paths) {
+        Ok(bodies) => Ok(bodies),
+        Err(fault) => Err(long_fault(elf, fault)),
     }
 }
 
-/// The fault of a string table that is too long.
-fn refuse_long(elf: &ElfFile, str: Option<u32>, fault: Fault) -> Fault
+/// The fault of a table of texts that is too long.
+fn long_fault(elf: &ElfFile, fault: Fault) -> Fault
     requires segments { SegmentsRead elf.now.bytes.now }
-    requires there { ForSome str (λ i. i < section_count elf.now.bytes.now) }
-    ensures { result ≡ long_fault elf.now.bytes.now str fault }
+    requires there { Blames (IsInFile elf.now.bytes.now) fault }
+    ensures { result ≡ long_fault elf.now.bytes.now fault }
 {
     match fault {
         Fault::NoMemory => Fault::NoMemory,
-        Fault::Refused(refusal) => Fault::Refused(long_refusal(elf, str, refusal)),
+        Fault::Refused(refusal) => Fault::Refused(long_refusal(elf, refusal.section)),
     }
 }
 
-/// What refuses a string table that is too long: a section that stays may not change, and one that is
-/// laid out anew makes the file too long.
-fn long_refusal(elf: &ElfFile, str: Option<u32>, refusal: Refusal) -> Refusal
+/// What refuses a table of texts that is too long, in the section of a number: one that stays may not change, and one
+/// that is laid out anew makes the file too long.
+fn long_refusal(elf: &ElfFile, section: u32) -> Refusal
     requires segments { SegmentsRead elf.now.bytes.now }
-    requires there { ForSome str (λ i. i < section_count elf.now.bytes.now) }
-    ensures { result ≡ long_refusal elf.now.bytes.now str refusal }
+    requires there { section < section_count elf.now.bytes.now }
+    ensures { result ≡ long_refusal elf.now.bytes.now section }
 {
-    let Some(section) = str else {
-        return refusal;
-    };
     if elf.is_fixed(section) {
         return fixed(section);
     }
-    refusal
+    too_large()
 }
 
-/// The file written with new bytes of the two sections.
-#[tactic(auto, using(crate::proofs::ExitLaws::written_rules))]
-fn written(
-    alloc: Global,
-    elf: &ElfFile,
-    sections: Sections,
-    new: NewBytes,
-) -> Result<Vec<u8>, Fault>
-    requires found { Found elf.now.bytes.now sections }
-    ensures file { IfOk result (λ out. out.items ≡ with_bodies elf.now.bytes.now (body_with elf.now.bytes.now sections new.info.items new.str.items)) }
-    ensures back { IfOk result (λ out. ReadsBack elf.now.bytes.now (body_with elf.now.bytes.now sections new.info.items new.str.items) out.items) }
-    ensures fits { OnOk result (LayoutFits elf.now.bytes.now (body_with elf.now.bytes.now sections new.info.items new.str.items)) }
-    ensures refused { IfErr result (Blames (LayoutFails elf.now.bytes.now (body_with elf.now.bytes.now sections new.info.items new.str.items))) }
+/// The file written with new bytes of some sections.
+#[tactic(auto, using(crate::proofs::WrittenLaws::written_rules))]
+fn written(alloc: Global, elf: &ElfFile, bodies: Vec<Body>) -> Result<Vec<u8>, Fault>
+    requires reads { ElfReads elf.now.bytes.now }
+    requires stand { AllStand elf.now.bytes.now bodies.items }
+    ensures file { IfOk result (λ out. out.items ≡ with_bodies elf.now.bytes.now (body_with elf.now.bytes.now bodies.items)) }
+    ensures back { IfOk result (λ out. ReadsBack elf.now.bytes.now (body_with elf.now.bytes.now bodies.items) out.items) }
+    ensures fits { OnOk result (LayoutFits elf.now.bytes.now (body_with elf.now.bytes.now bodies.items)) }
+    ensures refused { IfErr result (Blames (LayoutFails elf.now.bytes.now (body_with elf.now.bytes.now bodies.items))) }
 {
-    let contents = contents_of(alloc, elf.section_count() as usize, sections, new)?;
+    let contents = contents_of(alloc, elf, bodies)?;
     let out = emit(alloc, elf, &contents)?;
     Ok(out)
 }
 
-/// The items of so many sections: new bytes for two, where they are there, and none for the others.
-#[tactic(auto, using(crate::proofs::RewriteLaws::given_rules))]
+/// An item for each section: its new bytes, where some are given.
+#[tactic(auto, using(crate::proofs::GivenLaws::given_rules))]
 fn contents_of(
     alloc: Global,
-    count: usize,
-    sections: Sections,
-    new: NewBytes,
+    elf: &ElfFile,
+    mut bodies: Vec<Body>,
 ) -> Result<Vec<Option<Vec<u8>>>, AllocError>
-    requires info { ForSome sections.info (λ i. i < count) }
-    requires str { ForSome sections.str (λ i. i < count) }
-    requires apart { AreApart sections.info sections.str }
-    ensures { IfOk result (λ items. AreGiven items.items count sections new.info.items new.str.items) }
+    requires stand { AllStand elf.now.bytes.now bodies.items }
+    ensures { IfOk result (λ items. AreGiven elf.now.bytes.now items.items bodies.items) }
 {
-    let mut items = Vec::with_capacity(alloc, count)?;
-    for _i in 0..count {
-        items.push(None)?;
+    let mut items = no_contents(alloc, elf)?;
+    while let Some(body) = bodies.pop() {
+        give(&mut items, body);
     }
-    give(&mut items, sections.info, new.info);
-    give(&mut items, sections.str, new.str);
     Ok(items)
 }
 
-/// Gives the bytes of a section, where it is there.
-fn give(items: &mut [Option<Vec<u8>>], section: Option<u32>, bytes: Vec<u8>)
-    requires { ForSome section (λ i. i < length items.old) }
-    ensures { items.new ≡ with_item items.old section bytes }
+/// An item for each section, none given.
+#[tactic(auto, using(crate::proofs::GivenLaws::none_rules))]
+fn no_contents(alloc: Global, elf: &ElfFile) -> Result<Vec<Option<Vec<u8>>>, AllocError>
+    ensures { IfOk result (λ items. AreGiven elf.now.bytes.now items.items []) }
 {
-    if let Some(index) = section {
-        items[index as usize] = Some(bytes);
+    let count = elf.section_count();
+    let mut items = Vec::with_capacity(alloc, count as usize)?;
+    for _i in 0..count {
+        items.push(None)?;
+    }
+    Ok(items)
+}
+
+/// Gives the bytes of a body to its section.
+#[tactic(auto, using(crate::proofs::GivenLaws::give_rules))]
+fn give(items: &mut [Option<Vec<u8>>], body: Body)
+    requires there { body.number ≢ 0 → body.number < length items.old }
+    ensures given { IsGiven items.old items.new body }
+{
+    let Body { section, bytes } = body;
+    if section != 0 {
+        items[section as usize] = Some(bytes);
     }
 }

@@ -1,23 +1,27 @@
 //! Files with mapped source paths: what an edit makes of a file.
 //!
-//! This layer promises: a file of either class and byte order is refused only by a condition that holds
-//! in it, at its place; want of memory aside, every other file is rewritten, and the output is the
-//! defined one, byte for byte.
-//! It does not promise: anything of how the file came from disk, or goes back to it.
-//! Read first: `dw_meaning/specs/EditFails.antt` and `dw_meaning/specs/Output.antt`.
+//! Read first: `dw_meaning/specs/EditRows.antt` and `dw_meaning/specs/DataOutput.antt`.
 #![tactic(auto)]
 
+mod all_sections;
 mod asks;
+mod bodies;
 mod change;
+mod fields;
 mod file;
 #[cfg(test)]
 mod fixtures;
+mod found;
+mod inline;
 mod judge;
 mod known;
+mod new_sections;
 mod refusal;
-mod table;
+mod sections;
 #[cfg(test)]
 mod tests;
+mod tables;
+mod texts;
 mod units;
 
 pub use file::rewrite;

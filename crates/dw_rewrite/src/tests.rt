@@ -1,202 +1,777 @@
-//! Worked examples. The expected bytes are another program's, and `readelf` reads each of them.
+//! Worked examples: what becomes of files, and what refuses them. The expected bytes and places are those of another
+//! program, written from the same rules; what isn't taken yet that program doesn't say.
 
 use crate::file::rewrite;
-use crate::fixtures::{
-    BIG_ENDIAN, BIG_ENDIAN_OUT, EMPTY_BEHIND, EMPTY_BEHIND_OUT, NO_UNITS, ONE_UNIT, ONE_UNIT_OUT,
-    PAST_THE_END, SHARED_TEXT, SHARED_TEXT_OUT, TWO_UNITS, TWO_UNITS_OUT, WITH_SEGMENT,
-    WITH_SEGMENT_OUT,
-};
-use dw_base::{Fault, Kind, Refusal};
+use crate::fixtures::{Change, Row, Shape, file_of};
+use dw_base::elf_numbers::{ET_EXEC, ET_REL, SHF_ALLOC, SHF_COMPRESSED};
+use dw_base::{Class, Fault, Kind, Order, Refusal};
 use dw_paths::Maps;
 use std::alloc::Global;
 use std::test::Fail;
 
-/// The file rewritten, with paths under one folder moved to another; no memory where it is longer than
-/// any file that is read.
-fn rewritten(alloc: Global, bytes: &[u8]) -> Result<Vec<u8>, Fault> {
+/// A file, a map of paths, and what becomes of the file: the new bytes of the sections that change, or what refuses it.
+struct Case {
+    /// What the case shows.
+    shows: &'static str,
+    /// What the file is beside its sections.
+    shape: Shape,
+    /// Its sections from number 1 on.
+    sections: &'static [Row],
+    /// The folder of the paths that are mapped, and the folder that takes its place.
+    maps: (&'static [u8], &'static [u8]),
+    /// The output, by the sections that change; or the refusal's kind, section and offset.
+    result: Result<&'static [Change], (Kind, u32, u64)>,
+}
+
+/// An executable file of 64 bits, a relocatable one, a dump of a process, and an executable file of 32 bits in the
+/// other byte order.
+const EXEC: Shape = Shape {
+    class: Class::C64,
+    order: Order::Little,
+    kind: ET_EXEC,
+};
+
+const REL: Shape = Shape {
+    class: Class::C64,
+    order: Order::Little,
+    kind: ET_REL,
+};
+
+const CORE: Shape = Shape {
+    class: Class::C64,
+    order: Order::Little,
+    kind: 4,
+};
+
+const BIG_32: Shape = Shape {
+    class: Class::C32,
+    order: Order::Big,
+    kind: ET_EXEC,
+};
+
+const MAPS: (&[u8], &[u8]) = (b"/build/p", b"/usr/src/debug/p");
+
+const INFO: &[u8] = b".debug_info";
+
+const ABBREV: &[u8] = b".debug_abbrev";
+
+const STR: &[u8] = b".debug_str";
+
+/// A unit of version 4 with one entry, its name and its directory; the table of its abbreviation; and their texts.
+const ONE_UNIT: Row = (INFO, 0, &[UNIT_4, ROOT_4]);
+
+const ONE_TABLE: Row = (ABBREV, 0, &[TABLE]);
+
+const TWO_TEXTS: Row = (STR, 0, &[TEXTS]);
+
+const UNIT_4: &[u8] = b"\x10\0\0\0\x04\0\0\0\0\0\x08";
+
+const ROOT_4: &[u8] = b"\x01\0\0\0\0\x0d\0\0\0";
+
+const TABLE: &[u8] = b"\x01\x11\0\x03\x0e\x1b\x0e\0\0\0";
+
+const TEXTS: &[u8] = b"/build/p/a.c\0/build/p\0";
+
+/// The entry with its new offsets, and the texts that stand behind the old ones.
+const NEW_ROOT_4: &[u8] = b"\x01\x16\0\0\0+\0\0\0";
+
+const NEW_TEXTS: &[u8] = b"/usr/src/debug/p/a.c\0/usr/src/debug/p\0";
+
+const CASES: [Case; 31] = [
+    Case {
+        shows: "the paths of a unit are mapped",
+        shape: EXEC,
+        sections: &[ONE_UNIT, ONE_TABLE, TWO_TEXTS],
+        maps: MAPS,
+        result: Ok(&[(1, &[UNIT_4, NEW_ROOT_4]), (3, &[TEXTS, NEW_TEXTS])]),
+    },
+    Case {
+        shows: "a variable that shares its offset with a path keeps its text",
+        shape: EXEC,
+        sections: &[
+            (
+                INFO,
+                0,
+                &[
+                    b"\x16\0\0\0\x04\0\0\0\0\0\x08",
+                    ROOT_4,
+                    b"\x02\x0d\0\0\0",
+                    b"\0",
+                ],
+            ),
+            (
+                ABBREV,
+                0,
+                &[
+                    b"\x01\x11\x01\x03\x0e\x1b\x0e\0\0",
+                    b"\x024\0\x03\x0e\0\0\0",
+                ],
+            ),
+            TWO_TEXTS,
+        ],
+        maps: MAPS,
+        result: Ok(&[
+            (
+                1,
+                &[
+                    b"\x16\0\0\0\x04\0\0\0\0\0\x08",
+                    NEW_ROOT_4,
+                    b"\x02\x0d\0\0\0",
+                    b"\0",
+                ],
+            ),
+            (3, &[TEXTS, NEW_TEXTS]),
+        ]),
+    },
+    Case {
+        shows: "references from one unit of 64-bit DWARF into another stay",
+        shape: EXEC,
+        sections: &[
+            (
+                INFO,
+                0,
+                &[
+                    b"\xff\xff\xff\xff&\0\0\0\0\0\0\0\x04\0\0\0\0\0\0\0\0\0\x08",
+                    b"\x01\0\0\0\0\0\0\0\0\x0d\0\0\0\0\0\0\0",
+                    b"\x02Z\0\0\0\0\0\0\0",
+                    b"\0",
+                    b"\xff\xff\xff\xff&\0\0\0\0\0\0\0\x04\0\0\0\0\0\0\0\0\0\x08",
+                    b"\x01\x0d\0\0\0\0\0\0\0\x0d\0\0\0\0\0\0\0",
+                    b"\x02(\0\0\0\0\0\0\0",
+                    b"\0",
+                ],
+            ),
+            (
+                ABBREV,
+                0,
+                &[b"\x01\x11\x01\x03\x0e\x1b\x0e\0\0", b"\x024\0I\x10\0\0\0"],
+            ),
+            TWO_TEXTS,
+        ],
+        maps: MAPS,
+        result: Ok(&[
+            (
+                1,
+                &[
+                    b"\xff\xff\xff\xff&\0\0\0\0\0\0\0\x04\0\0\0\0\0\0\0\0\0\x08",
+                    b"\x01\x16\0\0\0\0\0\0\0+\0\0\0\0\0\0\0",
+                    b"\x02Z\0\0\0\0\0\0\0",
+                    b"\0",
+                    b"\xff\xff\xff\xff&\0\0\0\0\0\0\0\x04\0\0\0\0\0\0\0\0\0\x08",
+                    b"\x01+\0\0\0\0\0\0\0+\0\0\0\0\0\0\0",
+                    b"\x02(\0\0\0\0\0\0\0",
+                    b"\0",
+                ],
+            ),
+            (3, &[TEXTS, NEW_TEXTS]),
+        ]),
+    },
+    Case {
+        shows: "a reference of version 2 has the size of an address; a path in its value is filled up",
+        shape: EXEC,
+        sections: &[
+            (
+                INFO,
+                0,
+                &[
+                    b"\x1f\0\0\0\x02\0\0\0\0\0\x08",
+                    b"\x01\0\0\0\0/build/p\0",
+                    b"\x02\x19\0\0\0\0\0\0\0",
+                    b"\0",
+                ],
+            ),
+            (
+                ABBREV,
+                0,
+                &[b"\x01\x11\x01\x03\x0e\x1b\x08\0\0", b"\x024\0I\x10\0\0\0"],
+            ),
+            TWO_TEXTS,
+        ],
+        maps: (b"/build/p", b"/b"),
+        result: Ok(&[
+            (
+                1,
+                &[
+                    b"\x1f\0\0\0\x02\0\0\0\0\0\x08",
+                    b"\x01\x16\0\0\0/b//////\0",
+                    b"\x02\x19\0\0\0\0\0\0\0",
+                    b"\0",
+                ],
+            ),
+            (3, &[TEXTS, b"/b/a.c\0"]),
+        ]),
+    },
+    Case {
+        shows: "units of .debug_types are mapped beside those of .debug_info",
+        shape: EXEC,
+        sections: &[
+            ONE_UNIT,
+            (
+                b".debug_types",
+                0,
+                &[
+                    b"\x1b\0\0\0\x04\0\0\0\0\0\x08\x88wfUD3\"\x11\x1c\0\0\0",
+                    b"\x02\x0d\0\0\0",
+                    b"\x03\x04",
+                    b"\0",
+                ],
+            ),
+            (
+                ABBREV,
+                0,
+                &[
+                    b"\x01\x11\0\x03\x0e\x1b\x0e\0\0",
+                    b"\x02A\x01\x1b\x0e\0\0",
+                    b"\x03\x13\0\x0b\x0b\0\0\0",
+                ],
+            ),
+            TWO_TEXTS,
+        ],
+        maps: MAPS,
+        result: Ok(&[
+            (1, &[UNIT_4, NEW_ROOT_4]),
+            (
+                2,
+                &[
+                    b"\x1b\0\0\0\x04\0\0\0\0\0\x08\x88wfUD3\"\x11\x1c\0\0\0",
+                    b"\x02+\0\0\0",
+                    b"\x03\x04",
+                    b"\0",
+                ],
+            ),
+            (4, &[TEXTS, NEW_TEXTS]),
+        ]),
+    },
+    Case {
+        shows: "units of version 5 are of a compilation, a type or a part",
+        shape: EXEC,
+        sections: &[
+            (
+                INFO,
+                0,
+                &[
+                    b"\x11\0\0\0\x05\0\x01\x08\0\0\0\0",
+                    ROOT_4,
+                    b"\x1c\0\0\0\x05\0\x02\x08\0\0\0\0\x88wfUD3\"\x11\x1d\0\0\0",
+                    b"\x02\x0d\0\0\0",
+                    b"\x03\x04",
+                    b"\0",
+                    b"\x0d\0\0\0\x05\0\x03\x08\0\0\0\0",
+                    b"\x04\x03\0\0\0",
+                ],
+            ),
+            (
+                ABBREV,
+                0,
+                &[
+                    b"\x01\x11\0\x03\x1f\x1b\x1f\0\0",
+                    b"\x02A\x01\x1b\x1f\0\0",
+                    b"\x03\x13\0\x0b\x0b\0\0",
+                    b"\x04<\0\x1b\x0e\0\0\0",
+                ],
+            ),
+            (b".debug_line_str", 0, &[TEXTS]),
+            (STR, 0, &[b"/x\0/build/p/in\0"]),
+        ],
+        maps: MAPS,
+        result: Ok(&[
+            (
+                1,
+                &[
+                    b"\x11\0\0\0\x05\0\x01\x08\0\0\0\0",
+                    NEW_ROOT_4,
+                    b"\x1c\0\0\0\x05\0\x02\x08\0\0\0\0\x88wfUD3\"\x11\x1d\0\0\0",
+                    b"\x02+\0\0\0",
+                    b"\x03\x04",
+                    b"\0",
+                    b"\x0d\0\0\0\x05\0\x03\x08\0\0\0\0",
+                    b"\x04\x0f\0\0\0",
+                ],
+            ),
+            (3, &[TEXTS, NEW_TEXTS]),
+            (4, &[b"/x\0/build/p/in\0", b"/usr/src/debug/p/in\0"]),
+        ]),
+    },
+    Case {
+        shows: "nulls may stand around the root, and a code may have three bytes",
+        shape: EXEC,
+        sections: &[
+            (
+                INFO,
+                0,
+                &[
+                    b"\x17\0\0\0\x04\0\0\0\0\0\x08",
+                    b"\0\0",
+                    b"\x81\x80\x01\0\0\0\0\x0d\0\0\0",
+                    b"\0\0\0",
+                ],
+            ),
+            (ABBREV, 0, &[b"\x81\x80\x01\x11\0\x03\x0e\x1b\x0e\0\0\0"]),
+            TWO_TEXTS,
+        ],
+        maps: MAPS,
+        result: Ok(&[
+            (
+                1,
+                &[
+                    b"\x17\0\0\0\x04\0\0\0\0\0\x08",
+                    b"\0\0",
+                    b"\x81\x80\x01\x16\0\0\0+\0\0\0",
+                    b"\0\0\0",
+                ],
+            ),
+            (3, &[TEXTS, NEW_TEXTS]),
+        ]),
+    },
+    Case {
+        shows: "a value of each form is passed, and a form in front is that of a path",
+        shape: EXEC,
+        sections: &[
+            (
+                INFO,
+                0,
+                &[
+                    b"\x92\0\0\0\x05\0\x01\x08\0\0\0\0",
+                    b"\x01\0\0\0\0\x0e\x0d\0\0\0",
+                    b"\x02",
+                    b"\0\x10\0\0\0\0\0\0",
+                    b"\x02\0ab",
+                    b"\x01\0\0\0c",
+                    b"\x02\0",
+                    b"\x03\0\0\0",
+                    b"\x04\0\0\0\0\0\0\0",
+                    b"/build/p\0",
+                    b"\x02de",
+                    b"\x01f",
+                    b"\x05",
+                    b"\x01",
+                    b"\x7f",
+                    b"\x0d\0\0\0",
+                    b"\x80\x01",
+                    b"\x16\0\0\0",
+                    b"\x16",
+                    b"\x16\0",
+                    b"\x16\0\0\0",
+                    b"\x16\0\0\0\0\0\0\0",
+                    b"\x16",
+                    b"\x0e\x0d\0\0\0",
+                    b"\0\0\0\0",
+                    b"\x010",
+                    b"\0",
+                    b"\0\x01\x02\x03\x04\x05\x06\x07\x08\x09\x0a\x0b\x0c\x0d\x0e\x0f",
+                    b"\0\0\0\0",
+                    b"\x07\0\0\0\0\0\0\0",
+                    b"\0",
+                    b"\0",
+                    b"\0",
+                    b"\0\0",
+                    b"\0\0\0",
+                    b"\0\0\0\0",
+                    b"\0",
+                ],
+            ),
+            (
+                ABBREV,
+                0,
+                &[
+                    b"\x01\x11\x01\x03\x1f\x1b\x16\0\0",
+                    b"\x024\0",
+                    b"\x02\x01",
+                    b"\x02\x03",
+                    b"\x02\x04",
+                    b"\x02\x05",
+                    b"\x02\x06",
+                    b"\x02\x07",
+                    b"\x02\x08",
+                    b"\x02\x09",
+                    b"\x02\x0a",
+                    b"\x02\x0b",
+                    b"\x02\x0c",
+                    b"\x02\x0d",
+                    b"\x02\x0e",
+                    b"\x02\x0f",
+                    b"\x02\x10",
+                    b"\x02\x11",
+                    b"\x02\x12",
+                    b"\x02\x13",
+                    b"\x02\x14",
+                    b"\x02\x15",
+                    b"\x02\x16",
+                    b"\x02\x17",
+                    b"\x02\x18",
+                    b"\x02\x19",
+                    b"\x02\x1b",
+                    b"\x02\x1e",
+                    b"\x02\x1f",
+                    b"\x02 ",
+                    b"\x02!\x05",
+                    b"\x02\"",
+                    b"\x02#",
+                    b"\x02)",
+                    b"\x02*",
+                    b"\x02+",
+                    b"\x02,",
+                    b"\0\0\0",
+                ],
+            ),
+            (b".debug_line_str", 0, &[TEXTS]),
+            TWO_TEXTS,
+        ],
+        maps: MAPS,
+        result: Ok(&[
+            (
+                1,
+                &[
+                    b"\x92\0\0\0\x05\0\x01\x08\0\0\0\0",
+                    b"\x01\x16\0\0\0\x0e\x16\0\0\0",
+                    b"\x02",
+                    b"\0\x10\0\0\0\0\0\0",
+                    b"\x02\0ab",
+                    b"\x01\0\0\0c",
+                    b"\x02\0",
+                    b"\x03\0\0\0",
+                    b"\x04\0\0\0\0\0\0\0",
+                    b"/build/p\0",
+                    b"\x02de",
+                    b"\x01f",
+                    b"\x05",
+                    b"\x01",
+                    b"\x7f",
+                    b"\x0d\0\0\0",
+                    b"\x80\x01",
+                    b"\x16\0\0\0",
+                    b"\x16",
+                    b"\x16\0",
+                    b"\x16\0\0\0",
+                    b"\x16\0\0\0\0\0\0\0",
+                    b"\x16",
+                    b"\x0e\x0d\0\0\0",
+                    b"\0\0\0\0",
+                    b"\x010",
+                    b"\0",
+                    b"\0\x01\x02\x03\x04\x05\x06\x07\x08\x09\x0a\x0b\x0c\x0d\x0e\x0f",
+                    b"\0\0\0\0",
+                    b"\x07\0\0\0\0\0\0\0",
+                    b"\0",
+                    b"\0",
+                    b"\0",
+                    b"\0\0",
+                    b"\0\0\0",
+                    b"\0\0\0\0",
+                    b"\0",
+                ],
+            ),
+            (3, &[TEXTS, b"/usr/src/debug/p/a.c\0"]),
+            (4, &[TEXTS, b"/usr/src/debug/p\0"]),
+        ]),
+    },
+    Case {
+        shows: "a file of 32 bits is rewritten in its own order",
+        shape: BIG_32,
+        sections: &[
+            (
+                INFO,
+                0,
+                &[b"\0\0\0\x10\0\x04\0\0\0\0\x04", b"\x01\0\0\0\0\0\0\0\x0d"],
+            ),
+            ONE_TABLE,
+            TWO_TEXTS,
+        ],
+        maps: MAPS,
+        result: Ok(&[
+            (
+                1,
+                &[b"\0\0\0\x10\0\x04\0\0\0\0\x04", b"\x01\0\0\0\x16\0\0\0+"],
+            ),
+            (3, &[TEXTS, NEW_TEXTS]),
+        ]),
+    },
+    Case {
+        shows: "paths that lie elsewhere stay",
+        shape: EXEC,
+        sections: &[ONE_UNIT, ONE_TABLE, TWO_TEXTS],
+        maps: (b"/build/q", b"/usr/src/debug/q"),
+        result: Ok(&[]),
+    },
+    Case {
+        shows: "a file without units stays",
+        shape: EXEC,
+        sections: &[(INFO, 0, &[]), ONE_TABLE, TWO_TEXTS],
+        maps: MAPS,
+        result: Ok(&[]),
+    },
+    Case {
+        shows: "a path in its value would grow",
+        shape: EXEC,
+        sections: &[
+            (
+                INFO,
+                0,
+                &[
+                    b"\x1f\0\0\0\x04\0\0\0\0\0\x08",
+                    b"\x01/build/package-1.0/a.c\0",
+                ],
+            ),
+            (ABBREV, 0, &[b"\x01\x11\0\x03\x08\0\0\0"]),
+            (STR, 0, &[]),
+        ],
+        maps: (b"/build/package-1.0", b"/usr/src/debug/package-1.0-1"),
+        result: Err((Kind::InlineGrows, 1, 12)),
+    },
+    Case {
+        shows: "a type of no file that is handled",
+        shape: CORE,
+        sections: &[ONE_UNIT, ONE_TABLE, TWO_TEXTS],
+        maps: MAPS,
+        result: Err((Kind::FileType, 0, 16)),
+    },
+    Case {
+        shows: "a relocatable file",
+        shape: REL,
+        sections: &[ONE_UNIT, ONE_TABLE, TWO_TEXTS],
+        maps: MAPS,
+        result: Err((Kind::Unbuilt, 0, 0)),
+    },
+    Case {
+        shows: "a section of line tables",
+        shape: EXEC,
+        sections: &[ONE_UNIT, ONE_TABLE, TWO_TEXTS, (b".debug_line", 0, &[])],
+        maps: MAPS,
+        result: Err((Kind::Unbuilt, 0, 0)),
+    },
+    Case {
+        shows: ".debug_info that is loaded",
+        shape: EXEC,
+        sections: &[(INFO, SHF_ALLOC, &[UNIT_4, ROOT_4]), ONE_TABLE, TWO_TEXTS],
+        maps: MAPS,
+        result: Err((Kind::Fixed, 1, 0)),
+    },
+    Case {
+        shows: "a compressed section",
+        shape: EXEC,
+        sections: &[ONE_UNIT, ONE_TABLE, (STR, SHF_COMPRESSED, &[TEXTS])],
+        maps: MAPS,
+        result: Err((Kind::Compressed, 3, 0)),
+    },
+    Case {
+        shows: "two sections of one name",
+        shape: EXEC,
+        sections: &[ONE_UNIT, ONE_TABLE, TWO_TEXTS, TWO_TEXTS],
+        maps: MAPS,
+        result: Err((Kind::Twice, 4, 0)),
+    },
+    Case {
+        shows: "a unit that passes the end, behind one that is whole",
+        shape: EXEC,
+        sections: &[
+            (
+                INFO,
+                0,
+                &[
+                    UNIT_4,
+                    ROOT_4,
+                    b"\x11\0\0\0\x04\0\0\0\0\0\x08\x01\0\0\0\0\x0d\0\0\0",
+                ],
+            ),
+            ONE_TABLE,
+            TWO_TEXTS,
+        ],
+        maps: MAPS,
+        result: Err((Kind::Unit, 1, 20)),
+    },
+    Case {
+        shows: "a skeleton unit",
+        shape: EXEC,
+        sections: &[
+            (
+                INFO,
+                0,
+                &[
+                    b"\x19\0\0\0\x05\0\x04\x08\0\0\0\0\x01\0\0\0\0\0\0\0",
+                    ROOT_4,
+                ],
+            ),
+            ONE_TABLE,
+            TWO_TEXTS,
+        ],
+        maps: MAPS,
+        result: Err((Kind::SplitDwarf, 1, 0)),
+    },
+    Case {
+        shows: "a code that stands twice",
+        shape: EXEC,
+        sections: &[
+            (INFO, 0, &[b"\x10\0\0\0\x04\0\x02\0\0\0\x08", ROOT_4]),
+            (
+                ABBREV,
+                0,
+                &[
+                    b"\0\0",
+                    b"\x01\x11\0\x03\x0e\x1b\x0e\0\0",
+                    b"\x01\x11\0\x03\x0e\x1b\x0e\0\0\0",
+                ],
+            ),
+            TWO_TEXTS,
+        ],
+        maps: MAPS,
+        result: Err((Kind::Abbreviation, 2, 2)),
+    },
+    Case {
+        shows: "a code that the table lacks",
+        shape: EXEC,
+        sections: &[
+            (INFO, 0, &[UNIT_4, b"\x02\0\0\0\0\x0d\0\0\0"]),
+            ONE_TABLE,
+            TWO_TEXTS,
+        ],
+        maps: MAPS,
+        result: Err((Kind::Entry, 1, 11)),
+    },
+    Case {
+        shows: "a value that passes the end of its unit",
+        shape: EXEC,
+        sections: &[
+            (
+                INFO,
+                0,
+                &[b"\x0f\0\0\0\x04\0\0\0\0\0\x08", b"\x01\0\0\0\0\x0d\0\0"],
+            ),
+            ONE_TABLE,
+            TWO_TEXTS,
+        ],
+        maps: MAPS,
+        result: Err((Kind::Entry, 1, 16)),
+    },
+    Case {
+        shows: "children that are open at the end of their unit",
+        shape: EXEC,
+        sections: &[
+            ONE_UNIT,
+            (ABBREV, 0, &[b"\x01\x11\x01\x03\x0e\x1b\x0e\0\0\0"]),
+            TWO_TEXTS,
+        ],
+        maps: MAPS,
+        result: Err((Kind::Entry, 1, 20)),
+    },
+    Case {
+        shows: "a form that is not listed",
+        shape: EXEC,
+        sections: &[
+            ONE_UNIT,
+            (ABBREV, 0, &[b"\x01\x11\0\x03\x0e\x1b\x02\0\0\0"]),
+            TWO_TEXTS,
+        ],
+        maps: MAPS,
+        result: Err((Kind::Form, 1, 16)),
+    },
+    Case {
+        shows: "a form in front that leads to another",
+        shape: EXEC,
+        sections: &[
+            (
+                INFO,
+                0,
+                &[
+                    b"\x11\0\0\0\x04\0\0\0\0\0\x08",
+                    b"\x01\0\0\0\0\x16\x0d\0\0\0",
+                ],
+            ),
+            (ABBREV, 0, &[b"\x01\x11\0\x03\x0e\x1b\x16\0\0\0"]),
+            TWO_TEXTS,
+        ],
+        maps: MAPS,
+        result: Err((Kind::Form, 1, 16)),
+    },
+    Case {
+        shows: "a text of a supplementary file",
+        shape: EXEC,
+        sections: &[
+            ONE_UNIT,
+            (ABBREV, 0, &[b"\x01\x11\0\x03\x0e\x1b\xa1>\0\0\0"]),
+            TWO_TEXTS,
+        ],
+        maps: MAPS,
+        result: Err((Kind::Supplementary, 1, 16)),
+    },
+    Case {
+        shows: "an offset past the texts",
+        shape: EXEC,
+        sections: &[
+            (INFO, 0, &[UNIT_4, b"\x01\0\0\0\0\x16\0\0\0"]),
+            ONE_TABLE,
+            TWO_TEXTS,
+        ],
+        maps: MAPS,
+        result: Err((Kind::StringOffset, 1, 16)),
+    },
+    Case {
+        shows: "an offset of a text without an end",
+        shape: EXEC,
+        sections: &[ONE_UNIT, ONE_TABLE, (STR, 0, &[b"/build/p/a.c\0/build/p"])],
+        maps: MAPS,
+        result: Err((Kind::StringOffset, 1, 16)),
+    },
+    Case {
+        shows: "the place of a line table",
+        shape: EXEC,
+        sections: &[
+            ONE_UNIT,
+            (ABBREV, 0, &[b"\x01\x11\0\x03\x0e\x10\x17\0\0\0"]),
+            TWO_TEXTS,
+        ],
+        maps: MAPS,
+        result: Err((Kind::Unbuilt, 0, 0)),
+    },
+    Case {
+        shows: "the number of a string offset",
+        shape: EXEC,
+        sections: &[
+            (
+                INFO,
+                0,
+                &[b"\x0e\0\0\0\x05\0\x01\x08\0\0\0\0", b"\x01\0\x0d\0\0\0"],
+            ),
+            (ABBREV, 0, &[b"\x01\x11\0\x03%\x1b\x0e\0\0\0"]),
+            TWO_TEXTS,
+        ],
+        maps: MAPS,
+        result: Err((Kind::Unbuilt, 0, 0)),
+    },
+];
+
+/// The file rewritten; no memory where it is longer than any file that is read, or the map is none.
+fn rewritten(alloc: Global, bytes: &[u8], maps: (&[u8], &[u8])) -> Result<Vec<u8>, Fault> {
     if bytes.len() > 0x8000_0000 {
         return Err(Fault::NoMemory);
     }
-    let Some(maps) = Maps::new(alloc, b"/build/p", b"/usr/src/debug/p")? else {
+    let Some(maps) = Maps::new(alloc, maps.0, maps.1)? else {
         return Err(Fault::NoMemory);
     };
     rewrite(alloc, bytes, &maps)
 }
 
-/// The file with two other bytes at a place.
-fn changed_file(alloc: Global, bytes: &[u8], at: usize, new: [u8; 2]) -> Result<Vec<u8>, Fault> {
-    let mut file = Vec::from_slice(alloc, bytes)?;
-    if at < file.len() {
-        file[at] = new[0];
-        if file.len() - at > 1 {
-            file[at + 1] = new[1];
-        }
+/// What becomes of the file of a case.
+fn wanted(alloc: Global, case: &Case) -> Result<Vec<u8>, Fault> {
+    match case.result {
+        Ok(changes) => Ok(file_of(alloc, case.shape, case.sections, changes)?),
+        Err((kind, section, offset)) => Err(Fault::Refused(Refusal {
+            kind,
+            section,
+            offset,
+        })),
     }
-    Ok(file)
-}
-
-/// The file with its number of sections and that of its name table in section 0, whose header is at
-/// `shoff` (gABI ch. 4 "ELF Header").
-fn counted_in_section_0(alloc: Global, bytes: &[u8], shoff: u16) -> Result<Vec<u8>, Fault> {
-    let header = usize::from(shoff);
-    let file = changed_file(alloc, bytes, 60, [0, 0])?;
-    let file = changed_file(alloc, file.as_slice(), 62, [0xff, 0xff])?;
-    let file = changed_file(alloc, file.as_slice(), header + 32, [5, 0])?;
-    changed_file(alloc, file.as_slice(), header + 40, [4, 0])
-}
-
-/// The refusal of a kind at a place.
-fn refused(kind: Kind, section: u32, offset: u64) -> Fault {
-    Fault::Refused(Refusal {
-        kind,
-        section,
-        offset,
-    })
-}
-
-/// Two bytes at a place of the file with one unit, and what refuses the file with them: kind, section and
-/// offset.
-const CASES: [(usize, [u8; 2], Kind, u32, u64); 12] = [
-    // another class
-    (4, [3, 1], Kind::Header, 0, 4),
-    // a type of no file that is loaded, and a relocatable file
-    (16, [4, 0], Kind::FileType, 0, 16),
-    (16, [1, 0], Kind::Unbuilt, 0, 0),
-    // a unit of version 5, one with addresses of 3 bytes, and a directory past the end of the texts
-    (68, [5, 0], Kind::Unbuilt, 0, 0),
-    (74, [3, 1], Kind::Unbuilt, 0, 0),
-    (80, [22, 0], Kind::Unbuilt, 0, 0),
-    // another section of debug data
-    (150, *b"ln", Kind::Unbuilt, 0, 0),
-    // .debug_info that is loaded
-    (240, [2, 0], Kind::Fixed, 1, 0),
-    // two sections .debug_info
-    (296, [1, 0], Kind::Unbuilt, 0, 0),
-    // .debug_str that is compressed, and one that passes the end of the file
-    (368, [0, 8], Kind::Unbuilt, 0, 0),
-    (392, [0xf4, 1], Kind::Range, 3, 0),
-    // a section name table that is called .debug_str
-    (424, [27, 0], Kind::Unbuilt, 0, 0),
-];
-
-#[test]
-fn the_paths_of_one_unit_are_mapped(rt: HostRuntime) -> Result<(), Fail> {
-    let file = rewritten(rt.alloc(), &ONE_UNIT)?;
-    assert_eq!(rt; file.as_slice(), ONE_UNIT_OUT.as_slice());
-    Ok(())
 }
 
 #[test]
-fn two_units_share_their_new_directory(rt: HostRuntime) -> Result<(), Fail> {
-    let file = rewritten(rt.alloc(), &TWO_UNITS)?;
-    assert_eq!(rt; file.as_slice(), TWO_UNITS_OUT.as_slice());
-    Ok(())
-}
-
-#[test]
-fn a_file_without_units_stays_as_it_is(rt: HostRuntime) -> Result<(), Fail> {
-    let file = rewritten(rt.alloc(), &NO_UNITS)?;
-    assert_eq!(rt; file.as_slice(), NO_UNITS.as_slice());
-    Ok(())
-}
-
-#[test]
-fn a_text_that_two_fields_name_is_appended_once(rt: HostRuntime) -> Result<(), Fail> {
-    let file = rewritten(rt.alloc(), &SHARED_TEXT)?;
-    assert_eq!(rt; file.as_slice(), SHARED_TEXT_OUT.as_slice());
-    Ok(())
-}
-
-#[test]
-fn an_empty_section_at_the_header_stays_there(rt: HostRuntime) -> Result<(), Fail> {
-    let file = rewritten(rt.alloc(), &EMPTY_BEHIND)?;
-    assert_eq!(rt; file.as_slice(), EMPTY_BEHIND_OUT.as_slice());
-    Ok(())
-}
-
-#[test]
-fn a_big_endian_file_of_32_bits_is_rewritten_in_its_own_order(rt: HostRuntime) -> Result<(), Fail> {
-    let file = rewritten(rt.alloc(), &BIG_ENDIAN)?;
-    assert_eq!(rt; file.as_slice(), BIG_ENDIAN_OUT.as_slice());
-    Ok(())
-}
-
-#[test]
-fn what_is_loaded_stays_at_its_place(rt: HostRuntime) -> Result<(), Fail> {
-    let file = rewritten(rt.alloc(), &WITH_SEGMENT)?;
-    assert_eq!(rt; file.as_slice(), WITH_SEGMENT_OUT.as_slice());
-    Ok(())
-}
-
-#[test]
-fn sections_may_be_counted_in_section_0(rt: HostRuntime) -> Result<(), Fail> {
-    let file = counted_in_section_0(rt.alloc(), &ONE_UNIT, 168)?;
-    let out = counted_in_section_0(rt.alloc(), &ONE_UNIT_OUT, 208)?;
-    let file = rewritten(rt.alloc(), file.as_slice())?;
-    assert_eq!(rt; file.as_slice(), out.as_slice());
-    Ok(())
-}
-
-#[test]
-fn a_file_without_section_headers_stays_as_it_is(rt: HostRuntime) -> Result<(), Fail> {
-    let file = changed_file(rt.alloc(), &ONE_UNIT, 40, [0, 0])?;
-    let file = changed_file(rt.alloc(), file.as_slice(), 60, [0, 0])?;
-    let file = changed_file(rt.alloc(), file.as_slice(), 62, [0, 0])?;
-    let out = rewritten(rt.alloc(), file.as_slice())?;
-    assert_eq!(rt; out.as_slice(), file.as_slice());
-    Ok(())
-}
-
-#[test]
-fn a_file_without_section_names_stays_as_it_is(rt: HostRuntime) -> Result<(), Fail> {
-    let file = changed_file(rt.alloc(), &ONE_UNIT, 62, [0, 0])?;
-    let out = rewritten(rt.alloc(), file.as_slice())?;
-    assert_eq!(rt; out.as_slice(), file.as_slice());
-    Ok(())
-}
-
-#[test]
-fn a_file_without_the_section_of_units_stays_as_it_is(rt: HostRuntime) -> Result<(), Fail> {
-    let file = changed_file(rt.alloc(), &ONE_UNIT, 118, *b"xe")?;
-    let out = rewritten(rt.alloc(), file.as_slice())?;
-    assert_eq!(rt; out.as_slice(), file.as_slice());
-    Ok(())
-}
-
-#[test]
-fn a_file_that_is_cut_short_is_refused(rt: HostRuntime) -> Result<(), Fail> {
-    for len in 0..ONE_UNIT.len() {
-        let (kind, offset) = if len < 64 {
-            (Kind::Header, 0)
-        } else {
-            (Kind::Range, 168)
-        };
-        let found = rewritten(rt.alloc(), &ONE_UNIT[..len]).err();
-        assert_eq!(rt; found, Some(refused(kind, 0, offset)));
+fn each_file_is_rewritten_or_refused_at_its_place(rt: HostRuntime) -> Result<(), Fail> {
+    for case in CASES.iter() {
+        let file = file_of(rt.alloc(), case.shape, case.sections, &[])?;
+        assert_eq!(rt;
+            rewritten(rt.alloc(), &file, case.maps),
+            wanted(rt.alloc(), case),
+            "{}",
+            case.shows
+        );
     }
-    Ok(())
-}
-
-#[test]
-fn other_files_are_refused(rt: HostRuntime) -> Result<(), Fail> {
-    for (at, bytes, kind, section, offset) in CASES {
-        let file = changed_file(rt.alloc(), &ONE_UNIT, at, bytes)?;
-        let found = rewritten(rt.alloc(), file.as_slice()).err();
-        assert_eq!(rt; found, Some(refused(kind, section, offset)));
-    }
-    let found = rewritten(rt.alloc(), &PAST_THE_END).err();
-    assert_eq!(rt; found, Some(refused(Kind::Unbuilt, 0, 0)));
-    Ok(())
-}
-
-#[test]
-fn a_section_that_stays_may_not_change(rt: HostRuntime) -> Result<(), Fail> {
-    let wanted = Some(refused(Kind::Fixed, 5, 0));
-    // the segment ends in .debug_str
-    let file = changed_file(rt.alloc(), &WITH_SEGMENT, 96, [150, 0])?;
-    assert_eq!(rt; rewritten(rt.alloc(), file.as_slice()).err(), wanted);
-    // or behind it
-    let file = changed_file(rt.alloc(), &WITH_SEGMENT, 96, [160, 0])?;
-    assert_eq!(rt; rewritten(rt.alloc(), file.as_slice()).err(), wanted);
     Ok(())
 }

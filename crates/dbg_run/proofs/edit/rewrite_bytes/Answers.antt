@@ -1,6 +1,6 @@
 -- The slice that is rewritten has the vector's bytes.
 use Rattle.std.proofs.Common.{ℕ, List, subst, sym}
-use Rattle.dw_meaning.specs.Output.{IsOutput}
+use Rattle.dw_meaning.specs.FileMeanings.{IsOutput}
 use Rattle.dbg_run.proofs.edit.rewrite_bytes.Goals as goal
 
 pub returns-in-Ok-clause-only : goal.returns-in-Ok-clause-only

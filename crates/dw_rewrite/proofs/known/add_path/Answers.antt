@@ -7,5 +7,5 @@ use Rattle.dw_rewrite.proofs.known.add_path.Goals as goal
 pub add-requires : goal.add-requires
 add-requires c = record {
   no_nul = ap has_nul c.deref.ensures.value
-      ∙ c.in_ok-mapped.ensures.no_nul (ap has_nul c.in-Ok.ensures.text ∙ has_nul-text_in c.args.str.now c.args.offset);
+      ∙ c.in_ok-mapped.ensures.no_nul (ap has_nul c.in-Ok.ensures.text ∙ has_nul-text_in c.args.table.now c.args.offset);
 }

@@ -1,0 +1,159 @@
+-- A pass over the values of an entry, value by value.
+use Rattle.std.proofs.Common.{Bool, true, false, ◌≡◌, ◌⊎◌, inl, inr, ℕ, suc, ◌+◌, ◌≤◌, ◌<◌, List, [], ◌∷◌, ◌++◌, length, take, drop, get_or, Option, Some, None, IsTrue, refl, sym, ap, ◌∙◌, subst, arith, append_assoc, append-nil}
+use Rattle.std.proofs.Math.Seq.{take-length, take-suc, drop-cons}
+use Rattle.std.proofs.lemmas.List.{drop_all, take-append-drop}
+use Rattle.dw_base.specs.EntryScans.{SpellsValues, no_values, more_values, value as value_fails}
+use Rattle.dw_meaning.specs.FileFails.{is_unbuilt_value}
+use Rattle.dw_base.specs.FormFails.{FormFails}
+use Rattle.dw_base.specs.Forms.{in_str, in_line_str}
+use Rattle.dw_base.specs.Refusals.{Blames, at}
+use Rattle.dw_base.specs.Values.{value_at}
+use Rattle.dw_base.specs.declared.fault.Fault.{Fault}
+use Rattle.dw_base.specs.declared.fault.Fault.TheVariants.{NoMemory, Refused}
+use Rattle.dw_base.specs.declared.fault.Kind.TheVariants.{Unbuilt}
+use Rattle.dw_base.specs.declared.fault.Refusal.{Refusal}
+use Rattle.dw_base.specs.declared.shared.Params.{Params}
+use Rattle.dw_base.specs.declared.values.Spec.{Spec}
+use Rattle.dw_base.specs.declared.values.Value.{Value}
+use Rattle.dw_rewrite.specs.EntryTexts.{Tables, OffsetSized, with_places, IsTaken, TakenBehind, AreTaken, ValueRefuses, OneRefuses, none, some, ValuesRefuse, fails, value, ValueTaken}
+use Rattle.dw_rewrite.specs.EntryTexts.ValueRefuses.{str, line_str, unbuilt}
+use Rattle.dw_rewrite.specs.TextPlaces.{TextPlace, fields_in, inline_in, value_places, value_places_behind, values_places}
+use Rattle.dw_rewrite.specs.UnitPaths.{UnitPaths}
+use Rattle.dw_rewrite.specs.declared.fields.InlinePath.{InlinePath}
+use Rattle.dw_rewrite.specs.declared.fields.PathField.{PathField}
+use Rattle.dw_rewrite.proofs.FoundLaws.{fields-append, inline-append}
+use Rattle.dw_rewrite.proofs.ValueFactLaws.{value-inside, value-sized}
+
+-- a field's size is a small number
+pub small-field : (n : ℕ) → (n ≡ 4) ⊎ (n ≡ 8) → n < 256
+small-field n (inl four) = omega (arith, four)
+small-field n (inr eight) = omega (arith, eight)
+
+pub ruleset field_rules = (small-field)
+
+pub ruleset note_rules = (str, line_str, append-nil)
+
+-- a value that isn't taken yet
+pub unbuilt-here : (t : Tables) (params : Params) (bytes : List ℕ) (section place : ℕ) (x : Spec) (v : Value) → value_at params x bytes place ≡ Some v
+    → is_unbuilt_value x v ≡ true → OneRefuses t params bytes section place x (at Unbuilt 0 0)
+unbuilt-here t params bytes section place x v is yes_ = some v is (unbuilt yes_)
+
+pub refused-here : (t : Tables) (params : Params) (bytes : List ℕ) (section place : ℕ) (x : Spec) (v : Value) (f : Fault) → value_at params x bytes place ≡ Some v
+    → Blames (ValueRefuses t section x v) f → Blames (OneRefuses t params bytes section place x) f
+refused-here t params bytes section place x v NoMemory is b = tt
+refused-here t params bytes section place x v (Refused r) is b = some v is b
+
+-- all of the bytes
+pub all-read : (params : Params) (x : Spec) (bytes : List ℕ) (place : ℕ) (v : Value) → value_at params x (take (length bytes) bytes) place ≡ Some v
+    → value_at params x bytes place ≡ Some v
+all-read params x bytes place v e = sym (ap (λ (bs : List ℕ). value_at params x bs place) (take-length bytes)) ∙ e
+
+pub all-fails : (params : Params) (x : Spec) (bytes : List ℕ) (section place : ℕ) (r : Refusal) → FormFails params x (take (length bytes) bytes) section place r
+    → FormFails params x bytes section place r
+all-fails params x bytes section place r f = subst (λ (bs : List ℕ). FormFails params x bs section place r) (take-length bytes) f
+
+pub all-inside : (params : Params) (x : Spec) (bytes : List ℕ) (place : ℕ) (v : Value) → value_at params x (take (length bytes) bytes) place ≡ Some v
+    → place + v.size ≤ length bytes
+all-inside params x bytes place v e = value-inside params x bytes place v (all-read params x bytes place v e)
+
+pub all-sized : (params : Params) (x : Spec) (bytes : List ℕ) (place : ℕ) (v : Value) → value_at params x (take (length bytes) bytes) place ≡ Some v
+    → OffsetSized v.class v.len
+all-sized params x bytes place v e = value-sized params x bytes place v (all-read params x bytes place v e)
+
+pub ruleset read_rules = (all-read, all-fails, all-inside, all-sized)
+
+pub ruleset value_rules = (none, unbuilt-here, refused-here)
+
+-- one attribute of a list
+spec_front : (specs : List Spec) (x : Spec) (i : ℕ) → i < length specs → x ≡ get_or specs i x → drop i specs ≡ x ∷ drop (i + 1) specs
+spec_front specs x i lt is =
+    let next : suc i ≡ i + 1 = omega arith in
+    drop-cons specs i x lt ∙ ap (λ (n : ℕ). get_or specs i x ∷ drop n specs) next ∙ ap (λ (y : Spec). y ∷ drop (i + 1) specs) (sym is)
+
+spec_behind : (specs : List Spec) (x : Spec) (i : ℕ) → i < length specs → x ≡ get_or specs i x → take (i + 1) specs ≡ take i specs ++ x ∷ []
+spec_behind specs x i lt is =
+    let next : i + 1 ≡ suc i = omega arith in
+    ap (λ (n : ℕ). take n specs) next ∙ take-suc specs i x lt ∙ ap (λ (y : Spec). take i specs ++ y ∷ []) (sym is)
+
+-- a value that is refused alone is refused behind others
+one-refused : (t : Tables) (params : Params) (bytes : List ℕ) (section from : ℕ) (specs before behind : List Spec) (x : Spec) (place : ℕ) (r : Refusal)
+    → specs ≡ before ++ x ∷ behind → SpellsValues params bytes from before place → OneRefuses t params bytes section place x r
+    → ValuesRefuse t params bytes section from specs r
+one-refused t params bytes section from specs before behind x place r cut spells (none f) = fails (value_fails before behind x place cut spells f)
+one-refused t params bytes section from specs before behind x place r cut spells (some v is f) = value before behind x place v cut spells is f
+
+-- what was found, with more behind, and with more again
+pub with_places-more : (u : UnitPaths) (ts us : List TextPlace) → with_places (with_places u ts) us ≡ with_places u (ts ++ us)
+unfolding with_places
+with_places-more u ts us =
+    ap (λ (fs : List PathField). record { number = u.number; str = fs; line_str = (u.line_str ++ fields_in in_line_str ts) ++ fields_in in_line_str us; inline = (u.inline ++ inline_in ts) ++ inline_in us })
+    (append_assoc u.str (fields_in in_str ts) (fields_in in_str us) ∙ ap (λ (fs : List PathField). u.str ++ fs) (sym (fields-append in_str ts us)))
+    ∙ ap (λ (fs : List PathField). record { number = u.number; str = u.str ++ fields_in in_str (ts ++ us); line_str = fs; inline = (u.inline ++ inline_in ts) ++ inline_in us })
+    (append_assoc u.line_str (fields_in in_line_str ts) (fields_in in_line_str us) ∙ ap (λ (fs : List PathField). u.line_str ++ fs) (sym (fields-append in_line_str ts us)))
+    ∙ ap (λ (ps : List InlinePath). record { number = u.number; str = u.str ++ fields_in in_str (ts ++ us); line_str = u.line_str ++ fields_in in_line_str (ts ++ us); inline = ps })
+    (append_assoc u.inline (inline_in ts) (inline_in us) ∙ ap (λ (ps : List InlinePath). u.inline ++ ps) (sym (inline-append ts us)))
+
+pub with_places-none : (u : UnitPaths) → with_places u [] ≡ u
+unfolding with_places
+with_places-none u =
+    ap (λ (fs : List PathField). record { number = u.number; str = fs; line_str = u.line_str ++ []; inline = u.inline ++ [] }) (append-nil u.str)
+    ∙ ap (λ (fs : List PathField). record { number = u.number; str = u.str; line_str = fs; inline = u.inline ++ [] }) (append-nil u.line_str)
+    ∙ ap (λ (ps : List InlinePath). record { number = u.number; str = u.str; line_str = u.line_str; inline = ps }) (append-nil u.inline)
+
+-- where a pass over the values of an entry stands: behind so many attributes, at a place, with what was found. Those passed
+-- stand before the place; what was found with the places of the others behind is what the whole entry gives; and if the
+-- others can be taken, all can.
+pub record ValuesPassed (t : Tables) (params : Params) (bytes : List ℕ) (number tag : ℕ) (specs : List Spec) (from i place : ℕ) (old now : UnitPaths) : Type 0 where
+  pub spells : SpellsValues params bytes from (take i specs) place
+  pub found : with_places now (values_places params bytes number tag (drop i specs) place) ≡ with_places old (values_places params bytes number tag specs from)
+  pub taken : AreTaken t params bytes (drop i specs) place → AreTaken t params bytes specs from
+
+pub passed-none : (t : Tables) (params : Params) (bytes : List ℕ) (number tag : ℕ) (specs : List Spec) (from : ℕ) (old : UnitPaths)
+    → ValuesPassed t params bytes number tag specs from 0 from old old
+passed-none t params bytes number tag specs from old = record { spells = no_values; found = refl; taken = λ h. h }
+
+-- one value more
+pub passed-more : (t : Tables) (params : Params) (bytes : List ℕ) (number tag : ℕ) (specs : List Spec) (from i place size : ℕ) (x : Spec) (old now new : UnitPaths)
+    → i < length specs → x ≡ get_or specs i x → ValuesPassed t params bytes number tag specs from i place old now
+    → ValueTaken t params bytes number tag x place size now new
+    → ValuesPassed t params bytes number tag specs from (i + 1) (place + size) old new
+passed-more t params bytes number tag specs from i place size x old now new lt here p v =
+    let front : drop i specs ≡ x ∷ drop (i + 1) specs = spec_front specs x i lt here in
+    let behind : take (i + 1) specs ≡ take i specs ++ x ∷ [] = spec_behind specs x i lt here in
+    let said : values_places params bytes number tag (drop i specs) place ≡ value_places number tag x v.value ++ values_places params bytes number tag (drop (i + 1) specs) (place + v.value.size) =
+    ap (λ (xs : List Spec). values_places params bytes number tag xs place) front
+    ∙ ap (value_places_behind (λ p. values_places params bytes number tag (drop (i + 1) specs) p) number tag x place) v.is in
+    record {
+      spells = subst (λ (xs : List Spec). SpellsValues params bytes from xs (place + size)) (sym behind)
+          (subst (λ (n : ℕ). SpellsValues params bytes from (take i specs ++ x ∷ []) (place + n)) (sym v.size_is) (more_values (take i specs) x place v.value p.spells v.is));
+      found =
+          ap (λ (u : UnitPaths). with_places u (values_places params bytes number tag (drop (i + 1) specs) (place + size))) v.found
+          ∙ with_places-more now (value_places number tag x v.value) (values_places params bytes number tag (drop (i + 1) specs) (place + size))
+          ∙ ap (λ (n : ℕ). with_places now (value_places number tag x v.value ++ values_places params bytes number tag (drop (i + 1) specs) (place + n))) v.size_is
+          ∙ ap (with_places now) (sym said) ∙ p.found;
+      taken = λ h. p.taken (subst (λ (xs : List Spec). AreTaken t params bytes xs place) (sym front)
+          (subst (λ (o : Option Value). TakenBehind (λ p. AreTaken t params bytes (drop (i + 1) specs) p) t x place o) (sym v.is)
+          (v.taken, subst (λ (n : ℕ). AreTaken t params bytes (drop (i + 1) specs) (place + n)) v.size_is h)));
+    }
+
+-- all of them
+pub passed-found : (t : Tables) (params : Params) (bytes : List ℕ) (number tag : ℕ) (specs : List Spec) (from i place : ℕ) (old now : UnitPaths) → length specs ≤ i
+    → ValuesPassed t params bytes number tag specs from i place old now → now ≡ with_places old (values_places params bytes number tag specs from)
+passed-found t params bytes number tag specs from i place old now end p =
+    sym (with_places-none now) ∙ ap (λ (xs : List Spec). with_places now (values_places params bytes number tag xs place)) (sym (drop_all i specs end)) ∙ p.found
+
+pub passed-taken : (t : Tables) (params : Params) (bytes : List ℕ) (number tag : ℕ) (specs : List Spec) (from i place : ℕ) (old now : UnitPaths) → length specs ≤ i
+    → ValuesPassed t params bytes number tag specs from i place old now → AreTaken t params bytes specs from
+passed-taken t params bytes number tag specs from i place old now end p =
+    p.taken (subst (λ (xs : List Spec). AreTaken t params bytes xs place) (sym (drop_all i specs end)) tt)
+
+-- why one can't be taken is why the entry can't
+pub passed-refused : (t : Tables) (params : Params) (bytes : List ℕ) (section number tag : ℕ) (specs : List Spec) (from i place : ℕ) (x : Spec) (old now : UnitPaths) (f : Fault)
+    → i < length specs → x ≡ get_or specs i x → ValuesPassed t params bytes number tag specs from i place old now
+    → Blames (OneRefuses t params bytes section place x) f → Blames (ValuesRefuse t params bytes section from specs) f
+passed-refused t params bytes section number tag specs from i place x old now NoMemory lt here p b = tt
+passed-refused t params bytes section number tag specs from i place x old now (Refused r) lt here p b =
+    one-refused t params bytes section from specs (take i specs) (drop (i + 1) specs) x place r
+    (sym (take-append-drop i specs) ∙ ap (λ (xs : List Spec). take i specs ++ xs) (spec_front specs x i lt here)) p.spells b
+
+pub ruleset entry_rules = (passed-none, passed-more, passed-found, passed-taken)

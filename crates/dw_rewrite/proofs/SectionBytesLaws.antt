@@ -1,0 +1,134 @@
+-- The new bytes of unit sections, from the new places that are known.
+use Rattle.std.proofs.Common.{true, ◌≡◌, ℕ, zero, suc, ◌+◌, ◌≤◌, ◌<◌, List, [], ◌∷◌, ◌++◌, length, drop, get_or, Option, IsTrue, refl, sym, ap, ◌∙◌, subst, arith, append_assoc, append-nil}
+use Rattle.std.proofs.Math.Seq.{drop-cons}
+use Rattle.std.proofs.lemmas.List.{drop_all}
+use Rattle.dw_meaning.specs.DataOutput.{Body}
+use Rattle.dw_base.specs.FileViews.{View}
+use Rattle.dw_base.specs.Forms.{in_str, in_line_str}
+use Rattle.dw_base.specs.InlinePaths.{inline_fits}
+use Rattle.dw_base.specs.Paths.{PathMap}
+use Rattle.dw_base.specs.Refusals.{Blames}
+use Rattle.dw_base.specs.UnitHeaders.{UnitSection}
+use Rattle.dw_base.specs.ViewData.{debug_data}
+use Rattle.dw_base.specs.declared.fault.Fault.{Fault}
+use Rattle.dw_base.specs.declared.fault.Fault.TheVariants.{NoMemory, Refused}
+use Rattle.dw_base.specs.declared.fault.Refusal.{Refusal}
+use Rattle.dw_rewrite.specs.Changes.{OffsetTable, ArePathFields, IsPathField, offset_at, with_known, with_all_known}
+use Rattle.dw_rewrite.specs.InlineRooms.{grows, Grows, one}
+use Rattle.dw_rewrite.specs.NewTables.{as_table, offsets_in, fields_of, info_of, HasPaths, section_known, body_known, bodies_known}
+use Rattle.dw_rewrite.specs.TextPlaces.{InlinesFit, AllFitRooms, AllPlaced}
+use Rattle.dw_rewrite.specs.UnitPaths.{UnitPaths, inline_text, inlined}
+use Rattle.dw_rewrite.specs.declared.fields.InlinePath.{InlinePath}
+use Rattle.dw_rewrite.specs.declared.fields.PathField.{PathField}
+use Rattle.dw_rewrite.specs.declared.tables.TextsOf.{TextsOf}
+use Rattle.dw_rewrite.proofs.ChangedLaws.{length-with_known}
+use Rattle.dw_rewrite.proofs.GrowthLaws.{moved}
+use Rattle.dw_rewrite.proofs.PlaceValueLaws.{EachOf, each-get}
+use Rattle.dw_rewrite.proofs.SectionFactLaws.{FitsIn, says-bytes, paths-fields}
+
+-- fields keep the length of the bytes
+rest-fields : (o : OffsetTable) (info : List ℕ) (f : PathField) (fs : List PathField) → ArePathFields o info (f ∷ fs) → ArePathFields o info fs
+rest-fields o info f fs are = record { each = λ (k : ℕ) (d : PathField) (lt : k < length fs). are.each (suc k) d (omega arith) }
+
+length-known : (o : OffsetTable) (info out : List ℕ) (known : ℕ → Option ℕ) (fields : List PathField) → ArePathFields o info fields → length out ≡ length info
+    → length (with_all_known o info known out fields) ≡ length info
+length-known o info out known [] are long = long
+length-known o info out known (f ∷ fs) are long =
+    let first : IsPathField o info f = are.each 0 f (omega arith) in
+    let room : f.at + f.size ≤ length out = omega (arith, long, first.inside) in
+    length-known o info (with_known o.order out f (known (offset_at o info f))) known fs (rest-fields o info f fs are)
+    (length-with_known o.order out f (known (offset_at o info f)) room ∙ long)
+
+pub section-long : (v : View) (t : TextsOf) (u : UnitPaths) (out new : List ℕ) (known : ℕ → Option ℕ) → HasPaths v u → length out ≡ length (info_of v u)
+    → new ≡ with_all_known (offsets_in v (as_table t)) (info_of v u) known out (fields_of (as_table t) u) → length new ≡ length (info_of v u)
+section-long v t u out new known h long is =
+    ap length is ∙ length-known (offsets_in v (as_table t)) (info_of v u) out known (fields_of (as_table t) u) (paths-fields v u (as_table t) h) long
+
+-- the bytes with the new offsets of a table, as the code has them
+pub section-patched : (v : View) (t : TextsOf) (u : UnitPaths) (out new : List ℕ) (known : ℕ → Option ℕ) (o : OffsetTable) (info : List ℕ) (fields : List PathField)
+    → o ≡ offsets_in v (as_table t) → info ≡ info_of v u → fields ≡ fields_of (as_table t) u → new ≡ with_all_known o info known out fields
+    → new ≡ with_all_known (offsets_in v (as_table t)) (info_of v u) known out (fields_of (as_table t) u)
+section-patched v t u out new known o info fields eo ei ef is =
+    moved (λ p bs fs. new ≡ with_all_known p bs known out fs) o (offsets_in v (as_table t)) info (info_of v u) fields (fields_of (as_table t) u) eo ei ef is
+
+pub ruleset patch_rules = (section-long)
+
+-- a section whose paths all fit isn't refused
+fits-at : (m : PathMap) (info : List ℕ) (ps : List InlinePath) (k : ℕ) (d : InlinePath) → k < length ps → InlinesFit m info ps → IsTrue (inline_fits m (inline_text info (get_or ps k d)))
+fits-at m info [] k d lt fits = absurd (omega arith)
+fits-at m info (p ∷ ps) zero d lt fits = fits.0
+fits-at m info (p ∷ ps) (suc k) d lt fits = fits-at m info ps k d (omega arith) fits.1
+
+grows-never : (m : PathMap) (section : ℕ) (info : List ℕ) (ps : List InlinePath) (r : Refusal) → InlinesFit m info ps → Grows m section info ps r → ⊥
+grows-never m section info ps r fits (one k p lt is (grows over)) =
+    let fit : inline_fits m (inline_text info p) ≡ true = subst (λ (q : InlinePath). IsTrue (inline_fits m (inline_text info q))) (sym is) (fits-at m info ps k p lt fits) in
+    cc
+
+pub memory-only : (m : PathMap) (v : View) (u : UnitPaths) (f : Fault) → FitsIn m v u → Blames (Grows m u.number (info_of v u) u.inline) f → f ≡ NoMemory
+memory-only m v u NoMemory fits b = refl
+memory-only m v u (Refused r) fits b = absurd (grows-never m u.number (info_of v u) u.inline r fits b)
+
+fit-each : (m : PathMap) (v : View) (before zs : List UnitSection) (us : List UnitPaths) → (debug_data v).units ≡ before ++ zs → AllPlaced (debug_data v) zs us
+    → AllFitRooms m zs us → EachOf (FitsIn m v) us
+fit-each m v before [] [] split all fits = tt
+fit-each m v before [] (u ∷ us) split all fits = absurd all
+fit-each m v before (z ∷ zs) [] split all fits = absurd all
+fit-each m v before (z ∷ zs) (u ∷ us) split all fits = (
+  subst (λ (bs : List ℕ). InlinesFit m bs u.inline) (says-bytes v before zs z u split all.0) fits.0,
+  fit-each m v (before ++ z ∷ []) zs us (split ∙ sym (append_assoc before (z ∷ []) zs)) all.1 fits.1,
+)
+
+pub fit-at : (m : PathMap) (v : View) (us : List UnitPaths) (i : ℕ) (u : UnitPaths) → AllPlaced (debug_data v) (debug_data v).units us → AllFitRooms m (debug_data v).units us
+    → i < length us → u ≡ get_or us i u → FitsIn m v u
+fit-at m v us i u all fits lt is = subst (FitsIn m v) (sym is) (each-get (FitsIn m v) us i u lt (fit-each m v [] (debug_data v).units us refl all fits))
+
+-- the bytes of a section, one change after another
+pub section-made : (m : PathMap) (v : View) (ks kl : ℕ → Option ℕ) (u : UnitPaths) (info first second third : List ℕ) → info ≡ info_of v u
+    → first ≡ with_all_known (offsets_in v in_str) (info_of v u) ks info u.str → second ≡ with_all_known (offsets_in v in_line_str) (info_of v u) kl first u.line_str
+    → third ≡ inlined m info second u.inline → third ≡ section_known m v ks kl u
+unfolding section_known
+section-made m v ks kl u info first second third is one_ two_ three_ =
+    let start : first ≡ with_all_known (offsets_in v in_str) (info_of v u) ks (info_of v u) u.str =
+    one_ ∙ ap (λ (bs : List ℕ). with_all_known (offsets_in v in_str) (info_of v u) ks bs u.str) is in
+    three_ ∙ ap (λ (bs : List ℕ). inlined m bs second u.inline) is
+    ∙ ap (λ (out : List ℕ). inlined m (info_of v u) out u.inline)
+    (two_ ∙ ap (λ (out : List ℕ). with_all_known (offsets_in v in_line_str) (info_of v u) kl out u.line_str) start)
+
+pub section-written : (m : PathMap) (v : View) (ks kl : ℕ → Option ℕ) (u : UnitPaths) (info start first second third : List ℕ) (ps : List InlinePath) → start ≡ info_of v u
+    → info ≡ info_of v u → first ≡ with_all_known (offsets_in v in_str) (info_of v u) ks start u.str
+    → second ≡ with_all_known (offsets_in v in_line_str) (info_of v u) kl first u.line_str → third ≡ inlined m info second ps → ps ≡ u.inline
+    → third ≡ section_known m v ks kl u
+section-written m v ks kl u info start first second third ps begin is one_ two_ three_ paths =
+    section-made m v ks kl u info first second third is
+    (one_ ∙ ap (λ (bs : List ℕ). with_all_known (offsets_in v in_str) (info_of v u) ks bs u.str) (begin ∙ sym is)) two_
+    (three_ ∙ ap (inlined m info second) paths)
+
+-- the section with those bytes
+pub body-is : (m : PathMap) (v : View) (ks kl : ℕ → Option ℕ) (u : UnitPaths) (n : ℕ) (bytes new : List ℕ) → n ≡ u.number → bytes ≡ new → new ≡ section_known m v ks kl u
+    → record { number = n; bytes = bytes } ≡ body_known m v ks kl u
+body-is m v ks kl u n bytes new number same is =
+    ap (λ (k : ℕ). record { number = k; bytes = bytes }) number ∙ ap (λ (bs : List ℕ). record { number = u.number; bytes = bs }) (same ∙ is)
+
+pub paths-there : (v : View) (u : UnitPaths) → HasPaths v u → u.number < length v.sections
+paths-there v u h = h.there
+
+pub ruleset one_rules = (paths-there)
+
+-- one section more
+pub bodies-step : (m : PathMap) (v : View) (ks kl : ℕ → Option ℕ) (us : List UnitPaths) (i : ℕ) (u : UnitPaths) (bodies new front : List Body) → i < length us → u ≡ get_or us i u
+    → bodies ++ bodies_known m v ks kl (drop i us) ≡ front ++ bodies_known m v ks kl us → new ≡ bodies ++ body_known m v ks kl u ∷ []
+    → new ++ bodies_known m v ks kl (drop (i + 1) us) ≡ front ++ bodies_known m v ks kl us
+bodies-step m v ks kl us i u bodies new front lt is before same =
+    let next : suc i ≡ i + 1 = omega arith in
+    let cut : drop i us ≡ u ∷ drop (i + 1) us =
+    drop-cons us i u lt ∙ ap (λ (n : ℕ). get_or us i u ∷ drop n us) next ∙ ap (λ (y : UnitPaths). y ∷ drop (i + 1) us) (sym is) in
+    ap (λ (bs : List Body). bs ++ bodies_known m v ks kl (drop (i + 1) us)) same
+    ∙ append_assoc bodies (body_known m v ks kl u ∷ []) (bodies_known m v ks kl (drop (i + 1) us))
+    ∙ sym (ap (λ (xs : List UnitPaths). bodies ++ bodies_known m v ks kl xs) cut) ∙ before
+
+pub bodies-end : (m : PathMap) (v : View) (ks kl : ℕ → Option ℕ) (us : List UnitPaths) (i : ℕ) (bodies front : List Body) → length us ≤ i
+    → bodies ++ bodies_known m v ks kl (drop i us) ≡ front ++ bodies_known m v ks kl us → bodies ≡ front ++ bodies_known m v ks kl us
+bodies-end m v ks kl us i bodies front end e =
+    sym (append-nil bodies) ∙ sym (ap (λ (xs : List UnitPaths). bodies ++ bodies_known m v ks kl xs) (drop_all i us end)) ∙ e
+
+pub ruleset all_rules = (bodies-end)

@@ -1,0 +1,270 @@
+-- From values that a pass over a unit meets to its pieces, and where texts stand in them.
+use Rattle.std.proofs.Common.{Bool, true, false, ◌≡◌, ◌≢◌, ◌⊎◌, inl, inr, ℕ, ◌+◌, ◌≤◌, List, [], ◌∷◌, ◌++◌, length, take, drop, Option, Some, None, refl, sym, ap, ◌∙◌, subst, arith, append_assoc, append-nil}
+use Rattle.std.proofs.lemmas.List.{take-append-drop, drop-drop}
+use Rattle.dw_base.specs.Cells.{Cell, bytes_of}
+use Rattle.dw_base.specs.Forms.{ValueKind, number_of, leb_number, signed_leb, block_of, counted, counted_leb, inline_text, text_offset, present, in_abbreviation, form_in_front, supplementary, unlisted, kind_in}
+use Rattle.dw_base.specs.Lebs.{uleb_at}
+use Rattle.dw_base.specs.Pieces.{Piece, joined, Leads}
+use Rattle.dw_base.specs.Roles.{role_of, role_of_kind, role_of_mode, use_of, is_path}
+use Rattle.dw_base.specs.UnitHeaders.{UnitBase}
+use Rattle.dw_base.specs.UnitPieces.{IsValue, IsFrontForm, FitsKind, FitsMode, unit_grammar}
+use Rattle.dw_base.specs.UnitStates.{Mode, at_values, at_chosen, UnitState, in_unit, inside, after_value, of_chosen, code_value, past}
+use Rattle.dw_base.specs.Values.{value_of, value_at, value_by, chosen_value, indirect_value, behind}
+use Rattle.dw_base.specs.declared.shared.Params.{Params}
+use Rattle.dw_base.specs.declared.values.Spec.{Spec}
+use Rattle.dw_base.specs.declared.values.Value.{Value}
+use Rattle.dw_base.specs.declared.values.ValueClass.{ValueClass}
+use Rattle.dw_base.specs.declared.values.ValueClass.TheVariants.{InlineText, StrOffset, LineStrOffset}
+use Rattle.dw_base.proofs.FormLaws.{value_by-own, chosen_value-own}
+use Rattle.dw_meaning.proofs.PieceLaws.{leads-more, joined-append}
+use Rattle.dw_meaning.proofs.ScanPieceLaws.{part-bytes, before-end, part-length, inside-same, unit_bytes, NumberPiece, number-piece}
+use Rattle.dw_meaning.proofs.TextEditLaws.{chosen-fits}
+use Rattle.dw_meaning.proofs.ValueCutLaws.{IsCut, value_of-own}
+use Rattle.dw_rewrite.specs.TextPlaces.{TextPlace, place_of, places_in, class_places, value_places}
+use Rattle.dw_rewrite.proofs.ValuePlaceLaws.{kind_plain, value-placed}
+
+-- pieces that lead from one state to another, whose cells stand from one place of some cells to another, and in which texts
+-- stand at these places
+pub record PlacedRun (base : UnitBase) (cells : List Cell) (s t : UnitState) (a b : ℕ) (ts : List TextPlace) : Type 0 where
+  pub pieces : List (Piece UnitState)
+  pub leads : Leads (unit_grammar base) s pieces t
+  pub covers : joined pieces ++ drop b cells ≡ drop a cells
+  pub places : places_in pieces ≡ ts
+
+places-append : (xs ys : List (Piece UnitState)) → places_in (xs ++ ys) ≡ places_in xs ++ places_in ys
+places-append [] ys = refl
+places-append (x ∷ xs) ys =
+    ap (λ (ts : List TextPlace). place_of (role_of x) x.state.place (length x.cells) ++ ts) (places-append xs ys)
+    ∙ sym (append_assoc (place_of (role_of x) x.state.place (length x.cells)) (places_in xs) (places_in ys))
+
+-- one after another
+pub placed-more : (base : UnitBase) (cells : List Cell) (s t u : UnitState) (a b c : ℕ) (ts us : List TextPlace) → PlacedRun base cells s t a b ts
+    → PlacedRun base cells t u b c us → PlacedRun base cells s u a c (ts ++ us)
+placed-more base cells s t u a b c ts us m n = record {
+  pieces = m.pieces ++ n.pieces;
+  leads = leads-more (unit_grammar base) s t u m.pieces n.pieces m.leads n.leads;
+  covers =
+      ap (λ (x : List Cell). x ++ drop c cells) (joined-append m.pieces n.pieces) ∙ append_assoc (joined m.pieces) (joined n.pieces) (drop c cells)
+      ∙ ap (λ (x : List Cell). joined m.pieces ++ x) n.covers ∙ m.covers;
+  places = places-append m.pieces n.pieces ∙ ap (λ (x : List TextPlace). x ++ places_in n.pieces) m.places ∙ ap (λ (x : List TextPlace). ts ++ x) n.places;
+}
+
+pub placed-none : (base : UnitBase) (cells : List Cell) (s t : UnitState) (a : ℕ) → s ≡ t → PlacedRun base cells s t a a []
+placed-none base cells s t a e = record { pieces = []; leads = e; covers = refl; places = refl }
+
+-- a piece of so many cells
+pub placed-one : (base : UnitBase) (cells : List Cell) (s t : UnitState) (a n : ℕ) (ts : List TextPlace) → FitsMode s.mode base s (take n (drop a cells))
+    → past s.mode base s (take n (drop a cells)) ≡ t → place_of (role_of_mode s.mode s.header.params) s.place (length (take n (drop a cells))) ≡ ts
+    → PlacedRun base cells s t a (a + n) ts
+unfolding role_of
+placed-one base cells s t a n ts fits next here = record {
+  pieces = record { state = s; cells = take n (drop a cells) } ∷ [];
+  leads = (refl, fits, next);
+  covers =
+      append_assoc (take n (drop a cells)) [] (drop (a + n) cells)
+      ∙ ap (λ (x : List Cell). take n (drop a cells) ++ x) (sym (drop-drop n a cells)) ∙ take-append-drop n (drop a cells);
+  places = append-nil (place_of (role_of_mode s.mode s.header.params) s.place (length (take n (drop a cells)))) ∙ here;
+}
+
+-- the state behind a value that isn't a form
+after-own : (k : ValueKind) (s : UnitState) (p form n tag : ℕ) (x : Spec) (xs : List Spec) → k ≢ form_in_front
+    → after_value k s p form n tag x xs ≡ inside s p s.entry s.depth n tag xs
+after-own form_in_front s p form n tag x xs other = absurd (other refl)
+after-own k s p form n tag x xs other = refl
+
+pub is_front : (k : ValueKind) → (k ≡ form_in_front) ⊎ (k ≡ form_in_front → ⊥)
+is_front form_in_front = inl refl
+is_front (number_of class n) = inr (λ e. cc)
+is_front (leb_number class) = inr (λ e. cc)
+is_front signed_leb = inr (λ e. cc)
+is_front (block_of n) = inr (λ e. cc)
+is_front (counted n) = inr (λ e. cc)
+is_front counted_leb = inr (λ e. cc)
+is_front inline_text = inr (λ e. cc)
+is_front (text_offset table n) = inr (λ e. cc)
+is_front present = inr (λ e. cc)
+is_front in_abbreviation = inr (λ e. cc)
+is_front supplementary = inr (λ e. cc)
+is_front unlisted = inr (λ e. cc)
+
+-- a value of a kind at a place is a piece
+value-piece : (s : UnitState) (x : Spec) (k : ValueKind) (cells : List Cell) (place e d : ℕ) (m : Mode) (v : Value)
+    → value_of k s.header.params.order (unit_bytes s cells) place x.implicit ≡ Some v
+    → IsValue (in_unit s place e d m) x k (take v.size (drop place cells))
+value-piece s x k cells place e d m v is =
+    let c : IsCut k s.header.params.order (unit_bytes s cells) place x.implicit v.size = value_of-own k s.header.params.order (unit_bytes s cells) place x.implicit v is in
+    let inside_ : place + v.size ≤ length (unit_bytes s cells) = c.inside in
+    let before : place + v.size ≤ s.header.end = before-end (place + v.size) s.header.end (bytes_of cells) c.inside in
+    let size : length (take v.size (drop place cells)) ≡ v.size = part-length v.size place s.header.end cells c.inside in
+    record {
+      value = c.value;
+      is = ap (λ (bs : List ℕ). value_of k s.header.params.order bs 0 x.implicit) (sym (part-bytes v.size place s.header.end cells before)) ∙ c.is;
+      size = c.same ∙ sym size;
+      before = omega (arith, before, size);
+    }
+
+-- so a value of an attribute that isn't behind a form is one
+own-run : (base : UnitBase) (cells : List Cell) (s : UnitState) (place e d n tag : ℕ) (x : Spec) (xs : List Spec) (v : Value)
+    → kind_in s.header.params x.form ≢ form_in_front
+    → value_of (kind_in s.header.params x.form) s.header.params.order (unit_bytes s cells) place x.implicit ≡ Some v
+    → PlacedRun base cells (in_unit s place e d (at_values n tag (x ∷ xs))) (inside s (place + v.size) e d n tag xs) place (place + v.size) (value_places n tag x v)
+own-run base cells s place e d n tag x xs v other is =
+    let t : UnitState = in_unit s place e d (at_values n tag (x ∷ xs)) in
+    let k : ValueKind = kind_in s.header.params x.form in
+    let p : List Cell = take v.size (drop place cells) in
+    let f : IsValue (in_unit s place e d (at_values n tag (x ∷ xs))) x (kind_in s.header.params x.form) (take v.size (drop place cells)) =
+    value-piece s x (kind_in s.header.params x.form) cells place e d (at_values n tag (x ∷ xs)) v is in
+    let size : length (take v.size (drop place cells)) ≡ v.size =
+    part-length v.size place s.header.end cells (value_of-own (kind_in s.header.params x.form) s.header.params.order (unit_bytes s cells) place x.implicit v is).inside in
+    placed-one base cells (in_unit s place e d (at_values n tag (x ∷ xs))) (inside s (place + v.size) e d n tag xs) place v.size (value_places n tag x v)
+    (chosen-fits (kind_in s.header.params x.form) (in_unit s place e d (at_values n tag (x ∷ xs))) x (take v.size (drop place cells)) f)
+    (after-own (kind_in s.header.params x.form) (in_unit s place e d (at_values n tag (x ∷ xs))) (place + length (take v.size (drop place cells)))
+    (code_value (take v.size (drop place cells))) n tag x xs other
+    ∙ inside-same s place e d (at_values n tag (x ∷ xs)) (place + length (take v.size (drop place cells))) e d n tag xs
+    ∙ ap (λ (m : ℕ). inside s (place + m) e d n tag xs) size)
+    (ap (place_of (role_of_kind (kind_in s.header.params x.form) (use_of n tag x.name)) place) size
+    ∙ value-placed (kind_in s.header.params x.form) s.header.params.order (unit_bytes s cells) place x.implicit n tag x.name v (kind_plain s.header.params x.form) is)
+
+-- a value behind a form: the form's number, and the value that was read behind it
+pub record Chosen (params : Params) (x : Spec) (bytes : List ℕ) (place : ℕ) (v : Value) : Type 0 where
+  pub form : ℕ
+  pub size : ℕ
+  pub spells : uleb_at bytes place ≡ Some (form, size)
+  pub value : Value
+  pub is : value_of (kind_in params form) params.order bytes (place + size) x.implicit ≡ Some value
+  pub own : kind_in params form ≢ in_abbreviation
+  pub other : kind_in params form ≢ form_in_front
+  pub whole : v.size ≡ size + value.size
+  pub class_is : v.class ≡ value.class
+  pub at_is : v.at ≡ value.at
+  pub len_is : v.len ≡ value.len
+  pub number_is : v.number ≡ value.number
+
+-- what was chosen has a kind of its own
+chosen-kind : (k : ValueKind) (params : Params) (x : Spec) (bytes : List ℕ) (place : ℕ) (w : Value) → chosen_value k params.order bytes place x.implicit ≡ Some w
+    → (k ≢ in_abbreviation) × (k ≢ form_in_front)
+unfolding value_of
+chosen-kind k params x bytes place w e = (λ f. first f, λ f. second f)
+  where
+    first : k ≡ in_abbreviation → ⊥
+    first f =
+        let none : chosen_value k params.order bytes place x.implicit ≡ None = rw f refl in
+        cc
+
+    second : k ≡ form_in_front → ⊥
+    second f =
+        let none : chosen_value k params.order bytes place x.implicit ≡ None = rw f refl in
+        cc
+
+-- the size of a value that was read, 0 where none was
+abbrev size_read : Option Value → ℕ
+size_read None = 0
+size_read (Some w) = w.size
+
+pub chosen-read : (params : Params) (x : Spec) (bytes : List ℕ) (place : ℕ) (v : Value) → kind_in params x.form ≡ form_in_front
+    → value_at params x bytes place ≡ Some v → Chosen params x bytes place v
+unfolding value_at
+chosen-read params x bytes place v front e = by_read (uleb_at bytes place) refl (sym (ap (λ (k : ValueKind). value_by k params x bytes place) front) ∙ e)
+  where
+    same_value : (w v : Value) (size : ℕ) → behind size (Some w) ≡ Some v → (v.class ≡ w.class) × (v.at ≡ w.at) × (v.len ≡ w.len)
+    same_value w v size e = (cc, cc, cc)
+
+    same_number : (w v : Value) (size : ℕ) → behind size (Some w) ≡ Some v → v.number ≡ w.number
+    same_number w v size e = cc
+
+    by_value : (form size : ℕ) (o : Option Value) → uleb_at bytes place ≡ Some (form, size)
+        → chosen_value (kind_in params form) params.order bytes (place + size) x.implicit ≡ o → behind size o ≡ Some v → Chosen params x bytes place v
+    by_value form size None is same e = absurd cc
+    by_value form size (Some w) is same e =
+        let kinds = chosen-kind (kind_in params form) params x bytes (place + size) w same in
+        record {
+          form = form;
+          size = size;
+          spells = is;
+          value = w;
+          is = sym (chosen_value-own (kind_in params form) params x bytes (place + size) kinds.0) ∙ same;
+          own = kinds.0;
+          other = kinds.1;
+          whole = sym (ap size_read e);
+          class_is = (same_value w v size e).0;
+          at_is = (same_value w v size e).1;
+          len_is = (same_value w v size e).2;
+          number_is = same_number w v size e;
+        }
+
+    by_read : (o : Option (ℕ × ℕ)) → uleb_at bytes place ≡ o → indirect_value params x bytes place o ≡ Some v → Chosen params x bytes place v
+    by_read None is e = absurd cc
+    by_read (Some (form, size)) is e = by_value form size (chosen_value (kind_in params form) params.order bytes (place + size) x.implicit) is refl e
+
+-- the form in front of a value is a piece
+front-run : (base : UnitBase) (cells : List Cell) (s : UnitState) (place e d n tag form size : ℕ) (x : Spec) (xs : List Spec)
+    → kind_in s.header.params x.form ≡ form_in_front → uleb_at (unit_bytes s cells) place ≡ Some (form, size)
+    → kind_in s.header.params form ≢ form_in_front → kind_in s.header.params form ≢ in_abbreviation
+    → PlacedRun base cells (in_unit s place e d (at_values n tag (x ∷ xs))) (in_unit s (place + size) e d (at_chosen n tag place (of_chosen x form) xs)) place (place + size) []
+front-run base cells s place e d n tag form size x xs front is other own =
+    let t : UnitState = in_unit s place e d (at_values n tag (x ∷ xs)) in
+    let p : List Cell = take size (drop place cells) in
+    let c : NumberPiece s cells place form size = number-piece s cells place form size is in
+    let before : place + size ≤ s.header.end = c.before in
+    let fits : IsFrontForm (in_unit s place e d (at_values n tag (x ∷ xs))) (take size (drop place cells)) =
+    record {
+      spells = c.spells ∙ ap (λ (v : ℕ). Some (v, length (take size (drop place cells)))) (sym c.value);
+      before = subst (λ (m : ℕ). place + m ≤ s.header.end) (sym c.size) c.before;
+      other = λ f. other (ap (kind_in s.header.params) (sym c.value) ∙ f);
+      own = λ f. own (ap (kind_in s.header.params) (sym c.value) ∙ f);
+    } in
+    placed-one base cells (in_unit s place e d (at_values n tag (x ∷ xs))) (in_unit s (place + size) e d (at_chosen n tag place (of_chosen x form) xs)) place size []
+    (subst (λ (k : ValueKind). FitsKind k (in_unit s place e d (at_values n tag (x ∷ xs))) x (take size (drop place cells))) (sym front) fits)
+    (ap (λ (k : ValueKind). after_value k (in_unit s place e d (at_values n tag (x ∷ xs))) (place + length (take size (drop place cells)))
+    (code_value (take size (drop place cells))) n tag x xs) front
+    ∙ ap (λ (m : ℕ). in_unit s (place + m) e d (at_chosen n tag place (of_chosen x (code_value (take size (drop place cells)))) xs)) c.size
+    ∙ ap (λ (f : ℕ). in_unit s (place + size) e d (at_chosen n tag place (of_chosen x f) xs)) c.value)
+    (ap (λ (k : ValueKind). place_of (role_of_kind k (use_of n tag x.name)) place (length (take size (drop place cells)))) front)
+
+-- and the value behind it
+chosen-run : (base : UnitBase) (cells : List Cell) (s : UnitState) (place e d n tag start form : ℕ) (x : Spec) (xs : List Spec) (v : Value)
+    → value_of (kind_in s.header.params form) s.header.params.order (unit_bytes s cells) place x.implicit ≡ Some v
+    → PlacedRun base cells (in_unit s place e d (at_chosen n tag start (of_chosen x form) xs)) (inside s (place + v.size) e d n tag xs) place (place + v.size) (value_places n tag x v)
+chosen-run base cells s place e d n tag start form x xs v is =
+    let size : length (take v.size (drop place cells)) ≡ v.size =
+    part-length v.size place s.header.end cells (value_of-own (kind_in s.header.params form) s.header.params.order (unit_bytes s cells) place x.implicit v is).inside in
+    placed-one base cells (in_unit s place e d (at_chosen n tag start (of_chosen x form) xs)) (inside s (place + v.size) e d n tag xs) place v.size (value_places n tag x v)
+    (value-piece s (of_chosen x form) (kind_in s.header.params form) cells place e d (at_chosen n tag start (of_chosen x form) xs) v is)
+    (inside-same s place e d (at_chosen n tag start (of_chosen x form) xs) (place + length (take v.size (drop place cells))) e d n tag xs
+    ∙ ap (λ (m : ℕ). inside s (place + m) e d n tag xs) size)
+    (ap (place_of (role_of_kind (kind_in s.header.params form) (use_of n tag x.name)) place) size
+    ∙ value-placed (kind_in s.header.params form) s.header.params.order (unit_bytes s cells) place x.implicit n tag x.name v (kind_plain s.header.params form) is)
+
+-- values that are the same but for their sizes
+class_places-same : (class : ValueClass) (path : Bool) (v w : Value) → v.at ≡ w.at → v.len ≡ w.len → class_places class path w ≡ class_places class path v
+class_places-same StrOffset path v w at len = rw (at, len) refl
+class_places-same LineStrOffset path v w at len = rw (at, len) refl
+class_places-same InlineText true v w at len = rw (at, len) refl
+class_places-same InlineText false v w at len = refl
+class_places-same class path v w at len = refl
+
+places-same : (n tag : ℕ) (x : Spec) (v w : Value) → v.class ≡ w.class → v.at ≡ w.at → v.len ≡ w.len → value_places n tag x w ≡ value_places n tag x v
+places-same n tag x v w class at len =
+    class_places-same w.class (is_path n tag x.name) v w at len ∙ ap (λ (c : ValueClass). class_places c (is_path n tag x.name) v) (sym class)
+
+-- a value of an attribute is one piece or two
+pub placed-value : (base : UnitBase) (cells : List Cell) (s : UnitState) (place e d n tag : ℕ) (x : Spec) (xs : List Spec) (v : Value)
+    → value_at s.header.params x (unit_bytes s cells) place ≡ Some v
+    → PlacedRun base cells (in_unit s place e d (at_values n tag (x ∷ xs))) (inside s (place + v.size) e d n tag xs) place (place + v.size) (value_places n tag x v)
+unfolding value_at
+placed-value base cells s place e d n tag x xs v is = by_front (is_front (kind_in s.header.params x.form))
+  where
+    by_front : (kind_in s.header.params x.form ≡ form_in_front) ⊎ (kind_in s.header.params x.form ≡ form_in_front → ⊥)
+        → PlacedRun base cells (in_unit s place e d (at_values n tag (x ∷ xs))) (inside s (place + v.size) e d n tag xs) place (place + v.size) (value_places n tag x v)
+    by_front (inl front) =
+        let c : Chosen s.header.params x (unit_bytes s cells) place v = chosen-read s.header.params x (unit_bytes s cells) place v front is in
+        let both = placed-more base cells (in_unit s place e d (at_values n tag (x ∷ xs))) (in_unit s (place + c.size) e d (at_chosen n tag place (of_chosen x c.form) xs))
+        (inside s (place + c.size + c.value.size) e d n tag xs) place (place + c.size) (place + c.size + c.value.size) [] (value_places n tag x c.value)
+        (front-run base cells s place e d n tag c.form c.size x xs front c.spells c.other c.own)
+        (chosen-run base cells s (place + c.size) e d n tag place c.form x xs c.value c.is) in
+        let whole : place + c.size + c.value.size ≡ place + v.size = omega (arith, c.whole) in
+        let at_end : PlacedRun base cells (in_unit s place e d (at_values n tag (x ∷ xs))) (inside s (place + v.size) e d n tag xs) place (place + v.size) (value_places n tag x c.value) =
+        subst (λ (m : ℕ). PlacedRun base cells (in_unit s place e d (at_values n tag (x ∷ xs))) (inside s m e d n tag xs) place m (value_places n tag x c.value)) whole both in
+        subst (λ (ts : List TextPlace). PlacedRun base cells (in_unit s place e d (at_values n tag (x ∷ xs))) (inside s (place + v.size) e d n tag xs) place (place + v.size) ts)
+        (places-same n tag x v c.value c.class_is c.at_is c.len_is) at_end
+    by_front (inr other) = own-run base cells s place e d n tag x xs v other (sym (value_by-own (kind_in s.header.params x.form) s.header.params x (unit_bytes s cells) place other) ∙ is)

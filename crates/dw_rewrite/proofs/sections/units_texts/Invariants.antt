@@ -1,0 +1,13 @@
+use Rattle.std.specs.HashMap.{get}
+use Rattle.std.specs.Prelude.{nat_eq}
+use Rattle.dw_base.specs.ViewData.{debug_data}
+use Rattle.dw_entries.specs.ViewUnits.{unit_section_at}
+use Rattle.dw_rewrite.specs.UnitTexts.{AreTables}
+use Rattle.dw_rewrite.proofs.SectionTextLaws.{SectionPass}
+use Rattle.dw_rewrite.proofs.sections.units_texts.Given as goal
+
+abbrev pub invariant-loop-unit : goal.invariant-loop-unit
+invariant-loop-unit l = record {
+  passed : SectionPass (debug_data l.view) (unit_section_at l.view l.section) l.units l.unit-index l.found;
+  shared : AreTables (debug_data l.view) (λ at. get nat_eq l.shared at);
+}

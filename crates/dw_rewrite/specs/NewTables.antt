@@ -1,0 +1,150 @@
+-- The tables of texts as an edit makes them, from the fields of paths of all unit sections of a view; and the new bytes of a
+-- section, from what is new of the tables.
+use Rattle.std.specs.Prelude.{◌≡◌, ◌≢◌, ℕ, ◌≤◌, ◌<◌, List, [], ◌∷◌, length, get_or, Option}
+use Rattle.dw_meaning.specs.DataOutput.{Body}
+use Rattle.dw_base.specs.DebugData.{DebugData}
+use Rattle.dw_base.specs.FileViews.{View, section_bytes}
+use Rattle.dw_base.specs.Forms.{TextSection, in_str, in_line_str}
+use Rattle.dw_base.specs.Layout.{output_limit}
+use Rattle.dw_base.specs.Paths.{PathMap}
+use Rattle.dw_base.specs.Refusals.{at}
+use Rattle.dw_base.specs.StringTables.{Plan, TextTable, appending, table_bytes}
+use Rattle.dw_base.specs.TextChanges.{TableChange}
+use Rattle.dw_base.specs.ViewData.{debug_data}
+use Rattle.dw_base.specs.declared.debug_sections.DebugSection.{DebugSection}
+use Rattle.dw_base.specs.declared.debug_sections.DebugSection.TheVariants.{Str as str_section, LineStr as line_str_section}
+use Rattle.dw_base.specs.declared.fault.Fault.{Fault}
+use Rattle.dw_base.specs.declared.fault.Fault.TheVariants.{NoMemory, Refused}
+use Rattle.dw_base.specs.declared.fault.Kind.TheVariants.{TooLarge}
+use Rattle.dw_base.specs.declared.fault.Refusal.{Refusal}
+use Rattle.dw_rewrite.specs.Changes.{OffsetTable, ArePathFields, AreNoted, Knows, Remembers, texts_at, patched, with_all_known}
+use Rattle.dw_rewrite.specs.InlineRooms.{AreRooms}
+use Rattle.dw_rewrite.specs.UnitPaths.{UnitPaths, inlined}
+use Rattle.dw_rewrite.specs.declared.fields.PathField.{PathField}
+use Rattle.dw_rewrite.specs.declared.tables.TextsOf.{TextsOf}
+use Rattle.dw_rewrite.specs.declared.tables.TextsOf.TheVariants.{Str, LineStr}
+
+-- a table of texts as the code has it
+abbrev pub as_table : TextsOf → TextSection
+as_table Str = in_str
+as_table LineStr = in_line_str
+
+-- the section that it is
+abbrev pub section_of : TextsOf → DebugSection
+section_of Str = str_section
+section_of LineStr = line_str_section
+
+-- the table of a section of texts, and the byte order of fields
+abbrev pub offsets_of : DebugData → TextSection → OffsetTable
+offsets_of d in_str = record { order = d.base.order; bytes = d.str.bytes }
+offsets_of d in_line_str = record { order = d.base.order; bytes = d.line_str.bytes }
+
+abbrev pub table_number : DebugData → TextSection → ℕ
+table_number d in_str = d.str.number
+table_number d in_line_str = d.line_str.number
+
+abbrev pub offsets_in : View → TextSection → OffsetTable
+offsets_in v table = offsets_of (debug_data v) table
+
+abbrev pub plan_in : PathMap → View → TextSection → Plan
+plan_in m v table = appending m (offsets_in v table).bytes
+
+-- the fields of paths' offsets into a table
+abbrev pub fields_of : TextSection → UnitPaths → List PathField
+fields_of in_str u = u.str
+fields_of in_line_str u = u.line_str
+
+-- the bytes of a section that says this of paths
+abbrev pub info_of : View → UnitPaths → List ℕ
+info_of v u = section_bytes v u.number
+
+-- a section of a view: it is there, its fields of paths are fields, and its paths that stand in their values have rooms
+pub record HasPaths (v : View) (u : UnitPaths) : Type 0 where
+  pub there : u.number < length v.sections
+  pub str : ArePathFields (offsets_in v in_str) (info_of v u) u.str
+  pub line_str : ArePathFields (offsets_in v in_line_str) (info_of v u) u.line_str
+  pub rooms : AreRooms (info_of v u) u.inline
+
+-- the new texts of a table after the paths of a section, and of sections
+abbrev pub section_texts_at : PathMap → View → TextSection → List (List ℕ) → UnitPaths → List (List ℕ)
+section_texts_at m v table ts u = texts_at (plan_in m v table) m (offsets_in v table) (info_of v u) ts (fields_of table u)
+
+abbrev pub all_texts_at : PathMap → View → TextSection → List (List ℕ) → List UnitPaths → List (List ℕ)
+all_texts_at m v table ts [] = ts
+all_texts_at m v table ts (u ∷ us) = all_texts_at m v table (section_texts_at m v table ts u) us
+
+-- the new places of the paths of a section are noted, and of so many sections
+abbrev pub IsSectionNoted : PathMap → View → TextSection → UnitPaths → (ℕ → Option ℕ) → Type 0
+IsSectionNoted m v table u known = AreNoted (plan_in m v table) (offsets_in v table) (info_of v u) (fields_of table u) (length (fields_of table u)) known
+
+pub record AllNoted (m : PathMap) (v : View) (table : TextSection) (us : List UnitPaths) (count : ℕ) (known : ℕ → Option ℕ) : Type 0 where
+  pub each : (k : ℕ) (d : UnitPaths) → k < count → k < length us → IsSectionNoted m v table (get_or us k d) known
+
+-- a table that grows, with the new places of paths that are known
+pub record Growing (m : PathMap) (v : View) (table : TextSection) (pool : TextTable) (known : ℕ → Option ℕ) : Type 0 where
+  pub kept : pool.kept ≡ (offsets_in v table).bytes
+  pub small : length (table_bytes pool) ≤ output_limit
+  pub knows : Knows (plan_in m v table) m (offsets_in v table) pool.texts known
+
+-- it has grown by the paths of a section
+pub record GrownBy (m : PathMap) (v : View) (table : TextSection) (u : UnitPaths) (old new : TextTable) (was known : ℕ → Option ℕ) : Type 0 where
+  pub grown : Growing m v table new known
+  pub texts : new.texts ≡ section_texts_at m v table old.texts u
+  pub noted : IsSectionNoted m v table u known
+  pub remembers : Remembers was known
+
+-- and by those of all sections
+pub record TableMade (m : PathMap) (v : View) (table : TextSection) (us : List UnitPaths) (pool : TextTable) (known : ℕ → Option ℕ) : Type 0 where
+  pub grown : Growing m v table pool known
+  pub texts : pool.texts ≡ all_texts_at m v table [] us
+  pub noted : AllNoted m v table us (length us) known
+
+-- the table with these texts behind its old bytes
+abbrev pub table_with : View → TextSection → List (List ℕ) → TextTable
+table_with v table ts = record { kept = (offsets_in v table).bytes; texts = ts }
+
+-- what becomes of a table
+abbrev pub change_in : PathMap → View → TextSection → List (List ℕ) → TableChange
+change_in m v table ts = record { plan = plan_in m v table; texts = ts }
+
+-- the new bytes of a section, where these are the new texts of the two tables
+unfoldable pub section_after : PathMap → View → List (List ℕ) → List (List ℕ) → UnitPaths → List ℕ
+section_after m v ts ls u =
+    let with_str = patched (change_in m v in_str ts) m (offsets_in v in_str) (info_of v u) (info_of v u) u.str in
+    let with_both = patched (change_in m v in_line_str ls) m (offsets_in v in_line_str) (info_of v u) with_str u.line_str in
+    inlined m (info_of v u) with_both u.inline
+
+abbrev pub body_after : PathMap → View → List (List ℕ) → List (List ℕ) → UnitPaths → Body
+body_after m v ts ls u = record { number = u.number; bytes = section_after m v ts ls u }
+
+abbrev pub bodies_after : PathMap → View → List (List ℕ) → List (List ℕ) → List UnitPaths → List Body
+bodies_after m v ts ls [] = []
+bodies_after m v ts ls (u ∷ us) = body_after m v ts ls u ∷ bodies_after m v ts ls us
+
+-- the fault of a section
+abbrev pub fault_at : Fault → ℕ → Fault
+fault_at NoMemory section = NoMemory
+fault_at (Refused r) section = Refused (at r.kind section r.offset)
+
+-- a table of texts, of a section that is there, would be longer than a file that is written
+pub data LongTable (m : PathMap) (v : View) (table : TextSection) (us : List UnitPaths) : Refusal → Type 0 where
+  long_table : table_number (debug_data v) table ≢ 0 → output_limit < length (table_bytes (table_with v table (all_texts_at m v table [] us)))
+      → LongTable m v table us (at TooLarge (table_number (debug_data v) table) 0)
+
+-- the same from the new places that are known
+unfoldable pub section_known : PathMap → View → (ℕ → Option ℕ) → (ℕ → Option ℕ) → UnitPaths → List ℕ
+section_known m v ks kl u =
+    let with_str = with_all_known (offsets_in v in_str) (info_of v u) ks (info_of v u) u.str in
+    let with_both = with_all_known (offsets_in v in_line_str) (info_of v u) kl with_str u.line_str in
+    inlined m (info_of v u) with_both u.inline
+
+abbrev pub body_known : PathMap → View → (ℕ → Option ℕ) → (ℕ → Option ℕ) → UnitPaths → Body
+body_known m v ks kl u = record { number = u.number; bytes = section_known m v ks kl u }
+
+abbrev pub bodies_known : PathMap → View → (ℕ → Option ℕ) → (ℕ → Option ℕ) → List UnitPaths → List Body
+bodies_known m v ks kl [] = []
+bodies_known m v ks kl (u ∷ us) = body_known m v ks kl u ∷ bodies_known m v ks kl us
+
+-- a table of texts with its new bytes
+abbrev pub table_body_of : View → TextSection → TextTable → Body
+table_body_of v table pool = record { number = table_number (debug_data v) table; bytes = table_bytes pool }

@@ -1,0 +1,78 @@
+//! What a pass over a unit section finds of paths.
+
+ghost use Rattle.std.specs.Prelude.{◌≡◌, ◌++◌, ◌∷◌, [], OnOk, OnErr};
+ghost use Rattle.dw_rewrite.specs.EntryTexts.{Tables, TablesEnd, no_paths};
+ghost use Rattle.dw_rewrite.specs.UnitPaths.{UnitPaths as PathsOf};
+
+use crate::fields::{InlinePath, PathField};
+use dw_base::nul_end;
+use std::alloc::Global;
+use std::marker::Model;
+
+/// What a unit section says of paths.
+#[derive(Drop)]
+pub(crate) struct UnitPaths {
+    /// The section's number.
+    pub section: u32,
+    /// The fields that hold offsets of paths in `.debug_str`.
+    pub str: Vec<PathField>,
+    /// The same of `.debug_line_str`.
+    pub line_str: Vec<PathField>,
+    /// The paths that stand in their values.
+    pub inline: Vec<InlinePath>,
+}
+
+impl Model for UnitPaths {
+    ghost Value = { PathsOf };
+
+    ghost view = { λ u. record { number = u.section; str = u.str.items; line_str = u.line_str.items; inline = u.inline.items } };
+}
+
+impl UnitPaths {
+    /// Nothing was found in a section yet.
+    pub(crate) fn new(alloc: Global, section: u32) -> UnitPaths
+        ensures { result ≡ no_paths section }
+    {
+        UnitPaths {
+            section,
+            str: Vec::new(alloc),
+            line_str: Vec::new(alloc),
+            inline: Vec::new(alloc),
+        }
+    }
+}
+
+/// The tables of texts, and where the last text of each ends.
+#[derive(Drop)]
+pub(crate) struct TextTables<'a> {
+    /// The bytes of `.debug_str`.
+    pub str: &'a [u8],
+    /// Those of `.debug_line_str`.
+    pub line_str: &'a [u8],
+    /// Where the last text of `.debug_str` ends.
+    pub str_end: u64,
+    /// Where that of `.debug_line_str` ends.
+    pub line_str_end: u64,
+}
+
+impl<'a> Model for TextTables<'a> {
+    ghost Value = { Tables };
+
+    ghost view = { λ t. record { str = t.str.now; line_str = t.line_str.now } };
+
+    ghost invariant = { λ t. TablesEnd (record { str = t.str.now; line_str = t.line_str.now }) t.str_end t.line_str_end };
+}
+
+impl<'a> TextTables<'a> {
+    /// These tables.
+    pub(crate) fn new(str: &'a [u8], line_str: &'a [u8]) -> TextTables<'a>
+        ensures { result ≡ record { str = str.now; line_str = line_str.now } }
+    {
+        TextTables {
+            str,
+            line_str,
+            str_end: nul_end(str) as u64,
+            line_str_end: nul_end(line_str) as u64,
+        }
+    }
+}

@@ -1,0 +1,150 @@
+//! The unit sections with new bytes: new offsets in the fields of paths, and paths that stand in their values
+//! mapped in their rooms.
+//!
+//! Read first: `specs/NewTables.antt`.
+
+ghost use Rattle.std.specs.Prelude.{◌≡◌, ◌++◌, length, nat_eq, IfErr, IfOk, OnOk};
+ghost use Rattle.std.specs.HashMap.{get};
+ghost use Rattle.dw_meaning.specs.DataOutput.{Body as BodyOf};
+ghost use Rattle.dw_base.specs.Refusals.{Blames};
+ghost use Rattle.dw_base.specs.ViewData.{debug_data};
+ghost use Rattle.dw_base.specs.declared.fault.Fault.TheVariants.{NoMemory};
+ghost use Rattle.dw_rewrite.specs.Changes.{AllFit, with_all_known};
+ghost use Rattle.dw_rewrite.specs.InlineRooms.{Grows};
+ghost use Rattle.dw_rewrite.specs.NewTables.{HasPaths, as_table, bodies_known, body_known, fields_of, info_of, offsets_in, section_known};
+ghost use Rattle.dw_rewrite.specs.TextPlaces.{AllFitRooms, AllPlaced};
+
+use crate::change::patch;
+use crate::found::UnitPaths;
+use crate::inline::map_rooms;
+use crate::tables::{TextsOf, fields_of, table_texts};
+use dw_base::Fault;
+use dw_paths::Maps;
+use dw_view::View;
+use std::alloc::Global;
+use std::collections::HashMap;
+use std::marker::Model;
+
+/// A section and its new bytes.
+#[derive(Drop)]
+pub(crate) struct Body {
+    /// The section's number; 0 for a table of texts that isn't there.
+    pub section: u32,
+    /// Its new bytes.
+    pub bytes: Vec<u8>,
+}
+
+impl Model for Body {
+    ghost Value = { BodyOf };
+
+    ghost view = { λ b. record { number = b.section; bytes = b.bytes.items } };
+}
+
+/// Appends the unit sections with their new bytes, from the new places of paths that are known of each table.
+#[tactic(auto, using(crate::proofs::SectionBytesLaws::all_rules))]
+pub(crate) fn new_sections(
+    alloc: Global,
+    view: &View,
+    maps: &Maps,
+    str: &HashMap<u64, u64>,
+    line_str: &HashMap<u64, u64>,
+    paths: &[UnitPaths],
+    bodies: &mut Vec<Body>,
+) -> Result<(), Fault>
+    requires placed { AllPlaced (debug_data view.now) (debug_data view.now).units paths.now }
+    requires rooms { AllFitRooms maps.now (debug_data view.now).units paths.now }
+    requires str { AllFit (λ o. get nat_eq str.now o) }
+    requires line_str { AllFit (λ o. get nat_eq line_str.now o) }
+    ensures bodies { OnOk result (bodies.new.items ≡ bodies.old.items ++ bodies_known maps.now view.now (λ o. get nat_eq str.now o) (λ o. get nat_eq line_str.now o) paths.now) }
+    ensures only { IfErr result (λ f. f ≡ NoMemory) }
+{
+    for found in paths {
+        let body = new_section(alloc, view, maps, str, line_str, found)?;
+        bodies.push(body)?;
+    }
+    Ok(())
+}
+
+/// A unit section with its new bytes.
+#[tactic(auto, using(crate::proofs::SectionBytesLaws::one_rules))]
+fn new_section(
+    alloc: Global,
+    view: &View,
+    maps: &Maps,
+    str: &HashMap<u64, u64>,
+    line_str: &HashMap<u64, u64>,
+    found: &UnitPaths,
+) -> Result<Body, Fault>
+    requires paths { HasPaths view.now found.now }
+    requires str { AllFit (λ o. get nat_eq str.now o) }
+    requires line_str { AllFit (λ o. get nat_eq line_str.now o) }
+    ensures body { IfOk result (λ b. b ≡ body_known maps.now view.now (λ o. get nat_eq str.now o) (λ o. get nat_eq line_str.now o) found.now) }
+    ensures refused { IfErr result (Blames (Grows maps.now found.now.number (info_of view.now found.now) found.now.inline)) }
+{
+    let mut bytes = Vec::from_slice(alloc, view.bytes(found.section))?;
+    write_section(alloc, view, maps, str, line_str, found, &mut bytes)?;
+    Ok(Body {
+        section: found.section,
+        bytes,
+    })
+}
+
+/// Writes what is new into the bytes of a unit section.
+#[tactic(auto, using(crate::proofs::SectionBytesLaws::one_rules))]
+fn write_section(
+    alloc: Global,
+    view: &View,
+    maps: &Maps,
+    str: &HashMap<u64, u64>,
+    line_str: &HashMap<u64, u64>,
+    found: &UnitPaths,
+    out: &mut [u8],
+) -> Result<(), Fault>
+    requires paths { HasPaths view.now found.now }
+    requires str { AllFit (λ o. get nat_eq str.now o) }
+    requires line_str { AllFit (λ o. get nat_eq line_str.now o) }
+    requires start { out.old ≡ info_of view.now found.now }
+    ensures out { OnOk result (out.new ≡ section_known maps.now view.now (λ o. get nat_eq str.now o) (λ o. get nat_eq line_str.now o) found.now) }
+    ensures long { OnOk result (length out.new ≡ length (info_of view.now found.now)) }
+    ensures refused { IfErr result (Blames (Grows maps.now found.now.number (info_of view.now found.now) found.now.inline)) }
+{
+    patch_section(view, TextsOf::Str, found, str, out);
+    patch_section(view, TextsOf::LineStr, found, line_str, out);
+    let info = view.bytes(found.section);
+    map_rooms(
+        alloc,
+        maps,
+        found.section,
+        info,
+        found.inline.as_slice(),
+        out,
+    )?;
+    Ok(())
+}
+
+/// Puts the new offsets into the fields of a table's paths in a section.
+#[tactic(auto, using(crate::proofs::SectionBytesLaws::patch_rules))]
+fn patch_section(
+    view: &View,
+    texts: TextsOf,
+    found: &UnitPaths,
+    known: &HashMap<u64, u64>,
+    out: &mut [u8],
+)
+    requires paths { HasPaths view.now found.now }
+    requires long { length out.old ≡ length (info_of view.now found.now) }
+    requires fits { AllFit (λ o. get nat_eq known.now o) }
+    ensures out { out.new ≡ with_all_known (offsets_in view.now (as_table texts)) (info_of view.now found.now) (λ o. get nat_eq known.now o) out.old (fields_of (as_table texts) found.now) }
+    ensures long { length out.new ≡ length (info_of view.now found.now) }
+{
+    let info = view.bytes(found.section);
+    let fields = fields_of(found, texts);
+    patch(
+        view.order(),
+        info,
+        table_texts(view, texts),
+        fields,
+        known,
+        out,
+    );
+}

@@ -1,0 +1,165 @@
+//! The tables of texts as an edit makes them: the old bytes, and behind them each mapped path that differs.
+//!
+//! Read first: `specs/NewTables.antt`.
+
+ghost use Rattle.std.specs.Prelude.{◌≡◌, ◌^◌, ◌≤◌, length, nat_eq, IfErr, IfOk, OnOk, []};
+ghost use Rattle.std.specs.HashMap.{get};
+ghost use Rattle.dw_base.specs.LayoutFails.{TooLong};
+ghost use Rattle.dw_base.specs.Refusals.{Blames};
+ghost use Rattle.dw_base.specs.StringTables.{table_bytes};
+ghost use Rattle.dw_base.specs.ViewData.{debug_data};
+ghost use Rattle.dw_rewrite.specs.NewTables.{GrownBy, Growing, HasPaths, LongTable, TableMade, all_texts_at, as_table, fault_at, fields_of, offsets_in, section_of, section_texts_at, table_number, table_with};
+ghost use Rattle.dw_rewrite.specs.TextPlaces.{AllPlaced};
+
+use crate::change::note_fields;
+use crate::fields::PathField;
+use crate::found::UnitPaths;
+use dw_base::{DebugSection, Fault, Refusal};
+use dw_paths::Maps;
+use dw_strings::Pool;
+use dw_view::View;
+use std::alloc::Global;
+use std::collections::HashMap;
+
+/// A table of texts.
+#[derive(Clone, Copy)]
+pub(crate) enum TextsOf {
+    /// `.debug_str`.
+    Str,
+    /// `.debug_line_str`.
+    LineStr,
+}
+
+impl TextsOf {
+    /// The section that it is.
+    fn section(self) -> DebugSection
+        ensures { result ≡ section_of self }
+    {
+        match self {
+            TextsOf::Str => DebugSection::Str,
+            TextsOf::LineStr => DebugSection::LineStr,
+        }
+    }
+}
+
+/// The number of the section of a table of texts; 0 where it isn't there.
+#[tactic(auto, using(crate::proofs::TableLaws::located_rules))]
+pub(crate) fn table_number(view: &View, texts: TextsOf) -> u32
+    ensures { result ≡ table_number (debug_data view.now) (as_table texts) }
+{
+    match view.first(texts.section()) {
+        Some(section) => section,
+        None => 0,
+    }
+}
+
+/// Its bytes; none where it isn't there.
+#[tactic(auto, using(crate::proofs::TableLaws::located_rules))]
+pub(crate) fn table_texts<'a>(view: &'a View, texts: TextsOf) -> &'a [u8]
+    ensures bytes { result.now ≡ (offsets_in view.now (as_table texts)).bytes }
+    ensures small { length result.now ≤ 2 ^ 31 }
+{
+    match view.first(texts.section()) {
+        Some(section) => view.bytes(section),
+        None => b"",
+    }
+}
+
+/// The fields of paths' offsets into a table.
+pub(crate) fn fields_of(paths: &UnitPaths, texts: TextsOf) -> &[PathField]
+    ensures { result.now ≡ fields_of (as_table texts) paths.now }
+{
+    match texts {
+        TextsOf::Str => &paths.str,
+        TextsOf::LineStr => &paths.line_str,
+    }
+}
+
+/// A table of texts that has grown, and the new places of the paths in it by their old offsets.
+#[derive(Drop)]
+pub(crate) struct NewTable {
+    /// The table.
+    pub pool: Pool,
+    /// The new places.
+    pub known: HashMap<u64, u64>,
+}
+
+/// A table with the mapped paths of all unit sections. Refused as `TooLarge`, at its section, where it would
+/// be longer than a file that is written.
+#[tactic(auto, using(crate::proofs::GrowthLaws::table_rules))]
+pub(crate) fn new_table(
+    alloc: Global,
+    view: &View,
+    maps: &Maps,
+    texts: TextsOf,
+    paths: &[UnitPaths],
+) -> Result<NewTable, Fault>
+    requires placed { AllPlaced (debug_data view.now) (debug_data view.now).units paths.now }
+    ensures made { IfOk result (λ t. TableMade maps.now view.now (as_table texts) paths.now t.pool (λ o. get nat_eq t.known o)) }
+    ensures refused { IfErr result (Blames (LongTable maps.now view.now (as_table texts) paths.now)) }
+{
+    match grown_table(alloc, view, maps, texts, paths) {
+        Ok(table) => Ok(table),
+        Err(fault) => Err(fault_at(fault, table_number(view, texts))),
+    }
+}
+
+/// The same, with a refusal at no section.
+#[tactic(auto, using(crate::proofs::GrowthLaws::grown_rules))]
+fn grown_table(
+    alloc: Global,
+    view: &View,
+    maps: &Maps,
+    texts: TextsOf,
+    paths: &[UnitPaths],
+) -> Result<NewTable, Fault>
+    requires placed { AllPlaced (debug_data view.now) (debug_data view.now).units paths.now }
+    ensures made { IfOk result (λ t. TableMade maps.now view.now (as_table texts) paths.now t.pool (λ o. get nat_eq t.known o)) }
+    ensures refused { IfErr result (Blames (TooLong (length (table_bytes (table_with view.now (as_table texts) (all_texts_at maps.now view.now (as_table texts) [] paths.now)))))) }
+{
+    let table = table_texts(view, texts);
+    let mut pool = Pool::new(alloc, table)?;
+    let mut known = HashMap::new(alloc);
+    for found in paths {
+        note_section(
+            alloc, view, maps, texts, table, found, &mut pool, &mut known,
+        )?;
+    }
+    Ok(NewTable { pool, known })
+}
+
+/// Notes the new places of the paths of a section.
+#[tactic(auto, using(crate::proofs::GrowthLaws::section_rules))]
+fn note_section(
+    alloc: Global,
+    view: &View,
+    maps: &Maps,
+    texts: TextsOf,
+    table: &[u8],
+    found: &UnitPaths,
+    pool: &mut Pool,
+    known: &mut HashMap<u64, u64>,
+) -> Result<(), Fault>
+    requires table { table.now ≡ (offsets_in view.now (as_table texts)).bytes }
+    requires paths { HasPaths view.now found.now }
+    requires growing { Growing maps.now view.now (as_table texts) pool.old (λ o. get nat_eq known.old o) }
+    ensures grown { OnOk result (GrownBy maps.now view.now (as_table texts) found.now pool.old pool.new (λ o. get nat_eq known.old o) (λ o. get nat_eq known.new o)) }
+    ensures refused { IfErr result (Blames (TooLong (length (table_bytes (table_with view.now (as_table texts) (section_texts_at maps.now view.now (as_table texts) pool.old.texts found.now)))))) }
+{
+    let info = view.bytes(found.section);
+    let fields = fields_of(found, texts);
+    note_fields(alloc, view.order(), info, table, maps, fields, pool, known)?;
+    Ok(())
+}
+
+/// The fault of a section.
+fn fault_at(fault: Fault, section: u32) -> Fault
+    ensures { result ≡ fault_at fault section }
+{
+    match fault {
+        Fault::NoMemory => Fault::NoMemory,
+        Fault::Refused(refusal) => {
+            Fault::Refused(Refusal::at(refusal.kind, section, refusal.offset))
+        }
+    }
+}
