@@ -1,0 +1,6 @@
+use Rattle.dw_offsets.specs.NameTables.{NamesTexts}
+use Rattle.dw_offsets.proofs.name_texts.check_texts.Given as goal
+
+-- the string offsets so far name texts
+abbrev pub invariant-loop-i : goal.invariant-loop-i
+invariant-loop-i l = NamesTexts l.view l.section l.table l.i

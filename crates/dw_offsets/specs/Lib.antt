@@ -1,0 +1,4 @@
+pub mod StringOffsets
+pub mod StringOffsetFails
+pub mod NameTables
+pub mod NameTableFails

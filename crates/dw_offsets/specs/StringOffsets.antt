@@ -1,0 +1,74 @@
+-- The contributions of string offsets, and their slots (DWARF 5, 7.26): a length, the version 5, two bytes of padding, and
+-- offsets of texts up to the end. What a unit names as its base is the place of the first offset.
+use Rattle.std.specs.Prelude.{◌≡◌, ℕ, ◌+◌, ◌-◌, ◌*◌, ◌%◌, ◌<◌, ◌≤◌, ◌==◌, nat_le, nat_lt, if◌then◌else◌, List, [], ◌∷◌, ◌++◌, length, slice_index_or, Option, Some, None}
+use Rattle.dw_base.specs.Cells.{Located}
+use Rattle.dw_base.specs.FileViews.{View}
+use Rattle.dw_base.specs.Forms.{width_size}
+use Rattle.dw_base.specs.Lebs.{initial_length_at}
+use Rattle.dw_base.specs.Numbers.{spelled}
+use Rattle.dw_base.specs.ViewData.{located}
+use Rattle.dw_base.specs.declared.debug_sections.DebugSection.TheVariants.{StrOffsets}
+use Rattle.dw_base.specs.declared.shared.Order.{Order}
+use Rattle.dw_base.specs.declared.shared.Width.{Width}
+use Rattle.dw_base.specs.declared.shared.Width.TheVariants.{W32}
+use Rattle.dw_offsets.specs.declared.string_offsets.Contribution.{Contribution}
+
+-- the section of string offsets of a view: no bytes where there is none
+abbrev pub string_offsets : View → Located
+string_offsets v = located v StrOffsets
+
+-- the contribution at a place, by its length: width, length, and the size of the length's field
+abbrev pub contribution_from : ℕ → Width × ℕ × ℕ → Contribution
+contribution_from start l = record { start = start; base = start + l.2 + 4; end = start + l.2 + l.1; width = l.0 }
+
+-- a contribution that can be read starts at a place: it lies in the section, its version is 5, and whole offsets fill it
+pub record IsContribution (order : Order) (bytes : List ℕ) (start : ℕ) (c : Contribution) : Type 0 where
+  pub lengths : Width × ℕ × ℕ
+  pub length_is : initial_length_at order bytes start ≡ Some lengths
+  pub is : c ≡ contribution_from start lengths
+  pub within : c.end ≤ length bytes
+  pub header : c.base ≤ c.end
+  pub version : spelled order bytes (start + lengths.2) 2 ≡ 5
+  pub whole : (c.end - c.base) % width_size c.width ≡ 0
+
+-- contributions stand one after another from the section's start up to a place
+pub data ContributionsUpTo (order : Order) (bytes : List ℕ) : List Contribution → ℕ → Type 0 where
+  no_contributions : ContributionsUpTo order bytes [] 0
+  more_contributions : (list : List Contribution) (c : Contribution) (start : ℕ) → ContributionsUpTo order bytes list start
+      → IsContribution order bytes start c → ContributionsUpTo order bytes (list ++ c ∷ []) c.end
+
+-- the contributions of a section: they fill it
+abbrev pub AreContributions : Order → Located → List Contribution → Type 0
+AreContributions order z list = ContributionsUpTo order z.bytes list (length z.bytes)
+
+-- the place of a slot of a contribution; none where the contribution ends before the slot does
+unfoldable pub slot_in : Contribution → ℕ → Option ℕ
+slot_in c index = if nat_le (c.base + (index + 1) * width_size c.width) c.end then Some (c.base + index * width_size c.width) else None
+
+-- the place of a slot of the contribution whose slots begin at a base, the first of those that have it
+abbrev pub slot_place : List Contribution → ℕ → ℕ → Option ℕ
+slot_place [] base index = None
+slot_place (c ∷ cs) base index = if c.base == base then slot_in c index else slot_place cs base index
+
+-- the base of the contribution of a number
+abbrev pub base_at : List Contribution → ℕ → ℕ
+base_at list i = let c = slice_index_or list i (record { start = 0; base = 0; end = 0; width = W32 }) in c.base
+
+-- the bases rise, so no base comes twice
+pub record BasesRise (list : List Contribution) : Type 0 where
+  pub rise : (i j : ℕ) → i < j → j < length list → base_at list i < base_at list j
+
+-- the contribution of a number has the base
+pub record HasBase (list : List Contribution) (base i : ℕ) : Type 0 where
+  pub inside : i < length list
+  pub base_is : base_at list i ≡ base
+
+-- no contribution has the base: those before a number have smaller ones, and the others greater ones
+pub record IsBaseGap (list : List Contribution) (base i : ℕ) : Type 0 where
+  pub inside : i ≤ length list
+  pub before : (k : ℕ) → k < i → base_at list k < base
+  pub behind : (k : ℕ) → i ≤ k → k < length list → base < base_at list k
+
+-- so many offsets have room in so many bytes
+pub record IsSlotCount (width : Width) (size count : ℕ) : Type 0 where
+  pub fit : (i : ℕ) → nat_le ((i + 1) * width_size width) size ≡ nat_lt i count

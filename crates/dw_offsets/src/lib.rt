@@ -1,0 +1,35 @@
+//! Where texts are named outside of entries: the contributions of string offsets (DWARF 5, 7.26), and
+//! name tables (DWARF 5, 6.1.1.4).
+//!
+//! This layer promises: contributions are given only where they fill `.debug_str_offsets`, and are refused
+//! only where one of them can't be read, at that contribution; the place of a slot is given exactly where
+//! a contribution with the base has the slot. Name tables are given only where they fill `.debug_names`
+//! and each of their string offsets names a text, and are refused only where one can't be read, at that
+//! table, or where a string offset names no text, at its field.
+//! It does not promise: that a slot names a text; anything of what a name table says of its names.
+//! Read first: `specs/StringOffsets.antt`, then `specs/NameTables.antt`, and the two files of their refusals.
+//!
+//! # Example
+//!
+//! ```
+//! let view = View::one(&elf)?;
+//! let list = contributions(alloc, &view)?;
+//! if let Some(place) = slot_place(list.as_slice(), base, index) {
+//!     // the offset of the text of a value by `DW_FORM_strx` stands there
+//! }
+//! ```
+#![tactic(auto)]
+
+#[cfg(test)]
+mod fixtures;
+mod name_headers;
+mod name_lists;
+mod name_texts;
+mod slots;
+mod string_offsets;
+mod widths;
+
+pub use dw_base::{Fault, Kind, Refusal, Width};
+pub use name_lists::{NameTable, NameTableList, name_tables};
+pub use slots::slot_place;
+pub use string_offsets::{Contribution, ContributionList, contributions};

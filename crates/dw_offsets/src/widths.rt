@@ -1,0 +1,42 @@
+//! How many bytes an offset has (DWARF 5, 7.4).
+//!
+//! This file promises: an offset has 4 bytes in 32-bit DWARF and 8 bytes in 64-bit DWARF.
+
+ghost use Rattle.std.specs.Prelude.{◌≡◌, ◌≤◌, ◌<◌, ◌%◌, ◌==◌};
+ghost use Rattle.dw_base.specs.Forms.{width_size};
+ghost use Rattle.dw_offsets.specs.StringOffsets.{IsSlotCount};
+
+use dw_base::Width;
+
+/// How many bytes an offset has.
+pub(crate) fn width_size(width: Width) -> u8
+    ensures size { result ≡ width_size width }
+    ensures some { 0 < result }
+    ensures wide { result ≤ 8 }
+{
+    match width {
+        Width::W32 => 4,
+        Width::W64 => 8,
+    }
+}
+
+/// So many bytes are whole offsets.
+pub(crate) fn are_whole(width: Width, size: u64) -> bool
+    ensures whole { result ≡ (size % width_size width == 0) }
+{
+    match width {
+        Width::W32 => size % 4 == 0,
+        Width::W64 => size % 8 == 0,
+    }
+}
+
+/// How many offsets have room in so many bytes.
+#[tactic(auto, using(crate::proofs::SlotLaws::count_laws))]
+pub(crate) fn slot_count(width: Width, size: u64) -> u64
+    ensures count { IsSlotCount width size result }
+{
+    match width {
+        Width::W32 => size / 4,
+        Width::W64 => size / 8,
+    }
+}

@@ -1,0 +1,54 @@
+//! Fields of a made file that get new places, and one whose new place is too large.
+
+use super::{NewPlace, Patches};
+use dw_base::{DebugSection, Fault, Kind, Refusal};
+use dw_view::View;
+use elf_file::ElfFile;
+use std::test::Fail;
+
+/// An executable file of 64 bits: section 1 is `.debug_info` of 16 bytes, section 2 the section name table
+/// (gABI ch. 4).
+const FILE: &[u8] = b"\x7fELF\x02\x01\x01\0\0\0\0\0\0\0\0\0\x02\0>\0\x01\0\0\0\0\0\0\0\0\0\0\0\
+    \0\0\0\0\0\0\0\0g\0\0\0\0\0\0\0\0\0\0\0@\0\0\0\0\0@\0\x03\0\x02\0\
+    \x10\x11\x12\x13\x14\x15\x16\x17\x18\x19\x1a\x1b\x1c\x1d\x1e\x1f\0.debug_info\0.sh\
+    strtab\0\0\0\0\0\0\0\0\0\0\0\0\0\0\0\0\0\0\0\0\0\0\0\0\0@\
+    \0\0\0\0\0\0\0\0\0\0\0\0\0\0\0\0\0\0\0\0\0\0\0\x01\0\0\0\0\0\0\0\0\
+    \0\0\0\0\0\0\0\x01\0\0\0\x01\0\0\0\0\0\0\0\0\0\0\0\0\0\0\0\0\0\0\0@\
+    \0\0\0\0\0\0\0\x10\0\0\0\0\0\0\0\0\0\0\0\0\0\0\0\x01\0\0\0\0\0\0\0\0\
+    \0\0\0\0\0\0\0\x0d\0\0\0\x03\0\0\0\0\0\0\0\0\0\0\0\0\0\0\0\0\0\0\0P\
+    \0\0\0\0\0\0\0\x17\0\0\0\0\0\0\0\0\0\0\0\0\0\0\0\x01\0\0\0\0\0\0\0\0\
+    \0\0\0\0\0\0\0";
+
+/// The bytes of its section 1.
+const OLD: [u8; 16] = [
+    0x10, 0x11, 0x12, 0x13, 0x14, 0x15, 0x16, 0x17, 0x18, 0x19, 0x1a, 0x1b, 0x1c, 0x1d, 0x1e, 0x1f,
+];
+
+/// With 0x2b in the 4 bytes from 2, 0x1ff in the 2 bytes from 6 and 1 in the last 8 bytes.
+const NEW: [u8; 16] = [
+    0x10, 0x11, 0x2b, 0x00, 0x00, 0x00, 0xff, 0x01, 0x01, 0x00, 0x00, 0x00, 0x00, 0x00, 0x00, 0x00,
+];
+
+#[test]
+#[tactic(auto, using(crate::proofs::PatchLaws::free_laws))]
+fn fields_that_were_set_get_their_new_places(rt: HostRuntime) -> Result<(), Fail> {
+    let elf = ElfFile::read(rt.alloc(), FILE)?;
+    let view = View::one(&elf)?;
+    let section = view.first(DebugSection::Info).ok_or("no section")?;
+    assert!(rt; view.bytes(section).len() == 16);
+    let mut patches = Patches::new(rt.alloc(), &view, section)?;
+    patches.set(2, 4, NewPlace::Offset(0x2b))?;
+    match patches.set(6, 2, NewPlace::Offset(0x1_0000)) {
+        Ok(()) => return Err("taken".into()),
+        Err(fault) => {
+            let wide = Refusal::at(Kind::TooWide, section, 6);
+            assert_eq!(rt; fault, Fault::Refused(wide));
+        }
+    }
+    patches.set(6, 2, NewPlace::Offset(0x1ff))?;
+    patches.set(8, 8, NewPlace::Offset(1))?;
+    let mut bytes = OLD;
+    patches.apply(&mut bytes);
+    assert_eq!(rt; bytes, NEW);
+    Ok(())
+}
