@@ -1,8 +1,8 @@
 -- Laws of patches: fields that are set stay apart, and what is put into one leaves the others.
-use Rattle.std.proofs.Common.{inl, inr, ◌⊎◌, ◌↔◌, Bool, true, false, ◌≡◌, ℕ, zero, suc, ◌+◌, ◌-◌, ◌<◌, ◌≤◌, ◌^◌, List, [], ◌∷◌, ◌++◌, length, take, drop, get_or, slice_index, refl, sym, ap, ◌∙◌, subst, arith}
+use Rattle.std.proofs.Common.{inl, inr, ◌⊎◌, ◌↔◌, Bool, true, false, ◌≡◌, ℕ, zero, suc, ◌+◌, ◌<◌, ◌≤◌, ◌^◌, List, [], ◌∷◌, ◌++◌, length, get_or, slice_index, refl, sym, ap, ◌∙◌, arith}
 use Rattle.std.proofs.lemmas.Bool.{both_ways, cases_lt}
 use Rattle.std.proofs.lemmas.List.{length-append, get_or-take, get_or-drop, get_or_default}
-use Rattle.dw_base.specs.Numbers.{spelled, with_number}
+use Rattle.dw_base.specs.Numbers.{with_number}
 use Rattle.dw_base.specs.Refusals.{at}
 use Rattle.dw_base.specs.declared.fault.Kind.TheVariants.{TooWide}
 use Rattle.dw_base.specs.declared.shared.Order.{Order}
@@ -51,7 +51,7 @@ more-fit size place n value old new fit is free some wide inside fits = rw is (a
 
 -- a number that doesn't fit
 pub at-too_wide : (section place size n : ℕ) (b : Bool) → ((b ≡ true) ↔ (n < 256 ^ size)) → b ≡ false → SetFails section place size n (at TooWide section place)
-at-too_wide section place size n b fits not_fits = too_wide (elim (cases_lt n (256 ^ size)) [ | inl lt ↦ absurd (both_ways b not_fits (fits.1 lt)) | inr le ↦ le ])
+at-too_wide section place size n b fits not_fits = too_wide (elim (cases_lt n (256 ^ size)) [ inl lt ↦ absurd (both_ways b not_fits (fits.1 lt)) | inr le ↦ le ])
 
 pub ruleset set_laws = (more-fit, at-too_wide)
 
@@ -105,16 +105,20 @@ put-one o size n list old now p p_is fit len lt u =
           ∙ u.kept k (λ i front. free i (omega (arith, front)));
     }
 
-pub put-more : (o : Order) (size n : ℕ) (list : List Patch) (old now new : List ℕ) (p d : Patch) → p ≡ get_or list n d → PatchesFit size list → length old ≡ size → n < length list
-    → PatchedUpTo o list n old now → new ≡ with_number o now p.at p.size p.value → PatchedUpTo o list (n + 1) old new
-put-more o size n list old now new p d p_is fit len lt u is =
-    rw is (put-one o size n list old now p (p_is ∙ get_or_default list n d _ lt) fit len lt u)
+-- the field of a number, whatever the list is read with
+patch-here : (list : List Patch) (n : ℕ) (p d : Patch) → p ≡ get_or list n d → n < length list → p ≡ patch_at list n
+patch-here list n p d is lt = is ∙ get_or_default list n d (record { at = 0; size = 0; value = 0 }) lt
+
+pub put-more : (o : Order) (size n : ℕ) (list : List Patch) (old now new : List ℕ) (p d : Patch) → PatchedUpTo o list n old now → p ≡ get_or list n d → PatchesFit size list
+    → length old ≡ size → n < length list → new ≡ with_number o now p.at p.size p.value → PatchedUpTo o list (n + 1) old new
+put-more o size n list old now new p d u p_is fit len lt is = rw is (put-one o size n list old now p (patch-here list n p d p_is lt) fit len lt u)
 
 -- the field that is put is one of the section, and its number fits
-pub put-fits : (size n : ℕ) (list : List Patch) (p d : Patch) → p ≡ get_or list n d → PatchesFit size list → n < length list → PatchFits size p
-put-fits size n list p d p_is fit lt = rw (p_is ∙ get_or_default list n d _ lt) (fit.each n lt)
+pub put-fits : (size n : ℕ) (list : List Patch) (now : List ℕ) (p d : Patch) → p ≡ get_or list n d → PatchesFit size list → n < length list → length now ≡ size
+    → PatchFits (length now) p
+put-fits size n list now p d p_is fit lt len = rw (len, patch-here list n p d p_is lt) (fit.each n lt)
 
-pub ruleset put_laws = (nothing-put)
+pub ruleset put_laws = (nothing-put, put-more, put-fits)
 
 pub ruleset apply_laws = (nothing-put)
 

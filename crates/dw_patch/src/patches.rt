@@ -5,8 +5,9 @@
 
 ghost use Rattle.std.specs.Prelude.{[], ◌≡◌, ◌↔◌, ◌+◌, ◌^◌, ◌≤◌, ◌<◌, length, IfErr, IfOk, IsTrue, OnErr, OnOk};
 ghost use Rattle.dw_base.specs.FileViews.{section_bytes};
+ghost use Rattle.dw_base.specs.Numbers.{with_number};
 ghost use Rattle.dw_base.specs.Refusals.{Blames};
-ghost use Rattle.dw_patch.specs.Patching.{IsFree, IsPatched, PatchList, PatchedUpTo, PatchesFit, SetFails, no_patches, number_of, patches_of, with_patch};
+ghost use Rattle.dw_patch.specs.Patching.{IsFree, IsPatched, PatchFits, PatchList, PatchedUpTo, PatchesFit, SetFails, no_patches, number_of, patches_of, with_patch};
 
 use dw_base::{Fault, Kind, NoMemory, Order, Refusal, put_number};
 use dw_view::View;
@@ -106,10 +107,18 @@ fn apply_all(order: Order, size: u64, list: &[Patch], bytes: &mut [u8])
     requires size { length bytes.old ≡ size }
     ensures patched { PatchedUpTo order list.now (length list.now) bytes.old bytes.new }
 {
-    for index in 0..list.len() {
-        let Patch { at, size, value } = list[index];
-        let _put = put_number(order, bytes, at, size, value);
+    for patch in list {
+        put(order, patch, bytes);
     }
+}
+
+/// Puts the new number of a field into bytes.
+fn put(order: Order, patch: &Patch, bytes: &mut [u8])
+    requires fits { PatchFits (length bytes.old) patch.now }
+    ensures put { bytes.new ≡ with_number order bytes.old patch.now.at patch.now.size patch.now.value }
+{
+    let Patch { at, size, value } = *patch;
+    let _put = put_number(order, bytes, at, size, value);
 }
 
 /// Whether a number fits so many bytes.
