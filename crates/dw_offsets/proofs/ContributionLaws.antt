@@ -231,4 +231,8 @@ some-refused v section order bytes NoMemory some same is f = tt
 some-refused v section order bytes (Refused r) some same is f =
     rw (here-is v (Some section) some, ← same, ← is) f
 
-pub ruleset section_laws = (none-read, some-read)
+-- where there is no contribution, all bases rise
+pub none-rise : (list : List Contribution) → list ≡ [] → BasesRise list
+none-rise list empty = rw empty (record { rise = λ i j below lt. absurd (omega (arith, lt)) })
+
+pub ruleset section_laws = (none-read, some-read, none-rise, bases-rise)

@@ -1,18 +1,16 @@
 -- Laws of the header of a name table: what the code reads of it is what stands there, or why nothing can be read.
-use Rattle.std.proofs.Common.{Bool, true, false, ◌≡◌, ◌≢◌, ℕ, ◌+◌, ◌-◌, ◌*◌, ◌<◌, ◌≤◌, ◌^◌, List, length, Option, Some, None, refl, sym, ap, ◌∙◌, subst, arith}
+use Rattle.std.proofs.Common.{◌≡◌, ◌≢◌, ℕ, ◌+◌, ◌-◌, ◌*◌, ◌<◌, ◌≤◌, ◌^◌, List, length, Some, None, refl, sym, ap, ◌∙◌, subst, arith}
 use Rattle.dw_base.specs.Forms.{width_size}
 use Rattle.dw_base.specs.Lebs.{initial_length_at}
 use Rattle.dw_base.specs.Numbers.{spelled}
 use Rattle.dw_base.specs.Refusals.{at}
 use Rattle.dw_base.specs.declared.fault.Kind.TheVariants.{NameTable as NameTableKind}
-use Rattle.dw_base.specs.declared.fault.Refusal.{Refusal}
 use Rattle.dw_base.specs.declared.shared.Order.{Order}
 use Rattle.dw_base.specs.declared.shared.Width.{Width}
 use Rattle.dw_base.specs.declared.shared.Width.TheVariants.{W32, W64}
-use Rattle.dw_offsets.specs.NameTables.{name_counts, before_strings, from_strings, table_from, IsNameTable, CountsFit}
+use Rattle.dw_offsets.specs.NameTables.{name_counts, before_strings, from_strings, IsNameTable, CountsFit}
 use Rattle.dw_offsets.specs.NameTableFails.{TableFails, no_length, passes, no_counts, other_version, no_room}
 use Rattle.dw_offsets.specs.declared.name_headers.NameCounts.{NameCounts}
-use Rattle.dw_offsets.specs.declared.name_lists.NameTable.{NameTable}
 
 -- counts of 4 bytes each
 pub counts-fit : (n : NameCounts) → n.units < 256 ^ 4 → n.local < 256 ^ 4 → n.foreign < 256 ^ 4 → n.buckets < 256 ^ 4 → n.names < 256 ^ 4 → n.abbrevs < 256 ^ 4

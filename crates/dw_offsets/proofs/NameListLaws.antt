@@ -1,5 +1,5 @@
 -- Laws of the name tables of a section: each is read in one way, and what refuses one excludes that all are read.
-use Rattle.std.proofs.Common.{true, false, ◌≡◌, ◌≢◌, ℕ, ◌+◌, ◌<◌, ◌≤◌, List, [], ◌∷◌, ◌++◌, length, Option, Some, None, refl, sym, ap, ◌∙◌, subst, arith}
+use Rattle.std.proofs.Common.{true, ◌≡◌, ℕ, ◌+◌, ◌<◌, ◌≤◌, List, [], ◌∷◌, ◌++◌, length, Option, Some, refl, sym, ap, ◌∙◌, subst, arith}
 use Rattle.dw_base.specs.FileViews.{View}
 use Rattle.dw_base.specs.Lebs.{initial_length_at}
 use Rattle.dw_base.specs.Numbers.{spelled}

@@ -14,7 +14,7 @@
 //! ```
 //! let view = View::one(&elf)?;
 //! let list = contributions(alloc, &view)?;
-//! if let Some(place) = slot_place(list.as_slice(), base, index) {
+//! if let Some(place) = slot_place(&list, base, index) {
 //!     // the offset of the text of a value by `DW_FORM_strx` stands there
 //! }
 //! ```

@@ -6,24 +6,24 @@
 ghost use Rattle.std.specs.Prelude.{◌≡◌, IfOk, IfErr};
 ghost use Rattle.dw_offsets.specs.StringOffsets.{BasesRise, HasBase, IsBaseGap, slot_in, slot_place};
 
-use crate::string_offsets::Contribution;
+use crate::string_offsets::{Contribution, ContributionList};
 use crate::widths::{slot_count, width_size};
 
 /// The place of the slot of an index in the contribution whose slots begin at `base`, both places in
 /// bytes from the section's start. `None` exactly where no contribution has that base, or the one that has
-/// it has no such slot. Their bases rise, as those of `contributions` do.
+/// it has no such slot. Takes no memory.
 #[tactic(auto, using(crate::proofs::SlotLaws::place_laws))]
-pub fn slot_place(list: &[Contribution], base: u64, index: u64) -> Option<u64>
-    requires rising { BasesRise list.now }
+pub fn slot_place(list: &ContributionList, base: u64, index: u64) -> Option<u64>
     ensures place { result ≡ slot_place list.now base index }
 {
+    let list = list.as_slice();
     match with_base(list, base) {
         Ok(at) => slot_in(&list[at], index),
         Err(_) => None,
     }
 }
 
-/// Which contribution has a base, or where it would stand.
+/// Which contribution has a base, or where it would stand. Their bases rise.
 fn with_base(list: &[Contribution], base: u64) -> Result<usize, usize>
     requires rising { BasesRise list.now }
     ensures found { IfOk result (HasBase list.now base) }

@@ -34,7 +34,7 @@ pub struct Contribution {
     pub width: Width,
 }
 
-/// The contributions of a file, in the order of their places.
+/// The contributions of a file, in the order of their places: so their bases rise.
 #[derive(Drop, Debug)]
 pub struct ContributionList {
     list: Vec<Contribution>,
@@ -44,12 +44,15 @@ impl Model for ContributionList {
     ghost Value = { List ContributionOf };
 
     ghost view = { λ c. c.list.items };
+
+    ghost invariant = { λ c. BasesRise c.list.items };
 }
 
 impl ContributionList {
     /// The contributions.
     pub fn as_slice(&self) -> &[Contribution]
         ensures value { result.now ≡ self.now }
+        ensures rising { BasesRise result.now }
     {
         self.list.as_slice()
     }
@@ -61,7 +64,6 @@ impl ContributionList {
 #[tactic(auto, using(crate::proofs::ContributionLaws::section_laws))]
 pub fn contributions(alloc: Global, view: &View) -> Result<ContributionList, Fault>
     ensures read { IfOk result (AreContributions view.now.order (string_offsets view.now)) }
-    ensures rising { IfOk result BasesRise }
     ensures none { OnOk result ((r : RefusalOf) → ContributionsFail view.now.order (string_offsets view.now) r → ⊥) }
     ensures refused { IfErr result (Blames (ContributionsFail view.now.order (string_offsets view.now))) }
 {

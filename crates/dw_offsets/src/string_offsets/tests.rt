@@ -87,10 +87,9 @@ fn check_read(
     assert!(rt; file.len() <= 0x8000_0000);
     let elf = ElfFile::read(alloc, &file)?;
     let view = View::one(&elf)?;
-    let read = contributions(alloc, &view)?;
-    let list = read.as_slice();
-    assert_eq!(rt; list.len(), wanted.len());
-    for (contribution, row) in list.iter().zip(wanted.iter()) {
+    let list = contributions(alloc, &view)?;
+    assert_eq!(rt; list.as_slice().len(), wanted.len());
+    for (contribution, row) in list.as_slice().iter().zip(wanted.iter()) {
         let &(start, base, end, width) = row;
         let one = Contribution {
             start,
@@ -101,7 +100,7 @@ fn check_read(
         assert_eq!(rt; *contribution, one);
     }
     for &(base, index, place) in slots {
-        assert_eq!(rt; slot_place(list, base, index), place, "{base} {index}");
+        assert_eq!(rt; slot_place(&list, base, index), place, "{base} {index}");
     }
     Ok(())
 }

@@ -1,8 +1,7 @@
 -- What is read of the section is read of the view.
-use Rattle.std.proofs.Common.{length}
 use Rattle.std.proofs.lemmas.Result.{err_from_is_err_and}
 use Rattle.dw_offsets.specs.StringOffsets.{string_offsets}
-use Rattle.dw_offsets.proofs.ContributionLaws.{bases-rise, contributions-exclude, none-read, some-read, some-refused}
+use Rattle.dw_offsets.proofs.ContributionLaws.{contributions-exclude, none-read, some-read, some-refused}
 use Rattle.dw_offsets.proofs.string_offsets.contributions.Goals as goal
 
 pub returns-in_default-clause-none : goal.returns-in_default-clause-none
@@ -15,9 +14,6 @@ returns-in_err-list-clause-refused c =
     let p = err_from_is_err_and c.from_residual.result c.from_residual.ensures.1 in
     rw (p.1, p.2) (some-refused c.args.view.now c.in-Some.section c.order.result c.bytes.result.now c.in_err-list.field-0.0 c.in-Some.ensures.section
     c.order.ensures.order c.bytes.ensures.bytes c.in_err-list.ensures.refused)
-
-pub returns-clause-rising : goal.returns-clause-rising
-returns-clause-rising c = bases-rise c.order.result c.bytes.result.now c.in_ok-list.list.items (length c.bytes.result.now) c.in_ok-list.ensures.read
 
 pub returns-clause-none : goal.returns-clause-none
 returns-clause-none c = λ r f.
