@@ -108,11 +108,11 @@ more_texts v section place size t n f b before p s e is yes_is = record {
   ];
 }
 
-pub text-fails : (v : View) (section place size : ℕ) (t : NameTable) (i : ℕ) (f : Field) (b : Bool) (r : Refusal) → i < t.names → place ≡ string_place t i → size ≡ width_size t.width
+pub text-fails : (v : View) (section place size : ℕ) (t : NameTable) (i : ℕ) (f : Field) (b : Bool) (r : Refusal) → NamesTexts v section t i → i < t.names → place ≡ string_place t i → size ≡ width_size t.width
     → f ≡ field_at v section place size → b ≡ ends_in (texts_in v).bytes (offset_into (texts_in v) f) → b ≡ false → r ≡ at StringOffset section place → TextFails v section t r
-text-fails v section place size t i f b r lt p s e is none same =
+text-fails v section place size t i f b r before lt p s e is none same =
     subst (λ (x : Refusal). TextFails v section t x) (ap (at StringOffset section) (sym p) ∙ sym same)
-    (no_text i lt (text-by v section place size t i f b p s e is ∙ none))
+    (no_text i lt before (text-by v section place size t i f b p s e is ∙ none))
 
 pub ruleset check_laws = (no_texts, more_texts, text-fails)
 

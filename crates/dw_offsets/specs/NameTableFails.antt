@@ -9,7 +9,7 @@ use Rattle.dw_base.specs.declared.fault.Kind.TheVariants.{NameTable as NameTable
 use Rattle.dw_base.specs.declared.fault.Refusal.{Refusal}
 use Rattle.dw_base.specs.declared.shared.Order.{Order}
 use Rattle.dw_base.specs.declared.shared.Width.{Width}
-use Rattle.dw_offsets.specs.NameTables.{name_counts, before_strings, from_strings, IsNameTable, string_place, names_text, TablesUpTo, names_of}
+use Rattle.dw_offsets.specs.NameTables.{name_counts, before_strings, from_strings, IsNameTable, string_place, names_text, NamesTexts, TablesUpTo, names_of}
 use Rattle.dw_offsets.specs.declared.name_lists.NameTable.{NameTable}
 
 -- what is wrong with the table at a place: no length can be read there, its end passes the section's, it has no room for version
@@ -26,9 +26,10 @@ pub data TableFails (order : Order) (bytes : List ℕ) (section start : ℕ) : R
       → l.1 < 32 + before_strings l.0 (name_counts order bytes (start + l.2)) + from_strings l.0 (name_counts order bytes (start + l.2))
       → TableFails order bytes section start (at NameTableKind section start)
 
--- a string offset of a table names no text, at its field
+-- a string offset of a table, the first that does so, names no text, at its field
 pub data TextFails (v : View) (section : ℕ) (t : NameTable) : Refusal → Type 0 where
-  no_text : (i : ℕ) → i < t.names → names_text v section t i ≡ false → TextFails v section t (at StringOffset section (string_place t i))
+  no_text : (i : ℕ) → i < t.names → NamesTexts v section t i → names_text v section t i ≡ false
+      → TextFails v section t (at StringOffset section (string_place t i))
 
 -- what is wrong with the table at a place, or with one of its string offsets
 pub data NamedFails (v : View) (section : ℕ) (bytes : List ℕ) (start : ℕ) : Refusal → Type 0 where
