@@ -74,12 +74,7 @@ fn string_place(table: &NameTable, i: u64) -> u64
 
 /// Each string offset of a table names a text.
 #[tactic(auto, using(crate::proofs::NameTextLaws::check_laws))]
-fn check_texts(
-    view: &View,
-    section: u32,
-    texts: &Texts,
-    table: &NameTable,
-) -> Result<(), Refusal>
+fn check_texts(view: &View, section: u32, texts: &Texts, table: &NameTable) -> Result<(), Refusal>
     requires there { section < length view.now.sections }
     requires texts { IsTexts (texts_in view.now) texts.now }
     requires inside { table.now.strings + table.now.names * width_size table.now.width ≤ length (section_bytes view.now section) }
