@@ -15,7 +15,9 @@
 #![tactic(auto)]
 
 mod pool;
+mod pools;
 mod text;
 
 pub use pool::Pool;
+pub use pools::Pools;
 pub use text::text_at;
