@@ -1,7 +1,7 @@
 //! Fields of a made file that get new places, and one whose new place is too large.
 
 use super::{NewPlace, Patches};
-use dw_base::{DebugSection, Fault, Kind, Refusal};
+use dw_base::{DebugSection, Fault, Kind, Order, Refusal, number_at};
 use dw_view::View;
 use elf_file::ElfFile;
 use std::test::Fail;
@@ -50,5 +50,35 @@ fn fields_that_were_set_get_their_new_places(rt: HostRuntime) -> Result<(), Fail
     let mut bytes = OLD;
     patches.apply(&mut bytes);
     assert_eq!(rt; bytes, NEW);
+    Ok(())
+}
+
+/// Sizes of fields, in bytes, and the first number that each doesn't hold.
+const FIRST_TOO_WIDE: [(u8, u64); 4] = [
+    (1, 0x100),
+    (2, 0x1_0000),
+    (3, 0x100_0000),
+    (4, 0x1_0000_0000),
+];
+
+#[test]
+#[tactic(auto, using(crate::proofs::PatchLaws::free_laws))]
+fn a_field_takes_the_last_number_that_fits_it(rt: HostRuntime) -> Result<(), Fail> {
+    let elf = ElfFile::read(rt.alloc(), FILE)?;
+    let view = View::one(&elf)?;
+    let section = view.first(DebugSection::Info).ok_or("no section")?;
+    assert!(rt; view.bytes(section).len() == 16);
+    for (size, first) in FIRST_TOO_WIDE {
+        assert!(rt; size > 0 && size <= 4 && first > 0);
+        let mut patches = Patches::new(rt.alloc(), &view, section)?;
+        let answer = patches.set(3, size, NewPlace::Offset(first));
+        let wide = Refusal::at(Kind::TooWide, section, 3);
+        assert_eq!(rt; answer, Err(Fault::Refused(wide)), "{size}");
+        patches.set(3, size, NewPlace::Offset(first - 1))?;
+        let mut bytes = OLD;
+        patches.apply(&mut bytes);
+        let read = number_at(Order::Little, &bytes, 3, size);
+        assert_eq!(rt; read, Some(first - 1), "{size}");
+    }
     Ok(())
 }
