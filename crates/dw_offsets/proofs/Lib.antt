@@ -4,3 +4,7 @@ pub mod NameHeaderLaws
 pub mod NameTextLaws
 pub mod NameListLaws
 pub mod NameViewLaws
+pub mod RunLaws
+pub mod InitialLengthLaws
+pub mod OffsetPieceLaws
+pub mod OffsetChangeLaws

@@ -1,6 +1,6 @@
 -- The contributions of string offsets, and their slots (DWARF 5, 7.26): a length, the version 5, two bytes of padding, and
 -- offsets of texts up to the end. What a unit names as its base is the place of the first offset.
-use Rattle.std.specs.Prelude.{◌≡◌, ℕ, ◌+◌, ◌-◌, ◌*◌, ◌%◌, ◌<◌, ◌≤◌, ◌==◌, nat_le, nat_lt, if◌then◌else◌, List, [], ◌∷◌, ◌++◌, length, slice_index_or, Option, Some, None}
+use Rattle.std.specs.Prelude.{Bool, ◌≡◌, ℕ, ◌+◌, ◌-◌, ◌*◌, ◌%◌, ◌<◌, ◌≤◌, ◌==◌, nat_le, nat_lt, if◌then◌else◌, List, [], ◌∷◌, ◌++◌, length, slice_index_or, Option, Some, None}
 use Rattle.dw_base.specs.Cells.{Located}
 use Rattle.dw_base.specs.FileViews.{View}
 use Rattle.dw_base.specs.Forms.{width_size}
@@ -41,9 +41,13 @@ pub data ContributionsUpTo (order : Order) (bytes : List ℕ) : List Contributio
 abbrev pub AreContributions : Order → Located → List Contribution → Type 0
 AreContributions order z list = ContributionsUpTo order z.bytes list (length z.bytes)
 
--- the place of a slot of a contribution; none where the contribution ends before the slot does
+-- a contribution has a slot of an index: it ends where the slot does, or behind it
+abbrev pub has_slot : Contribution → ℕ → Bool
+has_slot c index = nat_le (c.base + (index + 1) * width_size c.width) c.end
+
+-- the place of a slot of a contribution, where it has the slot
 unfoldable pub slot_in : Contribution → ℕ → Option ℕ
-slot_in c index = if nat_le (c.base + (index + 1) * width_size c.width) c.end then Some (c.base + index * width_size c.width) else None
+slot_in c index = if has_slot c index then Some (c.base + index * width_size c.width) else None
 
 -- the place of a slot of the contribution whose slots begin at a base, the first of those that have it
 abbrev pub slot_place : List Contribution → ℕ → ℕ → Option ℕ
