@@ -33,7 +33,7 @@ long-kept : (behind further : Option ℕ) (l : Width × ℕ × ℕ) → (12 ≤ 
 long-kept behind further l same e = ap long_length (same (long-size behind l e)) ∙ e
 
 -- it goes by the bytes of its field alone
-length-kept : (word behind more further : Option ℕ) (l : Width × ℕ × ℕ) → (4 ≤ l.2 → more ≡ word) → (12 ≤ l.2 → further ≡ behind)
+pub length-kept : (word behind more further : Option ℕ) (l : Width × ℕ × ℕ) → (4 ≤ l.2 → more ≡ word) → (12 ≤ l.2 → further ≡ behind)
     → initial_length word behind ≡ Some l → initial_length more further ≡ Some l
 length-kept None behind more further l first second e = absurd cc
 length-kept (Some w) behind more further l first second e =

@@ -8,3 +8,7 @@ pub mod RunLaws
 pub mod InitialLengthLaws
 pub mod OffsetPieceLaws
 pub mod OffsetChangeLaws
+pub mod NamePieceLaws
+pub mod OneWayLaws
+pub mod SlotNumberLaws
+pub mod PathSlotLaws

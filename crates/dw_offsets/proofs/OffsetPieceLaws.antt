@@ -20,7 +20,7 @@ use Rattle.dw_offsets.proofs.InitialLengthLaws.{initial-part}
 use Rattle.dw_offsets.proofs.RunLaws.{Run, run-more, run-none, run-one, leads-chain, part-bytes, part-length}
 
 -- the length of a contribution is in its header
-header-length : (order : Order) (cells : List Cell) (start n : ℕ) (l : Width × ℕ × ℕ) → initial_length_at order (bytes_of cells) start ≡ Some l → l.2 ≤ n
+pub header-length : (order : Order) (cells : List Cell) (start n : ℕ) (l : Width × ℕ × ℕ) → initial_length_at order (bytes_of cells) start ≡ Some l → l.2 ≤ n
     → start + n ≤ length cells → initial_length_at order (bytes_of (take n (drop start cells))) 0 ≡ Some l
 header-length order cells start n l e field whole =
     ap (λ (bs : List ℕ). initial_length_at order bs 0) (part-bytes n start cells)

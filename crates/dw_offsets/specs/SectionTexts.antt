@@ -67,7 +67,7 @@ mentions_with role table around (x ∷ xs) = mentions_by (role x) table around x
 -- the mentions of a table in a file: of units, of slots, then of name tables. A value by index names no text itself.
 unfoldable pub file_mentions : TextSection → Around → List ℕ → TextReadings → List Mention
 file_mentions table around paths r =
-    all_mentions table around r.units ++ mentions_with (slot_role paths) table around r.offsets ++ mentions_with name_role table around r.names
+    all_mentions table around r.units ++ (mentions_with (slot_role paths) table around r.offsets ++ mentions_with name_role table around r.names)
 
 -- what becomes of pieces of roles
 abbrev pub edited_with : {S : Type 0} → (Piece S → Role) → TableChanges → Around → List (Piece S) → List (Piece S)
@@ -125,7 +125,7 @@ path_slots_of (a ∷ rest) = path_slot a.value ++ path_slots_of rest
 
 abbrev pub forest_slots : Forest → List ℕ
 forest_slots no_entries = []
-forest_slots (entry tag attributes children siblings) = path_slots_of attributes ++ forest_slots children ++ forest_slots siblings
+forest_slots (entry tag attributes children siblings) = path_slots_of attributes ++ (forest_slots children ++ forest_slots siblings)
 
 abbrev pub unit_slots : List UnitMeaning → List ℕ
 unit_slots [] = []
