@@ -32,3 +32,7 @@ pub mod ValuePieceLaws
 pub mod ValueRowLaws
 pub mod LayoutRowLaws
 pub mod EditRowLaws
+pub mod PlainTests
+pub mod PlainFiles
+pub mod PlainUnits
+pub mod WorkedFiles

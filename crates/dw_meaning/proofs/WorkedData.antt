@@ -25,14 +25,11 @@ use Rattle.dw_base.specs.declared.shared.Width.{Width}
 use Rattle.dw_base.specs.declared.shared.Width.TheVariants.{W32, W64}
 use Rattle.dw_base.specs.declared.values.ValueClass.TheVariants.{Address, Number, Flag, AddrIndex, ListIndex, Signature, SecOffset}
 use Rattle.dw_base.specs.declared.view_fields.Field.TheVariants.{Num}
-use Rattle.dw_meaning.proofs.WorkedEntries.{pieces_from}
+use Rattle.dw_meaning.proofs.PlainUnits.{pieces_from}
+use Rattle.dw_meaning.proofs.WorkedParts.{all_bytes}
 
 abbrev has : ℕ → ValueMeaning → AttributeMeaning
 has name value = record { name = name; value = value }
-
-abbrev all_bytes : List (List ℕ) → List ℕ
-all_bytes [] = []
-all_bytes (p ∷ ps) = p ++ all_bytes ps
 
 -- the head of a compilation with addresses of 8 bytes
 abbrev compiled : ℕ → Width → HeadMeaning

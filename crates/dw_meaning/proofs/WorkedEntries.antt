@@ -11,27 +11,23 @@ use Rattle.dw_base.specs.InlinePaths.{mapped_inline}
 use Rattle.dw_base.specs.Lebs.{uleb_at, initial_length_at}
 use Rattle.dw_base.specs.Numbers.{spelled, number_at}
 use Rattle.dw_base.specs.Paths.{PathMap, lies_under, mapped_path}
-use Rattle.dw_base.specs.Pieces.{Piece}
 use Rattle.dw_base.specs.Roles.{role_of}
 use Rattle.dw_base.specs.TextChanges.{with_offset}
 use Rattle.dw_base.specs.Texts.{text_in}
-use Rattle.dw_base.specs.UnitHeaders.{UnitBase, in_info, unit_header}
+use Rattle.dw_base.specs.UnitHeaders.{in_info, unit_header}
 use Rattle.dw_base.specs.UnitMeanings.{units_of}
-use Rattle.dw_base.specs.UnitStates.{UnitState, before_unit, past, between, after_code}
+use Rattle.dw_base.specs.UnitStates.{before_unit, between, after_code}
 use Rattle.dw_base.specs.ValueMeanings.{string, by_offset}
+use Rattle.dw_base.specs.declared.shared.Order.{Order}
 use Rattle.dw_base.specs.declared.shared.Order.TheVariants.{Little}
 use Rattle.dw_base.specs.declared.shared.Width.TheVariants.{W32}
-use Rattle.dw_meaning.proofs.WorkedParts.{half, word}
-
--- pieces of these bytes, one after another
-abbrev pub pieces_from : UnitBase → UnitState → List (List ℕ) → List (Piece UnitState)
-pieces_from base s [] = []
-pieces_from base s (p ∷ ps) = record { state = s; cells = plain_cells p } ∷ pieces_from base (past s.mode base s (plain_cells p)) ps
+use Rattle.dw_meaning.proofs.PlainUnits.{pieces_from}
+use Rattle.dw_meaning.proofs.WorkedParts.{all_bytes, half, word}
 
 -- debug data whose one unit section is number 1, with the abbreviations in 2 and the texts in 3
-abbrev pub lone_data : List ℕ → List ℕ → List ℕ → DebugData
-lone_data info abbrevs str = record {
-  base = record { order = Little; abbrevs = record { number = 2; bytes = abbrevs } };
+abbrev pub lone_data : Order → List ℕ → List ℕ → List ℕ → DebugData
+lone_data order info abbrevs str = record {
+  base = record { order = order; abbrevs = record { number = 2; bytes = abbrevs } };
   units = record { number = 1; kind = in_info; contents = plain_cells info } ∷ [];
   str = record { number = 3; bytes = str };
   line_str = record { number = 0; bytes = [] };
@@ -49,11 +45,7 @@ abbrev small_pieces : List (List ℕ)
 small_pieces = (word 16 ++ half 4 ++ word 0 ++ (8 ∷ [])) ∷ (1 ∷ []) ∷ word 0 ∷ word 13 ∷ []
 
 abbrev small_data : DebugData
-small_data = lone_data (joined_bytes small_pieces) (1 ∷ 17 ∷ 0 ∷ 3 ∷ 14 ∷ 27 ∷ 14 ∷ 0 ∷ 0 ∷ 0 ∷ []) (codes "/build/p/a.c\0/build/p\0")
-  where
-    joined_bytes : List (List ℕ) → List ℕ
-    joined_bytes [] = []
-    joined_bytes (p ∷ ps) = p ++ joined_bytes ps
+small_data = lone_data Little (all_bytes small_pieces) (1 ∷ 17 ∷ 0 ∷ 3 ∷ 14 ∷ 27 ∷ 14 ∷ 0 ∷ 0 ∷ 0 ∷ []) (codes "/build/p/a.c\0/build/p\0")
 
 abbrev path_at : ℕ → List ℕ → AttributeMeaning
 path_at name t = record { name = name; value = string true by_offset t }

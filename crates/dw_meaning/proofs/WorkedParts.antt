@@ -44,6 +44,11 @@ words (n ∷ ns) = word n ++ words ns
 abbrev pub unit : ℕ → ℕ → List ℕ → List ℕ → List ℕ
 unit length table code offsets = word length ++ half 4 ++ word table ++ (8 ∷ code) ++ words offsets
 
+-- the bytes of pieces, one after another
+abbrev pub all_bytes : List (List ℕ) → List ℕ
+all_bytes [] = []
+all_bytes (p ∷ ps) = p ++ all_bytes ps
+
 -- a file with other bytes at a place
 abbrev pub changed : ℕ → List ℕ → List ℕ → List ℕ
 changed at xs b = take at b ++ xs ++ drop (at + length xs) b
