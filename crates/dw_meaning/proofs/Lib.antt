@@ -36,3 +36,5 @@ pub mod PlainTests
 pub mod PlainFiles
 pub mod PlainUnits
 pub mod WorkedFiles
+pub mod WorkedForests
+pub mod WorkedRows
