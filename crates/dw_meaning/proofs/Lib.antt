@@ -38,3 +38,4 @@ pub mod PlainUnits
 pub mod WorkedFiles
 pub mod WorkedForests
 pub mod WorkedRows
+pub mod WorkedSections
