@@ -39,3 +39,4 @@ pub mod WorkedFiles
 pub mod WorkedForests
 pub mod WorkedRows
 pub mod WorkedSections
+pub mod WorkedNotKept

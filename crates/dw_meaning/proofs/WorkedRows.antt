@@ -19,7 +19,7 @@ use Rattle.dw_base.specs.FileViews.{view_of, view_section, section_after, sectio
 use Rattle.dw_base.specs.FormFails.{own, passes_end}
 use Rattle.dw_base.specs.Forms.{text_offset, in_str, form_in_front, supplementary as of_other_file, unlisted, kind_in, form_rows}
 use Rattle.dw_base.specs.Layout.{part_of, is_fixed, fixed_end, padding}
-use Rattle.dw_base.specs.LayoutFails.{section as section_row, changed as changed_row}
+use Rattle.dw_base.specs.LayoutFails.{section as section_row, changed as changed_row, across, in_header}
 use Rattle.dw_base.specs.Lebs.{uleb_at, initial_length_at}
 use Rattle.dw_base.specs.Numbers.{spelled, number_at}
 use Rattle.dw_base.specs.Refusals.{at}
@@ -51,6 +51,7 @@ use Rattle.dw_meaning.proofs.PlainFiles.{elf-sound, elf_test, file-reads, header
 use Rattle.dw_meaning.proofs.PlainTests.{passes-true}
 use Rattle.dw_meaning.proofs.WorkedEntries.{lone_data}
 use Rattle.dw_meaning.proofs.WorkedFiles.{of_32_bits, old_data, old_readings, one-old_reads, one_unit, one_unit-bodies, path_texts, paths-table, paths_abbreviation, paths_abbrevs, paths_bodies}
+use Rattle.dw_meaning.proofs.WorkedSections.{data_in, readings_in, with_a_segment, with_a_segment-old_reads}
 use Rattle.dw_meaning.proofs.WorkedParts.{changed, half, numbers, word, worked_map}
 
 -- no bytes; and all but the last, where the section headers pass the end
@@ -362,6 +363,46 @@ output-refused = (
 
     longer : body_in (paths_bodies Little 8) (contents_of all_stays) 3 ≡ contents_of all_stays 3 → ⊥
     longer e = let no : 60 ≡ 22 = ap length e in absurd (eqb-false 60 22 refl no)
+
+-- of the shared object: a section that is loaded begins in the file header; and one that isn't lies across the end of a segment
+abbrev in_front : List ℕ
+in_front = changed 344 (60 ∷ []) with_a_segment
+
+abbrev cut_by_segment : List ℕ
+cut_by_segment = changed 96 (150 ∷ []) with_a_segment
+
+places-data : (file_data in_front ≡ data_in 3 0 13 path_texts) × (file_data cut_by_segment ≡ data_in 3 0 13 path_texts)
+unfolding spelled e_type e_phnum e_phoff e_phentsize e_shoff e_shentsize e_shnum e_shstrndx class_of order_of nth_section section_at section_count
+    name_index name_table section_name contents_of contents_at text_in ends_in debug_section is_listed view_of view_section section_after
+    section_named section_bytes debug_data located unit_sections padding
+places-data = (refl, refl)
+
+places-reads : FileReads in_front (readings_in 3 0 13 path_texts) × FileReads cut_by_segment (readings_in 3 0 13 path_texts)
+unfolding spelled e_type e_phnum e_phoff e_phentsize e_shoff e_shentsize e_shnum e_shstrndx class_of order_of nth_section section_at section_count
+    name_index name_table section_name contents_of contents_at text_in ends_in debug_section is_listed elf_test names_test segments_of
+    nth_segment segment_at sections_of part_of is_fixed fixed_end padding
+places-reads = (
+  file-reads in_front (data_in 3 0 13 path_texts) (readings_in 3 0 13 path_texts) places-data.0 refl refl refl with_a_segment-old_reads,
+  file-reads cut_by_segment (data_in 3 0 13 path_texts) (readings_in 3 0 13 path_texts) places-data.1 refl refl refl with_a_segment-old_reads,
+)
+
+pub across-refused : EditFails worked_map cut_by_segment (at Fixed 5 0)
+unfolding spelled e_type e_phnum e_phoff e_phentsize e_shoff e_shentsize e_shnum e_shstrndx class_of order_of nth_section section_at section_count
+    name_index name_table section_name contents_of contents_at text_in ends_in debug_section is_listed elf_test names_test segments_of
+    nth_segment segment_at sections_of part_of is_fixed fixed_end padding role_of kind_in form_rows between after_code unit_header initial_length_at number_at abbreviations_at uleb_at offset_of field_of
+across-refused =
+    output (readings_in 3 0 13 path_texts) places-reads.1 ((tt, (tt, (tt, (tt, tt)))), tt)
+    (section_row 5 (ltb-true _ _ refl)
+    (across (record { bytes = refl; alloc = refl; begins = ltb-true _ _ refl; ends = ltb-true _ _ refl })))
+
+pub in_header-refused : EditFails worked_map in_front (at Fixed 1 0)
+unfolding spelled e_type e_phnum e_phoff e_phentsize e_shoff e_shentsize e_shnum e_shstrndx class_of order_of nth_section section_at section_count
+    name_index name_table section_name contents_of contents_at text_in ends_in debug_section is_listed elf_test names_test segments_of
+    nth_segment segment_at sections_of part_of is_fixed fixed_end padding role_of kind_in form_rows between after_code unit_header initial_length_at number_at abbreviations_at uleb_at offset_of field_of
+in_header-refused =
+    output (readings_in 3 0 13 path_texts) places-reads.0 ((tt, (tt, (tt, (tt, tt)))), tt)
+    (section_row 1 (ltb-true _ _ refl)
+    (in_header (record { loaded = refl; bytes = refl; some = eqb-false _ _ refl; begins = ltb-true _ _ refl })))
 
 -- where sections, units or texts have a row, a file means nothing
 pub names-meaningless : (b : List ℕ) (r : Refusal) → DebugSectionsFail b r → (x : Meaning) → Means b x → ⊥

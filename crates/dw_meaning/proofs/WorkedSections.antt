@@ -70,7 +70,7 @@ with_id-old_reads = record {
   texts = ((tt, (tt, (refl, (refl, tt)))), tt);
 }
 
-with_id-new_reads : DataReads (data_in 2 22 43 all_texts) (readings_in 2 22 43 all_texts)
+pub with_id-new_reads : DataReads (data_in 2 22 43 all_texts) (readings_in 2 22 43 all_texts)
 unfolding unit_header initial_length_at number_at spelled between after_code kind_in form_rows abbreviations_at uleb_at text_in ends_in offset_of
     field_of role_of value_of
 with_id-new_reads = record {
@@ -206,7 +206,7 @@ unfolding spelled e_type e_phnum e_phoff e_phentsize e_shoff e_shentsize e_shnum
     section_named section_bytes debug_data located unit_sections padding
 with_a_segment-data = (refl, refl)
 
-with_a_segment-old_reads : DataReads (data_in 3 0 13 path_texts) (readings_in 3 0 13 path_texts)
+pub with_a_segment-old_reads : DataReads (data_in 3 0 13 path_texts) (readings_in 3 0 13 path_texts)
 unfolding unit_header initial_length_at number_at spelled between after_code kind_in form_rows abbreviations_at uleb_at text_in ends_in offset_of
     field_of role_of value_of
 with_a_segment-old_reads = record {
