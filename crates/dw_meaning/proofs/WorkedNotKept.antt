@@ -1,10 +1,9 @@
 -- Files that are no output that keeps the meaning, since they say something else: the file as it was, its output with the
 -- directory as it was, with another letter in the mapped name, and with another letter in a section that isn't read.
-use Rattle.std.proofs.Common.{true, false, ◌≡◌, ℕ, ◌+◌, ◌==◌, List, [], ◌∷◌, ◌++◌, codes, sum, replicate, refl, sym, ap, ◌∙◌}
+use Rattle.std.proofs.Common.{true, false, ◌≡◌, ℕ, ◌+◌, ◌==◌, List, [], ◌∷◌, codes, sum, replicate, refl, sym, ap, ◌∙◌}
 use Rattle.std.proofs.lemmas.Bool.{true≢false, eq-eqb}
 use Rattle.dw_base.specs.AbbreviationBytes.{abbreviations_at}
 use Rattle.dw_base.specs.Cells.{field_of, offset_of}
-use Rattle.dw_base.specs.DebugData.{DebugData, Readings}
 use Rattle.dw_base.specs.DebugSections.{debug_section, is_listed}
 use Rattle.dw_base.specs.Elf.{class_of, contents_at, contents_of, e_phentsize, e_phnum, e_phoff, e_shentsize, e_shnum, e_shoff, e_shstrndx, e_type, name_index, name_table, nth_section, nth_segment, order_of, section_at, section_count, section_name, segment_at, segments_of, sections_of}
 use Rattle.dw_base.specs.FileViews.{view_of, view_section, section_after, section_bytes, section_named}
@@ -25,10 +24,10 @@ use Rattle.dw_base.specs.Values.{value_of}
 use Rattle.dw_base.specs.ViewData.{Meaning, NamedBytes, bytes_named, debug_data, located, mapped, other_sections, unit_sections, without_id}
 use Rattle.dw_base.specs.declared.shared.Order.TheVariants.{Little}
 use Rattle.dw_meaning.specs.DataOutput.{DataReads}
-use Rattle.dw_meaning.specs.FileMeanings.{FileReads, MeaningKept, Means, file_data}
+use Rattle.dw_meaning.specs.FileMeanings.{MeaningKept, Means, file_data}
 use Rattle.dw_meaning.proofs.PlainFiles.{elf_test, file-reads, meaning-is, names_test}
 use Rattle.dw_meaning.proofs.PlainUnits.{chain-sound}
-use Rattle.dw_meaning.proofs.WorkedFiles.{all_texts, mapped_paths, one_unit, one_unit-means, one_unit_out, path_at, path_texts, paths-table, paths_meaning, paths_pieces, unnamed}
+use Rattle.dw_meaning.proofs.WorkedFiles.{all_texts, mapped_paths, one_unit, one_unit-means, one_unit_out, path_at, paths-table, paths_meaning, paths_pieces, unnamed}
 use Rattle.dw_meaning.proofs.WorkedNotes.{with_id, with_id_out}
 use Rattle.dw_meaning.proofs.WorkedParts.{changed, worked_map}
 use Rattle.dw_meaning.proofs.WorkedSections.{data_in, notes_with, readings_in, units_in, with_id-means, with_id-new_reads, with_id-units, with_id_meaning}
