@@ -12,3 +12,4 @@ pub mod NamePieceLaws
 pub mod OneWayLaws
 pub mod SlotNumberLaws
 pub mod PathSlotLaws
+pub mod IndexKeptLaws

@@ -1,0 +1,128 @@
+-- A change of the tables of texts leaves which slot each value by index names: bases, indexes and contributions stand in pieces that
+-- stay.
+use Rattle.std.proofs.Common.{◌≡◌, ℕ, ◌==◌, if◌then◌else◌, List, [], ◌∷◌, ◌++◌, length, Option, Some, None, refl, ap, ◌∙◌}
+use Rattle.dw_base.specs.Cells.{Cell, Located, offset_into, offset_of, field_of}
+use Rattle.dw_base.specs.Forms.{ValueKind, number_of, text_offset, inline_text, kind_in}
+use Rattle.dw_base.specs.Pieces.{Piece}
+use Rattle.dw_base.specs.Roles.{Use, use_of, role_of_kind, role_of_mode, is_path}
+use Rattle.dw_base.specs.UnitStates.{Mode, at_header, at_code, at_values, at_chosen, stuck, UnitState}
+use Rattle.dw_base.specs.declared.shared.Order.{Order}
+use Rattle.dw_base.specs.declared.shared.Params.{Params}
+use Rattle.dw_base.specs.declared.view_fields.Field.{Field}
+use Rattle.dw_base.specs.declared.view_fields.Field.TheVariants.{Num, Into, Sym}
+use Rattle.dw_base.specs.declared.values.ValueClass.TheVariants.{Number, SecOffset}
+use Rattle.dw_base.proofs.PieceFrameLaws.{AllChanged}
+use Rattle.dw_base.proofs.UnitEditLaws.{Shift, Becomes, UnitsChanged}
+use Rattle.dw_offsets.specs.OffsetPieces.{OffsetMode, at_contribution, at_slot, no_offsets, OffsetState}
+use Rattle.dw_offsets.specs.SectionTexts.{offset_role, begun_by, contributions_in}
+use Rattle.dw_offsets.specs.TextIndexes.{base_value, is_base, base_by, first_some, base_in, index_value, IndexUse, use_by, uses_by, uses_in}
+use Rattle.dw_offsets.specs.declared.string_offsets.Contribution.{Contribution}
+use Rattle.dw_offsets.proofs.OffsetChangeLaws.{OffsetChange}
+
+-- what a value says of the base stays
+base-kept : (k : ValueKind) (u : Use) (c : Shift) (order : Order) (z : Located) (p q : List Cell) → Becomes (role_of_kind k u) c p q → base_value order z k q ≡ base_value order z k p
+base-kept (text_offset table n) u c order z p q h = refl
+base-kept inline_text u c order z p q h = refl
+base-kept k u c order z p q h = ap (base_value order z k) h
+
+base-by : (m : Mode) (params : Params) (c : Shift) (order : Order) (z : Located) (p q : List Cell) → Becomes (role_of_mode m params) c p q → base_by m params order z q ≡ base_by m params order z p
+base-by at_header params c order z p q h = refl
+base-by at_code params c order z p q h = refl
+base-by (at_values number tag []) params c order z p q h = refl
+base-by (at_values number tag (x ∷ xs)) params c order z p q h =
+    ap (λ (o : Option ℕ). if is_base number x.name then o else None) (base-kept (kind_in params x.form) (use_of number tag x.name) c order z p q h)
+base-by (at_chosen number tag start x xs) params c order z p q h =
+    ap (λ (o : Option ℕ). if is_base number x.name then o else None) (base-kept (kind_in params x.form) (use_of number tag x.name) c order z p q h)
+base-by stuck params c order z p q h = refl
+
+-- so the base of each unit stays
+abbrev with_base : Order → Located → ℕ → UnitState → List Cell → Option ℕ → Option ℕ
+with_base order z unit s p rest = if s.unit == unit then first_some (base_by s.mode s.header.params order z p) rest else rest
+
+pub bases-kept : (c : Shift) (order : Order) (z : Located) (unit : ℕ) (xs ys : List (Piece UnitState)) → UnitsChanged c xs ys → base_in order z unit ys ≡ base_in order z unit xs
+bases-kept c order z unit [] [] h = refl
+bases-kept c order z unit [] (y ∷ ys) h = absurd h
+bases-kept c order z unit (x ∷ xs) [] h = absurd h
+bases-kept c order z unit (x ∷ xs) (y ∷ ys) h =
+    ap (λ (s : UnitState). with_base order z unit s y.cells (base_in order z unit ys)) h.0.state
+    ∙ ap (λ (o : Option ℕ). if x.state.unit == unit then first_some o (base_in order z unit ys) else base_in order z unit ys)
+    (base-by x.state.mode x.state.header.params c order z x.cells y.cells h.0.cells)
+    ∙ ap (with_base order z unit x.state x.cells) (bases-kept c order z unit xs ys h.1)
+
+-- the section of string offsets with other bytes, as many: an offset into it is the same
+offset-into : (z w : Located) (f : Field) → z.number ≡ w.number → length z.bytes ≡ length w.bytes → offset_into z f ≡ offset_into w f
+offset-into z w (Num n) number size = refl
+offset-into z w (Into s n) number size = rw (number, size) refl
+offset-into z w (Sym s k a) number size = size
+
+offset-of : (order : Order) (z w : Located) (p : List Cell) → z.number ≡ w.number → length z.bytes ≡ length w.bytes → offset_of order z p ≡ offset_of order w p
+unfolding offset_of
+offset-of order z w p number size = offset-into z w (field_of order p) number size
+
+base-of : (k : ValueKind) (order : Order) (z w : Located) (p : List Cell) → z.number ≡ w.number → length z.bytes ≡ length w.bytes → base_value order z k p ≡ base_value order w k p
+base-of (number_of Number n) order z w p number size = rw (offset-of order z w p number size) refl
+base-of (number_of SecOffset n) order z w p number size = ap Some (offset-of order z w p number size)
+base-of k order z w p number size = refl
+
+base-of-piece : (m : Mode) (params : Params) (order : Order) (z w : Located) (p : List Cell) → z.number ≡ w.number → length z.bytes ≡ length w.bytes
+    → base_by m params order z p ≡ base_by m params order w p
+base-of-piece at_header params order z w p number size = refl
+base-of-piece at_code params order z w p number size = refl
+base-of-piece (at_values n tag []) params order z w p number size = refl
+base-of-piece (at_values n tag (x ∷ xs)) params order z w p number size =
+    ap (λ (o : Option ℕ). if is_base n x.name then o else None) (base-of (kind_in params x.form) order z w p number size)
+base-of-piece (at_chosen n tag start x xs) params order z w p number size =
+    ap (λ (o : Option ℕ). if is_base n x.name then o else None) (base-of (kind_in params x.form) order z w p number size)
+base-of-piece stuck params order z w p number size = refl
+
+-- so bases don't go by the bytes of that section
+pub bases-same : (order : Order) (z w : Located) (unit : ℕ) (xs : List (Piece UnitState)) → z.number ≡ w.number → length z.bytes ≡ length w.bytes
+    → base_in order z unit xs ≡ base_in order w unit xs
+bases-same order z w unit [] number size = refl
+bases-same order z w unit (x ∷ xs) number size =
+    ap (λ (o : Option ℕ). if x.state.unit == unit then first_some o (base_in order z unit xs) else base_in order z unit xs)
+    (base-of-piece x.state.mode x.state.header.params order z w x.cells number size)
+    ∙ ap (with_base order w unit x.state x.cells) (bases-same order z w unit xs number size)
+
+-- what a value names by index stays
+index-kept : (k : ValueKind) (u : Use) (c : Shift) (order : Order) (p q : List Cell) → Becomes (role_of_kind k u) c p q → index_value order k q ≡ index_value order k p
+index-kept (text_offset table n) u c order p q h = refl
+index-kept inline_text u c order p q h = refl
+index-kept k u c order p q h = ap (index_value order k) h
+
+uses-by : (m : Mode) (c : Shift) (order : Order) (s : UnitState) (p q : List Cell) → Becomes (role_of_mode m s.header.params) c p q → uses_by m order s q ≡ uses_by m order s p
+uses-by at_header c order s p q h = refl
+uses-by at_code c order s p q h = refl
+uses-by (at_values number tag []) c order s p q h = refl
+uses-by (at_values number tag (x ∷ xs)) c order s p q h =
+    ap (use_by s s.place (is_path number tag x.name)) (index-kept (kind_in s.header.params x.form) (use_of number tag x.name) c order p q h)
+uses-by (at_chosen number tag start x xs) c order s p q h =
+    ap (use_by s start (is_path number tag x.name)) (index-kept (kind_in s.header.params x.form) (use_of number tag x.name) c order p q h)
+uses-by stuck c order s p q h = refl
+
+pub uses-kept : (c : Shift) (order : Order) (xs ys : List (Piece UnitState)) → UnitsChanged c xs ys → uses_in order ys ≡ uses_in order xs
+uses-kept c order [] [] h = refl
+uses-kept c order [] (y ∷ ys) h = absurd h
+uses-kept c order (x ∷ xs) [] h = absurd h
+uses-kept c order (x ∷ xs) (y ∷ ys) h =
+    ap (λ (s : UnitState). uses_by s.mode order s y.cells ++ uses_in order ys) h.0.state
+    ∙ ap (λ (us : List IndexUse). us ++ uses_in order ys) (uses-by x.state.mode c order x.state x.cells y.cells h.0.cells)
+    ∙ ap (λ (us : List IndexUse). uses_by x.state.mode order x.state x.cells ++ us) (uses-kept c order xs ys h.1)
+
+-- contributions stay
+begun-by : (m : OffsetMode) (paths : List ℕ) (n : ℕ) (c : Shift) (order : Order) (place : ℕ) (p q : List Cell) → Becomes (offset_role paths m n) c p q
+    → begun_by m order place q ≡ begun_by m order place p
+begun-by at_contribution paths n c order place p q h = ap (begun_by at_contribution order place) h
+begun-by (at_slot width end) paths n c order place p q h = refl
+begun-by no_offsets paths n c order place p q h = refl
+
+pub contributions-kept : (c : Shift) (paths : List ℕ) (order : Order) (xs ys : List (Piece OffsetState)) → AllChanged OffsetState (OffsetChange c paths) xs ys
+    → contributions_in order ys ≡ contributions_in order xs
+contributions-kept c paths order [] [] h = refl
+contributions-kept c paths order [] (y ∷ ys) h = absurd h
+contributions-kept c paths order (x ∷ xs) [] h = absurd h
+contributions-kept c paths order (x ∷ xs) (y ∷ ys) h =
+    ap (λ (s : OffsetState). begun_by s.mode order s.place y.cells ++ contributions_in order ys) h.0.state
+    ∙ ap (λ (cs : List Contribution). cs ++ contributions_in order ys)
+    (begun-by x.state.mode paths x.state.slot c order x.state.place x.cells y.cells h.0.cells)
+    ∙ ap (λ (cs : List Contribution). begun_by x.state.mode order x.state.place x.cells ++ cs) (contributions-kept c paths order xs ys h.1)
