@@ -33,9 +33,9 @@ const REFUSALS: [(usize, u8, &str); 7] = [
     (4, 3, "refused: in: header section 0 offset 4\n"),
     (16, 1, "refused: in: unbuilt section 0 offset 0\n"),
     (16, 4, "refused: in: file type section 0 offset 16\n"),
-    (64, 0x11, "refused: in: unbuilt section 0 offset 0\n"),
+    (64, 0x11, "refused: in: unit section 1 offset 0\n"),
     (240, 2, "refused: in: fixed section 1 offset 0\n"),
-    (369, 8, "refused: in: unbuilt section 0 offset 0\n"),
+    (369, 8, "refused: in: compressed section 3 offset 0\n"),
     (394, 1, "refused: in: range section 3 offset 0\n"),
 ];
 
