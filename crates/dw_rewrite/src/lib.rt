@@ -1,6 +1,21 @@
 //! Files with mapped source paths: what an edit makes of a file.
 //!
-//! Read first: `dw_meaning/specs/EditRows.antt` and `dw_meaning/specs/DataOutput.antt`.
+//! This layer promises: a file of either class and byte order is refused only by a condition that holds
+//! in it, at its place; want of memory aside, every other file is rewritten, and the output is the
+//! defined one, byte for byte. It means what the file means, with each source path mapped once, and what
+//! is loaded of it is as it was.
+//! It does not promise: anything of how the file came from disk, or goes back to it.
+//! Read first: `dw_meaning/specs/EditRows.antt`, `dw_meaning/specs/FileMeanings.antt` and
+//! `dw_meaning/specs/DataOutput.antt`.
+//!
+//! # Example
+//!
+//! ```
+//! // The prefix of the build's paths, and the one where the sources are installed.
+//! if let Some(maps) = Maps::new(alloc, b"/build/p", b"/usr/src/debug/p")? {
+//!     let out = rewrite(alloc, &bytes, &maps)?;
+//! }
+//! ```
 #![tactic(auto)]
 
 mod all_sections;
@@ -18,9 +33,9 @@ mod known;
 mod new_sections;
 mod refusal;
 mod sections;
+mod tables;
 #[cfg(test)]
 mod tests;
-mod tables;
 mod texts;
 mod units;
 

@@ -5,9 +5,6 @@ ghost use Rattle.dw_base.specs.Refusals.{at};
 
 use dw_base::{Kind, Refusal};
 
-/// Where a file header has `e_type`, in bytes (gABI ch. 4 "ELF Header").
-const TYPE_PLACE: u64 = 16;
-
 /// The file has not the shape that this version takes.
 pub(crate) fn unbuilt() -> Refusal
     ensures { result ≡ at Kind.Unbuilt 0 0 }
@@ -20,13 +17,6 @@ pub(crate) fn too_large() -> Refusal
     ensures { result ≡ at Kind.TooLarge 0 0 }
 {
     Refusal::of_file(Kind::TooLarge)
-}
-
-/// The file is of another type than those that are handled.
-pub(crate) fn file_type() -> Refusal
-    ensures { result ≡ at Kind.FileType 0 16 }
-{
-    Refusal::at(Kind::FileType, 0, TYPE_PLACE)
 }
 
 /// The section of a number stays where it is.
