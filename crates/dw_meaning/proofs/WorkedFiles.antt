@@ -1,6 +1,6 @@
 -- Whole files, worked: the smallest one of 64 bits with the lowest byte first, and the same of 32 bits with the highest byte
 -- first. Each can be read; its output is this one, byte for byte; and what the output means is what the file means, mapped.
--- The outputs and meanings are those that readelf and an independent program give.
+-- The outputs are those that an independent program gives.
 use Rattle.std.proofs.Common.{true, false, ◌≡◌, ℕ, List, [], ◌∷◌, ◌++◌, replicate, codes, refl, sym, ◌∙◌}
 use Rattle.std.proofs.lemmas.Bool.{ltb-true, eqb-false}
 use Rattle.std.specs.Prelude.{pos, None}

@@ -1,5 +1,5 @@
 -- Forests, worked: lists of children, one inside another; nulls as padding; where paths are; and a list that is open at the end
--- of its unit. Each is read so by readelf and by an independent program.
+-- of its unit. An independent program reads all but the last, and refuses that one at the same place.
 use Rattle.std.proofs.Common.{true, false, ◌≡◌, ℕ, List, [], ◌∷◌, ◌++◌, codes, refl}
 use Rattle.std.proofs.lemmas.Bool.{ltb-true, leb-true, eqb-false}
 use Rattle.std.specs.Prelude.{pos}

@@ -1,6 +1,6 @@
 -- Files with other sections, worked: notes with a build-id, comments of one name, the link to a debug file and a section that is
 -- loaded; and a shared object with a segment. Each can be read; its output is this one; the output means what the file means,
--- mapped. The outputs and meanings are those that readelf and an independent program give.
+-- mapped. The outputs are those that an independent program gives.
 use Rattle.std.proofs.Common.{ℕ, suc, ◌≡◌, List, [], ◌∷◌, ◌++◌, replicate, codes, refl, sym, ◌∙◌}
 use Rattle.dw_base.specs.AbbreviationBytes.{abbreviations_at}
 use Rattle.dw_base.specs.Cells.{plain_cells, field_of, offset_of}
