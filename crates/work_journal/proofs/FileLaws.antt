@@ -1,13 +1,18 @@
 -- A job's file is as it was before the run until the job is committed, so the nodes that are made of it are the wanted ones.
-use Rattle.std.proofs.Common.{◌≡◌, ℕ, ◌<◌, ◌≤◌, true, List, length, refl, sym, ◌∙◌, ap, subst, IsTrue}
-use Rattle.std.specs.Prelude.{Option, Some}
+use Rattle.std.proofs.Common.{◌≡◌, ◌≢◌, false, ℕ, ◌<◌, ◌≤◌, true, List, length, refl, sym, ◌∙◌, ap, subst, IsTrue}
+use Rattle.std.specs.Prelude.{Option, Some, Result, Ok, Err, IfErr}
 use Rattle.std.specs.FinMap as fin
 use Rattle.std.proofs.Common.{le-leb}
 use Rattle.file_tree.specs.declared.node.Node.{Node}
 use Rattle.file_tree.specs.declared.node.Node.TheVariants as node
 use Rattle.file_tree.specs.declared.node.Found.TheVariants as found
 use Rattle.file_tree.specs.Trees.{TreeMap, stands_at}
-use Rattle.file_tree.specs.Seen.{Seen, map_now}
+use Rattle.dw_base.specs.declared.fault.Refusal.{Refusal}
+use Rattle.file_tree.specs.declared.node.Found.{Found}
+use Rattle.file_tree.specs.Causes.{Stood}
+use Rattle.file_tree.specs.Seen.{Seen, now_of, map_now}
+use Rattle.work_journal.specs.declared.job_err.JobErr.{JobErr}
+use Rattle.work_journal.specs.Blames.{is_file, NoFileStands, JobBlames, MakeBlames, is_mild}
 use Rattle.file_tree.specs.Images.{State, state_of}
 use Rattle.file_tree.proofs.ImageLaws.{state_now}
 use Rattle.journal_core.specs.Names.{target}
@@ -51,13 +56,18 @@ same_mode a b m n e = cc
 same_some : (a b : List Node) → Some a ≡ Some b → a ≡ b
 same_some a b e = cc
 
+-- the planned file is there
+pub file_is_there : (w : Wanted) (v : MakerView) (c : CoreState) (seen : Seen) (j : ℕ) (f : IsFile w v j) → Keeps w c (state_of seen.past)
+    → IsTrue (is_uncommitted (job_state c j)) → stands_at (map_now seen.past) (v.source j) file_limit ≡ found.File f.bytes f.mode
+file_is_there w v c seen j f k free =
+    let same : fin.get (state_of seen.past).now (v.source j) ≡ fin.get w.start (v.source j) = source_same w c (state_of seen.past) j (v.source j) k free f.source in
+    let there : fin.get (map_now seen.past) (v.source j) ≡ Some (node.File f.bytes f.mode) = ap (λ (t : TreeMap). fin.get t (v.source j)) (sym (state_now seen.past)) ∙ same ∙ f.there in
+    file_found (map_now seen.past) (v.source j) f.bytes f.mode file_limit there f.few
+
 -- what is read is the planned file
 pub read_planned : (w : Wanted) (v : MakerView) (c : CoreState) (seen : Seen) (j : ℕ) (bytes : List ℕ) (mode : ℕ) (f : IsFile w v j) → seen.tells ≡ true → Keeps w c (state_of seen.past)
     → IsTrue (is_uncommitted (job_state c j)) → FileStands seen (v.source j) bytes mode → found.File f.bytes f.mode ≡ found.File bytes mode
-read_planned w v c seen j bytes mode f tells k free stands =
-    let same : fin.get (state_of seen.past).now (v.source j) ≡ fin.get w.start (v.source j) = source_same w c (state_of seen.past) j (v.source j) k free f.source in
-    let there : fin.get (map_now seen.past) (v.source j) ≡ Some (node.File f.bytes f.mode) = ap (λ (t : TreeMap). fin.get t (v.source j)) (sym (state_now seen.past)) ∙ same ∙ f.there in
-    sym (file_found (map_now seen.past) (v.source j) f.bytes f.mode file_limit there f.few) ∙ stands.is tells
+read_planned w v c seen j bytes mode f tells k free stands = sym (file_is_there w v c seen j f k free) ∙ stands.is tells
 
 -- and the nodes that are made of it are the wanted ones
 pub made_wanted : (w : Wanted) (v : MakerView) (c : CoreState) (seen : Seen) (j : ℕ) (bytes : List ℕ) (mode : ℕ) (ns : List Node) → IsWanted w v → j < length v.steps → seen.tells ≡ true → Keeps w c (state_of seen.past)
@@ -73,3 +83,38 @@ made_wanted w v c seen j bytes mode ns wanted l tells k free stands made =
 
 pub new_uncommitted : (c : CoreState) (j n : ℕ) → MayStage c j n → IsTrue (is_uncommitted (job_state c j))
 new_uncommitted c j n may = rw may.is_new refl
+
+-- what is read at its source is a file
+pub file_met : (w : Wanted) (v : MakerView) (c : CoreState) (seen : Seen) (j : ℕ) (path : List ℕ) (x : Found) → IsWanted w v → j < length v.steps → seen.tells ≡ true → Keeps w c (state_of seen.past)
+    → IsTrue (is_uncommitted (job_state c j)) → path ≡ v.source j → Stood (now_of seen) path file_limit x → ((b : List ℕ) (m : ℕ) → x ≢ found.File b m) → ⊥
+file_met w v c seen j path x wanted l tells k free at stood other =
+    let f = wanted.files j l in
+    other f.bytes f.mode (sym (stood.is (map_now seen.past) (rw tells refl)) ∙ ap (λ (p : List ℕ). stands_at (map_now seen.past) p file_limit) at ∙ file_is_there w v c seen j f k free)
+
+not_file : (x : Found) → ((b : List ℕ) (m : ℕ) → x ≢ found.File b m) → is_file x ≡ false
+not_file found.Absent other = refl
+not_file found.Folder other = refl
+not_file (found.File b m) other = absurd (other b m refl)
+not_file (found.Link t) other = refl
+not_file (found.TooLarge n) other = refl
+
+-- and where no file was read, none stands there
+pub none_stands : (old new : Seen) (path source : List ℕ) (x : Found) → path ≡ source → Stood (now_of old) path file_limit x → now_of new ≡ now_of old → ((b : List ℕ) (m : ℕ) → x ≢ found.File b m) → NoFileStands new source
+none_stands old new path source x at stood same other = record { is = λ tells.
+    let now : now_of new ≡ Some (map_now new.past) = rw tells refl in
+    ap is_file (ap (λ (p : List ℕ). stands_at (map_now new.past) p file_limit) (sym at) ∙ stood.is (map_now new.past) (sym same ∙ now)) ∙ not_file x other }
+
+-- where nodes are made of the planned file, an error is mild
+pub made_mild : {A : Type 0} (w : Wanted) (v : MakerView) (refuses : ℕ → List ℕ → Refusal → Type 0) (c : CoreState) (seen : Seen) (j : ℕ) (bytes : List ℕ) (mode : ℕ) (r : Result A JobErr) → IsWanted w v → j < length v.steps → seen.tells ≡ true → Keeps w c (state_of seen.past)
+    → IsTrue (is_uncommitted (job_state c j)) → FileStands seen (v.source j) bytes mode → IfErr r (MakeBlames v refuses j bytes mode) → IfErr r (λ e. IsTrue (is_mild e))
+made_mild w v refuses c seen j bytes mode (Ok a) wanted l tells k free stands h = tt
+made_mild w v refuses c seen j bytes mode (Err e) wanted l tells k free stands h =
+    let f = wanted.files j l in
+    let read = read_planned w v c seen j bytes mode f tells k free stands in
+    let eb : f.bytes ≡ bytes = same_bytes _ _ _ _ read in
+    let em : f.mode ≡ mode = same_mode _ _ _ _ read in
+    h.mild f.nodes (ap (λ (b : List ℕ). v.nodes j b mode) (sym eb) ∙ ap (λ (m : ℕ). v.nodes j f.bytes m) (sym em) ∙ f.made)
+
+pub made_blames : {A : Type 0} (v : MakerView) (refuses : ℕ → List ℕ → Refusal → Type 0) (seen : Seen) (j : ℕ) (bytes : List ℕ) (mode : ℕ) (r : Result A JobErr) → FileStands seen (v.source j) bytes mode → IfErr r (MakeBlames v refuses j bytes mode) → IfErr r (JobBlames v refuses seen)
+made_blames v refuses seen j bytes mode (Ok a) stands h = tt
+made_blames v refuses seen j bytes mode (Err e) stands h = h.blames seen stands

@@ -1,5 +1,5 @@
 -- A job that isn't taken: which of its errors are faults of the tree.
-use Rattle.std.proofs.Common.{◌≡◌, ℕ, List, refl, ap, ◌∙◌}
+use Rattle.std.proofs.Common.{true, ◌≡◌, ◌≢◌, ℕ, List, refl, ap, ◌∙◌}
 use Rattle.std.specs.Prelude.{Result, Ok, Err, IsErrAnd, IsOk, OnOk}
 use Rattle.std.proofs.lemmas.Result.{err_from_is_err_and}
 use Rattle.file_tree.specs.declared.node.TreeErr.{TreeErr}
@@ -11,7 +11,9 @@ use Rattle.work_journal.specs.declared.job_err.JobErr.TheVariants as job
 use Rattle.work_journal.specs.declared.maker.MakeErr.{MakeErr}
 use Rattle.work_journal.specs.declared.maker.MakeErr.TheVariants as make
 use Rattle.work_journal.specs.Wanted.{Wanted}
-use Rattle.work_journal.specs.Runs.{Goes, Came}
+use Rattle.file_tree.specs.Images.{state_of}
+use Rattle.work_journal.specs.Keeps.{Keeps}
+use Rattle.work_journal.specs.Runs.{Goes, Came, IsGiven}
 use Rattle.work_journal.specs.Files.{tree_stops, make_stops}
 use Rattle.work_journal.proofs.GoesLaws.{came_still, came_failed, came_well, well, err_is, came_then, came_given}
 
@@ -23,10 +25,10 @@ tree_is_fault : (x : TreeErr) → tree_stops x ≡ job.Tree → x ≡ tree.Faile
 tree_is_fault tree.Failed e = refl
 tree_is_fault tree.NoMemory e = let d : job.NoMemory ≡ job.Tree = e in cc
 
-make_is_no_fault : (x : MakeErr) → make_stops x ≡ job.Tree → ⊥
-make_is_no_fault (make.Changed p f) e = cc
-make_is_no_fault (make.Refused r) e = cc
-make_is_no_fault make.NoMemory e = cc
+pub make_is_no_fault : (j : ℕ) (x : MakeErr) → make_stops j x ≢ job.Tree
+make_is_no_fault j (make.Changed p f) e = cc
+make_is_no_fault j (make.Refused r) e = cc
+make_is_no_fault j make.NoMemory e = cc
 
 err_same : {B : Type 0} (s : Result B JobErr) (x y : JobErr) → s ≡ Err x → s ≡ Err y → x ≡ y
 err_same s x y a b = cc
@@ -39,14 +41,6 @@ came_turned work may c d e old new r s x was is a =
     let now : s ≡ Err (tree_stops x) = rw p.2 at p.1 in
     came_failed tree.Failed job.Tree work may c d e old new r s (err_is s (tree_stops x) now)
     (λ h. was ∙ ap (λ (y : TreeErr). Err y) (tree_is_fault x (err_same s (tree_stops x) job.Tree now h))) a
-
--- nothing was called, and what is answered is no fault
-pub came_unmade : {B : Type 0} (work : List ℕ) (may : Wanted → Type 0) (c : CoreState) (seen : Seen) (s : Result B JobErr) (x : MakeErr)
-    → IsErrAnd s (λ y. y ≡ make_stops x) → Came job.Tree work may c seen c seen s
-came_unmade work may c seen s x is =
-    let p = err_from_is_err_and s is in
-    let now : s ≡ Err (make_stops x) = rw p.2 at p.1 in
-    came_still job.Tree work may c seen s (λ h. make_is_no_fault x (err_same s (make_stops x) job.Tree now h))
 
 no_fault : {B : Type 0} (s : Result B JobErr) → s ≡ Err job.NoMemory → s ≡ Err job.Tree → ⊥
 no_fault s a b = let d : job.NoMemory ≡ job.Tree = err_same s job.NoMemory job.Tree a b in cc
@@ -122,3 +116,19 @@ came_then_job work may one c d e old mid new r all a b =
 pub came_first : {A : Type 0} (work : List ℕ) (may : Wanted → Type 0) (c d : CoreState) (old new : Seen) (r : Result A TreeErr) (x : A)
     → r ≡ Ok x → Came tree.Failed work may c old d new r → Came job.Tree work may c old d new taken
 came_first work may c d old new r x is a = came_fine work may c d old new r x tt is a
+
+-- an error that is no fault of the tree, after calls that went well
+pub came_unfit : {A B : Type 0} (work : List ℕ) (may : Wanted → Type 0) (c d e : CoreState) (old new : Seen) (r : Result A JobErr) (s : Result B JobErr) (x : JobErr)
+    → IsErrAnd s (λ y. y ≡ x) → x ≢ job.Tree → Came job.Tree work may c old d new r → Came job.Tree work may c old e new s
+came_unfit work may c d e old new r s x is other a =
+    let p = err_from_is_err_and s is in
+    let now : s ≡ Err x = rw p.2 at p.1 in
+    came_failed job.Tree job.Tree work may c d e old new r s (err_is s x now) (λ h. absurd (other (err_same s x job.Tree now h))) a
+
+-- what holds at the end of calls that went well
+pub keeps_then : {A E : Type 0} (f : E) (work : List ℕ) (may : Wanted → Type 0) (c d : CoreState) (old new : Seen) (r : Result A E) (x : A) (w : Wanted) → r ≡ Ok x → IsGiven w work → old.tells ≡ true → may w
+    → Keeps w c (state_of old.past) → Came f work may c old d new r → Keeps w d (state_of new.past)
+keeps_then f work may c d old new r x w is given tells m k a = at_ok r x _ is ((a.goes tells).keeps w given m k)
+  where
+    at_ok : {A E : Type 0} (r : Result A E) (x : A) (P : Type 0) → r ≡ Ok x → OnOk r P → P
+    at_ok r x P e h = rw e at h

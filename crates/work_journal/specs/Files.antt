@@ -27,10 +27,10 @@ abbrev pub tree_stops : TreeErr → JobErr
 tree_stops tree.Failed = job.Tree
 tree_stops tree.NoMemory = job.NoMemory
 
-abbrev pub make_stops : MakeErr → JobErr
-make_stops (make.Changed planned digest) = job.Changed planned (Some digest)
-make_stops (make.Refused refusal) = job.Refused refusal
-make_stops make.NoMemory = job.NoMemory
+abbrev pub make_stops : ℕ → MakeErr → JobErr
+make_stops j (make.Changed planned digest) = job.Changed j planned (Some digest)
+make_stops j (make.Refused refusal) = job.Refused j refusal
+make_stops j make.NoMemory = job.NoMemory
 
 -- where the tree tells, this file stands at the path
 pub record FileStands (seen : Seen) (path bytes : List ℕ) (mode : ℕ) : Type 0 where

@@ -8,6 +8,7 @@ pub mod Runs
 pub mod Jobs
 pub mod Groups
 pub mod Files
+pub mod Blames
 pub mod Rounds
 pub mod Settling
 pub mod Ending

@@ -26,6 +26,7 @@ mod maker;
 mod names;
 mod planning;
 mod rounds;
+mod running;
 mod steps;
 mod sweeping;
 mod taking;
@@ -34,8 +35,8 @@ mod tests;
 
 pub use closing::close_run;
 pub use desk::Desk;
-pub use job_err::JobErr;
 pub use law::bridge_laws;
 pub use maker::{MakeErr, Maker};
 pub use planning::commit_plan;
-pub use rounds::run_jobs;
+pub use running::run_jobs;
+pub use work_texts::JournalErr;

@@ -2,16 +2,20 @@
 //! that share a settle.
 //!
 //! This layer promises: at `Ok` each job is done; whatever is answered, every stop leaves the run partway
-//! where it was, for the files that the maker wants.
+//! where it was, for the files that the maker wants; and an error says what stood at a job's source.
 //! Read first: `specs/Rounds.antt`, `specs/Files.antt`, `specs/Runs.antt`.
-ghost use Rattle.std.specs.Prelude.{◌≡◌, ◌≤◌, ◌<◌, ◌+◌, ◌^◌, IfOk, OnOk, length, List, ℕ};
+ghost use Rattle.std.specs.Prelude.{◌≡◌, ◌≤◌, ◌<◌, ◌+◌, ◌^◌, true, IfOk, IfErr, OnOk, IsTrue, length, List, ℕ};
 ghost use Rattle.file_tree.specs.declared.node.TreeErr.TheVariants.{Failed};
 ghost use Rattle.dw_base.specs.declared.fault.Refusal.{Refusal};
 ghost use Rattle.journal_core.specs.Cores.{core_of};
 ghost use Rattle.work_journal.specs.declared.job_err.JobErr.TheVariants.{Tree as tree_fault};
 ghost use Rattle.work_journal.specs.Groups.{IsGroup, IsMade};
 ghost use Rattle.work_journal.specs.Files.{IsWanted};
-ghost use Rattle.work_journal.specs.Runs.{Came};
+ghost use Rattle.work_journal.specs.Runs.{Came, IsGiven};
+ghost use Rattle.work_journal.specs.Wanted.{Wanted};
+ghost use Rattle.work_journal.specs.Keeps.{Keeps};
+ghost use Rattle.work_journal.specs.Blames.{JobBlames, is_mild};
+ghost use Rattle.file_tree.specs.Images.{state_of};
 ghost use Rattle.work_journal.specs.Rounds.{IsMending, IsBegun, IsRound, AreDone};
 
 use crate::desk::Desk;
@@ -88,7 +92,10 @@ fn take_one<T: Tree, M: Maker>(
     requires round { IsRound (M.view maker.old) (core_of desk.old.core) round job in_flight }
     ensures same_tree { desk.new.tree.ghost_name ≡ desk.old.tree.ghost_name }
     ensures same_view { M.view maker.new ≡ M.view maker.old }
+    ensures same_refusals { (j : ℕ) (b : List ℕ) (r : Refusal) → M.refuses maker.new j b r → M.refuses maker.old j b r }
     ensures round { IfOk result (λ r. IsRound (M.view maker.old) (core_of desk.new.core) r (job + 1) in_flight) }
+    ensures blame { IfErr result (JobBlames (M.view maker.old) (M.refuses maker.old) (T.seen desk.new.tree.now)) }
+    ensures mild { (w : Wanted) → IsGiven w work.now → IsWanted w (M.view maker.old) → (T.seen desk.old.tree.now).tells ≡ true → Keeps w (core_of desk.old.core) (state_of (T.seen desk.old.tree.now).past) → IfErr result (λ e. IsTrue (is_mild e)) }
     ensures came { Came tree_fault work.now (λ w. IsWanted w (M.view maker.old)) (core_of desk.old.core) (T.seen desk.old.tree.now) (core_of desk.new.core) (T.seen desk.new.tree.now) result }
 {
     let is_done = desk.core().job(job) == JobState::Done;
@@ -123,7 +130,10 @@ fn take_all<T: Tree, M: Maker>(
     requires group { IsGroup (M.view maker.old) (core_of desk.old.core) 0 0 }
     ensures same_tree { desk.new.tree.ghost_name ≡ desk.old.tree.ghost_name }
     ensures same_view { M.view maker.new ≡ M.view maker.old }
+    ensures same_refusals { (j : ℕ) (b : List ℕ) (r : Refusal) → M.refuses maker.new j b r → M.refuses maker.old j b r }
     ensures round { IfOk result (λ r. IsRound (M.view maker.old) (core_of desk.new.core) r (length (M.view maker.old).steps) in_flight) }
+    ensures blame { IfErr result (JobBlames (M.view maker.old) (M.refuses maker.old) (T.seen desk.new.tree.now)) }
+    ensures mild { (w : Wanted) → IsGiven w work.now → IsWanted w (M.view maker.old) → (T.seen desk.old.tree.now).tells ≡ true → Keeps w (core_of desk.old.core) (state_of (T.seen desk.old.tree.now).past) → IfErr result (λ e. IsTrue (is_mild e)) }
     ensures came { Came tree_fault work.now (λ w. IsWanted w (M.view maker.old)) (core_of desk.old.core) (T.seen desk.old.tree.now) (core_of desk.new.core) (T.seen desk.new.tree.now) result }
 {
     let jobs = maker.jobs();
@@ -134,10 +144,8 @@ fn take_all<T: Tree, M: Maker>(
     Ok(round)
 }
 
-/// Brings each job of the run to its end, with up to so many in flight, 1 to 64: jobs that an earlier
-/// start committed are moved first; of each other job the file is read, and its nodes made and put under
-/// temporary names; then one settle serves the jobs of a round, which are committed and moved.
-pub fn run_jobs<T: Tree, M: Maker>(
+/// Brings each job of the run to its end: those that an earlier start committed, and then the others.
+pub(crate) fn run_all<T: Tree, M: Maker>(
     alloc: Global,
     desk: &mut Desk<T>,
     work: &str,
@@ -149,7 +157,10 @@ pub fn run_jobs<T: Tree, M: Maker>(
     requires begun { IsBegun (M.view maker.old) (core_of desk.old.core) }
     ensures same_tree { desk.new.tree.ghost_name ≡ desk.old.tree.ghost_name }
     ensures same_view { M.view maker.new ≡ M.view maker.old }
+    ensures same_refusals { (j : ℕ) (b : List ℕ) (r : Refusal) → M.refuses maker.new j b r → M.refuses maker.old j b r }
     ensures done { OnOk result (AreDone (M.view maker.old) (core_of desk.new.core)) }
+    ensures blame { IfErr result (JobBlames (M.view maker.old) (M.refuses maker.old) (T.seen desk.new.tree.now)) }
+    ensures mild { (w : Wanted) → IsGiven w work.now → IsWanted w (M.view maker.old) → (T.seen desk.old.tree.now).tells ≡ true → Keeps w (core_of desk.old.core) (state_of (T.seen desk.old.tree.now).past) → IfErr result (λ e. IsTrue (is_mild e)) }
     ensures came { Came tree_fault work.now (λ w. IsWanted w (M.view maker.old)) (core_of desk.old.core) (T.seen desk.old.tree.now) (core_of desk.new.core) (T.seen desk.new.tree.now) result }
 {
     mend_all(alloc, desk, work, maker)?;

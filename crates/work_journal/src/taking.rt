@@ -1,21 +1,26 @@
 //! A job taken: its file read, its nodes made and staged.
 //!
 //! Read first: `specs/Files.antt`, `specs/Runs.antt`.
-ghost use Rattle.std.specs.Prelude.{◌≡◌, ◌<◌, IfOk, OnOk, length, get_or, ⊤, List, ℕ};
+ghost use Rattle.std.specs.Prelude.{◌≡◌, ◌<◌, true, Some, IfOk, IfErr, OnOk, IsTrue, length, get_or, ⊤, List, ℕ};
 ghost use Rattle.work_journal.specs.declared.job_err.JobErr.TheVariants.{Tree as tree_fault};
 ghost use Rattle.dw_base.specs.declared.fault.Refusal.{Refusal};
 ghost use Rattle.journal_core.specs.declared.event.JobState.TheVariants.{Staged};
-ghost use Rattle.journal_core.specs.Table.{with_state};
+ghost use Rattle.journal_core.specs.Table.{with_state, state_of as job_state};
 ghost use Rattle.journal_core.specs.Cores.{core_of};
 ghost use Rattle.work_journal.specs.Jobs.{MayStage};
 ghost use Rattle.work_journal.specs.Files.{FileStands, IsWanted};
-ghost use Rattle.work_journal.specs.Runs.{Came};
+ghost use Rattle.work_journal.specs.Runs.{Came, IsGiven};
+ghost use Rattle.work_journal.specs.Wanted.{Wanted};
+ghost use Rattle.work_journal.specs.Keeps.{Keeps};
+ghost use Rattle.work_journal.specs.Blames.{JobBlames, MakeBlames, is_mild};
+ghost use Rattle.journal_core.specs.Calls.{is_uncommitted};
+ghost use Rattle.file_tree.specs.Images.{state_of};
 
 use crate::desk::Desk;
-use crate::job_err::JobErr;
+use crate::job_err::{JobErr, unmade};
 use crate::jobs::stage_job;
 use crate::maker::Maker;
-use file_tree::{Blob, Found, Tree};
+use file_tree::{Blob, Found, Node, Tree};
 use std::alloc::Global;
 
 /// The longest file that is read.
@@ -33,6 +38,8 @@ fn read_job<T: Tree, M: Maker>(
     ensures same_tree { desk.new.tree.ghost_name ≡ desk.old.tree.ghost_name }
     ensures core { core_of desk.new.core ≡ core_of desk.old.core }
     ensures found { IfOk result (λ p. FileStands (T.seen desk.new.tree.now) ((M.view maker.now).source job) p.0 p.1) }
+    ensures blame { IfErr result (JobBlames (M.view maker.now) (M.refuses maker.now) (T.seen desk.new.tree.now)) }
+    ensures mild { (w : Wanted) → IsGiven w work.now → IsWanted w (M.view maker.now) → (T.seen desk.old.tree.now).tells ≡ true → Keeps w (core_of desk.old.core) (state_of (T.seen desk.old.tree.now).past) → IsTrue (is_uncommitted (job_state (core_of desk.old.core) job)) → IfErr result (λ e. IsTrue (is_mild e)) }
     ensures came { Came tree_fault work.now (λ w. ⊤) (core_of desk.old.core) (T.seen desk.old.tree.now) (core_of desk.new.core) (T.seen desk.new.tree.now) result }
 {
     let _ = work;
@@ -40,9 +47,30 @@ fn read_job<T: Tree, M: Maker>(
     match desk.read(path.as_str(), FILE_LIMIT)? {
         Found::File { bytes, mode } => Ok((bytes, mode)),
         _ => Err(JobErr::Changed {
+            job,
             planned: maker.planned(job),
             found: None,
         }),
+    }
+}
+
+/// The nodes that the maker makes of a job's file.
+fn make_nodes<M: Maker>(
+    alloc: Global,
+    maker: &mut M,
+    job: u32,
+    bytes: &[u8],
+    mode: u32,
+) -> Result<Vec<Node>, JobErr>
+    requires there { job < length (M.view maker.old).steps }
+    ensures same_view { M.view maker.new ≡ M.view maker.old }
+    ensures same_refusals { (j : ℕ) (b : List ℕ) (r : Refusal) → M.refuses maker.new j b r → M.refuses maker.old j b r }
+    ensures made { IfOk result (λ v. (M.view maker.old).nodes job bytes.now mode ≡ Some v.items) }
+    ensures blame { IfErr result (MakeBlames (M.view maker.old) (M.refuses maker.old) job bytes.now mode) }
+{
+    match maker.make(alloc, job, bytes, mode) {
+        Ok(nodes) => Ok(nodes),
+        Err(e) => Err(unmade(job, e)),
     }
 }
 
@@ -60,10 +88,12 @@ pub(crate) fn take_job<T: Tree, M: Maker>(
     ensures same_view { M.view maker.new ≡ M.view maker.old }
     ensures same_refusals { (j : ℕ) (b : List ℕ) (r : Refusal) → M.refuses maker.new j b r → M.refuses maker.old j b r }
     ensures core { OnOk result (core_of desk.new.core ≡ with_state (core_of desk.old.core) job Staged) }
+    ensures blame { IfErr result (JobBlames (M.view maker.old) (M.refuses maker.old) (T.seen desk.new.tree.now)) }
+    ensures mild { (w : Wanted) → IsGiven w work.now → IsWanted w (M.view maker.old) → (T.seen desk.old.tree.now).tells ≡ true → Keeps w (core_of desk.old.core) (state_of (T.seen desk.old.tree.now).past) → IfErr result (λ e. IsTrue (is_mild e)) }
     ensures came { Came tree_fault work.now (λ w. IsWanted w (M.view maker.old)) (core_of desk.old.core) (T.seen desk.old.tree.now) (core_of desk.new.core) (T.seen desk.new.tree.now) result }
 {
     let (bytes, mode) = read_job(alloc, desk, work, maker, job)?;
-    let nodes = maker.make(alloc, job, bytes.as_slice(), mode)?;
+    let nodes = make_nodes(alloc, maker, job, bytes.as_slice(), mode)?;
     stage_job(alloc, desk, work, job, &nodes)?;
     Ok(())
 }

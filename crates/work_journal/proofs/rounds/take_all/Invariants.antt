@@ -1,4 +1,5 @@
-use Rattle.std.proofs.Common.{◌≡◌}
+use Rattle.std.proofs.Common.{◌≡◌, ℕ, List}
+use Rattle.dw_base.specs.declared.fault.Refusal.{Refusal}
 use Rattle.journal_core.specs.Cores.{core_of}
 use Rattle.work_journal.specs.declared.job_err.JobErr.TheVariants as job
 use Rattle.work_journal.specs.Files.{IsWanted}
@@ -11,6 +12,7 @@ abbrev pub invariant-loop-job : goal.invariant-loop-job
 invariant-loop-job g l = record {
   same_tree : l.desk.tree.ghost_name ≡ l.fn.desk.tree.ghost_name;
   same_view : g.M.Maker.view l.maker ≡ g.M.Maker.view l.fn.maker;
+  same_refusals : (j : ℕ) (b : List ℕ) (r : Refusal) → g.M.Maker.refuses l.maker j b r → g.M.Maker.refuses l.fn.maker j b r;
   round : IsRound (g.M.Maker.view l.fn.maker) (core_of l.desk.core) l.round l.job l.in_flight;
   came : Came job.Tree l.work (λ w. IsWanted w (g.M.Maker.view l.fn.maker)) (core_of l.fn.desk.core) (g.T.Tree.seen l.fn.desk.tree.now) (core_of l.desk.core) (g.T.Tree.seen l.desk.tree.now) taken;
 }

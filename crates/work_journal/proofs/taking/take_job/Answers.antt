@@ -4,9 +4,36 @@ use Rattle.journal_core.specs.Table.{CoreState, state_of}
 use Rattle.journal_core.specs.Calls.{is_uncommitted}
 use Rattle.work_journal.specs.declared.job_err.JobErr.TheVariants as job
 use Rattle.work_journal.proofs.GoesLaws.{came_then, came_given}
-use Rattle.work_journal.proofs.JobErrLaws.{came_turned, came_fine, ok_by}
-use Rattle.work_journal.proofs.FileLaws.{made_wanted, new_uncommitted}
+use Rattle.work_journal.proofs.JobErrLaws.{came_turned, came_fine, ok_by, keeps_then}
+use Rattle.work_journal.proofs.FileLaws.{made_wanted, made_blames, made_mild, new_uncommitted}
+use Rattle.std.specs.Prelude.{IfErr}
+use Rattle.work_journal.specs.Blames.{MakeBlames, is_mild}
+use Rattle.work_journal.proofs.BlameLaws.{err_passed, tree_blames, tree_mild}
 use Rattle.work_journal.proofs.taking.take_job.Goals as goal
+
+pub returns-in_err-bytes-clause-blame : goal.returns-in_err-bytes-clause-blame
+returns-in_err-bytes-clause-blame g c = err_passed _ _ _ _ (c.in_err-bytes.was) c.from_residual.ensures.1 c.read_job.ensures.blame
+
+pub returns-in_err-bytes-clause-mild : goal.returns-in_err-bytes-clause-mild
+returns-in_err-bytes-clause-mild g c = λ w given wanted tells k. err_passed _ _ _ (λ e. IsTrue (is_mild e)) (c.in_err-bytes.was) c.from_residual.ensures.1
+    (c.read_job.ensures.mild w given wanted tells k (new_uncommitted _ _ _ c.requires.may))
+
+pub returns-in_err-nodes-clause-blame : goal.returns-in_err-nodes-clause-blame
+returns-in_err-nodes-clause-blame g c = err_passed _ _ _ _ (c.in_err-nodes.was) c.from_residual-in_err-nodes.ensures.1
+    (made_blames _ _ _ _ _ _ _ c.in_ok-bytes.ensures.found (subst (λ (b : List ℕ). IfErr c.make_nodes.result (MakeBlames (g.M.Maker.view c.args.maker.now) (g.M.Maker.refuses c.args.maker.now) c.args.job b c.in_ok-bytes.mode)) c.as_slice.ensures.value c.make_nodes.ensures.blame))
+
+pub returns-in_err-nodes-clause-mild : goal.returns-in_err-nodes-clause-mild
+returns-in_err-nodes-clause-mild g c = λ w given wanted tells k. err_passed _ _ _ (λ e. IsTrue (is_mild e)) (c.in_err-nodes.was) c.from_residual-in_err-nodes.ensures.1
+    (made_mild w _ _ _ _ _ _ _ _ wanted c.requires.there (c.read_job.ensures.came.tells ∙ tells)
+    (keeps_then job.Tree _ _ _ _ _ _ _ _ w (c.in_ok-bytes.was) given tells tt k c.read_job.ensures.came)
+    (subst (λ (x : CoreState). IsTrue (is_uncommitted (state_of x c.args.job))) (sym c.read_job.ensures.core) (new_uncommitted _ _ _ c.requires.may))
+    c.in_ok-bytes.ensures.found (subst (λ (b : List ℕ). IfErr c.make_nodes.result (MakeBlames (g.M.Maker.view c.args.maker.now) (g.M.Maker.refuses c.args.maker.now) c.args.job b c.in_ok-bytes.mode)) c.as_slice.ensures.value c.make_nodes.ensures.blame))
+
+pub returns-in_err-stage_job-clause-blame : goal.returns-in_err-stage_job-clause-blame
+returns-in_err-stage_job-clause-blame g c = tree_blames _ _ _ _ _ c.from_residual-in_err-stage_job.ensures.1
+
+pub returns-in_err-stage_job-clause-mild : goal.returns-in_err-stage_job-clause-mild
+returns-in_err-stage_job-clause-mild g c = λ w given wanted tells k. tree_mild _ _ c.from_residual-in_err-stage_job.ensures.1
 
 pub returns-in_err-stage_job-clause-came : goal.returns-in_err-stage_job-clause-came
 returns-in_err-stage_job-clause-came g c =

@@ -1,12 +1,14 @@
-use Rattle.std.proofs.Common.{sym, refl, subst}
+use Rattle.std.proofs.Common.{◌∙◌, sym, refl, subst, IsTrue}
 use Rattle.file_tree.specs.declared.node.TreeErr.TheVariants.{Failed}
 use Rattle.work_journal.specs.declared.job_err.JobErr.TheVariants as job
 use Rattle.work_journal.specs.Views.{MakerView}
 use Rattle.work_journal.specs.Groups.{IsMade}
 use Rattle.work_journal.proofs.GoesLaws.{came_then, came_given, came_passed}
-use Rattle.work_journal.proofs.JobErrLaws.{came_turned, came_fine, came_took, came_first, came_then_job, ok_by}
+use Rattle.work_journal.proofs.JobErrLaws.{came_turned, came_fine, came_took, came_first, came_then_job, ok_by, keeps_then}
 use Rattle.work_journal.proofs.RoundLaws.{round_empty}
-use Rattle.work_journal.proofs.rounds.run_jobs.Goals as goal
+use Rattle.work_journal.specs.Blames.{is_mild}
+use Rattle.work_journal.proofs.BlameLaws.{err_passed, tree_blames, tree_mild}
+use Rattle.work_journal.proofs.rounds.run_all.Goals as goal
 
 pub returns-in_err-mend_all-clause-came : goal.returns-in_err-mend_all-clause-came
 returns-in_err-mend_all-clause-came g c = came_turned _ _ _ _ _ _ _ _ _ _ (c.in_err-mend_all.was) c.from_residual.ensures.1
@@ -44,3 +46,23 @@ returns-then-round-eq0-clause-came g c = came_took _ _ _ _ _ _ _ _ _ (c.in_ok-ro
     (came_then_job _ _ _ _ _ _ _ _ _ _ (λ w wanted. wanted)
     (came_first _ _ _ _ _ _ _ _ (c.in_ok-mend_all.was) (came_given Failed _ _ _ _ _ _ _ _ (λ w given tells wanted k. wanted.made) c.mend_all.ensures.came))
     c.take_all.ensures.came)
+
+pub returns-in_err-mend_all-clause-blame : goal.returns-in_err-mend_all-clause-blame
+returns-in_err-mend_all-clause-blame g c = tree_blames _ _ _ _ _ c.from_residual.ensures.1
+
+pub returns-in_err-mend_all-clause-mild : goal.returns-in_err-mend_all-clause-mild
+returns-in_err-mend_all-clause-mild g c = λ w given wanted tells k. tree_mild _ _ c.from_residual.ensures.1
+
+pub returns-in_err-round-clause-blame : goal.returns-in_err-round-clause-blame
+returns-in_err-round-clause-blame g c = err_passed _ _ _ _ (c.in_err-round.was) c.from_residual-in_err-round.ensures.1 c.take_all.ensures.blame
+
+pub returns-in_err-round-clause-mild : goal.returns-in_err-round-clause-mild
+returns-in_err-round-clause-mild g c = λ w given wanted tells k. err_passed _ _ _ (λ e. IsTrue (is_mild e)) (c.in_err-round.was) c.from_residual-in_err-round.ensures.1
+    (c.take_all.ensures.mild w given wanted (c.mend_all.ensures.came.tells ∙ tells)
+    (keeps_then Failed _ _ _ _ _ _ _ _ w (c.in_ok-mend_all.was) given tells wanted.made k c.mend_all.ensures.came))
+
+pub returns-in_err-flush_group-clause-blame : goal.returns-in_err-flush_group-clause-blame
+returns-in_err-flush_group-clause-blame g c = tree_blames _ _ _ _ _ c.from_residual-in_err-flush_group.ensures.1
+
+pub returns-in_err-flush_group-clause-mild : goal.returns-in_err-flush_group-clause-mild
+returns-in_err-flush_group-clause-mild g c = λ w given wanted tells k. tree_mild _ _ c.from_residual-in_err-flush_group.ensures.1
