@@ -7,6 +7,7 @@ pub mod JobLaws
 pub mod GroupLaws
 pub mod FileLaws
 pub mod JobErrLaws
+pub mod ShownLaws
 pub mod BlameLaws
 pub mod RoundLaws
 pub mod SweepLaws

@@ -9,6 +9,7 @@ pub mod Jobs
 pub mod Groups
 pub mod Files
 pub mod Blames
+pub mod Begun
 pub mod Rounds
 pub mod Settling
 pub mod Ending
