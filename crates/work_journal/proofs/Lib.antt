@@ -8,6 +8,7 @@ pub mod GroupLaws
 pub mod FileLaws
 pub mod JobErrLaws
 pub mod ShownLaws
+pub mod OpeningLaws
 pub mod BlameLaws
 pub mod RoundLaws
 pub mod SweepLaws

@@ -2,6 +2,8 @@
 use Rattle.std.specs.Prelude.{◌≡◌, ◌≢◌, ◌<◌, ℕ, Bool, true, false, List, length, Option, Some, None, ⊤, IsTrue}
 use Rattle.dw_base.specs.declared.fault.Refusal.{Refusal}
 use Rattle.file_tree.specs.declared.node.Node.{Node}
+use Rattle.file_tree.specs.declared.node.TreeErr.{TreeErr}
+use Rattle.file_tree.specs.declared.node.TreeErr.TheVariants as tree
 use Rattle.file_tree.specs.declared.node.Found.{Found}
 use Rattle.file_tree.specs.declared.node.Found.TheVariants as found
 use Rattle.file_tree.specs.Trees.{stands_at}
@@ -89,3 +91,8 @@ RunBlames v refuses seen run.Tree = ⊤
 RunBlames v refuses seen run.NoMemory = ⊤
 RunBlames v refuses seen (run.PlanText file at) = ⊥
 RunBlames v refuses seen (run.OtherRun field kept given) = ⊥
+
+-- the error of a run where a call of the tree failed
+abbrev pub run_fault : TreeErr → JournalErr
+run_fault tree.Failed = run.Tree
+run_fault tree.NoMemory = run.NoMemory

@@ -10,6 +10,7 @@ pub mod Groups
 pub mod Files
 pub mod Blames
 pub mod Begun
+pub mod Opening
 pub mod Rounds
 pub mod Settling
 pub mod Ending

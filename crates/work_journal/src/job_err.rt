@@ -4,7 +4,7 @@
 ghost use Rattle.std.specs.Prelude.{◌≡◌, ◌⊎◌};
 ghost use Rattle.work_journal.specs.declared.job_err.JobErr.TheVariants.{NoMemory as no_memory};
 ghost use Rattle.work_journal.specs.Files.{make_stops};
-ghost use Rattle.work_journal.specs.Blames.{OfJob, run_stops};
+ghost use Rattle.work_journal.specs.Blames.{OfJob, run_stops, run_fault};
 ghost use Rattle.work_texts.specs.declared.journal_err.JournalErr.TheVariants as run;
 
 use crate::maker::{MakeErr, Maker};
@@ -97,5 +97,15 @@ pub(crate) fn named<M: Maker>(alloc: Global, maker: &M, e: JobErr) -> JournalErr
         },
         JobErr::Tree => JournalErr::Tree,
         JobErr::NoMemory => JournalErr::NoMemory,
+    }
+}
+
+/// The error of the run where a call of the tree failed.
+pub(crate) fn stopped(e: TreeErr) -> JournalErr
+    ensures value { result ≡ run_fault e }
+{
+    match e {
+        TreeErr::Failed => JournalErr::Tree,
+        TreeErr::NoMemory => JournalErr::NoMemory,
     }
 }
