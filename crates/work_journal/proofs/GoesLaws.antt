@@ -23,9 +23,9 @@ use Rattle.journal_core.specs.Calls.{Puts, Moves, puts_plan, puts_step, puts_mar
 use Rattle.work_journal.specs.Work.{work_path}
 use Rattle.work_journal.specs.Wanted.{Wanted, path_of, IsPartway}
 use Rattle.work_journal.specs.Keeps.{MaySweep, Does, Broke, puts_broke, moves_broke, sweeps_broke, looks_broke, Keeps, Kept}
-use Rattle.work_journal.specs.Keeps.Does.{reads as does_reads, settles as does_settles, puts as does_puts, moves as does_moves, sweeps as does_sweeps}
+use Rattle.work_journal.specs.Keeps.Does.{lists as does_lists, reads as does_reads, settles as does_settles, puts as does_puts, moves as does_moves, sweeps as does_sweeps}
 use Rattle.work_journal.specs.Runs.{RunsOne, Runs, Ran, IsGiven, Goes, Came}
-use Rattle.work_journal.specs.Runs.RunsOne.{reads as one_reads, settles as one_settles, puts as one_puts, renames as one_renames, removes as one_removes}
+use Rattle.work_journal.specs.Runs.RunsOne.{lists as one_lists, reads as one_reads, settles as one_settles, puts as one_puts, renames as one_renames, removes as one_removes}
 use Rattle.work_journal.specs.Runs.Runs.{none as runs_none, more as runs_more}
 use Rattle.work_journal.proofs.StepLaws.{step_kept, failure_partway, no_call}
 
@@ -430,3 +430,20 @@ pub came_reads : {A : Type 0} (work : List ℕ) (may : Wanted → Type 0) (c d :
     → HasCause old new r → new.tells ≡ old.tells → Came Failed work may c old d new r
 came_reads {A = A} work may c d old new r path core made failed cause tells =
     came_by work may c d old new r tells cause (look_step work may c d old new A r path core made failed cause)
+
+list_step : (work : List ℕ) (may : Wanted → Type 0) (c d : CoreState) (old new : Seen) (A : Type 0) (r : Result A TreeErr) (folder : List ℕ) → d ≡ c
+    → (old.tells ≡ true → OnOk r (new.past ≡ adds old.past (call.List folder) effect.Same))
+    → (old.tells ≡ true → IsErrOf r Failed → new.past ≡ adds old.past (call.List folder) effect.Same)
+    → HasCause old new r → old.tells ≡ true → Goes work may c old.past d new.past r
+list_step work may c d old new A r folder core made failed cause tells =
+    subst (λ (x : CoreState). Goes work may c old.past x new.past r) (sym core)
+    (step_goes work may c c old.past new.past r (call.List folder) effect.Same SettleFails one_lists
+    (λ w given m. does_lists) (λ w given m f. fails_same w c old.past new.past (call.List folder) f)
+    (made tells) (λ e. same_fails old.past new.past (call.List folder) (failed tells e)) (past_same old new r cause))
+
+pub came_lists : {A : Type 0} (work : List ℕ) (may : Wanted → Type 0) (c d : CoreState) (old new : Seen) (r : Result A TreeErr) (folder : List ℕ) → d ≡ c
+    → (old.tells ≡ true → OnOk r (new.past ≡ adds old.past (call.List folder) effect.Same))
+    → (old.tells ≡ true → IsErrOf r Failed → new.past ≡ adds old.past (call.List folder) effect.Same)
+    → HasCause old new r → new.tells ≡ old.tells → Came Failed work may c old d new r
+came_lists {A = A} work may c d old new r folder core made failed cause tells =
+    came_by work may c d old new r tells cause (list_step work may c d old new A r folder core made failed cause)

@@ -9,6 +9,7 @@ pub mod FileLaws
 pub mod JobErrLaws
 pub mod ShownLaws
 pub mod OpeningLaws
+pub mod FinishLaws
 pub mod BlameLaws
 pub mod RoundLaws
 pub mod SweepLaws

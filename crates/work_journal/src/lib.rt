@@ -16,8 +16,10 @@
 //! Read first: `specs/Wanted.antt`, `specs/Keeps.antt`, `specs/Runs.antt`.
 #![tactic(auto)]
 
+mod clearing;
 mod closing;
 mod desk;
+mod finishing;
 mod groups;
 mod job_err;
 mod jobs;
@@ -35,8 +37,10 @@ mod taking;
 #[cfg(test)]
 mod tests;
 
+pub use clearing::clear;
 pub use closing::close_run;
 pub use desk::Desk;
+pub use finishing::{end_nodes, finish, resume, text_node};
 pub use law::bridge_laws;
 pub use maker::{MakeErr, Maker};
 pub use opening::{Opened, open_work};

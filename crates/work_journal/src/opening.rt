@@ -93,7 +93,7 @@ fn open_finished<T: Tree>(
 }
 
 /// Whether the path is one of these.
-fn is_among(paths: &[String], path: &str) -> bool
+pub(crate) fn is_among(paths: &[String], path: &str) -> bool
     ensures value { result ≡ has_path (map string_bytes paths.now) path.now }
 {
     for i in 0..paths.len() {

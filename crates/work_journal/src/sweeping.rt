@@ -14,7 +14,7 @@ use file_tree::{Tree, TreeErr};
 use std::alloc::{AllocError, Global};
 
 /// The folder and a slash.
-fn with_slash(alloc: Global, folder: &str) -> Result<String, AllocError>
+pub(crate) fn with_slash(alloc: Global, folder: &str) -> Result<String, AllocError>
     ensures { IfOk result (λ s. string_bytes s ≡ folder.now ++ 47 ∷ []) }
 {
     let mut below = String::from_str(alloc, folder)?;
@@ -23,7 +23,7 @@ fn with_slash(alloc: Global, folder: &str) -> Result<String, AllocError>
 }
 
 /// Whether the path lies below the folder.
-fn lies_below(path: &str, below: &str) -> bool
+pub(crate) fn lies_below(path: &str, below: &str) -> bool
     ensures { (folder : List ℕ) → below.now ≡ folder ++ 47 ∷ [] → result ≡ is_below folder path.now }
 {
     path.as_bytes().starts_with(below.as_bytes())

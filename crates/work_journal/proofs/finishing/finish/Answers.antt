@@ -1,0 +1,6 @@
+use Rattle.std.proofs.Common.{rules}
+use Rattle.work_journal.proofs.FinishLaws.{finish_whole}
+use Rattle.work_journal.proofs.finishing.finish.Goals as goal
+
+pub returns-clause-ran : goal.returns-clause-ran
+returns-clause-ran g c = finish_whole _ _ _ _ _ _ _ _ _ _ c.new-desk.ensures.core c.new-desk.ensures.seen (search rules) c.finish_at-ended.ensures.closed c.finish_at-ended.ensures.came

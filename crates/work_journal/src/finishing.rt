@@ -1,0 +1,234 @@
+//! A run from its start to its end: the plan put, its jobs done, its texts put, and its work cleared.
+//!
+//! This layer promises: whatever core a start begins with, at `Ok` the run is over, and for the files that
+//! the maker wants all outputs and texts are there; whatever is answered, every stop leaves the run partway.
+//! Read first: `specs/Finishing.antt`, `specs/Blames.antt`, `specs/Runs.antt`.
+ghost use Rattle.std.specs.Prelude.{◌≡◌, ◌≤◌, ◌<◌, ◌∷◌, [], true, IfOk, IfErr, OnOk, IsTrue, length, List, ℕ, ⊤};
+ghost use Rattle.dw_base.specs.declared.fault.Refusal.{Refusal};
+ghost use Rattle.file_tree.specs.declared.node.Node.TheVariants as node;
+ghost use Rattle.file_tree.specs.Images.{state_of};
+ghost use Rattle.journal_core.specs.declared.event.Phase.TheVariants.{Closed};
+ghost use Rattle.journal_core.specs.Cores.{core_of};
+ghost use Rattle.journal_core.specs.Names.{plan_new};
+ghost use Rattle.work_texts.specs.declared.journal_err.JournalErr.TheVariants.{Tree as tree_fault};
+ghost use Rattle.work_journal.specs.Blames.{RunBlames, is_mild_run};
+ghost use Rattle.work_journal.specs.Finishing.{IsStart, IsPlanned, AreJobs, IsRun, FinishRan};
+ghost use Rattle.work_journal.specs.Keeps.{Keeps};
+ghost use Rattle.work_journal.specs.Rounds.{IsBegun};
+ghost use Rattle.work_journal.specs.Runs.{Came, IsGiven};
+ghost use Rattle.work_journal.specs.Wanted.{Wanted};
+
+use crate::clearing::clear;
+use crate::closing::close_run;
+use crate::desk::Desk;
+use crate::job_err::stopped;
+use crate::maker::Maker;
+use crate::planning::commit_plan;
+use crate::running::run_jobs;
+use crate::steps::TEXT_MODE;
+use file_tree::{Blob, Node, Tree};
+use journal_core::{Core, Phase};
+use std::alloc::{AllocError, Global};
+use work_texts::JournalErr;
+
+/// A text of the work folder as a file.
+pub fn text_node(text: Vec<u8>) -> Node
+    ensures node { result ≡ node.File text.items 420 }
+{
+    let bytes = Blob::new(text);
+    Node::File {
+        bytes,
+        mode: TEXT_MODE,
+    }
+}
+
+/// The four texts of the end as files: the lists of sources, of debug files and of links, and the finished
+/// text.
+pub fn end_nodes(
+    alloc: Global,
+    sources: Vec<u8>,
+    debug_files: Vec<u8>,
+    links: Vec<u8>,
+    finished: Vec<u8>,
+) -> Result<Vec<Node>, AllocError>
+    ensures nodes { IfOk result (λ v. v.items ≡ node.File sources.items 420 ∷ node.File debug_files.items 420 ∷ node.File links.items 420 ∷ node.File finished.items 420 ∷ []) }
+{
+    let mut nodes = Vec::new(alloc);
+    nodes.push(text_node(sources))?;
+    nodes.push(text_node(debug_files))?;
+    nodes.push(text_node(links))?;
+    nodes.push(text_node(finished))?;
+    Ok(nodes)
+}
+
+/// Brings a run whose plan is there to its end: its jobs, as `run_jobs` says, and then its four texts, put
+/// under temporary names, settled, and renamed, the finished text last.
+pub fn resume<T: Tree, M: Maker>(
+    alloc: Global,
+    desk: &mut Desk<T>,
+    work: &str,
+    maker: &mut M,
+    in_flight: u8,
+    texts: &Vec<Node>,
+) -> Result<(), JournalErr>
+    requires some { 0 < in_flight }
+    requires most { in_flight ≤ 64 }
+    requires begun { IsBegun (M.view maker.old) (core_of desk.old.core) }
+    requires four { length texts.now.items ≡ 4 }
+    ensures same_tree { desk.new.tree.ghost_name ≡ desk.old.tree.ghost_name }
+    ensures same_view { M.view maker.new ≡ M.view maker.old }
+    ensures same_refusals { (j : ℕ) (b : List ℕ) (r : Refusal) → M.refuses maker.new j b r → M.refuses maker.old j b r }
+    ensures closed { OnOk result ((core_of desk.new.core).phase ≡ Closed) }
+    ensures blame { IfErr result (RunBlames (M.view maker.old) (M.refuses maker.old) (T.seen desk.new.tree.now)) }
+    ensures mild { (w : Wanted) → IsGiven w work.now → AreJobs w (M.view maker.old) texts.now.items → (T.seen desk.old.tree.now).tells ≡ true → Keeps w (core_of desk.old.core) (state_of (T.seen desk.old.tree.now).past) → IfErr result (λ e. IsTrue (is_mild_run e)) }
+    ensures came { Came tree_fault work.now (λ w. AreJobs w (M.view maker.old) texts.now.items) (core_of desk.old.core) (T.seen desk.old.tree.now) (core_of desk.new.core) (T.seen desk.new.tree.now) result }
+{
+    run_jobs(alloc, desk, work, maker, in_flight)?;
+    match close_run(alloc, desk, work, texts) {
+        Ok(()) => Ok(()),
+        Err(e) => Err(stopped(e)),
+    }
+}
+
+/// Puts the plan, if there is none yet.
+#[tactic(auto, using(crate::proofs::FinishLaws::start_planned))]
+fn plan_first<T: Tree, M: Maker>(
+    alloc: Global,
+    desk: &mut Desk<T>,
+    work: &str,
+    present: &[String],
+    maker: &M,
+    plan: &Node,
+) -> Result<(), JournalErr>
+    requires start { IsStart (M.view maker.now) (core_of desk.old.core) }
+    ensures same_tree { desk.new.tree.ghost_name ≡ desk.old.tree.ghost_name }
+    ensures planned { OnOk result (IsPlanned (M.view maker.now) (core_of desk.new.core)) }
+    ensures blame { IfErr result (RunBlames (M.view maker.now) (M.refuses maker.now) (T.seen desk.new.tree.now)) }
+    ensures mild { IfErr result (λ e. IsTrue (is_mild_run e)) }
+    ensures came { Came tree_fault work.now (λ w. w.node plan_new ≡ plan.now) (core_of desk.old.core) (T.seen desk.old.tree.now) (core_of desk.new.core) (T.seen desk.new.tree.now) result }
+{
+    let _ = maker;
+    let is_new = desk.core().phase() == Phase::Empty;
+    if !is_new {
+        return Ok(());
+    }
+    match commit_plan(alloc, desk, work, present, plan) {
+        Ok(()) => Ok(()),
+        Err(e) => Err(stopped(e)),
+    }
+}
+
+/// Does the jobs of a run that isn't over, and puts its texts.
+#[tactic(auto, using(crate::proofs::FinishLaws::planned_begun))]
+fn jobs_next<T: Tree, M: Maker>(
+    alloc: Global,
+    desk: &mut Desk<T>,
+    work: &str,
+    maker: &mut M,
+    in_flight: u8,
+    texts: &Vec<Node>,
+) -> Result<(), JournalErr>
+    requires some { 0 < in_flight }
+    requires most { in_flight ≤ 64 }
+    requires planned { IsPlanned (M.view maker.old) (core_of desk.old.core) }
+    requires four { length texts.now.items ≡ 4 }
+    ensures same_tree { desk.new.tree.ghost_name ≡ desk.old.tree.ghost_name }
+    ensures same_view { M.view maker.new ≡ M.view maker.old }
+    ensures same_refusals { (j : ℕ) (b : List ℕ) (r : Refusal) → M.refuses maker.new j b r → M.refuses maker.old j b r }
+    ensures closed { OnOk result ((core_of desk.new.core).phase ≡ Closed) }
+    ensures blame { IfErr result (RunBlames (M.view maker.old) (M.refuses maker.old) (T.seen desk.new.tree.now)) }
+    ensures mild { (w : Wanted) → IsGiven w work.now → AreJobs w (M.view maker.old) texts.now.items → (T.seen desk.old.tree.now).tells ≡ true → Keeps w (core_of desk.old.core) (state_of (T.seen desk.old.tree.now).past) → IfErr result (λ e. IsTrue (is_mild_run e)) }
+    ensures came { Came tree_fault work.now (λ w. AreJobs w (M.view maker.old) texts.now.items) (core_of desk.old.core) (T.seen desk.old.tree.now) (core_of desk.new.core) (T.seen desk.new.tree.now) result }
+{
+    let is_over = desk.core().phase() == Phase::Closed;
+    if is_over {
+        return Ok(());
+    }
+    resume(alloc, desk, work, maker, in_flight, texts)
+}
+
+/// Clears the work folder of a run that is over.
+fn clear_last<T: Tree, M: Maker>(
+    alloc: Global,
+    desk: &mut Desk<T>,
+    work: &str,
+    maker: &M,
+) -> Result<(), JournalErr>
+    requires phase { (core_of desk.old.core).phase ≡ Closed }
+    ensures same_tree { desk.new.tree.ghost_name ≡ desk.old.tree.ghost_name }
+    ensures closed { OnOk result ((core_of desk.new.core).phase ≡ Closed) }
+    ensures blame { IfErr result (RunBlames (M.view maker.now) (M.refuses maker.now) (T.seen desk.new.tree.now)) }
+    ensures mild { IfErr result (λ e. IsTrue (is_mild_run e)) }
+    ensures came { Came tree_fault work.now (λ w. ⊤) (core_of desk.old.core) (T.seen desk.old.tree.now) (core_of desk.new.core) (T.seen desk.new.tree.now) result }
+{
+    let _ = maker;
+    match clear(alloc, desk, work) {
+        Ok(()) => Ok(()),
+        Err(e) => Err(stopped(e)),
+    }
+}
+
+/// The whole of it, at a desk.
+fn finish_at<T: Tree, M: Maker>(
+    alloc: Global,
+    desk: &mut Desk<T>,
+    work: &str,
+    present: &[String],
+    maker: &mut M,
+    in_flight: u8,
+    plan: &Node,
+    texts: &Vec<Node>,
+) -> Result<(), JournalErr>
+    requires some { 0 < in_flight }
+    requires most { in_flight ≤ 64 }
+    requires start { IsStart (M.view maker.old) (core_of desk.old.core) }
+    requires four { length texts.now.items ≡ 4 }
+    ensures same_tree { desk.new.tree.ghost_name ≡ desk.old.tree.ghost_name }
+    ensures same_view { M.view maker.new ≡ M.view maker.old }
+    ensures same_refusals { (j : ℕ) (b : List ℕ) (r : Refusal) → M.refuses maker.new j b r → M.refuses maker.old j b r }
+    ensures closed { OnOk result ((core_of desk.new.core).phase ≡ Closed) }
+    ensures blame { IfErr result (RunBlames (M.view maker.old) (M.refuses maker.old) (T.seen desk.new.tree.now)) }
+    ensures mild { (w : Wanted) → IsGiven w work.now → IsRun w (M.view maker.old) plan.now texts.now.items → (T.seen desk.old.tree.now).tells ≡ true → Keeps w (core_of desk.old.core) (state_of (T.seen desk.old.tree.now).past) → IfErr result (λ e. IsTrue (is_mild_run e)) }
+    ensures came { Came tree_fault work.now (λ w. IsRun w (M.view maker.old) plan.now texts.now.items) (core_of desk.old.core) (T.seen desk.old.tree.now) (core_of desk.new.core) (T.seen desk.new.tree.now) result }
+{
+    plan_first(alloc, desk, work, present, maker, plan)?;
+    jobs_next(alloc, desk, work, maker, in_flight, texts)?;
+    clear_last(alloc, desk, work, maker)?;
+    Ok(())
+}
+
+/// Brings a run to its end from wherever a start finds it, by the core of the start: before there is a
+/// plan, the work folder is cleared of the present paths and the plan is put; then come the jobs, with up
+/// to so many in flight, 1 to 64, and the four texts of the end; at last the work folder is cleared of all
+/// else.
+///
+/// `Changed` and `Refused` name the job's file, which isn't the planned one, or of which this is refused;
+/// `Tree` comes only where the tree's count of faults rose. After an error the run is started again.
+pub fn finish<T: Tree, M: Maker>(
+    alloc: Global,
+    tree: &mut T,
+    core: Core,
+    work: &str,
+    present: &[String],
+    maker: &mut M,
+    in_flight: u8,
+    plan: &Node,
+    texts: &Vec<Node>,
+) -> Result<(), JournalErr>
+    requires some { 0 < in_flight }
+    requires most { in_flight ≤ 64 }
+    requires start { IsStart (M.view maker.old) (core_of core) }
+    requires four { length texts.now.items ≡ 4 }
+    ensures same_view { M.view maker.new ≡ M.view maker.old }
+    ensures same_refusals { (j : ℕ) (b : List ℕ) (r : Refusal) → M.refuses maker.new j b r → M.refuses maker.old j b r }
+    ensures blame { IfErr result (RunBlames (M.view maker.old) (M.refuses maker.old) (T.seen tree.new)) }
+    ensures mild { (w : Wanted) → IsGiven w work.now → IsRun w (M.view maker.old) plan.now texts.now.items → (T.seen tree.old).tells ≡ true → Keeps w (core_of core) (state_of (T.seen tree.old).past) → IfErr result (λ e. IsTrue (is_mild_run e)) }
+    ensures ran { FinishRan work.now (λ w. IsRun w (M.view maker.old) plan.now texts.now.items) (core_of core) (T.seen tree.old) (T.seen tree.new) result }
+{
+    let mut desk = Desk::new(tree, core);
+    let ended = finish_at(
+        alloc, &mut desk, work, present, maker, in_flight, plan, texts,
+    );
+    let _tree = desk.into_tree();
+    ended
+}
