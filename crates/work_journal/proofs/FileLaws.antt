@@ -100,9 +100,11 @@ not_file (found.TooLarge n) other = refl
 
 -- and where no file was read, none stands there
 pub none_stands : (old new : Seen) (path source : List ℕ) (x : Found) → path ≡ source → Stood (now_of old) path file_limit x → now_of new ≡ now_of old → ((b : List ℕ) (m : ℕ) → x ≢ found.File b m) → NoFileStands new source
-none_stands old new path source x at stood same other = record { is = λ tells.
-    let now : now_of new ≡ Some (map_now new.past) = rw tells refl in
-    ap is_file (ap (λ (p : List ℕ). stands_at (map_now new.past) p file_limit) (sym at) ∙ stood.is (map_now new.past) (sym same ∙ now)) ∙ not_file x other }
+none_stands old new path source x at stood same other = record {
+  is = λ tells.
+      let now : now_of new ≡ Some (map_now new.past) = rw tells refl in
+      ap is_file (ap (λ (p : List ℕ). stands_at (map_now new.past) p file_limit) (sym at) ∙ stood.is (map_now new.past) (sym same ∙ now)) ∙ not_file x other;
+}
 
 -- where nodes are made of the planned file, an error is mild
 pub made_mild : {A : Type 0} (w : Wanted) (v : MakerView) (refuses : ℕ → List ℕ → Refusal → Type 0) (c : CoreState) (seen : Seen) (j : ℕ) (bytes : List ℕ) (mode : ℕ) (r : Result A JobErr) → IsWanted w v → j < length v.steps → seen.tells ≡ true → Keeps w c (state_of seen.past)

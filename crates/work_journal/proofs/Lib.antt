@@ -16,3 +16,4 @@ pub mod SweepLaws
 pub mod EndLaws
 pub mod ToyLaws
 pub mod RestartLaws
+pub mod PresentLaws

@@ -1,6 +1,7 @@
 -- The core that a start begins with is the one that the names in its work folder show.
 use Rattle.std.proofs.Common.{Bor, ◌≡◌, ◌≢◌, ℕ, zero, suc, ◌+◌, ◌<◌, Bool, true, false, ◌&&◌, ◌||◌, cond, List, [], ◌∷◌, ◌++◌, length, get_or, take, refl, sym, ◌∙◌, ap, subst, inl, inr, arith, IsTrue, lt-ltb}
 use Rattle.std.specs.Cmp.Lexicographic.{nat_list_eq_equiv}
+use Rattle.std.proofs.Math.Seq.{take-suc}
 use Rattle.std.specs.Str.{bytes_eq}
 use Rattle.std.specs.Prelude.{Result, Ok, Err, IsOkAnd, IfOk}
 use Rattle.std.specs.List.{list_any}
@@ -153,3 +154,10 @@ shown_none work paths all steps states a b = record {
 pub if_core : {A E : Type 0} (r : Result A E) (P Q : A → Type 0) → IsOkAnd r P → ((x : A) → P x → Q x) → IfOk r Q
 if_core (Ok x) P Q h all = all x h
 if_core (Err e) P Q h all = tt
+
+-- ### The steps alone
+
+pub steps_more : (all steps more : List ℕ) (job n : ℕ) → job < length all → n ≡ get_or all job 0 → steps ≡ take job all → more ≡ steps ++ n ∷ [] → more ≡ take (job + 1) all
+steps_more all steps more job n l is so_far made =
+    let one : suc job ≡ job + 1 = omega arith in
+    made ∙ ap (λ (s : List ℕ). s ++ n ∷ []) so_far ∙ ap (λ (x : ℕ). take job all ++ x ∷ []) is ∙ sym (take-suc all job 0 l) ∙ ap (λ (k : ℕ). take k all) one

@@ -1,14 +1,18 @@
 -- The laws that tie the core to a tree: each call keeps the relation, and a call that failed leaves the run partway.
-use Rattle.std.specs.Prelude.{◌≡◌, ◌≢◌, ℕ, ◌<◌, List, Some, None}
+use Rattle.std.specs.Prelude.{◌≡◌, ◌≢◌, ℕ, ◌<◌, List, Some, None, Ok, is_some}
 use Rattle.std.specs.FinMap as fin
 use Rattle.file_tree.specs.Trees.{TreeMap}
-use Rattle.file_tree.specs.Seen.{Past, Happened, adds}
+use Rattle.file_tree.specs.Seen.{Past, Happened, Seen, adds}
 use Rattle.file_tree.specs.Images.{State, state_after, state_of, settled_state, LeavesOnly}
 use Rattle.journal_core.specs.declared.event.Phase.TheVariants.{Closed}
-use Rattle.journal_core.specs.Names.{Name, IsStep, IsName, temp, final, target}
+use Rattle.journal_core.specs.Names.{Name, IsStep, IsName, IsWorkName, temp, final, target}
 use Rattle.journal_core.specs.Table.{CoreState}
 use Rattle.journal_core.specs.Starts.{shown_core}
-use Rattle.work_journal.specs.Work.{work_path}
+use Rattle.work_journal.specs.Work.{work_path, has_path, presence}
+use Rattle.work_texts.specs.declared.key.RunKey.{RunKey}
+use Rattle.work_journal.specs.declared.opening.Opened.{Opened}
+use Rattle.work_journal.specs.Opening.{Opens}
+use Rattle.work_journal.specs.Beginning.{core_by}
 use Rattle.work_journal.specs.Wanted.{Wanted, path_of, IsApart, IsWork, IsPartway}
 use Rattle.work_journal.specs.Keeps.{Does, Broke, Keeps, Kept}
 
@@ -40,3 +44,19 @@ EveryEndWhole = (w : Wanted) (c : CoreState) (s : State) → Keeps w c s → c.p
 -- whatever a stop left partway can be taken up, by the core that its names show
 abbrev pub EveryStartKeeps : Type 0
 EveryStartKeeps = (w : Wanted) → IsApart w → (t : TreeMap) (p : IsPartway w t) → Keeps w (shown_core w.steps p.marking) (settled_state t)
+
+-- ### What a list of the work folder shows
+
+-- of the names of the work folder, these paths have those that the tree has
+pub record ArePresent (w : Wanted) (t : TreeMap) (paths : List (List ℕ)) : Type 0 where
+  pub named : (x : Name) → IsWorkName w.steps x → has_path paths (work_path w.work x) ≡ is_some (fin.get t (work_path w.work x))
+
+-- the core that they show agrees with a tree that a stop left partway, once it is stored
+abbrev pub EveryPresentKeeps : Type 0
+EveryPresentKeeps = (w : Wanted) → IsApart w → (t : TreeMap) → IsPartway w t → (paths : List (List ℕ)) → ArePresent w t paths
+    → Keeps w (shown_core w.steps (presence w.work paths)) (settled_state t)
+
+-- and it is the one that a start begins with, by what its work folder holds
+abbrev pub EveryOpenedShown : Type 0
+EveryOpenedShown = (steps work : List ℕ) (paths : List (List ℕ)) (key : RunKey) (seen : Seen) (o : Opened)
+    → Opens work paths key seen (Ok o) → core_by o work paths steps ≡ shown_core steps (presence work paths)

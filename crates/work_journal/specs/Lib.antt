@@ -11,6 +11,7 @@ pub mod Files
 pub mod Blames
 pub mod Begun
 pub mod Opening
+pub mod Beginning
 pub mod Finishing
 pub mod Rounds
 pub mod Settling

@@ -2,7 +2,7 @@
 //!
 //! These functions compute nothing: each one's clauses state facts of every run. Read first:
 //! `specs/Wanted.antt`, `specs/Keeps.antt`, `specs/Laws.antt`.
-ghost use Rattle.work_journal.specs.Laws.{EveryCallKept, EveryStepKept, EveryFailurePartway, EveryEndWhole, EveryStartKeeps};
+ghost use Rattle.work_journal.specs.Laws.{EveryCallKept, EveryStepKept, EveryFailurePartway, EveryEndWhole, EveryStartKeeps, EveryPresentKeeps, EveryOpenedShown};
 
 /// What the calls of a run keep.
 pub fn bridge_laws()
@@ -17,4 +17,8 @@ pub fn bridge_laws()
     // up by the core that its names show.
     ensures whole { EveryEndWhole }
     ensures start { EveryStartKeeps }
+
+    // So is it by the core that the paths of its work folder show, which is the one of a start.
+    ensures present { EveryPresentKeeps }
+    ensures opened { EveryOpenedShown }
 {}

@@ -46,5 +46,5 @@ pub use maker::{MakeErr, Maker};
 pub use opening::{Opened, open_work};
 pub use planning::commit_plan;
 pub use running::run_jobs;
-pub use starting::shown;
+pub use starting::{shown, start_core};
 pub use work_texts::JournalErr;

@@ -9,13 +9,16 @@ ghost use Rattle.std.specs.Str.{bytes_eq};
 ghost use Rattle.std.specs.List.{list_any};
 ghost use Rattle.journal_core.specs.Cores.{core_of};
 ghost use Rattle.journal_core.specs.Starts.{shown_states};
-ghost use Rattle.journal_core.specs.Table.{resumed_core};
+ghost use Rattle.journal_core.specs.Table.{new_core, resumed_core};
+ghost use Rattle.work_journal.specs.Finishing.{IsStart};
+ghost use Rattle.work_journal.specs.Beginning.{core_by};
 ghost use Rattle.work_journal.specs.Begun.{state_by, AreShown};
 ghost use Rattle.work_journal.specs.Rounds.{IsBegun};
 ghost use Rattle.work_journal.specs.Work.{has_path, presence};
 
 use crate::maker::Maker;
 use crate::names::{commit_path, temp_path};
+use crate::opening::Opened;
 use journal_core::{Core, JobState};
 use std::alloc::{AllocError, Global};
 use std::collections::HashSet;
@@ -103,4 +106,42 @@ pub fn shown<M: Maker>(
 {
     let (steps, states) = shown_jobs(alloc, work, present, maker)?;
     Core::resumed(steps, states)
+}
+
+/// The numbers of steps of all jobs.
+fn steps_of<M: Maker>(alloc: Global, maker: &M) -> Result<Vec<u8>, AllocError>
+    ensures steps { IfOk result (λ v. v.items ≡ (M.view maker.now).steps) }
+{
+    let mut steps = Vec::new(alloc);
+    for job in 0..maker.jobs() {
+        steps.push(maker.steps(job))?;
+    }
+    Ok(steps)
+}
+
+/// The core of a run before there is a plan.
+fn new_run<M: Maker>(alloc: Global, maker: &M) -> Result<Core, AllocError>
+    ensures core { IfOk result (λ c. core_of c ≡ new_core (M.view maker.now).steps) }
+{
+    let steps = steps_of(alloc, maker)?;
+    Core::new(alloc, steps)
+}
+
+/// The core that a start begins with: of a work folder that holds neither text, of one with a plan as
+/// `shown` says, or of a run that is finished.
+pub fn start_core<M: Maker>(
+    alloc: Global,
+    opened: &Opened,
+    work: &str,
+    present: &[String],
+    maker: &M,
+) -> Result<Core, AllocError>
+    ensures core { IfOk result (λ c. core_of c ≡ core_by opened.now work.now (map string_bytes present.now) (M.view maker.now).steps) }
+    ensures start { IfOk result (λ c. IsStart (M.view maker.now) (core_of c)) }
+{
+    match opened {
+        Opened::Empty => new_run(alloc, maker),
+        Opened::Resumed(_) => shown(alloc, work, present, maker),
+        Opened::Finished { report: _ } => Ok(Core::closed(alloc)),
+    }
 }

@@ -15,8 +15,10 @@ pub returns-then-is_among-clause-came : goal.returns-then-is_among-clause-came
 returns-then-is_among-clause-came g c = came_still Failed _ _ _ _ _ (λ h. cc)
 
 pub sweep-requires : goal.sweep-requires
-sweep-requires g c = record { phase = sweeps_in c.args.work.now (core_of c.args.desk.now.core) c.args.path.now (late c.requires.phase (sym (c.lies_below.ensures _ c.requires.below) ∙ c.if-not-lies_below.false)
-    (end_apart c.args.work.now c.args.path.now (ap (λ (ps : List (List ℕ)). has_path ps c.args.path.now) (sym c.requires.ends) ∙ sym c.is_among.ensures.value ∙ c.if-is_among.false))) }
+sweep-requires g c = record {
+  phase = sweeps_in c.args.work.now (core_of c.args.desk.now.core) c.args.path.now (late c.requires.phase (sym (c.lies_below.ensures _ c.requires.below) ∙ c.if-not-lies_below.false)
+      (end_apart c.args.work.now c.args.path.now (ap (λ (ps : List (List ℕ)). has_path ps c.args.path.now) (sym c.requires.ends) ∙ sym c.is_among.ensures.value ∙ c.if-is_among.false)));
+}
 
 pub returns-clause-came : goal.returns-clause-came
 returns-clause-came g c = came_sweeps _ _ _ _ _ _ _ _ (late c.requires.phase (sym (c.lies_below.ensures _ c.requires.below) ∙ c.if-not-lies_below.false)

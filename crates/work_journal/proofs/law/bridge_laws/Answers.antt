@@ -1,5 +1,6 @@
 use Rattle.work_journal.proofs.StepLaws.{call_kept, step_kept, failure_partway}
 use Rattle.work_journal.proofs.RestartLaws.{end_whole, start_keeps}
+use Rattle.work_journal.proofs.PresentLaws.{present_keeps, opened_shown}
 use Rattle.work_journal.proofs.law.bridge_laws.Goals as goal
 
 pub returns-clause-call : goal.returns-clause-call
@@ -16,3 +17,9 @@ returns-clause-whole c = end_whole
 
 pub returns-clause-start : goal.returns-clause-start
 returns-clause-start c = start_keeps
+
+pub returns-clause-present : goal.returns-clause-present
+returns-clause-present c = present_keeps
+
+pub returns-clause-opened : goal.returns-clause-opened
+returns-clause-opened c = opened_shown
