@@ -1,0 +1,12 @@
+pub mod LookLaws
+pub mod WalkLaws
+pub mod NameLaws
+pub mod CountLaws
+pub mod SourceLaws
+pub mod Rows
+pub mod SurveyLaws
+pub mod TargetLaws
+pub mod ListLaws
+pub mod MakerLaws
+pub mod PlanLaws
+pub mod SearchLaws

@@ -1,0 +1,14 @@
+pub mod Roots
+pub mod Targets
+pub mod Verdicts
+pub mod Tallies
+pub mod Counted
+pub mod Folders
+pub mod Reports
+pub mod Plans
+pub mod Errors
+pub mod Looks
+pub mod Walks
+pub mod Lists
+pub mod Makers
+pub mod Fits

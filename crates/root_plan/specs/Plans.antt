@@ -1,0 +1,112 @@
+-- The plan of a build root, and why there is none. This project's profile.
+use Rattle.std.specs.Prelude.{◌≡◌, ◌≤◌, ◌<◌, ℕ, Bool, true, ◌||◌, List, [], length, take, get_or, count_by, Option, Contains}
+use Rattle.dw_base.specs.declared.fault.Refusal.{Refusal}
+use Rattle.dw_base.specs.Texts.{same_text}
+use Rattle.file_tree.specs.Trees.{TreeMap, is_below}
+use Rattle.file_tree.specs.Seen.{Seen, now_of}
+use Rattle.file_tree.specs.Causes.{AreInOrder}
+use Rattle.dbg_job.specs.Settings.{Settings}
+use Rattle.work_texts.specs.declared.key.RunKey.{RunKey}
+use Rattle.work_texts.specs.declared.plan.PlanData.{PlanData}
+use Rattle.work_texts.specs.Fields.{text_of, plan_fields}
+use Rattle.work_texts.specs.Rules.{text_limit}
+use Rattle.root_plan.specs.declared.plan_err.PlanErr.{PlanErr}
+use Rattle.root_plan.specs.declared.plan_err.PlanErr.TheVariants as err
+use Rattle.root_plan.specs.Roots.{count_outside, most_outside, longest_path}
+use Rattle.root_plan.specs.Targets.{new_paths}
+use Rattle.root_plan.specs.Reports.{report_of}
+use Rattle.root_plan.specs.Tallies.{Tally, Tallies, PathEnds, IsTooLong}
+use Rattle.root_plan.specs.Verdicts.{JudgeView}
+
+-- the options that the outputs of a run depend on
+abbrev pub key_of : Settings → RunKey
+key_of s = record { base = s.maps.base; dest = s.maps.dest; build_id = s.build_id; seed = s.seed; skip = s.skip; max_file = s.max_file }
+
+-- the plan of a tally
+abbrev pub plan_of : Settings → Tally → PlanData
+plan_of s t = record { key = key_of s; report = report_of t; jobs = t.jobs; sources = t.sources }
+
+-- ### Paths that are taken
+
+-- whether a path lies below another, or the other below it
+abbrev pub is_nested : List ℕ → List ℕ → Bool
+is_nested p q = is_below p q || is_below q p
+
+-- of some new paths, one that can't be made where these paths stand
+pub data IsTaken (present news : List (List ℕ)) (path : List ℕ) : Type 0 where
+  -- it stands already
+  stands : Contains news path → Contains present path → IsTaken present news path
+  -- it lies below a path that stands, or such a one below it
+  nested : {other : List ℕ} → Contains news path → Contains present other → is_nested path other ≡ true → IsTaken present news path
+  -- it is to be made twice
+  twice : 1 < count_by (same_text path) news → IsTaken present news path
+  -- it lies below another new path, or that one below it
+  nested_new : {other : List ℕ} → Contains news path → Contains news other → is_nested path other ≡ true → IsTaken present news path
+
+-- none of the new paths is taken
+pub record AreFree (present news : List (List ℕ)) : Type 0 where
+  pub free : (path : List ℕ) → IsTaken present news path → ⊥
+
+-- ### Limits
+
+-- each path is within the limit on paths
+pub record AreShort (paths : List (List ℕ)) : Type 0 where
+  pub short : (path : List ℕ) → Contains paths path → length path ≤ longest_path
+
+-- the new paths can be made where these paths stand, which are in byte order
+pub record CanBeMade (present news : List (List ℕ)) : Type 0 where
+  pub short : AreShort news
+  pub free : AreInOrder present → AreFree present news
+
+-- why they can't be made; or a cut
+pub data NewEnds (present news : List (List ℕ)) : PlanErr → Type 0 where
+  too_long : {path : List ℕ} {e : PlanErr} → Contains news path → IsTooLong path e → NewEnds present news e
+  taken : {path : List ℕ} → AreShort news → IsTaken present news path → NewEnds present news (err.Taken path)
+  no_memory : NewEnds present news err.NoMemory
+
+-- the text of a plan is within its limit
+abbrev pub plan_length : PlanData → ℕ
+plan_length p = length (text_of (plan_fields p))
+
+-- it isn't; or a cut
+pub data IsLongPlan (p : PlanData) : PlanErr → Type 0 where
+  long : text_limit < plan_length p → IsLongPlan p err.PlanTooLarge
+  no_memory : IsLongPlan p err.NoMemory
+
+-- ### The plan
+
+-- too many paths lie outside the work folder
+abbrev pub AreMany : List ℕ → List (List ℕ) → PlanErr → Type 0
+AreMany root present e = (e ≡ err.Entries) × (most_outside < count_outside root present)
+
+-- the tally of all paths of a root, which aren't too many
+pub record IsTallied (old : Option TreeMap) (root : List ℕ) (present : List (List ℕ)) (s : Settings) (v : JudgeView)
+    (fails : List ℕ → List ℕ → Refusal → Type 0) (tally : Tally) : Type 0 where
+  pub few : count_outside root present ≤ most_outside
+  pub tallies : Tallies old root s v fails present tally
+
+-- the plan of a root of which these paths are the keys: limits are kept, and no new path is taken
+pub record IsPlanOf (old : Option TreeMap) (root : List ℕ) (present : List (List ℕ)) (s : Settings) (v : JudgeView)
+    (fails : List ℕ → List ℕ → Refusal → Type 0) (plan : PlanData) : Type 0 where
+  pub tally : Tally
+  pub tallied : IsTallied old root present s v fails tally
+  pub is : plan ≡ plan_of s tally
+  pub can : CanBeMade present (new_paths root tally.jobs)
+  pub within : plan_length plan ≤ text_limit
+
+-- why a root has no plan: the first of these that holds, file by file in byte order, then in this order; or a cut
+pub data PlanEnds (old new : Seen) (root : List ℕ) (present : List (List ℕ)) (s : Settings) (v : JudgeView)
+    (fails : List ℕ → List ℕ → Refusal → Type 0) : PlanErr → Type 0 where
+  -- too many paths outside the work folder
+  many : most_outside < count_outside root present → PlanEnds old new root present s v fails err.Entries
+  -- the path behind the first n of them
+  at_path : {t : Tally} {e : PlanErr} (n : ℕ) → count_outside root present ≤ most_outside → n < length present
+      → Tallies (now_of old) root s v fails (take n present) t → PathEnds old new root s v fails (get_or present n []) e
+      → PlanEnds old new root present s v fails e
+  -- a new path
+  at_new : {t : Tally} {e : PlanErr} → IsTallied (now_of old) root present s v fails t → NewEnds present (new_paths root t.jobs) e
+      → PlanEnds old new root present s v fails e
+  -- the text of the plan is too long
+  at_text : {t : Tally} → IsTallied (now_of old) root present s v fails t → CanBeMade present (new_paths root t.jobs)
+      → text_limit < plan_length (plan_of s t) → PlanEnds old new root present s v fails err.PlanTooLarge
+  no_memory : PlanEnds old new root present s v fails err.NoMemory

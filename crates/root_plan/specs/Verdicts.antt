@@ -1,0 +1,54 @@
+-- What is said of a file of a build root: it is left, edited, or edited and split.
+use Rattle.std.specs.Prelude.{◌≡◌, ℕ, true, false, List, [], Option, Some, None, IsTrue}
+use Rattle.std.specs.List.{AllByRecursion}
+use Rattle.hex.specs.Hex.{IsBytes}
+use Rattle.dw_base.specs.Texts.{has_nul}
+use Rattle.dbg_job.specs.declared.outcome.LeftWhy.{LeftWhy}
+use Rattle.dbg_job.specs.declared.outcome.Outcome.{Outcome}
+use Rattle.dbg_job.specs.declared.outcome.Outcome.TheVariants as outcome
+use Rattle.work_texts.specs.Rules.{may_have_id, rise_after}
+
+-- what becomes of a file; an edited one and a split one with the names of its sources, a split one with its build-id,
+-- which is empty where it has none
+pub data Verdict : Type 0 where
+  left : LeftWhy → Verdict
+  edited : (sources : List (List ℕ)) → Verdict
+  split : (id : List ℕ) (sources : List (List ℕ)) → Verdict
+
+abbrev pub id_of : Option (List ℕ) → List ℕ
+id_of None = []
+id_of (Some id) = id
+
+-- what a job made of a file says of it
+abbrev pub verdict_of : Outcome → Verdict
+verdict_of (outcome.Split stripped debug id sources) = split (id_of id) sources
+verdict_of (outcome.Edited bytes sources) = edited sources
+verdict_of (outcome.Left why) = left why
+
+-- a stripped file and its debug file
+pub record Pair : Type 0 where
+  pub stripped : List ℕ
+  pub debug : List ℕ
+
+-- what is said of a file by its bytes and the name of its debug file, if it isn't refused; the edited file of its
+-- bytes; and the pair of a file that is split, by its bytes and that name
+pub record JudgeView : Type 0 where
+  pub verdict : List ℕ → List ℕ → Option Verdict
+  pub edited : List ℕ → Option (List ℕ)
+  pub pair : List ℕ → List ℕ → Option Pair
+
+-- the names of a file's sources: in byte order, each once, none with a NUL
+pub record AreSources (names : List (List ℕ)) : Type 0 where
+  pub rise : IsTrue (rise_after None names)
+  pub plain : AllByRecursion (λ name. has_nul name ≡ false) names
+
+-- the outputs of a file of which this is said: it can be edited, and split
+pub data Made (v : JudgeView) (bytes name : List ℕ) : Verdict → Type 0 where
+  not_made : {why : LeftWhy} → Made v bytes name (left why)
+  made_one : {names : List (List ℕ)} {file : List ℕ} → v.edited bytes ≡ Some file → AreSources names → Made v bytes name (edited names)
+  made_two : {id file : List ℕ} {names : List (List ℕ)} {pair : Pair} → v.edited bytes ≡ Some file → v.pair file name ≡ Some pair
+      → IsTrue (may_have_id true id) → IsBytes id → AreSources names → Made v bytes name (split id names)
+
+-- whatever is said of a file can be made
+pub record IsJudge (v : JudgeView) : Type 0 where
+  pub makes : (bytes name : List ℕ) (verdict : Verdict) → v.verdict bytes name ≡ Some verdict → Made v bytes name verdict

@@ -1,0 +1,53 @@
+//! What is said of a file of a build root, and what is made of it.
+//!
+//! This layer promises, of every judge: it answers by a file's bytes and the name of its debug file alone, it refuses only
+//! with a refusal that holds, and whatever it says of a file it can make.
+//! Read first: `specs/Verdicts.antt`.
+ghost use Rattle.std.specs.Prelude.{◌≡◌, ℕ, List, Some, IfOk, IfErr, IsOkUnless};
+ghost use Rattle.dw_base.specs.declared.fault.Refusal.{Refusal};
+ghost use Rattle.dw_base.specs.declared.fault.Fault.TheVariants.{NoMemory};
+ghost use Rattle.dw_base.specs.Refusals.{Blames};
+ghost use Rattle.root_plan.specs.Verdicts.{JudgeView, IsJudge, Verdict, Pair, verdict_of};
+
+use dbg_job::Outcome;
+use dw_base::Fault;
+use std::alloc::Global;
+
+/// A stripped file and its debug file.
+#[derive(Drop)]
+pub(crate) struct Parts {
+    pub stripped: Vec<u8>,
+    pub debug: Vec<u8>,
+}
+
+/// Says what becomes of files, and makes it.
+pub(crate) trait Judge {
+    ghost view: { Self → JudgeView };
+    // what refuses a file, by its bytes and the name of its debug file: as a whole, to be edited, and to be split
+    ghost fails: { Self → List ℕ → List ℕ → Refusal → Type 0 };
+
+    ghost edit_fails: { Self → List ℕ → Refusal → Type 0 };
+
+    ghost split_fails: { Self → List ℕ → List ℕ → Refusal → Type 0 };
+
+    /// What becomes of a file.
+    fn outcome(&self, alloc: Global, bytes: &[u8], debug_name: &[u8]) -> Result<Outcome, Fault>
+        ensures said { IfOk result (λ o. (view self.now).verdict bytes.now debug_name.now ≡ Some (verdict_of o)) }
+        ensures refused { IfErr result (Blames (fails self.now bytes.now debug_name.now)) }
+        ensures whole { (x : Verdict) → (view self.now).verdict bytes.now debug_name.now ≡ Some x → IsOkUnless result NoMemory };
+
+    /// The edited file.
+    fn edited(&self, alloc: Global, bytes: &[u8]) -> Result<Vec<u8>, Fault>
+        ensures made { IfOk result (λ file. (view self.now).edited bytes.now ≡ Some file.items) }
+        ensures refused { IfErr result (Blames (edit_fails self.now bytes.now)) }
+        ensures whole { (file : List ℕ) → (view self.now).edited bytes.now ≡ Some file → IsOkUnless result NoMemory };
+
+    /// The pair of an edited file that is split.
+    fn split(&self, alloc: Global, bytes: &[u8], debug_name: &[u8]) -> Result<Parts, Fault>
+        ensures made { IfOk result (λ p. (view self.now).pair bytes.now debug_name.now ≡ Some (record { stripped = p.stripped.items; debug = p.debug.items })) }
+        ensures refused { IfErr result (Blames (split_fails self.now bytes.now debug_name.now)) }
+        ensures whole { (pair : Pair) → (view self.now).pair bytes.now debug_name.now ≡ Some pair → IsOkUnless result NoMemory };
+
+    // whatever is said of a file can be made
+    ghost makes: { (j : Self) → IsJudge (view j) };
+}
