@@ -1,0 +1,9 @@
+pub mod LineHeaders
+pub mod Walks
+pub mod LineTexts
+pub mod OldLists
+pub mod Formats
+pub mod Programs
+pub mod Entries
+pub mod LineTables
+pub mod LineFails

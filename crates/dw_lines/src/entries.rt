@@ -1,0 +1,334 @@
+//! The directories and files of version 5 (DWARF 5, 6.2.4): each is one value for each column of the format.
+//!
+//! This file promises: the entries that are given stand at the place, and each of their texts is there; they
+//! are refused as the definition says: at the table where a value passes its end or an entry has no path, and
+//! at an offset that names no text.
+
+ghost use Rattle.std.specs.Prelude.{◌≡◌, ◌+◌, ◌≤◌, ◌<◌, Some, Ok, Err, length, take, IfOk, IfErr};
+ghost use Rattle.dw_base.specs.FileViews.{section_bytes};
+ghost use Rattle.dw_base.specs.Refusals.{Blames};
+ghost use Rattle.dw_base.specs.Values.{value_at};
+ghost use Rattle.dw_base.specs.Lebs.{uleb_at};
+ghost use Rattle.dw_lines.specs.LineTexts.{inline_text};
+ghost use Rattle.dw_lines.specs.Entries.{counted_entries, first_of, bad_table, column_at, column_params, columns, entries_at, entries_behind, entry_at, file_of, inline_column, next_column, offset_column, value_column, with_column};
+
+use crate::formats::format_at;
+use crate::header::{LineHeader, width_size};
+use crate::line_numbers::{DW_LNCT_directory_index, DW_LNCT_path};
+use crate::texts::{FilePlace, inline_text, named_text};
+use dw_base::dwarf_numbers::{DW_FORM_line_strp, DW_FORM_string, DW_FORM_strp};
+use dw_base::{DebugSection, Fault, Kind, Order, Params, Refusal, Spec, uleb_at};
+use dw_forms::value_at;
+use dw_strings::TextPlace;
+use dw_view::View;
+use std::alloc::Global;
+
+/// The value of a column.
+#[derive(Clone, Copy)]
+pub(crate) struct Column {
+    /// Its text, where it is one.
+    pub text: Option<TextPlace>,
+    /// Its number, 0 of a text or a block.
+    pub number: u64,
+    /// The place behind it.
+    pub next: u64,
+}
+
+/// What was read of an entry.
+#[derive(Clone, Copy)]
+pub(crate) struct Entry {
+    /// Its path.
+    pub text: Option<TextPlace>,
+    /// The number of its directory.
+    pub dir: Option<u64>,
+    /// The place behind what was read.
+    pub next: u64,
+}
+
+/// The refusal of a table.
+pub(crate) fn bad_table(section: u32, header: &LineHeader) -> Refusal
+    ensures { result ≡ bad_table section header.now }
+{
+    Refusal::at(Kind::Line, section, header.start)
+}
+
+/// A column whose text stands inline.
+fn inline_column(section: u32, header: &LineHeader, table: &[u8], place: u64) -> Result<Column, Refusal>
+    ensures column { result ≡ inline_column section header.now place (inline_text section table.now place) }
+    ensures within { IfOk result (λ c. c.next ≤ length table.now) }
+{
+    match inline_text(section, table, place) {
+        Some(text) => Ok(Column {
+            text: Some(text),
+            number: 0,
+            next: place + text.len + 1,
+        }),
+        None => Err(bad_table(section, header)),
+    }
+}
+
+/// A column whose text an offset names.
+#[tactic(auto, unfolding(crate::specs::Entries::offset_column))]
+fn offset_column(
+    view: &View,
+    section: u32,
+    header: &LineHeader,
+    table: &[u8],
+    texts: DebugSection,
+    place: u64,
+) -> Result<Column, Refusal>
+    requires there { section < length view.now.sections }
+    requires within { length table.now ≤ length (section_bytes view.now section) }
+    ensures column { result ≡ offset_column view.now section header.now table.now texts place }
+    ensures within { IfOk result (λ c. c.next ≤ length table.now) }
+{
+    let size = width_size(header.width);
+    let end = table.len() as u64;
+    if place > end {
+        return Err(bad_table(section, header));
+    }
+    if u64::from(size) > end - place {
+        return Err(bad_table(section, header));
+    }
+    match named_text(view, texts, section, place, size) {
+        Ok(text) => Ok(Column {
+            text: Some(text),
+            number: 0,
+            next: place + u64::from(size),
+        }),
+        Err(refusal) => Err(refusal),
+    }
+}
+
+/// What the values of columns depend on; none of their forms takes an address.
+fn column_params(order: Order, header: &LineHeader) -> Params
+    ensures params { result ≡ column_params order header.now }
+{
+    Params {
+        order,
+        width: header.width,
+        version: header.version,
+        address: 8,
+    }
+}
+
+/// A column of another value.
+#[tactic(auto, using(crate::proofs::EntryLaws::value_laws))]
+fn value_column(
+    order: Order,
+    section: u32,
+    header: &LineHeader,
+    table: &[u8],
+    spec: &Spec,
+    place: u64,
+) -> Result<Column, Refusal>
+    ensures column { result ≡ value_column section header.now place (value_at (column_params order header.now) spec.now table.now place) }
+{
+    let params = column_params(order, header);
+    match value_at(spec, &params, section, table, place, table.len() as u64) {
+        Ok(value) => Ok(Column {
+            text: None,
+            number: value.number,
+            next: place + value.size,
+        }),
+        Err(_) => Err(bad_table(section, header)),
+    }
+}
+
+/// The value of a column at a place.
+#[tactic(auto, unfolding(crate::specs::Entries::column_at))]
+fn column_at(
+    view: &View,
+    section: u32,
+    header: &LineHeader,
+    table: &[u8],
+    spec: &Spec,
+    place: u64,
+) -> Result<Column, Refusal>
+    requires there { section < length view.now.sections }
+    requires within { length table.now ≤ length (section_bytes view.now section) }
+    ensures column { result ≡ column_at view.now section header.now table.now spec.now place }
+{
+    if spec.form == DW_FORM_string {
+        return inline_column(section, header, table, place);
+    }
+    if spec.form == DW_FORM_strp {
+        return offset_column(view, section, header, table, DebugSection::Str, place);
+    }
+    if spec.form == DW_FORM_line_strp {
+        return offset_column(view, section, header, table, DebugSection::LineStr, place);
+    }
+    value_column(view.order(), section, header, table, spec, place)
+}
+
+/// The first of two texts that is there.
+fn first_text(text: Option<TextPlace>, next: Option<TextPlace>) -> Option<TextPlace>
+    ensures first { result ≡ first_of text next }
+{
+    match text {
+        Some(text) => Some(text),
+        None => next,
+    }
+}
+
+/// The first of two numbers that is there.
+fn first_number(number: Option<u64>, next: u64) -> Option<u64>
+    ensures first { result ≡ first_of number (Some next) }
+{
+    match number {
+        Some(number) => Some(number),
+        None => Some(next),
+    }
+}
+
+/// An entry with one more column: the first path is its text, and the first number of a directory its
+/// directory.
+fn with_column(spec: &Spec, entry: &Entry, column: &Column) -> Entry
+    ensures entry { result ≡ with_column spec.now entry.now column.now }
+{
+    let text = if spec.name == DW_LNCT_path {
+        first_text(entry.text, column.text)
+    } else {
+        entry.text
+    };
+    let dir = if spec.name == DW_LNCT_directory_index {
+        first_number(entry.dir, column.number)
+    } else {
+        entry.dir
+    };
+    Entry {
+        text,
+        dir,
+        next: column.next,
+    }
+}
+
+/// An entry with the value of one more column.
+fn next_column(
+    view: &View,
+    section: u32,
+    header: &LineHeader,
+    table: &[u8],
+    spec: &Spec,
+    entry: &Entry,
+) -> Result<Entry, Refusal>
+    requires there { section < length view.now.sections }
+    requires within { length table.now ≤ length (section_bytes view.now section) }
+    ensures entry { result ≡ next_column view.now section header.now table.now spec.now entry.now }
+{
+    match column_at(view, section, header, table, spec, entry.next) {
+        Ok(column) => Ok(with_column(spec, entry, &column)),
+        Err(refusal) => Err(refusal),
+    }
+}
+
+/// The values of all columns of an entry at a place.
+#[tactic(auto, using(crate::proofs::EntryLaws::column_laws))]
+fn columns(
+    view: &View,
+    section: u32,
+    header: &LineHeader,
+    table: &[u8],
+    specs: &[Spec],
+    place: u64,
+) -> Result<Entry, Refusal>
+    requires there { section < length view.now.sections }
+    requires within { length table.now ≤ length (section_bytes view.now section) }
+    ensures entry { result ≡ columns view.now section header.now table.now specs.now (record { text = None; dir = None; next = place }) }
+{
+    let mut entry = Entry {
+        text: None,
+        dir: None,
+        next: place,
+    };
+    for spec in specs {
+        match next_column(view, section, header, table, spec, &entry) {
+            Ok(next) => entry = next,
+            Err(refusal) => return Err(refusal),
+        }
+    }
+    Ok(entry)
+}
+
+/// The entry at a place, and the place behind it. Refused as its columns are, or at the table where it has no
+/// path.
+#[tactic(auto, unfolding(crate::specs::Entries::entry_at))]
+fn entry_at(
+    view: &View,
+    section: u32,
+    header: &LineHeader,
+    table: &[u8],
+    specs: &[Spec],
+    place: u64,
+) -> Result<(FilePlace, u64), Refusal>
+    requires there { section < length view.now.sections }
+    requires within { length table.now ≤ length (section_bytes view.now section) }
+    ensures entry { result ≡ entry_at view.now section header.now table.now specs.now place }
+{
+    match columns(view, section, header, table, specs, place) {
+        Ok(entry) => match entry.text {
+            Some(text) => Ok((
+                FilePlace {
+                    text,
+                    dir: entry.dir.unwrap_or(0),
+                },
+                entry.next,
+            )),
+            None => Err(bad_table(section, header)),
+        },
+        Err(refusal) => Err(refusal),
+    }
+}
+
+/// The entries behind a format, by their count.
+#[tactic(auto, using(crate::proofs::EntryLaws::entry_laws))]
+fn counted_entries(
+    alloc: Global,
+    view: &View,
+    section: u32,
+    header: &LineHeader,
+    table: &[u8],
+    specs: &[Spec],
+    place: u64,
+) -> Result<(Vec<FilePlace>, u64), Fault>
+    requires there { section < length view.now.sections }
+    requires within { length table.now ≤ length (section_bytes view.now section) }
+    ensures read { IfOk result (λ f. counted_entries view.now section header.now table.now specs.now place (uleb_at table.now place) ≡ Ok (f.0.items, f.1)) }
+    ensures refused { IfErr result (Blames (λ r. counted_entries view.now section header.now table.now specs.now place (uleb_at table.now place) ≡ Err r)) }
+{
+    let Some((count, size)) = uleb_at(table, place) else {
+        return Err(Fault::Refused(bad_table(section, header)));
+    };
+    let mut files = Vec::new(alloc);
+    let mut left = count;
+    let mut next = place + size;
+    'entries: while left > 0 {
+        let (file, behind) = match entry_at(view, section, header, table, specs, next) {
+            Ok(entry) => entry,
+            Err(refusal) => return Err(Fault::Refused(refusal)),
+        };
+        files.push(file)?;
+        next = behind;
+        left -= 1;
+    }
+    Ok((files, next))
+}
+
+/// The entries from a place on: their format, their count, and as many of them; and the place behind them.
+#[tactic(auto, using(crate::proofs::EntryLaws::list_laws))]
+pub(crate) fn entries_at(
+    alloc: Global,
+    view: &View,
+    section: u32,
+    header: &LineHeader,
+    table: &[u8],
+    place: u64,
+) -> Result<(Vec<FilePlace>, u64), Fault>
+    requires there { section < length view.now.sections }
+    requires within { length table.now ≤ length (section_bytes view.now section) }
+    ensures read { IfOk result (λ f. entries_at view.now section header.now table.now place ≡ Ok (f.0.items, f.1)) }
+    ensures refused { IfErr result (Blames (λ r. entries_at view.now section header.now table.now place ≡ Err r)) }
+{
+    let (specs, next) = format_at(alloc, table, place, bad_table(section, header))?;
+    counted_entries(alloc, view, section, header, table, &specs, next)
+}

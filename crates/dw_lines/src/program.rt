@@ -1,0 +1,46 @@
+//! The files that a line program defines (DWARF 4, 6.2.5.3).
+//!
+//! This file promises: the files that are given are those of the program, in the order of their places; the
+//! program is refused only where one of its opcodes passes its end or can't be had.
+
+ghost use Rattle.std.specs.Prelude.{◌≡◌, ◌+◌, ◌-◌, ◌≤◌, ◌^◌, [], length, IfOk, IfErr};
+ghost use Rattle.dw_base.specs.Refusals.{Blames};
+ghost use Rattle.dw_lines.specs.Programs.{next_opcode};
+ghost use Rattle.dw_lines.specs.Walks.{Breaks, ComesTo, Since};
+
+use crate::header::LineHeader;
+use crate::opcodes::opcode_at;
+use crate::texts::FilePlace;
+use dw_base::{Fault, Refusal};
+use std::alloc::Global;
+
+/// The files that the program of a table defines, the bytes up to the table's end. Refused by this refusal
+/// only where an opcode passes that end or can't be had.
+#[tactic(auto, using(crate::proofs::ProgramLaws::program_laws))]
+pub(crate) fn defined_files(
+    alloc: Global,
+    section: u32,
+    header: &LineHeader,
+    table: &[u8],
+    refusal: Refusal,
+) -> Result<Vec<FilePlace>, Fault>
+    requires small { length table.now ≤ 2 ^ 31 }
+    requires operands { header.now.lists ≡ header.now.operands + (header.now.opcode_base - 1) }
+    requires lists { header.now.lists ≤ length table.now }
+    ensures read { IfOk result (λ files. ComesTo (next_opcode section header.now table.now) ([], header.now.program) files.items) }
+    ensures refused { IfErr result (Blames (Since refusal (Breaks (next_opcode section header.now table.now) ([], header.now.program)))) }
+{
+    let mut files = Vec::new(alloc);
+    let mut place = header.program;
+    let end = table.len() as u64;
+    'opcodes: while place < end {
+        let Some(opcode) = opcode_at(section, header, table, place) else {
+            return Err(Fault::Refused(refusal));
+        };
+        if let Some(file) = opcode.file {
+            files.push(file)?;
+        }
+        place = opcode.next;
+    }
+    Ok(files)
+}

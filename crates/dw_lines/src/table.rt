@@ -1,0 +1,218 @@
+//! A line table (DWARF 5, 6.2.4).
+
+ghost use Rattle.std.specs.Prelude.{◌≡◌, ◌≢◌, ◌+◌, ◌-◌, ◌≤◌, ◌<◌, ◌^◌, length, IfOk, IfErr, OnOk};
+ghost use Rattle.dw_base.specs.FileViews.{section_bytes};
+ghost use Rattle.dw_base.specs.Refusals.{Blames};
+ghost use Rattle.dw_base.specs.declared.fault.Refusal.{Refusal as RefusalOf};
+ghost use Rattle.dw_lines.specs.LineTables.{HasLists, IsLineTable, LineTable as LineTableOf, table_with, texts_of};
+ghost use Rattle.dw_lines.specs.LineFails.{LineFails, ListsFail};
+
+use crate::entries::{bad_table, entries_at};
+use crate::header::{LineHeader, line_header};
+use crate::old_lists::{old_dirs, old_files};
+use crate::program::defined_files;
+use crate::texts::FilePlace;
+use dw_base::{Fault, Kind, Refusal, Width};
+use dw_strings::TextPlace;
+use dw_view::View;
+use std::alloc::{AllocError, Global};
+use std::marker::Model;
+
+/// A line table, with all places in bytes from its section's start.
+#[derive(Drop, Debug)]
+pub struct LineTable {
+    /// The number of its section.
+    pub section: u32,
+    /// Where it starts.
+    pub start: u64,
+    /// Where it ends.
+    pub end: u64,
+    /// Its version, 2 to 5.
+    pub version: u16,
+    /// How wide its offsets are.
+    pub width: Width,
+    /// The size of an address, in bytes; 0 before version 5, which has none.
+    pub address: u8,
+    /// The size of the smallest instruction, in bytes.
+    pub min_length: u8,
+    /// How many operations an instruction has at most; 1 before version 4.
+    pub max_ops: u8,
+    /// Whether rows begin statements at first.
+    pub default_stmt: bool,
+    /// The smallest line advance of a special opcode.
+    pub line_base: i8,
+    /// How many line advances special opcodes have.
+    pub line_range: u8,
+    /// The first special opcode.
+    pub opcode_base: u8,
+    /// Where the program starts.
+    pub program: u64,
+    /// The directories of the header, in order.
+    pub dirs: Vec<TextPlace>,
+    /// The files of the header, in order.
+    pub files: Vec<FilePlace>,
+    /// The files that the program defines, in the order of their places.
+    pub defined: Vec<FilePlace>,
+}
+
+impl Model for LineTable {
+    ghost Value = { LineTableOf };
+
+    ghost view = { λ t. record { section = t.section; start = t.start; end = t.end; version = t.version; width = t.width; address = t.address; min_length = t.min_length; max_ops = t.max_ops; default_stmt = t.default_stmt; line_base = t.line_base; line_range = t.line_range; opcode_base = t.opcode_base; program = t.program; dirs = t.dirs.items; files = t.files.items; defined = t.defined.items } };
+}
+
+/// The directories and files of a header, and the place behind them.
+#[derive(Drop)]
+struct Lists {
+    dirs: Vec<TextPlace>,
+    files: Vec<FilePlace>,
+    behind: u64,
+}
+
+/// The texts of entries.
+#[tactic(auto, using(crate::proofs::TableLaws::text_laws))]
+fn texts_of(alloc: Global, files: &[FilePlace]) -> Result<Vec<TextPlace>, AllocError>
+    ensures texts { IfOk result (λ texts. texts.items ≡ texts_of files.now) }
+{
+    let mut texts = Vec::new(alloc);
+    for file in files {
+        texts.push(file.text)?;
+    }
+    Ok(texts)
+}
+
+/// The lists of version 5.
+#[tactic(auto, using(crate::proofs::TableLaws::new_laws))]
+fn new_lists(
+    alloc: Global,
+    view: &View,
+    section: u32,
+    header: &LineHeader,
+    table: &[u8],
+) -> Result<Lists, Fault>
+    requires there { section < length view.now.sections }
+    requires within { length table.now ≤ length (section_bytes view.now section) }
+    requires version { header.now.version ≡ 5 }
+    ensures read { IfOk result (λ l. HasLists view.now section header.now table.now l.dirs.items l.files.items l.behind) }
+    ensures refused { IfErr result (Blames (ListsFail view.now section header.now table.now)) }
+{
+    let (dirs, place) = match entries_at(alloc, view, section, header, table, header.lists) {
+        Ok(read) => read,
+        Err(fault) => return Err(fault),
+    };
+    let (files, behind) = match entries_at(alloc, view, section, header, table, place) {
+        Ok(read) => read,
+        Err(fault) => return Err(fault),
+    };
+    let dirs = texts_of(alloc, &dirs)?;
+    Ok(Lists {
+        dirs,
+        files,
+        behind,
+    })
+}
+
+/// The lists before version 5.
+#[tactic(auto, using(crate::proofs::TableLaws::old_laws))]
+fn old_lists(
+    alloc: Global,
+    view: &View,
+    section: u32,
+    header: &LineHeader,
+    table: &[u8],
+) -> Result<Lists, Fault>
+    requires version { header.now.version ≢ 5 }
+    ensures read { IfOk result (λ l. HasLists view.now section header.now table.now l.dirs.items l.files.items l.behind) }
+    ensures refused { IfErr result (Blames (ListsFail view.now section header.now table.now)) }
+{
+    let refusal = bad_table(section, header);
+    let (dirs, place) = match old_dirs(alloc, section, table, header.lists, refusal) {
+        Ok(read) => read,
+        Err(fault) => return Err(fault),
+    };
+    let (files, behind) = match old_files(alloc, section, table, place, refusal) {
+        Ok(read) => read,
+        Err(fault) => return Err(fault),
+    };
+    Ok(Lists {
+        dirs,
+        files,
+        behind,
+    })
+}
+
+/// The lists of a header.
+fn lists_at(
+    alloc: Global,
+    view: &View,
+    section: u32,
+    header: &LineHeader,
+    table: &[u8],
+) -> Result<Lists, Fault>
+    requires there { section < length view.now.sections }
+    requires within { length table.now ≤ length (section_bytes view.now section) }
+    ensures read { IfOk result (λ l. HasLists view.now section header.now table.now l.dirs.items l.files.items l.behind) }
+    ensures refused { IfErr result (Blames (ListsFail view.now section header.now table.now)) }
+{
+    if header.version == 5 {
+        return new_lists(alloc, view, section, header, table);
+    }
+    old_lists(alloc, view, section, header, table)
+}
+
+/// The table of a header, with its lists.
+fn table_with(section: u32, header: &LineHeader, lists: Lists, defined: Vec<FilePlace>) -> LineTable
+    ensures table { result ≡ table_with section header.now lists.dirs.items lists.files.items defined.items }
+{
+    let Lists { dirs, files, .. } = lists;
+    LineTable {
+        section,
+        start: header.start,
+        end: header.end,
+        version: header.version,
+        width: header.width,
+        address: header.address,
+        min_length: header.min_length,
+        max_ops: header.max_ops,
+        default_stmt: header.default_stmt,
+        line_base: header.line_base,
+        line_range: header.line_range,
+        opcode_base: header.opcode_base,
+        program: header.program,
+        dirs,
+        files,
+        defined,
+    }
+}
+
+impl LineTable {
+    /// The table that starts at a place of the section of a number, in bytes from the section's start.
+    /// Refused exactly where none can be read: as `Line` at the table, where its header, its lists or its
+    /// program don't fit; as `StringOffset` at an offset in its header that names no text.
+    #[tactic(auto, using(crate::proofs::TableLaws::table_laws))]
+    pub fn read(alloc: Global, view: &View, section: u32, at: u64) -> Result<LineTable, Fault>
+        requires there { section < length view.now.sections }
+        ensures read { IfOk result (IsLineTable view.now section at) }
+        ensures none { OnOk result ((r : RefusalOf) → LineFails view.now section at r → ⊥) }
+        ensures refused { IfErr result (Blames (LineFails view.now section at)) }
+    {
+        let bytes = view.bytes(section);
+        let Some(header) = line_header(view.order(), bytes, at) else {
+            return Err(Fault::Refused(Refusal::at(Kind::Line, section, at)));
+        };
+        let table = &bytes[..header.end as usize];
+        let lists = match lists_at(alloc, view, section, &header, table) {
+            Ok(lists) => lists,
+            Err(fault) => return Err(fault),
+        };
+        if lists.behind > header.program {
+            return Err(Fault::Refused(Refusal::at(Kind::Line, section, at)));
+        }
+        let refusal = Refusal::at(Kind::Line, section, at);
+        let defined = match defined_files(alloc, section, &header, table, refusal) {
+            Ok(defined) => defined,
+            Err(fault) => return Err(fault),
+        };
+        Ok(table_with(section, &header, lists, defined))
+    }
+}

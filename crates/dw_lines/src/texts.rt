@@ -1,0 +1,131 @@
+//! The texts that a line table mentions (DWARF 5, 6.2.4 and 7.26).
+
+ghost use Rattle.std.specs.Prelude.{◌≡◌, ◌+◌, ◌≤◌, ◌<◌, ◌^◌, length, IfSome, IfOk, IfErr};
+ghost use Rattle.dw_base.specs.Cells.{offset_into};
+ghost use Rattle.dw_base.specs.FileViews.{section_bytes};
+ghost use Rattle.dw_base.specs.ViewData.{located};
+ghost use Rattle.dw_lines.specs.LineTexts.{file_numbers, inline_text, named_text, skip_lebs};
+
+use dw_base::{DebugSection, Field, Kind, Refusal, uleb_at};
+use dw_strings::{TextPlace, text_at};
+use dw_view::View;
+
+/// A file of a line table.
+#[derive(Clone, Copy, Debug, PartialEq, Eq)]
+pub struct FilePlace {
+    /// Its path.
+    pub text: TextPlace,
+    /// The number of its directory.
+    pub dir: u64,
+}
+
+/// The text at a place of the bytes up to a table's end. `None` exactly where no NUL follows in them.
+#[tactic(auto, using(crate::proofs::TextLaws::inline_laws), unfolding(crate::specs::LineTexts::inline_text))]
+pub(crate) fn inline_text(section: u32, table: &[u8], place: u64) -> Option<TextPlace>
+    ensures text { result ≡ inline_text section table.now place }
+    ensures within { IfSome result (λ t. place + (t.len + 1) ≤ length table.now) }
+{
+    match text_at(section, table, place) {
+        Ok(text) => Some(TextPlace {
+            section,
+            at: place,
+            len: text.len() as u64,
+            field: place,
+        }),
+        Err(_) => None,
+    }
+}
+
+/// The place behind so many unsigned numbers. `None` exactly where one of them passes the end.
+#[tactic(auto, using(crate::proofs::TextLaws::skip_laws))]
+pub(crate) fn skip_lebs(count: u8, table: &[u8], start: u64) -> Option<u64>
+    requires inside { start ≤ length table.now }
+    ensures place { result ≡ skip_lebs count table.now start }
+    ensures behind { IfSome result (λ next. start ≤ next) }
+    ensures within { IfSome result (λ next. next ≤ length table.now) }
+{
+    let mut left = count;
+    let mut place = start;
+    'numbers: while left > 0 {
+        let Some((_, size)) = uleb_at(table, place) else {
+            return None;
+        };
+        place += size;
+        left -= 1;
+    }
+    Some(place)
+}
+
+/// The directory of a file before version 5 whose name ends before a place, and the place behind its
+/// numbers. `None` exactly where one of them passes the end.
+#[tactic(auto, unfolding(crate::specs::LineTexts::file_numbers))]
+pub(crate) fn file_numbers(table: &[u8], place: u64) -> Option<(u64, u64)>
+    ensures numbers { result ≡ file_numbers table.now place }
+    ensures behind { IfSome result (λ n. place ≤ n.1) }
+    ensures within { IfSome result (λ n. n.1 ≤ length table.now) }
+{
+    let Some((dir, size)) = uleb_at(table, place) else {
+        return None;
+    };
+    let Some(next) = skip_lebs(2, table, place + size) else {
+        return None;
+    };
+    Some((dir, next))
+}
+
+/// The number of a section of texts and its length, both 0 where there is none.
+#[tactic(auto, unfolding(dw_base::specs::ViewData::located))]
+fn section_of(view: &View, texts: DebugSection) -> (u32, u64)
+    ensures number { result.0 ≡ (located view.now texts).number }
+    ensures len { result.1 ≡ length (located view.now texts).bytes }
+{
+    match view.first(texts) {
+        Some(section) => (section, view.bytes(section).len() as u64),
+        None => (0, 0),
+    }
+}
+
+/// The offset that a field holds into a section of texts; one into another section is the section's
+/// length, at which no text begins.
+fn offset_into(view: &View, texts: DebugSection, field: Field) -> u64
+    ensures offset { result ≡ offset_into (located view.now texts) field }
+{
+    let (number, len) = section_of(view, texts);
+    match field {
+        Field::Num(offset) => offset,
+        Field::Into { section, offset } => { if section == number { offset } else { len } }
+        Field::Sym { .. } => len,
+    }
+}
+
+/// The text that an offset of `size` bytes at a place of a section names in a section of texts. Refused as
+/// `StringOffset` at the offset exactly where no text that ends begins there.
+#[tactic(auto, using(crate::proofs::TextLaws::named_laws), unfolding(crate::specs::LineTexts::named_text))]
+pub(crate) fn named_text(
+    view: &View,
+    texts: DebugSection,
+    section: u32,
+    place: u64,
+    size: u8,
+) -> Result<TextPlace, Refusal>
+    requires there { section < length view.now.sections }
+    requires some { 0 < size }
+    requires wide { size ≤ 8 }
+    requires inside { place + size ≤ length (section_bytes view.now section) }
+    ensures text { result ≡ named_text view.now texts section place size }
+{
+    let field = view.field(section, place, size)?;
+    let at = offset_into(view, texts, field);
+    let Some(number) = view.first(texts) else {
+        return Err(Refusal::at(Kind::StringOffset, section, place));
+    };
+    match text_at(number, view.bytes(number), at) {
+        Ok(text) => Ok(TextPlace {
+            section: number,
+            at,
+            len: text.len() as u64,
+            field: place,
+        }),
+        Err(_) => Err(Refusal::at(Kind::StringOffset, section, place)),
+    }
+}
