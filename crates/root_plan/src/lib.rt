@@ -27,6 +27,8 @@ mod root_maker;
 mod survey;
 mod surveying;
 mod targets;
+#[cfg(test)]
+mod tests;
 mod walking;
 
 pub use plan_err::PlanErr;
