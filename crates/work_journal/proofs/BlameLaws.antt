@@ -1,5 +1,5 @@
 -- Why a run of jobs ends with an error, from the calls that were made last.
-use Rattle.std.proofs.Common.{◌≡◌, ◌≢◌, ℕ, ◌<◌, ◌⊎◌, inl, inr, List, length, refl, sym, ◌∙◌, ap, subst, IsTrue}
+use Rattle.std.proofs.Common.{◌≡◌, ℕ, ◌<◌, ◌⊎◌, inl, inr, List, length, refl, sym, ◌∙◌, ap, subst, IsTrue}
 use Rattle.std.proofs.lemmas.Result.{err_from_is_err_and}
 use Rattle.file_tree.specs.declared.node.TreeErr.{TreeErr}
 use Rattle.file_tree.specs.declared.node.TreeErr.TheVariants as tree

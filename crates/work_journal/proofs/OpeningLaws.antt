@@ -4,7 +4,7 @@ use Rattle.std.proofs.lemmas.Bool.{cases_Bool}
 use Rattle.std.proofs.lemmas.List.Folds.{list_any_more}
 use Rattle.work_journal.specs.Work.{has_path}
 use Rattle.std.proofs.Common.{◌≡◌, ◌≢◌, ℕ, zero, suc, ◌+◌, ◌<◌, Bool, ◌||◌, inl, inr, get_or, length, take, true, false, List, [], ◌∷◌, ◌++◌, refl, sym, ◌∙◌, ap, subst, arith}
-use Rattle.std.specs.Prelude.{Result, Ok, Err, OnOk, IsErrOf, IsErrAnd, IsOk, IsErr, Option, Some, IfOk, IfErr}
+use Rattle.std.specs.Prelude.{Result, Ok, Err, OnOk, IsErrOf, IsErrAnd, Some, IfOk, IfErr}
 use Rattle.std.proofs.lemmas.Result.{err_from_is_err_and}
 use Rattle.file_tree.specs.declared.node.Found.{Found}
 use Rattle.file_tree.specs.declared.node.Found.TheVariants as found
@@ -12,10 +12,9 @@ use Rattle.file_tree.specs.declared.node.TreeErr.{TreeErr}
 use Rattle.file_tree.specs.declared.node.TreeErr.TheVariants as tree
 use Rattle.file_tree.specs.declared.call.Call.TheVariants as call
 use Rattle.file_tree.specs.declared.call.Effect.TheVariants as effect
-use Rattle.file_tree.specs.Causes.{HasCause, Stood, Rose}
+use Rattle.file_tree.specs.Causes.{HasCause, Stood}
 use Rattle.file_tree.specs.Moments.{LooksOnly}
 use Rattle.file_tree.specs.Seen.{Past, Happened, Seen, adds, now_of, map_now}
-use Rattle.file_tree.specs.Trees.{stands_at}
 use Rattle.work_texts.specs.declared.journal_err.JournalErr.{JournalErr}
 use Rattle.work_texts.specs.declared.journal_err.JournalErr.TheVariants as run
 use Rattle.work_texts.specs.declared.journal_err.WorkFile.{WorkFile}
@@ -26,7 +25,7 @@ use Rattle.work_journal.specs.Blames.{run_fault}
 use Rattle.file_tree.specs.declared.text.Blob.{Blob}
 use Rattle.work_texts.specs.BadFields.{PlanBlames, FinishedBlames}
 use Rattle.work_texts.specs.Keys.{KeyBlames}
-use Rattle.work_journal.specs.Opening.{IsFileOf, IsBadFound, TextStands, bad_place, NoText, TextBlames, no_text, text_fault, text_memory, PlanKept, FinishedKept, Opens, Looked}
+use Rattle.work_journal.specs.Opening.{IsFileOf, IsBadFound, TextStands, bad_place, NoText, TextBlames, no_text, text_fault, text_memory, Looked}
 
 abbrev run_err : {B : Type 0} → JournalErr → Result B JournalErr
 run_err y = Err y

@@ -7,7 +7,7 @@ use Rattle.file_tree.specs.Seen.{Seen}
 use Rattle.file_tree.specs.Trees.{TreeMap}
 use Rattle.file_tree.specs.Images.{settled_state}
 use Rattle.journal_core.specs.Names.{Name, plan_new, plan, temp, commit, fresh, final, target, IsName, IsWorkName}
-use Rattle.journal_core.specs.Marks.{Mark, Marking, mark, absent, first, whole, any, is_any, is_loose}
+use Rattle.journal_core.specs.Marks.{Mark, mark, absent, first, whole, any, is_loose}
 use Rattle.journal_core.specs.Starts.{AreAlike, both_gone, both_there, shown_core}
 use Rattle.journal_core.specs.Table.{CoreState}
 use Rattle.journal_core.proofs.Alike.{same_shown, work_own}

@@ -1,11 +1,11 @@
 -- The core that a start begins with is the one that the names in its work folder show.
-use Rattle.std.proofs.Common.{Bor, ◌≡◌, ◌≢◌, ℕ, zero, suc, ◌+◌, ◌<◌, Bool, true, false, ◌&&◌, ◌||◌, cond, List, [], ◌∷◌, ◌++◌, length, get_or, take, refl, sym, ◌∙◌, ap, subst, inl, inr, arith, IsTrue, lt-ltb}
+use Rattle.std.proofs.Common.{Bor, ◌≡◌, ℕ, zero, suc, ◌+◌, ◌<◌, Bool, true, false, ◌&&◌, ◌||◌, cond, List, [], ◌∷◌, ◌++◌, length, get_or, take, refl, sym, ◌∙◌, ap, subst, inl, inr, arith, IsTrue, lt-ltb}
 use Rattle.std.specs.Cmp.Lexicographic.{nat_list_eq_equiv}
 use Rattle.std.proofs.Math.Seq.{take-suc}
 use Rattle.std.specs.Str.{bytes_eq}
 use Rattle.std.specs.Prelude.{Result, Ok, Err, IsOkAnd, IfOk}
 use Rattle.std.specs.List.{list_any}
-use Rattle.std.proofs.lemmas.Bool.{cases_eq, cases_lt, cases_Bool}
+use Rattle.std.proofs.lemmas.Bool.{cases_eq, cases_Bool}
 use Rattle.std.proofs.lemmas.List.{ext_get_or, get_or_push, get_or_append_left, length-append}
 use Rattle.std.proofs.lemmas.List.Folds.{list_any_more}
 use Rattle.journal_core.specs.declared.event.JobState.{JobState}

@@ -1,9 +1,6 @@
-use Rattle.std.proofs.Common.{◌∙◌, IsTrue, subst, sym, ℕ, List}
-use Rattle.std.specs.Prelude.{IfErr}
+use Rattle.std.proofs.Common.{◌∙◌, IsTrue}
 use Rattle.work_texts.specs.declared.journal_err.JournalErr.TheVariants as run
-use Rattle.work_journal.specs.Views.{MakerView}
-use Rattle.work_journal.specs.Blames.{RunBlames, is_mild_run}
-use Rattle.work_journal.specs.Finishing.{IsRun}
+use Rattle.work_journal.specs.Blames.{is_mild_run}
 use Rattle.work_journal.proofs.GoesLaws.{came_passed, came_given, came_then}
 use Rattle.work_journal.proofs.JobErrLaws.{ok_by, keeps_then}
 use Rattle.work_journal.proofs.BlameLaws.{err_passed}

@@ -1,6 +1,5 @@
 use Rattle.std.proofs.Common.{◌≡◌, rules}
 use Rattle.journal_core.specs.Cores.{core_of}
-use Rattle.file_tree.specs.declared.node.TreeErr.TheVariants.{Failed}
 use Rattle.journal_core.specs.declared.event.Phase.TheVariants.{Empty}
 use Rattle.work_texts.specs.declared.journal_err.JournalErr.TheVariants as run
 use Rattle.work_journal.specs.Finishing.{has_begun}

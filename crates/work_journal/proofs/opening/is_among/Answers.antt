@@ -1,4 +1,4 @@
-use Rattle.std.proofs.Common.{map, length, sym, ap, ◌∙◌, subst, ◌<◌, ℕ, List, arith}
+use Rattle.std.proofs.Common.{map, sym, ap, ◌∙◌, subst, ◌<◌, ℕ}
 use Rattle.std.specs.String.{string_bytes}
 use Rattle.std.proofs.lemmas.List.{get_or-map, length-map}
 use Rattle.work_journal.proofs.OpeningLaws.{eq_as, among_here, among_not}

@@ -1,7 +1,6 @@
 use Rattle.std.proofs.Common.{◌∙◌, ℕ, List, subst}
-use Rattle.std.specs.Prelude.{IfErr, Result}
-use Rattle.journal_core.specs.Names.{plan, final}
-use Rattle.work_texts.specs.declared.journal_err.JournalErr.{JournalErr}
+use Rattle.std.specs.Prelude.{IfErr}
+use Rattle.journal_core.specs.Names.{final}
 use Rattle.work_texts.specs.declared.journal_err.WorkFile.TheVariants as file
 use Rattle.work_texts.specs.BadFields.{FinishedBlames}
 use Rattle.work_texts.specs.Keys.{KeyBlames}

@@ -1,7 +1,6 @@
-use Rattle.std.proofs.Common.{◌≡◌, ◌∙◌, ℕ, List, Bool, true, false, map, ap, sym, subst}
+use Rattle.std.proofs.Common.{◌∙◌, ℕ, List, map, ap, sym}
 use Rattle.std.specs.String.{string_bytes}
-use Rattle.journal_core.specs.Names.{plan, final}
-use Rattle.work_journal.specs.Work.{work_path, has_path}
+use Rattle.work_journal.specs.Work.{has_path}
 use Rattle.work_journal.specs.Opening.{Opens, opens_memory, opens_empty, opens_plan, opens_finished}
 use Rattle.work_journal.proofs.OpeningLaws.{memory_row, looked_memory, looked_none}
 use Rattle.work_journal.proofs.opening.open_work.Goals as goal

@@ -1,10 +1,8 @@
-use Rattle.std.proofs.Common.{◌≡◌, ℕ, List, ap, sym, ◌∙◌, arith}
-use Rattle.std.specs.Str.{bytes_eq}
-use Rattle.std.specs.List.{list_any}
+use Rattle.std.proofs.Common.{ℕ, ap, sym, ◌∙◌, arith}
 use Rattle.journal_core.specs.Names.{temp, commit}
 use Rattle.journal_core.specs.Shapes.{none_there}
 use Rattle.work_journal.specs.Work.{has_path, there_mark, work_path}
-use Rattle.work_journal.proofs.ShownLaws.{has_as, going_shown, done_shown, anew_shown, none_more}
+use Rattle.work_journal.proofs.ShownLaws.{has_as, going_shown, done_shown, none_more}
 use Rattle.work_journal.proofs.starting.shown_job.Goals as goal
 
 pub returns-then-has : goal.returns-then-has

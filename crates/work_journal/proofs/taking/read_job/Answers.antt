@@ -1,4 +1,4 @@
-use Rattle.std.proofs.Common.{refl, ◌∙◌}
+use Rattle.std.proofs.Common.{◌∙◌}
 use Rattle.work_journal.proofs.GoesLaws.{came_reads}
 use Rattle.work_journal.proofs.JobErrLaws.{came_turned, came_no_room, came_fine, came_answered}
 use Rattle.work_journal.proofs.BlameLaws.{tree_blames, tree_mild, memory_blames, memory_mild}

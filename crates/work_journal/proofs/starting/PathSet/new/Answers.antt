@@ -1,4 +1,4 @@
-use Rattle.std.proofs.Common.{map, length, sym, ap, ◌∙◌, subst, ◌<◌, ℕ, List}
+use Rattle.std.proofs.Common.{map, sym, ap, ◌∙◌, subst, ◌<◌, ℕ}
 use Rattle.std.specs.String.{string_bytes}
 use Rattle.std.proofs.lemmas.List.{get_or-map, length-map}
 use Rattle.work_journal.proofs.ShownLaws.{set_more}
