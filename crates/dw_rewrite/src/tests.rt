@@ -1,12 +1,19 @@
 //! Worked examples: what becomes of files, and what refuses them. The expected bytes and places are those of another
 //! program, written from the same rules; what isn't taken yet that program doesn't say.
 
+ghost use Rattle.dw_entries.specs.ViewUnits.{IsUnitSection};
+
 use crate::file::rewrite;
 use crate::fixtures::{Change, Row, Shape, file_of};
+use dw_abbrev::AbbrevTable;
 use dw_base::elf_numbers::{ET_EXEC, ET_REL, SHF_ALLOC, SHF_COMPRESSED};
-use dw_base::{Class, Fault, Kind, Order, Refusal};
+use dw_base::{Class, DebugSection, Fault, Kind, Order, Refusal};
+use dw_entries::{EntryScan, unit_headers};
 use dw_paths::Maps;
+use dw_view::View;
+use elf_file::ElfFile;
 use std::alloc::Global;
+use std::process::Abort;
 use std::test::Fail;
 
 /// A file, a map of paths, and what becomes of the file: the new bytes of the sections that change, or what refuses it.
@@ -772,6 +779,66 @@ fn each_file_is_rewritten_or_refused_at_its_place(rt: HostRuntime) -> Result<(),
             "{}",
             case.shows
         );
+    }
+    Ok(())
+}
+
+/// Appends place, depth and code of each entry of the units of a section.
+#[tactic(auto, using(dw_entries::proofs::CallerLaws::caller_laws))]
+fn push_entries(
+    alloc: Global,
+    view: &View,
+    section: u32,
+    abbrevs: &[u8],
+    entries: &mut Vec<(u64, u32, u64)>,
+) -> Result<(), Fault>
+    requires there { IsUnitSection view.now section }
+{
+    let units = unit_headers(alloc, view, section)?;
+    for unit in units.as_slice() {
+        let table = AbbrevTable::read(alloc, 0, abbrevs, unit.abbrevs)?;
+        for item in EntryScan::new(view, unit, &table) {
+            let entry = item?;
+            entries.push((entry.offset, entry.depth, entry.code))?;
+        }
+    }
+    Ok(())
+}
+
+/// The entries of all units of a file.
+#[tactic(auto, using(dw_entries::proofs::CallerLaws::caller_laws))]
+fn entries_of(
+    rt: &impl Abort,
+    alloc: Global,
+    file: &[u8],
+) -> Result<Vec<(u64, u32, u64)>, Fault> {
+    assert!(rt; file.len() <= 0x8000_0000);
+    let elf = ElfFile::read(alloc, file)?;
+    let view = View::one(&elf)?;
+    let mut entries = Vec::new(alloc);
+    let Some(section) = view.first(DebugSection::Abbrev) else {
+        return Ok(entries);
+    };
+    let abbrevs = view.bytes(section);
+    if let Some(info) = view.first(DebugSection::Info) {
+        push_entries(alloc, &view, info, abbrevs, &mut entries)?;
+    }
+    if let Some(types) = view.first(DebugSection::Types) {
+        push_entries(alloc, &view, types, abbrevs, &mut entries)?;
+    }
+    Ok(entries)
+}
+
+#[test]
+fn entries_stay_where_they_are(rt: HostRuntime) -> Result<(), Fail> {
+    for case in CASES.iter() {
+        if case.result.is_ok() {
+            let file = file_of(rt.alloc(), case.shape, case.sections, &[])?;
+            let out = rewritten(rt.alloc(), &file, case.maps)?;
+            let before = entries_of(&rt, rt.alloc(), &file)?;
+            let after = entries_of(&rt, rt.alloc(), &out)?;
+            assert_eq!(rt; before.as_slice(), after.as_slice(), "{}", case.shows);
+        }
     }
     Ok(())
 }
