@@ -1,0 +1,5 @@
+pub mod Droppable
+pub mod DebugFile
+pub mod StrippedFile
+pub mod ReadNames
+pub mod SplitFails

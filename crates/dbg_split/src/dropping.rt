@@ -1,0 +1,112 @@
+//! Which sections are in the debug file alone: this project's profile.
+
+ghost use Rattle.std.specs.Prelude.{◌≡◌, ◌<◌, ◌≤◌, ◌==◌, ◌||◌, ◌&&◌, true, false, IsTrue, length, slice_index_or, vec_len, IfOk};
+ghost use Rattle.std.specs.List.{list_any};
+ghost use Rattle.dw_base.specs.Elf.{nth_section, section_count, section_name, sections_of};
+ghost use Rattle.dw_base.specs.Lists.{tabulate};
+ghost use Rattle.dbg_split.specs.Droppable.{drops_along, drops_itself, is_debug_only_name, is_droppable, is_relocations, links_symbols, may_drop, names_dropped, names_symbols, speaks_of_dropped};
+
+use crate::names::{is_named, is_named_from};
+use crate::section_numbers::SHT_SYMTAB_SHNDX;
+use dw_base::elf_numbers::{SHT_REL, SHT_RELA, SHT_STRTAB, SHT_SYMTAB};
+use dw_base::{NoMemory, Section};
+use elf_file::ElfFile;
+use std::alloc::Global;
+
+/// What the name of each section of debug data begins with.
+const DEBUG_PREFIX: &[u8] = b".debug_";
+/// The index of GDB.
+const GDB_INDEX: &[u8] = b".gdb_index";
+
+/// The name is that of a section of debug data, or of the index of GDB.
+fn is_debug_only(elf: &ElfFile, section: u32) -> bool
+    requires there { section < section_count elf.now.bytes.now }
+    ensures { result ≡ is_debug_only_name (section_name elf.now.bytes.now section) }
+{
+    is_named_from(elf, section, DEBUG_PREFIX) || is_named(elf, section, GDB_INDEX)
+}
+
+/// The section isn't section 0, not ALLOC, and not the section name table.
+fn may_drop(elf: &ElfFile, section: u32) -> bool
+    requires there { section < section_count elf.now.bytes.now }
+    ensures { result ≡ may_drop elf.now.bytes.now section }
+{
+    section != 0 && !elf.section(section).is_alloc() && section != elf.names
+}
+
+/// The header is that of a symbol table with this section as its string table.
+fn links_symbols(section: u32, head: &Section) -> bool
+    ensures { result ≡ links_symbols section head.now }
+{
+    head.kind == SHT_SYMTAB && head.link == section
+}
+
+/// A symbol table has this section as its string table.
+#[tactic(auto, unfolding(crate::specs::Droppable::names_symbols), using(crate::proofs::DroppableLaws::any_laws))]
+fn names_symbols(elf: &ElfFile, section: u32) -> bool
+    ensures { result ≡ names_symbols elf.now.bytes.now section }
+{
+    for head in elf.sections.iter() {
+        if links_symbols(section, head) {
+            return true;
+        }
+    }
+    false
+}
+
+/// The header is that of relocations.
+pub fn is_relocations(head: &Section) -> bool
+    ensures { result ≡ is_relocations head.now }
+{
+    head.kind == SHT_REL || head.kind == SHT_RELA
+}
+
+/// The section is dropped for what it is.
+#[tactic(auto, unfolding(crate::specs::Droppable::drops_itself))]
+fn drops_itself(elf: &ElfFile, section: u32) -> bool
+    requires there { section < section_count elf.now.bytes.now }
+    ensures { result ≡ drops_itself elf.now.bytes.now section }
+{
+    if !may_drop(elf, section) {
+        return false;
+    }
+    if is_debug_only(elf, section) {
+        return true;
+    }
+    let kind = elf.section(section).kind;
+    kind == SHT_SYMTAB || (kind == SHT_STRTAB && names_symbols(elf, section))
+}
+
+/// The number names a section that is dropped for what it is.
+#[tactic(auto, unfolding(crate::specs::Droppable::names_dropped))]
+fn names_dropped(elf: &ElfFile, number: u32) -> bool
+    ensures { result ≡ names_dropped elf.now.bytes.now number }
+{
+    number < elf.section_count() && drops_itself(elf, number)
+}
+
+/// The section is dropped with one that it links to or relocates.
+#[tactic(auto, unfolding(crate::specs::Droppable::drops_along))]
+fn drops_along(elf: &ElfFile, section: u32) -> bool
+    requires there { section < section_count elf.now.bytes.now }
+    ensures { result ≡ drops_along elf.now.bytes.now section }
+{
+    if !may_drop(elf, section) {
+        return false;
+    }
+    let head = elf.section(section);
+    if is_relocations(&head) {
+        return names_dropped(elf, head.link) || names_dropped(elf, head.info);
+    }
+    head.kind == SHT_SYMTAB_SHNDX && names_dropped(elf, head.link)
+}
+
+/// The section is one of those that are in the debug file alone once the file is split: in a file of
+/// type EXEC or DYN, debug data, symbol tables with their strings, and what relocates or extends these.
+#[tactic(auto, unfolding(crate::specs::Droppable::is_droppable))]
+pub fn droppable(elf: &ElfFile, section: u32) -> bool
+    requires there { section < section_count elf.now.bytes.now }
+    ensures droppable { result ≡ is_droppable elf.now.bytes.now section }
+{
+    elf.is_loaded_kind() && (drops_itself(elf, section) || drops_along(elf, section))
+}

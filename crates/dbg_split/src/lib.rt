@@ -1,0 +1,10 @@
+//! A file split in two: one without debug data and symbols that still runs, and a debug file that it links to
+//! (GNU debugging information in separate files; this project's profile of it).
+#![tactic(auto)]
+
+mod debug_file;
+mod dropping;
+mod names;
+mod section_numbers;
+
+pub use dropping::droppable;
