@@ -1,2 +1,4 @@
 pub mod NameLaws
+pub mod ReadNameLaws
+pub mod Rows
 pub mod DroppableLaws

@@ -4,7 +4,12 @@
 
 mod debug_file;
 mod dropping;
+mod fixed;
+mod judging;
+mod laying;
 mod names;
+mod read_names;
+mod section_headers;
 mod section_numbers;
 
 pub use dropping::droppable;

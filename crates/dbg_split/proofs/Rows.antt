@@ -1,0 +1,43 @@
+-- The rows of the refusals, for the check's search.
+use Rattle.std.proofs.Common.{◌≡◌, ◌≢◌, ℕ, suc, ◌+◌, ◌<◌, ◌||◌, Bool, true, false, List, IsTrue, add-one, refl, sym, ap, ◌∙◌, get_or, arith}
+use Rattle.dw_base.specs.Elf.{nth_section, section_count, section_name, name_index}
+use Rattle.dw_base.specs.ElfFails.{DebugReads}
+use Rattle.dw_base.specs.Layout.{is_fixed, is_loaded_kind}
+use Rattle.dw_base.specs.LayoutFails.{BeginsInHeader, LiesAcross}
+use Rattle.dw_base.specs.Lists.{tabulate}
+use Rattle.dw_base.specs.declared.fault.Refusal.{Refusal}
+use Rattle.dw_base.proofs.ListLaws.{get_or-tabulate, length-tabulate}
+use Rattle.dbg_split.specs.Droppable.{is_droppable}
+use Rattle.dbg_split.specs.SplitFails.{SectionBars, Unsplittable, drops_before, is_link, is_loaded_behind, is_loaded_data}
+use Rattle.dbg_split.specs.SplitFails.SectionBars.{across, in_header, loaded, behind, linked}
+use Rattle.dbg_split.specs.SplitFails.Unsplittable.{file_type, unnamed, names_stay, section}
+use Rattle.dbg_split.proofs.NameLaws.{name_index-there}
+
+-- where none of the rows holds, the section doesn't bar
+pub section_bars_excludes : (b : List ℕ) (i : ℕ) (r : Refusal) → (LiesAcross b (nth_section b i) → ⊥) → (BeginsInHeader b (nth_section b i) → ⊥)
+    → is_loaded_data b i ≡ false → is_loaded_behind b i ≡ false → is_link b i ≡ false → SectionBars b i r → ⊥
+section_bars_excludes b i r not_across not_in_header no_data not_behind name (across h) = not_across h
+section_bars_excludes b i r not_across not_in_header no_data not_behind name (in_header h) = not_in_header h
+section_bars_excludes b i r not_across not_in_header no_data not_behind name (loaded h) = cc
+section_bars_excludes b i r not_across not_in_header no_data not_behind name (behind h) = cc
+section_bars_excludes b i r not_across not_in_header no_data not_behind name (linked h) = cc
+
+pub ruleset bar_rows = (across, in_header, loaded, behind, linked, section_bars_excludes)
+
+-- one section more may be droppable
+pub drops_before-next : (b : List ℕ) (i : ℕ) (so_far here next : Bool) → so_far ≡ drops_before b i → here ≡ is_droppable b i
+    → next ≡ (so_far || here) → next ≡ drops_before b (i + 1)
+drops_before-next b i so_far here next so_far_is here_is is = rw (is, so_far_is, here_is, add-one) refl
+
+pub ruleset section_rows = (section, get_or-tabulate, length-tabulate, drops_before-next)
+
+-- where none of the rows holds, the file can be split
+pub unsplittable_excludes : (b : List ℕ) (r : Refusal) → is_loaded_kind b ≡ true → name_index b ≢ 0
+    → is_fixed b (nth_section b (name_index b)) ≡ false
+    → ((i : ℕ) (x : Refusal) → i < section_count b → SectionBars b i x → ⊥) → Unsplittable b r → ⊥
+unsplittable_excludes b r kind named moves sections (file_type h) = cc
+unsplittable_excludes b r kind named moves sections (unnamed h) = named h
+unsplittable_excludes b r kind named moves sections (names_stay h fixed) = cc
+unsplittable_excludes b r kind named moves sections (section i lt bars) = sections i r lt bars
+
+pub ruleset whole_rows = (file_type, unnamed, names_stay, unsplittable_excludes, name_index-there)
