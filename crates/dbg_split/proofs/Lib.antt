@@ -2,3 +2,5 @@ pub mod NameLaws
 pub mod ReadNameLaws
 pub mod Rows
 pub mod DroppableLaws
+pub mod StrippedLaws
+pub mod DebugFileLaws

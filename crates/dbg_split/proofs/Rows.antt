@@ -1,12 +1,18 @@
 -- The rows of the refusals, for the check's search.
-use Rattle.std.proofs.Common.{◌≡◌, ◌≢◌, ℕ, suc, ◌+◌, ◌<◌, ◌||◌, Bool, true, false, List, IsTrue, add-one, refl, sym, ap, ◌∙◌, get_or, arith}
-use Rattle.dw_base.specs.Elf.{nth_section, section_count, section_name, name_index}
-use Rattle.dw_base.specs.ElfFails.{DebugReads}
+use Rattle.std.proofs.Common.{length, ◌≡◌, ◌≢◌, ℕ, suc, ◌+◌, ◌<◌, ◌||◌, Bool, true, false, List, IsTrue, add-one, refl, sym, ap, ◌∙◌, get_or, arith}
+use Rattle.dw_base.specs.Elf.{e_shoff, nth_section, section_count, section_name, name_index}
+use Rattle.dw_base.specs.ElfFails.{DebugReads, ElfFails, ElfReads}
 use Rattle.dw_base.specs.Layout.{is_fixed, is_loaded_kind}
-use Rattle.dw_base.specs.LayoutFails.{BeginsInHeader, LiesAcross}
+use Rattle.dw_base.specs.LayoutFails.{BeginsInHeader, LiesAcross, TooLong}
 use Rattle.dw_base.specs.Lists.{tabulate}
 use Rattle.dw_base.specs.declared.fault.Refusal.{Refusal}
 use Rattle.dw_base.proofs.ListLaws.{get_or-tabulate, length-tabulate}
+use Rattle.dw_base.proofs.ElfLaws.{elf_excludes}
+use Rattle.dw_base.proofs.LayoutLaws.{fixed_end-within}
+use Rattle.dbg_split.specs.DebugFile.{debug_file}
+use Rattle.dbg_split.specs.StrippedFile.{stripped_file}
+use Rattle.dbg_split.specs.SplitFails.{SplitFails}
+use Rattle.dbg_split.specs.SplitFails.SplitFails.{elf, shape, long_debug, long_stripped}
 use Rattle.dbg_split.specs.Droppable.{is_droppable}
 use Rattle.dbg_split.specs.SplitFails.{SectionBars, Unsplittable, drops_before, is_link, is_loaded_behind, is_loaded_data}
 use Rattle.dbg_split.specs.SplitFails.SectionBars.{across, in_header, loaded, behind, linked}
@@ -41,3 +47,19 @@ unsplittable_excludes b r kind named moves sections (names_stay h fixed) = cc
 unsplittable_excludes b r kind named moves sections (section i lt bars) = sections i r lt bars
 
 pub ruleset whole_rows = (file_type, unnamed, names_stay, unsplittable_excludes, name_index-there)
+
+-- there is a section header table where there is a name table
+pub table-named : (b : List ℕ) → name_index b ≢ 0 → e_shoff b ≢ 0
+unfolding name_index
+table-named b some none = some (rw none refl)
+
+-- where none of the rows holds, the file is split
+pub split_excludes : (b name : List ℕ) (r : Refusal) → ElfReads b → ((x : Refusal) → Unsplittable b x → ⊥)
+    → ((x : Refusal) → TooLong (length (debug_file b)) x → ⊥) → ((x : Refusal) → TooLong (length (stripped_file b name)) x → ⊥)
+    → SplitFails b name r → ⊥
+split_excludes b name r reads can debug_short stripped_short (elf fails) = elf_excludes b r reads fails
+split_excludes b name r reads can debug_short stripped_short (shape read bars) = can r bars
+split_excludes b name r reads can debug_short stripped_short (long_debug read past) = debug_short r past
+split_excludes b name r reads can debug_short stripped_short (long_stripped read past) = stripped_short r past
+
+pub ruleset split_rows = (elf, shape, long_debug, long_stripped, table-named, split_excludes, fixed_end-within)

@@ -1,7 +1,7 @@
 -- The debug file of a file that is split: all its sections under their numbers, of which those that the stripped file keeps
 -- are of type NOBITS (gABI ch. 4 "Sections", `SHT_NOBITS`); GNU debugging information in separate files; this project's profile
 -- of which keep their bytes.
-use Rattle.std.specs.Prelude.{Bool, ℕ, zero, suc, ◌+◌, ◌*◌, ◌==◌, ◌&&◌, not, if◌then◌else◌, List, [], ◌++◌, take, drop}
+use Rattle.std.specs.Prelude.{Bool, ℕ, zero, suc, ◌+◌, ◌*◌, ◌==◌, ◌&&◌, not, if◌then◌else◌, List, ◌++◌, take, drop}
 use Rattle.dw_base.specs.Elf.{class_of, order_of, word_size, ehdr_size, phdr_size, phoff_place, e_phoff, e_phnum, nth_section, section_count, name_index, contents_of, is_empty_kind}
 use Rattle.dw_base.specs.Layout.{Part, is_alloc, laid_out}
 use Rattle.dw_base.specs.Lists.{tabulate}
@@ -56,7 +56,7 @@ unfoldable pub debug_part : List ℕ → ℕ → Part
 debug_part b i = record {
   head = debug_head b i;
   moves = not (is_empty_kind (debug_head b i));
-  body = if is_empty_kind (debug_head b i) then [] else contents_of b i;
+  body = contents_of b i;
 }
 
 -- the debug file; the number of sections, that of the section name table, and section 0 are as they were

@@ -39,7 +39,7 @@ stripped_body b i = if i == name_index b then contents_of b i ++ (debug_link ++ 
 
 -- the section is laid out anew
 abbrev pub stripped_moves : List ℕ → ℕ → Bool
-stripped_moves b i = not (is_empty_kind (nth_section b i)) && not (is_fixed b (nth_section b i))
+stripped_moves b i = not (is_fixed b (nth_section b i)) && not (is_empty_kind (nth_section b i))
 
 -- a kept section
 unfoldable pub stripped_part : List ℕ → ℕ → Part

@@ -1,22 +1,22 @@
 //! The debug file: all sections under their numbers, of which those that the stripped file keeps have no
 //! bytes (gABI ch. 4 "ELF Header", "Sections"; ch. 5 "Program Header"; this project's profile).
 
-ghost use Rattle.std.specs.Prelude.{◌≡◌, ◌+◌, ◌*◌, ◌<◌, ◌≤◌, ◌^◌, ◌++◌, ◌&&◌, true, false, ℕ, length, take, drop, slice_index_or, IsTrue, IfOk, OnOk, IfErr};
-ghost use Rattle.dw_base.specs.Elf.{contents_of, ehdr_size, is_empty_kind, nth_section, phdr_size, section_count, word_size};
-ghost use Rattle.dw_base.specs.Layout.{output_limit};
+ghost use Rattle.std.specs.Prelude.{◌≡◌, ◌+◌, ◌*◌, ◌<◌, ◌≤◌, ◌^◌, ◌≢◌, length, vec_len, IfOk, OnOk, IfErr};
+ghost use Rattle.dw_base.specs.Elf.{e_phnum, e_phoff, e_shoff, ehdr_size, phdr_size, phoff_place, section_count, word_size};
+ghost use Rattle.dw_base.specs.Layout.{output_limit, extended, laid, new_head, new_heads};
 ghost use Rattle.dw_base.specs.LayoutFails.{TooLong};
 ghost use Rattle.dw_base.specs.Lists.{tabulate};
 ghost use Rattle.dw_base.specs.Numbers.{with_number};
 ghost use Rattle.dw_base.specs.Refusals.{Blames};
 ghost use Rattle.dw_base.specs.declared.fault.Refusal.{Refusal};
-ghost use Rattle.elf_layout.specs.PartsGiven.{parts_given, part_given};
-ghost use Rattle.dbg_split.specs.DebugFile.{becomes_nobits, debug_file, debug_front, debug_head, debug_header, debug_part, filesz_place, phdr_table, without_bytes};
+ghost use Rattle.dbg_split.specs.DebugFile.{becomes_nobits, debug_file, debug_front, debug_head, debug_header, debug_part, filesz_place, phdr_table, phoff_of_debug, without_bytes};
 ghost use Rattle.dbg_split.specs.Droppable.{is_droppable};
 
 use dw_base::elf_numbers::{SHT_NOBITS, SHT_NOTE, SHT_NULL};
-use dw_base::{Class, Fault, Order, Section, put_number};
+use crate::laying::lay;
+use crate::section_headers::append_table;
+use dw_base::{Class, Fault, Order, Section, number_in, put_number};
 use elf_file::ElfFile;
-use elf_layout::{Part, write_parts};
 use std::alloc::{AllocError, Global};
 
 /// The place of `p_filesz` in a program header.
@@ -27,6 +27,100 @@ fn filesz_place(class: Class) -> u64
         Class::C32 => 16,
         Class::C64 => 32,
     }
+}
+
+/// The place of the program headers in the debug file: behind the file header, 0 where there are none.
+fn debug_phoff(elf: &ElfFile) -> u64
+    ensures value { result ≡ phoff_of_debug elf.now.bytes.now }
+    ensures few { result < 256 }
+{
+    if elf.segments.is_empty() {
+        return 0;
+    }
+    elf.class.file_header_size()
+}
+
+/// Puts the place of the program headers into a file header.
+fn put_phoff(header: &mut [u8], class: Class, order: Order, place: u64)
+    requires whole { ehdr_size class ≤ length header.old }
+    requires few { place < 256 }
+    ensures { header.new ≡ with_number order header.old (phoff_place class) (word_size class) place }
+{
+    let fits = put_number(order, header, class.phoff_place(), class.word_size(), place);
+    prove!(fits);
+}
+
+/// The file header of the debug file.
+#[tactic(auto, unfolding(crate::specs::DebugFile::debug_header), using(crate::proofs::DebugFileLaws::header_laws))]
+fn debug_header(alloc: Global, elf: &ElfFile) -> Result<Vec<u8>, AllocError>
+    ensures header { IfOk result (λ header. header.items ≡ debug_header elf.now.bytes.now) }
+    ensures len { IfOk result (λ header. vec_len header ≡ ehdr_size elf.now.class) }
+{
+    let mut header = Vec::from_slice(alloc, &elf.bytes[..elf.class.file_header_size() as usize])?;
+    put_phoff(&mut header, elf.class, elf.order, debug_phoff(elf));
+    Ok(header)
+}
+
+/// Where the program headers stand in a file that is split.
+#[tactic(auto, unfolding(dw_base::specs::Elf::e_phoff), using(crate::proofs::DebugFileLaws::header_laws))]
+fn phoff(elf: &ElfFile) -> u64
+    ensures { result ≡ e_phoff elf.now.bytes.now }
+{
+    number_in(elf.order, elf.bytes, elf.class.phoff_place(), elf.class.word_size())
+}
+
+/// The program headers of a file.
+#[tactic(auto, using(crate::proofs::DebugFileLaws::table_laws))]
+fn phdr_table<'a>(elf: &'a ElfFile) -> &'a [u8]
+    requires some { e_shoff elf.now.bytes.now ≢ 0 }
+    ensures table { result.now ≡ phdr_table elf.now.bytes.now }
+    ensures len { length result.now ≡ e_phnum elf.now.bytes.now * phdr_size elf.now.class }
+    ensures behind { ehdr_size elf.now.class + length result.now ≤ length elf.now.bytes.now }
+{
+    if elf.segments.is_empty() {
+        return &elf.bytes[..0];
+    }
+    let place = phoff(elf);
+    let end = elf.class.program_header_place(place, elf.segments.len() as u64);
+    &elf.bytes[place as usize..end as usize]
+}
+
+/// Sets the size in the file of the segment of a number to 0.
+fn put_no_bytes(table: &mut [u8], class: Class, order: Order, index: usize)
+    requires there { index * phdr_size class + phdr_size class ≤ length table.old }
+    requires small { length table.old < 2 ^ 32 }
+    ensures { table.new ≡ with_number order table.old (index * phdr_size class + filesz_place class) (word_size class) 0 }
+{
+    let place = class.program_header_place(0, index as u64) + filesz_place(class);
+    let fits = put_number(order, table, place, class.word_size(), 0);
+    prove!(fits);
+}
+
+/// Sets the sizes in the file of all segments of a table to 0.
+#[tactic(auto, using(crate::proofs::DebugFileLaws::emptied_laws))]
+fn empty_all(table: &mut [u8], class: Class, order: Order, count: usize)
+    requires len { length table.old ≡ count * phdr_size class }
+    requires small { length table.old < 2 ^ 32 }
+    ensures { table.new ≡ without_bytes class order count table.old }
+{
+    for index in 0..count {
+        put_no_bytes(table, class, order, index);
+    }
+}
+
+/// The front of the debug file.
+#[tactic(auto, unfolding(crate::specs::DebugFile::debug_front), using(crate::proofs::DebugFileLaws::front_laws))]
+fn debug_front(alloc: Global, elf: &ElfFile) -> Result<Vec<u8>, AllocError>
+    requires some { e_shoff elf.now.bytes.now ≢ 0 }
+    ensures front { IfOk result (λ front. front.items ≡ debug_front elf.now.bytes.now) }
+    ensures header { IfOk result (λ front. ehdr_size elf.now.class ≤ vec_len front) }
+    ensures small { IfOk result (λ front. vec_len front ≤ output_limit) }
+{
+    let mut front = debug_header(alloc, elf)?;
+    let mut table = Vec::from_slice(alloc, phdr_table(elf))?;
+    empty_all(&mut table, elf.class, elf.order, elf.segments.len());
+    front.extend_from_slice(&table)?;
+    Ok(front)
 }
 
 /// A section has no bytes in the debug file; `dropped` says that the stripped file doesn't keep it.
@@ -60,28 +154,62 @@ fn debug_head(elf: &ElfFile, section: u32, dropped: bool) -> Section
     head
 }
 
-/// A section of the debug file.
+/// Lays out a section of the debug file, where it has bytes there; its new header.
 #[tactic(auto, unfolding(crate::specs::DebugFile::debug_part))]
-fn debug_part(
-    alloc: Global,
+fn lay_section(
     elf: &ElfFile,
     section: u32,
     dropped: bool,
-) -> Result<Part, AllocError>
+    out: &mut Vec<u8>,
+) -> Result<Section, Fault>
     requires there { section < section_count elf.now.bytes.now }
     requires dropped { dropped ≡ is_droppable elf.now.bytes.now section }
-    ensures part { IfOk result (λ part. part_given part ≡ debug_part elf.now.bytes.now section) }
-    ensures head { IfOk result (λ part. part.head ≡ debug_head elf.now.bytes.now section) }
+    requires small { vec_len out.old ≤ output_limit }
+    ensures laid { OnOk result (out.new.items ≡ extended out.old.items (debug_part elf.now.bytes.now section)) }
+    ensures head { IfOk result (λ head. head ≡ new_head (length out.old.items) (debug_part elf.now.bytes.now section)) }
+    ensures small { OnOk result (vec_len out.new ≤ output_limit) }
+    ensures longer { OnOk result (vec_len out.old ≤ vec_len out.new) }
+    ensures refused { IfErr result (Blames (TooLong (length (extended out.old.items (debug_part elf.now.bytes.now section))))) }
 {
     let head = debug_head(elf, section, dropped);
-    let body = if head.takes_no_room() {
-        None
-    } else {
-        Some(Vec::from_slice(alloc, elf.contents(section))?)
-    };
-    Ok(Part {
-        head,
-        body,
-        kept: false,
-    })
+    lay(out, &head, !head.takes_no_room(), elf.contents(section))
+}
+
+/// Lays out the sections of the debug file; the new headers of all.
+#[tactic(auto, using(elf_layout::proofs::Rows::laid_rows, crate::proofs::Rows::section_rows))]
+fn lay_sections(
+    alloc: Global,
+    elf: &ElfFile,
+    dropped: &[bool],
+    out: &mut Vec<u8>,
+) -> Result<Vec<Section>, Fault>
+    requires dropped { dropped.now ≡ tabulate (is_droppable elf.now.bytes.now) (section_count elf.now.bytes.now) }
+    requires small { vec_len out.old ≤ output_limit }
+    ensures laid { OnOk result (out.new.items ≡ laid out.old.items (tabulate (debug_part elf.now.bytes.now) (section_count elf.now.bytes.now))) }
+    ensures heads { IfOk result (λ heads. heads.items ≡ new_heads out.old.items (tabulate (debug_part elf.now.bytes.now) (section_count elf.now.bytes.now))) }
+    ensures small { OnOk result (vec_len out.new ≤ output_limit) }
+    ensures longer { OnOk result (vec_len out.old ≤ vec_len out.new) }
+    ensures refused { IfErr result (Blames (TooLong (length (laid out.old.items (tabulate (debug_part elf.now.bytes.now) (section_count elf.now.bytes.now)))))) }
+{
+    let mut heads = Vec::with_capacity(alloc, elf.sections.len())?;
+    for section in 0..elf.section_count() {
+        heads.push(lay_section(elf, section, dropped[section as usize], out)?)?;
+    }
+    Ok(heads)
+}
+
+/// The debug file; `dropped` says which sections the stripped file doesn't keep. Refused as `TooLarge`
+/// only where it would pass the limit.
+#[tactic(auto, unfolding(crate::specs::DebugFile::debug_file, dw_base::specs::Layout::laid_out), using(elf_layout::proofs::PartRows::file_rows))]
+pub fn debug_file(alloc: Global, elf: &ElfFile, dropped: &[bool]) -> Result<Vec<u8>, Fault>
+    requires some { e_shoff elf.now.bytes.now ≢ 0 }
+    requires dropped { dropped.now ≡ tabulate (is_droppable elf.now.bytes.now) (section_count elf.now.bytes.now) }
+    ensures file { IfOk result (λ file. file.items ≡ debug_file elf.now.bytes.now) }
+    ensures none { OnOk result ((r : Refusal) → TooLong (length (debug_file elf.now.bytes.now)) r → ⊥) }
+    ensures refused { IfErr result (Blames (TooLong (length (debug_file elf.now.bytes.now)))) }
+{
+    let mut out = debug_front(alloc, elf)?;
+    let heads = lay_sections(alloc, elf, dropped, &mut out)?;
+    let file = append_table(out, elf.class, elf.order, &heads)?;
+    Ok(file)
 }

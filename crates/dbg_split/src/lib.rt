@@ -11,5 +11,8 @@ mod names;
 mod read_names;
 mod section_headers;
 mod section_numbers;
+mod splitting;
+mod stripping;
 
 pub use dropping::droppable;
+pub use splitting::{Pair, split};
