@@ -3,3 +3,4 @@ pub mod DebugFile
 pub mod StrippedFile
 pub mod ReadNames
 pub mod SplitFails
+pub mod KeptFront

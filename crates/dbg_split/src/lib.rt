@@ -4,6 +4,8 @@
 
 mod debug_file;
 mod dropping;
+#[cfg(test)]
+mod fixtures;
 mod fixed;
 mod judging;
 mod laying;
@@ -13,6 +15,8 @@ mod section_headers;
 mod section_numbers;
 mod splitting;
 mod stripping;
+#[cfg(test)]
+mod tests;
 
 pub use dropping::droppable;
 pub use splitting::{Pair, split};

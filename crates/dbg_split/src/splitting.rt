@@ -9,6 +9,7 @@ ghost use Rattle.dw_base.specs.Refusals.{Blames};
 ghost use Rattle.dw_base.specs.declared.fault.Refusal.{Refusal};
 ghost use Rattle.dbg_split.specs.DebugFile.{debug_file};
 ghost use Rattle.dbg_split.specs.Droppable.{is_droppable};
+ghost use Rattle.dbg_split.specs.KeptFront.{KeepsFront};
 ghost use Rattle.dbg_split.specs.SplitFails.{SplitFails};
 ghost use Rattle.dbg_split.specs.StrippedFile.{stripped_file};
 
@@ -67,15 +68,18 @@ fn split_file(alloc: Global, elf: &ElfFile, debug_name: &[u8]) -> Result<Pair, F
 /// the file header, would change and can't, is read for debug data and ALLOC, or is ALLOC and stands
 /// behind a droppable one; as `Twice` at (a section, 0) where that is a debug link; as `TooLarge` where
 /// one of the two would pass the limit; and only so. Where none of these holds it is split, or memory is
-/// short.
-#[tactic(auto, using(crate::proofs::Rows::split_rows))]
+/// short. What is loaded stays at its place: each byte before the fixed end is as it was in the stripped
+/// file, but in `e_shoff`, `e_shnum` and `e_shstrndx`.
+#[tactic(auto, using(crate::proofs::Rows::split_rows, crate::proofs::KeptLaws::kept_rules))]
 pub fn split(alloc: Global, bytes: &[u8], debug_name: &[u8]) -> Result<Pair, Fault>
     requires small { length bytes.now ≤ output_limit }
     ensures debug { IfOk result (λ pair. pair.debug.items ≡ debug_file bytes.now) }
     ensures stripped { IfOk result (λ pair. pair.stripped.items ≡ stripped_file bytes.now debug_name.now) }
+    ensures kept { IfOk result (λ pair. KeepsFront bytes.now pair.stripped.items) }
     ensures none { OnOk result ((r : Refusal) → SplitFails bytes.now debug_name.now r → ⊥) }
     ensures refused { IfErr result (Blames (SplitFails bytes.now debug_name.now)) }
 {
     let elf = ElfFile::read(alloc, bytes)?;
-    split_file(alloc, &elf, debug_name)
+    let pair = split_file(alloc, &elf, debug_name)?;
+    Ok(pair)
 }
