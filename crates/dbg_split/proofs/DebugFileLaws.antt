@@ -1,18 +1,15 @@
 -- The debug file.
 use Rattle.std.proofs.Common.{◌≡◌, ◌≢◌, ℕ, zero, suc, ◌+◌, ◌-◌, ◌*◌, ◌^◌, ◌<◌, ◌≤◌, ◌==◌, Bool, true, false, List, [], ◌∷◌, ◌++◌, length, take, drop, refl, sym, ap, ◌∙◌, add-one, arith}
 use Rattle.std.proofs.lemmas.List.{length-append, length-take-le, length-drop}
-use Rattle.std.proofs.lemmas.Result.{err_from_is_err_and}
-use Rattle.dw_base.specs.Elf.{class_of, ehdr_size, phdr_size, word_size, phoff_place, e_phoff, e_phnum, e_shoff, is_empty_kind}
+use Rattle.dw_base.specs.Elf.{class_of, ehdr_size, phdr_size, word_size, phoff_place, e_phoff, e_phnum, e_shoff}
 use Rattle.dw_base.specs.ElfFails.{DebugReads}
-use Rattle.dw_base.specs.Layout.{Part, extended, new_head, output_limit}
+use Rattle.dw_base.specs.Layout.{output_limit}
 use Rattle.dw_base.specs.Numbers.{with_number}
-use Rattle.dw_base.specs.declared.records.Section.{Section}
 use Rattle.dw_base.specs.declared.shared.Class.{Class}
 use Rattle.dw_base.specs.declared.shared.Class.TheVariants.{C32, C64}
 use Rattle.dw_base.specs.declared.shared.Order.{Order}
 use Rattle.dw_base.proofs.NumberLaws.{length-with_number}
-use Rattle.elf_layout.specs.Given.{part}
-use Rattle.dbg_split.specs.DebugFile.{debug_part, filesz_place, phdr_table, without_bytes}
+use Rattle.dbg_split.specs.DebugFile.{filesz_place, phdr_table, without_bytes}
 
 -- the file header lies in the file
 pub header_lies : (b : List ℕ) (c : Class) → DebugReads b → c ≡ class_of b → ehdr_size c ≤ length b

@@ -1,9 +1,9 @@
 -- The stripped file keeps what is loaded.
-use Rattle.std.proofs.Common.{◌≡◌, ℕ, ◌+◌, ◌<◌, ◌≤◌, List, length, take, slice_index, sym, ◌∙◌, subst, arith}
+use Rattle.std.proofs.Common.{◌≡◌, ℕ, ◌<◌, ◌≤◌, List, length, take, slice_index, sym, ◌∙◌, subst, arith}
 use Rattle.std.proofs.lemmas.List.{get_or-take, length-take-le}
 use Rattle.dw_base.specs.Elf.{class_of, order_of, ehdr_size, name_index, shnum_place, shstrndx_place}
 use Rattle.dw_base.specs.ElfFails.{ElfReads}
-use Rattle.dw_base.specs.Layout.{Part, fixed_end, laid, laid_out, new_heads}
+use Rattle.dw_base.specs.Layout.{fixed_end, laid, laid_out, new_heads}
 use Rattle.dw_base.specs.Numbers.{with_number}
 use Rattle.dw_base.specs.Parts.{in_header, numbered_first, numbered_front, parts_file}
 use Rattle.dw_base.specs.declared.elf_numbers.TheConstants.{SHN_XINDEX}

@@ -1,5 +1,5 @@
 -- Names are told by the bytes from their place on.
-use Rattle.std.proofs.Common.{◌≡◌, ◌≢◌, ℕ, zero, suc, ◌+◌, ◌-◌, ◌<◌, ◌≤◌, ◌==◌, ◌&&◌, ◌||◌, nat_eq, Bool, true, false, cond, if◌then◌else◌, List, [], ◌∷◌, ◌++◌, length, drop, take, slice_index, refl, sym, ap, ◌∙◌, arith, inl, inr}
+use Rattle.std.proofs.Common.{◌≡◌, ◌≢◌, ℕ, ◌-◌, ◌<◌, ◌≤◌, ◌==◌, ◌&&◌, ◌||◌, nat_eq, Bool, true, false, cond, if◌then◌else◌, List, [], ◌∷◌, length, drop, take, slice_index, refl, sym, ap, ◌∙◌, arith, inl, inr}
 use Rattle.std.specs.List.{starts_with}
 use Rattle.std.proofs.lemmas.Bool.{cases_eq}
 use Rattle.std.proofs.lemmas.Bool.Decides.{nat_tests}
@@ -91,9 +91,11 @@ starts_in_text (x ∷ xs) (y ∷ ys) plain = by_byte (x == 0) refl (starts_in_te
     rest : (t u : Bool) → (t || u) ≡ false → u ≡ false
     rest false u h = h
     rest true u h = cc
+
     first : (t u : Bool) → (t || u) ≡ false → t ≡ false
     first false u h = refl
     first true u h = cc
+
     by_byte : (t : Bool) → (x == 0) ≡ t → starts_with nat_eq xs ys ≡ starts_with nat_eq (text xs) ys
         → starts_with nat_eq (x ∷ xs) (y ∷ ys) ≡ starts_with nat_eq (if t then [] else x ∷ text xs) (y ∷ ys)
     by_byte true nul same = by_other (nat_eq y x) refl
@@ -122,12 +124,15 @@ is_the_text (x ∷ xs) (y ∷ ys) plain = by_byte (x == 0) refl (is_the_text xs 
     rest : (t u : Bool) → (t || u) ≡ false → u ≡ false
     rest false u h = h
     rest true u h = cc
+
     first : (t u : Bool) → (t || u) ≡ false → t ≡ false
     first false u h = refl
     first true u h = cc
+
     and_assoc : (p q r s : Bool) → (q && r) ≡ s → ((p && q) && r) ≡ (p && s)
     and_assoc true q r s h = h
     and_assoc false q r s h = refl
+
     by_byte : (t : Bool) → (x == 0) ≡ t → (starts_with nat_eq xs ys && (slice_index xs (length ys) == 0)) ≡ same_text (text xs) ys
         → ((nat_eq y x && starts_with nat_eq xs ys) && (slice_index xs (length ys) == 0)) ≡ same_text (if t then [] else x ∷ text xs) (y ∷ ys)
     by_byte true nul same = by_other (nat_eq y x) refl

@@ -1,10 +1,9 @@
 -- The rows of the refusals, for the check's search.
-use Rattle.std.proofs.Common.{length, ◌≡◌, ◌≢◌, ℕ, suc, ◌+◌, ◌<◌, ◌||◌, Bool, true, false, List, IsTrue, add-one, refl, sym, ap, ◌∙◌, get_or, arith}
-use Rattle.dw_base.specs.Elf.{e_shoff, nth_section, section_count, section_name, name_index}
-use Rattle.dw_base.specs.ElfFails.{DebugReads, ElfFails, ElfReads}
+use Rattle.std.proofs.Common.{length, ◌≡◌, ◌≢◌, ℕ, ◌+◌, ◌<◌, ◌||◌, Bool, true, false, List, add-one, refl}
+use Rattle.dw_base.specs.Elf.{e_shoff, nth_section, section_count, name_index}
+use Rattle.dw_base.specs.ElfFails.{ElfReads}
 use Rattle.dw_base.specs.Layout.{is_fixed, is_loaded_kind}
 use Rattle.dw_base.specs.LayoutFails.{BeginsInHeader, LiesAcross, TooLong}
-use Rattle.dw_base.specs.Lists.{tabulate}
 use Rattle.dw_base.specs.declared.fault.Refusal.{Refusal}
 use Rattle.dw_base.proofs.ListLaws.{get_or-tabulate, length-tabulate}
 use Rattle.dw_base.proofs.ElfLaws.{elf_excludes}

@@ -1,10 +1,9 @@
 -- The stripped file.
-use Rattle.std.proofs.Common.{◌≡◌, ◌≢◌, ℕ, zero, suc, ◌+◌, ◌^◌, ◌<◌, ◌≤◌, ◌==◌, ◌&&◌, ◌||◌, not, Bool, true, false, List, [], ◌∷◌, ◌++◌, length, take, get_or, map, if◌then◌else◌, refl, sym, ap, ◌∙◌, subst, add-one, arith}
+use Rattle.std.proofs.Common.{◌≡◌, ◌≢◌, ℕ, zero, suc, ◌+◌, ◌^◌, ◌<◌, ◌≤◌, ◌&&◌, not, Bool, true, false, List, [], ◌∷◌, ◌++◌, length, take, get_or, if◌then◌else◌, refl, sym, ap, ◌∙◌, add-one, arith}
 use Rattle.std.proofs.lemmas.List.{length-append, length-take-le, length-map, get_or_append_left}
-use Rattle.dw_base.specs.Elf.{class_of, contents_at, contents_of, ehdr_size, is_empty_kind, name_index, nth_section, section_count}
+use Rattle.dw_base.specs.Elf.{class_of, contents_of, ehdr_size, is_empty_kind, name_index, nth_section, section_count}
 use Rattle.dw_base.specs.ElfFails.{DebugReads, SegmentsRead}
 use Rattle.dw_base.specs.Layout.{Part, fixed_end, is_fixed, is_loaded_kind, output_limit}
-use Rattle.dw_base.specs.Lists.{tabulate}
 use Rattle.dw_base.specs.declared.elf_numbers.TheConstants.{SHT_NULL}
 use Rattle.dw_base.specs.declared.records.Section.{Section}
 use Rattle.elf_layout.specs.Given.{part}

@@ -1,7 +1,7 @@
 -- What refuses a file that is to be split. Each constructor is a row, named by what is wrong, and its conclusion has the place
 -- that the refusal names. Beside the rows of every ELF file stand those that hold only where a file is split: this project's
 -- profile.
-use Rattle.std.specs.Prelude.{Bool, true, false, ◌≡◌, ◌≢◌, ℕ, zero, suc, ◌<◌, ◌&&◌, ◌||◌, not, List, length, IsTrue}
+use Rattle.std.specs.Prelude.{Bool, false, ◌≡◌, ◌≢◌, ℕ, zero, suc, ◌<◌, ◌&&◌, ◌||◌, not, List, length, IsTrue}
 use Rattle.dw_base.specs.Elf.{class_of, shstrndx_place, nth_section, section_count, section_name, name_index, is_empty_kind}
 use Rattle.dw_base.specs.ElfFails.{ElfFails, ElfReads}
 use Rattle.dw_base.specs.Layout.{is_alloc, is_fixed, is_loaded_kind}

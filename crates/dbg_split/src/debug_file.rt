@@ -12,9 +12,9 @@ ghost use Rattle.dw_base.specs.declared.fault.Refusal.{Refusal};
 ghost use Rattle.dbg_split.specs.DebugFile.{becomes_nobits, debug_file, debug_front, debug_head, debug_header, debug_part, filesz_place, phdr_table, phoff_of_debug, without_bytes};
 ghost use Rattle.dbg_split.specs.Droppable.{is_droppable};
 
-use dw_base::elf_numbers::{SHT_NOBITS, SHT_NOTE, SHT_NULL};
 use crate::laying::lay;
 use crate::section_headers::append_table;
+use dw_base::elf_numbers::{SHT_NOBITS, SHT_NOTE, SHT_NULL};
 use dw_base::{Class, Fault, Order, Section, number_in, put_number};
 use elf_file::ElfFile;
 use std::alloc::{AllocError, Global};
@@ -66,7 +66,12 @@ fn debug_header(alloc: Global, elf: &ElfFile) -> Result<Vec<u8>, AllocError>
 fn phoff(elf: &ElfFile) -> u64
     ensures { result ≡ e_phoff elf.now.bytes.now }
 {
-    number_in(elf.order, elf.bytes, elf.class.phoff_place(), elf.class.word_size())
+    number_in(
+        elf.order,
+        elf.bytes,
+        elf.class.phoff_place(),
+        elf.class.word_size(),
+    )
 }
 
 /// The program headers of a file.
@@ -81,7 +86,9 @@ fn phdr_table<'a>(elf: &'a ElfFile) -> &'a [u8]
         return &elf.bytes[..0];
     }
     let place = phoff(elf);
-    let end = elf.class.program_header_place(place, elf.segments.len() as u64);
+    let end = elf
+        .class
+        .program_header_place(place, elf.segments.len() as u64);
     &elf.bytes[place as usize..end as usize]
 }
 

@@ -1,12 +1,23 @@
-//! A file split in two: one without debug data and symbols that still runs, and a debug file that it links to
-//! (GNU debugging information in separate files; this project's profile of it).
+//! A file split in two: one without debug data and symbols that still runs, and a debug file to which it
+//! links (GNU debugging information in separate files; this project's profile of it).
+//!
+//! This layer promises: the stripped file and the debug file are the defined ones, byte for byte; what is
+//! loaded stays at its place; a file is refused only by a row that holds, at its place, and split where
+//! none does, want of memory aside. `droppable` takes no memory.
+//! It does not promise: that the debug file reads back, or what another program makes of the two.
+//! Read first: `specs/Droppable.antt`, then `StrippedFile.antt`, `DebugFile.antt`, `SplitFails.antt`.
+//!
+//! ```rust
+//! // bytes.len() as u64 <= OUTPUT_LIMIT
+//! let pair = split(alloc, bytes, b"prog.debug")?;
+//! ```
 #![tactic(auto)]
 
 mod debug_file;
 mod dropping;
+mod fixed;
 #[cfg(test)]
 mod fixtures;
-mod fixed;
 mod judging;
 mod laying;
 mod names;

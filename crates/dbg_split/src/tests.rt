@@ -22,8 +22,14 @@ fn a_file_is_split(rt: HostRuntime) -> Result<(), Fail> {
         return Ok(());
     }
     let pair = split(rt.alloc(), &whole, b"a.debug")?;
-    assert_eq!(rt; pair.debug.as_slice(), joined(rt.alloc(), DEBUG)?.as_slice());
-    assert_eq!(rt; pair.stripped.as_slice(), joined(rt.alloc(), STRIPPED)?.as_slice());
+    assert_eq!(rt;
+        pair.debug.as_slice(),
+        joined(rt.alloc(), DEBUG)?.as_slice()
+    );
+    assert_eq!(rt;
+        pair.stripped.as_slice(),
+        joined(rt.alloc(), STRIPPED)?.as_slice()
+    );
     Ok(())
 }
 
