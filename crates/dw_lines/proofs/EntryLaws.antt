@@ -1,5 +1,5 @@
 -- Laws of the directories and files of version 5, column by column and entry by entry.
-use Rattle.std.proofs.Common.{Bool, true, false, ◌≡◌, ◌≢◌, ℕ, zero, suc, ◌+◌, ◌-◌, ◌<◌, ◌≤◌, List, [], ◌∷◌, ◌++◌, length, take, drop, get_or, Option, Some, None, refl, sym, ap, ◌∙◌, subst, arith}
+use Rattle.std.proofs.Common.{◌≡◌, ℕ, zero, suc, ◌+◌, ◌-◌, ◌<◌, ◌≤◌, List, [], ◌∷◌, ◌++◌, length, take, drop, get_or, Some, None, refl, sym, ap, ◌∙◌, subst, arith}
 use Rattle.std.specs.Prelude.{Result, Ok, Err}
 use Rattle.std.proofs.Math.Seq.{drop-cons}
 use Rattle.std.proofs.lemmas.List.{take_all, drop_all}
@@ -11,7 +11,7 @@ use Rattle.dw_base.specs.declared.shared.Order.{Order}
 use Rattle.dw_base.specs.declared.values.Spec.{Spec}
 use Rattle.dw_base.specs.declared.values.Value.{Value}
 use Rattle.dw_entries.proofs.InsideLaws.{value_at-inside}
-use Rattle.dw_lines.specs.Entries.{bad_table, column_params, value_column, next_column, columns, entry_at, next_entry, counted_entries, entries_behind, entries_at}
+use Rattle.dw_lines.specs.Entries.{bad_table, column_params, value_column, next_column, columns, entry_at, next_entry, counted_entries, entries_at}
 use Rattle.dw_lines.specs.Formats.{format_at}
 use Rattle.dw_lines.specs.Walks.{fallible_steps, or_refused, Since}
 use Rattle.dw_lines.specs.declared.entries.Entry.{Entry}

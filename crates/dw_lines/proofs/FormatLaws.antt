@@ -1,10 +1,9 @@
 -- Laws of a format, column by column.
-use Rattle.std.proofs.Common.{Bool, true, false, ◌≡◌, ◌≢◌, ℕ, zero, suc, ◌+◌, ◌-◌, ◌<◌, ◌≤◌, nat_lt, List, [], ◌∷◌, ◌++◌, length, slice_index, Option, Some, None, refl, sym, ap, ◌∙◌, subst, arith}
-use Rattle.std.specs.Prelude.{option_and_then}
+use Rattle.std.proofs.Common.{true, false, ◌≡◌, ℕ, zero, suc, ◌+◌, ◌-◌, ◌<◌, ◌≤◌, nat_lt, List, [], ◌∷◌, ◌++◌, length, slice_index, Some, None, refl, ◌∙◌, subst, arith}
 use Rattle.std.proofs.lemmas.Bool.Decides.{nat_tests}
 use Rattle.dw_base.specs.declared.fault.Refusal.{Refusal}
 use Rattle.dw_base.specs.declared.values.Spec.{Spec}
-use Rattle.dw_lines.specs.Formats.{is_column, spec_at, with_spec, next_spec, format_at}
+use Rattle.dw_lines.specs.Formats.{is_column, spec_at, next_spec, format_at}
 use Rattle.dw_lines.specs.Walks.{Since, steps}
 
 below : (m n : ℕ) → m < n → nat_lt m n ≡ true

@@ -1,5 +1,5 @@
 -- Laws of the numbers at the front of a line table's header.
-use Rattle.std.proofs.Common.{◌≡◌, ℕ, ◌+◌, ◌-◌, ◌<◌, ◌≤◌, sym, ◌∙◌, subst}
+use Rattle.std.proofs.Common.{◌≡◌, ℕ, ◌+◌, ◌-◌, ◌<◌, ◌≤◌, sym, subst}
 use Rattle.dw_lines.specs.LineHeaders.{HeaderFits}
 use Rattle.dw_lines.specs.declared.header.LineHeader.{LineHeader}
 

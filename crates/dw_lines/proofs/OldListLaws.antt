@@ -1,11 +1,10 @@
 -- Laws of the lists before version 5, item by item.
-use Rattle.std.proofs.Common.{Bool, true, false, ◌≡◌, ◌≢◌, ℕ, zero, suc, ◌+◌, ◌<◌, ◌≤◌, ◌==◌, nat_eq, List, [], ◌∷◌, ◌++◌, length, Option, Some, None, refl, sym, ap, ◌∙◌, subst, arith}
-use Rattle.std.specs.Prelude.{option_and_then, option_map, if◌then◌else◌}
+use Rattle.std.proofs.Common.{◌≡◌, ◌≢◌, ℕ, ◌+◌, List, [], ◌∷◌, ◌++◌, Some, None, refl, ap, ◌∙◌, arith}
 use Rattle.std.proofs.lemmas.Bool.{eq-eqb, ne_eqb}
 use Rattle.dw_base.specs.declared.fault.Refusal.{Refusal}
 use Rattle.dw_lines.specs.LineTexts.{inline_text, file_numbers}
-use Rattle.dw_lines.specs.OldLists.{dir_step, next_dir, file_step, next_file}
-use Rattle.dw_lines.specs.Walks.{Step, goes, ends, Walks, no_step, one_more, ComesTo, Breaks, Since}
+use Rattle.dw_lines.specs.OldLists.{next_dir, next_file}
+use Rattle.dw_lines.specs.Walks.{goes, ends, Walks, no_step, one_more, ComesTo, Breaks, Since}
 use Rattle.dw_lines.specs.declared.texts.FilePlace.{FilePlace}
 use Rattle.dw_strings.specs.declared.place.TextPlace.{TextPlace}
 

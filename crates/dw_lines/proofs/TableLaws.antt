@@ -1,5 +1,5 @@
 -- Laws of a whole line table: what was read is the table, and what refuses it; one excludes the other.
-use Rattle.std.proofs.Common.{inl, inr, ◌≡◌, ◌≢◌, ℕ, ◌+◌, ◌<◌, ◌≤◌, List, [], ◌∷◌, ◌++◌, length, take, map, get_or, Option, Some, None, refl, sym, ap, ◌∙◌, subst, arith}
+use Rattle.std.proofs.Common.{◌≡◌, ◌≢◌, ℕ, ◌+◌, ◌<◌, ◌≤◌, List, [], ◌∷◌, ◌++◌, length, take, get_or, Option, Some, None, refl, sym, ap, ◌∙◌, subst, arith}
 use Rattle.std.specs.Prelude.{Result, Ok, Err}
 use Rattle.std.proofs.lemmas.List.{take_more, take_all, map-append}
 use Rattle.dw_base.specs.FileViews.{View, section_bytes}
@@ -141,7 +141,7 @@ table-excludes v section start t r is (lists h e f) =
 table-excludes v section start t r is (passes h dirs files behind e l far) =
     let same : h ≡ is.header = header-once h is.header (line_header v.order (section_bytes v section) start) e is.header_is in
     let ends : behind ≡ is.behind = lists-end v section is.header (table_bytes v section is.header) dirs is.dirs files is.files behind is.behind
-        (subst (λ (x : LineHeader). HasLists v section x (table_bytes v section x) dirs files behind) same l) is.lists in
+    (subst (λ (x : LineHeader). HasLists v section x (table_bytes v section x) dirs files behind) same l) is.lists in
     let place : h.program ≡ is.header.program = ap (λ (x : LineHeader). x.program) same in
     let before = is.before in
     absurd (omega (arith, far, ends, place, before))

@@ -1,6 +1,6 @@
 -- Laws of the texts that a line table mentions, and of numbers that are skipped.
-use Rattle.std.proofs.Common.{Bool, true, false, ◌≡◌, ℕ, zero, suc, ◌+◌, ◌-◌, ◌*◌, ◌<◌, ◌≤◌, List, [], length, Option, Some, None, refl, sym, ap, ◌∙◌, subst, arith}
-use Rattle.std.specs.Prelude.{option_and_then, Result, Ok, Err}
+use Rattle.std.proofs.Common.{true, false, ◌≡◌, ℕ, zero, suc, ◌+◌, ◌-◌, ◌<◌, ◌≤◌, List, [], length, Option, Some, None, refl, sym, ap, ◌∙◌, subst, arith}
+use Rattle.std.specs.Prelude.{Ok, Err}
 use Rattle.std.proofs.lemmas.List.{drop_all}
 use Rattle.dw_base.specs.Cells.{Located, offset_into}
 use Rattle.dw_base.specs.DebugSections.{name_of}
@@ -14,8 +14,7 @@ use Rattle.dw_base.specs.declared.fault.Kind.TheVariants.{StringOffset}
 use Rattle.dw_base.specs.declared.fault.Refusal.{Refusal}
 use Rattle.dw_base.specs.declared.view_fields.Field.{Field}
 use Rattle.dw_forms.proofs.ReadLaws.{text-within}
-use Rattle.dw_lines.specs.LineTexts.{named_text, skip_lebs, text_if, text_of}
-use Rattle.dw_strings.specs.declared.place.TextPlace.{TextPlace}
+use Rattle.dw_lines.specs.LineTexts.{named_text, skip_lebs, text_if}
 
 pub ruleset inline_laws = (text-within)
 

@@ -1,5 +1,5 @@
 -- Walks are determined: what one comes to is one thing, and a walk that comes to something doesn't break.
-use Rattle.std.proofs.Common.{◌≡◌, Option, Some, None, refl, sym, ap, ◌∙◌, subst}
+use Rattle.std.proofs.Common.{◌≡◌, Option, Some, None, sym, ap, ◌∙◌}
 use Rattle.dw_base.proofs.ReachLaws.{Reaches, here, reach-more, Determined, Stops, stops-one}
 use Rattle.dw_lines.specs.Walks.{Step, goes, ends, Walks, no_step, one_more, ComesTo, Breaks}
 
@@ -38,8 +38,8 @@ reached step s t (one_more a b w e) = reach-more (Next step) s a b (reached step
 pub comes-one : {S X : Type 0} (step : S → Option (Step S X)) (s : S) (x y : X) → ComesTo step s x → ComesTo step s y → x ≡ y
 comes-one step s x y a b =
     let same : a.last ≡ b.last =
-        stops-one (Next step) (determined step) s a.last b.last (reached step s a.last a.walks) (reached step s b.last b.walks)
-        (over-stops step a.last x a.over) (over-stops step b.last y b.over) in
+    stops-one (Next step) (determined step) s a.last b.last (reached step s a.last a.walks) (reached step s b.last b.walks)
+    (over-stops step a.last x a.over) (over-stops step b.last y b.over) in
     ap (ended x) (sym a.over ∙ ap step same ∙ b.over)
 
 some-none : {Y : Type 0} (y : Y) → Some y ≡ None → ⊥
@@ -48,6 +48,6 @@ some-none y e = cc
 pub comes-whole : {S X : Type 0} (step : S → Option (Step S X)) (s : S) (x : X) → ComesTo step s x → Breaks step s → ⊥
 comes-whole step s x a b =
     let same : a.last ≡ b.last =
-        stops-one (Next step) (determined step) s a.last b.last (reached step s a.last a.walks) (reached step s b.last b.walks)
-        (over-stops step a.last x a.over) (none-stops step b.last b.none) in
+    stops-one (Next step) (determined step) s a.last b.last (reached step s a.last a.walks) (reached step s b.last b.walks)
+    (over-stops step a.last x a.over) (none-stops step b.last b.none) in
     some-none (ends x) (sym a.over ∙ ap step same ∙ b.none)

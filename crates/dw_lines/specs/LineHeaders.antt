@@ -1,6 +1,6 @@
 -- The numbers at the front of a line table's header (DWARF 5, 6.2.4; for versions 2 to 4 the standards' own). A table lies in
 -- the bytes of its section up to its end.
-use Rattle.std.specs.Prelude.{Bool, false, ◌≡◌, ℕ, ◌+◌, ◌-◌, ◌<◌, ◌≤◌, ◌==◌, ◌&&◌, ◌||◌, not, min, nat_le, if◌then◌else◌, List, [], ◌∷◌, length, take, drop, slice_index, Option, Some, None, option_and_then}
+use Rattle.std.specs.Prelude.{Bool, false, ◌≡◌, ℕ, ◌+◌, ◌-◌, ◌<◌, ◌≤◌, ◌==◌, ◌||◌, not, min, nat_le, if◌then◌else◌, List, [], ◌∷◌, length, take, drop, slice_index, Option, Some, None, option_and_then}
 use Rattle.std.specs.Int.{w8, cast_signed}
 use Rattle.dw_base.specs.Forms.{width_size}
 use Rattle.dw_base.specs.Lebs.{initial_length_at}

@@ -1,5 +1,5 @@
 -- The texts that a line table mentions: inline, or by an offset into a table of texts (DWARF 5, 6.2.4 and 7.26).
-use Rattle.std.specs.Prelude.{ℕ, ◌+◌, ◌==◌, if◌then◌else◌, List, length, Option, Some, None, zero, suc, option_and_then, option_map, Result, Ok, Err}
+use Rattle.std.specs.Prelude.{ℕ, ◌+◌, if◌then◌else◌, List, length, Option, Some, None, zero, suc, option_and_then, option_map, Result, Ok, Err}
 use Rattle.dw_base.specs.Cells.{Located, offset_into}
 use Rattle.dw_base.specs.FileViews.{View, field_at}
 use Rattle.dw_base.specs.Lebs.{uleb_at}

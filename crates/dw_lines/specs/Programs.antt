@@ -1,5 +1,5 @@
 -- The opcodes of a line program (DWARF 5, 6.2.5): where each ends, and which files they define.
-use Rattle.std.specs.Prelude.{Bool, ℕ, ◌+◌, ◌-◌, ◌==◌, ◌||◌, nat_le, nat_lt, if◌then◌else◌, List, [], ◌∷◌, ◌++◌, length, take, slice_index, Option, Some, None, option_and_then, option_map}
+use Rattle.std.specs.Prelude.{ℕ, ◌+◌, ◌-◌, ◌==◌, nat_le, nat_lt, if◌then◌else◌, List, [], ◌∷◌, ◌++◌, length, take, slice_index, Option, Some, None, option_and_then, option_map}
 use Rattle.dw_base.specs.Lebs.{uleb_at, sleb_at}
 use Rattle.dw_base.specs.UnitHeaders.{is_address_size}
 use Rattle.dw_strings.specs.declared.place.TextPlace.{TextPlace}

@@ -53,7 +53,12 @@ pub(crate) fn bad_table(section: u32, header: &LineHeader) -> Refusal
 }
 
 /// A column whose text stands inline.
-fn inline_column(section: u32, header: &LineHeader, table: &[u8], place: u64) -> Result<Column, Refusal>
+fn inline_column(
+    section: u32,
+    header: &LineHeader,
+    table: &[u8],
+    place: u64,
+) -> Result<Column, Refusal>
     ensures column { result ≡ inline_column section header.now place (inline_text section table.now place) }
     ensures within { IfOk result (λ c. c.next ≤ length table.now) }
 {

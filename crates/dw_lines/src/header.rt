@@ -134,10 +134,18 @@ fn header_with(
         end: table.len() as u64,
         version: version as u16,
         width,
-        address: if version == 5 { table[at as usize + 2] } else { 0 },
+        address: if version == 5 {
+            table[at as usize + 2]
+        } else {
+            0
+        },
         program: first + header_length,
         min_length: table[first as usize],
-        max_ops: if version >= 4 { table[first as usize + 1] } else { 1 },
+        max_ops: if version >= 4 {
+            table[first as usize + 1]
+        } else {
+            1
+        },
         default_stmt: table[flags_at] != 0,
         line_base: table[flags_at + 1].cast_signed(),
         line_range: table[flags_at + 2],
@@ -192,7 +200,16 @@ fn header_of_length(
     if header_length > table.len() as u64 - first {
         return None;
     }
-    let header = header_with(table, start, width, version, at, first, flags, header_length);
+    let header = header_with(
+        table,
+        start,
+        width,
+        version,
+        at,
+        first,
+        flags,
+        header_length,
+    );
     if !is_header(table, &header) {
         return None;
     }
@@ -225,7 +242,16 @@ fn header_at(
     }
     let size = width_size(width);
     let header_length = number_in(order, table, place, size);
-    header_of_length(table, start, width, version, at, place + u64::from(size), flags, header_length)
+    header_of_length(
+        table,
+        start,
+        width,
+        version,
+        at,
+        place + u64::from(size),
+        flags,
+        header_length,
+    )
 }
 
 /// The header of a version, which stands at a place.

@@ -18,6 +18,8 @@
 #![tactic(auto)]
 
 mod entries;
+#[cfg(test)]
+mod fixtures;
 mod formats;
 mod header;
 mod line_numbers;

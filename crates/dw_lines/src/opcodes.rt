@@ -160,7 +160,12 @@ fn plain_opcode(next: Option<u64>) -> Option<Opcode>
 /// The opcode at a place. `None` exactly where none stands there that ends in the bytes and that a table may
 /// have.
 #[tactic(auto, unfolding(crate::specs::Programs::opcode_at))]
-pub(crate) fn opcode_at(section: u32, header: &LineHeader, table: &[u8], place: u64) -> Option<Opcode>
+pub(crate) fn opcode_at(
+    section: u32,
+    header: &LineHeader,
+    table: &[u8],
+    place: u64,
+) -> Option<Opcode>
     requires small { length table.now ≤ 2 ^ 31 }
     requires inside { place < length table.now }
     requires operands { header.now.lists ≡ header.now.operands + (header.now.opcode_base - 1) }

@@ -216,3 +216,6 @@ impl LineTable {
         Ok(table_with(section, &header, lists, defined))
     }
 }
+
+#[cfg(test)]
+mod tests;
