@@ -17,3 +17,4 @@ pub mod EndLaws
 pub mod ToyLaws
 pub mod RestartLaws
 pub mod PresentLaws
+pub mod ApartLaws

@@ -2,6 +2,7 @@ pub mod Work
 pub mod Wanted
 pub mod Keeps
 pub mod Laws
+pub mod Targets
 pub mod Events
 pub mod Views
 pub mod Runs

@@ -2,6 +2,7 @@
 //!
 //! These functions compute nothing: each one's clauses state facts of every run. Read first:
 //! `specs/Wanted.antt`, `specs/Keeps.antt`, `specs/Laws.antt`.
+ghost use Rattle.work_journal.specs.Targets.{EveryTargetApart};
 ghost use Rattle.work_journal.specs.Laws.{EveryCallKept, EveryStepKept, EveryFailurePartway, EveryEndWhole, EveryStartKeeps, EveryPresentKeeps, EveryOpenedShown};
 
 /// What the calls of a run keep.
@@ -21,4 +22,7 @@ pub fn bridge_laws()
     // So is it by the core that the paths of its work folder show, which is the one of a start.
     ensures present { EveryPresentKeeps }
     ensures opened { EveryOpenedShown }
+
+    // Names are told apart by their paths where the targets differ and lie outside of the work folder.
+    ensures apart { EveryTargetApart }
 {}

@@ -1,6 +1,7 @@
 use Rattle.work_journal.proofs.StepLaws.{call_kept, step_kept, failure_partway}
 use Rattle.work_journal.proofs.RestartLaws.{end_whole, start_keeps}
 use Rattle.work_journal.proofs.PresentLaws.{present_keeps, opened_shown}
+use Rattle.work_journal.proofs.ApartLaws.{target_apart}
 use Rattle.work_journal.proofs.law.bridge_laws.Goals as goal
 
 pub returns-clause-call : goal.returns-clause-call
@@ -23,3 +24,6 @@ returns-clause-present c = present_keeps
 
 pub returns-clause-opened : goal.returns-clause-opened
 returns-clause-opened c = opened_shown
+
+pub returns-clause-apart : goal.returns-clause-apart
+returns-clause-apart c = target_apart
