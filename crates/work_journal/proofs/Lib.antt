@@ -10,6 +10,7 @@ pub mod JobErrLaws
 pub mod ShownLaws
 pub mod OpeningLaws
 pub mod FinishLaws
+pub mod ClearLaws
 pub mod BlameLaws
 pub mod RoundLaws
 pub mod SweepLaws

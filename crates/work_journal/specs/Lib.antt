@@ -14,6 +14,7 @@ pub mod Begun
 pub mod Opening
 pub mod Beginning
 pub mod Finishing
+pub mod Clearing
 pub mod Rounds
 pub mod Settling
 pub mod Ending

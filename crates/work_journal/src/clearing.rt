@@ -6,6 +6,7 @@ ghost use Rattle.std.specs.String.{string_bytes};
 ghost use Rattle.file_tree.specs.declared.node.TreeErr.TheVariants.{Failed};
 ghost use Rattle.journal_core.specs.declared.event.Phase.TheVariants.{Closed};
 ghost use Rattle.journal_core.specs.Cores.{core_of};
+ghost use Rattle.work_journal.specs.Clearing.{AreAll, AreGone, IsCleared};
 ghost use Rattle.work_journal.specs.Finishing.{end_paths};
 ghost use Rattle.work_journal.specs.Runs.{Came};
 
@@ -41,6 +42,7 @@ fn sweep_late<T: Tree>(
     requires phase { (core_of desk.old.core).phase ≡ Closed }
     ensures same_tree { desk.new.tree.ghost_name ≡ desk.old.tree.ghost_name }
     ensures core { core_of desk.new.core ≡ core_of desk.old.core }
+    ensures gone { OnOk result (AreGone work.now (path.now ∷ []) (T.seen desk.old.tree.now) (T.seen desk.new.tree.now)) }
     ensures came { Came Failed work.now (λ w. ⊤) (core_of desk.old.core) (T.seen desk.old.tree.now) (core_of desk.new.core) (T.seen desk.new.tree.now) result }
 {
     let _ = work;
@@ -63,6 +65,7 @@ fn sweep_ends<T: Tree>(
     requires phase { (core_of desk.old.core).phase ≡ Closed }
     ensures same_tree { desk.new.tree.ghost_name ≡ desk.old.tree.ghost_name }
     ensures core { core_of desk.new.core ≡ core_of desk.old.core }
+    ensures gone { OnOk result (AreGone work.now (map string_bytes paths.now) (T.seen desk.old.tree.now) (T.seen desk.new.tree.now)) }
     ensures came { Came Failed work.now (λ w. ⊤) (core_of desk.old.core) (T.seen desk.old.tree.now) (core_of desk.new.core) (T.seen desk.new.tree.now) result }
 {
     let below = with_slash(alloc, work)?;
@@ -77,6 +80,7 @@ fn sweep_ends<T: Tree>(
 fn list_work<T: Tree>(desk: &mut Desk<T>, work: &str) -> Result<Paths, TreeErr>
     ensures same_tree { desk.new.tree.ghost_name ≡ desk.old.tree.ghost_name }
     ensures core { core_of desk.new.core ≡ core_of desk.old.core }
+    ensures all { IfOk result (λ ps. AreAll work.now ps (T.seen desk.new.tree.now)) }
     ensures came { Came Failed work.now (λ w. ⊤) (core_of desk.old.core) (T.seen desk.old.tree.now) (core_of desk.new.core) (T.seen desk.new.tree.now) result }
 {
     match desk.list(work, u64::MAX)? {
@@ -91,6 +95,7 @@ pub fn clear<T: Tree>(alloc: Global, desk: &mut Desk<T>, work: &str) -> Result<(
     requires phase { (core_of desk.old.core).phase ≡ Closed }
     ensures same_tree { desk.new.tree.ghost_name ≡ desk.old.tree.ghost_name }
     ensures closed { OnOk result ((core_of desk.new.core).phase ≡ Closed) }
+    ensures cleared { OnOk result (IsCleared work.now (T.seen desk.new.tree.now)) }
     ensures came { Came Failed work.now (λ w. ⊤) (core_of desk.old.core) (T.seen desk.old.tree.now) (core_of desk.new.core) (T.seen desk.new.tree.now) result }
 {
     let paths = list_work(desk, work)?;

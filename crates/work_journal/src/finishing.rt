@@ -12,6 +12,7 @@ ghost use Rattle.journal_core.specs.Cores.{core_of};
 ghost use Rattle.journal_core.specs.Names.{plan_new};
 ghost use Rattle.work_texts.specs.declared.journal_err.JournalErr.TheVariants.{Tree as tree_fault};
 ghost use Rattle.work_journal.specs.Blames.{RunBlames, is_mild_run};
+ghost use Rattle.work_journal.specs.Clearing.{IsCleared};
 ghost use Rattle.work_journal.specs.Finishing.{IsStart, IsPlanned, AreJobs, IsRun, FinishRan};
 ghost use Rattle.work_journal.specs.Keeps.{Keeps};
 ghost use Rattle.work_journal.specs.Rounds.{IsBegun};
@@ -159,6 +160,7 @@ fn clear_last<T: Tree, M: Maker>(
     ensures closed { OnOk result ((core_of desk.new.core).phase ≡ Closed) }
     ensures blame { IfErr result (RunBlames (M.view maker.now) (M.refuses maker.now) (T.seen desk.new.tree.now)) }
     ensures mild { IfErr result (λ e. IsTrue (is_mild_run e)) }
+    ensures cleared { OnOk result (IsCleared work.now (T.seen desk.new.tree.now)) }
     ensures came { Came tree_fault work.now (λ w. ⊤) (core_of desk.old.core) (T.seen desk.old.tree.now) (core_of desk.new.core) (T.seen desk.new.tree.now) result }
 {
     let _ = maker;
@@ -189,6 +191,7 @@ fn finish_at<T: Tree, M: Maker>(
     ensures closed { OnOk result ((core_of desk.new.core).phase ≡ Closed) }
     ensures blame { IfErr result (RunBlames (M.view maker.old) (M.refuses maker.old) (T.seen desk.new.tree.now)) }
     ensures mild { (w : Wanted) → IsGiven w work.now → IsRun w (M.view maker.old) plan.now texts.now.items → (T.seen desk.old.tree.now).tells ≡ true → Keeps w (core_of desk.old.core) (state_of (T.seen desk.old.tree.now).past) → IfErr result (λ e. IsTrue (is_mild_run e)) }
+    ensures cleared { OnOk result (IsCleared work.now (T.seen desk.new.tree.now)) }
     ensures came { Came tree_fault work.now (λ w. IsRun w (M.view maker.old) plan.now texts.now.items) (core_of desk.old.core) (T.seen desk.old.tree.now) (core_of desk.new.core) (T.seen desk.new.tree.now) result }
 {
     plan_first(alloc, desk, work, present, maker, plan)?;
@@ -223,6 +226,7 @@ pub fn finish<T: Tree, M: Maker>(
     ensures same_refusals { (j : ℕ) (b : List ℕ) (r : Refusal) → M.refuses maker.new j b r → M.refuses maker.old j b r }
     ensures blame { IfErr result (RunBlames (M.view maker.old) (M.refuses maker.old) (T.seen tree.new)) }
     ensures mild { (w : Wanted) → IsGiven w work.now → IsRun w (M.view maker.old) plan.now texts.now.items → (T.seen tree.old).tells ≡ true → Keeps w (core_of core) (state_of (T.seen tree.old).past) → IfErr result (λ e. IsTrue (is_mild_run e)) }
+    ensures cleared { OnOk result (IsCleared work.now (T.seen tree.new)) }
     ensures ran { FinishRan work.now (λ w. IsRun w (M.view maker.old) plan.now texts.now.items) (core_of core) (T.seen tree.old) (T.seen tree.new) result }
 {
     let mut desk = Desk::new(tree, core);

@@ -3,6 +3,7 @@ use Rattle.file_tree.specs.declared.node.TreeErr.TheVariants.{Failed}
 use Rattle.journal_core.specs.Table.{CoreState}
 use Rattle.work_journal.proofs.GoesLaws.{came_passed, came_well, came_next, came_settles}
 use Rattle.work_journal.proofs.FinishLaws.{settled_closed}
+use Rattle.work_journal.proofs.ClearLaws.{cleared}
 use Rattle.work_journal.proofs.clearing.clear.Goals as goal
 
 pub returns-in_err-paths-clause-came : goal.returns-in_err-paths-clause-came
@@ -25,3 +26,7 @@ returns-clause-closed g c = settled_closed _ _ _ c.requires.phase (c.sweep_ends.
 pub returns-clause-came : goal.returns-clause-came
 returns-clause-came g c = came_well _ _ _ _ _ _ _ _ (c.in_ok-settle.was)
     (came_next _ _ _ _ _ _ _ _ _ _ (λ w h. h) (came_well _ _ _ _ _ _ _ _ (c.in_ok-sweep_ends.was) (came_next _ _ _ _ _ _ _ _ _ _ (λ w h. h) (came_well _ _ _ _ _ _ _ _ (c.in_ok-paths.was) c.list_work.ensures.came) c.sweep_ends.ensures.came)) (came_settles _ _ _ _ _ _ _ c.settle.ensures.core c.settle.ensures.done c.settle.ensures.failed c.settle.ensures.cause c.settle.ensures.tells))
+
+pub returns-clause-cleared : goal.returns-clause-cleared
+returns-clause-cleared g c = cleared c.args.work.now _ _ _ _ _ c.as_slice.ensures.value c.in_ok-paths.ensures.all c.in_ok-sweep_ends.ensures.gone
+    c.sweep_ends.ensures.came.tells c.settle.ensures.tells c.settle.ensures.now c.in_ok-settle.ensures.done

@@ -1,7 +1,10 @@
-use Rattle.std.proofs.Common.{◌∙◌, refl, ap}
+use Rattle.std.proofs.Common.{◌∙◌, ◌≡◌, ◌<◌, ℕ, length, map, refl, sym, subst, ap, arith}
+use Rattle.std.specs.String.{string_bytes}
+use Rattle.std.proofs.lemmas.List.{get_or-map, length-map}
 use Rattle.file_tree.specs.declared.node.TreeErr.TheVariants.{Failed}
 use Rattle.journal_core.specs.Table.{CoreState}
 use Rattle.work_journal.proofs.GoesLaws.{came_still, came_passed, came_well, came_next, came_no_memory}
+use Rattle.work_journal.proofs.ClearLaws.{gone_none, gone_more, gone_all}
 use Rattle.work_journal.proofs.clearing.sweep_ends.Goals as goal
 
 pub returns-in_err-below-clause-came : goal.returns-in_err-below-clause-came
@@ -11,7 +14,7 @@ pub returns-in_err-ends-clause-came : goal.returns-in_err-ends-clause-came
 returns-in_err-ends-clause-came g c = came_no_memory _ _ _ _ _ c.from_residual-in_err-ends.ensures.1
 
 pub loop-i-init : goal.loop-i-init
-loop-i-init g c = record { same_tree = refl; core = refl; came = came_still Failed _ _ _ _ _ (λ h. cc) }
+loop-i-init g c = record { same_tree = refl; core = refl; gone = gone_none _ _; came = came_still Failed _ _ _ _ _ (λ h. cc) }
 
 pub sweep_late-requires-clause-below : goal.sweep_late-requires-clause-below
 sweep_late-requires-clause-below g c = c.as_str.ensures.value ∙ c.in_ok-below.ensures
@@ -27,8 +30,15 @@ pub loop-i-preserved : goal.loop-i-preserved
 loop-i-preserved g c = record {
   same_tree = c.sweep_late.ensures.same_tree ∙ c.loop-i.invariant.same_tree;
   core = c.sweep_late.ensures.core ∙ c.loop-i.invariant.core;
+  gone = gone_more _ (map string_bytes c.args.paths.now) c.loop-i.i _ (string_bytes c.index-paths-i.result) _ _ _
+      (subst (λ (n : ℕ). c.loop-i.i < n) (sym (length-map c.args.paths.now string_bytes)) c.loop-i-test.true)
+      (c.as_str-in-loop-i.ensures.value ∙ ap string_bytes c.index-paths-i.is ∙ sym (get_or-map string_bytes c.args.paths.now c.loop-i.i c.index-paths-i.result (string_bytes c.index-paths-i.result) c.loop-i-test.true))
+      c.loop-i.invariant.came.tells c.loop-i.invariant.gone c.in_ok-sweep_late.ensures.gone;
   came = came_well _ _ _ _ _ _ _ _ (c.in_ok-sweep_late.was) (came_next _ _ _ _ _ _ _ _ _ _ (λ w h. h) c.loop-i.invariant.came c.sweep_late.ensures.came);
 }
 
 pub returns-clause-came : goal.returns-clause-came
 returns-clause-came g c = c.loop-i.invariant.came
+
+pub returns-clause-gone : goal.returns-clause-gone
+returns-clause-gone g c = gone_all _ (map string_bytes c.args.paths.now) c.loop-i.i _ _ (let e : length (map string_bytes c.args.paths.now) ≡ length c.args.paths.now = length-map c.args.paths.now string_bytes in omega (arith, e)) c.loop-i.invariant.gone
