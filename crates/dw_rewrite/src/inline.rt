@@ -1,4 +1,4 @@
-//! Paths that stand in their values, mapped in their rooms (DWARF 5, 7.5.5, `DW_FORM_string`).
+//! Paths that stand in their values, mapped in their rooms (DWARF 5, 7.5.5, class string).
 //!
 //! Read first: `specs/UnitPaths.antt`.
 

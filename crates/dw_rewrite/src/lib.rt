@@ -21,6 +21,8 @@
 mod all_sections;
 mod asks;
 mod bodies;
+#[cfg(test)]
+mod cases;
 mod change;
 mod fields;
 mod file;
