@@ -40,3 +40,13 @@ pub mod InlineLaws
 pub mod FormSizeLaws
 pub mod PlainCellLaws
 pub mod ClassLaws
+pub mod OffsetChangeLaws
+pub mod IndexKeptLaws
+pub mod PathSlotLaws
+pub mod OneWayLaws
+pub mod InitialLengthLaws
+pub mod RunLaws
+pub mod ContributionRowLaws
+pub mod NameRowLaws
+pub mod ContributionBackLaws
+pub mod NameBackLaws

@@ -152,3 +152,13 @@ within-cases false front t n h = omega arith
 pub length-mapped_path : (m : PathMap) (t : List ℕ) → IsPathMap m → length (mapped_path m t) ≤ prefix_limit + length t
 unfolding mapped_path
 length-mapped_path m t p = within-cases (lies_under m.base t) m.dest t (length m.base) (IsPathMap-dest m p)
+
+-- no text is under no base
+none-under : (base : List ℕ) → IsTrue (is_prefix base) → lies_under base [] ≡ false
+unfolding is_prefix lies_under
+none-under [] h = absurd cc
+none-under (b ∷ bs) h = refl
+
+pub mapped_path-none : (m : PathMap) → IsPathMap m → mapped_path m [] ≡ []
+unfolding mapped_path
+mapped_path-none m p = ap (λ (b : Bool). if b then m.dest ++ drop (length m.base) [] else []) (none-under m.base p.base)

@@ -1,6 +1,6 @@
 -- Units under a change of the tables of texts: what a piece may become by its role, and that units stay units.
-use Rattle.std.proofs.Common.{Bool, true, false, suc, ◌≡◌, ℕ, ◌+◌, ◌≤◌, List, [], ◌∷◌, length, Some, None, IsTrue, sym, ap, ◌∙◌, refl, subst, arith, if◌then◌else◌}
-use Rattle.std.specs.Prelude.{nat_le}
+use Rattle.std.proofs.Common.{Bool, true, false, suc, ◌≡◌, ℕ, ◌+◌, ◌≤◌, List, [], ◌∷◌, length, get_or, Option, Some, None, IsTrue, sym, ap, ◌∙◌, refl, subst, arith, if◌then◌else◌}
+use Rattle.std.specs.Prelude.{nat_le, ⊤}
 use Rattle.std.proofs.lemmas.Bool.{leb-true, le-leb}
 use Rattle.dw_base.specs.Cells.{Cell, bytes_of}
 use Rattle.dw_base.specs.DebugData.{Around, table_of}
@@ -12,6 +12,7 @@ use Rattle.dw_base.specs.Pieces.{Piece}
 use Rattle.dw_base.specs.Roles.{Role, fixed, offset, inline_path, role_of_kind, role_of_mode, Use, is_path_use, use_of}
 use Rattle.dw_base.specs.StringTables.{new_text}
 use Rattle.dw_base.specs.TextChanges.{mention_at, offset_in}
+use Rattle.dw_base.specs.TextIndexes.{index_value, slot_of}
 use Rattle.dw_base.specs.Texts.{text, text_in, ends_in}
 use Rattle.dw_base.specs.UnitHeaders.{UnitBase}
 use Rattle.dw_base.specs.UnitPieces.{IsValue, FitsKind, FitsMode, unit_grammar}
@@ -50,8 +51,27 @@ Becomes fixed c p q = q ≡ p
 Becomes (offset table path) c p q = Renamed c table path p q
 Becomes inline_path c p q = Rewritten c p q
 
+-- the slot of a number has the new text of a value that names it
+abbrev pub SlotBecomes : Option ℕ → Bool → Shift → Type 0
+SlotBecomes None path c = ⊤
+SlotBecomes (Some n) path c = get_or c.new.slots n [] ≡ new_text c.map (record { path = path; text = get_or c.old.slots n [] })
+
+-- and so has the slot of an index of a unit
+abbrev pub IndexBecomes : Option ℕ → Bool → Shift → ℕ → Type 0
+IndexBecomes None path c unit = ⊤
+IndexBecomes (Some index) path c unit = SlotBecomes (slot_of c.old.lasting.indexing unit index) path c
+
+-- so a value by index says the new text, although its cells stay
+abbrev pub ValueSlot : ValueKind → Bool → Shift → ℕ → List Cell → Type 0
+ValueSlot k path c unit p = IndexBecomes (index_value c.old.lasting.base.order k p) path c unit
+
+abbrev pub PieceSlot : Mode → Shift → UnitState → List Cell → Type 0
+PieceSlot (at_values n tag (x ∷ xs)) c s p = ValueSlot (kind_in s.header.params x.form) (is_path_use (use_of n tag x.name)) c s.unit p
+PieceSlot (at_chosen n tag start x xs) c s p = ValueSlot (kind_in s.header.params x.form) (is_path_use (use_of n tag x.name)) c s.unit p
+PieceSlot m c s p = ⊤
+
 abbrev pub UnitChange : Shift → UnitState → List Cell → List Cell → Type 0
-UnitChange c s p q = Becomes (role_of_mode s.mode s.header.params) c p q
+UnitChange c s p q = Becomes (role_of_mode s.mode s.header.params) c p q × PieceSlot s.mode c s p
 
 abbrev pub UnitsChanged : Shift → List (Piece UnitState) → List (Piece UnitState) → Type 0
 UnitsChanged c xs ys = AllChanged UnitState (UnitChange c) xs ys
@@ -163,6 +183,6 @@ next-becomes stuck base c s p q h = refl
 -- units don't see the change
 pub units_preserve : (base : UnitBase) (c : Shift) → Preserves (unit_grammar base) (UnitChange c)
 units_preserve base c = record {
-  fits = λ (s : UnitState) (p q : List Cell) h f. fits-becomes s.mode base c s p q h f;
-  next = λ (s : UnitState) (p q : List Cell) h f. next-becomes s.mode base c s p q h;
+  fits = λ (s : UnitState) (p q : List Cell) h f. fits-becomes s.mode base c s p q h.0 f;
+  next = λ (s : UnitState) (p q : List Cell) h f. next-becomes s.mode base c s p q h.0;
 }

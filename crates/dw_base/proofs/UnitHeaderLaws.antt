@@ -59,7 +59,7 @@ initial-kept (Some w) more behind further x h g e = rw (h w refl) (by_word (nat_
     by_word false true e = length-kept behind further x g e
     by_word false false e = absurd cc
 
-initial-more : (o : Order) (p r : List Cell) (x : Width × ℕ × ℕ) → initial_length_at o (bytes_of p) 0 ≡ Some x → initial_length_at o (bytes_of (p ++ r)) 0 ≡ Some x
+pub initial-more : (o : Order) (p r : List Cell) (x : Width × ℕ × ℕ) → initial_length_at o (bytes_of p) 0 ≡ Some x → initial_length_at o (bytes_of (p ++ r)) 0 ≡ Some x
 unfolding initial_length_at
 initial-more o p r x e =
     rw (bytes_of-append p r)

@@ -73,6 +73,15 @@ pub record Located : Type 0 where
   pub number : ℕ
   pub bytes : List ℕ
 
+-- a section that is read as pieces: its number, and its contents
+pub record CellSection : Type 0 where
+  pub number : ℕ
+  pub contents : List Cell
+
+-- such a section as one that offsets are of
+abbrev pub located_cells : CellSection → Located
+located_cells z = record { number = z.number; bytes = bytes_of z.contents }
+
 -- the offset that a field holds into a section; one into another section counts as past it
 abbrev pub offset_into : Located → Field → ℕ
 offset_into z (Num n) = n

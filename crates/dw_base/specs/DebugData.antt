@@ -1,28 +1,32 @@
 -- The debug data of a file, apart from how its sections lie: the unit sections, and what their values refer to; and the
 -- pieces that were read of them.
-use Rattle.std.specs.Prelude.{◌≡◌, ◌+◌, ◌==◌, ℕ, if◌then◌else◌, List, [], ◌∷◌, ◌++◌, ⊤}
-use Rattle.dw_base.specs.Cells.{Cell, Located}
+use Rattle.std.specs.Prelude.{true, false, ◌≡◌, ◌+◌, ◌==◌, ℕ, if◌then◌else◌, List, [], ◌∷◌, ◌++◌, ⊤}
+use Rattle.dw_base.specs.Cells.{Cell, Located, CellSection, located_cells}
 use Rattle.dw_base.specs.Forms.{TextSection, in_str, in_line_str}
-use Rattle.dw_base.specs.Pieces.{Piece, EachPiece}
+use Rattle.dw_base.specs.NamePieces.{NameState}
+use Rattle.dw_base.specs.OffsetPieces.{OffsetState}
+use Rattle.dw_base.specs.Pieces.{Piece}
+use Rattle.dw_base.specs.Readings.{Readings}
+use Rattle.dw_base.specs.SlotTexts.{contributions_in, slot_texts}
+use Rattle.dw_base.specs.TextIndexes.{Indexing, all_bases, index_uses, slots_named}
 use Rattle.dw_base.specs.UnitHeaders.{UnitBase, UnitSection, SectionKind, in_info, in_types}
 use Rattle.dw_base.specs.UnitPieces.{ReadsUnits}
 use Rattle.dw_base.specs.UnitStates.{Mode, at_header, at_code, UnitState, code_value}
 
--- the unit sections in the order of their numbers, what all units are read by, and the tables of texts
+-- the unit sections in the order of their numbers, what all units are read by, the tables of texts, string offsets, and name tables
 pub record DebugData : Type 0 where
   pub base : UnitBase
   pub units : List UnitSection
   pub str : Located
   pub line_str : Located
+  pub offsets : CellSection
+  pub names : CellSection
 
--- a unit section that was read: its number, and its pieces
-pub record Reading : Type 0 where
-  pub number : ℕ
-  pub pieces : List (Piece UnitState)
-
--- all that were read, in the order of their numbers
-abbrev pub Readings : Type 0
-Readings = List Reading
+-- all that was read of debug data: the unit sections, string offsets, and name tables
+pub record DataReadings : Type 0 where
+  pub units : Readings
+  pub offsets : List (Piece OffsetState)
+  pub names : List (Piece NameState)
 
 -- how many units begin in pieces
 abbrev pub begins_by : Mode → ℕ
@@ -71,31 +75,44 @@ abbrev pub info_numbers : List UnitSection → List ℕ
 info_numbers [] = []
 info_numbers (z ∷ zs) = info_number z z.kind ++ info_numbers zs
 
--- what values refer to and no edit changes: what units are read by, where entries start, and which sections are .debug_info
+-- what values refer to and no edit changes: what units are read by, where entries start, which sections are .debug_info, and which
+-- slots values by index name
 pub record Lasting : Type 0 where
   pub base : UnitBase
   pub entries : List EntryPlace
   pub infos : List ℕ
+  pub indexing : Indexing
 
--- what stands around a section that its values refer to: that, and the tables of texts
+-- what stands around a section that its values refer to: that, the tables of texts, and the texts of the slots
 pub record Around : Type 0 where
   pub lasting : Lasting
   pub str : Located
   pub line_str : Located
+  pub slots : List (List ℕ)
 
 abbrev pub table_of : Around → TextSection → Located
 table_of around in_str = around.str
 table_of around in_line_str = around.line_str
 
--- what stands around the units of debug data that were read so
-abbrev pub around_of : DebugData → Readings → Around
-around_of d r = record {
-  lasting = record { base = d.base; entries = all_places r; infos = info_numbers d.units };
-  str = d.str;
-  line_str = d.line_str;
+-- the slots that paths name, and those that other values name
+abbrev pub path_slots : Around → List ℕ
+path_slots around = slots_named true around.lasting.indexing around.lasting.indexing.uses
+
+abbrev pub other_slots : Around → List ℕ
+other_slots around = slots_named false around.lasting.indexing around.lasting.indexing.uses
+
+abbrev pub indexing_of : DebugData → DataReadings → Indexing
+indexing_of d r = record {
+  bases = all_bases d.base.order (located_cells d.offsets) r.units;
+  contributions = contributions_in d.base.order r.offsets;
+  uses = index_uses d.base.order r.units;
 }
 
--- this holds of each piece of each section
-abbrev pub EachReading : (Piece UnitState → Type 0) → Readings → Type 0
-EachReading P [] = ⊤
-EachReading P (r ∷ rs) = EachPiece P r.pieces × EachReading P rs
+-- what stands around the units of debug data that were read so
+abbrev pub around_of : DebugData → DataReadings → Around
+around_of d r = record {
+  lasting = record { base = d.base; entries = all_places r.units; infos = info_numbers d.units; indexing = indexing_of d r };
+  str = d.str;
+  line_str = d.line_str;
+  slots = slot_texts d.base.order d.str r.offsets;
+}

@@ -40,3 +40,17 @@ pub mod MappedUnits
 pub mod TextChanges
 pub mod EntryValues
 pub mod ViewData
+pub mod StringOffsets
+pub mod StringOffsetFails
+pub mod NameTables
+pub mod NameTableFails
+pub mod Slots
+pub mod OffsetPieces
+pub mod NamePieces
+pub mod TextIndexes
+pub mod SectionTexts
+pub mod IndexFails
+pub mod Readings
+pub mod NameHeaders
+pub mod SlotTexts
+pub mod MappedSlots

@@ -2,7 +2,8 @@
 -- is read and written by words of their own.
 use Rattle.std.specs.Prelude.{Bool, ℕ, List, [], ◌∷◌, ◌++◌, length, if◌then◌else◌, IsTrue, ⊤, Option, Some, None, pos, ℤ, ◌-ℤ◌}
 use Rattle.dw_base.specs.Cells.{Cell, Relocation, bytes_of, with_bytes, first_relocation, offset_of, wrapped}
-use Rattle.dw_base.specs.DebugData.{Around, Readings, table_of}
+use Rattle.dw_base.specs.DebugData.{Around, table_of}
+use Rattle.dw_base.specs.Readings.{Readings}
 use Rattle.dw_base.specs.Forms.{TextSection, in_str, in_line_str}
 use Rattle.dw_base.specs.InlinePaths.{inline_fits, mapped_inline}
 use Rattle.dw_base.specs.Numbers.{number_bytes}

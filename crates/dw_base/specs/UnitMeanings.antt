@@ -2,10 +2,11 @@
 use Rattle.std.specs.Prelude.{◌+◌, ℕ, ◌==◌, if◌then◌else◌, List, [], ◌∷◌, ◌++◌, Option, Some, None}
 use Rattle.dw_base.specs.AbbreviationTables.{Abbreviation, abbreviation_of}
 use Rattle.dw_base.specs.Cells.{Cell}
-use Rattle.dw_base.specs.DebugData.{Lasting, Around, DebugData, Readings, around_of}
+use Rattle.dw_base.specs.DebugData.{Lasting, Around, DebugData, DataReadings, around_of}
 use Rattle.dw_base.specs.Forests.{AttributeMeaning, Forest, no_entries, HeadMeaning, Mark, begins, opens, attribute, null, no_mark, all_entries, with_entry}
 use Rattle.dw_base.specs.Forms.{ValueKind, form_in_front, kind_in}
 use Rattle.dw_base.specs.Pieces.{Piece}
+use Rattle.dw_base.specs.Readings.{Readings}
 use Rattle.dw_base.specs.Roles.{use_of}
 use Rattle.dw_base.specs.UnitStates.{Mode, at_header, at_code, at_values, at_chosen, stuck, UnitState, code_value, piece_header}
 use Rattle.dw_base.specs.ValueMeanings.{found_entry, meaning_of_value}
@@ -96,5 +97,5 @@ units_read around [] = []
 units_read around (r ∷ rs) = unit_meanings r.number around r.pieces ++ units_read around rs
 
 -- what the units of debug data mean that were read so
-unfoldable pub units_of : DebugData → Readings → List UnitMeaning
-units_of d r = units_read (around_of d r) r
+unfoldable pub units_of : DebugData → DataReadings → List UnitMeaning
+units_of d r = units_read (around_of d r) r.units

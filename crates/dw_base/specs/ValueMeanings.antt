@@ -1,12 +1,13 @@
 -- What a value of an attribute means (DWARF 5, 7.5.5). It is said in names, numbers and texts: where a text stands in its
 -- table, which form holds it and where a section lies are not in it.
-use Rattle.std.specs.Prelude.{Bool, true, false, ◌+◌, ℕ, ℤ, pos, ◌==◌, ◌&&◌, if◌then◌else◌, List, [], ◌∷◌, drop, length, Option, Some, None}
+use Rattle.std.specs.Prelude.{Bool, ◌+◌, ℕ, ℤ, pos, ◌==◌, ◌&&◌, if◌then◌else◌, List, [], ◌∷◌, drop, length, get_or, Option, Some, None}
 use Rattle.dw_base.specs.Cells.{Cell, Relocation, bytes_of, field_of, offset_of, first_relocation, symbol_field}
 use Rattle.dw_base.specs.DebugData.{Lasting, Around, EntryPlace, table_of}
 use Rattle.dw_base.specs.Forms.{ValueKind, number_of, leb_number, signed_leb, block_of, counted, counted_leb, inline_text, text_offset, present, in_abbreviation, form_in_front, supplementary, unlisted}
 use Rattle.dw_base.specs.Lebs.{uleb_at, sleb_at}
 use Rattle.dw_base.specs.Numbers.{spelled}
 use Rattle.dw_base.specs.Roles.{Use, is_path_use}
+use Rattle.dw_base.specs.TextIndexes.{holds_number, slot_of}
 use Rattle.dw_base.specs.Texts.{text, text_in}
 use Rattle.dw_base.specs.UnitStates.{UnitState, code_value}
 use Rattle.dw_base.specs.declared.shared.Order.{Order}
@@ -14,7 +15,7 @@ use Rattle.dw_base.specs.declared.values.Spec.{Spec}
 use Rattle.dw_base.specs.declared.values.ValueClass.{ValueClass}
 use Rattle.dw_base.specs.declared.view_fields.Field.{Field}
 use Rattle.dw_base.specs.declared.view_fields.Field.TheVariants.{Num, Into, Sym}
-use Rattle.dw_base.specs.declared.values.ValueClass.TheVariants.{Address, Flag, LocalRef, GlobalRef}
+use Rattle.dw_base.specs.declared.values.ValueClass.TheVariants.{Address, Flag, LocalRef, GlobalRef, StrIndex}
 
 -- how a text is held: where its value stands, by an offset into a table, or by the slot of a number
 pub data TextForm : Type 0 where
@@ -45,10 +46,6 @@ found_entry (e ∷ es) section place n =
 abbrev pub first_of : List ℕ → ℕ
 first_of [] = 0
 first_of (i ∷ rest) = i
-
-abbrev pub holds_number : List ℕ → ℕ → Bool
-holds_number [] n = false
-holds_number (i ∷ rest) n = if i == n then true else holds_number rest n
 
 -- what a field refers to in .debug_info
 abbrev pub global_entry : Lasting → Field → ValueMeaning
@@ -91,10 +88,27 @@ abbrev pub read_signed : Option (ℤ × ℕ) → ℤ
 read_signed None = pos 0
 read_signed (Some n) = n.0
 
+-- what a value by index means: the text of its slot, with the slot's number
+abbrev pub indexed : List (List ℕ) → Bool → Option ℕ → List Cell → ValueMeaning
+indexed texts path None p = raw p
+indexed texts path (Some n) p = string path (by_slot n) (get_or texts n [])
+
+-- a value that says an index
+abbrev pub by_index : Around → UnitState → Use → ℕ → List Cell → ValueMeaning
+by_index around s u index p = indexed around.slots (is_path_use u) (slot_of around.lasting.indexing s.unit index) p
+
+abbrev pub number_meaning : Around → UnitState → Use → ValueClass → List Cell → ValueMeaning
+number_meaning around s u StrIndex p = by_index around s u (spelled around.lasting.base.order (bytes_of p) 0 (length p)) p
+number_meaning around s u class p = meaning_of_number around.lasting s class p
+
+abbrev pub leb_meaning : Around → UnitState → Use → ValueClass → List Cell → ValueMeaning
+leb_meaning around s u StrIndex p = by_index around s u (code_value p) p
+leb_meaning around s u class p = meaning_of_leb around.lasting s class (code_value p)
+
 -- what the cells of a value of a kind mean, of an attribute of a unit; cells of a form that isn't listed are never read
 abbrev pub meaning_of_value : Around → UnitState → Use → Spec → ValueKind → List Cell → ValueMeaning
-meaning_of_value around s u x (number_of class n) p = meaning_of_number around.lasting s class p
-meaning_of_value around s u x (leb_number class) p = meaning_of_leb around.lasting s class (code_value p)
+meaning_of_value around s u x (number_of class n) p = number_meaning around s u class p
+meaning_of_value around s u x (leb_number class) p = leb_meaning around s u class p
 meaning_of_value around s u x signed_leb p = signed_number (read_signed (sleb_at (bytes_of p) 0))
 meaning_of_value around s u x (block_of n) p = raw p
 meaning_of_value around s u x (counted n) p = raw (drop n p)

@@ -1,19 +1,21 @@
 -- The debug data of a view, its sections found by their names (DWARF 5, Appendix B), and what a view means: its units, and by
 -- name the bytes of the sections that are meant as they stand.
 use Rattle.std.specs.Prelude.{Bool, ℕ, zero, suc, ◌||◌, not, if◌then◌else◌, List, [], ◌∷◌, ◌++◌, drop, Option, Some, None, true, false}
-use Rattle.dw_base.specs.Cells.{Cell, Located, plain_cells}
-use Rattle.dw_base.specs.DebugData.{DebugData, Readings}
+use Rattle.dw_base.specs.Cells.{Cell, Located, CellSection, plain_cells}
+use Rattle.dw_base.specs.DebugData.{DebugData, DataReadings}
 use Rattle.dw_base.specs.DebugSections.{debug_section, name_of}
 use Rattle.dw_base.specs.FileViews.{Contents, plain_contents, bytes_in, ViewSection, View, section_bytes, section_named}
+use Rattle.dw_base.specs.MappedSlots.{unit_slots, mapped_slots}
 use Rattle.dw_base.specs.MappedUnits.{mapped_units}
 use Rattle.dw_base.specs.Notes.{BuildId, zeroed}
 use Rattle.dw_base.specs.Paths.{PathMap}
 use Rattle.dw_base.specs.SectionNames.{debug_link}
+use Rattle.dw_base.specs.SlotTexts.{NamePart, name_parts, slot_texts}
 use Rattle.dw_base.specs.Texts.{same_text}
 use Rattle.dw_base.specs.UnitHeaders.{UnitSection, SectionKind, in_info, in_types}
 use Rattle.dw_base.specs.UnitMeanings.{UnitMeaning, units_of}
 use Rattle.dw_base.specs.declared.debug_sections.DebugSection.{DebugSection}
-use Rattle.dw_base.specs.declared.debug_sections.DebugSection.TheVariants.{Info, Types, Abbrev, Str, LineStr}
+use Rattle.dw_base.specs.declared.debug_sections.DebugSection.TheVariants.{Info, Types, Abbrev, Str, LineStr, StrOffsets, Names}
 
 -- contents as cells
 abbrev pub cells_in : Contents → List Cell
@@ -48,6 +50,14 @@ located_at v (Some i) = record { number = i; bytes = section_bytes v i }
 unfoldable pub located : View → DebugSection → Located
 located v s = located_at v (section_named v (name_of s))
 
+-- the section of string offsets of a view: no bytes where there is none
+abbrev pub string_offsets : View → Located
+string_offsets v = located v StrOffsets
+
+-- a section of the view that is read as pieces: number 0 and no contents where there is none
+abbrev pub cell_section : Located → CellSection
+cell_section z = record { number = z.number; contents = plain_cells z.bytes }
+
 -- the debug data of a view
 unfoldable pub debug_data : View → DebugData
 debug_data v = record {
@@ -55,15 +65,19 @@ debug_data v = record {
   units = unit_sections v;
   str = located v Str;
   line_str = located v LineStr;
+  offsets = cell_section (located v StrOffsets);
+  names = cell_section (located v Names);
 }
 
--- a section whose bytes are read: units, their abbreviations, and the tables of texts
+-- a section whose bytes are read: units, their abbreviations, the tables of texts, string offsets, and name tables
 abbrev pub is_read : Option DebugSection → Bool
 is_read (Some Info) = true
 is_read (Some Types) = true
 is_read (Some Abbrev) = true
 is_read (Some Str) = true
 is_read (Some LineStr) = true
+is_read (Some StrOffsets) = true
+is_read (Some Names) = true
 is_read s = false
 
 -- a section whose bytes are meant as they stand: it isn't loaded and isn't read. The section name table and the link to a
@@ -97,18 +111,23 @@ abbrev pub without_id : Option BuildId → List ViewSection → List ViewSection
 without_id None ss = ss
 without_id (Some id) ss = zeroed_at id.section id ss
 
--- what debug data mean: the units in order; and by name, in order, the bytes of the sections that are meant as they stand
+-- what debug data mean: the units in order; the texts of the slots of string offsets, and the parts of name tables; and by name, in
+-- order, the bytes of the sections that are meant as they stand
 pub record Meaning : Type 0 where
   pub units : List UnitMeaning
+  pub slots : List (List ℕ)
+  pub names : List NamePart
   pub others : List ℕ → List (List ℕ)
 
 -- what a view means, for these readings; the bytes of the build-id count as zeros
-unfoldable pub meaning_of : View → Readings → Meaning
+unfoldable pub meaning_of : View → DataReadings → Meaning
 meaning_of v r = record {
   units = units_of (debug_data v) r;
+  slots = slot_texts v.order (located v Str) r.offsets;
+  names = name_parts v.order (located v Str) r.names;
   others = bytes_named (other_sections (without_id v.id v.sections));
 }
 
--- the meaning with each path mapped
+-- the meaning with each path mapped, and each slot that stands with a path
 abbrev pub mapped : PathMap → Meaning → Meaning
-mapped m x = record x { units = mapped_units m x.units }
+mapped m x = record x { units = mapped_units m x.units; slots = mapped_slots m (unit_slots x.units) 0 x.slots }

@@ -1,25 +1,40 @@
--- Debug data with moved texts and mapped paths can be read, and its units mean the mapped units.
-use Rattle.std.proofs.Common.{◌≡◌, ℕ, ◌+◌, ◌≤◌, List, [], ◌∷◌, ◌++◌, length, sym, ap, ◌∙◌, refl, subst, arith, ◌^◌}
+-- Debug data with moved texts and mapped paths can be read, and its units and slots mean the mapped ones.
+use Rattle.std.proofs.Common.{◌≡◌, ℕ, ◌+◌, ◌≤◌, List, [], ◌∷◌, ◌++◌, length, sym, ap, ◌∙◌, refl, subst, arith, ◌^◌, append_assoc}
 use Rattle.std.specs.Bool.{⊤}
-use Rattle.std.proofs.lemmas.List.{length-append}
-use Rattle.dw_base.specs.Cells.{Cell}
-use Rattle.dw_meaning.specs.DataOutput.{DataReads, DataFits, table_change, changes_of}
-use Rattle.dw_base.specs.DebugData.{DebugData, Readings, begins_by, units_in, ReadsAll, EntryPlace, place_by, entry_places, all_places, info_number, info_numbers, Around, around_of, EachReading}
+use Rattle.std.proofs.lemmas.List.{length-append, append-nil}
+use Rattle.dw_base.specs.Cells.{Cell, Located, bytes_of, located_cells}
+use Rattle.dw_base.specs.DebugData.{DebugData, DataReadings, begins_by, units_in, ReadsAll, EntryPlace, place_by, entry_places, all_places, info_number, info_numbers, Around, around_of, indexing_of, path_slots}
 use Rattle.dw_base.specs.Forms.{in_str, in_line_str}
+use Rattle.dw_base.specs.MappedSlots.{unit_slots, mapped_slots}
 use Rattle.dw_base.specs.MappedUnits.{mapped_unit, mapped_units}
+use Rattle.dw_base.specs.NamePieces.{NameState, at_table, names_at}
+use Rattle.dw_base.specs.OffsetPieces.{OffsetState, at_contribution, offsets_at}
 use Rattle.dw_base.specs.Paths.{PathMap, IsPathMap}
 use Rattle.dw_base.specs.Pieces.{Piece, joined, Chain, EachPiece}
-use Rattle.dw_base.specs.Roles.{Role, fixed, offset, inline_path, role_of, role_of_mode}
-use Rattle.dw_base.specs.StringTables.{texts_after, new_table}
+use Rattle.dw_base.specs.Readings.{Readings, EachReading}
+use Rattle.dw_base.specs.Roles.{role_of, role_of_mode}
+use Rattle.dw_base.specs.SectionTexts.{slot_role, name_role, mentions_with, file_mentions, NameTexts}
+use Rattle.dw_base.specs.SlotTexts.{contributions_in, slot_texts, name_parts}
+use Rattle.dw_base.specs.StringTables.{Mention, texts_after, new_table}
 use Rattle.dw_base.specs.TextChanges.{TableChanges, mentions_of, all_mentions, edited_all, NamesTextBy, NamesText, InlineFits}
+use Rattle.dw_base.specs.TextIndexes.{Indexing, IndexUse, SaidBase, bases_in, all_bases, uses_in, index_uses, EachUse, NamesSlot}
 use Rattle.dw_base.specs.UnitHeaders.{UnitBase, UnitSection}
 use Rattle.dw_base.specs.UnitMeanings.{UnitMeaning, unit_meanings, units_read, units_of}
 use Rattle.dw_base.specs.UnitPieces.{ReadsUnits, unit_grammar}
 use Rattle.dw_base.specs.UnitStates.{Mode, at_header, at_code, at_values, at_chosen, stuck, UnitState, before_unit}
-use Rattle.dw_base.proofs.PlainCellLaws.{IsPlain, plain-parts}
+use Rattle.dw_base.specs.declared.shared.Order.{Order}
+use Rattle.dw_base.specs.declared.string_offsets.Contribution.{Contribution}
+use Rattle.dw_base.proofs.IndexKeptLaws.{bases-kept, bases-same, uses-kept, contributions-kept}
+use Rattle.dw_base.proofs.OffsetChangeLaws.{slots-mapped, names-kept}
+use Rattle.dw_base.proofs.PathLaws.{mapped_path-none}
 use Rattle.dw_base.proofs.PieceFrameLaws.{chain-changed}
-use Rattle.dw_meaning.proofs.TextEditLaws.{appending-keeps, TablesMove, TextsAre, behind_piece, PlainPiece, edited-changed, shift_of, moved_table}
-use Rattle.dw_base.proofs.UnitEditLaws.{Shift, Becomes, UnitChange, UnitsChanged, length-becomes, units_preserve}
+use Rattle.dw_base.proofs.PlainCellLaws.{IsPlain, plain-parts}
+use Rattle.dw_base.proofs.UnitEditLaws.{Shift, Becomes, UnitChange, UnitsChanged, length-becomes, length-bytes_of, units_preserve}
+use Rattle.dw_meaning.specs.DataOutput.{DataReads, DataFits, table_change, changes_of, offsets_after, names_after}
+use Rattle.dw_meaning.proofs.IndexTextLaws.{IsApart, texts-apart, slots-move}
+use Rattle.dw_meaning.proofs.OffsetMoveLaws.{RolesChanged, cells-plain, offsets-can, names-can, roles-length, names-becomes, roles-named, offsets-reads, names-reads}
+use Rattle.dw_meaning.proofs.SlotMeaningLaws.{units-slots}
+use Rattle.dw_meaning.proofs.TextEditLaws.{appending-keeps, TablesMove, TextsAre, behind_piece, PlainPiece, SlotMoves, edited-changed, roles-changed, shift_of, moved_table}
 use Rattle.dw_meaning.proofs.UnitMeaningLaws.{units-changed}
 
 -- pieces after a change are as long
@@ -28,7 +43,7 @@ length-changed c [] [] h = refl
 length-changed c [] (y ∷ ys) h = absurd h
 length-changed c (x ∷ xs) [] h = absurd h
 length-changed c (x ∷ xs) (y ∷ ys) h =
-    let here : length y.cells ≡ length x.cells = length-becomes (role_of_mode x.state.mode x.state.header.params) c x.cells y.cells h.0.cells in
+    let here : length y.cells ≡ length x.cells = length-becomes (role_of_mode x.state.mode x.state.header.params) c x.cells y.cells h.0.cells.0 in
     let rest : length (joined ys) ≡ length (joined xs) = length-changed c xs ys h.1 in
     omega (arith, length-append x.cells (joined xs), length-append y.cells (joined ys), here, rest)
 
@@ -54,15 +69,10 @@ places-changed c [] (y ∷ ys) h = absurd h
 places-changed c (x ∷ xs) [] h = absurd h
 places-changed c (x ∷ xs) (y ∷ ys) h =
     ap (λ (s : UnitState). place_by s.mode s y.cells ++ entry_places ys) h.0.state
-    ∙ ap (λ (here : List EntryPlace). here ++ entry_places ys) (place-becomes x.state.mode c x.state x.cells y.cells h.0.cells)
+    ∙ ap (λ (here : List EntryPlace). here ++ entry_places ys) (place-becomes x.state.mode c x.state x.cells y.cells h.0.cells.0)
     ∙ ap (λ (rest : List EntryPlace). place_by x.state.mode x.state x.cells ++ rest) (places-changed c xs ys h.1)
 
 -- offsets name texts
-names-becomes : (r : Role) (c : Shift) (p q : List Cell) → Becomes r c p q → NamesTextBy r c.new q
-names-becomes fixed c p q h = tt
-names-becomes inline_path c p q h = tt
-names-becomes (offset table path) c p q h = h.ends
-
 names-changed : (c : Shift) (xs ys : List (Piece UnitState)) → UnitsChanged c xs ys → EachPiece (NamesText c.new) ys
 unfolding role_of
 names-changed c [] [] h = tt
@@ -70,7 +80,7 @@ names-changed c [] (y ∷ ys) h = absurd h
 names-changed c (x ∷ xs) [] h = absurd h
 names-changed c (x ∷ xs) (y ∷ ys) h =
     let here : NamesTextBy (role_of_mode x.state.mode x.state.header.params) c.new y.cells =
-    names-becomes (role_of_mode x.state.mode x.state.header.params) c x.cells y.cells h.0.cells in
+    names-becomes (role_of_mode x.state.mode x.state.header.params) c x.cells y.cells h.0.cells.0 in
     (subst (λ (s : UnitState). NamesTextBy (role_of_mode s.mode s.header.params) c.new y.cells) (sym h.0.state) here, names-changed c xs ys h.1)
 
 -- a section whose pieces changed is pieces
@@ -104,21 +114,33 @@ AllReadingsChanged c (x ∷ xs) [] = ⊥
 AllReadingsChanged c (x ∷ xs) (y ∷ ys) = (y.number ≡ x.number) × UnitsChanged c x.pieces y.pieces × AllReadingsChanged c xs ys
 
 -- the text law, for all sections
-readings-edited : (base : UnitBase) (c : TableChanges) (around : Around) (ts us : List (List ℕ)) (first : ℕ) (zs : List UnitSection) (rs : Readings)
-    → TablesMove c around → TextsAre c ts us (all_mentions in_str around rs) (all_mentions in_line_str around rs) → ReadsAll base first zs rs
-    → EachReading PlainPiece rs → EachReading (NamesText around) rs → EachReading (InlineFits c.map) rs
+readings-edited : (base : UnitBase) (c : TableChanges) (around : Around) (ts us : List (List ℕ)) (first : ℕ) (zs : List UnitSection) (rs : Readings) (ms ns : List Mention)
+    → TablesMove c around → TextsAre c ts us (all_mentions in_str around rs ++ ms) (all_mentions in_line_str around rs ++ ns) → ReadsAll base first zs rs
+    → EachReading PlainPiece rs → EachReading (NamesText around) rs → EachReading (InlineFits c.map) rs → EachReading (SlotMoves (shift_of c around)) rs
     → AllReadingsChanged (shift_of c around) rs (edited_readings c around rs)
-readings-edited base c around ts us first zs [] t all reads plain names fits = tt
-readings-edited base c around ts us first [] (r ∷ rs) t all reads plain names fits = absurd reads
-readings-edited base c around ts us first (z ∷ zs) (r ∷ rs) t all reads plain names fits = (
-  refl,
-  edited-changed base c around ts us (before_unit z.number z.kind (length z.contents) 0 first) r.pieces (all_mentions in_str around rs) (all_mentions in_line_str around rs)
-      t all reads.1.chain plain.0 names.0 fits.0,
-  readings-edited base c around (texts_after c.str.plan c.map ts (mentions_of in_str around r.pieces)) (texts_after c.line_str.plan c.map us (mentions_of in_line_str around r.pieces))
-      (first + units_in r.pieces) zs rs t
-      (behind_piece c ts us (mentions_of in_str around r.pieces) (mentions_of in_line_str around r.pieces) (all_mentions in_str around rs) (all_mentions in_line_str around rs) all)
-      reads.2 plain.1 names.1 fits.1,
-)
+readings-edited base c around ts us first zs [] ms ns t all reads plain names fits slots = tt
+readings-edited base c around ts us first [] (r ∷ rs) ms ns t all reads plain names fits slots = absurd reads
+readings-edited base c around ts us first (z ∷ zs) (r ∷ rs) ms ns t all reads plain names fits slots =
+    let heres : List Mention = mentions_of in_str around r.pieces in
+    let lines : List Mention = mentions_of in_line_str around r.pieces in
+    let rest : TextsAre c ts us (heres ++ (all_mentions in_str around rs ++ ms)) (lines ++ (all_mentions in_line_str around rs ++ ns)) =
+    record {
+      str = all.str ∙ ap (texts_after c.str.plan c.map ts) (append_assoc heres (all_mentions in_str around rs) ms);
+      line_str = all.line_str ∙ ap (texts_after c.line_str.plan c.map us) (append_assoc lines (all_mentions in_line_str around rs) ns);
+    } in (
+      refl,
+      edited-changed base c around ts us (before_unit z.number z.kind (length z.contents) 0 first) r.pieces (all_mentions in_str around rs ++ ms)
+          (all_mentions in_line_str around rs ++ ns) t rest reads.1.chain plain.0 names.0 fits.0 slots.0,
+      readings-edited base c around (texts_after c.str.plan c.map ts heres) (texts_after c.line_str.plan c.map us lines) (first + units_in r.pieces) zs rs ms ns t
+          (behind_piece c ts us heres lines (all_mentions in_str around rs ++ ms) (all_mentions in_line_str around rs ++ ns) rest)
+          reads.2 plain.1 names.1 fits.1 slots.1,
+    )
+
+-- the texts behind the mentions of all unit sections
+behind_units : (c : TableChanges) (around : Around) (ts us : List (List ℕ)) (rs : Readings) (ms ns : List Mention)
+    → TextsAre c ts us (all_mentions in_str around rs ++ ms) (all_mentions in_line_str around rs ++ ns)
+    → TextsAre c (texts_after c.str.plan c.map ts (all_mentions in_str around rs)) (texts_after c.line_str.plan c.map us (all_mentions in_line_str around rs)) ms ns
+behind_units c around ts us rs ms ns all = behind_piece c ts us (all_mentions in_str around rs) (all_mentions in_line_str around rs) ms ns all
 
 -- all sections are pieces after the change
 all-changed : (base : UnitBase) (c : Shift) (first : ℕ) (zs : List UnitSection) (rs qs : Readings) → AllReadingsChanged c rs qs → ReadsAll base first zs rs
@@ -188,25 +210,37 @@ readings-plain base first (z ∷ zs) (r ∷ rs) reads plain = (
   readings-plain base (first + units_in r.pieces) zs rs reads.2 plain.1,
 )
 
--- the debug data with these changes
-abbrev pub edited_data : TableChanges → DebugData → Readings → DebugData
-edited_data c d r = record {
-  base = d.base;
-  units = edited_sections d.units (edited_readings c (around_of d r) r);
-  str = moved_table d.str c.str;
-  line_str = moved_table d.line_str c.line_str;
+-- the readings with these changes
+abbrev pub edited_reads : TableChanges → DebugData → DataReadings → DataReadings
+edited_reads c d r = record {
+  units = edited_readings c (around_of d r) r.units;
+  offsets = offsets_after c (around_of d r) r;
+  names = names_after c (around_of d r) r;
 }
 
--- debug data that can be read, of plain cells, whose paths fit their rooms, and tables that stay small
-pub record DataMoves (m : PathMap) (d : DebugData) (r : Readings) : Type 0 where
+-- the debug data with these changes
+abbrev pub edited_data : TableChanges → DebugData → DataReadings → DebugData
+edited_data c d r = record {
+  base = d.base;
+  units = edited_sections d.units (edited_readings c (around_of d r) r.units);
+  str = moved_table d.str c.str;
+  line_str = moved_table d.line_str c.line_str;
+  offsets = record { number = d.offsets.number; contents = joined (offsets_after c (around_of d r) r) };
+  names = record { number = d.names.number; contents = joined (names_after c (around_of d r) r) };
+}
+
+-- debug data that can be read, of plain cells, whose paths and slots can be mapped, and tables that stay small
+pub record DataMoves (m : PathMap) (d : DebugData) (r : DataReadings) : Type 0 where
   pub map : IsPathMap m
   pub reads : DataReads d r
-  pub fits : DataFits m r
+  pub fits : DataFits m d r
   pub plain : EachPlain d.units
+  pub offsets_plain : IsPlain d.offsets.contents
+  pub names_plain : IsPlain d.names.contents
   pub str : length (new_table (table_change m in_str (around_of d r) r).plan (table_change m in_str (around_of d r) r).texts) ≤ 2 ^ 32
   pub line_str : length (new_table (table_change m in_line_str (around_of d r) r).plan (table_change m in_line_str (around_of d r) r).texts) ≤ 2 ^ 32
 
-tables-move : (m : PathMap) (d : DebugData) (r : Readings) → DataMoves m d r → TablesMove (changes_of m (around_of d r) r) (around_of d r)
+tables-move : (m : PathMap) (d : DebugData) (r : DataReadings) → DataMoves m d r → TablesMove (changes_of m (around_of d r) r) (around_of d r)
 unfolding table_change
 tables-move m d r w = record {
   map = w.map;
@@ -214,54 +248,188 @@ tables-move m d r w = record {
   line_str = record { keeps = appending-keeps m d.line_str.bytes; small = w.line_str };
 }
 
-texts-are : (m : PathMap) (d : DebugData) (r : Readings)
-    → TextsAre (changes_of m (around_of d r) r) [] [] (all_mentions in_str (around_of d r) r) (all_mentions in_line_str (around_of d r) r)
+texts-are : (m : PathMap) (d : DebugData) (r : DataReadings)
+    → TextsAre (changes_of m (around_of d r) r) [] [] (file_mentions in_str (around_of d r) r) (file_mentions in_line_str (around_of d r) r)
 unfolding table_change
 texts-are m d r = record { str = refl; line_str = refl }
 
--- the readings, changed
-data-changed : (m : PathMap) (d : DebugData) (r : Readings) → DataMoves m d r
-    → AllReadingsChanged (shift_of (changes_of m (around_of d r) r) (around_of d r)) r (edited_readings (changes_of m (around_of d r) r) (around_of d r) r)
-data-changed m d r w =
-    readings-edited d.base (changes_of m (around_of d r) r) (around_of d r) [] [] 0 d.units r (tables-move m d r w) (texts-are m d r) w.reads.units
-    (readings-plain d.base 0 d.units r w.reads.units w.plain) w.reads.texts w.fits
+-- the change as one of what stands around
+abbrev pub data_shift : PathMap → DebugData → DataReadings → Shift
+data_shift m d r = shift_of (changes_of m (around_of d r) r) (around_of d r)
+
+-- no slot is named by a path whose text changes and by another value
+data-apart : (m : PathMap) (d : DebugData) (r : DataReadings) → DataMoves m d r → IsApart m (around_of d r)
+data-apart m d r w =
+    texts-apart m (around_of d r) d.base.order (offsets_at (length d.offsets.contents) 0 0 at_contribution) r.offsets (mapped_path-none m w.map) w.reads.offsets.chain
+    w.fits.slots refl refl
+
+-- the readings of units, changed
+units-changed-all : (m : PathMap) (d : DebugData) (r : DataReadings) → DataMoves m d r
+    → AllReadingsChanged (data_shift m d r) r.units (edited_readings (changes_of m (around_of d r) r) (around_of d r) r.units)
+units-changed-all m d r w =
+    readings-edited d.base (changes_of m (around_of d r) r) (around_of d r) [] [] 0 d.units r.units
+    (mentions_with (slot_role (path_slots (around_of d r))) in_str (around_of d r) r.offsets ++ mentions_with name_role in_str (around_of d r) r.names)
+    (mentions_with (slot_role (path_slots (around_of d r))) in_line_str (around_of d r) r.offsets ++ mentions_with name_role in_line_str (around_of d r) r.names)
+    (tables-move m d r w) (texts-are m d r) w.reads.units (readings-plain d.base 0 d.units r.units w.reads.units w.plain) w.reads.texts w.fits.inline
+    (slots-move (changes_of m (around_of d r) r) (around_of d r) r.units (mapped_path-none m w.map) (data-apart m d r w) refl)
+
+-- string offsets and name tables, changed
+behind-units : (m : PathMap) (d : DebugData) (r : DataReadings)
+    → TextsAre (changes_of m (around_of d r) r) (texts_after (changes_of m (around_of d r) r).str.plan m [] (all_mentions in_str (around_of d r) r.units))
+    (texts_after (changes_of m (around_of d r) r).line_str.plan m [] (all_mentions in_line_str (around_of d r) r.units))
+    (mentions_with (slot_role (path_slots (around_of d r))) in_str (around_of d r) r.offsets ++ mentions_with name_role in_str (around_of d r) r.names)
+    (mentions_with (slot_role (path_slots (around_of d r))) in_line_str (around_of d r) r.offsets ++ mentions_with name_role in_line_str (around_of d r) r.names)
+behind-units m d r =
+    behind_units (changes_of m (around_of d r) r) (around_of d r) [] [] r.units
+    (mentions_with (slot_role (path_slots (around_of d r))) in_str (around_of d r) r.offsets ++ mentions_with name_role in_str (around_of d r) r.names)
+    (mentions_with (slot_role (path_slots (around_of d r))) in_line_str (around_of d r) r.offsets ++ mentions_with name_role in_line_str (around_of d r) r.names)
+    (texts-are m d r)
+
+offsets-changed : (m : PathMap) (d : DebugData) (r : DataReadings) → DataMoves m d r
+    → RolesChanged (slot_role (path_slots (around_of d r))) (data_shift m d r) r.offsets (offsets_after (changes_of m (around_of d r) r) (around_of d r) r)
+offsets-changed m d r w =
+    roles-changed (slot_role (path_slots (around_of d r))) (changes_of m (around_of d r) r) (around_of d r)
+    (texts_after (changes_of m (around_of d r) r).str.plan m [] (all_mentions in_str (around_of d r) r.units))
+    (texts_after (changes_of m (around_of d r) r).line_str.plan m [] (all_mentions in_line_str (around_of d r) r.units))
+    r.offsets (mentions_with name_role in_str (around_of d r) r.names) (mentions_with name_role in_line_str (around_of d r) r.names)
+    (tables-move m d r w) (behind-units m d r)
+    (offsets-can (path_slots (around_of d r)) (around_of d r) d.base.order (offsets_at (length d.offsets.contents) 0 0 at_contribution) r.offsets w.reads.offsets.chain
+    (cells-plain r.offsets (subst IsPlain (sym w.reads.offsets.cells) w.offsets_plain)))
+    w.reads.slot_texts
+
+names-changed-all : (m : PathMap) (d : DebugData) (r : DataReadings) → DataMoves m d r
+    → RolesChanged name_role (data_shift m d r) r.names (names_after (changes_of m (around_of d r) r) (around_of d r) r)
+names-changed-all m d r w =
+    let c : TableChanges = changes_of m (around_of d r) r in
+    let around : Around = around_of d r in
+    let ts : List (List ℕ) = texts_after c.str.plan m [] (all_mentions in_str around r.units) in
+    let us : List (List ℕ) = texts_after c.line_str.plan m [] (all_mentions in_line_str around r.units) in
+    let heres : List Mention = mentions_with (slot_role (path_slots (around_of d r))) in_str (around_of d r) r.offsets in
+    let lines : List Mention = mentions_with (slot_role (path_slots (around_of d r))) in_line_str (around_of d r) r.offsets in
+    let ms : List Mention = mentions_with name_role in_str (around_of d r) r.names in
+    let ns : List Mention = mentions_with name_role in_line_str (around_of d r) r.names in
+    let all = behind_piece c ts us heres lines ms ns (behind-units m d r) in
+    roles-changed name_role (changes_of m (around_of d r) r) (around_of d r) (texts_after c.str.plan m ts heres) (texts_after c.line_str.plan m us lines)
+    r.names [] [] (tables-move m d r w)
+    (record {
+      str = all.str ∙ ap (texts_after c.str.plan m (texts_after c.str.plan m ts heres)) (sym (append-nil ms));
+      line_str = all.line_str ∙ ap (texts_after c.line_str.plan m (texts_after c.line_str.plan m us lines)) (sym (append-nil ns));
+    })
+    (names-can (around_of d r) d.base.order (names_at (length d.names.contents) 0 at_table) r.names w.reads.names.chain
+    (cells-plain r.names (subst IsPlain (sym w.reads.names.cells) w.names_plain)))
+    w.reads.name_texts
+
+-- which slots values by index name is as it was
+all-bases : (c : Shift) (order : Order) (z w : Located) (rs qs : Readings) → z.number ≡ w.number → length z.bytes ≡ length w.bytes → AllReadingsChanged c rs qs
+    → all_bases order z qs ≡ all_bases order w rs
+all-bases c order z w [] [] number size h = refl
+all-bases c order z w [] (q ∷ qs) number size h = absurd h
+all-bases c order z w (r ∷ rs) [] number size h = absurd h
+all-bases c order z w (r ∷ rs) (q ∷ qs) number size h =
+    ap (λ (bs : List SaidBase). bs ++ all_bases order z qs) (bases-kept c order z r.pieces q.pieces h.1 ∙ bases-same order z w r.pieces number size)
+    ∙ ap (λ (bs : List SaidBase). bases_in order w r.pieces ++ bs) (all-bases c order z w rs qs number size h.2)
+
+all-uses : (c : Shift) (order : Order) (rs qs : Readings) → AllReadingsChanged c rs qs → index_uses order qs ≡ index_uses order rs
+all-uses c order [] [] h = refl
+all-uses c order [] (q ∷ qs) h = absurd h
+all-uses c order (r ∷ rs) [] h = absurd h
+all-uses c order (r ∷ rs) (q ∷ qs) h =
+    ap (λ (us : List IndexUse). us ++ index_uses order qs) (uses-kept c order r.pieces q.pieces h.1)
+    ∙ ap (λ (us : List IndexUse). uses_in order r.pieces ++ us) (all-uses c order rs qs h.2)
+
+abbrev indexing_with : List SaidBase → List Contribution → List IndexUse → Indexing
+indexing_with bs cs_ us = record { bases = bs; contributions = cs_; uses = us }
+
+indexing-parts : (bs as_ : List SaidBase) (ds es : List Contribution) (us vs : List IndexUse) → bs ≡ as_ → ds ≡ es → us ≡ vs
+    → indexing_with bs ds us ≡ indexing_with as_ es vs
+indexing-parts bs as_ ds es us vs e f g =
+    ap (λ (x : List SaidBase). indexing_with x ds us) e ∙ ap (λ (x : List Contribution). indexing_with as_ x us) f
+    ∙ ap (λ (x : List IndexUse). indexing_with as_ es x) g
+
+indexing-edited : (m : PathMap) (d : DebugData) (r : DataReadings) → DataMoves m d r
+    → indexing_of (edited_data (changes_of m (around_of d r) r) d r) (edited_reads (changes_of m (around_of d r) r) d r) ≡ indexing_of d r
+indexing-edited m d r w =
+    let c : TableChanges = changes_of m (around_of d r) r in
+    let qs : Readings = edited_readings (changes_of m (around_of d r) r) (around_of d r) r.units in
+    let ys : List (Piece OffsetState) = offsets_after (changes_of m (around_of d r) r) (around_of d r) r in
+    let cells : length (joined ys) ≡ length d.offsets.contents =
+    roles-length (slot_role (path_slots (around_of d r))) (data_shift m d r) r.offsets ys (offsets-changed m d r w) ∙ ap length w.reads.offsets.cells in
+    let size : length (bytes_of (joined ys)) ≡ length (bytes_of d.offsets.contents) = length-bytes_of (joined ys) ∙ cells ∙ sym (length-bytes_of d.offsets.contents) in
+    indexing-parts
+    (all_bases d.base.order (record { number = d.offsets.number; bytes = bytes_of (joined ys) }) qs) (all_bases d.base.order (located_cells d.offsets) r.units)
+    (contributions_in d.base.order ys) (contributions_in d.base.order r.offsets) (index_uses d.base.order qs) (index_uses d.base.order r.units)
+    (all-bases (data_shift m d r) d.base.order (record { number = d.offsets.number; bytes = bytes_of (joined ys) }) (located_cells d.offsets) r.units qs refl size (units-changed-all m d r w))
+    (contributions-kept (data_shift m d r) (path_slots (around_of d r)) d.base.order r.offsets ys (offsets-changed m d r w))
+    (all-uses (data_shift m d r) d.base.order r.units qs (units-changed-all m d r w))
 
 -- what stands around the new units is what the change says
-around-edited : (m : PathMap) (d : DebugData) (r : Readings) → DataMoves m d r
-    → around_of (edited_data (changes_of m (around_of d r) r) d r) (edited_readings (changes_of m (around_of d r) r) (around_of d r) r)
-    ≡ (shift_of (changes_of m (around_of d r) r) (around_of d r)).new
+abbrev around_with : UnitBase → Located → Located → List EntryPlace → List ℕ → Indexing → List (List ℕ) → Around
+around_with base str line es is_ g ts =
+    record { lasting = record { base = base; entries = es; infos = is_; indexing = g }; str = str; line_str = line; slots = ts }
+
+around-parts : (base : UnitBase) (str line : Located) (es fs : List EntryPlace) (is_ js : List ℕ) (g h : Indexing) (ts us : List (List ℕ)) → es ≡ fs → is_ ≡ js → g ≡ h → ts ≡ us
+    → around_with base str line es is_ g ts ≡ around_with base str line fs js h us
+around-parts base str line es fs is_ js g h ts us e i x t =
+    ap (λ (y : List EntryPlace). around_with base str line y is_ g ts) e ∙ ap (λ (y : List ℕ). around_with base str line fs y g ts) i
+    ∙ ap (λ (y : Indexing). around_with base str line fs js y ts) x ∙ ap (λ (y : List (List ℕ)). around_with base str line fs js h y) t
+
+slots-edited : (m : PathMap) (d : DebugData) (r : DataReadings) → DataMoves m d r
+    → slot_texts d.base.order (moved_table d.str (changes_of m (around_of d r) r).str) (offsets_after (changes_of m (around_of d r) r) (around_of d r) r)
+    ≡ mapped_slots m (path_slots (around_of d r)) 0 (slot_texts d.base.order d.str r.offsets)
+slots-edited m d r w =
+    slots-mapped (path_slots (around_of d r)) (data_shift m d r) d.base.order (offsets_at (length d.offsets.contents) 0 0 at_contribution) r.offsets
+    (offsets_after (changes_of m (around_of d r) r) (around_of d r) r) (offsets-changed m d r w) w.reads.offsets.chain
+
+around-edited : (m : PathMap) (d : DebugData) (r : DataReadings) → DataMoves m d r
+    → around_of (edited_data (changes_of m (around_of d r) r) d r) (edited_reads (changes_of m (around_of d r) r) d r) ≡ (data_shift m d r).new
 around-edited m d r w =
     let c : TableChanges = changes_of m (around_of d r) r in
-    let qs : Readings = edited_readings (changes_of m (around_of d r) r) (around_of d r) r in
-    ap (λ (es : List EntryPlace). record {
-      lasting = record { base = d.base; entries = es; infos = info_numbers (edited_sections d.units qs) };
-      str = moved_table d.str c.str;
-      line_str = moved_table d.line_str c.line_str;
-    }) (all-places (shift_of c (around_of d r)) r qs (data-changed m d r w))
-    ∙ ap (λ (is_ : List ℕ). record {
-      lasting = record { base = d.base; entries = all_places r; infos = is_ };
-      str = moved_table d.str c.str;
-      line_str = moved_table d.line_str c.line_str;
-    }) (same-infos d.units qs)
+    let qs : Readings = edited_readings (changes_of m (around_of d r) r) (around_of d r) r.units in
+    around-parts d.base (moved_table d.str c.str) (moved_table d.line_str c.line_str) (all_places qs) (all_places r.units)
+    (info_numbers (edited_sections d.units qs)) (info_numbers d.units) (indexing_of (edited_data c d r) (edited_reads c d r)) (indexing_of d r)
+    (slot_texts d.base.order (moved_table d.str c.str) (offsets_after c (around_of d r) r)) (mapped_slots m (path_slots (around_of d r)) 0 (slot_texts d.base.order d.str r.offsets))
+    (all-places (data_shift m d r) r.units qs (units-changed-all m d r w)) (same-infos d.units qs) (indexing-edited m d r w) (slots-edited m d r w)
 
 -- they can be read
-pub data-reads : (m : PathMap) (d : DebugData) (r : Readings) → DataMoves m d r
-    → DataReads (edited_data (changes_of m (around_of d r) r) d r) (edited_readings (changes_of m (around_of d r) r) (around_of d r) r)
+pub data-reads : (m : PathMap) (d : DebugData) (r : DataReadings) → DataMoves m d r
+    → DataReads (edited_data (changes_of m (around_of d r) r) d r) (edited_reads (changes_of m (around_of d r) r) d r)
 data-reads m d r w =
     let c : TableChanges = changes_of m (around_of d r) r in
-    let qs : Readings = edited_readings (changes_of m (around_of d r) r) (around_of d r) r in
-    let s : Shift = shift_of (changes_of m (around_of d r) r) (around_of d r) in
+    let qs : Readings = edited_readings (changes_of m (around_of d r) r) (around_of d r) r.units in
+    let ys : List (Piece OffsetState) = offsets_after (changes_of m (around_of d r) r) (around_of d r) r in
+    let ns : List (Piece NameState) = names_after (changes_of m (around_of d r) r) (around_of d r) r in
     record {
-      units = all-changed d.base (shift_of c (around_of d r)) 0 d.units r qs (data-changed m d r w) w.reads.units;
-      texts = subst (λ (a : Around). EachReading (NamesText a) qs) (sym (around-edited m d r w)) (all-names (shift_of c (around_of d r)) r qs (data-changed m d r w));
+      units = all-changed d.base (data_shift m d r) 0 d.units r.units qs (units-changed-all m d r w) w.reads.units;
+      offsets = offsets-reads (data_shift m d r) (path_slots (around_of d r)) d.base.order d.offsets.contents r.offsets ys (offsets-changed m d r w) w.reads.offsets;
+      names = names-reads (data_shift m d r) d.base.order d.names.contents r.names ns (names-changed-all m d r w) w.reads.names;
+      texts = subst (λ (a : Around). EachReading (NamesText a) qs) (sym (around-edited m d r w)) (all-names (data_shift m d r) r.units qs (units-changed-all m d r w));
+      slot_texts = subst (λ (a : Around). NameTexts (slot_role (path_slots a)) a ys) (sym (around-edited m d r w))
+          (roles-named (slot_role (path_slots (around_of d r))) (data_shift m d r) r.offsets ys (offsets-changed m d r w));
+      name_texts = subst (λ (a : Around). NameTexts name_role a ns) (sym (around-edited m d r w))
+          (roles-named name_role (data_shift m d r) r.names ns (names-changed-all m d r w));
+      indexes = subst (λ (g : Indexing). EachUse (NamesSlot g) g.uses) (sym (indexing-edited m d r w)) w.reads.indexes;
     }
 
 -- and mean the mapped units
-pub data-mapped : (m : PathMap) (d : DebugData) (r : Readings) → DataMoves m d r
-    → units_of (edited_data (changes_of m (around_of d r) r) d r) (edited_readings (changes_of m (around_of d r) r) (around_of d r) r) ≡ mapped_units m (units_of d r)
+pub data-mapped : (m : PathMap) (d : DebugData) (r : DataReadings) → DataMoves m d r
+    → units_of (edited_data (changes_of m (around_of d r) r) d r) (edited_reads (changes_of m (around_of d r) r) d r) ≡ mapped_units m (units_of d r)
 unfolding units_of
 data-mapped m d r w =
-    let c : TableChanges = changes_of m (around_of d r) r in
-    let qs : Readings = edited_readings (changes_of m (around_of d r) r) (around_of d r) r in
-    ap (λ (a : Around). units_read a qs) (around-edited m d r w)
-    ∙ all-mapped (shift_of c (around_of d r)) r qs (data-changed m d r w)
+    let qs : Readings = edited_readings (changes_of m (around_of d r) r) (around_of d r) r.units in
+    ap (λ (a : Around). units_read a qs) (around-edited m d r w) ∙ all-mapped (data_shift m d r) r.units qs (units-changed-all m d r w)
+
+-- the slots mean the mapped texts: those that stand with a path in what the units mean
+pub slots-data : (m : PathMap) (d : DebugData) (r : DataReadings) → DataMoves m d r
+    → slot_texts d.base.order (moved_table d.str (changes_of m (around_of d r) r).str) (offsets_after (changes_of m (around_of d r) r) (around_of d r) r)
+    ≡ mapped_slots m (unit_slots (units_of d r)) 0 (slot_texts d.base.order d.str r.offsets)
+unfolding units_of
+slots-data m d r w =
+    slots-edited m d r w
+    ∙ ap (λ (ns : List ℕ). mapped_slots m ns 0 (slot_texts d.base.order d.str r.offsets)) (sym (units-slots d.base (around_of d r) 0 d.units r.units refl w.reads.units))
+
+-- and name tables mean what they meant
+pub names-data : (m : PathMap) (d : DebugData) (r : DataReadings) → DataMoves m d r
+    → name_parts d.base.order (moved_table d.str (changes_of m (around_of d r) r).str) (names_after (changes_of m (around_of d r) r) (around_of d r) r)
+    ≡ name_parts d.base.order d.str r.names
+names-data m d r w =
+    names-kept (data_shift m d r) r.names (names_after (changes_of m (around_of d r) r) (around_of d r) r) (names-changed-all m d r w)

@@ -1,15 +1,21 @@
 -- Debug data is read in one way, so a file means one thing.
 use Rattle.std.proofs.Common.{◌≡◌, ℕ, ◌+◌, List, [], ◌∷◌, sym, ap, ◌∙◌, refl, subst, length}
 use Rattle.dw_meaning.specs.DataOutput.{DataReads}
-use Rattle.dw_base.specs.DebugData.{DebugData, Reading, Readings, units_in, ReadsAll}
+use Rattle.dw_base.specs.DebugData.{DebugData, DataReadings, units_in, ReadsAll}
+use Rattle.dw_base.specs.Readings.{Reading, Readings}
 use Rattle.dw_meaning.specs.FileMeanings.{file_data, Means}
 use Rattle.dw_base.specs.FileViews.{view_of}
+use Rattle.dw_base.specs.Cells.{Cell}
+use Rattle.dw_base.specs.NamePieces.{NameState, at_table, names_at, name_grammar, ReadsNames}
+use Rattle.dw_base.specs.OffsetPieces.{OffsetState, at_contribution, offsets_at, offset_grammar, ReadsOffsets}
+use Rattle.dw_base.specs.declared.shared.Order.{Order}
+use Rattle.dw_base.proofs.OneWayLaws.{offsets-same, offsets-end, names-same, names-end}
 use Rattle.dw_base.specs.Pieces.{Piece}
 use Rattle.dw_base.specs.UnitHeaders.{UnitBase, UnitSection}
 use Rattle.dw_base.specs.UnitPieces.{ReadsUnits, unit_grammar}
 use Rattle.dw_base.specs.UnitStates.{UnitState, before_unit}
 use Rattle.dw_base.specs.ViewData.{Meaning, meaning_of}
-use Rattle.dw_meaning.proofs.PieceLaws.{chain-unique}
+use Rattle.dw_meaning.proofs.PieceLaws.{ReadsOneWay, chain-unique}
 use Rattle.dw_meaning.proofs.UnitOneLaws.{units_one_way}
 
 -- a unit section is pieces in one way
@@ -35,8 +41,33 @@ readings-one base first (z ∷ zs) (r ∷ rs) (q ∷ qs) a b =
     subst (λ (xs : List (Piece UnitState)). ReadsAll base (first + units_in xs) zs qs) (sym pieces) b.2 in
     ap (λ (x : Reading). x ∷ rs) same ∙ ap (λ (xs : Readings). q ∷ xs) (readings-one base (first + units_in r.pieces) zs rs qs a.2 rest)
 
-pub data-one : (d : DebugData) (r q : Readings) → DataReads d r → DataReads d q → r ≡ q
-data-one d r q a b = readings-one d.base 0 d.units r q a.units b.units
+-- string offsets and name tables are pieces in one way
+offsets_one_way : (order : Order) → ReadsOneWay (offset_grammar order)
+offsets_one_way order = record {
+  same = λ s p q r t f g e. offsets-same s.mode order s p q r t f g e;
+  ends = λ s p e f. offsets-end order s p e f;
+}
+
+names_one_way : (order : Order) → ReadsOneWay (name_grammar order)
+names_one_way order = record {
+  same = λ s p q r t f g e. names-same s.mode order s p q r t f g e;
+  ends = λ s p e f. names-end order s p e f;
+}
+
+pub offsets-one : (order : Order) (contents : List Cell) (xs ys : List (Piece OffsetState)) → ReadsOffsets order contents xs → ReadsOffsets order contents ys → xs ≡ ys
+offsets-one order contents xs ys r t =
+    chain-unique (offset_grammar order) (offsets_one_way order) (offsets_at (length contents) 0 0 at_contribution) xs ys r.chain t.chain (r.cells ∙ sym t.cells)
+
+pub names-one : (order : Order) (contents : List Cell) (xs ys : List (Piece NameState)) → ReadsNames order contents xs → ReadsNames order contents ys → xs ≡ ys
+names-one order contents xs ys r t =
+    chain-unique (name_grammar order) (names_one_way order) (names_at (length contents) 0 at_table) xs ys r.chain t.chain (r.cells ∙ sym t.cells)
+
+-- and so are all sections of debug data
+pub data-one : (d : DebugData) (r q : DataReadings) → DataReads d r → DataReads d q → r ≡ q
+data-one d r q a b =
+    ap (λ (x : Readings). record { units = x; offsets = r.offsets; names = r.names }) (readings-one d.base 0 d.units r.units q.units a.units b.units)
+    ∙ ap (λ (x : List (Piece OffsetState)). record { units = q.units; offsets = x; names = r.names }) (offsets-one d.base.order d.offsets.contents r.offsets q.offsets a.offsets b.offsets)
+    ∙ ap (λ (x : List (Piece NameState)). record { units = q.units; offsets = q.offsets; names = x }) (names-one d.base.order d.names.contents r.names q.names a.names b.names)
 
 -- whatever is read in a file says the same
 pub means-one : (b : List ℕ) (x y : Meaning) → Means b x → Means b y → x ≡ y

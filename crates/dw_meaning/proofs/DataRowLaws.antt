@@ -7,7 +7,8 @@ use Rattle.dw_base.specs.AbbreviationTables.{Abbreviation, IsTable}
 use Rattle.dw_base.specs.Cells.{bytes_of}
 use Rattle.dw_meaning.specs.DataFails.{DataFails, unit as unit_row, table as table_row, entries as entries_row}
 use Rattle.dw_meaning.specs.DataOutput.{DataReads}
-use Rattle.dw_base.specs.DebugData.{DebugData, Readings, units_in, ReadsAll, EachReading}
+use Rattle.dw_base.specs.DebugData.{DebugData, DataReadings, units_in, ReadsAll}
+use Rattle.dw_base.specs.Readings.{Readings, EachReading}
 use Rattle.dw_base.specs.EntryScans.{AreEntries}
 use Rattle.dw_base.specs.EntryValues.{HasUnit, bytes_up_to}
 use Rattle.dw_base.specs.Pieces.{Piece, EachPiece}
@@ -125,10 +126,10 @@ any-readings : (rs : Readings) → EachReading Any rs
 any-readings [] = tt
 any-readings (r ∷ rs) = (any-pieces r.pieces, any-readings rs)
 
-section-of : (d : DebugData) (rs : Readings) (z : UnitSection) (before behind : List UnitSection) → DataReads d rs → d.units ≡ before ++ z ∷ behind
+section-of : (d : DebugData) (rs : DataReadings) (z : UnitSection) (before behind : List UnitSection) → DataReads d rs → d.units ≡ before ++ z ∷ behind
     → SectionRead d.base z Any
 section-of d rs z before behind reads split =
-    section-among d.base Any 0 before behind z rs (subst (λ (zs : List UnitSection). ReadsAll d.base 0 zs rs) split reads.units) (any-readings rs)
+    section-among d.base Any 0 before behind z rs.units (subst (λ (zs : List UnitSection). ReadsAll d.base 0 zs rs.units) split reads.units) (any-readings rs.units)
 
 -- a unit starts inside its section
 unit-inside : (base : UnitBase) (z : UnitSection) (start : ℕ) (h : UnitHeader) → header_at base z start ≡ Some h → start < length z.contents
@@ -145,14 +146,14 @@ unit-inside base z start h e = by_order (cases_lt start (length z.contents))
     by_order (inr past) = absurd (clash (none past))
 
 -- a unit of debug data that can be read is whole
-pub unit-whole : (d : DebugData) (rs : Readings) (z : UnitSection) (h : UnitHeader) → DataReads d rs → (u : HasUnit d z h) → WholeUnit d.base z u.start h
+pub unit-whole : (d : DebugData) (rs : DataReadings) (z : UnitSection) (h : UnitHeader) → DataReads d rs → (u : HasUnit d z h) → WholeUnit d.base z u.start h
 unit-whole d rs z h reads u =
     let s : SectionRead d.base z Any = section-of d rs z u.before u.behind reads u.sections in
     let all = section-scanned d.base z s.first s.pieces s.reads in
     whole-unit d.base z u.list all.0 u.start (length z.contents) h u.units u.is all.1 (unit-inside d.base z u.start h u.is.header)
 
 -- so debug data that can be read has none of the refusals
-pub data-excludes : (d : DebugData) (rs : Readings) (r : Refusal) → DataReads d rs → DataFails d r → ⊥
+pub data-excludes : (d : DebugData) (rs : DataReadings) (r : Refusal) → DataReads d rs → DataFails d r → ⊥
 data-excludes d rs r reads (unit_row z before behind split f) =
     let s : SectionRead d.base z Any = section-of d rs z before behind reads split in
     let all = section-scanned d.base z s.first s.pieces s.reads in

@@ -1,10 +1,9 @@
 -- The file law: the output of a file means what the file means, with each source path mapped.
-use Rattle.std.proofs.Common.{true, false, ◌≡◌, ◌≢◌, ◌⊎◌, inl, inr, ℕ, ◌<◌, List, [], drop, Option, Some, None, sym, ap, ◌∙◌, refl, subst, arith, if◌then◌else◌, take}
-use Rattle.std.specs.Prelude.{◌==◌}
+use Rattle.std.proofs.Common.{true, false, ◌≡◌, ◌≢◌, ◌⊎◌, inl, inr, ℕ, ◌<◌, List, [], drop, Option, Some, None, Bool, ◌∷◌, length, true≢false, sym, ap, ◌∙◌, refl, subst, arith, if◌then◌else◌, take}
 use Rattle.std.proofs.lemmas.Bool.{ne_eqb, eq-eqb, cases_eq}
-use Rattle.dw_base.specs.Cells.{Located}
-use Rattle.dw_meaning.specs.DataOutput.{DataFits, table_change, changes_of, unit_bodies, body_in, new_bodies}
-use Rattle.dw_base.specs.DebugData.{Readings, Around, around_of}
+use Rattle.dw_base.specs.Cells.{Cell, Located, CellSection, bytes_of, plain_cells}
+use Rattle.dw_meaning.specs.DataOutput.{DataFits, table_change, changes_of, offsets_after, names_after, Body, unit_bodies, body_in, new_bodies}
+use Rattle.dw_base.specs.DebugData.{Around, DataReadings, around_of, path_slots}
 use Rattle.dw_base.specs.DebugSections.{debug_section, name_of}
 use Rattle.dw_base.specs.Elf.{e_shoff, nth_section, section_count, section_name, contents_of, contents_at, is_empty_kind}
 use Rattle.dw_meaning.specs.FileMeanings.{file_data, FileReads, new_body}
@@ -13,43 +12,81 @@ use Rattle.dw_base.specs.Forms.{in_str, in_line_str}
 use Rattle.dw_base.specs.LayoutReads.{ReadsBack}
 use Rattle.dw_base.specs.Paths.{PathMap, IsPathMap}
 use Rattle.dw_base.specs.StringTables.{new_table}
-use Rattle.dw_base.specs.TextChanges.{TableChanges}
-use Rattle.dw_base.specs.ViewData.{unit_kind, unit_sections, located, located_at, debug_data, is_read}
+use Rattle.dw_base.specs.TextChanges.{TableChanges, edited_by}
+use Rattle.dw_base.specs.Pieces.{Piece, joined}
+use Rattle.dw_base.specs.Roles.{Role}
+use Rattle.dw_base.specs.SectionTexts.{slot_role, name_role, edited_with}
+use Rattle.dw_base.specs.ViewData.{unit_kind, unit_sections, located, located_at, cell_section, debug_data, is_read}
 use Rattle.dw_base.specs.declared.debug_sections.DebugSection.{DebugSection}
 use Rattle.dw_base.specs.declared.debug_sections.DebugSection.TheVariants.{Info, Types, Abbrev, Str, LineStr, StrOffsets, Line, Macro, Names}
 use Rattle.dw_base.proofs.DebugSectionLaws.{debug_section-name}
 use Rattle.dw_meaning.proofs.FileBackLaws.{Back, SectionBack, is_read_name, sections-back}
 use Rattle.dw_base.proofs.FileViewLaws.{section_bytes-view_of}
-use Rattle.dw_meaning.proofs.SectionKeptLaws.{units-skip}
+use Rattle.dw_meaning.proofs.SectionKeptLaws.{edited-plain, edited-size, units-skip}
+use Rattle.dw_meaning.proofs.OffsetMoveLaws.{EachCells, cells-plain}
+use Rattle.dw_base.proofs.PlainCellLaws.{IsPlain, plain-append, plain_cells-plain}
+use Rattle.std.proofs.lemmas.List.{length-append}
 use Rattle.dw_meaning.proofs.TableKeptLaws.{FoundAt, found-named, TablePlace, nowhere, lies_at, table-place, new_table-none, drop-at, found-back, sections-self}
 
 -- a file that can be read and mapped
-pub record CanMap (m : PathMap) (b : List ℕ) (r : Readings) : Type 0 where
+pub record CanMap (m : PathMap) (b : List ℕ) (r : DataReadings) : Type 0 where
   pub map : IsPathMap m
   pub reads : FileReads b r
-  pub fits : DataFits m r
+  pub fits : DataFits m (file_data b) r
 
-abbrev pub around_file : List ℕ → Readings → Around
+abbrev pub around_file : List ℕ → DataReadings → Around
 around_file b r = around_of (file_data b) r
 
-abbrev pub changes_file : PathMap → List ℕ → Readings → TableChanges
+abbrev pub changes_file : PathMap → List ℕ → DataReadings → TableChanges
 changes_file m b r = changes_of m (around_of (file_data b) r) r
 
 -- the new bytes of the two tables
-abbrev pub new_str : PathMap → List ℕ → Readings → List ℕ
+abbrev pub new_str : PathMap → List ℕ → DataReadings → List ℕ
 new_str m b r = new_table (table_change m in_str (around_of (file_data b) r) r).plan (table_change m in_str (around_of (file_data b) r) r).texts
 
-abbrev pub new_line_str : PathMap → List ℕ → Readings → List ℕ
+abbrev pub new_line_str : PathMap → List ℕ → DataReadings → List ℕ
 new_line_str m b r = new_table (table_change m in_line_str (around_of (file_data b) r) r).plan (table_change m in_line_str (around_of (file_data b) r) r).texts
 
+-- the new cells of string offsets and of name tables
+abbrev pub new_offsets : PathMap → List ℕ → DataReadings → List Cell
+new_offsets m b r = joined (offsets_after (changes_file m b r) (around_file b r) r)
+
+abbrev pub new_names : PathMap → List ℕ → DataReadings → List Cell
+new_names m b r = joined (names_after (changes_file m b r) (around_file b r) r)
+
+-- the four sections with new bytes that hold no units
+abbrev pub str_new : PathMap → List ℕ → DataReadings → Body
+str_new m b r = record { number = (file_data b).str.number; bytes = new_str m b r }
+
+abbrev pub line_new : PathMap → List ℕ → DataReadings → Body
+line_new m b r = record { number = (file_data b).line_str.number; bytes = new_line_str m b r }
+
+abbrev pub offsets_new : PathMap → List ℕ → DataReadings → Body
+offsets_new m b r = record { number = (file_data b).offsets.number; bytes = bytes_of (new_offsets m b r) }
+
+abbrev pub names_new : PathMap → List ℕ → DataReadings → Body
+names_new m b r = record { number = (file_data b).names.number; bytes = bytes_of (new_names m b r) }
+
+abbrev pub units_new : PathMap → List ℕ → DataReadings → List Body
+units_new m b r = unit_bodies (changes_file m b r) (around_file b r) r.units
+
+-- what stands behind each in the list of new bodies
+abbrev behind_offsets : PathMap → List ℕ → DataReadings → List Body
+behind_offsets m b r = names_new m b r ∷ units_new m b r
+
+abbrev behind_line : PathMap → List ℕ → DataReadings → List Body
+behind_line m b r = offsets_new m b r ∷ behind_offsets m b r
+
+abbrev behind_str : PathMap → List ℕ → DataReadings → List Body
+behind_str m b r = line_new m b r ∷ behind_line m b r
+
 -- the body of a section of a number
-body-open : (m : PathMap) (b : List ℕ) (r : Readings) (i : ℕ)
-    → new_body m b r i ≡ (if i == (file_data b).str.number then new_str m b r else
-    (if i == (file_data b).line_str.number then new_line_str m b r else body_in (unit_bodies (changes_file m b r) (around_file b r) r) (contents_of b) i))
+body-open : (m : PathMap) (b : List ℕ) (r : DataReadings) (i : ℕ)
+    → new_body m b r i ≡ body_in (str_new m b r ∷ line_new m b r ∷ offsets_new m b r ∷ names_new m b r ∷ units_new m b r) (contents_of b) i
 unfolding new_body new_bodies
 body-open m b r i = refl
 
--- where the tables of texts lie
+-- where the sections lie
 pub str-place : (b : List ℕ) → TablePlace b (name_of Str) (file_data b).str
 unfolding debug_data
 str-place b = table-place b Str
@@ -58,15 +95,58 @@ pub line-place : (b : List ℕ) → TablePlace b (name_of LineStr) (file_data b)
 unfolding debug_data
 line-place b = table-place b LineStr
 
--- a table that isn't there has no new bytes
-pub str-none : (m : PathMap) (b : List ℕ) (r : Readings) → CanMap m b r → (file_data b).str.bytes ≡ [] → new_str m b r ≡ []
-str-none m b r w none = new_table-none m in_str (around_of (file_data b) r) r none w.reads.data_reads.texts
+pub offsets-place : (b : List ℕ) → TablePlace b (name_of StrOffsets) (located (view_of b) StrOffsets)
+offsets-place b = table-place b StrOffsets
 
-pub line-none : (m : PathMap) (b : List ℕ) (r : Readings) → CanMap m b r → (file_data b).line_str.bytes ≡ [] → new_line_str m b r ≡ []
-line-none m b r w none = new_table-none m in_line_str (around_of (file_data b) r) r none w.reads.data_reads.texts
+pub names-place : (b : List ℕ) → TablePlace b (name_of Names) (located (view_of b) Names)
+names-place b = table-place b Names
+
+pub offsets-are : (b : List ℕ) → (file_data b).offsets ≡ cell_section (located (view_of b) StrOffsets)
+unfolding debug_data
+offsets-are b = refl
+
+pub names-are : (b : List ℕ) → (file_data b).names ≡ cell_section (located (view_of b) Names)
+unfolding debug_data
+names-are b = refl
+
+-- a table that isn't there has no new bytes
+pub str-none : (m : PathMap) (b : List ℕ) (r : DataReadings) → CanMap m b r → (file_data b).str.bytes ≡ [] → new_str m b r ≡ []
+str-none m b r w none = new_table-none m in_str (around_of (file_data b) r) r none w.reads.data_reads.texts w.reads.data_reads.slot_texts w.reads.data_reads.name_texts
+
+pub line-none : (m : PathMap) (b : List ℕ) (r : DataReadings) → CanMap m b r → (file_data b).line_str.bytes ≡ [] → new_line_str m b r ≡ []
+line-none m b r w none = new_table-none m in_line_str (around_of (file_data b) r) r none w.reads.data_reads.texts w.reads.data_reads.slot_texts w.reads.data_reads.name_texts
+
+-- nor have string offsets and name tables: their pieces are as long as they were
+length-none : (p : List Cell) → length p ≡ 0 → p ≡ []
+length-none [] e = refl
+length-none (c ∷ cs) e = absurd (omega (arith, e))
+
+edited-length : {S : Type 0} (role : S → Role) (c : TableChanges) (around : Around) (xs : List (Piece S)) → EachCells xs → length (joined (edited_with role c around xs)) ≡ length (joined xs)
+edited-length role c around [] plain = refl
+edited-length role c around (x ∷ xs) plain =
+    let here : length (edited_by (role x.state) c around x.cells) ≡ length x.cells = edited-size (role x.state) c around x.cells plain.0 in
+    let rest : length (joined (edited_with role c around xs)) ≡ length (joined xs) = edited-length role c around xs plain.1 in
+    omega (arith, length-append x.cells (joined xs), length-append (edited_by (role x.state) c around x.cells) (joined (edited_with role c around xs)), here, rest)
+
+edited-none : {S : Type 0} (role : S → Role) (c : TableChanges) (around : Around) (xs : List (Piece S)) (bs : List ℕ) → joined xs ≡ plain_cells bs → bs ≡ []
+    → joined (edited_with role c around xs) ≡ []
+edited-none role c around xs bs cells none =
+    let empty : joined xs ≡ [] = cells ∙ ap plain_cells none in
+    let plain : EachCells xs = cells-plain xs (subst IsPlain (sym cells) (plain_cells-plain bs)) in
+    length-none (joined (edited_with role c around xs)) (edited-length role c around xs plain ∙ ap length empty)
+
+pub offsets-none : (m : PathMap) (b : List ℕ) (r : DataReadings) → CanMap m b r → (located (view_of b) StrOffsets).bytes ≡ [] → new_offsets m b r ≡ []
+offsets-none m b r w none =
+    edited-none (slot_role (path_slots (around_file b r))) (changes_file m b r) (around_file b r) r.offsets (located (view_of b) StrOffsets).bytes
+    (w.reads.data_reads.offsets.cells ∙ ap (λ (z : CellSection). z.contents) (offsets-are b)) none
+
+pub names-none : (m : PathMap) (b : List ℕ) (r : DataReadings) → CanMap m b r → (located (view_of b) Names).bytes ≡ [] → new_names m b r ≡ []
+names-none m b r w none =
+    edited-none name_role (changes_file m b r) (around_file b r) r.names (located (view_of b) Names).bytes
+    (w.reads.data_reads.names.cells ∙ ap (λ (z : CellSection). z.contents) (names-are b)) none
 
 -- section 0 has no bytes
-section_0 : (m : PathMap) (b : List ℕ) (r : Readings) → CanMap m b r → 0 < section_count b → contents_of b 0 ≡ []
+section_0 : (m : PathMap) (b : List ℕ) (r : DataReadings) → CanMap m b r → 0 < section_count b → contents_of b 0 ≡ []
 unfolding contents_of contents_at section_count
 section_0 m b r w some = by_table (cases_eq (e_shoff b) 0)
   where
@@ -81,31 +161,66 @@ pub name-apart : (b name : List ℕ) (z : Located) (i : ℕ) → TablePlace b na
 name-apart b name z i (nowhere zero none) some other same = omega (arith, same, zero, some)
 name-apart b name z i (lies_at there within named bytes) some other same = other (ap (section_name b) same ∙ named)
 
+-- the first body of a list, and the others
+here-body : (x : Body) (xs : List Body) (old : ℕ → List ℕ) (i : ℕ) → i ≡ x.number → body_in (x ∷ xs) old i ≡ x.bytes
+here-body x xs old i same = rw (eq-eqb i x.number same) refl
+
+next-body : (x : Body) (xs : List Body) (old : ℕ → List ℕ) (i : ℕ) → i ≢ x.number → body_in (x ∷ xs) old i ≡ body_in xs old i
+next-body x xs old i other = rw (ne_eqb i x.number other) refl
+
 -- the new body of the first table
-pub body-str : (m : PathMap) (b : List ℕ) (r : Readings) → new_body m b r (file_data b).str.number ≡ new_str m b r
-body-str m b r =
-    body-open m b r (file_data b).str.number
-    ∙ rw (eq-eqb (file_data b).str.number (file_data b).str.number refl) refl
+pub body-str : (m : PathMap) (b : List ℕ) (r : DataReadings) → new_body m b r (file_data b).str.number ≡ new_str m b r
+body-str m b r = body-open m b r (file_data b).str.number ∙ here-body (str_new m b r) (behind_str m b r) (contents_of b) (file_data b).str.number refl
 
 -- of the second, where it is there
-pub body-line : (m : PathMap) (b : List ℕ) (r : Readings) → (file_data b).line_str.number ≢ (file_data b).str.number
+pub body-line : (m : PathMap) (b : List ℕ) (r : DataReadings) → (file_data b).line_str.number ≢ (file_data b).str.number
     → new_body m b r (file_data b).line_str.number ≡ new_line_str m b r
 body-line m b r other =
-    body-open m b r (file_data b).line_str.number
-    ∙ rw (ne_eqb (file_data b).line_str.number (file_data b).str.number other, eq-eqb (file_data b).line_str.number (file_data b).line_str.number refl) refl
+    body-open m b r (file_data b).line_str.number ∙ next-body (str_new m b r) (behind_str m b r) (contents_of b) (file_data b).line_str.number other
+    ∙ here-body (line_new m b r) (behind_line m b r) (contents_of b) (file_data b).line_str.number refl
 
--- and of every other section
-pub body-other : (m : PathMap) (b : List ℕ) (r : Readings) (i : ℕ) → i ≢ (file_data b).str.number → i ≢ (file_data b).line_str.number
-    → new_body m b r i ≡ body_in (unit_bodies (changes_file m b r) (around_file b r) r) (contents_of b) i
-body-other m b r i str line =
-    body-open m b r i ∙ rw (ne_eqb i (file_data b).str.number str, ne_eqb i (file_data b).line_str.number line) refl
+-- of string offsets, and of name tables
+pub body-offsets : (m : PathMap) (b : List ℕ) (r : DataReadings) (i : ℕ) → i ≡ (file_data b).offsets.number → i ≢ (file_data b).str.number → i ≢ (file_data b).line_str.number
+    → new_body m b r i ≡ bytes_of (new_offsets m b r)
+body-offsets m b r i same str line =
+    body-open m b r i ∙ next-body (str_new m b r) (behind_str m b r) (contents_of b) i str ∙ next-body (line_new m b r) (behind_line m b r) (contents_of b) i line
+    ∙ here-body (offsets_new m b r) (behind_offsets m b r) (contents_of b) i same
+
+pub body-names : (m : PathMap) (b : List ℕ) (r : DataReadings) (i : ℕ) → i ≡ (file_data b).names.number → i ≢ (file_data b).str.number → i ≢ (file_data b).line_str.number
+    → i ≢ (file_data b).offsets.number → new_body m b r i ≡ bytes_of (new_names m b r)
+body-names m b r i same str line offsets =
+    body-open m b r i ∙ next-body (str_new m b r) (behind_str m b r) (contents_of b) i str ∙ next-body (line_new m b r) (behind_line m b r) (contents_of b) i line
+    ∙ next-body (offsets_new m b r) (behind_offsets m b r) (contents_of b) i offsets ∙ here-body (names_new m b r) (units_new m b r) (contents_of b) i same
+
+-- the number is that of none of them
+pub record IsApart (b : List ℕ) (i : ℕ) : Type 0 where
+  pub str : i ≢ (file_data b).str.number
+  pub line : i ≢ (file_data b).line_str.number
+  pub offsets : i ≢ (file_data b).offsets.number
+  pub names : i ≢ (file_data b).names.number
+
+-- the new body of every other section
+pub body-other : (m : PathMap) (b : List ℕ) (r : DataReadings) (i : ℕ) → IsApart b i → new_body m b r i ≡ body_in (units_new m b r) (contents_of b) i
+body-other m b r i a =
+    body-open m b r i ∙ next-body (str_new m b r) (behind_str m b r) (contents_of b) i a.str ∙ next-body (line_new m b r) (behind_line m b r) (contents_of b) i a.line
+    ∙ next-body (offsets_new m b r) (behind_offsets m b r) (contents_of b) i a.offsets ∙ next-body (names_new m b r) (units_new m b r) (contents_of b) i a.names
+
+-- a section that has none of the four names is none of them
+pub named-apart : (b : List ℕ) (i : ℕ) → 0 < i → section_name b i ≢ name_of Str → section_name b i ≢ name_of LineStr → section_name b i ≢ name_of StrOffsets
+    → section_name b i ≢ name_of Names → IsApart b i
+named-apart b i some str line offsets names = record {
+  str = name-apart b (name_of Str) (file_data b).str i (str-place b) some str;
+  line = name-apart b (name_of LineStr) (file_data b).line_str i (line-place b) some line;
+  offsets = subst (λ (z : CellSection). i ≢ z.number) (sym (offsets-are b)) (name-apart b (name_of StrOffsets) (located (view_of b) StrOffsets) i (offsets-place b) some offsets);
+  names = subst (λ (z : CellSection). i ≢ z.number) (sym (names-are b)) (name-apart b (name_of Names) (located (view_of b) Names) i (names-place b) some names);
+}
 
 -- a section that holds no units and has neither name keeps its bytes
-units-none : (m : PathMap) (b : List ℕ) (r : Readings) (i : ℕ) → CanMap m b r → unit_kind (debug_section (section_name b i)) ≡ None
-    → body_in (unit_bodies (changes_file m b r) (around_file b r) r) (contents_of b) i ≡ contents_of b i
+units-none : (m : PathMap) (b : List ℕ) (r : DataReadings) (i : ℕ) → CanMap m b r → unit_kind (debug_section (section_name b i)) ≡ None
+    → body_in (units_new m b r) (contents_of b) i ≡ contents_of b i
 unfolding debug_data unit_sections
 units-none m b r i w none =
-    units-skip b (contents_of b) (file_data b).base (changes_file m b r) (around_file b r) i none 0 1 (drop 1 (view_of b).sections) (drop 1 (view_of b).sections) r
+    units-skip b (contents_of b) (file_data b).base (changes_file m b r) (around_file b r) i none 0 1 (drop 1 (view_of b).sections) (drop 1 (view_of b).sections) r.units
     (drop-at (SectionBack b (contents_of b)) (view_of b).sections (view_of b).sections (sections-self b)) w.reads.data_reads.units
 
 -- a name that isn't read isn't that of a section of units
@@ -116,10 +231,10 @@ unread-units (Some Types) e = absurd cc
 unread-units (Some Abbrev) e = absurd cc
 unread-units (Some Str) e = absurd cc
 unread-units (Some LineStr) e = absurd cc
-unread-units (Some StrOffsets) e = refl
+unread-units (Some StrOffsets) e = absurd cc
 unread-units (Some Line) e = refl
 unread-units (Some Macro) e = refl
-unread-units (Some Names) e = refl
+unread-units (Some Names) e = absurd cc
 
 -- nor that of a table
 unread-other : (b : List ℕ) (i : ℕ) (s : DebugSection) → is_read (Some s) ≡ true → is_read_name (section_name b i) ≡ false → section_name b i ≢ name_of s
@@ -127,33 +242,40 @@ unread-other b i s read unread same =
     let is : is_read_name (section_name b i) ≡ true = ap (λ (n : List ℕ). is_read (debug_section n)) same ∙ ap is_read (debug_section-name s) ∙ read in
     cc
 
--- a section that isn't read keeps its bytes
-unread-kept : (m : PathMap) (b : List ℕ) (r : Readings) (i : ℕ) → CanMap m b r → i < section_count b → is_read_name (section_name b i) ≡ false
-    → new_body m b r i ≡ contents_of b i
-unread-kept m b r i w lt unread = by_str (cases_eq i (file_data b).str.number) (str-place b)
+-- a section that isn't read keeps its bytes: it is none of those with new bytes, or section 0, and these have none
+keep-body : (x : Body) (xs : List Body) (old : ℕ → List ℕ) (i : ℕ) → (i ≡ x.number → x.bytes ≡ old i) → body_in xs old i ≡ old i → body_in (x ∷ xs) old i ≡ old i
+keep-body x xs old i here rest = by_number (cases_eq i x.number)
   where
-    by_line : i ≢ (file_data b).str.number → (i ≡ (file_data b).line_str.number) ⊎ (i ≡ (file_data b).line_str.number → ⊥) → TablePlace b (name_of LineStr) (file_data b).line_str
-        → new_body m b r i ≡ contents_of b i
-    by_line other (inr line) place =
-        body-other m b r i other line ∙ units-none m b r i w (unread-units (debug_section (section_name b i)) unread)
-    by_line other (inl same) (nowhere zero none) =
-        let apart : (file_data b).line_str.number ≢ (file_data b).str.number = λ (e : (file_data b).line_str.number ≡ (file_data b).str.number). other (same ∙ e) in
-        let first : i ≡ 0 = same ∙ zero in
-        ap (new_body m b r) same ∙ body-line m b r apart ∙ line-none m b r w none
-        ∙ sym (ap (contents_of b) first ∙ section_0 m b r w (subst (λ (n : ℕ). n < section_count b) first lt))
-    by_line other (inl same) (lies_at there within named bytes) =
-        absurd (unread-other b i LineStr refl unread (ap (section_name b) same ∙ named))
+    by_number : (i ≡ x.number) ⊎ (i ≡ x.number → ⊥) → body_in (x ∷ xs) old i ≡ old i
+    by_number (inl same) = here-body x xs old i same ∙ here same
+    by_number (inr other) = next-body x xs old i other ∙ rest
 
-    by_str : (i ≡ (file_data b).str.number) ⊎ (i ≡ (file_data b).str.number → ⊥) → TablePlace b (name_of Str) (file_data b).str → new_body m b r i ≡ contents_of b i
-    by_str (inr other) place = by_line other (cases_eq i (file_data b).line_str.number) (line-place b)
-    by_str (inl same) (nowhere zero none) =
-        let first : i ≡ 0 = same ∙ zero in
-        ap (new_body m b r) same ∙ body-str m b r ∙ str-none m b r w none
-        ∙ sym (ap (contents_of b) first ∙ section_0 m b r w (subst (λ (n : ℕ). n < section_count b) first lt))
-    by_str (inl same) (lies_at there within named bytes) = absurd (unread-other b i Str refl unread (ap (section_name b) same ∙ named))
+unread-same : (m : PathMap) (b : List ℕ) (r : DataReadings) (i : ℕ) (s : DebugSection) (z : Located) (bytes : List ℕ) → CanMap m b r → i < section_count b
+    → is_read (Some s) ≡ true → is_read_name (section_name b i) ≡ false → (z.bytes ≡ [] → bytes ≡ []) → TablePlace b (name_of s) z → i ≡ z.number → bytes ≡ contents_of b i
+unread-same m b r i s z bytes w lt read unread none (nowhere zero empty) same =
+    let first : i ≡ 0 = same ∙ zero in
+    none empty ∙ sym (ap (contents_of b) first ∙ section_0 m b r w (subst (λ (n : ℕ). n < section_count b) first lt))
+unread-same m b r i s z bytes w lt read unread none (lies_at there within named own) same =
+    absurd (unread-other b i s read unread (ap (section_name b) same ∙ named))
+
+unread-kept : (m : PathMap) (b : List ℕ) (r : DataReadings) (i : ℕ) → CanMap m b r → i < section_count b → is_read_name (section_name b i) ≡ false
+    → new_body m b r i ≡ contents_of b i
+unread-kept m b r i w lt unread =
+    body-open m b r i
+    ∙ keep-body (str_new m b r) (behind_str m b r) (contents_of b) i
+    (unread-same m b r i Str (file_data b).str (new_str m b r) w lt refl unread (str-none m b r w) (str-place b))
+    (keep-body (line_new m b r) (behind_line m b r) (contents_of b) i
+    (unread-same m b r i LineStr (file_data b).line_str (new_line_str m b r) w lt refl unread (line-none m b r w) (line-place b))
+    (keep-body (offsets_new m b r) (behind_offsets m b r) (contents_of b) i
+    (λ same. unread-same m b r i StrOffsets (located (view_of b) StrOffsets) (bytes_of (new_offsets m b r)) w lt refl unread
+    (λ none. ap bytes_of (offsets-none m b r w none)) (offsets-place b) (same ∙ ap (λ (z : CellSection). z.number) (offsets-are b)))
+    (keep-body (names_new m b r) (units_new m b r) (contents_of b) i
+    (λ same. unread-same m b r i Names (located (view_of b) Names) (bytes_of (new_names m b r)) w lt refl unread
+    (λ none. ap bytes_of (names-none m b r w none)) (names-place b) (same ∙ ap (λ (z : CellSection). z.number) (names-are b)))
+    (units-none m b r i w (unread-units (debug_section (section_name b i)) unread)))))
 
 -- so the output is a file that was written with new bodies for what is read
-pub file-back : (m : PathMap) (b : List ℕ) (r : Readings) (out : List ℕ) → CanMap m b r → ReadsBack b (new_body m b r) out → Back b (new_body m b r) out
+pub file-back : (m : PathMap) (b : List ℕ) (r : DataReadings) (out : List ℕ) → CanMap m b r → ReadsBack b (new_body m b r) out → Back b (new_body m b r) out
 file-back m b r out w back = record {
   elf = w.reads.elf;
   kind = w.reads.kind;
@@ -163,12 +285,12 @@ file-back m b r out w back = record {
 }
 
 -- a table in the output: it is nowhere in both files, or in the section of the same number, with its new body
-data LocatedBack (m : PathMap) (b : List ℕ) (r : Readings) (name : List ℕ) (z y : Located) : Type 0 where
+data LocatedBack (m : PathMap) (b : List ℕ) (r : DataReadings) (name : List ℕ) (z y : Located) : Type 0 where
   gone : z.number ≡ 0 → z.bytes ≡ [] → y ≡ record { number = 0; bytes = [] } → LocatedBack m b r name z y
   stands : 0 < z.number → z.number < section_count b → section_name b z.number ≡ name → z.bytes ≡ contents_of b z.number
       → y ≡ record { number = z.number; bytes = new_body m b r z.number } → LocatedBack m b r name z y
 
-located-back : (m : PathMap) (b : List ℕ) (r : Readings) (out : List ℕ) (s : DebugSection) → CanMap m b r → ReadsBack b (new_body m b r) out
+located-back : (m : PathMap) (b : List ℕ) (r : DataReadings) (out : List ℕ) (s : DebugSection) → CanMap m b r → ReadsBack b (new_body m b r) out
     → LocatedBack m b r (name_of s) (located (view_of b) s) (located (view_of out) s)
 unfolding located section_named section_after
 located-back m b r out s w back =
@@ -193,7 +315,7 @@ located-back m b r out s w back =
         ∙ ap (λ (bs : List ℕ). record { number = i; bytes = bs }) (section_bytes-view_of out i lt ∙ back.contents i f.within))
 
 -- the two tables have their new bytes
-pub str-back : (m : PathMap) (b : List ℕ) (r : Readings) (out : List ℕ) → CanMap m b r → ReadsBack b (new_body m b r) out
+pub str-back : (m : PathMap) (b : List ℕ) (r : DataReadings) (out : List ℕ) → CanMap m b r → ReadsBack b (new_body m b r) out
     → (file_data out).str ≡ record { number = (file_data b).str.number; bytes = new_str m b r }
 unfolding debug_data
 str-back m b r out w back = by_place (located-back m b r out Str w back)
@@ -215,7 +337,7 @@ tables-apart b there named =
     differ : name_of LineStr ≡ name_of Str → ⊥
     differ e = cc
 
-pub line-back : (m : PathMap) (b : List ℕ) (r : Readings) (out : List ℕ) → CanMap m b r → ReadsBack b (new_body m b r) out
+pub line-back : (m : PathMap) (b : List ℕ) (r : DataReadings) (out : List ℕ) → CanMap m b r → ReadsBack b (new_body m b r) out
     → (file_data out).line_str ≡ record { number = (file_data b).line_str.number; bytes = new_line_str m b r }
 unfolding debug_data
 line-back m b r out w back = by_place (located-back m b r out LineStr w back)
@@ -228,29 +350,104 @@ line-back m b r out w back = by_place (located-back m b r out LineStr w back)
     by_place (stands there within named bytes is) =
         is ∙ ap (λ (bs : List ℕ). record { number = (located (view_of b) LineStr).number; bytes = bs }) (body-line m b r (tables-apart b there named))
 
--- the abbreviations are as they were
-pub abbrev-back : (m : PathMap) (b : List ℕ) (r : Readings) (out : List ℕ) → CanMap m b r → ReadsBack b (new_body m b r) out
+-- a section of a name of its own, not of the four, has the bytes that it had
+pub abbrev-back : (m : PathMap) (b : List ℕ) (r : DataReadings) (out : List ℕ) → CanMap m b r → ReadsBack b (new_body m b r) out
     → located (view_of out) Abbrev ≡ located (view_of b) Abbrev
 abbrev-back m b r out w back = by_place (located-back m b r out Abbrev w back)
   where
-    str_differ : name_of Abbrev ≡ name_of Str → ⊥
-    str_differ e = cc
-
-    line_differ : name_of Abbrev ≡ name_of LineStr → ⊥
-    line_differ e = cc
-
     by_place : LocatedBack m b r (name_of Abbrev) (located (view_of b) Abbrev) (located (view_of out) Abbrev)
         → located (view_of out) Abbrev ≡ located (view_of b) Abbrev
     by_place (gone zero none is) =
         is ∙ ap (λ (n : ℕ). record { number = n; bytes = [] }) (sym zero)
         ∙ ap (λ (bs : List ℕ). record { number = (located (view_of b) Abbrev).number; bytes = bs }) (sym none)
     by_place (stands there within named bytes is) =
-        let i : ℕ = (located (view_of b) Abbrev).number in
-        let str : (located (view_of b) Abbrev).number ≢ (file_data b).str.number =
-        name-apart b (name_of Str) (file_data b).str (located (view_of b) Abbrev).number (str-place b) there (λ e. str_differ (sym named ∙ e)) in
-        let line : (located (view_of b) Abbrev).number ≢ (file_data b).line_str.number =
-        name-apart b (name_of LineStr) (file_data b).line_str (located (view_of b) Abbrev).number (line-place b) there (λ e. line_differ (sym named ∙ e)) in
+        let apart : IsApart b (located (view_of b) Abbrev).number =
+        named-apart b (located (view_of b) Abbrev).number there (λ e. other Str refl (sym named ∙ e)) (λ e. other LineStr refl (sym named ∙ e))
+        (λ e. other StrOffsets refl (sym named ∙ e)) (λ e. other Names refl (sym named ∙ e)) in
         let none : unit_kind (debug_section (section_name b (located (view_of b) Abbrev).number)) ≡ None =
         ap (λ (n : List ℕ). unit_kind (debug_section n)) named ∙ ap unit_kind (debug_section-name Abbrev) in
         is ∙ ap (λ (bs : List ℕ). record { number = (located (view_of b) Abbrev).number; bytes = bs })
-        (body-other m b r (located (view_of b) Abbrev).number str line ∙ units-none m b r (located (view_of b) Abbrev).number w none ∙ sym bytes)
+        (body-other m b r (located (view_of b) Abbrev).number apart ∙ units-none m b r (located (view_of b) Abbrev).number w none ∙ sym bytes)
+      where
+        is_abbrev : Option DebugSection → Bool
+        is_abbrev (Some Abbrev) = true
+        is_abbrev s = false
+
+        other : (s : DebugSection) → is_abbrev (Some s) ≡ false → name_of Abbrev ≡ name_of s → ⊥
+        other s none e =
+            let same : is_abbrev (debug_section (name_of Abbrev)) ≡ is_abbrev (debug_section (name_of s)) = ap (λ (n : List ℕ). is_abbrev (debug_section n)) e in
+            let yes : is_abbrev (debug_section (name_of Abbrev)) ≡ true = ap is_abbrev (debug_section-name Abbrev) in
+            let lacks : is_abbrev (debug_section (name_of s)) ≡ false = ap is_abbrev (debug_section-name s) ∙ none in
+            true≢false (sym yes ∙ same ∙ lacks)
+
+-- string offsets, and name tables, have their moved fields
+differ : (s t : DebugSection) → name_of s ≡ name_of t → Some s ≡ Some t
+differ s t e = sym (debug_section-name s) ∙ ap debug_section e ∙ debug_section-name t
+
+edited-cells : {S : Type 0} (role : S → Role) (c : TableChanges) (around : Around) (xs : List (Piece S)) → EachCells xs → IsPlain (joined (edited_with role c around xs))
+edited-cells role c around [] plain = record { plain = refl }
+edited-cells role c around (x ∷ xs) plain =
+    plain-append (edited_by (role x.state) c around x.cells) (joined (edited_with role c around xs))
+    (edited-plain (role x.state) c around x.cells plain.0) (edited-cells role c around xs plain.1)
+
+offsets-cells : (m : PathMap) (b : List ℕ) (r : DataReadings) → CanMap m b r → IsPlain (new_offsets m b r)
+offsets-cells m b r w =
+    edited-cells (slot_role (path_slots (around_file b r))) (changes_file m b r) (around_file b r) r.offsets
+    (cells-plain r.offsets (subst IsPlain (sym (w.reads.data_reads.offsets.cells ∙ ap (λ (z : CellSection). z.contents) (offsets-are b))) (plain_cells-plain (located (view_of b) StrOffsets).bytes)))
+
+names-cells : (m : PathMap) (b : List ℕ) (r : DataReadings) → CanMap m b r → IsPlain (new_names m b r)
+names-cells m b r w =
+    edited-cells name_role (changes_file m b r) (around_file b r) r.names
+    (cells-plain r.names (subst IsPlain (sym (w.reads.data_reads.names.cells ∙ ap (λ (z : CellSection). z.contents) (names-are b))) (plain_cells-plain (located (view_of b) Names).bytes)))
+
+pub offsets-back : (m : PathMap) (b : List ℕ) (r : DataReadings) (out : List ℕ) → CanMap m b r → ReadsBack b (new_body m b r) out
+    → (file_data out).offsets ≡ record { number = (file_data b).offsets.number; contents = new_offsets m b r }
+unfolding debug_data
+offsets-back m b r out w back = by_place (located-back m b r out StrOffsets w back)
+  where
+    str_no : Some StrOffsets ≡ Some Str → ⊥
+    str_no e = cc
+
+    line_no : Some StrOffsets ≡ Some LineStr → ⊥
+    line_no e = cc
+
+    by_place : LocatedBack m b r (name_of StrOffsets) (located (view_of b) StrOffsets) (located (view_of out) StrOffsets)
+        → cell_section (located (view_of out) StrOffsets) ≡ record { number = (located (view_of b) StrOffsets).number; contents = new_offsets m b r }
+    by_place (gone zero none is) =
+        ap cell_section is ∙ ap (λ (n : ℕ). record { number = n; contents = [] }) (sym zero)
+        ∙ ap (λ (p : List Cell). record { number = (located (view_of b) StrOffsets).number; contents = p }) (sym (offsets-none m b r w none))
+    by_place (stands there within named bytes is) =
+        let str = name-apart b (name_of Str) (file_data b).str (located (view_of b) StrOffsets).number (str-place b) there (λ e. str_no (differ StrOffsets Str (sym named ∙ e))) in
+        let line = name-apart b (name_of LineStr) (file_data b).line_str (located (view_of b) StrOffsets).number (line-place b) there (λ e. line_no (differ StrOffsets LineStr (sym named ∙ e))) in
+        ap cell_section is
+        ∙ ap (λ (bs : List ℕ). record { number = (located (view_of b) StrOffsets).number; contents = plain_cells bs })
+        (body-offsets m b r (located (view_of b) StrOffsets).number refl str line)
+        ∙ ap (λ (p : List Cell). record { number = (located (view_of b) StrOffsets).number; contents = p }) (sym (offsets-cells m b r w).plain)
+
+pub names-section : (m : PathMap) (b : List ℕ) (r : DataReadings) (out : List ℕ) → CanMap m b r → ReadsBack b (new_body m b r) out
+    → (file_data out).names ≡ record { number = (file_data b).names.number; contents = new_names m b r }
+unfolding debug_data
+names-section m b r out w back = by_place (located-back m b r out Names w back)
+  where
+    str_no : Some Names ≡ Some Str → ⊥
+    str_no e = cc
+
+    line_no : Some Names ≡ Some LineStr → ⊥
+    line_no e = cc
+
+    offsets_no : Some Names ≡ Some StrOffsets → ⊥
+    offsets_no e = cc
+
+    by_place : LocatedBack m b r (name_of Names) (located (view_of b) Names) (located (view_of out) Names)
+        → cell_section (located (view_of out) Names) ≡ record { number = (located (view_of b) Names).number; contents = new_names m b r }
+    by_place (gone zero none is) =
+        ap cell_section is ∙ ap (λ (n : ℕ). record { number = n; contents = [] }) (sym zero)
+        ∙ ap (λ (p : List Cell). record { number = (located (view_of b) Names).number; contents = p }) (sym (names-none m b r w none))
+    by_place (stands there within named bytes is) =
+        let str = name-apart b (name_of Str) (file_data b).str (located (view_of b) Names).number (str-place b) there (λ e. str_no (differ Names Str (sym named ∙ e))) in
+        let line = name-apart b (name_of LineStr) (file_data b).line_str (located (view_of b) Names).number (line-place b) there (λ e. line_no (differ Names LineStr (sym named ∙ e))) in
+        let offsets = name-apart b (name_of StrOffsets) (located (view_of b) StrOffsets) (located (view_of b) Names).number (offsets-place b) there (λ e. offsets_no (differ Names StrOffsets (sym named ∙ e))) in
+        ap cell_section is
+        ∙ ap (λ (bs : List ℕ). record { number = (located (view_of b) Names).number; contents = plain_cells bs })
+        (body-names m b r (located (view_of b) Names).number refl str line offsets)
+        ∙ ap (λ (p : List Cell). record { number = (located (view_of b) Names).number; contents = p }) (sym (names-cells m b r w).plain)

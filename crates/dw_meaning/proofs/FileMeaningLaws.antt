@@ -1,8 +1,11 @@
 -- The output of a file means what the file means, with each source path mapped: from what reads back of it.
 use Rattle.std.proofs.Common.{Bool, true, false, ◌≡◌, ◌≢◌, ℕ, suc, ◌^◌, ◌≤◌, List, [], ◌∷◌, ◌++◌, length, drop, Option, Some, None, sym, ap, ◌∙◌, refl, subst, arith, if◌then◌else◌}
-use Rattle.dw_base.specs.Cells.{Located}
+use Rattle.dw_base.specs.Cells.{Located, CellSection}
 use Rattle.dw_meaning.specs.DataOutput.{DataReads}
-use Rattle.dw_base.specs.DebugData.{DebugData, Readings, EachReading}
+use Rattle.dw_base.specs.DebugData.{DebugData, DataReadings}
+use Rattle.dw_base.specs.Readings.{EachReading}
+use Rattle.dw_base.specs.SlotTexts.{slot_texts, NamePart, name_parts}
+use Rattle.dw_base.specs.MappedSlots.{unit_slots, mapped_slots}
 use Rattle.dw_base.specs.DebugSections.{debug_section, name_of}
 use Rattle.dw_base.specs.Elf.{section_name, contents_of}
 use Rattle.dw_meaning.specs.FileMeanings.{file_data, FileReads, Means, MeaningKept, new_body}
@@ -13,17 +16,17 @@ use Rattle.dw_base.specs.MappedUnits.{mapped_units}
 use Rattle.dw_base.specs.Paths.{PathMap}
 use Rattle.dw_base.specs.UnitHeaders.{UnitSection, SectionKind}
 use Rattle.dw_base.specs.UnitMeanings.{UnitMeaning, units_of}
-use Rattle.dw_base.specs.ViewData.{unit_kind, unit_section, unit_sections_from, unit_sections, located, debug_data, NamedBytes, other_sections, bytes_named, without_id, meaning_of, mapped}
+use Rattle.dw_base.specs.ViewData.{unit_kind, unit_section, unit_sections_from, unit_sections, located, debug_data, NamedBytes, other_sections, bytes_named, without_id, Meaning, meaning_of, mapped}
 use Rattle.dw_base.specs.declared.debug_sections.DebugSection.{DebugSection}
-use Rattle.dw_base.specs.declared.debug_sections.DebugSection.TheVariants.{Abbrev, Str, LineStr}
+use Rattle.dw_base.specs.declared.debug_sections.DebugSection.TheVariants.{Abbrev, Str, LineStr, StrOffsets, Names}
 use Rattle.dw_base.specs.declared.shared.Order.{Order}
-use Rattle.dw_meaning.proofs.DataKeptLaws.{DataMoves, EachPlain, edited_data, edited_readings, edited_sections, readings-plain, data-reads, data-mapped}
+use Rattle.dw_meaning.proofs.DataKeptLaws.{DataMoves, EachPlain, edited_data, edited_reads, edited_sections, readings-plain, data-reads, data-mapped, slots-data, names-data}
 use Rattle.dw_meaning.proofs.DataOneLaws.{means-one}
 use Rattle.dw_base.proofs.DebugSectionLaws.{debug_section-name}
 use Rattle.dw_meaning.proofs.FileBackLaws.{SectionBack, sections-back, elf-back, kind-back, names-back, others-back}
-use Rattle.dw_meaning.proofs.FileKeptLaws.{CanMap, around_file, changes_file, new_str, new_line_str, file-back, str-back, line-back, abbrev-back, body-str, body-line, body-other, name-apart, tables-apart, str-place, line-place, str-none, line-none}
+use Rattle.dw_meaning.proofs.FileKeptLaws.{CanMap, around_file, changes_file, new_str, new_line_str, file-back, str-back, line-back, abbrev-back, offsets-back, names-section, new_offsets, new_names, offsets-are, names-are, named-apart, body-str, body-line, body-other, tables-apart, str-place, line-place, str-none, line-none}
 use Rattle.dw_base.proofs.FileViewLaws.{order-view_of}
-use Rattle.dw_base.proofs.PlainCellLaws.{plain_cells-plain}
+use Rattle.dw_base.proofs.PlainCellLaws.{IsPlain, plain_cells-plain}
 use Rattle.dw_meaning.proofs.SectionKeptLaws.{units-edited}
 use Rattle.dw_base.proofs.SectionLaws.{length-contents}
 use Rattle.dw_meaning.proofs.TableKeptLaws.{TablePlace, nowhere, lies_at, drop-at}
@@ -44,12 +47,12 @@ file-plain : (b : List ℕ) → EachPlain (file_data b).units
 unfolding debug_data unit_sections
 file-plain b = units-plain 1 (drop 1 (view_of b).sections)
 
-pieces-plain : (m : PathMap) (b : List ℕ) (r : Readings) → CanMap m b r → EachReading PlainPiece r
-pieces-plain m b r w = readings-plain (file_data b).base 0 (file_data b).units r w.reads.data_reads.units (file-plain b)
+pieces-plain : (m : PathMap) (b : List ℕ) (r : DataReadings) → CanMap m b r → EachReading PlainPiece r.units
+pieces-plain m b r w = readings-plain (file_data b).base 0 (file_data b).units r.units w.reads.data_reads.units (file-plain b)
 
 -- the readings of the output
-abbrev pub new_readings : PathMap → List ℕ → Readings → Readings
-new_readings m b r = edited_readings (changes_file m b r) (around_file b r) r
+abbrev pub new_readings : PathMap → List ℕ → DataReadings → DataReadings
+new_readings m b r = edited_reads (changes_file m b r) (file_data b) r
 
 -- a section of units isn't one of a table
 units-apart : (b : List ℕ) (i : ℕ) (kind : SectionKind) (s : DebugSection) → unit_kind (Some s) ≡ None → unit_kind (debug_section (section_name b i)) ≡ Some kind
@@ -63,67 +66,61 @@ units-apart b i kind s none some same =
     clash e = cc
 
 -- its unit sections are those of the file, edited
-units-back : (m : PathMap) (b : List ℕ) (r : Readings) (out : List ℕ) → CanMap m b r → ReadsBack b (new_body m b r) out
-    → (file_data out).units ≡ edited_sections (file_data b).units (new_readings m b r)
+units-back : (m : PathMap) (b : List ℕ) (r : DataReadings) (out : List ℕ) → CanMap m b r → ReadsBack b (new_body m b r) out
+    → (file_data out).units ≡ edited_sections (file_data b).units (new_readings m b r).units
 unfolding debug_data unit_sections
 units-back m b r out w back =
-    units-edited b (new_body m b r) (file_data b).base (changes_file m b r) (around_file b r) 0 1 (drop 1 (view_of b).sections) (drop 1 (view_of out).sections) r
+    units-edited b (new_body m b r) (file_data b).base (changes_file m b r) (around_file b r) 0 1 (drop 1 (view_of b).sections) (drop 1 (view_of out).sections) r.units
     (drop-at (SectionBack b (new_body m b r)) (view_of b).sections (view_of out).sections (sections-back b (new_body m b r) out (file-back m b r out w back)))
     w.reads.data_reads.units (pieces-plain m b r w)
     (λ i kind le lt some.
     body-other m b r i
-    (name-apart b (name_of Str) (file_data b).str i (str-place b) (omega arith) (units-apart b i kind Str refl some))
-    (name-apart b (name_of LineStr) (file_data b).line_str i (line-place b) (omega arith) (units-apart b i kind LineStr refl some)))
+    (named-apart b i (omega arith) (units-apart b i kind Str refl some) (units-apart b i kind LineStr refl some) (units-apart b i kind StrOffsets refl some)
+    (units-apart b i kind Names refl some)))
 
 -- so its debug data are the file's, edited
-order-back : (m : PathMap) (b : List ℕ) (r : Readings) (out : List ℕ) → ReadsBack b (new_body m b r) out → (view_of out).order ≡ (view_of b).order
+order-back : (m : PathMap) (b : List ℕ) (r : DataReadings) (out : List ℕ) → ReadsBack b (new_body m b r) out → (view_of out).order ≡ (view_of b).order
 order-back m b r out back = order-view_of out ∙ back.order ∙ sym (order-view_of b)
 
 -- debug data by their parts
-data-parts : (b : List ℕ) → file_data b ≡ record {
-  base = record { order = (view_of b).order; abbrevs = located (view_of b) Abbrev };
-  units = (file_data b).units;
-  str = (file_data b).str;
-  line_str = (file_data b).line_str;
-}
+abbrev data_with : Order → Located → List UnitSection → Located → Located → CellSection → CellSection → DebugData
+data_with order abbrevs units str line offsets names =
+    record { base = record { order = order; abbrevs = abbrevs }; units = units; str = str; line_str = line; offsets = offsets; names = names }
+
+data-parts : (b : List ℕ) → file_data b ≡ data_with (view_of b).order (located (view_of b) Abbrev) (file_data b).units (file_data b).str (file_data b).line_str
+    (file_data b).offsets (file_data b).names
 unfolding debug_data
 data-parts b = refl
 
-edited-parts : (m : PathMap) (b : List ℕ) (r : Readings) → record {
-  base = record { order = (view_of b).order; abbrevs = located (view_of b) Abbrev };
-  units = edited_sections (file_data b).units (new_readings m b r);
-  str = record { number = (file_data b).str.number; bytes = new_str m b r };
-  line_str = record { number = (file_data b).line_str.number; bytes = new_line_str m b r };
-} ≡ edited_data (changes_file m b r) (file_data b) r
+same-parts : (o p : Order) (a c : Located) (us vs : List UnitSection) (s t l k : Located) (x y n q : CellSection) → o ≡ p → a ≡ c → us ≡ vs → s ≡ t → l ≡ k → x ≡ y → n ≡ q
+    → data_with o a us s l x n ≡ data_with p c vs t k y q
+same-parts o p a c us vs s t l k x y n q e f g h i j d =
+    ap (λ (z : Order). data_with z a us s l x n) e ∙ ap (λ (z : Located). data_with p z us s l x n) f ∙ ap (λ (z : List UnitSection). data_with p c z s l x n) g
+    ∙ ap (λ (z : Located). data_with p c vs z l x n) h ∙ ap (λ (z : Located). data_with p c vs t z x n) i ∙ ap (λ (z : CellSection). data_with p c vs t k z n) j
+    ∙ ap (λ (z : CellSection). data_with p c vs t k y z) d
+
+edited-parts : (m : PathMap) (b : List ℕ) (r : DataReadings) → data_with (view_of b).order (located (view_of b) Abbrev)
+    (edited_sections (file_data b).units (new_readings m b r).units) (record { number = (file_data b).str.number; bytes = new_str m b r })
+    (record { number = (file_data b).line_str.number; bytes = new_line_str m b r }) (record { number = (file_data b).offsets.number; contents = new_offsets m b r })
+    (record { number = (file_data b).names.number; contents = new_names m b r }) ≡ edited_data (changes_file m b r) (file_data b) r
 unfolding debug_data
 edited-parts m b r = refl
 
-pub data-back : (m : PathMap) (b : List ℕ) (r : Readings) (out : List ℕ) → CanMap m b r → ReadsBack b (new_body m b r) out
+pub data-back : (m : PathMap) (b : List ℕ) (r : DataReadings) (out : List ℕ) → CanMap m b r → ReadsBack b (new_body m b r) out
     → file_data out ≡ edited_data (changes_file m b r) (file_data b) r
 data-back m b r out w back =
     data-parts out
-    ∙ ap (λ (o : Order). record { base = record { order = o; abbrevs = located (view_of out) Abbrev }; units = (file_data out).units; str = (file_data out).str; line_str = (file_data out).line_str })
-    (order-back m b r out back)
-    ∙ ap (λ (z : Located). record { base = record { order = (view_of b).order; abbrevs = z }; units = (file_data out).units; str = (file_data out).str; line_str = (file_data out).line_str })
-    (abbrev-back m b r out w back)
-    ∙ ap (λ (zs : List UnitSection). record { base = record { order = (view_of b).order; abbrevs = located (view_of b) Abbrev }; units = zs; str = (file_data out).str; line_str = (file_data out).line_str })
-    (units-back m b r out w back)
-    ∙ ap (λ (z : Located). record {
-      base = record { order = (view_of b).order; abbrevs = located (view_of b) Abbrev };
-      units = edited_sections (file_data b).units (new_readings m b r);
-      str = z;
-      line_str = (file_data out).line_str;
-    }) (str-back m b r out w back)
-    ∙ ap (λ (z : Located). record {
-      base = record { order = (view_of b).order; abbrevs = located (view_of b) Abbrev };
-      units = edited_sections (file_data b).units (new_readings m b r);
-      str = record { number = (file_data b).str.number; bytes = new_str m b r };
-      line_str = z;
-    }) (line-back m b r out w back)
+    ∙ same-parts (view_of out).order (view_of b).order (located (view_of out) Abbrev) (located (view_of b) Abbrev) (file_data out).units
+    (edited_sections (file_data b).units (new_readings m b r).units) (file_data out).str (record { number = (file_data b).str.number; bytes = new_str m b r })
+    (file_data out).line_str (record { number = (file_data b).line_str.number; bytes = new_line_str m b r })
+    (file_data out).offsets (record { number = (file_data b).offsets.number; contents = new_offsets m b r })
+    (file_data out).names (record { number = (file_data b).names.number; contents = new_names m b r })
+    (order-back m b r out back) (abbrev-back m b r out w back) (units-back m b r out w back) (str-back m b r out w back) (line-back m b r out w back)
+    (offsets-back m b r out w back) (names-section m b r out w back)
     ∙ edited-parts m b r
 
 -- the tables stay small where the output does
-str-small : (m : PathMap) (b : List ℕ) (r : Readings) (out : List ℕ) → CanMap m b r → ReadsBack b (new_body m b r) out → length out ≤ output_limit → length (new_str m b r) ≤ 2 ^ 32
+str-small : (m : PathMap) (b : List ℕ) (r : DataReadings) (out : List ℕ) → CanMap m b r → ReadsBack b (new_body m b r) out → length out ≤ output_limit → length (new_str m b r) ≤ 2 ^ 32
 str-small m b r out w back small = by_place (str-place b)
   where
     by_place : TablePlace b (name_of Str) (file_data b).str → length (new_str m b r) ≤ 2 ^ 32
@@ -135,7 +132,7 @@ str-small m b r out w back small = by_place (str-place b)
         let size : length (contents_of out (file_data b).str.number) ≡ length (new_str m b r) = ap length here in
         omega (arith, size, length-contents out (file_data b).str.number, small)
 
-line-small : (m : PathMap) (b : List ℕ) (r : Readings) (out : List ℕ) → CanMap m b r → ReadsBack b (new_body m b r) out → length out ≤ output_limit → length (new_line_str m b r) ≤ 2 ^ 32
+line-small : (m : PathMap) (b : List ℕ) (r : DataReadings) (out : List ℕ) → CanMap m b r → ReadsBack b (new_body m b r) out → length out ≤ output_limit → length (new_line_str m b r) ≤ 2 ^ 32
 line-small m b r out w back small = by_place (line-place b)
   where
     by_place : TablePlace b (name_of LineStr) (file_data b).line_str → length (new_line_str m b r) ≤ 2 ^ 32
@@ -149,19 +146,21 @@ line-small m b r out w back small = by_place (line-place b)
         omega (arith, size, length-contents out (file_data b).line_str.number, small)
 
 -- what the data law asks for
-data-moves : (m : PathMap) (b : List ℕ) (r : Readings) (out : List ℕ) → CanMap m b r → ReadsBack b (new_body m b r) out → length out ≤ output_limit
+data-moves : (m : PathMap) (b : List ℕ) (r : DataReadings) (out : List ℕ) → CanMap m b r → ReadsBack b (new_body m b r) out → length out ≤ output_limit
     → DataMoves m (file_data b) r
 data-moves m b r out w back small = record {
   map = w.map;
   reads = w.reads.data_reads;
   fits = w.fits;
   plain = file-plain b;
+  offsets_plain = subst (λ (z : CellSection). IsPlain z.contents) (sym (offsets-are b)) (plain_cells-plain (located (view_of b) StrOffsets).bytes);
+  names_plain = subst (λ (z : CellSection). IsPlain z.contents) (sym (names-are b)) (plain_cells-plain (located (view_of b) Names).bytes);
   str = str-small m b r out w back small;
   line_str = line-small m b r out w back small;
 }
 
 -- the output can be read
-reads-back : (m : PathMap) (b : List ℕ) (r : Readings) (out : List ℕ) → CanMap m b r → ReadsBack b (new_body m b r) out → length out ≤ output_limit
+reads-back : (m : PathMap) (b : List ℕ) (r : DataReadings) (out : List ℕ) → CanMap m b r → ReadsBack b (new_body m b r) out → length out ≤ output_limit
     → FileReads out (new_readings m b r)
 reads-back m b r out w back small =
     let f = file-back m b r out w back in
@@ -173,17 +172,34 @@ reads-back m b r out w back small =
     }
 
 -- and means the mapped meaning
-meaning-back : (m : PathMap) (b : List ℕ) (r : Readings) (out : List ℕ) → CanMap m b r → ReadsBack b (new_body m b r) out → length out ≤ output_limit
+abbrev means_with : List UnitMeaning → List (List ℕ) → List NamePart → List NamedBytes → Meaning
+means_with units slots names others = record { units = units; slots = slots; names = names; others = bytes_named others }
+
+same-meaning : (us vs : List UnitMeaning) (ss ts : List (List ℕ)) (ns ps : List NamePart) (os qs : List NamedBytes) → us ≡ vs → ss ≡ ts → ns ≡ ps → os ≡ qs
+    → means_with us ss ns os ≡ means_with vs ts ps qs
+same-meaning us vs ss ts ns ps os qs e f g h =
+    ap (λ (z : List UnitMeaning). means_with z ss ns os) e ∙ ap (λ (z : List (List ℕ)). means_with vs z ns os) f
+    ∙ ap (λ (z : List NamePart). means_with vs ts z os) g ∙ ap (λ (z : List NamedBytes). means_with vs ts ps z) h
+
+meaning-back : (m : PathMap) (b : List ℕ) (r : DataReadings) (out : List ℕ) → CanMap m b r → ReadsBack b (new_body m b r) out → length out ≤ output_limit
     → meaning_of (view_of out) (new_readings m b r) ≡ mapped m (meaning_of (view_of b) r)
-unfolding meaning_of
+unfolding meaning_of debug_data
 meaning-back m b r out w back small =
-    ap (λ (us : List UnitMeaning). record { units = us; others = bytes_named (other_sections (without_id (view_of out).id (view_of out).sections)) })
-    (ap (λ (d : DebugData). units_of d (new_readings m b r)) (data-back m b r out w back) ∙ data-mapped m (file_data b) r (data-moves m b r out w back small))
-    ∙ ap (λ (os : List NamedBytes). record { units = mapped_units m (units_of (file_data b) r); others = bytes_named os })
+    let moves : DataMoves m (file_data b) r = data-moves m b r out w back small in
+    same-meaning (units_of (file_data out) (new_readings m b r)) (mapped_units m (units_of (file_data b) r))
+    (slot_texts (view_of out).order (located (view_of out) Str) (new_readings m b r).offsets)
+    (mapped_slots m (unit_slots (units_of (file_data b) r)) 0 (slot_texts (view_of b).order (located (view_of b) Str) r.offsets))
+    (name_parts (view_of out).order (located (view_of out) Str) (new_readings m b r).names) (name_parts (view_of b).order (located (view_of b) Str) r.names)
+    (other_sections (without_id (view_of out).id (view_of out).sections)) (other_sections (without_id (view_of b).id (view_of b).sections))
+    (ap (λ (d : DebugData). units_of d (new_readings m b r)) (data-back m b r out w back) ∙ data-mapped m (file_data b) r moves)
+    (ap (λ (o : Order). slot_texts o (located (view_of out) Str) (new_readings m b r).offsets) (order-back m b r out back)
+    ∙ ap (λ (z : Located). slot_texts (view_of b).order z (new_readings m b r).offsets) (str-back m b r out w back) ∙ slots-data m (file_data b) r moves)
+    (ap (λ (o : Order). name_parts o (located (view_of out) Str) (new_readings m b r).names) (order-back m b r out back)
+    ∙ ap (λ (z : Located). name_parts (view_of b).order z (new_readings m b r).names) (str-back m b r out w back) ∙ names-data m (file_data b) r moves)
     (others-back b (new_body m b r) out (file-back m b r out w back))
 
 -- the file law
-pub file-meaning : (m : PathMap) (b : List ℕ) (r : Readings) (out : List ℕ) → CanMap m b r → ReadsBack b (new_body m b r) out → length out ≤ output_limit
+pub file-meaning : (m : PathMap) (b : List ℕ) (r : DataReadings) (out : List ℕ) → CanMap m b r → ReadsBack b (new_body m b r) out → length out ≤ output_limit
     → MeaningKept m b out
 file-meaning m b r out w back small =
     let old : Means b (meaning_of (view_of b) r) = record { readings = r; reads = w.reads; says = refl } in

@@ -40,3 +40,8 @@ pub mod WorkedForests
 pub mod WorkedRows
 pub mod WorkedSections
 pub mod WorkedNotKept
+pub mod IndexTextLaws
+pub mod SlotMeaningLaws
+pub mod OffsetMoveLaws
+pub mod SlotRowLaws
+pub mod WorkedSlots

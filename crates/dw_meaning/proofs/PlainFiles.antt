@@ -14,7 +14,14 @@ use Rattle.dw_base.specs.declared.elf_numbers.TheConstants.{EI_CLASS, EI_DATA, E
 use Rattle.dw_base.specs.DebugSectionFails.{is_active, is_debug_name, is_zdebug_name, is_supplementary_name, is_split_name, NameReads, IsSecond, DebugSectionsRead}
 use Rattle.dw_base.specs.DebugSections.{is_listed}
 use Rattle.dw_base.specs.Layout.{is_loaded_kind, with_bodies}
-use Rattle.dw_base.specs.DebugData.{DebugData, Readings}
+use Rattle.dw_base.specs.DebugData.{DebugData}
+use Rattle.dw_base.specs.DebugData.{DataReadings}
+use Rattle.dw_base.specs.NamePieces.{NameState}
+use Rattle.dw_base.specs.OffsetPieces.{OffsetState}
+use Rattle.dw_base.specs.Pieces.{Piece}
+use Rattle.dw_base.specs.SlotTexts.{NamePart, slot_texts, name_parts}
+use Rattle.dw_base.specs.ViewData.{located}
+use Rattle.dw_base.specs.declared.debug_sections.DebugSection.TheVariants.{Str}
 use Rattle.dw_base.specs.FileViews.{view_of}
 use Rattle.dw_base.specs.Paths.{PathMap}
 use Rattle.dw_base.specs.UnitMeanings.{UnitMeaning, units_of}
@@ -201,7 +208,7 @@ names-sound b h =
     }
 
 -- so a file can be read, whose debug data are these, which are read so
-pub file-reads : (b : List ℕ) (d : DebugData) (r : Readings) → file_data b ≡ d → elf_test b ≡ true → is_loaded_kind b ≡ true → names_test b ≡ true
+pub file-reads : (b : List ℕ) (d : DebugData) (r : DataReadings) → file_data b ≡ d → elf_test b ≡ true → is_loaded_kind b ≡ true → names_test b ≡ true
     → DataReads d r → FileReads b r
 file-reads b d r same elf kind names reads = record {
   elf = elf-sound b elf;
@@ -211,22 +218,36 @@ file-reads b d r same elf kind names reads = record {
 }
 
 -- its output has these bodies
-pub output-is : (m : PathMap) (b : List ℕ) (d : DebugData) (r : Readings) (bodies : List Body) → file_data b ≡ d → new_bodies m d r ≡ bodies
+pub output-is : (m : PathMap) (b : List ℕ) (d : DebugData) (r : DataReadings) (bodies : List Body) → file_data b ≡ d → new_bodies m d r ≡ bodies
     → output_of m b r ≡ with_bodies b (body_in bodies (contents_of b))
 unfolding output_of new_body
 output-is m b d r bodies same is =
     ap (λ (x : DebugData). with_bodies b (body_in (new_bodies m x r) (contents_of b))) same
     ∙ ap (λ (xs : List Body). with_bodies b (body_in xs (contents_of b))) is
 
--- it means these units, and these bytes by name
-pub meaning-is : (b : List ℕ) (d : DebugData) (r : Readings) (units : List UnitMeaning) (others : List NamedBytes) → file_data b ≡ d → units_of d r ≡ units
-    → other_sections (without_id (view_of b).id (view_of b).sections) ≡ others
-    → meaning_of (view_of b) r ≡ record { units = units; others = bytes_named others }
+-- it means these units, and these bytes by name, where nothing else is read
+pub meaning-is : (b : List ℕ) (d : DebugData) (r : DataReadings) (units : List UnitMeaning) (others : List NamedBytes) → file_data b ≡ d → units_of d r ≡ units
+    → other_sections (without_id (view_of b).id (view_of b).sections) ≡ others → r.offsets ≡ [] → r.names ≡ []
+    → meaning_of (view_of b) r ≡ record { units = units; slots = []; names = []; others = bytes_named others }
 unfolding meaning_of
-meaning-is b d r units others same us os =
-    ap (λ (x : DebugData). record { units = units_of x r; others = bytes_named (other_sections (without_id (view_of b).id (view_of b).sections)) }) same
-    ∙ ap (λ (x : List UnitMeaning). record { units = x; others = bytes_named (other_sections (without_id (view_of b).id (view_of b).sections)) }) us
-    ∙ ap (λ (x : List NamedBytes). record { units = units; others = bytes_named x }) os
+meaning-is b d r units others same us os offsets names =
+    ap (λ (x : DebugData). means_with (units_of x r) (slots_of r) (names_of r) (sections_of b)) same
+    ∙ ap (λ (x : List UnitMeaning). means_with x (slots_of r) (names_of r) (sections_of b)) us
+    ∙ ap (λ (x : List (Piece OffsetState)). means_with units (slot_texts (view_of b).order (located (view_of b) Str) x) (names_of r) (sections_of b)) offsets
+    ∙ ap (λ (x : List (Piece NameState)). means_with units [] (name_parts (view_of b).order (located (view_of b) Str) x) (sections_of b)) names
+    ∙ ap (λ (x : List NamedBytes). means_with units [] [] x) os
+  where
+    means_with : List UnitMeaning → List (List ℕ) → List NamePart → List NamedBytes → Meaning
+    means_with a s n o = record { units = a; slots = s; names = n; others = bytes_named o }
+
+    slots_of : DataReadings → List (List ℕ)
+    slots_of x = slot_texts (view_of b).order (located (view_of b) Str) x.offsets
+
+    names_of : DataReadings → List NamePart
+    names_of x = name_parts (view_of b).order (located (view_of b) Str) x.names
+
+    sections_of : List ℕ → List NamedBytes
+    sections_of c = other_sections (without_id (view_of c).id (view_of c).sections)
 
 -- and another file keeps that
 pub kept-by : (m : PathMap) (b out : List ℕ) (x : Meaning) → Means b x → Means out (mapped m x) → MeaningKept m b out

@@ -1,5 +1,11 @@
 -- Whether cells are the pieces of a unit section, as a test that computes: units whose table of abbreviations stands at the
 -- start of .debug_abbrev, and values without a form in front. For worked files.
+use Rattle.dw_base.specs.declared.shared.Order.{Order}
+use Rattle.dw_base.specs.Cells.{CellSection}
+use Rattle.dw_base.specs.DebugData.{DataReadings}
+use Rattle.dw_base.specs.NamePieces.{ReadsNames}
+use Rattle.dw_base.specs.OffsetPieces.{ReadsOffsets}
+use Rattle.dw_base.specs.Readings.{Readings}
 use Rattle.std.proofs.Common.{◌≡◌, ◌≢◌, ℕ, ◌+◌, ◌==◌, ◌<◌, Bool, true, false, ◌&&◌, ◌||◌, not, List, [], ◌∷◌, ◌++◌, length, slice_index, Option, Some, None, refl, sym, ap, ◌∙◌, subst, arith, inl, inr}
 use Rattle.std.specs.Prelude.{nat_le, pos}
 use Rattle.std.proofs.lemmas.Bool.{true≢false, and_parts, or_cases, eqb-true, leb-true, not-true}
@@ -193,3 +199,16 @@ short_abbreviation bytes at code tag flag last specs c some t there is small spe
       specs = spelled_specs;
       end = ends;
     }
+
+-- a section that isn't there, and readings of units alone
+abbrev pub no_section : CellSection
+no_section = record { number = 0; contents = [] }
+
+abbrev pub units_alone : Readings → DataReadings
+units_alone rs = record { units = rs; offsets = []; names = [] }
+
+pub none-offsets : (order : Order) → ReadsOffsets order [] []
+none-offsets order = record { chain = record { mode = refl; place = refl }; cells = refl }
+
+pub none-names : (order : Order) → ReadsNames order [] []
+none-names order = record { chain = record { mode = refl; place = refl }; cells = refl }

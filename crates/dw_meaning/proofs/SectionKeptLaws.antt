@@ -1,10 +1,11 @@
 -- The unit sections of an output are those of the file, edited.
-use Rattle.std.proofs.Common.{Bool, true, false, ◌≡◌, ◌≢◌, ℕ, suc, ◌+◌, ◌<◌, ◌≤◌, List, [], ◌∷◌, ◌++◌, Option, Some, None, sym, ap, ◌∙◌, refl, subst, arith, if◌then◌else◌}
+use Rattle.std.proofs.Common.{Bool, true, false, ◌≡◌, ◌≢◌, ℕ, suc, ◌+◌, ◌<◌, ◌≤◌, List, [], ◌∷◌, ◌++◌, length, Option, Some, None, sym, ap, ◌∙◌, refl, subst, arith, if◌then◌else◌}
 use Rattle.std.specs.Prelude.{◌==◌}
 use Rattle.std.proofs.lemmas.Bool.{ne_eqb, eq-eqb}
 use Rattle.dw_base.specs.Cells.{Cell, bytes_of, plain_cells, with_bytes}
 use Rattle.dw_meaning.specs.DataOutput.{Body, unit_body, unit_bodies, body_in}
-use Rattle.dw_base.specs.DebugData.{Around, Readings, units_in, ReadsAll, EachReading}
+use Rattle.dw_base.specs.DebugData.{Around, units_in, ReadsAll}
+use Rattle.dw_base.specs.Readings.{Readings, EachReading}
 use Rattle.dw_base.specs.DebugSections.{debug_section}
 use Rattle.dw_base.specs.Elf.{section_count, section_name, contents_of}
 use Rattle.dw_base.specs.FileViews.{ViewSection, bytes_in}
@@ -17,7 +18,7 @@ use Rattle.dw_base.specs.UnitStates.{UnitState}
 use Rattle.dw_base.specs.ViewData.{unit_kind, unit_section, unit_sections_from, cells_in}
 use Rattle.dw_meaning.proofs.DataKeptLaws.{edited_readings, edited_sections}
 use Rattle.dw_meaning.proofs.FileBackLaws.{AllAt, SectionBack}
-use Rattle.dw_base.proofs.PlainCellLaws.{IsPlain, plain-parts, plain-append, plain_cells-plain, with_offset-is}
+use Rattle.dw_base.proofs.PlainCellLaws.{IsPlain, plain-parts, plain-append, plain_cells-plain, with_offset-is, length-with_offset}
 use Rattle.dw_meaning.proofs.TextEditLaws.{PlainPiece}
 
 -- plain cells with other bytes are plain
@@ -34,7 +35,7 @@ with_bytes-keeps (c ∷ cs) (b ∷ bs) h =
     head_with x (d ∷ ds) = record d { byte = x } ∷ []
 
 -- and so are edited ones
-edited-plain : (r : Role) (c : TableChanges) (around : Around) (p : List Cell) → IsPlain p → IsPlain (edited_by r c around p)
+pub edited-plain : (r : Role) (c : TableChanges) (around : Around) (p : List Cell) → IsPlain p → IsPlain (edited_by r c around p)
 edited-plain fixed c around p h = h
 edited-plain inline_path c around p h = with_bytes-keeps p _ h
 edited-plain (offset table path) c around p h = by_asks ((change_of c table).plan.asks (mention_at around table path p))
@@ -44,6 +45,22 @@ edited-plain (offset table path) c around p h = by_asks ((change_of c table).pla
     by_asks true = subst IsPlain (sym (with_offset-is around.lasting.base.order p
         (new_place (change_of c table).plan c.map (change_of c table).texts (mention_at around table path p)) h)) (plain_cells-plain _)
     by_asks false = h
+
+-- and as long
+length-with_bytes : (p : List Cell) (bs : List ℕ) → length (with_bytes p bs) ≡ length p
+length-with_bytes [] bs = refl
+length-with_bytes (c ∷ cs) [] = refl
+length-with_bytes (c ∷ cs) (b ∷ bs) = ap suc (length-with_bytes cs bs)
+
+pub edited-size : (r : Role) (c : TableChanges) (around : Around) (p : List Cell) → IsPlain p → length (edited_by r c around p) ≡ length p
+edited-size fixed c around p h = refl
+edited-size inline_path c around p h = length-with_bytes p _
+edited-size (offset table path) c around p h = by_asks ((change_of c table).plan.asks (mention_at around table path p))
+  where
+    by_asks : (b : Bool) → length (if b then with_offset around.lasting.base.order p
+        (new_place (change_of c table).plan c.map (change_of c table).texts (mention_at around table path p)) else p) ≡ length p
+    by_asks true = length-with_offset around.lasting.base.order p _ h
+    by_asks false = refl
 
 all-plain : (c : TableChanges) (around : Around) (xs : List (Piece UnitState)) → EachPiece PlainPiece xs → IsPlain (joined (edited_all c around xs))
 unfolding role_of

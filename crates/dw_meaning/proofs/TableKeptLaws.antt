@@ -2,9 +2,10 @@
 use Rattle.std.proofs.Common.{Bool, true, false, ◌≡◌, ℕ, suc, ◌<◌, ◌≤◌, List, [], ◌∷◌, ◌++◌, drop, IsTrue, Option, Some, None, sym, ap, ◌∙◌, refl, subst, arith, if◌then◌else◌}
 use Rattle.std.proofs.lemmas.List.{append-nil}
 use Rattle.std.proofs.lemmas.Bool.{and_parts}
-use Rattle.dw_base.specs.Cells.{Located}
+use Rattle.dw_base.specs.Cells.{Cell, Located}
 use Rattle.dw_meaning.specs.DataOutput.{table_change}
-use Rattle.dw_base.specs.DebugData.{Around, Readings, EachReading, table_of}
+use Rattle.dw_base.specs.DebugData.{Around, DataReadings, path_slots, table_of}
+use Rattle.dw_base.specs.Readings.{Readings, EachReading}
 use Rattle.dw_base.specs.DebugSections.{name_of}
 use Rattle.dw_base.specs.Elf.{section_count, section_name, contents_of}
 use Rattle.dw_base.specs.FileViews.{ViewSection, view_section, view_of, is_filled, first_filled, section_named, section_after}
@@ -12,6 +13,7 @@ use Rattle.dw_base.specs.Forms.{TextSection, in_str, in_line_str}
 use Rattle.dw_base.specs.Paths.{PathMap}
 use Rattle.dw_base.specs.Pieces.{Piece, EachPiece}
 use Rattle.dw_base.specs.Roles.{Role, fixed, offset, inline_path, role_of}
+use Rattle.dw_base.specs.SectionTexts.{slot_role, name_role, mentions_with, file_mentions, NameTexts}
 use Rattle.dw_base.specs.StringTables.{Mention, new_table, new_texts, appending}
 use Rattle.dw_base.specs.TextChanges.{offset_in, mentions_by, mentions_of, all_mentions, NamesText, NamesTextBy}
 use Rattle.dw_base.specs.Texts.{same_text, ends_in}
@@ -95,20 +97,15 @@ table-place b s = by_found (section_named (view_of b) (name_of s)) refl
         lies_at (omega arith) f.within f.named (section_bytes-view_of b i f.within)
 
 -- where there is no table there are no mentions, and no new texts
-mentions-none : (table : TextSection) (around : Around) (xs : List (Piece UnitState)) → (table_of around table).bytes ≡ [] → EachPiece (NamesText around) xs
-    → mentions_of table around xs ≡ []
-unfolding role_of
-mentions-none table around [] none names = refl
-mentions-none table around (x ∷ xs) none names =
-    ap (λ (ms : List Mention). mentions_by (role_of x) table around x.cells ++ ms) (mentions-none table around xs none names.1)
-    ∙ append-nil (mentions_by (role_of x) table around x.cells) ∙ by_role (role_of x) table none names.0
+role-none : (r : Role) (u : TextSection) (around : Around) (p : List Cell) → (table_of around u).bytes ≡ [] → NamesTextBy r around p → mentions_by r u around p ≡ []
+role-none r u around p none names = by_role r u none names
   where
-    clash : (u : TextSection) → (table_of around u).bytes ≡ [] → IsTrue (ends_in (table_of around u).bytes (offset_in around u x.cells)) → ⊥
+    clash : (u : TextSection) → (table_of around u).bytes ≡ [] → IsTrue (ends_in (table_of around u).bytes (offset_in around u p)) → ⊥
     clash u empty text =
-        let ends : ends_in [] (offset_in around u x.cells) ≡ true = ap (λ (t : List ℕ). ends_in t (offset_in around u x.cells)) (sym empty) ∙ text in
-        omega (arith, ends_in-inside [] (offset_in around u x.cells) ends)
+        let ends : ends_in [] (offset_in around u p) ≡ true = ap (λ (t : List ℕ). ends_in t (offset_in around u p)) (sym empty) ∙ text in
+        omega (arith, ends_in-inside [] (offset_in around u p) ends)
 
-    by_role : (r : Role) (u : TextSection) → (table_of around u).bytes ≡ [] → NamesTextBy r around x.cells → mentions_by r u around x.cells ≡ []
+    by_role : (r : Role) (u : TextSection) → (table_of around u).bytes ≡ [] → NamesTextBy r around p → mentions_by r u around p ≡ []
     by_role fixed u empty text = refl
     by_role inline_path u empty text = refl
     by_role (offset in_str path) in_str empty text = absurd (clash in_str empty text)
@@ -116,15 +113,36 @@ mentions-none table around (x ∷ xs) none names =
     by_role (offset in_line_str path) in_str empty text = refl
     by_role (offset in_line_str path) in_line_str empty text = absurd (clash in_line_str empty text)
 
+mentions-none : (table : TextSection) (around : Around) (xs : List (Piece UnitState)) → (table_of around table).bytes ≡ [] → EachPiece (NamesText around) xs
+    → mentions_of table around xs ≡ []
+unfolding role_of
+mentions-none table around [] none names = refl
+mentions-none table around (x ∷ xs) none names =
+    ap (λ (ms : List Mention). mentions_by (role_of x) table around x.cells ++ ms) (mentions-none table around xs none names.1)
+    ∙ append-nil (mentions_by (role_of x) table around x.cells) ∙ role-none (role_of x) table around x.cells none names.0
+
 all-none : (table : TextSection) (around : Around) (rs : Readings) → (table_of around table).bytes ≡ [] → EachReading (NamesText around) rs
     → all_mentions table around rs ≡ []
 all-none table around [] none names = refl
 all-none table around (r ∷ rs) none names =
     ap (λ (ms : List Mention). ms ++ all_mentions table around rs) (mentions-none table around r.pieces none names.0) ∙ all-none table around rs none names.1
 
-pub new_table-none : (m : PathMap) (table : TextSection) (around : Around) (rs : Readings) → (table_of around table).bytes ≡ [] → EachReading (NamesText around) rs
-    → new_table (table_change m table around rs).plan (table_change m table around rs).texts ≡ []
+with-none : {S : Type 0} (role : S → Role) (table : TextSection) (around : Around) (xs : List (Piece S)) → (table_of around table).bytes ≡ [] → NameTexts role around xs
+    → mentions_with role table around xs ≡ []
+with-none role table around [] none names = refl
+with-none role table around (x ∷ xs) none names =
+    ap (λ (ms : List Mention). mentions_by (role x.state) table around x.cells ++ ms) (with-none role table around xs none names.1)
+    ∙ append-nil (mentions_by (role x.state) table around x.cells) ∙ role-none (role x.state) table around x.cells none names.0
+
+pub new_table-none : (m : PathMap) (table : TextSection) (around : Around) (r : DataReadings) → (table_of around table).bytes ≡ []
+    → EachReading (NamesText around) r.units → NameTexts (slot_role (path_slots around)) around r.offsets → NameTexts name_role around r.names
+    → new_table (table_change m table around r).plan (table_change m table around r).texts ≡ []
 unfolding table_change
-new_table-none m table around rs none names =
-    ap (λ (ms : List Mention). new_table (appending m (table_of around table).bytes) (new_texts (appending m (table_of around table).bytes) m ms)) (all-none table around rs none names)
+new_table-none m table around r none texts slots names =
+    let slots_none : mentions_with (slot_role (path_slots around)) table around r.offsets ≡ [] = with-none (slot_role (path_slots around)) table around r.offsets none slots in
+    let names_none : mentions_with name_role table around r.names ≡ [] = with-none name_role table around r.names none names in
+    let all : file_mentions table around r ≡ [] =
+    ap (λ (ms : List Mention). ms ++ (mentions_with (slot_role (path_slots around)) table around r.offsets ++ mentions_with name_role table around r.names)) (all-none table around r.units none texts)
+    ∙ ap (λ (ms : List Mention). ms ++ mentions_with name_role table around r.names) slots_none ∙ names_none in
+    ap (λ (ms : List Mention). new_table (appending m (table_of around table).bytes) (new_texts (appending m (table_of around table).bytes) m ms)) all
     ∙ append-nil (table_of around table).bytes ∙ none

@@ -4,9 +4,11 @@ use Rattle.std.proofs.Common.{Bool, true, false, ◌≡◌, ℕ, ◌+◌, ◌^�
 use Rattle.std.specs.Bool.{⊤}
 use Rattle.std.proofs.lemmas.List.{length-append, drop_all}
 use Rattle.dw_base.specs.Cells.{Cell, Located, bytes_of, with_bytes, plain_cells, offset_of}
-use Rattle.dw_base.specs.DebugData.{Around}
+use Rattle.dw_base.specs.DebugData.{Around, path_slots}
 use Rattle.dw_base.specs.Forms.{TextSection, in_str, in_line_str, ValueKind, number_of, leb_number, signed_leb, block_of, counted, counted_leb, inline_text, text_offset, present, in_abbreviation, form_in_front, supplementary, unlisted, kind_in, width_size}
 use Rattle.dw_base.specs.InlinePaths.{mapped_inline}
+use Rattle.dw_base.specs.MappedSlots.{mapped_slots}
+use Rattle.dw_base.specs.SectionTexts.{mentions_with, edited_with}
 use Rattle.dw_base.specs.Paths.{PathMap, IsPathMap, mapped_path}
 use Rattle.dw_base.specs.Pieces.{Piece, Chain, EachPiece}
 use Rattle.dw_base.specs.Roles.{Role, fixed, offset, inline_path, role_of_kind, role_of_mode, role_of, Use, is_path_use, use_of}
@@ -26,10 +28,11 @@ use Rattle.dw_base.specs.declared.values.ValueClass.TheVariants.{InlineText}
 use Rattle.dw_base.proofs.FormSizeLaws.{is_sized, offset_sized, offset-size}
 use Rattle.dw_base.proofs.InlineLaws.{has_nul-mapped_inline, length-mapped_inline}
 use Rattle.dw_base.proofs.PathLaws.{has_nul-mapped_path}
+use Rattle.dw_base.proofs.PieceFrameLaws.{AllChanged}
 use Rattle.dw_base.proofs.PlainCellLaws.{IsPlain, bytes_of-plain, with_bytes-is, length-with_offset, length-plain_cells, offset-put, offset_of-plain}
 use Rattle.dw_base.proofs.TableLaws.{is_in-texts_after, is_in-with_mention}
 use Rattle.dw_base.proofs.TextLaws.{has_nul-append, text-append_nul, has_nul-text, drop-text, has_nul-text_in, same_text-true, text_in-append, ends_in-append, ends_in-inside, text_in-place_in, ends_in-place_in, place_in-lt}
-use Rattle.dw_base.proofs.UnitEditLaws.{Shift, Rewritten, Becomes, UnitsChanged, length-bytes_of, number-there}
+use Rattle.dw_base.proofs.UnitEditLaws.{Shift, Rewritten, Becomes, PieceSlot, UnitsChanged, length-bytes_of, number-there}
 
 -- a plan under which a mention that asks for no place keeps its text, which stays where it is
 pub record KeepsTexts (plan : Plan) (m : PathMap) (table : List ℕ) : Type 0 where
@@ -145,12 +148,17 @@ field-moves m order c z path p f = by_asks (c.plan.asks (mention_in order z path
     by_asks true e = moved-asked m order c z path p f e
     by_asks false e = moved-stays m order c z path p f e
 
--- the change of the tables, as a change of what stands around the units
+-- the change of the tables, as a change of what stands around the units: slots of paths are mapped
 abbrev pub shift_of : TableChanges → Around → Shift
 shift_of c around = record {
   map = c.map;
   old = around;
-  new = record { lasting = around.lasting; str = moved_table around.str c.str; line_str = moved_table around.line_str c.line_str };
+  new = record {
+    lasting = around.lasting;
+    str = moved_table around.str c.str;
+    line_str = moved_table around.line_str c.line_str;
+    slots = mapped_slots c.map (path_slots around) 0 around.slots;
+  };
   lasting = refl;
 }
 
@@ -324,14 +332,18 @@ behind_piece c ts us heres lines ms ns all = record {
 pub record PlainPiece (x : Piece UnitState) : Type 0 where
   pub plain : IsPlain x.cells
 
+-- where the piece is a value by index, its slot has the new text
+abbrev pub SlotMoves : Shift → Piece UnitState → Type 0
+SlotMoves c x = PieceSlot x.state.mode c x.state x.cells
+
 -- the text law, for the pieces of a section
 pub edited-changed : (base : UnitBase) (c : TableChanges) (around : Around) (ts us : List (List ℕ)) (s : UnitState) (xs : List (Piece UnitState))
     (ms ns : List Mention) → TablesMove c around → TextsAre c ts us (mentions_of in_str around xs ++ ms) (mentions_of in_line_str around xs ++ ns)
     → Chain (unit_grammar base) s xs → EachPiece PlainPiece xs → EachPiece (NamesText around) xs → EachPiece (InlineFits c.map) xs
-    → UnitsChanged (shift_of c around) xs (edited_all c around xs)
+    → EachPiece (SlotMoves (shift_of c around)) xs → UnitsChanged (shift_of c around) xs (edited_all c around xs)
 unfolding role_of
-edited-changed base c around ts us s [] ms ns t all chain plain names fits = tt
-edited-changed base c around ts us s (x ∷ xs) ms ns t all chain plain names fits =
+edited-changed base c around ts us s [] ms ns t all chain plain names fits slots = tt
+edited-changed base c around ts us s (x ∷ xs) ms ns t all chain plain names fits slots =
     let heres : List Mention = mentions_by (role_of x) in_str around x.cells in
     let lines : List Mention = mentions_by (role_of x) in_line_str around x.cells in
     let rest : TextsAre c ts us (heres ++ (mentions_of in_str around xs ++ ms)) (lines ++ (mentions_of in_line_str around xs ++ ns)) =
@@ -340,9 +352,47 @@ edited-changed base c around ts us s (x ∷ xs) ms ns t all chain plain names fi
       line_str = all.line_str ∙ ap (texts_after c.line_str.plan c.map us) (append_assoc lines (mentions_of in_line_str around xs) ns);
     } in
     let there = provided (role_of x) c around ts us x.cells (mentions_of in_str around xs ++ ms) (mentions_of in_line_str around xs ++ ns) rest in (
-      record { state = refl; cells = mode-moves x.state.mode base x.state c around x.cells t plain.0.plain chain.1 names.0 fits.0 there },
+      record { state = refl; cells = (mode-moves x.state.mode base x.state c around x.cells t plain.0.plain chain.1 names.0 fits.0 there, slots.0) },
       edited-changed base c around (texts_after c.str.plan c.map ts heres) (texts_after c.line_str.plan c.map us lines)
           ((unit_grammar base).next x.state x.cells) xs ms ns t
           (behind_piece c ts us heres lines (mentions_of in_str around xs ++ ms) (mentions_of in_line_str around xs ++ ns) rest)
-          chain.2 plain.1 names.1 fits.1,
+          chain.2 plain.1 names.1 fits.1 slots.1,
+    )
+
+-- cells of a role that an edit may move, outside of units: a field of an offset that names a text, of the size of an offset
+pub record OffsetField (table : TextSection) (around : Around) (p : List Cell) : Type 0 where
+  pub plain : IsPlain p
+  pub width : Width
+  pub size : length p ≡ width_size width
+
+abbrev pub CanMove : Role → Around → List Cell → Type 0
+CanMove fixed around p = ⊤
+CanMove (offset table path) around p = OffsetField table around p
+CanMove inline_path around p = ⊥
+
+role-moves : (r : Role) (c : TableChanges) (around : Around) (p : List Cell) → TablesMove c around → CanMove r around p → NamesTextBy r around p
+    → Provided r c around p → Becomes r (shift_of c around) p (edited_by r c around p)
+role-moves fixed c around p t can names there = refl
+role-moves (offset table path) c around p t can names there = offset-moves table path c around p can.width t can.plain can.size names there
+role-moves inline_path c around p t can names there = absurd can
+
+-- the text law, for pieces of roles
+pub roles-changed : {S : Type 0} (role : S → Role) (c : TableChanges) (around : Around) (ts us : List (List ℕ)) (xs : List (Piece S)) (ms ns : List Mention)
+    → TablesMove c around → TextsAre c ts us (mentions_with role in_str around xs ++ ms) (mentions_with role in_line_str around xs ++ ns)
+    → EachPiece (λ x. CanMove (role x.state) around x.cells) xs → EachPiece (λ x. NamesTextBy (role x.state) around x.cells) xs
+    → AllChanged S (λ s p q. Becomes (role s) (shift_of c around) p q) xs (edited_with role c around xs)
+roles-changed role c around ts us [] ms ns t all can names = tt
+roles-changed role c around ts us (x ∷ xs) ms ns t all can names =
+    let heres : List Mention = mentions_by (role x.state) in_str around x.cells in
+    let lines : List Mention = mentions_by (role x.state) in_line_str around x.cells in
+    let rest : TextsAre c ts us (heres ++ (mentions_with role in_str around xs ++ ms)) (lines ++ (mentions_with role in_line_str around xs ++ ns)) =
+    record {
+      str = all.str ∙ ap (texts_after c.str.plan c.map ts) (append_assoc heres (mentions_with role in_str around xs) ms);
+      line_str = all.line_str ∙ ap (texts_after c.line_str.plan c.map us) (append_assoc lines (mentions_with role in_line_str around xs) ns);
+    } in
+    let there = provided (role x.state) c around ts us x.cells (mentions_with role in_str around xs ++ ms) (mentions_with role in_line_str around xs ++ ns) rest in (
+      record { state = refl; cells = role-moves (role x.state) c around x.cells t can.0 names.0 there },
+      roles-changed role c around (texts_after c.str.plan c.map ts heres) (texts_after c.line_str.plan c.map us lines) xs ms ns t
+          (behind_piece c ts us heres lines (mentions_with role in_str around xs ++ ms) (mentions_with role in_line_str around xs ++ ns) rest)
+          can.1 names.1,
     )

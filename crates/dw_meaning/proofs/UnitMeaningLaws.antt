@@ -1,5 +1,5 @@
 -- The meaning law: units whose texts are moved and mapped mean the mapped meaning.
-use Rattle.std.proofs.Common.{Bool, true, false, ◌≡◌, ℕ, List, [], ◌∷◌, ap, ◌∙◌, refl}
+use Rattle.std.proofs.Common.{Bool, true, false, ◌≡◌, ℕ, List, [], ◌∷◌, length, ap, ◌∙◌, refl}
 use Rattle.std.specs.Prelude.{◌==◌, ◌&&◌, ◌+◌, if◌then◌else◌, Option, Some, None}
 use Rattle.dw_base.specs.AbbreviationTables.{Abbreviation, abbreviation_of}
 use Rattle.dw_base.specs.Cells.{Cell, bytes_of, field_of}
@@ -12,17 +12,20 @@ use Rattle.dw_base.specs.Pieces.{Piece}
 use Rattle.dw_base.specs.Roles.{fixed, inline_path, role_of_kind, role_of_mode, Use, is_path_use, use_of}
 use Rattle.dw_base.specs.StringTables.{new_text}
 use Rattle.dw_base.specs.TextChanges.{offset_in}
+use Rattle.dw_base.specs.Numbers.{spelled}
+use Rattle.dw_base.specs.TextIndexes.{slot_of}
 use Rattle.dw_base.specs.Texts.{text, text_in}
 use Rattle.dw_base.specs.UnitMeanings.{head_mark, entry_mark, code_mark, value_mark, mark_by, mark_of, Following, with_mark, following, unit_meanings}
 use Rattle.dw_base.specs.UnitStates.{Mode, at_header, at_code, at_values, at_chosen, stuck, UnitState, code_value, piece_header}
-use Rattle.dw_base.specs.ValueMeanings.{ValueMeaning, string, entry_of, stray, inline, by_offset, found_entry, first_of, holds_number, global_entry, local_entry, meaning_of_number, meaning_of_leb, meaning_of_value}
+use Rattle.dw_base.specs.ValueMeanings.{ValueMeaning, string, entry_of, stray, inline, by_offset, found_entry, first_of, global_entry, local_entry, meaning_of_number, meaning_of_leb, by_slot, indexed, number_meaning, leb_meaning, meaning_of_value}
+use Rattle.dw_base.specs.TextIndexes.{holds_number}
 use Rattle.dw_base.specs.declared.units.UnitHeader.{UnitHeader}
 use Rattle.dw_base.specs.declared.values.Spec.{Spec}
 use Rattle.dw_base.specs.declared.values.ValueClass.{ValueClass}
-use Rattle.dw_base.specs.declared.values.ValueClass.TheVariants.{Address, LocalRef, GlobalRef}
+use Rattle.dw_base.specs.declared.values.ValueClass.TheVariants.{Address, LocalRef, GlobalRef, StrIndex}
 use Rattle.dw_base.specs.declared.view_fields.Field.{Field}
 use Rattle.dw_base.specs.declared.view_fields.Field.TheVariants.{Num, Into, Sym}
-use Rattle.dw_base.proofs.UnitEditLaws.{Shift, Becomes, UnitsChanged}
+use Rattle.dw_base.proofs.UnitEditLaws.{Shift, Becomes, SlotBecomes, ValueSlot, PieceSlot, UnitsChanged}
 
 abbrev mapped_mark : PathMap → Mark → Mark
 mapped_mark m (attribute a) = attribute (mapped_attribute m a)
@@ -87,16 +90,39 @@ leb-changed c s class p q h =
     ∙ ap (λ (z : List Cell). meaning_of_leb c.old.lasting s class (code_value z)) h
     ∙ leb-mapped c.map c.old.lasting s class (code_value p)
 
+-- a text by index is that of its slot, with the same number
+indexed-changed : (o : Option ℕ) (path : Bool) (c : Shift) (p : List Cell) → SlotBecomes o path c
+    → indexed c.new.slots path o p ≡ mapped_value c.map (indexed c.old.slots path o p)
+indexed-changed None path c p i = refl
+indexed-changed (Some n) true c p i = ap (string true (by_slot n)) i
+indexed-changed (Some n) false c p i = ap (string false (by_slot n)) i
+
+number-means : (class : ValueClass) (n : ℕ) (u : Use) (c : Shift) (s : UnitState) (p q : List Cell) → q ≡ p → ValueSlot (number_of class n) (is_path_use u) c s.unit p
+    → number_meaning c.new s u class q ≡ mapped_value c.map (number_meaning c.old s u class p)
+number-means StrIndex n u c s p q h i =
+    ap (λ (g : Lasting). indexed c.new.slots (is_path_use u) (slot_of g.indexing s.unit (spelled g.base.order (bytes_of q) 0 (length q))) q) c.lasting
+    ∙ ap (λ (z : List Cell). indexed c.new.slots (is_path_use u) (slot_of c.old.lasting.indexing s.unit (spelled c.old.lasting.base.order (bytes_of z) 0 (length z))) z) h
+    ∙ indexed-changed (slot_of c.old.lasting.indexing s.unit (spelled c.old.lasting.base.order (bytes_of p) 0 (length p))) (is_path_use u) c p i
+number-means class n u c s p q h i = number-changed c s class p q h
+
+leb-means : (class : ValueClass) (u : Use) (c : Shift) (s : UnitState) (p q : List Cell) → q ≡ p → ValueSlot (leb_number class) (is_path_use u) c s.unit p
+    → leb_meaning c.new s u class q ≡ mapped_value c.map (leb_meaning c.old s u class p)
+leb-means StrIndex u c s p q h i =
+    ap (λ (g : Lasting). indexed c.new.slots (is_path_use u) (slot_of g.indexing s.unit (code_value q)) q) c.lasting
+    ∙ ap (λ (z : List Cell). indexed c.new.slots (is_path_use u) (slot_of c.old.lasting.indexing s.unit (code_value z)) z) h
+    ∙ indexed-changed (slot_of c.old.lasting.indexing s.unit (code_value p)) (is_path_use u) c p i
+leb-means class u c s p q h i = leb-changed c s class p q h
+
 -- what a value means after the change: a further form is a clause here
 value-changed : (k : ValueKind) (u : Use) (x : Spec) (c : Shift) (s : UnitState) (p q : List Cell) → Becomes (role_of_kind k u) c p q
-    → meaning_of_value c.new s u x k q ≡ mapped_value c.map (meaning_of_value c.old s u x k p)
-value-changed (text_offset table n) u x c s p q h =
+    → ValueSlot k (is_path_use u) c s.unit p → meaning_of_value c.new s u x k q ≡ mapped_value c.map (meaning_of_value c.old s u x k p)
+value-changed (text_offset table n) u x c s p q h i =
     text-meaning c.map (is_path_use u) (text_in (table_of c.old table).bytes (offset_in c.old table p))
     (text_in (table_of c.new table).bytes (offset_in c.new table q)) h.says
-value-changed inline_text u x c s p q h = inline-changed (is_path_use u) c p q h
-value-changed (number_of class n) u x c s p q h = number-changed c s class p q h
-value-changed (leb_number class) u x c s p q h = leb-changed c s class p q h
-value-changed k u x c s p q h = ap (λ (z : List Cell). meaning_of_value c.old s u x k z) h
+value-changed inline_text u x c s p q h i = inline-changed (is_path_use u) c p q h
+value-changed (number_of class n) u x c s p q h i = number-means class n u c s p q h i
+value-changed (leb_number class) u x c s p q h i = leb-means class u c s p q h i
+value-changed k u x c s p q h i = ap (λ (z : List Cell). meaning_of_value c.old s u x k z) h
 
 -- marks of entries have no text
 entry_mark-mapped : (m : PathMap) (a : Option Abbreviation) → entry_mark a ≡ mapped_mark m (entry_mark a)
@@ -115,21 +141,21 @@ head-mapped m g None = refl
 head-mapped m g (Some h) = refl
 
 value_mark-changed : (k : ValueKind) (c : Shift) (s : UnitState) (n tag : ℕ) (x : Spec) (p q : List Cell) → Becomes (role_of_kind k (use_of n tag x.name)) c p q
-    → value_mark k c.new s n tag x q ≡ mapped_mark c.map (value_mark k c.old s n tag x p)
-value_mark-changed form_in_front c s n tag x p q h = refl
-value_mark-changed k c s n tag x p q h = ap (λ (v : ValueMeaning). attribute (record { name = x.name; value = v })) (value-changed k (use_of n tag x.name) x c s p q h)
+    → ValueSlot k (is_path_use (use_of n tag x.name)) c s.unit p → value_mark k c.new s n tag x q ≡ mapped_mark c.map (value_mark k c.old s n tag x p)
+value_mark-changed form_in_front c s n tag x p q h i = refl
+value_mark-changed k c s n tag x p q h i = ap (λ (v : ValueMeaning). attribute (record { name = x.name; value = v })) (value-changed k (use_of n tag x.name) x c s p q h i)
 
 mark-changed : (mode : Mode) (c : Shift) (s : UnitState) (p q : List Cell) → Becomes (role_of_mode mode s.header.params) c p q
-    → mark_by mode c.new s q ≡ mapped_mark c.map (mark_by mode c.old s p)
-mark-changed at_header c s p q h =
+    → PieceSlot mode c s p → mark_by mode c.new s q ≡ mapped_mark c.map (mark_by mode c.old s p)
+mark-changed at_header c s p q h i =
     ap (λ (g : Lasting). head_mark g (piece_header g.base s q)) c.lasting
     ∙ ap (λ (z : List Cell). head_mark c.old.lasting (piece_header c.old.lasting.base s z)) h
     ∙ head-mapped c.map c.old.lasting (piece_header c.old.lasting.base s p)
-mark-changed at_code c s p q h = ap (λ (z : List Cell). code_mark s.table (code_value z)) h ∙ code_mark-mapped c.map s.table (code_value p)
-mark-changed (at_values n tag []) c s p q h = refl
-mark-changed (at_values n tag (x ∷ xs)) c s p q h = value_mark-changed (kind_in s.header.params x.form) c s n tag x p q h
-mark-changed (at_chosen n tag start x xs) c s p q h = value_mark-changed (kind_in s.header.params x.form) c s n tag x p q h
-mark-changed stuck c s p q h = refl
+mark-changed at_code c s p q h i = ap (λ (z : List Cell). code_mark s.table (code_value z)) h ∙ code_mark-mapped c.map s.table (code_value p)
+mark-changed (at_values n tag []) c s p q h i = refl
+mark-changed (at_values n tag (x ∷ xs)) c s p q h i = value_mark-changed (kind_in s.header.params x.form) c s n tag x p q h i
+mark-changed (at_chosen n tag start x xs) c s p q h i = value_mark-changed (kind_in s.header.params x.form) c s n tag x p q h i
+mark-changed stuck c s p q h i = refl
 
 -- what follows a place, mapped
 abbrev mapped_levels : PathMap → List Forest → List Forest
@@ -180,7 +206,7 @@ following-changed c section (x ∷ xs) (y ∷ ys) h =
     let state : mark_of c.new y ≡ mark_by x.state.mode c.new x.state y.cells =
     ap (λ (s : UnitState). mark_by s.mode c.new s y.cells) h.0.state in
     let mark : mark_of c.new y ≡ mapped_mark c.map (mark_of c.old x) =
-    state ∙ mark-changed x.state.mode c x.state x.cells y.cells h.0.cells in
+    state ∙ mark-changed x.state.mode c x.state x.cells y.cells h.0.cells.0 h.0.cells.1 in
     ap (λ (k : Mark). with_mark section k (following section c.new ys)) mark
     ∙ ap (with_mark section (mapped_mark c.map (mark_of c.old x))) (following-changed c section xs ys h.1)
     ∙ with_mark-mapped c.map section (mark_of c.old x) (following section c.old xs)

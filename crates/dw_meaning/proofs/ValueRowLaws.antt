@@ -6,7 +6,8 @@ use Rattle.dw_base.specs.AbbreviationTables.{Abbreviation, abbreviation_of}
 use Rattle.dw_base.specs.Cells.{Cell, Located, bytes_of, cells_at, offset_of}
 use Rattle.dw_meaning.specs.DataFails.{text_table, value_offset, TextFails, no_text, InlineFails, grows}
 use Rattle.dw_meaning.specs.DataOutput.{DataReads, DataFits}
-use Rattle.dw_base.specs.DebugData.{DebugData, Readings, ReadsAll, EachReading, around_of, table_of}
+use Rattle.dw_base.specs.DebugData.{DebugData, DataReadings, ReadsAll, around_of, table_of}
+use Rattle.dw_base.specs.Readings.{EachReading}
 use Rattle.dw_base.specs.EntryScans.{Scans, split as split_row, is_split_root, depth_behind}
 use Rattle.dw_base.specs.EntryValues.{HasUnit, HasTable, HasValue, bytes_up_to}
 use Rattle.dw_base.specs.Forms.{TextSection, in_str, in_line_str, ValueKind, inline_text, text_offset}
@@ -85,7 +86,7 @@ pub record MetValue (base : UnitBase) (z : UnitSection) (h : UnitHeader) (number
   pub holds : P piece.last
 
 -- an entry that was met in a unit that can be read isn't one of split DWARF
-not_split : (d : DebugData) (rs : Readings) (z : UnitSection) (h : UnitHeader) (list : List Abbreviation) (number : ℕ) (a : Abbreviation) (x : Spec) (place : ℕ) (v : Value)
+not_split : (d : DebugData) (rs : DataReadings) (z : UnitSection) (h : UnitHeader) (list : List Abbreviation) (number : ℕ) (a : Abbreviation) (x : Spec) (place : ℕ) (v : Value)
     → DataReads d rs → HasTable d z h list → (y : HasValue h list (bytes_up_to z h) number a x place v) → is_split_root (length y.items) a ≡ false
 not_split d rs z h list number a x place v reads t y = by_split (is_split_root (length y.items) a) refl
   where
@@ -100,14 +101,14 @@ not_split d rs z h list number a x place v reads t y = by_split (is_split_root (
         (subst (λ (xs : List Abbreviation). Scans h xs (bytes_up_to z h) w.items h.end 0) same w.entries)
         (split_row y.items y.start y.depth y.code y.size a y.scans y.spells y.some y.listed is))
 
-pub value-met : (d : DebugData) (rs : Readings) (z : UnitSection) (h : UnitHeader) (list : List Abbreviation) (number : ℕ) (a : Abbreviation) (x : Spec) (place : ℕ) (v : Value)
-    (P : Piece UnitState → Type 0) → DataReads d rs → EachReading P rs → HasTable d z h list → HasValue h list (bytes_up_to z h) number a x place v
+pub value-met : (d : DebugData) (rs : DataReadings) (z : UnitSection) (h : UnitHeader) (list : List Abbreviation) (number : ℕ) (a : Abbreviation) (x : Spec) (place : ℕ) (v : Value)
+    (P : Piece UnitState → Type 0) → DataReads d rs → EachReading P rs.units → HasTable d z h list → HasValue h list (bytes_up_to z h) number a x place v
     → MetValue d.base z h number a x place v P
 value-met d rs z h list number a x place v P reads each t y =
     let u : HasUnit d z h = t.unit in
     let w : WholeUnit d.base z t.unit.start h = unit-whole d rs z h reads t.unit in
     let r : SectionRead d.base z P =
-    section-among d.base P 0 t.unit.before t.unit.behind z rs (subst (λ (zs : List UnitSection). ReadsAll d.base 0 zs rs) t.unit.sections reads.units) each in
+    section-among d.base P 0 t.unit.before t.unit.behind z rs.units (subst (λ (zs : List UnitSection). ReadsAll d.base 0 zs rs.units) t.unit.sections reads.units) each in
     let unit : ℕ = r.first + length w.list in
     let s : UnitState = in_headed d.base z t.unit.start (r.first + length w.list) h in
     let found : abbreviations_at d.base.abbrevs.bytes h.abbrevs ≡ list = table-found d.base.abbrevs.bytes h.abbrevs list t.declares in
@@ -181,7 +182,7 @@ field-cells base z h number a x place v P table n w k =
     ∙ ap (λ (m : ℕ). take v.len (drop m z.contents)) (sym parts.0 ∙ w.piece.at)
 
 -- an offset of a class of texts names one
-offset-names : (d : DebugData) (rs : Readings) (z : UnitSection) (h : UnitHeader) (number : ℕ) (a : Abbreviation) (x : Spec) (place : ℕ) (v : Value) (table : TextSection)
+offset-names : (d : DebugData) (rs : DataReadings) (z : UnitSection) (h : UnitHeader) (number : ℕ) (a : Abbreviation) (x : Spec) (place : ℕ) (v : Value) (table : TextSection)
     → MetValue d.base z h number a x place v (NamesText (around_of d rs)) → v.class ≡ offset_class table
     → ends_in (table_of (around_of d rs) table).bytes (offset_of d.base.order (table_of (around_of d rs) table) (cells_at z.contents v.at v.len)) ≡ true
 offset-names d rs z h number a x place v table w class =
@@ -197,7 +198,7 @@ offset-names d rs z h number a x place v table w class =
     (sym (field-cells d.base z h number a x place v (NamesText (around_of d rs)) table k.0 w k.1)) ∙ names
 
 -- debug data that can be read has no offset that names no text
-pub texts-exclude : (d : DebugData) (rs : Readings) (r : Refusal) → DataReads d rs → TextFails d r → ⊥
+pub texts-exclude : (d : DebugData) (rs : DataReadings) (r : Refusal) → DataReads d rs → TextFails d r → ⊥
 texts-exclude d rs r reads (no_text z h list number a x place v table t y class ends) = by_class v.class refl class
   where
     w : MetValue d.base z h number a x place v (NamesText (around_of d rs))
@@ -266,9 +267,9 @@ path-use : (number tag name : ℕ) → is_path number tag name ≡ true → is_p
 path-use number tag name e = rw e refl
 
 -- and none of its paths would grow where all fit their rooms
-pub inline-excludes : (m : PathMap) (d : DebugData) (rs : Readings) (r : Refusal) → DataReads d rs → DataFits m rs → InlineFails m d r → ⊥
+pub inline-excludes : (m : PathMap) (d : DebugData) (rs : DataReadings) (r : Refusal) → DataReads d rs → DataFits m d rs → InlineFails m d r → ⊥
 inline-excludes m d rs r reads fits (grows z h list number a x place v t y path class over) =
-    let w : MetValue d.base z h number a x place v (InlineFits m) = value-met d rs z h list number a x place v (InlineFits m) reads fits t y in
+    let w : MetValue d.base z h number a x place v (InlineFits m) = value-met d rs z h list number a x place v (InlineFits m) reads fits.inline t y in
     let of_kind : class_of_kind w.piece.kind ≡ Some InlineText =
     value-class w.piece.kind h.params.order (bytes_up_to z h) w.piece.field x.implicit w.piece.value w.piece.is
     ∙ ap (λ (c : ValueClass). Some c) (w.piece.class ∙ class) in

@@ -1,11 +1,13 @@
 -- Debug data, worked: what the units mean, and their new bytes. What is said of each is what an independent program says of
 -- a file that holds it: a variable that shares the text of the directory; a path that stands in its value; two units of 64-bit
 -- DWARF with a reference from one into the other; and a unit with a value of each form that has one by itself.
+use Rattle.dw_meaning.proofs.PlainUnits.{no_section, units_alone}
 use Rattle.std.proofs.Common.{true, false, ◌≡◌, ℕ, List, [], ◌∷◌, ◌++◌, codes, refl, None}
 use Rattle.std.specs.Prelude.{negsuc}
 use Rattle.dw_base.specs.AbbreviationBytes.{abbreviations_at}
 use Rattle.dw_base.specs.Cells.{plain_cells, field_of, offset_of}
-use Rattle.dw_base.specs.DebugData.{DebugData, Readings}
+use Rattle.dw_base.specs.DebugData.{DebugData}
+use Rattle.dw_base.specs.DebugData.{DataReadings}
 use Rattle.dw_meaning.specs.DataOutput.{new_bodies, table_change}
 use Rattle.dw_base.specs.Forests.{AttributeMeaning, no_entries, entry, HeadMeaning}
 use Rattle.dw_base.specs.Forms.{kind_in, form_rows}
@@ -28,11 +30,11 @@ use Rattle.dw_base.specs.declared.view_fields.Field.TheVariants.{Num}
 use Rattle.dw_meaning.proofs.PlainUnits.{pieces_from}
 use Rattle.dw_meaning.proofs.WorkedParts.{all_bytes}
 
-abbrev has : ℕ → ValueMeaning → AttributeMeaning
+abbrev pub has : ℕ → ValueMeaning → AttributeMeaning
 has name value = record { name = name; value = value }
 
 -- the head of a compilation with addresses of 8 bytes
-abbrev compiled : ℕ → Width → HeadMeaning
+abbrev pub compiled : ℕ → Width → HeadMeaning
 compiled version width = record { version = version; width = width; address = 8; kind = 1; signature = 0; type_entry = None }
 
 -- `.debug_info` in section 1 by its pieces, its abbreviations in 2, and the tables of texts in 3 and 4
@@ -42,10 +44,12 @@ worked_data pieces abbrevs str line_str = record {
   units = record { number = 1; kind = in_info; contents = plain_cells (all_bytes pieces) } ∷ [];
   str = record { number = 3; bytes = str };
   line_str = record { number = 4; bytes = line_str };
+  offsets = no_section;
+  names = no_section;
 }
 
-abbrev worked_readings : DebugData → ℕ → List (List ℕ) → Readings
-worked_readings d whole pieces = record { number = 1; pieces = pieces_from d.base (before_unit 1 in_info whole 0 0) pieces } ∷ []
+abbrev worked_readings : DebugData → ℕ → List (List ℕ) → DataReadings
+worked_readings d whole pieces = units_alone (record { number = 1; pieces = pieces_from d.base (before_unit 1 in_info whole 0 0) pieces } ∷ [])
 
 -- a variable that shares the text of the directory keeps it, and the directory has a new place
 abbrev shared_pieces : List (List ℕ)
@@ -86,7 +90,7 @@ shared_map = record { base = codes "/build/p"; dest = codes "/usr/src/debug/p" }
 
 pub shared-output : new_bodies shared_map shared_data (worked_readings shared_data 26 shared_pieces)
     ≡ record { number = 3; bytes = codes "/build/p/a.c\0" ++ codes "/build/p\0" ++ codes "/usr/src/debug/p/a.c\0" ++ codes "/usr/src/debug/p\0" }
-    ∷ record { number = 4; bytes = [] }
+    ∷ record { number = 4; bytes = [] } ∷ record { number = 0; bytes = [] } ∷ record { number = 0; bytes = [] }
     ∷ record {
       number = 1;
       bytes = all_bytes (
@@ -136,7 +140,7 @@ inline_map = record { base = codes "/build/package-1.0"; dest = codes "/usr/src/
 
 pub inline-output : new_bodies inline_map inline_data (worked_readings inline_data 35 inline_pieces)
     ≡ record { number = 3; bytes = codes "/build/p/a.c\0" ++ codes "/build/p\0" }
-    ∷ record { number = 4; bytes = [] }
+    ∷ record { number = 4; bytes = [] } ∷ record { number = 0; bytes = [] } ∷ record { number = 0; bytes = [] }
     ∷ record {
       number = 1;
       bytes = all_bytes (
@@ -208,7 +212,7 @@ wide_map = record { base = codes "/build/p"; dest = codes "/usr/src/debug/p" }
 
 pub wide-output : new_bodies wide_map wide_data (worked_readings wide_data 85 wide_pieces)
     ≡ record { number = 3; bytes = codes "/build/p/a.c\0" ++ codes "/build/p/b.c\0" ++ codes "/usr/src/debug/p/a.c\0" ++ codes "/usr/src/debug/p/b.c\0" }
-    ∷ record { number = 4; bytes = [] }
+    ∷ record { number = 4; bytes = [] } ∷ record { number = 0; bytes = [] } ∷ record { number = 0; bytes = [] }
     ∷ record {
       number = 1;
       bytes = all_bytes (
@@ -307,7 +311,7 @@ forms_map = record { base = codes "/build/p"; dest = codes "/usr/src/debug/p" }
 
 pub forms-output : new_bodies forms_map forms_data (worked_readings forms_data 149 forms_pieces)
     ≡ record { number = 3; bytes = codes "/build/p/a.c\0" ++ codes "/build/p\0" ++ codes "/usr/src/debug/p/a.c\0" }
-    ∷ record { number = 4; bytes = codes "/build/p\0" ++ codes "a.c\0" ++ codes "/usr/src/debug/p\0" }
+    ∷ record { number = 4; bytes = codes "/build/p\0" ++ codes "a.c\0" ++ codes "/usr/src/debug/p\0" } ∷ record { number = 0; bytes = [] } ∷ record { number = 0; bytes = [] }
     ∷ record {
       number = 1;
       bytes = all_bytes (

@@ -1,9 +1,11 @@
 -- Units as pieces, what they mean and what becomes of them, worked: a program of one entry, and a unit of 64-bit DWARF 5 with
 -- a form in front of a value, a path that stands in its value, and values without bytes.
+use Rattle.dw_meaning.proofs.PlainUnits.{no_section, units_alone}
 use Rattle.std.proofs.Common.{true, ◌≡◌, ℕ, List, [], ◌∷◌, ◌++◌, codes, refl, None}
 use Rattle.dw_base.specs.AbbreviationBytes.{abbreviations_at}
 use Rattle.dw_base.specs.Cells.{plain_cells, field_of, offset_of}
-use Rattle.dw_base.specs.DebugData.{DebugData, Readings}
+use Rattle.dw_base.specs.DebugData.{DebugData}
+use Rattle.dw_base.specs.DebugData.{DataReadings}
 use Rattle.dw_meaning.specs.DataOutput.{new_bodies, table_change}
 use Rattle.dw_base.specs.Forests.{AttributeMeaning, no_entries, entry}
 use Rattle.dw_base.specs.Forms.{kind_in, form_rows}
@@ -31,11 +33,13 @@ lone_data order info abbrevs str = record {
   units = record { number = 1; kind = in_info; contents = plain_cells info } ∷ [];
   str = record { number = 3; bytes = str };
   line_str = record { number = 0; bytes = [] };
+  offsets = no_section;
+  names = no_section;
 }
 
 -- and its readings, by pieces of `.debug_info` of so many bytes
-abbrev pub lone_readings : DebugData → ℕ → List (List ℕ) → Readings
-lone_readings d whole pieces = record { number = 1; pieces = pieces_from d.base (before_unit 1 in_info whole 0 0) pieces } ∷ []
+abbrev pub lone_readings : DebugData → ℕ → List (List ℕ) → DataReadings
+lone_readings d whole pieces = units_alone (record { number = 1; pieces = pieces_from d.base (before_unit 1 in_info whole 0 0) pieces } ∷ [])
 
 abbrev pub build_map : PathMap
 build_map = record { base = codes "/build/p"; dest = codes "/usr/src/debug/p" }
@@ -61,7 +65,7 @@ small-meaning = refl
 
 pub small-output : new_bodies build_map small_data (lone_readings small_data 20 small_pieces)
     ≡ record { number = 3; bytes = codes "/build/p/a.c\0/build/p\0/usr/src/debug/p/a.c\0/usr/src/debug/p\0" }
-    ∷ record { number = 0; bytes = [] }
+    ∷ record { number = 0; bytes = [] } ∷ record { number = 0; bytes = [] } ∷ record { number = 0; bytes = [] }
     ∷ record { number = 1; bytes = word 16 ++ half 4 ++ word 0 ++ (8 ∷ 1 ∷ []) ++ word 22 ++ word 43 } ∷ []
 unfolding new_bodies table_change unit_header initial_length_at number_at spelled between after_code kind_in form_rows abbreviations_at
     uleb_at text_in offset_of field_of role_of lies_under mapped_path mapped_inline with_offset

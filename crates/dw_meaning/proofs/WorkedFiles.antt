@@ -1,13 +1,15 @@
 -- Whole files, worked: the smallest one of 64 bits with the lowest byte first, and the same of 32 bits with the highest byte
 -- first. Each can be read; its output is this one, byte for byte; and what the output means is what the file means, mapped.
 -- The outputs are those that an independent program gives.
+use Rattle.dw_meaning.proofs.PlainUnits.{none-offsets, none-names}
 use Rattle.std.proofs.Common.{true, false, ◌≡◌, ℕ, List, [], ◌∷◌, ◌++◌, replicate, codes, refl, sym, ◌∙◌}
 use Rattle.std.proofs.lemmas.Bool.{ltb-true, eqb-false}
 use Rattle.std.specs.Prelude.{pos, None}
 use Rattle.dw_base.specs.AbbreviationBytes.{abbreviations_at}
 use Rattle.dw_base.specs.AbbreviationTables.{Abbreviation, IsTable, no_abbreviations, more_abbreviations, no_specs}
 use Rattle.dw_base.specs.Cells.{field_of, offset_of}
-use Rattle.dw_base.specs.DebugData.{DebugData, Readings}
+use Rattle.dw_base.specs.DebugData.{DebugData}
+use Rattle.dw_base.specs.DebugData.{DataReadings}
 use Rattle.dw_base.specs.DebugSections.{debug_section, is_listed}
 use Rattle.dw_base.specs.Elf.{class_of, contents_at, contents_of, e_phentsize, e_phnum, e_phoff, e_shentsize, e_shnum, e_shoff, e_shstrndx, e_type, name_index, name_table, nth_section, nth_segment, order_of, section_at, section_count, section_name, segment_at, segments_of, sections_of}
 use Rattle.dw_base.specs.FileViews.{view_of, view_section, section_after, section_bytes, section_named}
@@ -85,16 +87,16 @@ old_data order address = lone_data order (all_bytes (paths_pieces order address 
 abbrev pub new_data : Order → ℕ → DebugData
 new_data order address = lone_data order (all_bytes (paths_pieces order address 22 43)) paths_abbrevs all_texts
 
-abbrev pub old_readings : Order → ℕ → Readings
+abbrev pub old_readings : Order → ℕ → DataReadings
 old_readings order address = lone_readings (old_data order address) 20 (paths_pieces order address 0 13)
 
-abbrev pub new_readings : Order → ℕ → Readings
+abbrev pub new_readings : Order → ℕ → DataReadings
 new_readings order address = lone_readings (new_data order address) 20 (paths_pieces order address 22 43)
 
 -- the new bodies
 abbrev pub paths_bodies : Order → ℕ → List Body
 paths_bodies order address =
-    record { number = 3; bytes = all_texts } ∷ record { number = 0; bytes = [] }
+    record { number = 3; bytes = all_texts } ∷ record { number = 0; bytes = [] } ∷ record { number = 0; bytes = [] } ∷ record { number = 0; bytes = [] }
     ∷ record { number = 1; bytes = all_bytes (paths_pieces order address 22 43) } ∷ []
 
 -- what the units mean
@@ -122,7 +124,7 @@ abbrev pub unnamed : List NamedBytes
 unnamed = record { name = []; bytes = [] } ∷ []
 
 abbrev pub paths_meaning : ℕ → Meaning
-paths_meaning address = record { units = paths_units address paths; others = bytes_named unnamed }
+paths_meaning address = record { units = paths_units address paths; slots = []; names = []; others = bytes_named unnamed }
 
 -- the debug data are read so
 pub one-old_reads : DataReads (old_data Little 8) (old_readings Little 8)
@@ -130,7 +132,12 @@ unfolding unit_header initial_length_at number_at spelled between after_code kin
     field_of role_of value_of
 one-old_reads = record {
   units = (refl, record { chain = chain-sound _ _ (paths_pieces Little 8 0 13) paths-table refl; cells = refl }, tt);
+  offsets = none-offsets Little;
+  names = none-names Little;
   texts = ((tt, (tt, (refl, (refl, tt)))), tt);
+  slot_texts = tt;
+  name_texts = tt;
+  indexes = tt;
 }
 
 pub one-new_reads : DataReads (new_data Little 8) (new_readings Little 8)
@@ -138,7 +145,12 @@ unfolding unit_header initial_length_at number_at spelled between after_code kin
     field_of role_of value_of
 one-new_reads = record {
   units = (refl, record { chain = chain-sound _ _ (paths_pieces Little 8 22 43) paths-table refl; cells = refl }, tt);
+  offsets = none-offsets Little;
+  names = none-names Little;
   texts = ((tt, (tt, (refl, (refl, tt)))), tt);
+  slot_texts = tt;
+  name_texts = tt;
+  indexes = tt;
 }
 
 pub big-old_reads : DataReads (old_data Big 4) (old_readings Big 4)
@@ -146,7 +158,12 @@ unfolding unit_header initial_length_at number_at spelled between after_code kin
     field_of role_of value_of
 big-old_reads = record {
   units = (refl, record { chain = chain-sound _ _ (paths_pieces Big 4 0 13) paths-table refl; cells = refl }, tt);
+  offsets = none-offsets Big;
+  names = none-names Big;
   texts = ((tt, (tt, (refl, (refl, tt)))), tt);
+  slot_texts = tt;
+  name_texts = tt;
+  indexes = tt;
 }
 
 pub big-new_reads : DataReads (new_data Big 4) (new_readings Big 4)
@@ -154,7 +171,12 @@ unfolding unit_header initial_length_at number_at spelled between after_code kin
     field_of role_of value_of
 big-new_reads = record {
   units = (refl, record { chain = chain-sound _ _ (paths_pieces Big 4 22 43) paths-table refl; cells = refl }, tt);
+  offsets = none-offsets Big;
+  names = none-names Big;
   texts = ((tt, (tt, (refl, (refl, tt)))), tt);
+  slot_texts = tt;
+  name_texts = tt;
+  indexes = tt;
 }
 
 -- one unit with a name and a directory: the smallest file of which every table is used
@@ -213,7 +235,7 @@ unfolding unit_header initial_length_at number_at spelled between after_code kin
 one_unit-output = record {
   readings = old_readings Little 8;
   reads = one_unit-reads.data_reads;
-  fits = ((tt, (tt, (tt, (tt, tt)))), tt);
+  fits = record { inline = ((tt, (tt, (tt, (tt, tt)))), tt); slots = tt };
   is = sym (output-is worked_map one_unit (old_data Little 8) (old_readings Little 8) (paths_bodies Little 8) one_unit-data one_unit-bodies ∙ one_unit-written);
 }
 
@@ -242,7 +264,7 @@ pub one_unit-means : Means one_unit (paths_meaning 8)
 one_unit-means = record {
   readings = old_readings Little 8;
   reads = one_unit-reads;
-  says = meaning-is one_unit (old_data Little 8) (old_readings Little 8) (paths_units 8 paths) unnamed one_unit-data one_unit-units one_unit-others;
+  says = meaning-is one_unit (old_data Little 8) (old_readings Little 8) (paths_units 8 paths) unnamed one_unit-data one_unit-units one_unit-others refl refl;
 }
 
 pub one_unit_out-means : Means one_unit_out (mapped worked_map (paths_meaning 8))
@@ -250,7 +272,7 @@ unfolding lies_under mapped_path
 one_unit_out-means = record {
   readings = new_readings Little 8;
   reads = one_unit_out-reads;
-  says = meaning-is one_unit_out (new_data Little 8) (new_readings Little 8) (paths_units 8 mapped_paths) unnamed one_unit_out-data one_unit_out-units one_unit_out-others;
+  says = meaning-is one_unit_out (new_data Little 8) (new_readings Little 8) (paths_units 8 mapped_paths) unnamed one_unit_out-data one_unit_out-units one_unit_out-others refl refl;
 }
 
 pub one_unit-kept : MeaningKept worked_map one_unit one_unit_out
@@ -318,7 +340,7 @@ unfolding unit_header initial_length_at number_at spelled between after_code kin
 of_32_bits-output = record {
   readings = old_readings Big 4;
   reads = of_32_bits-reads.data_reads;
-  fits = ((tt, (tt, (tt, (tt, tt)))), tt);
+  fits = record { inline = ((tt, (tt, (tt, (tt, tt)))), tt); slots = tt };
   is = sym (output-is worked_map of_32_bits (old_data Big 4) (old_readings Big 4) (paths_bodies Big 4) of_32_bits-data of_32_bits-bodies ∙ of_32_bits-written);
 }
 
@@ -347,7 +369,7 @@ pub of_32_bits-means : Means of_32_bits (paths_meaning 4)
 of_32_bits-means = record {
   readings = old_readings Big 4;
   reads = of_32_bits-reads;
-  says = meaning-is of_32_bits (old_data Big 4) (old_readings Big 4) (paths_units 4 paths) unnamed of_32_bits-data of_32_bits-units of_32_bits-others;
+  says = meaning-is of_32_bits (old_data Big 4) (old_readings Big 4) (paths_units 4 paths) unnamed of_32_bits-data of_32_bits-units of_32_bits-others refl refl;
 }
 
 pub of_32_bits_out-means : Means of_32_bits_out (mapped worked_map (paths_meaning 4))
@@ -355,7 +377,7 @@ unfolding lies_under mapped_path
 of_32_bits_out-means = record {
   readings = new_readings Big 4;
   reads = of_32_bits_out-reads;
-  says = meaning-is of_32_bits_out (new_data Big 4) (new_readings Big 4) (paths_units 4 mapped_paths) unnamed of_32_bits_out-data of_32_bits_out-units of_32_bits_out-others;
+  says = meaning-is of_32_bits_out (new_data Big 4) (new_readings Big 4) (paths_units 4 mapped_paths) unnamed of_32_bits_out-data of_32_bits_out-units of_32_bits_out-others refl refl;
 }
 
 pub of_32_bits-kept : MeaningKept worked_map of_32_bits of_32_bits_out

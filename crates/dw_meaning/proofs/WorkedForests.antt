@@ -6,7 +6,8 @@ use Rattle.std.specs.Prelude.{pos}
 use Rattle.dw_base.specs.AbbreviationBytes.{abbreviations_at}
 use Rattle.dw_base.specs.AbbreviationTables.{Abbreviation, IsTable, no_abbreviations, more_abbreviations, no_specs}
 use Rattle.dw_base.specs.Cells.{plain_cells, field_of, offset_of}
-use Rattle.dw_base.specs.DebugData.{DebugData, Readings, ReadsAll}
+use Rattle.dw_base.specs.DebugData.{DebugData, ReadsAll}
+use Rattle.dw_base.specs.DebugData.{DataReadings}
 use Rattle.dw_base.specs.EntryScans.{no_values, more_values, starts, entry as entry_stands, open_list}
 use Rattle.dw_base.specs.EntryValues.{HasTable}
 use Rattle.dw_base.specs.Forests.{AttributeMeaning, Forest, no_entries, entry}
@@ -81,11 +82,11 @@ tree-table = record {
 abbrev pub tree_data : List (List ℕ) → DebugData
 tree_data pieces = lone_data Little (all_bytes pieces) tree_abbrevs path_texts
 
-abbrev pub tree_readings : ℕ → List (List ℕ) → Readings
+abbrev pub tree_readings : ℕ → List (List ℕ) → DataReadings
 tree_readings whole pieces = lone_readings (tree_data pieces) whole pieces
 
 abbrev pub TreeReads : ℕ → List (List ℕ) → Type 0
-TreeReads whole pieces = ReadsAll (tree_data pieces).base 0 (tree_data pieces).units (tree_readings whole pieces)
+TreeReads whole pieces = ReadsAll (tree_data pieces).base 0 (tree_data pieces).units (tree_readings whole pieces).units
 
 abbrev pub tree_units : ℕ → List (List ℕ) → List UnitMeaning
 tree_units whole pieces = units_of (tree_data pieces) (tree_readings whole pieces)
@@ -301,5 +302,5 @@ open_list-fails =
     offset_value : ℕ → ℕ → Value
     offset_value n place = record { class = StrOffset; number = n; at = place; len = 4; size = 4 }
 
-pub open_list-unread : (r : Readings) → DataReads (tree_data open_pieces) r → ⊥
+pub open_list-unread : (r : DataReadings) → DataReads (tree_data open_pieces) r → ⊥
 open_list-unread r reads = data-excludes (tree_data open_pieces) r (at Entry 1 20) reads open_list-fails

@@ -1,10 +1,12 @@
 -- Files with other sections, worked: notes with a build-id, comments of one name, the link to a debug file and a section that is
 -- loaded; and a shared object with a segment. Each can be read; its output is this one; the output means what the file means,
 -- mapped. The outputs are those that an independent program gives.
+use Rattle.dw_meaning.proofs.PlainUnits.{no_section, units_alone, none-offsets, none-names}
 use Rattle.std.proofs.Common.{ℕ, suc, ◌≡◌, List, [], ◌∷◌, ◌++◌, replicate, codes, refl, sym, ◌∙◌}
 use Rattle.dw_base.specs.AbbreviationBytes.{abbreviations_at}
 use Rattle.dw_base.specs.Cells.{plain_cells, field_of, offset_of}
-use Rattle.dw_base.specs.DebugData.{DebugData, Readings}
+use Rattle.dw_base.specs.DebugData.{DebugData}
+use Rattle.dw_base.specs.DebugData.{DataReadings}
 use Rattle.dw_base.specs.DebugSections.{debug_section, is_listed}
 use Rattle.dw_base.specs.Elf.{class_of, contents_at, contents_of, e_phentsize, e_phnum, e_phoff, e_shentsize, e_shnum, e_shoff, e_shstrndx, e_type, name_index, name_table, nth_section, nth_segment, order_of, section_at, section_count, section_name, segment_at, segments_of, sections_of}
 use Rattle.dw_base.specs.FileViews.{view_of, view_section, section_after, section_bytes, section_named}
@@ -41,15 +43,17 @@ data_in n name directory str = record {
   units = record { number = n; kind = in_info; contents = plain_cells (all_bytes (paths_pieces Little 8 name directory)) } ∷ [];
   str = record { number = suc (suc n); bytes = str };
   line_str = record { number = 0; bytes = [] };
+  offsets = no_section;
+  names = no_section;
 }
 
-abbrev pub readings_in : ℕ → ℕ → ℕ → List ℕ → Readings
+abbrev pub readings_in : ℕ → ℕ → ℕ → List ℕ → DataReadings
 readings_in n name directory str =
-    record { number = n; pieces = pieces_from (data_in n name directory str).base (before_unit n in_info 20 0 0) (paths_pieces Little 8 name directory) } ∷ []
+    units_alone (record { number = n; pieces = pieces_from (data_in n name directory str).base (before_unit n in_info 20 0 0) (paths_pieces Little 8 name directory) } ∷ [])
 
 abbrev pub bodies_in : ℕ → List Body
 bodies_in n =
-    record { number = suc (suc n); bytes = all_texts } ∷ record { number = 0; bytes = [] }
+    record { number = suc (suc n); bytes = all_texts } ∷ record { number = 0; bytes = [] } ∷ record { number = 0; bytes = [] } ∷ record { number = 0; bytes = [] }
     ∷ record { number = n; bytes = all_bytes (paths_pieces Little 8 22 43) } ∷ []
 
 abbrev pub units_in : ℕ → List AttributeMeaning → List UnitMeaning
@@ -67,7 +71,12 @@ unfolding unit_header initial_length_at number_at spelled between after_code kin
     field_of role_of value_of
 with_id-old_reads = record {
   units = (refl, record { chain = chain-sound _ _ (paths_pieces Little 8 0 13) paths-table refl; cells = refl }, tt);
+  offsets = none-offsets Little;
+  names = none-names Little;
   texts = ((tt, (tt, (refl, (refl, tt)))), tt);
+  slot_texts = tt;
+  name_texts = tt;
+  indexes = tt;
 }
 
 pub with_id-new_reads : DataReads (data_in 2 22 43 all_texts) (readings_in 2 22 43 all_texts)
@@ -75,7 +84,12 @@ unfolding unit_header initial_length_at number_at spelled between after_code kin
     field_of role_of value_of
 with_id-new_reads = record {
   units = (refl, record { chain = chain-sound _ _ (paths_pieces Little 8 22 43) paths-table refl; cells = refl }, tt);
+  offsets = none-offsets Little;
+  names = none-names Little;
   texts = ((tt, (tt, (refl, (refl, tt)))), tt);
+  slot_texts = tt;
+  name_texts = tt;
+  indexes = tt;
 }
 
 pub with_id-reads : FileReads with_id (readings_in 2 0 13 path_texts)
@@ -104,7 +118,7 @@ unfolding unit_header initial_length_at number_at spelled between after_code kin
 with_id-output = record {
   readings = (readings_in 2 0 13 path_texts);
   reads = with_id-reads.data_reads;
-  fits = ((tt, (tt, (tt, (tt, tt)))), tt);
+  fits = record { inline = ((tt, (tt, (tt, (tt, tt)))), tt); slots = tt };
   is = sym (output-is worked_map with_id (data_in 2 0 13 path_texts) (readings_in 2 0 13 path_texts) (bodies_in 2) with_id-data.0 with_id-bodies ∙ with_id-written);
 }
 
@@ -134,13 +148,13 @@ unfolding spelled e_type e_phnum e_phoff e_phentsize e_shoff e_shentsize e_shnum
 with_id-others = (refl, refl)
 
 abbrev pub with_id_meaning : Meaning
-with_id_meaning = record { units = units_in 2 paths; others = bytes_named with_id_named }
+with_id_meaning = record { units = units_in 2 paths; slots = []; names = []; others = bytes_named with_id_named }
 
 pub with_id-means : Means with_id with_id_meaning
 with_id-means = record {
   readings = (readings_in 2 0 13 path_texts);
   reads = with_id-reads;
-  says = meaning-is with_id (data_in 2 0 13 path_texts) (readings_in 2 0 13 path_texts) (units_in 2 paths) with_id_named with_id-data.0 with_id-units.0 with_id-others.0;
+  says = meaning-is with_id (data_in 2 0 13 path_texts) (readings_in 2 0 13 path_texts) (units_in 2 paths) with_id_named with_id-data.0 with_id-units.0 with_id-others.0 refl refl;
 }
 
 pub with_id_out-means : Means with_id_out (mapped worked_map with_id_meaning)
@@ -148,7 +162,7 @@ unfolding lies_under mapped_path
 with_id_out-means = record {
   readings = (readings_in 2 22 43 all_texts);
   reads = with_id_out-reads;
-  says = meaning-is with_id_out (data_in 2 22 43 all_texts) (readings_in 2 22 43 all_texts) (units_in 2 mapped_paths) with_id_named with_id-data.1 with_id-units.1 with_id-others.1;
+  says = meaning-is with_id_out (data_in 2 22 43 all_texts) (readings_in 2 22 43 all_texts) (units_in 2 mapped_paths) with_id_named with_id-data.1 with_id-units.1 with_id-others.1 refl refl;
 }
 
 pub with_id-kept : MeaningKept worked_map with_id with_id_out
@@ -211,7 +225,12 @@ unfolding unit_header initial_length_at number_at spelled between after_code kin
     field_of role_of value_of
 with_a_segment-old_reads = record {
   units = (refl, record { chain = chain-sound _ _ (paths_pieces Little 8 0 13) paths-table refl; cells = refl }, tt);
+  offsets = none-offsets Little;
+  names = none-names Little;
   texts = ((tt, (tt, (refl, (refl, tt)))), tt);
+  slot_texts = tt;
+  name_texts = tt;
+  indexes = tt;
 }
 
 with_a_segment-new_reads : DataReads (data_in 3 22 43 all_texts) (readings_in 3 22 43 all_texts)
@@ -219,7 +238,12 @@ unfolding unit_header initial_length_at number_at spelled between after_code kin
     field_of role_of value_of
 with_a_segment-new_reads = record {
   units = (refl, record { chain = chain-sound _ _ (paths_pieces Little 8 22 43) paths-table refl; cells = refl }, tt);
+  offsets = none-offsets Little;
+  names = none-names Little;
   texts = ((tt, (tt, (refl, (refl, tt)))), tt);
+  slot_texts = tt;
+  name_texts = tt;
+  indexes = tt;
 }
 
 pub with_a_segment-reads : FileReads with_a_segment (readings_in 3 0 13 path_texts)
@@ -248,7 +272,7 @@ unfolding unit_header initial_length_at number_at spelled between after_code kin
 with_a_segment-output = record {
   readings = (readings_in 3 0 13 path_texts);
   reads = with_a_segment-reads.data_reads;
-  fits = ((tt, (tt, (tt, (tt, tt)))), tt);
+  fits = record { inline = ((tt, (tt, (tt, (tt, tt)))), tt); slots = tt };
   is = sym (output-is worked_map with_a_segment (data_in 3 0 13 path_texts) (readings_in 3 0 13 path_texts) (bodies_in 3) with_a_segment-data.0 with_a_segment-bodies ∙ with_a_segment-written);
 }
 
@@ -266,13 +290,13 @@ unfolding spelled e_type e_phnum e_phoff e_phentsize e_shoff e_shentsize e_shnum
 with_a_segment-others = (refl, refl)
 
 abbrev pub with_a_segment_meaning : Meaning
-with_a_segment_meaning = record { units = units_in 3 paths; others = bytes_named unnamed }
+with_a_segment_meaning = record { units = units_in 3 paths; slots = []; names = []; others = bytes_named unnamed }
 
 pub with_a_segment-means : Means with_a_segment with_a_segment_meaning
 with_a_segment-means = record {
   readings = (readings_in 3 0 13 path_texts);
   reads = with_a_segment-reads;
-  says = meaning-is with_a_segment (data_in 3 0 13 path_texts) (readings_in 3 0 13 path_texts) (units_in 3 paths) unnamed with_a_segment-data.0 with_a_segment-units.0 with_a_segment-others.0;
+  says = meaning-is with_a_segment (data_in 3 0 13 path_texts) (readings_in 3 0 13 path_texts) (units_in 3 paths) unnamed with_a_segment-data.0 with_a_segment-units.0 with_a_segment-others.0 refl refl;
 }
 
 pub with_a_segment_out-means : Means with_a_segment_out (mapped worked_map with_a_segment_meaning)
@@ -280,7 +304,7 @@ unfolding lies_under mapped_path
 with_a_segment_out-means = record {
   readings = (readings_in 3 22 43 all_texts);
   reads = with_a_segment_out-reads;
-  says = meaning-is with_a_segment_out (data_in 3 22 43 all_texts) (readings_in 3 22 43 all_texts) (units_in 3 mapped_paths) unnamed with_a_segment-data.1 with_a_segment-units.1 with_a_segment-others.1;
+  says = meaning-is with_a_segment_out (data_in 3 22 43 all_texts) (readings_in 3 22 43 all_texts) (units_in 3 mapped_paths) unnamed with_a_segment-data.1 with_a_segment-units.1 with_a_segment-others.1 refl refl;
 }
 
 pub with_a_segment-kept : MeaningKept worked_map with_a_segment with_a_segment_out

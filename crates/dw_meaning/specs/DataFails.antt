@@ -1,13 +1,15 @@
 -- Why debug data can't be read, or not be mapped: what is wrong with a unit, its table of abbreviations or its entries; an
--- offset of a text that names none; and a path that stands in its value and would grow.
+-- offset of a text, or an index of one, that names none; and a path that stands in its value and would grow.
 use Rattle.std.specs.Prelude.{true, false, ◌≡◌, ℕ, List, ◌∷◌, ◌++◌, Option, Some, None}
 use Rattle.dw_base.specs.AbbreviationFails.{AbbreviationFails}
 use Rattle.dw_base.specs.AbbreviationTables.{Abbreviation}
 use Rattle.dw_base.specs.Cells.{Located, cells_at, offset_of}
-use Rattle.dw_base.specs.DebugData.{DebugData}
+use Rattle.dw_base.specs.DebugData.{DebugData, DataReadings, ReadsAll, around_of, indexing_of}
 use Rattle.dw_base.specs.EntryScans.{EntryFails}
 use Rattle.dw_base.specs.EntryValues.{HasUnit, HasTable, HasValue, bytes_up_to}
+use Rattle.dw_base.specs.IndexFails.{IndexFails, SlotFails}
 use Rattle.dw_base.specs.InlinePaths.{inline_fits}
+use Rattle.dw_base.specs.OffsetPieces.{ReadsOffsets}
 use Rattle.dw_base.specs.Paths.{PathMap}
 use Rattle.dw_base.specs.Refusals.{at}
 use Rattle.dw_base.specs.Roles.{is_path}
@@ -47,6 +49,17 @@ pub data TextFails (d : DebugData) : Refusal → Type 0 where
       (v : Value) (table : Located) → HasTable d z h list → HasValue h list (bytes_up_to z h) number a x place v
       → text_table d v.class ≡ Some table → ends_in table.bytes (value_offset d z v table) ≡ false
       → TextFails d (at StringOffset z.number v.at)
+
+-- the units and the string offsets can be read: they are these pieces
+pub record IndexesRead (d : DebugData) (r : DataReadings) : Type 0 where
+  pub units : ReadsAll d.base 0 d.units r.units
+  pub offsets : ReadsOffsets d.base.order d.offsets.contents r.offsets
+
+-- the rows of values by index and of slots
+pub data SlotTextFails (d : DebugData) : Refusal → Type 0 where
+  index : (readings : DataReadings) {r : Refusal} → IndexesRead d readings → IndexFails (indexing_of d readings) r → SlotTextFails d r
+  slot : (readings : DataReadings) {r : Refusal} → IndexesRead d readings → SlotFails d.offsets.number (around_of d readings) readings.offsets r
+      → SlotTextFails d r
 
 -- the row of paths that stand in their values, at the text
 pub data InlineFails (m : PathMap) (d : DebugData) : Refusal → Type 0 where

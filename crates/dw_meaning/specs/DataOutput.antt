@@ -1,30 +1,44 @@
--- The debug data that an edit writes: each field of a path's text names the mapped text, each path that stands in its value
--- is mapped there, and all else stays; and when debug data can be read and mapped.
+-- The debug data that an edit writes: each field of a path's text names the mapped text, that of a slot too, each path that stands in
+-- its value is mapped there, and all else stays; and when debug data can be read and mapped.
 use Rattle.std.specs.Prelude.{ℕ, ◌==◌, if◌then◌else◌, List, [], ◌∷◌}
-use Rattle.dw_base.specs.Cells.{Located, bytes_of}
-use Rattle.dw_base.specs.DebugData.{DebugData, Reading, Readings, Around, around_of, table_of, ReadsAll, EachReading}
+use Rattle.dw_base.specs.Cells.{Cell, Located, bytes_of}
+use Rattle.dw_base.specs.DebugData.{DebugData, DataReadings, Around, around_of, indexing_of, path_slots, table_of, ReadsAll}
 use Rattle.dw_base.specs.Forms.{TextSection, in_str, in_line_str}
+use Rattle.dw_base.specs.IndexFails.{SlotFits}
+use Rattle.dw_base.specs.NamePieces.{NameState, ReadsNames}
+use Rattle.dw_base.specs.OffsetPieces.{OffsetState, ReadsOffsets}
 use Rattle.dw_base.specs.Paths.{PathMap}
-use Rattle.dw_base.specs.Pieces.{joined}
+use Rattle.dw_base.specs.Pieces.{Piece, EachPiece, joined}
+use Rattle.dw_base.specs.Readings.{Reading, Readings, EachReading}
+use Rattle.dw_base.specs.SectionTexts.{slot_role, name_role, file_mentions, edited_with, NameTexts}
 use Rattle.dw_base.specs.StringTables.{Plan, appending, new_texts, new_table}
-use Rattle.dw_base.specs.TextChanges.{TableChange, TableChanges, all_mentions, edited_all, NamesText, InlineFits}
+use Rattle.dw_base.specs.TextChanges.{TableChange, TableChanges, edited_all, NamesText, InlineFits}
+use Rattle.dw_base.specs.TextIndexes.{EachUse, NamesSlot, index_uses}
 
--- debug data can be read: the units are these pieces, and each offset names a text that ends
-pub record DataReads (d : DebugData) (r : Readings) : Type 0 where
-  pub units : ReadsAll d.base 0 d.units r
-  pub texts : EachReading (NamesText (around_of d r)) r
+-- debug data can be read: units, string offsets and name tables are these pieces, each offset names a text that ends, and each value
+-- by index a slot
+pub record DataReads (d : DebugData) (r : DataReadings) : Type 0 where
+  pub units : ReadsAll d.base 0 d.units r.units
+  pub offsets : ReadsOffsets d.base.order d.offsets.contents r.offsets
+  pub names : ReadsNames d.base.order d.names.contents r.names
+  pub texts : EachReading (NamesText (around_of d r)) r.units
+  pub slot_texts : NameTexts (slot_role (path_slots (around_of d r))) (around_of d r) r.offsets
+  pub name_texts : NameTexts name_role (around_of d r) r.names
+  pub indexes : EachUse (NamesSlot (indexing_of d r)) (index_uses d.base.order r.units)
 
--- and be mapped: each path that stands in its value fits its room
-abbrev pub DataFits : PathMap → Readings → Type 0
-DataFits m r = EachReading (InlineFits m) r
+-- and be mapped: each path that stands in its value fits its room, and no slot is named by a path whose text changes and by a value
+-- that isn't a path
+pub record DataFits (m : PathMap) (d : DebugData) (r : DataReadings) : Type 0 where
+  pub inline : EachReading (InlineFits m) r.units
+  pub slots : EachPiece (SlotFits m (around_of d r)) r.offsets
 
 -- what becomes of a table: old bytes are kept, and mapped texts that differ get a place behind them
-unfoldable pub table_change : PathMap → TextSection → Around → Readings → TableChange
+unfoldable pub table_change : PathMap → TextSection → Around → DataReadings → TableChange
 table_change m table around r =
     let plan : Plan = appending m (table_of around table).bytes in
-    record { plan = plan; texts = new_texts plan m (all_mentions table around r) }
+    record { plan = plan; texts = new_texts plan m (file_mentions table around r) }
 
-abbrev pub changes_of : PathMap → Around → Readings → TableChanges
+abbrev pub changes_of : PathMap → Around → DataReadings → TableChanges
 changes_of m around r = record { map = m; str = table_change m in_str around r; line_str = table_change m in_line_str around r }
 
 -- a section and its new bytes
@@ -42,12 +56,25 @@ unit_bodies changes around (r ∷ rs) = unit_body changes around r ∷ unit_bodi
 abbrev pub table_body : Located → TableChange → Body
 table_body z c = record { number = z.number; bytes = new_table c.plan c.texts }
 
--- the sections with new bytes
-abbrev pub bodies_by : TableChanges → Around → Readings → List Body
-bodies_by changes around r = table_body around.str changes.str ∷ table_body around.line_str changes.line_str ∷ unit_bodies changes around r
+-- string offsets, and name tables, with their fields moved
+abbrev pub offsets_after : TableChanges → Around → DataReadings → List (Piece OffsetState)
+offsets_after changes around r = edited_with (slot_role (path_slots around)) changes around r.offsets
 
-unfoldable pub new_bodies : PathMap → DebugData → Readings → List Body
-new_bodies m d r = bodies_by (changes_of m (around_of d r) r) (around_of d r) r
+abbrev pub names_after : TableChanges → Around → DataReadings → List (Piece NameState)
+names_after changes around r = edited_with name_role changes around r.names
+
+abbrev pub cells_body : ℕ → List Cell → Body
+cells_body i p = record { number = i; bytes = bytes_of p }
+
+-- the sections with new bytes
+abbrev pub bodies_by : TableChanges → DebugData → Around → DataReadings → List Body
+bodies_by changes d around r =
+    table_body around.str changes.str ∷ table_body around.line_str changes.line_str
+    ∷ cells_body d.offsets.number (joined (offsets_after changes around r)) ∷ cells_body d.names.number (joined (names_after changes around r))
+    ∷ unit_bodies changes around r.units
+
+unfoldable pub new_bodies : PathMap → DebugData → DataReadings → List Body
+new_bodies m d r = bodies_by (changes_of m (around_of d r) r) d (around_of d r) r
 
 -- the bytes of a section of a number: its new ones, or those that it has
 abbrev pub body_in : List Body → (ℕ → List ℕ) → ℕ → List ℕ

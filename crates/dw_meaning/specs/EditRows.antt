@@ -1,8 +1,9 @@
 -- Why a file isn't edited with a prefix map, and the record of what holds where it is.
 use Rattle.std.specs.Prelude.{◌<◌, ℕ, List}
-use Rattle.dw_meaning.specs.DataFails.{InlineFails}
+use Rattle.dw_meaning.specs.DataFails.{IndexesRead, InlineFails}
 use Rattle.dw_meaning.specs.DataOutput.{DataFits}
-use Rattle.dw_base.specs.DebugData.{Readings}
+use Rattle.dw_base.specs.DebugData.{DataReadings, around_of}
+use Rattle.dw_base.specs.IndexFails.{SharedFails}
 use Rattle.dw_base.specs.Elf.{section_count}
 use Rattle.dw_base.specs.ElfFails.{ElfReads}
 use Rattle.dw_meaning.specs.FileFails.{ReadIsLoaded, UnbuiltFile, FileFails}
@@ -11,20 +12,23 @@ use Rattle.dw_base.specs.LayoutFails.{LayoutFails, LayoutFits}
 use Rattle.dw_base.specs.Paths.{PathMap}
 use Rattle.dw_base.specs.declared.fault.Refusal.{Refusal}
 
--- every row: those of the file; a path that stands in its value would grow; and the output can be too long, or a section lie
+-- every row: those of the file; a path that stands in its value would grow; a slot is named by a path whose text changes and by a
+-- value that isn't a path; and the output can be too long, or a section lie
 -- across the end of the part that stays, begin in the file header, or stay and have to change
 pub data EditFails (m : PathMap) (b : List ℕ) : Refusal → Type 0 where
   file : {r : Refusal} → FileFails b r → EditFails m b r
   inline : {r : Refusal} → ElfReads b → InlineFails m (file_data b) r → EditFails m b r
-  output : (readings : Readings) {r : Refusal} → FileReads b readings → DataFits m readings
+  shared : (readings : DataReadings) {r : Refusal} → ElfReads b → IndexesRead (file_data b) readings
+      → SharedFails m (file_data b).offsets.number (around_of (file_data b) readings) readings.offsets r → EditFails m b r
+  output : (readings : DataReadings) {r : Refusal} → FileReads b readings → DataFits m (file_data b) readings
       → LayoutFails b (new_body m b readings) r → EditFails m b r
 
--- the file is taken: it can be read, its paths fit the rooms in which they stand, no section that is read is loaded, it is of
+-- the file is taken: it can be read, its paths fit the rooms in which they stand and its slots are fit to be mapped, no section that is read is loaded, it is of
 -- a shape that is taken, and its output can be written
 pub record IsAccepted (m : PathMap) (b : List ℕ) : Type 0 where
-  pub readings : Readings
+  pub readings : DataReadings
   pub reads : FileReads b readings
-  pub fits : DataFits m readings
+  pub fits : DataFits m (file_data b) readings
   pub unloaded : (i : ℕ) → i < section_count b → ReadIsLoaded b i → ⊥
   pub built : UnbuiltFile b → ⊥
   pub written : LayoutFits b (new_body m b readings)

@@ -2,26 +2,27 @@
 -- version of the program doesn't take. Each row names a condition that holds, and its place.
 use Rattle.std.specs.Prelude.{Bool, true, false, ◌≡◌, ℕ, ◌<◌, ◌==◌, ◌||◌, List, IsTrue, Option, Some}
 use Rattle.dw_base.specs.AbbreviationTables.{Abbreviation}
-use Rattle.dw_meaning.specs.DataFails.{DataFails, TextFails}
+use Rattle.dw_meaning.specs.DataFails.{DataFails, TextFails, SlotTextFails}
 use Rattle.dw_base.specs.DebugSectionFails.{is_active, DebugSectionsFail}
 use Rattle.dw_base.specs.DebugSections.{debug_section}
 use Rattle.dw_base.specs.Elf.{e_type, nth_section, section_count, section_name, is_empty_kind}
 use Rattle.dw_base.specs.ElfFails.{HeaderReads, ElfFails, ElfReads}
 use Rattle.dw_base.specs.EntryValues.{HasTable, HasValue, bytes_up_to}
 use Rattle.dw_meaning.specs.FileMeanings.{file_data}
+use Rattle.dw_base.specs.FileViews.{view_of}
 use Rattle.dw_base.specs.Layout.{is_alloc}
+use Rattle.dw_base.specs.NameTableFails.{NameTablesFail}
 use Rattle.dw_base.specs.Refusals.{at}
 use Rattle.dw_base.specs.UnitHeaders.{UnitSection}
-use Rattle.dw_base.specs.ViewData.{is_read}
+use Rattle.dw_base.specs.StringOffsetFails.{ContributionsFail}
+use Rattle.dw_base.specs.ViewData.{is_read, string_offsets}
 use Rattle.dw_base.specs.declared.debug_sections.DebugSection.{DebugSection}
-use Rattle.dw_base.specs.declared.debug_sections.DebugSection.TheVariants.{StrOffsets, Line, Macro, Names}
+use Rattle.dw_base.specs.declared.debug_sections.DebugSection.TheVariants.{Line, Macro}
 use Rattle.dw_base.specs.declared.fault.Kind.TheVariants.{Fixed, Unbuilt}
 use Rattle.dw_base.specs.declared.fault.Refusal.{Refusal}
 use Rattle.dw_base.specs.declared.units.UnitHeader.{UnitHeader}
 use Rattle.dw_base.specs.declared.values.Spec.{Spec}
 use Rattle.dw_base.specs.declared.values.Value.{Value}
-use Rattle.dw_base.specs.declared.values.ValueClass.{ValueClass}
-use Rattle.dw_base.specs.declared.values.ValueClass.TheVariants.{StrIndex}
 use Rattle.dw_base.specs.declared.elf_numbers.TheConstants.{ET_REL}
 use Rattle.dw_base.specs.declared.dwarf_numbers.TheConstants.{DW_AT_stmt_list, DW_AT_macros, DW_AT_GNU_macros}
 
@@ -33,19 +34,13 @@ pub record ReadIsLoaded (b : List ℕ) (i : ℕ) : Type 0 where
 
 -- a section of debug data that isn't read yet
 abbrev pub is_unbuilt_section : Option DebugSection → Bool
-is_unbuilt_section (Some StrOffsets) = true
 is_unbuilt_section (Some Line) = true
 is_unbuilt_section (Some Macro) = true
-is_unbuilt_section (Some Names) = true
 is_unbuilt_section s = false
 
--- a value that says the number of a string offset, or an attribute that says the place of a line table or of macros
-abbrev pub is_str_index : ValueClass → Bool
-is_str_index StrIndex = true
-is_str_index class = false
-
-abbrev pub is_unbuilt_value : Spec → Value → Bool
-is_unbuilt_value x v = is_str_index v.class || x.name == DW_AT_stmt_list || x.name == DW_AT_macros || x.name == DW_AT_GNU_macros
+-- an attribute that says the place of a line table or of macros
+abbrev pub is_unbuilt_value : Spec → Bool
+is_unbuilt_value x = x.name == DW_AT_stmt_list || x.name == DW_AT_macros || x.name == DW_AT_GNU_macros
 
 -- shapes of files that aren't taken yet
 pub data UnbuiltFile (b : List ℕ) : Type 0 where
@@ -54,7 +49,7 @@ pub data UnbuiltFile (b : List ℕ) : Type 0 where
       → IsTrue (is_unbuilt_section (debug_section (section_name b i))) → UnbuiltFile b
   value : (z : UnitSection) (h : UnitHeader) (list : List Abbreviation) (number : ℕ) (a : Abbreviation) (x : Spec) (place : ℕ)
       (v : Value) → ElfReads b → HasTable (file_data b) z h list → HasValue h list (bytes_up_to z h) number a x place v
-      → IsTrue (is_unbuilt_value x v) → UnbuiltFile b
+      → IsTrue (is_unbuilt_value x) → UnbuiltFile b
 
 -- every row that doesn't ask for the map
 pub data FileFails (b : List ℕ) : Refusal → Type 0 where
@@ -63,4 +58,7 @@ pub data FileFails (b : List ℕ) : Refusal → Type 0 where
   loaded : (i : ℕ) → ElfReads b → i < section_count b → ReadIsLoaded b i → FileFails b (at Fixed i 0)
   units : {r : Refusal} → ElfReads b → DataFails (file_data b) r → FileFails b r
   texts : {r : Refusal} → ElfReads b → TextFails (file_data b) r → FileFails b r
+  string_tables : {r : Refusal} → ElfReads b → ContributionsFail (view_of b).order (string_offsets (view_of b)) r → FileFails b r
+  slots : {r : Refusal} → ElfReads b → SlotTextFails (file_data b) r → FileFails b r
+  name_tables : {r : Refusal} → ElfReads b → NameTablesFail (view_of b) r → FileFails b r
   unbuilt : UnbuiltFile b → FileFails b (at Unbuilt 0 0)

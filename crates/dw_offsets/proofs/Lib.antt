@@ -4,12 +4,6 @@ pub mod NameHeaderLaws
 pub mod NameTextLaws
 pub mod NameListLaws
 pub mod NameViewLaws
-pub mod RunLaws
-pub mod InitialLengthLaws
 pub mod OffsetPieceLaws
-pub mod OffsetChangeLaws
 pub mod NamePieceLaws
-pub mod OneWayLaws
 pub mod SlotNumberLaws
-pub mod PathSlotLaws
-pub mod IndexKeptLaws

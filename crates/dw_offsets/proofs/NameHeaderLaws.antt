@@ -8,9 +8,10 @@ use Rattle.dw_base.specs.declared.fault.Kind.TheVariants.{NameTable as NameTable
 use Rattle.dw_base.specs.declared.shared.Order.{Order}
 use Rattle.dw_base.specs.declared.shared.Width.{Width}
 use Rattle.dw_base.specs.declared.shared.Width.TheVariants.{W32, W64}
-use Rattle.dw_offsets.specs.NameTables.{name_counts, before_strings, from_strings, IsNameTable, CountsFit}
-use Rattle.dw_offsets.specs.NameTableFails.{TableFails, no_length, passes, no_counts, other_version, no_room}
-use Rattle.dw_offsets.specs.declared.name_headers.NameCounts.{NameCounts}
+use Rattle.dw_base.specs.NameTables.{IsNameTable}
+use Rattle.dw_base.specs.NameHeaders.{name_counts, before_strings, from_strings, CountsFit}
+use Rattle.dw_base.specs.NameTableFails.{TableFails, no_length, passes, no_counts, other_version, no_room}
+use Rattle.dw_base.specs.declared.name_tables.NameCounts.{NameCounts}
 
 -- counts of 4 bytes each
 pub counts-fit : (n : NameCounts) → n.units < 256 ^ 4 → n.local < 256 ^ 4 → n.foreign < 256 ^ 4 → n.buckets < 256 ^ 4 → n.names < 256 ^ 4 → n.abbrevs < 256 ^ 4

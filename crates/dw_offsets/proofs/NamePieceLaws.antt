@@ -12,12 +12,13 @@ use Rattle.dw_base.specs.declared.shared.Width.{Width}
 use Rattle.dw_base.specs.declared.shared.Width.TheVariants.{W32, W64}
 use Rattle.dw_base.proofs.NumberLaws.{spelled-take, spelled-drop}
 use Rattle.dw_base.proofs.UnitEditLaws.{length-bytes_of}
-use Rattle.dw_offsets.specs.NamePieces.{at_table, at_string, at_rest, NameState, names_at, before_strings_of, IsTableFront, after_front, past_names, name_grammar, ReadsNames}
-use Rattle.dw_offsets.specs.NameTables.{name_counts, before_strings, from_strings, IsNameTable, TablesUpTo, no_tables, more_tables}
-use Rattle.dw_offsets.specs.declared.name_headers.NameCounts.{NameCounts}
-use Rattle.dw_offsets.specs.declared.name_lists.NameTable.{NameTable}
+use Rattle.dw_base.specs.NamePieces.{at_table, at_string, at_rest, NameState, names_at, before_strings_of, IsTableFront, after_front, past_names, name_grammar, ReadsNames}
+use Rattle.dw_base.specs.NameTables.{IsNameTable, TablesUpTo, no_tables, more_tables}
+use Rattle.dw_base.specs.NameHeaders.{name_counts, before_strings, from_strings}
+use Rattle.dw_base.specs.declared.name_tables.NameCounts.{NameCounts}
+use Rattle.dw_base.specs.declared.name_tables.NameTable.{NameTable}
 use Rattle.dw_offsets.proofs.OffsetPieceLaws.{header-length}
-use Rattle.dw_offsets.proofs.RunLaws.{Run, run-more, run-none, run-one, leads-chain, part-bytes, part-length}
+use Rattle.dw_base.proofs.RunLaws.{Run, run-more, run-none, run-one, leads-chain, part-bytes, part-length}
 
 -- the counts of a table are in its front
 field-part : (o : Order) (bs : List ℕ) (a n at k : ℕ) → at + k + 4 ≤ n → spelled o (take n (drop a bs)) (at + k) 4 ≡ spelled o bs (a + at + k) 4

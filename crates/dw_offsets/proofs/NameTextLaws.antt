@@ -18,9 +18,10 @@ use Rattle.dw_base.specs.declared.shared.Width.{Width}
 use Rattle.dw_base.specs.declared.shared.Width.TheVariants.{W32, W64}
 use Rattle.dw_base.specs.declared.view_fields.Field.{Field}
 use Rattle.dw_base.specs.declared.view_fields.Field.TheVariants.{Num, Into, Sym}
-use Rattle.dw_offsets.specs.NameTables.{texts_in, names_text, string_place, IsTexts, NamesTexts, IsNameTable, IsNamedTable}
-use Rattle.dw_offsets.specs.NameTableFails.{TableFails, TextFails, no_text, NamedFails, table, texts}
-use Rattle.dw_offsets.specs.declared.name_lists.NameTable.{NameTable}
+use Rattle.dw_base.specs.NameTables.{texts_in, names_text, string_place, NamesTexts, IsNameTable, IsNamedTable}
+use Rattle.dw_offsets.specs.TextEnds.{IsTexts}
+use Rattle.dw_base.specs.NameTableFails.{TableFails, TextFails, no_text, NamedFails, table, texts}
+use Rattle.dw_base.specs.declared.name_tables.NameTable.{NameTable}
 use Rattle.dw_offsets.specs.declared.name_texts.Texts.{Texts}
 
 -- the texts of a view

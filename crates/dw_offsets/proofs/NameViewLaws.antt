@@ -7,9 +7,9 @@ use Rattle.dw_base.specs.ViewData.{located, located_at}
 use Rattle.dw_base.specs.declared.debug_sections.DebugSection.TheVariants.{Names}
 use Rattle.dw_base.specs.declared.fault.Fault.{Fault}
 use Rattle.dw_base.specs.declared.fault.Fault.TheVariants.{NoMemory, Refused}
-use Rattle.dw_offsets.specs.NameTables.{names_of, TablesUpTo, no_tables, AreNameTables}
-use Rattle.dw_offsets.specs.NameTableFails.{TablesFail, NameTablesFail}
-use Rattle.dw_offsets.specs.declared.name_lists.NameTable.{NameTable}
+use Rattle.dw_base.specs.NameTables.{names_of, TablesUpTo, no_tables, AreNameTables}
+use Rattle.dw_base.specs.NameTableFails.{TablesFail, NameTablesFail}
+use Rattle.dw_base.specs.declared.name_tables.NameTable.{NameTable}
 
 here-is : (v : View) (o : Option ℕ) → o ≡ section_named v (name_of Names) → names_of v ≡ located_at v o
 unfolding located

@@ -12,12 +12,12 @@ use Rattle.dw_base.specs.declared.shared.Width.{Width}
 use Rattle.dw_base.specs.declared.shared.Width.TheVariants.{W32, W64}
 use Rattle.dw_base.proofs.NumberLaws.{spelled-take, spelled-drop}
 use Rattle.dw_base.proofs.UnitEditLaws.{length-bytes_of}
-use Rattle.dw_offsets.specs.OffsetPieces.{at_contribution, at_slot, OffsetState, offsets_at, before_slot, IsOffsetsHeader, after_offsets_header, past_offsets, offset_grammar, ReadsOffsets}
-use Rattle.dw_offsets.specs.Slots.{slot_total}
-use Rattle.dw_offsets.specs.StringOffsets.{IsContribution, ContributionsUpTo, no_contributions, more_contributions}
-use Rattle.dw_offsets.specs.declared.string_offsets.Contribution.{Contribution}
-use Rattle.dw_offsets.proofs.InitialLengthLaws.{initial-part}
-use Rattle.dw_offsets.proofs.RunLaws.{Run, run-more, run-none, run-one, leads-chain, part-bytes, part-length}
+use Rattle.dw_base.specs.OffsetPieces.{at_contribution, at_slot, OffsetState, offsets_at, before_slot, IsOffsetsHeader, after_offsets_header, past_offsets, offset_grammar, ReadsOffsets}
+use Rattle.dw_base.specs.Slots.{slot_total}
+use Rattle.dw_base.specs.StringOffsets.{IsContribution, ContributionsUpTo, no_contributions, more_contributions}
+use Rattle.dw_base.specs.declared.string_offsets.Contribution.{Contribution}
+use Rattle.dw_base.proofs.InitialLengthLaws.{initial-part}
+use Rattle.dw_base.proofs.RunLaws.{Run, run-more, run-none, run-one, leads-chain, part-bytes, part-length}
 
 -- the length of a contribution is in its header
 pub header-length : (order : Order) (cells : List Cell) (start n : ℕ) (l : Width × ℕ × ℕ) → initial_length_at order (bytes_of cells) start ≡ Some l → l.2 ≤ n

@@ -9,8 +9,9 @@ use Rattle.std.proofs.lemmas.List.Sorted.{IsNonDecreasingBy-from_default}
 use Rattle.dw_base.specs.Forms.{width_size}
 use Rattle.dw_base.specs.declared.shared.Width.{Width}
 use Rattle.dw_base.specs.declared.shared.Width.TheVariants.{W32, W64}
-use Rattle.dw_offsets.specs.StringOffsets.{slot_in, slot_place, base_at, BasesRise, HasBase, IsBaseGap, IsSlotCount}
-use Rattle.dw_offsets.specs.declared.string_offsets.Contribution.{Contribution}
+use Rattle.dw_base.specs.StringOffsets.{slot_in, slot_place}
+use Rattle.dw_offsets.specs.SlotSearch.{base_at, BasesRise, HasBase, IsBaseGap, IsSlotCount}
+use Rattle.dw_base.specs.declared.string_offsets.Contribution.{Contribution}
 
 -- as many offsets as there are whole ones
 narrow-fit : (size i : ℕ) → nat_le ((i + 1) * 4) size ≡ nat_lt i (size / 4)

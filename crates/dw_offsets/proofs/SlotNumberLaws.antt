@@ -7,9 +7,9 @@ use Rattle.dw_base.specs.Lists.{tabulate}
 use Rattle.dw_base.specs.declared.shared.Width.{Width}
 use Rattle.dw_base.specs.declared.shared.Width.TheVariants.{W32, W64}
 use Rattle.dw_base.proofs.ListLaws.{length-tabulate, get_or-tabulate}
-use Rattle.dw_offsets.specs.Slots.{Slot, slot_at, slot_total, slots_of, slot_number}
-use Rattle.dw_offsets.specs.StringOffsets.{has_slot, slot_in, slot_place}
-use Rattle.dw_offsets.specs.declared.string_offsets.Contribution.{Contribution}
+use Rattle.dw_base.specs.Slots.{Slot, slot_at, slot_total, slots_of, slot_number}
+use Rattle.dw_base.specs.StringOffsets.{has_slot, slot_in, slot_place}
+use Rattle.dw_base.specs.declared.string_offsets.Contribution.{Contribution}
 
 -- a slot that lies in a contribution is one of those that it has
 below-total : (w : Width) (base end index : ℕ) → base + (index + 1) * width_size w ≤ end → index < (end - base) / width_size w

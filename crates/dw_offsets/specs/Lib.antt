@@ -1,10 +1,2 @@
-pub mod StringOffsets
-pub mod StringOffsetFails
-pub mod NameTables
-pub mod NameTableFails
-pub mod Slots
-pub mod OffsetPieces
-pub mod NamePieces
-pub mod TextIndexes
-pub mod SectionTexts
-pub mod IndexFails
+pub mod SlotSearch
+pub mod TextEnds

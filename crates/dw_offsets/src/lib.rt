@@ -7,7 +7,7 @@
 //! and each of their string offsets names a text, and are refused only where one can't be read, at that
 //! table, or where a string offset names no text, at its field.
 //! It does not promise: that a slot names a text; anything of what a name table says of its names.
-//! Read first: `specs/StringOffsets.antt`, then `specs/NameTables.antt`, and the two files of their refusals.
+//! Read first: in `dw_base/specs`, `StringOffsets.antt`, then `NameTables.antt`, and the two files of their refusals.
 //!
 //! # Example
 //!
@@ -29,7 +29,7 @@ mod slots;
 mod string_offsets;
 mod widths;
 
-pub use dw_base::{Fault, Kind, Refusal, Width};
-pub use name_lists::{NameTable, NameTableList, name_tables};
+pub use dw_base::{Contribution, Fault, Kind, NameTable, Refusal, Width};
+pub use name_lists::{NameTableList, name_tables};
 pub use slots::slot_place;
-pub use string_offsets::{Contribution, ContributionList, contributions};
+pub use string_offsets::{ContributionList, contributions};

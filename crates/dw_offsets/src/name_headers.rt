@@ -5,38 +5,19 @@
 
 ghost use Rattle.std.specs.Prelude.{◌≡◌, ◌+◌, ◌*◌, ◌≤◌, ◌<◌, ◌^◌, length, IfOk, IfErr};
 ghost use Rattle.dw_base.specs.Forms.{width_size};
-ghost use Rattle.dw_offsets.specs.NameTables.{CountsFit, IsNameTable, before_strings, from_strings, hashes_size, name_counts};
-ghost use Rattle.dw_offsets.specs.NameTableFails.{TableFails};
+ghost use Rattle.dw_base.specs.NameTables.{IsNameTable};
+ghost use Rattle.dw_base.specs.NameHeaders.{CountsFit, before_strings, from_strings, hashes_size, name_counts};
+ghost use Rattle.dw_base.specs.NameTableFails.{TableFails};
 
-use crate::name_lists::NameTable;
-use dw_base::{Kind, Order, Refusal, Width, initial_length_at, number_in};
+use dw_base::{Kind, NameCounts, NameTable, Order, Refusal, Width, initial_length_at, number_in};
 
 /// The version of a name table (DWARF 5, 6.1.1.4.1).
 const NAMES_VERSION: u64 = 5;
 /// How many bytes the version, the padding and the counts have.
 const COUNTS_SIZE: u64 = 32;
 
-/// The counts of a name table (DWARF 5, 6.1.1.4.1), and the sizes of two parts, in bytes.
-#[derive(Clone, Copy)]
-pub(crate) struct NameCounts {
-    /// How many units it has.
-    pub units: u64,
-    /// How many type units of this file.
-    pub local: u64,
-    /// How many type units of other files.
-    pub foreign: u64,
-    /// How many buckets.
-    pub buckets: u64,
-    /// How many names.
-    pub names: u64,
-    /// The size of its abbreviations.
-    pub abbrevs: u64,
-    /// The size of its augmentation.
-    pub augmentation: u64,
-}
-
 /// The counts of a table whose version stands at a place.
-#[tactic(auto, using(crate::proofs::NameHeaderLaws::count_laws), unfolding(crate::specs::NameTables::name_counts))]
+#[tactic(auto, using(crate::proofs::NameHeaderLaws::count_laws), unfolding(dw_base::specs::NameHeaders::name_counts))]
 fn counts_at(order: Order, bytes: &[u8], place: u64) -> NameCounts
     requires inside { place + 32 ≤ length bytes.now }
     ensures counts { result ≡ name_counts order bytes.now place }
@@ -80,7 +61,7 @@ fn hashes_size(counts: &NameCounts) -> u64
 }
 
 /// How many bytes stand between the counts and the string offsets.
-#[tactic(auto, unfolding(crate::specs::NameTables::before_strings))]
+#[tactic(auto, unfolding(dw_base::specs::NameHeaders::before_strings))]
 fn before_strings(width: Width, counts: &NameCounts) -> u64
     requires fit { CountsFit counts.now }
     ensures size { result ≡ before_strings width counts.now }
@@ -92,7 +73,7 @@ fn before_strings(width: Width, counts: &NameCounts) -> u64
 }
 
 /// How many bytes the string offsets, the offsets of entries and the abbreviations have.
-#[tactic(auto, unfolding(crate::specs::NameTables::from_strings))]
+#[tactic(auto, unfolding(dw_base::specs::NameHeaders::from_strings))]
 fn from_strings(width: Width, counts: &NameCounts) -> u64
     requires fit { CountsFit counts.now }
     ensures size { result ≡ from_strings width counts.now }

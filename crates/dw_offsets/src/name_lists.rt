@@ -8,30 +8,15 @@ ghost use Rattle.std.specs.Prelude.{◌≡◌, ◌<◌, List, length, IfOk, IfEr
 ghost use Rattle.dw_base.specs.FileViews.{section_bytes};
 ghost use Rattle.dw_base.specs.Refusals.{Blames};
 ghost use Rattle.dw_base.specs.declared.fault.Refusal.{Refusal as RefusalOf};
-ghost use Rattle.dw_offsets.specs.NameTables.{AreNameTables, TablesUpTo};
-ghost use Rattle.dw_offsets.specs.NameTableFails.{NameTablesFail, TablesFail};
-ghost use Rattle.dw_offsets.specs.declared.name_lists.NameTable.{NameTable as NameTableOf};
+ghost use Rattle.dw_base.specs.NameTables.{AreNameTables, TablesUpTo};
+ghost use Rattle.dw_base.specs.NameTableFails.{NameTablesFail, TablesFail};
+ghost use Rattle.dw_base.specs.declared.name_tables.NameTable.{NameTable as NameTableOf};
 
 use crate::name_texts::{named_table_at, texts_of};
-use dw_base::{DebugSection, Fault, Width};
+use dw_base::{DebugSection, Fault, NameTable, Width};
 use dw_view::View;
 use std::alloc::Global;
 use std::marker::Model;
-
-/// A name table, with all places in bytes from the section's start.
-#[derive(Clone, Copy, Debug, PartialEq, Eq, Drop)]
-pub struct NameTable {
-    /// Where it starts.
-    pub start: u64,
-    /// Where it ends.
-    pub end: u64,
-    /// How wide its offsets are.
-    pub width: Width,
-    /// How many names it has.
-    pub names: u64,
-    /// Where the string offsets of its names stand, one for each.
-    pub strings: u64,
-}
 
 /// The name tables of a file, in the order of their places.
 #[derive(Drop, Debug)]

@@ -8,13 +8,13 @@ ghost use Rattle.dw_base.specs.Cells.{Located, offset_into};
 ghost use Rattle.dw_base.specs.FileViews.{section_bytes};
 ghost use Rattle.dw_base.specs.Forms.{width_size};
 ghost use Rattle.dw_base.specs.Texts.{ends_in};
-ghost use Rattle.dw_offsets.specs.NameTables.{IsNamedTable, IsTexts, NamesTexts, string_place, texts_in};
-ghost use Rattle.dw_offsets.specs.NameTableFails.{NamedFails, TextFails};
+ghost use Rattle.dw_base.specs.NameTables.{IsNamedTable, NamesTexts, string_place, texts_in};
+ghost use Rattle.dw_offsets.specs.TextEnds.{IsTexts};
+ghost use Rattle.dw_base.specs.NameTableFails.{NamedFails, TextFails};
 
 use crate::name_headers::table_at;
-use crate::name_lists::NameTable;
 use crate::widths::width_size;
-use dw_base::{DebugSection, Field, Kind, Refusal, Width, nul_end};
+use dw_base::{DebugSection, Field, Kind, NameTable, Refusal, Width, nul_end};
 use dw_view::View;
 
 /// The texts of `.debug_str`.

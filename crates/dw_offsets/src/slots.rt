@@ -4,10 +4,12 @@
 //! it is found in a time that grows with the logarithm of their number.
 
 ghost use Rattle.std.specs.Prelude.{◌≡◌, IfOk, IfErr};
-ghost use Rattle.dw_offsets.specs.StringOffsets.{BasesRise, HasBase, IsBaseGap, slot_in, slot_place};
+ghost use Rattle.dw_base.specs.StringOffsets.{slot_in, slot_place};
+ghost use Rattle.dw_offsets.specs.SlotSearch.{BasesRise, HasBase, IsBaseGap};
 
-use crate::string_offsets::{Contribution, ContributionList};
+use crate::string_offsets::ContributionList;
 use crate::widths::{slot_count, width_size};
+use dw_base::Contribution;
 
 /// The place of the slot of an index in the contribution whose slots begin at `base`, both places in
 /// bytes from the section's start. `None` exactly where no contribution has that base, or the one that has

@@ -6,12 +6,16 @@
 ghost use Rattle.std.specs.Prelude.{◌≡◌, ◌≤◌, ◌<◌, List, length, IfOk, IfErr, OnOk};
 ghost use Rattle.dw_base.specs.Refusals.{Blames};
 ghost use Rattle.dw_base.specs.declared.fault.Refusal.{Refusal as RefusalOf};
-ghost use Rattle.dw_offsets.specs.StringOffsets.{AreContributions, BasesRise, ContributionsUpTo, IsContribution, string_offsets};
-ghost use Rattle.dw_offsets.specs.StringOffsetFails.{ContributionFails, ContributionsFail, SectionFails};
-ghost use Rattle.dw_offsets.specs.declared.string_offsets.Contribution.{Contribution as ContributionOf};
+ghost use Rattle.dw_base.specs.StringOffsets.{AreContributions, ContributionsUpTo, IsContribution};
+ghost use Rattle.dw_base.specs.ViewData.{string_offsets};
+ghost use Rattle.dw_offsets.specs.SlotSearch.{BasesRise};
+ghost use Rattle.dw_base.specs.StringOffsetFails.{ContributionFails, ContributionsFail, SectionFails};
+ghost use Rattle.dw_base.specs.declared.string_offsets.Contribution.{Contribution as ContributionOf};
 
 use crate::widths::are_whole;
-use dw_base::{DebugSection, Fault, Kind, Order, Refusal, Width, initial_length_at, number_in};
+use dw_base::{
+    Contribution, DebugSection, Fault, Kind, Order, Refusal, Width, initial_length_at, number_in,
+};
 use dw_view::View;
 use std::alloc::Global;
 use std::marker::Model;
@@ -20,19 +24,6 @@ use std::marker::Model;
 const CONTRIBUTION_VERSION: u64 = 5;
 /// How many bytes the version and the padding of a contribution have.
 const VERSION_SIZE: u64 = 4;
-
-/// A contribution of string offsets, with all places in bytes from the section's start.
-#[derive(Clone, Copy, Debug, PartialEq, Eq, Drop)]
-pub struct Contribution {
-    /// Where it starts.
-    pub start: u64,
-    /// Where its slots begin: what a unit names as its base.
-    pub base: u64,
-    /// Where it ends.
-    pub end: u64,
-    /// How wide its slots are.
-    pub width: Width,
-}
 
 /// The contributions of a file, in the order of their places: so their bases rise.
 #[derive(Drop, Debug)]

@@ -4,7 +4,7 @@
 
 ghost use Rattle.std.specs.Prelude.{◌≡◌, ◌≤◌, ◌<◌, ◌%◌, ◌==◌};
 ghost use Rattle.dw_base.specs.Forms.{width_size};
-ghost use Rattle.dw_offsets.specs.StringOffsets.{IsSlotCount};
+ghost use Rattle.dw_offsets.specs.SlotSearch.{IsSlotCount};
 
 use dw_base::Width;
 

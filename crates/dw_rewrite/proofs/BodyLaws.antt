@@ -4,7 +4,8 @@ use Rattle.std.specs.Bool.{⊤}
 use Rattle.std.proofs.lemmas.Bool.{and_parts, cases_eq, eq-eqb, ne_eqb}
 use Rattle.dw_base.specs.Cells.{Located}
 use Rattle.dw_meaning.specs.DataOutput.{Body, DataReads, body_in, changes_of, new_bodies, table_body, unit_body, unit_bodies}
-use Rattle.dw_base.specs.DebugData.{Around, Readings, ReadsAll, around_of, units_in}
+use Rattle.dw_base.specs.DebugData.{Around, ReadsAll, around_of, units_in}
+use Rattle.dw_base.specs.Readings.{Readings}
 use Rattle.dw_base.specs.DebugSections.{debug_section, name_of}
 use Rattle.dw_base.specs.Elf.{contents_of, contents_at, is_empty_kind, nth_section, section_count, section_name, e_shoff}
 use Rattle.dw_base.specs.ElfFails.{ElfReads}

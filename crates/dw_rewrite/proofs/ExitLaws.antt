@@ -3,7 +3,8 @@ use Rattle.std.proofs.Common.{Bool, true, false, ◌≡◌, ◌≢◌, ℕ, ◌<
 use Rattle.std.proofs.lemmas.Bool.{eq-eqb, ne_eqb, true≢false}
 use Rattle.dw_meaning.specs.DataFails.{InlineFails}
 use Rattle.dw_meaning.specs.DataOutput.{Body, DataFits, DataReads, new_bodies}
-use Rattle.dw_base.specs.DebugData.{Readings, around_of, table_of}
+use Rattle.dw_base.specs.DebugData.{around_of, table_of}
+use Rattle.dw_base.specs.Readings.{Readings}
 use Rattle.dw_base.specs.DebugSectionFails.{DebugSectionsFail, is_active}
 use Rattle.dw_base.specs.DebugSections.{debug_section, name_of}
 use Rattle.dw_meaning.specs.EditRows.{EditFails, IsAccepted}

@@ -5,7 +5,8 @@ use Rattle.std.proofs.Math.Seq.{take-append_seam}
 use Rattle.std.proofs.lemmas.List.{take-append-le}
 use Rattle.dw_base.specs.Cells.{Cell, bytes_of, cells_at}
 use Rattle.dw_meaning.specs.DataOutput.{DataReads, DataFits}
-use Rattle.dw_base.specs.DebugData.{DebugData, Reading, Readings, around_of, units_in, ReadsAll, EachReading}
+use Rattle.dw_base.specs.DebugData.{DebugData, around_of, units_in, ReadsAll}
+use Rattle.dw_base.specs.Readings.{Reading, Readings, EachReading}
 use Rattle.dw_base.specs.Forms.{TextSection, in_str, in_line_str, ValueKind, inline_text as inline_kind, text_offset, kind_in}
 use Rattle.dw_base.specs.InlinePaths.{inline_fits}
 use Rattle.dw_base.specs.Paths.{PathMap}

@@ -2,7 +2,8 @@
 use Rattle.std.proofs.Common.{◌≡◌, ℕ, suc, ◌+◌, ◌<◌, ◌≤◌, List, [], ◌∷◌, ◌++◌, length, get_or, Option, refl, sym, ap, ◌∙◌, subst, arith, append_assoc}
 use Rattle.dw_base.specs.Cells.{bytes_of}
 use Rattle.dw_meaning.specs.DataOutput.{Body, DataReads, DataFits, table_change, changes_of, unit_body, unit_bodies, new_bodies}
-use Rattle.dw_base.specs.DebugData.{DebugData, Reading, Readings, Around, around_of, table_of, units_in, ReadsAll, EachReading}
+use Rattle.dw_base.specs.DebugData.{DebugData, Around, around_of, table_of, units_in, ReadsAll}
+use Rattle.dw_base.specs.Readings.{Reading, Readings, EachReading}
 use Rattle.dw_base.specs.FileViews.{View, section_bytes}
 use Rattle.dw_base.specs.Forms.{TextSection, in_str, in_line_str}
 use Rattle.dw_base.specs.Layout.{output_limit}

@@ -2,7 +2,8 @@
 use Rattle.std.specs.Prelude.{◌≡◌, ◌≢◌, ℕ, ◌<◌, List, length}
 use Rattle.dw_meaning.specs.DataFails.{InlineFails}
 use Rattle.dw_meaning.specs.DataOutput.{Body, DataReads, DataFits, new_bodies, table_change}
-use Rattle.dw_base.specs.DebugData.{DebugData, Readings, around_of, table_of}
+use Rattle.dw_base.specs.DebugData.{DebugData, around_of, table_of}
+use Rattle.dw_base.specs.Readings.{Readings}
 use Rattle.dw_base.specs.Forms.{TextSection}
 use Rattle.dw_base.specs.Layout.{output_limit}
 use Rattle.dw_base.specs.Paths.{PathMap}

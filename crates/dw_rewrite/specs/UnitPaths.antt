@@ -2,7 +2,8 @@
 -- the paths that stand in their values (DWARF 5, 7.5.5, class string); and the section with new ones.
 use Rattle.std.specs.Prelude.{true, ℕ, ◌+◌, List, [], ◌∷◌, ◌++◌, length, take, drop}
 use Rattle.dw_base.specs.Cells.{Cell, bytes_of}
-use Rattle.dw_base.specs.DebugData.{Around, Reading, Readings, table_of}
+use Rattle.dw_base.specs.DebugData.{Around, table_of}
+use Rattle.dw_base.specs.Readings.{Reading, Readings}
 use Rattle.dw_base.specs.Forms.{TextSection, in_str, in_line_str}
 use Rattle.dw_base.specs.InlinePaths.{mapped_inline}
 use Rattle.dw_base.specs.Paths.{PathMap}

@@ -1,7 +1,7 @@
 -- What is read of the section is read of the view.
 use Rattle.std.proofs.lemmas.Result.{err_from_is_err_and}
-use Rattle.dw_offsets.specs.NameTables.{names_of}
-use Rattle.dw_offsets.proofs.NameListLaws.{tables-exclude}
+use Rattle.dw_base.specs.NameTables.{names_of}
+use Rattle.dw_base.proofs.NameRowLaws.{tables-exclude}
 use Rattle.dw_offsets.proofs.NameViewLaws.{none-read, some-read, some-refused}
 use Rattle.dw_offsets.proofs.name_lists.name_tables.Goals as goal
 

@@ -1,4 +1,4 @@
-use Rattle.dw_offsets.specs.NameTables.{NamesTexts}
+use Rattle.dw_base.specs.NameTables.{NamesTexts}
 use Rattle.dw_offsets.proofs.name_texts.check_texts.Given as goal
 
 -- the string offsets so far name texts

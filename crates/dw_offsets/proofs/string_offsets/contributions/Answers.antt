@@ -1,7 +1,8 @@
 -- What is read of the section is read of the view.
 use Rattle.std.proofs.lemmas.Result.{err_from_is_err_and}
-use Rattle.dw_offsets.specs.StringOffsets.{string_offsets}
-use Rattle.dw_offsets.proofs.ContributionLaws.{contributions-exclude, none-read, some-read, some-refused}
+use Rattle.dw_base.specs.ViewData.{string_offsets}
+use Rattle.dw_base.proofs.ContributionRowLaws.{contributions-exclude}
+use Rattle.dw_offsets.proofs.ContributionLaws.{none-read, some-read, some-refused}
 use Rattle.dw_offsets.proofs.string_offsets.contributions.Goals as goal
 
 pub returns-in_default-clause-none : goal.returns-in_default-clause-none

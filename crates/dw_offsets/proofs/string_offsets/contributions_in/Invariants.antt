@@ -1,5 +1,5 @@
 use Rattle.std.proofs.Common.{◌-◌, ◌≤◌, length}
-use Rattle.dw_offsets.specs.StringOffsets.{ContributionsUpTo}
+use Rattle.dw_base.specs.StringOffsets.{ContributionsUpTo}
 use Rattle.dw_offsets.proofs.string_offsets.contributions_in.Given as goal
 
 -- the contributions so far stand from the section's start up to this place

@@ -1,64 +1,22 @@
 -- Name tables (DWARF 5, 6.1.1.4): a length, the version 5, two bytes of padding, seven counts of 4 bytes, and the parts that
 -- they count, of which the string offsets of the names are one.
-use Rattle.std.specs.Prelude.{Bool, true, ◌≡◌, ℕ, ◌+◌, ◌*◌, ◌/◌, ◌^◌, ◌<◌, ◌≤◌, ◌==◌, if◌then◌else◌, List, [], ◌∷◌, ◌++◌, length, Some}
+use Rattle.std.specs.Prelude.{Bool, true, ◌≡◌, ℕ, ◌+◌, ◌*◌, ◌<◌, ◌≤◌, List, [], ◌∷◌, ◌++◌, length, Some}
 use Rattle.dw_base.specs.Cells.{Located, offset_into}
 use Rattle.dw_base.specs.FileViews.{View, field_at}
 use Rattle.dw_base.specs.Forms.{width_size}
 use Rattle.dw_base.specs.Lebs.{initial_length_at}
+use Rattle.dw_base.specs.NameHeaders.{name_counts, before_strings, from_strings}
 use Rattle.dw_base.specs.Numbers.{spelled}
-use Rattle.dw_base.specs.Texts.{ends_in, IsNulEnd}
+use Rattle.dw_base.specs.Texts.{ends_in}
 use Rattle.dw_base.specs.ViewData.{located}
 use Rattle.dw_base.specs.declared.debug_sections.DebugSection.TheVariants.{Names, Str}
 use Rattle.dw_base.specs.declared.shared.Order.{Order}
 use Rattle.dw_base.specs.declared.shared.Width.{Width}
-use Rattle.dw_offsets.specs.declared.name_headers.NameCounts.{NameCounts}
-use Rattle.dw_offsets.specs.declared.name_lists.NameTable.{NameTable}
-use Rattle.dw_offsets.specs.declared.name_texts.Texts.{Texts}
+use Rattle.dw_base.specs.declared.name_tables.NameTable.{NameTable}
 
 -- the section of name tables of a view: no bytes where there is none
 abbrev pub names_of : View → Located
 names_of v = located v Names
-
--- the counts behind the version and the padding, which stand at a place
-unfoldable pub name_counts : Order → List ℕ → ℕ → NameCounts
-name_counts order bytes place = record {
-  units = spelled order bytes (place + 4) 4;
-  local = spelled order bytes (place + 8) 4;
-  foreign = spelled order bytes (place + 12) 4;
-  buckets = spelled order bytes (place + 16) 4;
-  names = spelled order bytes (place + 20) 4;
-  abbrevs = spelled order bytes (place + 24) 4;
-  augmentation = spelled order bytes (place + 28) 4;
-}
-
--- each is a number of 4 bytes
-pub record CountsFit (n : NameCounts) : Type 0 where
-  pub units : n.units < 2 ^ 32
-  pub local : n.local < 2 ^ 32
-  pub foreign : n.foreign < 2 ^ 32
-  pub buckets : n.buckets < 2 ^ 32
-  pub names : n.names < 2 ^ 32
-  pub abbrevs : n.abbrevs < 2 ^ 32
-  pub augmentation : n.augmentation < 2 ^ 32
-
--- a size that is padded to 4 bytes
-abbrev pub padded : ℕ → ℕ
-padded size = (size + 3) / 4 * 4
-
--- the hashes, of 4 bytes a name: there are none where there are no buckets
-abbrev pub hashes_size : NameCounts → ℕ
-hashes_size n = if n.buckets == 0 then 0 else 4 * n.names
-
--- how many bytes stand between the counts and the string offsets: the augmentation, the offsets of units and local type
--- units, the signatures of foreign type units, the buckets, and the hashes
-unfoldable pub before_strings : Width → NameCounts → ℕ
-before_strings width n =
-    padded n.augmentation + (n.units + n.local) * width_size width + 8 * n.foreign + 4 * n.buckets + hashes_size n
-
--- how many bytes the parts from the string offsets on have: the string offsets and the offsets of entries, one each a name, and
--- the abbreviations. The entries fill the rest of the table.
-unfoldable pub from_strings : Width → NameCounts → ℕ
-from_strings width n = 2 * n.names * width_size width + n.abbrevs
 
 -- the table at a place, by its length: width, length, and the size of the length's field
 abbrev pub table_from : Order → List ℕ → ℕ → Width × ℕ × ℕ → NameTable
@@ -97,11 +55,6 @@ names_text v section t i = ends_in (texts_in v).bytes (offset_into (texts_in v) 
 -- each of the first string offsets names a text
 pub record NamesTexts (v : View) (section : ℕ) (t : NameTable) (count : ℕ) : Type 0 where
   pub all : (i : ℕ) → i < count → names_text v section t i ≡ true
-
--- the number of a string table, and the place behind its last NUL
-pub record IsTexts (z : Located) (t : Texts) : Type 0 where
-  pub number : t.number ≡ z.number
-  pub end : IsNulEnd z.bytes t.end
 
 -- a table that can be read, each of whose string offsets names a text
 pub record IsNamedTable (v : View) (section : ℕ) (bytes : List ℕ) (start : ℕ) (t : NameTable) : Type 0 where

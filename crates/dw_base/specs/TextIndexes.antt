@@ -1,8 +1,8 @@
 -- The texts that values name by index (DWARF 5, 7.5.5, class string): a unit's first entry names a base, a value an index, and
 -- both together a slot.
-use Rattle.std.specs.Prelude.{Bool, true, false, ℕ, ◌==◌, ◌&&◌, ◌||◌, if◌then◌else◌, List, [], ◌∷◌, ◌++◌, length, Option, Some, None}
+use Rattle.std.specs.Prelude.{Bool, true, false, ℕ, ◌==◌, ◌&&◌, ◌||◌, if◌then◌else◌, List, [], ◌∷◌, ◌++◌, length, IsTrue, ⊤, Option, Some, None}
 use Rattle.dw_base.specs.Cells.{Cell, Located, bytes_of, offset_of}
-use Rattle.dw_base.specs.DebugData.{Readings}
+use Rattle.dw_base.specs.Readings.{Readings}
 use Rattle.dw_base.specs.Forms.{ValueKind, number_of, leb_number, kind_in}
 use Rattle.dw_base.specs.Numbers.{spelled}
 use Rattle.dw_base.specs.Pieces.{Piece}
@@ -10,10 +10,9 @@ use Rattle.dw_base.specs.Roles.{is_path}
 use Rattle.dw_base.specs.UnitStates.{Mode, at_values, at_chosen, UnitState, code_value}
 use Rattle.dw_base.specs.declared.dwarf_numbers.TheConstants.{DW_AT_str_offsets_base}
 use Rattle.dw_base.specs.declared.shared.Order.{Order}
-use Rattle.dw_base.specs.declared.shared.Params.{Params}
 use Rattle.dw_base.specs.declared.values.ValueClass.TheVariants.{Number, SecOffset, StrIndex}
-use Rattle.dw_offsets.specs.Slots.{slot_number}
-use Rattle.dw_offsets.specs.declared.string_offsets.Contribution.{Contribution}
+use Rattle.dw_base.specs.Slots.{slot_number}
+use Rattle.dw_base.specs.declared.string_offsets.Contribution.{Contribution}
 
 -- the base that the cells of a value of a kind say: a number, which in 4 or 8 bytes is an offset into the section of string
 -- offsets. A value of another class says none.
@@ -27,27 +26,35 @@ base_value order z k p = None
 abbrev pub is_base : ℕ → ℕ → Bool
 is_base number name = number == 0 && name == DW_AT_str_offsets_base
 
-abbrev pub base_by : Mode → Params → Order → Located → List Cell → Option ℕ
-base_by (at_values number tag (x ∷ xs)) params order z p = if is_base number x.name then base_value order z (kind_in params x.form) p else None
-base_by (at_chosen number tag start x xs) params order z p = if is_base number x.name then base_value order z (kind_in params x.form) p else None
-base_by m params order z p = None
+-- what says a base: the number of a unit, and the base
+pub record SaidBase : Type 0 where
+  pub unit : ℕ
+  pub base : ℕ
 
--- the first of two that is there
-abbrev pub first_some : Option ℕ → Option ℕ → Option ℕ
-first_some None o = o
-first_some (Some n) o = Some n
+abbrev pub said_by : ℕ → Option ℕ → List SaidBase
+said_by unit None = []
+said_by unit (Some n) = record { unit = unit; base = n } ∷ []
 
--- the base that pieces say of the unit of a number: where several values do, the first counts
-abbrev pub base_in : Order → Located → ℕ → List (Piece UnitState) → Option ℕ
-base_in order z unit [] = None
-base_in order z unit (x ∷ xs) =
-    if x.state.unit == unit
-    then first_some (base_by x.state.mode x.state.header.params order z x.cells) (base_in order z unit xs)
-    else base_in order z unit xs
+-- the base that a piece says
+abbrev pub bases_by : Mode → Order → Located → UnitState → List Cell → List SaidBase
+bases_by (at_values number tag (x ∷ xs)) order z s p =
+    if is_base number x.name then said_by s.unit (base_value order z (kind_in s.header.params x.form) p) else []
+bases_by (at_chosen number tag start x xs) order z s p =
+    if is_base number x.name then said_by s.unit (base_value order z (kind_in s.header.params x.form) p) else []
+bases_by m order z s p = []
 
-abbrev pub base_among : Order → Located → ℕ → Readings → Option ℕ
-base_among order z unit [] = None
-base_among order z unit (r ∷ rs) = first_some (base_in order z unit r.pieces) (base_among order z unit rs)
+abbrev pub bases_in : Order → Located → List (Piece UnitState) → List SaidBase
+bases_in order z [] = []
+bases_in order z (x ∷ xs) = bases_by x.state.mode order z x.state x.cells ++ bases_in order z xs
+
+abbrev pub all_bases : Order → Located → Readings → List SaidBase
+all_bases order z [] = []
+all_bases order z (r ∷ rs) = bases_in order z r.pieces ++ all_bases order z rs
+
+-- the base of a unit: where several values say one, the first counts
+abbrev pub base_of : List SaidBase → ℕ → Option ℕ
+base_of [] unit = None
+base_of (x ∷ xs) unit = if x.unit == unit then Some x.base else base_of xs unit
 
 -- the index that the cells of a value of a kind say
 abbrev pub index_value : Order → ValueKind → List Cell → Option ℕ
@@ -84,13 +91,11 @@ abbrev pub index_uses : Order → Readings → List IndexUse
 index_uses order [] = []
 index_uses order (r ∷ rs) = uses_in order r.pieces ++ index_uses order rs
 
--- what names slots: the base of each unit, and the contributions
+-- what values by index go by: the bases of units, the contributions, and all such values
 pub record Indexing : Type 0 where
-  pub base : ℕ → Option ℕ
+  pub bases : List SaidBase
   pub contributions : List Contribution
-
-abbrev pub indexing_of : Order → Located → List Contribution → Readings → Indexing
-indexing_of order z list r = record { base = λ unit. base_among order z unit r; contributions = list }
+  pub uses : List IndexUse
 
 -- the number of the slot of an index in the contribution of a base
 abbrev pub slot_by : Option ℕ → List Contribution → ℕ → Option ℕ
@@ -99,7 +104,7 @@ slot_by (Some base) list index = slot_number 0 list base index
 
 -- the number of the slot of an index in a unit: none where the unit has no base, or there is no such slot
 unfoldable pub slot_of : Indexing → ℕ → ℕ → Option ℕ
-slot_of g unit index = slot_by (g.base unit) g.contributions index
+slot_of g unit index = slot_by (base_of g.bases unit) g.contributions index
 
 abbrev pub listed_slot : Option ℕ → List ℕ
 listed_slot None = []
@@ -110,3 +115,20 @@ abbrev pub slots_named : Bool → Indexing → List IndexUse → List ℕ
 slots_named path g [] = []
 slots_named true g (u ∷ us) = (if u.path then listed_slot (slot_of g u.unit u.index) else []) ++ slots_named true g us
 slots_named false g (u ∷ us) = (if u.path then [] else listed_slot (slot_of g u.unit u.index)) ++ slots_named false g us
+
+-- this holds of each value by index
+abbrev pub EachUse : (IndexUse → Type 0) → List IndexUse → Type 0
+EachUse P [] = ⊤
+EachUse P (u ∷ us) = P u × EachUse P us
+
+abbrev pub is_slot : Option ℕ → Bool
+is_slot None = false
+is_slot (Some n) = true
+
+-- a value by index names a slot
+abbrev pub NamesSlot : Indexing → IndexUse → Type 0
+NamesSlot g u = IsTrue (is_slot (slot_of g u.unit u.index))
+
+abbrev pub holds_number : List ℕ → ℕ → Bool
+holds_number [] n = false
+holds_number (i ∷ rest) n = if i == n then true else holds_number rest n

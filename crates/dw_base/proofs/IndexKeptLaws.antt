@@ -1,23 +1,23 @@
 -- A change of the tables of texts leaves which slot each value by index names: bases, indexes and contributions stand in pieces that
 -- stay.
-use Rattle.std.proofs.Common.{◌≡◌, ℕ, ◌==◌, if◌then◌else◌, List, [], ◌∷◌, ◌++◌, length, Option, Some, None, refl, ap, ◌∙◌}
+use Rattle.std.proofs.Common.{◌≡◌, ℕ, if◌then◌else◌, List, [], ◌∷◌, ◌++◌, length, Option, Some, refl, ap, ◌∙◌}
 use Rattle.dw_base.specs.Cells.{Cell, Located, offset_into, offset_of, field_of}
 use Rattle.dw_base.specs.Forms.{ValueKind, number_of, text_offset, inline_text, kind_in}
 use Rattle.dw_base.specs.Pieces.{Piece}
 use Rattle.dw_base.specs.Roles.{Use, use_of, role_of_kind, role_of_mode, is_path}
 use Rattle.dw_base.specs.UnitStates.{Mode, at_header, at_code, at_values, at_chosen, stuck, UnitState}
 use Rattle.dw_base.specs.declared.shared.Order.{Order}
-use Rattle.dw_base.specs.declared.shared.Params.{Params}
 use Rattle.dw_base.specs.declared.view_fields.Field.{Field}
 use Rattle.dw_base.specs.declared.view_fields.Field.TheVariants.{Num, Into, Sym}
 use Rattle.dw_base.specs.declared.values.ValueClass.TheVariants.{Number, SecOffset}
 use Rattle.dw_base.proofs.PieceFrameLaws.{AllChanged}
 use Rattle.dw_base.proofs.UnitEditLaws.{Shift, Becomes, UnitsChanged}
-use Rattle.dw_offsets.specs.OffsetPieces.{OffsetMode, at_contribution, at_slot, no_offsets, OffsetState}
-use Rattle.dw_offsets.specs.SectionTexts.{offset_role, begun_by, contributions_in}
-use Rattle.dw_offsets.specs.TextIndexes.{base_value, is_base, base_by, first_some, base_in, index_value, IndexUse, use_by, uses_by, uses_in}
-use Rattle.dw_offsets.specs.declared.string_offsets.Contribution.{Contribution}
-use Rattle.dw_offsets.proofs.OffsetChangeLaws.{OffsetChange}
+use Rattle.dw_base.specs.OffsetPieces.{OffsetMode, at_contribution, at_slot, no_offsets, OffsetState}
+use Rattle.dw_base.specs.SectionTexts.{offset_role}
+use Rattle.dw_base.specs.SlotTexts.{begun_by, contributions_in}
+use Rattle.dw_base.specs.TextIndexes.{base_value, is_base, SaidBase, said_by, bases_by, bases_in, index_value, IndexUse, use_by, uses_by, uses_in}
+use Rattle.dw_base.specs.declared.string_offsets.Contribution.{Contribution}
+use Rattle.dw_base.proofs.OffsetChangeLaws.{OffsetChange}
 
 -- what a value says of the base stays
 base-kept : (k : ValueKind) (u : Use) (c : Shift) (order : Order) (z : Located) (p q : List Cell) → Becomes (role_of_kind k u) c p q → base_value order z k q ≡ base_value order z k p
@@ -25,29 +25,26 @@ base-kept (text_offset table n) u c order z p q h = refl
 base-kept inline_text u c order z p q h = refl
 base-kept k u c order z p q h = ap (base_value order z k) h
 
-base-by : (m : Mode) (params : Params) (c : Shift) (order : Order) (z : Located) (p q : List Cell) → Becomes (role_of_mode m params) c p q → base_by m params order z q ≡ base_by m params order z p
-base-by at_header params c order z p q h = refl
-base-by at_code params c order z p q h = refl
-base-by (at_values number tag []) params c order z p q h = refl
-base-by (at_values number tag (x ∷ xs)) params c order z p q h =
-    ap (λ (o : Option ℕ). if is_base number x.name then o else None) (base-kept (kind_in params x.form) (use_of number tag x.name) c order z p q h)
-base-by (at_chosen number tag start x xs) params c order z p q h =
-    ap (λ (o : Option ℕ). if is_base number x.name then o else None) (base-kept (kind_in params x.form) (use_of number tag x.name) c order z p q h)
-base-by stuck params c order z p q h = refl
+bases-by : (m : Mode) (c : Shift) (order : Order) (z : Located) (s : UnitState) (p q : List Cell) → Becomes (role_of_mode m s.header.params) c p q
+    → bases_by m order z s q ≡ bases_by m order z s p
+bases-by at_header c order z s p q h = refl
+bases-by at_code c order z s p q h = refl
+bases-by (at_values number tag []) c order z s p q h = refl
+bases-by (at_values number tag (x ∷ xs)) c order z s p q h =
+    ap (λ (o : Option ℕ). if is_base number x.name then said_by s.unit o else []) (base-kept (kind_in s.header.params x.form) (use_of number tag x.name) c order z p q h)
+bases-by (at_chosen number tag start x xs) c order z s p q h =
+    ap (λ (o : Option ℕ). if is_base number x.name then said_by s.unit o else []) (base-kept (kind_in s.header.params x.form) (use_of number tag x.name) c order z p q h)
+bases-by stuck c order z s p q h = refl
 
--- so the base of each unit stays
-abbrev with_base : Order → Located → ℕ → UnitState → List Cell → Option ℕ → Option ℕ
-with_base order z unit s p rest = if s.unit == unit then first_some (base_by s.mode s.header.params order z p) rest else rest
-
-pub bases-kept : (c : Shift) (order : Order) (z : Located) (unit : ℕ) (xs ys : List (Piece UnitState)) → UnitsChanged c xs ys → base_in order z unit ys ≡ base_in order z unit xs
-bases-kept c order z unit [] [] h = refl
-bases-kept c order z unit [] (y ∷ ys) h = absurd h
-bases-kept c order z unit (x ∷ xs) [] h = absurd h
-bases-kept c order z unit (x ∷ xs) (y ∷ ys) h =
-    ap (λ (s : UnitState). with_base order z unit s y.cells (base_in order z unit ys)) h.0.state
-    ∙ ap (λ (o : Option ℕ). if x.state.unit == unit then first_some o (base_in order z unit ys) else base_in order z unit ys)
-    (base-by x.state.mode x.state.header.params c order z x.cells y.cells h.0.cells)
-    ∙ ap (with_base order z unit x.state x.cells) (bases-kept c order z unit xs ys h.1)
+-- so the bases of units stay
+pub bases-kept : (c : Shift) (order : Order) (z : Located) (xs ys : List (Piece UnitState)) → UnitsChanged c xs ys → bases_in order z ys ≡ bases_in order z xs
+bases-kept c order z [] [] h = refl
+bases-kept c order z [] (y ∷ ys) h = absurd h
+bases-kept c order z (x ∷ xs) [] h = absurd h
+bases-kept c order z (x ∷ xs) (y ∷ ys) h =
+    ap (λ (s : UnitState). bases_by s.mode order z s y.cells ++ bases_in order z ys) h.0.state
+    ∙ ap (λ (bs : List SaidBase). bs ++ bases_in order z ys) (bases-by x.state.mode c order z x.state x.cells y.cells h.0.cells.0)
+    ∙ ap (λ (bs : List SaidBase). bases_by x.state.mode order z x.state x.cells ++ bs) (bases-kept c order z xs ys h.1)
 
 -- the section of string offsets with other bytes, as many: an offset into it is the same
 offset-into : (z w : Located) (f : Field) → z.number ≡ w.number → length z.bytes ≡ length w.bytes → offset_into z f ≡ offset_into w f
@@ -64,25 +61,24 @@ base-of (number_of Number n) order z w p number size = rw (offset-of order z w p
 base-of (number_of SecOffset n) order z w p number size = ap Some (offset-of order z w p number size)
 base-of k order z w p number size = refl
 
-base-of-piece : (m : Mode) (params : Params) (order : Order) (z w : Located) (p : List Cell) → z.number ≡ w.number → length z.bytes ≡ length w.bytes
-    → base_by m params order z p ≡ base_by m params order w p
-base-of-piece at_header params order z w p number size = refl
-base-of-piece at_code params order z w p number size = refl
-base-of-piece (at_values n tag []) params order z w p number size = refl
-base-of-piece (at_values n tag (x ∷ xs)) params order z w p number size =
-    ap (λ (o : Option ℕ). if is_base n x.name then o else None) (base-of (kind_in params x.form) order z w p number size)
-base-of-piece (at_chosen n tag start x xs) params order z w p number size =
-    ap (λ (o : Option ℕ). if is_base n x.name then o else None) (base-of (kind_in params x.form) order z w p number size)
-base-of-piece stuck params order z w p number size = refl
+base-of-piece : (m : Mode) (order : Order) (z w : Located) (s : UnitState) (p : List Cell) → z.number ≡ w.number → length z.bytes ≡ length w.bytes
+    → bases_by m order z s p ≡ bases_by m order w s p
+base-of-piece at_header order z w s p number size = refl
+base-of-piece at_code order z w s p number size = refl
+base-of-piece (at_values n tag []) order z w s p number size = refl
+base-of-piece (at_values n tag (x ∷ xs)) order z w s p number size =
+    ap (λ (o : Option ℕ). if is_base n x.name then said_by s.unit o else []) (base-of (kind_in s.header.params x.form) order z w p number size)
+base-of-piece (at_chosen n tag start x xs) order z w s p number size =
+    ap (λ (o : Option ℕ). if is_base n x.name then said_by s.unit o else []) (base-of (kind_in s.header.params x.form) order z w p number size)
+base-of-piece stuck order z w s p number size = refl
 
 -- so bases don't go by the bytes of that section
-pub bases-same : (order : Order) (z w : Located) (unit : ℕ) (xs : List (Piece UnitState)) → z.number ≡ w.number → length z.bytes ≡ length w.bytes
-    → base_in order z unit xs ≡ base_in order w unit xs
-bases-same order z w unit [] number size = refl
-bases-same order z w unit (x ∷ xs) number size =
-    ap (λ (o : Option ℕ). if x.state.unit == unit then first_some o (base_in order z unit xs) else base_in order z unit xs)
-    (base-of-piece x.state.mode x.state.header.params order z w x.cells number size)
-    ∙ ap (with_base order w unit x.state x.cells) (bases-same order z w unit xs number size)
+pub bases-same : (order : Order) (z w : Located) (xs : List (Piece UnitState)) → z.number ≡ w.number → length z.bytes ≡ length w.bytes
+    → bases_in order z xs ≡ bases_in order w xs
+bases-same order z w [] number size = refl
+bases-same order z w (x ∷ xs) number size =
+    ap (λ (bs : List SaidBase). bs ++ bases_in order z xs) (base-of-piece x.state.mode order z w x.state x.cells number size)
+    ∙ ap (λ (bs : List SaidBase). bases_by x.state.mode order w x.state x.cells ++ bs) (bases-same order z w xs number size)
 
 -- what a value names by index stays
 index-kept : (k : ValueKind) (u : Use) (c : Shift) (order : Order) (p q : List Cell) → Becomes (role_of_kind k u) c p q → index_value order k q ≡ index_value order k p
@@ -106,7 +102,7 @@ uses-kept c order [] (y ∷ ys) h = absurd h
 uses-kept c order (x ∷ xs) [] h = absurd h
 uses-kept c order (x ∷ xs) (y ∷ ys) h =
     ap (λ (s : UnitState). uses_by s.mode order s y.cells ++ uses_in order ys) h.0.state
-    ∙ ap (λ (us : List IndexUse). us ++ uses_in order ys) (uses-by x.state.mode c order x.state x.cells y.cells h.0.cells)
+    ∙ ap (λ (us : List IndexUse). us ++ uses_in order ys) (uses-by x.state.mode c order x.state x.cells y.cells h.0.cells.0)
     ∙ ap (λ (us : List IndexUse). uses_by x.state.mode order x.state x.cells ++ us) (uses-kept c order xs ys h.1)
 
 -- contributions stay

@@ -1,7 +1,7 @@
 -- The slots that stand with a path in a forest are those of its marks, in order.
 use Rattle.std.proofs.Common.{◌≡◌, ℕ, List, [], ◌∷◌, ◌++◌, refl, sym, ap, ◌∙◌, append_assoc}
 use Rattle.dw_base.specs.Forests.{AttributeMeaning, Forest, Mark, attribute, HasAttributes, no_attributes, form_first, one_more, Spells, no_marks, padding, lone, parent, SpellsChildren, closed, lone_child, parent_child}
-use Rattle.dw_offsets.specs.SectionTexts.{path_slot, path_slots_of, forest_slots}
+use Rattle.dw_base.specs.MappedSlots.{path_slot, path_slots_of, forest_slots}
 
 -- the slots of paths among marks
 abbrev pub mark_slots : Mark → List ℕ

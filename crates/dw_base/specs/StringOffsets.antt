@@ -1,21 +1,13 @@
 -- The contributions of string offsets, and their slots (DWARF 5, 7.26): a length, the version 5, two bytes of padding, and
 -- offsets of texts up to the end. What a unit names as its base is the place of the first offset.
-use Rattle.std.specs.Prelude.{Bool, ◌≡◌, ℕ, ◌+◌, ◌-◌, ◌*◌, ◌%◌, ◌<◌, ◌≤◌, ◌==◌, nat_le, nat_lt, if◌then◌else◌, List, [], ◌∷◌, ◌++◌, length, slice_index_or, Option, Some, None}
+use Rattle.std.specs.Prelude.{Bool, ◌≡◌, ℕ, ◌+◌, ◌-◌, ◌*◌, ◌%◌, ◌≤◌, ◌==◌, nat_le, if◌then◌else◌, List, [], ◌∷◌, ◌++◌, length, Option, Some, None}
 use Rattle.dw_base.specs.Cells.{Located}
-use Rattle.dw_base.specs.FileViews.{View}
 use Rattle.dw_base.specs.Forms.{width_size}
 use Rattle.dw_base.specs.Lebs.{initial_length_at}
 use Rattle.dw_base.specs.Numbers.{spelled}
-use Rattle.dw_base.specs.ViewData.{located}
-use Rattle.dw_base.specs.declared.debug_sections.DebugSection.TheVariants.{StrOffsets}
 use Rattle.dw_base.specs.declared.shared.Order.{Order}
 use Rattle.dw_base.specs.declared.shared.Width.{Width}
-use Rattle.dw_base.specs.declared.shared.Width.TheVariants.{W32}
-use Rattle.dw_offsets.specs.declared.string_offsets.Contribution.{Contribution}
-
--- the section of string offsets of a view: no bytes where there is none
-abbrev pub string_offsets : View → Located
-string_offsets v = located v StrOffsets
+use Rattle.dw_base.specs.declared.string_offsets.Contribution.{Contribution}
 
 -- the contribution at a place, by its length: width, length, and the size of the length's field
 abbrev pub contribution_from : ℕ → Width × ℕ × ℕ → Contribution
@@ -53,26 +45,3 @@ slot_in c index = if has_slot c index then Some (c.base + index * width_size c.w
 abbrev pub slot_place : List Contribution → ℕ → ℕ → Option ℕ
 slot_place [] base index = None
 slot_place (c ∷ cs) base index = if c.base == base then slot_in c index else slot_place cs base index
-
--- the base of the contribution of a number
-abbrev pub base_at : List Contribution → ℕ → ℕ
-base_at list i = let c = slice_index_or list i (record { start = 0; base = 0; end = 0; width = W32 }) in c.base
-
--- the bases rise, so no base comes twice
-pub record BasesRise (list : List Contribution) : Type 0 where
-  pub rise : (i j : ℕ) → i < j → j < length list → base_at list i < base_at list j
-
--- the contribution of a number has the base
-pub record HasBase (list : List Contribution) (base i : ℕ) : Type 0 where
-  pub inside : i < length list
-  pub base_is : base_at list i ≡ base
-
--- no contribution has the base: those before a number have smaller ones, and the others greater ones
-pub record IsBaseGap (list : List Contribution) (base i : ℕ) : Type 0 where
-  pub inside : i ≤ length list
-  pub before : (k : ℕ) → k < i → base_at list k < base
-  pub behind : (k : ℕ) → i ≤ k → k < length list → base < base_at list k
-
--- so many offsets have room in so many bytes
-pub record IsSlotCount (width : Width) (size count : ℕ) : Type 0 where
-  pub fit : (i : ℕ) → nat_le ((i + 1) * width_size width) size ≡ nat_lt i count

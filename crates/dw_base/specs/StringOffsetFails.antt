@@ -10,8 +10,8 @@ use Rattle.dw_base.specs.declared.fault.Kind.TheVariants.{StringTable}
 use Rattle.dw_base.specs.declared.fault.Refusal.{Refusal}
 use Rattle.dw_base.specs.declared.shared.Order.{Order}
 use Rattle.dw_base.specs.declared.shared.Width.{Width}
-use Rattle.dw_offsets.specs.StringOffsets.{ContributionsUpTo}
-use Rattle.dw_offsets.specs.declared.string_offsets.Contribution.{Contribution}
+use Rattle.dw_base.specs.StringOffsets.{ContributionsUpTo}
+use Rattle.dw_base.specs.declared.string_offsets.Contribution.{Contribution}
 
 -- what is wrong with the contribution at a place: no length can be read there, its end passes the section's, it has no room
 -- for version and padding, its version isn't 5, or its last slot is cut

@@ -9,8 +9,9 @@ use Rattle.dw_base.specs.declared.fault.Kind.TheVariants.{NameTable as NameTable
 use Rattle.dw_base.specs.declared.fault.Refusal.{Refusal}
 use Rattle.dw_base.specs.declared.shared.Order.{Order}
 use Rattle.dw_base.specs.declared.shared.Width.{Width}
-use Rattle.dw_offsets.specs.NameTables.{name_counts, before_strings, from_strings, IsNameTable, string_place, names_text, NamesTexts, TablesUpTo, names_of}
-use Rattle.dw_offsets.specs.declared.name_lists.NameTable.{NameTable}
+use Rattle.dw_base.specs.NameTables.{IsNameTable, string_place, names_text, NamesTexts, TablesUpTo, names_of}
+use Rattle.dw_base.specs.NameHeaders.{name_counts, before_strings, from_strings}
+use Rattle.dw_base.specs.declared.name_tables.NameTable.{NameTable}
 
 -- what is wrong with the table at a place: no length can be read there, its end passes the section's, it has no room for version
 -- and counts, its version isn't 5, or its parts don't fit

@@ -1,44 +1,24 @@
 -- String offsets and name tables are read in one way: of two pieces that fit at one place each has the other's length, and none fits
 -- where a section may end.
 use Rattle.std.proofs.Common.{◌≡◌, ℕ, ◌+◌, ◌≤◌, List, ◌++◌, length, Some, refl, sym, ap, ◌∙◌, subst, arith}
-use Rattle.std.proofs.lemmas.Bool.{le-leb}
-use Rattle.std.proofs.lemmas.List.{length-append}
 use Rattle.dw_base.specs.Cells.{Cell, bytes_of}
 use Rattle.dw_base.specs.Lebs.{initial_length_at}
-use Rattle.dw_base.specs.Numbers.{number_at, spelled}
+use Rattle.dw_base.specs.Numbers.{spelled}
 use Rattle.dw_base.specs.declared.shared.Order.{Order}
 use Rattle.dw_base.specs.declared.shared.Width.{Width}
 use Rattle.dw_base.proofs.NumberLaws.{spelled-append}
 use Rattle.dw_base.proofs.UnitEditLaws.{length-bytes_of}
-use Rattle.dw_base.proofs.UnitHeaderLaws.{bytes_of-append}
-use Rattle.dw_offsets.specs.NamePieces.{NameMode, at_table, at_string, at_rest, no_names, NameState, IsTableFront, FitsNames, EndsNames}
-use Rattle.dw_offsets.specs.NameTables.{name_counts, before_strings}
-use Rattle.dw_offsets.specs.OffsetPieces.{OffsetMode, at_contribution, at_slot, no_offsets, OffsetState, IsOffsetsHeader, FitsOffsets, EndsOffsets}
-use Rattle.dw_offsets.specs.declared.name_headers.NameCounts.{NameCounts}
-use Rattle.dw_offsets.proofs.InitialLengthLaws.{length-kept}
-
--- what is read at the front is read with more behind it
-number-more : (o : Order) (xs ys : List ℕ) (at k : ℕ) → at + k ≤ length xs → number_at o (xs ++ ys) at k ≡ number_at o xs at k
-unfolding number_at
-number-more o xs ys at k inside =
-    rw (le-leb (at + k) (length (xs ++ ys)) (omega (arith, inside, length-append xs ys)), le-leb (at + k) (length xs) inside)
-    (ap Some (spelled-append o xs ys at k inside))
-
-initial-more : (o : Order) (xs ys : List ℕ) (l : Width × ℕ × ℕ) → initial_length_at o xs 0 ≡ Some l → l.2 ≤ length xs → initial_length_at o (xs ++ ys) 0 ≡ Some l
-unfolding initial_length_at
-initial-more o xs ys l e inside =
-    length-kept (number_at o xs 0 4) (number_at o xs (0 + 4) 8) (number_at o (xs ++ ys) 0 4) (number_at o (xs ++ ys) (0 + 4) 8) l
-    (λ size. number-more o xs ys 0 4 (omega (arith, size, inside))) (λ size. number-more o xs ys (0 + 4) 8 (omega (arith, size, inside))) e
-
-cells-more : (o : Order) (p r : List Cell) (l : Width × ℕ × ℕ) → initial_length_at o (bytes_of p) 0 ≡ Some l → l.2 ≤ length p → initial_length_at o (bytes_of (p ++ r)) 0 ≡ Some l
-cells-more o p r l e inside =
-    ap (λ (bs : List ℕ). initial_length_at o bs 0) (bytes_of-append p r) ∙ initial-more o (bytes_of p) (bytes_of r) l e (omega (arith, inside, length-bytes_of p))
+use Rattle.dw_base.proofs.UnitHeaderLaws.{bytes_of-append, initial-more}
+use Rattle.dw_base.specs.NamePieces.{NameMode, at_table, at_string, at_rest, no_names, NameState, IsTableFront, FitsNames, EndsNames}
+use Rattle.dw_base.specs.NameHeaders.{name_counts, before_strings}
+use Rattle.dw_base.specs.OffsetPieces.{OffsetMode, at_contribution, at_slot, no_offsets, OffsetState, IsOffsetsHeader, FitsOffsets, EndsOffsets}
+use Rattle.dw_base.specs.declared.name_tables.NameCounts.{NameCounts}
 
 -- two lengths at the front of the same cells are one
 one-length : (o : Order) (p q r t : List Cell) (l m : Width × ℕ × ℕ) → initial_length_at o (bytes_of p) 0 ≡ Some l → initial_length_at o (bytes_of q) 0 ≡ Some m
-    → l.2 ≤ length p → m.2 ≤ length q → p ++ r ≡ q ++ t → l ≡ m
-one-length o p q r t l m e f inside within same =
-    once l m (sym (cells-more o p r l e inside) ∙ ap (λ (x : List Cell). initial_length_at o (bytes_of x) 0) same ∙ cells-more o q t m f within)
+    → p ++ r ≡ q ++ t → l ≡ m
+one-length o p q r t l m e f same =
+    once l m (sym (initial-more o p r l e) ∙ ap (λ (x : List Cell). initial_length_at o (bytes_of x) 0) same ∙ initial-more o q t m f)
   where
     once : (l m : Width × ℕ × ℕ) → Some l ≡ Some m → l ≡ m
     once l m e = cc
@@ -46,7 +26,7 @@ one-length o p q r t l m e f inside within same =
 header-same : (o : Order) (s : OffsetState) (p q r t : List Cell) → IsOffsetsHeader o s p → IsOffsetsHeader o s q → p ++ r ≡ q ++ t → length p ≡ length q
 header-same o s p q r t f g same =
     let one : f.lengths ≡ g.lengths =
-    one-length o p q r t f.lengths g.lengths f.length_is g.length_is (omega (arith, f.size)) (omega (arith, g.size)) same in
+    one-length o p q r t f.lengths g.lengths f.length_is g.length_is same in
     f.size ∙ ap (λ (l : Width × ℕ × ℕ). l.2 + 4) one ∙ sym g.size
 
 pub offsets-same : (m : OffsetMode) (o : Order) (s : OffsetState) (p q r t : List Cell) → FitsOffsets m o s p → FitsOffsets m o s q → p ++ r ≡ q ++ t → length p ≡ length q
@@ -81,7 +61,7 @@ counts-more o p r at inside =
 front-same : (o : Order) (s : NameState) (p q r t : List Cell) → IsTableFront o s p → IsTableFront o s q → p ++ r ≡ q ++ t → length p ≡ length q
 front-same o s p q r t f g same =
     let one : f.lengths ≡ g.lengths =
-    one-length o p q r t f.lengths g.lengths f.length_is g.length_is (omega (arith, f.header)) (omega (arith, g.header)) same in
+    one-length o p q r t f.lengths g.lengths f.length_is g.length_is same in
     let counts : name_counts o (bytes_of p) f.lengths.2 ≡ name_counts o (bytes_of q) g.lengths.2 =
     sym (counts-more o p r f.lengths.2 f.header) ∙ ap (λ (x : List Cell). name_counts o (bytes_of x) f.lengths.2) same
     ∙ ap (λ (l : Width × ℕ × ℕ). name_counts o (bytes_of (q ++ t)) l.2) one ∙ counts-more o q t g.lengths.2 g.header in

@@ -8,8 +8,8 @@ use Rattle.dw_base.specs.Numbers.{spelled}
 use Rattle.dw_base.specs.Pieces.{Grammar, Piece, Chain, joined}
 use Rattle.dw_base.specs.declared.shared.Order.{Order}
 use Rattle.dw_base.specs.declared.shared.Width.{Width}
-use Rattle.dw_offsets.specs.NameTables.{name_counts, before_strings, from_strings}
-use Rattle.dw_offsets.specs.declared.name_headers.NameCounts.{NameCounts}
+use Rattle.dw_base.specs.NameHeaders.{name_counts, before_strings, from_strings}
+use Rattle.dw_base.specs.declared.name_tables.NameCounts.{NameCounts}
 
 -- what comes next: the front of a table; a string offset of a width, with how many are left behind it, of a table that ends at a
 -- place; what is left of that table; or nothing that could

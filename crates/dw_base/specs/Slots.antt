@@ -3,8 +3,8 @@
 use Rattle.std.specs.Prelude.{ℕ, ◌+◌, ◌-◌, ◌*◌, ◌/◌, ◌==◌, if◌then◌else◌, List, [], ◌∷◌, ◌++◌, Option, Some, None}
 use Rattle.dw_base.specs.Forms.{width_size}
 use Rattle.dw_base.specs.Lists.{tabulate}
-use Rattle.dw_offsets.specs.StringOffsets.{has_slot}
-use Rattle.dw_offsets.specs.declared.string_offsets.Contribution.{Contribution}
+use Rattle.dw_base.specs.StringOffsets.{has_slot}
+use Rattle.dw_base.specs.declared.string_offsets.Contribution.{Contribution}
 
 -- a slot: where its field is, and how many bytes that has
 pub record Slot : Type 0 where

@@ -1,0 +1,49 @@
+-- The texts that a file names (DWARF 5, 7.26 and 6.1.1.4): what an edit may do to a piece of string offsets or of name tables, which
+-- texts are named and in which order, and what becomes of these pieces.
+use Rattle.std.specs.Prelude.{false, ℕ, List, [], ◌∷◌, ◌++◌}
+use Rattle.dw_base.specs.DebugData.{Around, DataReadings, path_slots}
+use Rattle.dw_base.specs.Forms.{TextSection, in_str}
+use Rattle.dw_base.specs.NamePieces.{NameMode, at_string, NameState}
+use Rattle.dw_base.specs.OffsetPieces.{OffsetMode, at_slot, OffsetState}
+use Rattle.dw_base.specs.Pieces.{Piece, EachPiece}
+use Rattle.dw_base.specs.Roles.{Role, fixed, offset}
+use Rattle.dw_base.specs.StringTables.{Mention}
+use Rattle.dw_base.specs.TextChanges.{TableChanges, all_mentions, edited_by, mentions_by, NamesTextBy}
+use Rattle.dw_base.specs.TextIndexes.{holds_number}
+
+-- what an edit may do to a piece of string offsets: a slot is a path's where a path names it
+abbrev pub offset_role : List ℕ → OffsetMode → ℕ → Role
+offset_role paths (at_slot width end) n = offset in_str (holds_number paths n)
+offset_role paths m n = fixed
+
+abbrev pub slot_role : List ℕ → OffsetState → Role
+slot_role paths s = offset_role paths s.mode s.slot
+
+-- and to one of name tables: no string offset is a path's
+abbrev pub name_role_by : NameMode → Role
+name_role_by (at_string width left end) = offset in_str false
+name_role_by m = fixed
+
+abbrev pub name_role : NameState → Role
+name_role s = name_role_by s.mode
+
+-- the mentions of texts of a table in pieces of roles, in order
+abbrev pub mentions_with : {S : Type 0} → (S → Role) → TextSection → Around → List (Piece S) → List Mention
+mentions_with role table around [] = []
+mentions_with role table around (x ∷ xs) = mentions_by (role x.state) table around x.cells ++ mentions_with role table around xs
+
+-- the mentions of a table in a file: of units, of slots, then of name tables. A value by index names no text itself.
+abbrev pub file_mentions : TextSection → Around → DataReadings → List Mention
+file_mentions table around r =
+    all_mentions table around r.units
+    ++ (mentions_with (slot_role (path_slots around)) table around r.offsets ++ mentions_with name_role table around r.names)
+
+-- what becomes of pieces of roles
+abbrev pub edited_with : {S : Type 0} → (S → Role) → TableChanges → Around → List (Piece S) → List (Piece S)
+edited_with role changes around [] = []
+edited_with role changes around (x ∷ xs) =
+    record { state = x.state; cells = edited_by (role x.state) changes around x.cells } ∷ edited_with role changes around xs
+
+-- each offset of a text among pieces of roles names one that ends in its table
+abbrev pub NameTexts : {S : Type 0} → (S → Role) → Around → List (Piece S) → Type 0
+NameTexts role around xs = EachPiece (λ x. NamesTextBy (role x.state) around x.cells) xs
