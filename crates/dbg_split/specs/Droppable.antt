@@ -6,9 +6,8 @@ use Rattle.dw_base.specs.Elf.{nth_section, section_count, section_name, sections
 use Rattle.dw_base.specs.Layout.{is_alloc, is_loaded_kind}
 use Rattle.dw_base.specs.SectionNames.{debug_prefix}
 use Rattle.dw_base.specs.Texts.{same_text}
-use Rattle.dw_base.specs.declared.elf_numbers.TheConstants.{SHT_SYMTAB, SHT_STRTAB, SHT_RELA, SHT_REL}
+use Rattle.dw_base.specs.declared.elf_numbers.TheConstants.{SHT_SYMTAB, SHT_STRTAB, SHT_RELA, SHT_REL, SHT_SYMTAB_SHNDX}
 use Rattle.dw_base.specs.declared.records.Section.{Section}
-use Rattle.dbg_split.specs.declared.section_numbers.TheConstants.{SHT_SYMTAB_SHNDX}
 
 -- the index of GDB, which is made of debug data
 abbrev pub gdb_index : List ℕ

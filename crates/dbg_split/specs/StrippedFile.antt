@@ -5,13 +5,12 @@ use Rattle.dw_base.specs.Elf.{class_of, order_of, nth_section, section_count, na
 use Rattle.dw_base.specs.Layout.{Part, fixed_end, is_fixed}
 use Rattle.dw_base.specs.Parts.{parts_file}
 use Rattle.dw_base.specs.SectionNames.{debug_link}
-use Rattle.dw_base.specs.declared.elf_numbers.TheConstants.{SHT_PROGBITS}
+use Rattle.dw_base.specs.declared.elf_numbers.TheConstants.{SHT_PROGBITS, SHF_INFO_LINK}
 use Rattle.dw_base.specs.declared.records.Section.{Section}
 use Rattle.debug_link.specs.Links.{link_of}
 use Rattle.debug_link.specs.Sums.{crc32}
 use Rattle.dbg_split.specs.DebugFile.{debug_file}
 use Rattle.dbg_split.specs.Droppable.{is_droppable, is_relocations}
-use Rattle.dbg_split.specs.declared.section_numbers.TheConstants.{SHF_INFO_LINK}
 
 -- how many of the first n sections are kept
 abbrev pub kept_before : List ℕ → ℕ → ℕ

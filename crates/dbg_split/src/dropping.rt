@@ -7,8 +7,7 @@ ghost use Rattle.dw_base.specs.Lists.{tabulate};
 ghost use Rattle.dbg_split.specs.Droppable.{drops_along, drops_itself, is_debug_only_name, is_droppable, is_relocations, links_symbols, may_drop, names_dropped, names_symbols, speaks_of_dropped};
 
 use crate::names::{is_named, is_named_from};
-use crate::section_numbers::SHT_SYMTAB_SHNDX;
-use dw_base::elf_numbers::{SHT_REL, SHT_RELA, SHT_STRTAB, SHT_SYMTAB};
+use dw_base::elf_numbers::{SHT_REL, SHT_RELA, SHT_STRTAB, SHT_SYMTAB, SHT_SYMTAB_SHNDX};
 use dw_base::{NoMemory, Section};
 use elf_file::ElfFile;
 use std::alloc::Global;

@@ -23,7 +23,6 @@ mod laying;
 mod names;
 mod read_names;
 mod section_headers;
-mod section_numbers;
 mod splitting;
 mod stripping;
 #[cfg(test)]

@@ -15,8 +15,7 @@ ghost use Rattle.dbg_split.specs.Droppable.{is_droppable};
 ghost use Rattle.dbg_split.specs.StrippedFile.{info_is_number, kept_before, kept_parts, link_head, link_part, new_number, stripped_body, stripped_head, stripped_part, stripped_parts, stripped_with};
 
 use crate::dropping::is_relocations;
-use crate::section_numbers::SHF_INFO_LINK;
-use dw_base::elf_numbers::SHT_PROGBITS;
+use dw_base::elf_numbers::{SHF_INFO_LINK, SHT_PROGBITS};
 use dw_base::{Fault, NoMemory, Section};
 use elf_file::ElfFile;
 use elf_layout::{Part, write_parts};

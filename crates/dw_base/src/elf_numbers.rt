@@ -43,9 +43,13 @@ pub const SHT_NOTE: u32 = 7;
 pub const SHT_NOBITS: u32 = 8;
 /// `sh_type`: relocations without addends.
 pub const SHT_REL: u32 = 9;
+/// `sh_type`: the section numbers of symbols that don't fit the symbol table.
+pub const SHT_SYMTAB_SHNDX: u32 = 18;
 
 /// `sh_flags`: the section is in the image of the running program.
 pub const SHF_ALLOC: u64 = 0x2;
+/// `sh_flags`: the info field is the number of a section.
+pub const SHF_INFO_LINK: u64 = 0x40;
 /// `sh_flags`: the section's bytes are compressed.
 pub const SHF_COMPRESSED: u64 = 0x800;
 
