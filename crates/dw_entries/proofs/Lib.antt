@@ -1,5 +1,4 @@
 pub mod PassLaws
-pub mod InsideLaws
 pub mod ValueLaws
 pub mod SizedLaws
 pub mod WalkLaws

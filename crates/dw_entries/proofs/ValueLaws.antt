@@ -9,7 +9,7 @@ use Rattle.dw_base.specs.declared.shared.Params.{Params}
 use Rattle.dw_base.specs.declared.values.Spec.{Spec}
 use Rattle.dw_base.specs.declared.values.Value.{Value}
 use Rattle.dw_entries.specs.Passes.{HasSize}
-use Rattle.dw_entries.proofs.InsideLaws.{value_at-inside}
+use Rattle.dw_forms.proofs.InsideLaws.{value_at-inside}
 
 pub size-of : (params : Params) (x : Spec) (bytes : List ℕ) (place size : ℕ) (o : Option Value) → value_at params x bytes place ≡ o → value_size o ≡ Some size
     → HasSize params x bytes place size

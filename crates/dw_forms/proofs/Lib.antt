@@ -1,3 +1,4 @@
 pub mod KindLaws
 pub mod ReadLaws
 pub mod FixedLaws
+pub mod InsideLaws

@@ -10,7 +10,7 @@ use Rattle.dw_base.specs.declared.fault.Refusal.{Refusal}
 use Rattle.dw_base.specs.declared.shared.Order.{Order}
 use Rattle.dw_base.specs.declared.values.Spec.{Spec}
 use Rattle.dw_base.specs.declared.values.Value.{Value}
-use Rattle.dw_entries.proofs.InsideLaws.{value_at-inside}
+use Rattle.dw_forms.proofs.InsideLaws.{value_at-inside}
 use Rattle.dw_lines.specs.Entries.{bad_table, column_params, value_column, next_column, columns, entry_at, next_entry, counted_entries, entries_at}
 use Rattle.dw_lines.specs.Formats.{format_at}
 use Rattle.dw_lines.specs.Walks.{fallible_steps, or_refused, Since}
