@@ -2,6 +2,10 @@ pub mod NameLaws
 pub mod ReadNameLaws
 pub mod Rows
 pub mod DroppableLaws
+pub mod MarkLaws
 pub mod KeptLaws
 pub mod StrippedLaws
 pub mod DebugFileLaws
+pub mod KeptPartLaws
+pub mod FrontLaws
+pub mod StrippedFitLaws

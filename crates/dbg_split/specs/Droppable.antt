@@ -28,11 +28,15 @@ links_symbols i s = s.kind == SHT_SYMTAB && s.link == i
 unfoldable pub names_symbols : List ℕ → ℕ → Bool
 names_symbols b i = list_any (links_symbols i) (sections_of b)
 
+-- the section is the string table of a symbol table
+abbrev pub is_symbol_strings : List ℕ → ℕ → Bool
+is_symbol_strings b i = (nth_section b i).kind == SHT_STRTAB && names_symbols b i
+
 -- the section is dropped for what it is: debug data, a symbol table, or the string table of one
 unfoldable pub drops_itself : List ℕ → ℕ → Bool
 drops_itself b i =
     may_drop b i
-    && (is_debug_only_name (section_name b i) || (nth_section b i).kind == SHT_SYMTAB || ((nth_section b i).kind == SHT_STRTAB && names_symbols b i))
+    && (is_debug_only_name (section_name b i) || (nth_section b i).kind == SHT_SYMTAB || is_symbol_strings b i)
 
 -- a number names a section that is dropped for what it is
 unfoldable pub names_dropped : List ℕ → ℕ → Bool

@@ -4,3 +4,4 @@ pub mod StrippedFile
 pub mod ReadNames
 pub mod SplitFails
 pub mod KeptFront
+pub mod StrippedReads

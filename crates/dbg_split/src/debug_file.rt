@@ -12,11 +12,10 @@ ghost use Rattle.dw_base.specs.declared.fault.Refusal.{Refusal};
 ghost use Rattle.dbg_split.specs.DebugFile.{becomes_nobits, debug_file, debug_front, debug_head, debug_header, debug_part, filesz_place, phdr_table, phoff_of_debug, without_bytes};
 ghost use Rattle.dbg_split.specs.Droppable.{is_droppable};
 
-use crate::laying::lay;
-use crate::section_headers::append_table;
 use dw_base::elf_numbers::{SHT_NOBITS, SHT_NOTE, SHT_NULL};
 use dw_base::{Class, Fault, Order, Section, number_in, put_number};
 use elf_file::ElfFile;
+use elf_layout::{append_table, lay};
 use std::alloc::{AllocError, Global};
 
 /// The place of `p_filesz` in a program header.

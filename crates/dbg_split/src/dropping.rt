@@ -4,7 +4,7 @@ ghost use Rattle.std.specs.Prelude.{◌≡◌, ◌<◌, ◌≤◌, ◌==◌, ◌
 ghost use Rattle.std.specs.List.{list_any};
 ghost use Rattle.dw_base.specs.Elf.{nth_section, section_count, section_name, sections_of};
 ghost use Rattle.dw_base.specs.Lists.{tabulate};
-ghost use Rattle.dbg_split.specs.Droppable.{drops_along, drops_itself, is_debug_only_name, is_droppable, is_relocations, links_symbols, may_drop, names_dropped, names_symbols, speaks_of_dropped};
+ghost use Rattle.dbg_split.specs.Droppable.{drops_along, drops_itself, is_debug_only_name, is_droppable, is_relocations, is_symbol_strings, links_symbols, may_drop, names_dropped, names_symbols, speaks_of_dropped};
 
 use crate::names::{is_named, is_named_from};
 use dw_base::elf_numbers::{SHT_REL, SHT_RELA, SHT_STRTAB, SHT_SYMTAB, SHT_SYMTAB_SHNDX};
@@ -34,7 +34,7 @@ fn may_drop(elf: &ElfFile, section: u32) -> bool
 }
 
 /// The header is that of a symbol table with this section as its string table.
-fn links_symbols(section: u32, head: &Section) -> bool
+pub fn links_symbols(section: u32, head: &Section) -> bool
     ensures { result ≡ links_symbols section head.now }
 {
     head.kind == SHT_SYMTAB && head.link == section
@@ -60,10 +60,19 @@ pub fn is_relocations(head: &Section) -> bool
     head.kind == SHT_REL || head.kind == SHT_RELA
 }
 
-/// The section is dropped for what it is.
-#[tactic(auto, unfolding(crate::specs::Droppable::drops_itself))]
-fn drops_itself(elf: &ElfFile, section: u32) -> bool
+/// The section is the string table of a symbol table.
+fn is_symbol_strings(elf: &ElfFile, section: u32) -> bool
     requires there { section < section_count elf.now.bytes.now }
+    ensures { result ≡ is_symbol_strings elf.now.bytes.now section }
+{
+    elf.section(section).kind == SHT_STRTAB && names_symbols(elf, section)
+}
+
+/// The section is dropped for what it is; `strings` says that it is the string table of a symbol table.
+#[tactic(auto, unfolding(crate::specs::Droppable::drops_itself))]
+pub fn drops_itself(elf: &ElfFile, section: u32, strings: bool) -> bool
+    requires there { section < section_count elf.now.bytes.now }
+    requires strings { strings ≡ is_symbol_strings elf.now.bytes.now section }
     ensures { result ≡ drops_itself elf.now.bytes.now section }
 {
     if !may_drop(elf, section) {
@@ -72,8 +81,7 @@ fn drops_itself(elf: &ElfFile, section: u32) -> bool
     if is_debug_only(elf, section) {
         return true;
     }
-    let kind = elf.section(section).kind;
-    kind == SHT_SYMTAB || (kind == SHT_STRTAB && names_symbols(elf, section))
+    elf.section(section).kind == SHT_SYMTAB || strings
 }
 
 /// The number names a section that is dropped for what it is.
@@ -81,13 +89,19 @@ fn drops_itself(elf: &ElfFile, section: u32) -> bool
 fn names_dropped(elf: &ElfFile, number: u32) -> bool
     ensures { result ≡ names_dropped elf.now.bytes.now number }
 {
-    number < elf.section_count() && drops_itself(elf, number)
+    if number >= elf.section_count() {
+        return false;
+    }
+    drops_itself(elf, number, is_symbol_strings(elf, number))
 }
 
-/// The section is dropped with one that it links to or relocates.
+/// The section is dropped with one that it links to or relocates; `link` and `info` say that these fields
+/// of its header name a section that is dropped for what it is.
 #[tactic(auto, unfolding(crate::specs::Droppable::drops_along))]
-fn drops_along(elf: &ElfFile, section: u32) -> bool
+pub fn drops_along(elf: &ElfFile, section: u32, link: bool, info: bool) -> bool
     requires there { section < section_count elf.now.bytes.now }
+    requires link { link ≡ names_dropped elf.now.bytes.now (nth_section elf.now.bytes.now section).link }
+    requires info { info ≡ names_dropped elf.now.bytes.now (nth_section elf.now.bytes.now section).info }
     ensures { result ≡ drops_along elf.now.bytes.now section }
 {
     if !may_drop(elf, section) {
@@ -95,9 +109,9 @@ fn drops_along(elf: &ElfFile, section: u32) -> bool
     }
     let head = elf.section(section);
     if is_relocations(&head) {
-        return names_dropped(elf, head.link) || names_dropped(elf, head.info);
+        return link || info;
     }
-    head.kind == SHT_SYMTAB_SHNDX && names_dropped(elf, head.link)
+    head.kind == SHT_SYMTAB_SHNDX && link
 }
 
 /// The section is one of those that are in the debug file alone once the file is split: in a file of
@@ -107,5 +121,17 @@ pub fn droppable(elf: &ElfFile, section: u32) -> bool
     requires there { section < section_count elf.now.bytes.now }
     ensures droppable { result ≡ is_droppable elf.now.bytes.now section }
 {
-    elf.is_loaded_kind() && (drops_itself(elf, section) || drops_along(elf, section))
+    if !elf.is_loaded_kind() {
+        return false;
+    }
+    if drops_itself(elf, section, is_symbol_strings(elf, section)) {
+        return true;
+    }
+    let head = elf.section(section);
+    drops_along(
+        elf,
+        section,
+        names_dropped(elf, head.link),
+        names_dropped(elf, head.info),
+    )
 }

@@ -9,11 +9,11 @@ ghost use Rattle.dw_base.specs.declared.fault.Refusal.{Refusal};
 ghost use Rattle.dbg_split.specs.Droppable.{is_droppable};
 ghost use Rattle.dbg_split.specs.SplitFails.{SectionBars, Unsplittable, drops_before, is_link, is_loaded_behind, is_loaded_data};
 
-use crate::fixed::{begins_in_header, lies_across};
 use crate::names::is_named;
 use crate::read_names::is_read;
 use dw_base::{Kind, Refusal};
 use elf_file::ElfFile;
+use elf_layout::{begins_in_header, lies_across};
 
 /// The name of the link to a debug file.
 pub const DEBUG_LINK: &[u8] = b".gnu_debuglink";

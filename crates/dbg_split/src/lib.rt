@@ -15,14 +15,12 @@
 
 mod debug_file;
 mod dropping;
-mod fixed;
 #[cfg(test)]
 mod fixtures;
 mod judging;
-mod laying;
+mod marking;
 mod names;
 mod read_names;
-mod section_headers;
 mod splitting;
 mod stripping;
 #[cfg(test)]

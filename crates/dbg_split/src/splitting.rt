@@ -1,26 +1,23 @@
 //! A file split in two: this project's profile.
 
 ghost use Rattle.std.specs.Prelude.{◌≡◌, ◌≢◌, ◌≤◌, length, IfOk, OnOk, IfErr};
-ghost use Rattle.dw_base.specs.Elf.{section_count};
 ghost use Rattle.dw_base.specs.ElfFails.{ElfReads};
 ghost use Rattle.dw_base.specs.Layout.{output_limit};
-ghost use Rattle.dw_base.specs.Lists.{tabulate};
 ghost use Rattle.dw_base.specs.Refusals.{Blames};
 ghost use Rattle.dw_base.specs.declared.fault.Refusal.{Refusal};
 ghost use Rattle.dbg_split.specs.DebugFile.{debug_file};
-ghost use Rattle.dbg_split.specs.Droppable.{is_droppable};
 ghost use Rattle.dbg_split.specs.KeptFront.{KeepsFront};
 ghost use Rattle.dbg_split.specs.SplitFails.{SplitFails};
 ghost use Rattle.dbg_split.specs.StrippedFile.{stripped_file};
 
 use crate::debug_file::debug_file;
-use crate::dropping::droppable;
 use crate::judging::{can_be_split, file_fits};
+use crate::marking::droppables;
 use crate::stripping::stripped_file;
 use debug_link::{crc32, link_bytes};
 use dw_base::Fault;
 use elf_file::ElfFile;
-use std::alloc::{AllocError, Global};
+use std::alloc::Global;
 
 /// The two files that a file is split into.
 #[derive(Debug, Drop)]
@@ -29,17 +26,6 @@ pub struct Pair {
     pub stripped: Vec<u8>,
     /// The debug file.
     pub debug: Vec<u8>,
-}
-
-/// Which sections are droppable.
-fn droppables(alloc: Global, elf: &ElfFile) -> Result<Vec<bool>, AllocError>
-    ensures dropped { IfOk result (λ dropped. dropped.items ≡ tabulate (is_droppable elf.now.bytes.now) (section_count elf.now.bytes.now)) }
-{
-    let mut dropped = Vec::with_capacity(alloc, elf.sections.len())?;
-    for section in 0..elf.section_count() {
-        dropped.push(droppable(elf, section))?;
-    }
-    Ok(dropped)
 }
 
 /// The two files of a file that was read.

@@ -17,7 +17,6 @@ use Rattle.dw_base.specs.declared.fault.Refusal.{Refusal}
 use Rattle.dw_base.specs.declared.shared.Order.{Order}
 use Rattle.dw_base.specs.declared.shared.Width.{Width}
 use Rattle.dw_base.specs.declared.shared.Width.TheVariants.{W32}
-use Rattle.dw_base.proofs.ReachLaws.{Reaches, here, reach-more, Determined, Stops, stops-one}
 use Rattle.dw_base.specs.StringOffsets.{contribution_from, IsContribution, ContributionsUpTo, no_contributions, more_contributions, AreContributions}
 use Rattle.dw_base.specs.ViewData.{string_offsets}
 use Rattle.dw_offsets.specs.SlotSearch.{BasesRise, base_at}

@@ -7,3 +7,7 @@ pub mod NameViewLaws
 pub mod OffsetPieceLaws
 pub mod NamePieceLaws
 pub mod SlotNumberLaws
+pub mod SlotMarkLaws
+pub mod PathSlotLaws
+pub mod NamedSlotLaws
+pub mod SlotPieceLaws

@@ -1,15 +1,9 @@
 -- Laws of the name tables of a section: all were read, or some can't be.
-use Rattle.std.proofs.Common.{true, ◌≡◌, ℕ, ◌+◌, ◌<◌, ◌≤◌, List, [], ◌∷◌, ◌++◌, length, Option, Some, refl, sym, ap, ◌∙◌, subst, arith}
+use Rattle.std.proofs.Common.{◌≡◌, ℕ, ◌<◌, ◌≤◌, List, length, subst, arith}
 use Rattle.dw_base.specs.FileViews.{View}
-use Rattle.dw_base.specs.Lebs.{initial_length_at}
-use Rattle.dw_base.specs.Numbers.{spelled}
 use Rattle.dw_base.specs.declared.fault.Refusal.{Refusal}
-use Rattle.dw_base.specs.declared.shared.Order.{Order}
-use Rattle.dw_base.specs.declared.shared.Width.{Width}
-use Rattle.dw_base.proofs.ReachLaws.{Reaches, here, reach-more, Determined, Stops, stops-one}
 use Rattle.dw_base.specs.NameTables.{table_from, IsNameTable, IsNamedTable, TablesUpTo, no_tables, more_tables, names_text}
-use Rattle.dw_base.specs.NameHeaders.{name_counts, before_strings, from_strings}
-use Rattle.dw_base.specs.NameTableFails.{TableFails, no_length, passes, no_counts, other_version, no_room, TextFails, no_text, NamedFails, table, texts, TablesFail, one}
+use Rattle.dw_base.specs.NameTableFails.{NamedFails, TablesFail, one}
 use Rattle.dw_base.specs.declared.name_tables.NameTable.{NameTable}
 
 -- some table can't be read

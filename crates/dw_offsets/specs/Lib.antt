@@ -1,2 +1,5 @@
+pub mod NamedPlaces
+pub mod PathSlots
+pub mod SlotMarks
 pub mod SlotSearch
 pub mod TextEnds

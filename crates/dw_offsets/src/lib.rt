@@ -25,11 +25,15 @@ mod fixtures;
 mod name_headers;
 mod name_lists;
 mod name_texts;
+mod slot_fields;
+mod slot_marks;
 mod slots;
 mod string_offsets;
 mod widths;
 
 pub use dw_base::{Contribution, Fault, Kind, NameTable, Refusal, Width};
 pub use name_lists::{NameTableList, name_tables};
+pub use slot_fields::{PathSlot, path_slots};
+pub use slot_marks::SlotMarks;
 pub use slots::slot_place;
 pub use string_offsets::{ContributionList, contributions};

@@ -7,10 +7,11 @@ ghost use Rattle.dw_base.specs.LayoutFails.{BeginsInHeader, LiesAcross};
 use dw_base::Section;
 use elf_file::ElfFile;
 
-/// The section isn't loaded, and begins before the fixed end and ends behind it.
-pub(crate) fn lies_across(elf: &ElfFile, end: u64, section: &Section) -> bool
+/// A section with bytes in the file isn't ALLOC, and begins before the fixed end and ends behind it, all
+/// in bytes of the file (this project's profile). Such a file can't be written.
+pub fn lies_across(elf: &ElfFile, end: u64, section: &Section) -> bool
     requires end { end ≡ fixed_end elf.now.bytes.now }
-    ensures { IsTrue result ↔ LiesAcross elf.now.bytes.now section.now }
+    ensures across { IsTrue result ↔ LiesAcross elf.now.bytes.now section.now }
 {
     if section.takes_no_room() {
         return false;
@@ -21,9 +22,10 @@ pub(crate) fn lies_across(elf: &ElfFile, end: u64, section: &Section) -> bool
     section.offset < end && section.size > end - section.offset
 }
 
-/// The section of a file that is loaded has bytes, and begins in the file header.
-pub(crate) fn begins_in_header(elf: &ElfFile, section: &Section) -> bool
-    ensures { IsTrue result ↔ BeginsInHeader elf.now.bytes.now section.now }
+/// A section of a file of type EXEC or DYN has bytes in the file, and begins in the file header (this
+/// project's profile). Such a file can't be written.
+pub fn begins_in_header(elf: &ElfFile, section: &Section) -> bool
+    ensures in_header { IsTrue result ↔ BeginsInHeader elf.now.bytes.now section.now }
 {
     if !elf.is_loaded_kind() {
         return false;

@@ -1,4 +1,4 @@
-//! Sections laid out one after another behind the part of a file that stays: this project's profile.
+//! Sections laid out one after another behind the front of a file: this project's profile.
 
 ghost use Rattle.std.specs.Prelude.{◌≡◌, ◌+◌, ◌≤◌, ◌++◌, length, vec_len, replicate, OnOk, IfOk, IfErr};
 ghost use Rattle.dw_base.specs.Layout.{output_limit, padding, extended, new_head};
@@ -48,14 +48,12 @@ pub(crate) fn append_padded(out: &mut Vec<u8>, zeros: u64, body: &[u8]) -> Resul
     Ok(())
 }
 
-/// Lays out a section behind what is laid, where it moves; its new header.
+/// Lays out a section behind the bytes laid so far, where it moves: zeros up to the next multiple of its
+/// alignment, in bytes, then its body (this project's profile). Its header, of one that moves with its
+/// new place and size. Refused as `TooLarge` only where the bytes would pass the limit; after an error
+/// part of this may have been appended.
 #[tactic(auto, using(crate::proofs::Rows::layout_rows), unfolding(dw_base::specs::Layout::placed, dw_base::specs::Layout::new_head))]
-pub(crate) fn lay(
-    out: &mut Vec<u8>,
-    head: &Section,
-    moves: bool,
-    body: &[u8],
-) -> Result<Section, Fault>
+pub fn lay(out: &mut Vec<u8>, head: &Section, moves: bool, body: &[u8]) -> Result<Section, Fault>
     requires small { vec_len out.old ≤ output_limit }
     ensures laid { OnOk result (out.new.items ≡ extended out.old.items (part head.now moves body.now)) }
     ensures head { IfOk result (λ h. h ≡ new_head (length out.old.items) (part head.now moves body.now)) }

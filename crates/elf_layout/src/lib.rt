@@ -5,7 +5,8 @@
 //! read back as those that were given; a section that must stay is refused as `Fixed` and a file over
 //! the limit as `TooLarge`, each only where its condition holds, and nothing else is refused. A file
 //! with new bodies reads where its names end; a file of parts where its front reads, its alignments
-//! are such, and its names end.
+//! are such, and its names end. The steps of writing (`lay`, `append_table`) and the tests of what may
+//! stay (`lies_across`, `begins_in_header`) are the defined ones, for further layouts.
 //! It does not promise: anything of what the bodies mean.
 //! Read first: `dw_base/specs/Layout.antt`, then `LayoutFails.antt`, `LayoutReads.antt`, `Parts.antt`.
 //!
@@ -32,5 +33,8 @@ mod section_headers;
 mod tests;
 
 pub use bodies::emit;
+pub use fixed::{begins_in_header, lies_across};
+pub use laying::lay;
 pub use part::Part;
 pub use parts::write_parts;
+pub use section_headers::append_table;

@@ -121,10 +121,11 @@ fn put_shoff(file: &mut [u8], class: Class, order: Order, place: u64)
     prove!(fits);
 }
 
-/// The file of the bytes laid so far and section headers: these stand behind, and their place is put
-/// into the file header. Refused as `TooLarge` only where it would pass the limit.
+/// The file of the bytes laid so far and section headers: these stand behind, at the next multiple of
+/// the size of an address in bytes, and their place is put into the file header (`e_shoff`; gABI ch. 4
+/// "ELF Header", "Sections"). Refused as `TooLarge` only where it would pass the limit.
 #[tactic(auto, using(crate::proofs::Rows::table_rows), unfolding(dw_base::specs::Layout::with_table))]
-pub(crate) fn append_table(
+pub fn append_table(
     out: Vec<u8>,
     class: Class,
     order: Order,

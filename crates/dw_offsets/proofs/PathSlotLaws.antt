@@ -1,0 +1,282 @@
+-- Laws of the pass over the slots of string offsets.
+use Rattle.std.proofs.Common.{Bool, true, false, ◌≡◌, ◌≢◌, ℕ, zero, suc, ◌+◌, ◌-◌, ◌*◌, ◌/◌, ◌<◌, ◌≤◌, nat_eq, nat_lt, if◌then◌else◌, List, [], ◌∷◌, ◌++◌, length, get_or, take, Option, Some, None, refl, sym, ap, ◌∙◌, subst, arith, append_assoc}
+use Rattle.std.proofs.lemmas.Bool.{eqb-true}
+use Rattle.std.proofs.lemmas.Bool.Decides.{nat_tests}
+use Rattle.std.proofs.lemmas.List.{append-nil, length-append, take_all, get_or_append_left, get_or_push}
+use Rattle.dw_base.specs.DebugSections.{name_of}
+use Rattle.dw_base.specs.FileViews.{View, section_bytes, section_named}
+use Rattle.dw_base.specs.Forms.{width_size}
+use Rattle.dw_base.specs.Lists.{tabulate}
+use Rattle.dw_base.specs.Numbers.{spelled}
+use Rattle.dw_base.specs.Paths.{PathMap, mapped_path}
+use Rattle.dw_base.specs.Refusals.{at, Blames}
+use Rattle.dw_base.specs.Slots.{Slot, slot_at, slot_total, slots_of}
+use Rattle.dw_base.specs.StringOffsets.{ContributionsUpTo, no_contributions, more_contributions}
+use Rattle.dw_base.specs.Texts.{ends_in, text_in}
+use Rattle.dw_base.specs.ViewData.{located, located_at}
+use Rattle.dw_base.specs.declared.debug_sections.DebugSection.{DebugSection}
+use Rattle.dw_base.specs.declared.fault.Fault.{Fault}
+use Rattle.dw_base.specs.declared.fault.Fault.TheVariants.{NoMemory, Refused}
+use Rattle.dw_base.specs.declared.fault.Kind.TheVariants.{StringOffset, SharedIndex}
+use Rattle.dw_base.specs.declared.fault.Refusal.{Refusal}
+use Rattle.dw_base.specs.declared.shared.Order.{Order}
+use Rattle.dw_base.specs.declared.shared.Width.{Width}
+use Rattle.dw_base.specs.declared.shared.Width.TheVariants.{W32, W64}
+use Rattle.dw_base.specs.declared.string_offsets.Contribution.{Contribution}
+use Rattle.dw_offsets.specs.PathSlots.{SlotTable, SlotTaken, EachSlot, field_of, fields_of, SlotsTaken, IsAmong, SlotRefuses, no_text, shared, SlotsRefuse, slot, LiesIn, AllLieIn}
+use Rattle.dw_offsets.specs.SlotMarks.{marked}
+use Rattle.dw_offsets.specs.declared.slot_fields.PathSlot.{PathSlot}
+
+-- a section of a view
+located-is : (v : View) (d : DebugSection) (o : Option ℕ) → o ≡ section_named v (name_of d) → located v d ≡ located_at v o
+unfolding located
+located-is v d o is = ap (located_at v) (sym is)
+
+pub number-some : (v : View) (d : DebugSection) (n : ℕ) → Some n ≡ section_named v (name_of d) → n ≡ (located v d).number
+number-some v d n is = rw (located-is v d (Some n) is) refl
+
+pub number-none : (v : View) (d : DebugSection) → None ≡ section_named v (name_of d) → 0 ≡ (located v d).number
+number-none v d is = rw (located-is v d None is) refl
+
+pub bytes-some : (v : View) (d : DebugSection) (n : ℕ) (bytes : List ℕ) → Some n ≡ section_named v (name_of d) → bytes ≡ section_bytes v n → bytes ≡ (located v d).bytes
+bytes-some v d n bytes is e = rw (located-is v d (Some n) is) e
+
+pub bytes-none : (v : View) (d : DebugSection) → None ≡ section_named v (name_of d) → [] ≡ (located v d).bytes
+bytes-none v d is = rw (located-is v d None is) refl
+
+pub ruleset located_laws = (number-some, number-none, bytes-some, bytes-none)
+
+-- how many slots a contribution has, and where they start
+pub total-narrow : (c : Contribution) → c.width ≡ W32 → (c.end - c.base) / 4 ≡ slot_total c
+total-narrow c w = rw w refl
+
+pub total-wide : (c : Contribution) → c.width ≡ W64 → (c.end - c.base) / 8 ≡ slot_total c
+total-wide c w = rw w refl
+
+pub ruleset total_laws = (total-narrow, total-wide)
+
+start-inside : (w : Width) (base end i : ℕ) → base ≤ end → i < (end - base) / width_size w → base + i * width_size w + width_size w ≤ end
+start-inside W32 base end i le lt = omega (arith, le, lt)
+start-inside W64 base end i le lt = omega (arith, le, lt)
+
+pub start-narrow : (c : Contribution) (i : ℕ) → c.width ≡ W32 → c.base + i * 4 ≡ (slot_at c i).place
+start-narrow c i w = rw w refl
+
+pub start-wide : (c : Contribution) (i : ℕ) → c.width ≡ W64 → c.base + i * 8 ≡ (slot_at c i).place
+start-wide c i w = rw w refl
+
+pub narrow-inside : (c : Contribution) (i : ℕ) → c.base ≤ c.end → i < slot_total c → c.width ≡ W32 → c.base + i * 4 + width_size c.width ≤ c.end
+narrow-inside c i le lt w =
+    subst (λ (n : ℕ). c.base + i * n + width_size c.width ≤ c.end) (ap width_size w) (start-inside c.width c.base c.end i le lt)
+
+pub wide-inside : (c : Contribution) (i : ℕ) → c.base ≤ c.end → i < slot_total c → c.width ≡ W64 → c.base + i * 8 + width_size c.width ≤ c.end
+wide-inside c i le lt w =
+    subst (λ (n : ℕ). c.base + i * n + width_size c.width ≤ c.end) (ap width_size w) (start-inside c.width c.base c.end i le lt)
+
+pub ruleset start_laws = (start-narrow, start-wide, narrow-inside, wide-inside)
+
+-- whether a slot can be taken
+abbrev slot_of : ℕ → ℕ → Slot
+slot_of place size = record { place = place; size = size }
+
+never : (b : Bool) → b ≡ false → b ≡ true → ⊥
+never b f t = absurd cc
+
+pub check-no_text : (m : PathMap) (t : SlotTable) (marks : List ℕ) (place size offset : ℕ) (b : Bool) → offset ≡ spelled t.order t.bytes place size
+    → b ≡ ends_in t.str offset → b ≡ false → SlotRefuses m t marks (slot_of place size) (at StringOffset t.number place)
+check-no_text m t marks place size offset b is e none = no_text (ap (ends_in t.str) (sym is) ∙ sym e ∙ none)
+
+pub check-no_path : (m : PathMap) (t : SlotTable) (marks : List ℕ) (place size offset : ℕ) (b p : Bool) → offset ≡ spelled t.order t.bytes place size
+    → b ≡ ends_in t.str offset → b ≡ true → p ≡ marked true marks place → p ≡ false → SlotTaken m t marks (slot_of place size)
+check-no_path m t marks place size offset b p is e ends mark none = record {
+  ends = ap (ends_in t.str) (sym is) ∙ sym e ∙ ends;
+  stays = λ path other. absurd (never p none (mark ∙ path));
+}
+
+pub check-no_other : (m : PathMap) (t : SlotTable) (marks : List ℕ) (place size offset : ℕ) (b p : Bool) → offset ≡ spelled t.order t.bytes place size
+    → b ≡ ends_in t.str offset → b ≡ true → p ≡ marked false marks place → p ≡ false → SlotTaken m t marks (slot_of place size)
+check-no_other m t marks place size offset b p is e ends mark none = record {
+  ends = ap (ends_in t.str) (sym is) ∙ sym e ∙ ends;
+  stays = λ path other. absurd (never p none (mark ∙ other));
+}
+
+pub check-stays : (m : PathMap) (t : SlotTable) (marks : List ℕ) (place size offset : ℕ) (b : Bool) → offset ≡ spelled t.order t.bytes place size
+    → b ≡ ends_in t.str offset → b ≡ true → mapped_path m (text_in t.str offset) ≡ text_in t.str offset → SlotTaken m t marks (slot_of place size)
+check-stays m t marks place size offset b is e ends same = record {
+  ends = ap (ends_in t.str) (sym is) ∙ sym e ∙ ends;
+  stays = λ path other. subst (λ (n : ℕ). mapped_path m (text_in t.str n) ≡ text_in t.str n) is same;
+}
+
+pub check-shared : (m : PathMap) (t : SlotTable) (marks : List ℕ) (place size offset : ℕ) (b p o : Bool) → offset ≡ spelled t.order t.bytes place size
+    → b ≡ ends_in t.str offset → b ≡ true → p ≡ marked true marks place → p ≡ true → o ≡ marked false marks place → o ≡ true
+    → mapped_path m (text_in t.str offset) ≢ text_in t.str offset → SlotRefuses m t marks (slot_of place size) (at SharedIndex t.number place)
+check-shared m t marks place size offset b p o is e ends path is_path other is_other changes =
+    shared (ap (ends_in t.str) (sym is) ∙ sym e ∙ ends) (sym path ∙ is_path) (sym other ∙ is_other)
+    (λ same. changes (subst (λ (n : ℕ). mapped_path m (text_in t.str n) ≡ text_in t.str n) (sym is) same))
+
+pub ruleset check_laws = (check-no_text, check-no_path, check-no_other, check-stays, check-shared)
+
+-- a slot that was taken
+pub taken-path : (m : PathMap) (t : SlotTable) (marks : List ℕ) (place size : ℕ) (old new : List PathSlot) (p : Bool) → SlotTaken m t marks (slot_of place size)
+    → p ≡ marked true marks place → p ≡ true → new ≡ old ++ record { at = place; size = size } ∷ [] → SlotsTaken m t marks (slot_of place size ∷ []) old new
+taken-path m t marks place size old new p taken mark is e = record {
+  taken = (taken, tt);
+  fields = e ∙ ap (λ (b : Bool). old ++ ((if b then record { at = place; size = size } ∷ [] else []) ++ [])) (sym is ∙ mark);
+}
+
+pub taken-other : (m : PathMap) (t : SlotTable) (marks : List ℕ) (place size : ℕ) (old new : List PathSlot) (p : Bool) → SlotTaken m t marks (slot_of place size)
+    → p ≡ marked true marks place → p ≡ false → new ≡ old → SlotsTaken m t marks (slot_of place size ∷ []) old new
+taken-other m t marks place size old new p taken mark is e = record {
+  taken = (taken, tt);
+  fields = e ∙ sym (append-nil old) ∙ ap (λ (b : Bool). old ++ ((if b then record { at = place; size = size } ∷ [] else []) ++ [])) (sym is ∙ mark);
+}
+
+pub ruleset field_laws = (taken-path, taken-other)
+
+-- slots one after another
+each-append : (P : Slot → Type 0) (xs ys : List Slot) → EachSlot P xs → EachSlot P ys → EachSlot P (xs ++ ys)
+each-append P [] ys a b = b
+each-append P (x ∷ xs) ys a b = (a.0, each-append P xs ys a.1 b)
+
+fields-append : (marks : List ℕ) (xs ys : List Slot) → fields_of marks (xs ++ ys) ≡ fields_of marks xs ++ fields_of marks ys
+fields-append marks [] ys = refl
+fields-append marks (x ∷ xs) ys =
+    ap (λ (r : List PathSlot). field_of marks x ++ r) (fields-append marks xs ys) ∙ sym (append_assoc (field_of marks x) (fields_of marks xs) (fields_of marks ys))
+
+pub taken-append : (m : PathMap) (t : SlotTable) (marks : List ℕ) (xs ys : List Slot) (old mid new : List PathSlot) → SlotsTaken m t marks xs old mid
+    → SlotsTaken m t marks ys mid new → SlotsTaken m t marks (xs ++ ys) old new
+taken-append m t marks xs ys old mid new a b = record {
+  taken = each-append (SlotTaken m t marks) xs ys a.taken b.taken;
+  fields =
+      b.fields ∙ ap (λ (f : List PathSlot). f ++ fields_of marks ys) a.fields ∙ append_assoc old (fields_of marks xs) (fields_of marks ys)
+      ∙ ap (λ (r : List PathSlot). old ++ r) (sym (fields-append marks xs ys));
+}
+
+pub taken-none : (m : PathMap) (t : SlotTable) (marks : List ℕ) (old new : List PathSlot) → new ≡ old → SlotsTaken m t marks [] old new
+taken-none m t marks old new e = record { taken = tt; fields = e ∙ sym (append-nil old) }
+
+among-left : (xs ys : List Slot) (s : Slot) → IsAmong xs s → IsAmong (xs ++ ys) s
+among-left xs ys s a = record {
+  before = a.before;
+  behind = a.behind ++ ys;
+  is = ap (λ (l : List Slot). l ++ ys) a.is ∙ append_assoc a.before (s ∷ a.behind) ys;
+}
+
+among-right : (xs ys : List Slot) (s : Slot) → IsAmong ys s → IsAmong (xs ++ ys) s
+among-right xs ys s a = record {
+  before = xs ++ a.before;
+  behind = a.behind;
+  is = ap (λ (l : List Slot). xs ++ l) a.is ∙ sym (append_assoc xs a.before (s ∷ a.behind));
+}
+
+refuse-left : (m : PathMap) (t : SlotTable) (marks : List ℕ) (xs ys : List Slot) (r : Refusal) → SlotsRefuse m t marks xs r → SlotsRefuse m t marks (xs ++ ys) r
+refuse-left m t marks xs ys r (slot s among refuses) = slot s (among-left xs ys s among) refuses
+
+refuse-right : (m : PathMap) (t : SlotTable) (marks : List ℕ) (xs ys : List Slot) (r : Refusal) → SlotsRefuse m t marks ys r → SlotsRefuse m t marks (xs ++ ys) r
+refuse-right m t marks xs ys r (slot s among refuses) = slot s (among-right xs ys s among) refuses
+
+-- the slots of a contribution up to an index, one more, and one that can't be taken
+contribution-more : (m : PathMap) (t : SlotTable) (marks : List ℕ) (c : Contribution) (i next : ℕ) (old mid new : List PathSlot) → next ≡ suc i
+    → SlotsTaken m t marks (tabulate (slot_at c) i) old mid → SlotsTaken m t marks (slot_at c i ∷ []) mid new
+    → SlotsTaken m t marks (tabulate (slot_at c) next) old new
+contribution-more m t marks c i next old mid new e a b =
+    subst (λ (n : ℕ). SlotsTaken m t marks (tabulate (slot_at c) n) old new) (sym e) (taken-append m t marks (tabulate (slot_at c) i) (slot_at c i ∷ []) old mid new a b)
+
+refuse-under : (m : PathMap) (t : SlotTable) (marks : List ℕ) (c : Contribution) (i n : ℕ) (r : Refusal) → i < n → SlotRefuses m t marks (slot_at c i) r
+    → SlotsRefuse m t marks (tabulate (slot_at c) n) r
+refuse-under m t marks c i zero r lt refuses = absurd (omega (arith, lt))
+refuse-under m t marks c i (suc n) r lt refuses = by_last (nat_eq i n) (λ below. refuse-under m t marks c i n r below refuses) refl
+  where
+    by_last : (b : Bool) → (i < n → SlotsRefuse m t marks (tabulate (slot_at c) n) r) → nat_eq i n ≡ b → SlotsRefuse m t marks (tabulate (slot_at c) n ++ slot_at c n ∷ []) r
+    by_last true rest e =
+        refuse-right m t marks (tabulate (slot_at c) n) (slot_at c n ∷ []) r
+        (slot (slot_at c n) (record { before = []; behind = []; is = refl }) (subst (λ (k : ℕ). SlotRefuses m t marks (slot_at c k) r) (eqb-true i n e) refuses))
+    by_last false rest e =
+        refuse-left m t marks (tabulate (slot_at c) n) (slot_at c n ∷ []) r (rest (grind (arith, nat_tests)))
+
+slot-is : (c : Contribution) (i place size : ℕ) → place ≡ (slot_at c i).place → size ≡ width_size c.width → slot_of place size ≡ slot_at c i
+slot-is c i place size p s = ap (λ (n : ℕ). slot_of n size) p ∙ ap (λ (n : ℕ). slot_of (slot_at c i).place n) s
+
+pub contribution-next : (m : PathMap) (t : SlotTable) (marks : List ℕ) (c : Contribution) (i place size : ℕ) (old mid new : List PathSlot)
+    → place ≡ (slot_at c i).place → size ≡ width_size c.width → SlotsTaken m t marks (tabulate (slot_at c) i) old mid
+    → SlotsTaken m t marks (slot_of place size ∷ []) mid new → SlotsTaken m t marks (tabulate (slot_at c) (i + 1)) old new
+contribution-next m t marks c i place size old mid new p s a b =
+    contribution-more m t marks c i (i + 1) old mid new (omega arith) a
+    (subst (λ (x : Slot). SlotsTaken m t marks (x ∷ []) mid new) (slot-is c i place size p s) b)
+
+pub contribution-refused : (m : PathMap) (t : SlotTable) (marks : List ℕ) (c : Contribution) (i place size total : ℕ) (x : Fault)
+    → place ≡ (slot_at c i).place → size ≡ width_size c.width → total ≡ slot_total c → i < total
+    → Blames (SlotRefuses m t marks (slot_of place size)) x → Blames (SlotsRefuse m t marks (tabulate (slot_at c) (slot_total c))) x
+contribution-refused m t marks c i place size total NoMemory p s is lt refuses = tt
+contribution-refused m t marks c i place size total (Refused r) p s is lt refuses =
+    refuse-under m t marks c i (slot_total c) r (omega (arith, is, lt))
+    (subst (λ (x : Slot). SlotRefuses m t marks x r) (slot-is c i place size p s) refuses)
+
+pub ruleset contribution_laws = (taken-none, contribution-next)
+
+-- the slots of contributions, one contribution more
+slots_of-more : (list : List Contribution) (i : ℕ) (c d : Contribution) → i < length list → c ≡ get_or list i d
+    → slots_of (take (suc i) list) ≡ slots_of (take i list) ++ tabulate (slot_at c) (slot_total c)
+slots_of-more [] i c d lt e = absurd (omega (arith, lt))
+slots_of-more (x ∷ xs) zero c d lt e =
+    append-nil (tabulate (slot_at x) (slot_total x)) ∙ ap (λ (y : Contribution). tabulate (slot_at y) (slot_total y)) (sym e)
+slots_of-more (x ∷ xs) (suc i) c d lt e =
+    ap (λ (l : List Slot). tabulate (slot_at x) (slot_total x) ++ l) (slots_of-more xs i c d (omega (arith, lt)) e)
+    ∙ sym (append_assoc (tabulate (slot_at x) (slot_total x)) (slots_of (take i xs)) (tabulate (slot_at c) (slot_total c)))
+
+pub all-more : (m : PathMap) (t : SlotTable) (marks : List ℕ) (list : List Contribution) (i next : ℕ) (c d : Contribution) (old mid new : List PathSlot)
+    → i < length list → c ≡ get_or list i d → next ≡ suc i → SlotsTaken m t marks (slots_of (take i list)) old mid
+    → SlotsTaken m t marks (tabulate (slot_at c) (slot_total c)) mid new → SlotsTaken m t marks (slots_of (take next list)) old new
+all-more m t marks list i next c d old mid new lt e n a b =
+    subst (λ (l : List Slot). SlotsTaken m t marks l old new)
+    (sym (ap (λ (k : ℕ). slots_of (take k list)) n ∙ slots_of-more list i c d lt e))
+    (taken-append m t marks (slots_of (take i list)) (tabulate (slot_at c) (slot_total c)) old mid new a b)
+
+pub all-taken : (m : PathMap) (t : SlotTable) (marks : List ℕ) (list : List Contribution) (n : ℕ) (old new : List PathSlot) → length list ≤ n
+    → SlotsTaken m t marks (slots_of (take n list)) old new → SlotsTaken m t marks (slots_of list) old new
+all-taken m t marks list n old new le a =
+    subst (λ (l : List Contribution). SlotsTaken m t marks (slots_of l) old new) (take_all n list le) a
+
+refuse-one : (m : PathMap) (t : SlotTable) (marks : List ℕ) (list : List Contribution) (i : ℕ) (c d : Contribution) (r : Refusal) → i < length list → c ≡ get_or list i d
+    → SlotsRefuse m t marks (tabulate (slot_at c) (slot_total c)) r → SlotsRefuse m t marks (slots_of list) r
+refuse-one m t marks [] i c d r lt e f = absurd (omega (arith, lt))
+refuse-one m t marks (x ∷ xs) zero c d r lt e f =
+    refuse-left m t marks (tabulate (slot_at x) (slot_total x)) (slots_of xs) r
+    (subst (λ (y : Contribution). SlotsRefuse m t marks (tabulate (slot_at y) (slot_total y)) r) e f)
+refuse-one m t marks (x ∷ xs) (suc i) c d r lt e f =
+    refuse-right m t marks (tabulate (slot_at x) (slot_total x)) (slots_of xs) r (refuse-one m t marks xs i c d r (omega (arith, lt)) e f)
+
+pub all-refused : (m : PathMap) (t : SlotTable) (marks : List ℕ) (list : List Contribution) (i : ℕ) (c d : Contribution) (x : Fault) → i < length list → c ≡ get_or list i d
+    → Blames (SlotsRefuse m t marks (tabulate (slot_at c) (slot_total c))) x → Blames (SlotsRefuse m t marks (slots_of list)) x
+all-refused m t marks list i c d NoMemory lt e f = tt
+all-refused m t marks list i c d (Refused r) lt e f = refuse-one m t marks list i c d r lt e f
+
+-- the contribution of a number lies in the section
+pub lies-in : (size : ℕ) (list : List Contribution) (i : ℕ) (c d : Contribution) → AllLieIn size list → c ≡ get_or list i d → i < length list → LiesIn size c
+lies-in size list i c d all e lt = all.each i c d lt e
+
+pub ruleset all_laws = (taken-none, all-more, all-taken, lies-in)
+
+-- contributions that were read lie in the section
+lies-more : (size : ℕ) (list : List Contribution) (c : Contribution) → AllLieIn size list → LiesIn size c → AllLieIn size (list ++ c ∷ [])
+lies-more size list c all one = record { each = λ i x d lt e. by_last i x d lt e (nat_lt i (length list)) refl }
+  where
+    by_last : (i : ℕ) (x d : Contribution) → i < length (list ++ c ∷ []) → x ≡ get_or (list ++ c ∷ []) i d → (b : Bool) → nat_lt i (length list) ≡ b → LiesIn size x
+    by_last i x d lt e true below =
+        let under : i < length list = grind (arith, nat_tests) in
+        all.each i x d under (e ∙ get_or_append_left list (c ∷ []) d i under)
+    by_last i x d lt e false above =
+        let size_is = length-append list (c ∷ []) in
+        let over : length list ≤ i = grind (arith, nat_tests) in
+        let last : length list ≡ i = omega (arith, lt, size_is, over) in
+        subst (λ (y : Contribution). LiesIn size y) (sym (e ∙ ap (λ (k : ℕ). get_or (list ++ c ∷ []) k d) (sym last) ∙ get_or_push list c d (length list) refl)) one
+
+lies-up : (order : Order) (bytes : List ℕ) (list : List Contribution) (end : ℕ) → ContributionsUpTo order bytes list end → AllLieIn (length bytes) list
+lies-up order bytes list end no_contributions = record { each = λ i c d lt e. absurd (omega (arith, lt)) }
+lies-up order bytes list end (more_contributions before c start u is) =
+    lies-more (length bytes) before c (lies-up order bytes before start u) (record { header = is.header; within = is.within })
+
+pub contributions-lie : (order : Order) (bytes : List ℕ) (list : List Contribution) → ContributionsUpTo order bytes list (length bytes) → AllLieIn (length bytes) list
+contributions-lie order bytes list u = lies-up order bytes list (length bytes) u
+
+pub ruleset pass_laws = (contributions-lie)

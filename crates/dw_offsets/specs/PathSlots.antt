@@ -1,0 +1,101 @@
+-- What a pass over the slots of string offsets finds: the fields of those that paths name, in the order of their places; and why
+-- one can't be taken (DWARF 5, 7.26).
+use Rattle.std.specs.Prelude.{true, false, ◌≡◌, ◌≢◌, ℕ, ◌<◌, ◌≤◌, if◌then◌else◌, List, [], ◌∷◌, ◌++◌, length, get_or, ⊤}
+use Rattle.dw_base.specs.FileViews.{View}
+use Rattle.dw_base.specs.Numbers.{spelled}
+use Rattle.dw_base.specs.OffsetPieces.{OffsetMode, at_slot, OffsetState}
+use Rattle.dw_base.specs.Paths.{PathMap, mapped_path}
+use Rattle.dw_base.specs.Pieces.{Piece}
+use Rattle.dw_base.specs.Refusals.{at}
+use Rattle.dw_base.specs.Slots.{Slot}
+use Rattle.dw_base.specs.TextIndexes.{holds_number}
+use Rattle.dw_base.specs.Texts.{ends_in, text_in}
+use Rattle.dw_base.specs.ViewData.{located, string_offsets}
+use Rattle.dw_base.specs.declared.debug_sections.DebugSection.TheVariants.{Str}
+use Rattle.dw_base.specs.declared.fault.Kind.TheVariants.{StringOffset, SharedIndex}
+use Rattle.dw_base.specs.declared.fault.Refusal.{Refusal}
+use Rattle.dw_base.specs.declared.shared.Order.{Order}
+use Rattle.dw_base.specs.declared.string_offsets.Contribution.{Contribution}
+use Rattle.dw_offsets.specs.SlotMarks.{marked}
+use Rattle.dw_offsets.specs.declared.slot_fields.PathSlot.{PathSlot}
+
+-- the section of string offsets, and the texts that its offsets name: the byte order, the section's number and bytes, and the bytes
+-- of .debug_str
+pub record SlotTable : Type 0 where
+  pub order : Order
+  pub number : ℕ
+  pub bytes : List ℕ
+  pub str : List ℕ
+
+abbrev pub slots_in : View → SlotTable
+slots_in v = record {
+  order = v.order;
+  number = (string_offsets v).number;
+  bytes = (string_offsets v).bytes;
+  str = (located v Str).bytes;
+}
+
+-- the offset in a slot, and its text
+abbrev pub slot_offset : SlotTable → Slot → ℕ
+slot_offset t s = spelled t.order t.bytes s.place s.size
+
+abbrev pub named_text : SlotTable → Slot → List ℕ
+named_text t s = text_in t.str (slot_offset t s)
+
+-- a slot can be taken: a text that ends begins at its offset, and where a path and another value name it that text stays when it is
+-- mapped
+pub record SlotTaken (m : PathMap) (t : SlotTable) (marks : List ℕ) (s : Slot) : Type 0 where
+  pub ends : ends_in t.str (slot_offset t s) ≡ true
+  pub stays : marked true marks s.place ≡ true → marked false marks s.place ≡ true → mapped_path m (named_text t s) ≡ named_text t s
+
+-- this holds of each slot
+abbrev pub EachSlot : (Slot → Type 0) → List Slot → Type 0
+EachSlot P [] = ⊤
+EachSlot P (s ∷ ss) = P s × EachSlot P ss
+
+-- the fields of the slots that paths name
+abbrev pub field_of : List ℕ → Slot → List PathSlot
+field_of marks s = if marked true marks s.place then record { at = s.place; size = s.size } ∷ [] else []
+
+abbrev pub fields_of : List ℕ → List Slot → List PathSlot
+fields_of marks [] = []
+fields_of marks (s ∷ ss) = field_of marks s ++ fields_of marks ss
+
+-- slots were taken, and their fields stand behind those of others
+pub record SlotsTaken (m : PathMap) (t : SlotTable) (marks : List ℕ) (slots : List Slot) (old new : List PathSlot) : Type 0 where
+  pub taken : EachSlot (SlotTaken m t marks) slots
+  pub fields : new ≡ old ++ fields_of marks slots
+
+-- a slot among others
+pub record IsAmong (slots : List Slot) (s : Slot) : Type 0 where
+  pub before : List Slot
+  pub behind : List Slot
+  pub is : slots ≡ before ++ s ∷ behind
+
+-- why a slot can't be taken, at the slot: no text that ends begins at its offset; or a path whose text changes names it, and another
+-- value does
+pub data SlotRefuses (m : PathMap) (t : SlotTable) (marks : List ℕ) (s : Slot) : Refusal → Type 0 where
+  no_text : ends_in t.str (slot_offset t s) ≡ false → SlotRefuses m t marks s (at StringOffset t.number s.place)
+  shared : ends_in t.str (slot_offset t s) ≡ true → marked true marks s.place ≡ true → marked false marks s.place ≡ true
+      → mapped_path m (named_text t s) ≢ named_text t s → SlotRefuses m t marks s (at SharedIndex t.number s.place)
+
+-- why slots can't be: one of them can't
+pub data SlotsRefuse (m : PathMap) (t : SlotTable) (marks : List ℕ) (slots : List Slot) : Refusal → Type 0 where
+  slot : (s : Slot) {r : Refusal} → IsAmong slots s → SlotRefuses m t marks s r → SlotsRefuse m t marks slots r
+
+-- the slots of a contribution lie in a section of so many bytes
+pub record LiesIn (size : ℕ) (c : Contribution) : Type 0 where
+  pub header : c.base ≤ c.end
+  pub within : c.end ≤ size
+
+pub record AllLieIn (size : ℕ) (list : List Contribution) : Type 0 where
+  pub each : (i : ℕ) (c d : Contribution) → i < length list → c ≡ get_or list i d → LiesIn size c
+
+-- the fields of the slots that paths name, among pieces
+abbrev pub slot_field : List ℕ → OffsetMode → ℕ → ℕ → ℕ → List PathSlot
+slot_field paths (at_slot width end) n place size = if holds_number paths n then record { at = place; size = size } ∷ [] else []
+slot_field paths m n place size = []
+
+abbrev pub slot_fields : List ℕ → List (Piece OffsetState) → List PathSlot
+slot_fields paths [] = []
+slot_fields paths (x ∷ xs) = slot_field paths x.state.mode x.state.slot x.state.place (length x.cells) ++ slot_fields paths xs

@@ -1,0 +1,298 @@
+//! The fields of the slots that paths name (DWARF 5, 7.26).
+//!
+//! This file promises: the fields are given in the order of their places, each once, only where each slot names a
+//! text and none is shared by a path whose text changes and another value; and they are refused only at a slot
+//! for which that doesn't hold. One pass; a text is read only where a path and another value name its slot.
+
+ghost use Rattle.std.specs.Prelude.{◌≡◌, ◌≢◌, ◌↔◌, ◌+◌, ◌^◌, ◌≤◌, ◌<◌, ◌∷◌, [], true, length, IsTrue, IfOk, IfErr, OnOk};
+ghost use Rattle.dw_base.specs.Forms.{width_size};
+ghost use Rattle.dw_base.specs.Lists.{tabulate};
+ghost use Rattle.dw_base.specs.Numbers.{spelled};
+ghost use Rattle.dw_base.specs.Paths.{mapped_path};
+ghost use Rattle.dw_base.specs.Refusals.{Blames};
+ghost use Rattle.dw_base.specs.Slots.{Slot, slot_at, slot_total, slots_of};
+ghost use Rattle.dw_base.specs.StringOffsets.{AreContributions};
+ghost use Rattle.dw_base.specs.Texts.{IsNulEnd, ends_in, text_in};
+ghost use Rattle.dw_base.specs.ViewData.{located, string_offsets};
+ghost use Rattle.dw_offsets.specs.PathSlots.{AllLieIn, LiesIn, SlotRefuses, SlotTable, SlotTaken, SlotsRefuse, SlotsTaken, fields_of, slots_in};
+
+use crate::slot_marks::SlotMarks;
+use crate::string_offsets::ContributionList;
+use crate::widths::width_size;
+use dw_base::{
+    Contribution, DebugSection, Fault, Kind, NoMemory, Order, Refusal, Width, nul_end, number_in,
+};
+use dw_paths::{Maps, map_path};
+use dw_strings::text_at;
+use dw_view::View;
+use std::alloc::Global;
+use std::marker::Model;
+
+/// The field of a slot that a path names.
+#[derive(Clone, Copy, Debug, PartialEq, Eq, Drop)]
+pub struct PathSlot {
+    /// Where it stands, in bytes from the section's start.
+    pub at: u64,
+    /// How many bytes it has: 4 or 8.
+    pub size: u8,
+}
+
+/// The section of string offsets, and the texts that they name.
+#[derive(Drop)]
+struct Table<'a> {
+    order: Order,
+    /// The section's number, 0 where there is none.
+    number: u32,
+    /// Its bytes.
+    bytes: &'a [u8],
+    /// The bytes of `.debug_str`.
+    str: &'a [u8],
+    /// The place behind their last NUL.
+    str_end: u64,
+}
+
+impl<'a> Model for Table<'a> {
+    ghost Value = { SlotTable };
+
+    ghost view = { λ t. record { order = t.order; number = t.number; bytes = t.bytes.now; str = t.str.now } };
+
+    ghost invariant = { λ t. IsNulEnd t.str.now t.str_end };
+}
+
+/// The fields of the slots that paths name, in the order of their places. `list` are the contributions of the view,
+/// and `marks` says which slots paths and other values name. Refused, at a slot of `.debug_str_offsets`: as
+/// `StringOffset` only where no text that ends begins at its offset; as `SharedIndex` only where a path whose text
+/// changes names it, and another value too.
+#[tactic(auto, using(crate::proofs::PathSlotLaws::pass_laws))]
+pub fn path_slots(
+    alloc: Global,
+    view: &View,
+    maps: &Maps,
+    list: &ContributionList,
+    marks: &SlotMarks,
+) -> Result<Vec<PathSlot>, Fault>
+    requires contributions { AreContributions view.now.order (string_offsets view.now) list.now }
+    requires marks { length marks.now ≡ length (string_offsets view.now).bytes }
+    ensures taken { IfOk result (λ fields. SlotsTaken maps.now (slots_in view.now) marks.now (slots_of list.now) [] fields.items) }
+    ensures refused { IfErr result (Blames (SlotsRefuse maps.now (slots_in view.now) marks.now (slots_of list.now))) }
+{
+    let table = table_of(view);
+    all_fields(alloc, &table, maps, list.as_slice(), marks)
+}
+
+/// The section of string offsets of a view, and the texts that they name.
+fn table_of<'a>(view: &'a View) -> Table<'a>
+    ensures table { result ≡ slots_in view.now }
+    ensures small { length result.bytes ≤ 2 ^ 31 }
+{
+    let str = first_bytes(view, DebugSection::Str);
+    Table {
+        order: view.order(),
+        number: first_number(view, DebugSection::StrOffsets),
+        bytes: first_bytes(view, DebugSection::StrOffsets),
+        str,
+        str_end: nul_end(str) as u64,
+    }
+}
+
+/// The number of the first section of a kind, 0 where there is none.
+#[tactic(auto, using(crate::proofs::PathSlotLaws::located_laws))]
+fn first_number(view: &View, section: DebugSection) -> u32
+    ensures number { result ≡ (located view.now section).number }
+{
+    match view.first(section) {
+        Some(number) => number,
+        None => 0,
+    }
+}
+
+/// Its bytes, none where there is none.
+#[tactic(auto, using(crate::proofs::PathSlotLaws::located_laws))]
+fn first_bytes<'a>(view: &'a View, section: DebugSection) -> &'a [u8]
+    ensures bytes { result.now ≡ (located view.now section).bytes }
+    ensures small { length result.now ≤ 2 ^ 31 }
+{
+    match view.first(section) {
+        Some(number) => view.bytes(number),
+        None => b"",
+    }
+}
+
+/// The fields of contributions that lie in the section.
+#[tactic(auto, using(crate::proofs::PathSlotLaws::all_laws))]
+fn all_fields(
+    alloc: Global,
+    table: &Table,
+    maps: &Maps,
+    list: &[Contribution],
+    marks: &SlotMarks,
+) -> Result<Vec<PathSlot>, Fault>
+    requires inside { AllLieIn (length table.now.bytes) list.now }
+    requires small { length table.now.bytes ≤ 2 ^ 31 }
+    requires marks { length marks.now ≡ length table.now.bytes }
+    ensures taken { IfOk result (λ fields. SlotsTaken maps.now table.now marks.now (slots_of list.now) [] fields.items) }
+    ensures refused { IfErr result (Blames (SlotsRefuse maps.now table.now marks.now (slots_of list.now))) }
+{
+    let mut fields = Vec::new(alloc);
+    for contribution in list {
+        push_fields(alloc, table, maps, *contribution, marks, &mut fields)?;
+    }
+    Ok(fields)
+}
+
+/// Adds the fields of a contribution that lies in the section.
+#[tactic(auto, using(crate::proofs::PathSlotLaws::contribution_laws))]
+fn push_fields(
+    alloc: Global,
+    table: &Table,
+    maps: &Maps,
+    contribution: Contribution,
+    marks: &SlotMarks,
+    fields: &mut Vec<PathSlot>,
+) -> Result<(), Fault>
+    requires inside { LiesIn (length table.now.bytes) contribution }
+    requires small { length table.now.bytes ≤ 2 ^ 31 }
+    requires marks { length marks.now ≡ length table.now.bytes }
+    ensures taken { OnOk result (SlotsTaken maps.now table.now marks.now (tabulate (slot_at contribution) (slot_total contribution)) fields.old.items fields.new.items) }
+    ensures refused { IfErr result (Blames (SlotsRefuse maps.now table.now marks.now (tabulate (slot_at contribution) (slot_total contribution)))) }
+{
+    let size = width_size(contribution.width);
+    for i in 0..slot_total(contribution) {
+        let at = slot_start(contribution, i);
+        push_field(alloc, table, maps, at, size, marks, fields)?;
+    }
+    Ok(())
+}
+
+/// How many slots a contribution has.
+#[tactic(auto, using(crate::proofs::PathSlotLaws::total_laws))]
+fn slot_total(contribution: Contribution) -> u64
+    requires header { contribution.base ≤ contribution.end }
+    ensures total { result ≡ slot_total contribution }
+{
+    let room = contribution.end - contribution.base;
+    match contribution.width {
+        Width::W32 => room / 4,
+        Width::W64 => room / 8,
+    }
+}
+
+/// Where the slot of an index of a contribution starts.
+#[tactic(auto, using(crate::proofs::PathSlotLaws::start_laws))]
+fn slot_start(contribution: Contribution, i: u64) -> u64
+    requires header { contribution.base ≤ contribution.end }
+    requires small { contribution.end ≤ 2 ^ 31 }
+    requires below { i < slot_total contribution }
+    ensures start { result ≡ (slot_at contribution i).place }
+    ensures inside { result + width_size contribution.width ≤ contribution.end }
+{
+    match contribution.width {
+        Width::W32 => contribution.base + i * 4,
+        Width::W64 => contribution.base + i * 8,
+    }
+}
+
+/// Adds the field of a slot, if a path names it.
+#[tactic(auto, using(crate::proofs::PathSlotLaws::field_laws))]
+fn push_field(
+    alloc: Global,
+    table: &Table,
+    maps: &Maps,
+    at: u64,
+    size: u8,
+    marks: &SlotMarks,
+    fields: &mut Vec<PathSlot>,
+) -> Result<(), Fault>
+    requires some { 0 < size }
+    requires wide { size ≤ 8 }
+    requires inside { at + size ≤ length table.now.bytes }
+    requires marks { length marks.now ≡ length table.now.bytes }
+    ensures taken { OnOk result (SlotsTaken maps.now table.now marks.now (record { place = at; size = size } ∷ []) fields.old.items fields.new.items) }
+    ensures refused { IfErr result (Blames (SlotRefuses maps.now table.now marks.now (record { place = at; size = size }))) }
+{
+    check_slot(alloc, table, maps, at, size, marks)?;
+    if marks.is_marked(at, true) {
+        fields.push(PathSlot { at, size })?;
+    }
+    Ok(())
+}
+
+/// A slot can be taken.
+#[tactic(auto, using(crate::proofs::PathSlotLaws::check_laws))]
+fn check_slot(
+    alloc: Global,
+    table: &Table,
+    maps: &Maps,
+    at: u64,
+    size: u8,
+    marks: &SlotMarks,
+) -> Result<(), Fault>
+    requires some { 0 < size }
+    requires wide { size ≤ 8 }
+    requires inside { at + size ≤ length table.now.bytes }
+    requires marks { length marks.now ≡ length table.now.bytes }
+    ensures taken { OnOk result (SlotTaken maps.now table.now marks.now (record { place = at; size = size })) }
+    ensures refused { IfErr result (Blames (SlotRefuses maps.now table.now marks.now (record { place = at; size = size }))) }
+{
+    let offset = table.offset(at, size);
+    if !table.names_text(offset) {
+        return Err(table.refusal(Kind::StringOffset, at).into());
+    }
+    if !marks.is_marked(at, true) {
+        return Ok(());
+    }
+    if !marks.is_marked(at, false) {
+        return Ok(());
+    }
+    if !table.stays(alloc, maps, offset)? {
+        return Err(table.refusal(Kind::SharedIndex, at).into());
+    }
+    Ok(())
+}
+
+impl<'a> Table<'a> {
+    /// The offset in a slot.
+    fn offset(&self, at: u64, size: u8) -> u64
+        requires some { 0 < size }
+        requires wide { size ≤ 8 }
+        requires inside { at + size ≤ length self.now.bytes }
+        ensures offset { result ≡ spelled self.now.order self.now.bytes at size }
+    {
+        number_in(self.order, self.bytes, at, size)
+    }
+
+    /// A text that ends begins at an offset.
+    fn names_text(&self, offset: u64) -> bool
+        ensures ends { result ≡ ends_in self.now.str offset }
+    {
+        offset < self.str_end
+    }
+
+    /// The text at an offset stays when it is mapped.
+    fn stays(&self, alloc: Global, maps: &Maps, offset: u64) -> Result<bool, NoMemory>
+        requires ends { ends_in self.now.str offset ≡ true }
+        ensures stays { IfOk result (λ b. IsTrue b ↔ (mapped_path maps.now (text_in self.now.str offset) ≡ text_in self.now.str offset)) }
+    {
+        text_stays(alloc, maps, self.str, offset)
+    }
+
+    /// What refuses a slot.
+    fn refusal(&self, kind: Kind, at: u64) -> Refusal
+        ensures refusal { result ≡ record { kind = kind; section = self.now.number; offset = at } }
+    {
+        Refusal::at(kind, self.number, at)
+    }
+}
+
+/// The text at an offset of a table stays when it is mapped.
+fn text_stays(alloc: Global, maps: &Maps, table: &[u8], offset: u64) -> Result<bool, NoMemory>
+    requires ends { ends_in table.now offset ≡ true }
+    ensures stays { IfOk result (λ b. IsTrue b ↔ (mapped_path maps.now (text_in table.now offset) ≡ text_in table.now offset)) }
+{
+    let text = match text_at(0, table, offset) {
+        Ok(text) => text,
+        Err(_) => unreachable!(),
+    };
+    let mapped = map_path(alloc, maps, text)?;
+    Ok(mapped.as_slice() == text)
+}
