@@ -1,5 +1,5 @@
 -- The part of a file that stays reads as the front of a file.
-use Rattle.std.proofs.Common.{◌≡◌, ◌≢◌, ℕ, ◌+◌, ◌*◌, ◌<◌, ◌≤◌, ◌==◌, ◌||◌, true, List, length, take, slice_index, IsTrue, refl, sym, ap, ◌∙◌, arith, subst}
+use Rattle.std.proofs.Common.{◌≡◌, ◌≢◌, ℕ, ◌+◌, ◌*◌, ◌<◌, ◌≤◌, ◌==◌, ◌||◌, true, List, IsTrue, refl, sym, ap, ◌∙◌, arith, subst}
 use Rattle.std.proofs.lemmas.List.{get_or-take}
 use Rattle.dw_base.specs.Elf.{class_of, order_of, ehdr_size, phdr_size, shdr_size, word_size, phoff_place, shoff_place, phentsize_place, phnum_place, shentsize_place, half_at, e_type, e_phoff, e_shoff, e_phentsize, e_phnum, e_shentsize, nth_segment}
 use Rattle.dw_base.specs.ElfFails.{HeaderReads, ShapeReads, SegmentTableReads, SegmentReads, SegmentsRead, ElfReads}

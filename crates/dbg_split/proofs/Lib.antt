@@ -9,3 +9,10 @@ pub mod DebugFileLaws
 pub mod KeptPartLaws
 pub mod FrontLaws
 pub mod StrippedFitLaws
+pub mod StrippedReadLaws
+pub mod PairLaws
+pub mod LaidLaws
+pub mod DebugReadLaws
+pub mod SplitLoadedLaws
+pub mod CountLaws
+pub mod JoinLaws

@@ -1,11 +1,10 @@
 -- The parts of the stripped file fit one another.
-use Rattle.std.proofs.Common.{◌≡◌, ◌≢◌, ℕ, ◌+◌, ◌*◌, ◌^◌, ◌<◌, ◌≤◌, ◌==◌, ◌&&◌, ◌||◌, not, Bool, true, false, nat_lt, List, [], ◌∷◌, ◌++◌, length, take, get_or, slice_index, if◌then◌else◌, refl, sym, ap, ◌∙◌, arith, inl, inr, subst}
-use Rattle.std.proofs.lemmas.Bool.{cases_lt, cases_Bool}
+use Rattle.std.proofs.Common.{◌≡◌, ◌≢◌, ℕ, ◌+◌, ◌*◌, ◌^◌, ◌<◌, ◌≤◌, ◌==◌, ◌&&◌, not, Bool, true, false, nat_lt, List, length, get_or, slice_index, if◌then◌else◌, refl, sym, ap, ◌∙◌, arith, inl, inr, subst}
+use Rattle.std.proofs.lemmas.Bool.{cases_lt}
 use Rattle.dw_base.specs.Elf.{class_of, order_of, ehdr_size, shdr_size, e_shoff, is_empty_kind, nth_section, section_count, name_index, contents_of}
-use Rattle.dw_base.specs.ElfFails.{ElfReads, TableReads}
+use Rattle.dw_base.specs.ElfFails.{ElfReads}
 use Rattle.dw_base.specs.Fields.{FieldsFit}
 use Rattle.dw_base.specs.Layout.{Part, fixed_end, is_fixed, is_loaded_kind, output_limit, shdr_fields}
-use Rattle.dw_base.specs.LayoutFails.{BeginsInHeader}
 use Rattle.dw_base.specs.Parts.{FitParts}
 use Rattle.dw_base.specs.declared.elf_numbers.TheConstants.{SHT_NULL}
 use Rattle.dw_base.specs.declared.fault.Refusal.{Refusal}
@@ -17,11 +16,11 @@ use Rattle.dw_base.proofs.FixedPartLaws.{fixed-ends}
 use Rattle.dw_base.proofs.LayoutLaws.{fixed_end-header}
 use Rattle.dw_base.proofs.RecordLaws.{section_at-fits}
 use Rattle.dw_base.proofs.SectionLaws.{length-contents}
-use Rattle.dw_base.proofs.WrittenLaws.{eq-differ, front-length, front_of}
+use Rattle.dw_base.proofs.WrittenLaws.{front-length, front_of}
 use Rattle.dbg_split.specs.Droppable.{drops_along, drops_itself, is_droppable, may_drop}
 use Rattle.dbg_split.specs.SplitFails.{SectionBars}
 use Rattle.dbg_split.specs.SplitFails.SectionBars.{in_header}
-use Rattle.dbg_split.specs.StrippedFile.{info_is_number, kept_before, link_head, link_part, new_number, stripped_head, stripped_moves, stripped_part, stripped_parts}
+use Rattle.dbg_split.specs.StrippedFile.{info_is_number, kept_before, link_head, link_part, new_number, stripped_head, stripped_part, stripped_parts}
 use Rattle.dbg_split.specs.StrippedReads.{IsKept}
 use Rattle.dbg_split.proofs.FrontLaws.{class-front, order-front}
 use Rattle.dbg_split.proofs.KeptPartLaws.{all-each, all-kept, before-least, before-less, length-all}

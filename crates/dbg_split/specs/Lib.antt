@@ -5,3 +5,5 @@ pub mod ReadNames
 pub mod SplitFails
 pub mod KeptFront
 pub mod StrippedReads
+pub mod DebugFileReads
+pub mod PairViews

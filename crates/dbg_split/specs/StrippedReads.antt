@@ -1,9 +1,9 @@
 -- What reads back from a stripped file: its sections are the kept ones, in order, and the link behind them (gABI ch. 4
 -- "Sections", "String Table"; GNU debugging information in separate files).
-use Rattle.std.specs.Prelude.{true, false, ◌≡◌, ◌≢◌, ℕ, zero, ◌+◌, ◌<◌, List, [], ◌∷◌, ◌++◌}
-use Rattle.dw_base.specs.Elf.{class_of, order_of, nth_section, section_count, section_name, name_index, contents_of}
+use Rattle.std.specs.Prelude.{true, false, ◌≡◌, ◌≢◌, ℕ, ◌+◌, ◌<◌, ◌≤◌, List, [], ◌∷◌, ◌++◌}
+use Rattle.dw_base.specs.Elf.{class_of, order_of, nth_section, section_count, section_name, name_index, contents_of, is_empty_kind}
 use Rattle.dw_base.specs.ElfFails.{ElfReads}
-use Rattle.dw_base.specs.Layout.{is_fixed}
+use Rattle.dw_base.specs.Layout.{fixed_end, is_fixed}
 use Rattle.dw_base.specs.SectionNames.{debug_link}
 use Rattle.dw_base.specs.declared.records.Section.{Section}
 use Rattle.debug_link.specs.Links.{link_of}
@@ -17,9 +17,9 @@ pub record IsKept (b : List ℕ) (i : ℕ) : Type 0 where
   pub there : i < section_count b
   pub kept : is_droppable b i ≡ false
 
--- the header of a kept section, of a number: it is as it was, but for place, size, and the numbers of sections in it; of one
--- that stays place and size are as they were, too. Section 0 may have the number of sections
--- and that of the name table in its size and its link.
+-- the header of a kept section, of a number: it is as it was, but for place, size, and the numbers of sections in it. Of one
+-- that stays, place and size are as they were, too, and one that moves stands behind the fixed end. Section 0 may have the
+-- number of sections and that of the name table in its size and its link.
 pub record IsKeptHead (b : List ℕ) (i : ℕ) (new : Section) : Type 0 where
   pub kind : new.kind ≡ (nth_section b i).kind
   pub flags : new.flags ≡ (nth_section b i).flags
@@ -30,6 +30,7 @@ pub record IsKeptHead (b : List ℕ) (i : ℕ) (new : Section) : Type 0 where
   pub entry_size : new.entry_size ≡ (nth_section b i).entry_size
   pub offset : is_fixed b (nth_section b i) ≡ true → new.offset ≡ (nth_section b i).offset
   pub size : 0 < i → is_fixed b (nth_section b i) ≡ true → new.size ≡ (nth_section b i).size
+  pub behind : is_fixed b (nth_section b i) ≡ false → is_empty_kind (nth_section b i) ≡ false → fixed_end b ≤ new.offset
 
 -- the file `out` reads as an ELF file, and has the kept sections of the file `b`, each with its name and its contents, but
 -- for the section name table, which has one name more, and the link to a debug file of this base name

@@ -1,11 +1,13 @@
 //! A file split in two: one without debug data and symbols that still runs, and a debug file to which it
 //! links (GNU debugging information in separate files; this project's profile of it).
 //!
-//! This layer promises: the stripped file and the debug file are the defined ones, byte for byte; what is
-//! loaded stays at its place; a file is refused only by a row that holds, at its place, and split where
-//! none does, want of memory aside. `droppable` takes no memory.
-//! It does not promise: that the debug file reads back, or what another program makes of the two.
-//! Read first: `specs/Droppable.antt`, then `StrippedFile.antt`, `DebugFile.antt`, `SplitFails.antt`.
+//! This layer promises: the stripped file and the debug file are the defined ones, byte for byte; both read
+//! back, with their sections by number, name and contents, and together have the sections of the file; what
+//! is loaded is kept; a file is refused only by a row that holds, at its place, and split where none does,
+//! want of memory aside. `droppable` takes no memory.
+//! It does not promise: what another program makes of the two.
+//! Read first: `specs/Droppable.antt`, then `StrippedFile.antt`, `DebugFile.antt`, `StrippedReads.antt`,
+//! `DebugFileReads.antt`, `PairViews.antt`, `SplitFails.antt`.
 //!
 //! ```rust
 //! // bytes.len() as u64 <= OUTPUT_LIMIT

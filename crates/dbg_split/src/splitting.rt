@@ -1,14 +1,18 @@
 //! A file split in two: this project's profile.
 
-ghost use Rattle.std.specs.Prelude.{◌≡◌, ◌≢◌, ◌≤◌, length, IfOk, OnOk, IfErr};
+ghost use Rattle.std.specs.Prelude.{◌≡◌, ◌≢◌, ◌<◌, ◌≤◌, ℕ, length, slice_index, IfOk, OnOk, IfErr};
 ghost use Rattle.dw_base.specs.ElfFails.{ElfReads};
 ghost use Rattle.dw_base.specs.Layout.{output_limit};
 ghost use Rattle.dw_base.specs.Refusals.{Blames};
 ghost use Rattle.dw_base.specs.declared.fault.Refusal.{Refusal};
+ghost use Rattle.dw_meaning.specs.Loaded.{LoadedKept};
 ghost use Rattle.dbg_split.specs.DebugFile.{debug_file};
+ghost use Rattle.dbg_split.specs.DebugFileReads.{ReadsDebug};
 ghost use Rattle.dbg_split.specs.KeptFront.{KeepsFront};
+ghost use Rattle.dbg_split.specs.PairViews.{JoinsTo};
 ghost use Rattle.dbg_split.specs.SplitFails.{SplitFails};
 ghost use Rattle.dbg_split.specs.StrippedFile.{stripped_file};
+ghost use Rattle.dbg_split.specs.StrippedReads.{ReadsStripped};
 
 use crate::debug_file::debug_file;
 use crate::judging::{can_be_split, file_fits};
@@ -47,6 +51,23 @@ fn split_file(alloc: Global, elf: &ElfFile, debug_name: &[u8]) -> Result<Pair, F
     Ok(Pair { stripped, debug })
 }
 
+/// What `split` gives, byte for byte, and what is known of the file then.
+#[tactic(auto, using(crate::proofs::Rows::split_rows, crate::proofs::KeptLaws::kept_rules))]
+fn split_bytes(alloc: Global, bytes: &[u8], debug_name: &[u8]) -> Result<Pair, Fault>
+    requires small { length bytes.now ≤ output_limit }
+    ensures debug { IfOk result (λ pair. pair.debug.items ≡ debug_file bytes.now) }
+    ensures stripped { IfOk result (λ pair. pair.stripped.items ≡ stripped_file bytes.now debug_name.now) }
+    ensures kept { IfOk result (λ pair. KeepsFront bytes.now pair.stripped.items) }
+    ensures reads { OnOk result (ElfReads bytes.now) }
+    ensures bytes { OnOk result ((k : ℕ) → slice_index bytes.now k < 256) }
+    ensures none { OnOk result ((r : Refusal) → SplitFails bytes.now debug_name.now r → ⊥) }
+    ensures refused { IfErr result (Blames (SplitFails bytes.now debug_name.now)) }
+{
+    let elf = ElfFile::read(alloc, bytes)?;
+    let pair = split_file(alloc, &elf, debug_name)?;
+    Ok(pair)
+}
+
 /// The two files that a file of type EXEC or DYN is split into: the stripped file, with a link to a
 /// debug file of this base name, and that debug file. Refused as `Header` or `Range` where the file
 /// can't be read, or has no sections or no section name table; as `FileType` at (0, 16) where it is of
@@ -54,18 +75,25 @@ fn split_file(alloc: Global, elf: &ElfFile, debug_name: &[u8]) -> Result<Pair, F
 /// the file header, would change and can't, is read for debug data and ALLOC, or is ALLOC and stands
 /// behind a droppable one; as `Twice` at (a section, 0) where that is a debug link; as `TooLarge` where
 /// one of the two would pass the limit; and only so. Where none of these holds it is split, or memory is
-/// short. What is loaded stays at its place: each byte before the fixed end is as it was in the stripped
-/// file, but in `e_shoff`, `e_shnum` and `e_shstrndx`.
-#[tactic(auto, using(crate::proofs::Rows::split_rows, crate::proofs::KeptLaws::kept_rules))]
+/// short. What is loaded is kept: the program headers and the bytes of each segment are as they were in the
+/// stripped file, and so is each byte before the fixed end, but in `e_shoff`, `e_shnum` and `e_shstrndx`.
+/// The stripped file reads as an ELF file, and has each section that isn't droppable, with its name and
+/// contents, and the link behind them. The debug file reads as one of debug data, and has each section under
+/// its number, with its name, and with its contents but for those that the stripped file keeps. Together they
+/// have each section of the file, with its name and contents, ALLOC sections and the section name table aside:
+/// the k-th section of a name without bytes in the debug file is the k-th of that name in the stripped one.
 pub fn split(alloc: Global, bytes: &[u8], debug_name: &[u8]) -> Result<Pair, Fault>
     requires small { length bytes.now ≤ output_limit }
     ensures debug { IfOk result (λ pair. pair.debug.items ≡ debug_file bytes.now) }
     ensures stripped { IfOk result (λ pair. pair.stripped.items ≡ stripped_file bytes.now debug_name.now) }
     ensures kept { IfOk result (λ pair. KeepsFront bytes.now pair.stripped.items) }
+    ensures debug_reads { IfOk result (λ pair. ReadsDebug bytes.now pair.debug.items) }
+    ensures stripped_reads { IfOk result (λ pair. ReadsStripped bytes.now debug_name.now pair.stripped.items) }
+    ensures joins { IfOk result (λ pair. JoinsTo bytes.now pair.debug.items pair.stripped.items) }
+    ensures loaded { IfOk result (λ pair. LoadedKept bytes.now pair.stripped.items) }
     ensures none { OnOk result ((r : Refusal) → SplitFails bytes.now debug_name.now r → ⊥) }
     ensures refused { IfErr result (Blames (SplitFails bytes.now debug_name.now)) }
 {
-    let elf = ElfFile::read(alloc, bytes)?;
-    let pair = split_file(alloc, &elf, debug_name)?;
+    let pair = split_bytes(alloc, bytes, debug_name)?;
     Ok(pair)
 }

@@ -1,0 +1,24 @@
+-- Both files read back, what is loaded is kept, and the pair has the sections.
+use Rattle.dbg_split.proofs.PairLaws.{debug-back, joins-back, loaded-back, stripped-back}
+use Rattle.dbg_split.proofs.splitting.split.Goals as goal
+
+pub returns-clause-stripped_reads : goal.returns-clause-stripped_reads
+returns-clause-stripped_reads c =
+    let made = c.in_ok-pair.ensures in
+    stripped-back c.args.bytes.now c.args.debug_name.now c.in_ok-pair.pair.stripped.items c.requires.small made.reads made.bytes made.none made.stripped
+
+pub returns-clause-debug_reads : goal.returns-clause-debug_reads
+returns-clause-debug_reads c =
+    let made = c.in_ok-pair.ensures in
+    debug-back c.args.bytes.now c.args.debug_name.now c.in_ok-pair.pair.debug.items c.requires.small made.reads made.bytes made.none made.debug
+
+pub returns-clause-loaded : goal.returns-clause-loaded
+returns-clause-loaded c =
+    let made = c.in_ok-pair.ensures in
+    loaded-back c.args.bytes.now c.args.debug_name.now c.in_ok-pair.pair.stripped.items c.requires.small made.reads made.bytes made.none made.kept made.stripped
+
+pub returns-clause-joins : goal.returns-clause-joins
+returns-clause-joins c =
+    let made = c.in_ok-pair.ensures in
+    joins-back c.args.bytes.now c.args.debug_name.now c.in_ok-pair.pair.debug.items c.in_ok-pair.pair.stripped.items c.requires.small made.reads made.bytes made.none
+    made.debug made.stripped
