@@ -6,3 +6,7 @@ pub mod FormatLaws
 pub mod EntryLaws
 pub mod WalkLaws
 pub mod TableLaws
+pub mod PartLaws
+pub mod ChangeLaws
+pub mod DefinedLaws
+pub mod WrittenLaws

@@ -14,17 +14,17 @@ below m n lt = grind (arith, nat_tests)
 not_below : (m n : ℕ) → n ≤ m → nat_lt m n ≡ false
 not_below m n le = grind (arith, nat_tests)
 
-opcode-more : (section : ℕ) (h : LineHeader) (table : List ℕ) (files : List FilePlace) (place : ℕ) (o : Opcode) → place < length table
+pub opcode-more : (section : ℕ) (h : LineHeader) (table : List ℕ) (files : List FilePlace) (place : ℕ) (o : Opcode) → place < length table
     → Some o ≡ opcode_at section h table place → next_opcode section h table (files, place) ≡ Some (goes (with_file files o.file, o.next))
 unfolding next_opcode
 opcode-more section h table files place o lt e = rw (below place (length table) lt, ← e) refl
 
-opcode-none : (section : ℕ) (h : LineHeader) (table : List ℕ) (files : List FilePlace) (place : ℕ) → place < length table
+pub opcode-none : (section : ℕ) (h : LineHeader) (table : List ℕ) (files : List FilePlace) (place : ℕ) → place < length table
     → None ≡ opcode_at section h table place → next_opcode section h table (files, place) ≡ None
 unfolding next_opcode
 opcode-none section h table files place lt e = rw (below place (length table) lt, ← e) refl
 
-opcode-over : (section : ℕ) (h : LineHeader) (table : List ℕ) (files : List FilePlace) (place : ℕ) → length table ≤ place
+pub opcode-over : (section : ℕ) (h : LineHeader) (table : List ℕ) (files : List FilePlace) (place : ℕ) → length table ≤ place
     → next_opcode section h table (files, place) ≡ Some (ends files)
 unfolding next_opcode
 opcode-over section h table files place le = rw (not_below place (length table) le) refl

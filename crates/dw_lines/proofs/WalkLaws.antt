@@ -16,10 +16,10 @@ ended d None = d
 ended d (Some (goes t)) = d
 ended d (Some (ends x)) = x
 
-determined : {S X : Type 0} (step : S → Option (Step S X)) → Determined (Next step)
+pub determined : {S X : Type 0} (step : S → Option (Step S X)) → Determined (Next step)
 determined step s t u e f = ap (went s) (sym e ∙ f)
 
-over-stops : {S X : Type 0} (step : S → Option (Step S X)) (s : S) (x : X) → step s ≡ Some (ends x) → Stops (Next step) s
+pub over-stops : {S X : Type 0} (step : S → Option (Step S X)) (s : S) (x : X) → step s ≡ Some (ends x) → Stops (Next step) s
 over-stops step s x e t f = by_kind (sym e ∙ f)
   where
     by_kind : Some (ends x) ≡ Some (goes t) → ⊥
@@ -28,10 +28,10 @@ over-stops step s x e t f = by_kind (sym e ∙ f)
 none-some : {Y : Type 0} (y : Y) → None ≡ Some y → ⊥
 none-some y e = cc
 
-none-stops : {S X : Type 0} (step : S → Option (Step S X)) (s : S) → step s ≡ None → Stops (Next step) s
+pub none-stops : {S X : Type 0} (step : S → Option (Step S X)) (s : S) → step s ≡ None → Stops (Next step) s
 none-stops step s e t f = none-some (goes t) (sym e ∙ f)
 
-reached : {S X : Type 0} (step : S → Option (Step S X)) (s t : S) → Walks step s t → Reaches (Next step) s t
+pub reached : {S X : Type 0} (step : S → Option (Step S X)) (s t : S) → Walks step s t → Reaches (Next step) s t
 reached step s t no_step = here s
 reached step s t (one_more a b w e) = reach-more (Next step) s a b (reached step s a w) e
 

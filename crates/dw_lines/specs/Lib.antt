@@ -7,3 +7,6 @@ pub mod Programs
 pub mod Entries
 pub mod LineTables
 pub mod LineFails
+pub mod WrittenTables
+pub mod ChangeSteps
+pub mod WriteFails

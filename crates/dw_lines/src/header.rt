@@ -68,7 +68,7 @@ fn is_line_version(version: u64) -> bool
 
 /// Where the length of the header stands, for the version's place.
 #[tactic(auto, unfolding(crate::specs::LineHeaders::length_place))]
-fn length_place(version: u64, at: u64) -> u64
+pub(crate) fn length_place(version: u64, at: u64) -> u64
     requires small { at ≤ 2 ^ 32 }
     ensures place { result ≡ length_place version at }
     ensures behind { at + 2 ≤ result }

@@ -2,9 +2,10 @@
 //!
 //! This layer promises: a table that is given is the one that stands at the place: the numbers of its header, its
 //! directories and files, and the files that its program defines, each text where it is. It is refused exactly
-//! where none can be read there: as `Line` at the table, as `StringOffset` at an offset that names no text.
+//! where none can be read there: as `Line` at the table, as `StringOffset` at an offset that names no text. A table
+//! that is written with mapped paths is the defined one, byte for byte, and is refused exactly where that can't be.
 //! It does not promise: the rows of a program, which isn't run.
-//! Read first: `specs/LineTables.antt`, then `specs/LineFails.antt`.
+//! Read first: `specs/LineTables.antt`, `specs/LineFails.antt`, then `specs/WrittenTables.antt`.
 //!
 //! ```
 //! use dw_lines::LineTable;
@@ -17,6 +18,8 @@
 //! ```
 #![tactic(auto)]
 
+mod changes;
+mod defined_paths;
 mod entries;
 #[cfg(test)]
 mod fixtures;
@@ -25,11 +28,14 @@ mod header;
 mod line_numbers;
 mod old_lists;
 mod opcodes;
+mod parts;
 mod program;
 mod table;
 mod texts;
+mod written;
 
 pub use dw_base::{Fault, Kind, Refusal, Width};
 pub use dw_strings::TextPlace;
 pub use table::LineTable;
 pub use texts::FilePlace;
+pub use written::WrittenTable;

@@ -1,0 +1,168 @@
+-- Laws of the changes of a header: paths in their order, offsets that fit, and changes one after another.
+use Rattle.std.proofs.Common.{Bool, true, false, ◌≡◌, ◌≢◌, ℕ, suc, ◌+◌, ◌-◌, ◌<◌, ◌≤◌, ◌^◌, ◌==◌, nat_lt, List, [], ◌∷◌, ◌++◌, length, take, drop, get_or, min, Option, Some, None, All, Contains, refl, sym, ap, ◌∙◌, subst, inl, inr, cond, if◌then◌else◌, arith}
+use Rattle.std.proofs.lemmas.Bool.{cases_lt}
+use Rattle.std.proofs.lemmas.Bool.Decides.{nat_tests}
+use Rattle.std.proofs.lemmas.List.{append-nil, append_assoc, take_more, take_all, map-append, get_or_default, length-take, length-drop}
+use Rattle.dw_base.specs.Forms.{width_size}
+use Rattle.dw_base.specs.FileViews.{View, section_bytes}
+use Rattle.dw_base.specs.Numbers.{number_bytes}
+use Rattle.dw_base.specs.Paths.{PathMap, mapped_path}
+use Rattle.dw_base.specs.Refusals.{at}
+use Rattle.dw_base.specs.declared.fault.Kind.TheVariants.{TooWide}
+use Rattle.dw_base.specs.declared.fault.Refusal.{Refusal}
+use Rattle.dw_base.specs.declared.shared.Width.{Width}
+use Rattle.dw_strings.specs.declared.place.TextPlace.{TextPlace}
+use Rattle.dw_lines.specs.ChangeSteps.{after_change, after_changes, fits_width, offset_fits, OffsetsFit}
+use Rattle.dw_lines.specs.LineTables.{texts_of}
+use Rattle.dw_lines.specs.WriteFails.{WideOffset, wide}
+use Rattle.dw_lines.specs.WrittenTables.{Change, all_changes, bytes_at, changed, inline_change, offset_changes, part, path_changes}
+use Rattle.dw_lines.specs.declared.texts.FilePlace.{FilePlace}
+
+-- paths of directories and files
+pub paths-start : (dirs paths : List TextPlace) (files : List FilePlace) → paths ≡ dirs → paths ≡ dirs ++ texts_of (take 0 files)
+paths-start dirs paths files e = e ∙ sym (append-nil dirs)
+
+pub paths-more : (dirs : List TextPlace) (files : List FilePlace) (i : ℕ) (d : FilePlace) (paths more : List TextPlace) → paths ≡ dirs ++ texts_of (take i files)
+    → i < length files → more ≡ paths ++ (get_or files i d).text ∷ [] → more ≡ dirs ++ texts_of (take (i + 1) files)
+paths-more dirs files i d paths more p lt m =
+    m ∙ ap (λ (ts : List TextPlace). ts ++ (get_or files i d).text ∷ []) p
+    ∙ append_assoc dirs (texts_of (take i files)) ((get_or files i d).text ∷ [])
+    ∙ ap (λ (ts : List TextPlace). dirs ++ ts)
+    (sym (ap texts_of (take_more files i d lt) ∙ map-append (λ (f : FilePlace). f.text) (take i files) (get_or files i d ∷ [])))
+
+pub paths-over : (dirs : List TextPlace) (files : List FilePlace) (paths : List TextPlace) → paths ≡ dirs ++ texts_of (take (length files) files) → paths ≡ dirs ++ texts_of files
+paths-over dirs files paths p = p ∙ ap (λ (fs : List FilePlace). dirs ++ texts_of fs) (take_all (length files) files (omega arith))
+
+pub ruleset path_laws = (paths-start, paths-more, paths-over)
+
+-- a place that fits its field no more
+wide-place : (section : ℕ) (width : Width) (places : TextPlace → Option ℕ) (xs : List TextPlace) (x : TextPlace) (place : Option ℕ) (same : Bool) → Contains xs x
+    → (x.section == section) ≡ same → places x ≡ place → (if same then true else fits_width width place) ≡ false → WideOffset section width places xs (at TooWide section x.field)
+wide-place section width places xs x place true c s p f = absurd (true-false f)
+  where
+    true-false : true ≡ false → ⊥
+    true-false e = cc
+wide-place section width places xs x None false c s p f = absurd (true-false f)
+  where
+    true-false : true ≡ false → ⊥
+    true-false e = cc
+wide-place section width places xs x (Some place) false c s p f = wide x place c (λ e. other e) p (grind (arith, nat_tests))
+  where
+    other : x.section ≡ section → ⊥
+    other e = grind (arith, nat_tests)
+
+pub offset-wide : (section : ℕ) (width : Width) (places : TextPlace → Option ℕ) (xs : List TextPlace) (i : ℕ) (d : TextPlace) (place : Option ℕ) (r : Refusal) → i < length xs
+    → place ≡ places (get_or xs i d) → offset_fits section width place (get_or xs i d) ≡ false → r ≡ at TooWide section (get_or xs i d).field
+    → WideOffset section width places xs r
+offset-wide section width places xs i d place r lt p f e =
+    rw e (wide-place section width places xs (get_or xs i d) place ((get_or xs i d).section == section) (i, lt, get_or_default xs i (get_or xs i d) d lt) refl (sym p) f)
+
+-- what fits so far
+abbrev pub FitUpTo : ℕ → Width → (TextPlace → Option ℕ) → List TextPlace → ℕ → Type 0
+FitUpTo section width places xs i = (k : ℕ) (d : TextPlace) → k < i → offset_fits section width (places (get_or xs k d)) (get_or xs k d) ≡ true
+
+pub fit-more : (section : ℕ) (width : Width) (places : TextPlace → Option ℕ) (xs : List TextPlace) (i : ℕ) (d : TextPlace) (place : Option ℕ) → FitUpTo section width places xs i → i < length xs
+    → place ≡ places (get_or xs i d) → offset_fits section width place (get_or xs i d) ≡ true → FitUpTo section width places xs (i + 1)
+fit-more section width places xs i d place so lt p f k e le = elim (cases_lt k i) [
+  | inl before ↦ so k e before
+  | inr past ↦
+      let same : k ≡ i = omega (arith, past, le) in
+      rw same (subst (λ (x : TextPlace). offset_fits section width (places x) x ≡ true) (get_or_default xs i d e lt)
+      (subst (λ (o : Option ℕ). offset_fits section width o (get_or xs i d) ≡ true) p f))
+]
+
+-- changes one after another
+pub changes-joined : (bytes : List ℕ) (s : List ℕ × ℕ) (cs ds : List Change) → after_changes bytes s (cs ++ ds) ≡ after_changes bytes (after_changes bytes s cs) ds
+changes-joined bytes s [] ds = refl
+changes-joined bytes s (c ∷ cs) ds = changes-joined bytes (after_change bytes s c) cs ds
+
+pub all-joined : (v : View) (m : PathMap) (places : TextPlace → Option ℕ) (section : ℕ) (width : Width) (xs ys : List TextPlace)
+    → all_changes v m places section width (xs ++ ys) ≡ all_changes v m places section width xs ++ all_changes v m places section width ys
+all-joined v m places section width [] ys = refl
+all-joined v m places section width (x ∷ xs) ys =
+    ap (λ (cs : List Change). path_changes v m places section width x ++ cs) (all-joined v m places section width xs ys)
+    ∙ sym (append_assoc (path_changes v m places section width x) (all_changes v m places section width xs) (all_changes v m places section width ys))
+
+-- the changed bytes are those so far, and what is left
+pub changes-done : (bytes : List ℕ) (end : ℕ) (s : List ℕ × ℕ) (cs : List Change)
+    → (after_changes bytes s cs).0 ++ part bytes (after_changes bytes s cs).1 end ≡ s.0 ++ changed bytes s.1 end cs
+changes-done bytes end s [] = refl
+changes-done bytes end s (c ∷ cs) =
+    changes-done bytes end (after_change bytes s c) cs
+    ∙ append_assoc s.0 (part bytes s.1 c.at ++ c.new) (changed bytes (c.at + length c.old) end cs)
+    ∙ ap (λ (xs : List ℕ). s.0 ++ xs) (append_assoc (part bytes s.1 c.at) c.new (changed bytes (c.at + length c.old) end cs))
+
+-- bytes that are appended one after another
+pub appended : (a b c p n : List ℕ) → b ≡ a ++ p → c ≡ b ++ n → c ≡ a ++ (p ++ n)
+appended a b c p n f s = s ∙ ap (λ (xs : List ℕ). xs ++ n) f ∙ append_assoc a p n
+
+pub ruleset append_laws = (appended)
+
+pub behind-small : (bytes old : List ℕ) (at n : ℕ) → old ≡ bytes_at bytes at n → length bytes ≤ 2 ^ 31 → at < 2 ^ 64 → at + length old < 2 ^ 64
+behind-small bytes old at n e small fits =
+    let rest = length-drop at bytes in
+    let size = length-take n (drop at bytes) in
+    let same : length old ≡ length (bytes_at bytes at n) = ap length e in
+    omega (arith, rest, size, same, small, fits)
+
+pub behind-is : (bytes old : List ℕ) (at n : ℕ) → old ≡ bytes_at bytes at n → at + length old ≡ at + length (bytes_at bytes at n)
+behind-is bytes old at n e = ap (λ (xs : List ℕ). at + length xs) e
+
+pub ruleset behind_laws = (behind-small, behind-is)
+
+-- what becomes of a path
+pub put-inline : (v : View) (m : PathMap) (places : TextPlace → Option ℕ) (section : ℕ) (width : Width) (x : TextPlace) (bytes old new out more : List ℕ) (from next : ℕ)
+    → bytes ≡ section_bytes v section → x.section ≡ section → old ≡ bytes_at bytes x.at x.len → new ≡ mapped_path m old → more ≡ out ++ (part bytes from x.at ++ new)
+    → next ≡ x.at + length (bytes_at bytes x.at x.len)
+    → ◌≡◌ {A = List ℕ × ℕ} (more, next) (after_changes (section_bytes v section) (out, from) (path_changes v m places section width x))
+put-inline v m places section width x bytes old new out more from next b s o n e is =
+    let here : (x.section == section) ≡ true = grind (arith, nat_tests) in
+    rw (here, is, e, n, o, b) refl
+
+pub put-offset : (v : View) (m : PathMap) (places : TextPlace → Option ℕ) (section : ℕ) (width : Width) (x : TextPlace) (bytes out more : List ℕ) (from next place : ℕ)
+    → bytes ≡ section_bytes v section → x.section ≢ section → Some place ≡ places x → more ≡ out ++ (part bytes from x.field ++ number_bytes v.order (width_size width) place)
+    → next ≡ x.field + length (bytes_at bytes x.field (width_size width))
+    → ◌≡◌ {A = List ℕ × ℕ} (more, next) (after_changes (section_bytes v section) (out, from) (path_changes v m places section width x))
+put-offset v m places section width x bytes out more from next place b s p e is =
+    let other : (x.section == section) ≡ false = grind (arith, nat_tests) in
+    rw (other, ← p, is, e, b) refl
+
+pub put-none : (v : View) (m : PathMap) (places : TextPlace → Option ℕ) (section : ℕ) (width : Width) (x : TextPlace) (out : List ℕ) (from : ℕ)
+    → x.section ≢ section → None ≡ places x
+    → ◌≡◌ {A = List ℕ × ℕ} (out, from) (after_changes (section_bytes v section) (out, from) (path_changes v m places section width x))
+put-none v m places section width x out from s p =
+    let other : (x.section == section) ≡ false = grind (arith, nat_tests) in
+    rw (other, ← p) refl
+
+pub ruleset put_laws = (put-inline, put-offset, put-none)
+
+-- what becomes of paths, one after another
+pub put-start : (v : View) (m : PathMap) (places : TextPlace → Option ℕ) (section : ℕ) (width : Width) (xs : List TextPlace) (out : List ℕ) (from : ℕ)
+    → ◌≡◌ {A = List ℕ × ℕ} (out, from) (after_changes (section_bytes v section) (out, from) (all_changes v m places section width (take 0 xs)))
+put-start v m places section width xs out from = refl
+
+pub put-more : (v : View) (m : PathMap) (places : TextPlace → Option ℕ) (section : ℕ) (width : Width) (xs : List TextPlace) (i : ℕ) (x d : TextPlace) (out so more : List ℕ)
+    (from place next : ℕ) → ◌≡◌ {A = List ℕ × ℕ} (so, place) (after_changes (section_bytes v section) (out, from) (all_changes v m places section width (take i xs)))
+    → i < length xs → x ≡ get_or xs i d
+    → ◌≡◌ {A = List ℕ × ℕ} (more, next) (after_changes (section_bytes v section) (so, place) (path_changes v m places section width x))
+    → ◌≡◌ {A = List ℕ × ℕ} (more, next) (after_changes (section_bytes v section) (out, from) (all_changes v m places section width (take (i + 1) xs)))
+put-more v m places section width xs i x d out so more from place next s lt e n =
+    n ∙ ap (λ (t : List ℕ × ℕ). after_changes (section_bytes v section) t (path_changes v m places section width x)) s
+    ∙ sym (changes-joined (section_bytes v section) (out, from) (all_changes v m places section width (take i xs)) (path_changes v m places section width x))
+    ∙ ap (after_changes (section_bytes v section) (out, from)) (sym whole)
+  where
+    whole : all_changes v m places section width (take (i + 1) xs) ≡ all_changes v m places section width (take i xs) ++ path_changes v m places section width x
+    whole =
+        ap (all_changes v m places section width) (take_more xs i d lt ∙ ap (λ (y : TextPlace). take i xs ++ y ∷ []) (sym e))
+        ∙ all-joined v m places section width (take i xs) (x ∷ [])
+        ∙ ap (λ (cs : List Change). all_changes v m places section width (take i xs) ++ cs) (append-nil (path_changes v m places section width x))
+
+pub put-over : (v : View) (m : PathMap) (places : TextPlace → Option ℕ) (section : ℕ) (width : Width) (xs : List TextPlace) (out so : List ℕ) (from place i : ℕ)
+    → ◌≡◌ {A = List ℕ × ℕ} (so, place) (after_changes (section_bytes v section) (out, from) (all_changes v m places section width (take i xs))) → length xs ≤ i
+    → ◌≡◌ {A = List ℕ × ℕ} (so, place) (after_changes (section_bytes v section) (out, from) (all_changes v m places section width xs))
+put-over v m places section width xs out so from place i s le =
+    s ∙ ap (λ (ys : List TextPlace). after_changes (section_bytes v section) (out, from) (all_changes v m places section width ys)) (take_all i xs le)
+
+pub ruleset put_all_laws = (put-start, put-more, put-over)
+
+pub ruleset fit_laws = (offset-wide)

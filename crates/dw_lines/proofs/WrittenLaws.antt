@@ -1,0 +1,225 @@
+-- Laws of a table that is written: its parts, and what refuses it.
+use Rattle.std.proofs.Common.{Bool, true, false, ◌≡◌, ◌≢◌, ℕ, ◌+◌, ◌-◌, ◌<◌, ◌≤◌, ◌^◌, List, [], ◌∷◌, ◌++◌, length, take, Option, Some, None, Contains, refl, sym, ap, ◌∙◌, subst, arith}
+use Rattle.std.specs.Prelude.{IsSome, nat_lt, ◌==◌, if◌then◌else◌}
+use Rattle.std.proofs.lemmas.Bool.Decides.{nat_tests}
+use Rattle.std.proofs.lemmas.List.{append_assoc, length-append}
+use Rattle.dw_base.specs.FileViews.{View, section_bytes}
+use Rattle.dw_base.specs.Forms.{width_size}
+use Rattle.dw_base.specs.Numbers.{number_bytes}
+use Rattle.dw_base.specs.Paths.{PathMap}
+use Rattle.dw_base.specs.Refusals.{at, Blames}
+use Rattle.dw_base.specs.declared.fault.Fault.{Fault}
+use Rattle.dw_base.specs.declared.fault.Fault.TheVariants.{NoMemory, Refused}
+use Rattle.dw_base.specs.declared.fault.Kind.TheVariants.{TooWide}
+use Rattle.dw_base.specs.declared.fault.Refusal.{Refusal}
+use Rattle.dw_base.specs.declared.shared.Order.{Order}
+use Rattle.dw_base.specs.declared.shared.Width.{Width}
+use Rattle.dw_base.specs.declared.shared.Width.TheVariants.{W32, W64}
+use Rattle.dw_strings.specs.declared.place.TextPlace.{TextPlace}
+use Rattle.dw_lines.specs.ChangeSteps.{after_changes, OffsetsFit, offset_fits}
+use Rattle.dw_lines.specs.LineHeaders.{line_header}
+use Rattle.dw_lines.specs.LineTables.{LineTable, IsLineTable, table_bytes, table_with, texts_of}
+use Rattle.dw_lines.specs.Programs.{next_opcode}
+use Rattle.dw_lines.specs.Walks.{ComesTo, Since}
+use Rattle.dw_lines.specs.WriteFails.{ProgramFails, WideOffset, wide, WriteFails, wide_table, wide_header, wide_offset, program, length_field, length_limit}
+use Rattle.dw_lines.specs.WrittenTables.{Change, all_changes, behind_lengths, changed, header_length_place, length_bytes, length_size, part, with_header_length, with_program, written_front, written_header, written_program, written_rest, written_table}
+use Rattle.dw_lines.specs.declared.header.LineHeader.{LineHeader}
+use Rattle.dw_lines.specs.declared.texts.FilePlace.{FilePlace}
+use Rattle.dw_lines.proofs.ChangeLaws.{changes-done}
+
+-- the header from behind its length
+pub header-done : (bytes here : List ℕ) (start version first end place p n : ℕ) (width : Width) (cs : List Change) (none out more : List ℕ) → none ≡ [] → here ≡ bytes
+    → p ≡ header_length_place start width version → n ≡ width_size width → first ≡ p + n
+    → ◌≡◌ {A = List ℕ × ℕ} (out, place) (after_changes bytes (none, first) cs) → more ≡ out ++ part here place end → more ≡ changed bytes (behind_lengths start width version) end cs
+header-done bytes here start version first end place p n width cs none out more e h hp hn f s m =
+    m ∙ ap (λ (xs : List ℕ). out ++ part xs place end) h
+    ∙ ap (λ (t : List ℕ × ℕ). t.0 ++ part bytes t.1 end) (s ∙ ap (λ (xs : List ℕ). after_changes bytes (xs, first) cs) e)
+    ∙ changes-done bytes end ([], first) cs
+    ∙ ap (λ (k : ℕ). changed bytes k end cs) (f ∙ ap (λ (k : ℕ). k + n) hp ∙ ap (λ (k : ℕ). header_length_place start width version + k) hn)
+
+pub ruleset header_laws = (header-done)
+
+-- three parts, one after another
+pub three-parts : (none a b c x y z : List ℕ) → none ≡ [] → a ≡ none ++ x → b ≡ a ++ y → c ≡ b ++ z → c ≡ x ++ (y ++ z)
+three-parts none a b c x y z e f g h =
+    h ∙ ap (λ (xs : List ℕ). xs ++ z) (g ∙ ap (λ (xs : List ℕ). xs ++ y) (f ∙ ap (λ (xs : List ℕ). xs ++ x) e)) ∙ append_assoc x y z
+
+pub ruleset front_laws = (three-parts)
+
+pub whole-done : (order : Order) (width : Width) (none a b c front tail : List ℕ) (len : ℕ) → none ≡ [] → a ≡ none ++ length_bytes order width len → b ≡ a ++ front → c ≡ b ++ tail
+    → len ≡ length front + length tail → c ≡ length_bytes order width (length (front ++ tail)) ++ (front ++ tail)
+whole-done order width none a b c front tail len e f g h l =
+    three-parts none a b c (length_bytes order width len) front tail e f g h
+    ∙ ap (λ (n : ℕ). length_bytes order width n ++ (front ++ tail)) (l ∙ sym (length-append front tail))
+
+pub ruleset whole_laws = (whole-done)
+
+-- a header that is there
+pub header-absent : (order o : Order) (bytes b : List ℕ) (start : ℕ) → o ≡ order → b ≡ bytes → IsSome (line_header order bytes start) → None ≡ line_header o b start → ⊥
+header-absent order o bytes b start eo eb some e = absurd (by_kind (line_header order bytes start) some (e ∙ ap (λ (x : Order). line_header x b start) eo ∙ ap (λ (bs : List ℕ). line_header order bs start) eb))
+  where
+    by_kind : (x : Option LineHeader) → IsSome x → None ≡ x → ⊥
+    by_kind x some e = cc
+
+pub ruleset there_laws = (header-absent)
+
+-- what is written of a table that was read: its header is the one that stands there
+header-once : (a b : LineHeader) (x : Option LineHeader) → x ≡ Some a → x ≡ Some b → a ≡ b
+header-once a b x e f = ap (header_or a) (sym e ∙ f)
+  where
+    header_or : LineHeader → Option LineHeader → LineHeader
+    header_or d None = d
+    header_or d (Some h) = h
+
+pub table-there : (v : View) (section start : ℕ) (t : LineTable) → IsLineTable v t.section t.start t → section ≡ t.section → start ≡ t.start
+    → IsSome (line_header v.order (section_bytes v section) start)
+table-there v section start t is s p =
+    subst (λ (x : ℕ). IsSome (line_header v.order (section_bytes v x) start)) (sym s)
+    (subst (λ (x : ℕ). IsSome (line_header v.order (section_bytes v t.section) x)) (sym p) (subst (λ x. IsSome x) (sym is.header_is) refl))
+
+pub same-table : (v : View) (section start : ℕ) (t : LineTable) (h : LineHeader) (dirs : List TextPlace) (files : List FilePlace) → IsLineTable v t.section t.start t → section ≡ t.section
+    → start ≡ t.start → dirs ≡ t.dirs → files ≡ t.files → Some h ≡ line_header v.order (section_bytes v section) start → t ≡ table_with section h dirs files t.defined
+same-table v section start t h dirs files is s p d f e =
+    let here : line_header v.order (section_bytes v t.section) t.start ≡ Some h =
+    sym (e ∙ ap (λ (x : ℕ). line_header v.order (section_bytes v x) start) s ∙ ap (λ (x : ℕ). line_header v.order (section_bytes v t.section) x) p) in
+    let same : is.header ≡ h = header-once is.header h (line_header v.order (section_bytes v t.section) t.start) is.header_is here in
+    let fields : t ≡ table_with t.section h t.dirs t.files t.defined =
+    by_parts is.dirs is.files is.defined (is.is ∙ ap (λ (x : LineHeader). table_with t.section x is.dirs is.files is.defined) same) in
+    fields ∙ ap (λ (x : ℕ). table_with x h t.dirs t.files t.defined) (sym s) ∙ ap (λ (x : List TextPlace). table_with section h x t.files t.defined) (sym d)
+    ∙ ap (λ (x : List FilePlace). table_with section h dirs x t.defined) (sym f)
+  where
+    by_parts : (ds : List TextPlace) (fs es : List FilePlace) → t ≡ table_with t.section h ds fs es → t ≡ table_with t.section h t.dirs t.files t.defined
+    by_parts ds fs es q =
+        q ∙ ap (λ (x : List TextPlace). table_with t.section h x fs es) (sym (ap (λ (x : LineTable). x.dirs) q))
+        ∙ ap (λ (x : List FilePlace). table_with t.section h t.dirs x es) (sym (ap (λ (x : LineTable). x.files) q))
+        ∙ ap (λ (x : List FilePlace). table_with t.section h t.dirs t.files x) (sym (ap (λ (x : LineTable). x.defined) q))
+
+-- and the files that it defines are those that its program does
+pub same-defined : (v : View) (section start : ℕ) (t : LineTable) (h : LineHeader) (files : List FilePlace) → IsLineTable v t.section t.start t → section ≡ t.section
+    → start ≡ t.start → files ≡ t.defined → Some h ≡ line_header v.order (section_bytes v section) start
+    → ComesTo (next_opcode section h (table_bytes v section h)) ([], h.program) files
+same-defined v section start t h files is s p d e =
+    let here : line_header v.order (section_bytes v t.section) t.start ≡ Some h =
+    sym (e ∙ ap (λ (x : ℕ). line_header v.order (section_bytes v x) start) s ∙ ap (λ (x : ℕ). line_header v.order (section_bytes v t.section) x) p) in
+    let same : is.header ≡ h = header-once is.header h (line_header v.order (section_bytes v t.section) t.start) is.header_is here in
+    let all : is.defined ≡ files = sym (ap (λ (x : LineTable). x.defined) is.is) ∙ sym d in
+    subst (λ (x : List FilePlace). ComesTo (next_opcode section h (table_bytes v section h)) ([], h.program) x) all
+    (subst (λ (x : ℕ). ComesTo (next_opcode x h (table_bytes v x h)) ([], h.program) is.defined) (sym s)
+    (subst (λ (x : LineHeader). ComesTo (next_opcode t.section x (table_bytes v t.section x)) ([], x.program) is.defined) same is.program))
+
+-- its parts
+pub lists-are : (v : View) (m : PathMap) (places : TextPlace → Option ℕ) (s : ℕ) (h : LineHeader) (dirs paths : List TextPlace) (files defined : List FilePlace) (t : LineTable) (lists : List ℕ)
+    → t ≡ table_with s h dirs files defined → paths ≡ dirs ++ texts_of files
+    → lists ≡ changed (section_bytes v s) (behind_lengths h.start h.width h.version) h.program (all_changes v m places s h.width paths) → lists ≡ written_header v m places t
+unfolding written_header
+lists-are v m places s h dirs paths files defined t lists e p l =
+    subst (λ (x : LineTable). lists ≡ written_header v m places x) (sym e)
+    (l ∙ ap (λ (xs : List TextPlace). changed (section_bytes v s) (behind_lengths h.start h.width h.version) h.program (all_changes v m places s h.width xs)) p)
+
+pub front-is : (v : View) (m : PathMap) (places : TextPlace → Option ℕ) (s : ℕ) (h : LineHeader) (dirs : List TextPlace) (files defined : List FilePlace) (t : LineTable) (lists front : List ℕ)
+    → t ≡ table_with s h dirs files defined → lists ≡ written_header v m places t → front ≡ with_header_length v (table_with s h [] [] []) lists → front ≡ written_front v m places t
+front-is v m places s h dirs files defined t lists front e l f =
+    f ∙ subst (λ (x : LineTable). with_header_length v (table_with s h [] [] []) lists ≡ with_header_length v x lists) (sym e) refl
+    ∙ ap (with_header_length v t) l
+
+rest-is : (v : View) (m : PathMap) (places : TextPlace → Option ℕ) (s : ℕ) (h : LineHeader) (dirs : List TextPlace) (files defined : List FilePlace) (t : LineTable) (front : List ℕ)
+    → t ≡ table_with s h dirs files defined → front ≡ written_front v m places t → with_program v (table_with s h [] [] []) front ≡ written_rest v m places t
+rest-is v m places s h dirs files defined t front e f =
+    subst (λ (x : LineTable). with_program v (table_with s h [] [] []) front ≡ with_program v x front) (sym e) refl ∙ ap (with_program v t) f
+
+width-is : (s : ℕ) (h : LineHeader) (dirs : List TextPlace) (files defined : List FilePlace) (t : LineTable) → t ≡ table_with s h dirs files defined → h.width ≡ t.width
+width-is s h dirs files defined t e = sym (ap (λ (x : LineTable). x.width) e)
+
+pub table-is : (v : View) (m : PathMap) (places : TextPlace → Option ℕ) (s : ℕ) (h : LineHeader) (dirs : List TextPlace) (files defined : List FilePlace) (t : LineTable) (front bytes : List ℕ)
+    → t ≡ table_with s h dirs files defined → front ≡ written_front v m places t
+    → bytes ≡ length_bytes v.order h.width (length (with_program v (table_with s h [] [] []) front)) ++ with_program v (table_with s h [] [] []) front
+    → bytes ≡ written_table v m places t
+unfolding written_table
+table-is v m places s h dirs files defined t front bytes e f b =
+    b ∙ ap (λ (xs : List ℕ). length_bytes v.order h.width (length xs) ++ xs) (rest-is v m places s h dirs files defined t front e f)
+    ∙ ap (λ (x : Width). length_bytes v.order x (length (written_rest v m places t)) ++ written_rest v m places t) (width-is s h dirs files defined t e)
+
+pub program-is : (v : View) (m : PathMap) (places : TextPlace → Option ℕ) (s : ℕ) (h : LineHeader) (dirs : List TextPlace) (files defined : List FilePlace) (t : LineTable) (front : List ℕ) (p : ℕ)
+    → t ≡ table_with s h dirs files defined → front ≡ written_front v m places t → p ≡ length_size h.width + length front → p ≡ written_program v m places t
+unfolding written_program
+program-is v m places s h dirs files defined t front p e f b =
+    b ∙ ap (λ (xs : List ℕ). length_size h.width + length xs) f
+    ∙ ap (λ (x : Width). length_size x + length (written_front v m places t)) (width-is s h dirs files defined t e)
+
+-- what refuses it
+pub wide-fails : (v : View) (m : PathMap) (places : TextPlace → Option ℕ) (s : ℕ) (h : LineHeader) (dirs : List TextPlace) (files defined : List FilePlace) (t : LineTable) (front : List ℕ) (f : Fault)
+    → t ≡ table_with s h dirs files defined → front ≡ written_front v m places t
+    → Blames (Since (at TooWide s (length_field h.start h.width)) (length_limit h.width ≤ length (with_program v (table_with s h [] [] []) front))) f
+    → Blames (WriteFails v m places t) f
+wide-fails v m places s h dirs files defined t front NoMemory e f b = tt
+wide-fails v m places s h dirs files defined t front (Refused r) e f b =
+    let rest = rest-is v m places s h dirs files defined t front e f in
+    let far : length_limit t.width ≤ length (written_rest v m places t) =
+    subst (λ (x : Width). length_limit x ≤ length (written_rest v m places t)) (width-is s h dirs files defined t e)
+    (subst (λ (xs : List ℕ). length_limit h.width ≤ length xs) rest b.why) in
+    let place : r ≡ at TooWide t.section (length_field t.start t.width) = b.same ∙ sym (ap (λ (x : LineTable). at TooWide x.section (length_field x.start x.width)) e) in
+    rw place (wide_table far)
+
+pub offset-fails : (v : View) (m : PathMap) (places : TextPlace → Option ℕ) (s : ℕ) (h : LineHeader) (dirs paths : List TextPlace) (files defined : List FilePlace) (t : LineTable) (r : Refusal)
+    → t ≡ table_with s h dirs files defined → paths ≡ dirs ++ texts_of files → WideOffset s h.width places paths r → WriteFails v m places t r
+offset-fails v m places s h dirs paths files defined t r e p w =
+    subst (λ (x : LineTable). WriteFails v m places x r) (sym e) (wide_offset (subst (λ (xs : List TextPlace). WideOffset s h.width places xs r) p w))
+
+pub program-fails : (v : View) (m : PathMap) (places : TextPlace → Option ℕ) (s start : ℕ) (h : LineHeader) (t : LineTable) (f : Fault) → s ≡ t.section → start ≡ t.start
+    → Some h ≡ line_header v.order (section_bytes v s) start → Blames (ProgramFails m s h (table_bytes v s h)) f → Blames (WriteFails v m places t) f
+program-fails v m places s start h t NoMemory is p e b = tt
+program-fails v m places s start h t (Refused r) is p e b =
+    program h (sym (e ∙ ap (λ (x : ℕ). line_header v.order (section_bytes v x) start) is ∙ ap (λ (x : ℕ). line_header v.order (section_bytes v t.section) x) p))
+    (subst (λ (x : ℕ). ProgramFails m x h (table_bytes v x h) r) is b)
+
+-- one excludes the other
+limit-below : (width : Width) → length_limit width ≤ 256 ^ width_size width
+limit-below W32 = omega arith
+limit-below W64 = omega arith
+
+fit-excludes : (s : ℕ) (width : Width) (places : TextPlace → Option ℕ) (xs : List TextPlace) (r : Refusal) → OffsetsFit s width places xs → WideOffset s width places xs r → ⊥
+fit-excludes s width places xs r fit (wide x place c other p far) =
+    let fits : offset_fits s width (places x) x ≡ true = subst (λ (y : TextPlace). offset_fits s width (places y) y ≡ true) c.2 (fit c.0 x c.1) in
+    by_test (x.section == s) refl (subst (λ (o : Option ℕ). offset_fits s width o x ≡ true) p fits)
+  where
+    by_test : (same : Bool) → (x.section == s) ≡ same → (if same then true else nat_lt place (256 ^ width_size width)) ≡ true → ⊥
+    by_test true e h = other (grind (arith, nat_tests))
+    by_test false e h = grind (arith, nat_tests)
+
+pub write-excludes : (v : View) (m : PathMap) (places : TextPlace → Option ℕ) (s start : ℕ) (h : LineHeader) (dirs paths : List TextPlace) (files defined : List FilePlace) (t : LineTable)
+    (lists front : List ℕ) (r : Refusal) → t ≡ table_with s h dirs files defined → s ≡ t.section → start ≡ t.start → Some h ≡ line_header v.order (section_bytes v s) start
+    → paths ≡ dirs ++ texts_of files → lists ≡ written_header v m places t → front ≡ written_front v m places t
+    → ((q : Refusal) → ProgramFails m s h (table_bytes v s h) q → ⊥) → OffsetsFit s h.width places paths
+    → length (with_program v (table_with s h [] [] []) front) < length_limit h.width → WriteFails v m places t r → ⊥
+write-excludes v m places s start h dirs paths files defined t lists front r e is ps he p l f none fit lt (wide_table far) =
+    let rest = ap length (rest-is v m places s h dirs files defined t front e f) in
+    let far : length_limit h.width ≤ length (written_rest v m places t) =
+    subst (λ (x : Width). length_limit x ≤ length (written_rest v m places t)) (sym (width-is s h dirs files defined t e)) far in
+    absurd (omega (arith, rest, far, lt))
+write-excludes v m places s start h dirs paths files defined t lists front r e is ps he p l f none fit lt (wide_header far) =
+    let rest = ap length (rest-is v m places s h dirs files defined t front e f) in
+    let far : 256 ^ width_size h.width ≤ length (written_header v m places t) =
+    subst (λ (x : Width). 256 ^ width_size x ≤ length (written_header v m places t)) (sym (width-is s h dirs files defined t e)) far in
+    let limit = limit-below h.width in
+    let inside = header-inside v t (written_header v m places t) in
+    absurd (omega (arith, rest, far, lt, limit, inside))
+  where
+    header-inside : (v : View) (t : LineTable) (xs : List ℕ) → length xs ≤ length (with_program v t (with_header_length v t xs))
+    header-inside v t xs =
+        omega (
+          arith,
+          length-append (with_header_length v t xs) (part (section_bytes v t.section) t.program t.end),
+          length-append (part (section_bytes v t.section) (t.start + length_size t.width) (header_length_place t.start t.width t.version))
+              (number_bytes v.order (width_size t.width) (length xs) ++ xs),
+          length-append (number_bytes v.order (width_size t.width) (length xs)) xs,
+        )
+write-excludes v m places s start h dirs paths files defined t lists front r e is ps he p l f none fit lt (wide_offset w) =
+    fit-excludes s h.width places paths r fit
+    (subst (λ (xs : List TextPlace). WideOffset s h.width places xs r) (sym p) (subst (λ (x : LineTable). WideOffset x.section x.width places (x.dirs ++ texts_of x.files) r) e w))
+write-excludes v m places s start h dirs paths files defined t lists front r e is ps he p l f none fit lt (program g ge b) =
+    let here : line_header v.order (section_bytes v t.section) t.start ≡ Some h =
+    sym (he ∙ ap (λ (x : ℕ). line_header v.order (section_bytes v x) start) is ∙ ap (λ (x : ℕ). line_header v.order (section_bytes v t.section) x) ps) in
+    let same : g ≡ h = header-once g h (line_header v.order (section_bytes v t.section) t.start) ge here in
+    none r (subst (λ (x : ℕ). ProgramFails m x h (table_bytes v x h) r) (sym is) (subst (λ (x : LineHeader). ProgramFails m t.section x (table_bytes v t.section x) r) same b))
+
+pub ruleset write_laws = (table-there, program-fails, same-defined)

@@ -1,0 +1,19 @@
+-- What becomes of the paths, and what is left of the header.
+use Rattle.std.proofs.Common.{refl, ap, ◌∙◌, ◌++◌}
+use Rattle.std.specs.HashMap.{get}
+use Rattle.std.specs.Prelude.{nat_eq}
+use Rattle.dw_base.specs.FileViews.{section_bytes}
+use Rattle.dw_lines.specs.WrittenTables.{all_changes, new_place}
+use Rattle.dw_lines.proofs.WrittenLaws.{header-done}
+use Rattle.dw_lines.proofs.written.written_header.Goals as goal
+
+pub returns : goal.returns
+returns c = record {
+  bytes = header-done (section_bytes c.args.view.now c.args.section) c.bytes.result.now c.args.header.now.start c.args.header.now.version _ c.args.header.now.program c.in_ok-place.place
+      c.header_length_place.result c.from.result c.args.header.now.width
+      (all_changes c.args.view.now c.args.maps.now (new_place c.args.view.now (λ o. get nat_eq c.args.str.now o) (λ o. get nat_eq c.args.line_str.now o)) c.args.section
+      c.args.header.now.width c.args.paths.now)
+      c.new-out.result.items c.put_paths.new.out.items c.extend_from_slice.new.self.items c.new-out.ensures.items c.bytes.ensures.bytes c.header_length_place.ensures.place
+      (c.from.ensures ∙ c.width_size.ensures.size) refl c.in_ok-place.ensures.put
+      (c.in_ok-extend_from_slice.ensures.items ∙ ap (λ xs. c.put_paths.new.out.items ++ xs) c.part.ensures.bytes);
+}

@@ -1,0 +1,214 @@
+//! The changes of a header, one after another, and whether new offsets fit their fields.
+//!
+//! Read first: `specs/WrittenTables.antt`, then `specs/ChangeSteps.antt`.
+
+ghost use Rattle.std.specs.Prelude.{◌≡◌, ◌+◌, ◌≤◌, ◌<◌, ◌^◌, ◌++◌, length, nat_eq, IfOk, IfErr, OnOk};
+ghost use Rattle.std.specs.HashMap.{get};
+ghost use Rattle.dw_base.specs.FileViews.{section_bytes};
+ghost use Rattle.dw_base.specs.Forms.{width_size};
+ghost use Rattle.dw_base.specs.Numbers.{number_bytes};
+ghost use Rattle.dw_base.specs.Paths.{mapped_path};
+ghost use Rattle.dw_base.specs.ViewData.{located};
+ghost use Rattle.dw_base.specs.declared.debug_sections.DebugSection.TheVariants.{Str};
+ghost use Rattle.dw_lines.specs.ChangeSteps.{after_change, after_changes, fits_width, offset_fits, OffsetsFit};
+ghost use Rattle.dw_lines.specs.WriteFails.{WideOffset};
+ghost use Rattle.dw_lines.specs.WrittenTables.{all_changes, bytes_at, new_place, part, path_changes};
+ghost use Rattle.dw_lines.specs.LineTables.{texts_of};
+
+use crate::header::width_size;
+use crate::parts::{bytes_at, part, push_number};
+use crate::texts::FilePlace;
+use dw_base::{DebugSection, Kind, NoMemory, Refusal, Width};
+use dw_paths::{Maps, map_path};
+use dw_strings::TextPlace;
+use dw_view::View;
+use std::alloc::{AllocError, Global};
+use std::collections::HashMap;
+
+/// The paths of a header: of its directories, then of its files.
+#[tactic(auto, using(crate::proofs::ChangeLaws::path_laws))]
+pub(crate) fn paths_of(
+    alloc: Global,
+    dirs: &[TextPlace],
+    files: &[FilePlace],
+) -> Result<Vec<TextPlace>, AllocError>
+    ensures paths { IfOk result (λ paths. paths.items ≡ dirs.now ++ texts_of files.now) }
+{
+    let mut paths = Vec::from_slice(alloc, dirs)?;
+    for file in files {
+        paths.push(file.text)?;
+    }
+    Ok(paths)
+}
+
+/// The number of `.debug_str`; 0 where there is none.
+#[tactic(auto, unfolding(dw_base::specs::ViewData::located))]
+fn str_section(view: &View) -> u32
+    ensures number { result ≡ (located view.now Str).number }
+{
+    match view.first(DebugSection::Str) {
+        Some(section) => section,
+        None => 0,
+    }
+}
+
+/// The new place of a text, of those that are known in `.debug_str` and in `.debug_line_str`.
+fn new_place(
+    view: &View,
+    str: &HashMap<u64, u64>,
+    line_str: &HashMap<u64, u64>,
+    path: &TextPlace,
+) -> Option<u64>
+    ensures place { result ≡ new_place view.now (λ o. get nat_eq str.now o) (λ o. get nat_eq line_str.now o) path.now }
+{
+    if path.section == str_section(view) {
+        return str.get(&path.at).copied();
+    }
+    line_str.get(&path.at).copied()
+}
+
+/// A new offset, where there is one, fits its field.
+fn fits_width(width: Width, place: Option<u64>) -> bool
+    ensures fits { result ≡ fits_width width place }
+{
+    match place {
+        Some(place) => match width {
+            Width::W32 => place < 0x1_0000_0000,
+            Width::W64 => true,
+        },
+        None => true,
+    }
+}
+
+/// A path stands in the section of a number, or its new offset fits its field.
+fn offset_fits(section: u32, width: Width, place: Option<u64>, path: &TextPlace) -> bool
+    ensures fits { result ≡ offset_fits section width place path.now }
+{
+    if path.section == section {
+        return true;
+    }
+    fits_width(width, place)
+}
+
+/// Refused as `TooWide` at a field whose new offset doesn't fit it.
+#[tactic(auto, using(crate::proofs::ChangeLaws::fit_laws))]
+pub(crate) fn check_offsets(
+    view: &View,
+    str: &HashMap<u64, u64>,
+    line_str: &HashMap<u64, u64>,
+    section: u32,
+    width: Width,
+    paths: &[TextPlace],
+) -> Result<(), Refusal>
+    ensures fit { OnOk result (OffsetsFit section width (new_place view.now (λ o. get nat_eq str.now o) (λ o. get nat_eq line_str.now o)) paths.now) }
+    ensures refused { IfErr result (WideOffset section width (new_place view.now (λ o. get nat_eq str.now o) (λ o. get nat_eq line_str.now o)) paths.now) }
+{
+    for path in paths {
+        let place = new_place(view, str, line_str, path);
+        if !offset_fits(section, width, place, path) {
+            return Err(Refusal::at(Kind::TooWide, section, path.field));
+        }
+    }
+    Ok(())
+}
+
+/// Appends the bytes from a place up to another, and others behind them.
+#[tactic(auto, using(crate::proofs::ChangeLaws::append_laws))]
+fn push_change(
+    out: &mut Vec<u8>,
+    bytes: &[u8],
+    from: u64,
+    at: u64,
+    new: &[u8],
+) -> Result<(), AllocError>
+    ensures out { OnOk result (out.new.items ≡ out.old.items ++ (part bytes.now from at ++ new.now)) }
+{
+    out.extend_from_slice(part(bytes, from, at))?;
+    out.extend_from_slice(new)?;
+    Ok(())
+}
+
+/// Appends the bytes from a place up to a field, and a new offset in place of the field's.
+#[tactic(auto, using(crate::proofs::ChangeLaws::append_laws))]
+fn push_offset(
+    view: &View,
+    out: &mut Vec<u8>,
+    bytes: &[u8],
+    from: u64,
+    field: u64,
+    width: Width,
+    place: u64,
+) -> Result<(), AllocError>
+    ensures out { OnOk result (out.new.items ≡ out.old.items ++ (part bytes.now from field ++ number_bytes view.now.order (width_size width) place)) }
+{
+    out.extend_from_slice(part(bytes, from, field))?;
+    push_number(out, view.order(), width, place)?;
+    Ok(())
+}
+
+/// The place behind so many bytes at a place, as far as they are there.
+#[tactic(auto, using(crate::proofs::ChangeLaws::behind_laws))]
+fn behind(bytes: &[u8], at: u64, n: u64) -> u64
+    requires small { length bytes.now ≤ 2 ^ 31 }
+    ensures place { result ≡ at + length (bytes_at bytes.now at n) }
+{
+    at + bytes_at(bytes, at, n).len() as u64
+}
+
+/// Appends the bytes from a place up to a path, and what becomes of the path; answers the place behind it.
+#[tactic(auto, using(crate::proofs::ChangeLaws::put_laws))]
+fn put_path(
+    alloc: Global,
+    view: &View,
+    maps: &Maps,
+    str: &HashMap<u64, u64>,
+    line_str: &HashMap<u64, u64>,
+    section: u32,
+    width: Width,
+    path: &TextPlace,
+    from: u64,
+    out: &mut Vec<u8>,
+) -> Result<u64, NoMemory>
+    requires there { section < length view.now.sections }
+    ensures put { IfOk result (λ next. (out.new.items, next) ≡ after_changes (section_bytes view.now section) (out.old.items, from) (path_changes view.now maps.now (new_place view.now (λ o. get nat_eq str.now o) (λ o. get nat_eq line_str.now o)) section width path.now)) }
+{
+    let bytes = view.bytes(section);
+    if path.section == section {
+        let old = bytes_at(bytes, path.at, path.len);
+        let mapped = map_path(alloc, maps, old)?;
+        push_change(out, bytes, from, path.at, &mapped)?;
+        return Ok(behind(bytes, path.at, path.len));
+    }
+    let Some(place) = new_place(view, str, line_str, path) else {
+        return Ok(from);
+    };
+    push_offset(view, out, bytes, from, path.field, width, place)?;
+    Ok(behind(bytes, path.field, u64::from(width_size(width))))
+}
+
+/// Appends the bytes from a place up to the last of these paths, with what becomes of each; answers the place
+/// behind them.
+#[tactic(auto, using(crate::proofs::ChangeLaws::put_all_laws))]
+pub(crate) fn put_paths(
+    alloc: Global,
+    view: &View,
+    maps: &Maps,
+    str: &HashMap<u64, u64>,
+    line_str: &HashMap<u64, u64>,
+    section: u32,
+    width: Width,
+    paths: &[TextPlace],
+    from: u64,
+    out: &mut Vec<u8>,
+) -> Result<u64, NoMemory>
+    requires there { section < length view.now.sections }
+    ensures put { IfOk result (λ next. (out.new.items, next) ≡ after_changes (section_bytes view.now section) (out.old.items, from) (all_changes view.now maps.now (new_place view.now (λ o. get nat_eq str.now o) (λ o. get nat_eq line_str.now o)) section width paths.now)) }
+{
+    let mut place = from;
+    for path in paths {
+        place = put_path(
+            alloc, view, maps, str, line_str, section, width, path, place, out,
+        )?;
+    }
+    Ok(place)
+}

@@ -1,0 +1,258 @@
+//! A line table that is written with mapped paths (DWARF 5, 6.2.4).
+//!
+//! This file promises: the table that is given is the defined one, byte for byte; it is refused exactly where a
+//! new length or offset doesn't fit its field, or the program defines a file whose path changes.
+//! Read first: `specs/WrittenTables.antt`, then `specs/WriteFails.antt`.
+
+ghost use Rattle.std.specs.Prelude.{◌≡◌, ◌↔◌, ◌+◌, ◌-◌, ◌≤◌, ◌<◌, ◌^◌, ◌++◌, [], length, nat_eq, Some, IsSome, IsTrue, IfOk, IfErr, OnOk};
+ghost use Rattle.std.specs.HashMap.{get};
+ghost use Rattle.dw_base.specs.FileViews.{section_bytes};
+ghost use Rattle.dw_base.specs.Refusals.{Blames, at};
+ghost use Rattle.dw_base.specs.declared.fault.Kind.TheVariants.{TooWide};
+ghost use Rattle.dw_base.specs.declared.fault.Refusal.{Refusal as RefusalOf};
+ghost use Rattle.dw_lines.specs.LineTables.{IsLineTable, table_bytes, table_with};
+ghost use Rattle.dw_lines.specs.LineHeaders.{line_header};
+ghost use Rattle.dw_lines.specs.Programs.{next_opcode};
+ghost use Rattle.dw_lines.specs.Walks.{ComesTo, Since};
+ghost use Rattle.dw_lines.specs.WriteFails.{ProgramFails, WriteFails, length_field, length_limit};
+ghost use Rattle.dw_lines.specs.WrittenTables.{all_changes, behind_lengths, changed, header_length_place, length_bytes, length_size, new_place, with_header_length, with_program, written_front, written_header, written_program, written_rest, written_table};
+
+use crate::changes::{check_offsets, paths_of, put_paths};
+use crate::defined_paths::check_opcodes;
+use crate::header::{LineHeader, length_place, line_header, width_size};
+use crate::parts::{part, push_length, push_number};
+use crate::table::LineTable;
+use crate::texts::FilePlace;
+use dw_base::{Fault, Kind, NoMemory, Refusal, Width};
+use dw_paths::Maps;
+use dw_strings::TextPlace;
+use dw_view::View;
+use std::alloc::{AllocError, Global};
+use std::collections::HashMap;
+
+/// A table that was written.
+#[derive(Drop)]
+pub struct WrittenTable {
+    /// Its bytes.
+    pub bytes: Vec<u8>,
+    /// Where its program starts, in bytes from the table's start.
+    pub program: u64,
+}
+
+/// How many bytes the length of a table takes (DWARF 5, 7.4).
+fn length_size(width: Width) -> u64
+    ensures size { result ≡ length_size width }
+    ensures small { result ≤ 12 }
+{
+    match width {
+        Width::W32 => 4,
+        Width::W64 => 12,
+    }
+}
+
+/// Where the length of a header stands.
+fn header_length_place(header: &LineHeader) -> u64
+    requires small { header.now.start ≤ 2 ^ 31 }
+    ensures place { result ≡ header_length_place header.now.start header.now.width header.now.version }
+    ensures near { result ≤ header.now.start + 16 }
+{
+    length_place(
+        u64::from(header.version),
+        header.start + length_size(header.width),
+    )
+}
+
+/// The header from behind its length up to the program, with what becomes of its paths.
+#[tactic(auto, using(crate::proofs::WrittenLaws::header_laws))]
+fn written_header(
+    alloc: Global,
+    view: &View,
+    maps: &Maps,
+    str: &HashMap<u64, u64>,
+    line_str: &HashMap<u64, u64>,
+    section: u32,
+    header: &LineHeader,
+    paths: &[TextPlace],
+) -> Result<Vec<u8>, NoMemory>
+    requires there { section < length view.now.sections }
+    requires small { header.now.start ≤ 2 ^ 31 }
+    ensures bytes { IfOk result (λ out. out.items ≡ changed (section_bytes view.now section) (behind_lengths header.now.start header.now.width header.now.version) header.now.program (all_changes view.now maps.now (new_place view.now (λ o. get nat_eq str.now o) (λ o. get nat_eq line_str.now o)) section header.now.width paths.now)) }
+{
+    let first = header_length_place(header) + u64::from(width_size(header.width));
+    let mut out = Vec::new(alloc);
+    let place = put_paths(
+        alloc,
+        view,
+        maps,
+        str,
+        line_str,
+        section,
+        header.width,
+        paths,
+        first,
+        &mut out,
+    )?;
+    out.extend_from_slice(part(view.bytes(section), place, header.program))?;
+    Ok(out)
+}
+
+/// What stands in front of the program, behind the length of the table.
+#[tactic(auto, using(crate::proofs::WrittenLaws::front_laws))]
+fn written_front(
+    alloc: Global,
+    view: &View,
+    section: u32,
+    header: &LineHeader,
+    lists: &[u8],
+) -> Result<Vec<u8>, AllocError>
+    requires there { section < length view.now.sections }
+    requires small { header.now.start ≤ 2 ^ 31 }
+    ensures bytes { IfOk result (λ out. out.items ≡ with_header_length view.now (table_with section header.now [] [] []) lists.now) }
+{
+    let version = header.start + length_size(header.width);
+    let mut out = Vec::new(alloc);
+    out.extend_from_slice(part(view.bytes(section), version, header_length_place(header)))?;
+    push_number(&mut out, view.order(), header.width, lists.len() as u64)?;
+    out.extend_from_slice(lists)?;
+    Ok(out)
+}
+
+/// The length of a table is below the limit of its width.
+fn length_fits(width: Width, len: u64) -> bool
+    ensures fits { IsTrue result ↔ (len < length_limit width) }
+{
+    match width {
+        Width::W32 => len < 0xffff_fff0,
+        Width::W64 => true,
+    }
+}
+
+/// Where the length of a table stands.
+fn length_field(start: u64, width: Width) -> u64
+    requires small { start ≤ 2 ^ 31 }
+    ensures field { result ≡ length_field start width }
+{
+    match width {
+        Width::W32 => start,
+        Width::W64 => start + 4,
+    }
+}
+
+/// The table of what stands in front of its program, and of the program. Refused as `TooWide` at its length
+/// exactly where that doesn't fit its field.
+#[tactic(auto, using(crate::proofs::WrittenLaws::whole_laws))]
+fn whole_table(
+    alloc: Global,
+    view: &View,
+    section: u32,
+    header: &LineHeader,
+    front: &[u8],
+) -> Result<WrittenTable, Fault>
+    requires there { section < length view.now.sections }
+    requires small { header.now.start ≤ 2 ^ 31 }
+    ensures bytes { IfOk result (λ w. w.bytes.items ≡ length_bytes view.now.order header.now.width (length (with_program view.now (table_with section header.now [] [] []) front.now)) ++ with_program view.now (table_with section header.now [] [] []) front.now) }
+    ensures program { IfOk result (λ w. w.program ≡ length_size header.now.width + length front.now) }
+    ensures fits { OnOk result (length (with_program view.now (table_with section header.now [] [] []) front.now) < length_limit header.now.width) }
+    ensures refused { IfErr result (Blames (Since (at TooWide section (length_field header.now.start header.now.width)) (length_limit header.now.width ≤ length (with_program view.now (table_with section header.now [] [] []) front.now)))) }
+{
+    let program = part(view.bytes(section), header.program, header.end);
+    let len = front.len() as u64 + program.len() as u64;
+    if !length_fits(header.width, len) {
+        let field = length_field(header.start, header.width);
+        return Err(Fault::Refused(Refusal::at(Kind::TooWide, section, field)));
+    }
+    let mut bytes = Vec::new(alloc);
+    push_length(&mut bytes, view.order(), header.width, len)?;
+    bytes.extend_from_slice(front)?;
+    bytes.extend_from_slice(program)?;
+    Ok(WrittenTable {
+        bytes,
+        program: length_size(header.width) + front.len() as u64,
+    })
+}
+
+/// The header of the table that starts at a place of a section, which has one.
+#[tactic(auto, using(crate::proofs::WrittenLaws::there_laws))]
+fn header_of(view: &View, section: u32, start: u64) -> LineHeader
+    requires there { section < length view.now.sections }
+    requires header { IsSome (line_header view.now.order (section_bytes view.now section) start) }
+    ensures header { Some result ≡ line_header view.now.order (section_bytes view.now section) start }
+    ensures small { result.start ≤ 2 ^ 31 }
+    ensures operands { result.lists ≡ result.operands + (result.opcode_base - 1) }
+    ensures lists { result.lists ≤ result.end }
+    ensures within { result.end ≤ length (section_bytes view.now section) }
+{
+    match line_header(view.order(), view.bytes(section), start) {
+        Some(header) => header,
+        None => unreachable!(),
+    }
+}
+
+/// Refused as `DefinedPath` exactly where the program of a header defines a file whose path the map changes. It
+/// isn't looked at where it defines none.
+#[tactic(auto, using(crate::proofs::DefinedLaws::empty_laws))]
+fn check_program(
+    alloc: Global,
+    view: &View,
+    maps: &Maps,
+    section: u32,
+    header: &LineHeader,
+    defined: &[FilePlace],
+) -> Result<(), Fault>
+    requires there { section < length view.now.sections }
+    requires defined { ComesTo (next_opcode section header.now (table_bytes view.now section header.now)) ([], header.now.program) defined.now }
+    requires operands { header.now.lists ≡ header.now.operands + (header.now.opcode_base - 1) }
+    requires lists { header.now.lists ≤ header.now.end }
+    requires within { header.now.end ≤ length (section_bytes view.now section) }
+    ensures none { OnOk result ((r : RefusalOf) → ProgramFails maps.now section header.now (table_bytes view.now section header.now) r → ⊥) }
+    ensures refused { IfErr result (Blames (ProgramFails maps.now section header.now (table_bytes view.now section header.now))) }
+{
+    if defined.is_empty() {
+        return Ok(());
+    }
+    let table = &view.bytes(section)[..header.end as usize];
+    check_opcodes(alloc, maps, section, header, table)
+}
+
+impl LineTable {
+    /// The table with mapped paths, which was read of the view: a path that stands in it is mapped there, and the
+    /// offset of another becomes the new place of its text, where one is known in `.debug_str` or
+    /// `.debug_line_str` by the old place; both lengths are those of what follows them, and all else is copied.
+    /// Refused as `TooWide` at the field exactly where a new length or offset doesn't fit it, and as `DefinedPath`
+    /// at the opcode exactly where the program defines a file whose path the map changes.
+    #[tactic(auto, using(crate::proofs::WrittenLaws::write_laws))]
+    pub fn write_mapped(
+        &self,
+        alloc: Global,
+        view: &View,
+        maps: &Maps,
+        str: &HashMap<u64, u64>,
+        line_str: &HashMap<u64, u64>,
+    ) -> Result<WrittenTable, Fault>
+        requires there { self.now.section < length view.now.sections }
+        requires table { IsLineTable view.now self.now.section self.now.start self.now }
+        ensures bytes { IfOk result (λ w. w.bytes.items ≡ written_table view.now maps.now (new_place view.now (λ o. get nat_eq str.now o) (λ o. get nat_eq line_str.now o)) self.now) }
+        ensures program { IfOk result (λ w. w.program ≡ written_program view.now maps.now (new_place view.now (λ o. get nat_eq str.now o) (λ o. get nat_eq line_str.now o)) self.now) }
+        ensures none { OnOk result ((r : RefusalOf) → WriteFails view.now maps.now (new_place view.now (λ o. get nat_eq str.now o) (λ o. get nat_eq line_str.now o)) self.now r → ⊥) }
+        ensures refused { IfErr result (Blames (WriteFails view.now maps.now (new_place view.now (λ o. get nat_eq str.now o) (λ o. get nat_eq line_str.now o)) self.now)) }
+    {
+        let section = self.section;
+        let header = header_of(view, section, self.start);
+        if let Err(fault) = check_program(alloc, view, maps, section, &header, &self.defined) {
+            return Err(fault);
+        }
+        let paths = paths_of(alloc, &self.dirs, &self.files)?;
+        if let Err(refusal) = check_offsets(view, str, line_str, section, header.width, &paths) {
+            return Err(Fault::Refused(refusal));
+        }
+        let lists = written_header(alloc, view, maps, str, line_str, section, &header, &paths)?;
+        let front = written_front(alloc, view, section, &header, &lists)?;
+        match whole_table(alloc, view, section, &header, &front) {
+            Ok(written) => Ok(written),
+            Err(fault) => Err(fault),
+        }
+    }
+}
+
+#[cfg(test)]
+mod tests;
