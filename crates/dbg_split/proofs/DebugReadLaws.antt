@@ -172,7 +172,7 @@ nobits-null b i is =
 own-number : (n : ℕ) → (n == n) ≡ true
 own-number n = grind arith
 
-nobits-names : (b : List ℕ) → becomes_nobits b (name_index b) ≡ false
+pub nobits-names : (b : List ℕ) → becomes_nobits b (name_index b) ≡ false
 unfolding becomes_nobits
 nobits-names b =
     rw (own-number (name_index b))

@@ -1,5 +1,5 @@
 -- A pair has the sections of the file that was split.
-use Rattle.std.proofs.Common.{◌≡◌, ◌≢◌, ℕ, suc, ◌<◌, ◌==◌, ◌&&◌, ◌||◌, not, Bool, true, false, List, [], if◌then◌else◌, refl, sym, ap, ◌∙◌, arith, inl, inr}
+use Rattle.std.proofs.Common.{◌≡◌, ◌≢◌, ℕ, suc, ◌<◌, ◌==◌, ◌&&◌, ◌||◌, not, Bool, true, false, List, [], if◌then◌else◌, refl, sym, ap, ◌∙◌, arith, inl, inr, subst}
 use Rattle.std.proofs.lemmas.Bool.{cases_lt, cases_eq, cases_Bool}
 use Rattle.std.proofs.lemmas.Bool.Decides.{nat_tests}
 use Rattle.std.specs.Prelude.{Option, Some, None}
@@ -17,10 +17,11 @@ use Rattle.dw_base.proofs.WrittenContents.{contents-empty}
 use Rattle.dbg_split.specs.DebugFile.{becomes_nobits, debug_head}
 use Rattle.dbg_split.specs.DebugFileReads.{ReadsDebug}
 use Rattle.dbg_split.specs.Droppable.{drops_along, drops_itself, is_debug_only_name, is_droppable, may_drop}
-use Rattle.dbg_split.specs.PairViews.{JoinsTo, count_below, found_bytes, found_contents, is_counted, is_counted_named, is_elsewhere, is_elsewhere_named, joined_section, nth_below, pair_section, stands_for}
+use Rattle.dbg_split.specs.PairViews.{JoinsTo, SameSection, count_below, found_bytes, found_contents, is_counted, is_counted_named, is_elsewhere, is_elsewhere_named, joined_section, nth_below, pair_section, stands_for}
 use Rattle.dbg_split.specs.StrippedFile.{kept_before}
 use Rattle.dbg_split.specs.StrippedReads.{IsKept, ReadsStripped}
 use Rattle.dbg_split.proofs.CountLaws.{Agree, nth-is, nth-none, nths-agree}
+use Rattle.dbg_split.proofs.DebugReadLaws.{nobits-names}
 use Rattle.dbg_split.proofs.KeptPartLaws.{before-less}
 use Rattle.dbg_split.proofs.SplitLoadedLaws.{or-none, renumbered}
 use Rattle.dbg_split.proofs.StrippedFitLaws.{IsSplit, names-kept, names-there, number-some}
@@ -522,9 +523,80 @@ section-joins b name d s i p lt plain table =
           ]
     ]
 
+-- the section name table counts from the debug file
+table-joins : (b name d s : List ℕ) (i : ℕ) → IsPair b name d s → i < section_count b → is_name_section b i ≡ true → pair_section d s i ≡ view_section b i
+table-joins b name d s i p lt table =
+    let own : i ≡ name_index b = eq-is i (name_index b) (sym (name_section-some b i p.split.named) ∙ table) in
+    own-joins b name d s i p lt (ap (becomes_nobits b) own ∙ nobits-names b)
+    (never (is_elsewhere d i)
+    (λ h. (let no : true ≡ false = sym (name_section-debug b name d s i p ∙ table) ∙ (elsewhere-is d i h).other in cc)))
+
+plain-joins : (b name d s : List ℕ) (i : ℕ) → IsPair b name d s → i < section_count b → is_alloc (nth_section b i) ≡ false → pair_section d s i ≡ view_section b i
+plain-joins b name d s i p lt plain =
+    elim (cases_Bool (is_name_section b i)) [
+      | inl table ↦ table-joins b name d s i p lt table
+      | inr other ↦ section-joins b name d s i p lt plain other
+    ]
+
+-- a loaded section without bytes has none in the debug file
+empty-if : (t : Bool) (s d : Section) → d.kind ≡ (if t then SHT_NOBITS else s.kind) → is_empty_kind s ≡ true → is_empty_kind d ≡ true
+empty-if true s d kind empty = rw kind refl
+empty-if false s d kind empty = empty-by d s kind ∙ empty
+
+no-contents : (b : List ℕ) (i : ℕ) → is_empty_kind (nth_section b i) ≡ true → contents_of b i ≡ []
+unfolding contents_of
+no-contents b i empty = contents-empty b (nth_section b i) empty
+
+here-loaded : (b name d s : List ℕ) (i : ℕ) → IsPair b name d s → i < section_count b → is_alloc (nth_section b i) ≡ true → is_elsewhere d i ≡ false
+here-loaded b name d s i p lt alloc =
+    never (is_elsewhere d i)
+    (λ h. (let no : true ≡ false = sym (alloc-debug b name d s i p lt ∙ alloc) ∙ (elsewhere-is d i h).plain in cc))
+
+loaded-joins : (b name d s : List ℕ) (i : ℕ) → IsPair b name d s → i < section_count b → is_alloc (nth_section b i) ≡ true → is_empty_kind (nth_section b i) ≡ true
+    → pair_section d s i ≡ view_section b i
+loaded-joins b name d s i p lt alloc empty =
+    let none = empty-if (becomes_nobits b i) (nth_section b i) (nth_section d i) (kind-debug b name d s i p lt) empty in
+    pair-own d s i (here-loaded b name d s i p lt alloc)
+    ∙ view-whole d i
+    ∙ wholes-same (section_name d i) (section_name b i) (is_alloc (nth_section d i)) (is_alloc (nth_section b i)) (is_name_section d i) (is_name_section b i)
+    (not (is_empty_kind (nth_section d i))) (not (is_empty_kind (nth_section b i))) (contents_of d i) (contents_of b i)
+    (p.debug.names i lt) (alloc-debug b name d s i p lt) (name_section-debug b name d s i p)
+    (ap not (none ∙ sym empty)) (no-contents d i none ∙ sym (no-contents b i empty))
+    ∙ sym (view-whole b i)
+
+empty-joins : (b name d s : List ℕ) (i : ℕ) → IsPair b name d s → i < section_count b → is_empty_kind (nth_section b i) ≡ true → pair_section d s i ≡ view_section b i
+empty-joins b name d s i p lt empty =
+    elim (cases_Bool (is_alloc (nth_section b i))) [
+      | inl alloc ↦ loaded-joins b name d s i p lt alloc empty
+      | inr plain ↦ plain-joins b name d s i p lt plain
+    ]
+
+-- names stay
+same-names : (b name d s : List ℕ) (i : ℕ) (h : Bool) (c : List ℕ) → IsPair b name d s → i < section_count b
+    → SameSection (whole (section_name d i) (is_alloc (nth_section d i)) (is_name_section d i) h c) (view_section b i)
+unfolding view_section
+same-names b name d s i h c p lt = record {
+  name = p.debug.names i lt;
+  alloc = alloc-debug b name d s i p lt;
+  is_name_table = name_section-debug b name d s i p;
+}
+
+names-join : (b name d s : List ℕ) (i : ℕ) → IsPair b name d s → i < section_count b → SameSection (pair_section d s i) (view_section b i)
+names-join b name d s i p lt =
+    elim (cases_Bool (is_elsewhere d i)) [
+      | inl elsewhere ↦
+          subst (λ (x : ViewSection). SameSection x (view_section b i)) (sym (pair-joined d s i elsewhere))
+          (same-names b name d s i (found_bytes s (stands_for d s i)) (found_contents s (stands_for d s i)) p lt)
+      | inr here ↦
+          subst (λ (x : ViewSection). SameSection x (view_section b i)) (sym (pair-own d s i here ∙ view-whole d i))
+          (same-names b name d s i (not (is_empty_kind (nth_section d i))) (contents_of d i) p lt)
+    ]
+
 pub pair-joins : (b name d s : List ℕ) → IsPair b name d s → JoinsTo b d s
 pair-joins b name d s p = record {
   order_is = p.debug.order_is;
   count = p.debug.count;
-  sections = λ i lt plain table. section-joins b name d s i p lt plain table;
+  named = λ i lt. names-join b name d s i p lt;
+  sections = λ i lt plain. plain-joins b name d s i p lt plain;
+  empty = λ i lt empty. empty-joins b name d s i p lt empty;
 }

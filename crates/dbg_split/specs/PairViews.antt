@@ -1,7 +1,7 @@
 -- The sections of a debug file and the stripped file that links to it, as one view: this project's profile of GNU debugging
 -- information in separate files. They have the numbers of the debug file. A section with bytes there counts from there; the
 -- k-th of a name that has none there stands for the k-th of that name in the stripped file, and is empty where there is none.
-use Rattle.std.specs.Prelude.{Bool, false, ◌≡◌, ℕ, zero, suc, ◌+◌, ◌<◌, ◌==◌, ◌&&◌, not, if◌then◌else◌, List, [], Option, Some, None}
+use Rattle.std.specs.Prelude.{Bool, true, false, ◌≡◌, ℕ, zero, suc, ◌+◌, ◌<◌, ◌==◌, ◌&&◌, not, if◌then◌else◌, List, [], Option, Some, None}
 use Rattle.dw_base.specs.Elf.{order_of, nth_section, section_count, section_name, contents_of, is_empty_kind}
 use Rattle.dw_base.specs.FileViews.{ViewSection, is_name_section, plain_contents, view_section}
 use Rattle.dw_base.specs.Layout.{is_alloc}
@@ -64,10 +64,16 @@ joined_section debug stripped i = record {
 unfoldable pub pair_section : List ℕ → List ℕ → ℕ → ViewSection
 pair_section debug stripped i = if is_elsewhere debug i then joined_section debug stripped i else view_section debug i
 
--- the pair has the sections of the file `b` by number, each as that has it, the ALLOC sections and the section name table
--- aside
+-- two sections have the same name, and the same place among loaded sections and names
+pub record SameSection (new old : ViewSection) : Type 0 where
+  pub name : new.name ≡ old.name
+  pub alloc : new.alloc ≡ old.alloc
+  pub is_name_table : new.is_name_table ≡ old.is_name_table
+
+-- the pair has the sections of the file `b` by number, each as that has it; of ALLOC sections that have bytes, the name alone
 pub record JoinsTo (b debug stripped : List ℕ) : Type 0 where
   pub order_is : order_of debug ≡ order_of b
   pub count : section_count debug ≡ section_count b
-  pub sections : (i : ℕ) → i < section_count b → is_alloc (nth_section b i) ≡ false → is_name_section b i ≡ false
-      → pair_section debug stripped i ≡ view_section b i
+  pub named : (i : ℕ) → i < section_count b → SameSection (pair_section debug stripped i) (view_section b i)
+  pub sections : (i : ℕ) → i < section_count b → is_alloc (nth_section b i) ≡ false → pair_section debug stripped i ≡ view_section b i
+  pub empty : (i : ℕ) → i < section_count b → is_empty_kind (nth_section b i) ≡ true → pair_section debug stripped i ≡ view_section b i

@@ -80,8 +80,8 @@ fn split_bytes(alloc: Global, bytes: &[u8], debug_name: &[u8]) -> Result<Pair, F
 /// The stripped file reads as an ELF file, and has each section that isn't droppable, with its name and
 /// contents, and the link behind them. The debug file reads as one of debug data, and has each section under
 /// its number, with its name, and with its contents but for those that the stripped file keeps. Together they
-/// have each section of the file, with its name and contents, ALLOC sections and the section name table aside:
-/// the k-th section of a name without bytes in the debug file is the k-th of that name in the stripped one.
+/// have each section of the file, with its name and contents, of ALLOC sections with bytes the name alone: the
+/// k-th section of a name without bytes in the debug file is the k-th of that name in the stripped one.
 pub fn split(alloc: Global, bytes: &[u8], debug_name: &[u8]) -> Result<Pair, Fault>
     requires small { length bytes.now ≤ output_limit }
     ensures debug { IfOk result (λ pair. pair.debug.items ≡ debug_file bytes.now) }

@@ -1,0 +1,6 @@
+pub mod RegisterLaws
+pub mod RowLaws
+pub mod HeaderLaws
+pub mod WholeLaws
+pub mod TableLaws
+pub mod WorkedRows

@@ -1,0 +1,23 @@
+-- The row that is given, and the operations that give none.
+use Rattle.std.proofs.Common.{sym, ◌∙◌, arith}
+use Rattle.dw_rows.specs.TableRows.{rows_from}
+use Rattle.dw_rows.proofs.RowLaws.{row-given, row-more}
+use Rattle.dw_rows.proofs.rows.next_row.Goals as goal
+
+pub returns-then-gives_row-clause-row : goal.returns-then-gives_row-clause-row
+returns-then-gives_row-clause-row c =
+    row-given (rows_from c.args.params.now c.args.counts.now c.args.left.now c.args.registers) c.args.params.now c.args.counts.now c.operations.rest.now
+    c.split_at.result.1.now c.operations.now c.moved-row.result c.behind_row.result c.in-Some.operation c.in-Some.size c.operations.invariant.rows
+    c.in-Some.ensures.operation c.in-Some.ensures.further c.moved-row.ensures.registers c.split_at.ensures.back (sym c.if-gives_row.true ∙ c.gives_row.ensures)
+    c.behind_row.ensures.registers
+
+pub operations-preserved : goal.operations-preserved
+operations-preserved c = record {
+  rows = row-more (rows_from c.args.params.now c.args.counts.now c.args.left.now c.args.registers) c.args.params.now c.args.counts.now c.operations.rest.now
+      c.split_at.result.1.now c.operations.now c.moved-row.result c.in-Some.operation c.in-Some.size c.operations.invariant.rows
+      c.in-Some.ensures.operation c.in-Some.ensures.further c.moved-row.ensures.registers c.split_at.ensures.back (sym c.if-gives_row.false ∙ c.gives_row.ensures);
+  within = (let behind = c.split_at.ensures.back_len in
+      let before = c.operations.invariant.within in
+      omega (arith, behind, before));
+  index = c.moved-row.ensures.index;
+}

@@ -1,0 +1,4 @@
+pub mod Operations
+pub mod Registers
+pub mod TableRows
+pub mod ShownFiles

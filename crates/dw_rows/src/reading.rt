@@ -1,0 +1,258 @@
+//! The operation at the front of what is left of a line program (DWARF 5, 6.2.5).
+//!
+//! This file promises: an operation that is given stands there, with its size; none is given only where none
+//! that a table may have ends in the bytes.
+
+ghost use Rattle.std.specs.Prelude.{◌≡◌, ◌+◌, ◌-◌, ◌≤◌, ◌<◌, ◌^◌, length, IfSome};
+ghost use Rattle.dw_lines.specs.LineTexts.{skip_lebs};
+ghost use Rattle.dw_rows.specs.Operations.{const_operation, extended, extended_in, extended_operation, is_numbered, numbered, operation_in, special, special_operation, standard_operation, unnumbered};
+
+use crate::line_numbers::{
+    DW_LNE_end_sequence, DW_LNE_set_address, DW_LNE_set_discriminator, DW_LNS_advance_line,
+    DW_LNS_advance_pc, DW_LNS_const_add_pc, DW_LNS_copy, DW_LNS_fixed_advance_pc,
+    DW_LNS_negate_stmt, DW_LNS_set_basic_block, DW_LNS_set_column, DW_LNS_set_epilogue_begin,
+    DW_LNS_set_file, DW_LNS_set_isa, DW_LNS_set_prologue_end,
+};
+use crate::operation::{LineParams, Operation};
+use dw_base::{Field, Order, number_at, number_in, sleb_at, uleb_at};
+
+/// What a special opcode does that is so far above the first.
+fn special(params: &LineParams, above: u8) -> Operation
+    requires some { 0 < params.now.line_range }
+    ensures operation { result ≡ special params.now above }
+{
+    let advance = u64::from(above / params.line_range);
+    let lines = i64::from(params.line_base) + i64::from(above % params.line_range);
+    Operation::Special(advance, lines)
+}
+
+/// A special opcode. `None` exactly where the line range is 0.
+#[tactic(auto, unfolding(crate::specs::Operations::special_operation))]
+fn special_operation(params: &LineParams, opcode: u8) -> Option<(Operation, u64)>
+    requires above { params.now.opcode_base ≤ opcode }
+    ensures operation { result ≡ special_operation params.now opcode }
+    ensures size { IfSome result (λ o. o.1 ≡ 1) }
+{
+    if params.line_range == 0 {
+        return None;
+    }
+    Some((special(params, opcode - params.opcode_base), 1))
+}
+
+/// The advance of the special opcode 255. `None` exactly where the line range is 0.
+#[tactic(auto, unfolding(crate::specs::Operations::const_operation))]
+fn const_operation(params: &LineParams) -> Option<(Operation, u64)>
+    ensures operation { result ≡ const_operation params.now }
+    ensures size { IfSome result (λ o. o.1 ≡ 1) }
+{
+    if params.line_range == 0 {
+        return None;
+    }
+    let advance = (255 - params.opcode_base) / params.line_range;
+    Some((Operation::Advance(u64::from(advance)), 1))
+}
+
+/// Whether a standard opcode has one unsigned number.
+#[tactic(auto, unfolding(crate::specs::Operations::is_numbered))]
+fn is_numbered(opcode: u8) -> bool
+    ensures { result ≡ is_numbered opcode }
+{
+    opcode == DW_LNS_advance_pc
+        || opcode == DW_LNS_set_file
+        || opcode == DW_LNS_set_column
+        || opcode == DW_LNS_set_isa
+}
+
+/// What a standard opcode with one unsigned number does.
+#[tactic(auto, unfolding(crate::specs::Operations::numbered))]
+fn numbered(opcode: u8, number: u64) -> Operation
+    ensures operation { result ≡ numbered opcode number }
+{
+    if opcode == DW_LNS_advance_pc {
+        return Operation::Advance(number);
+    }
+    if opcode == DW_LNS_set_file {
+        return Operation::SetFile(number);
+    }
+    if opcode == DW_LNS_set_column {
+        return Operation::SetColumn(number);
+    }
+    Operation::SetIsa(number)
+}
+
+/// What a standard opcode does of which no number counts.
+#[tactic(auto, unfolding(crate::specs::Operations::unnumbered))]
+fn unnumbered(opcode: u8) -> Operation
+    ensures operation { result ≡ unnumbered opcode }
+{
+    if opcode == DW_LNS_copy {
+        return Operation::Copy;
+    }
+    if opcode == DW_LNS_negate_stmt {
+        return Operation::NegateStmt;
+    }
+    if opcode == DW_LNS_set_basic_block {
+        return Operation::BeginBlock;
+    }
+    if opcode == DW_LNS_set_prologue_end {
+        return Operation::EndPrologue;
+    }
+    if opcode == DW_LNS_set_epilogue_begin {
+        return Operation::BeginEpilogue;
+    }
+    Operation::Skip
+}
+
+/// The place behind so many unsigned numbers. `None` exactly where one of them passes the end.
+#[tactic(auto, using(dw_lines::proofs::TextLaws::skip_laws))]
+fn skip_lebs(count: u8, left: &[u8], start: u64) -> Option<u64>
+    requires inside { start ≤ length left.now }
+    ensures place { result ≡ skip_lebs count left.now start }
+    ensures behind { IfSome result (λ next. start ≤ next) }
+    ensures within { IfSome result (λ next. next ≤ length left.now) }
+{
+    let mut more = count;
+    let mut place = start;
+    'numbers: while more > 0 {
+        let Some((_, size)) = uleb_at(left, place) else {
+            return None;
+        };
+        place += size;
+        more -= 1;
+    }
+    Some(place)
+}
+
+/// A standard opcode at the front. `None` exactly where its numbers pass the end, or it divides by a line
+/// range of 0.
+#[tactic(auto, unfolding(crate::specs::Operations::standard_operation))]
+fn standard_operation(
+    params: &LineParams,
+    counts: &[u8],
+    left: &[u8],
+    opcode: u8,
+) -> Option<(Operation, u64)>
+    requires small { length left.now ≤ 2 ^ 31 }
+    requires inside { 1 ≤ length left.now }
+    requires counts { length counts.now ≡ params.now.opcode_base - 1 }
+    requires some { 0 < opcode }
+    requires below { opcode < params.now.opcode_base }
+    ensures operation { result ≡ standard_operation params.now counts.now left.now opcode }
+    ensures further { IfSome result (λ o. 0 < o.1) }
+    ensures within { IfSome result (λ o. o.1 ≤ length left.now) }
+{
+    if opcode == DW_LNS_advance_line {
+        return match sleb_at(left, 1) {
+            Some((lines, size)) => Some((Operation::AddLine(lines), 1 + size)),
+            None => None,
+        };
+    }
+    if opcode == DW_LNS_const_add_pc {
+        return const_operation(params);
+    }
+    if opcode == DW_LNS_fixed_advance_pc {
+        return match number_at(params.order, left, 1, 2) {
+            Some(bytes) => Some((Operation::AddAddress(bytes), 3)),
+            None => None,
+        };
+    }
+    if is_numbered(opcode) {
+        return match uleb_at(left, 1) {
+            Some((number, size)) => Some((numbered(opcode, number), 1 + size)),
+            None => None,
+        };
+    }
+    match skip_lebs(counts[usize::from(opcode - 1)], left, 1) {
+        Some(next) => Some((unnumbered(opcode), next)),
+        None => None,
+    }
+}
+
+/// What an extended opcode of a code does, its operands from a place on in the bytes up to its end. `None`
+/// exactly where they pass that end, or an address has another size than 2, 4 or 8.
+#[tactic(auto, unfolding(crate::specs::Operations::extended))]
+fn extended(order: Order, body: &[u8], code: u8, place: u64) -> Option<Operation>
+    requires inside { place ≤ length body.now }
+    ensures operation { result ≡ extended order body.now code place }
+{
+    if code == DW_LNE_end_sequence {
+        return Some(Operation::EndSequence);
+    }
+    if code == DW_LNE_set_address {
+        let size = body.len() as u64 - place;
+        if size == 2 || size == 4 || size == 8 {
+            let address = number_in(order, body, place, size as u8);
+            return Some(Operation::SetAddress(Field::Num(address)));
+        }
+        return None;
+    }
+    if code == DW_LNE_set_discriminator {
+        return match uleb_at(body, place) {
+            Some((number, _)) => Some(Operation::SetDiscriminator(number)),
+            None => None,
+        };
+    }
+    Some(Operation::Skip)
+}
+
+/// An extended opcode of so many bytes from a place on, its code the first of them.
+#[tactic(auto, unfolding(crate::specs::Operations::extended_in))]
+fn extended_in(order: Order, left: &[u8], first: u64, size: u64) -> Option<(Operation, u64)>
+    requires inside { first ≤ length left.now }
+    ensures operation { result ≡ extended_in order left.now first size }
+    ensures further { IfSome result (λ o. first < o.1) }
+    ensures within { IfSome result (λ o. o.1 ≤ length left.now) }
+{
+    if size == 0 {
+        return None;
+    }
+    if size > left.len() as u64 - first {
+        return None;
+    }
+    let next = first + size;
+    let code = left[first as usize];
+    match extended(order, &left[..next as usize], code, first + 1) {
+        Some(operation) => Some((operation, next)),
+        None => None,
+    }
+}
+
+/// An extended opcode at the front.
+#[tactic(auto, unfolding(crate::specs::Operations::extended_operation))]
+fn extended_operation(order: Order, left: &[u8]) -> Option<(Operation, u64)>
+    ensures operation { result ≡ extended_operation order left.now }
+    ensures further { IfSome result (λ o. 0 < o.1) }
+    ensures within { IfSome result (λ o. o.1 ≤ length left.now) }
+{
+    match uleb_at(left, 1) {
+        Some((size, front)) => extended_in(order, left, 1 + front, size),
+        None => None,
+    }
+}
+
+/// The operation at the front of what is left of a program, and its size in bytes. `None` exactly where none
+/// stands there that ends in the bytes and that a table may have.
+#[tactic(auto, unfolding(crate::specs::Operations::operation_in, crate::specs::Operations::operation_of))]
+pub(crate) fn operation_in(
+    params: &LineParams,
+    counts: &[u8],
+    left: &[u8],
+) -> Option<(Operation, u64)>
+    requires small { length left.now ≤ 2 ^ 31 }
+    requires counts { length counts.now ≡ params.now.opcode_base - 1 }
+    ensures operation { result ≡ operation_in params.now counts.now left.now }
+    ensures further { IfSome result (λ o. 0 < o.1) }
+    ensures within { IfSome result (λ o. o.1 ≤ length left.now) }
+{
+    if left.is_empty() {
+        return None;
+    }
+    let opcode = left[0];
+    if opcode >= params.opcode_base {
+        return special_operation(params, opcode);
+    }
+    if opcode == 0 {
+        return extended_operation(params.order, left);
+    }
+    standard_operation(params, counts, left, opcode)
+}
