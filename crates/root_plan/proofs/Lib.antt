@@ -10,3 +10,6 @@ pub mod ListLaws
 pub mod MakerLaws
 pub mod PlanLaws
 pub mod SearchLaws
+pub mod PlaceLaws
+pub mod TakenLaws
+pub mod MadeLaws

@@ -32,7 +32,7 @@ turned a b e =
     let p = greater-by (nat_lt a b) (a == b) e in
     less-by (nat_lt b a) (b == a) (lt-ltb b a (omega (arith, ltb-false a b p.0, eqb-false a b p.1)))
 
-cmp_self : (a : ℕ) → nat_cmp a a ≡ Equal
+pub cmp_self : (a : ℕ) → nat_cmp a a ≡ Equal
 cmp_self a = by_test (nat_lt a a) (a == a) (not_less a) (eq-eqb a a refl)
   where
     by_test : (l e : Bool) → l ≡ false → e ≡ true → cond l Less (cond e Equal Greater) ≡ Equal
@@ -52,7 +52,7 @@ cmp_self a = by_test (nat_lt a a) (a == a) (not_less a) (eq-eqb a a refl)
 
 -- ### Fronts
 
-first-same : (a b : ℕ) (r : Bool) → ((a == b) && r) ≡ true → (a ≡ b) × (r ≡ true)
+pub first-same : (a b : ℕ) (r : Bool) → ((a == b) && r) ≡ true → (a ≡ b) × (r ≡ true)
 first-same a b r e = by_test (a == b) refl e
   where
     by_test : (t : Bool) → (a == b) ≡ t → (t && r) ≡ true → (a ≡ b) × (r ≡ true)
@@ -89,3 +89,8 @@ stands_together (a ∷ f) (c ∷ y) (b ∷ q) g l s =
       where
         apart : true ≡ false → ⊥
         apart e = cc
+
+-- a front begins with itself
+pub same_begins : (f : List ℕ) → starts_with nat_eq f f ≡ true
+same_begins [] = refl
+same_begins (a ∷ f) = rw (eq-eqb a a refl) (same_begins f)

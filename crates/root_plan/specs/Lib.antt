@@ -12,3 +12,4 @@ pub mod Walks
 pub mod Lists
 pub mod Makers
 pub mod Fits
+pub mod Searches

@@ -2,10 +2,10 @@
 //! stand (this project's profile).
 //!
 //! **This layer promises**: `walk` answers all paths below a root, in byte order, and says exactly why it
-//! doesn't. Inside, over any judge of files: what the files of a root come to, path by path in byte order,
-//! and at which path and why that ends; the report, the lists and the new paths of jobs; and a maker of a
-//! journal whose jobs are a plan's.
-//! It does not promise: a plan (whether new paths are taken isn't looked at yet), and what a judge says.
+//! doesn't. Inside, over any judge of files: the plan of a root, path by path in byte order, or at which path
+//! and why there is none; the report, the lists and the new paths of jobs; and a maker of a journal whose jobs
+//! are a plan's.
+//! It does not promise: what a judge says.
 //! Read first: `specs/Roots.antt`, `specs/Tallies.antt`, `specs/Targets.antt`, `specs/Plans.antt`.
 //!
 //! ```
@@ -26,6 +26,7 @@ mod report;
 mod root_maker;
 mod survey;
 mod surveying;
+mod taken;
 mod targets;
 #[cfg(test)]
 mod tests;

@@ -63,7 +63,7 @@ fn behind<'a>(front: &str, path: &'a str) -> Option<&'a str>
 }
 
 /// Whether a path begins with this front.
-fn begins(front: &str, path: &str) -> bool
+pub(crate) fn begins(front: &str, path: &str) -> bool
     ensures value { result ≡ starts_with nat_eq path.now front.now }
 {
     path.as_bytes().starts_with(front.as_bytes())

@@ -1,16 +1,25 @@
-//! The plan of what a build root comes to.
+//! The plan of a build root.
 //!
 //! Read first: `specs/Plans.antt`.
 ghost use Rattle.std.specs.Prelude.{◌≡◌, ◌≤◌, map, length, IfOk, IfErr, OnOk};
+ghost use Rattle.std.specs.String.{string_bytes};
+ghost use Rattle.file_tree.specs.Seen.{now_of};
 ghost use Rattle.work_texts.specs.Lists.{bytes_of};
 ghost use Rattle.work_texts.specs.Rules.{text_limit};
-ghost use Rattle.root_plan.specs.Plans.{key_of, plan_of, plan_length, IsLongPlan};
+ghost use Rattle.root_plan.specs.Looks.{Looked};
+ghost use Rattle.root_plan.specs.Targets.{new_paths};
+ghost use Rattle.root_plan.specs.Plans.{key_of, plan_of, plan_length, IsLongPlan, CanBeMade, NewEnds, IsPlanOf, PlanEnds};
 
+use crate::judge::Judge;
+use crate::names::Root;
 use crate::plan_err::PlanErr;
 use crate::report::report;
 use crate::survey::Survey;
+use crate::surveying::{check_count, survey_paths};
+use crate::taken::check_made;
+use crate::targets::new_paths;
 use dbg_job::Options;
-use file_tree::Blob;
+use file_tree::{Blob, Tree};
 use std::alloc::{AllocError, Global};
 use std::collections::BTreeSet;
 use work_texts::{Jobs, PlanData, RunKey, Sources, TEXT_LIMIT, write_plan};
@@ -90,4 +99,40 @@ pub(crate) fn check_text(alloc: Global, plan: &PlanData) -> Result<(), PlanErr>
         return Err(PlanErr::PlanTooLarge);
     }
     Ok(())
+}
+
+/// Whether the new paths of a plan can be made where these paths stand.
+#[tactic(auto, using(crate::proofs::MadeLaws::new_rules))]
+fn check_new(alloc: Global, root: &str, present: &[String], plan: &PlanData) -> Result<(), PlanErr>
+    ensures can { OnOk result (CanBeMade (map string_bytes present.now) (new_paths root.now plan.now.jobs)) }
+    ensures ends { IfErr result (NewEnds (map string_bytes present.now) (new_paths root.now plan.now.jobs)) }
+{
+    let news = new_paths(alloc, root, plan.jobs.as_slice())?;
+    check_made(alloc, present, news)?;
+    Ok(())
+}
+
+/// The plan of a build root: what becomes of its files, of which these are the paths in byte order, and all
+/// that is made of them. It is refused where a limit is passed, where a file is refused that isn't to be
+/// skipped, and where a path that is to be made is taken.
+#[tactic(auto, using(crate::proofs::MadeLaws::plan_rules))]
+pub(crate) fn make_plan<T: Tree, J: Judge>(
+    alloc: Global,
+    tree: &mut T,
+    root: &str,
+    present: &[String],
+    options: &Options,
+    judge: &J,
+) -> Result<PlanData, PlanErr>
+    ensures plan { IfOk result (IsPlanOf (now_of (T.seen tree.old)) root.now (map string_bytes present.now) options.now (J.view judge.now) (J.fails judge.now)) }
+    ensures ends { IfErr result (PlanEnds (T.seen tree.old) (T.seen tree.new) root.now (map string_bytes present.now) options.now (J.view judge.now) (J.fails judge.now)) }
+    ensures looked { Looked (T.seen tree.old) (T.seen tree.new) }
+{
+    let fronts = Root::new(alloc, root)?;
+    check_count(&fronts, present)?;
+    let survey = survey_paths(alloc, tree, &fronts, present, options, judge)?;
+    let plan = plan_of(alloc, options, survey)?;
+    check_new(alloc, root, present, &plan)?;
+    check_text(alloc, &plan)?;
+    Ok(plan)
 }

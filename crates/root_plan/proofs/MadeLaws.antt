@@ -1,0 +1,73 @@
+-- The plan of a root, and why there is none, from its parts.
+use Rattle.std.proofs.Common.{◌≡◌, ℕ, ◌≤◌, List, map, refl, sym, ap, ◌∙◌, subst, Option, String}
+use Rattle.std.specs.declared.alloc.Global.{Global}
+use Rattle.std.specs.String.{string_bytes}
+use Rattle.dw_base.specs.declared.fault.Refusal.{Refusal}
+use Rattle.file_tree.specs.Trees.{TreeMap}
+use Rattle.file_tree.specs.Seen.{Seen, now_of}
+use Rattle.dbg_job.specs.Settings.{Settings}
+use Rattle.work_texts.specs.declared.plan.JobLine.{JobLine}
+use Rattle.work_texts.specs.declared.plan.PlanData.{PlanData}
+use Rattle.work_texts.specs.Rules.{text_limit}
+use Rattle.root_plan.specs.declared.plan_err.PlanErr.{PlanErr}
+use Rattle.root_plan.specs.declared.plan_err.PlanErr.TheVariants as err
+use Rattle.root_plan.specs.Roots.{count_outside, most_outside}
+use Rattle.root_plan.specs.Looks.{Looked}
+use Rattle.root_plan.specs.Targets.{new_paths}
+use Rattle.root_plan.specs.Verdicts.{JudgeView}
+use Rattle.root_plan.specs.Tallies.{Tally, Tallies}
+use Rattle.root_plan.specs.Plans.{AreMany, plan_of, plan_length, IsLongPlan, CanBeMade, NewEnds, IsTallied, IsPlanOf, PlanEnds}
+use Rattle.root_plan.specs.Plans.{IsLongPlan as text, NewEnds as new, PlanEnds as ends}
+use Rattle.root_plan.proofs.LookLaws.{looked_none, looked_then}
+
+pub can_made : (present : List (List ℕ)) (root : List ℕ) (given jobs : List JobLine) (news : List (String Global)) → given ≡ jobs → map string_bytes news ≡ new_paths root given
+    → CanBeMade present (map string_bytes news) → CanBeMade present (new_paths root jobs)
+can_made present root given jobs news same is can = subst (CanBeMade present) (is ∙ ap (new_paths root) same) can
+
+pub ends_made : (present : List (List ℕ)) (root : List ℕ) (given jobs : List JobLine) (news : List (String Global)) (e : PlanErr) → given ≡ jobs → map string_bytes news ≡ new_paths root given
+    → NewEnds present (map string_bytes news) e → NewEnds present (new_paths root jobs) e
+ends_made present root given jobs news e same is ended = subst (λ (ns : List (List ℕ)). NewEnds present ns e) (is ∙ ap (new_paths root) same) ended
+
+pub ruleset new_rules = (can_made, ends_made, new.no_memory)
+
+-- ### The plan
+
+module _ (root : List ℕ) (present : List (List ℕ)) (s : Settings) (v : JudgeView) (fails : List ℕ → List ℕ → Refusal → Type 0) where
+  tallied-at : (old : Option TreeMap) (same : List ℕ) (tally : Tally) → same ≡ root → count_outside same present ≤ most_outside → Tallies old same s v fails present tally
+      → IsTallied old root present s v fails tally
+  tallied-at old same tally at few tallies = subst (λ (r : List ℕ). IsTallied old r present s v fails tally) at (record { few = few; tallies = tallies })
+
+  pub made_plan : (old : Option TreeMap) (same : List ℕ) (tally : Tally) (plan : PlanData) → same ≡ root → count_outside same present ≤ most_outside → Tallies old same s v fails present tally
+      → plan ≡ plan_of s tally → CanBeMade present (new_paths root plan.jobs) → plan_length plan ≤ text_limit → IsPlanOf old root present s v fails plan
+  made_plan old same tally plan at few tallies is can within = record {
+    tally = tally;
+    tallied = tallied-at old same tally at few tallies;
+    is = is;
+    can = subst (λ (p : PlanData). CanBeMade present (new_paths root p.jobs)) is can;
+    within = within;
+  }
+
+  pub many_ends : (old new : Seen) (same : List ℕ) (e : PlanErr) → same ≡ root → AreMany same present e → PlanEnds old new root present s v fails e
+  many_ends old new same e at many =
+      subst (λ (r : List ℕ). PlanEnds old new r present s v fails e) at (subst (λ (x : PlanErr). PlanEnds old new same present s v fails x) (sym many.0) (ends.many many.1))
+
+  pub path_ends : (old new : Seen) (same : List ℕ) (e : PlanErr) → same ≡ root → PlanEnds old new same present s v fails e → PlanEnds old new root present s v fails e
+  path_ends old new same e at ended = subst (λ (r : List ℕ). PlanEnds old new r present s v fails e) at ended
+
+  pub new_ends : (old new : Seen) (same : List ℕ) (tally : Tally) (plan : PlanData) (e : PlanErr) → same ≡ root → count_outside same present ≤ most_outside
+      → Tallies (now_of old) same s v fails present tally → plan ≡ plan_of s tally → NewEnds present (new_paths root plan.jobs) e → PlanEnds old new root present s v fails e
+  new_ends old new same tally plan e at few tallies is ended =
+      ends.at_new (tallied-at (now_of old) same tally at few tallies) (subst (λ (p : PlanData). NewEnds present (new_paths root p.jobs) e) is ended)
+
+  text-by : (old new : Seen) (tally : Tally) (e : PlanErr) → IsTallied (now_of old) root present s v fails tally → CanBeMade present (new_paths root tally.jobs) → IsLongPlan (plan_of s tally) e
+      → PlanEnds old new root present s v fails e
+  text-by old new tally e tallied can (text.long l) = ends.at_text tallied can l
+  text-by old new tally e tallied can text.no_memory = ends.no_memory
+
+  pub text_ends : (old new : Seen) (same : List ℕ) (tally : Tally) (plan : PlanData) (e : PlanErr) → same ≡ root → count_outside same present ≤ most_outside
+      → Tallies (now_of old) same s v fails present tally → plan ≡ plan_of s tally → CanBeMade present (new_paths root plan.jobs) → IsLongPlan plan e → PlanEnds old new root present s v fails e
+  text_ends old new same tally plan e at few tallies is can long =
+      text-by old new tally e (tallied-at (now_of old) same tally at few tallies) (subst (λ (p : PlanData). CanBeMade present (new_paths root p.jobs)) is can)
+      (subst (λ (p : PlanData). IsLongPlan p e) is long)
+
+pub ruleset plan_rules = (made_plan, many_ends, path_ends, new_ends, text_ends, ends.no_memory, looked_none, looked_then)
