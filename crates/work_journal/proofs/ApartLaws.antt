@@ -1,16 +1,14 @@
 -- The names of a run are told apart by their paths, where its targets differ and lie outside of the work folder.
-use Rattle.std.proofs.Common.{◌≡◌, ◌≢◌, ℕ, zero, suc, ◌<◌, ◌≤◌, ◌+◌, ◌^◌, List, [], ◌∷◌, ◌++◌, length, get_or, drop, refl, sym, ◌∙◌, ap, subst, append_assoc, nat_eq, eq-eqb, true, false, arith, IsTrue}
+use Rattle.std.proofs.Common.{◌≡◌, ◌≢◌, ℕ, zero, suc, ◌<◌, ◌≤◌, ◌+◌, ◌^◌, List, [], ◌∷◌, ◌++◌, length, get_or, drop, refl, sym, ◌∙◌, ap, subst, eq-eqb, true, false, arith, IsTrue}
 use Rattle.std.specs.Prelude.{◌==◌, if◌then◌else◌, ◌%◌}
 use Rattle.std.specs.Fmt.{decimal}
 use Rattle.std.proofs.lemmas.Fmt.{decimal_injective, decimal_by_steps}
-use Rattle.std.specs.List.{starts_with}
-use Rattle.std.proofs.lemmas.Bool.Decides.{Decides-eqb}
-use Rattle.std.proofs.lemmas.Slice.Eq.{starts_is}
 use Rattle.std.proofs.lemmas.List.{append_cancel_left}
 use Rattle.file_tree.specs.Trees.{is_below}
 use Rattle.journal_core.specs.Names.{Name, IsStep, plan_new, plan, temp, commit, fresh, final, target, IsName, IsWorkName}
 use Rattle.work_journal.specs.Work.{work_path, name_text}
 use Rattle.work_journal.specs.Wanted.{Wanted, path_of, IsApart}
+use Rattle.work_journal.proofs.SpareLaws.{is_work_path}
 use Rattle.work_journal.specs.Targets.{AreTargetsApart, AreNodesKept}
 
 -- ### Decimals have no dot
@@ -173,15 +171,6 @@ unfolding work_path
 work_apart work steps a b m is at e =
     let h : name_text a ≡ name_text b = ap rest_of (append_cancel_left work (47 ∷ name_text a) (47 ∷ name_text b) e) in
     same_family steps a b m is at (sym (family_is steps a is) ∙ ap family h ∙ family_is steps b at) h
-
--- ### Paths below the work folder
-
-starts_again : (xs ys : List ℕ) → IsTrue (starts_with nat_eq (xs ++ ys) xs)
-starts_again xs ys = (starts_is Decides-eqb (xs ++ ys) xs (starts_with nat_eq (xs ++ ys) xs) refl).1 ys refl
-
-is_work_path : (work : List ℕ) (n : Name) → IsTrue (is_below work (work_path work n))
-unfolding work_path
-is_work_path work n = subst (λ (p : List ℕ). IsTrue (starts_with nat_eq p (work ++ 47 ∷ []))) (append_assoc work (47 ∷ []) (name_text n)) (starts_again (work ++ 47 ∷ []) (name_text n))
 
 -- ### All names
 

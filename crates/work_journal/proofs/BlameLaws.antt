@@ -169,19 +169,20 @@ goes_well work may c d old new r x is a = record {
     at_ok : {A : Type 0} (r : Result A JobErr) (x : A) (P : Type 0) → r ≡ Ok x → OnOk r P → P
     at_ok r x P e h = rw e at h
 
-pub came_done : {A : Type 0} (work : List ℕ) (may : Wanted → Type 0) (c d : CoreState) (old new : Seen) (r : Result A JobErr) (x : A) → r ≡ Ok x → Came job.Tree work may c old d new r → Came run.Tree work may c old d new run_well
+pub came_done : {hits : List ℕ → Type 0} {n : ℕ} {A : Type 0} (work : List ℕ) (may : Wanted → Type 0) (c d : CoreState) (old new : Seen) (r : Result A JobErr) (x : A) → r ≡ Ok x → Came job.Tree hits n work may c old d new r → Came run.Tree hits n work may c old d new run_well
 came_done work may c d old new r x is a = record {
   tells = a.tells;
   later = a.later;
   failed = λ h. absurd (let e : run_well ≡ Err run.Tree = h in cc);
+  spares = a.spares;
   goes = λ tells. goes_well work may c d old.past new.past r x is (a.goes tells);
 }
 
 abbrev run_err : {B : Type 0} → JournalErr → Result B JournalErr
 run_err y = Err y
 
-pub came_named : {A B : Type 0} (v : MakerView) (work : List ℕ) (may : Wanted → Type 0) (c d : CoreState) (old new : Seen) (r : Result A JobErr) (x : JobErr) (y : JournalErr) → r ≡ Err x → (y ≡ run_stops v x) ⊎ (y ≡ run.NoMemory)
-    → Came job.Tree work may c old d new r → Came run.Tree work may c old d new (run_err {B = B} y)
+pub came_named : {hits : List ℕ → Type 0} {n : ℕ} {A B : Type 0} (v : MakerView) (work : List ℕ) (may : Wanted → Type 0) (c d : CoreState) (old new : Seen) (r : Result A JobErr) (x : JobErr) (y : JournalErr) → r ≡ Err x → (y ≡ run_stops v x) ⊎ (y ≡ run.NoMemory)
+    → Came job.Tree hits n work may c old d new r → Came run.Tree hits n work may c old d new (run_err {B = B} y)
 came_named {B = B} v work may c d old new r x y is named a =
     came_failed job.Tree run.Tree work may c d d old new r (run_err {B = B} y) refl (λ h. named_fault v r x y is named (same y run.Tree h)) a
   where

@@ -91,6 +91,12 @@ file_met w v c seen j path x wanted l tells k free at stood other =
     let f = wanted.files j l in
     other f.bytes f.mode (sym (stood.is (map_now seen.past) (rw tells refl)) ∙ ap (λ (p : List ℕ). stands_at (map_now seen.past) p file_limit) at ∙ file_is_there w v c seen j f k free)
 
+-- what was read stood there
+pub stood_file : (seen : Seen) (path source : List ℕ) (x : Found) (bytes : List ℕ) (mode : ℕ) → path ≡ source → x ≡ found.File bytes mode → Stood (now_of seen) path file_limit x → FileStands seen source bytes mode
+stood_file seen path source x bytes mode at is stood = record {
+  is = λ tells. ap (λ (p : List ℕ). stands_at (map_now seen.past) p file_limit) (sym at) ∙ stood.is (map_now seen.past) (rw tells refl) ∙ is;
+}
+
 not_file : (x : Found) → ((b : List ℕ) (m : ℕ) → x ≢ found.File b m) → is_file x ≡ false
 not_file found.Absent other = refl
 not_file found.Folder other = refl

@@ -1,6 +1,7 @@
 -- A run from a start to its end, call by call.
-use Rattle.std.proofs.Common.{◌≡◌, ◌≢◌, ◌⊎◌, inl, inr, ℕ, suc, zero, ◌<◌, Bool, true, false, List, [], ◌∷◌, ◌||◌, length, get_or, map, refl, sym, ◌∙◌, ap, subst, arith, IsTrue}
-use Rattle.std.specs.Prelude.{Result, Ok, Err, OnOk, IfErr, IsOk, IsErr, IsErrOf, replicate}
+use Rattle.std.proofs.Common.{◌≡◌, ◌≢◌, ◌⊎◌, inl, inr, ℕ, suc, zero, ◌+◌, ◌≤◌, ◌<◌, Bool, true, false, List, [], ◌∷◌, ◌||◌, length, get_or, map, refl, sym, ◌∙◌, ap, subst, arith, IsTrue}
+use Rattle.std.specs.Prelude.{Result, Ok, Err, OnOk, IfErr, IsOk, IsErr, IsErrOf, IsErrAnd, replicate}
+use Rattle.std.proofs.lemmas.Result.{err_from_is_err_and}
 use Rattle.std.specs.Str.{bytes_eq}
 use Rattle.std.proofs.lemmas.List.{length-replicate, get_or-replicate, length-map}
 use Rattle.std.proofs.lemmas.Slice.Eq.{bytes_eq-Decides}
@@ -31,7 +32,7 @@ use Rattle.work_journal.specs.Runs.{Goes, Came}
 use Rattle.work_journal.specs.Settling.{Keeping}
 use Rattle.work_journal.specs.Blames.{run_fault, RunBlames, is_mild_run}
 use Rattle.work_journal.specs.Finishing.{IsStart, is_new, is_begun, is_over, IsPlanned, has_begun, has_ended, end_paths, FinishRan}
-use Rattle.work_journal.proofs.GoesLaws.{came_failed}
+use Rattle.work_journal.proofs.GoesLaws.{came_failed, came_still}
 use Rattle.work_journal.proofs.RestartLaws.{end_whole}
 
 -- ### Calls that are answered by another error, or by another value
@@ -51,10 +52,10 @@ goes_ok work may c d old new r s is a = record {
   keeps = λ w given m k. on_any s _ (of_ok r _ is (a.keeps w given m k));
 }
 
-pub came_to : {A E B F : Type 0} (f : E) (g : F) (work : List ℕ) (may : Wanted → Type 0) (c d : CoreState) (old new : Seen) (r : Result A E) (s : Result B F) → (IsErr s ⊎ IsOk r) → (IsErrOf s g → IsErrOf r f)
-    → Came f work may c old d new r → Came g work may c old d new s
+pub came_to : {hits : List ℕ → Type 0} {n : ℕ} {A E B F : Type 0} (f : E) (g : F) (work : List ℕ) (may : Wanted → Type 0) (c d : CoreState) (old new : Seen) (r : Result A E) (s : Result B F) → (IsErr s ⊎ IsOk r) → (IsErrOf s g → IsErrOf r f)
+    → Came f hits n work may c old d new r → Came g hits n work may c old d new s
 came_to f g work may c d old new r s (inl is) fault a = came_failed f g work may c d d old new r s is fault a
-came_to f g work may c d old new r s (inr ok) fault a = record { tells = a.tells; later = a.later; failed = λ h. a.failed (fault h); goes = λ tells. goes_ok work may c d old.past new.past r s ok (a.goes tells) }
+came_to f g work may c d old new r s (inr ok) fault a = record { tells = a.tells; later = a.later; failed = λ h. a.failed (fault h); spares = a.spares; goes = λ tells. goes_ok work may c d old.past new.past r s ok (a.goes tells) }
 
 abbrev pub run_ok : Result (Unit {0}) JournalErr
 run_ok = Ok tt
@@ -65,14 +66,14 @@ ok_of b = Ok b
 abbrev pub run_err : {B : Type 0} → JournalErr → Result B JournalErr
 run_err y = Err y
 
-pub came_done : {A : Type 0} (work : List ℕ) (may : Wanted → Type 0) (c d : CoreState) (old new : Seen) (r : Result A TreeErr) → IsOk r → Came tree.Failed work may c old d new r → Came run.Tree work may c old d new run_ok
+pub came_done : {hits : List ℕ → Type 0} {n : ℕ} {A : Type 0} (work : List ℕ) (may : Wanted → Type 0) (c d : CoreState) (old new : Seen) (r : Result A TreeErr) → IsOk r → Came tree.Failed hits n work may c old d new r → Came run.Tree hits n work may c old d new run_ok
 came_done work may c d old new r is a = came_to tree.Failed run.Tree work may c d old new r run_ok (inr is) (λ h. absurd (let e : run_ok ≡ Err run.Tree = h in cc)) a
 
 -- a value made of one that was answered
 abbrev tree_ok : {B : Type 0} → B → Result B TreeErr
 tree_ok b = Ok b
 
-pub came_listed : {A B : Type 0} (work : List ℕ) (may : Wanted → Type 0) (c d : CoreState) (old new : Seen) (r : Result A TreeErr) (b : B) → IsOk r → Came tree.Failed work may c old d new r → Came tree.Failed work may c old d new (tree_ok b)
+pub came_listed : {hits : List ℕ → Type 0} {n : ℕ} {A B : Type 0} (work : List ℕ) (may : Wanted → Type 0) (c d : CoreState) (old new : Seen) (r : Result A TreeErr) (b : B) → IsOk r → Came tree.Failed hits n work may c old d new r → Came tree.Failed hits n work may c old d new (tree_ok b)
 came_listed work may c d old new r b is a = came_to tree.Failed tree.Failed work may c d old new r (tree_ok b) (inr is) (λ h. absurd (let e : tree_ok b ≡ Err tree.Failed = h in cc)) a
 
 same_err : {B : Type 0} (a b : JournalErr) → run_err {B = B} a ≡ Err b → a ≡ b
@@ -82,9 +83,42 @@ stopped_fault : {A B : Type 0} (r : Result A TreeErr) (x : TreeErr) (y : Journal
 stopped_fault {B = B} r tree.Failed y is of h = is
 stopped_fault {B = B} r tree.NoMemory y is of h = let d : run.NoMemory ≡ run.Tree = sym of ∙ same_err {B = B} y run.Tree h in cc
 
-pub came_stopped : {A B : Type 0} (work : List ℕ) (may : Wanted → Type 0) (c d : CoreState) (old new : Seen) (r : Result A TreeErr) (x : TreeErr) (y : JournalErr) → r ≡ Err x → y ≡ run_fault x
-    → Came tree.Failed work may c old d new r → Came run.Tree work may c old d new (run_err {B = B} y)
+pub came_stopped : {hits : List ℕ → Type 0} {n : ℕ} {A B : Type 0} (work : List ℕ) (may : Wanted → Type 0) (c d : CoreState) (old new : Seen) (r : Result A TreeErr) (x : TreeErr) (y : JournalErr) → r ≡ Err x → y ≡ run_fault x
+    → Came tree.Failed hits n work may c old d new r → Came run.Tree hits n work may c old d new (run_err {B = B} y)
 came_stopped {B = B} work may c d old new r x y is of a = came_to tree.Failed run.Tree work may c d old new r (run_err {B = B} y) (inl refl) (stopped_fault {B = B} r x y is of) a
+
+at_err : {A E : Type 0} (r : Result A E) (x : E) (P : E → Type 0) → r ≡ Err x → IfErr r P → P x
+at_err r x P is h = rw is at h
+
+-- memory ran out before any call
+pub came_no_text : {hits : List ℕ → Type 0} {n : ℕ} {A B : Type 0} (work : List ℕ) (may : Wanted → Type 0) (c : CoreState) (seen : Seen) (r : Result B JournalErr) (s : Result A JournalErr) (x : JournalErr)
+    → r ≡ Err x → IsErrAnd s (λ y. y ≡ x) → IfErr r (λ e. e ≡ run.NoMemory) → Came run.Tree hits n work may c seen c seen s
+came_no_text {A = A} work may c seen r s x was is none =
+    let p = err_from_is_err_and s is in
+    let now : s ≡ Err x = rw p.2 at p.1 in
+    let e : x ≡ run.NoMemory = at_err r x (λ y. y ≡ run.NoMemory) was none in
+    came_still run.Tree work may c seen s (λ h. let d : run_err {B = A} run.NoMemory ≡ run_err {B = A} run.Tree = ap (λ (y : JournalErr). run_err {B = A} y) (sym e) ∙ sym now ∙ h in cc)
+
+pub no_text_mild : {A B : Type 0} (r : Result B JournalErr) (s : Result A JournalErr) (x : JournalErr) → r ≡ Err x → IsErrAnd s (λ y. y ≡ x) → IfErr r (λ e. e ≡ run.NoMemory) → IfErr s (λ e. IsTrue (is_mild_run e))
+no_text_mild r s x was is none =
+    let p = err_from_is_err_and s is in
+    let now : s ≡ Err x = rw p.2 at p.1 in
+    let e : x ≡ run.NoMemory = at_err r x (λ y. y ≡ run.NoMemory) was none in
+    rw (now, e) refl
+
+pub on_ok_kept : {A E : Type 0} (P Q : Type 0) (s : Result A E) → (P → Q) → OnOk s P → OnOk s Q
+on_ok_kept P Q (Ok x) all p = all p
+on_ok_kept P Q (Err e) all p = tt
+
+-- an error that names no file
+pub mild_blames : {A : Type 0} (v : MakerView) (refuses : ℕ → List ℕ → Refusal → Type 0) (seen : Seen) (s : Result A JournalErr) → IfErr s (λ e. IsTrue (is_mild_run e)) → IfErr s (RunBlames v refuses seen)
+mild_blames v refuses seen (Ok x) h = tt
+mild_blames v refuses seen (Err (run.Changed p a b)) h = let d : false ≡ true = h in absurd (cc)
+mild_blames v refuses seen (Err (run.Refused p q)) h = let d : false ≡ true = h in absurd (cc)
+mild_blames v refuses seen (Err run.Tree) h = tt
+mild_blames v refuses seen (Err run.NoMemory) h = tt
+mild_blames v refuses seen (Err (run.PlanText f at)) h = let d : false ≡ true = h in absurd (cc)
+mild_blames v refuses seen (Err (run.OtherRun field a b)) h = let d : false ≡ true = h in absurd (cc)
 
 pub stopped_blames : (v : MakerView) (refuses : ℕ → List ℕ → Refusal → Type 0) (seen : Seen) (x : TreeErr) (y : JournalErr) → y ≡ run_fault x → RunBlames v refuses seen y
 stopped_blames v refuses seen tree.Failed y e = subst (λ (z : JournalErr). RunBlames v refuses seen z) (sym e) tt
@@ -95,21 +129,8 @@ stopped_mild tree.Failed y e = rw e refl
 stopped_mild tree.NoMemory y e = rw e refl
 
 -- another value of calls that went well
-pub came_value : {A B : Type 0} (work : List ℕ) (may : Wanted → Type 0) (c d : CoreState) (old new : Seen) (r : Result A JournalErr) (x : A) (b : B) → r ≡ Ok x → Came run.Tree work may c old d new r → Came run.Tree work may c old d new (ok_of b)
+pub came_value : {hits : List ℕ → Type 0} {n : ℕ} {A B : Type 0} (work : List ℕ) (may : Wanted → Type 0) (c d : CoreState) (old new : Seen) (r : Result A JournalErr) (x : A) (b : B) → r ≡ Ok x → Came run.Tree hits n work may c old d new r → Came run.Tree hits n work may c old d new (ok_of b)
 came_value work may c d old new r x b is a = came_to run.Tree run.Tree work may c d old new r (ok_of b) (inr (rw is refl)) (λ h. absurd (let e : ok_of b ≡ Err run.Tree = h in cc)) a
-
--- a maker that has made more nodes
-more_blames : (v : MakerView) (now first : ℕ → List ℕ → Refusal → Type 0) (seen : Seen) (x : JournalErr) → ((j : ℕ) (b : List ℕ) (q : Refusal) → now j b q → first j b q) → RunBlames v now seen x → RunBlames v first seen x
-more_blames v now first seen (run.Changed p a b) less h = h
-more_blames v now first seen (run.Refused p q) less h = (h.0, h.1, h.2, record { bytes = h.3.bytes; mode = h.3.mode; stands = h.3.stands; refused = less h.0 h.3.bytes q h.3.refused; planned = h.3.planned })
-more_blames v now first seen run.Tree less h = tt
-more_blames v now first seen run.NoMemory less h = tt
-more_blames v now first seen (run.PlanText f at) less h = h
-more_blames v now first seen (run.OtherRun field a b) less h = h
-
-pub run_blames_since : {A : Type 0} (v u : MakerView) (now first : ℕ → List ℕ → Refusal → Type 0) (seen : Seen) (r : Result A JournalErr) → u ≡ v → ((j : ℕ) (b : List ℕ) (q : Refusal) → now j b q → first j b q) → IfErr r (RunBlames u now seen) → IfErr r (RunBlames v first seen)
-run_blames_since v u now first seen (Ok a) same less h = tt
-run_blames_since v u now first seen (Err x) same less h = more_blames v now first seen x less (subst (λ (y : MakerView). RunBlames y now seen x) same h)
 
 -- ### From jobs that are done to the end
 
@@ -192,10 +213,21 @@ end_apart work q h (suc (suc (suc (suc n)))) l = absurd (omega arith)
 pub settled_closed : (c d e : CoreState) → c.phase ≡ Closed → d ≡ c → e ≡ after d Settle → e.phase ≡ Closed
 settled_closed c d e closed same next = ap (λ (x : CoreState). x.phase) (next ∙ ap (λ (x : CoreState). after x Settle) same) ∙ (rw closed refl)
 
+-- ### Settles of the plan, of the jobs and their texts, and of the clearing
+
+pub first_of_three : (n : ℕ) → 1 ≤ n + 3
+first_of_three n = omega arith
+
+pub two_of_three : (n : ℕ) → 1 + (n + 1) ≤ n + 3
+two_of_three n = omega arith
+
+pub all_of_three : (n : ℕ) → 1 + ((n + 1) + 1) ≤ n + 3
+all_of_three n = omega arith
+
 -- ### The end
 
-pub finish_ran : {A : Type 0} (work : List ℕ) (may : Wanted → Type 0) (c d : CoreState) (old mid new : Seen) (r : Result A JournalErr) → OnOk r (d.phase ≡ Closed) → new ≡ mid → Came run.Tree work may c old d mid r → FinishRan work may c old new r
-finish_ran work may c d old mid new r closed same a = subst (λ (s : Seen). FinishRan work may c old s r) (sym same) (record {
+pub finish_ran : {hits : List ℕ → Type 0} {n : ℕ} {A : Type 0} (work : List ℕ) (may : Wanted → Type 0) (c d : CoreState) (old mid new : Seen) (r : Result A JournalErr) → OnOk r (d.phase ≡ Closed) → new ≡ mid → Came run.Tree hits n work may c old d mid r → FinishRan hits n work may c old new r
+finish_ran {hits = hits} {n = n} work may c d old mid new r closed same a = subst (λ (s : Seen). FinishRan hits n work may c old s r) (sym same) (record {
   last = d;
   closed = closed;
   came = a;
@@ -207,7 +239,7 @@ finish_ran work may c d old mid new r closed same a = subst (λ (s : Seen). Fini
     whole (Err x) w e k = tt
 
 -- the same of a desk that was made for it
-pub finish_whole : {A : Type 0} (work : List ℕ) (may : Wanted → Type 0) (c lent d : CoreState) (old begun mid new : Seen) (r : Result A JournalErr) → lent ≡ c → begun ≡ old → new ≡ mid → OnOk r (d.phase ≡ Closed)
-    → Came run.Tree work may lent begun d mid r → FinishRan work may c old new r
-finish_whole work may c lent d old begun mid new r core seen same closed a =
-    finish_ran work may c d old mid new r closed same (subst (λ (s : Seen). Came run.Tree work may c s d mid r) seen (subst (λ (x : CoreState). Came run.Tree work may x begun d mid r) core a))
+pub finish_whole : {hits : List ℕ → Type 0} {n : ℕ} {A : Type 0} (work : List ℕ) (may : Wanted → Type 0) (c lent d : CoreState) (old begun mid new : Seen) (r : Result A JournalErr) → lent ≡ c → begun ≡ old → new ≡ mid → OnOk r (d.phase ≡ Closed)
+    → Came run.Tree hits n work may lent begun d mid r → FinishRan hits n work may c old new r
+finish_whole {hits = hits} {n = n} work may c lent d old begun mid new r core seen same closed a =
+    finish_ran work may c d old mid new r closed same (subst (λ (s : Seen). Came run.Tree hits n work may c s d mid r) seen (subst (λ (x : CoreState). Came run.Tree hits n work may x begun d mid r) core a))

@@ -1,5 +1,5 @@
 -- What one call of a desk does to a run, and calls one after the other.
-use Rattle.std.proofs.Common.{◌≡◌, ℕ, List, [], ◌∷◌, ◌++◌, map, refl, sym, ap, ◌∙◌, subst, append_assoc, arith, ◌≤◌, true, false, IsTrue}
+use Rattle.std.proofs.Common.{◌≡◌, inl, inr, ◌+◌, ℕ, List, [], ◌∷◌, ◌++◌, map, refl, sym, ap, ◌∙◌, subst, append_assoc, arith, ◌≤◌, true, false, IsTrue}
 use Rattle.std.specs.Prelude.{Result, Ok, Err, OnOk, IsErrOf, IsErrAnd, IsOk, IsErr}
 use Rattle.std.proofs.lemmas.Result.{err_from_is_err_and}
 use Rattle.file_tree.specs.declared.node.Node.{Node}
@@ -20,13 +20,15 @@ use Rattle.journal_core.specs.Table.{CoreState, allows, after}
 use Rattle.journal_core.specs.Names.{Name}
 use Rattle.journal_core.specs.Relation.{IsNear}
 use Rattle.journal_core.specs.Calls.{Puts, Moves, puts_plan, puts_step, puts_mark, puts_text, moves_plan, moves_step, moves_text}
+use Rattle.work_journal.specs.Spares.{Spares, InWork, InWorkOr}
 use Rattle.work_journal.specs.Work.{work_path}
 use Rattle.work_journal.specs.Wanted.{Wanted, path_of, IsPartway}
-use Rattle.work_journal.specs.Keeps.{MaySweep, Does, Broke, puts_broke, moves_broke, sweeps_broke, looks_broke, Keeps, Kept}
+use Rattle.work_journal.specs.Keeps.{MaySweep, early, late, Does, Broke, puts_broke, moves_broke, sweeps_broke, looks_broke, Keeps, Kept}
 use Rattle.work_journal.specs.Keeps.Does.{lists as does_lists, reads as does_reads, settles as does_settles, puts as does_puts, moves as does_moves, sweeps as does_sweeps}
 use Rattle.work_journal.specs.Runs.{RunsOne, Runs, Ran, IsGiven, Goes, Came}
 use Rattle.work_journal.specs.Runs.RunsOne.{lists as one_lists, reads as one_reads, settles as one_settles, puts as one_puts, renames as one_renames, removes as one_removes}
 use Rattle.work_journal.specs.Runs.Runs.{none as runs_none, more as runs_more}
+use Rattle.work_journal.proofs.SpareLaws.{EffectSpares, same_spares, settled_spares, put_spares, take_spares, move_spares, failed_put_spares, failed_move_spares, failed_take_spares, is_work_path, spares_call, spares_still, spares_then, spares_wider}
 use Rattle.work_journal.proofs.StepLaws.{step_kept, failure_partway, no_call}
 
 -- ### Runs one after the other
@@ -270,47 +272,69 @@ desk_sweeps work may c d old new r q may_sweep core made failed cause tells =
     subst (λ (x : CoreState). Goes work may c old.past x new.past r) (sym core)
     (sweep_goes work may c old.past new.past r q may_sweep (made tells) (failed tells) (past_same old new r cause))
 
-came_by : {A : Type 0} (work : List ℕ) (may : Wanted → Type 0) (c d : CoreState) (old new : Seen) (r : Result A TreeErr) → new.tells ≡ old.tells → HasCause old new r
-    → (old.tells ≡ true → Goes work may c old.past d new.past r) → Came Failed work may c old d new r
-came_by work may c d old new r tells cause goes = record { tells = tells; later = cause.later; failed = cause.failed; goes = goes }
+came_by : {A : Type 0} (hits : List ℕ → Type 0) (n : ℕ) (work : List ℕ) (may : Wanted → Type 0) (c d : CoreState) (old new : Seen) (r : Result A TreeErr) → new.tells ≡ old.tells → HasCause old new r → Spares hits n old new
+    → (old.tells ≡ true → Goes work may c old.past d new.past r) → Came Failed hits n work may c old d new r
+came_by hits n work may c d old new r tells cause spares goes = record { tells = tells; later = cause.later; failed = cause.failed; spares = spares; goes = goes }
+
+hit_work : (work path : List ℕ) (x : Name) → path ≡ work_path work x → InWork work path
+hit_work work path x at = subst (λ (q : List ℕ). InWork work q) (sym at) (is_work_path work x)
+
+same_fails_spare : (hits : List ℕ → Type 0) (x : Effect) → SettleFails x → EffectSpares hits x
+same_fails_spare hits x nothing_settled = same_spares hits
+
+swept_below : (work : List ℕ) (c : CoreState) (q : List ℕ) → MaySweep work c q → InWork work q
+swept_below work c q (early p is) = is
+swept_below work c q (late p is apart) = is
 
 pub came_puts : {A : Type 0} (work : List ℕ) (may : Wanted → Type 0) (c d : CoreState) (old new : Seen) (r : Result A TreeErr) (e : Event) (n : Name) (path : List ℕ) (node : Node)
     → Puts e n → IsTrue (allows c e) → IsNear c e → path ≡ work_path work n → ((w : Wanted) → may w → w.node n ≡ node) → d ≡ after c e
     → (old.tells ≡ true → OnOk r (new.past ≡ adds old.past (call.Put path) (effect.Changed (change.Put path node))))
     → (old.tells ≡ true → IsErrOf r Failed → Fails old.past new.past (call.Put path) (PutFails path))
-    → HasCause old new r → new.tells ≡ old.tells → Came Failed work may c old d new r
+    → HasCause old new r → new.tells ≡ old.tells → Came Failed (InWork work) 0 work may c old d new r
 came_puts work may c d old new r e n path node pu al near at wanted core made failed cause tells =
-    came_by work may c d old new r tells cause (desk_puts work may c d old new r e n path node pu al near at wanted core made failed cause)
+    came_by (InWork work) 0 work may c d old new r tells cause
+    (spares_call (InWork work) 0 old new r (call.Put path) (effect.Changed (change.Put path node)) (PutFails path) (omega arith)
+    (put_spares (InWork work) path node (hit_work work path n at)) (failed_put_spares (InWork work) path (hit_work work path n at)) made failed cause)
+    (desk_puts work may c d old new r e n path node pu al near at wanted core made failed cause)
 
 pub came_moves : {A : Type 0} (work : List ℕ) (may : Wanted → Type 0) (c d : CoreState) (old new : Seen) (r : Result A TreeErr) (e : Event) (a b : Name) (from to : List ℕ)
     → Moves e a b → IsTrue (allows c e) → from ≡ work_path work a → ((w : Wanted) → IsGiven w work → may w → path_of w b ≡ to) → d ≡ after c e
     → (old.tells ≡ true → OnOk r (new.past ≡ adds old.past (call.Rename from to) (effect.Changed (change.Move from to))))
     → (old.tells ≡ true → IsErrOf r Failed → Fails old.past new.past (call.Rename from to) (MoveFails from to))
-    → HasCause old new r → new.tells ≡ old.tells → Came Failed work may c old d new r
+    → HasCause old new r → new.tells ≡ old.tells → Came Failed (InWorkOr work to) 0 work may c old d new r
 came_moves work may c d old new r e a b from to mv al at wanted core made failed cause tells =
-    came_by work may c d old new r tells cause (desk_moves work may c d old new r e a b from to mv al at wanted core made failed cause)
+    came_by (InWorkOr work to) 0 work may c d old new r tells cause
+    (spares_call (InWorkOr work to) 0 old new r (call.Rename from to) (effect.Changed (change.Move from to)) (MoveFails from to) (omega arith)
+    (move_spares (InWorkOr work to) from to (inl (hit_work work from a at)) (inr refl)) (failed_move_spares (InWorkOr work to) from to (inl (hit_work work from a at)) (inr refl)) made failed cause)
+    (desk_moves work may c d old new r e a b from to mv al at wanted core made failed cause)
 
-pub came_settles : {A : Type 0} (work : List ℕ) (may : Wanted → Type 0) (c d : CoreState) (old new : Seen) (r : Result A TreeErr) → d ≡ after c Settle
+pub came_settles : {hits : List ℕ → Type 0} {A : Type 0} (work : List ℕ) (may : Wanted → Type 0) (c d : CoreState) (old new : Seen) (r : Result A TreeErr) → d ≡ after c Settle
     → (old.tells ≡ true → OnOk r (new.past ≡ adds old.past call.Settle effect.Settled))
     → (old.tells ≡ true → IsErrOf r Failed → new.past ≡ adds old.past call.Settle effect.Same)
-    → HasCause old new r → new.tells ≡ old.tells → Came Failed work may c old d new r
-came_settles work may c d old new r core made failed cause tells =
-    came_by work may c d old new r tells cause (desk_settles work may c d old new r core made failed cause)
+    → HasCause old new r → new.tells ≡ old.tells → Came Failed hits 1 work may c old d new r
+came_settles {hits = hits} work may c d old new r core made failed cause tells =
+    came_by hits 1 work may c d old new r tells cause
+    (spares_call hits 1 old new r call.Settle effect.Settled SettleFails (omega arith) (settled_spares hits) (same_fails_spare hits) made (λ t e. same_fails old.past new.past call.Settle (failed t e)) cause)
+    (desk_settles work may c d old new r core made failed cause)
 
 pub came_sweeps : {A : Type 0} (work : List ℕ) (may : Wanted → Type 0) (c d : CoreState) (old new : Seen) (r : Result A TreeErr) (q : List ℕ)
     → MaySweep work c q → d ≡ c
     → (old.tells ≡ true → OnOk r (new.past ≡ adds old.past (call.Remove q) (effect.Changed (change.Take q))))
     → (old.tells ≡ true → IsErrOf r Failed → Fails old.past new.past (call.Remove q) (TakeFails q))
-    → HasCause old new r → new.tells ≡ old.tells → Came Failed work may c old d new r
+    → HasCause old new r → new.tells ≡ old.tells → Came Failed (InWork work) 0 work may c old d new r
 came_sweeps work may c d old new r q may_sweep core made failed cause tells =
-    came_by work may c d old new r tells cause (desk_sweeps work may c d old new r q may_sweep core made failed cause)
+    came_by (InWork work) 0 work may c d old new r tells cause
+    (spares_call (InWork work) 0 old new r (call.Remove q) (effect.Changed (change.Take q)) (TakeFails q) (omega arith)
+    (take_spares (InWork work) q (swept_below work c q may_sweep)) (failed_take_spares (InWork work) q (swept_below work c q may_sweep)) made failed cause)
+    (desk_sweeps work may c d old new r q may_sweep core made failed cause)
 
 -- ### One after the other
 
 -- nothing was done, and no fault is answered
-pub came_still : {A E : Type 0} (fault : E) (work : List ℕ) (may : Wanted → Type 0) (c : CoreState) (seen : Seen) (r : Result A E) → (IsErrOf r fault → ⊥) → Came fault work may c seen c seen r
-came_still fault work may c seen r no_fault = record {
+pub came_still : {hits : List ℕ → Type 0} {n : ℕ} {A E : Type 0} (fault : E) (work : List ℕ) (may : Wanted → Type 0) (c : CoreState) (seen : Seen) (r : Result A E) → (IsErrOf r fault → ⊥) → Came fault hits n work may c seen c seen r
+came_still {hits = hits} {n = n} fault work may c seen r no_fault = record {
   tells = refl;
+  spares = spares_still hits n seen;
   later = omega arith;
   failed = λ h. absurd (no_fault h);
   goes = λ tells. still work may c seen.past r;
@@ -322,37 +346,40 @@ rose_later a b c l rose = omega (arith, l, rose)
 rose_kept : (a b c : ℕ) → b ≤ c → Rose a b → Rose a c
 rose_kept a b c l rose = omega (arith, l, rose)
 
-pub came_then : {A E B F : Type 0} (f : E) (g : F) (work : List ℕ) (may : Wanted → Type 0) (c d e : CoreState) (old mid new : Seen) (r : Result A E) (s : Result B F)
-    → IsOk r → Came f work may c old d mid r → Came g work may d mid e new s → Came g work may c old e new s
-came_then f g work may c d e old mid new r s is a b = record {
+pub came_then : {hits : List ℕ → Type 0} {n m : ℕ} {A E B F : Type 0} (f : E) (g : F) (work : List ℕ) (may : Wanted → Type 0) (c d e : CoreState) (old mid new : Seen) (r : Result A E) (s : Result B F)
+    → IsOk r → Came f hits n work may c old d mid r → Came g hits m work may d mid e new s → Came g hits (n + m) work may c old e new s
+came_then {hits = hits} {n = n} {m = m} f g work may c d e old mid new r s is a b = record {
   tells = b.tells ∙ a.tells;
   later = let l = a.later in let m = b.later in omega (arith, l, m);
   failed = λ h. rose_later old.faults mid.faults new.faults a.later (b.failed h);
+  spares = spares_then hits n m old mid new a.tells a.spares b.spares;
   goes = λ tells. goes_then work may c d e old.past mid.past new.past r s is (a.goes tells) (b.goes (a.tells ∙ tells));
 }
 
 -- the answer is passed on where it is an error
-pub came_failed : {A E B F : Type 0} (f : E) (g : F) (work : List ℕ) (may : Wanted → Type 0) (c d e : CoreState) (old new : Seen) (r : Result A E) (s : Result B F)
-    → IsErr s → (IsErrOf s g → IsErrOf r f) → Came f work may c old d new r → Came g work may c old e new s
+pub came_failed : {hits : List ℕ → Type 0} {n : ℕ} {A E B F : Type 0} (f : E) (g : F) (work : List ℕ) (may : Wanted → Type 0) (c d e : CoreState) (old new : Seen) (r : Result A E) (s : Result B F)
+    → IsErr s → (IsErrOf s g → IsErrOf r f) → Came f hits n work may c old d new r → Came g hits n work may c old e new s
 came_failed f g work may c d e old new r s is fault a = record {
   tells = a.tells;
   later = a.later;
   failed = λ h. a.failed (fault h);
+  spares = a.spares;
   goes = λ tells. goes_failed work may c d e old.past new.past r s is (a.goes tells);
 }
 
-pub came_given : {A E : Type 0} (f : E) (work : List ℕ) (may less : Wanted → Type 0) (c d : CoreState) (old new : Seen) (r : Result A E)
-    → ((w : Wanted) → IsGiven w work → old.tells ≡ true → less w → Keeps w c (state_of old.past) → may w) → Came f work may c old d new r → Came f work less c old d new r
+pub came_given : {hits : List ℕ → Type 0} {n : ℕ} {A E : Type 0} (f : E) (work : List ℕ) (may less : Wanted → Type 0) (c d : CoreState) (old new : Seen) (r : Result A E)
+    → ((w : Wanted) → IsGiven w work → old.tells ≡ true → less w → Keeps w c (state_of old.past) → may w) → Came f hits n work may c old d new r → Came f hits n work less c old d new r
 came_given f work may less c d old new r all a = record {
   tells = a.tells;
   later = a.later;
   failed = a.failed;
+  spares = a.spares;
   goes = λ tells. goes_given work may less c d old.past new.past r (λ w given m k. all w given tells m k) (a.goes tells);
 }
 
 -- an error of another call stands for this one's
-pub came_core : {A E : Type 0} (f : E) (work : List ℕ) (may : Wanted → Type 0) (c d e : CoreState) (old new : Seen) (r : Result A E) → e ≡ d → Came f work may c old d new r → Came f work may c old e new r
-came_core f work may c d e old new r is a = subst (λ (x : CoreState). Came f work may c old x new r) (sym is) a
+pub came_core : {hits : List ℕ → Type 0} {n : ℕ} {A E : Type 0} (f : E) (work : List ℕ) (may : Wanted → Type 0) (c d e : CoreState) (old new : Seen) (r : Result A E) → e ≡ d → Came f hits n work may c old d new r → Came f hits n work may c old e new r
+came_core {hits = hits} {n = n} f work may c d e old new r is a = subst (λ (x : CoreState). Came f hits n work may c old x new r) (sym is) a
 
 no_clash : {A : Type 0} (r : Result A TreeErr) → r ≡ Err NoMemory → r ≡ Err Failed → ⊥
 no_clash r a b = let d : Err NoMemory ≡ Err Failed = sym a ∙ b in cc
@@ -364,14 +391,14 @@ pub err_is : {A E : Type 0} (r : Result A E) (x : E) → r ≡ Err x → IsErr r
 err_is r x e = rw e refl
 
 -- memory ran out before any call
-pub came_no_memory : {A : Type 0} (work : List ℕ) (may : Wanted → Type 0) (c : CoreState) (seen : Seen) (r : Result A TreeErr) → IsErrAnd r (λ e. e ≡ NoMemory) → Came Failed work may c seen c seen r
+pub came_no_memory : {hits : List ℕ → Type 0} {n : ℕ} {A : Type 0} (work : List ℕ) (may : Wanted → Type 0) (c : CoreState) (seen : Seen) (r : Result A TreeErr) → IsErrAnd r (λ e. e ≡ NoMemory) → Came Failed hits n work may c seen c seen r
 came_no_memory work may c seen r is =
     let p = err_from_is_err_and r is in
     came_still Failed work may c seen r (no_clash r (p.1 ∙ ap (λ (e : TreeErr). Err e) p.2))
 
 -- an error is passed on
-pub came_passed : {A B E : Type 0} (f : E) (work : List ℕ) (may : Wanted → Type 0) (c d e : CoreState) (old new : Seen) (r : Result A E) (s : Result B E) (x : E)
-    → r ≡ Err x → IsErrAnd s (λ y. y ≡ x) → Came f work may c old d new r → Came f work may c old e new s
+pub came_passed : {hits : List ℕ → Type 0} {n : ℕ} {A B E : Type 0} (f : E) (work : List ℕ) (may : Wanted → Type 0) (c d e : CoreState) (old new : Seen) (r : Result A E) (s : Result B E) (x : E)
+    → r ≡ Err x → IsErrAnd s (λ y. y ≡ x) → Came f hits n work may c old d new r → Came f hits n work may c old e new s
 came_passed f work may c d e old new r s x was is a =
     let p = err_from_is_err_and s is in
     let now : s ≡ Err x = rw p.2 at p.1 in
@@ -382,12 +409,13 @@ abbrev pub well : Result (Unit {0}) TreeErr
 well = Ok tt
 
 -- a call more that went well
-pub came_well : {A : Type 0} (work : List ℕ) (may : Wanted → Type 0) (c d : CoreState) (old new : Seen) (r : Result A TreeErr) (x : A) → r ≡ Ok x
-    → Came Failed work may c old d new r → Came Failed work may c old d new well
+pub came_well : {hits : List ℕ → Type 0} {n : ℕ} {A : Type 0} (work : List ℕ) (may : Wanted → Type 0) (c d : CoreState) (old new : Seen) (r : Result A TreeErr) (x : A) → r ≡ Ok x
+    → Came Failed hits n work may c old d new r → Came Failed hits n work may c old d new well
 came_well work may c d old new r x is a = record {
   tells = a.tells;
   later = a.later;
   failed = λ h. absurd (let e : Ok tt ≡ Err Failed = h in cc);
+  spares = a.spares;
   goes = λ tells. goes_well work may c d old.past new.past r x is (a.goes tells);
 }
   where
@@ -401,15 +429,57 @@ came_well work may c d old new r x is a = record {
       keeps = λ w given m k. at_ok r x _ is (a.keeps w given m k);
     }
 
--- another call after those that went well
-pub came_next : {A : Type 0} (work : List ℕ) (may one : Wanted → Type 0) (c d e : CoreState) (old mid new : Seen) (r : Result A TreeErr) → ((w : Wanted) → may w → one w)
-    → Came Failed work may c old d mid well → Came Failed work one d mid e new r → Came Failed work may c old e new r
-came_next work may one c d e old mid new r all a b =
+-- more paths that may be changed, and more settles
+pub came_wider : {hits more : List ℕ → Type 0} {n m : ℕ} {A E : Type 0} {f : E} {work : List ℕ} {may : Wanted → Type 0} {c d : CoreState} {old new : Seen} {r : Result A E}
+    → ((q : List ℕ) → hits q → more q) → n ≤ m → Came f hits n work may c old d new r → Came f more m work may c old d new r
+came_wider {hits = hits} {more = more} {n = n} {m = m} {old = old} {new = new} all few a = record {
+  tells = a.tells;
+  later = a.later;
+  failed = a.failed;
+  spares = spares_wider hits more n m old new all few a.spares;
+  goes = a.goes;
+}
+
+pub came_hits : {hits more : List ℕ → Type 0} {n : ℕ} {A E : Type 0} {f : E} {work : List ℕ} {may : Wanted → Type 0} {c d : CoreState} {old new : Seen} {r : Result A E}
+    → ((q : List ℕ) → hits q → more q) → Came f hits n work may c old d new r → Came f more n work may c old d new r
+came_hits all a = came_wider all (omega arith) a
+
+pub came_most : {hits : List ℕ → Type 0} {n m : ℕ} {A E : Type 0} {f : E} {work : List ℕ} {may : Wanted → Type 0} {c d : CoreState} {old new : Seen} {r : Result A E}
+    → n ≤ m → Came f hits n work may c old d new r → Came f hits m work may c old d new r
+came_most few a = came_wider (λ q h. h) few a
+
+pub came_least : {hits : List ℕ → Type 0} {m : ℕ} {A E : Type 0} {f : E} {work : List ℕ} {may : Wanted → Type 0} {c d : CoreState} {old new : Seen} {r : Result A E}
+    → Came f hits 0 work may c old d new r → Came f hits m work may c old d new r
+came_least a = came_wider (λ q h. h) (omega arith) a
+
+pub came_more : {hits : List ℕ → Type 0} {n : ℕ} {A E : Type 0} {f : E} {work : List ℕ} {may : Wanted → Type 0} {c d : CoreState} {old new : Seen} {r : Result A E} (m : ℕ)
+    → Came f hits n work may c old d new r → Came f hits (n + m) work may c old d new r
+came_more m a = came_wider (λ q h. h) (omega arith) a
+
+-- a rename to a name of the work folder
+pub came_inside : {n : ℕ} {A E : Type 0} {f : E} {work to : List ℕ} {may : Wanted → Type 0} {c d : CoreState} {old new : Seen} {r : Result A E} (x : Name)
+    → to ≡ work_path work x → Came f (InWorkOr work to) n work may c old d new r → Came f (InWork work) n work may c old d new r
+came_inside {work = work} {to = to} x at a = came_hits inside a
+  where
+    inside : (q : List ℕ) → InWorkOr work to q → InWork work q
+    inside q (inl h) = h
+    inside q (inr e) = subst (λ (p : List ℕ). InWork work p) e (hit_work work to x at)
+
+-- another call, which doesn't settle, after those that went well
+pub came_next : {hits : List ℕ → Type 0} {n : ℕ} {A : Type 0} (work : List ℕ) (may one : Wanted → Type 0) (c d e : CoreState) (old mid new : Seen) (r : Result A TreeErr) → ((w : Wanted) → may w → one w)
+    → Came Failed hits n work may c old d mid well → Came Failed hits 0 work one d mid e new r → Came Failed hits n work may c old e new r
+came_next work may one c d e old mid new r all a b = came_wider (λ q h. h) (omega arith)
+    (came_then Failed Failed work may c d e old mid new well r refl a (came_given Failed work one may d e mid new r (λ w given tells m k. all w m) b))
+
+-- calls that settle, after those that went well
+pub came_after : {hits : List ℕ → Type 0} {n m : ℕ} {A : Type 0} (work : List ℕ) (may one : Wanted → Type 0) (c d e : CoreState) (old mid new : Seen) (r : Result A TreeErr) → ((w : Wanted) → may w → one w)
+    → Came Failed hits n work may c old d mid well → Came Failed hits m work one d mid e new r → Came Failed hits (n + m) work may c old e new r
+came_after work may one c d e old mid new r all a b =
     came_then Failed Failed work may c d e old mid new well r refl a (came_given Failed work one may d e mid new r (λ w given tells m k. all w m) b)
 
 -- for fewer wanted files
-pub came_only : {A : Type 0} (work : List ℕ) (may less : Wanted → Type 0) (c d : CoreState) (old new : Seen) (r : Result A TreeErr)
-    → ((w : Wanted) → less w → may w) → Came Failed work may c old d new r → Came Failed work less c old d new r
+pub came_only : {hits : List ℕ → Type 0} {n : ℕ} {A : Type 0} (work : List ℕ) (may less : Wanted → Type 0) (c d : CoreState) (old new : Seen) (r : Result A TreeErr)
+    → ((w : Wanted) → less w → may w) → Came Failed hits n work may c old d new r → Came Failed hits n work less c old d new r
 came_only work may less c d old new r all a = came_given Failed work may less c d old new r (λ w given tells m k. all w m) a
 
 -- ### Looks
@@ -424,12 +494,14 @@ look_step work may c d old new A r path core made failed cause tells =
     (λ w given m. does_reads) (λ w given m f. fails_same w c old.past new.past (call.Read path) f)
     (made tells) (λ e. same_fails old.past new.past (call.Read path) (failed tells e)) (past_same old new r cause))
 
-pub came_reads : {A : Type 0} (work : List ℕ) (may : Wanted → Type 0) (c d : CoreState) (old new : Seen) (r : Result A TreeErr) (path : List ℕ) → d ≡ c
+pub came_reads : {hits : List ℕ → Type 0} {A : Type 0} (work : List ℕ) (may : Wanted → Type 0) (c d : CoreState) (old new : Seen) (r : Result A TreeErr) (path : List ℕ) → d ≡ c
     → (old.tells ≡ true → OnOk r (new.past ≡ adds old.past (call.Read path) effect.Same))
     → (old.tells ≡ true → IsErrOf r Failed → new.past ≡ adds old.past (call.Read path) effect.Same)
-    → HasCause old new r → new.tells ≡ old.tells → Came Failed work may c old d new r
-came_reads {A = A} work may c d old new r path core made failed cause tells =
-    came_by work may c d old new r tells cause (look_step work may c d old new A r path core made failed cause)
+    → HasCause old new r → new.tells ≡ old.tells → Came Failed hits 0 work may c old d new r
+came_reads {hits = hits} {A = A} work may c d old new r path core made failed cause tells =
+    came_by hits 0 work may c d old new r tells cause
+    (spares_call hits 0 old new r (call.Read path) effect.Same SettleFails (omega arith) (same_spares hits) (same_fails_spare hits) made (λ t e. same_fails old.past new.past (call.Read path) (failed t e)) cause)
+    (look_step work may c d old new A r path core made failed cause)
 
 list_step : (work : List ℕ) (may : Wanted → Type 0) (c d : CoreState) (old new : Seen) (A : Type 0) (r : Result A TreeErr) (folder : List ℕ) → d ≡ c
     → (old.tells ≡ true → OnOk r (new.past ≡ adds old.past (call.List folder) effect.Same))
@@ -441,9 +513,11 @@ list_step work may c d old new A r folder core made failed cause tells =
     (λ w given m. does_lists) (λ w given m f. fails_same w c old.past new.past (call.List folder) f)
     (made tells) (λ e. same_fails old.past new.past (call.List folder) (failed tells e)) (past_same old new r cause))
 
-pub came_lists : {A : Type 0} (work : List ℕ) (may : Wanted → Type 0) (c d : CoreState) (old new : Seen) (r : Result A TreeErr) (folder : List ℕ) → d ≡ c
+pub came_lists : {hits : List ℕ → Type 0} {A : Type 0} (work : List ℕ) (may : Wanted → Type 0) (c d : CoreState) (old new : Seen) (r : Result A TreeErr) (folder : List ℕ) → d ≡ c
     → (old.tells ≡ true → OnOk r (new.past ≡ adds old.past (call.List folder) effect.Same))
     → (old.tells ≡ true → IsErrOf r Failed → new.past ≡ adds old.past (call.List folder) effect.Same)
-    → HasCause old new r → new.tells ≡ old.tells → Came Failed work may c old d new r
-came_lists {A = A} work may c d old new r folder core made failed cause tells =
-    came_by work may c d old new r tells cause (list_step work may c d old new A r folder core made failed cause)
+    → HasCause old new r → new.tells ≡ old.tells → Came Failed hits 0 work may c old d new r
+came_lists {hits = hits} {A = A} work may c d old new r folder core made failed cause tells =
+    came_by hits 0 work may c d old new r tells cause
+    (spares_call hits 0 old new r (call.List folder) effect.Same SettleFails (omega arith) (same_spares hits) (same_fails_spare hits) made (λ t e. same_fails old.past new.past (call.List folder) (failed t e)) cause)
+    (list_step work may c d old new A r folder core made failed cause)

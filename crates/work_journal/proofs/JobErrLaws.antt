@@ -1,5 +1,5 @@
 -- A job that isn't taken: which of its errors are faults of the tree.
-use Rattle.std.proofs.Common.{true, ◌≡◌, ◌≢◌, ℕ, List, refl, ap, ◌∙◌}
+use Rattle.std.proofs.Common.{true, ◌+◌, ◌≡◌, ◌≢◌, ℕ, List, refl, ap, ◌∙◌}
 use Rattle.std.specs.Prelude.{Result, Ok, Err, IsErrAnd, IsOk, OnOk}
 use Rattle.std.proofs.lemmas.Result.{err_from_is_err_and}
 use Rattle.file_tree.specs.declared.node.TreeErr.{TreeErr}
@@ -34,8 +34,8 @@ err_same : {B : Type 0} (s : Result B JobErr) (x y : JobErr) → s ≡ Err x →
 err_same s x y a b = cc
 
 -- a fault of the tree is passed on as one of the job
-pub came_turned : {A B : Type 0} (work : List ℕ) (may : Wanted → Type 0) (c d e : CoreState) (old new : Seen) (r : Result A TreeErr) (s : Result B JobErr) (x : TreeErr)
-    → r ≡ Err x → IsErrAnd s (λ y. y ≡ tree_stops x) → Came tree.Failed work may c old d new r → Came job.Tree work may c old e new s
+pub came_turned : {hits : List ℕ → Type 0} {n : ℕ} {A B : Type 0} (work : List ℕ) (may : Wanted → Type 0) (c d e : CoreState) (old new : Seen) (r : Result A TreeErr) (s : Result B JobErr) (x : TreeErr)
+    → r ≡ Err x → IsErrAnd s (λ y. y ≡ tree_stops x) → Came tree.Failed hits n work may c old d new r → Came job.Tree hits n work may c old e new s
 came_turned work may c d e old new r s x was is a =
     let p = err_from_is_err_and s is in
     let now : s ≡ Err (tree_stops x) = rw p.2 at p.1 in
@@ -45,8 +45,8 @@ came_turned work may c d e old new r s x was is a =
 no_fault : {B : Type 0} (s : Result B JobErr) → s ≡ Err job.NoMemory → s ≡ Err job.Tree → ⊥
 no_fault s a b = let d : job.NoMemory ≡ job.Tree = err_same s job.NoMemory job.Tree a b in cc
 
-pub came_no_room : {B : Type 0} (work : List ℕ) (may : Wanted → Type 0) (c : CoreState) (seen : Seen) (s : Result B JobErr)
-    → IsErrAnd s (λ y. y ≡ job.NoMemory) → Came job.Tree work may c seen c seen s
+pub came_no_room : {hits : List ℕ → Type 0} {n : ℕ} {B : Type 0} (work : List ℕ) (may : Wanted → Type 0) (c : CoreState) (seen : Seen) (s : Result B JobErr)
+    → IsErrAnd s (λ y. y ≡ job.NoMemory) → Came job.Tree hits n work may c seen c seen s
 came_no_room work may c seen s is =
     let p = err_from_is_err_and s is in
     came_still job.Tree work may c seen s (no_fault s (rw p.2 at p.1))
@@ -58,16 +58,17 @@ abbrev err_of : {B : Type 0} → JobErr → Result B JobErr
 err_of y = Err y
 
 -- another value of calls that went well
-pub came_fine : {A B : Type 0} (work : List ℕ) (may : Wanted → Type 0) (c d : CoreState) (old new : Seen) (r : Result A TreeErr) (x : A) (y : B)
-    → r ≡ Ok x → Came tree.Failed work may c old d new r → Came job.Tree work may c old d new (ok_of y)
-came_fine work may c d old new r x y is a = record {
+pub came_fine : {hits : List ℕ → Type 0} {n : ℕ} {A B : Type 0} (work : List ℕ) (may : Wanted → Type 0) (c d : CoreState) (old new : Seen) (r : Result A TreeErr) (x : A) (y : B)
+    → r ≡ Ok x → Came tree.Failed hits n work may c old d new r → Came job.Tree hits n work may c old d new (ok_of y)
+came_fine {hits = hits} {n = n} work may c d old new r x y is a = record {
   tells = b.tells;
   later = b.later;
+  spares = a.spares;
   failed = λ h. absurd (let e : ok_of y ≡ Err job.Tree = h in cc);
   goes = λ tells. goes_as work may c d old.past new.past y (b.goes tells);
 }
   where
-    b : Came tree.Failed work may c old d new well
+    b : Came tree.Failed hits n work may c old d new well
     b = came_well work may c d old new r x is a
 
     goes_as : {B : Type 0} (work : List ℕ) (may : Wanted → Type 0) (c d : CoreState) (old new : Past) (y : B) → Goes work may c old d new well → Goes work may c old d new (ok_of y)
@@ -78,8 +79,8 @@ came_fine work may c d old new r x y is a = record {
     }
 
 -- an answer of the job itself, after calls that went well
-pub came_answered : {A B : Type 0} (work : List ℕ) (may : Wanted → Type 0) (c d e : CoreState) (old new : Seen) (r : Result A TreeErr) (x : A) (y : JobErr)
-    → r ≡ Ok x → (y ≡ job.Tree → ⊥) → Came tree.Failed work may c old d new r → Came job.Tree work may c old e new (err_of {B = B} y)
+pub came_answered : {hits : List ℕ → Type 0} {n : ℕ} {A B : Type 0} (work : List ℕ) (may : Wanted → Type 0) (c d e : CoreState) (old new : Seen) (r : Result A TreeErr) (x : A) (y : JobErr)
+    → r ≡ Ok x → (y ≡ job.Tree → ⊥) → Came tree.Failed hits n work may c old d new r → Came job.Tree hits n work may c old e new (err_of {B = B} y)
 came_answered {B = B} work may c d e old new r x y is none a =
     came_failed tree.Failed job.Tree work may c d e old new r (err_of {B = B} y) refl (λ h. absurd (none (err_same (err_of {B = B} y) y job.Tree refl h))) a
 
@@ -87,12 +88,13 @@ pub ok_by : {A E : Type 0} (r : Result A E) (x : A) → r ≡ Ok x → IsOk r
 ok_by r x e = rw e refl
 
 -- another value after jobs that went well
-pub came_took : {A B : Type 0} (work : List ℕ) (may : Wanted → Type 0) (c d : CoreState) (old new : Seen) (r : Result A JobErr) (x : A) (y : B)
-    → r ≡ Ok x → Came job.Tree work may c old d new r → Came job.Tree work may c old d new (ok_of y)
+pub came_took : {hits : List ℕ → Type 0} {n : ℕ} {A B : Type 0} (work : List ℕ) (may : Wanted → Type 0) (c d : CoreState) (old new : Seen) (r : Result A JobErr) (x : A) (y : B)
+    → r ≡ Ok x → Came job.Tree hits n work may c old d new r → Came job.Tree hits n work may c old d new (ok_of y)
 came_took work may c d old new r x y is a = record {
   tells = a.tells;
   later = a.later;
   failed = λ h. absurd (let e : ok_of y ≡ Err job.Tree = h in cc);
+  spares = a.spares;
   goes = λ tells. goes_on work may c d old.past new.past r x y is (a.goes tells);
 }
   where
@@ -107,27 +109,27 @@ came_took work may c d old new r x y is a = record {
     }
 
 -- a job more after those that went well
-pub came_then_job : {A : Type 0} (work : List ℕ) (may one : Wanted → Type 0) (c d e : CoreState) (old mid new : Seen) (r : Result A JobErr) → ((w : Wanted) → may w → one w)
-    → Came job.Tree work may c old d mid taken → Came job.Tree work one d mid e new r → Came job.Tree work may c old e new r
+pub came_then_job : {hits : List ℕ → Type 0} {n m : ℕ} {A : Type 0} (work : List ℕ) (may one : Wanted → Type 0) (c d e : CoreState) (old mid new : Seen) (r : Result A JobErr) → ((w : Wanted) → may w → one w)
+    → Came job.Tree hits n work may c old d mid taken → Came job.Tree hits m work one d mid e new r → Came job.Tree hits (n + m) work may c old e new r
 came_then_job work may one c d e old mid new r all a b =
     came_then job.Tree job.Tree work may c d e old mid new taken r refl a (came_given job.Tree work one may d e mid new r (λ w given tells m k. all w m) b)
 
 -- calls of the tree first
-pub came_first : {A : Type 0} (work : List ℕ) (may : Wanted → Type 0) (c d : CoreState) (old new : Seen) (r : Result A TreeErr) (x : A)
-    → r ≡ Ok x → Came tree.Failed work may c old d new r → Came job.Tree work may c old d new taken
+pub came_first : {hits : List ℕ → Type 0} {n : ℕ} {A : Type 0} (work : List ℕ) (may : Wanted → Type 0) (c d : CoreState) (old new : Seen) (r : Result A TreeErr) (x : A)
+    → r ≡ Ok x → Came tree.Failed hits n work may c old d new r → Came job.Tree hits n work may c old d new taken
 came_first work may c d old new r x is a = came_fine work may c d old new r x tt is a
 
 -- an error that is no fault of the tree, after calls that went well
-pub came_unfit : {A B : Type 0} (work : List ℕ) (may : Wanted → Type 0) (c d e : CoreState) (old new : Seen) (r : Result A JobErr) (s : Result B JobErr) (x : JobErr)
-    → IsErrAnd s (λ y. y ≡ x) → x ≢ job.Tree → Came job.Tree work may c old d new r → Came job.Tree work may c old e new s
+pub came_unfit : {hits : List ℕ → Type 0} {n : ℕ} {A B : Type 0} (work : List ℕ) (may : Wanted → Type 0) (c d e : CoreState) (old new : Seen) (r : Result A JobErr) (s : Result B JobErr) (x : JobErr)
+    → IsErrAnd s (λ y. y ≡ x) → x ≢ job.Tree → Came job.Tree hits n work may c old d new r → Came job.Tree hits n work may c old e new s
 came_unfit work may c d e old new r s x is other a =
     let p = err_from_is_err_and s is in
     let now : s ≡ Err x = rw p.2 at p.1 in
     came_failed job.Tree job.Tree work may c d e old new r s (err_is s x now) (λ h. absurd (other (err_same s x job.Tree now h))) a
 
 -- what holds at the end of calls that went well
-pub keeps_then : {A E : Type 0} (f : E) (work : List ℕ) (may : Wanted → Type 0) (c d : CoreState) (old new : Seen) (r : Result A E) (x : A) (w : Wanted) → r ≡ Ok x → IsGiven w work → old.tells ≡ true → may w
-    → Keeps w c (state_of old.past) → Came f work may c old d new r → Keeps w d (state_of new.past)
+pub keeps_then : {hits : List ℕ → Type 0} {n : ℕ} {A E : Type 0} (f : E) (work : List ℕ) (may : Wanted → Type 0) (c d : CoreState) (old new : Seen) (r : Result A E) (x : A) (w : Wanted) → r ≡ Ok x → IsGiven w work → old.tells ≡ true → may w
+    → Keeps w c (state_of old.past) → Came f hits n work may c old d new r → Keeps w d (state_of new.past)
 keeps_then f work may c d old new r x w is given tells m k a = at_ok r x _ is ((a.goes tells).keeps w given m k)
   where
     at_ok : {A E : Type 0} (r : Result A E) (x : A) (P : Type 0) → r ≡ Ok x → OnOk r P → P

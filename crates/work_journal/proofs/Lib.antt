@@ -2,6 +2,7 @@ pub mod Changes
 pub mod Agreeing
 pub mod Swept
 pub mod StepLaws
+pub mod SpareLaws
 pub mod GoesLaws
 pub mod JobLaws
 pub mod GroupLaws
@@ -13,6 +14,7 @@ pub mod FinishLaws
 pub mod ClearLaws
 pub mod BlameLaws
 pub mod RoundLaws
+pub mod PlannedLaws
 pub mod SweepLaws
 pub mod EndLaws
 pub mod ToyLaws

@@ -1,16 +1,22 @@
 -- Rounds of a run: jobs that an earlier start left, jobs that are taken, and the end of all.
-use Rattle.std.proofs.Common.{◌≡◌, ◌≢◌, ℕ, suc, zero, ◌+◌, ◌<◌, ◌≤◌, List, length, get_or, refl, sym, ◌∙◌, ap, subst, inl, inr, arith, IsTrue, ltb-true}
-use Rattle.std.proofs.lemmas.Bool.{cases_eq, cases_lt}
+use Rattle.std.proofs.Common.{◌≡◌, ◌≢◌, ℕ, suc, zero, ◌+◌, ◌<◌, ◌≤◌, Bool, true, false, eq-eqb, ne_eqb, List, length, get_or, refl, sym, ◌∙◌, ap, subst, inl, inr, arith, IsTrue, ltb-true}
+use Rattle.std.specs.Prelude.{◌-◌, ◌*◌, ◌/◌, ◌%◌, if◌then◌else◌, Result, Ok, Err, IsErr, IsErrAnd}
+use Rattle.std.proofs.lemmas.Bool.{cases_Bool, cases_eq, cases_lt}
+use Rattle.std.proofs.lemmas.Nat.{le-div}
+use Rattle.std.proofs.lemmas.Result.{err_from_is_err_and}
+use native.Mathlib.Nat.{add-mul, div-add-mod'}
 use Rattle.std.proofs.lemmas.List.{get_or_past}
 use Rattle.journal_core.specs.declared.event.JobState.{JobState}
 use Rattle.journal_core.specs.declared.event.JobState.TheVariants.{Fresh, Staged, Ready, Going, Done}
-use Rattle.journal_core.specs.Table.{CoreState, state_of, with_state}
+use Rattle.journal_core.specs.Table.{CoreState, state_of, with_state, is_done}
 use Rattle.journal_core.specs.Relation.{ahead}
 use Rattle.work_journal.specs.declared.rounds.Round.{Round}
 use Rattle.work_journal.specs.Views.{MakerView, IsMaker}
 use Rattle.work_journal.specs.Jobs.{MayStage, MayMove}
 use Rattle.work_journal.specs.Groups.{is_new, IsGroup}
-use Rattle.work_journal.specs.Rounds.{is_found, IsBegun, IsMending, IsRound, AreDone}
+use Rattle.work_journal.specs.Rounds.{is_found, IsBegun, IsMending, IsRound, is_moving, IsMoving, AreCalm, AreDone, rounds_of, settles_so_far, settles_of_one, IsCounted}
+use Rattle.work_journal.specs.declared.job_err.JobErr.{JobErr}
+use Rattle.work_journal.proofs.GoesLaws.{err_is}
 use Rattle.work_journal.proofs.GroupLaws.{under_set, at_here, at_other, group_next, group_skip, ahead_staged, ahead_skipped, ahead_none, group_may_stage}
 
 -- ### Jobs that an earlier start left
@@ -66,6 +72,32 @@ mending_ends v c job all m = record {
     | inr past ↦ subst (λ (s : JobState). IsTrue (is_new s)) (sym (get_or_past c.states i Done (let n = m.under.same_length in omega (arith, n)))) refl
   ];
 }
+
+-- ### Jobs that aren't being moved
+
+pub calm_same : (c d : CoreState) → d ≡ c → AreCalm c d
+calm_same c d e = record { same = λ i n. ap (λ (x : CoreState). state_of x i) e }
+
+pub calm_then : (c d e : CoreState) → AreCalm c d → AreCalm d e → AreCalm c e
+calm_then c d e a b = record {
+  same = λ i n. b.same i (ap (λ (s : JobState). is_moving s) (a.same i n) ∙ n) ∙ a.same i n;
+}
+
+pub moving_at : (c : CoreState) (job k j : ℕ) → state_of c job ≡ Going k → j ≡ job → IsMoving c j
+moving_at c job k j is e = subst (λ (y : ℕ). IsMoving c y) (sym e) (rw is refl)
+
+pub calm_moved : (c d : CoreState) (job k : ℕ) → state_of c job ≡ Going k → d ≡ with_state c job Done → AreCalm c d
+calm_moved c d job k is e = record {
+  same = λ i n. ap (λ (x : CoreState). state_of x i) e
+      ∙ at_other c job i Done (λ (h : i ≡ job). let f : true ≡ false = sym (moving_at c job k i is h) ∙ n in cc);
+}
+
+-- what is being moved was so before
+pub calm_moving : (c d : CoreState) → AreCalm c d → (j : ℕ) → IsMoving d j → IsMoving c j
+calm_moving c d a j is = elim (cases_Bool (is_moving (state_of c j))) [
+  | inl y ↦ y
+  | inr n ↦ absurd (let f : true ≡ false = sym is ∙ ap (λ (s : JobState). is_moving s) (a.same j n) ∙ n in cc)
+]
 
 -- ### Rounds
 
@@ -134,3 +166,85 @@ round_empty v c r job in_flight all none r_is = record {
 
 pub group_done : (v : MakerView) (c : CoreState) (job : ℕ) → job ≡ length v.steps → IsGroup v c job job → AreDone v c
 group_done v c job all g = record { under = g.under; each = λ i l. g.before i (omega arith) }
+
+-- ### Settles
+
+ahead_step : (a n : ℕ) (b : Bool) → a ≤ n → a + (if b then 0 else 1) ≤ suc n
+ahead_step a n true l = omega (arith, l)
+ahead_step a n false l = omega (arith, l)
+
+ahead_most : (ss : List JobState) (n : ℕ) → ahead ss n ≤ n
+ahead_most ss zero = omega arith
+ahead_most ss (suc n) = ahead_step (ahead ss n) n (is_done (get_or ss n Done)) (ahead_most ss n)
+
+pub taken_most : (v : MakerView) (c : CoreState) (r : Round) (job in_flight : ℕ) → IsRound v c r job in_flight → r.taken ≤ job
+taken_most v c r job in_flight r_is = let e : ahead c.states job ≡ r.taken = r_is.count in let l = ahead_most c.states job in omega (arith, e, l)
+
+same_first : (r s : Round) → s.first ≡ r.first → settles_of_one r (Ok s) ≡ 0
+same_first r s e = rw (eq-eqb s.first r.first e) refl
+
+pub later_first : (r s : Round) → r.first < s.first → settles_of_one r (Ok s) ≡ 1
+later_first r s l = let ne : s.first ≢ r.first = λ (e : s.first ≡ r.first). omega (arith, e, l) in rw (ne_eqb s.first r.first ne) refl
+
+pub one_at_err : (r : Round) (a : Result Round JobErr) → IsErr a → settles_of_one r a ≡ 1
+one_at_err r (Ok s) is = let d : false ≡ true = is in absurd (cc)
+one_at_err r (Err e) is = refl
+
+pub one_if_err : (r : Round) (a : Result Round JobErr) (x : JobErr) → IsErrAnd a (λ y. y ≡ x) → 1 ≤ settles_of_one r a
+one_if_err r a x is =
+    let p = err_from_is_err_and a is in
+    rw (one_at_err r a (err_is a p.0 p.1)) (omega arith)
+
+pub one_if_later : (r s : Round) → r.first < s.first → 1 ≤ settles_of_one r (Ok s)
+one_if_later r s l = rw (later_first r s l) (omega arith)
+
+pub counted_same : (r s : Round) (in_flight : ℕ) → s.first ≡ r.first → s.taken ≤ r.taken + 1 → IsCounted r s in_flight
+counted_same r s in_flight e l = record { counted = rw (same_first r s e) (omega (arith, l)) }
+
+pub counted_full : (r s : Round) (in_flight : ℕ) → r.first < s.first → s.taken ≡ 0 → in_flight ≤ r.taken + 1 → IsCounted r s in_flight
+counted_full r s in_flight l z full = record { counted = rw (later_first r s l) (omega (arith, z, full)) }
+
+-- whole parts of a number, and more of them
+parts_add : (n a b m : ℕ) → 0 < n → m * n + a ≤ b → a / n + m ≤ b / n
+parts_add n a b m some l =
+    let e : (a / n + m) * n ≡ a / n * n + m * n = add-mul (a / n) m n in
+    let k : a / n * n + a % n ≡ a = div-add-mod' a n in
+    le-div (a / n + m) b n some (omega (arith, e, k, l))
+
+-- another job after those so far
+pub settles_next : (r s : Round) (a : Result Round JobErr) (job next in_flight : ℕ) → 0 < in_flight → next ≡ suc job → r.taken ≤ job → a ≡ Ok s → IsCounted r s in_flight
+    → (job - r.taken) / in_flight + settles_of_one r a ≤ (next - s.taken) / in_flight
+settles_next r s a job next in_flight some at most is counted =
+    let l = counted.counted in
+    rw is (parts_add in_flight (job - r.taken) (next - s.taken) (settles_of_one r (Ok s)) some (omega (arith, at, most, l)))
+
+-- or one that isn't taken
+pub settles_broke : (r : Round) (a b : Result Round JobErr) (job jobs in_flight : ℕ) → 0 < in_flight → job < jobs → IsErr a → IsErr b
+    → (job - r.taken) / in_flight + settles_of_one r a ≤ settles_so_far jobs in_flight b
+settles_broke r a (Ok s) job jobs in_flight some l is_a is_b = let d : false ≡ true = is_b in absurd (cc)
+settles_broke r a (Err e) job jobs in_flight some l is_a is_b = rw (one_at_err r a is_a) (parts_add in_flight (job - r.taken) (jobs + (in_flight - 1)) 1 some (omega (arith, l, some)))
+
+pub broke_all : (r : Round) (a : Result Round JobErr) (b : Result Round JobErr) (x : JobErr) (job jobs in_flight : ℕ) → 0 < in_flight → job < jobs → a ≡ Err x → IsErrAnd b (λ y. y ≡ x)
+    → (job - r.taken) / in_flight + settles_of_one r a ≤ settles_so_far jobs in_flight b
+broke_all r a b x job jobs in_flight some l is_a is_b =
+    let p = err_from_is_err_and b is_b in
+    settles_broke r a b job jobs in_flight some l (err_is a x is_a) (err_is b p.0 p.1)
+
+-- where all jobs are over
+pub settles_end : (r s : Round) (job jobs in_flight : ℕ) → job ≡ jobs → r ≡ s → (job - r.taken) / in_flight ≤ settles_so_far jobs in_flight (Ok s)
+settles_end r s job jobs in_flight all same = rw (all, same) (omega arith)
+
+-- all rounds, of which the last isn't full
+pub settles_last : (s : Round) (a : Result Round JobErr) (jobs in_flight : ℕ) → 0 < in_flight → a ≡ Ok s → s.taken ≢ 0 → s.taken ≤ jobs
+    → 0 + settles_so_far jobs in_flight a + 1 ≤ rounds_of jobs in_flight
+settles_last s a jobs in_flight some is taken most =
+    let l = parts_add in_flight (jobs - s.taken) (jobs + (in_flight - 1)) 1 some (omega (arith, taken, most, some)) in
+    rw is (omega (arith, l))
+
+pub settles_all : (s : Round) (a : Result Round JobErr) (jobs in_flight : ℕ) → 0 < in_flight → a ≡ Ok s → 0 + settles_so_far jobs in_flight a ≤ rounds_of jobs in_flight
+settles_all s a jobs in_flight some is =
+    let l = parts_add in_flight (jobs - s.taken) (jobs + (in_flight - 1)) 0 some (omega (arith, some)) in
+    rw is (omega (arith, l))
+
+pub settles_failed : (x : JobErr) (a : Result Round JobErr) (jobs in_flight : ℕ) → a ≡ Err x → 0 + settles_so_far jobs in_flight a ≤ rounds_of jobs in_flight
+settles_failed x a jobs in_flight is = rw is (omega arith)

@@ -1,6 +1,7 @@
 -- A run from a start to its end: the cores that it may begin with, and what is wanted of it.
 use Rattle.std.specs.Prelude.{◌≡◌, ◌∷◌, [], ℕ, List, true, Result, OnOk}
 use Rattle.file_tree.specs.declared.node.Node.{Node}
+use Rattle.file_tree.specs.declared.node.Node.TheVariants as node
 use Rattle.journal_core.specs.declared.event.Phase.TheVariants.{Closed}
 use Rattle.journal_core.specs.Names.{plan_new, final}
 use Rattle.journal_core.specs.Table.{CoreState, new_core}
@@ -11,6 +12,8 @@ use Rattle.work_journal.specs.Ending.{AreTexts}
 use Rattle.work_journal.specs.Files.{IsWanted}
 use Rattle.file_tree.specs.Images.{state_of}
 use Rattle.file_tree.specs.Seen.{Seen, map_now}
+use Rattle.work_texts.specs.Fields.{text_of, plan_fields}
+use Rattle.work_texts.specs.declared.plan.PlanData.{PlanData}
 use Rattle.work_texts.specs.declared.journal_err.JournalErr.{JournalErr}
 use Rattle.work_texts.specs.declared.journal_err.JournalErr.TheVariants as run
 use Rattle.work_journal.specs.Keeps.{Keeps}
@@ -34,6 +37,10 @@ pub record AreJobs (w : Wanted) (v : MakerView) (texts : List Node) : Type 0 whe
   pub files : IsWanted w v
   pub ends : AreTexts w texts
 
+-- the text of a plan as a file
+abbrev pub plan_node : PlanData → Node
+plan_node plan = node.File (text_of (plan_fields plan)) 420
+
 -- and the plan
 pub record IsRun (w : Wanted) (v : MakerView) (plan : Node) (texts : List Node) : Type 0 where
   pub puts : w.node plan_new ≡ plan
@@ -44,8 +51,8 @@ abbrev pub end_paths : List ℕ → List (List ℕ)
 end_paths work = work_path work (final 0) ∷ work_path work (final 1) ∷ work_path work (final 2) ∷ work_path work (final 3) ∷ []
 
 -- the calls of a whole run: they lead the core to its end where all went well, and then the tree has ended
-pub record FinishRan {A : Type 0} (work : List ℕ) (may : Wanted → Type 0) (c : CoreState) (old new : Seen) (result : Result A JournalErr) : Type 0 where
+pub record FinishRan {A : Type 0} (hits : List ℕ → Type 0) (settles : ℕ) (work : List ℕ) (may : Wanted → Type 0) (c : CoreState) (old new : Seen) (result : Result A JournalErr) : Type 0 where
   pub last : CoreState
   pub closed : OnOk result (last.phase ≡ Closed)
-  pub came : Came run.Tree work may c old last new result
+  pub came : Came run.Tree hits settles work may c old last new result
   pub ended : old.tells ≡ true → (w : Wanted) → IsGiven w work → may w → Keeps w c (state_of old.past) → OnOk result (IsEnded w (map_now new.past))

@@ -5,10 +5,12 @@ pub mod Laws
 pub mod Targets
 pub mod Events
 pub mod Views
+pub mod Spares
 pub mod Runs
 pub mod Jobs
 pub mod Groups
 pub mod Files
+pub mod Planned
 pub mod Blames
 pub mod Begun
 pub mod Opening

@@ -10,6 +10,7 @@ use Rattle.journal_core.specs.declared.event.Event.TheVariants.{Settle}
 use Rattle.journal_core.specs.Table.{CoreState, allows, after}
 use Rattle.journal_core.specs.Names.{Name}
 use Rattle.journal_core.specs.Calls.{Puts, Moves}
+use Rattle.work_journal.specs.Spares.{Spares}
 use Rattle.work_journal.specs.Work.{work_path}
 use Rattle.work_journal.specs.Wanted.{Wanted, IsApart, IsWork, IsPartway}
 use Rattle.work_journal.specs.Keeps.{MaySweep, Keeps}
@@ -52,9 +53,11 @@ pub record Goes {A E : Type 0} (work : List ℕ) (may : Wanted → Type 0) (c : 
   pub keeps : (w : Wanted) → IsGiven w work → may w → Keeps w c (state_of old) → OnOk result (Keeps w d (state_of new))
 
 -- what a function did with a desk's tree and core: whether the tree tells is as before, it answers this fault only
--- where the tree's count of faults rose, and its calls go on
-pub record Came {A E : Type 0} (fault : E) (work : List ℕ) (may : Wanted → Type 0) (c : CoreState) (old : Seen) (d : CoreState) (new : Seen) (result : Result A E) : Type 0 where
+-- where the tree's count of faults rose, it changes these paths alone and settles at most so many times, and its
+-- calls go on
+pub record Came {A E : Type 0} (fault : E) (hits : List ℕ → Type 0) (settles : ℕ) (work : List ℕ) (may : Wanted → Type 0) (c : CoreState) (old : Seen) (d : CoreState) (new : Seen) (result : Result A E) : Type 0 where
   pub tells : new.tells ≡ old.tells
   pub later : old.faults ≤ new.faults
   pub failed : IsErrOf result fault → Rose old.faults new.faults
+  pub spares : Spares hits settles old new
   pub goes : old.tells ≡ true → Goes work may c old.past d new.past result

@@ -7,6 +7,7 @@ ghost use Rattle.journal_core.specs.declared.event.Phase.TheVariants.{Finishing,
 ghost use Rattle.journal_core.specs.Cores.{core_of};
 ghost use Rattle.journal_core.specs.Names.{fresh};
 ghost use Rattle.journal_core.specs.Table.{allows, after, in_phase};
+ghost use Rattle.work_journal.specs.Spares.{InWork};
 ghost use Rattle.work_journal.specs.Runs.{Came};
 ghost use Rattle.work_journal.specs.Ending.{AreTexts, IsEnding};
 
@@ -28,7 +29,7 @@ fn put_text<T: Tree>(
     requires allowed { IsTrue (allows (core_of desk.old.core) (Event.Finish part)) }
     ensures same_tree { desk.new.tree.ghost_name ≡ desk.old.tree.ghost_name }
     ensures core { OnOk result (core_of desk.new.core ≡ after (core_of desk.old.core) (Event.Finish part)) }
-    ensures came { Came Failed work.now (λ w. w.node (fresh part) ≡ text.now) (core_of desk.old.core) (T.seen desk.old.tree.now) (core_of desk.new.core) (T.seen desk.new.tree.now) result }
+    ensures came { Came Failed (InWork work.now) 0 work.now (λ w. w.node (fresh part) ≡ text.now) (core_of desk.old.core) (T.seen desk.old.tree.now) (core_of desk.new.core) (T.seen desk.new.tree.now) result }
 {
     let path = fresh_path(alloc, work, part)?;
     desk.put(Event::Finish { part }, path.as_str(), text)
@@ -45,7 +46,7 @@ fn close_text<T: Tree>(
     requires allowed { IsTrue (allows (core_of desk.old.core) (Event.Close part)) }
     ensures same_tree { desk.new.tree.ghost_name ≡ desk.old.tree.ghost_name }
     ensures core { OnOk result (core_of desk.new.core ≡ after (core_of desk.old.core) (Event.Close part)) }
-    ensures came { Came Failed work.now (λ w. ⊤) (core_of desk.old.core) (T.seen desk.old.tree.now) (core_of desk.new.core) (T.seen desk.new.tree.now) result }
+    ensures came { Came Failed (InWork work.now) 0 work.now (λ w. ⊤) (core_of desk.old.core) (T.seen desk.old.tree.now) (core_of desk.new.core) (T.seen desk.new.tree.now) result }
 {
     let from = fresh_path(alloc, work, part)?;
     let to = final_path(alloc, work, part)?;
@@ -63,7 +64,7 @@ fn put_texts<T: Tree>(
     requires ending { IsEnding (core_of desk.old.core) }
     ensures same_tree { desk.new.tree.ghost_name ≡ desk.old.tree.ghost_name }
     ensures core { OnOk result (core_of desk.new.core ≡ in_phase (core_of desk.old.core) (Finishing 4 false)) }
-    ensures came { Came Failed work.now (λ w. AreTexts w texts.now.items) (core_of desk.old.core) (T.seen desk.old.tree.now) (core_of desk.new.core) (T.seen desk.new.tree.now) result }
+    ensures came { Came Failed (InWork work.now) 0 work.now (λ w. AreTexts w texts.now.items) (core_of desk.old.core) (T.seen desk.old.tree.now) (core_of desk.new.core) (T.seen desk.new.tree.now) result }
 {
     for part in 0..4u8 {
         put_text(alloc, desk, work, part, &texts[part as usize])?;
@@ -76,7 +77,7 @@ fn close_texts<T: Tree>(alloc: Global, desk: &mut Desk<T>, work: &str) -> Result
     requires phase { (core_of desk.old.core).phase ≡ Finishing 4 true }
     ensures same_tree { desk.new.tree.ghost_name ≡ desk.old.tree.ghost_name }
     ensures core { OnOk result (core_of desk.new.core ≡ in_phase (core_of desk.old.core) Closed) }
-    ensures came { Came Failed work.now (λ w. ⊤) (core_of desk.old.core) (T.seen desk.old.tree.now) (core_of desk.new.core) (T.seen desk.new.tree.now) result }
+    ensures came { Came Failed (InWork work.now) 0 work.now (λ w. ⊤) (core_of desk.old.core) (T.seen desk.old.tree.now) (core_of desk.new.core) (T.seen desk.new.tree.now) result }
 {
     for part in 0..4u8 {
         close_text(alloc, desk, work, part)?;
@@ -86,7 +87,7 @@ fn close_texts<T: Tree>(alloc: Global, desk: &mut Desk<T>, work: &str) -> Result
 
 /// Ends a run whose jobs are all done: the three lists and the finished text are put under temporary names,
 /// settled, and renamed, the finished text last.
-pub fn close_run<T: Tree>(
+pub(crate) fn close_run<T: Tree>(
     alloc: Global,
     desk: &mut Desk<T>,
     work: &str,
@@ -96,7 +97,7 @@ pub fn close_run<T: Tree>(
     requires ending { IsEnding (core_of desk.old.core) }
     ensures same_tree { desk.new.tree.ghost_name ≡ desk.old.tree.ghost_name }
     ensures closed { OnOk result ((core_of desk.new.core).phase ≡ Closed) }
-    ensures came { Came Failed work.now (λ w. AreTexts w texts.now.items) (core_of desk.old.core) (T.seen desk.old.tree.now) (core_of desk.new.core) (T.seen desk.new.tree.now) result }
+    ensures came { Came Failed (InWork work.now) 1 work.now (λ w. AreTexts w texts.now.items) (core_of desk.old.core) (T.seen desk.old.tree.now) (core_of desk.new.core) (T.seen desk.new.tree.now) result }
 {
     put_texts(alloc, desk, work, texts)?;
     desk.settle()?;

@@ -3,7 +3,7 @@
 //! This layer promises: whatever core a start begins with, at `Ok` the run is over, and for the files that
 //! the maker wants all outputs and texts are there; whatever is answered, every stop leaves the run partway.
 //! Read first: `specs/Finishing.antt`, `specs/Blames.antt`, `specs/Runs.antt`.
-ghost use Rattle.std.specs.Prelude.{◌≡◌, ◌≤◌, ◌<◌, ◌∷◌, [], true, IfOk, IfErr, OnOk, IsTrue, length, List, ℕ, ⊤};
+ghost use Rattle.std.specs.Prelude.{◌≡◌, ◌≤◌, ◌<◌, ◌+◌, ◌∷◌, [], true, IfOk, IfErr, OnOk, IsTrue, length, List, ℕ, ⊤};
 ghost use Rattle.dw_base.specs.declared.fault.Refusal.{Refusal};
 ghost use Rattle.file_tree.specs.declared.node.Node.TheVariants as node;
 ghost use Rattle.file_tree.specs.Images.{state_of};
@@ -13,9 +13,11 @@ ghost use Rattle.journal_core.specs.Names.{plan_new};
 ghost use Rattle.work_texts.specs.declared.journal_err.JournalErr.TheVariants.{Tree as tree_fault};
 ghost use Rattle.work_journal.specs.Blames.{RunBlames, is_mild_run};
 ghost use Rattle.work_journal.specs.Clearing.{IsCleared};
-ghost use Rattle.work_journal.specs.Finishing.{IsStart, IsPlanned, AreJobs, IsRun, FinishRan};
+ghost use Rattle.work_journal.specs.Finishing.{IsStart, IsPlanned, AreJobs, IsRun, FinishRan, plan_node};
 ghost use Rattle.work_journal.specs.Keeps.{Keeps};
-ghost use Rattle.work_journal.specs.Rounds.{IsBegun};
+ghost use Rattle.work_journal.specs.Planned.{ArePlanned, AreSourcesApart};
+ghost use Rattle.work_journal.specs.Rounds.{IsBegun, rounds_of};
+ghost use Rattle.work_journal.specs.Spares.{InWork, IsHit};
 ghost use Rattle.work_journal.specs.Runs.{Came, IsGiven};
 ghost use Rattle.work_journal.specs.Wanted.{Wanted};
 
@@ -26,22 +28,11 @@ use crate::job_err::stopped;
 use crate::maker::Maker;
 use crate::planning::commit_plan;
 use crate::running::run_jobs;
-use crate::steps::TEXT_MODE;
-use file_tree::{Blob, Node, Tree};
+use crate::steps::text_node;
+use file_tree::{Node, Tree};
 use journal_core::{Core, Phase};
 use std::alloc::{AllocError, Global};
-use work_texts::JournalErr;
-
-/// A text of the work folder as a file.
-pub fn text_node(text: Vec<u8>) -> Node
-    ensures node { result ≡ node.File text.items 420 }
-{
-    let bytes = Blob::new(text);
-    Node::File {
-        bytes,
-        mode: TEXT_MODE,
-    }
-}
+use work_texts::{JournalErr, PlanData};
 
 /// The four texts of the end as files: the lists of sources, of debug files and of links, and the finished
 /// text.
@@ -80,9 +71,10 @@ pub fn resume<T: Tree, M: Maker>(
     ensures same_view { M.view maker.new ≡ M.view maker.old }
     ensures same_refusals { (j : ℕ) (b : List ℕ) (r : Refusal) → M.refuses maker.new j b r → M.refuses maker.old j b r }
     ensures closed { OnOk result ((core_of desk.new.core).phase ≡ Closed) }
+    ensures met { OnOk result (AreSourcesApart work.now (M.view maker.old) → ArePlanned (M.view maker.old) (core_of desk.old.core) (T.seen desk.old.tree.now) (length (M.view maker.old).steps)) }
     ensures blame { IfErr result (RunBlames (M.view maker.old) (M.refuses maker.old) (T.seen desk.new.tree.now)) }
     ensures mild { (w : Wanted) → IsGiven w work.now → AreJobs w (M.view maker.old) texts.now.items → (T.seen desk.old.tree.now).tells ≡ true → Keeps w (core_of desk.old.core) (state_of (T.seen desk.old.tree.now).past) → IfErr result (λ e. IsTrue (is_mild_run e)) }
-    ensures came { Came tree_fault work.now (λ w. AreJobs w (M.view maker.old) texts.now.items) (core_of desk.old.core) (T.seen desk.old.tree.now) (core_of desk.new.core) (T.seen desk.new.tree.now) result }
+    ensures came { Came tree_fault (IsHit work.now (M.view maker.old) (λ j. ⊤)) (rounds_of (length (M.view maker.old).steps) in_flight + 1) work.now (λ w. AreJobs w (M.view maker.old) texts.now.items) (core_of desk.old.core) (T.seen desk.old.tree.now) (core_of desk.new.core) (T.seen desk.new.tree.now) result }
 {
     run_jobs(alloc, desk, work, maker, in_flight)?;
     match close_run(alloc, desk, work, texts) {
@@ -99,24 +91,21 @@ fn plan_first<T: Tree, M: Maker>(
     work: &str,
     present: &[String],
     maker: &M,
-    plan: &Node,
+    plan: &PlanData,
 ) -> Result<(), JournalErr>
     requires start { IsStart (M.view maker.now) (core_of desk.old.core) }
     ensures same_tree { desk.new.tree.ghost_name ≡ desk.old.tree.ghost_name }
     ensures planned { OnOk result (IsPlanned (M.view maker.now) (core_of desk.new.core)) }
     ensures blame { IfErr result (RunBlames (M.view maker.now) (M.refuses maker.now) (T.seen desk.new.tree.now)) }
     ensures mild { IfErr result (λ e. IsTrue (is_mild_run e)) }
-    ensures came { Came tree_fault work.now (λ w. w.node plan_new ≡ plan.now) (core_of desk.old.core) (T.seen desk.old.tree.now) (core_of desk.new.core) (T.seen desk.new.tree.now) result }
+    ensures came { Came tree_fault (InWork work.now) 1 work.now (λ w. w.node plan_new ≡ plan_node plan.now) (core_of desk.old.core) (T.seen desk.old.tree.now) (core_of desk.new.core) (T.seen desk.new.tree.now) result }
 {
     let _ = maker;
     let is_new = desk.core().phase() == Phase::Empty;
     if !is_new {
         return Ok(());
     }
-    match commit_plan(alloc, desk, work, present, plan) {
-        Ok(()) => Ok(()),
-        Err(e) => Err(stopped(e)),
-    }
+    commit_plan(alloc, desk, work, present, plan)
 }
 
 /// Does the jobs of a run that isn't over, and puts its texts.
@@ -139,35 +128,13 @@ fn jobs_next<T: Tree, M: Maker>(
     ensures closed { OnOk result ((core_of desk.new.core).phase ≡ Closed) }
     ensures blame { IfErr result (RunBlames (M.view maker.old) (M.refuses maker.old) (T.seen desk.new.tree.now)) }
     ensures mild { (w : Wanted) → IsGiven w work.now → AreJobs w (M.view maker.old) texts.now.items → (T.seen desk.old.tree.now).tells ≡ true → Keeps w (core_of desk.old.core) (state_of (T.seen desk.old.tree.now).past) → IfErr result (λ e. IsTrue (is_mild_run e)) }
-    ensures came { Came tree_fault work.now (λ w. AreJobs w (M.view maker.old) texts.now.items) (core_of desk.old.core) (T.seen desk.old.tree.now) (core_of desk.new.core) (T.seen desk.new.tree.now) result }
+    ensures came { Came tree_fault (IsHit work.now (M.view maker.old) (λ j. ⊤)) (rounds_of (length (M.view maker.old).steps) in_flight + 1) work.now (λ w. AreJobs w (M.view maker.old) texts.now.items) (core_of desk.old.core) (T.seen desk.old.tree.now) (core_of desk.new.core) (T.seen desk.new.tree.now) result }
 {
     let is_over = desk.core().phase() == Phase::Closed;
     if is_over {
         return Ok(());
     }
     resume(alloc, desk, work, maker, in_flight, texts)
-}
-
-/// Clears the work folder of a run that is over.
-fn clear_last<T: Tree, M: Maker>(
-    alloc: Global,
-    desk: &mut Desk<T>,
-    work: &str,
-    maker: &M,
-) -> Result<(), JournalErr>
-    requires phase { (core_of desk.old.core).phase ≡ Closed }
-    ensures same_tree { desk.new.tree.ghost_name ≡ desk.old.tree.ghost_name }
-    ensures closed { OnOk result ((core_of desk.new.core).phase ≡ Closed) }
-    ensures blame { IfErr result (RunBlames (M.view maker.now) (M.refuses maker.now) (T.seen desk.new.tree.now)) }
-    ensures mild { IfErr result (λ e. IsTrue (is_mild_run e)) }
-    ensures cleared { OnOk result (IsCleared work.now (T.seen desk.new.tree.now)) }
-    ensures came { Came tree_fault work.now (λ w. ⊤) (core_of desk.old.core) (T.seen desk.old.tree.now) (core_of desk.new.core) (T.seen desk.new.tree.now) result }
-{
-    let _ = maker;
-    match clear(alloc, desk, work) {
-        Ok(()) => Ok(()),
-        Err(e) => Err(stopped(e)),
-    }
 }
 
 /// The whole of it, at a desk.
@@ -178,7 +145,7 @@ fn finish_at<T: Tree, M: Maker>(
     present: &[String],
     maker: &mut M,
     in_flight: u8,
-    plan: &Node,
+    plan: &PlanData,
     texts: &Vec<Node>,
 ) -> Result<(), JournalErr>
     requires some { 0 < in_flight }
@@ -190,13 +157,13 @@ fn finish_at<T: Tree, M: Maker>(
     ensures same_refusals { (j : ℕ) (b : List ℕ) (r : Refusal) → M.refuses maker.new j b r → M.refuses maker.old j b r }
     ensures closed { OnOk result ((core_of desk.new.core).phase ≡ Closed) }
     ensures blame { IfErr result (RunBlames (M.view maker.old) (M.refuses maker.old) (T.seen desk.new.tree.now)) }
-    ensures mild { (w : Wanted) → IsGiven w work.now → IsRun w (M.view maker.old) plan.now texts.now.items → (T.seen desk.old.tree.now).tells ≡ true → Keeps w (core_of desk.old.core) (state_of (T.seen desk.old.tree.now).past) → IfErr result (λ e. IsTrue (is_mild_run e)) }
+    ensures mild { (w : Wanted) → IsGiven w work.now → IsRun w (M.view maker.old) (plan_node plan.now) texts.now.items → (T.seen desk.old.tree.now).tells ≡ true → Keeps w (core_of desk.old.core) (state_of (T.seen desk.old.tree.now).past) → IfErr result (λ e. IsTrue (is_mild_run e)) }
     ensures cleared { OnOk result (IsCleared work.now (T.seen desk.new.tree.now)) }
-    ensures came { Came tree_fault work.now (λ w. IsRun w (M.view maker.old) plan.now texts.now.items) (core_of desk.old.core) (T.seen desk.old.tree.now) (core_of desk.new.core) (T.seen desk.new.tree.now) result }
+    ensures came { Came tree_fault (IsHit work.now (M.view maker.old) (λ j. ⊤)) (rounds_of (length (M.view maker.old).steps) in_flight + 3) work.now (λ w. IsRun w (M.view maker.old) (plan_node plan.now) texts.now.items) (core_of desk.old.core) (T.seen desk.old.tree.now) (core_of desk.new.core) (T.seen desk.new.tree.now) result }
 {
     plan_first(alloc, desk, work, present, maker, plan)?;
     jobs_next(alloc, desk, work, maker, in_flight, texts)?;
-    clear_last(alloc, desk, work, maker)?;
+    clear(alloc, desk, work)?;
     Ok(())
 }
 
@@ -215,7 +182,7 @@ pub fn finish<T: Tree, M: Maker>(
     present: &[String],
     maker: &mut M,
     in_flight: u8,
-    plan: &Node,
+    plan: &PlanData,
     texts: &Vec<Node>,
 ) -> Result<(), JournalErr>
     requires some { 0 < in_flight }
@@ -225,9 +192,9 @@ pub fn finish<T: Tree, M: Maker>(
     ensures same_view { M.view maker.new ≡ M.view maker.old }
     ensures same_refusals { (j : ℕ) (b : List ℕ) (r : Refusal) → M.refuses maker.new j b r → M.refuses maker.old j b r }
     ensures blame { IfErr result (RunBlames (M.view maker.old) (M.refuses maker.old) (T.seen tree.new)) }
-    ensures mild { (w : Wanted) → IsGiven w work.now → IsRun w (M.view maker.old) plan.now texts.now.items → (T.seen tree.old).tells ≡ true → Keeps w (core_of core) (state_of (T.seen tree.old).past) → IfErr result (λ e. IsTrue (is_mild_run e)) }
+    ensures mild { (w : Wanted) → IsGiven w work.now → IsRun w (M.view maker.old) (plan_node plan.now) texts.now.items → (T.seen tree.old).tells ≡ true → Keeps w (core_of core) (state_of (T.seen tree.old).past) → IfErr result (λ e. IsTrue (is_mild_run e)) }
     ensures cleared { OnOk result (IsCleared work.now (T.seen tree.new)) }
-    ensures ran { FinishRan work.now (λ w. IsRun w (M.view maker.old) plan.now texts.now.items) (core_of core) (T.seen tree.old) (T.seen tree.new) result }
+    ensures ran { FinishRan (IsHit work.now (M.view maker.old) (λ j. ⊤)) (rounds_of (length (M.view maker.old).steps) in_flight + 3) work.now (λ w. IsRun w (M.view maker.old) (plan_node plan.now) texts.now.items) (core_of core) (T.seen tree.old) (T.seen tree.new) result }
 {
     let mut desk = Desk::new(tree, core);
     let ended = finish_at(

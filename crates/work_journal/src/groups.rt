@@ -7,6 +7,8 @@ ghost use Rattle.journal_core.specs.declared.event.JobState.TheVariants.{Done};
 ghost use Rattle.journal_core.specs.Table.{with_state, state_of};
 ghost use Rattle.journal_core.specs.Cores.{core_of};
 ghost use Rattle.work_journal.specs.Groups.{is_settled, IsUnder, IsGroup, IsMade};
+ghost use Rattle.work_journal.specs.Spares.{IsHit};
+ghost use Rattle.work_journal.specs.Rounds.{AreLater};
 ghost use Rattle.work_journal.specs.Runs.{Came};
 
 use crate::desk::Desk;
@@ -30,7 +32,7 @@ fn flush_job<T: Tree, M: Maker>(
     requires settled { IsTrue (is_settled (state_of (core_of desk.old.core) job)) }
     ensures same_tree { desk.new.tree.ghost_name ≡ desk.old.tree.ghost_name }
     ensures core { OnOk result (core_of desk.new.core ≡ with_state (core_of desk.old.core) job Done) }
-    ensures came { Came Failed work.now (λ w. IsMade w (M.view maker.now)) (core_of desk.old.core) (T.seen desk.old.tree.now) (core_of desk.new.core) (T.seen desk.new.tree.now) result }
+    ensures came { Came Failed (IsHit work.now (M.view maker.now) (λ j. j ≡ job)) 0 work.now (λ w. IsMade w (M.view maker.now)) (core_of desk.old.core) (T.seen desk.old.tree.now) (core_of desk.new.core) (T.seen desk.new.tree.now) result }
 {
     let is_ready = desk.core().job(job) == JobState::Ready;
     if !is_ready {
@@ -55,7 +57,8 @@ pub(crate) fn flush_group<T: Tree, M: Maker>(
     requires group { IsGroup (M.view maker.now) (core_of desk.old.core) first last }
     ensures same_tree { desk.new.tree.ghost_name ≡ desk.old.tree.ghost_name }
     ensures group { OnOk result (IsGroup (M.view maker.now) (core_of desk.new.core) last last) }
-    ensures came { Came Failed work.now (λ w. IsMade w (M.view maker.now)) (core_of desk.old.core) (T.seen desk.old.tree.now) (core_of desk.new.core) (T.seen desk.new.tree.now) result }
+    ensures later { OnOk result (AreLater (core_of desk.old.core) (core_of desk.new.core) last) }
+    ensures came { Came Failed (IsHit work.now (M.view maker.now) (λ j. j < last)) 1 work.now (λ w. IsMade w (M.view maker.now)) (core_of desk.old.core) (T.seen desk.old.tree.now) (core_of desk.new.core) (T.seen desk.new.tree.now) result }
 {
     desk.settle()?;
     for job in first..last {

@@ -7,6 +7,7 @@ ghost use Rattle.journal_core.specs.declared.event.JobState.TheVariants.{Staged,
 ghost use Rattle.journal_core.specs.Table.{with_state};
 ghost use Rattle.journal_core.specs.Cores.{core_of};
 ghost use Rattle.work_journal.specs.Jobs.{MayStage, MayMove, AreNodes, AreTargets};
+ghost use Rattle.work_journal.specs.Spares.{InWork, IsHit};
 ghost use Rattle.work_journal.specs.Views.{MakerView};
 ghost use Rattle.work_journal.specs.Runs.{Came};
 
@@ -28,7 +29,7 @@ pub(crate) fn stage_job<T: Tree>(
     requires few { length nodes.now.items ≤ 4 }
     ensures same_tree { desk.new.tree.ghost_name ≡ desk.old.tree.ghost_name }
     ensures core { OnOk result (core_of desk.new.core ≡ with_state (core_of desk.old.core) job Staged) }
-    ensures came { Came Failed work.now (λ w. AreNodes w job nodes.now.items) (core_of desk.old.core) (T.seen desk.old.tree.now) (core_of desk.new.core) (T.seen desk.new.tree.now) result }
+    ensures came { Came Failed (InWork work.now) 0 work.now (λ w. AreNodes w job nodes.now.items) (core_of desk.old.core) (T.seen desk.old.tree.now) (core_of desk.new.core) (T.seen desk.new.tree.now) result }
 {
     for step in 0..nodes.len() {
         stage_step(alloc, desk, work, job, step as u8, &nodes[step])?;
@@ -49,7 +50,7 @@ pub(crate) fn move_job<T: Tree, M: Maker>(
     requires may { MayMove (core_of desk.old.core) job first (get_or (M.view maker.now).steps job 0) }
     ensures same_tree { desk.new.tree.ghost_name ≡ desk.old.tree.ghost_name }
     ensures core { OnOk result (core_of desk.new.core ≡ with_state (core_of desk.old.core) job Done) }
-    ensures came { Came Failed work.now (λ w. AreTargets w (M.view maker.now) job) (core_of desk.old.core) (T.seen desk.old.tree.now) (core_of desk.new.core) (T.seen desk.new.tree.now) result }
+    ensures came { Came Failed (IsHit work.now (M.view maker.now) (λ j. j ≡ job)) 0 work.now (λ w. AreTargets w (M.view maker.now) job) (core_of desk.old.core) (T.seen desk.old.tree.now) (core_of desk.new.core) (T.seen desk.new.tree.now) result }
 {
     for step in first..maker.steps(job) {
         let to = maker.target(alloc, job, step)?;

@@ -38,9 +38,8 @@ mod taking;
 mod tests;
 
 pub use clearing::clear;
-pub use closing::close_run;
 pub use desk::Desk;
-pub use finishing::{end_nodes, finish, resume, text_node};
+pub use finishing::{end_nodes, finish, resume};
 pub use law::bridge_laws;
 pub use maker::{MakeErr, Maker};
 pub use opening::{Opened, open_work};

@@ -1,21 +1,28 @@
 //! The plan of a run, put so that a stop leaves a whole one or none.
 //!
 //! Read first: `specs/Runs.antt`.
-ghost use Rattle.std.specs.Prelude.{◌≡◌, OnOk, IsTrue, ⊤};
+ghost use Rattle.std.specs.Prelude.{◌≡◌, IfErr, IfOk, OnOk, IsTrue, ⊤};
+ghost use Rattle.work_texts.specs.declared.journal_err.JournalErr.TheVariants.{Tree as tree_fault, NoMemory as no_memory};
+ghost use Rattle.work_journal.specs.Blames.{is_mild_run};
+ghost use Rattle.work_journal.specs.Finishing.{plan_node};
 ghost use Rattle.file_tree.specs.declared.node.TreeErr.TheVariants.{Failed};
 ghost use Rattle.journal_core.specs.declared.event.Phase.TheVariants.{Empty};
 ghost use Rattle.journal_core.specs.Cores.{core_of};
 ghost use Rattle.journal_core.specs.Names.{plan_new};
 ghost use Rattle.journal_core.specs.Table.{allows, after};
+ghost use Rattle.work_journal.specs.Spares.{InWork};
 ghost use Rattle.work_journal.specs.Runs.{Came};
 ghost use Rattle.work_journal.specs.Settling.{Keeping};
 
 use crate::desk::Desk;
+use crate::job_err::stopped;
 use crate::names::{plan_new_path, plan_path};
+use crate::steps::text_node;
 use crate::sweeping::sweep_all;
 use file_tree::{Node, Tree, TreeErr};
 use journal_core::Event;
 use std::alloc::Global;
+use work_texts::{JournalErr, PlanData, write_plan};
 
 /// Puts the plan under its temporary name.
 fn propose<T: Tree>(
@@ -27,7 +34,7 @@ fn propose<T: Tree>(
     requires allowed { IsTrue (allows (core_of desk.old.core) Event.Propose) }
     ensures same_tree { desk.new.tree.ghost_name ≡ desk.old.tree.ghost_name }
     ensures core { OnOk result (core_of desk.new.core ≡ after (core_of desk.old.core) Event.Propose) }
-    ensures came { Came Failed work.now (λ w. w.node plan_new ≡ plan.now) (core_of desk.old.core) (T.seen desk.old.tree.now) (core_of desk.new.core) (T.seen desk.new.tree.now) result }
+    ensures came { Came Failed (InWork work.now) 0 work.now (λ w. w.node plan_new ≡ plan.now) (core_of desk.old.core) (T.seen desk.old.tree.now) (core_of desk.new.core) (T.seen desk.new.tree.now) result }
 {
     let path = plan_new_path(alloc, work)?;
     desk.put(Event::Propose, path.as_str(), plan)
@@ -38,16 +45,15 @@ fn adopt<T: Tree>(alloc: Global, desk: &mut Desk<T>, work: &str) -> Result<(), T
     requires allowed { IsTrue (allows (core_of desk.old.core) Event.Adopt) }
     ensures same_tree { desk.new.tree.ghost_name ≡ desk.old.tree.ghost_name }
     ensures core { OnOk result (core_of desk.new.core ≡ after (core_of desk.old.core) Event.Adopt) }
-    ensures came { Came Failed work.now (λ w. ⊤) (core_of desk.old.core) (T.seen desk.old.tree.now) (core_of desk.new.core) (T.seen desk.new.tree.now) result }
+    ensures came { Came Failed (InWork work.now) 0 work.now (λ w. ⊤) (core_of desk.old.core) (T.seen desk.old.tree.now) (core_of desk.new.core) (T.seen desk.new.tree.now) result }
 {
     let from = plan_new_path(alloc, work)?;
     let to = plan_path(alloc, work)?;
     desk.rename(Event::Adopt, from.as_str(), to.as_str())
 }
 
-/// Clears the work folder of these paths, and puts the plan there: under another name first, then settled,
-/// then at its own.
-pub fn commit_plan<T: Tree>(
+/// The plan's text is put: under another name first, then settled, then at its own.
+fn put_plan<T: Tree>(
     alloc: Global,
     desk: &mut Desk<T>,
     work: &str,
@@ -57,11 +63,62 @@ pub fn commit_plan<T: Tree>(
     requires phase { (core_of desk.old.core).phase ≡ Empty }
     ensures same_tree { desk.new.tree.ghost_name ≡ desk.old.tree.ghost_name }
     ensures core { OnOk result (Keeping (core_of desk.old.core) (core_of desk.new.core)) }
-    ensures came { Came Failed work.now (λ w. w.node plan_new ≡ plan.now) (core_of desk.old.core) (T.seen desk.old.tree.now) (core_of desk.new.core) (T.seen desk.new.tree.now) result }
+    ensures came { Came Failed (InWork work.now) 1 work.now (λ w. w.node plan_new ≡ plan.now) (core_of desk.old.core) (T.seen desk.old.tree.now) (core_of desk.new.core) (T.seen desk.new.tree.now) result }
 {
     sweep_all(alloc, desk, work, present)?;
     propose(alloc, desk, work, plan)?;
     desk.settle()?;
     adopt(alloc, desk, work)?;
+    Ok(())
+}
+
+/// The same, with the error of a run.
+fn put_node<T: Tree>(
+    alloc: Global,
+    desk: &mut Desk<T>,
+    work: &str,
+    present: &[String],
+    plan: &Node,
+) -> Result<(), JournalErr>
+    requires phase { (core_of desk.old.core).phase ≡ Empty }
+    ensures same_tree { desk.new.tree.ghost_name ≡ desk.old.tree.ghost_name }
+    ensures core { OnOk result (Keeping (core_of desk.old.core) (core_of desk.new.core)) }
+    ensures mild { IfErr result (λ e. IsTrue (is_mild_run e)) }
+    ensures came { Came tree_fault (InWork work.now) 1 work.now (λ w. w.node plan_new ≡ plan.now) (core_of desk.old.core) (T.seen desk.old.tree.now) (core_of desk.new.core) (T.seen desk.new.tree.now) result }
+{
+    match put_plan(alloc, desk, work, present, plan) {
+        Ok(()) => Ok(()),
+        Err(e) => Err(stopped(e)),
+    }
+}
+
+/// The plan's text as a file; the only error is want of memory.
+fn node_of(alloc: Global, plan: &PlanData) -> Result<Node, JournalErr>
+    ensures node { IfOk result (λ n. n ≡ plan_node plan.now) }
+    ensures memory { IfErr result (λ e. e ≡ no_memory) }
+{
+    match write_plan(alloc, plan) {
+        Ok(text) => Ok(text_node(text)),
+        Err(_) => Err(JournalErr::NoMemory),
+    }
+}
+
+/// Clears the work folder of these paths, and puts the plan there: its text is put under another name
+/// first, then settled, then renamed to its own. `Tree` comes only where the tree's count of faults rose.
+pub fn commit_plan<T: Tree>(
+    alloc: Global,
+    desk: &mut Desk<T>,
+    work: &str,
+    present: &[String],
+    plan: &PlanData,
+) -> Result<(), JournalErr>
+    requires phase { (core_of desk.old.core).phase ≡ Empty }
+    ensures same_tree { desk.new.tree.ghost_name ≡ desk.old.tree.ghost_name }
+    ensures core { OnOk result (Keeping (core_of desk.old.core) (core_of desk.new.core)) }
+    ensures mild { IfErr result (λ e. IsTrue (is_mild_run e)) }
+    ensures came { Came tree_fault (InWork work.now) 1 work.now (λ w. w.node plan_new ≡ plan_node plan.now) (core_of desk.old.core) (T.seen desk.old.tree.now) (core_of desk.new.core) (T.seen desk.new.tree.now) result }
+{
+    let node = node_of(alloc, plan)?;
+    put_node(alloc, desk, work, present, &node)?;
     Ok(())
 }

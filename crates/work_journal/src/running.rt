@@ -4,7 +4,7 @@
 //! tree and the core agree and the maker's files are wanted, there is none but want of memory and a fault
 //! of the tree. Whatever is answered, every stop leaves the run partway.
 //! Read first: `specs/Blames.antt`, `specs/Rounds.antt`, `specs/Runs.antt`.
-ghost use Rattle.std.specs.Prelude.{◌≡◌, ◌≤◌, ◌<◌, true, IfErr, OnOk, IsTrue, List, ℕ};
+ghost use Rattle.std.specs.Prelude.{◌≡◌, ◌≤◌, ◌<◌, true, IfErr, OnOk, IsTrue, length, List, ℕ, ⊤};
 ghost use Rattle.dw_base.specs.declared.fault.Refusal.{Refusal};
 ghost use Rattle.file_tree.specs.Images.{state_of};
 ghost use Rattle.journal_core.specs.Cores.{core_of};
@@ -12,7 +12,9 @@ ghost use Rattle.work_texts.specs.declared.journal_err.JournalErr.TheVariants.{T
 ghost use Rattle.work_journal.specs.Blames.{RunBlames, is_mild_run};
 ghost use Rattle.work_journal.specs.Files.{IsWanted};
 ghost use Rattle.work_journal.specs.Keeps.{Keeps};
-ghost use Rattle.work_journal.specs.Rounds.{IsBegun, AreDone};
+ghost use Rattle.work_journal.specs.Planned.{ArePlanned, AreSourcesApart};
+ghost use Rattle.work_journal.specs.Rounds.{IsBegun, AreDone, rounds_of};
+ghost use Rattle.work_journal.specs.Spares.{IsHit};
 ghost use Rattle.work_journal.specs.Runs.{Came, IsGiven};
 ghost use Rattle.work_journal.specs.Wanted.{Wanted};
 
@@ -44,9 +46,10 @@ pub fn run_jobs<T: Tree, M: Maker>(
     ensures same_view { M.view maker.new ≡ M.view maker.old }
     ensures same_refusals { (j : ℕ) (b : List ℕ) (r : Refusal) → M.refuses maker.new j b r → M.refuses maker.old j b r }
     ensures done { OnOk result (AreDone (M.view maker.old) (core_of desk.new.core)) }
+    ensures met { OnOk result (AreSourcesApart work.now (M.view maker.old) → ArePlanned (M.view maker.old) (core_of desk.old.core) (T.seen desk.old.tree.now) (length (M.view maker.old).steps)) }
     ensures blame { IfErr result (RunBlames (M.view maker.old) (M.refuses maker.old) (T.seen desk.new.tree.now)) }
     ensures mild { (w : Wanted) → IsGiven w work.now → IsWanted w (M.view maker.old) → (T.seen desk.old.tree.now).tells ≡ true → Keeps w (core_of desk.old.core) (state_of (T.seen desk.old.tree.now).past) → IfErr result (λ e. IsTrue (is_mild_run e)) }
-    ensures came { Came tree_fault work.now (λ w. IsWanted w (M.view maker.old)) (core_of desk.old.core) (T.seen desk.old.tree.now) (core_of desk.new.core) (T.seen desk.new.tree.now) result }
+    ensures came { Came tree_fault (IsHit work.now (M.view maker.old) (λ j. ⊤)) (rounds_of (length (M.view maker.old).steps) in_flight) work.now (λ w. IsWanted w (M.view maker.old)) (core_of desk.old.core) (T.seen desk.old.tree.now) (core_of desk.new.core) (T.seen desk.new.tree.now) result }
 {
     match run_all(alloc, desk, work, maker, in_flight) {
         Ok(()) => Ok(()),

@@ -9,6 +9,7 @@ ghost use Rattle.journal_core.specs.Names.{temp, commit, target};
 ghost use Rattle.journal_core.specs.Table.{allows, after};
 ghost use Rattle.journal_core.specs.Cores.{core_of};
 ghost use Rattle.journal_core.specs.Relation.{IsNear};
+ghost use Rattle.work_journal.specs.Spares.{InWork, InWorkOr};
 ghost use Rattle.work_journal.specs.Runs.{Came};
 
 use crate::desk::Desk;
@@ -19,6 +20,17 @@ use std::alloc::Global;
 
 /// The mode of the texts and marks of the work folder.
 pub(crate) const TEXT_MODE: u32 = 0o644;
+
+/// A text of the work folder as a file.
+pub(crate) fn text_node(text: Vec<u8>) -> Node
+    ensures node { result ≡ node.File text.items 420 }
+{
+    let bytes = Blob::new(text);
+    Node::File {
+        bytes,
+        mode: TEXT_MODE,
+    }
+}
 
 /// Puts the node of a step under its temporary name.
 pub(crate) fn stage_step<T: Tree>(
@@ -33,7 +45,7 @@ pub(crate) fn stage_step<T: Tree>(
     requires near { IsNear (core_of desk.old.core) (Event.Stage job step) }
     ensures same_tree { desk.new.tree.ghost_name ≡ desk.old.tree.ghost_name }
     ensures core { OnOk result (core_of desk.new.core ≡ after (core_of desk.old.core) (Event.Stage job step)) }
-    ensures came { Came Failed work.now (λ w. w.node (temp job step) ≡ node.now) (core_of desk.old.core) (T.seen desk.old.tree.now) (core_of desk.new.core) (T.seen desk.new.tree.now) result }
+    ensures came { Came Failed (InWork work.now) 0 work.now (λ w. w.node (temp job step) ≡ node.now) (core_of desk.old.core) (T.seen desk.old.tree.now) (core_of desk.new.core) (T.seen desk.new.tree.now) result }
 {
     let path = temp_path(alloc, work, job, step)?;
     desk.put(Event::Stage { job, step }, path.as_str(), node)
@@ -49,7 +61,7 @@ pub(crate) fn commit_step<T: Tree>(
     requires allowed { IsTrue (allows (core_of desk.old.core) (Event.Commit job)) }
     ensures same_tree { desk.new.tree.ghost_name ≡ desk.old.tree.ghost_name }
     ensures core { OnOk result (core_of desk.new.core ≡ after (core_of desk.old.core) (Event.Commit job)) }
-    ensures came { Came Failed work.now (λ w. w.node (commit job) ≡ node.File [] 420) (core_of desk.old.core) (T.seen desk.old.tree.now) (core_of desk.new.core) (T.seen desk.new.tree.now) result }
+    ensures came { Came Failed (InWork work.now) 0 work.now (λ w. w.node (commit job) ≡ node.File [] 420) (core_of desk.old.core) (T.seen desk.old.tree.now) (core_of desk.new.core) (T.seen desk.new.tree.now) result }
 {
     let path = commit_path(alloc, work, job)?;
     let bytes = Blob::new(Vec::new(alloc));
@@ -72,7 +84,7 @@ pub(crate) fn move_step<T: Tree>(
     requires allowed { IsTrue (allows (core_of desk.old.core) (Event.Move job step)) }
     ensures same_tree { desk.new.tree.ghost_name ≡ desk.old.tree.ghost_name }
     ensures core { OnOk result (core_of desk.new.core ≡ after (core_of desk.old.core) (Event.Move job step)) }
-    ensures came { Came Failed work.now (λ w. w.output job step ≡ to.now) (core_of desk.old.core) (T.seen desk.old.tree.now) (core_of desk.new.core) (T.seen desk.new.tree.now) result }
+    ensures came { Came Failed (InWorkOr work.now to.now) 0 work.now (λ w. w.output job step ≡ to.now) (core_of desk.old.core) (T.seen desk.old.tree.now) (core_of desk.new.core) (T.seen desk.new.tree.now) result }
 {
     let from = temp_path(alloc, work, job, step)?;
     desk.rename(Event::Move { job, step }, from.as_str(), to)

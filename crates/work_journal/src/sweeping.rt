@@ -7,6 +7,7 @@ ghost use Rattle.file_tree.specs.Trees.{is_below};
 ghost use Rattle.file_tree.specs.declared.node.TreeErr.TheVariants.{Failed};
 ghost use Rattle.journal_core.specs.declared.event.Phase.TheVariants.{Empty};
 ghost use Rattle.journal_core.specs.Cores.{core_of};
+ghost use Rattle.work_journal.specs.Spares.{InWork};
 ghost use Rattle.work_journal.specs.Runs.{Came};
 
 use crate::desk::Desk;
@@ -40,7 +41,7 @@ fn sweep_early<T: Tree>(
     requires phase { (core_of desk.old.core).phase ≡ Empty }
     ensures same_tree { desk.new.tree.ghost_name ≡ desk.old.tree.ghost_name }
     ensures core { core_of desk.new.core ≡ core_of desk.old.core }
-    ensures came { Came Failed work.now (λ w. ⊤) (core_of desk.old.core) (T.seen desk.old.tree.now) (core_of desk.new.core) (T.seen desk.new.tree.now) result }
+    ensures came { Came Failed (InWork work.now) 0 work.now (λ w. ⊤) (core_of desk.old.core) (T.seen desk.old.tree.now) (core_of desk.new.core) (T.seen desk.new.tree.now) result }
 {
     let _ = work;
     if !lies_below(path, below) {
@@ -59,7 +60,7 @@ pub(crate) fn sweep_all<T: Tree>(
     requires phase { (core_of desk.old.core).phase ≡ Empty }
     ensures same_tree { desk.new.tree.ghost_name ≡ desk.old.tree.ghost_name }
     ensures core { core_of desk.new.core ≡ core_of desk.old.core }
-    ensures came { Came Failed work.now (λ w. ⊤) (core_of desk.old.core) (T.seen desk.old.tree.now) (core_of desk.new.core) (T.seen desk.new.tree.now) result }
+    ensures came { Came Failed (InWork work.now) 0 work.now (λ w. ⊤) (core_of desk.old.core) (T.seen desk.old.tree.now) (core_of desk.new.core) (T.seen desk.new.tree.now) result }
 {
     let below = with_slash(alloc, work)?;
     for i in 0..present.len() {

@@ -9,7 +9,9 @@ ghost use Rattle.journal_core.specs.Table.{with_state, state_of as job_state};
 ghost use Rattle.journal_core.specs.Cores.{core_of};
 ghost use Rattle.work_journal.specs.Jobs.{MayStage};
 ghost use Rattle.work_journal.specs.Files.{FileStands, IsWanted};
+ghost use Rattle.work_journal.specs.Spares.{InWork};
 ghost use Rattle.work_journal.specs.Runs.{Came, IsGiven};
+ghost use Rattle.work_journal.specs.Planned.{HasPlanned};
 ghost use Rattle.work_journal.specs.Wanted.{Wanted};
 ghost use Rattle.work_journal.specs.Keeps.{Keeps};
 ghost use Rattle.work_journal.specs.Blames.{JobBlames, MakeBlames, is_mild};
@@ -38,9 +40,10 @@ fn read_job<T: Tree, M: Maker>(
     ensures same_tree { desk.new.tree.ghost_name ≡ desk.old.tree.ghost_name }
     ensures core { core_of desk.new.core ≡ core_of desk.old.core }
     ensures found { IfOk result (λ p. FileStands (T.seen desk.new.tree.now) ((M.view maker.now).source job) p.0 p.1) }
+    ensures stood { IfOk result (λ p. FileStands (T.seen desk.old.tree.now) ((M.view maker.now).source job) p.0 p.1) }
     ensures blame { IfErr result (JobBlames (M.view maker.now) (M.refuses maker.now) (T.seen desk.new.tree.now)) }
     ensures mild { (w : Wanted) → IsGiven w work.now → IsWanted w (M.view maker.now) → (T.seen desk.old.tree.now).tells ≡ true → Keeps w (core_of desk.old.core) (state_of (T.seen desk.old.tree.now).past) → IsTrue (is_uncommitted (job_state (core_of desk.old.core) job)) → IfErr result (λ e. IsTrue (is_mild e)) }
-    ensures came { Came tree_fault work.now (λ w. ⊤) (core_of desk.old.core) (T.seen desk.old.tree.now) (core_of desk.new.core) (T.seen desk.new.tree.now) result }
+    ensures came { Came tree_fault (InWork work.now) 0 work.now (λ w. ⊤) (core_of desk.old.core) (T.seen desk.old.tree.now) (core_of desk.new.core) (T.seen desk.new.tree.now) result }
 {
     let _ = work;
     let path = maker.source(alloc, job)?;
@@ -88,9 +91,10 @@ pub(crate) fn take_job<T: Tree, M: Maker>(
     ensures same_view { M.view maker.new ≡ M.view maker.old }
     ensures same_refusals { (j : ℕ) (b : List ℕ) (r : Refusal) → M.refuses maker.new j b r → M.refuses maker.old j b r }
     ensures core { OnOk result (core_of desk.new.core ≡ with_state (core_of desk.old.core) job Staged) }
+    ensures met { OnOk result (HasPlanned (M.view maker.old) (T.seen desk.old.tree.now) job) }
     ensures blame { IfErr result (JobBlames (M.view maker.old) (M.refuses maker.old) (T.seen desk.new.tree.now)) }
     ensures mild { (w : Wanted) → IsGiven w work.now → IsWanted w (M.view maker.old) → (T.seen desk.old.tree.now).tells ≡ true → Keeps w (core_of desk.old.core) (state_of (T.seen desk.old.tree.now).past) → IfErr result (λ e. IsTrue (is_mild e)) }
-    ensures came { Came tree_fault work.now (λ w. IsWanted w (M.view maker.old)) (core_of desk.old.core) (T.seen desk.old.tree.now) (core_of desk.new.core) (T.seen desk.new.tree.now) result }
+    ensures came { Came tree_fault (InWork work.now) 0 work.now (λ w. IsWanted w (M.view maker.old)) (core_of desk.old.core) (T.seen desk.old.tree.now) (core_of desk.new.core) (T.seen desk.new.tree.now) result }
 {
     let (bytes, mode) = read_job(alloc, desk, work, maker, job)?;
     let nodes = make_nodes(alloc, maker, job, bytes.as_slice(), mode)?;

@@ -119,14 +119,19 @@ fn key(alloc: Global) -> Result<RunKey, AllocError> {
     })
 }
 
-/// The text `plan` of a run with this key, which names no jobs.
-fn plan_text(alloc: Global, key: RunKey) -> Result<Vec<u8>, Fail> {
-    let plan = PlanData {
+/// A plan of a run with this key, which names no jobs.
+fn plan_of(alloc: Global, key: RunKey) -> Result<PlanData, Fail> {
+    Ok(PlanData {
         key,
         report: Blob::from_slice(alloc, b"done")?,
         jobs: Jobs::new(Vec::new(alloc)),
         sources: Sources::new(Vec::new(alloc)),
-    };
+    })
+}
+
+/// Its text.
+fn plan_text(alloc: Global, key: RunKey) -> Result<Vec<u8>, Fail> {
+    let plan = plan_of(alloc, key)?;
     Ok(write_plan(alloc, &plan)?)
 }
 
@@ -167,7 +172,7 @@ fn finish_run(
     requires most { in_flight ≤ 64 }
     requires four { length texts.now.items ≡ 4 }
 {
-    let plan = text_node(plan_text(alloc, key(alloc)?)?);
+    let plan = plan_of(alloc, key(alloc)?)?;
     let core = start_core(alloc, opened, "r/w", present, maker)?;
     let ended = finish(
         alloc, tree, core, "r/w", present, maker, in_flight, &plan, texts,

@@ -1,10 +1,12 @@
-use Rattle.std.proofs.Common.{◌∙◌, IsTrue}
+use Rattle.std.proofs.Common.{◌∙◌, length, IsTrue}
 use Rattle.work_texts.specs.declared.journal_err.JournalErr.TheVariants as run
 use Rattle.work_journal.specs.Blames.{is_mild_run}
-use Rattle.work_journal.proofs.GoesLaws.{came_passed, came_given, came_then}
+use Rattle.work_journal.proofs.GoesLaws.{came_passed, came_given, came_then, came_hits, came_most}
+use Rattle.work_journal.proofs.SpareLaws.{work_hit}
+use Rattle.work_journal.specs.Rounds.{rounds_of}
 use Rattle.work_journal.proofs.JobErrLaws.{ok_by, keeps_then}
 use Rattle.work_journal.proofs.BlameLaws.{err_passed}
-use Rattle.work_journal.proofs.FinishLaws.{run_blames_since, came_value}
+use Rattle.work_journal.proofs.FinishLaws.{mild_blames, came_value, first_of_three, two_of_three, all_of_three}
 use Rattle.work_journal.proofs.finishing.finish_at.Goals as goal
 
 pub returns-in_err-plan_first-clause-blame : goal.returns-in_err-plan_first-clause-blame
@@ -14,8 +16,9 @@ pub returns-in_err-plan_first-clause-mild : goal.returns-in_err-plan_first-claus
 returns-in_err-plan_first-clause-mild g c = λ w given wants tells k. err_passed _ _ _ (λ e. IsTrue (is_mild_run e)) (c.in_err-plan_first.was) c.from_residual.ensures.1 c.plan_first.ensures.mild
 
 pub returns-in_err-plan_first-clause-came : goal.returns-in_err-plan_first-clause-came
-returns-in_err-plan_first-clause-came g c = came_passed run.Tree _ _ _ _ _ _ _ _ _ _ (c.in_err-plan_first.was) c.from_residual.ensures.1
-    (came_given run.Tree _ _ _ _ _ _ _ _ (λ w given tells wants k. wants.puts) c.plan_first.ensures.came)
+returns-in_err-plan_first-clause-came g c = came_most (first_of_three (rounds_of (length (g.M.Maker.view c.args.maker.now).steps) c.args.in_flight))
+    (came_passed run.Tree _ _ _ _ _ _ _ _ _ _ (c.in_err-plan_first.was) c.from_residual.ensures.1
+    (came_given run.Tree _ _ _ _ _ _ _ _ (λ w given tells wants k. wants.puts) (came_hits (work_hit _ _ _) c.plan_first.ensures.came)))
 
 pub returns-in_err-jobs_next-clause-blame : goal.returns-in_err-jobs_next-clause-blame
 returns-in_err-jobs_next-clause-blame g c = err_passed _ _ _ _ (c.in_err-jobs_next.was) c.from_residual-in_err-jobs_next.ensures.1 c.jobs_next.ensures.blame
@@ -26,30 +29,33 @@ returns-in_err-jobs_next-clause-mild g c = λ w given wants tells k. err_passed 
     (keeps_then run.Tree _ _ _ _ _ _ _ _ w (c.in_ok-plan_first.was) given tells wants.puts k c.plan_first.ensures.came))
 
 pub returns-in_err-jobs_next-clause-came : goal.returns-in_err-jobs_next-clause-came
-returns-in_err-jobs_next-clause-came g c = came_then run.Tree run.Tree _ _ _ _ _ _ _ _ _ _ (ok_by _ _ (c.in_ok-plan_first.was))
-    (came_given run.Tree _ _ _ _ _ _ _ _ (λ w given tells wants k. wants.puts) c.plan_first.ensures.came)
+returns-in_err-jobs_next-clause-came g c = came_most (two_of_three (rounds_of (length (g.M.Maker.view c.args.maker.now).steps) c.args.in_flight))
+    (came_then run.Tree run.Tree _ _ _ _ _ _ _ _ _ _ (ok_by _ _ (c.in_ok-plan_first.was))
+    (came_given run.Tree _ _ _ _ _ _ _ _ (λ w given tells wants k. wants.puts) (came_hits (work_hit _ _ _) c.plan_first.ensures.came))
     (came_passed run.Tree _ _ _ _ _ _ _ _ _ _ (c.in_err-jobs_next.was) c.from_residual-in_err-jobs_next.ensures.1
-    (came_given run.Tree _ _ _ _ _ _ _ _ (λ w given tells wants k. wants.jobs) c.jobs_next.ensures.came))
+    (came_given run.Tree _ _ _ _ _ _ _ _ (λ w given tells wants k. wants.jobs) c.jobs_next.ensures.came)))
 
-pub returns-in_err-clear_last-clause-blame : goal.returns-in_err-clear_last-clause-blame
-returns-in_err-clear_last-clause-blame g c = err_passed _ _ _ _ (c.in_err-clear_last.was) c.from_residual-in_err-clear_last.ensures.1
-    (run_blames_since _ _ _ _ _ _ c.jobs_next.ensures.same_view c.jobs_next.ensures.same_refusals c.clear_last.ensures.blame)
+pub returns-in_err-clear-clause-blame : goal.returns-in_err-clear-clause-blame
+returns-in_err-clear-clause-blame g c = err_passed _ _ _ _ (c.in_err-clear.was) c.from_residual-in_err-clear.ensures.1
+    (mild_blames _ _ _ _ c.clear.ensures.mild)
 
-pub returns-in_err-clear_last-clause-mild : goal.returns-in_err-clear_last-clause-mild
-returns-in_err-clear_last-clause-mild g c = λ w given wants tells k. err_passed _ _ _ (λ e. IsTrue (is_mild_run e)) (c.in_err-clear_last.was) c.from_residual-in_err-clear_last.ensures.1 c.clear_last.ensures.mild
+pub returns-in_err-clear-clause-mild : goal.returns-in_err-clear-clause-mild
+returns-in_err-clear-clause-mild g c = λ w given wants tells k. err_passed _ _ _ (λ e. IsTrue (is_mild_run e)) (c.in_err-clear.was) c.from_residual-in_err-clear.ensures.1 c.clear.ensures.mild
 
-pub returns-in_err-clear_last-clause-came : goal.returns-in_err-clear_last-clause-came
-returns-in_err-clear_last-clause-came g c = came_then run.Tree run.Tree _ _ _ _ _ _ _ _ _ _ (ok_by _ _ (c.in_ok-plan_first.was))
-    (came_given run.Tree _ _ _ _ _ _ _ _ (λ w given tells wants k. wants.puts) c.plan_first.ensures.came)
+pub returns-in_err-clear-clause-came : goal.returns-in_err-clear-clause-came
+returns-in_err-clear-clause-came g c = came_most (all_of_three (rounds_of (length (g.M.Maker.view c.args.maker.now).steps) c.args.in_flight))
+    (came_then run.Tree run.Tree _ _ _ _ _ _ _ _ _ _ (ok_by _ _ (c.in_ok-plan_first.was))
+    (came_given run.Tree _ _ _ _ _ _ _ _ (λ w given tells wants k. wants.puts) (came_hits (work_hit _ _ _) c.plan_first.ensures.came))
     (came_then run.Tree run.Tree _ _ _ _ _ _ _ _ _ _ (ok_by _ _ (c.in_ok-jobs_next.was))
     (came_given run.Tree _ _ _ _ _ _ _ _ (λ w given tells wants k. wants.jobs) c.jobs_next.ensures.came)
-    (came_passed run.Tree _ _ _ _ _ _ _ _ _ _ (c.in_err-clear_last.was) c.from_residual-in_err-clear_last.ensures.1
-    (came_given run.Tree _ _ _ _ _ _ _ _ (λ w given tells wants k. tt) c.clear_last.ensures.came)))
+    (came_passed run.Tree _ _ _ _ _ _ _ _ _ _ (c.in_err-clear.was) c.from_residual-in_err-clear.ensures.1
+    (came_given run.Tree _ _ _ _ _ _ _ _ (λ w given tells wants k. tt) (came_hits (work_hit _ _ _) c.clear.ensures.came)))))
 
 pub returns-clause-came : goal.returns-clause-came
-returns-clause-came g c = came_then run.Tree run.Tree _ _ _ _ _ _ _ _ _ _ (ok_by _ _ (c.in_ok-plan_first.was))
-    (came_given run.Tree _ _ _ _ _ _ _ _ (λ w given tells wants k. wants.puts) c.plan_first.ensures.came)
+returns-clause-came g c = came_most (all_of_three (rounds_of (length (g.M.Maker.view c.args.maker.now).steps) c.args.in_flight))
+    (came_then run.Tree run.Tree _ _ _ _ _ _ _ _ _ _ (ok_by _ _ (c.in_ok-plan_first.was))
+    (came_given run.Tree _ _ _ _ _ _ _ _ (λ w given tells wants k. wants.puts) (came_hits (work_hit _ _ _) c.plan_first.ensures.came))
     (came_then run.Tree run.Tree _ _ _ _ _ _ _ _ _ _ (ok_by _ _ (c.in_ok-jobs_next.was))
     (came_given run.Tree _ _ _ _ _ _ _ _ (λ w given tells wants k. wants.jobs) c.jobs_next.ensures.came)
-    (came_value _ _ _ _ _ _ _ _ _ (c.in_ok-clear_last.was)
-    (came_given run.Tree _ _ _ _ _ _ _ _ (λ w given tells wants k. tt) c.clear_last.ensures.came)))
+    (came_value _ _ _ _ _ _ _ _ _ (c.in_ok-clear.was)
+    (came_given run.Tree _ _ _ _ _ _ _ _ (λ w given tells wants k. tt) (came_hits (work_hit _ _ _) c.clear.ensures.came)))))

@@ -1,34 +1,24 @@
-use Rattle.file_tree.specs.declared.node.TreeErr.TheVariants.{Failed}
-use Rattle.work_journal.proofs.GoesLaws.{came_passed, came_well, came_next, came_only, came_settles}
+use Rattle.std.proofs.Common.{◌∙◌, sym, IsTrue}
+use Rattle.work_texts.specs.declared.journal_err.JournalErr.TheVariants as run
+use Rattle.work_journal.specs.Blames.{is_mild_run}
+use Rattle.work_journal.proofs.GoesLaws.{came_passed, came_given}
+use Rattle.work_journal.proofs.BlameLaws.{err_passed}
+use Rattle.work_journal.proofs.FinishLaws.{came_no_text, no_text_mild, came_value}
 use Rattle.work_journal.proofs.planning.commit_plan.Goals as goal
 
-pub returns-in_err-propose-clause-came : goal.returns-in_err-propose-clause-came
-returns-in_err-propose-clause-came g c = came_passed Failed _ _ _ _ _ _ _ _ _ _ (c.in_err-propose.was) c.from_residual-in_err-propose.ensures.1
-    (came_next _ _ _ _ _ _ _ _ _ _ (λ w h. h) (came_well _ _ _ _ _ _ _ _ (c.in_ok-sweep_all.was) (came_only _ _ _ _ _ _ _ _ (λ w h. tt) c.sweep_all.ensures.came)) c.propose.ensures.came)
+pub returns-in_err-node-clause-mild : goal.returns-in_err-node-clause-mild
+returns-in_err-node-clause-mild g c = no_text_mild _ _ _ (c.in_err-node.was) c.from_residual.ensures.1 c.node_of.ensures.memory
 
-pub returns-in_err-settle-clause-came : goal.returns-in_err-settle-clause-came
-returns-in_err-settle-clause-came g c = came_passed Failed _ _ _ _ _ _ _ _ _ _ (c.in_err-settle.was) c.from_residual-in_err-settle.ensures.1
-    (came_next _ _ _ _ _ _ _ _ _ _ (λ w h. h)
-    (came_well _ _ _ _ _ _ _ _ (c.in_ok-propose.was)
-    (came_next _ _ _ _ _ _ _ _ _ _ (λ w h. h) (came_well _ _ _ _ _ _ _ _ (c.in_ok-sweep_all.was) (came_only _ _ _ _ _ _ _ _ (λ w h. tt) c.sweep_all.ensures.came)) c.propose.ensures.came))
-    (came_settles _ _ _ _ _ _ _ c.settle.ensures.core c.settle.ensures.done c.settle.ensures.failed c.settle.ensures.cause c.settle.ensures.tells))
+pub returns-in_err-node-clause-came : goal.returns-in_err-node-clause-came
+returns-in_err-node-clause-came g c = came_no_text _ _ _ _ _ _ _ (c.in_err-node.was) c.from_residual.ensures.1 c.node_of.ensures.memory
 
-pub returns-in_err-adopt-clause-came : goal.returns-in_err-adopt-clause-came
-returns-in_err-adopt-clause-came g c = came_passed Failed _ _ _ _ _ _ _ _ _ _ (c.in_err-adopt.was) c.from_residual-in_err-adopt.ensures.1
-    (came_next _ _ _ _ _ _ _ _ _ _ (λ w h. tt)
-    (came_well _ _ _ _ _ _ _ _ (c.in_ok-settle.was)
-    (came_next _ _ _ _ _ _ _ _ _ _ (λ w h. h)
-    (came_well _ _ _ _ _ _ _ _ (c.in_ok-propose.was)
-    (came_next _ _ _ _ _ _ _ _ _ _ (λ w h. h) (came_well _ _ _ _ _ _ _ _ (c.in_ok-sweep_all.was) (came_only _ _ _ _ _ _ _ _ (λ w h. tt) c.sweep_all.ensures.came)) c.propose.ensures.came))
-    (came_settles _ _ _ _ _ _ _ c.settle.ensures.core c.settle.ensures.done c.settle.ensures.failed c.settle.ensures.cause c.settle.ensures.tells)))
-    c.adopt.ensures.came)
+pub returns-in_err-put_node-clause-mild : goal.returns-in_err-put_node-clause-mild
+returns-in_err-put_node-clause-mild g c = err_passed _ _ _ (λ e. IsTrue (is_mild_run e)) (c.in_err-put_node.was) c.from_residual-in_err-put_node.ensures.1 c.put_node.ensures.mild
+
+pub returns-in_err-put_node-clause-came : goal.returns-in_err-put_node-clause-came
+returns-in_err-put_node-clause-came g c = came_passed run.Tree _ _ _ _ _ _ _ _ _ _ (c.in_err-put_node.was) c.from_residual-in_err-put_node.ensures.1
+    (came_given run.Tree _ _ _ _ _ _ _ _ (λ w given tells is k. is ∙ sym c.in_ok-node.ensures.node) c.put_node.ensures.came)
 
 pub returns-clause-came : goal.returns-clause-came
-returns-clause-came g c = came_well _ _ _ _ _ _ _ _ (c.in_ok-adopt.was)
-    (came_next _ _ _ _ _ _ _ _ _ _ (λ w h. tt)
-    (came_well _ _ _ _ _ _ _ _ (c.in_ok-settle.was)
-    (came_next _ _ _ _ _ _ _ _ _ _ (λ w h. h)
-    (came_well _ _ _ _ _ _ _ _ (c.in_ok-propose.was)
-    (came_next _ _ _ _ _ _ _ _ _ _ (λ w h. h) (came_well _ _ _ _ _ _ _ _ (c.in_ok-sweep_all.was) (came_only _ _ _ _ _ _ _ _ (λ w h. tt) c.sweep_all.ensures.came)) c.propose.ensures.came))
-    (came_settles _ _ _ _ _ _ _ c.settle.ensures.core c.settle.ensures.done c.settle.ensures.failed c.settle.ensures.cause c.settle.ensures.tells)))
-    c.adopt.ensures.came)
+returns-clause-came g c = came_value _ _ _ _ _ _ _ _ _ (c.in_ok-put_node.was)
+    (came_given run.Tree _ _ _ _ _ _ _ _ (λ w given tells is k. is ∙ sym c.in_ok-node.ensures.node) c.put_node.ensures.came)

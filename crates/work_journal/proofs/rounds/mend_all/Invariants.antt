@@ -2,7 +2,8 @@ use Rattle.std.proofs.Common.{◌≡◌}
 use Rattle.file_tree.specs.declared.node.TreeErr.TheVariants.{Failed}
 use Rattle.journal_core.specs.Cores.{core_of}
 use Rattle.work_journal.specs.Groups.{IsMade}
-use Rattle.work_journal.specs.Rounds.{IsMending}
+use Rattle.work_journal.specs.Rounds.{IsMending, IsMoving, AreCalm}
+use Rattle.work_journal.specs.Spares.{IsHit}
 use Rattle.work_journal.specs.Runs.{Came}
 use Rattle.work_journal.proofs.GoesLaws.{well}
 use Rattle.work_journal.proofs.rounds.mend_all.Given as goal
@@ -11,5 +12,6 @@ abbrev pub invariant-loop-job : goal.invariant-loop-job
 invariant-loop-job g l = record {
   same_tree : l.desk.tree.ghost_name ≡ l.fn.desk.tree.ghost_name;
   mending : IsMending (g.M.Maker.view l.maker) (core_of l.desk.core) l.job;
-  came : Came Failed l.work (λ w. IsMade w (g.M.Maker.view l.maker)) (core_of l.fn.desk.core) (g.T.Tree.seen l.fn.desk.tree.now) (core_of l.desk.core) (g.T.Tree.seen l.desk.tree.now) well;
+  calm : AreCalm (core_of l.fn.desk.core) (core_of l.desk.core);
+  came : Came Failed (IsHit l.work (g.M.Maker.view l.maker) (IsMoving (core_of l.fn.desk.core))) 0 l.work (λ w. IsMade w (g.M.Maker.view l.maker)) (core_of l.fn.desk.core) (g.T.Tree.seen l.fn.desk.tree.now) (core_of l.desk.core) (g.T.Tree.seen l.desk.tree.now) well;
 }

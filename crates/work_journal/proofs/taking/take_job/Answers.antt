@@ -1,4 +1,4 @@
-use Rattle.std.proofs.Common.{◌∙◌, ℕ, List, sym, ap, subst, IsTrue}
+use Rattle.std.proofs.Common.{rules, ◌∙◌, ℕ, List, sym, ap, subst, IsTrue}
 use Rattle.file_tree.specs.declared.node.TreeErr.TheVariants.{Failed}
 use Rattle.journal_core.specs.Table.{CoreState, state_of}
 use Rattle.journal_core.specs.Calls.{is_uncommitted}
@@ -9,6 +9,7 @@ use Rattle.work_journal.proofs.FileLaws.{made_wanted, made_blames, made_mild, ne
 use Rattle.std.specs.Prelude.{IfErr}
 use Rattle.work_journal.specs.Blames.{MakeBlames, is_mild}
 use Rattle.work_journal.proofs.BlameLaws.{err_passed, tree_blames, tree_mild}
+use Rattle.work_journal.specs.Views.{IsMaker}
 use Rattle.work_journal.proofs.taking.take_job.Goals as goal
 
 pub returns-in_err-bytes-clause-blame : goal.returns-in_err-bytes-clause-blame
@@ -58,3 +59,13 @@ returns-clause-came g c =
     c.in_ok-bytes.ensures.found
     (ap (λ (b : List ℕ). (g.M.Maker.view c.args.maker.now).nodes c.args.job b c.in_ok-bytes.mode) (sym c.as_slice.ensures.value) ∙ c.in_ok-nodes.ensures.made))
     c.stage_job.ensures.came))
+
+pub returns-clause-met : goal.returns-clause-met
+returns-clause-met g c =
+    let fits : IsMaker (g.M.Maker.view c.args.maker.now) = search rules in
+    record {
+      bytes = _;
+      mode = c.in_ok-bytes.mode;
+      stands = c.in_ok-bytes.ensures.stood;
+      planned = fits.of_planned c.args.job _ c.in_ok-bytes.mode _ (ap (λ (b : List ℕ). (g.M.Maker.view c.args.maker.now).nodes c.args.job b c.in_ok-bytes.mode) (sym c.as_slice.ensures.value) ∙ c.in_ok-nodes.ensures.made);
+    }
