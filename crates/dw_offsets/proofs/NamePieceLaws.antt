@@ -1,24 +1,30 @@
 -- From name tables that were read one after another to the pieces of the section.
-use Rattle.std.proofs.Common.{◌≡◌, ℕ, zero, suc, ◌+◌, ◌-◌, ◌*◌, ◌≤◌, List, [], ◌++◌, length, take, drop, Some, refl, sym, ap, ◌∙◌, subst, arith}
-use Rattle.std.proofs.lemmas.List.{append-nil, drop_all}
-use Rattle.dw_base.specs.Cells.{Cell, bytes_of}
-use Rattle.dw_base.specs.FileViews.{View}
+use Rattle.std.proofs.Common.{true, ◌≡◌, ◌<◌, ◌∷◌, Option, None, ℕ, zero, suc, ◌+◌, ◌-◌, ◌*◌, ◌≤◌, List, [], ◌++◌, length, take, drop, Some, refl, sym, ap, ◌∙◌, subst, arith, append_assoc}
+use Rattle.std.proofs.lemmas.List.{append-nil, drop_all, drop-drop, take-append-drop}
+use Rattle.dw_base.specs.Cells.{Cell, bytes_of, plain_cells, offset_of, offset_into}
+use Rattle.dw_base.specs.DebugSections.{name_of}
+use Rattle.dw_base.specs.FileViews.{View, field_at, section_bytes, section_named}
 use Rattle.dw_base.specs.Forms.{width_size}
 use Rattle.dw_base.specs.Lebs.{initial_length_at}
 use Rattle.dw_base.specs.Numbers.{spelled}
-use Rattle.dw_base.specs.Pieces.{Piece, joined}
+use Rattle.dw_base.specs.Pieces.{Grammar, Leads, Piece, EachPiece, joined}
 use Rattle.dw_base.specs.declared.shared.Order.{Order}
 use Rattle.dw_base.specs.declared.shared.Width.{Width}
 use Rattle.dw_base.specs.declared.shared.Width.TheVariants.{W32, W64}
 use Rattle.dw_base.proofs.NumberLaws.{spelled-take, spelled-drop}
 use Rattle.dw_base.proofs.UnitEditLaws.{length-bytes_of}
 use Rattle.dw_base.specs.NamePieces.{at_table, at_string, at_rest, NameState, names_at, before_strings_of, IsTableFront, after_front, past_names, name_grammar, ReadsNames}
-use Rattle.dw_base.specs.NameTables.{IsNameTable, TablesUpTo, no_tables, more_tables}
+use Rattle.dw_base.specs.NameTables.{IsNameTable, IsNamedTable, AreNameTables, names_of, texts_in, TablesUpTo, no_tables, more_tables}
 use Rattle.dw_base.specs.NameHeaders.{name_counts, before_strings, from_strings}
 use Rattle.dw_base.specs.declared.name_tables.NameCounts.{NameCounts}
 use Rattle.dw_base.specs.declared.name_tables.NameTable.{NameTable}
+use Rattle.dw_base.specs.Texts.{ends_in}
+use Rattle.dw_base.specs.ViewData.{located, located_at}
+use Rattle.dw_base.specs.declared.debug_sections.DebugSection.TheVariants.{Names}
+use Rattle.dw_base.proofs.NameBackLaws.{StringNamesBy}
+use Rattle.dw_base.proofs.PlainCellLaws.{IsPlain, plain-parts, plain_cells-plain, bytes_of-plain, offset_of-plain}
 use Rattle.dw_offsets.proofs.OffsetPieceLaws.{header-length}
-use Rattle.dw_base.proofs.RunLaws.{Run, run-more, run-none, run-one, leads-chain, part-bytes, part-length}
+use Rattle.dw_base.proofs.RunLaws.{leads-chain, part-bytes, part-length}
 
 -- the counts of a table are in its front
 field-part : (o : Order) (bs : List ℕ) (a n at k : ℕ) → at + k + 4 ≤ n → spelled o (take n (drop a bs)) (at + k) 4 ≡ spelled o bs (a + at + k) 4
@@ -117,25 +123,111 @@ more-size : (w : Width) (k : ℕ) → suc k * width_size w ≡ width_size w + k 
 more-size W32 k = omega arith
 more-size W64 k = omega arith
 
+-- pieces that lead from one state to another, whose cells stand from one place of some cells to another; each string offset among
+-- them names a text
+record TextRun (v : View) (cells : List Cell) (s t : NameState) (a b : ℕ) : Type 0 where
+  pieces : List (Piece NameState)
+  leads : Leads (name_grammar v.order) s pieces t
+  covers : joined pieces ++ drop b cells ≡ drop a cells
+  each : EachPiece (λ x. StringNamesBy x.state.mode v x.cells) pieces
+
+each-more : (v : View) (xs ys : List (Piece NameState)) → EachPiece (λ x. StringNamesBy x.state.mode v x.cells) xs
+    → EachPiece (λ x. StringNamesBy x.state.mode v x.cells) ys → EachPiece (λ x. StringNamesBy x.state.mode v x.cells) (xs ++ ys)
+each-more v [] ys h k = k
+each-more v (x ∷ xs) ys h k = (h.0, each-more v xs ys h.1 k)
+
+leads-more : (g : Grammar) (s t u : g.State) (xs ys : List (Piece g.State)) → Leads g s xs t → Leads g t ys u → Leads g s (xs ++ ys) u
+leads-more g s t u [] ys l m = subst (λ (z : g.State). Leads g z ys u) (sym l) m
+leads-more g s t u (x ∷ xs) ys l m = (l.0, l.1, leads-more g (g.next x.state x.cells) t u xs ys l.2 m)
+
+joined-append : {S : Type 0} (xs ys : List (Piece S)) → joined (xs ++ ys) ≡ joined xs ++ joined ys
+joined-append [] ys = refl
+joined-append (x ∷ xs) ys = ap (λ (r : List Cell). x.cells ++ r) (joined-append xs ys) ∙ sym (append_assoc x.cells (joined xs) (joined ys))
+
+text-more : (v : View) (cells : List Cell) (s t u : NameState) (a b c : ℕ) → TextRun v cells s t a b → TextRun v cells t u b c → TextRun v cells s u a c
+text-more v cells s t u a b c m n = record {
+  pieces = m.pieces ++ n.pieces;
+  leads = leads-more (name_grammar v.order) s t u m.pieces n.pieces m.leads n.leads;
+  covers =
+      ap (λ (x : List Cell). x ++ drop c cells) (joined-append m.pieces n.pieces) ∙ append_assoc (joined m.pieces) (joined n.pieces) (drop c cells)
+      ∙ ap (λ (x : List Cell). joined m.pieces ++ x) n.covers ∙ m.covers;
+  each = each-more v m.pieces n.pieces m.each n.each;
+}
+
+-- a piece of so many cells
+text-one : (v : View) (cells : List Cell) (s t : NameState) (a n : ℕ) → (name_grammar v.order).Fits s (take n (drop a cells))
+    → (name_grammar v.order).next s (take n (drop a cells)) ≡ t → StringNamesBy s.mode v (take n (drop a cells)) → TextRun v cells s t a (a + n)
+text-one v cells s t a n fits next names = record {
+  pieces = record { state = s; cells = take n (drop a cells) } ∷ [];
+  leads = (refl, fits, next);
+  covers =
+      append_assoc (take n (drop a cells)) [] (drop (a + n) cells)
+      ∙ ap (λ (x : List Cell). take n (drop a cells) ++ x) (sym (drop-drop n a cells)) ∙ take-append-drop n (drop a cells);
+  each = (names, tt);
+}
+
+-- plain cells, with the bytes of a section of a view
+record IsSection (v : View) (section : ℕ) (cells : List Cell) : Type 0 where
+  plain : IsPlain cells
+  bytes : bytes_of cells ≡ section_bytes v section
+
+part-plain : (n a : ℕ) (cells : List Cell) → IsPlain cells → IsPlain (take n (drop a cells))
+part-plain n a cells plain =
+    let behind : IsPlain (drop a cells) = (plain-parts (take a cells) (drop a cells) (subst IsPlain (sym (take-append-drop a cells)) plain)).1 in
+    (plain-parts (take n (drop a cells)) (drop n (drop a cells)) (subst IsPlain (sym (take-append-drop n (drop a cells))) behind)).0
+
+-- the offset in a part is that of the field at its place
+part-offset : (v : View) (section : ℕ) (cells : List Cell) (n a : ℕ) → IsSection v section cells → a + n ≤ length cells
+    → offset_of v.order (texts_in v) (take n (drop a cells)) ≡ offset_into (texts_in v) (field_at v section a n)
+unfolding field_at
+part-offset v section cells n a is inside =
+    let place : a + 0 ≡ a = omega arith in
+    offset_of-plain v.order (texts_in v) (take n (drop a cells)) (part-plain n a cells is.plain)
+    ∙ ap (spelled v.order (bytes_of (take n (drop a cells))) 0) (part-length n a cells inside)
+    ∙ ap (λ (bs : List ℕ). spelled v.order bs 0 n) (part-bytes n a cells) ∙ spelled-take v.order (drop a (bytes_of cells)) n 0 n (omega arith)
+    ∙ spelled-drop v.order (bytes_of cells) a 0 n ∙ ap (λ (i : ℕ). spelled v.order (bytes_of cells) i n) place
+    ∙ ap (λ (bs : List ℕ). spelled v.order bs a n) is.bytes
+
+-- string offsets from a place on name texts
+abbrev NameFrom : View → ℕ → Width → ℕ → ℕ → Type 0
+NameFrom v section w k place =
+    (i : ℕ) → i < k → ends_in (texts_in v).bytes (offset_into (texts_in v) (field_at v section (place + i * width_size w) (width_size w))) ≡ true
+
+name-rest : (v : View) (section : ℕ) (w : Width) (k place : ℕ) → NameFrom v section w (suc k) place → NameFrom v section w k (place + width_size w)
+name-rest v section w k place h = λ i lt.
+    let next : place + suc i * width_size w ≡ place + width_size w + i * width_size w = shift w i place in
+    ap (λ (p : ℕ). ends_in (texts_in v).bytes (offset_into (texts_in v) (field_at v section p (width_size w)))) (sym next) ∙ h (suc i) (omega (arith, lt))
+  where
+    shift : (w : Width) (i place : ℕ) → place + suc i * width_size w ≡ place + width_size w + i * width_size w
+    shift W32 i place = omega arith
+    shift W64 i place = omega arith
+
 -- so many string offsets, and what is left of their table
-strings-run : (order : Order) (cells : List Cell) (w : Width) (k place end : ℕ) → place + k * width_size w ≤ end → end ≤ length cells
-    → Run (name_grammar order) cells (before_strings_of (length cells) place w k end) (names_at (length cells) end at_table) place end
-strings-run order cells w zero place end fits inside =
+strings-run : (v : View) (section : ℕ) (cells : List Cell) (w : Width) (k place end : ℕ) → IsSection v section cells → NameFrom v section w k place
+    → place + k * width_size w ≤ end → end ≤ length cells
+    → TextRun v cells (before_strings_of (length cells) place w k end) (names_at (length cells) end at_table) place end
+strings-run v section cells w zero place end is names fits inside =
     let room : place ≤ end = omega (arith, fits) in
     let size : length (take (end - place) (drop place cells)) ≡ end - place = part-length (end - place) place cells (omega (arith, room, inside)) in
     let here : place + length (take (end - place) (drop place cells)) ≡ end = omega (arith, size, room) in
-    let one = run-one (name_grammar order) cells (names_at (length cells) place (at_rest end)) (names_at (length cells) end at_table) place (end - place) here refl in
-    subst (λ (b : ℕ). Run (name_grammar order) cells (names_at (length cells) place (at_rest end)) (names_at (length cells) end at_table) place b) (omega (arith, room)) one
-strings-run order cells w (suc k) place end fits inside =
+    let one = text-one v cells (names_at (length cells) place (at_rest end)) (names_at (length cells) end at_table) place (end - place) here refl tt in
+    subst (λ (b : ℕ). TextRun v cells (names_at (length cells) place (at_rest end)) (names_at (length cells) end at_table) place b) (omega (arith, room)) one
+strings-run v section cells w (suc k) place end is names fits inside =
     let more : suc k * width_size w ≡ width_size w + k * width_size w = more-size w k in
     let room : place + width_size w ≤ end = omega (arith, fits, more) in
-    let size : length (take (width_size w) (drop place cells)) ≡ width_size w = part-length (width_size w) place cells (omega (arith, room, inside)) in
+    let whole : place + width_size w ≤ length cells = omega (arith, room, inside) in
+    let size : length (take (width_size w) (drop place cells)) ≡ width_size w = part-length (width_size w) place cells whole in
     let next : before_strings_of (length cells) (place + length (take (width_size w) (drop place cells))) w k end ≡ before_strings_of (length cells) (place + width_size w) w k end =
     ap (λ (b : ℕ). before_strings_of (length cells) (place + b) w k end) size in
-    let one = run-one (name_grammar order) cells (names_at (length cells) place (at_string w k end)) (before_strings_of (length cells) (place + width_size w) w k end) place (width_size w)
-    (record { size = size; before = omega (arith, size, room) }) next in
-    run-more (name_grammar order) cells (names_at (length cells) place (at_string w k end)) (before_strings_of (length cells) (place + width_size w) w k end)
-    (names_at (length cells) end at_table) place (place + width_size w) end one (strings-run order cells w k (place + width_size w) end (omega (arith, fits, more)) inside)
+    let first : place + 0 * width_size w ≡ place = omega arith in
+    let ends : ends_in (texts_in v).bytes (offset_of v.order (texts_in v) (take (width_size w) (drop place cells))) ≡ true =
+    ap (ends_in (texts_in v).bytes) (part-offset v section cells (width_size w) place is whole)
+    ∙ ap (λ (p : ℕ). ends_in (texts_in v).bytes (offset_into (texts_in v) (field_at v section p (width_size w)))) (sym first) ∙ names 0 (omega arith) in
+    let one = text-one v cells (names_at (length cells) place (at_string w k end)) (before_strings_of (length cells) (place + width_size w) w k end) place (width_size w)
+    (record { size = size; before = omega (arith, size, room) }) next ends in
+    text-more v cells (names_at (length cells) place (at_string w k end)) (before_strings_of (length cells) (place + width_size w) w k end)
+    (names_at (length cells) end at_table) place (place + width_size w) end one
+    (strings-run v section cells w k (place + width_size w) end is (name-rest v section w k place names) (omega (arith, fits, more)) inside)
 
 -- the string offsets lie in the table
 strings-inside : (w : Width) (counts : NameCounts) → counts.names * width_size w ≤ from_strings w counts
@@ -145,47 +237,71 @@ strings-inside w counts =
     omega (arith, twice)
 
 -- a table is its pieces
-pub table-run : (order : Order) (cells : List Cell) (start : ℕ) (t : NameTable) → IsNameTable order (bytes_of cells) start t
-    → Run (name_grammar order) cells (names_at (length cells) start at_table) (names_at (length cells) t.end at_table) start t.end
-table-run order cells start t is =
-    let l : Width × ℕ × ℕ = is.lengths in
-    let n : ℕ = front_size order cells start is.lengths in
-    let parts : Parts cells start t is.lengths (counts_of order cells start is.lengths) (front_size order cells start is.lengths) = parts-of order cells start t is in
-    let head = run-one (name_grammar order) cells (names_at (length cells) start at_table) (before_strings_of (length cells) t.strings t.width t.names t.end) start
-    (front_size order cells start is.lengths)
-    (front-piece order cells start t is.lengths (front_size order cells start is.lengths) parts is.length_is is.version)
-    (front-next order cells start t is.lengths (front_size order cells start is.lengths) parts is.length_is) in
-    let sizes : t.names * width_size t.width ≡ (counts_of order cells start is.lengths).names * width_size is.lengths.0 =
-    ap (λ (k : ℕ). k * width_size t.width) parts.names ∙ ap (λ (w : Width). (counts_of order cells start is.lengths).names * width_size w) parts.width in
+table-run : (v : View) (section : ℕ) (cells : List Cell) (start : ℕ) (t : NameTable) → IsSection v section cells → IsNamedTable v section (bytes_of cells) start t
+    → TextRun v cells (names_at (length cells) start at_table) (names_at (length cells) t.end at_table) start t.end
+table-run v section cells start t whole named =
+    let order : Order = v.order in
+    let is : IsNameTable v.order (bytes_of cells) start t = named.table in
+    let parts : Parts cells start t named.table.lengths (counts_of v.order cells start named.table.lengths) (front_size v.order cells start named.table.lengths) =
+    parts-of v.order cells start t named.table in
+    let head = text-one v cells (names_at (length cells) start at_table) (before_strings_of (length cells) t.strings t.width t.names t.end) start
+    (front_size v.order cells start named.table.lengths)
+    (front-piece v.order cells start t named.table.lengths (front_size v.order cells start named.table.lengths) parts named.table.length_is named.table.version)
+    (front-next v.order cells start t named.table.lengths (front_size v.order cells start named.table.lengths) parts named.table.length_is) tt in
+    let sizes : t.names * width_size t.width ≡ (counts_of v.order cells start named.table.lengths).names * width_size named.table.lengths.0 =
+    ap (λ (k : ℕ). k * width_size t.width) parts.names ∙ ap (λ (w : Width). (counts_of v.order cells start named.table.lengths).names * width_size w) parts.width in
     let room : t.strings + t.names * width_size t.width ≤ t.end =
-    omega (arith, sizes, strings-inside is.lengths.0 (counts_of order cells start is.lengths), parts.strings, parts.fits, parts.end) in
-    let rest = strings-run order cells t.width t.names t.strings t.end room (omega (arith, is.within, length-bytes_of cells)) in
-    let first = subst (λ (b : ℕ). Run (name_grammar order) cells (names_at (length cells) start at_table) (before_strings_of (length cells) t.strings t.width t.names t.end) start b)
+    omega (arith, sizes, strings-inside named.table.lengths.0 (counts_of v.order cells start named.table.lengths), parts.strings, parts.fits, parts.end) in
+    let rest = strings-run v section cells t.width t.names t.strings t.end whole named.texts.all room (omega (arith, named.table.within, length-bytes_of cells)) in
+    let first = subst (λ (b : ℕ). TextRun v cells (names_at (length cells) start at_table) (before_strings_of (length cells) t.strings t.width t.names t.end) start b)
     (sym parts.strings) head in
-    run-more (name_grammar order) cells (names_at (length cells) start at_table) (before_strings_of (length cells) t.strings t.width t.names t.end)
+    text-more v cells (names_at (length cells) start at_table) (before_strings_of (length cells) t.strings t.width t.names t.end)
     (names_at (length cells) t.end at_table) start t.strings t.end first rest
 
 -- so are all of a section
-pub tables-run : (v : View) (section : ℕ) (cells : List Cell) (list : List NameTable) (place : ℕ) → TablesUpTo v section (bytes_of cells) list place
-    → Run (name_grammar v.order) cells (names_at (length cells) 0 at_table) (names_at (length cells) place at_table) 0 place
-tables-run v section cells list place no_tables =
-    run-none (name_grammar v.order) cells (names_at (length cells) 0 at_table) (names_at (length cells) 0 at_table) 0 refl
-tables-run v section cells list place (more_tables before t start u is) =
-    run-more (name_grammar v.order) cells (names_at (length cells) 0 at_table) (names_at (length cells) start at_table) (names_at (length cells) t.end at_table) 0 start t.end
-    (tables-run v section cells before start u) (table-run v.order cells start t is.table)
+tables-run : (v : View) (section : ℕ) (cells : List Cell) (list : List NameTable) (place : ℕ) → IsSection v section cells → TablesUpTo v section (bytes_of cells) list place
+    → TextRun v cells (names_at (length cells) 0 at_table) (names_at (length cells) place at_table) 0 place
+tables-run v section cells list place whole no_tables = record {
+  pieces = [];
+  leads = refl;
+  covers = refl;
+  each = tt;
+}
+tables-run v section cells list place whole (more_tables before t start u is) =
+    text-more v cells (names_at (length cells) 0 at_table) (names_at (length cells) start at_table) (names_at (length cells) t.end at_table) 0 start t.end
+    (tables-run v section cells before start whole u) (table-run v section cells start t whole is)
 
--- where tables fill a section, it is their pieces
-pub tables-read : (v : View) (section : ℕ) (cells : List Cell) (list : List NameTable) → TablesUpTo v section (bytes_of cells) list (length (bytes_of cells))
-    → record { pieces : List (Piece NameState); reads : ReadsNames v.order cells pieces }
-tables-read v section cells list u =
-    let run = tables-run v section cells list (length (bytes_of cells)) u in
+-- where tables fill a section, it is their pieces, and each string offset among them names a text
+pub record NamesRead (v : View) (cells : List Cell) : Type 0 where
+  pub pieces : List (Piece NameState)
+  pub reads : ReadsNames v.order cells pieces
+  pub texts : EachPiece (λ x. StringNamesBy x.state.mode v x.cells) pieces
+
+tables-read : (v : View) (section : ℕ) (cells : List Cell) (list : List NameTable) → IsSection v section cells
+    → TablesUpTo v section (bytes_of cells) list (length (bytes_of cells)) → NamesRead v cells
+tables-read v section cells list whole u =
+    let all = tables-run v section cells list (length (bytes_of cells)) whole u in
     let same : length (bytes_of cells) ≡ length cells = length-bytes_of cells in
     let rest : drop (length (bytes_of cells)) cells ≡ [] = drop_all (length (bytes_of cells)) cells (omega (arith, same)) in
     record {
-      pieces = run.pieces;
+      pieces = all.pieces;
       reads = record {
-        chain = leads-chain (name_grammar v.order) (names_at (length cells) 0 at_table) (names_at (length cells) (length (bytes_of cells)) at_table) run.pieces run.leads
+        chain = leads-chain (name_grammar v.order) (names_at (length cells) 0 at_table) (names_at (length cells) (length (bytes_of cells)) at_table) all.pieces all.leads
             (record { mode = refl; place = same });
-        cells = sym (append-nil (joined run.pieces)) ∙ ap (λ (x : List Cell). joined run.pieces ++ x) (sym rest) ∙ run.covers;
+        cells = sym (append-nil (joined all.pieces)) ∙ ap (λ (x : List Cell). joined all.pieces ++ x) (sym rest) ∙ all.covers;
       };
+      texts = all.each;
     }
+
+-- the name tables of a view are pieces
+names-by : (v : View) (o : Option ℕ) (list : List NameTable) → TablesUpTo v (located_at v o).number (located_at v o).bytes list (length (located_at v o).bytes)
+    → NamesRead v (plain_cells (located_at v o).bytes)
+names-by v None list u = record { pieces = []; reads = record { chain = record { mode = refl; place = refl }; cells = refl }; texts = tt }
+names-by v (Some i) list u =
+    let bytes : bytes_of (plain_cells (section_bytes v i)) ≡ section_bytes v i = bytes_of-plain (section_bytes v i) in
+    tables-read v i (plain_cells (section_bytes v i)) list (record { plain = plain_cells-plain (section_bytes v i); bytes = bytes })
+    (subst (λ (bs : List ℕ). TablesUpTo v i bs list (length bs)) (sym bytes) u)
+
+pub names-read : (v : View) (list : List NameTable) → AreNameTables v list → NamesRead v (plain_cells (names_of v).bytes)
+unfolding located
+names-read v list u = names-by v (section_named v (name_of Names)) list u

@@ -1,5 +1,5 @@
 -- Laws of marks: a mark more, and the slots that are marked with one value more.
-use Rattle.std.proofs.Common.{Bool, true, false, ◌≡◌, ◌⊎◌, inl, inr, ℕ, zero, ◌+◌, ◌/◌, ◌%◌, ◌<◌, nat_lt, ◌==◌, ◌&&◌, ◌||◌, List, [], ◌∷◌, ◌++◌, length, get_or, replicate, slice_set, Option, Some, Fits, w8, refl, sym, ap, ◌∙◌, arith}
+use Rattle.std.proofs.Common.{Bool, true, false, ◌≡◌, ◌⊎◌, inl, inr, ℕ, zero, ◌+◌, ◌/◌, ◌%◌, ◌<◌, ◌≤◌, nat_lt, ◌==◌, ◌&&◌, ◌||◌, List, [], ◌∷◌, ◌++◌, length, get_or, replicate, slice_set, Option, Some, Fits, w8, refl, sym, ap, ◌∙◌, arith}
 use Rattle.std.proofs.lemmas.Bool.{cases_eq, eq-eqb, ne_eqb}
 use Rattle.std.proofs.lemmas.Bool.Decides.{nat_tests}
 use Rattle.std.proofs.lemmas.List.{length-set, get_or-set_same, get_or-set_other, get_or-replicate, get_or_past, length-replicate}
@@ -108,6 +108,16 @@ no-mark n place true e = get_or-replicate n place 0 0 (grind (arith, nat_tests))
 no-mark n place false e =
     let size : length (unmarked n) ≡ n = length-replicate n zero in
     get_or_past (unmarked n) place 0 (grind (arith, nat_tests, size))
+
+-- nothing is marked past the end
+zero-mark : (path : Bool) → has_mark path 0 ≡ false
+zero-mark true = refl
+zero-mark false = refl
+
+pub mark-past : (path : Bool) (marks : List ℕ) (place : ℕ) → length marks ≤ place → false ≡ marked path marks place
+mark-past path marks place le = sym (ap (has_mark path) (get_or_past marks place 0 le) ∙ zero-mark path)
+
+pub ruleset past_laws = (mark-past)
 
 pub marks-none : (n : ℕ) (g : Indexing) → AreMarks (unmarked n) g []
 marks-none n g = record { each = λ path place. not_marked path n place (no-mark n place (nat_lt place n) refl) }

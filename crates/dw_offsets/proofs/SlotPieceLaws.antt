@@ -172,7 +172,7 @@ place-header : (s : OffsetState) (place : ℕ) (o : Option (Width × ℕ × ℕ)
 place-header s place None = refl
 place-header s place (Some l) = place-before s.whole place s.slot l.0 (s.place + l.2 + l.1)
 
-place-next : (m : OffsetMode) (order : Order) (s : OffsetState) (p : List Cell) → FitsOffsets m order s p → (past_offsets m order s p).place ≡ s.place + length p
+pub place-next : (m : OffsetMode) (order : Order) (s : OffsetState) (p : List Cell) → FitsOffsets m order s p → (past_offsets m order s p).place ≡ s.place + length p
 place-next at_contribution order s p f = place-header s (s.place + length p) (initial_length_at order (bytes_of p) 0)
 place-next (at_slot w end) order s p f = place-before s.whole (s.place + length p) (s.slot + 1) w end
 place-next no_offsets order s p f = absurd f

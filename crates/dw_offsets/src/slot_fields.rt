@@ -72,7 +72,6 @@ pub fn path_slots(
     marks: &SlotMarks,
 ) -> Result<Vec<PathSlot>, Fault>
     requires contributions { AreContributions view.now.order (string_offsets view.now) list.now }
-    requires marks { length marks.now ≡ length (string_offsets view.now).bytes }
     ensures taken { IfOk result (λ fields. SlotsTaken maps.now (slots_in view.now) marks.now (slots_of list.now) [] fields.items) }
     ensures refused { IfErr result (Blames (SlotsRefuse maps.now (slots_in view.now) marks.now (slots_of list.now))) }
 {
@@ -129,7 +128,6 @@ fn all_fields(
 ) -> Result<Vec<PathSlot>, Fault>
     requires inside { AllLieIn (length table.now.bytes) list.now }
     requires small { length table.now.bytes ≤ 2 ^ 31 }
-    requires marks { length marks.now ≡ length table.now.bytes }
     ensures taken { IfOk result (λ fields. SlotsTaken maps.now table.now marks.now (slots_of list.now) [] fields.items) }
     ensures refused { IfErr result (Blames (SlotsRefuse maps.now table.now marks.now (slots_of list.now))) }
 {
@@ -152,7 +150,6 @@ fn push_fields(
 ) -> Result<(), Fault>
     requires inside { LiesIn (length table.now.bytes) contribution }
     requires small { length table.now.bytes ≤ 2 ^ 31 }
-    requires marks { length marks.now ≡ length table.now.bytes }
     ensures taken { OnOk result (SlotsTaken maps.now table.now marks.now (tabulate (slot_at contribution) (slot_total contribution)) fields.old.items fields.new.items) }
     ensures refused { IfErr result (Blames (SlotsRefuse maps.now table.now marks.now (tabulate (slot_at contribution) (slot_total contribution)))) }
 {
@@ -206,7 +203,6 @@ fn push_field(
     requires some { 0 < size }
     requires wide { size ≤ 8 }
     requires inside { at + size ≤ length table.now.bytes }
-    requires marks { length marks.now ≡ length table.now.bytes }
     ensures taken { OnOk result (SlotsTaken maps.now table.now marks.now (record { place = at; size = size } ∷ []) fields.old.items fields.new.items) }
     ensures refused { IfErr result (Blames (SlotRefuses maps.now table.now marks.now (record { place = at; size = size }))) }
 {
@@ -230,7 +226,6 @@ fn check_slot(
     requires some { 0 < size }
     requires wide { size ≤ 8 }
     requires inside { at + size ≤ length table.now.bytes }
-    requires marks { length marks.now ≡ length table.now.bytes }
     ensures taken { OnOk result (SlotTaken maps.now table.now marks.now (record { place = at; size = size })) }
     ensures refused { IfErr result (Blames (SlotRefuses maps.now table.now marks.now (record { place = at; size = size }))) }
 {

@@ -39,11 +39,14 @@ impl SlotMarks {
         put_mark(&mut self.marks, place, path);
     }
 
-    /// The slot at a place is marked so.
+    /// The slot at a place is marked so. None is past the end.
+    #[tactic(auto, using(crate::proofs::SlotMarkLaws::past_laws))]
     pub fn is_marked(&self, place: u64, path: bool) -> bool
-        requires inside { place < length self.now }
         ensures marked { result ≡ marked path self.now place }
     {
+        if place >= self.marks.len() as u64 {
+            return false;
+        }
         has_mark(self.marks[place as usize], path)
     }
 }

@@ -1,13 +1,12 @@
 -- The new bodies of a file's sections: each is that of a section with bytes, and they are the bodies of the output.
-use Rattle.std.proofs.Common.{Bool, true, false, ◌≡◌, ◌≢◌, ◌⊎◌, inl, inr, ℕ, suc, ◌+◌, ◌<◌, ◌≤◌, ◌==◌, ◌&&◌, not, List, [], ◌∷◌, ◌++◌, drop, if◌then◌else◌, Option, Some, None, refl, sym, ap, ◌∙◌, subst, arith}
-use Rattle.std.specs.Bool.{⊤}
+use Rattle.std.proofs.Common.{Bool, true, false, ◌≡◌, ◌≢◌, ◌⊎◌, inl, inr, ℕ, suc, ◌+◌, ◌<◌, ◌==◌, ◌&&◌, not, List, [], ◌∷◌, ◌++◌, drop, if◌then◌else◌, Option, Some, None, refl, sym, ap, ◌∙◌, subst, arith}
 use Rattle.std.proofs.lemmas.Bool.{and_parts, cases_eq, eq-eqb, ne_eqb}
-use Rattle.dw_base.specs.Cells.{Located}
-use Rattle.dw_meaning.specs.DataOutput.{Body, DataReads, body_in, changes_of, new_bodies, table_body, unit_body, unit_bodies}
-use Rattle.dw_base.specs.DebugData.{Around, ReadsAll, around_of, units_in}
+use Rattle.dw_base.specs.Cells.{Cell, bytes_of}
+use Rattle.dw_meaning.specs.DataOutput.{Body, DataReads, body_in, cells_body, new_bodies, table_body, unit_bodies}
+use Rattle.dw_base.specs.DebugData.{Around, DataReadings, ReadsAll, units_in}
 use Rattle.dw_base.specs.Readings.{Readings}
 use Rattle.dw_base.specs.DebugSections.{debug_section, name_of}
-use Rattle.dw_base.specs.Elf.{contents_of, contents_at, is_empty_kind, nth_section, section_count, section_name, e_shoff}
+use Rattle.dw_base.specs.Elf.{contents_of, contents_at, is_empty_kind, nth_section, section_count, e_shoff}
 use Rattle.dw_base.specs.ElfFails.{ElfReads}
 use Rattle.dw_meaning.specs.FileMeanings.{file_data, new_body}
 use Rattle.dw_base.specs.FileViews.{ViewSection, first_filled, is_filled, section_after, section_named, view_of, view_section}
@@ -16,9 +15,9 @@ use Rattle.dw_base.specs.TextChanges.{TableChange, TableChanges}
 use Rattle.dw_base.specs.UnitHeaders.{SectionKind, UnitBase}
 use Rattle.dw_base.specs.ViewData.{debug_data, located, located_at, unit_kind, unit_section, unit_sections, unit_sections_from}
 use Rattle.dw_base.specs.declared.debug_sections.DebugSection.{DebugSection}
-use Rattle.dw_base.specs.declared.debug_sections.DebugSection.TheVariants.{Str, LineStr}
+use Rattle.dw_base.specs.declared.debug_sections.DebugSection.TheVariants.{Str, LineStr, StrOffsets, Names}
 use Rattle.dw_meaning.proofs.FileBackLaws.{AllAt, tabulate-at}
-use Rattle.dw_meaning.proofs.FileKeptLaws.{CanMap, around_file, body-line, body-other, body-str, changes_file, line-none, line-place, str-none, str-place}
+use Rattle.dw_meaning.proofs.FileKeptLaws.{CanMap, around_file, body-line, body-names, body-offsets, body-other, body-str, changes_file, line-none, line-place, names-none, names-place, new_names, new_offsets, offsets-none, offsets-place, str-none, str-place}
 use Rattle.dw_meaning.proofs.TableKeptLaws.{TablePlace, nowhere, lies_at, drop-at}
 use Rattle.dw_rewrite.specs.Rewritten.{AllStand, Stands, body_with, bytes_given, bytes_or, is_of}
 
@@ -92,18 +91,35 @@ units-stand b base c around first k (s ∷ ss) (t ∷ ts) rs all reads =
         let here : IsFull b q.number = subst (IsFull b) (sym f.0) (full_at b k s all.0.within all.0.is is) in
         (record { within = λ some. here.within; full = λ some. here.full }, rest (first + units_in q.pieces) qs f.2)
 
-pub bodies-stand : (m : PathMap) (b : List ℕ) (r : Readings) → DataReads (file_data b) r → AllStand b (new_bodies m (file_data b) r)
+-- sections that are read as pieces are in one each, or nowhere
+cells-stand : (b : List ℕ) (s : DebugSection) (p : List Cell) → Stands b (cells_body (located (view_of b) s).number p)
+unfolding located section_named section_after
+cells-stand b s p = by_found (section_named (view_of b) (name_of s)) refl
+  where
+    by_found : (o : Option ℕ) → section_named (view_of b) (name_of s) ≡ o → Stands b (cells_body (located_at (view_of b) o).number p)
+    by_found None e = record { within = λ some. absurd (some refl); full = λ some. absurd (some refl) }
+    by_found (Some i) e =
+        let f : IsFull b i = found-full b (name_of s) 1 i (drop 1 (view_of b).sections) (drop 1 (view_of b).sections) (all_sections b) e in
+        record { within = λ some. f.within; full = λ some. f.full }
+
+pub bodies-stand : (m : PathMap) (b : List ℕ) (r : DataReadings) → DataReads (file_data b) r → AllStand b (new_bodies m (file_data b) r)
 unfolding new_bodies debug_data unit_sections
 bodies-stand m b r reads = (
   table-stands b Str (changes_file m b r).str,
   (
     table-stands b LineStr (changes_file m b r).line_str,
-    units-stand b (file_data b).base (changes_file m b r) (around_file b r) 0 1 (drop 1 (view_of b).sections) (drop 1 (view_of b).sections) r (all_sections b) reads.units,
+    (
+      cells-stand b StrOffsets (new_offsets m b r),
+      (
+        cells-stand b Names (new_names m b r),
+        units-stand b (file_data b).base (changes_file m b r) (around_file b r) 0 1 (drop 1 (view_of b).sections) (drop 1 (view_of b).sections) r.units (all_sections b) reads.units,
+      ),
+    ),
   ),
 )
 
 -- the same of bodies that are these
-pub made-stand : (m : PathMap) (b : List ℕ) (r : Readings) (bodies : List Body) → DataReads (file_data b) r → bodies ≡ new_bodies m (file_data b) r → AllStand b bodies
+pub made-stand : (m : PathMap) (b : List ℕ) (r : DataReadings) (bodies : List Body) → DataReads (file_data b) r → bodies ≡ new_bodies m (file_data b) r → AllStand b bodies
 made-stand m b r bodies reads is = subst (AllStand b) (sym is) (bodies-stand m b r reads)
 
 -- Section 0 keeps its bytes, of which there are none.
@@ -136,18 +152,33 @@ section_0 b elf some = by_table (cases_eq (e_shoff b) 0)
         absurd (omega (arith, zero, some))
     by_table (inr there) = rw (elf.debug.index.null there) refl
 
-body-first : (m : PathMap) (b : List ℕ) (r : Readings) → CanMap m b r → 0 < section_count b → new_body m b r 0 ≡ contents_of b 0
+body-first : (m : PathMap) (b : List ℕ) (r : DataReadings) → CanMap m b r → 0 < section_count b → new_body m b r 0 ≡ contents_of b 0
 unfolding debug_data unit_sections
 body-first m b r w some = by_str (cases_eq 0 (file_data b).str.number) (str-place b)
   where
     own : contents_of b 0 ≡ []
     own = section_0 b w.reads.elf some
 
+    by_names : 0 ≢ (file_data b).str.number → 0 ≢ (file_data b).line_str.number → 0 ≢ (file_data b).offsets.number
+        → (0 ≡ (file_data b).names.number) ⊎ (0 ≡ (file_data b).names.number → ⊥) → TablePlace b (name_of Names) (located (view_of b) Names)
+        → new_body m b r 0 ≡ contents_of b 0
+    by_names str line offsets (inr names) place =
+        body-other m b r 0 (record { str = str; line = line; offsets = offsets; names = names })
+        ∙ units-above (file_data b).base (changes_file m b r) (around_file b r) (contents_of b) 0 0 1 (drop 1 (view_of b).sections) r.units w.reads.data_reads.units (omega arith)
+    by_names str line offsets (inl same) (nowhere zero none) =
+        body-names m b r 0 same str line offsets ∙ ap bytes_of (names-none m b r w none) ∙ sym own
+    by_names str line offsets (inl same) (lies_at there within named bytes) = absurd (omega (arith, same, there))
+
+    by_offsets : 0 ≢ (file_data b).str.number → 0 ≢ (file_data b).line_str.number → (0 ≡ (file_data b).offsets.number) ⊎ (0 ≡ (file_data b).offsets.number → ⊥)
+        → TablePlace b (name_of StrOffsets) (located (view_of b) StrOffsets) → new_body m b r 0 ≡ contents_of b 0
+    by_offsets str line (inr other) place = by_names str line other (cases_eq 0 (file_data b).names.number) (names-place b)
+    by_offsets str line (inl same) (nowhere zero none) =
+        body-offsets m b r 0 same str line ∙ ap bytes_of (offsets-none m b r w none) ∙ sym own
+    by_offsets str line (inl same) (lies_at there within named bytes) = absurd (omega (arith, same, there))
+
     by_line : 0 ≢ (file_data b).str.number → (0 ≡ (file_data b).line_str.number) ⊎ (0 ≡ (file_data b).line_str.number → ⊥) → TablePlace b (name_of LineStr) (file_data b).line_str
         → new_body m b r 0 ≡ contents_of b 0
-    by_line other (inr line) place =
-        body-other m b r 0 other line
-        ∙ units-above (file_data b).base (changes_file m b r) (around_file b r) (contents_of b) 0 0 1 (drop 1 (view_of b).sections) r w.reads.data_reads.units (omega arith)
+    by_line other (inr line) place = by_offsets other line (cases_eq 0 (file_data b).offsets.number) (offsets-place b)
     by_line other (inl same) (nowhere zero none) =
         let apart : (file_data b).line_str.number ≢ (file_data b).str.number = λ (e : (file_data b).line_str.number ≡ (file_data b).str.number). other (same ∙ e) in
         ap (new_body m b r) same ∙ body-line m b r apart ∙ line-none m b r w none ∙ sym own
@@ -182,12 +213,12 @@ given-first (x ∷ xs) = by_number (cases_eq x.number 0) (given-first xs)
     by_number (inl none) rest = rw none rest
     by_number (inr some) rest = rw (ne_eqb x.number 0 some, ne_eqb 0 x.number (λ (e : 0 ≡ x.number). some (sym e))) rest
 
-body-opened : (m : PathMap) (b : List ℕ) (r : Readings) (bodies : List Body) (i : ℕ) → bodies ≡ new_bodies m (file_data b) r
+body-opened : (m : PathMap) (b : List ℕ) (r : DataReadings) (bodies : List Body) (i : ℕ) → bodies ≡ new_bodies m (file_data b) r
     → body_in bodies (contents_of b) i ≡ new_body m b r i
 unfolding new_body
 body-opened m b r bodies i is = ap (λ (xs : List Body). body_in xs (contents_of b) i) is
 
-pub bodies-same : (m : PathMap) (b : List ℕ) (r : Readings) (bodies : List Body) → CanMap m b r → bodies ≡ new_bodies m (file_data b) r → (i : ℕ) → i < section_count b
+pub bodies-same : (m : PathMap) (b : List ℕ) (r : DataReadings) (bodies : List Body) → CanMap m b r → bodies ≡ new_bodies m (file_data b) r → (i : ℕ) → i < section_count b
     → body_with b bodies i ≡ new_body m b r i
 bodies-same m b r bodies w is i lt = by_number (cases_eq i 0)
   where

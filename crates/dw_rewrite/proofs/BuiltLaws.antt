@@ -131,7 +131,7 @@ values-behind t params bytes start before behind z (more_values ys y place v s e
     (subst (TakenBehind (λ p. AreTaken t params bytes behind p) t y place) e rest).1
 
 value-built : (t : Tables) (params : Params) (bytes : List ℕ) (x : Spec) (behind : List Spec) (place : ℕ) (v : Value) → value_at params x bytes place ≡ Some v
-    → AreTaken t params bytes (x ∷ behind) place → is_unbuilt_value x v ≡ false
+    → AreTaken t params bytes (x ∷ behind) place → is_unbuilt_value x ≡ false
 value-built t params bytes x behind place v e h = (subst (TakenBehind (λ p. AreTaken t params bytes behind p) t x place) e h).0.built
 
 -- the entry of a value is one of those of its unit
@@ -179,7 +179,7 @@ entry-taken t h table bytes all number a x place v short entries taken y =
 -- a value of a unit that was taken
 unit-built : (t : Tables) (h : UnitHeader) (table : List Abbreviation) (bytes : List ℕ) (all : List Scanned) (number : ℕ) (a : Abbreviation) (x : Spec) (place : ℕ) (v : Value)
     → length bytes ≤ h.end → AreEntries h table bytes all → EntriesTaken t h.params table bytes all → HasValue h table bytes number a x place v
-    → is_unbuilt_value x v ≡ false
+    → is_unbuilt_value x ≡ false
 unit-built t h table bytes all number a x place v short entries taken y =
     value-built t h.params bytes x y.behind place v y.is
     (values-behind t h.params bytes (y.start + y.size) y.before (x ∷ y.behind) place y.values
@@ -244,8 +244,8 @@ all-built d us all x =
     subst (λ (t : List Abbreviation). AreEntries x.header t (bytes_up_to x.section x.header) one.items) same one.entries in
     let taken : EntriesTaken (tables_of d) x.header.params x.table (bytes_up_to x.section x.header) one.items =
     subst (λ (t : List Abbreviation). EntriesTaken (tables_of d) x.header.params t (bytes_up_to x.section x.header) one.items) same one.taken in
-    let built : is_unbuilt_value x.spec x.value ≡ false =
+    let built : is_unbuilt_value x.spec ≡ false =
     unit-built (tables_of d) x.header x.table (bytes_up_to x.section x.header) one.items x.number x.abbreviation x.spec x.place x.value
     (omega (arith, length-take x.header.end (bytes_of x.section.contents))) entries taken x.stands in
-    let unbuilt : is_unbuilt_value x.spec x.value ≡ true = x.unbuilt in
+    let unbuilt : is_unbuilt_value x.spec ≡ true = x.unbuilt in
     absurd cc

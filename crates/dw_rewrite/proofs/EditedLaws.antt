@@ -27,7 +27,7 @@ use Rattle.dw_rewrite.specs.declared.fields.PathField.{PathField}
 use Rattle.dw_rewrite.proofs.PlacedLaws.{Placed}
 
 -- the bytes of a piece are the number at its place
-piece_number : (o : Order) (p rest info : List ℕ) (place n : ℕ) → p ++ rest ≡ drop place info → length p ≡ n → spelled o p 0 n ≡ spelled o info place n
+pub piece_number : (o : Order) (p rest info : List ℕ) (place n : ℕ) → p ++ rest ≡ drop place info → length p ≡ n → spelled o p 0 n ≡ spelled o info place n
 piece_number o p rest info place n e size =
     sym (spelled-append o p rest 0 n (omega (arith, size))) ∙ ap (λ (x : List ℕ). spelled o x 0 n) e
     ∙ spelled-drop o info place 0 n ∙ ap (λ (i : ℕ). spelled o info i n) (omega arith)
@@ -45,7 +45,7 @@ mention_is around table p rest info place plain e =
     ∙ piece_number around.lasting.base.order (bytes_of p) rest info place (length p) e (length-bytes_of p))
 
 -- what a piece adds to the texts
-piece_texts : (r : Role) (table : TextSection) (plan : Plan) (m : PathMap) (around : Around) (info : List ℕ) (ts : List (List ℕ)) (p : List Cell) (rest : List ℕ) (place : ℕ) (more : List Mention) (fs : List PathField)
+pub piece_texts : (r : Role) (table : TextSection) (plan : Plan) (m : PathMap) (around : Around) (info : List ℕ) (ts : List (List ℕ)) (p : List Cell) (rest : List ℕ) (place : ℕ) (more : List Mention) (fs : List PathField)
     → plan ≡ appending m (table_of around table).bytes → IsPlain p → bytes_of p ++ rest ≡ drop place info
     → ((us : List (List ℕ)) → texts_after plan m us more ≡ texts_at plan m (offset_table around table) info us fs)
     → texts_after plan m ts (mentions_by r table around p ++ more) ≡ texts_at plan m (offset_table around table) info ts (field_by table r place (length p) ++ fs)
@@ -147,11 +147,11 @@ abbrev pub FieldsFrom : ℕ → List PathField → Type 0
 FieldsFrom n [] = ⊤
 FieldsFrom n (f ∷ fs) = (n ≤ f.at) × FieldsFrom n fs
 
-from-less : (n k : ℕ) (fs : List PathField) → n ≤ k → FieldsFrom k fs → FieldsFrom n fs
+pub from-less : (n k : ℕ) (fs : List PathField) → n ≤ k → FieldsFrom k fs → FieldsFrom n fs
 from-less n k [] le h = tt
 from-less n k (f ∷ fs) le h = (omega (arith, le, h.0), from-less n k fs le h.1)
 
-from-piece : (table : TextSection) (r : Role) (place size : ℕ) (fs : List PathField) → FieldsFrom place fs → FieldsFrom place (field_by table r place size ++ fs)
+pub from-piece : (table : TextSection) (r : Role) (place size : ℕ) (fs : List PathField) → FieldsFrom place fs → FieldsFrom place (field_by table r place size ++ fs)
 from-piece in_str (offset in_str true) place size fs h = (omega arith, h)
 from-piece in_line_str (offset in_line_str true) place size fs h = (omega arith, h)
 from-piece table r place size fs h = h

@@ -66,31 +66,31 @@ values_places-append params bytes n tag (x ∷ xs) ys start place e = by_value (
         ≡ value_places_behind (λ p. values_places params bytes n tag xs p) n tag x start o ++ values_places params bytes n tag ys place
     by_value None step e = absurd cc
     by_value (Some v) step e =
-        ap (λ (ts : List TextPlace). value_places n tag x v ++ ts) (step (start + v.size) e)
-        ∙ sym (append_assoc (value_places n tag x v) (values_places params bytes n tag xs (start + v.size)) (values_places params bytes n tag ys place))
+        ap (λ (ts : List TextPlace). value_places n tag x start v ++ ts) (step (start + v.size) e)
+        ∙ sym (append_assoc (value_places n tag x start v) (values_places params bytes n tag xs (start + v.size)) (values_places params bytes n tag ys place))
 
 -- the places of values, and of one more
 pub values_places-more : (params : Params) (bytes : List ℕ) (n tag : ℕ) (start place : ℕ) (xs : List Spec) (y : Spec) (v : Value)
     → SpellsValues params bytes start xs place → value_at params y bytes place ≡ Some v
-    → values_places params bytes n tag (xs ++ y ∷ []) start ≡ values_places params bytes n tag xs start ++ value_places n tag y v
+    → values_places params bytes n tag (xs ++ y ∷ []) start ≡ values_places params bytes n tag xs start ++ value_places n tag y place v
 values_places-more params bytes n tag start place xs y v s e =
     values_places-append params bytes n tag xs (y ∷ []) start place (spells-end params bytes start xs place s)
-    ∙ ap (λ (ts : List TextPlace). values_places params bytes n tag xs start ++ ts) (ap (value_places_behind (λ p. []) n tag y place) e ∙ append-nil (value_places n tag y v))
+    ∙ ap (λ (ts : List TextPlace). values_places params bytes n tag xs start ++ ts) (ap (value_places_behind (λ p. []) n tag y place) e ∙ append-nil (value_places n tag y place v))
 
 -- values, one after another
 values-run : (base : UnitBase) (cells : List Cell) (s : UnitState) (start e d n tag : ℕ) (xs rest : List Spec) (place : ℕ)
-    → SpellsValues s.header.params (unit_bytes s cells) start xs place
-    → PlacedRun base cells (inside s start e d n tag (xs ++ rest)) (inside s place e d n tag rest) start place (values_places s.header.params (unit_bytes s cells) n tag xs start)
-values-run base cells s start e d n tag xs rest place no_values = placed-none base cells (inside s start e d n tag rest) (inside s start e d n tag rest) start refl
-values-run base cells s start e d n tag xs rest z (more_values ys y place v spells is) =
+    → s.header.params.order ≡ base.order → SpellsValues s.header.params (unit_bytes s cells) start xs place
+    → PlacedRun base cells s.section s.unit (inside s start e d n tag (xs ++ rest)) (inside s place e d n tag rest) start place (values_places s.header.params (unit_bytes s cells) n tag xs start)
+values-run base cells s start e d n tag xs rest place order no_values = placed-none base cells s.section s.unit (inside s start e d n tag rest) (inside s start e d n tag rest) start refl
+values-run base cells s start e d n tag xs rest z order (more_values ys y place v spells is) =
     let bytes : List ℕ = unit_bytes s cells in
-    let front = values-run base cells s start e d n tag ys (y ∷ rest) place spells in
-    let all = placed-more base cells (inside s start e d n tag (ys ++ y ∷ rest)) (inside s place e d n tag (y ∷ rest)) (inside s (place + v.size) e d n tag rest)
-    start place (place + v.size) (values_places s.header.params (unit_bytes s cells) n tag ys start) (value_places n tag y v)
-    front (placed-value base cells s place e d n tag y rest v is) in
-    let said = subst (λ (ts : List TextPlace). PlacedRun base cells (inside s start e d n tag (ys ++ y ∷ rest)) (inside s (place + v.size) e d n tag rest) start (place + v.size) ts)
+    let front = values-run base cells s start e d n tag ys (y ∷ rest) place order spells in
+    let all = placed-more base cells s.section s.unit (inside s start e d n tag (ys ++ y ∷ rest)) (inside s place e d n tag (y ∷ rest)) (inside s (place + v.size) e d n tag rest)
+    start place (place + v.size) (values_places s.header.params (unit_bytes s cells) n tag ys start) (value_places n tag y place v)
+    front (placed-value base cells s place e d n tag y rest v order is) in
+    let said = subst (λ (ts : List TextPlace). PlacedRun base cells s.section s.unit (inside s start e d n tag (ys ++ y ∷ rest)) (inside s (place + v.size) e d n tag rest) start (place + v.size) ts)
     (sym (values_places-more s.header.params (unit_bytes s cells) n tag start place ys y v spells is)) all in
-    subst (λ (zs : List Spec). PlacedRun base cells (inside s start e d n tag zs) (inside s (place + v.size) e d n tag rest) start (place + v.size)
+    subst (λ (zs : List Spec). PlacedRun base cells s.section s.unit (inside s start e d n tag zs) (inside s (place + v.size) e d n tag rest) start (place + v.size)
     (values_places s.header.params (unit_bytes s cells) n tag (ys ++ y ∷ []) start))
     (sym (append_assoc ys (y ∷ []) rest)) said
 
@@ -112,7 +112,7 @@ not_end s cells place code size e end =
 
 -- a null
 null-run : (base : UnitBase) (cells : List Cell) (s : UnitState) (place e d size : ℕ) → uleb_at (unit_bytes s cells) place ≡ Some (0, size)
-    → PlacedRun base cells (between s place e d) (between s (place + size) e (d - 1)) place (place + size) []
+    → PlacedRun base cells s.section s.unit (between s place e d) (between s (place + size) e (d - 1)) place (place + size) []
 unfolding after_code
 null-run base cells s place e d size is =
     let c : NumberPiece s cells place 0 size = number-piece s cells place 0 size is in
@@ -127,13 +127,13 @@ null-run base cells s place e d size is =
     ap (after_code (in_unit s place e d at_code) (place + length (take size (drop place cells)))) c.value
     ∙ between-same s place e d at_code (place + length (take size (drop place cells))) e (d - 1)
     ∙ ap (λ (m : ℕ). between s (place + m) e (d - 1)) c.size in
-    subst (λ (t : UnitState). PlacedRun base cells t (between s (place + size) e (d - 1)) place (place + size) []) (sym (between-code s place e d (not_end s cells place 0 size is)))
-    (placed-one base cells (in_unit s place e d at_code) (between s (place + size) e (d - 1)) place size [] fits next refl)
+    subst (λ (t : UnitState). PlacedRun base cells s.section s.unit t (between s (place + size) e (d - 1)) place (place + size) []) (sym (between-code s place e d (not_end s cells place 0 size is)))
+    (placed-one base cells (in_unit s place e d at_code) (between s (place + size) e (d - 1)) place size [] fits next refl tt)
 
 -- the code of an entry
 code-run : (base : UnitBase) (cells : List Cell) (s : UnitState) (place e d code size : ℕ) (a : Abbreviation)
     → uleb_at (unit_bytes s cells) place ≡ Some (code, size) → code ≢ 0 → abbreviation_of s.table code ≡ Some a → is_split_root e a ≡ false
-    → PlacedRun base cells (between s place e d) (inside s (place + size) (e + 1) (depth_behind a d) e a.tag a.specs) place (place + size) []
+    → PlacedRun base cells s.section s.unit (between s place e d) (inside s (place + size) (e + 1) (depth_behind a d) e a.tag a.specs) place (place + size) []
 unfolding after_code
 code-run base cells s place e d code size a is some listed root =
     let c : NumberPiece s cells place code size = number-piece s cells place code size is in
@@ -154,9 +154,9 @@ code-run base cells s place e d code size a is some listed root =
     ∙ entry_next
     ∙ inside-same s place e d at_code (place + length (take size (drop place cells))) (e + 1) (depth_behind a d) e a.tag a.specs
     ∙ ap (λ (m : ℕ). inside s (place + m) (e + 1) (depth_behind a d) e a.tag a.specs) c.size in
-    subst (λ (u : UnitState). PlacedRun base cells u (inside s (place + size) (e + 1) (depth_behind a d) e a.tag a.specs) place (place + size) [])
+    subst (λ (u : UnitState). PlacedRun base cells s.section s.unit u (inside s (place + size) (e + 1) (depth_behind a d) e a.tag a.specs) place (place + size) [])
     (sym (between-code s place e d (not_end s cells place code size is)))
-    (placed-one base cells (in_unit s place e d at_code) (inside s (place + size) (e + 1) (depth_behind a d) e a.tag a.specs) place size [] fits next refl)
+    (placed-one base cells (in_unit s place e d at_code) (inside s (place + size) (e + 1) (depth_behind a d) e a.tag a.specs) place size [] fits next refl tt)
 
 -- the places of an entry are those of its values
 pub entry_places-is : (params : Params) (table : List Abbreviation) (bytes : List ℕ) (n place depth after : ℕ) (a : Abbreviation) → (is : IsEntry params table bytes place a after)
@@ -167,18 +167,18 @@ entry_places-is params table bytes n place depth after a is =
 
 -- an entry
 entry-run : (base : UnitBase) (cells : List Cell) (s : UnitState) (place e d after : ℕ) (a : Abbreviation)
-    → IsEntry s.header.params s.table (unit_bytes s cells) place a after → is_split_root e a ≡ false
-    → PlacedRun base cells (between s place e d) (between s after (e + 1) (depth_behind a d)) place after
+    → s.header.params.order ≡ base.order → IsEntry s.header.params s.table (unit_bytes s cells) place a after → is_split_root e a ≡ false
+    → PlacedRun base cells s.section s.unit (between s place e d) (between s after (e + 1) (depth_behind a d)) place after
     (entry_places s.header.params s.table (unit_bytes s cells) e (scanned place d a after))
-entry-run base cells s place e d after a is root =
+entry-run base cells s place e d after a order is root =
     let ts : List TextPlace = values_places s.header.params (unit_bytes s cells) e a.tag a.specs (place + is.size) in
     let front = code-run base cells s place e d is.code is.size a is.spells is.some is.listed root in
-    let back : PlacedRun base cells (inside s (place + is.size) (e + 1) (depth_behind a d) e a.tag a.specs) (between s after (e + 1) (depth_behind a d)) (place + is.size) after ts =
-    subst (λ (zs : List Spec). PlacedRun base cells (inside s (place + is.size) (e + 1) (depth_behind a d) e a.tag zs) (between s after (e + 1) (depth_behind a d)) (place + is.size) after ts)
-    (append-nil a.specs) (values-run base cells s (place + is.size) (e + 1) (depth_behind a d) e a.tag a.specs [] after is.values) in
-    subst (λ (us : List TextPlace). PlacedRun base cells (between s place e d) (between s after (e + 1) (depth_behind a d)) place after us)
+    let back : PlacedRun base cells s.section s.unit (inside s (place + is.size) (e + 1) (depth_behind a d) e a.tag a.specs) (between s after (e + 1) (depth_behind a d)) (place + is.size) after ts =
+    subst (λ (zs : List Spec). PlacedRun base cells s.section s.unit (inside s (place + is.size) (e + 1) (depth_behind a d) e a.tag zs) (between s after (e + 1) (depth_behind a d)) (place + is.size) after ts)
+    (append-nil a.specs) (values-run base cells s (place + is.size) (e + 1) (depth_behind a d) e a.tag a.specs [] after order is.values) in
+    subst (λ (us : List TextPlace). PlacedRun base cells s.section s.unit (between s place e d) (between s after (e + 1) (depth_behind a d)) place after us)
     (sym (entry_places-is s.header.params s.table (unit_bytes s cells) e place d after a is))
-    (placed-more base cells (between s place e d) (inside s (place + is.size) (e + 1) (depth_behind a d) e a.tag a.specs) (between s after (e + 1) (depth_behind a d))
+    (placed-more base cells s.section s.unit (between s place e d) (inside s (place + is.size) (e + 1) (depth_behind a d) e a.tag a.specs) (between s after (e + 1) (depth_behind a d))
     place (place + is.size) after [] ts front back)
 
 -- the places of entries, and of one more
@@ -194,25 +194,25 @@ entries_places-more params table bytes n (y ∷ ys) x =
 
 -- entries, one after another
 pub scan-placed : (base : UnitBase) (cells : List Cell) (s : UnitState) (items : List Scanned) (place depth : ℕ)
-    → Scans s.header s.table (unit_bytes s cells) items place depth
-    → PlacedRun base cells (between s s.header.first 0 0) (between s place (length items) depth) s.header.first place
+    → s.header.params.order ≡ base.order → Scans s.header s.table (unit_bytes s cells) items place depth
+    → PlacedRun base cells s.section s.unit (between s s.header.first 0 0) (between s place (length items) depth) s.header.first place
     (entries_places s.header.params s.table (unit_bytes s cells) 0 items)
-scan-placed base cells s items place depth starts = placed-none base cells (between s s.header.first 0 0) (between s s.header.first 0 0) s.header.first refl
-scan-placed base cells s all z y (null items place depth size scans is) =
+scan-placed base cells s items place depth order starts = placed-none base cells s.section s.unit (between s s.header.first 0 0) (between s s.header.first 0 0) s.header.first refl
+scan-placed base cells s all z y order (null items place depth size scans is) =
     let ts : List TextPlace = entries_places s.header.params s.table (unit_bytes s cells) 0 all in
-    subst (λ (us : List TextPlace). PlacedRun base cells (between s s.header.first 0 0) (between s (place + size) (length all) (depth - 1)) s.header.first (place + size) us)
+    subst (λ (us : List TextPlace). PlacedRun base cells s.section s.unit (between s s.header.first 0 0) (between s (place + size) (length all) (depth - 1)) s.header.first (place + size) us)
     (append-nil ts)
-    (placed-more base cells (between s s.header.first 0 0) (between s place (length items) depth) (between s (place + size) (length items) (depth - 1))
-    s.header.first place (place + size) ts [] (scan-placed base cells s items place depth scans) (null-run base cells s place (length items) depth size is))
-scan-placed base cells s all z y (entry items place depth after a scans is root) =
+    (placed-more base cells s.section s.unit (between s s.header.first 0 0) (between s place (length items) depth) (between s (place + size) (length items) (depth - 1))
+    s.header.first place (place + size) ts [] (scan-placed base cells s items place depth order scans) (null-run base cells s place (length items) depth size is))
+scan-placed base cells s all z y order (entry items place depth after a scans is root) =
     let x : Scanned = scanned place depth a after in
     let ts : List TextPlace = entries_places s.header.params s.table (unit_bytes s cells) 0 items in
     let count : length (items ++ scanned place depth a after ∷ []) ≡ length items + 1 = length-append items (scanned place depth a after ∷ []) in
-    let run = placed-more base cells (between s s.header.first 0 0) (between s place (length items) depth) (between s after (length items + 1) (depth_behind a depth))
+    let run = placed-more base cells s.section s.unit (between s s.header.first 0 0) (between s place (length items) depth) (between s after (length items + 1) (depth_behind a depth))
     s.header.first place after ts (entry_places s.header.params s.table (unit_bytes s cells) (length items) x)
-    (scan-placed base cells s items place depth scans) (entry-run base cells s place (length items) depth after a is root) in
-    subst (λ (us : List TextPlace). PlacedRun base cells (between s s.header.first 0 0) (between s after (length (items ++ x ∷ [])) (depth_behind a depth)) s.header.first after us)
+    (scan-placed base cells s items place depth order scans) (entry-run base cells s place (length items) depth after a order is root) in
+    subst (λ (us : List TextPlace). PlacedRun base cells s.section s.unit (between s s.header.first 0 0) (between s after (length (items ++ x ∷ [])) (depth_behind a depth)) s.header.first after us)
     (sym (entries_places-more s.header.params s.table (unit_bytes s cells) 0 items x
     ∙ ap (λ (n : ℕ). ts ++ entry_places s.header.params s.table (unit_bytes s cells) n x) (omega arith)))
-    (subst (λ (n : ℕ). PlacedRun base cells (between s s.header.first 0 0) (between s after n (depth_behind a depth)) s.header.first after
+    (subst (λ (n : ℕ). PlacedRun base cells s.section s.unit (between s s.header.first 0 0) (between s after n (depth_behind a depth)) s.header.first after
     (ts ++ entry_places s.header.params s.table (unit_bytes s cells) (length items) x)) (sym count) run)

@@ -1,5 +1,5 @@
 -- A pass over the values of an entry, value by value.
-use Rattle.std.proofs.Common.{Bool, true, false, ◌≡◌, ◌⊎◌, inl, inr, ℕ, suc, ◌+◌, ◌≤◌, ◌<◌, List, [], ◌∷◌, ◌++◌, length, take, drop, get_or, Option, Some, None, IsTrue, refl, sym, ap, ◌∙◌, subst, arith, append_assoc, append-nil}
+use Rattle.std.proofs.Common.{true, ◌≡◌, ◌⊎◌, inl, inr, ℕ, suc, ◌+◌, ◌≤◌, ◌<◌, List, [], ◌∷◌, ◌++◌, length, take, drop, get_or, Option, Some, None, refl, sym, ap, ◌∙◌, subst, arith, append_assoc, append-nil}
 use Rattle.std.proofs.Math.Seq.{take-length, take-suc, drop-cons}
 use Rattle.std.proofs.lemmas.List.{drop_all, take-append-drop}
 use Rattle.dw_base.specs.EntryScans.{SpellsValues, no_values, more_values, value as value_fails}
@@ -15,12 +15,13 @@ use Rattle.dw_base.specs.declared.fault.Refusal.{Refusal}
 use Rattle.dw_base.specs.declared.shared.Params.{Params}
 use Rattle.dw_base.specs.declared.values.Spec.{Spec}
 use Rattle.dw_base.specs.declared.values.Value.{Value}
-use Rattle.dw_rewrite.specs.EntryTexts.{Tables, OffsetSized, with_places, IsTaken, TakenBehind, AreTaken, ValueRefuses, OneRefuses, none, some, ValuesRefuse, fails, value, ValueTaken}
+use Rattle.dw_rewrite.specs.EntryTexts.{Tables, Found, OffsetSized, with_base, with_paths, with_places, TakenBehind, AreTaken, ValueRefuses, OneRefuses, none, some, ValuesRefuse, fails, value, ValueTaken}
 use Rattle.dw_rewrite.specs.EntryTexts.ValueRefuses.{str, line_str, unbuilt}
-use Rattle.dw_rewrite.specs.TextPlaces.{TextPlace, fields_in, inline_in, value_places, value_places_behind, values_places}
+use Rattle.dw_rewrite.specs.TextPlaces.{TextPlace, Indexed, no_index, unit_base, text_index, base_in, base_or, fields_in, index_at, indexes_in, inline_in, value_places, value_places_behind, values_places}
 use Rattle.dw_rewrite.specs.UnitPaths.{UnitPaths}
 use Rattle.dw_rewrite.specs.declared.fields.InlinePath.{InlinePath}
 use Rattle.dw_rewrite.specs.declared.fields.PathField.{PathField}
+use Rattle.dw_rewrite.specs.declared.fields.TextIndex.{TextIndex}
 use Rattle.dw_rewrite.proofs.FoundLaws.{fields-append, inline-append}
 use Rattle.dw_rewrite.proofs.ValueFactLaws.{value-inside, value-sized}
 
@@ -31,11 +32,9 @@ small-field n (inr eight) = omega (arith, eight)
 
 pub ruleset field_rules = (small-field)
 
-pub ruleset note_rules = (str, line_str, append-nil)
-
 -- a value that isn't taken yet
 pub unbuilt-here : (t : Tables) (params : Params) (bytes : List ℕ) (section place : ℕ) (x : Spec) (v : Value) → value_at params x bytes place ≡ Some v
-    → is_unbuilt_value x v ≡ true → OneRefuses t params bytes section place x (at Unbuilt 0 0)
+    → is_unbuilt_value x ≡ true → OneRefuses t params bytes section place x (at Unbuilt 0 0)
 unbuilt-here t params bytes section place x v is yes_ = some v is (unbuilt yes_)
 
 pub refused-here : (t : Tables) (params : Params) (bytes : List ℕ) (section place : ℕ) (x : Spec) (v : Value) (f : Fault) → value_at params x bytes place ≡ Some v
@@ -82,10 +81,10 @@ one-refused : (t : Tables) (params : Params) (bytes : List ℕ) (section from : 
 one-refused t params bytes section from specs before behind x place r cut spells (none f) = fails (value_fails before behind x place cut spells f)
 one-refused t params bytes section from specs before behind x place r cut spells (some v is f) = value before behind x place v cut spells is f
 
--- what was found, with more behind, and with more again
-pub with_places-more : (u : UnitPaths) (ts us : List TextPlace) → with_places (with_places u ts) us ≡ with_places u (ts ++ us)
-unfolding with_places
-with_places-more u ts us =
+-- paths, with more behind, and with more again
+pub with_paths-more : (u : UnitPaths) (ts us : List TextPlace) → with_paths (with_paths u ts) us ≡ with_paths u (ts ++ us)
+unfolding with_paths
+with_paths-more u ts us =
     ap (λ (fs : List PathField). record { number = u.number; str = fs; line_str = (u.line_str ++ fields_in in_line_str ts) ++ fields_in in_line_str us; inline = (u.inline ++ inline_in ts) ++ inline_in us })
     (append_assoc u.str (fields_in in_str ts) (fields_in in_str us) ∙ ap (λ (fs : List PathField). u.str ++ fs) (sym (fields-append in_str ts us)))
     ∙ ap (λ (fs : List PathField). record { number = u.number; str = u.str ++ fields_in in_str (ts ++ us); line_str = fs; inline = (u.inline ++ inline_in ts) ++ inline_in us })
@@ -93,43 +92,92 @@ with_places-more u ts us =
     ∙ ap (λ (ps : List InlinePath). record { number = u.number; str = u.str ++ fields_in in_str (ts ++ us); line_str = u.line_str ++ fields_in in_line_str (ts ++ us); inline = ps })
     (append_assoc u.inline (inline_in ts) (inline_in us) ∙ ap (λ (ps : List InlinePath). u.inline ++ ps) (sym (inline-append ts us)))
 
-pub with_places-none : (u : UnitPaths) → with_places u [] ≡ u
-unfolding with_places
-with_places-none u =
+pub with_paths-none : (u : UnitPaths) → with_paths u [] ≡ u
+unfolding with_paths
+with_paths-none u =
     ap (λ (fs : List PathField). record { number = u.number; str = fs; line_str = u.line_str ++ []; inline = u.inline ++ [] }) (append-nil u.str)
     ∙ ap (λ (fs : List PathField). record { number = u.number; str = u.str; line_str = fs; inline = u.inline ++ [] }) (append-nil u.line_str)
     ∙ ap (λ (ps : List InlinePath). record { number = u.number; str = u.str; line_str = u.line_str; inline = ps }) (append-nil u.inline)
 
+-- the base and the values by index
+abbrev with_or : Option ℕ → Option ℕ → Option ℕ
+with_or None o = o
+with_or (Some n) o = Some n
+
+base_or-append : (i : Indexed) (a b : Option ℕ) → with_or (base_or i a) b ≡ base_or i (with_or a b)
+base_or-append no_index a b = refl
+base_or-append (unit_base n) a b = refl
+base_or-append (text_index path n) a b = refl
+
+base_in-append : (ts us : List TextPlace) → base_in (ts ++ us) ≡ with_or (base_in ts) (base_in us)
+base_in-append [] us = refl
+base_in-append (t ∷ ts) us = ap (base_or t.says) (base_in-append ts us) ∙ sym (base_or-append t.says (base_in ts) (base_in us))
+
+pub with_base-more : (b : Option ℕ) (ts us : List TextPlace) → with_base (with_base b ts) us ≡ with_base b (ts ++ us)
+with_base-more (Some n) ts us = refl
+with_base-more None ts us = by_first (base_in ts) refl
+  where
+    by_first : (o : Option ℕ) → base_in ts ≡ o → with_base (base_in ts) us ≡ base_in (ts ++ us)
+    by_first None e = ap (λ (x : Option ℕ). with_base x us) e ∙ sym (base_in-append ts us ∙ ap (λ (x : Option ℕ). with_or x (base_in us)) e)
+    by_first (Some n) e = ap (λ (x : Option ℕ). with_base x us) e ∙ sym (base_in-append ts us ∙ ap (λ (x : Option ℕ). with_or x (base_in us)) e)
+
+pub with_base-none : (b : Option ℕ) → with_base b [] ≡ b
+with_base-none None = refl
+with_base-none (Some n) = refl
+
+pub indexes-append : (ts us : List TextPlace) → indexes_in (ts ++ us) ≡ indexes_in ts ++ indexes_in us
+indexes-append [] us = refl
+indexes-append (t ∷ ts) us =
+    ap (λ (xs : List TextIndex). index_at t.at t.says ++ xs) (indexes-append ts us) ∙ sym (append_assoc (index_at t.at t.says) (indexes_in ts) (indexes_in us))
+
+-- what was found, with more behind, and with more again
+pub with_places-more : (f : Found) (ts us : List TextPlace) → with_places (with_places f ts) us ≡ with_places f (ts ++ us)
+unfolding with_places
+with_places-more f ts us =
+    ap (λ (u : UnitPaths). record { paths = u; base = with_base (with_base f.base ts) us; indexes = (f.indexes ++ indexes_in ts) ++ indexes_in us }) (with_paths-more f.paths ts us)
+    ∙ ap (λ (b : Option ℕ). record { paths = with_paths f.paths (ts ++ us); base = b; indexes = (f.indexes ++ indexes_in ts) ++ indexes_in us }) (with_base-more f.base ts us)
+    ∙ ap (λ (xs : List TextIndex). record { paths = with_paths f.paths (ts ++ us); base = with_base f.base (ts ++ us); indexes = xs })
+    (append_assoc f.indexes (indexes_in ts) (indexes_in us) ∙ ap (λ (xs : List TextIndex). f.indexes ++ xs) (sym (indexes-append ts us)))
+
+pub with_places-none : (f : Found) → with_places f [] ≡ f
+unfolding with_places
+with_places-none f =
+    ap (λ (u : UnitPaths). record { paths = u; base = with_base f.base []; indexes = f.indexes ++ [] }) (with_paths-none f.paths)
+    ∙ ap (λ (b : Option ℕ). record { paths = f.paths; base = b; indexes = f.indexes ++ [] }) (with_base-none f.base)
+    ∙ ap (λ (xs : List TextIndex). record { paths = f.paths; base = f.base; indexes = xs }) (append-nil f.indexes)
+
+pub ruleset note_rules = (str, line_str, append-nil, with_base-none)
+
 -- where a pass over the values of an entry stands: behind so many attributes, at a place, with what was found. Those passed
 -- stand before the place; what was found with the places of the others behind is what the whole entry gives; and if the
 -- others can be taken, all can.
-pub record ValuesPassed (t : Tables) (params : Params) (bytes : List ℕ) (number tag : ℕ) (specs : List Spec) (from i place : ℕ) (old now : UnitPaths) : Type 0 where
+pub record ValuesPassed (t : Tables) (params : Params) (bytes : List ℕ) (number tag : ℕ) (specs : List Spec) (from i place : ℕ) (old now : Found) : Type 0 where
   pub spells : SpellsValues params bytes from (take i specs) place
   pub found : with_places now (values_places params bytes number tag (drop i specs) place) ≡ with_places old (values_places params bytes number tag specs from)
   pub taken : AreTaken t params bytes (drop i specs) place → AreTaken t params bytes specs from
 
-pub passed-none : (t : Tables) (params : Params) (bytes : List ℕ) (number tag : ℕ) (specs : List Spec) (from : ℕ) (old : UnitPaths)
+pub passed-none : (t : Tables) (params : Params) (bytes : List ℕ) (number tag : ℕ) (specs : List Spec) (from : ℕ) (old : Found)
     → ValuesPassed t params bytes number tag specs from 0 from old old
 passed-none t params bytes number tag specs from old = record { spells = no_values; found = refl; taken = λ h. h }
 
 -- one value more
-pub passed-more : (t : Tables) (params : Params) (bytes : List ℕ) (number tag : ℕ) (specs : List Spec) (from i place size : ℕ) (x : Spec) (old now new : UnitPaths)
+pub passed-more : (t : Tables) (params : Params) (bytes : List ℕ) (number tag : ℕ) (specs : List Spec) (from i place size : ℕ) (x : Spec) (old now new : Found)
     → i < length specs → x ≡ get_or specs i x → ValuesPassed t params bytes number tag specs from i place old now
     → ValueTaken t params bytes number tag x place size now new
     → ValuesPassed t params bytes number tag specs from (i + 1) (place + size) old new
 passed-more t params bytes number tag specs from i place size x old now new lt here p v =
     let front : drop i specs ≡ x ∷ drop (i + 1) specs = spec_front specs x i lt here in
     let behind : take (i + 1) specs ≡ take i specs ++ x ∷ [] = spec_behind specs x i lt here in
-    let said : values_places params bytes number tag (drop i specs) place ≡ value_places number tag x v.value ++ values_places params bytes number tag (drop (i + 1) specs) (place + v.value.size) =
+    let said : values_places params bytes number tag (drop i specs) place ≡ value_places number tag x place v.value ++ values_places params bytes number tag (drop (i + 1) specs) (place + v.value.size) =
     ap (λ (xs : List Spec). values_places params bytes number tag xs place) front
     ∙ ap (value_places_behind (λ p. values_places params bytes number tag (drop (i + 1) specs) p) number tag x place) v.is in
     record {
       spells = subst (λ (xs : List Spec). SpellsValues params bytes from xs (place + size)) (sym behind)
           (subst (λ (n : ℕ). SpellsValues params bytes from (take i specs ++ x ∷ []) (place + n)) (sym v.size_is) (more_values (take i specs) x place v.value p.spells v.is));
       found =
-          ap (λ (u : UnitPaths). with_places u (values_places params bytes number tag (drop (i + 1) specs) (place + size))) v.found
-          ∙ with_places-more now (value_places number tag x v.value) (values_places params bytes number tag (drop (i + 1) specs) (place + size))
-          ∙ ap (λ (n : ℕ). with_places now (value_places number tag x v.value ++ values_places params bytes number tag (drop (i + 1) specs) (place + n))) v.size_is
+          ap (λ (u : Found). with_places u (values_places params bytes number tag (drop (i + 1) specs) (place + size))) v.found
+          ∙ with_places-more now (value_places number tag x place v.value) (values_places params bytes number tag (drop (i + 1) specs) (place + size))
+          ∙ ap (λ (n : ℕ). with_places now (value_places number tag x place v.value ++ values_places params bytes number tag (drop (i + 1) specs) (place + n))) v.size_is
           ∙ ap (with_places now) (sym said) ∙ p.found;
       taken = λ h. p.taken (subst (λ (xs : List Spec). AreTaken t params bytes xs place) (sym front)
           (subst (λ (o : Option Value). TakenBehind (λ p. AreTaken t params bytes (drop (i + 1) specs) p) t x place o) (sym v.is)
@@ -137,18 +185,18 @@ passed-more t params bytes number tag specs from i place size x old now new lt h
     }
 
 -- all of them
-pub passed-found : (t : Tables) (params : Params) (bytes : List ℕ) (number tag : ℕ) (specs : List Spec) (from i place : ℕ) (old now : UnitPaths) → length specs ≤ i
+pub passed-found : (t : Tables) (params : Params) (bytes : List ℕ) (number tag : ℕ) (specs : List Spec) (from i place : ℕ) (old now : Found) → length specs ≤ i
     → ValuesPassed t params bytes number tag specs from i place old now → now ≡ with_places old (values_places params bytes number tag specs from)
 passed-found t params bytes number tag specs from i place old now end p =
     sym (with_places-none now) ∙ ap (λ (xs : List Spec). with_places now (values_places params bytes number tag xs place)) (sym (drop_all i specs end)) ∙ p.found
 
-pub passed-taken : (t : Tables) (params : Params) (bytes : List ℕ) (number tag : ℕ) (specs : List Spec) (from i place : ℕ) (old now : UnitPaths) → length specs ≤ i
+pub passed-taken : (t : Tables) (params : Params) (bytes : List ℕ) (number tag : ℕ) (specs : List Spec) (from i place : ℕ) (old now : Found) → length specs ≤ i
     → ValuesPassed t params bytes number tag specs from i place old now → AreTaken t params bytes specs from
 passed-taken t params bytes number tag specs from i place old now end p =
     p.taken (subst (λ (xs : List Spec). AreTaken t params bytes xs place) (sym (drop_all i specs end)) tt)
 
 -- why one can't be taken is why the entry can't
-pub passed-refused : (t : Tables) (params : Params) (bytes : List ℕ) (section number tag : ℕ) (specs : List Spec) (from i place : ℕ) (x : Spec) (old now : UnitPaths) (f : Fault)
+pub passed-refused : (t : Tables) (params : Params) (bytes : List ℕ) (section number tag : ℕ) (specs : List Spec) (from i place : ℕ) (x : Spec) (old now : Found) (f : Fault)
     → i < length specs → x ≡ get_or specs i x → ValuesPassed t params bytes number tag specs from i place old now
     → Blames (OneRefuses t params bytes section place x) f → Blames (ValuesRefuse t params bytes section from specs) f
 passed-refused t params bytes section number tag specs from i place x old now NoMemory lt here p b = tt

@@ -1,18 +1,16 @@
 -- How the calls on a whole file end: what they refuse has a row, and what they give is the output of a file that is taken.
-use Rattle.std.proofs.Common.{Bool, true, false, ◌≡◌, ◌≢◌, ℕ, ◌<◌, ◌≤◌, ◌==◌, ◌||◌, List, length, cond, if◌then◌else◌, Option, Some, None, IsTrue, sym, ap, ◌∙◌, refl, subst, arith}
-use Rattle.std.proofs.lemmas.Bool.{eq-eqb, ne_eqb, true≢false}
-use Rattle.dw_meaning.specs.DataFails.{InlineFails}
-use Rattle.dw_meaning.specs.DataOutput.{Body, DataFits, DataReads, new_bodies}
-use Rattle.dw_base.specs.DebugData.{around_of, table_of}
-use Rattle.dw_base.specs.Readings.{Readings}
-use Rattle.dw_base.specs.DebugSectionFails.{DebugSectionsFail, is_active}
-use Rattle.dw_base.specs.DebugSections.{debug_section, name_of}
+use Rattle.std.proofs.Common.{Bool, true, false, ◌≡◌, ◌≢◌, ℕ, ◌<◌, ◌≤◌, List, length, if◌then◌else◌, sym, ap, ◌∙◌, refl, subst, arith}
+use Rattle.std.proofs.lemmas.Bool.{true≢false}
+use Rattle.dw_meaning.specs.DataOutput.{Body, DataReads, new_bodies}
+use Rattle.dw_base.specs.DebugData.{DataReadings, around_of, table_of}
+use Rattle.dw_base.specs.DebugSectionFails.{DebugSectionsFail}
+use Rattle.dw_base.specs.DebugSections.{name_of}
 use Rattle.dw_meaning.specs.EditRows.{EditFails, IsAccepted}
-use Rattle.dw_meaning.specs.EditRows.EditFails.{file, inline, output}
-use Rattle.dw_base.specs.Elf.{contents_of, e_type, is_empty_kind, nth_section, section_count, section_name}
+use Rattle.dw_meaning.specs.EditRows.EditFails.{file, inline, output, shared}
+use Rattle.dw_base.specs.Elf.{contents_of, is_empty_kind, nth_section, section_count}
 use Rattle.dw_base.specs.ElfFails.{ElfFails, ElfReads}
-use Rattle.dw_meaning.specs.FileFails.{FileFails, UnbuiltFile, is_unbuilt_section}
-use Rattle.dw_meaning.specs.FileFails.FileFails.{elf, sections, units as units_row, texts as texts_row, unbuilt as unbuilt_row}
+use Rattle.dw_meaning.specs.FileFails.{FileFails, UnbuiltFile}
+use Rattle.dw_meaning.specs.FileFails.FileFails.{elf, sections, units as units_row, texts as texts_row, string_tables as string_tables_row, slots as slots_row, name_tables as name_tables_row, unbuilt as unbuilt_row}
 use Rattle.dw_meaning.specs.FileFails.UnbuiltFile.{relocatable, section as section_row, value as value_row}
 use Rattle.dw_meaning.specs.FileMeanings.{FileReads, IsOutput, MeaningKept, file_data, new_body, output_of}
 use Rattle.dw_base.specs.FileViews.{View, view_of}
@@ -27,15 +25,14 @@ use Rattle.dw_meaning.specs.Loaded.{LoadedKept}
 use Rattle.dw_base.specs.Paths.{IsPathMap, PathMap}
 use Rattle.dw_base.specs.Refusals.{Blames, at}
 use Rattle.dw_base.specs.ViewData.{debug_data}
-use Rattle.dw_base.specs.declared.debug_sections.DebugSection.TheVariants.{Str, LineStr}
-use Rattle.dw_base.specs.declared.elf_numbers.TheConstants.{ET_DYN, ET_EXEC, ET_REL}
+use Rattle.dw_base.specs.declared.debug_sections.DebugSection.TheVariants.{LineStr}
 use Rattle.dw_base.specs.declared.fault.Fault.{Fault}
 use Rattle.dw_base.specs.declared.fault.Fault.TheVariants.{NoMemory, Refused}
 use Rattle.dw_base.specs.declared.fault.Kind.TheVariants.{Fixed, TooLarge}
 use Rattle.dw_base.specs.declared.fault.Refusal.{Refusal}
 use Rattle.dw_meaning.proofs.DataOneLaws.{data-one}
 use Rattle.dw_meaning.proofs.FileBackLaws.{build_id-back}
-use Rattle.dw_meaning.proofs.FileKeptLaws.{CanMap, body-line, body-str, file-back, line-place, str-place, tables-apart}
+use Rattle.dw_meaning.proofs.FileKeptLaws.{CanMap, body-line, body-str, file-back, line-place, tables-apart}
 use Rattle.dw_meaning.proofs.FileMeaningLaws.{file-meaning}
 use Rattle.dw_base.proofs.LayoutLaws.{fixed_end-within}
 use Rattle.dw_base.proofs.ReadsBackLaws.{reads_back-same, with_bodies-same}
@@ -43,11 +40,11 @@ use Rattle.dw_base.proofs.SectionLaws.{length-contents}
 use Rattle.dw_meaning.proofs.TableKeptLaws.{TablePlace, nowhere, lies_at}
 use Rattle.dw_rewrite.specs.Bodies.{BodiesMade, BodiesRefuse, PathsFound, PathsRefuse, long_table}
 use Rattle.dw_rewrite.specs.Bodies.BodiesRefuse.{long_table_of}
-use Rattle.dw_rewrite.specs.Bodies.PathsRefuse.{units as paths_units, inline as paths_inline}
+use Rattle.dw_rewrite.specs.Bodies.PathsRefuse.{units as paths_units, inline as paths_inline, string_tables as paths_string_tables, name_tables as paths_name_tables, slots as paths_slots, shared as paths_shared}
 use Rattle.dw_rewrite.specs.Judged.{IsJudged}
-use Rattle.dw_rewrite.specs.Rewritten.{AllStand, IsInFile, body_with, long_fault, long_refusal}
+use Rattle.dw_rewrite.specs.Rewritten.{AllStand, IsInFile, body_with, long_fault}
 use Rattle.dw_rewrite.specs.UnitPaths.{UnitPaths}
-use Rattle.dw_rewrite.specs.UnitTexts.{HasUnbuilt, UnitsRefuse}
+use Rattle.dw_rewrite.specs.UnitTexts.{HasUnbuilt}
 use Rattle.dw_rewrite.specs.UnitTexts.UnitsRefuse.{data_fails, text_fails, unbuilt as value_unbuilt}
 use Rattle.dw_rewrite.proofs.BodyLaws.{bodies-same, bodies-stand, made-stand}
 use Rattle.dw_meaning.proofs.LoadedLaws.{loaded-kept}
@@ -71,41 +68,45 @@ refused_file m b r f h is = subst (λ (x : Fault). Blames (EditFails m b) x) (sy
 
 pub ruleset elf_rules = (refused_view, refused_file)
 
--- Units that can't be taken, and paths that would grow, are rows.
-units_fail : (m : PathMap) (b : List ℕ) (r : Refusal) → ElfReads b → PathsRefuse m (file_data b) r → EditFails m b r
-units_fail m b r reads (paths_units (data_fails h)) = file (units_row reads h)
-units_fail m b r reads (paths_units (text_fails h)) = file (texts_row reads h)
-units_fail m b _ reads (paths_units (value_unbuilt u)) =
+-- What can't be read of debug data, paths that would grow, and slots that are shared are rows.
+data_fail : (m : PathMap) (b : List ℕ) (r : Refusal) → ElfReads b → PathsRefuse m (view_of b) r → EditFails m b r
+data_fail m b r reads (paths_units (data_fails h)) = file (units_row reads h)
+data_fail m b r reads (paths_units (text_fails h)) = file (texts_row reads h)
+data_fail m b _ reads (paths_units (value_unbuilt u)) =
     file (unbuilt_row (value_row u.section u.header u.table u.number u.abbreviation u.spec u.place u.value reads u.there u.stands u.unbuilt))
-units_fail m b r reads (paths_inline h) = inline reads h
+data_fail m b r reads (paths_inline h) = inline reads h
+data_fail m b r reads (paths_string_tables h) = file (string_tables_row reads h)
+data_fail m b r reads (paths_name_tables h) = file (name_tables_row reads h)
+data_fail m b r reads (paths_slots h) = file (slots_row reads h)
+data_fail m b r reads (paths_shared readings i h) = shared readings reads i h
 
-pub refused_paths : (m : PathMap) (b : List ℕ) (v : View) (f : Fault) → IsJudged b → v ≡ view_of b → Blames (PathsRefuse m (debug_data v)) f → Blames (EditFails m b) f
+pub refused_paths : (m : PathMap) (b : List ℕ) (v : View) (f : Fault) → IsJudged b → v ≡ view_of b → Blames (PathsRefuse m v) f → Blames (EditFails m b) f
 refused_paths m b v NoMemory j is h = tt
-refused_paths m b v (Refused r) j is h = units_fail m b r j.elf (subst (λ (w : View). PathsRefuse m (debug_data w) r) is h)
+refused_paths m b v (Refused r) j is h = data_fail m b r j.elf (subst (λ (w : View). PathsRefuse m w r) is h)
 
-pub found_paths : (m : PathMap) (b : List ℕ) (v : View) (us : List UnitPaths) → v ≡ view_of b → PathsFound m (debug_data v) us → PathsFound m (file_data b) us
-found_paths m b v us is h = subst (λ (w : View). PathsFound m (debug_data w) us) is h
+pub found_paths : (m : PathMap) (b : List ℕ) (v : View) (us : List UnitPaths) → v ≡ view_of b → PathsFound m v us → PathsFound m (view_of b) us
+found_paths m b v us is h = subst (λ (w : View). PathsFound m w us) is h
 
 pub ruleset paths_rules = (refused_paths, found_paths)
 
 -- A file whose debug data can be read reads as a whole.
-reads_judged : (b : List ℕ) (r : Readings) → IsJudged b → DataReads (file_data b) r → FileReads b r
+reads_judged : (b : List ℕ) (r : DataReadings) → IsJudged b → DataReads (file_data b) r → FileReads b r
 reads_judged b r j reads = record { elf = j.elf; kind = j.kind; names = j.names; data_reads = reads }
 
-pub seen_paths : (m : PathMap) (b : List ℕ) (v : View) (us : List UnitPaths) → v ≡ view_of b → PathsFound m (file_data b) us → PathsFound m (debug_data v) us
-seen_paths m b v us is h = subst (λ (w : View). PathsFound m (debug_data w) us) (sym is) h
+pub seen_paths : (m : PathMap) (b : List ℕ) (v : View) (us : List UnitPaths) → v ≡ view_of b → PathsFound m (view_of b) us → PathsFound m v us
+seen_paths m b v us is h = subst (λ (w : View). PathsFound m w us) (sym is) h
 
 pub made_bodies : (m : PathMap) (b : List ℕ) (v : View) (bodies : List Body) → v ≡ view_of b → BodiesMade m (debug_data v) bodies → BodiesMade m (file_data b) bodies
 made_bodies m b v bodies is h = subst (λ (w : View). BodiesMade m (debug_data w) bodies) is h
 
 -- A table of texts that is too long may not change where it stays, and makes the file too long where it moves.
 -- the table is that of a section, with bytes, and these are its new ones
-record IsTableBody (m : PathMap) (b : List ℕ) (r : Readings) (table : TextSection) (i : ℕ) : Type 0 where
+record IsTableBody (m : PathMap) (b : List ℕ) (r : DataReadings) (table : TextSection) (i : ℕ) : Type 0 where
   within : i < section_count b
   full : is_empty_kind (nth_section b i) ≡ false
   body : new_body m b r i ≡ long_table m (file_data b) r table
 
-table_body : (m : PathMap) (b : List ℕ) (r : Readings) (table : TextSection) → DataReads (file_data b) r
+table_body : (m : PathMap) (b : List ℕ) (r : DataReadings) (table : TextSection) → DataReads (file_data b) r
     → (table_of (around_of (file_data b) r) table).number ≢ 0
     → IsTableBody m b r table (table_of (around_of (file_data b) r) table).number
 unfolding new_bodies
@@ -120,7 +121,7 @@ table_body m b r in_line_str reads some =
     apart (nowhere zero none) = absurd (some zero)
     apart (lies_at there within named bytes) = tables-apart b there named
 
-long_at : (m : PathMap) (b : List ℕ) (r : Readings) (table : TextSection) (i : ℕ) → length b ≤ output_limit → IsJudged b → IsTableBody m b r table i
+long_at : (m : PathMap) (b : List ℕ) (r : DataReadings) (table : TextSection) (i : ℕ) → length b ≤ output_limit → IsJudged b → IsTableBody m b r table i
     → output_limit < length (long_table m (file_data b) r table) → (fixed : Bool) → is_fixed b (nth_section b i) ≡ fixed
     → LayoutFails b (new_body m b r) (if fixed then at Fixed i 0 else at TooLarge 0 0)
 unfolding part_of

@@ -20,15 +20,14 @@ use Rattle.dw_base.specs.declared.shared.Order.{Order}
 use Rattle.dw_base.proofs.FileViewLaws.{section_after-within}
 use Rattle.dw_base.proofs.TextLaws.{ends_in-inside}
 use Rattle.dw_rewrite.specs.Changes.{OffsetTable, ArePathFields, IsPathField, AreNoted, Knows, Remembers, texts_at}
-use Rattle.dw_rewrite.specs.NewTables.{as_table, offsets_in, plan_in, table_number, fields_of, info_of, HasPaths, section_texts_at, all_texts_at, IsSectionNoted, AllNoted, Growing, GrownBy, TableMade, table_with, fault_at, LongTable, long_table}
-use Rattle.dw_rewrite.specs.TextPlaces.{AllPlaced}
+use Rattle.dw_rewrite.specs.NewTables.{as_table, offsets_in, plan_in, table_number, fields_of, info_of, HasPaths, AllHavePaths, section_texts_at, all_texts_at, IsSectionNoted, AllNoted, Growing, GrownBy, TableMade, table_with, fault_at, LongTable, long_table}
 use Rattle.dw_rewrite.specs.UnitPaths.{UnitPaths}
 use Rattle.dw_rewrite.specs.declared.fields.PathField.{PathField}
 use Rattle.dw_rewrite.specs.declared.tables.TextsOf.{TextsOf}
 use Rattle.dw_rewrite.specs.declared.tables.TextsOf.TheVariants.{Str, LineStr}
 use Rattle.dw_rewrite.proofs.ChangedLaws.{length-texts_at, knows_nothing}
-use Rattle.dw_rewrite.proofs.PlaceValueLaws.{EachOf, each-of}
-use Rattle.dw_rewrite.proofs.SectionFactLaws.{SectionFacts, all-facts, has-paths, paths-fields}
+use Rattle.dw_rewrite.proofs.PlaceValueLaws.{EachOf, each-get}
+use Rattle.dw_rewrite.proofs.SectionFactLaws.{paths-fields}
 
 -- the table of a section of texts, as the code has it
 pub same-offsets : (v : View) (t : TextsOf) (order : Order) (bytes : List ℕ) → order ≡ v.order → bytes ≡ (offsets_in v (as_table t)).bytes
@@ -102,20 +101,25 @@ no-number v LineStr e = by_found (section_named v (name_of line_str_section)) re
     by_found None f e = refl
     by_found (Some i) f e = let above = (section_after-within v (name_of line_str_section) 0 i f).0 in absurd (omega (arith, above, e))
 
-all-paths : (v : View) (us : List UnitPaths) → AllPlaced (debug_data v) (debug_data v).units us → EachOf (HasPaths v) us
-all-paths v us placed = each-of (SectionFacts v) (HasPaths v) us (λ (u : UnitPaths) f. has-paths v u f) (all-facts v [] (debug_data v).units us refl placed)
+-- each of sections that have paths has them
+pub each-has : (v : View) (us : List UnitPaths) → AllHavePaths v us → EachOf (HasPaths v) us
+each-has v [] all = tt
+each-has v (u ∷ us) all = (all.0, each-has v us all.1)
 
-long-there : (m : PathMap) (v : View) (t : TextsOf) (us : List UnitPaths) → AllPlaced (debug_data v) (debug_data v).units us
+pub has-at : (v : View) (us : List UnitPaths) (i : ℕ) (u : UnitPaths) → AllHavePaths v us → i < length us → u ≡ get_or us i u → HasPaths v u
+has-at v us i u all lt is = subst (HasPaths v) (sym is) (each-get (HasPaths v) us i u lt (each-has v us all))
+
+long-there : (m : PathMap) (v : View) (t : TextsOf) (us : List UnitPaths) → AllHavePaths v us
     → output_limit < length (table_bytes (table_with v (as_table t) (all_texts_at m v (as_table t) [] us))) → table_number (debug_data v) (as_table t) ≢ 0
 long-there m v t us placed over zero_ =
     let none : (offsets_in v (as_table t)).bytes ≡ [] = no-number v t zero_ in
-    let texts : all_texts_at m v (as_table t) [] us ≡ [] = no-texts m v (as_table t) [] us none (all-paths v us placed) in
+    let texts : all_texts_at m v (as_table t) [] us ≡ [] = no-texts m v (as_table t) [] us none (each-has v us placed) in
     let same : table_bytes (table_with v (as_table t) (all_texts_at m v (as_table t) [] us)) ≡ [] =
     ap (λ (ts : List (List ℕ)). (offsets_in v (as_table t)).bytes ++ laid_texts ts) texts ∙ ap (λ (b : List ℕ). b ++ laid_texts []) none in
     omega (arith, over, ap length same)
 
 -- the row of a table that is too long
-pub table-row : (m : PathMap) (v : View) (t : TextsOf) (us : List UnitPaths) (f g : Fault) (n : ℕ) → AllPlaced (debug_data v) (debug_data v).units us
+pub table-row : (m : PathMap) (v : View) (t : TextsOf) (us : List UnitPaths) (f g : Fault) (n : ℕ) → AllHavePaths v us
     → Blames (TooLong (length (table_bytes (table_with v (as_table t) (all_texts_at m v (as_table t) [] us))))) f
     → n ≡ table_number (debug_data v) (as_table t) → g ≡ fault_at f n → Blames (LongTable m v (as_table t) us) g
 table-row m v t us NoMemory g n placed b number is = subst (Blames (LongTable m v (as_table t) us)) (sym is) tt

@@ -8,6 +8,8 @@ pub mod UnitWrittenLaws
 pub mod ValuePlaceLaws
 pub mod ValueRunLaws
 pub mod EntryRunLaws
+pub mod HeaderLaws
+pub mod IndexRunLaws
 pub mod SectionRunLaws
 pub mod FoundLaws
 pub mod ValueFactLaws
@@ -15,6 +17,7 @@ pub mod EntryTextLaws
 pub mod UnitTextLaws
 pub mod ScanTextLaws
 pub mod TakenLaws
+pub mod SlotRunLaws
 pub mod RowLaws
 pub mod SectionTextLaws
 pub mod UnitRowLaws
@@ -28,10 +31,15 @@ pub mod ValueTextLaws
 pub mod PlaceValueLaws
 pub mod BuiltLaws
 pub mod SectionOrderLaws
+pub mod IndexedLaws
 pub mod TableLaws
 pub mod SectionFactLaws
 pub mod RoomFitLaws
 pub mod GrowthLaws
 pub mod SectionBytesLaws
+pub mod SlotWrittenLaws
+pub mod SlotPathLaws
+pub mod PushLaws
 pub mod NewBodyLaws
+pub mod FoundPathLaws
 pub mod SharedLaws

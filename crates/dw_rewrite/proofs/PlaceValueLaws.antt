@@ -15,6 +15,7 @@ use Rattle.dw_base.specs.Numbers.{spelled}
 use Rattle.dw_base.specs.Paths.{PathMap}
 use Rattle.dw_base.specs.Refusals.{at as refusal_at}
 use Rattle.dw_base.specs.Roles.{Role, fixed, offset, inline_path, is_path}
+use Rattle.dw_base.specs.TextIndexes.{is_base}
 use Rattle.dw_base.specs.Texts.{text_in, ends_in}
 use Rattle.dw_base.specs.UnitHeaders.{UnitBase, UnitSection, UnitsUpTo, no_units, more_units}
 use Rattle.dw_base.specs.Values.{value_at}
@@ -26,7 +27,7 @@ use Rattle.dw_base.specs.declared.units.UnitHeader.{UnitHeader}
 use Rattle.dw_base.specs.declared.values.Spec.{Spec}
 use Rattle.dw_base.specs.declared.values.Value.{Value}
 use Rattle.dw_base.specs.declared.values.ValueClass.{ValueClass}
-use Rattle.dw_base.specs.declared.values.ValueClass.TheVariants.{InlineText, StrOffset, LineStrOffset}
+use Rattle.dw_base.specs.declared.values.ValueClass.TheVariants.{InlineText, Number, StrOffset, LineStrOffset, StrIndex, SecOffset}
 use Rattle.dw_base.proofs.PlainCellLaws.{IsPlain, offset_of-plain}
 use Rattle.dw_meaning.proofs.ScanPieceLaws.{part-bytes, before-end, bytes_of-take, bytes_of-drop}
 use Rattle.std.proofs.lemmas.List.{length-take, length-take-le, length-drop}
@@ -34,12 +35,13 @@ use Rattle.dw_base.proofs.UnitEditLaws.{length-bytes_of}
 use Rattle.dw_rewrite.specs.Changes.{IsPathField, ArePathFields}
 use Rattle.dw_rewrite.specs.InlineRooms.{AreRooms, grows, Grows, one}
 use Rattle.dw_rewrite.specs.NewTables.{offsets_of}
-use Rattle.dw_rewrite.specs.TextPlaces.{TextPlace, class_places, value_places, value_places_behind, values_places, entry_places, entries_places, UnitsPlaced, none_placed, more_placed, PlaceNames, PlacesName, fields_in, inline_at, inline_in}
+use Rattle.dw_rewrite.specs.TextPlaces.{TextPlace, no_index, unit_base, text_index, UnitSays, class_places, value_places, value_places_behind, values_places, entry_places, entries_places, UnitsPlaced, none_placed, more_placed, PlaceNames, PlacesName, fields_in, inline_at, inline_in}
 use Rattle.dw_rewrite.specs.UnitPaths.{field_by, inline_text}
 use Rattle.dw_rewrite.specs.declared.fields.InlinePath.{InlinePath}
 use Rattle.dw_rewrite.specs.declared.fields.PathField.{PathField}
 use Rattle.dw_rewrite.proofs.EntryRunLaws.{entries_places-more}
-use Rattle.dw_rewrite.proofs.TakenLaws.{plain-at, number-at_place}
+use Rattle.dw_rewrite.proofs.TakenLaws.{plain-at}
+use Rattle.dw_rewrite.proofs.ValueRunLaws.{number-at_place}
 use Rattle.dw_rewrite.proofs.UnitTextLaws.{places-given}
 use Rattle.dw_rewrite.proofs.UnitWrittenLaws.{text-front}
 use Rattle.dw_rewrite.proofs.ValueFactLaws.{OffsetRead, OffsetFacts, value-facts}
@@ -71,19 +73,25 @@ pub record ValueBehind (h : UnitHeader) (table : List Abbreviation) (bytes : Lis
   pub place : ℕ
   pub value : Value
   pub stands : HasValue h table bytes number abbreviation spec place value
-  pub is : value_places number abbreviation.tag spec value ≡ t ∷ []
+  pub is : value_places number abbreviation.tag spec place value ≡ t ∷ []
 
-class-each : (P : TextPlace → Type 0) (c : ValueClass) (b : Bool) (v : Value) → ((t : TextPlace) → class_places c b v ≡ t ∷ [] → P t) → EachOf P (class_places c b v)
-class-each P StrOffset b v f = (f _ refl, tt)
-class-each P LineStrOffset b v f = (f _ refl, tt)
-class-each P InlineText true v f = (f _ refl, tt)
-class-each P InlineText false v f = tt
-class-each P c b v f = tt
+class-each : (P : TextPlace → Type 0) (c : ValueClass) (b base : Bool) (place : ℕ) (v : Value)
+    → ((t : TextPlace) → class_places c b base place v ≡ t ∷ [] → P t) → EachOf P (class_places c b base place v)
+class-each P StrOffset b base place v f = (f _ refl, tt)
+class-each P LineStrOffset b base place v f = (f _ refl, tt)
+class-each P InlineText true base place v f = (f _ refl, tt)
+class-each P InlineText false base place v f = tt
+class-each P StrIndex b base place v f = (f _ refl, tt)
+class-each P Number b true place v f = (f _ refl, tt)
+class-each P Number b false place v f = tt
+class-each P SecOffset b true place v f = (f _ refl, tt)
+class-each P SecOffset b false place v f = tt
+class-each P c b base place v f = tt
 
 value-each : (h : UnitHeader) (table : List Abbreviation) (bytes : List ℕ) (number : ℕ) (a : Abbreviation) (x : Spec) (place : ℕ) (v : Value)
-    → HasValue h table bytes number a x place v → EachOf (ValueBehind h table bytes) (value_places number a.tag x v)
+    → HasValue h table bytes number a x place v → EachOf (ValueBehind h table bytes) (value_places number a.tag x place v)
 value-each h table bytes number a x place v has =
-    class-each (ValueBehind h table bytes) v.class (is_path number a.tag x.name) v
+    class-each (ValueBehind h table bytes) v.class (is_path number a.tag x.name) (is_base number x.name) place v
     (λ (t : TextPlace) e. record { number = number; abbreviation = a; spec = x; place = place; value = v; stands = has; is = e })
 
 -- an entry whose values are met
@@ -106,7 +114,7 @@ values-each h table bytes items start depth code size a before (x ∷ xs) place 
         → EachOf (ValueBehind h table bytes) (value_places_behind (λ p. values_places h.params bytes (length items) a.tag xs p) (length items) a.tag x place o)
     by_value None is rest = tt
     by_value (Some v) is rest =
-        each-append (ValueBehind h table bytes) (value_places (length items) a.tag x v) (values_places h.params bytes (length items) a.tag xs (place + v.size))
+        each-append (ValueBehind h table bytes) (value_places (length items) a.tag x place v) (values_places h.params bytes (length items) a.tag xs (place + v.size))
         (value-each h table bytes (length items) a x place v (record {
           items = items;
           start = start;
@@ -152,17 +160,18 @@ pub record PlaceOf (d : DebugData) (z : UnitSection) (t : TextPlace) : Type 0 wh
   pub there : HasTable d z header table
   pub behind : ValueBehind header table (bytes_up_to z header) t
 
-pub placed-units : (base : UnitBase) (z : UnitSection) (list : List UnitHeader) (place : ℕ) (ts : List TextPlace) → UnitsPlaced base z list place ts → UnitsUpTo base z list place
-placed-units base z list place ts none_placed = no_units
-placed-units base z all y us (more_placed list h start places table items p u t e) = more_units list h start (placed-units base z list start places p) u
+pub placed-units : (base : UnitBase) (z : UnitSection) (list : List UnitHeader) (place : ℕ) (ts : List TextPlace) (us : List UnitSays) → UnitsPlaced base z list place ts us
+    → UnitsUpTo base z list place
+placed-units base z list place ts us none_placed = no_units
+placed-units base z all y xs ys (more_placed list h start places units table items p u t e) = more_units list h start (placed-units base z list start places units p) u
 
-pub section-each : (d : DebugData) (z : UnitSection) (before behind : List UnitSection) (list : List UnitHeader) (place : ℕ) (ts : List TextPlace) → d.units ≡ before ++ z ∷ behind
-    → UnitsPlaced d.base z list place ts → EachOf (PlaceOf d z) ts
-section-each d z before behind list place ts split none_placed = tt
-section-each d z before behind all y us split (more_placed list h start places table items p u t e) =
+pub section-each : (d : DebugData) (z : UnitSection) (before behind : List UnitSection) (list : List UnitHeader) (place : ℕ) (ts : List TextPlace) (us : List UnitSays) → d.units ≡ before ++ z ∷ behind
+    → UnitsPlaced d.base z list place ts us → EachOf (PlaceOf d z) ts
+section-each d z before behind list place ts us split none_placed = tt
+section-each d z before behind all y xs ys split (more_placed list h start places units table items p u t e) =
     let there : HasTable d z h table =
-    record { unit = record { before = before; behind = behind; sections = split; list = list; start = start; units = placed-units d.base z list start places p; is = u }; declares = t } in
-    each-append (PlaceOf d z) places (entries_places h.params table (bytes_up_to z h) 0 items) (section-each d z before behind list start places split p)
+    record { unit = record { before = before; behind = behind; sections = split; list = list; start = start; units = placed-units d.base z list start places units p; is = u }; declares = t } in
+    each-append (PlaceOf d z) places (entries_places h.params table (bytes_up_to z h) 0 items) (section-each d z before behind list start places units split p)
     (each-of (ValueBehind h table (bytes_up_to z h)) (PlaceOf d z) (entries_places h.params table (bytes_up_to z h) 0 items)
     (λ (x : TextPlace) b. record { header = h; table = table; there = there; behind = b })
     (entries-each h table (bytes_up_to z h) items h.end 0 e))
@@ -206,17 +215,17 @@ field-place z h v t r at len = record {
 none-one : (t : TextPlace) → [] ≡ t ∷ [] → ⊥
 none-one t e = omega (arith, ap length e)
 
-class-facts : (c : ValueClass) (b : Bool) (d : DebugData) (z : UnitSection) (h : UnitHeader) (table : List Abbreviation) (number : ℕ) (a : Abbreviation) (x : Spec) (place : ℕ) (v : Value) (t : TextPlace)
+class-facts : (c : ValueClass) (b base : Bool) (d : DebugData) (z : UnitSection) (h : UnitHeader) (table : List Abbreviation) (number : ℕ) (a : Abbreviation) (x : Spec) (place : ℕ) (v : Value) (t : TextPlace)
     → HasTable d z h table → HasValue h table (bytes_up_to z h) number a x place v → v.class ≡ c → is_path number a.tag x.name ≡ b
-    → OffsetFacts c h.params (bytes_up_to z h) v → class_places c b v ≡ t ∷ [] → RoleFacts t.role d z t
-class-facts StrOffset b d z h table number a x place v t there has class path facts e =
-    let same : record { role = offset in_str b; at = v.at; len = v.len } ≡ t = once _ t e in
+    → OffsetFacts c h.params (bytes_up_to z h) v → class_places c b base place v ≡ t ∷ [] → RoleFacts t.role d z t
+class-facts StrOffset b base d z h table number a x place v t there has class path facts e =
+    let same : record { role = offset in_str b; at = v.at; len = v.len; says = no_index } ≡ t = once _ t e in
     subst (λ (s : TextPlace). RoleFacts s.role d z s) same (field-place z h v _ facts refl refl)
-class-facts LineStrOffset b d z h table number a x place v t there has class path facts e =
-    let same : record { role = offset in_line_str b; at = v.at; len = v.len } ≡ t = once _ t e in
+class-facts LineStrOffset b base d z h table number a x place v t there has class path facts e =
+    let same : record { role = offset in_line_str b; at = v.at; len = v.len; says = no_index } ≡ t = once _ t e in
     subst (λ (s : TextPlace). RoleFacts s.role d z s) same (field-place z h v _ facts refl refl)
-class-facts InlineText true d z h table number a x place v t there has class path facts e =
-    let same : record { role = inline_path; at = v.at; len = v.len + 1 } ≡ t = once _ t e in
+class-facts InlineText true base d z h table number a x place v t there has class path facts e =
+    let same : record { role = inline_path; at = v.at; len = v.len + 1; says = no_index } ≡ t = once _ t e in
     subst (λ (s : TextPlace). RoleFacts s.role d z s) same (record {
       header = h;
       table = table;
@@ -232,13 +241,21 @@ class-facts InlineText true d z h table number a x place v t there has class pat
       at_is = refl;
       len_is = omega arith;
     })
-class-facts InlineText false d z h table number a x place v t there has class path facts e = absurd (none-one t e)
-class-facts c b d z h table number a x place v t there has class path facts e = absurd (none-one t e)
+class-facts InlineText false base d z h table number a x place v t there has class path facts e = absurd (none-one t e)
+class-facts StrIndex b base d z h table number a x place v t there has class path facts e =
+    subst (λ (s : TextPlace). RoleFacts s.role d z s) (once (record { role = fixed; at = place; len = 0; says = text_index b v.number }) t e) tt
+class-facts Number b true d z h table number a x place v t there has class path facts e =
+    subst (λ (s : TextPlace). RoleFacts s.role d z s) (once (record { role = fixed; at = place; len = 0; says = unit_base v.number }) t e) tt
+class-facts Number b false d z h table number a x place v t there has class path facts e = absurd (none-one t e)
+class-facts SecOffset b true d z h table number a x place v t there has class path facts e =
+    subst (λ (s : TextPlace). RoleFacts s.role d z s) (once (record { role = fixed; at = place; len = 0; says = unit_base v.number }) t e) tt
+class-facts SecOffset b false d z h table number a x place v t there has class path facts e = absurd (none-one t e)
+class-facts c b base d z h table number a x place v t there has class path facts e = absurd (none-one t e)
 
 pub place-facts : (d : DebugData) (z : UnitSection) (t : TextPlace) → PlaceOf d z t → RoleFacts t.role d z t
 place-facts d z t p =
     let b = p.behind in
-    class-facts b.value.class (is_path b.number b.abbreviation.tag b.spec.name) d z p.header p.table b.number b.abbreviation b.spec b.place b.value t p.there b.stands refl refl
+    class-facts b.value.class (is_path b.number b.abbreviation.tag b.spec.name) (is_base b.number b.spec.name) d z p.header p.table b.number b.abbreviation b.spec b.place b.value t p.there b.stands refl refl
     (value-facts p.header.params b.spec (bytes_up_to z p.header) b.place b.value b.stands.is).offset b.is
 
 -- the offset in a field of plain cells

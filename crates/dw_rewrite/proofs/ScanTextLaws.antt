@@ -23,9 +23,8 @@ use Rattle.dw_meaning.proofs.ValueCutLaws.{uleb-inside}
 use Rattle.dw_entries.specs.ScanStates.{ScanState, scan_start, HasGiven, GivesEntry, GivesRefusal, GivesNothing, Gives}
 use Rattle.dw_entries.specs.ViewUnits.{unit_section_at}
 use Rattle.dw_entries.proofs.HasUnitLaws.{IsUnitOfView, unit-of-view}
-use Rattle.dw_rewrite.specs.EntryTexts.{Tables, with_places}
+use Rattle.dw_rewrite.specs.EntryTexts.{Tables, Found, with_places}
 use Rattle.dw_rewrite.specs.TextPlaces.{entry_places, entries_places}
-use Rattle.dw_rewrite.specs.UnitPaths.{UnitPaths}
 use Rattle.dw_rewrite.specs.UnitTexts.{IsGiven, EntryTaken, EntriesTaken, EntryRefuses, ScanTaken, UnitRefuses, entries, entry}
 use Rattle.dw_rewrite.proofs.EntryRunLaws.{entries_places-more}
 use Rattle.dw_rewrite.proofs.EntryTextLaws.{with_places-more, with_places-none}
@@ -101,7 +100,7 @@ scans-room h table bytes all z d (an_entry items place depth after a s is root) 
     (omega (arith, before.0, some, values.0, length-append items (scanned place depth a after ∷ [])), values.1)
 
 -- where a pass stands: it gave these entries, which were taken
-pub record PassStands (t : Tables) (h : UnitHeader) (table : List Abbreviation) (bytes : List ℕ) (old now : UnitPaths) (s : ScanState) (number : ℕ) : Type 0 where
+pub record PassStands (t : Tables) (h : UnitHeader) (table : List Abbreviation) (bytes : List ℕ) (old now : Found) (s : ScanState) (number : ℕ) : Type 0 where
   pub items : List Scanned
   pub given : HasGiven s items
   pub unit_is : s.unit ≡ h
@@ -112,7 +111,7 @@ pub record PassStands (t : Tables) (h : UnitHeader) (table : List Abbreviation) 
   pub found : now ≡ with_places old (entries_places h.params table bytes 0 items)
   pub taken : EntriesTaken t h.params table bytes items
 
-pub pass-starts : (t : Tables) (h : UnitHeader) (table : List Abbreviation) (bytes : List ℕ) (old : UnitPaths) (s : ScanState) → s ≡ scan_start h table bytes
+pub pass-starts : (t : Tables) (h : UnitHeader) (table : List Abbreviation) (bytes : List ℕ) (old : Found) (s : ScanState) → s ≡ scan_start h table bytes
     → PassStands t h table bytes old old s 0
 pass-starts t h table bytes old s is =
     subst (λ (x : ScanState). PassStands t h table bytes old old x 0) (sym is) (record {
@@ -128,14 +127,14 @@ pass-starts t h table bytes old s is =
     })
 
 -- so many entries are few
-pub pass-few : (t : Tables) (h : UnitHeader) (table : List Abbreviation) (bytes : List ℕ) (old now : UnitPaths) (s : ScanState) (number : ℕ)
+pub pass-few : (t : Tables) (h : UnitHeader) (table : List Abbreviation) (bytes : List ℕ) (old now : Found) (s : ScanState) (number : ℕ)
     → PassStands t h table bytes old now s number → h.first ≤ length bytes → number ≤ length bytes
 pass-few t h table bytes old now s number p le =
     let scans : Scans h table bytes p.items s.place s.depth = own-scans t h table bytes old now s number p in
     let room = scans-room h table bytes p.items s.place s.depth scans le in
     omega (arith, p.count, room.0, room.1)
   where
-    own-scans : (t : Tables) (h : UnitHeader) (table : List Abbreviation) (bytes : List ℕ) (old now : UnitPaths) (s : ScanState) (number : ℕ)
+    own-scans : (t : Tables) (h : UnitHeader) (table : List Abbreviation) (bytes : List ℕ) (old now : Found) (s : ScanState) (number : ℕ)
         → (p : PassStands t h table bytes old now s number) → Scans h table bytes p.items s.place s.depth
     own-scans t h table bytes old now s number p =
         subst (λ (x : UnitHeader). Scans x table bytes p.items s.place s.depth) p.unit_is
@@ -149,7 +148,7 @@ taken-more t params table bytes [] e all one = (one, tt)
 taken-more t params table bytes (x ∷ xs) e all one = (all.0, taken-more t params table bytes xs e all.1 one)
 
 -- one entry more
-pub pass-more : (t : Tables) (h : UnitHeader) (table : List Abbreviation) (bytes : List ℕ) (old now new : UnitPaths) (s u : ScanState) (number : ℕ) (e : Scanned)
+pub pass-more : (t : Tables) (h : UnitHeader) (table : List Abbreviation) (bytes : List ℕ) (old now new : Found) (s u : ScanState) (number : ℕ) (e : Scanned)
     → PassStands t h table bytes old now s number → GivesEntry s e u → new ≡ with_places now (entry_places h.params table bytes number e)
     → EntryTaken t h.params table bytes e → PassStands t h table bytes old new u (number + 1)
 pass-more t h table bytes old now new s u number e p g found taken = record {
@@ -162,14 +161,14 @@ pass-more t h table bytes old now new s u number e p g found taken = record {
   count = (let before = p.count in omega (arith, before, length-append p.items (e ∷ [])));
   found =
       found ∙ ap (λ (n : ℕ). with_places now (entry_places h.params table bytes n e)) (p.count ∙ omega arith)
-      ∙ ap (λ (x : UnitPaths). with_places x (entry_places h.params table bytes (0 + length p.items) e)) p.found
+      ∙ ap (λ (x : Found). with_places x (entry_places h.params table bytes (0 + length p.items) e)) p.found
       ∙ with_places-more old (entries_places h.params table bytes 0 p.items) (entry_places h.params table bytes (0 + length p.items) e)
       ∙ ap (with_places old) (sym (entries_places-more h.params table bytes 0 p.items e));
   taken = taken-more t h.params table bytes p.items e p.taken taken;
 }
 
 -- the entry that the pass gives, behind those before it
-last-of : (t : Tables) (h : UnitHeader) (table : List Abbreviation) (bytes : List ℕ) (old now : UnitPaths) (s u : ScanState) (number : ℕ) (e : Scanned)
+last-of : (t : Tables) (h : UnitHeader) (table : List Abbreviation) (bytes : List ℕ) (old now : Found) (s u : ScanState) (number : ℕ) (e : Scanned)
     → (p : PassStands t h table bytes old now s number) → GivesEntry s e u → LastEntry h table bytes p.items e
 last-of t h table bytes old now s u number e p g =
     let more : HasGiven u (p.items ++ e ∷ []) = g.more p.items p.given in
@@ -182,14 +181,14 @@ last-of t h table bytes old now s u number e p g =
     (subst (λ (x : List ℕ). Scans u.unit u.table x (p.items ++ e ∷ []) u.place u.depth) own more.scans)) in
     last-entry h table bytes (p.items ++ e ∷ []) p.items e u.place u.depth scans refl
 
-pub pass-given : (t : Tables) (h : UnitHeader) (table : List Abbreviation) (bytes : List ℕ) (old now : UnitPaths) (s u : ScanState) (number : ℕ) (e : Scanned)
+pub pass-given : (t : Tables) (h : UnitHeader) (table : List Abbreviation) (bytes : List ℕ) (old now : Found) (s u : ScanState) (number : ℕ) (e : Scanned)
     → PassStands t h table bytes old now s number → GivesEntry s e u → IsGiven h.params table bytes e
 pass-given t h table bytes old now s u number e p g =
     let last : LastEntry h table bytes p.items e = last-of t h table bytes old now s u number e p g in
     record { abbreviation = last.abbreviation; entry = last.is }
 
 -- an entry that can't be taken
-pub pass-refused : (t : Tables) (h : UnitHeader) (table : List Abbreviation) (bytes : List ℕ) (old now : UnitPaths) (s u : ScanState) (number : ℕ) (e : Scanned) (f : Fault)
+pub pass-refused : (t : Tables) (h : UnitHeader) (table : List Abbreviation) (bytes : List ℕ) (old now : Found) (s u : ScanState) (number : ℕ) (e : Scanned) (f : Fault)
     → PassStands t h table bytes old now s number → GivesEntry s e u → Blames (EntryRefuses t h.params table bytes h.section e) f
     → Blames (UnitRefuses t h table bytes) f
 pass-refused t h table bytes old now s u number e NoMemory p g b = tt
@@ -198,7 +197,7 @@ pass-refused t h table bytes old now s u number e (Refused r) p g b =
     entry p.items e last.depth last.abbreviation last.scans last.is b
 
 -- entries that can't be read
-pub pass-fails : (t : Tables) (h : UnitHeader) (table : List Abbreviation) (bytes : List ℕ) (old now : UnitPaths) (s u : ScanState) (number : ℕ) (r : Refusal)
+pub pass-fails : (t : Tables) (h : UnitHeader) (table : List Abbreviation) (bytes : List ℕ) (old now : Found) (s u : ScanState) (number : ℕ) (r : Refusal)
     → PassStands t h table bytes old now s number → GivesRefusal s r u → UnitRefuses t h table bytes r
 pass-fails t h table bytes old now s u number r p g =
     entries (subst (λ (x : UnitHeader). EntryFails x table bytes r) p.unit_is
@@ -206,7 +205,7 @@ pass-fails t h table bytes old now s u number r p g =
     (subst (λ (x : List ℕ). EntryFails s.unit s.table x r) p.bytes_are (g.fails p.items p.given))))
 
 -- the end of the pass
-pub pass-ends : (t : Tables) (h : UnitHeader) (table : List Abbreviation) (bytes : List ℕ) (old now : UnitPaths) (s u : ScanState) (number : ℕ)
+pub pass-ends : (t : Tables) (h : UnitHeader) (table : List Abbreviation) (bytes : List ℕ) (old now : Found) (s u : ScanState) (number : ℕ)
     → PassStands t h table bytes old now s number → GivesNothing s u → ScanTaken t h table bytes old now
 pass-ends t h table bytes old now s u number p g = record {
   items = p.items;
@@ -263,7 +262,7 @@ unit-length v h bs u is =
 pub unit-small : (h : UnitHeader) (bs : List ℕ) → length bs ≤ 2 ^ 31 → length (take h.end bs) ≤ 2 ^ 31
 unit-small h bs small = omega (arith, small, length-take h.end bs)
 
-pub unit-taken : (t : Tables) (v : View) (h : UnitHeader) (table : List Abbreviation) (bs : List ℕ) (old new : UnitPaths)
+pub unit-taken : (t : Tables) (v : View) (h : UnitHeader) (table : List Abbreviation) (bs : List ℕ) (old new : Found)
     → HasUnit (debug_data v) (unit_section_at v h.section) h → bs ≡ section_bytes v h.section → ScanTaken t h table (take h.end bs) old new
     → ScanTaken t h table (bytes_up_to (unit_section_at v h.section) h) old new
 unit-taken t v h table bs old new u is s = subst (λ (x : List ℕ). ScanTaken t h table x old new) (unit-bytes v h bs u is) s

@@ -8,15 +8,13 @@ use Rattle.dw_base.specs.Forms.{in_str, in_line_str}
 use Rattle.dw_base.specs.InlinePaths.{inline_fits}
 use Rattle.dw_base.specs.Paths.{PathMap}
 use Rattle.dw_base.specs.Refusals.{Blames}
-use Rattle.dw_base.specs.UnitHeaders.{UnitSection}
-use Rattle.dw_base.specs.ViewData.{debug_data}
 use Rattle.dw_base.specs.declared.fault.Fault.{Fault}
 use Rattle.dw_base.specs.declared.fault.Fault.TheVariants.{NoMemory, Refused}
 use Rattle.dw_base.specs.declared.fault.Refusal.{Refusal}
 use Rattle.dw_rewrite.specs.Changes.{OffsetTable, ArePathFields, IsPathField, offset_at, with_known, with_all_known}
 use Rattle.dw_rewrite.specs.InlineRooms.{grows, Grows, one}
-use Rattle.dw_rewrite.specs.NewTables.{as_table, offsets_in, fields_of, info_of, HasPaths, section_known, body_known, bodies_known}
-use Rattle.dw_rewrite.specs.TextPlaces.{InlinesFit, AllFitRooms, AllPlaced}
+use Rattle.dw_rewrite.specs.NewTables.{as_table, offsets_in, fields_of, info_of, HasPaths, AllRoomsFit, section_known, body_known, bodies_known}
+use Rattle.dw_rewrite.specs.TextPlaces.{InlinesFit}
 use Rattle.dw_rewrite.specs.UnitPaths.{UnitPaths, inline_text, inlined}
 use Rattle.dw_rewrite.specs.declared.fields.InlinePath.{InlinePath}
 use Rattle.dw_rewrite.specs.declared.fields.PathField.{PathField}
@@ -24,7 +22,7 @@ use Rattle.dw_rewrite.specs.declared.tables.TextsOf.{TextsOf}
 use Rattle.dw_rewrite.proofs.ChangedLaws.{length-with_known}
 use Rattle.dw_rewrite.proofs.GrowthLaws.{moved}
 use Rattle.dw_rewrite.proofs.PlaceValueLaws.{EachOf, each-get}
-use Rattle.dw_rewrite.proofs.SectionFactLaws.{FitsIn, says-bytes, paths-fields}
+use Rattle.dw_rewrite.proofs.SectionFactLaws.{FitsIn, paths-fields}
 
 -- fields keep the length of the bytes
 rest-fields : (o : OffsetTable) (info : List ℕ) (f : PathField) (fs : List PathField) → ArePathFields o info (f ∷ fs) → ArePathFields o info fs
@@ -68,19 +66,12 @@ pub memory-only : (m : PathMap) (v : View) (u : UnitPaths) (f : Fault) → FitsI
 memory-only m v u NoMemory fits b = refl
 memory-only m v u (Refused r) fits b = absurd (grows-never m u.number (info_of v u) u.inline r fits b)
 
-fit-each : (m : PathMap) (v : View) (before zs : List UnitSection) (us : List UnitPaths) → (debug_data v).units ≡ before ++ zs → AllPlaced (debug_data v) zs us
-    → AllFitRooms m zs us → EachOf (FitsIn m v) us
-fit-each m v before [] [] split all fits = tt
-fit-each m v before [] (u ∷ us) split all fits = absurd all
-fit-each m v before (z ∷ zs) [] split all fits = absurd all
-fit-each m v before (z ∷ zs) (u ∷ us) split all fits = (
-  subst (λ (bs : List ℕ). InlinesFit m bs u.inline) (says-bytes v before zs z u split all.0) fits.0,
-  fit-each m v (before ++ z ∷ []) zs us (split ∙ sym (append_assoc before (z ∷ []) zs)) all.1 fits.1,
-)
+fit-each : (m : PathMap) (v : View) (us : List UnitPaths) → AllRoomsFit m v us → EachOf (FitsIn m v) us
+fit-each m v [] fits = tt
+fit-each m v (u ∷ us) fits = (fits.0, fit-each m v us fits.1)
 
-pub fit-at : (m : PathMap) (v : View) (us : List UnitPaths) (i : ℕ) (u : UnitPaths) → AllPlaced (debug_data v) (debug_data v).units us → AllFitRooms m (debug_data v).units us
-    → i < length us → u ≡ get_or us i u → FitsIn m v u
-fit-at m v us i u all fits lt is = subst (FitsIn m v) (sym is) (each-get (FitsIn m v) us i u lt (fit-each m v [] (debug_data v).units us refl all fits))
+pub fit-at : (m : PathMap) (v : View) (us : List UnitPaths) (i : ℕ) (u : UnitPaths) → AllRoomsFit m v us → i < length us → u ≡ get_or us i u → FitsIn m v u
+fit-at m v us i u fits lt is = subst (FitsIn m v) (sym is) (each-get (FitsIn m v) us i u lt (fit-each m v us fits))
 
 -- the bytes of a section, one change after another
 pub section-made : (m : PathMap) (v : View) (ks kl : ℕ → Option ℕ) (u : UnitPaths) (info first second third : List ℕ) → info ≡ info_of v u

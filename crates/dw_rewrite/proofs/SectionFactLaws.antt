@@ -57,7 +57,7 @@ says-bytes v before behind z u split s =
 
 facts-each : (v : View) (u : UnitPaths) → (f : SectionFacts v u) → EachOf (PlaceOf (debug_data v) f.section) f.says.places
 facts-each v u f =
-    section-each (debug_data v) f.section f.before f.behind f.says.section.list _ f.says.places f.split f.says.section.placed
+    section-each (debug_data v) f.section f.before f.behind f.says.section.list _ f.says.places f.says.section.units f.split f.says.section.placed
 
 facts-fields : (v : View) (u : UnitPaths) (table : TextSection) → (f : SectionFacts v u) → fields_of table u ≡ fields_in table f.says.places
     → ArePathFields (offsets_in v table) (info_of v u) (fields_of table u)

@@ -18,9 +18,12 @@ use Rattle.dw_base.proofs.FileViewLaws.{section_after-within}
 use Rattle.dw_base.proofs.TextLaws.{same_text-true, same_text-from}
 use Rattle.dw_entries.specs.ViewUnits.{IsUnitSection, unit_section_at}
 use Rattle.dw_entries.proofs.HasUnitLaws.{section-at, is-unit_section}
+use Rattle.dw_rewrite.specs.NamedSlots.{Slots, TakesUnits}
 use Rattle.dw_rewrite.specs.SectionOrder.{first_of, known_after}
+use Rattle.dw_rewrite.specs.TextPlaces.{UnitSays}
 use Rattle.dw_rewrite.specs.UnitPaths.{UnitPaths}
-use Rattle.dw_rewrite.specs.UnitTexts.{SectionTaken, AllTaken}
+use Rattle.dw_rewrite.specs.UnitTexts.{SectionTaken, SectionIndexed, AllTaken, AllIndexed, units_taken}
+use Rattle.dw_rewrite.proofs.SlotRunLaws.{units-none, units-more}
 
 -- a section of one of the two names is a unit section
 one-unit : (i : ℕ) (s : ViewSection) (kind : SectionKind) (has : Bool) (found : Option SectionKind) → has ≡ true → found ≡ Some kind
@@ -191,45 +194,45 @@ later name secs (suc k) i o f le =
     below (Some m) h = omega (arith, h)
 
 -- where a pass over the unit sections stands: those so far are done, up to a number
-pub record SectionsPass (v : View) (info types : Option ℕ) (found : List UnitPaths) : Type 0 where
+pub record SectionsPass (v : View) (info types : Option ℕ) (found : List UnitPaths) (first now : Slots) : Type 0 where
   pub after : ℕ
   pub done : List UnitSection
   pub info_is : first_filled (name_of Info) (suc after) (drop (suc after) v.sections) ≡ info
   pub types_is : first_filled (name_of Types) (suc after) (drop (suc after) v.sections) ≡ types
   pub split : (debug_data v).units ≡ done ++ unit_sections_from (suc after) (drop (suc after) v.sections)
-  pub taken : AllTaken (debug_data v) done found
+  pub taken : AllIndexed (debug_data v) done found first now
 
-pub pass-none : (v : View) (info types : Option ℕ) (found : List UnitPaths) → info ≡ section_named v (name_of Info) → types ≡ section_named v (name_of Types) → found ≡ []
-    → SectionsPass v info types found
+pub pass-none : (v : View) (info types : Option ℕ) (found : List UnitPaths) (first : Slots) → info ≡ section_named v (name_of Info)
+    → types ≡ section_named v (name_of Types) → found ≡ [] → SectionsPass v info types found first first
 unfolding section_named section_after debug_data unit_sections
-pass-none v info types found i t none = record {
+pass-none v info types found first i t none = record {
   after = 0;
   done = [];
   info_is = sym i;
   types_is = sym t;
   split = refl;
-  taken = subst (AllTaken (debug_data v) []) (sym none) tt;
+  taken = subst (λ (us : List UnitPaths). AllIndexed (debug_data v) [] us first first) (sym none) (record { taken = tt; slots = units-none first });
 }
 
 -- the next of them
-pass-next : (v : View) (info types : Option ℕ) (found : List UnitPaths) (n : ℕ) → (p : SectionsPass v info types found) → Some n ≡ first_of info types
+pass-next : (v : View) (info types : Option ℕ) (found : List UnitPaths) (first now : Slots) (n : ℕ) → (p : SectionsPass v info types found first now) → Some n ≡ first_of info types
     → NextSection v.sections (suc p.after) (drop (suc p.after) v.sections) n
-pass-next v info types found n p e =
+pass-next v info types found first now n p e =
     subst (Nexts v.sections (suc p.after) (drop (suc p.after) v.sections)) (sym e)
     (nexts v.sections (suc p.after) (drop (suc p.after) v.sections) info types refl p.info_is p.types_is)
 
-next-split : (v : View) (info types : Option ℕ) (found : List UnitPaths) (n : ℕ) → (p : SectionsPass v info types found) → (e : Some n ≡ first_of info types)
-    → (debug_data v).units ≡ p.done ++ (pass-next v info types found n p e).section ∷ unit_sections_from (suc n) (drop (suc n) v.sections)
-next-split v info types found n p e = p.split ∙ ap (λ (zs : List UnitSection). p.done ++ zs) (pass-next v info types found n p e).is
+next-split : (v : View) (info types : Option ℕ) (found : List UnitPaths) (first now : Slots) (n : ℕ) → (p : SectionsPass v info types found first now) → (e : Some n ≡ first_of info types)
+    → (debug_data v).units ≡ p.done ++ (pass-next v info types found first now n p e).section ∷ unit_sections_from (suc n) (drop (suc n) v.sections)
+next-split v info types found first now n p e = p.split ∙ ap (λ (zs : List UnitSection). p.done ++ zs) (pass-next v info types found first now n p e).is
 
 data-units : (v : View) → (debug_data v).units ≡ unit_sections v
 unfolding debug_data
 data-units v = refl
 
-pub pass-there : (v : View) (info types : Option ℕ) (found : List UnitPaths) (n : ℕ) → SectionsPass v info types found → Some n ≡ first_of info types → IsUnitSection v n
-pass-there v info types found n p e =
-    let x = pass-next v info types found n p e in
-    subst (IsUnitSection v) x.number (is-unit_section v p.done (unit_sections_from (suc n) (drop (suc n) v.sections)) x.section (sym (data-units v) ∙ next-split v info types found n p e))
+pub pass-there : (v : View) (info types : Option ℕ) (found : List UnitPaths) (first now : Slots) (n : ℕ) → SectionsPass v info types found first now → Some n ≡ first_of info types → IsUnitSection v n
+pass-there v info types found first now n p e =
+    let x = pass-next v info types found first now n p e in
+    subst (IsUnitSection v) x.number (is-unit_section v p.done (unit_sections_from (suc n) (drop (suc n) v.sections)) x.section (sym (data-units v) ∙ next-split v info types found first now n p e))
 
 taken-append : (d : DebugData) (zs : List UnitSection) (us : List UnitPaths) (z : UnitSection) (u : UnitPaths) → AllTaken d zs us → SectionTaken d z u
     → AllTaken d (zs ++ z ∷ []) (us ++ u ∷ [])
@@ -237,6 +240,24 @@ taken-append d [] [] z u all one = (one, tt)
 taken-append d [] (y ∷ us) z u all one = absurd all
 taken-append d (x ∷ zs) [] z u all one = absurd all
 taken-append d (x ∷ zs) (y ∷ us) z u all one = (all.0, taken-append d zs us z u all.1 one)
+
+units_taken-append : (d : DebugData) (zs : List UnitSection) (us : List UnitPaths) (z : UnitSection) (u : UnitPaths) → (all : AllTaken d zs us) → (one : SectionTaken d z u)
+    → units_taken d (zs ++ z ∷ []) (us ++ u ∷ []) (taken-append d zs us z u all one) ≡ units_taken d zs us all ++ one.says.section.units
+unfolding taken-append
+units_taken-append d [] [] z u all one = append-nil one.says.section.units
+units_taken-append d [] (y ∷ us) z u all one = absurd all
+units_taken-append d (x ∷ zs) [] z u all one = absurd all
+units_taken-append d (x ∷ zs) (y ∷ us) z u all one =
+    ap (λ (ws : List UnitSays). all.0.says.section.units ++ ws) (units_taken-append d zs us z u all.1 one)
+    ∙ sym (append_assoc all.0.says.section.units (units_taken d zs us all.1) one.says.section.units)
+
+indexed-append : (d : DebugData) (zs : List UnitSection) (us : List UnitPaths) (z : UnitSection) (u : UnitPaths) (first now next_slots : Slots) → AllIndexed d zs us first now
+    → SectionIndexed d z u now next_slots → AllIndexed d (zs ++ z ∷ []) (us ++ u ∷ []) first next_slots
+indexed-append d zs us z u first now next_slots all one = record {
+  taken = taken-append d zs us z u all.taken one.taken;
+  slots = subst (λ (ws : List UnitSays). TakesUnits ws first next_slots) (sym (units_taken-append d zs us z u all.taken one.taken))
+      (units-more (units_taken d zs us all.taken) one.taken.says.section.units first now next_slots all.slots one.slots);
+}
 
 -- of two numbers the smaller is at most each
 first-least : (a b : Option ℕ) (n : ℕ) → Some n ≡ first_of a b → AtLeast n a × AtLeast n b
@@ -272,32 +293,34 @@ known-is v name after n (Some m) le f least = by_same (cases_eq m n)
         rest ∙ rw test refl
 
 -- one section more
-pub pass-more : (v : View) (info types next_info next_types : Option ℕ) (found : List UnitPaths) (n : ℕ) (u : UnitPaths) → SectionsPass v info types found
-    → Some n ≡ first_of info types → SectionTaken (debug_data v) (unit_section_at v n) u → next_info ≡ known_after v (name_of Info) info n
-    → next_types ≡ known_after v (name_of Types) types n → SectionsPass v next_info next_types (found ++ u ∷ [])
-pass-more v info types next_info next_types found n u p e one i t =
-    let x = pass-next v info types found n p e in
+pub pass-more : (v : View) (info types next_info next_types : Option ℕ) (found : List UnitPaths) (first now next_slots : Slots) (n : ℕ) (u : UnitPaths)
+    → SectionsPass v info types found first now → Some n ≡ first_of info types → SectionIndexed (debug_data v) (unit_section_at v n) u now next_slots
+    → next_info ≡ known_after v (name_of Info) info n → next_types ≡ known_after v (name_of Types) types n
+    → SectionsPass v next_info next_types (found ++ u ∷ []) first next_slots
+pass-more v info types next_info next_types found first now next_slots n u p e one i t =
+    let x = pass-next v info types found first now n p e in
     let least = first-least info types n e in
     let own : unit_section_at v n ≡ x.section =
     ap (unit_section_at v) (sym x.number)
-    ∙ section-at v p.done (unit_sections_from (suc n) (drop (suc n) v.sections)) x.section (sym (data-units v) ∙ next-split v info types found n p e) in
+    ∙ section-at v p.done (unit_sections_from (suc n) (drop (suc n) v.sections)) x.section (sym (data-units v) ∙ next-split v info types found first now n p e) in
     record {
       after = n;
       done = p.done ++ x.section ∷ [];
       info_is = known-is v (name_of Info) p.after n info x.above p.info_is least.0 ∙ sym i;
       types_is = known-is v (name_of Types) p.after n types x.above p.types_is least.1 ∙ sym t;
-      split = next-split v info types found n p e ∙ sym (append_assoc p.done (x.section ∷ []) (unit_sections_from (suc n) (drop (suc n) v.sections)));
-      taken = taken-append (debug_data v) p.done found x.section u p.taken (subst (λ (z : UnitSection). SectionTaken (debug_data v) z u) own one);
+      split = next-split v info types found first now n p e ∙ sym (append_assoc p.done (x.section ∷ []) (unit_sections_from (suc n) (drop (suc n) v.sections)));
+      taken = indexed-append (debug_data v) p.done found x.section u first now next_slots p.taken
+          (subst (λ (z : UnitSection). SectionIndexed (debug_data v) z u now next_slots) own one);
     }
 
 -- the end
-pub pass-ends : (v : View) (info types : Option ℕ) (found : List UnitPaths) → SectionsPass v info types found → None ≡ first_of info types
-    → AllTaken (debug_data v) (debug_data v).units found
-pass-ends v info types found p e =
+pub pass-ends : (v : View) (info types : Option ℕ) (found : List UnitPaths) (first now : Slots) → SectionsPass v info types found first now → None ≡ first_of info types
+    → AllIndexed (debug_data v) (debug_data v).units found first now
+pass-ends v info types found first now p e =
     let none : unit_sections_from (suc p.after) (drop (suc p.after) v.sections) ≡ [] =
     subst (Nexts v.sections (suc p.after) (drop (suc p.after) v.sections)) (sym e)
     (nexts v.sections (suc p.after) (drop (suc p.after) v.sections) info types refl p.info_is p.types_is) in
-    subst (λ (zs : List UnitSection). AllTaken (debug_data v) zs found) (sym (p.split ∙ ap (λ (zs : List UnitSection). p.done ++ zs) none ∙ append-nil p.done)) p.taken
+    subst (λ (zs : List UnitSection). AllIndexed (debug_data v) zs found first now) (sym (p.split ∙ ap (λ (zs : List UnitSection). p.done ++ zs) none ∙ append-nil p.done)) p.taken
 
 -- how many sections are left
 abbrev pub sections_left : View → Option ℕ → ℕ

@@ -1,12 +1,13 @@
 -- Entries whose values were taken: their offsets name texts; and why a unit that can't be taken is a row of the debug data.
-use Rattle.std.proofs.Common.{Bool, true, false, ◌≡◌, ℕ, ◌+◌, ◌≤◌, List, [], ◌∷◌, ◌++◌, length, take, drop, Option, Some, None, IsTrue, refl, sym, ap, ◌∙◌, subst, arith}
-use Rattle.std.proofs.lemmas.List.{length-take-le, length-drop, take-append-drop}
+use Rattle.std.proofs.Common.{Bool, true, false, ◌≡◌, ℕ, ◌+◌, List, [], ◌∷◌, ◌++◌, length, take, drop, Option, Some, None, IsTrue, refl, sym, ap, ◌∙◌, subst}
+use Rattle.std.proofs.lemmas.List.{take-append-drop}
 use Rattle.dw_base.specs.AbbreviationTables.{Abbreviation, abbreviation_of}
 use Rattle.dw_base.specs.Cells.{Cell, Located, bytes_of, cells_at, offset_of}
 use Rattle.dw_base.specs.DebugData.{DebugData}
 use Rattle.dw_base.specs.Lebs.{uleb_at}
 use Rattle.dw_base.specs.Numbers.{spelled}
 use Rattle.dw_base.specs.Roles.{is_path}
+use Rattle.dw_base.specs.TextIndexes.{is_base}
 use Rattle.dw_base.specs.Texts.{ends_in}
 use Rattle.dw_base.specs.Values.{value_at}
 use Rattle.dw_base.specs.declared.shared.Order.{Order}
@@ -15,14 +16,14 @@ use Rattle.dw_base.specs.declared.units.Scanned.{Scanned}
 use Rattle.dw_base.specs.declared.values.Spec.{Spec}
 use Rattle.dw_base.specs.declared.values.Value.{Value}
 use Rattle.dw_base.specs.declared.values.ValueClass.{ValueClass}
-use Rattle.dw_base.specs.declared.values.ValueClass.TheVariants.{StrOffset, LineStrOffset, InlineText}
-use Rattle.dw_base.proofs.NumberLaws.{spelled-append, spelled-drop}
+use Rattle.dw_base.specs.declared.values.ValueClass.TheVariants.{Number, StrOffset, LineStrOffset, InlineText, StrIndex, SecOffset}
 use Rattle.dw_base.proofs.PlainCellLaws.{IsPlain, offset_of-plain, plain-parts}
 use Rattle.dw_meaning.proofs.ScanPieceLaws.{part-bytes, part-length, before-end}
 use Rattle.dw_rewrite.specs.EntryTexts.{OffsetNames, IsTaken, TakenBehind, AreTaken}
 use Rattle.dw_rewrite.specs.TextPlaces.{TextPlace, PlacesName, class_places, value_places, value_places_behind, values_places, places_behind, places_by, entry_places, entries_places}
 use Rattle.dw_rewrite.specs.UnitTexts.{tables_of, TakenOf, TakenBy, EntryTaken, EntriesTaken}
 use Rattle.dw_rewrite.proofs.ValueFactLaws.{OffsetRead, OffsetFacts, value-facts}
+use Rattle.dw_rewrite.proofs.ValueRunLaws.{number-at_place}
 
 -- places that name texts, and more of them
 pub names-append : (d : DebugData) (cells : List Cell) (ts us : List TextPlace) → PlacesName d cells ts → PlacesName d cells us → PlacesName d cells (ts ++ us)
@@ -40,14 +41,6 @@ plain-at cells a n h =
     let behind = (plain-parts (take a cells) (drop a cells) (subst IsPlain (sym (take-append-drop a cells)) h)).1 in
     (plain-parts (take n (drop a cells)) (drop n (drop a cells)) (subst IsPlain (sym (take-append-drop n (drop a cells))) behind)).0
 
--- a number at a place is that of the bytes there
-pub number-at_place : (o : Order) (bs : List ℕ) (a n : ℕ) → a + n ≤ length bs → spelled o (take n (drop a bs)) 0 n ≡ spelled o bs a n
-number-at_place o bs a n le =
-    let size : length (take n (drop a bs)) ≡ n = length-take-le n (drop a bs) (omega (arith, le, length-drop a bs)) in
-    sym (spelled-append o (take n (drop a bs)) (drop n (drop a bs)) 0 n (omega (arith, size)))
-    ∙ ap (λ (x : List ℕ). spelled o x 0 n) (take-append-drop n (drop a bs))
-    ∙ spelled-drop o bs a 0 n ∙ ap (λ (i : ℕ). spelled o bs i n) (omega arith)
-
 -- the number that a value's field holds is its offset
 pub value-number : (d : DebugData) (cells : List Cell) (params : Params) (end : ℕ) (z : Located) (v : Value) → UnitCells d cells params end
     → OffsetRead params (take end (bytes_of cells)) v → offset_of d.base.order z (cells_at cells v.at v.len) ≡ v.number
@@ -62,20 +55,25 @@ value-number d cells params end z v u f =
     ∙ ap (λ (o : Order). spelled o (take end (bytes_of cells)) v.at v.len) (sym u.order) ∙ sym f.number
 
 -- an offset that was taken names a text
-class-names : (class : ValueClass) (path : Bool) (d : DebugData) (cells : List Cell) (params : Params) (end : ℕ) (v : Value) → UnitCells d cells params end
-    → OffsetFacts class params (take end (bytes_of cells)) v → OffsetNames (tables_of d) class v.number → PlacesName d cells (class_places class path v)
-class-names StrOffset path d cells params end v u f h =
+class-names : (class : ValueClass) (path base : Bool) (place : ℕ) (d : DebugData) (cells : List Cell) (params : Params) (end : ℕ) (v : Value) → UnitCells d cells params end
+    → OffsetFacts class params (take end (bytes_of cells)) v → OffsetNames (tables_of d) class v.number → PlacesName d cells (class_places class path base place v)
+class-names StrOffset path base place d cells params end v u f h =
     (subst (λ (n : ℕ). IsTrue (ends_in d.str.bytes n)) (sym (value-number d cells params end d.str v u f)) h, tt)
-class-names LineStrOffset path d cells params end v u f h =
+class-names LineStrOffset path base place d cells params end v u f h =
     (subst (λ (n : ℕ). IsTrue (ends_in d.line_str.bytes n)) (sym (value-number d cells params end d.line_str v u f)) h, tt)
-class-names InlineText true d cells params end v u f h = (tt, tt)
-class-names InlineText false d cells params end v u f h = tt
-class-names class path d cells params end v u f h = tt
+class-names InlineText true base place d cells params end v u f h = (tt, tt)
+class-names InlineText false base place d cells params end v u f h = tt
+class-names StrIndex path base place d cells params end v u f h = (tt, tt)
+class-names Number path true place d cells params end v u f h = (tt, tt)
+class-names Number path false place d cells params end v u f h = tt
+class-names SecOffset path true place d cells params end v u f h = (tt, tt)
+class-names SecOffset path false place d cells params end v u f h = tt
+class-names class path base place d cells params end v u f h = tt
 
 value-names : (d : DebugData) (cells : List Cell) (params : Params) (end n tag : ℕ) (x : Spec) (place : ℕ) (v : Value) → UnitCells d cells params end
-    → value_at params x (take end (bytes_of cells)) place ≡ Some v → IsTaken (tables_of d) x v → PlacesName d cells (value_places n tag x v)
+    → value_at params x (take end (bytes_of cells)) place ≡ Some v → IsTaken (tables_of d) x v → PlacesName d cells (value_places n tag x place v)
 value-names d cells params end n tag x place v u is taken =
-    class-names v.class (is_path n tag x.name) d cells params end v u (value-facts params x (take end (bytes_of cells)) place v is).offset taken.names
+    class-names v.class (is_path n tag x.name) (is_base n x.name) place d cells params end v u (value-facts params x (take end (bytes_of cells)) place v is).offset taken.names
 
 -- so do the values of an entry
 values-names : (d : DebugData) (cells : List Cell) (params : Params) (end n tag : ℕ) (xs : List Spec) (place : ℕ) → UnitCells d cells params end
@@ -90,7 +88,7 @@ values-names d cells params end n tag (x ∷ xs) place u taken =
         → PlacesName d cells (value_places_behind (λ p. values_places params (take end (bytes_of cells)) n tag xs p) n tag x place o)
     by_value None is rest h = tt
     by_value (Some v) is rest h =
-        names-append d cells (value_places n tag x v) (values_places params (take end (bytes_of cells)) n tag xs (place + v.size))
+        names-append d cells (value_places n tag x place v) (values_places params (take end (bytes_of cells)) n tag xs (place + v.size))
         (value-names d cells params end n tag x place v u is h.0) (rest (place + v.size) h.1)
 
 -- and of all entries

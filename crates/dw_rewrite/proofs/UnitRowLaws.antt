@@ -1,56 +1,32 @@
 -- The units of a view: what is known of one, and its rows.
-use Rattle.std.proofs.Common.{◌≡◌, ℕ, ◌+◌, ◌<◌, List, [], length, drop, get_or, Option, Some, None, sym, ap, ◌∙◌, subst}
+use Rattle.std.proofs.Common.{◌≡◌, ℕ, ◌+◌, ◌<◌, List, [], length, get_or, Option, Some, None, sym, ◌∙◌, subst}
 use Rattle.dw_base.specs.AbbreviationFails.{AbbreviationFails}
 use Rattle.dw_base.specs.AbbreviationTables.{Abbreviation, IsTable}
-use Rattle.dw_base.specs.Cells.{Cell, bytes_of}
 use Rattle.dw_meaning.specs.DataFails.DataFails.{unit as unit_fails, table as table_fails}
 use Rattle.dw_base.specs.DebugData.{DebugData}
 use Rattle.dw_base.specs.DebugSections.{name_of}
 use Rattle.dw_base.specs.EntryValues.{HasUnit, bytes_up_to}
 use Rattle.dw_base.specs.FileViews.{View, section_bytes, section_named}
-use Rattle.dw_base.specs.Lebs.{initial_length_at}
-use Rattle.dw_base.specs.Numbers.{spelled}
 use Rattle.dw_base.specs.Refusals.{Blames}
 use Rattle.dw_base.specs.UnitFails.{UnitFails}
-use Rattle.dw_base.specs.UnitHeaders.{UnitBase, UnitSection, header_at, unit_header, header_if, header_of_version, header_of_length}
+use Rattle.dw_base.specs.UnitHeaders.{UnitSection}
 use Rattle.dw_base.specs.ViewData.{debug_data, located, located_at, unit_sections}
 use Rattle.dw_base.specs.declared.debug_sections.DebugSection.TheVariants.{Abbrev}
 use Rattle.dw_base.specs.declared.fault.Fault.{Fault}
 use Rattle.dw_base.specs.declared.fault.Fault.TheVariants.{NoMemory, Refused}
-use Rattle.dw_base.specs.declared.shared.Width.{Width}
 use Rattle.dw_base.specs.declared.units.UnitHeader.{UnitHeader}
 use Rattle.dw_base.proofs.PlainCellLaws.{IsPlain, plain_cells-plain}
-use Rattle.dw_base.proofs.UnitRowLaws.{header_if-same}
 use Rattle.dw_entries.specs.Fronts.{IsOfView}
 use Rattle.dw_entries.specs.ViewUnits.{IsUnitSection, numbered, unit_base, unit_section_at}
 use Rattle.dw_entries.proofs.UnitSectionLaws.{of-view, is-of-view}
 use Rattle.dw_entries.proofs.HasUnitLaws.{numbered-section}
-use Rattle.dw_rewrite.specs.EntryTexts.{Tables}
-use Rattle.dw_rewrite.specs.UnitPaths.{UnitPaths}
+use Rattle.dw_rewrite.specs.EntryTexts.{Tables, Found, none_found}
+use Rattle.dw_rewrite.specs.NamedSlots.{Slots, TakesIndexes}
 use Rattle.dw_rewrite.specs.UnitTexts.{OneTaken, ScanTaken, UnitRefuses, UnitsRefuse, data_fails, tables_of}
+use Rattle.dw_rewrite.proofs.HeaderLaws.{header-of}
 use Rattle.dw_rewrite.proofs.RowLaws.{unit-row}
 use Rattle.dw_rewrite.proofs.SectionTextLaws.{SectionPass, section-starts, section-more, section-ends, unit-there, Stands, stands-numbered}
 use Rattle.dw_rewrite.proofs.TakenLaws.{UnitCells}
-
--- the byte order and the section of a header
-record HeaderOf (base : UnitBase) (z : UnitSection) (h : UnitHeader) : Type 0 where
-  order : h.params.order ≡ base.order
-  section : h.section ≡ z.number
-
-version-of : (base : UnitBase) (z : UnitSection) (start : ℕ) (p : List Cell) (width : Width) (n at v : ℕ) (h : UnitHeader)
-    → header_if z.kind p (header_of_version base z.kind z.number start p width (at + n) at v) ≡ Some h → HeaderOf base z h
-version-of base z start p width n at v h e =
-    let same : h ≡ header_of_version base z.kind z.number start p width (at + n) at v =
-    header_if-same z.kind p (header_of_version base z.kind z.number start p width (at + n) at v) h e in
-    record { order = ap (λ (x : UnitHeader). x.params.order) same; section = ap (λ (x : UnitHeader). x.section) same }
-
-header-of : (base : UnitBase) (z : UnitSection) (start : ℕ) (h : UnitHeader) → header_at base z start ≡ Some h → HeaderOf base z h
-unfolding unit_header
-header-of base z start h e = by_length (initial_length_at base.order (bytes_of (drop start z.contents)) 0) e
-  where
-    by_length : (o : Option (Width × ℕ × ℕ)) → header_of_length base z.kind z.number start (drop start z.contents) o ≡ Some h → HeaderOf base z h
-    by_length None e = absurd cc
-    by_length (Some (width, n, at)) e = version-of base z start (drop start z.contents) width n at (spelled base.order (bytes_of (drop start z.contents)) at 2) h e
 
 -- a unit of debug data whose section has plain cells
 pub unit-cells : (d : DebugData) (z : UnitSection) (h : UnitHeader) → HasUnit d z h → IsPlain z.contents → UnitCells d z.contents h.params h.end
@@ -116,42 +92,48 @@ one-row d z h t table f u plain same declares b =
     unit-row d z h table f (record { unit = u; declares = declares }) (unit-cells d z h u plain) (unit-section d z h u)
     (subst (λ (x : Tables). Blames (UnitRefuses x h table (bytes_up_to z h)) f) same b)
 
-pub one-taken : (d : DebugData) (z : UnitSection) (h : UnitHeader) (t : Tables) (table : List Abbreviation) (old new : UnitPaths) → t ≡ tables_of d
-    → IsTable d.base.abbrevs.bytes h.abbrevs table → ScanTaken t h table (bytes_up_to z h) old new → OneTaken d z h old new
-one-taken d z h t table old new same declares s = record {
+pub one-taken : (d : DebugData) (z : UnitSection) (h : UnitHeader) (t : Tables) (table : List Abbreviation) (old found new : Found) (before now : Slots) → t ≡ tables_of d
+    → IsTable d.base.abbrevs.bytes h.abbrevs table → ScanTaken t h table (bytes_up_to z h) old found → TakesIndexes h.section found.base found.indexes before now
+    → new ≡ none_found found.paths → OneTaken d z h old new before now
+one-taken d z h t table old found new before now same declares s slots ends = record {
   table = table;
   declares = declares;
-  scan = subst (λ (x : Tables). ScanTaken x h table (bytes_up_to z h) old new) same s;
+  found = found;
+  scan = subst (λ (x : Tables). ScanTaken x h table (bytes_up_to z h) old found) same s;
+  slots = slots;
+  ends = ends;
 }
 
 pub ruleset one_rules = (one-taken)
 
 -- the next unit of a section of a view, and its section
-own-unit : (v : View) (section : ℕ) (list : List UnitHeader) (i : ℕ) (found : UnitPaths) (h : UnitHeader) → IsUnitSection v section → i < length list
-    → h ≡ get_or list i h → SectionPass (debug_data v) (unit_section_at v section) list i found → HasUnit (debug_data v) (unit_section_at v section) h
-own-unit v section list i found h there lt is p =
-    unit-there (debug_data v) (unit_section_at v section) list i section found h (data-numbered v section (unit_section_at v section) there) lt is p
+own-unit : (v : View) (section : ℕ) (list : List UnitHeader) (i : ℕ) (found : Found) (first now : Slots) (h : UnitHeader) → IsUnitSection v section → i < length list
+    → h ≡ get_or list i h → SectionPass (debug_data v) (unit_section_at v section) list i found first now → HasUnit (debug_data v) (unit_section_at v section) h
+own-unit v section list i found first now h there lt is p =
+    unit-there (debug_data v) (unit_section_at v section) list i section found first now h (data-numbered v section (unit_section_at v section) there) lt is p
 
 own-section : (v : View) (section : ℕ) (h : UnitHeader) → IsUnitSection v section → HasUnit (debug_data v) (unit_section_at v section) h → h.section ≡ section
 own-section v section h there u = unit-section (debug_data v) (unit_section_at v section) h u ∙ (is-of-view v section there).number
 
 -- one unit more of a section of a view
-pub units-more : (v : View) (section : ℕ) (list : List UnitHeader) (i : ℕ) (old new : UnitPaths) (h : UnitHeader) → IsUnitSection v section → i < length list
-    → h ≡ get_or list i h → SectionPass (debug_data v) (unit_section_at v section) list i old
-    → OneTaken (debug_data v) (unit_section_at v h.section) h old new → SectionPass (debug_data v) (unit_section_at v section) list (i + 1) new
-units-more v section list i old new h there lt is p one =
+pub units-more : (v : View) (section : ℕ) (list : List UnitHeader) (i : ℕ) (old new : Found) (first now next_slots : Slots) (h : UnitHeader) → IsUnitSection v section
+    → i < length list → h ≡ get_or list i h → SectionPass (debug_data v) (unit_section_at v section) list i old first now
+    → OneTaken (debug_data v) (unit_section_at v h.section) h old new now next_slots
+    → SectionPass (debug_data v) (unit_section_at v section) list (i + 1) new first next_slots
+units-more v section list i old new first now next_slots h there lt is p one =
     let z : UnitSection = unit_section_at v section in
-    let u : HasUnit (debug_data v) (unit_section_at v section) h = own-unit v section list i old h there lt is p in
-    let own : OneTaken (debug_data v) (unit_section_at v section) h old new =
-    subst (λ (n : ℕ). OneTaken (debug_data v) (unit_section_at v n) h old new) (own-section v section h there u) one in
-    section-more (debug_data v) (unit_section_at v section) list i old new h own.table lt is
-    (unit-cells (debug_data v) (unit_section_at v section) h u (view-plain v section (unit_section_at v section) there)) p own.declares own.scan
+    let u : HasUnit (debug_data v) (unit_section_at v section) h = own-unit v section list i old first now h there lt is p in
+    let own : OneTaken (debug_data v) (unit_section_at v section) h old new now next_slots =
+    subst (λ (n : ℕ). OneTaken (debug_data v) (unit_section_at v n) h old new now next_slots) (own-section v section h there u) one in
+    section-more (debug_data v) (unit_section_at v section) list i old new h first now next_slots lt is
+    (unit-section (debug_data v) (unit_section_at v section) h u)
+    (unit-cells (debug_data v) (unit_section_at v section) h u (view-plain v section (unit_section_at v section) there)) p own
 
 -- the next unit of a section of a view
-pub units-there : (v : View) (section : ℕ) (list : List UnitHeader) (i : ℕ) (found : UnitPaths) (h : UnitHeader) → IsUnitSection v section → i < length list
-    → h ≡ get_or list i h → SectionPass (debug_data v) (unit_section_at v section) list i found → HasUnit (debug_data v) (unit_section_at v h.section) h
-units-there v section list i found h there lt is p =
-    let u : HasUnit (debug_data v) (unit_section_at v section) h = own-unit v section list i found h there lt is p in
+pub units-there : (v : View) (section : ℕ) (list : List UnitHeader) (i : ℕ) (found : Found) (first now : Slots) (h : UnitHeader) → IsUnitSection v section → i < length list
+    → h ≡ get_or list i h → SectionPass (debug_data v) (unit_section_at v section) list i found first now → HasUnit (debug_data v) (unit_section_at v h.section) h
+units-there v section list i found first now h there lt is p =
+    let u : HasUnit (debug_data v) (unit_section_at v section) h = own-unit v section list i found first now h there lt is p in
     subst (λ (n : ℕ). HasUnit (debug_data v) (unit_section_at v n) h) (sym (own-section v section h there u)) u
 
 -- the units of a section that can't be read

@@ -47,7 +47,7 @@ length-asked : (asks : Bool) (o : Order) (p : List Cell) (x : ℕ) → IsPlain p
 length-asked true o p x plain = length-with_offset o p x plain
 length-asked false o p x plain = refl
 
-length-edited : (r : Role) (changes : TableChanges) (around : Around) (p : List Cell) → IsPlain p → InlineFitsBy r changes.map p
+pub length-edited : (r : Role) (changes : TableChanges) (around : Around) (p : List Cell) → IsPlain p → InlineFitsBy r changes.map p
     → length (edited_by r changes around p) ≡ length p
 length-edited fixed changes around p plain fits = refl
 length-edited (offset table path) changes around p plain fits =
@@ -62,7 +62,7 @@ length-edited inline_path changes around p plain fits =
     ∙ omega (arith, length-append q (drop (length q) (bytes_of p)), length-drop (length q) (bytes_of p), size, short, cells)
 
 -- a section with new offsets in these fields, and these paths mapped
-abbrev unit_by : TableChanges → Around → List ℕ → List PathField → List PathField → List InlinePath → List ℕ → List ℕ
+abbrev pub unit_by : TableChanges → Around → List ℕ → List PathField → List PathField → List InlinePath → List ℕ → List ℕ
 unit_by c a info fs gs is out =
     inlined c.map info (patched c.line_str c.map (offset_table a in_line_str) info (patched c.str c.map (offset_table a in_str) info out fs) gs) is
 
@@ -74,11 +74,11 @@ behind-both F G n rest f g = record {
 }
 
 -- of other texts than paths none asks
-no_path-asks : (m : PathMap) (table : List ℕ) (plan : Plan) (t : List ℕ) → plan ≡ appending m table → plan.asks (record { path = false; text = t }) ≡ false
+pub no_path-asks : (m : PathMap) (table : List ℕ) (plan : Plan) (t : List ℕ) → plan ≡ appending m table → plan.asks (record { path = false; text = t }) ≡ false
 no_path-asks m table plan t is = ap (λ (q : Plan). q.asks (record { path = false; text = t })) is
 
 -- what a piece becomes, where it stands behind bytes of so many
-piece_written : (r : Role) (c : TableChanges) (a : Around) (info front : List ℕ) (p : List Cell) (rest : List ℕ) (place : ℕ) (fs gs : List PathField) (is : List InlinePath)
+pub piece_written : (r : Role) (c : TableChanges) (a : Around) (info front : List ℕ) (p : List Cell) (rest : List ℕ) (place : ℕ) (fs gs : List PathField) (is : List InlinePath)
     → c.str.plan ≡ appending c.map a.str.bytes → c.line_str.plan ≡ appending c.map a.line_str.bytes → length front ≡ place → IsPlain p
     → bytes_of p ++ rest ≡ drop place info → InlineFitsBy r c.map p → FieldsFrom (place + length p) fs → FieldsFrom (place + length p) gs
     → unit_by c a info (field_by in_str r place (length p) ++ fs) (field_by in_line_str r place (length p) ++ gs) (inline_by r place p ++ is) (front ++ (bytes_of p ++ rest))

@@ -18,7 +18,7 @@ use Rattle.dw_base.proofs.FormLaws.{value_by-own}
 use Rattle.dw_base.proofs.FormSizeLaws.{is_sized, offset_sized, offset-size}
 use Rattle.dw_meaning.proofs.ValueCutLaws.{value_of-own}
 use Rattle.dw_rewrite.specs.EntryTexts.{OffsetSized}
-use Rattle.dw_rewrite.proofs.ValuePlaceLaws.{is_plain_kind, kind_plain, is_plain_class, number-fields, leb-class, signed-class, block-class, counted-class, counted_leb-class, bare-class, text-fields}
+use Rattle.dw_rewrite.proofs.ValuePlaceLaws.{is_plain_kind, kind_plain, is_plain_class, leb_plain, number-fields, leb-class, signed-class, block-class, counted-class, counted_leb-class, bare-class, text-fields}
 use Rattle.dw_rewrite.proofs.ValueRunLaws.{is_front, Chosen, chosen-read}
 
 -- a field of four or eight bytes in the bytes, and its number
@@ -91,7 +91,7 @@ kind-facts (text_offset table n) params bytes at i v plain sized e =
     offset-facts table params bytes at n v (offset-size params (text_offset table n) table n sized refl) e
 kind-facts (number_of class n) params bytes at i v plain sized e =
     plain-facts class params bytes v plain (number-fields class at n (number_at params.order bytes at n) v e).class_is
-kind-facts (leb_number class) params bytes at i v plain sized e = plain-facts class params bytes v plain (leb-class class at (uleb_at bytes at) v e)
+kind-facts (leb_number class) params bytes at i v plain sized e = plain-facts class params bytes v (leb_plain class plain) (leb-class class at (uleb_at bytes at) v e)
 kind-facts signed_leb params bytes at i v plain sized e = plain-facts Signed params bytes v refl (signed-class at (sleb_at bytes at) v e)
 kind-facts (block_of n) params bytes at i v plain sized e = plain-facts Bytes params bytes v refl (block-class bytes at 0 n v e)
 kind-facts (counted n) params bytes at i v plain sized e =

@@ -1,19 +1,22 @@
 -- Where the text of a value stands, by the kind of its form and by its class.
-use Rattle.std.proofs.Common.{Bool, true, false, ◌≡◌, ℕ, ◌+◌, ◌==◌, ◌&&◌, ◌||◌, List, [], ◌∷◌, length, cond, Option, Some, None, refl}
+use Rattle.std.proofs.Common.{Bool, true, false, ◌≡◌, ℕ, ◌+◌, ◌==◌, ◌&&◌, ◌||◌, List, [], ◌∷◌, ◌++◌, length, cond, Option, Some, None, refl}
+use Rattle.std.specs.Bool.{⊤}
 use Rattle.std.specs.Prelude.{ℤ, nat_le}
+use Rattle.dw_base.specs.Cells.{Cell, bytes_of}
 use Rattle.dw_base.specs.Forms.{TextSection, in_str, in_line_str, ValueKind, number_of, leb_number, signed_leb, block_of, counted, counted_leb, inline_text, text_offset, present, in_abbreviation, form_in_front, supplementary, unlisted, FormRow, form_rows, kind_by, kind_in}
 use Rattle.dw_base.specs.Lebs.{uleb_at, sleb_at}
-use Rattle.dw_base.specs.Numbers.{number_at}
+use Rattle.dw_base.specs.Numbers.{number_at, spelled}
 use Rattle.dw_base.specs.Roles.{fixed, offset, inline_path, role_of_kind, names_path, names_line_table, names_macro_unit, names_other, use_of, is_path_use, is_path}
 use Rattle.dw_base.specs.Texts.{ends_in, text_in}
+use Rattle.dw_base.specs.UnitStates.{code_value}
 use Rattle.dw_base.specs.Values.{value_of, number_value, leb_value_at, signed_value_at, block_value, counted_value, counted_leb_value, text_value, bare_value, offset_class}
 use Rattle.dw_base.specs.declared.dwarf_numbers.TheConstants.{DW_AT_stmt_list, DW_AT_macros, DW_AT_GNU_macros}
 use Rattle.dw_base.specs.declared.shared.Order.{Order}
 use Rattle.dw_base.specs.declared.shared.Params.{Params}
 use Rattle.dw_base.specs.declared.values.Value.{Value}
 use Rattle.dw_base.specs.declared.values.ValueClass.{ValueClass}
-use Rattle.dw_base.specs.declared.values.ValueClass.TheVariants.{InlineText, StrOffset, LineStrOffset, Signed, Bytes, Flag}
-use Rattle.dw_rewrite.specs.TextPlaces.{place_of, class_places}
+use Rattle.dw_base.specs.declared.values.ValueClass.TheVariants.{InlineText, Number, StrOffset, LineStrOffset, StrIndex, SecOffset, Signed, Bytes, Flag}
+use Rattle.dw_rewrite.specs.TextPlaces.{place_of, indexed_kind, class_places}
 
 -- a class that isn't of texts
 abbrev pub is_plain_class : ValueClass → Bool
@@ -22,10 +25,19 @@ is_plain_class StrOffset = false
 is_plain_class LineStrOffset = false
 is_plain_class class = true
 
+-- in LEB128 there is no offset into another section either
+abbrev pub is_plain_leb : ValueClass → Bool
+is_plain_leb SecOffset = false
+is_plain_leb class = is_plain_class class
+
+pub leb_plain : (class : ValueClass) → is_plain_leb class ≡ true → is_plain_class class ≡ true
+leb_plain SecOffset plain = refl
+leb_plain class plain = plain
+
 -- a kind whose numbers aren't offsets of texts
 abbrev pub is_plain_kind : ValueKind → Bool
 is_plain_kind (number_of class n) = is_plain_class class
-is_plain_kind (leb_number class) = is_plain_class class
+is_plain_kind (leb_number class) = is_plain_leb class
 is_plain_kind k = true
 
 -- so are the kinds of all forms
@@ -111,49 +123,97 @@ text-fields bytes at v e = by_end (ends_in bytes at) e
     by_end true e = record { class_is = cc; at_is = cc; len_is = cc; size_is = cc }
     by_end false e = absurd cc
 
--- a class that isn't of texts has no place of one
-no_places : (class : ValueClass) (path : Bool) (v : Value) → is_plain_class class ≡ true → v.class ≡ class → [] ≡ class_places v.class path v
-no_places InlineText path v plain is = absurd cc
-no_places StrOffset path v plain is = absurd cc
-no_places LineStrOffset path v plain is = absurd cc
-no_places class path v plain is = rw is refl
+-- a class that isn't of texts, nor of numbers that say an index or a base, has no place
+abbrev pub is_other_class : ValueClass → Bool
+is_other_class InlineText = false
+is_other_class StrOffset = false
+is_other_class LineStrOffset = false
+is_other_class StrIndex = false
+is_other_class Number = false
+is_other_class SecOffset = false
+is_other_class class = true
+
+no_places : (class : ValueClass) (path base : Bool) (place : ℕ) (v : Value) → is_other_class class ≡ true → v.class ≡ class → [] ≡ class_places v.class path base place v
+no_places InlineText path base place v other is = absurd cc
+no_places StrOffset path base place v other is = absurd cc
+no_places LineStrOffset path base place v other is = absurd cc
+no_places StrIndex path base place v other is = absurd cc
+no_places Number path base place v other is = absurd cc
+no_places SecOffset path base place v other is = absurd cc
+no_places class path base place v other is = rw is refl
 
 -- a field of an offset
-offset_places : (table : TextSection) (used path : Bool) (v : Value) (at n : ℕ) → used ≡ path → Fields v (offset_class table) at n n
-    → place_of (offset table used) at v.size ≡ class_places v.class path v
-offset_places in_str used path v at n same f = rw (f.class_is, f.at_is, f.len_is, f.size_is, same) refl
-offset_places in_line_str used path v at n same f = rw (f.class_is, f.at_is, f.len_is, f.size_is, same) refl
+offset_places : (table : TextSection) (used path base : Bool) (place : ℕ) (v : Value) (at n : ℕ) → used ≡ path → Fields v (offset_class table) at n n
+    → place_of (offset table used) at v.size ++ [] ≡ class_places v.class path base place v
+offset_places in_str used path base place v at n same f = rw (f.class_is, f.at_is, f.len_is, f.size_is, same) refl
+offset_places in_line_str used path base place v at n same f = rw (f.class_is, f.at_is, f.len_is, f.size_is, same) refl
 
 -- a text
-text_places : (used path : Bool) (v : Value) (at n : ℕ) → used ≡ path → Fields v InlineText at n (n + 1)
-    → place_of (cond used inline_path fixed) at v.size ≡ class_places v.class path v
-text_places true true v at n same f = rw (f.class_is, f.at_is, f.len_is, f.size_is) refl
-text_places true false v at n same f = absurd cc
-text_places false true v at n same f = absurd cc
-text_places false false v at n same f = rw f.class_is refl
+text_places : (used path base : Bool) (place : ℕ) (v : Value) (at n : ℕ) → used ≡ path → Fields v InlineText at n (n + 1)
+    → place_of (cond used inline_path fixed) at v.size ++ [] ≡ class_places v.class path base place v
+text_places true true base place v at n same f = rw (f.class_is, f.at_is, f.len_is, f.size_is) refl
+text_places true false base place v at n same f = absurd cc
+text_places false true base place v at n same f = absurd cc
+text_places false false base place v at n same f = rw f.class_is refl
 
--- a value of a kind has its text where its class says
-pub value-placed : (k : ValueKind) (order : Order) (bytes : List ℕ) (at : ℕ) (implicit : ℤ) (number tag name : ℕ) (v : Value) → is_plain_kind k ≡ true
-    → value_of k order bytes at implicit ≡ Some v
-    → place_of (role_of_kind k (use_of number tag name)) at v.size ≡ class_places v.class (is_path number tag name) v
+-- the cells of a value of a kind spell its number
+abbrev pub SpellsNumber : ValueKind → Order → List Cell → ℕ → Type 0
+SpellsNumber (number_of class n) order p x = spelled order (bytes_of p) 0 (length p) ≡ x
+SpellsNumber (leb_number class) order p x = code_value p ≡ x
+SpellsNumber k order p x = ⊤
+
+-- a number
+number_places : (class : ValueClass) (size : ℕ) (path base : Bool) (order : Order) (place : ℕ) (p : List Cell) (v : Value) → is_plain_class class ≡ true → v.class ≡ class
+    → spelled order (bytes_of p) 0 (length p) ≡ v.number → indexed_kind (number_of class size) path base order place p ≡ class_places v.class path base place v
+number_places InlineText size path base order place p v plain is same = absurd cc
+number_places StrOffset size path base order place p v plain is same = absurd cc
+number_places LineStrOffset size path base order place p v plain is same = absurd cc
+number_places StrIndex size path base order place p v plain is same = rw (is, same) refl
+number_places Number size path true order place p v plain is same = rw (is, same) refl
+number_places Number size path false order place p v plain is same = rw is refl
+number_places SecOffset size path true order place p v plain is same = rw (is, same) refl
+number_places SecOffset size path false order place p v plain is same = rw is refl
+number_places class size path base order place p v plain is same = rw is refl
+
+-- a number of LEB128
+leb_places : (class : ValueClass) (path base : Bool) (order : Order) (place : ℕ) (p : List Cell) (v : Value) → is_plain_leb class ≡ true → v.class ≡ class
+    → code_value p ≡ v.number → indexed_kind (leb_number class) path base order place p ≡ class_places v.class path base place v
+leb_places InlineText path base order place p v plain is same = absurd cc
+leb_places StrOffset path base order place p v plain is same = absurd cc
+leb_places LineStrOffset path base order place p v plain is same = absurd cc
+leb_places SecOffset path base order place p v plain is same = absurd cc
+leb_places StrIndex path base order place p v plain is same = rw (is, same) refl
+leb_places Number path true order place p v plain is same = rw (is, same) refl
+leb_places Number path false order place p v plain is same = rw is refl
+leb_places class path base order place p v plain is same = rw is refl
+
+-- a value of a kind has its text where its class says, and says by index what its class says
+pub value-placed : (k : ValueKind) (order : Order) (bytes : List ℕ) (at : ℕ) (implicit : ℤ) (number tag name : ℕ) (base : Bool) (place : ℕ) (p : List Cell) (v : Value)
+    → is_plain_kind k ≡ true → value_of k order bytes at implicit ≡ Some v → SpellsNumber k order p v.number
+    → place_of (role_of_kind k (use_of number tag name)) at v.size ++ indexed_kind k (is_path number tag name) base order place p
+    ≡ class_places v.class (is_path number tag name) base place v
 unfolding value_of
-value-placed (number_of class n) order bytes at i number tag name v plain e =
-    no_places class (is_path number tag name) v plain (number-fields class at n (number_at order bytes at n) v e).class_is
-value-placed (leb_number class) order bytes at i number tag name v plain e =
-    no_places class (is_path number tag name) v plain (leb-class class at (uleb_at bytes at) v e)
-value-placed signed_leb order bytes at i number tag name v plain e = no_places Signed (is_path number tag name) v refl (signed-class at (sleb_at bytes at) v e)
-value-placed (block_of n) order bytes at i number tag name v plain e = no_places Bytes (is_path number tag name) v refl (block-class bytes at 0 n v e)
-value-placed (counted n) order bytes at i number tag name v plain e =
-    no_places Bytes (is_path number tag name) v refl (counted-class bytes at n (number_at order bytes at n) v e)
-value-placed counted_leb order bytes at i number tag name v plain e =
-    no_places Bytes (is_path number tag name) v refl (counted_leb-class bytes at (uleb_at bytes at) v e)
-value-placed inline_text order bytes at i number tag name v plain e =
-    text_places (is_path_use (use_of number tag name)) (is_path number tag name) v at (length (text_in bytes at)) (path_use number tag name) (text-fields bytes at v e)
-value-placed (text_offset table n) order bytes at i number tag name v plain e =
-    offset_places table (is_path_use (use_of number tag name)) (is_path number tag name) v at n (path_use number tag name)
+value-placed (number_of class n) order bytes at i number tag name base place p v plain e same =
+    number_places class n (is_path number tag name) base order place p v plain (number-fields class at n (number_at order bytes at n) v e).class_is same
+value-placed (leb_number class) order bytes at i number tag name base place p v plain e same =
+    leb_places class (is_path number tag name) base order place p v plain (leb-class class at (uleb_at bytes at) v e) same
+value-placed signed_leb order bytes at i number tag name base place p v plain e same =
+    no_places Signed (is_path number tag name) base place v refl (signed-class at (sleb_at bytes at) v e)
+value-placed (block_of n) order bytes at i number tag name base place p v plain e same =
+    no_places Bytes (is_path number tag name) base place v refl (block-class bytes at 0 n v e)
+value-placed (counted n) order bytes at i number tag name base place p v plain e same =
+    no_places Bytes (is_path number tag name) base place v refl (counted-class bytes at n (number_at order bytes at n) v e)
+value-placed counted_leb order bytes at i number tag name base place p v plain e same =
+    no_places Bytes (is_path number tag name) base place v refl (counted_leb-class bytes at (uleb_at bytes at) v e)
+value-placed inline_text order bytes at i number tag name base place p v plain e same =
+    text_places (is_path_use (use_of number tag name)) (is_path number tag name) base place v at (length (text_in bytes at)) (path_use number tag name) (text-fields bytes at v e)
+value-placed (text_offset table n) order bytes at i number tag name base place p v plain e same =
+    offset_places table (is_path_use (use_of number tag name)) (is_path number tag name) base place v at n (path_use number tag name)
     (number-fields (offset_class table) at n (number_at order bytes at n) v e)
-value-placed present order bytes at i number tag name v plain e = no_places Flag (is_path number tag name) v refl (bare-class bytes at Flag 1 v e)
-value-placed in_abbreviation order bytes at i number tag name v plain e = no_places Signed (is_path number tag name) v refl (bare-class bytes at Signed _ v e)
-value-placed form_in_front order bytes at i number tag name v plain e = absurd cc
-value-placed supplementary order bytes at i number tag name v plain e = absurd cc
-value-placed unlisted order bytes at i number tag name v plain e = absurd cc
+value-placed present order bytes at i number tag name base place p v plain e same =
+    no_places Flag (is_path number tag name) base place v refl (bare-class bytes at Flag 1 v e)
+value-placed in_abbreviation order bytes at i number tag name base place p v plain e same =
+    no_places Signed (is_path number tag name) base place v refl (bare-class bytes at Signed _ v e)
+value-placed form_in_front order bytes at i number tag name base place p v plain e same = absurd cc
+value-placed supplementary order bytes at i number tag name base place p v plain e same = absurd cc
+value-placed unlisted order bytes at i number tag name base place p v plain e same = absurd cc

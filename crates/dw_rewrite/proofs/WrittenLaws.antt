@@ -1,5 +1,5 @@
 -- A file that was written with new bodies for some sections, and how long it is.
-use Rattle.std.proofs.Common.{Bool, true, false, ◌≡◌, ◌≢◌, ℕ, suc, ◌+◌, ◌<◌, ◌≤◌, ◌==◌, ◌&&◌, not, List, [], ◌∷◌, ◌++◌, length, take, replicate, if◌then◌else◌, cond, Option, Some, None, refl, sym, ap, ◌∙◌, subst, arith}
+use Rattle.std.proofs.Common.{Bool, true, false, ◌≡◌, ◌≢◌, ℕ, suc, ◌<◌, ◌≤◌, ◌==◌, not, List, [], ◌∷◌, ◌++◌, length, take, replicate, if◌then◌else◌, cond, Option, Some, None, refl, sym, ap, ◌∙◌, subst, arith}
 use Rattle.std.proofs.lemmas.Bool.{and_parts, true≢false}
 use Rattle.std.proofs.lemmas.List.{length-append, length-take}
 use Rattle.std.proofs.lemmas.Bool.Decides.{nat_tests}
@@ -23,7 +23,7 @@ use Rattle.dw_meaning.proofs.LayoutRowLaws.{layout_fits}
 use Rattle.dw_base.proofs.LayoutLaws.{laid-append, laid_tabulate-longer, length-with_table, fixed_end-header}
 use Rattle.dw_base.proofs.ReadsBackLaws.{reads_back-same, with_bodies-same}
 use Rattle.elf_layout.specs.Given.{AreContents, body_given, given_or, item_of}
-use Rattle.dw_rewrite.specs.Rewritten.{AllStand, AreGiven, Stands, bytes_given, bytes_or, body_with, is_of, item_bytes}
+use Rattle.dw_rewrite.specs.Rewritten.{AllStand, AreGiven, bytes_given, bytes_or, body_with, is_of, item_bytes}
 
 -- What stands in the way of a layout depends on the bodies of the sections alone.
 pub layout_same : (b : List ℕ) (f g : ℕ → List ℕ) (r : Refusal) → ((i : ℕ) → i < section_count b → f i ≡ g i) → LayoutFails b f r → LayoutFails b g r

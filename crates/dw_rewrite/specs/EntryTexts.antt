@@ -14,25 +14,49 @@ use Rattle.dw_base.specs.declared.values.Spec.{Spec}
 use Rattle.dw_base.specs.declared.values.Value.{Value}
 use Rattle.dw_base.specs.declared.values.ValueClass.{ValueClass}
 use Rattle.dw_base.specs.declared.values.ValueClass.TheVariants.{StrOffset, LineStrOffset}
-use Rattle.dw_rewrite.specs.TextPlaces.{TextPlace, fields_in, inline_in, value_places}
+use Rattle.dw_rewrite.specs.TextPlaces.{TextPlace, base_in, fields_in, indexes_in, inline_in, value_places}
 use Rattle.dw_rewrite.specs.UnitPaths.{UnitPaths}
+use Rattle.dw_rewrite.specs.declared.fields.TextIndex.{TextIndex}
 
 -- the tables of texts: their bytes
 pub record Tables : Type 0 where
   pub str : List ℕ
   pub line_str : List ℕ
 
+-- what a pass over a unit section found: what it says of paths, and of the unit where the pass is its base and its values by index
+pub record Found : Type 0 where
+  pub paths : UnitPaths
+  pub base : Option ℕ
+  pub indexes : List TextIndex
+
 -- nothing was found in a section
 abbrev pub no_paths : ℕ → UnitPaths
 no_paths number = record { number = number; str = []; line_str = []; inline = [] }
 
--- what was found, with more places behind
-unfoldable pub with_places : UnitPaths → List TextPlace → UnitPaths
-with_places u ts = record {
+-- what was found before a unit: the paths of those before it
+abbrev pub none_found : UnitPaths → Found
+none_found u = record { paths = u; base = None; indexes = [] }
+
+-- paths, with more places behind
+unfoldable pub with_paths : UnitPaths → List TextPlace → UnitPaths
+with_paths u ts = record {
   number = u.number;
   str = u.str ++ fields_in in_str ts;
   line_str = u.line_str ++ fields_in in_line_str ts;
   inline = u.inline ++ inline_in ts;
+}
+
+-- a base, or else one that these places say
+abbrev pub with_base : Option ℕ → List TextPlace → Option ℕ
+with_base None ts = base_in ts
+with_base (Some n) ts = Some n
+
+-- what was found, with more places behind
+unfoldable pub with_places : Found → List TextPlace → Found
+with_places f ts = record {
+  paths = with_paths f.paths ts;
+  base = with_base f.base ts;
+  indexes = f.indexes ++ indexes_in ts;
 }
 
 -- an offset of a class names a text that ends in its table
@@ -49,7 +73,7 @@ OffsetSized class n = ⊤
 
 -- a value can be taken: it isn't of a kind that isn't taken yet, and its offset names a text
 pub record IsTaken (t : Tables) (x : Spec) (v : Value) : Type 0 where
-  pub built : is_unbuilt_value x v ≡ false
+  pub built : is_unbuilt_value x ≡ false
   pub names : OffsetNames t v.class v.number
 
 -- so can the values of attributes that stand one after another from a place on
@@ -65,7 +89,7 @@ AreTaken t params bytes (x ∷ xs) place = TakenBehind (λ p. AreTaken t params 
 pub data ValueRefuses (t : Tables) (section : ℕ) (x : Spec) (v : Value) : Refusal → Type 0 where
   str : v.class ≡ StrOffset → ends_in t.str v.number ≡ false → ValueRefuses t section x v (at StringOffset section v.at)
   line_str : v.class ≡ LineStrOffset → ends_in t.line_str v.number ≡ false → ValueRefuses t section x v (at StringOffset section v.at)
-  unbuilt : IsTrue (is_unbuilt_value x v) → ValueRefuses t section x v (at Unbuilt 0 0)
+  unbuilt : IsTrue (is_unbuilt_value x) → ValueRefuses t section x v (at Unbuilt 0 0)
 
 -- why no value that can be taken stands at a place
 pub data OneRefuses (t : Tables) (params : Params) (bytes : List ℕ) (section place : ℕ) (x : Spec) : Refusal → Type 0 where
@@ -80,12 +104,12 @@ pub data ValuesRefuse (t : Tables) (params : Params) (bytes : List ℕ) (section
       → ValuesRefuse t params bytes section start specs r
 
 -- a value of an attribute of entry `number` was read at a place, and what it says of paths stands behind what was found
-pub record ValueTaken (t : Tables) (params : Params) (bytes : List ℕ) (number tag : ℕ) (x : Spec) (place size : ℕ) (old new : UnitPaths) : Type 0 where
+pub record ValueTaken (t : Tables) (params : Params) (bytes : List ℕ) (number tag : ℕ) (x : Spec) (place size : ℕ) (old new : Found) : Type 0 where
   pub value : Value
   pub is : value_at params x bytes place ≡ Some value
   pub size_is : size ≡ value.size
   pub taken : IsTaken t x value
-  pub found : new ≡ with_places old (value_places number tag x value)
+  pub found : new ≡ with_places old (value_places number tag x place value)
 
 -- where the last text of each table ends
 pub record TablesEnd (t : Tables) (str_end line_str_end : ℕ) : Type 0 where

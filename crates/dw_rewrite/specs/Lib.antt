@@ -2,10 +2,13 @@ pub mod Changes
 pub mod UnitPaths
 pub mod TextPlaces
 pub mod EntryTexts
+pub mod NamedSlots
 pub mod UnitTexts
+pub mod IndexedTexts
 pub mod InlineRooms
+pub mod NewTables
+pub mod SlotPaths
 pub mod Bodies
 pub mod Judged
 pub mod Rewritten
 pub mod SectionOrder
-pub mod NewTables

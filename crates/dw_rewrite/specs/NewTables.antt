@@ -1,6 +1,6 @@
 -- The tables of texts as an edit makes them, from the fields of paths of all unit sections of a view; and the new bytes of a
 -- section, from what is new of the tables.
-use Rattle.std.specs.Prelude.{◌≡◌, ◌≢◌, ℕ, ◌≤◌, ◌<◌, List, [], ◌∷◌, length, get_or, Option}
+use Rattle.std.specs.Prelude.{◌≡◌, ◌≢◌, ℕ, ◌≤◌, ◌<◌, List, [], ◌∷◌, length, get_or, ⊤, Option}
 use Rattle.dw_meaning.specs.DataOutput.{Body}
 use Rattle.dw_base.specs.DebugData.{DebugData}
 use Rattle.dw_base.specs.FileViews.{View, section_bytes}
@@ -19,6 +19,7 @@ use Rattle.dw_base.specs.declared.fault.Kind.TheVariants.{TooLarge}
 use Rattle.dw_base.specs.declared.fault.Refusal.{Refusal}
 use Rattle.dw_rewrite.specs.Changes.{OffsetTable, ArePathFields, AreNoted, Knows, Remembers, texts_at, patched, with_all_known}
 use Rattle.dw_rewrite.specs.InlineRooms.{AreRooms}
+use Rattle.dw_rewrite.specs.TextPlaces.{InlinesFit}
 use Rattle.dw_rewrite.specs.UnitPaths.{UnitPaths, inlined}
 use Rattle.dw_rewrite.specs.declared.fields.PathField.{PathField}
 use Rattle.dw_rewrite.specs.declared.tables.TextsOf.{TextsOf}
@@ -64,6 +65,16 @@ pub record HasPaths (v : View) (u : UnitPaths) : Type 0 where
   pub str : ArePathFields (offsets_in v in_str) (info_of v u) u.str
   pub line_str : ArePathFields (offsets_in v in_line_str) (info_of v u) u.line_str
   pub rooms : AreRooms (info_of v u) u.inline
+
+-- so have all of these
+abbrev pub AllHavePaths : View → List UnitPaths → Type 0
+AllHavePaths v [] = ⊤
+AllHavePaths v (u ∷ us) = HasPaths v u × AllHavePaths v us
+
+-- each path that stands in its value fits its room when it is mapped
+abbrev pub AllRoomsFit : PathMap → View → List UnitPaths → Type 0
+AllRoomsFit m v [] = ⊤
+AllRoomsFit m v (u ∷ us) = InlinesFit m (info_of v u) u.inline × AllRoomsFit m v us
 
 -- the new texts of a table after the paths of a section, and of sections
 abbrev pub section_texts_at : PathMap → View → TextSection → List (List ℕ) → UnitPaths → List (List ℕ)

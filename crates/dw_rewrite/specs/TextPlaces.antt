@@ -1,63 +1,101 @@
--- Where texts stand in units, as a pass over their entries meets them: each place with its role (DWARF 5, 7.5.5, class
--- string), and what these places say of source paths.
+-- What a pass over the entries of units meets of texts: where they stand, each place with its role, and the values that name them by
+-- index (DWARF 5, 7.5.5, class string); and what these places say of source paths.
 use Rattle.std.specs.Prelude.{Bool, true, ◌≡◌, ℕ, ◌+◌, ◌-◌, List, [], ◌∷◌, ◌++◌, IsTrue, ⊤, Option, Some, None, length}
 use Rattle.dw_base.specs.AbbreviationTables.{Abbreviation, abbreviation_of, IsTable}
 use Rattle.dw_base.specs.Cells.{Cell, bytes_of, cells_at, offset_of}
 use Rattle.dw_base.specs.DebugData.{DebugData}
 use Rattle.dw_base.specs.EntryScans.{AreEntries}
 use Rattle.dw_base.specs.EntryValues.{bytes_up_to}
-use Rattle.dw_base.specs.Forms.{TextSection, in_str, in_line_str}
+use Rattle.dw_base.specs.Forms.{TextSection, in_str, in_line_str, ValueKind, number_of, leb_number, kind_in}
 use Rattle.dw_base.specs.InlinePaths.{inline_fits}
 use Rattle.dw_base.specs.Lebs.{uleb_at}
+use Rattle.dw_base.specs.Numbers.{spelled}
 use Rattle.dw_base.specs.Paths.{PathMap}
 use Rattle.dw_base.specs.Pieces.{Piece}
 use Rattle.dw_base.specs.Roles.{Role, fixed, offset, inline_path, role_of, is_path}
+use Rattle.dw_base.specs.TextIndexes.{SaidBase, IndexUse, is_base}
 use Rattle.dw_base.specs.Texts.{ends_in}
 use Rattle.dw_base.specs.UnitHeaders.{UnitBase, UnitSection, IsUnit}
-use Rattle.dw_base.specs.UnitStates.{UnitState}
+use Rattle.dw_base.specs.UnitStates.{Mode, at_values, at_chosen, UnitState, code_value}
 use Rattle.dw_base.specs.Values.{value_at}
+use Rattle.dw_base.specs.declared.shared.Order.{Order}
 use Rattle.dw_base.specs.declared.shared.Params.{Params}
 use Rattle.dw_base.specs.declared.units.Scanned.{Scanned}
 use Rattle.dw_base.specs.declared.units.UnitHeader.{UnitHeader}
 use Rattle.dw_base.specs.declared.values.Spec.{Spec}
 use Rattle.dw_base.specs.declared.values.Value.{Value}
 use Rattle.dw_base.specs.declared.values.ValueClass.{ValueClass}
-use Rattle.dw_base.specs.declared.values.ValueClass.TheVariants.{InlineText, StrOffset, LineStrOffset}
+use Rattle.dw_base.specs.declared.values.ValueClass.TheVariants.{InlineText, Number, StrOffset, LineStrOffset, StrIndex, SecOffset}
 use Rattle.dw_rewrite.specs.UnitPaths.{UnitPaths, field_by, inline_text}
 use Rattle.dw_rewrite.specs.declared.fields.InlinePath.{InlinePath}
 use Rattle.dw_rewrite.specs.declared.fields.PathField.{PathField}
+use Rattle.dw_rewrite.specs.declared.fields.TextIndex.{TextIndex}
 
--- bytes that an edit may change: their role, where they stand in the section, and how many they are
+-- what a value says of texts by index: nothing, the base of its unit, or the index of a text, of a path or not
+pub data Indexed : Type 0 where
+  no_index : Indexed
+  unit_base : ℕ → Indexed
+  text_index : Bool → ℕ → Indexed
+
+-- bytes that an edit may change: their role, where they stand in the section, and how many they are; or the place of a value that
+-- stays as it is, its form with it, and what it says of texts by index
 pub record TextPlace : Type 0 where
   pub role : Role
   pub at : ℕ
   pub len : ℕ
+  pub says : Indexed
 
 -- the bytes of a role at a place, of so many
 abbrev pub place_of : Role → ℕ → ℕ → List TextPlace
 place_of fixed at len = []
-place_of r at len = record { role = r; at = at; len = len } ∷ []
+place_of r at len = record { role = r; at = at; len = len; says = no_index } ∷ []
 
--- those of pieces, in order
+-- a value at a place that says this by index
+abbrev pub indexed_at : ℕ → Indexed → List TextPlace
+indexed_at at i = record { role = fixed; at = at; len = 0; says = i } ∷ []
+
+-- what the cells of a value of a kind say by index, of an attribute that holds a path or not, and a unit's base or not
+abbrev pub indexed_kind : ValueKind → Bool → Bool → Order → ℕ → List Cell → List TextPlace
+indexed_kind (number_of StrIndex n) path base order at p = indexed_at at (text_index path (spelled order (bytes_of p) 0 (length p)))
+indexed_kind (leb_number StrIndex) path base order at p = indexed_at at (text_index path (code_value p))
+indexed_kind (number_of Number n) path true order at p = indexed_at at (unit_base (spelled order (bytes_of p) 0 (length p)))
+indexed_kind (number_of SecOffset n) path true order at p = indexed_at at (unit_base (spelled order (bytes_of p) 0 (length p)))
+indexed_kind (leb_number Number) path true order at p = indexed_at at (unit_base (code_value p))
+indexed_kind k path base order at p = []
+
+-- what a piece says so
+abbrev pub indexed_in : Mode → UnitState → List Cell → List TextPlace
+indexed_in (at_values number tag (x ∷ xs)) s p =
+    indexed_kind (kind_in s.header.params x.form) (is_path number tag x.name) (is_base number x.name) s.header.params.order s.place p
+indexed_in (at_chosen number tag start x xs) s p =
+    indexed_kind (kind_in s.header.params x.form) (is_path number tag x.name) (is_base number x.name) s.header.params.order start p
+indexed_in m s p = []
+
+-- the places of pieces, in order
 abbrev pub places_in : List (Piece UnitState) → List TextPlace
 places_in [] = []
-places_in (x ∷ xs) = place_of (role_of x) x.state.place (length x.cells) ++ places_in xs
+places_in (x ∷ xs) =
+    place_of (role_of x) x.state.place (length x.cells) ++ (indexed_in x.state.mode x.state x.cells ++ places_in xs)
 
--- those of a value of a class, of an attribute that holds a path or not; an inline path has its NUL behind it
-abbrev pub class_places : ValueClass → Bool → Value → List TextPlace
-class_places StrOffset path v = record { role = offset in_str path; at = v.at; len = v.len } ∷ []
-class_places LineStrOffset path v = record { role = offset in_line_str path; at = v.at; len = v.len } ∷ []
-class_places InlineText true v = record { role = inline_path; at = v.at; len = v.len + 1 } ∷ []
-class_places class path v = []
+-- those of a value of a class that stands at a place, of an attribute that holds a path or not, and a unit's base or not; an inline
+-- path has its NUL behind it
+abbrev pub class_places : ValueClass → Bool → Bool → ℕ → Value → List TextPlace
+class_places StrOffset path base place v = record { role = offset in_str path; at = v.at; len = v.len; says = no_index } ∷ []
+class_places LineStrOffset path base place v = record { role = offset in_line_str path; at = v.at; len = v.len; says = no_index } ∷ []
+class_places InlineText true base place v = record { role = inline_path; at = v.at; len = v.len + 1; says = no_index } ∷ []
+class_places StrIndex path base place v = indexed_at place (text_index path v.number)
+class_places Number path true place v = indexed_at place (unit_base v.number)
+class_places SecOffset path true place v = indexed_at place (unit_base v.number)
+class_places class path base place v = []
 
--- those of a value of an attribute of entry `number`, whose tag is `tag`
-abbrev pub value_places : ℕ → ℕ → Spec → Value → List TextPlace
-value_places number tag x v = class_places v.class (is_path number tag x.name) v
+-- those of a value at a place, of an attribute of entry `number`, whose tag is `tag`
+abbrev pub value_places : ℕ → ℕ → Spec → ℕ → Value → List TextPlace
+value_places number tag x place v = class_places v.class (is_path number tag x.name) (is_base number x.name) place v
 
 -- those of the values of attributes that stand one after another from a place on
 abbrev pub value_places_behind : (ℕ → List TextPlace) → ℕ → ℕ → Spec → ℕ → Option Value → List TextPlace
 value_places_behind rest number tag x place None = []
-value_places_behind rest number tag x place (Some v) = value_places number tag x v ++ rest (place + v.size)
+value_places_behind rest number tag x place (Some v) = value_places number tag x place v ++ rest (place + v.size)
 
 abbrev pub values_places : Params → List ℕ → ℕ → ℕ → List Spec → ℕ → List TextPlace
 values_places params bytes number tag [] place = []
@@ -82,17 +120,24 @@ entries_places params table bytes number [] = []
 entries_places params table bytes number (x ∷ xs) =
     entry_places params table bytes number x ++ entries_places params table bytes (number + 1) xs
 
--- units that can be read whole stand one after another from the section's start up to a place, and these are their places
-pub data UnitsPlaced (base : UnitBase) (z : UnitSection) : List UnitHeader → ℕ → List TextPlace → Type 0 where
-  none_placed : UnitsPlaced base z [] 0 []
-  more_placed : (list : List UnitHeader) (h : UnitHeader) (start : ℕ) (places : List TextPlace) (table : List Abbreviation) (items : List Scanned)
-      → UnitsPlaced base z list start places → IsUnit base z start h → IsTable base.abbrevs.bytes h.abbrevs table
+-- what the values of a unit in the section of a number say
+pub record UnitSays : Type 0 where
+  pub section : ℕ
+  pub places : List TextPlace
+
+-- units that can be read whole stand one after another from the section's start up to a place, and these are their places, all
+-- together and unit by unit
+pub data UnitsPlaced (base : UnitBase) (z : UnitSection) : List UnitHeader → ℕ → List TextPlace → List UnitSays → Type 0 where
+  none_placed : UnitsPlaced base z [] 0 [] []
+  more_placed : (list : List UnitHeader) (h : UnitHeader) (start : ℕ) (places : List TextPlace) (units : List UnitSays) (table : List Abbreviation)
+      (items : List Scanned) → UnitsPlaced base z list start places units → IsUnit base z start h → IsTable base.abbrevs.bytes h.abbrevs table
       → AreEntries h table (bytes_up_to z h) items
       → UnitsPlaced base z (list ++ h ∷ []) h.end (places ++ entries_places h.params table (bytes_up_to z h) 0 items)
+      (units ++ record { section = z.number; places = entries_places h.params table (bytes_up_to z h) 0 items } ∷ [])
 
 -- all units of the section
-abbrev pub ArePlaced : UnitBase → UnitSection → List UnitHeader → List TextPlace → Type 0
-ArePlaced base z list places = UnitsPlaced base z list (length z.contents) places
+abbrev pub ArePlaced : UnitBase → UnitSection → List UnitHeader → List TextPlace → List UnitSays → Type 0
+ArePlaced base z list places units = UnitsPlaced base z list (length z.contents) places units
 
 -- an offset at a place names a text that ends in its table
 abbrev pub PlaceNames : Role → DebugData → List Cell → Type 0
@@ -119,6 +164,51 @@ abbrev pub inline_in : List TextPlace → List InlinePath
 inline_in [] = []
 inline_in (t ∷ ts) = inline_at t.role t.at t.len ++ inline_in ts
 
+-- the values by index among the places of a unit: where each stands, whether it is a path, and the index
+abbrev pub index_at : ℕ → Indexed → List TextIndex
+index_at at (text_index path n) = record { place = at; path = path; index = n } ∷ []
+index_at at i = []
+
+abbrev pub indexes_in : List TextPlace → List TextIndex
+indexes_in [] = []
+indexes_in (t ∷ ts) = index_at t.at t.says ++ indexes_in ts
+
+-- the base that a place says, or else those behind it
+abbrev pub base_or : Indexed → Option ℕ → Option ℕ
+base_or (unit_base n) o = Some n
+base_or i o = o
+
+-- the base among the places of a unit: where several values say one, the first counts
+abbrev pub base_in : List TextPlace → Option ℕ
+base_in [] = None
+base_in (t ∷ ts) = base_or t.says (base_in ts)
+
+-- the same as values by index of the whole file, in the section and the unit of a number
+abbrev pub use_at : ℕ → ℕ → ℕ → Indexed → List IndexUse
+use_at section unit at (text_index path n) = record { section = section; place = at; unit = unit; path = path; index = n } ∷ []
+use_at section unit at i = []
+
+abbrev pub uses_among : ℕ → ℕ → List TextPlace → List IndexUse
+uses_among section unit [] = []
+uses_among section unit (t ∷ ts) = use_at section unit t.at t.says ++ uses_among section unit ts
+
+abbrev pub base_at : ℕ → Indexed → List SaidBase
+base_at unit (unit_base n) = record { unit = unit; base = n } ∷ []
+base_at unit i = []
+
+abbrev pub bases_among : ℕ → List TextPlace → List SaidBase
+bases_among unit [] = []
+bases_among unit (t ∷ ts) = base_at unit t.says ++ bases_among unit ts
+
+-- those of units, of which the first has this number
+abbrev pub numbered_uses : ℕ → List UnitSays → List IndexUse
+numbered_uses unit [] = []
+numbered_uses unit (u ∷ us) = uses_among u.section unit u.places ++ numbered_uses (unit + 1) us
+
+abbrev pub numbered_bases : ℕ → List UnitSays → List SaidBase
+numbered_bases unit [] = []
+numbered_bases unit (u ∷ us) = bases_among unit u.places ++ numbered_bases (unit + 1) us
+
 -- what a unit section says of paths, by its number and its places of texts
 abbrev pub paths_by : ℕ → List TextPlace → UnitPaths
 paths_by number ts = record { number = number; str = fields_in in_str ts; line_str = fields_in in_line_str ts; inline = inline_in ts }
@@ -126,7 +216,8 @@ paths_by number ts = record { number = number; str = fields_in in_str ts; line_s
 -- the units of a section can be read whole, and texts stand at these places
 pub record SectionPlaced (base : UnitBase) (z : UnitSection) (ts : List TextPlace) : Type 0 where
   pub list : List UnitHeader
-  pub placed : ArePlaced base z list ts
+  pub units : List UnitSays
+  pub placed : ArePlaced base z list ts units
 
 -- the units of a section can be read, each offset names a text, and they say this of paths
 pub record SectionSays (d : DebugData) (z : UnitSection) (u : UnitPaths) : Type 0 where

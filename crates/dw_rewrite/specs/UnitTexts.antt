@@ -1,5 +1,5 @@
 -- What a pass over the entries of a unit, and over the units of a section, finds of texts and paths; and what it refuses.
-use Rattle.std.specs.Prelude.{◌≡◌, ℕ, ◌+◌, List, [], ◌∷◌, ⊤, Option, Some, None, IsTrue}
+use Rattle.std.specs.Prelude.{◌≡◌, ℕ, ◌+◌, List, [], ◌∷◌, ◌++◌, ⊤, Option, Some, None, IsTrue}
 use Rattle.dw_base.specs.AbbreviationTables.{Abbreviation, abbreviation_of, IsTable}
 use Rattle.dw_meaning.specs.DataFails.{DataFails, TextFails}
 use Rattle.dw_base.specs.DebugData.{DebugData}
@@ -16,8 +16,9 @@ use Rattle.dw_base.specs.declared.units.Scanned.{Scanned}
 use Rattle.dw_base.specs.declared.units.UnitHeader.{UnitHeader}
 use Rattle.dw_base.specs.declared.values.Spec.{Spec}
 use Rattle.dw_base.specs.declared.values.Value.{Value}
-use Rattle.dw_rewrite.specs.EntryTexts.{Tables, AreTaken, ValuesRefuse, with_places}
-use Rattle.dw_rewrite.specs.TextPlaces.{entries_places, SectionSays}
+use Rattle.dw_rewrite.specs.EntryTexts.{Tables, AreTaken, Found, ValuesRefuse, with_places, none_found}
+use Rattle.dw_rewrite.specs.NamedSlots.{Slots, TakesIndexes, TakesUnits}
+use Rattle.dw_rewrite.specs.TextPlaces.{UnitSays, entries_places, SectionSays}
 use Rattle.dw_rewrite.specs.UnitPaths.{UnitPaths}
 
 -- an entry that a pass gave stands there
@@ -49,13 +50,13 @@ pub data EntryRefuses (t : Tables) (params : Params) (table : List Abbreviation)
 
 -- the entries of a unit were read, and what they say of paths stands behind what was found; `bytes` are those of the section
 -- up to the unit's end
-pub record ScanTaken (t : Tables) (h : UnitHeader) (table : List Abbreviation) (bytes : List ℕ) (old new : UnitPaths) : Type 0 where
+pub record ScanTaken (t : Tables) (h : UnitHeader) (table : List Abbreviation) (bytes : List ℕ) (old new : Found) : Type 0 where
   pub items : List Scanned
   pub entries : AreEntries h table bytes items
   pub found : new ≡ with_places old (entries_places h.params table bytes 0 items)
   pub taken : EntriesTaken t h.params table bytes items
 
-abbrev pub UnitTaken : Tables → UnitSection → UnitHeader → List Abbreviation → UnitPaths → UnitPaths → Type 0
+abbrev pub UnitTaken : Tables → UnitSection → UnitHeader → List Abbreviation → Found → Found → Type 0
 UnitTaken t z h table old new = ScanTaken t h table (bytes_up_to z h) old new
 
 -- the tables of debug data
@@ -74,7 +75,7 @@ pub record HasUnbuilt (d : DebugData) : Type 0 where
   pub value : Value
   pub there : HasTable d section header table
   pub stands : HasValue header table (bytes_up_to section header) number abbreviation spec place value
-  pub unbuilt : IsTrue (is_unbuilt_value spec value)
+  pub unbuilt : IsTrue (is_unbuilt_value spec)
 
 -- why the units of debug data can't be taken
 pub data UnitsRefuse (d : DebugData) : Refusal → Type 0 where
@@ -89,11 +90,14 @@ pub data UnitRefuses (t : Tables) (h : UnitHeader) (table : List Abbreviation) (
       → IsEntry h.params table bytes e.offset a e.after → EntryRefuses t h.params table bytes h.section e r
       → UnitRefuses t h table bytes r
 
--- a unit was taken, with its table of abbreviations
-pub record OneTaken (d : DebugData) (z : UnitSection) (h : UnitHeader) (old new : UnitPaths) : Type 0 where
+-- a unit was taken, with its table of abbreviations: what it says by index went to the slots
+pub record OneTaken (d : DebugData) (z : UnitSection) (h : UnitHeader) (old new : Found) (before now : Slots) : Type 0 where
   pub table : List Abbreviation
   pub declares : IsTable d.base.abbrevs.bytes h.abbrevs table
-  pub scan : ScanTaken (tables_of d) h table (bytes_up_to z h) old new
+  pub found : Found
+  pub scan : ScanTaken (tables_of d) h table (bytes_up_to z h) old found
+  pub slots : TakesIndexes h.section found.base found.indexes before now
+  pub ends : new ≡ none_found found.paths
 
 -- a unit whose entries were taken, and units of a section
 pub record IsUnitTaken (d : DebugData) (z : UnitSection) (h : UnitHeader) : Type 0 where
@@ -114,12 +118,29 @@ pub record SectionTaken (d : DebugData) (z : UnitSection) (u : UnitPaths) : Type
   pub units : AreUnits d.base z list
   pub taken : UnitsTaken d z list
 
+-- and what these units say by index went to the slots
+pub record SectionIndexed (d : DebugData) (z : UnitSection) (u : UnitPaths) (before now : Slots) : Type 0 where
+  pub taken : SectionTaken d z u
+  pub slots : TakesUnits taken.says.section.units before now
+
 -- so do those of sections
 abbrev pub AllTaken : DebugData → List UnitSection → List UnitPaths → Type 0
 AllTaken d [] [] = ⊤
 AllTaken d [] (u ∷ us) = ⊥
 AllTaken d (z ∷ zs) [] = ⊥
 AllTaken d (z ∷ zs) (u ∷ us) = SectionTaken d z u × AllTaken d zs us
+
+-- what the units of these sections say, one after another
+abbrev pub units_taken : (d : DebugData) (zs : List UnitSection) (us : List UnitPaths) → AllTaken d zs us → List UnitSays
+units_taken d [] [] all = []
+units_taken d [] (u ∷ us) all = []
+units_taken d (z ∷ zs) [] all = []
+units_taken d (z ∷ zs) (u ∷ us) all = all.0.says.section.units ++ units_taken d zs us all.1
+
+-- all of it went to the slots
+pub record AllIndexed (d : DebugData) (zs : List UnitSection) (us : List UnitPaths) (before now : Slots) : Type 0 where
+  pub taken : AllTaken d zs us
+  pub slots : TakesUnits (units_taken d zs us taken) before now
 
 -- the tables of abbreviations that are kept by their offsets are those of the debug data
 pub record AreTables (d : DebugData) (shared : ℕ → Option (List Abbreviation)) : Type 0 where

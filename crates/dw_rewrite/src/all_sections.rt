@@ -2,30 +2,56 @@
 //!
 //! Read first: `specs/SectionOrder.antt`.
 
-ghost use Rattle.std.specs.Prelude.{◌≡◌, IfErr, IfOk};
+ghost use Rattle.std.specs.Prelude.{◌≡◌, IfErr, IfOk, OnOk, length};
 ghost use Rattle.dw_base.specs.DebugSections.{name_of};
 ghost use Rattle.dw_base.specs.Refusals.{Blames};
 ghost use Rattle.dw_base.specs.ViewData.{debug_data};
 ghost use Rattle.dw_rewrite.specs.SectionOrder.{first_of, known_after};
-ghost use Rattle.dw_rewrite.specs.UnitTexts.{AllTaken, UnitsRefuse, tables_of};
+ghost use Rattle.dw_rewrite.specs.IndexedTexts.{TextsIndexed, TextsRefuse};
+ghost use Rattle.dw_rewrite.specs.NamedSlots.{no_slots};
+ghost use Rattle.dw_rewrite.specs.UnitTexts.{AllIndexed, AllTaken, UnitsRefuse, tables_of};
 
 use crate::found::{TextTables, UnitPaths};
 use crate::sections::section_texts;
+use crate::slots::NamedSlots;
 use dw_base::{DebugSection, Fault};
 use dw_view::View;
 use std::alloc::Global;
 use std::collections::HashMap;
 
-/// What the unit sections of the view say of paths. Refused where a unit of one can't be read, names no
-/// text, or isn't taken yet.
-#[tactic(auto, using(crate::proofs::SectionOrderLaws::all_rules))]
+/// What the unit sections of the view say of paths; exactly the slots that their values name by index are
+/// marked. Refused where a unit of one can't be read, names no text, or isn't taken yet, and behind the last
+/// unit as `StringTable`, at the first value by index that names no slot.
+#[tactic(auto, using(crate::proofs::IndexedLaws::whole_rules))]
 pub(crate) fn all_texts(
     alloc: Global,
     view: &View,
     tables: &TextTables,
+    slots: &mut NamedSlots,
 ) -> Result<Vec<UnitPaths>, Fault>
     requires tables { tables.now ≡ tables_of (debug_data view.now) }
+    requires none { slots.old ≡ no_slots slots.old.list (length slots.old.marks) }
     ensures taken { IfOk result (λ us. AllTaken (debug_data view.now) (debug_data view.now).units us.items) }
+    ensures indexed { OnOk result (TextsIndexed (debug_data view.now) slots.old.list slots.new.marks) }
+    ensures refused { IfErr result (Blames (TextsRefuse (debug_data view.now) slots.old.list)) }
+{
+    let found = read_all(alloc, view, tables, slots)?;
+    if let Some(refusal) = slots.missing() {
+        return Err(refusal.into());
+    }
+    Ok(found)
+}
+
+/// What the unit sections of the view say of paths, with the slots that their values name.
+#[tactic(auto, using(crate::proofs::SectionOrderLaws::all_rules))]
+fn read_all(
+    alloc: Global,
+    view: &View,
+    tables: &TextTables,
+    slots: &mut NamedSlots,
+) -> Result<Vec<UnitPaths>, Fault>
+    requires tables { tables.now ≡ tables_of (debug_data view.now) }
+    ensures taken { IfOk result (λ us. AllIndexed (debug_data view.now) (debug_data view.now).units us.items slots.old slots.new) }
     ensures refused { IfErr result (Blames (UnitsRefuse (debug_data view.now))) }
 {
     let mut found = Vec::new(alloc);
@@ -33,7 +59,7 @@ pub(crate) fn all_texts(
     let mut info = view.first(DebugSection::Info);
     let mut types = view.first(DebugSection::Types);
     while let Some(section) = first_of(info, types) {
-        let paths = section_texts(alloc, view, tables, section, &mut shared)?;
+        let paths = section_texts(alloc, view, tables, section, &mut shared, slots)?;
         found.push(paths)?;
         info = known_after(view, DebugSection::Info, info, section);
         types = known_after(view, DebugSection::Types, types, section);

@@ -1,39 +1,146 @@
-//! The new bytes of the sections that an edit changes: the tables of texts, and the unit sections.
+//! What a view says of paths, and the new bytes of the sections that an edit changes: the tables of texts, string
+//! offsets, and the unit sections.
 //!
 //! Read first: `specs/Bodies.antt`.
 
-ghost use Rattle.std.specs.Prelude.{◌≡◌, IfErr, IfOk};
+ghost use Rattle.std.specs.HashMap.{get};
+ghost use Rattle.std.specs.Prelude.{[], ◌≡◌, ◌∷◌, ◌++◌, ◌≤◌, length, nat_eq, replicate, IfErr, IfOk, OnOk};
 ghost use Rattle.dw_base.specs.Refusals.{Blames};
-ghost use Rattle.dw_base.specs.ViewData.{debug_data};
-ghost use Rattle.dw_rewrite.specs.Bodies.{BodiesMade, BodiesRefuse, PathsFound, PathsRefuse};
+ghost use Rattle.dw_base.specs.Slots.{slots_of};
+ghost use Rattle.dw_base.specs.StringOffsets.{AreContributions};
+ghost use Rattle.dw_base.specs.ViewData.{debug_data, string_offsets};
+ghost use Rattle.dw_offsets.specs.PathSlots.{SlotsRefuse, slots_in};
+ghost use Rattle.dw_base.specs.declared.fault.Fault.TheVariants.{NoMemory};
+ghost use Rattle.dw_rewrite.specs.Changes.{AllFit};
+ghost use Rattle.dw_rewrite.specs.NewTables.{AllHavePaths, AllRoomsFit, bodies_known};
+ghost use Rattle.dw_rewrite.specs.Bodies.{BodiesMade, BodiesRefuse, PathsFound, PathsRefuse, SlotsFound, UnitPathsRefuse, UnitsFound};
+ghost use Rattle.dw_rewrite.specs.IndexedTexts.{TextsIndexed};
+ghost use Rattle.dw_rewrite.specs.NamedSlots.{no_slots};
+ghost use Rattle.dw_rewrite.specs.SlotPaths.{as_fields, names_body, one_body, pushed_bodies, slots_count, slots_with};
 
 use crate::all_sections::all_texts;
+use crate::fields::PathField;
 use crate::found::{TextTables, UnitPaths};
 use crate::inline::all_rooms_fit;
 use crate::new_sections::{Body, new_sections};
+use crate::slots::NamedSlots;
 use crate::tables::{NewTable, TextsOf, new_table, table_number, table_texts};
-use dw_base::Fault;
+use dw_base::{DebugSection, Fault};
+use dw_offsets::{ContributionList, PathSlot, SlotMarks, contributions, name_tables, path_slots};
 use dw_paths::Maps;
 use dw_view::View;
-use std::alloc::Global;
+use std::alloc::{AllocError, Global};
+use std::collections::HashMap;
 
-/// What the unit sections of the view say of paths, in the order of their numbers. Refused where a unit
-/// can't be read, names no text or isn't taken yet, and where a path that stands in its value would grow.
-#[tactic(auto, using(crate::proofs::NewBodyLaws::found_rules))]
+/// What the unit sections of the view say of paths, in the order of their numbers, and behind them what its
+/// string offsets say. Refused where one of these sections or a name table can't be read, names no text or isn't
+/// taken yet, where a path that stands in its value would grow, and where a slot is shared.
+#[tactic(auto, using(crate::proofs::FoundPathLaws::found_rules))]
 pub(crate) fn found_paths(alloc: Global, view: &View, maps: &Maps) -> Result<Vec<UnitPaths>, Fault>
-    ensures found { IfOk result (λ paths. PathsFound maps.now (debug_data view.now) paths.items) }
-    ensures refused { IfErr result (Blames (PathsRefuse maps.now (debug_data view.now))) }
+    ensures found { IfOk result (λ paths. PathsFound maps.now view.now paths.items) }
+    ensures refused { IfErr result (Blames (PathsRefuse maps.now view.now)) }
+{
+    let list = contributions(alloc, view)?;
+    let names = name_tables(alloc, view)?;
+    let _ = names.as_slice();
+    let marks = no_marks(alloc, view)?;
+    let mut slots = NamedSlots::new(&list, marks);
+    let mut paths = unit_paths(alloc, view, maps, &mut slots)?;
+    push_slots(alloc, view, maps, &list, &slots.marks, &mut paths)?;
+    Ok(paths)
+}
+
+/// No slot of the section of string offsets is marked.
+fn no_marks(alloc: Global, view: &View) -> Result<SlotMarks, AllocError>
+    ensures none { IfOk result (λ marks. marks ≡ replicate (length (string_offsets view.now).bytes) 0) }
+{
+    let marks = SlotMarks::new(alloc, offsets_bytes(view).len() as u64)?;
+    Ok(marks)
+}
+
+/// The bytes of the section of string offsets, none where there is none.
+#[tactic(auto, using(dw_offsets::proofs::PathSlotLaws::located_laws))]
+fn offsets_bytes<'a>(view: &'a View) -> &'a [u8]
+    ensures bytes { result.now ≡ (string_offsets view.now).bytes }
+{
+    match view.first(DebugSection::StrOffsets) {
+        Some(section) => view.bytes(section),
+        None => b"",
+    }
+}
+
+/// What the unit sections say of paths; exactly the slots that their values name are marked.
+#[tactic(auto, using(crate::proofs::NewBodyLaws::unit_rules))]
+fn unit_paths(
+    alloc: Global,
+    view: &View,
+    maps: &Maps,
+    slots: &mut NamedSlots,
+) -> Result<Vec<UnitPaths>, Fault>
+    requires none { slots.old ≡ no_slots slots.old.list (length slots.old.marks) }
+    ensures found { IfOk result (λ us. UnitsFound maps.now (debug_data view.now) us.items) }
+    ensures indexed { OnOk result (TextsIndexed (debug_data view.now) slots.old.list slots.new.marks) }
+    ensures refused { IfErr result (Blames (UnitPathsRefuse maps.now (debug_data view.now) slots.old.list)) }
 {
     let str = table_texts(view, TextsOf::Str);
     let line_str = table_texts(view, TextsOf::LineStr);
     let tables = TextTables::new(str, line_str);
-    let paths = all_texts(alloc, view, &tables)?;
+    let paths = all_texts(alloc, view, &tables, slots)?;
     all_rooms_fit(view, maps, paths.as_slice())?;
     Ok(paths)
 }
 
-/// The sections with new bytes: the tables of texts, then the unit sections in the order of their numbers.
-/// Refused as `TooLarge`, at the section of a table, where that would be longer than a file that is written.
+/// Puts what the string offsets say of paths behind what the units say, where there are any.
+#[tactic(auto, using(crate::proofs::SlotPathLaws::push_rules))]
+fn push_slots(
+    alloc: Global,
+    view: &View,
+    maps: &Maps,
+    list: &ContributionList,
+    marks: &SlotMarks,
+    paths: &mut Vec<UnitPaths>,
+) -> Result<(), Fault>
+    requires contributions { AreContributions view.now.order (string_offsets view.now) list.now }
+    ensures found { OnOk result (SlotsFound maps.now view.now list.now marks.now paths.old.items paths.new.items) }
+    ensures refused { IfErr result (Blames (SlotsRefuse maps.now (slots_in view.now) marks.now (slots_of list.now))) }
+{
+    let fields = path_slots(alloc, view, maps, list, marks)?;
+    if let Some(section) = view.first(DebugSection::StrOffsets) {
+        paths.push(slots_with(alloc, section, &fields)?)?;
+    }
+    Ok(())
+}
+
+/// What the section of string offsets says of paths, by the fields of its slots.
+#[tactic(auto, using(crate::proofs::SlotPathLaws::with_rules))]
+fn slots_with(alloc: Global, section: u32, slots: &[PathSlot]) -> Result<UnitPaths, AllocError>
+    ensures paths { IfOk result (λ u. u ≡ slots_with section (as_fields slots.now)) }
+{
+    let str = path_fields(alloc, slots)?;
+    Ok(UnitPaths {
+        section,
+        str,
+        line_str: Vec::new(alloc),
+        inline: Vec::new(alloc),
+    })
+}
+
+/// The fields of slots as fields of paths.
+#[tactic(auto, using(crate::proofs::SlotPathLaws::field_rules))]
+fn path_fields(alloc: Global, slots: &[PathSlot]) -> Result<Vec<PathField>, AllocError>
+    ensures fields { IfOk result (λ fields. fields.items ≡ as_fields slots.now) }
+{
+    let mut fields = Vec::with_capacity(alloc, slots.len())?;
+    for slot in slots {
+        let PathSlot { at, size } = *slot;
+        fields.push(PathField { at, size })?;
+    }
+    Ok(fields)
+}
+
+/// The sections with new bytes: the tables of texts, string offsets and name tables, then the unit sections in the
+/// order of their numbers. Refused as `TooLarge`, at the section of a table, where that would be longer than a file that
+/// is written.
 #[tactic(auto, using(crate::proofs::NewBodyLaws::body_rules))]
 pub(crate) fn new_bodies(
     alloc: Global,
@@ -41,7 +148,7 @@ pub(crate) fn new_bodies(
     maps: &Maps,
     paths: &[UnitPaths],
 ) -> Result<Vec<Body>, Fault>
-    requires found { PathsFound maps.now (debug_data view.now) paths.now }
+    requires found { PathsFound maps.now view.now paths.now }
     ensures made { IfOk result (λ bodies. BodiesMade maps.now (debug_data view.now) bodies.items) }
     ensures refused { IfErr result (Blames (BodiesRefuse maps.now (debug_data view.now))) }
 {
@@ -59,6 +166,100 @@ pub(crate) fn new_bodies(
         section: table_number(view, TextsOf::LineStr),
         bytes: line_pool.into_bytes(),
     })?;
-    new_sections(alloc, view, maps, &known, &line_known, paths, &mut bodies)?;
+    push_bodies(alloc, view, maps, &known, &line_known, paths, &mut bodies)?;
     Ok(bodies)
+}
+
+/// Appends string offsets, name tables and the unit sections with their new bytes, from the new places of paths
+/// that are known of each table.
+#[tactic(auto, using(crate::proofs::PushLaws::all_rules))]
+fn push_bodies(
+    alloc: Global,
+    view: &View,
+    maps: &Maps,
+    str: &HashMap<u64, u64>,
+    line_str: &HashMap<u64, u64>,
+    paths: &[UnitPaths],
+    bodies: &mut Vec<Body>,
+) -> Result<(), Fault>
+    requires have { AllHavePaths view.now paths.now }
+    requires rooms { AllRoomsFit maps.now view.now paths.now }
+    requires slots { slots_count view.now ≤ length paths.now }
+    requires str { AllFit (λ o. get nat_eq str.now o) }
+    requires line_str { AllFit (λ o. get nat_eq line_str.now o) }
+    ensures bodies { OnOk result (bodies.new.items ≡ bodies.old.items ++ pushed_bodies maps.now view.now (λ o. get nat_eq str.now o) (λ o. get nat_eq line_str.now o) paths.now) }
+    ensures only { IfErr result (λ f. f ≡ NoMemory) }
+{
+    let (units, slots) = paths.split_at(paths.len() - slots_count(view));
+    push_slots_body(alloc, view, maps, str, line_str, slots, bodies)?;
+    push_names(alloc, view, bodies)?;
+    new_sections(alloc, view, maps, str, line_str, units, bodies)?;
+    Ok(())
+}
+
+/// How many sections of string offsets there are: one or none.
+#[tactic(auto, using(crate::proofs::PushLaws::count_rules))]
+fn slots_count(view: &View) -> usize
+    ensures { result ≡ slots_count view.now }
+{
+    match view.first(DebugSection::StrOffsets) {
+        Some(_) => 1,
+        None => 0,
+    }
+}
+
+/// Appends the section of string offsets with its new bytes; a body of no section where there is none.
+#[tactic(auto, using(crate::proofs::PushLaws::slot_rules))]
+fn push_slots_body(
+    alloc: Global,
+    view: &View,
+    maps: &Maps,
+    str: &HashMap<u64, u64>,
+    line_str: &HashMap<u64, u64>,
+    slots: &[UnitPaths],
+    bodies: &mut Vec<Body>,
+) -> Result<(), Fault>
+    requires have { AllHavePaths view.now slots.now }
+    requires rooms { AllRoomsFit maps.now view.now slots.now }
+    requires str { AllFit (λ o. get nat_eq str.now o) }
+    requires line_str { AllFit (λ o. get nat_eq line_str.now o) }
+    ensures body { OnOk result (bodies.new.items ≡ bodies.old.items ++ one_body (bodies_known maps.now view.now (λ o. get nat_eq str.now o) (λ o. get nat_eq line_str.now o) slots.now)) }
+    ensures only { IfErr result (λ f. f ≡ NoMemory) }
+{
+    if slots.is_empty() {
+        bodies.push(Body {
+            section: 0,
+            bytes: Vec::new(alloc),
+        })?;
+        return Ok(());
+    }
+    new_sections(alloc, view, maps, str, line_str, slots, bodies)?;
+    Ok(())
+}
+
+/// Appends the section of name tables, which keeps its bytes; a body of no section where there is none.
+#[tactic(auto, using(crate::proofs::PushLaws::name_rules))]
+fn push_names(alloc: Global, view: &View, bodies: &mut Vec<Body>) -> Result<(), AllocError>
+    ensures body { OnOk result (bodies.new.items ≡ bodies.old.items ++ names_body view.now ∷ []) }
+{
+    let body = names_body(alloc, view)?;
+    bodies.push(body)?;
+    Ok(())
+}
+
+/// The section of name tables with its bytes.
+#[tactic(auto, using(crate::proofs::PushLaws::name_rules))]
+fn names_body(alloc: Global, view: &View) -> Result<Body, AllocError>
+    ensures body { IfOk result (λ b. b ≡ names_body view.now) }
+{
+    match view.first(DebugSection::Names) {
+        Some(section) => Ok(Body {
+            section,
+            bytes: Vec::from_slice(alloc, view.bytes(section))?,
+        }),
+        None => Ok(Body {
+            section: 0,
+            bytes: Vec::new(alloc),
+        }),
+    }
 }

@@ -1,5 +1,5 @@
-//! What a unit section says of source paths: the fields that hold offsets of their texts, and the paths
-//! that stand in their values (DWARF 5, 7.5.5, class string).
+//! What a unit section says of texts: the fields that hold offsets of source paths, the paths that stand
+//! in their values, and the values that name texts by index (DWARF 5, 7.5.5, class string).
 
 /// A field that holds the offset of a path's text.
 #[derive(Clone, Copy)]
@@ -17,4 +17,15 @@ pub(crate) struct InlinePath {
     pub at: u64,
     /// How many bytes it has before its NUL.
     pub len: u64,
+}
+
+/// A value that names a text by index.
+#[derive(Clone, Copy)]
+pub(crate) struct TextIndex {
+    /// Where it stands, its form with it where that stands in front; in bytes from the section's start.
+    pub place: u64,
+    /// It holds a path.
+    pub path: bool,
+    /// The index.
+    pub index: u64,
 }

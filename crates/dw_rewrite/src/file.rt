@@ -98,19 +98,19 @@ fn made_bodies(alloc: Global, elf: &ElfFile, view: &View, maps: &Maps) -> Result
     bodies_in(alloc, elf, view, maps, &paths)
 }
 
-/// What the units of the file say of paths.
+/// What the units and the string offsets of the file say of paths.
 #[tactic(auto, using(crate::proofs::ExitLaws::paths_rules))]
 fn paths_in(alloc: Global, elf: &ElfFile, view: &View, maps: &Maps) -> Result<Vec<UnitPaths>, Fault>
     requires judged { IsJudged elf.now.bytes.now }
     requires view { view.now ≡ view_of elf.now.bytes.now }
-    ensures found { IfOk result (λ paths. PathsFound maps.now (file_data elf.now.bytes.now) paths.items) }
+    ensures found { IfOk result (λ paths. PathsFound maps.now (view_of elf.now.bytes.now) paths.items) }
     ensures refused { IfErr result (Blames (EditFails maps.now elf.now.bytes.now)) }
 {
     let paths = found_paths(alloc, view, maps)?;
     Ok(paths)
 }
 
-/// The new bytes of the sections that change, by what the units say of paths.
+/// The new bytes of the sections that change, by what was found of paths.
 #[tactic(auto, using(crate::proofs::ExitLaws::bodies_rules))]
 fn bodies_in(
     alloc: Global,
@@ -122,7 +122,7 @@ fn bodies_in(
     requires small { length elf.now.bytes.now ≤ output_limit }
     requires judged { IsJudged elf.now.bytes.now }
     requires view { view.now ≡ view_of elf.now.bytes.now }
-    requires found { PathsFound maps.now (file_data elf.now.bytes.now) paths.now }
+    requires found { PathsFound maps.now (view_of elf.now.bytes.now) paths.now }
     ensures made { IfOk result (λ bodies. BodiesMade maps.now (file_data elf.now.bytes.now) bodies.items) }
     ensures refused { IfErr result (Blames (EditFails maps.now elf.now.bytes.now)) }
 {

@@ -1,10 +1,10 @@
-//! What a pass over a unit section finds of paths.
+//! What a pass over a unit section finds of paths, and of texts by index.
 
 ghost use Rattle.std.specs.Prelude.{◌≡◌, ◌++◌, ◌∷◌, [], OnOk, OnErr};
-ghost use Rattle.dw_rewrite.specs.EntryTexts.{Tables, TablesEnd, no_paths};
+ghost use Rattle.dw_rewrite.specs.EntryTexts.{Found as FoundOf, Tables, TablesEnd, no_paths, none_found};
 ghost use Rattle.dw_rewrite.specs.UnitPaths.{UnitPaths as PathsOf};
 
-use crate::fields::{InlinePath, PathField};
+use crate::fields::{InlinePath, PathField, TextIndex};
 use dw_base::nul_end;
 use std::alloc::Global;
 use std::marker::Model;
@@ -39,6 +39,45 @@ impl UnitPaths {
             line_str: Vec::new(alloc),
             inline: Vec::new(alloc),
         }
+    }
+}
+
+/// What a pass over a unit section found: of the units so far the paths, and of the unit where it is what
+/// it says by index.
+#[derive(Drop)]
+pub(crate) struct Found {
+    /// The paths.
+    pub paths: UnitPaths,
+    /// The base of the unit, the first that its first entry says.
+    pub base: Option<u64>,
+    /// The values of the unit that name texts by index.
+    pub indexes: Vec<TextIndex>,
+}
+
+impl Model for Found {
+    ghost Value = { FoundOf };
+
+    ghost view = { λ f. record { paths = f.paths; base = f.base; indexes = f.indexes.items } };
+}
+
+impl Found {
+    /// Nothing was found in a section yet.
+    pub(crate) fn new(alloc: Global, section: u32) -> Found
+        ensures { result ≡ none_found (no_paths section) }
+    {
+        Found {
+            paths: UnitPaths::new(alloc, section),
+            base: None,
+            indexes: Vec::new(alloc),
+        }
+    }
+
+    /// The unit ends: what it says by index is forgotten.
+    pub(crate) fn end_unit(&mut self)
+        ensures { self.new ≡ none_found self.old.paths }
+    {
+        self.base = None;
+        self.indexes.clear();
     }
 }
 

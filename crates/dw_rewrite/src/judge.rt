@@ -96,6 +96,8 @@ fn is_read(kind: Option<DebugSection>) -> bool
         Some(DebugSection::Abbrev) => true,
         Some(DebugSection::Str) => true,
         Some(DebugSection::LineStr) => true,
+        Some(DebugSection::StrOffsets) => true,
+        Some(DebugSection::Names) => true,
         _ => false,
     }
 }
@@ -105,10 +107,8 @@ fn is_unbuilt(kind: Option<DebugSection>) -> bool
     ensures { result ≡ is_unbuilt_section kind }
 {
     match kind {
-        Some(DebugSection::StrOffsets) => true,
         Some(DebugSection::Line) => true,
         Some(DebugSection::Macro) => true,
-        Some(DebugSection::Names) => true,
         _ => false,
     }
 }

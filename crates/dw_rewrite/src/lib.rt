@@ -35,6 +35,7 @@ mod known;
 mod new_sections;
 mod refusal;
 mod sections;
+mod slots;
 mod tables;
 #[cfg(test)]
 mod tests;

@@ -7,12 +7,10 @@ ghost use Rattle.std.specs.Prelude.{◌≡◌, ◌++◌, length, nat_eq, IfErr, 
 ghost use Rattle.std.specs.HashMap.{get};
 ghost use Rattle.dw_meaning.specs.DataOutput.{Body as BodyOf};
 ghost use Rattle.dw_base.specs.Refusals.{Blames};
-ghost use Rattle.dw_base.specs.ViewData.{debug_data};
 ghost use Rattle.dw_base.specs.declared.fault.Fault.TheVariants.{NoMemory};
 ghost use Rattle.dw_rewrite.specs.Changes.{AllFit, with_all_known};
 ghost use Rattle.dw_rewrite.specs.InlineRooms.{Grows};
-ghost use Rattle.dw_rewrite.specs.NewTables.{HasPaths, as_table, bodies_known, body_known, fields_of, info_of, offsets_in, section_known};
-ghost use Rattle.dw_rewrite.specs.TextPlaces.{AllFitRooms, AllPlaced};
+ghost use Rattle.dw_rewrite.specs.NewTables.{AllHavePaths, AllRoomsFit, HasPaths, as_table, bodies_known, body_known, fields_of, info_of, offsets_in, section_known};
 
 use crate::change::patch;
 use crate::found::UnitPaths;
@@ -51,8 +49,8 @@ pub(crate) fn new_sections(
     paths: &[UnitPaths],
     bodies: &mut Vec<Body>,
 ) -> Result<(), Fault>
-    requires placed { AllPlaced (debug_data view.now) (debug_data view.now).units paths.now }
-    requires rooms { AllFitRooms maps.now (debug_data view.now).units paths.now }
+    requires paths { AllHavePaths view.now paths.now }
+    requires rooms { AllRoomsFit maps.now view.now paths.now }
     requires str { AllFit (λ o. get nat_eq str.now o) }
     requires line_str { AllFit (λ o. get nat_eq line_str.now o) }
     ensures bodies { OnOk result (bodies.new.items ≡ bodies.old.items ++ bodies_known maps.now view.now (λ o. get nat_eq str.now o) (λ o. get nat_eq line_str.now o) paths.now) }

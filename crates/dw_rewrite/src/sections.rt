@@ -1,4 +1,4 @@
-//! What the units of a unit section of a view say of paths.
+//! What the units of a unit section of a view say of paths, and which slots they name by index.
 //!
 //! Read first: `specs/UnitTexts.antt`.
 
@@ -11,9 +11,10 @@ ghost use Rattle.dw_base.specs.Refusals.{Blames};
 ghost use Rattle.dw_base.specs.UnitHeaders.{AreUnits};
 ghost use Rattle.dw_base.specs.ViewData.{debug_data};
 ghost use Rattle.dw_entries.specs.ViewUnits.{IsUnitSection, unit_section_at};
-ghost use Rattle.dw_rewrite.specs.UnitTexts.{AreTables, OneTaken, SectionTaken, UnitsRefuse, tables_of};
+ghost use Rattle.dw_rewrite.specs.UnitTexts.{AreTables, OneTaken, SectionIndexed, UnitsRefuse, tables_of};
 
-use crate::found::{TextTables, UnitPaths};
+use crate::found::{Found, TextTables, UnitPaths};
+use crate::slots::NamedSlots;
 use crate::units::unit_texts;
 use dw_abbrev::AbbrevTable;
 use dw_base::{DebugSection, Fault, UnitHeader};
@@ -31,16 +32,25 @@ pub(crate) fn section_texts(
     tables: &TextTables,
     section: u32,
     shared: &mut HashMap<u64, AbbrevTable>,
+    slots: &mut NamedSlots,
 ) -> Result<UnitPaths, Fault>
     requires there { IsUnitSection view.now section }
     requires tables { tables.now ≡ tables_of (debug_data view.now) }
     requires shared { AreTables (debug_data view.now) (λ at. get nat_eq shared.old at) }
     ensures shared { OnOk result (AreTables (debug_data view.now) (λ at. get nat_eq shared.new at)) }
-    ensures taken { IfOk result (λ u. SectionTaken (debug_data view.now) (unit_section_at view.now section) u) }
+    ensures taken { IfOk result (λ u. SectionIndexed (debug_data view.now) (unit_section_at view.now section) u slots.old slots.new) }
     ensures refused { IfErr result (Blames (UnitsRefuse (debug_data view.now))) }
 {
     let units = unit_headers(alloc, view, section)?;
-    units_texts(alloc, view, tables, section, units.as_slice(), shared)
+    units_texts(
+        alloc,
+        view,
+        tables,
+        section,
+        units.as_slice(),
+        shared,
+        slots,
+    )
 }
 
 /// The same, from the units of the section.
@@ -52,23 +62,25 @@ fn units_texts(
     section: u32,
     units: &[UnitHeader],
     shared: &mut HashMap<u64, AbbrevTable>,
+    slots: &mut NamedSlots,
 ) -> Result<UnitPaths, Fault>
     requires there { IsUnitSection view.now section }
     requires tables { tables.now ≡ tables_of (debug_data view.now) }
     requires shared { AreTables (debug_data view.now) (λ at. get nat_eq shared.old at) }
     requires units { AreUnits (debug_data view.now).base (unit_section_at view.now section) units.now }
     ensures shared { OnOk result (AreTables (debug_data view.now) (λ at. get nat_eq shared.new at)) }
-    ensures taken { IfOk result (λ u. SectionTaken (debug_data view.now) (unit_section_at view.now section) u) }
+    ensures taken { IfOk result (λ u. SectionIndexed (debug_data view.now) (unit_section_at view.now section) u slots.old slots.new) }
     ensures refused { IfErr result (Blames (UnitsRefuse (debug_data view.now))) }
 {
-    let mut found = UnitPaths::new(alloc, section);
+    let mut found = Found::new(alloc, section);
     for unit in units {
-        one_unit(alloc, view, tables, unit, shared, &mut found)?;
+        one_unit(alloc, view, tables, unit, shared, &mut found, slots)?;
     }
-    Ok(found)
+    Ok(found.paths)
 }
 
-/// Takes a unit of the view, with its table of abbreviations, which is kept for other units.
+/// Takes a unit of the view, with its table of abbreviations, which is kept for other units; what it says by
+/// index goes to the slots, and is forgotten.
 #[tactic(auto, using(crate::proofs::UnitRowLaws::one_rules))]
 fn one_unit(
     alloc: Global,
@@ -76,13 +88,14 @@ fn one_unit(
     tables: &TextTables,
     unit: &UnitHeader,
     shared: &mut HashMap<u64, AbbrevTable>,
-    found: &mut UnitPaths,
+    found: &mut Found,
+    slots: &mut NamedSlots,
 ) -> Result<(), Fault>
     requires unit { HasUnit (debug_data view.now) (unit_section_at view.now unit.now.section) unit.now }
     requires tables { tables.now ≡ tables_of (debug_data view.now) }
     requires shared { AreTables (debug_data view.now) (λ at. get nat_eq shared.old at) }
     ensures shared { OnOk result (AreTables (debug_data view.now) (λ at. get nat_eq shared.new at)) }
-    ensures taken { OnOk result (OneTaken (debug_data view.now) (unit_section_at view.now unit.now.section) unit.now found.old found.new) }
+    ensures taken { OnOk result (OneTaken (debug_data view.now) (unit_section_at view.now unit.now.section) unit.now found.old found.new slots.old slots.new) }
     ensures refused { IfErr result (Blames (UnitsRefuse (debug_data view.now))) }
 {
     read_table(alloc, view, unit.abbrevs, shared)?;
@@ -90,6 +103,8 @@ fn one_unit(
         unreachable!()
     };
     unit_texts(view, tables, unit, table, found)?;
+    slots.take(unit.section, found.base, found.indexes.as_slice());
+    found.end_unit();
     Ok(())
 }
 

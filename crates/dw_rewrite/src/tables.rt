@@ -8,8 +8,7 @@ ghost use Rattle.dw_base.specs.LayoutFails.{TooLong};
 ghost use Rattle.dw_base.specs.Refusals.{Blames};
 ghost use Rattle.dw_base.specs.StringTables.{table_bytes};
 ghost use Rattle.dw_base.specs.ViewData.{debug_data};
-ghost use Rattle.dw_rewrite.specs.NewTables.{GrownBy, Growing, HasPaths, LongTable, TableMade, all_texts_at, as_table, fault_at, fields_of, offsets_in, section_of, section_texts_at, table_number, table_with};
-ghost use Rattle.dw_rewrite.specs.TextPlaces.{AllPlaced};
+ghost use Rattle.dw_rewrite.specs.NewTables.{AllHavePaths, GrownBy, Growing, HasPaths, LongTable, TableMade, all_texts_at, as_table, fault_at, fields_of, offsets_in, section_of, section_texts_at, table_number, table_with};
 
 use crate::change::note_fields;
 use crate::fields::PathField;
@@ -84,7 +83,7 @@ pub(crate) struct NewTable {
     pub known: HashMap<u64, u64>,
 }
 
-/// A table with the mapped paths of all unit sections. Refused as `TooLarge`, at its section, where it would
+/// A table with the mapped paths of all these sections. Refused as `TooLarge`, at its section, where it would
 /// be longer than a file that is written.
 #[tactic(auto, using(crate::proofs::GrowthLaws::table_rules))]
 pub(crate) fn new_table(
@@ -94,7 +93,7 @@ pub(crate) fn new_table(
     texts: TextsOf,
     paths: &[UnitPaths],
 ) -> Result<NewTable, Fault>
-    requires placed { AllPlaced (debug_data view.now) (debug_data view.now).units paths.now }
+    requires paths { AllHavePaths view.now paths.now }
     ensures made { IfOk result (λ t. TableMade maps.now view.now (as_table texts) paths.now t.pool (λ o. get nat_eq t.known o)) }
     ensures refused { IfErr result (Blames (LongTable maps.now view.now (as_table texts) paths.now)) }
 {
@@ -113,7 +112,7 @@ fn grown_table(
     texts: TextsOf,
     paths: &[UnitPaths],
 ) -> Result<NewTable, Fault>
-    requires placed { AllPlaced (debug_data view.now) (debug_data view.now).units paths.now }
+    requires paths { AllHavePaths view.now paths.now }
     ensures made { IfOk result (λ t. TableMade maps.now view.now (as_table texts) paths.now t.pool (λ o. get nat_eq t.known o)) }
     ensures refused { IfErr result (Blames (TooLong (length (table_bytes (table_with view.now (as_table texts) (all_texts_at maps.now view.now (as_table texts) [] paths.now)))))) }
 {

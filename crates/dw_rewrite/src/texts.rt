@@ -1,4 +1,5 @@
-//! The texts that the values of an entry name, and the paths among them (DWARF 5, 7.5.4 to 7.5.6).
+//! The texts that the values of an entry name, the paths among them, and what they say by index (DWARF 5,
+//! 7.5.4 to 7.5.6).
 //!
 //! Read first: `specs/TextPlaces.antt`, then `specs/EntryTexts.antt`.
 
@@ -6,20 +7,21 @@ ghost use Rattle.std.specs.Prelude.{◌≡◌, ◌⊎◌, ◌+◌, ◌^◌, ◌�
 ghost use Rattle.dw_base.specs.EntryScans.{SpellsValues};
 ghost use Rattle.dw_base.specs.FormFails.{FormFails};
 ghost use Rattle.dw_base.specs.Values.{value_at};
-ghost use Rattle.dw_meaning.specs.FileFails.{is_str_index, is_unbuilt_value};
+ghost use Rattle.dw_meaning.specs.FileFails.{is_unbuilt_value};
 ghost use Rattle.dw_base.specs.Refusals.{Blames, at};
 ghost use Rattle.dw_base.specs.Roles.{is_path};
+ghost use Rattle.dw_base.specs.TextIndexes.{is_base};
 ghost use Rattle.dw_base.specs.UnitHeaders.{is_address_size};
 ghost use Rattle.dw_base.specs.declared.values.ValueClass.TheVariants.{StrOffset, LineStrOffset};
 ghost use Rattle.dw_rewrite.specs.EntryTexts.{AreTaken, OffsetNames, OffsetSized, OneRefuses, ValueRefuses, ValuesRefuse, ValueTaken, with_places};
 ghost use Rattle.dw_rewrite.specs.TextPlaces.{class_places, values_places};
 
-use crate::fields::{InlinePath, PathField};
-use crate::found::{TextTables, UnitPaths};
+use crate::fields::{InlinePath, PathField, TextIndex};
+use crate::found::{Found, TextTables};
 use crate::refusal::unbuilt;
 use dw_base::dwarf_numbers::{
     DW_AT_GNU_macros, DW_AT_comp_dir, DW_AT_macros, DW_AT_name, DW_AT_stmt_list,
-    DW_TAG_compile_unit, DW_TAG_partial_unit, DW_TAG_type_unit,
+    DW_AT_str_offsets_base, DW_TAG_compile_unit, DW_TAG_partial_unit, DW_TAG_type_unit,
 };
 use dw_base::{Fault, Kind, Refusal, Spec, UnitHeader, Value, ValueClass};
 use dw_forms::value_at;
@@ -35,7 +37,7 @@ pub(crate) fn entry_texts(
     tag: u64,
     specs: &[Spec],
     from: u64,
-    found: &mut UnitPaths,
+    found: &mut Found,
 ) -> Result<(), Fault>
     requires address { IsTrue (is_address_size unit.now.params.address) }
     requires small { length bytes.now ≤ 2 ^ 31 }
@@ -61,7 +63,7 @@ fn value_text(
     tag: u64,
     spec: &Spec,
     place: u64,
-    found: &mut UnitPaths,
+    found: &mut Found,
 ) -> Result<u64, Fault>
     requires address { IsTrue (is_address_size unit.now.params.address) }
     requires small { length bytes.now ≤ 2 ^ 31 }
@@ -70,11 +72,12 @@ fn value_text(
     ensures refused { IfErr result (Blames (OneRefuses tables.now unit.now.params bytes.now unit.now.section place spec.now)) }
 {
     let value = value_in(unit, bytes, spec, place)?;
-    if is_unbuilt_value(spec, &value) {
+    if is_unbuilt_value(spec) {
         return Err(unbuilt().into());
     }
     let path = is_path(number, tag, spec.name);
-    note_text(tables, unit.section, spec, &value, path, found)?;
+    let base = is_base(number, spec.name);
+    note_value(tables, unit.section, spec, place, &value, path, base, found)?;
     Ok(value.size)
 }
 
@@ -97,24 +100,11 @@ fn value_in(unit: &UnitHeader, bytes: &[u8], spec: &Spec, place: u64) -> Result<
     )
 }
 
-/// A value that isn't taken yet: the number of a string offset, the place of a line table or of macros.
-fn is_unbuilt_value(spec: &Spec, value: &Value) -> bool
-    ensures { result ≡ is_unbuilt_value spec.now value.now }
+/// An attribute whose values aren't taken yet: the place of a line table or of macros.
+fn is_unbuilt_value(spec: &Spec) -> bool
+    ensures { result ≡ is_unbuilt_value spec.now }
 {
-    is_str_index(value.class)
-        || spec.name == DW_AT_stmt_list
-        || spec.name == DW_AT_macros
-        || spec.name == DW_AT_GNU_macros
-}
-
-/// A number of a string offset.
-fn is_str_index(class: ValueClass) -> bool
-    ensures { result ≡ is_str_index class }
-{
-    match class {
-        ValueClass::StrIndex => true,
-        _ => false,
-    }
+    spec.name == DW_AT_stmt_list || spec.name == DW_AT_macros || spec.name == DW_AT_GNU_macros
 }
 
 /// An attribute that holds a path: name or comp_dir of the first entry of a unit whose tag is a unit's
@@ -128,18 +118,27 @@ fn is_path(number: u64, tag: u64, name: u64) -> bool
     number == 0 && is_unit && (name == DW_AT_name || name == DW_AT_comp_dir)
 }
 
-/// Notes what a value says of a path, where it is one's.
-#[tactic(auto, using(crate::proofs::EntryTextLaws::note_rules), unfolding(crate::specs::EntryTexts::with_places))]
-fn note_text(
+/// An attribute that says the base of its unit's texts by index (DWARF 5, 3.1.1).
+fn is_base(number: u64, name: u64) -> bool
+    ensures { result ≡ is_base number name }
+{
+    number == 0 && name == DW_AT_str_offsets_base
+}
+
+/// Notes what a value at a place says of a path or by index, where it is a path's or a base's, or an index.
+#[tactic(auto, using(crate::proofs::EntryTextLaws::note_rules), unfolding(crate::specs::EntryTexts::with_places, crate::specs::EntryTexts::with_paths))]
+fn note_value(
     tables: &TextTables,
     section: u32,
     spec: &Spec,
+    place: u64,
     value: &Value,
     path: bool,
-    found: &mut UnitPaths,
+    base: bool,
+    found: &mut Found,
 ) -> Result<(), Fault>
     requires sized { OffsetSized value.now.class value.now.len }
-    ensures found { OnOk result (found.new ≡ with_places found.old (class_places value.now.class path value.now)) }
+    ensures found { OnOk result (found.new ≡ with_places found.old (class_places value.now.class path base place value.now)) }
     ensures names { OnOk result (OffsetNames tables.now value.now.class value.now.number) }
     ensures refused { IfErr result (Blames (ValueRefuses tables.now section spec.now value.now)) }
 {
@@ -149,7 +148,7 @@ fn note_text(
                 return Err(no_text(section, value.at).into());
             }
             if path {
-                found.str.push(field_of(value))?;
+                found.paths.str.push(field_of(value))?;
             }
         }
         ValueClass::LineStrOffset => {
@@ -157,15 +156,25 @@ fn note_text(
                 return Err(no_text(section, value.at).into());
             }
             if path {
-                found.line_str.push(field_of(value))?;
+                found.paths.line_str.push(field_of(value))?;
             }
         }
         ValueClass::InlineText => {
             if path {
-                found.inline.push(InlinePath {
+                found.paths.inline.push(InlinePath {
                     at: value.at,
                     len: value.len,
                 })?;
+            }
+        }
+        ValueClass::StrIndex => found.indexes.push(TextIndex {
+            place,
+            path,
+            index: value.number,
+        })?,
+        ValueClass::Number | ValueClass::SecOffset => {
+            if base && found.base.is_none() {
+                found.base = Some(value.number);
             }
         }
         _ => {}

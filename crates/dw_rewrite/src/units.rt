@@ -13,7 +13,7 @@ ghost use Rattle.dw_rewrite.specs.EntryTexts.{with_places};
 ghost use Rattle.dw_rewrite.specs.TextPlaces.{entry_places};
 ghost use Rattle.dw_rewrite.specs.UnitTexts.{EntryRefuses, EntryTaken, IsGiven, ScanTaken, UnitRefuses, UnitTaken};
 
-use crate::found::{TextTables, UnitPaths};
+use crate::found::{Found, TextTables};
 use crate::texts::entry_texts;
 use dw_abbrev::AbbrevTable;
 use dw_base::{Fault, Scanned, UnitHeader, uleb_at};
@@ -28,7 +28,7 @@ pub(crate) fn unit_texts(
     tables: &TextTables,
     unit: &UnitHeader,
     table: &AbbrevTable,
-    found: &mut UnitPaths,
+    found: &mut Found,
 ) -> Result<(), Fault>
     requires unit { HasUnit (debug_data view.now) (unit_section_at view.now unit.now.section) unit.now }
     ensures taken { OnOk result (UnitTaken tables.now (unit_section_at view.now unit.now.section) unit.now table.now found.old found.new) }
@@ -47,7 +47,7 @@ fn scan_texts(
     table: &AbbrevTable,
     bytes: &[u8],
     scan: EntryScan,
-    found: &mut UnitPaths,
+    found: &mut Found,
 ) -> Result<(), Fault>
     requires start { scan ≡ scan_start unit.now table.now bytes.now }
     requires address { IsTrue (is_address_size unit.now.params.address) }
@@ -74,7 +74,7 @@ fn scanned_texts(
     bytes: &[u8],
     number: u64,
     entry: &Scanned,
-    found: &mut UnitPaths,
+    found: &mut Found,
 ) -> Result<(), Fault>
     requires address { IsTrue (is_address_size unit.now.params.address) }
     requires small { length bytes.now ≤ 2 ^ 31 }

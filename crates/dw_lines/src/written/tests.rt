@@ -113,6 +113,8 @@ fn written_of(
     let view = View::one(&elf)?;
     assert!(rt; view.first(DebugSection::Line) == Some(1));
     let table = LineTable::read(alloc, &view, 1, 0)?;
+    assert!(rt; table.section == 1);
+    assert!(rt; table.start == 0);
     let Some(maps) = Maps::new(alloc, b"/build/p", b"/usr/src/debug/p")? else {
         return Err(Fault::NoMemory);
     };

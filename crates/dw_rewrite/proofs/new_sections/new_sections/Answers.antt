@@ -2,16 +2,16 @@
 use Rattle.std.proofs.Common.{arith}
 use Rattle.std.proofs.lemmas.Result.{err_from_is_err_and}
 use Rattle.dw_rewrite.proofs.SectionBytesLaws.{memory-only, fit-at}
-use Rattle.dw_rewrite.proofs.SectionFactLaws.{paths-at}
+use Rattle.dw_rewrite.proofs.GrowthLaws.{has-at}
 use Rattle.dw_rewrite.proofs.new_sections.new_sections.Goals as goal
 
 pub new_section-requires-clause-paths : goal.new_section-requires-clause-paths
 new_section-requires-clause-paths c =
-    paths-at c.args.view.now c.args.paths.now c.loop-found.found-index c.found-item.result c.requires.placed (omega arith) c.found-item.is
+    has-at c.args.view.now c.args.paths.now c.loop-found.found-index c.found-item.result c.requires.paths (omega arith) c.found-item.is
 
 pub returns-in_err-body-clause-only : goal.returns-in_err-body-clause-only
 returns-in_err-body-clause-only c =
     let p = err_from_is_err_and c.from_residual.result c.from_residual.ensures.1 in
     rw (p.1, p.2) (memory-only c.args.maps.now c.args.view.now c.found-item.result c.in_err-body.field-0.0
-    (fit-at c.args.maps.now c.args.view.now c.args.paths.now c.loop-found.found-index c.found-item.result c.requires.placed c.requires.rooms (omega arith) c.found-item.is)
+    (fit-at c.args.maps.now c.args.view.now c.args.paths.now c.loop-found.found-index c.found-item.result c.requires.rooms (omega arith) c.found-item.is)
     c.in_err-body.ensures.refused)

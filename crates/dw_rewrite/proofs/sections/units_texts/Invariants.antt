@@ -8,6 +8,6 @@ use Rattle.dw_rewrite.proofs.sections.units_texts.Given as goal
 
 abbrev pub invariant-loop-unit : goal.invariant-loop-unit
 invariant-loop-unit l = record {
-  passed : SectionPass (debug_data l.view) (unit_section_at l.view l.section) l.units l.unit-index l.found;
+  passed : SectionPass (debug_data l.view) (unit_section_at l.view l.section) l.units l.unit-index l.found l.fn.slots l.slots;
   shared : AreTables (debug_data l.view) (λ at. get nat_eq l.shared at);
 }

@@ -4,11 +4,11 @@ use Rattle.dw_base.specs.ViewData.{debug_data}
 use Rattle.dw_rewrite.specs.SectionOrder.{first_of}
 use Rattle.dw_rewrite.specs.UnitTexts.{AreTables}
 use Rattle.dw_rewrite.proofs.SectionOrderLaws.{SectionsPass, sections_left}
-use Rattle.dw_rewrite.proofs.all_sections.all_texts.Given as goal
+use Rattle.dw_rewrite.proofs.all_sections.read_all.Given as goal
 
 abbrev pub invariant-loop-section : goal.invariant-loop-section
 invariant-loop-section l = record {
-  passed : SectionsPass l.view l.info l.types l.found.items;
+  passed : SectionsPass l.view l.info l.types l.found.items l.fn.slots l.slots;
   shared : AreTables (debug_data l.view) (λ at. get nat_eq l.shared at);
 }
 

@@ -1,0 +1,162 @@
+-- String offsets and name tables under a change of the tables of texts: the new texts and the new bytes are those that the fields of
+-- paths say, and name tables keep their bytes.
+use Rattle.std.specs.Prelude.{⊤}
+use Rattle.std.proofs.Common.{false, ◌≡◌, ℕ, ◌+◌, List, [], ◌∷◌, ◌++◌, length, drop, sym, ap, ◌∙◌, refl, subst, arith, append_assoc}
+use Rattle.std.proofs.Math.Seq.{drop-append_seam}
+use Rattle.std.proofs.lemmas.List.{length-append, drop-drop}
+use Rattle.dw_base.specs.Cells.{Cell, bytes_of}
+use Rattle.dw_base.specs.DebugData.{Around, table_of}
+use Rattle.dw_base.specs.Forms.{TextSection, in_str, in_line_str}
+use Rattle.dw_base.specs.NamePieces.{NameMode, at_table, at_string, at_rest, no_names, NameState}
+use Rattle.dw_base.specs.OffsetPieces.{OffsetMode, at_contribution, at_slot, no_offsets, OffsetState, past_offsets, offset_grammar, IsOffsetsHeader, FitsOffsets, ReadsOffsets}
+use Rattle.dw_base.specs.Paths.{PathMap}
+use Rattle.dw_base.specs.Pieces.{Piece, Chain, joined}
+use Rattle.dw_base.specs.Roles.{Role}
+use Rattle.dw_base.specs.SectionTexts.{edited_with, mentions_with, name_role, name_role_by, offset_role, slot_role}
+use Rattle.dw_base.specs.StringTables.{Mention, Plan, appending, texts_after, with_mention}
+use Rattle.dw_base.specs.TextChanges.{TableChanges, edited_by, mention_at, mentions_by, InlineFitsBy}
+use Rattle.dw_base.specs.declared.shared.Order.{Order}
+use Rattle.dw_base.proofs.UnitEditLaws.{length-bytes_of}
+use Rattle.dw_base.proofs.UnitHeaderLaws.{bytes_of-append}
+use Rattle.dw_meaning.proofs.OffsetMoveLaws.{EachCells}
+use Rattle.dw_offsets.proofs.SlotPieceLaws.{place-next}
+use Rattle.dw_rewrite.specs.Changes.{texts_at}
+use Rattle.dw_rewrite.specs.SlotPaths.{offset_fields}
+use Rattle.dw_rewrite.specs.UnitPaths.{field_by, inline_by, offset_table}
+use Rattle.dw_rewrite.specs.declared.fields.InlinePath.{InlinePath}
+use Rattle.dw_rewrite.specs.declared.fields.PathField.{PathField}
+use Rattle.dw_rewrite.proofs.EditedLaws.{piece_texts, FieldsFrom, from-less, from-piece}
+use Rattle.dw_rewrite.proofs.UnitWrittenLaws.{length-edited, no_path-asks, piece_written, unit_by}
+
+-- pieces of string offsets stand where their states say
+abbrev pub SlotsPlaced : List ℕ → ℕ → List (Piece OffsetState) → Type 0
+SlotsPlaced info place [] = ⊤
+SlotsPlaced info place (x ∷ xs) =
+    (x.state.place ≡ place) × (bytes_of x.cells ++ bytes_of (joined xs) ≡ drop place info) × SlotsPlaced info (place + length x.cells) xs
+
+pub slots-placed : (order : Order) (info : List ℕ) (s : OffsetState) (place : ℕ) (xs : List (Piece OffsetState)) → s.place ≡ place
+    → Chain (offset_grammar order) s xs → bytes_of (joined xs) ≡ drop place info → SlotsPlaced info place xs
+slots-placed order info s place [] at c e = tt
+slots-placed order info s place (x ∷ xs) at c e =
+    let here : x.state.place ≡ place = ap (λ (z : OffsetState). z.place) c.0 ∙ at in
+    let parts : bytes_of x.cells ++ bytes_of (joined xs) ≡ drop place info = sym (bytes_of-append x.cells (joined xs)) ∙ e in
+    let behind : bytes_of (joined xs) ≡ drop (place + length x.cells) info =
+    sym (drop-append_seam (bytes_of x.cells) (bytes_of (joined xs))) ∙ ap (λ (n : ℕ). drop n (bytes_of x.cells ++ bytes_of (joined xs))) (length-bytes_of x.cells)
+    ∙ ap (drop (length x.cells)) parts ∙ drop-drop (length x.cells) place info in
+    let next : (past_offsets x.state.mode order x.state x.cells).place ≡ place + length x.cells =
+    place-next x.state.mode order x.state x.cells c.1 ∙ ap (λ (i : ℕ). i + length x.cells) here in
+    (here, parts, slots-placed order info (past_offsets x.state.mode order x.state x.cells) (place + length x.cells) xs next c.2 behind)
+
+-- a section of no cells has no pieces
+pub no-offsets : (order : Order) (xs : List (Piece OffsetState)) → ReadsOffsets order [] xs → xs ≡ []
+no-offsets order [] r = refl
+no-offsets order (x ∷ xs) r =
+    let header : IsOffsetsHeader order x.state x.cells =
+    subst (λ (m : OffsetMode). FitsOffsets m order x.state x.cells) (ap (λ (z : OffsetState). z.mode) r.chain.0) r.chain.1 in
+    let whole : length (x.cells ++ joined xs) ≡ 0 = ap (λ (l : List Cell). length l) r.cells in
+    let size = length-append x.cells (joined xs) in
+    absurd (omega (arith, header.size, whole, size))
+
+-- the texts of pieces are those of their fields
+pub texts_by_slots : (table : TextSection) (plan : Plan) (m : PathMap) (around : Around) (info : List ℕ) (ts : List (List ℕ)) (place : ℕ) (paths : List ℕ) (xs : List (Piece OffsetState))
+    → plan ≡ appending m (table_of around table).bytes → SlotsPlaced info place xs → EachCells xs
+    → texts_after plan m ts (mentions_with (slot_role paths) table around xs) ≡ texts_at plan m (offset_table around table) info ts (offset_fields table paths xs)
+texts_by_slots table plan m around info ts place paths [] is l plain = refl
+texts_by_slots table plan m around info ts place paths (x ∷ xs) is l plain =
+    piece_texts (slot_role paths x.state) table plan m around info ts x.cells (bytes_of (joined xs)) place (mentions_with (slot_role paths) table around xs) (offset_fields table paths xs) is
+    plain.0 l.1 (λ (us : List (List ℕ)). texts_by_slots table plan m around info us (place + length x.cells) paths xs is l.2 plain.1)
+    ∙ ap (λ (i : ℕ). texts_at plan m (offset_table around table) info ts (field_by table (slot_role paths x.state) i (length x.cells) ++ offset_fields table paths xs)) (sym l.0)
+
+-- no slot holds an offset into the other table
+line-field : (paths : List ℕ) (m : OffsetMode) (n place size : ℕ) → field_by in_line_str (offset_role paths m n) place size ≡ []
+line-field paths at_contribution n place size = refl
+line-field paths (at_slot w end) n place size = refl
+line-field paths no_offsets n place size = refl
+
+pub line-fields : (paths : List ℕ) (xs : List (Piece OffsetState)) → offset_fields in_line_str paths xs ≡ []
+line-fields paths [] = refl
+line-fields paths (x ∷ xs) =
+    ap (λ (fs : List PathField). fs ++ offset_fields in_line_str paths xs) (line-field paths x.state.mode x.state.slot x.state.place (length x.cells))
+    ∙ line-fields paths xs
+
+-- and none a path
+no-inline : (paths : List ℕ) (m : OffsetMode) (n place : ℕ) (p : List Cell) → inline_by (offset_role paths m n) place p ≡ []
+no-inline paths at_contribution n place p = refl
+no-inline paths (at_slot w end) n place p = refl
+no-inline paths no_offsets n place p = refl
+
+fits-inline : (paths : List ℕ) (m : OffsetMode) (n : ℕ) (map : PathMap) (p : List Cell) → InlineFitsBy (offset_role paths m n) map p
+fits-inline paths at_contribution n map p = tt
+fits-inline paths (at_slot w end) n map p = tt
+fits-inline paths no_offsets n map p = tt
+
+from-place : (table : TextSection) (info : List ℕ) (place : ℕ) (paths : List ℕ) (xs : List (Piece OffsetState)) → SlotsPlaced info place xs → FieldsFrom place (offset_fields table paths xs)
+from-place table info place paths [] l = tt
+from-place table info place paths (x ∷ xs) l =
+    subst (λ (i : ℕ). FieldsFrom place (field_by table (slot_role paths x.state) i (length x.cells) ++ offset_fields table paths xs)) (sym l.0)
+    (from-piece table (slot_role paths x.state) place (length x.cells) (offset_fields table paths xs)
+    (from-less place (place + length x.cells) (offset_fields table paths xs) (omega arith) (from-place table info (place + length x.cells) paths xs l.2)))
+
+-- what pieces become
+pub slots_written : (c : TableChanges) (a : Around) (info front : List ℕ) (place : ℕ) (paths : List ℕ) (xs : List (Piece OffsetState))
+    → c.str.plan ≡ appending c.map a.str.bytes → c.line_str.plan ≡ appending c.map a.line_str.bytes → length front ≡ place → SlotsPlaced info place xs → EachCells xs
+    → unit_by c a info (offset_fields in_str paths xs) (offset_fields in_line_str paths xs) [] (front ++ bytes_of (joined xs))
+    ≡ front ++ bytes_of (joined (edited_with (slot_role paths) c a xs))
+slots_written c a info front place paths [] str line at l plain = refl
+slots_written c a info front place paths (x ∷ xs) str line at l plain =
+    let r : Role = slot_role paths x.state in
+    let q : List Cell = edited_by (slot_role paths x.state) c a x.cells in
+    let rest : List ℕ = bytes_of (joined xs) in
+    let fs : List PathField = offset_fields in_str paths xs in
+    let gs : List PathField = offset_fields in_line_str paths xs in
+    let fits : InlineFitsBy (slot_role paths x.state) c.map x.cells = fits-inline paths x.state.mode x.state.slot c.map x.cells in
+    let size : length q ≡ length x.cells = length-edited (slot_role paths x.state) c a x.cells plain.0 fits in
+    let next : length (front ++ bytes_of q) ≡ place + length x.cells = length-append front (bytes_of q) ∙ omega (arith, at, size, length-bytes_of q) in
+    ap (λ (i : ℕ). unit_by c a info (field_by in_str (slot_role paths x.state) i (length x.cells) ++ fs) (field_by in_line_str (slot_role paths x.state) i (length x.cells) ++ gs) []
+    (front ++ bytes_of (x.cells ++ joined xs))) l.0
+    ∙ ap (λ (b : List ℕ). unit_by c a info (field_by in_str (slot_role paths x.state) place (length x.cells) ++ fs)
+    (field_by in_line_str (slot_role paths x.state) place (length x.cells) ++ gs) [] (front ++ b)) (bytes_of-append x.cells (joined xs))
+    ∙ ap (λ (is : List InlinePath). unit_by c a info (field_by in_str (slot_role paths x.state) place (length x.cells) ++ fs)
+    (field_by in_line_str (slot_role paths x.state) place (length x.cells) ++ gs) (is ++ []) (front ++ (bytes_of x.cells ++ rest)))
+    (sym (no-inline paths x.state.mode x.state.slot place x.cells))
+    ∙ piece_written (slot_role paths x.state) c a info front x.cells rest place fs gs [] str line at plain.0 l.1 fits
+    (from-place in_str info (place + length x.cells) paths xs l.2) (from-place in_line_str info (place + length x.cells) paths xs l.2)
+    ∙ ap (unit_by c a info fs gs []) (sym (append_assoc front (bytes_of q) rest))
+    ∙ slots_written c a info (front ++ bytes_of q) (place + length x.cells) paths xs str line next l.2 plain.1
+    ∙ append_assoc front (bytes_of q) (bytes_of (joined (edited_with (slot_role paths) c a xs)))
+    ∙ ap (λ (b : List ℕ). front ++ b) (sym (bytes_of-append q (joined (edited_with (slot_role paths) c a xs))))
+
+-- name tables add no text
+name-texts : (mode : NameMode) (table : TextSection) (plan : Plan) (m : PathMap) (around : Around) (ts : List (List ℕ)) (p : List Cell) (more : List Mention)
+    → plan ≡ appending m (table_of around table).bytes → texts_after plan m ts (mentions_by (name_role_by mode) table around p ++ more) ≡ texts_after plan m ts more
+name-texts at_table in_str plan m around ts p more is = refl
+name-texts at_table in_line_str plan m around ts p more is = refl
+name-texts (at_string w left end) in_str plan m around ts p more is =
+    let none : with_mention plan m ts (mention_at around in_str false p) ≡ ts = rw is refl in
+    ap (λ (us : List (List ℕ)). texts_after plan m us more) none
+name-texts (at_string w left end) in_line_str plan m around ts p more is = refl
+name-texts (at_rest end) in_str plan m around ts p more is = refl
+name-texts (at_rest end) in_line_str plan m around ts p more is = refl
+name-texts no_names in_str plan m around ts p more is = refl
+name-texts no_names in_line_str plan m around ts p more is = refl
+
+pub names-texts : (table : TextSection) (plan : Plan) (m : PathMap) (around : Around) (ts : List (List ℕ)) (xs : List (Piece NameState))
+    → plan ≡ appending m (table_of around table).bytes → texts_after plan m ts (mentions_with name_role table around xs) ≡ ts
+names-texts table plan m around ts [] is = refl
+names-texts table plan m around ts (x ∷ xs) is =
+    name-texts x.state.mode table plan m around ts x.cells (mentions_with name_role table around xs) is ∙ names-texts table plan m around ts xs is
+
+-- and keep their cells
+name-kept : (mode : NameMode) (c : TableChanges) (a : Around) (p : List Cell) → c.str.plan ≡ appending c.map a.str.bytes → edited_by (name_role_by mode) c a p ≡ p
+name-kept at_table c a p str = refl
+name-kept (at_string w left end) c a p str =
+    let none = no_path-asks c.map a.str.bytes c.str.plan (mention_at a in_str false p).text str in
+    rw none refl
+name-kept (at_rest end) c a p str = refl
+name-kept no_names c a p str = refl
+
+pub names-kept : (c : TableChanges) (a : Around) (xs : List (Piece NameState)) → c.str.plan ≡ appending c.map a.str.bytes → joined (edited_with name_role c a xs) ≡ joined xs
+names-kept c a [] str = refl
+names-kept c a (x ∷ xs) str =
+    ap (λ (p : List Cell). p ++ joined (edited_with name_role c a xs)) (name-kept x.state.mode c a x.cells str)
+    ∙ ap (λ (p : List Cell). x.cells ++ p) (names-kept c a xs str)

@@ -1,0 +1,73 @@
+-- What the section of string offsets says of paths: the fields of the slots that paths name (DWARF 5, 7.26).
+use Rattle.std.specs.Prelude.{ℕ, ◌-◌, List, [], ◌∷◌, ◌++◌, length, take, drop, Option, Some, None}
+use Rattle.dw_base.specs.DebugData.{DebugData, DataReadings, around_of, path_slots}
+use Rattle.dw_base.specs.DebugSections.{name_of}
+use Rattle.dw_base.specs.FileViews.{View, section_bytes, section_named}
+use Rattle.dw_base.specs.Forms.{TextSection, in_str}
+use Rattle.dw_base.specs.OffsetPieces.{OffsetState}
+use Rattle.dw_base.specs.Paths.{PathMap}
+use Rattle.dw_base.specs.Pieces.{Piece}
+use Rattle.dw_base.specs.SectionTexts.{slot_role}
+use Rattle.dw_base.specs.ViewData.{debug_data}
+use Rattle.dw_base.specs.declared.debug_sections.DebugSection.TheVariants.{Names, StrOffsets}
+use Rattle.dw_meaning.specs.DataOutput.{Body}
+use Rattle.dw_offsets.specs.declared.slot_fields.PathSlot.{PathSlot}
+use Rattle.dw_rewrite.specs.NewTables.{bodies_known}
+use Rattle.dw_rewrite.specs.UnitPaths.{UnitPaths, field_by}
+use Rattle.dw_rewrite.specs.declared.fields.PathField.{PathField}
+
+-- the fields of slots as fields of paths
+abbrev pub as_fields : List PathSlot → List PathField
+as_fields [] = []
+as_fields (s ∷ ss) = record { at = s.at; size = s.size } ∷ as_fields ss
+
+-- the fields of paths' offsets into a table among pieces of string offsets
+abbrev pub offset_fields : TextSection → List ℕ → List (Piece OffsetState) → List PathField
+offset_fields table paths [] = []
+offset_fields table paths (x ∷ xs) = field_by table (slot_role paths x.state) x.state.place (length x.cells) ++ offset_fields table paths xs
+
+-- what a section of string offsets says of paths, by its number and these fields
+abbrev pub slots_with : ℕ → List PathField → UnitPaths
+slots_with number fields = record { number = number; str = fields; line_str = []; inline = [] }
+
+-- the same of the section of a view, where there is one
+abbrev pub slots_by : Option ℕ → List PathField → List UnitPaths
+slots_by None fields = []
+slots_by (Some number) fields = slots_with number fields ∷ []
+
+abbrev pub slots_of_view : View → List PathField → List UnitPaths
+slots_of_view v fields = slots_by (section_named v (name_of StrOffsets)) fields
+
+-- the fields of the slots that paths name, by what was read
+abbrev pub read_fields : DebugData → DataReadings → List PathField
+read_fields d r = offset_fields in_str (path_slots (around_of d r)) r.offsets
+
+abbrev pub slots_read : View → DataReadings → List UnitPaths
+slots_read v r = slots_of_view v (read_fields (debug_data v) r)
+
+-- the body of a section that keeps its bytes: number 0 and no bytes where there is none
+abbrev pub kept_body : View → Option ℕ → Body
+kept_body v None = record { number = 0; bytes = [] }
+kept_body v (Some i) = record { number = i; bytes = section_bytes v i }
+
+abbrev pub names_body : View → Body
+names_body v = kept_body v (section_named v (name_of Names))
+
+-- one body, of number 0 where there is none
+abbrev pub one_body : List Body → List Body
+one_body [] = record { number = 0; bytes = [] } ∷ []
+one_body (x ∷ xs) = x ∷ xs
+
+-- how many sections of string offsets a view has: one or none
+abbrev pub count_of : Option ℕ → ℕ
+count_of None = 0
+count_of (Some i) = 1
+
+abbrev pub slots_count : View → ℕ
+slots_count v = count_of (section_named v (name_of StrOffsets))
+
+-- the bodies behind the tables of texts, by what all sections say of paths, of which the last is that of string offsets, if there is
+-- one: string offsets, name tables, and units
+abbrev pub pushed_bodies : PathMap → View → (ℕ → Option ℕ) → (ℕ → Option ℕ) → List UnitPaths → List Body
+pushed_bodies m v ks kl us =
+    one_body (bodies_known m v ks kl (drop (length us - slots_count v) us)) ++ names_body v ∷ bodies_known m v ks kl (take (length us - slots_count v) us)
