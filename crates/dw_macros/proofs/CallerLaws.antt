@@ -1,0 +1,37 @@
+-- Each unit of those that were read is one in the view.
+use Rattle.std.proofs.Common.{inl, inr, ◌≡◌, ℕ, ◌+◌, ◌<◌, ◌≤◌, List, [], ◌∷◌, ◌++◌, length, get_or, refl, sym, ap, ◌∙◌, subst, arith}
+use Rattle.std.proofs.lemmas.Bool.{cases_lt}
+use Rattle.std.proofs.lemmas.List.{get_or_append_left, get_or-append-add, length-append}
+use Rattle.dw_base.specs.FileViews.{View, section_bytes}
+use Rattle.dw_macros.specs.MacroEvents.{IsUnitIn}
+use Rattle.dw_macros.specs.MacroUnits.{AreMacroUnits, IsMacroUnit, MacroUnitsUpTo, no_units, more_units, unit_with}
+use Rattle.dw_macros.specs.declared.units.MacroUnit.{MacroUnit}
+
+-- a unit that was read
+pub read-unit : (v : View) (section start : ℕ) (u : MacroUnit) → section < length v.sections → IsMacroUnit v section start u → IsUnitIn v u
+read-unit v section start u there is =
+    let own : section ≡ u.section = sym (ap (λ (x : MacroUnit). x.section) is.is) in
+    record {
+      start = start;
+      there = subst (λ (n : ℕ). n < length v.sections) own there;
+      is = subst (λ (n : ℕ). IsMacroUnit v n start u) own is;
+    }
+
+units-up_to : (v : View) (section place i : ℕ) (list : List MacroUnit) (d : MacroUnit) → section < length v.sections → MacroUnitsUpTo v section list place
+    → i < length list → IsUnitIn v (get_or list i d)
+units-up_to v section place i list d there no_units lt = absurd (omega (arith, lt))
+units-up_to v section place i list d there (more_units before u start so is) lt = elim (cases_lt i (length before)) [
+  | inl front ↦
+      subst (IsUnitIn v) (sym (get_or_append_left before (u ∷ []) d i front)) (units-up_to v section start i before d there so front)
+  | inr last ↦
+      let size = length-append before (u ∷ []) in
+      let here : i ≡ length before + 0 = omega (arith, lt, last, size) in
+      subst (IsUnitIn v) (sym (ap (λ (k : ℕ). get_or (before ++ u ∷ []) k d) here ∙ get_or-append-add before (u ∷ []) 0 d))
+      (read-unit v section start u there is)
+]
+
+pub unit-in : (v : View) (section i : ℕ) (list : List MacroUnit) (d : MacroUnit) → section < length v.sections → AreMacroUnits v section list → i < length list
+    → IsUnitIn v (get_or list i d)
+unit-in v section i list d there are lt = units-up_to v section (length (section_bytes v section)) i list d there are lt
+
+pub ruleset caller_laws = (unit-in)

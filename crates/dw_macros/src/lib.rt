@@ -1,0 +1,36 @@
+//! Macro units (DWARF 5, 6.3): which a section has, and the events of one.
+//!
+//! This layer promises: the macro units of a section are given only where they fill it, and are refused only
+//! where one of them can't be read, at that unit, at an operation that refers to a supplementary file, or at
+//! the offset of a text that names none. The events of a unit that was read are an iterator that takes no
+//! memory.
+//! It does not promise: that a line table or a macro unit starts where one is named.
+//! Read first: `specs/Operations.antt`, then `specs/MacroUnits.antt`.
+//!
+//! # Example
+//!
+//! ```
+//! for unit in macro_units(alloc, &view, section)?.iter() {
+//!     for event in MacroEvents::new(&view, unit) {
+//!         // a definition, a file that begins or ends, or another unit
+//!     }
+//! }
+//! ```
+#![tactic(auto)]
+
+mod events;
+#[cfg(test)]
+mod fixtures;
+mod header;
+mod macro_numbers;
+mod operation;
+mod reading;
+mod texts;
+mod units;
+mod widths;
+
+pub use dw_base::{Fault, Kind, Refusal, Width};
+pub use dw_strings::TextPlace;
+pub use events::MacroEvents;
+pub use operation::MacroEvent;
+pub use units::{MacroUnit, macro_units};

@@ -1,0 +1,117 @@
+//! The texts and line tables that offsets of a macro section name (DWARF 5, 6.3.2.3 and 6.3.1).
+//!
+//! This file promises: whether an offset names a text of `.debug_str`, by one comparison, and which; the
+//! offset that a field holds into a section.
+
+ghost use Rattle.std.specs.Prelude.{◌≡◌, ◌+◌, ◌≤◌, ◌<◌, length, Ok, IfOk, IfErr};
+ghost use Rattle.dw_base.specs.Cells.{offset_into};
+ghost use Rattle.dw_base.specs.FileViews.{section_bytes};
+ghost use Rattle.dw_base.specs.Forms.{width_size};
+ghost use Rattle.dw_base.specs.Texts.{ends_in};
+ghost use Rattle.dw_base.specs.ViewData.{located};
+ghost use Rattle.dw_macros.specs.MacroUnits.{names_text, offset_at};
+ghost use Rattle.dw_macros.specs.TextEnds.{IsTexts};
+
+use crate::widths::width_size;
+use dw_base::{DebugSection, Field, Refusal, Width, nul_end};
+use dw_view::View;
+
+/// The texts of `.debug_str`.
+#[derive(Clone, Copy)]
+pub(crate) struct Texts {
+    /// The section's number, 0 where there is none.
+    pub number: u32,
+    /// The place behind the last NUL.
+    pub end: u64,
+}
+
+/// The texts of a view.
+#[tactic(auto, using(crate::proofs::TextLaws::texts_laws))]
+pub(crate) fn texts_of(view: &View) -> Texts
+    ensures texts { IsTexts (located view.now DebugSection.Str) result }
+{
+    match view.first(DebugSection::Str) {
+        Some(section) => Texts {
+            number: section,
+            end: nul_end(view.bytes(section)) as u64,
+        },
+        None => Texts { number: 0, end: 0 },
+    }
+}
+
+/// A text begins where a field says.
+#[tactic(auto, using(crate::proofs::TextLaws::field_laws))]
+fn is_text(view: &View, texts: &Texts, field: Field) -> bool
+    requires texts { IsTexts (located view.now DebugSection.Str) texts.now }
+    ensures ends { result ≡ ends_in (located view.now DebugSection.Str).bytes (offset_into (located view.now DebugSection.Str) field) }
+{
+    match field {
+        Field::Num(offset) => offset < texts.end,
+        Field::Into { section, offset } => {
+            if section != texts.number {
+                return false;
+            }
+            offset < texts.end
+        }
+        Field::Sym { .. } => false,
+    }
+}
+
+/// A text begins where the offset at a place of a section says.
+#[tactic(auto, using(crate::proofs::TextLaws::names_laws))]
+pub(crate) fn names_text(
+    view: &View,
+    texts: &Texts,
+    section: u32,
+    width: Width,
+    field: u64,
+) -> Result<bool, Refusal>
+    requires there { section < length view.now.sections }
+    requires texts { IsTexts (located view.now DebugSection.Str) texts.now }
+    requires inside { field + width_size width ≤ length (section_bytes view.now section) }
+    ensures names { result ≡ Ok (names_text view.now section width field) }
+{
+    let read = view.field(section, field, width_size(width))?;
+    Ok(is_text(view, texts, read))
+}
+
+/// The number of a section of the view and its length, both 0 where there is none.
+#[tactic(auto, unfolding(dw_base::specs::ViewData::located))]
+pub(crate) fn section_of(view: &View, kind: DebugSection) -> (u32, u64)
+    ensures number { result.0 ≡ (located view.now kind).number }
+    ensures len { result.1 ≡ length (located view.now kind).bytes }
+{
+    match view.first(kind) {
+        Some(section) => (section, view.bytes(section).len() as u64),
+        None => (0, 0),
+    }
+}
+
+/// The offset that a field holds into a section; one into another section is the section's length.
+fn offset_into(view: &View, kind: DebugSection, field: Field) -> u64
+    ensures offset { result ≡ offset_into (located view.now kind) field }
+{
+    let (number, len) = section_of(view, kind);
+    match field {
+        Field::Num(offset) => offset,
+        Field::Into { section, offset } => { if section == number { offset } else { len } }
+        Field::Sym { .. } => len,
+    }
+}
+
+/// The offset at a place of a section, into a section of the view.
+#[tactic(auto, using(crate::proofs::TextLaws::names_laws))]
+pub(crate) fn offset_at(
+    view: &View,
+    kind: DebugSection,
+    section: u32,
+    width: Width,
+    field: u64,
+) -> Result<u64, Refusal>
+    requires there { section < length view.now.sections }
+    requires inside { field + width_size width ≤ length (section_bytes view.now section) }
+    ensures offset { result ≡ Ok (offset_at view.now (located view.now kind) section field width) }
+{
+    let read = view.field(section, field, width_size(width))?;
+    Ok(offset_into(view, kind, read))
+}

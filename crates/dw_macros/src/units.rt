@@ -1,0 +1,219 @@
+//! The macro units of a section (DWARF 5, 6.3).
+//!
+//! This file promises: the units that are given fill the section, in the order of their places; they are
+//! refused only where one of them can't be read, at that unit, at its operation, or at the offset of a text.
+
+ghost use Rattle.std.specs.Prelude.{◌≡◌, ◌+◌, ◌≤◌, ◌<◌, ◌^◌, List, length, IfOk, IfErr, OnOk};
+ghost use Rattle.dw_base.specs.FileViews.{section_bytes};
+ghost use Rattle.dw_base.specs.Refusals.{Blames};
+ghost use Rattle.dw_base.specs.ViewData.{located};
+ghost use Rattle.dw_base.specs.declared.fault.Refusal.{Refusal as RefusalOf};
+ghost use Rattle.dw_macros.specs.MacroFails.{MacroFails, MacroUnitsFail};
+ghost use Rattle.dw_macros.specs.MacroHeaders.{macro_header};
+ghost use Rattle.dw_macros.specs.HeaderRooms.{HasLineRoom};
+ghost use Rattle.dw_macros.specs.MacroUnits.{AreMacroUnits, IsMacroUnit, is_end, line_of, unit_operation, unit_with};
+ghost use Rattle.dw_macros.specs.TextEnds.{IsTexts};
+ghost use Rattle.dw_macros.specs.UnitEnds.{EndsAt, UnitBreaks};
+
+use crate::header::{MacroHeader, macro_header};
+use crate::operation::Operation;
+use crate::reading::operation_at;
+use crate::texts::{Texts, names_text, offset_at, texts_of};
+use dw_base::{DebugSection, Fault, Kind, Refusal, Width};
+use dw_view::View;
+use std::alloc::Global;
+
+/// A macro unit, with all places in bytes from its section's start.
+#[derive(Clone, Copy, Debug, PartialEq, Eq, Drop)]
+pub struct MacroUnit {
+    /// The number of its section.
+    pub section: u32,
+    /// Where it starts.
+    pub start: u64,
+    /// Where it ends.
+    pub end: u64,
+    /// Its version, 4 or 5.
+    pub version: u16,
+    /// How wide its offsets are.
+    pub width: Width,
+    /// What it names as the start of its line table, in bytes from that section's start.
+    pub line: Option<u64>,
+    /// Where that offset stands; 0 where there is none.
+    pub line_field: u64,
+    /// Where its first operation stands.
+    pub first: u64,
+}
+
+/// The operation at a place of the unit that starts at a place, and the place behind it. Refused exactly
+/// where there is none: as `Macro` at the unit, as `Supplementary` at the operation, as `StringOffset` at its
+/// offset.
+#[tactic(auto, using(crate::proofs::UnitLaws::operation_laws), unfolding(crate::specs::MacroUnits::unit_operation))]
+fn unit_operation(
+    view: &View,
+    texts: &Texts,
+    section: u32,
+    start: u64,
+    width: Width,
+    place: u64,
+) -> Result<(Operation, u64), Refusal>
+    requires there { section < length view.now.sections }
+    requires texts { IsTexts (located view.now DebugSection.Str) texts.now }
+    ensures operation { result ≡ unit_operation view.now section start width place }
+    ensures behind { IfOk result (λ o. place < o.1) }
+    ensures within { IfOk result (λ o. o.1 ≤ length (section_bytes view.now section)) }
+{
+    let Some((operation, next)) = operation_at(view.bytes(section), width, place) else {
+        return Err(Refusal::at(Kind::Macro, section, start));
+    };
+    match operation {
+        Operation::Foreign => Err(Refusal::at(Kind::Supplementary, section, place)),
+        Operation::Named { field, .. } => {
+            if !names_text(view, texts, section, width, field)? {
+                return Err(Refusal::at(Kind::StringOffset, section, field));
+            }
+            Ok((operation, next))
+        }
+        _ => Ok((operation, next)),
+    }
+}
+
+/// The operation ends its unit.
+fn is_end(operation: Operation) -> bool
+    ensures { result ≡ is_end operation }
+{
+    match operation {
+        Operation::End => true,
+        _ => false,
+    }
+}
+
+/// Where the unit of a header ends that starts at a place. Refused exactly where one of its operations is.
+#[tactic(auto, using(crate::proofs::UnitLaws::end_laws))]
+fn unit_end(
+    view: &View,
+    texts: &Texts,
+    section: u32,
+    start: u64,
+    header: &MacroHeader,
+) -> Result<u64, Refusal>
+    requires there { section < length view.now.sections }
+    requires texts { IsTexts (located view.now DebugSection.Str) texts.now }
+    requires within { header.now.first ≤ length (section_bytes view.now section) }
+    ensures ends { IfOk result (EndsAt view.now section start header.now.width header.now.first) }
+    ensures behind { IfOk result (λ end. header.now.first < end) }
+    ensures within { IfOk result (λ end. end ≤ length (section_bytes view.now section)) }
+    ensures refused { IfErr result (UnitBreaks view.now section start header.now.width header.now.first) }
+{
+    let mut place = header.first;
+    'operations: loop {
+        let (operation, next) = match unit_operation(
+            view,
+            texts,
+            section,
+            start,
+            header.width,
+            place,
+        ) {
+            Ok(read) => read,
+            Err(refusal) => return Err(refusal),
+        };
+        if is_end(operation) {
+            return Ok(next);
+        }
+        place = next;
+    }
+}
+
+/// The offset of the line table of a header, where it has one.
+#[tactic(auto, using(crate::proofs::UnitLaws::line_laws))]
+fn line_of(view: &View, section: u32, header: &MacroHeader) -> Result<Option<u64>, Refusal>
+    requires there { section < length view.now.sections }
+    requires room { HasLineRoom (section_bytes view.now section) header.now }
+    ensures line { result ≡ Ok (line_of view.now section header.now) }
+{
+    if !header.has_line {
+        return Ok(None);
+    }
+    let line = offset_at(
+        view,
+        DebugSection::Line,
+        section,
+        header.width,
+        header.line_field,
+    )?;
+    Ok(Some(line))
+}
+
+/// The unit of a header, with its end and its line table.
+fn unit_with(
+    section: u32,
+    start: u64,
+    header: &MacroHeader,
+    end: u64,
+    line: Option<u64>,
+) -> MacroUnit
+    ensures unit { result ≡ record { section = section; start = start; end = end; version = header.now.version; width = header.now.width; line = line; line_field = header.now.line_field; first = header.now.first } }
+{
+    MacroUnit {
+        section,
+        start,
+        end,
+        version: header.version,
+        width: header.width,
+        line,
+        line_field: header.line_field,
+        first: header.first,
+    }
+}
+
+/// The unit that starts at a place.
+#[tactic(auto, using(crate::proofs::UnitLaws::unit_laws))]
+fn unit_at(view: &View, texts: &Texts, section: u32, start: u64) -> Result<MacroUnit, Refusal>
+    requires there { section < length view.now.sections }
+    requires texts { IsTexts (located view.now DebugSection.Str) texts.now }
+    requires inside { start ≤ length (section_bytes view.now section) }
+    ensures read { IfOk result (IsMacroUnit view.now section start) }
+    ensures further { IfOk result (λ u. start < u.end) }
+    ensures within { IfOk result (λ u. u.end ≤ length (section_bytes view.now section)) }
+    ensures refused { IfErr result (MacroFails view.now section start) }
+{
+    let Some(header) = macro_header(view.order(), view.bytes(section), start) else {
+        return Err(Refusal::at(Kind::Macro, section, start));
+    };
+    let line = match line_of(view, section, &header) {
+        Ok(line) => line,
+        Err(refusal) => return Err(refusal),
+    };
+    let end = match unit_end(view, texts, section, start, &header) {
+        Ok(end) => end,
+        Err(refusal) => return Err(refusal),
+    };
+    Ok(unit_with(section, start, &header, end, line))
+}
+
+/// The macro units of the section of a number, in the order of their places. Refused exactly where they don't
+/// fill it: as `Macro` at the first unit that can't be read, since its header doesn't fit, its version isn't 4
+/// or 5, it has a table of operands, or an operation passes the section's end or isn't one that is listed; as
+/// `Supplementary` at an operation that refers to a supplementary file; as `StringOffset` at an offset behind
+/// which no text that ends begins in `.debug_str`.
+#[tactic(auto, using(crate::proofs::UnitListLaws::list_laws))]
+pub fn macro_units(alloc: Global, view: &View, section: u32) -> Result<Vec<MacroUnit>, Fault>
+    requires there { section < length view.now.sections }
+    ensures read { IfOk result (λ units. AreMacroUnits view.now section units.items) }
+    ensures none { OnOk result ((r : RefusalOf) → MacroUnitsFail view.now section r → ⊥) }
+    ensures refused { IfErr result (Blames (MacroUnitsFail view.now section)) }
+{
+    let texts = texts_of(view);
+    let len = view.bytes(section).len() as u64;
+    let mut units = Vec::new(alloc);
+    let mut start = 0;
+    'units: while start < len {
+        let unit = unit_at(view, &texts, section, start)?;
+        start = unit.end;
+        units.push(unit)?;
+    }
+    Ok(units)
+}
+
+#[cfg(test)]
+mod tests;
