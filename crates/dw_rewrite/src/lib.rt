@@ -29,6 +29,8 @@ mod file;
 #[cfg(test)]
 mod fixtures;
 mod found;
+#[cfg(test)]
+mod index_cases;
 mod inline;
 mod judge;
 mod known;

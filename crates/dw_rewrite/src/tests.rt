@@ -5,6 +5,7 @@ ghost use Rattle.dw_entries.specs.ViewUnits.{IsUnitSection};
 use crate::cases::{CASES, Case};
 use crate::file::rewrite;
 use crate::fixtures::file_of;
+use crate::index_cases::INDEX_CASES;
 use dw_abbrev::AbbrevTable;
 use dw_base::{DebugSection, Fault, Refusal};
 use dw_entries::{EntryScan, unit_headers};
@@ -38,16 +39,25 @@ fn wanted(alloc: Global, case: &Case) -> Result<Vec<u8>, Fault> {
     }
 }
 
+/// The file of a case is rewritten or refused as the case says.
+fn ends_as_it_says(rt: &impl Abort, alloc: Global, case: &Case) -> Result<(), Fail> {
+    let file = file_of(alloc, case.shape, case.sections, &[])?;
+    assert_eq!(rt;
+        rewritten(alloc, &file, case.maps),
+        wanted(alloc, case),
+        "{}",
+        case.shows
+    );
+    Ok(())
+}
+
 #[test]
 fn each_file_is_rewritten_or_refused_at_its_place(rt: HostRuntime) -> Result<(), Fail> {
     for case in CASES.iter() {
-        let file = file_of(rt.alloc(), case.shape, case.sections, &[])?;
-        assert_eq!(rt;
-            rewritten(rt.alloc(), &file, case.maps),
-            wanted(rt.alloc(), case),
-            "{}",
-            case.shows
-        );
+        ends_as_it_says(&rt, rt.alloc(), case)?;
+    }
+    for case in INDEX_CASES.iter() {
+        ends_as_it_says(&rt, rt.alloc(), case)?;
     }
     Ok(())
 }
@@ -107,6 +117,11 @@ fn keeps_entries(rt: &impl Abort, alloc: Global, case: &Case) -> Result<(), Fail
 #[test]
 fn entries_stay_where_they_are(rt: HostRuntime) -> Result<(), Fail> {
     for case in CASES.iter() {
+        if case.result.is_ok() {
+            keeps_entries(&rt, rt.alloc(), case)?;
+        }
+    }
+    for case in INDEX_CASES.iter() {
         if case.result.is_ok() {
             keeps_entries(&rt, rt.alloc(), case)?;
         }
