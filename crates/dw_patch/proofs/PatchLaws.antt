@@ -1,5 +1,6 @@
 -- Laws of patches: fields that are set stay apart, and what is put into one leaves the others.
-use Rattle.std.proofs.Common.{inl, inr, ◌⊎◌, ◌↔◌, Bool, true, false, ◌≡◌, ℕ, zero, suc, ◌+◌, ◌<◌, ◌≤◌, ◌^◌, List, [], ◌∷◌, ◌++◌, length, get_or, slice_index, refl, sym, ap, ◌∙◌, arith}
+use Rattle.std.proofs.Common.{inl, inr, ◌⊎◌, ◌↔◌, Bool, true, false, ◌≡◌, ℕ, zero, suc, ◌+◌, ◌<◌, ◌≤◌, ◌^◌, List, [], ◌∷◌, ◌++◌, length, get_or, drop, slice_index, refl, sym, ap, ◌∙◌, arith}
+use Rattle.std.proofs.Math.Seq.{drop-cons}
 use Rattle.std.proofs.lemmas.Bool.{both_ways, cases_lt}
 use Rattle.std.proofs.lemmas.List.{length-append, get_or-take, get_or-drop, get_or_default}
 use Rattle.dw_base.specs.Numbers.{with_number}
@@ -7,7 +8,7 @@ use Rattle.dw_base.specs.Refusals.{at}
 use Rattle.dw_base.specs.declared.fault.Kind.TheVariants.{TooWide}
 use Rattle.dw_base.specs.declared.shared.Order.{Order}
 use Rattle.dw_base.proofs.NumberLaws.{length-with_number, spelled-with_number, spelled-other, take-with_number, drop-with_number}
-use Rattle.dw_patch.specs.Patching.{patch_at, IsApart, IsFree, PatchFits, PatchesFit, PatchedUpTo, SetFails, too_wide}
+use Rattle.dw_patch.specs.Patching.{patch_at, IsApart, IsFree, PatchFits, PatchesFit, PatchedUpTo, SetFails, too_wide, with_patches}
 use Rattle.dw_patch.specs.declared.patches.Patch.{Patch}
 
 -- no field
@@ -118,7 +119,16 @@ pub put-fits : (size n : ℕ) (list : List Patch) (now : List ℕ) (p d : Patch)
     → PatchFits (length now) p
 put-fits size n list now p d p_is fit lt len = rw (len, patch-here list n p d p_is lt) (fit.each n lt)
 
-pub ruleset put_laws = (nothing-put, put-more, put-fits)
+-- the fields that are left, from one on
+pub put-step : (o : Order) (n : ℕ) (list : List Patch) (first now new : List ℕ) (p d : Patch) → with_patches o now (drop n list) ≡ with_patches o first list
+    → p ≡ get_or list n d → n < length list → new ≡ with_number o now p.at p.size p.value → with_patches o new (drop (n + 1) list) ≡ with_patches o first list
+put-step o n list first now new p d before p_is lt is =
+    let next : suc n ≡ n + 1 = omega arith in
+    let cut : drop n list ≡ p ∷ drop (n + 1) list =
+    drop-cons list n d lt ∙ ap (λ (k : ℕ). get_or list n d ∷ drop k list) next ∙ ap (λ (q : Patch). q ∷ drop (n + 1) list) (sym p_is) in
+    ap (λ (bs : List ℕ). with_patches o bs (drop (n + 1) list)) is ∙ sym (ap (with_patches o now) cut) ∙ before
+
+pub ruleset put_laws = (nothing-put, put-more, put-fits, put-step)
 
 pub ruleset apply_laws = (nothing-put)
 
@@ -126,19 +136,21 @@ pub ruleset apply_laws = (nothing-put)
 pub free-none : (list : List Patch) (place n : ℕ) → list ≡ [] → IsFree list place n
 free-none list place n none = rw none (record { apart = λ i lt. absurd (omega (arith, lt)) })
 
+-- and of none of one more that they have no byte in common with
+pub free-more : (old : List Patch) (p : Patch) (place n : ℕ) → IsFree old place n → IsApart p place n → IsFree (old ++ p ∷ []) place n
+free-more old p place n free apart = record {
+  apart = λ i lt. elim (cases_lt i (length old)) [
+    | inl front ↦ rw (patch-front old p i front) (free.apart i front)
+    | inr last ↦
+        let here : i ≡ length old = omega (arith, lt, last, length-append old (p ∷ [])) in
+        rw (here, patch-last old p) apart
+  ];
+}
+
 -- and behind the last that was set
 pub free-behind : (old new : List Patch) (place n at size value : ℕ) → new ≡ old ++ record { at = at; size = size; value = value } ∷ [] → at + size ≤ place → IsFree old place n
     → IsFree new place n
-free-behind old new place n at size value is behind free = rw is (all (record { at = at; size = size; value = value }) refl)
-  where
-    all : (p : Patch) → p ≡ record { at = at; size = size; value = value } → IsFree (old ++ p ∷ []) place n
-    all p p_is = record {
-      apart = λ i lt. elim (cases_lt i (length old)) [
-        | inl front ↦ rw (patch-front old p i front) (free.apart i front)
-        | inr last ↦
-            let here : i ≡ length old = omega (arith, lt, last, length-append old (p ∷ [])) in
-            rw (here, patch-last old p, p_is) (inr behind)
-      ];
-    }
+free-behind old new place n at size value is behind free =
+    rw is (free-more old (record { at = at; size = size; value = value }) place n free (inr behind))
 
 pub ruleset free_laws = (free-none, free-behind)

@@ -1,7 +1,7 @@
 -- New places of fields of a section: which fields are set, and what the section's bytes are after they were put (gABI ch. 4 "Data
 -- Representation").
 use Rattle.std.specs.Prelude.{◌≡◌, ◌⊎◌, ℕ, ◌+◌, ◌^◌, ◌<◌, ◌≤◌, List, [], ◌∷◌, ◌++◌, length, slice_index, slice_index_or}
-use Rattle.dw_base.specs.Numbers.{spelled}
+use Rattle.dw_base.specs.Numbers.{spelled, with_number}
 use Rattle.dw_base.specs.Refusals.{at}
 use Rattle.dw_base.specs.declared.fault.Kind.TheVariants.{TooWide}
 use Rattle.dw_base.specs.declared.fault.Refusal.{Refusal}
@@ -60,6 +60,11 @@ pub record PatchedUpTo (order : Order) (list : List Patch) (count : ℕ) (old ne
   pub size : length new ≡ length old
   pub reads : (i : ℕ) → i < count → spelled order new (patch_at list i).at (patch_at list i).size ≡ (patch_at list i).value
   pub kept : (k : ℕ) → ((i : ℕ) → i < count → IsApart (patch_at list i) k 1) → slice_index new k ≡ slice_index old k
+
+-- the bytes of a section with the new numbers of these fields, put one after another
+abbrev pub with_patches : Order → List ℕ → List Patch → List ℕ
+with_patches order bytes [] = bytes
+with_patches order bytes (p ∷ ps) = with_patches order (with_number order bytes p.at p.size p.value) ps
 
 -- all of them are put
 abbrev pub IsPatched : PatchList → List ℕ → List ℕ → Type 0

@@ -7,7 +7,7 @@ ghost use Rattle.std.specs.Prelude.{[], ◌≡◌, ◌↔◌, ◌+◌, ◌^◌, 
 ghost use Rattle.dw_base.specs.FileViews.{section_bytes};
 ghost use Rattle.dw_base.specs.Numbers.{with_number};
 ghost use Rattle.dw_base.specs.Refusals.{Blames};
-ghost use Rattle.dw_patch.specs.Patching.{IsFree, IsPatched, PatchFits, PatchList, PatchedUpTo, PatchesFit, SetFails, no_patches, number_of, patches_of, with_patch};
+ghost use Rattle.dw_patch.specs.Patching.{IsFree, IsPatched, PatchFits, PatchList, PatchedUpTo, PatchesFit, SetFails, no_patches, number_of, patches_of, with_patch, with_patches};
 
 use dw_base::{Fault, Kind, NoMemory, Order, Refusal, put_number};
 use dw_view::View;
@@ -95,6 +95,7 @@ impl Patches {
     pub fn apply(&self, bytes: &mut [u8])
         requires size { length bytes.old ≡ self.now.size }
         ensures patched { IsPatched self.now bytes.old bytes.new }
+        ensures put { bytes.new ≡ with_patches self.now.order bytes.old self.now.list }
     {
         apply_all(self.order, self.size, &self.list, bytes);
     }
@@ -106,6 +107,7 @@ fn apply_all(order: Order, size: u64, list: &[Patch], bytes: &mut [u8])
     requires fit { PatchesFit size list.now }
     requires size { length bytes.old ≡ size }
     ensures patched { PatchedUpTo order list.now (length list.now) bytes.old bytes.new }
+    ensures put { bytes.new ≡ with_patches order bytes.old list.now }
 {
     for patch in list {
         put(order, patch, bytes);

@@ -1,6 +1,10 @@
-use Rattle.dw_patch.specs.Patching.{PatchedUpTo}
+use Rattle.std.proofs.Common.{◌≡◌, drop}
+use Rattle.dw_patch.specs.Patching.{PatchedUpTo, with_patches}
 use Rattle.dw_patch.proofs.patches.apply_all.Given as goal
 
--- the fields so far are put
+-- the fields so far are put, and those that are left are put one after another
 abbrev pub invariant-loop-patch : goal.invariant-loop-patch
-invariant-loop-patch l = PatchedUpTo l.order l.list l.patch-index l.fn.bytes l.bytes
+invariant-loop-patch l = record {
+  patched : PatchedUpTo l.order l.list l.patch-index l.fn.bytes l.bytes;
+  put : with_patches l.order l.bytes (drop l.patch-index l.list) ≡ with_patches l.order l.fn.bytes l.list;
+}
