@@ -1,5 +1,5 @@
 -- New texts one place after another, and the new offsets of fields.
-use Rattle.std.proofs.Common.{Bool, true, false, ◌≡◌, ◌⊎◌, ℕ, zero, suc, ◌+◌, ◌^◌, ◌<◌, ◌≤◌, List, [], ◌∷◌, ◌++◌, length, get_or, drop, Option, Some, None, is_some, cond, sym, ap, ◌∙◌, refl, subst, arith, inl, inr}
+use Rattle.std.proofs.Common.{Bool, true, false, ◌≡◌, ℕ, zero, suc, ◌+◌, ◌^◌, ◌<◌, ◌≤◌, List, [], ◌∷◌, ◌++◌, length, get_or, drop, Option, Some, None, is_some, cond, sym, ap, ◌∙◌, refl, subst, arith, inl, inr}
 use Rattle.std.proofs.lemmas.Bool.{cases_lt}
 use Rattle.std.proofs.Math.Seq.{drop-cons}
 use Rattle.std.proofs.lemmas.List.{length-append}
@@ -106,13 +106,6 @@ path_there table info fields i f all lt is = subst (IsPathField table info) (sym
 
 pub ruleset note_all_rules = (texts_step, noted_step, noted_start, remembers_all, remembers_on, path_there)
 
--- the bytes of the fields that are left, from one on
-pub patch_step : (table : OffsetTable) (info out : List ℕ) (known : ℕ → Option ℕ) (fields : List PathField) (i : ℕ) (f : PathField) → i < length fields → f ≡ get_or fields i f
-    → with_all_known table info known (with_known table.order out f (known (offset_at table info f))) (drop (i + 1) fields)
-    ≡ with_all_known table info known out (drop i fields)
-patch_step table info out known fields i f lt is =
-    sym (ap (with_all_known table info known out) (field_front fields f i lt ∙ ap (λ (g : PathField). g ∷ drop (i + 1) fields) (sym is)))
-
 -- a field keeps the length of the bytes
 pub length-with_known : (order : Order) (out : List ℕ) (f : PathField) (known : Option ℕ) → f.at + f.size ≤ length out → length (with_known order out f known) ≡ length out
 length-with_known order out f None room = refl
@@ -121,15 +114,6 @@ length-with_known order out f (Some new) room = length-with_number order out f.a
 -- what is known fits
 pub fits_known : (known : ℕ → Option ℕ) (offset : ℕ) → AllFit known → ForSome (known offset) (λ (place : ℕ). place < 2 ^ 32)
 fits_known known offset fits = fits.each offset
-
--- what fits four bytes fits a field of an offset
-pub fits_field : (f : PathField) (place : ℕ) → (f.size ≡ 4) ⊎ (f.size ≡ 8) → place < 2 ^ 32 → place < 256 ^ f.size
-fits_field f place (inl four) small = rw four (omega (arith, small))
-fits_field f place (inr eight) small = rw eight (omega (arith, small))
-
-pub ruleset put_rules = (fits_field)
-
-pub ruleset patch_rules = (patch_step, fits_known, path_there)
 
 -- the places that are known are below the end of the table
 pub known_fit : (plan : Plan) (m : PathMap) (table : OffsetTable) (ts : List (List ℕ)) (known : ℕ → Option ℕ) → length (plan.kept ++ laid_texts ts) ≤ output_limit

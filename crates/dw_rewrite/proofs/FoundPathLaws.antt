@@ -62,6 +62,7 @@ use Rattle.dw_rewrite.specs.SlotPaths.{as_fields, offset_fields, read_fields, sl
 use Rattle.dw_rewrite.specs.TextPlaces.{AllFitRooms, AllPlaced, InlinesFit}
 use Rattle.dw_rewrite.specs.UnitPaths.{UnitPaths, field_by}
 use Rattle.dw_rewrite.specs.declared.fields.PathField.{PathField}
+use Rattle.dw_rewrite.proofs.ApartLaws.{slots-apart}
 use Rattle.dw_rewrite.proofs.EditedLaws.{piece_number}
 use Rattle.dw_rewrite.proofs.FoundLaws.{FoundReadings, found-readings, found-fits}
 use Rattle.dw_rewrite.proofs.NewBodyLaws.{offsets-placed, offsets-plain, offsets-of}
@@ -219,6 +220,7 @@ slots-have-by v rs (Some i) there r names = (
         (pieces-fields (path_slots (around_of (debug_data v) rs)) v.order (around_of (debug_data v) rs) (section_bytes v i) _ rs.offsets 0 r.chain
         (offsets-placed v (Some i) rs.offsets r) (offsets-plain v (Some i) rs.offsets r) names);
     line_str = record { each = λ k d lt. absurd (omega (arith, lt)) };
+    apart = slots-apart (section_bytes v i) 0 (path_slots (around_of (debug_data v) rs)) rs.offsets (offsets-placed v (Some i) rs.offsets r);
     rooms = record { each = λ k d lt. absurd (omega (arith, lt)) };
   },
   tt,

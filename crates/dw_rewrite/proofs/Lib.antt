@@ -33,6 +33,8 @@ pub mod BuiltLaws
 pub mod SectionOrderLaws
 pub mod IndexedLaws
 pub mod TableLaws
+pub mod ApartLaws
+pub mod FieldSetLaws
 pub mod SectionFactLaws
 pub mod RoomFitLaws
 pub mod GrowthLaws

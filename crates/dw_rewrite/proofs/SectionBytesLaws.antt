@@ -4,25 +4,29 @@ use Rattle.std.proofs.Math.Seq.{drop-cons}
 use Rattle.std.proofs.lemmas.List.{drop_all}
 use Rattle.dw_meaning.specs.DataOutput.{Body}
 use Rattle.dw_base.specs.FileViews.{View}
-use Rattle.dw_base.specs.Forms.{in_str, in_line_str}
+use Rattle.dw_base.specs.Forms.{TextSection, in_str, in_line_str}
 use Rattle.dw_base.specs.InlinePaths.{inline_fits}
 use Rattle.dw_base.specs.Paths.{PathMap}
 use Rattle.dw_base.specs.Refusals.{Blames}
+use Rattle.dw_base.specs.ViewData.{debug_data}
 use Rattle.dw_base.specs.declared.fault.Fault.{Fault}
 use Rattle.dw_base.specs.declared.fault.Fault.TheVariants.{NoMemory, Refused}
 use Rattle.dw_base.specs.declared.fault.Refusal.{Refusal}
-use Rattle.dw_rewrite.specs.Changes.{OffsetTable, ArePathFields, IsPathField, offset_at, with_known, with_all_known}
+use Rattle.dw_patch.specs.Patching.{PatchList, no_patches, with_patches}
+use Rattle.dw_patch.specs.declared.patches.Patch.{Patch}
+use Rattle.dw_rewrite.specs.Changes.{OffsetTable, AllApart, AreFree, ArePathFields, AreSet, IsPathField, known_patches, offset_at, with_known, with_all_known}
 use Rattle.dw_rewrite.specs.InlineRooms.{grows, Grows, one}
-use Rattle.dw_rewrite.specs.NewTables.{as_table, offsets_in, fields_of, info_of, HasPaths, AllRoomsFit, section_known, body_known, bodies_known}
+use Rattle.dw_rewrite.specs.NewTables.{as_table, offsets_in, fields_known, fields_of, info_of, HasPaths, AllRoomsFit, section_known, body_known, bodies_known}
 use Rattle.dw_rewrite.specs.TextPlaces.{InlinesFit}
 use Rattle.dw_rewrite.specs.UnitPaths.{UnitPaths, inline_text, inlined}
 use Rattle.dw_rewrite.specs.declared.fields.InlinePath.{InlinePath}
 use Rattle.dw_rewrite.specs.declared.fields.PathField.{PathField}
 use Rattle.dw_rewrite.specs.declared.tables.TextsOf.{TextsOf}
 use Rattle.dw_rewrite.proofs.ChangedLaws.{length-with_known}
+use Rattle.dw_rewrite.proofs.FieldSetLaws.{apart-behind, apart-front, both-put, free-behind, free-first}
 use Rattle.dw_rewrite.proofs.GrowthLaws.{moved}
 use Rattle.dw_rewrite.proofs.PlaceValueLaws.{EachOf, each-get}
-use Rattle.dw_rewrite.proofs.SectionFactLaws.{FitsIn, paths-fields}
+use Rattle.dw_rewrite.proofs.SectionFactLaws.{FitsIn}
 
 -- fields keep the length of the bytes
 rest-fields : (o : OffsetTable) (info : List ℕ) (f : PathField) (fs : List PathField) → ArePathFields o info (f ∷ fs) → ArePathFields o info fs
@@ -37,19 +41,56 @@ length-known o info out known (f ∷ fs) are long =
     length-known o info (with_known o.order out f (known (offset_at o info f))) known fs (rest-fields o info f fs are)
     (length-with_known o.order out f (known (offset_at o info f)) room ∙ long)
 
-pub section-long : (v : View) (t : TextsOf) (u : UnitPaths) (out new : List ℕ) (known : ℕ → Option ℕ) → HasPaths v u → length out ≡ length (info_of v u)
-    → new ≡ with_all_known (offsets_in v (as_table t)) (info_of v u) known out (fields_of (as_table t) u) → length new ≡ length (info_of v u)
-section-long v t u out new known h long is =
-    ap length is ∙ length-known (offsets_in v (as_table t)) (info_of v u) out known (fields_of (as_table t) u) (paths-fields v u (as_table t) h) long
+pub fields-long : (v : View) (u : UnitPaths) (out new : List ℕ) (ks kl : ℕ → Option ℕ) → HasPaths v u → length out ≡ length (info_of v u) → new ≡ fields_known v ks kl u out
+    → length new ≡ length (info_of v u)
+fields-long v u out new ks kl h long is =
+    ap length is
+    ∙ length-known (offsets_in v in_line_str) (info_of v u) (with_all_known (offsets_in v in_str) (info_of v u) ks out u.str) kl u.line_str h.line_str
+    (length-known (offsets_in v in_str) (info_of v u) out ks u.str h.str long)
 
--- the bytes with the new offsets of a table, as the code has them
-pub section-patched : (v : View) (t : TextsOf) (u : UnitPaths) (out new : List ℕ) (known : ℕ → Option ℕ) (o : OffsetTable) (info : List ℕ) (fields : List PathField)
-    → o ≡ offsets_in v (as_table t) → info ≡ info_of v u → fields ≡ fields_of (as_table t) u → new ≡ with_all_known o info known out fields
-    → new ≡ with_all_known (offsets_in v (as_table t)) (info_of v u) known out (fields_of (as_table t) u)
-section-patched v t u out new known o info fields eo ei ef is =
-    moved (λ p bs fs. new ≡ with_all_known p bs known out fs) o (offsets_in v (as_table t)) info (info_of v u) fields (fields_of (as_table t) u) eo ei ef is
+-- the fields of a table that were set, as the code has them
+pub section-set : (v : View) (t : TextsOf) (u : UnitPaths) (p q : PatchList) (known : ℕ → Option ℕ) (o : OffsetTable) (info : List ℕ) (fields : List PathField)
+    → o ≡ offsets_in v (as_table t) → info ≡ info_of v u → fields ≡ fields_of (as_table t) u → AreSet p q (known_patches o info known fields)
+    → AreSet p q (known_patches (offsets_in v (as_table t)) (info_of v u) known (fields_of (as_table t) u))
+section-set v t u p q known o info fields eo ei ef s =
+    moved (λ x bs fs. AreSet p q (known_patches x bs known fs)) o (offsets_in v (as_table t)) info (info_of v u) fields (fields_of (as_table t) u) eo ei ef s
 
-pub ruleset patch_rules = (section-long)
+-- they have no byte in common
+section-apart : (v : View) (u : UnitPaths) (table : TextSection) → HasPaths v u → AllApart (fields_of table u)
+section-apart v u in_str h = apart-front u.str u.line_str h.apart
+section-apart v u in_line_str h = apart-behind u.str u.line_str h.apart
+
+pub fields-apart : (v : View) (t : TextsOf) (u : UnitPaths) (fields : List PathField) → HasPaths v u → fields ≡ fields_of (as_table t) u → AllApart fields
+fields-apart v t u fields h is = subst AllApart (sym is) (section-apart v u (as_table t) h)
+
+pub fields-free : (v : View) (t : TextsOf) (u : UnitPaths) (fields : List PathField) (patches : List Patch) → AreFree patches (fields_of (as_table t) u) → fields ≡ fields_of (as_table t) u
+    → AreFree patches fields
+fields-free v t u fields patches free is = subst (AreFree patches) (sym is) free
+
+-- those of both tables, one after the other
+pub none-free : (v : View) (u : UnitPaths) (p : PatchList) (n size : ℕ) → p ≡ no_patches v.order n size → AreFree p.list u.str
+none-free v u p n size is = rw is (free-first u.str)
+
+pub line-free : (v : View) (u : UnitPaths) (p q : PatchList) (known : ℕ → Option ℕ) (n size : ℕ) → HasPaths v u → p ≡ no_patches v.order n size
+    → AreSet p q (known_patches (offsets_in v in_str) (info_of v u) known u.str) → AreFree q.list u.line_str
+line-free v u p q known n size h is s =
+    let list : q.list ≡ known_patches (offsets_in v in_str) (info_of v u) known u.str =
+    s.list ∙ ap (λ (x : PatchList). x.list ++ known_patches (offsets_in v in_str) (info_of v u) known u.str) is in
+    subst (λ (ps : List Patch). AreFree ps u.line_str) (sym list)
+    (free-behind (offsets_in v in_str) (info_of v u) known [] u.str u.line_str h.apart (free-first u.line_str))
+
+table-order : (v : View) (table : TextSection) → (offsets_in v table).order ≡ v.order
+unfolding debug_data
+table-order v in_str = refl
+table-order v in_line_str = refl
+
+pub fields-put : (v : View) (u : UnitPaths) (ks kl : ℕ → Option ℕ) (out new : List ℕ) (p q r : PatchList) (n size : ℕ) → p ≡ no_patches v.order n size
+    → AreSet p q (known_patches (offsets_in v in_str) (info_of v u) ks u.str) → AreSet q r (known_patches (offsets_in v in_line_str) (info_of v u) kl u.line_str)
+    → new ≡ with_patches r.order out r.list → new ≡ fields_known v ks kl u out
+fields-put v u ks kl out new p q r n size is first second put =
+    both-put (offsets_in v in_str) (offsets_in v in_line_str) (info_of v u) out new ks kl u.str u.line_str p q r
+    (ap (λ (x : PatchList). x.order) is ∙ sym (table-order v in_str)) (table-order v in_line_str ∙ sym (table-order v in_str)) (ap (λ (x : PatchList). x.list) is)
+    first second put
 
 -- a section whose paths all fit isn't refused
 fits-at : (m : PathMap) (info : List ℕ) (ps : List InlinePath) (k : ℕ) (d : InlinePath) → k < length ps → InlinesFit m info ps → IsTrue (inline_fits m (inline_text info (get_or ps k d)))
@@ -74,25 +115,16 @@ pub fit-at : (m : PathMap) (v : View) (us : List UnitPaths) (i : ℕ) (u : UnitP
 fit-at m v us i u fits lt is = subst (FitsIn m v) (sym is) (each-get (FitsIn m v) us i u lt (fit-each m v us fits))
 
 -- the bytes of a section, one change after another
-pub section-made : (m : PathMap) (v : View) (ks kl : ℕ → Option ℕ) (u : UnitPaths) (info first second third : List ℕ) → info ≡ info_of v u
-    → first ≡ with_all_known (offsets_in v in_str) (info_of v u) ks info u.str → second ≡ with_all_known (offsets_in v in_line_str) (info_of v u) kl first u.line_str
+section-made : (m : PathMap) (v : View) (ks kl : ℕ → Option ℕ) (u : UnitPaths) (info second third : List ℕ) → info ≡ info_of v u → second ≡ fields_known v ks kl u (info_of v u)
     → third ≡ inlined m info second u.inline → third ≡ section_known m v ks kl u
 unfolding section_known
-section-made m v ks kl u info first second third is one_ two_ three_ =
-    let start : first ≡ with_all_known (offsets_in v in_str) (info_of v u) ks (info_of v u) u.str =
-    one_ ∙ ap (λ (bs : List ℕ). with_all_known (offsets_in v in_str) (info_of v u) ks bs u.str) is in
-    three_ ∙ ap (λ (bs : List ℕ). inlined m bs second u.inline) is
-    ∙ ap (λ (out : List ℕ). inlined m (info_of v u) out u.inline)
-    (two_ ∙ ap (λ (out : List ℕ). with_all_known (offsets_in v in_line_str) (info_of v u) kl out u.line_str) start)
+section-made m v ks kl u info second third is two_ three_ =
+    three_ ∙ ap (λ (bs : List ℕ). inlined m bs second u.inline) is ∙ ap (λ (out : List ℕ). inlined m (info_of v u) out u.inline) two_
 
-pub section-written : (m : PathMap) (v : View) (ks kl : ℕ → Option ℕ) (u : UnitPaths) (info start first second third : List ℕ) (ps : List InlinePath) → start ≡ info_of v u
-    → info ≡ info_of v u → first ≡ with_all_known (offsets_in v in_str) (info_of v u) ks start u.str
-    → second ≡ with_all_known (offsets_in v in_line_str) (info_of v u) kl first u.line_str → third ≡ inlined m info second ps → ps ≡ u.inline
-    → third ≡ section_known m v ks kl u
-section-written m v ks kl u info start first second third ps begin is one_ two_ three_ paths =
-    section-made m v ks kl u info first second third is
-    (one_ ∙ ap (λ (bs : List ℕ). with_all_known (offsets_in v in_str) (info_of v u) ks bs u.str) (begin ∙ sym is)) two_
-    (three_ ∙ ap (inlined m info second) paths)
+pub section-written : (m : PathMap) (v : View) (ks kl : ℕ → Option ℕ) (u : UnitPaths) (info start second third : List ℕ) (ps : List InlinePath) → start ≡ info_of v u
+    → info ≡ info_of v u → second ≡ fields_known v ks kl u start → third ≡ inlined m info second ps → ps ≡ u.inline → third ≡ section_known m v ks kl u
+section-written m v ks kl u info start second third ps begin is two_ three_ paths =
+    section-made m v ks kl u info second third is (two_ ∙ ap (fields_known v ks kl u) begin) (three_ ∙ ap (inlined m info second) paths)
 
 -- the section with those bytes
 pub body-is : (m : PathMap) (v : View) (ks kl : ℕ → Option ℕ) (u : UnitPaths) (n : ℕ) (bytes new : List ℕ) → n ≡ u.number → bytes ≡ new → new ≡ section_known m v ks kl u

@@ -20,6 +20,7 @@ use Rattle.dw_rewrite.specs.NewTables.{offsets_in, fields_of, info_of, HasPaths}
 use Rattle.dw_rewrite.specs.TextPlaces.{InlinesFit, AllFitRooms, SectionSays, AllPlaced, fields_in}
 use Rattle.dw_rewrite.specs.UnitPaths.{UnitPaths}
 use Rattle.dw_rewrite.specs.UnitTexts.{AllTaken}
+use Rattle.dw_rewrite.proofs.ApartLaws.{says-apart}
 use Rattle.dw_rewrite.proofs.PlaceValueLaws.{EachOf, each-get, PlaceOf, section-each, path-fields, InlineOf, inlines-each, inline-rooms, inline-row}
 
 -- a section that was taken, in its place among all
@@ -76,6 +77,7 @@ has-paths v u f = record {
   there = subst (λ (n : ℕ). n < length v.sections) (sym (says-number (debug_data v) f.section u f.says)) (own-section v f.before f.behind f.section f.split).there;
   str = facts-fields v u in_str f (ap (λ (x : UnitPaths). x.str) f.says.says);
   line_str = facts-fields v u in_line_str f (ap (λ (x : UnitPaths). x.line_str) f.says.says);
+  apart = says-apart (debug_data v) f.section u f.says;
   rooms = subst (λ (bs : List ℕ). AreRooms bs u.inline) (says-bytes v f.before f.behind f.section u f.split f.says)
       (inline-rooms (debug_data v) f.section u.inline (facts-inline v u f));
 }

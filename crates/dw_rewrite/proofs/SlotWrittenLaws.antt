@@ -90,7 +90,7 @@ fits-inline paths at_contribution n map p = tt
 fits-inline paths (at_slot w end) n map p = tt
 fits-inline paths no_offsets n map p = tt
 
-from-place : (table : TextSection) (info : List ℕ) (place : ℕ) (paths : List ℕ) (xs : List (Piece OffsetState)) → SlotsPlaced info place xs → FieldsFrom place (offset_fields table paths xs)
+pub from-place : (table : TextSection) (info : List ℕ) (place : ℕ) (paths : List ℕ) (xs : List (Piece OffsetState)) → SlotsPlaced info place xs → FieldsFrom place (offset_fields table paths xs)
 from-place table info place paths [] l = tt
 from-place table info place paths (x ∷ xs) l =
     subst (λ (i : ℕ). FieldsFrom place (field_by table (slot_role paths x.state) i (length x.cells) ++ offset_fields table paths xs)) (sym l.0)

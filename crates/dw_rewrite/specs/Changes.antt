@@ -1,11 +1,13 @@
 -- What becomes of the bytes of a unit section and of a table of texts, by the fields that hold the offsets of paths into it.
-use Rattle.std.specs.Prelude.{true, ◌≡◌, ◌≢◌, ◌⊎◌, ℕ, ◌+◌, ◌^◌, ◌<◌, ◌≤◌, List, length, get_or, [], ◌∷◌, if◌then◌else◌, Option, Some, None, is_some}
+use Rattle.std.specs.Prelude.{true, ◌≡◌, ◌≢◌, ◌⊎◌, ℕ, ◌+◌, ◌^◌, ◌<◌, ◌≤◌, List, length, get_or, [], ◌∷◌, if◌then◌else◌, Option, Some, None, is_some, ◌++◌, ⊤}
 use Rattle.dw_base.specs.Numbers.{spelled, with_number}
 use Rattle.dw_base.specs.Paths.{PathMap}
 use Rattle.dw_base.specs.StringTables.{Mention, Plan, TextTable, appending, with_mention, with_text, place_in, new_place, new_text}
 use Rattle.dw_base.specs.TextChanges.{TableChange}
 use Rattle.dw_base.specs.Texts.{text_in, ends_in, is_in}
 use Rattle.dw_base.specs.declared.shared.Order.{Order}
+use Rattle.dw_patch.specs.Patching.{IsFree, PatchList}
+use Rattle.dw_patch.specs.declared.patches.Patch.{Patch}
 use Rattle.dw_rewrite.specs.declared.fields.PathField.{PathField}
 
 -- a table of texts, and the byte order in which fields hold offsets into it
@@ -100,3 +102,38 @@ with_all_known table info known out (f ∷ fs) =
 -- the new places of the paths of these fields are noted
 pub record AreNoted (plan : Plan) (table : OffsetTable) (info : List ℕ) (fields : List PathField) (count : ℕ) (known : ℕ → Option ℕ) : Type 0 where
   pub each : (k : ℕ) (d : PathField) → k < count → k < length fields → IsNoted plan table known (offset_at table info (get_or fields k d))
+
+-- two fields have no byte in common
+abbrev pub AreApart : PathField → PathField → Type 0
+AreApart f g = (g.at + g.size ≤ f.at) ⊎ (f.at + f.size ≤ g.at)
+
+-- a field has none in common with any of these
+abbrev pub IsApartFrom : PathField → List PathField → Type 0
+IsApartFrom f [] = ⊤
+IsApartFrom f (g ∷ gs) = AreApart f g × IsApartFrom f gs
+
+-- no two of these have one in common
+abbrev pub AllApart : List PathField → Type 0
+AllApart [] = ⊤
+AllApart (f ∷ fs) = IsApartFrom f fs × AllApart fs
+
+-- the patch of a field, where a new offset is known
+abbrev pub patch_by : PathField → Option ℕ → List Patch
+patch_by f None = []
+patch_by f (Some new) = record { at = f.at; size = f.size; value = new } ∷ []
+
+-- the patches of these fields to the new offsets that are known for the old ones
+abbrev pub known_patches : OffsetTable → List ℕ → (ℕ → Option ℕ) → List PathField → List Patch
+known_patches table info known [] = []
+known_patches table info known (f ∷ fs) = patch_by f (known (offset_at table info f)) ++ known_patches table info known fs
+
+-- these fields have no byte in common with any that is set
+abbrev pub AreFree : List Patch → List PathField → Type 0
+AreFree patches [] = ⊤
+AreFree patches (f ∷ fs) = IsFree patches f.at f.size × AreFree patches fs
+
+-- more fields of a section were set
+pub record AreSet (old new : PatchList) (more : List Patch) : Type 0 where
+  pub order : new.order ≡ old.order
+  pub size : new.size ≡ old.size
+  pub list : new.list ≡ old.list ++ more

@@ -1,6 +1,6 @@
 -- The tables of texts as an edit makes them, from the fields of paths of all unit sections of a view; and the new bytes of a
 -- section, from what is new of the tables.
-use Rattle.std.specs.Prelude.{◌≡◌, ◌≢◌, ℕ, ◌≤◌, ◌<◌, List, [], ◌∷◌, length, get_or, ⊤, Option}
+use Rattle.std.specs.Prelude.{◌≡◌, ◌≢◌, ℕ, ◌≤◌, ◌<◌, List, [], ◌∷◌, ◌++◌, length, get_or, ⊤, Option}
 use Rattle.dw_meaning.specs.DataOutput.{Body}
 use Rattle.dw_base.specs.DebugData.{DebugData}
 use Rattle.dw_base.specs.FileViews.{View, section_bytes}
@@ -17,7 +17,7 @@ use Rattle.dw_base.specs.declared.fault.Fault.{Fault}
 use Rattle.dw_base.specs.declared.fault.Fault.TheVariants.{NoMemory, Refused}
 use Rattle.dw_base.specs.declared.fault.Kind.TheVariants.{TooLarge}
 use Rattle.dw_base.specs.declared.fault.Refusal.{Refusal}
-use Rattle.dw_rewrite.specs.Changes.{OffsetTable, ArePathFields, AreNoted, Knows, Remembers, texts_at, patched, with_all_known}
+use Rattle.dw_rewrite.specs.Changes.{OffsetTable, AllApart, ArePathFields, AreNoted, Knows, Remembers, texts_at, patched, with_all_known}
 use Rattle.dw_rewrite.specs.InlineRooms.{AreRooms}
 use Rattle.dw_rewrite.specs.TextPlaces.{InlinesFit}
 use Rattle.dw_rewrite.specs.UnitPaths.{UnitPaths, inlined}
@@ -59,11 +59,13 @@ fields_of in_line_str u = u.line_str
 abbrev pub info_of : View → UnitPaths → List ℕ
 info_of v u = section_bytes v u.number
 
--- a section of a view: it is there, its fields of paths are fields, and its paths that stand in their values have rooms
+-- a section of a view: it is there, its fields of paths are fields of which no two have a byte in common, and its paths that
+-- stand in their values have rooms
 pub record HasPaths (v : View) (u : UnitPaths) : Type 0 where
   pub there : u.number < length v.sections
   pub str : ArePathFields (offsets_in v in_str) (info_of v u) u.str
   pub line_str : ArePathFields (offsets_in v in_line_str) (info_of v u) u.line_str
+  pub apart : AllApart (u.str ++ u.line_str)
   pub rooms : AreRooms (info_of v u) u.inline
 
 -- so have all of these
@@ -148,6 +150,11 @@ section_known m v ks kl u =
     let with_str = with_all_known (offsets_in v in_str) (info_of v u) ks (info_of v u) u.str in
     let with_both = with_all_known (offsets_in v in_line_str) (info_of v u) kl with_str u.line_str in
     inlined m (info_of v u) with_both u.inline
+
+-- the bytes of a section with the new offsets that are known in its fields of both tables
+abbrev pub fields_known : View → (ℕ → Option ℕ) → (ℕ → Option ℕ) → UnitPaths → List ℕ → List ℕ
+fields_known v ks kl u out =
+    with_all_known (offsets_in v in_line_str) (info_of v u) kl (with_all_known (offsets_in v in_str) (info_of v u) ks out u.str) u.line_str
 
 abbrev pub body_known : PathMap → View → (ℕ → Option ℕ) → (ℕ → Option ℕ) → UnitPaths → Body
 body_known m v ks kl u = record { number = u.number; bytes = section_known m v ks kl u }

@@ -1,4 +1,4 @@
-//! What becomes of the fields of paths: the new places of their texts are noted, and put into the fields.
+//! What becomes of the fields of paths: the new places of their texts are noted, and the fields are set to them.
 //!
 //! Read first: `specs/Changes.antt`.
 
@@ -10,11 +10,14 @@ ghost use Rattle.dw_base.specs.Layout.{output_limit};
 ghost use Rattle.dw_base.specs.LayoutFails.{TooLong};
 ghost use Rattle.dw_base.specs.Refusals.{Blames};
 ghost use Rattle.dw_base.specs.StringTables.{appending, table_bytes};
-ghost use Rattle.dw_rewrite.specs.Changes.{AllFit, ArePathFields, AreNoted, Knows, Remembers, texts_at, with_all_known, with_known};
+ghost use Rattle.dw_base.specs.declared.fault.Fault.TheVariants.{NoMemory};
+ghost use Rattle.dw_patch.specs.Patching.{IsFree};
+ghost use Rattle.dw_rewrite.specs.Changes.{AllApart, AllFit, AreFree, AreNoted, ArePathFields, AreSet, IsPathField, Knows, Remembers, known_patches, offset_at, patch_by, texts_at};
 
 use crate::fields::PathField;
 use crate::known::{note_path, offset_in};
-use dw_base::{Fault, Order, put_number};
+use dw_base::{Fault, Order};
+use dw_patch::{NewPlace, Patches};
 use dw_paths::Maps;
 use dw_strings::Pool;
 use std::alloc::Global;
@@ -50,36 +53,61 @@ pub(crate) fn note_fields(
     Ok(())
 }
 
-/// Puts the new offsets that are known for the old ones in these fields into the bytes of the section.
-#[tactic(auto, using(crate::proofs::ChangedLaws::patch_rules))]
-pub(crate) fn patch(
+/// Sets these fields of a section to the new offsets that are known for their old ones.
+#[tactic(auto, using(crate::proofs::FieldSetLaws::set_rules))]
+pub(crate) fn set_fields(
     order: Order,
     info: &[u8],
     table: &[u8],
     fields: &[PathField],
     known: &HashMap<u64, u64>,
-    out: &mut [u8],
-)
+    patches: &mut Patches,
+) -> Result<(), Fault>
     requires paths { ArePathFields (record { order = order; bytes = table.now }) info.now fields.now }
-    requires long { length out.old ≡ length info.now }
+    requires size { patches.old.size ≡ length info.now }
     requires fits { AllFit (λ o. get nat_eq known.now o) }
-    ensures { out.new ≡ with_all_known (record { order = order; bytes = table.now }) info.now (λ o. get nat_eq known.now o) out.old fields.now }
+    requires apart { AllApart fields.now }
+    requires free { AreFree patches.old.list fields.now }
+    ensures set { OnOk result (AreSet patches.old patches.new (known_patches (record { order = order; bytes = table.now }) info.now (λ o. get nat_eq known.now o) fields.now)) }
+    ensures only { IfErr result (λ f. f ≡ NoMemory) }
 {
     for at in fields {
-        let offset = offset_in(order, info, table, *at);
-        put_known(order, *at, known.get(&offset).copied(), out);
+        let new = known_at(order, info, table, *at, known);
+        set_known(*at, new, patches)?;
     }
+    Ok(())
 }
 
-/// Puts a new offset into a field, where one is known.
-#[tactic(auto, using(crate::proofs::ChangedLaws::put_rules))]
-fn put_known(order: Order, field: PathField, known: Option<u64>, out: &mut [u8])
-    requires inside { field.at + field.size ≤ length out.old }
+/// The new offset that is known for the old one in a field.
+#[tactic(auto, using(crate::proofs::FieldSetLaws::at_rules))]
+fn known_at(
+    order: Order,
+    info: &[u8],
+    table: &[u8],
+    field: PathField,
+    known: &HashMap<u64, u64>,
+) -> Option<u64>
+    requires path { IsPathField (record { order = order; bytes = table.now }) info.now field }
+    requires fits { AllFit (λ o. get nat_eq known.now o) }
+    ensures value { result ≡ get nat_eq known.now (offset_at (record { order = order; bytes = table.now }) info.now field) }
+    ensures fits { ForSome result (λ place. place < 2 ^ 32) }
+{
+    let offset = offset_in(order, info, table, field);
+    known.get(&offset).copied()
+}
+
+/// Sets a field to a new offset, where one is known.
+#[tactic(auto, using(crate::proofs::FieldSetLaws::known_rules))]
+fn set_known(field: PathField, known: Option<u64>, patches: &mut Patches) -> Result<(), Fault>
     requires sized { (field.size ≡ 4) ⊎ (field.size ≡ 8) }
+    requires inside { field.at + field.size ≤ patches.old.size }
+    requires free { IsFree patches.old.list field.at field.size }
     requires fits { ForSome known (λ place. place < 2 ^ 32) }
-    ensures { out.new ≡ with_known order out.old field known }
+    ensures set { OnOk result (AreSet patches.old patches.new (patch_by field known)) }
+    ensures only { IfErr result (λ f. f ≡ NoMemory) }
 {
     if let Some(place) = known {
-        let _is_put = put_number(order, out, field.at, field.size, place);
+        patches.set(field.at, field.size, NewPlace::Offset(place))?;
     }
+    Ok(())
 }

@@ -8,15 +8,16 @@ ghost use Rattle.std.specs.HashMap.{get};
 ghost use Rattle.dw_meaning.specs.DataOutput.{Body as BodyOf};
 ghost use Rattle.dw_base.specs.Refusals.{Blames};
 ghost use Rattle.dw_base.specs.declared.fault.Fault.TheVariants.{NoMemory};
-ghost use Rattle.dw_rewrite.specs.Changes.{AllFit, with_all_known};
+ghost use Rattle.dw_rewrite.specs.Changes.{AllFit, AreFree, AreSet, known_patches};
 ghost use Rattle.dw_rewrite.specs.InlineRooms.{Grows};
-ghost use Rattle.dw_rewrite.specs.NewTables.{AllHavePaths, AllRoomsFit, HasPaths, as_table, bodies_known, body_known, fields_of, info_of, offsets_in, section_known};
+ghost use Rattle.dw_rewrite.specs.NewTables.{AllHavePaths, AllRoomsFit, HasPaths, as_table, bodies_known, body_known, fields_known, fields_of, info_of, offsets_in, section_known};
 
-use crate::change::patch;
+use crate::change::set_fields;
 use crate::found::UnitPaths;
 use crate::inline::map_rooms;
 use crate::tables::{TextsOf, fields_of, table_texts};
 use dw_base::Fault;
+use dw_patch::Patches;
 use dw_paths::Maps;
 use dw_view::View;
 use std::alloc::Global;
@@ -106,8 +107,7 @@ fn write_section(
     ensures long { OnOk result (length out.new ≡ length (info_of view.now found.now)) }
     ensures refused { IfErr result (Blames (Grows maps.now found.now.number (info_of view.now found.now) found.now.inline)) }
 {
-    patch_section(view, TextsOf::Str, found, str, out);
-    patch_section(view, TextsOf::LineStr, found, line_str, out);
+    put_fields(alloc, view, str, line_str, found, out)?;
     let info = view.bytes(found.section);
     map_rooms(
         alloc,
@@ -120,29 +120,54 @@ fn write_section(
     Ok(())
 }
 
-/// Puts the new offsets into the fields of a table's paths in a section.
-#[tactic(auto, using(crate::proofs::SectionBytesLaws::patch_rules))]
-fn patch_section(
+/// Puts the new offsets into the fields of a section's paths, those of both tables at once.
+fn put_fields(
+    alloc: Global,
+    view: &View,
+    str: &HashMap<u64, u64>,
+    line_str: &HashMap<u64, u64>,
+    found: &UnitPaths,
+    out: &mut [u8],
+) -> Result<(), Fault>
+    requires paths { HasPaths view.now found.now }
+    requires long { length out.old ≡ length (info_of view.now found.now) }
+    requires str { AllFit (λ o. get nat_eq str.now o) }
+    requires line_str { AllFit (λ o. get nat_eq line_str.now o) }
+    ensures out { OnOk result (out.new ≡ fields_known view.now (λ o. get nat_eq str.now o) (λ o. get nat_eq line_str.now o) found.now out.old) }
+    ensures long { OnOk result (length out.new ≡ length (info_of view.now found.now)) }
+    ensures only { IfErr result (λ f. f ≡ NoMemory) }
+{
+    let mut patches = Patches::new(alloc, view, found.section)?;
+    set_section(view, TextsOf::Str, found, str, &mut patches)?;
+    set_section(view, TextsOf::LineStr, found, line_str, &mut patches)?;
+    patches.apply(out);
+    Ok(())
+}
+
+/// Sets the fields of a table's paths in a section to their new offsets.
+fn set_section(
     view: &View,
     texts: TextsOf,
     found: &UnitPaths,
     known: &HashMap<u64, u64>,
-    out: &mut [u8],
-)
+    patches: &mut Patches,
+) -> Result<(), Fault>
     requires paths { HasPaths view.now found.now }
-    requires long { length out.old ≡ length (info_of view.now found.now) }
+    requires size { patches.old.size ≡ length (info_of view.now found.now) }
     requires fits { AllFit (λ o. get nat_eq known.now o) }
-    ensures out { out.new ≡ with_all_known (offsets_in view.now (as_table texts)) (info_of view.now found.now) (λ o. get nat_eq known.now o) out.old (fields_of (as_table texts) found.now) }
-    ensures long { length out.new ≡ length (info_of view.now found.now) }
+    requires free { AreFree patches.old.list (fields_of (as_table texts) found.now) }
+    ensures set { OnOk result (AreSet patches.old patches.new (known_patches (offsets_in view.now (as_table texts)) (info_of view.now found.now) (λ o. get nat_eq known.now o) (fields_of (as_table texts) found.now))) }
+    ensures only { IfErr result (λ f. f ≡ NoMemory) }
 {
     let info = view.bytes(found.section);
     let fields = fields_of(found, texts);
-    patch(
+    set_fields(
         view.order(),
         info,
         table_texts(view, texts),
         fields,
         known,
-        out,
-    );
+        patches,
+    )?;
+    Ok(())
 }

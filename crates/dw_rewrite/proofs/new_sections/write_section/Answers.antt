@@ -10,6 +10,6 @@ use Rattle.dw_rewrite.proofs.new_sections.write_section.Goals as goal
 pub returns-clause-out : goal.returns-clause-out
 returns-clause-out c =
     section-written c.args.maps.now c.args.view.now (λ o. get nat_eq c.args.str.now o) (λ o. get nat_eq c.args.line_str.now o) c.args.found.now c.bytes-info.result.now c.args.out.now
-    c.patch_section.new.out c.patch_section-2.new.out c.map_rooms.new.out c.as_slice.result.now c.requires.start
-    (c.bytes-info.ensures.bytes ∙ ap (info_of c.args.view.now) c.found.view_is) c.patch_section.ensures.out c.patch_section-2.ensures.out c.in_ok-map_rooms.ensures.out
+    c.put_fields.new.out c.map_rooms.new.out c.as_slice.result.now c.requires.start
+    (c.bytes-info.ensures.bytes ∙ ap (info_of c.args.view.now) c.found.view_is) c.in_ok-put_fields.ensures.out c.in_ok-map_rooms.ensures.out
     (c.as_slice.ensures.value ∙ ap (λ (u : UnitPaths). u.inline) c.found.view_is)

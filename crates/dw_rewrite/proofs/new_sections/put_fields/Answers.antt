@@ -1,0 +1,32 @@
+-- The fields of both tables, one table after the other.
+use Rattle.std.proofs.Common.{ap, ◌∙◌, length}
+use Rattle.std.specs.HashMap.{get}
+use Rattle.std.specs.Prelude.{nat_eq}
+use Rattle.dw_patch.specs.Patching.{PatchList}
+use Rattle.dw_rewrite.specs.NewTables.{info_of}
+use Rattle.dw_rewrite.specs.UnitPaths.{UnitPaths}
+use Rattle.dw_rewrite.proofs.SectionBytesLaws.{fields-long, fields-put, line-free, none-free}
+use Rattle.dw_rewrite.proofs.new_sections.put_fields.Goals as goal
+
+pub set_section-requires-clause-size : goal.set_section-requires-clause-size
+set_section-requires-clause-size c =
+    ap (λ (x : PatchList). x.size) c.in_ok-patches.ensures.none ∙ ap (λ (u : UnitPaths). length (info_of c.args.view.now u)) c.found.view_is
+
+pub set_section-requires-clause-free : goal.set_section-requires-clause-free
+set_section-requires-clause-free c = none-free c.args.view.now c.args.found.now c.in_ok-patches.patches _ _ c.in_ok-patches.ensures.none
+
+pub set_section-requires-2-clause-free : goal.set_section-requires-2-clause-free
+set_section-requires-2-clause-free c =
+    line-free c.args.view.now c.args.found.now c.in_ok-patches.patches c.set_section.new.patches (λ o. get nat_eq c.args.str.now o) _ _ c.requires.paths c.in_ok-patches.ensures.none
+    c.in_ok-set_section.ensures.set
+
+pub returns-clause-out : goal.returns-clause-out
+returns-clause-out c =
+    fields-put c.args.view.now c.args.found.now (λ o. get nat_eq c.args.str.now o) (λ o. get nat_eq c.args.line_str.now o) c.args.out.now c.apply.new.bytes c.in_ok-patches.patches
+    c.set_section.new.patches c.set_section-2.new.patches _ _ c.in_ok-patches.ensures.none c.in_ok-set_section.ensures.set c.in_ok-set_section-2.ensures.set c.apply.ensures.put
+
+pub returns-clause-long : goal.returns-clause-long
+returns-clause-long c =
+    fields-long c.args.view.now c.args.found.now c.args.out.now c.apply.new.bytes (λ o. get nat_eq c.args.str.now o) (λ o. get nat_eq c.args.line_str.now o) c.requires.paths c.requires.long
+    (fields-put c.args.view.now c.args.found.now (λ o. get nat_eq c.args.str.now o) (λ o. get nat_eq c.args.line_str.now o) c.args.out.now c.apply.new.bytes c.in_ok-patches.patches
+    c.set_section.new.patches c.set_section-2.new.patches _ _ c.in_ok-patches.ensures.none c.in_ok-set_section.ensures.set c.in_ok-set_section-2.ensures.set c.apply.ensures.put)
