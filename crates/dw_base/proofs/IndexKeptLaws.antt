@@ -1,14 +1,17 @@
 -- A change of the tables of texts leaves which slot each value by index names: bases, indexes and contributions stand in pieces that
 -- stay.
-use Rattle.std.proofs.Common.{◌≡◌, ℕ, if◌then◌else◌, List, [], ◌∷◌, ◌++◌, length, Option, Some, refl, ap, ◌∙◌}
+use Rattle.std.proofs.Common.{Bool, true, false, ◌≡◌, ℕ, ◌==◌, ◌&&◌, ◌||◌, None, if◌then◌else◌, List, [], ◌∷◌, ◌++◌, length, Option, Some, refl, sym, ap, ◌∙◌}
 use Rattle.dw_base.specs.Cells.{Cell, Located, offset_into, offset_of, field_of}
 use Rattle.dw_base.specs.Forms.{ValueKind, number_of, text_offset, inline_text, kind_in}
 use Rattle.dw_base.specs.Pieces.{Piece}
-use Rattle.dw_base.specs.Roles.{Use, use_of, role_of_kind, role_of_mode, is_path}
+use Rattle.std.proofs.lemmas.Bool.{eqb-true}
+use Rattle.dw_base.specs.Roles.{Use, names_path, names_line_table, names_macro_unit, names_other, use_of, line_start, fixed, is_line_start, role_of_kind, role_of_mode, is_path}
 use Rattle.dw_base.specs.UnitStates.{Mode, at_header, at_code, at_values, at_chosen, stuck, UnitState}
 use Rattle.dw_base.specs.declared.shared.Order.{Order}
 use Rattle.dw_base.specs.declared.view_fields.Field.{Field}
 use Rattle.dw_base.specs.declared.view_fields.Field.TheVariants.{Num, Into, Sym}
+use Rattle.dw_base.specs.declared.dwarf_numbers.TheConstants.{DW_AT_stmt_list, DW_AT_macros, DW_AT_GNU_macros, DW_AT_str_offsets_base}
+use Rattle.dw_base.specs.declared.values.ValueClass.{ValueClass}
 use Rattle.dw_base.specs.declared.values.ValueClass.TheVariants.{Number, SecOffset}
 use Rattle.dw_base.proofs.PieceFrameLaws.{AllChanged}
 use Rattle.dw_base.proofs.UnitEditLaws.{Shift, Becomes, UnitsChanged}
@@ -19,21 +22,65 @@ use Rattle.dw_base.specs.TextIndexes.{base_value, is_base, SaidBase, said_by, ba
 use Rattle.dw_base.specs.declared.string_offsets.Contribution.{Contribution}
 use Rattle.dw_base.proofs.OffsetChangeLaws.{OffsetChange}
 
+-- what says where a line table starts says no base
+line-use : (u : Use) (class : ValueClass) (n : ℕ) → is_line_start u class n ≡ true → u ≡ names_line_table
+line-use names_line_table class n e = refl
+line-use names_path class n e = absurd cc
+line-use names_macro_unit class n e = absurd cc
+line-use names_other class n e = absurd cc
+
+line-name : (number tag name : ℕ) → use_of number tag name ≡ names_line_table → (name == DW_AT_stmt_list) ≡ true
+line-name number tag name e = by_name (is_path number tag name) (name == DW_AT_stmt_list) (name == DW_AT_macros || name == DW_AT_GNU_macros) e
+  where
+    is_line : Use → Bool
+    is_line names_line_table = true
+    is_line u = false
+
+    other : (u : Use) → is_line u ≡ false → u ≡ names_line_table → {b : Bool} → b ≡ true
+    other u none e = absurd (clash (ap is_line e) none)
+      where
+        clash : {b : Bool} → b ≡ true → b ≡ false → ⊥
+        clash f g = cc
+
+    by_name : (a b c : Bool) → (if a then names_path else (if b then names_line_table else (if c then names_macro_unit else names_other))) ≡ names_line_table → b ≡ true
+    by_name true b c e = other names_path refl e
+    by_name false true c e = refl
+    by_name false false true e = other names_macro_unit refl e
+    by_name false false false e = other names_other refl e
+
+no-base : (number name : ℕ) → (name == DW_AT_stmt_list) ≡ true → is_base number name ≡ false
+no-base number name e = ap (λ (k : ℕ). number == 0 && k == DW_AT_str_offsets_base) (eqb-true name DW_AT_stmt_list e) ∙ neither (number == 0)
+  where
+    neither : (b : Bool) → (b && false) ≡ false
+    neither true = refl
+    neither false = refl
+
 -- what a value says of the base stays
-base-kept : (k : ValueKind) (u : Use) (c : Shift) (order : Order) (z : Located) (p q : List Cell) → Becomes (role_of_kind k u) c p q → base_value order z k q ≡ base_value order z k p
-base-kept (text_offset table n) u c order z p q h = refl
-base-kept inline_text u c order z p q h = refl
-base-kept k u c order z p q h = ap (base_value order z k) h
+abbrev base_by : ValueKind → Order → Located → UnitState → ℕ → ℕ → List Cell → List SaidBase
+base_by k order z s number name p = if is_base number name then said_by s.unit (base_value order z k p) else []
+
+base-kept : (k : ValueKind) (number tag name : ℕ) (c : Shift) (order : Order) (z : Located) (s : UnitState) (p q : List Cell) → Becomes (role_of_kind k (use_of number tag name)) c p q
+    → base_by k order z s number name q ≡ base_by k order z s number name p
+base-kept (text_offset table n) number tag name c order z s p q h = refl
+base-kept inline_text number tag name c order z s p q h = refl
+base-kept (number_of class n) number tag name c order z s p q h = by_start (is_line_start (use_of number tag name) class n) refl h
+  where
+    by_start : (b : Bool) → is_line_start (use_of number tag name) class n ≡ b → Becomes (if b then line_start else fixed) c p q
+        → base_by (number_of class n) order z s number name q ≡ base_by (number_of class n) order z s number name p
+    by_start false e h = ap (base_by (number_of class n) order z s number name) h
+    by_start true e h =
+        let none : is_base number name ≡ false = no-base number name (line-name number tag name (line-use (use_of number tag name) class n e)) in
+        ap (λ (b : Bool). if b then said_by s.unit (base_value order z (number_of class n) q) else []) none
+        ∙ sym (ap (λ (b : Bool). if b then said_by s.unit (base_value order z (number_of class n) p) else []) none)
+base-kept k number tag name c order z s p q h = ap (base_by k order z s number name) h
 
 bases-by : (m : Mode) (c : Shift) (order : Order) (z : Located) (s : UnitState) (p q : List Cell) → Becomes (role_of_mode m s.header.params) c p q
     → bases_by m order z s q ≡ bases_by m order z s p
 bases-by at_header c order z s p q h = refl
 bases-by at_code c order z s p q h = refl
 bases-by (at_values number tag []) c order z s p q h = refl
-bases-by (at_values number tag (x ∷ xs)) c order z s p q h =
-    ap (λ (o : Option ℕ). if is_base number x.name then said_by s.unit o else []) (base-kept (kind_in s.header.params x.form) (use_of number tag x.name) c order z p q h)
-bases-by (at_chosen number tag start x xs) c order z s p q h =
-    ap (λ (o : Option ℕ). if is_base number x.name then said_by s.unit o else []) (base-kept (kind_in s.header.params x.form) (use_of number tag x.name) c order z p q h)
+bases-by (at_values number tag (x ∷ xs)) c order z s p q h = base-kept (kind_in s.header.params x.form) number tag x.name c order z s p q h
+bases-by (at_chosen number tag start x xs) c order z s p q h = base-kept (kind_in s.header.params x.form) number tag x.name c order z s p q h
 bases-by stuck c order z s p q h = refl
 
 -- so the bases of units stay
@@ -80,10 +127,21 @@ bases-same order z w (x ∷ xs) number size =
     ap (λ (bs : List SaidBase). bs ++ bases_in order z xs) (base-of-piece x.state.mode order z w x.state x.cells number size)
     ∙ ap (λ (bs : List SaidBase). bases_by x.state.mode order w x.state x.cells ++ bs) (bases-same order z w xs number size)
 
+-- what says where a line table starts names no text by index
+pub start-no-index : (u : Use) (class : ValueClass) (n : ℕ) (order : Order) (p : List Cell) → is_line_start u class n ≡ true → index_value order (number_of class n) p ≡ None
+start-no-index names_line_table SecOffset n order p e = refl
+start-no-index names_line_table Number n order p e = refl
+start-no-index u class n order p e = absurd cc
+
 -- what a value names by index stays
 index-kept : (k : ValueKind) (u : Use) (c : Shift) (order : Order) (p q : List Cell) → Becomes (role_of_kind k u) c p q → index_value order k q ≡ index_value order k p
 index-kept (text_offset table n) u c order p q h = refl
 index-kept inline_text u c order p q h = refl
+index-kept (number_of class n) u c order p q h = by_start (is_line_start u class n) refl h
+  where
+    by_start : (b : Bool) → is_line_start u class n ≡ b → Becomes (if b then line_start else fixed) c p q → index_value order (number_of class n) q ≡ index_value order (number_of class n) p
+    by_start false e h = ap (index_value order (number_of class n)) h
+    by_start true e h = start-no-index u class n order q e ∙ sym (start-no-index u class n order p e)
 index-kept k u c order p q h = ap (index_value order k) h
 
 uses-by : (m : Mode) (c : Shift) (order : Order) (s : UnitState) (p q : List Cell) → Becomes (role_of_mode m s.header.params) c p q → uses_by m order s q ≡ uses_by m order s p

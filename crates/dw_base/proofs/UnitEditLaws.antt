@@ -3,13 +3,14 @@ use Rattle.std.proofs.Common.{Bool, true, false, suc, ◌≡◌, ℕ, ◌+◌, �
 use Rattle.std.specs.Prelude.{nat_le, ⊤}
 use Rattle.std.proofs.lemmas.Bool.{leb-true, le-leb}
 use Rattle.dw_base.specs.Cells.{Cell, bytes_of}
-use Rattle.dw_base.specs.DebugData.{Around, table_of}
-use Rattle.dw_base.specs.Forms.{TextSection, ValueKind, inline_text, text_offset, form_in_front, kind_in}
+use Rattle.dw_base.specs.DebugData.{Around, line_table, table_of}
+use Rattle.dw_base.specs.Forms.{TextSection, ValueKind, number_of, inline_text, text_offset, form_in_front, kind_in}
 use Rattle.dw_base.specs.InlinePaths.{mapped_inline}
 use Rattle.dw_base.specs.Numbers.{spelled, number_at}
 use Rattle.dw_base.specs.Paths.{PathMap}
 use Rattle.dw_base.specs.Pieces.{Piece}
-use Rattle.dw_base.specs.Roles.{Role, fixed, offset, inline_path, role_of_kind, role_of_mode, Use, is_path_use, use_of}
+use Rattle.dw_base.specs.LineMeanings.{is_there}
+use Rattle.dw_base.specs.Roles.{Role, fixed, offset, inline_path, line_start, is_line_start, role_of_kind, role_of_mode, Use, is_path_use, use_of}
 use Rattle.dw_base.specs.StringTables.{new_text}
 use Rattle.dw_base.specs.TextChanges.{mention_at, offset_in}
 use Rattle.dw_base.specs.TextIndexes.{index_value, slot_of}
@@ -46,10 +47,17 @@ pub record Rewritten (c : Shift) (p q : List Cell) : Type 0 where
   pub whole : length (text_in (bytes_of q) 0) + 1 ≡ length q
   pub says : text (bytes_of q) ≡ mapped_inline c.map (text (bytes_of p))
 
+-- the start of a line table is another of the same size, which names the table of the same number
+pub record Restarted (c : Shift) (p q : List Cell) : Type 0 where
+  pub size : length q ≡ length p
+  pub says : line_table c.new q ≡ line_table c.old p
+  pub names : IsTrue (is_there (line_table c.new q))
+
 abbrev pub Becomes : Role → Shift → List Cell → List Cell → Type 0
 Becomes fixed c p q = q ≡ p
 Becomes (offset table path) c p q = Renamed c table path p q
 Becomes inline_path c p q = Rewritten c p q
+Becomes line_start c p q = Restarted c p q
 
 -- the slot of a number has the new text of a value that names it
 abbrev pub SlotBecomes : Option ℕ → Bool → Shift → Type 0
@@ -80,6 +88,7 @@ pub length-becomes : (r : Role) (c : Shift) (p q : List Cell) → Becomes r c p 
 length-becomes fixed c p q h = ap length h
 length-becomes (offset table path) c p q h = h.size
 length-becomes inline_path c p q h = h.size
+length-becomes line_start c p q h = h.size
 
 pub length-bytes_of : (p : List Cell) → length (bytes_of p) ≡ length p
 length-bytes_of [] = refl
@@ -126,6 +135,26 @@ offset-value s x table n p q e f =
       before = before-same s p q e f.before;
     }
 
+-- a number of the same size
+number-value : (s : UnitState) (x : Spec) (class : ValueClass) (n : ℕ) (p q : List Cell) → length q ≡ length p → IsValue s x (number_of class n) p → IsValue s x (number_of class n) q
+unfolding value_of
+number-value s x class n p q e f =
+    let order : Order = s.header.params.order in
+    let there = number-there order (bytes_of p) class n f.value f.is in
+    let size : n ≡ length p = sym there.1 ∙ f.size in
+    let room : length (bytes_of q) ≡ length p = length-bytes_of q ∙ e in
+    record {
+      value = field_at order (bytes_of q) class n;
+      is = number-stands order (bytes_of q) class n (omega (arith, size, room));
+      size = size ∙ sym e;
+      before = before-same s p q e f.before;
+    }
+
+number-becomes : (b : Bool) (c : Shift) (s : UnitState) (x : Spec) (class : ValueClass) (n : ℕ) (p q : List Cell) → Becomes (if b then line_start else fixed) c p q
+    → IsValue s x (number_of class n) p → IsValue s x (number_of class n) q
+number-becomes true c s x class n p q h f = number-value s x class n p q h.size f
+number-becomes false c s x class n p q h f = same-value s x (number_of class n) p q h f
+
 -- a text in place of a text
 inline-value : (b : Bool) (c : Shift) (s : UnitState) (x : Spec) (p q : List Cell) → Becomes (if b then inline_path else fixed) c p q
     → IsValue s x inline_text p → IsValue s x inline_text q
@@ -143,6 +172,7 @@ value-becomes : (k : ValueKind) (u : Use) (c : Shift) (s : UnitState) (x : Spec)
     → IsValue s x k p → IsValue s x k q
 value-becomes (text_offset table n) u c s x p q h f = offset-value s x table n p q h.size f
 value-becomes inline_text u c s x p q h f = inline-value (is_path_use u) c s x p q h f
+value-becomes (number_of class n) u c s x p q h f = number-becomes (is_line_start u class n) c s x class n p q h f
 value-becomes k u c s x p q h f = same-value s x k p q h f
 
 kind-becomes : (k : ValueKind) (u : Use) (c : Shift) (s : UnitState) (x : Spec) (p q : List Cell) → Becomes (role_of_kind k u) c p q
@@ -150,6 +180,7 @@ kind-becomes : (k : ValueKind) (u : Use) (c : Shift) (s : UnitState) (x : Spec) 
 kind-becomes form_in_front u c s x p q h f = subst (λ (z : List Cell). FitsKind form_in_front s x z) (sym h) f
 kind-becomes (text_offset table n) u c s x p q h f = offset-value s x table n p q h.size f
 kind-becomes inline_text u c s x p q h f = inline-value (is_path_use u) c s x p q h f
+kind-becomes (number_of class n) u c s x p q h f = number-becomes (is_line_start u class n) c s x class n p q h f
 kind-becomes k u c s x p q h f = subst (λ (z : List Cell). FitsKind k s x z) (sym h) f
 
 fits-becomes : (m : Mode) (base : UnitBase) (c : Shift) (s : UnitState) (p q : List Cell) → Becomes (role_of_mode m s.header.params) c p q

@@ -1,8 +1,10 @@
 -- The debug data of a file, apart from how its sections lie: the unit sections, and what their values refer to; and the
 -- pieces that were read of them.
-use Rattle.std.specs.Prelude.{true, false, ◌≡◌, ◌+◌, ◌==◌, ℕ, if◌then◌else◌, List, [], ◌∷◌, ◌++◌, ⊤}
-use Rattle.dw_base.specs.Cells.{Cell, Located, CellSection, located_cells}
+use Rattle.std.specs.Prelude.{true, false, ◌≡◌, ◌+◌, ◌==◌, ℕ, Option, Some, None, if◌then◌else◌, List, [], ◌∷◌, ◌++◌, ⊤}
+use Rattle.dw_base.specs.Cells.{Cell, Located, CellSection, located_cells, offset_of}
 use Rattle.dw_base.specs.Forms.{TextSection, in_str, in_line_str}
+use Rattle.dw_base.specs.LineReadings.{LineReading, table_starts}
+use Rattle.dw_base.specs.LineSources.{LineSource}
 use Rattle.dw_base.specs.NamePieces.{NameState}
 use Rattle.dw_base.specs.OffsetPieces.{OffsetState}
 use Rattle.dw_base.specs.Pieces.{Piece}
@@ -13,19 +15,22 @@ use Rattle.dw_base.specs.UnitHeaders.{UnitBase, UnitSection, SectionKind, in_inf
 use Rattle.dw_base.specs.UnitPieces.{ReadsUnits}
 use Rattle.dw_base.specs.UnitStates.{Mode, at_header, at_code, UnitState, code_value}
 
--- the unit sections in the order of their numbers, what all units are read by, the tables of texts, string offsets, and name tables
+-- the unit sections in the order of their numbers, what all units are read by, the tables of texts, string offsets, line tables, and
+-- name tables
 pub record DebugData : Type 0 where
   pub base : UnitBase
   pub units : List UnitSection
   pub str : Located
   pub line_str : Located
   pub offsets : CellSection
+  pub lines : CellSection
   pub names : CellSection
 
--- all that was read of debug data: the unit sections, string offsets, and name tables
+-- all that was read of debug data: the unit sections, string offsets, line tables, and name tables
 pub record DataReadings : Type 0 where
   pub units : Readings
   pub offsets : List (Piece OffsetState)
+  pub lines : List LineReading
   pub names : List (Piece NameState)
 
 -- how many units begin in pieces
@@ -83,12 +88,34 @@ pub record Lasting : Type 0 where
   pub infos : List ℕ
   pub indexing : Indexing
 
--- what stands around a section that its values refer to: that, the tables of texts, and the texts of the slots
+-- what stands around a section that its values refer to: that, the tables of texts, the texts of the slots, and the section of line
+-- tables with their starts
 pub record Around : Type 0 where
   pub lasting : Lasting
   pub str : Located
   pub line_str : Located
   pub slots : List (List ℕ)
+  pub lines : Located
+  pub starts : List ℕ
+
+-- what line tables are read from
+abbrev pub source_around : Around → LineSource
+source_around around = record {
+  order = around.lasting.base.order;
+  number = around.lines.number;
+  bytes = around.lines.bytes;
+  str = around.str;
+  line_str = around.line_str;
+}
+
+-- the number of the table that starts at a place, of tables numbered from `first` on
+abbrev pub start_number : ℕ → List ℕ → ℕ → Option ℕ
+start_number first [] n = None
+start_number first (s ∷ ss) n = if s == n then Some first else start_number (first + 1) ss n
+
+-- the number of the line table that starts where the offset in a field says
+abbrev pub line_table : Around → List Cell → Option ℕ
+line_table around p = start_number 0 around.starts (offset_of around.lasting.base.order around.lines p)
 
 abbrev pub table_of : Around → TextSection → Located
 table_of around in_str = around.str
@@ -115,4 +142,16 @@ around_of d r = record {
   str = d.str;
   line_str = d.line_str;
   slots = slot_texts d.base.order d.str r.offsets;
+  lines = located_cells d.lines;
+  starts = table_starts r.lines;
+}
+
+-- what the line tables of debug data are read from
+abbrev pub line_source : DebugData → LineSource
+line_source d = record {
+  order = d.base.order;
+  number = d.lines.number;
+  bytes = (located_cells d.lines).bytes;
+  str = d.str;
+  line_str = d.line_str;
 }

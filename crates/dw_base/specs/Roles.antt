@@ -1,9 +1,11 @@
 -- What an attribute is to an edit, and what an edit may do to a piece of a unit.
 use Rattle.std.specs.Prelude.{Bool, true, false, ℕ, ◌==◌, ◌&&◌, ◌||◌, if◌then◌else◌, ◌∷◌}
-use Rattle.dw_base.specs.Forms.{TextSection, ValueKind, inline_text, text_offset, kind_in}
+use Rattle.dw_base.specs.Forms.{TextSection, ValueKind, number_of, inline_text, text_offset, kind_in}
 use Rattle.dw_base.specs.Pieces.{Piece}
 use Rattle.dw_base.specs.UnitStates.{Mode, at_values, at_chosen, UnitState}
 use Rattle.dw_base.specs.declared.shared.Params.{Params}
+use Rattle.dw_base.specs.declared.values.ValueClass.{ValueClass}
+use Rattle.dw_base.specs.declared.values.ValueClass.TheVariants.{Number, SecOffset}
 use Rattle.dw_base.specs.declared.dwarf_numbers.TheConstants.{DW_TAG_compile_unit, DW_TAG_partial_unit, DW_TAG_type_unit, DW_AT_name, DW_AT_comp_dir, DW_AT_stmt_list, DW_AT_macros, DW_AT_GNU_macros}
 
 -- what an attribute says, as far as an edit goes by it: a source path, the place of a line table, that of a macro unit, or
@@ -34,15 +36,24 @@ abbrev pub is_path_use : Use → Bool
 is_path_use names_path = true
 is_path_use u = false
 
--- what an edit may do to a piece: nothing; give its offset into a table of texts, of a path or not, another value; or, where
--- a path stands in it, map that
+-- a number of a class, in so many bytes, that says where a line table starts (DWARF 5, 3.1.1; before version 4 it is a number of 4 or 8
+-- bytes)
+abbrev pub is_line_start : Use → ValueClass → ℕ → Bool
+is_line_start names_line_table SecOffset n = true
+is_line_start names_line_table Number n = n == 4 || n == 8
+is_line_start u class n = false
+
+-- what an edit may do to a piece: nothing; give its offset into a table of texts, of a path or not, another value; where a path
+-- stands in it, map that; or give it the new start of a line table
 pub data Role : Type 0 where
   fixed : Role
   offset : TextSection → Bool → Role
   inline_path : Role
+  line_start : Role
 
 abbrev pub role_of_kind : ValueKind → Use → Role
 role_of_kind (text_offset table n) u = offset table (is_path_use u)
+role_of_kind (number_of class n) u = if is_line_start u class n then line_start else fixed
 role_of_kind inline_text u = if is_path_use u then inline_path else fixed
 role_of_kind k u = fixed
 

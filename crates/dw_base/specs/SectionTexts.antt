@@ -1,8 +1,9 @@
 -- The texts that a file names (DWARF 5, 7.26 and 6.1.1.4): what an edit may do to a piece of string offsets or of name tables, which
 -- texts are named and in which order, and what becomes of these pieces.
 use Rattle.std.specs.Prelude.{false, ℕ, List, [], ◌∷◌, ◌++◌}
-use Rattle.dw_base.specs.DebugData.{Around, DataReadings, path_slots}
+use Rattle.dw_base.specs.DebugData.{Around, DataReadings, path_slots, source_around}
 use Rattle.dw_base.specs.Forms.{TextSection, in_str}
+use Rattle.dw_base.specs.LineChanges.{line_mentions}
 use Rattle.dw_base.specs.NamePieces.{NameMode, at_string, NameState}
 use Rattle.dw_base.specs.OffsetPieces.{OffsetMode, at_slot, OffsetState}
 use Rattle.dw_base.specs.Pieces.{Piece, EachPiece}
@@ -32,11 +33,12 @@ abbrev pub mentions_with : {S : Type 0} → (S → Role) → TextSection → Aro
 mentions_with role table around [] = []
 mentions_with role table around (x ∷ xs) = mentions_by (role x.state) table around x.cells ++ mentions_with role table around xs
 
--- the mentions of a table in a file: of units, of slots, then of name tables. A value by index names no text itself.
+-- the mentions of a table in a file: of units, of slots, of line tables, then of name tables. A value by index names no text itself.
 abbrev pub file_mentions : TextSection → Around → DataReadings → List Mention
 file_mentions table around r =
     all_mentions table around r.units
-    ++ (mentions_with (slot_role (path_slots around)) table around r.offsets ++ mentions_with name_role table around r.names)
+    ++ (mentions_with (slot_role (path_slots around)) table around r.offsets
+    ++ (line_mentions (source_around around) table r.lines ++ mentions_with name_role table around r.names))
 
 -- what becomes of pieces of roles
 abbrev pub edited_with : {S : Type 0} → (S → Role) → TableChanges → Around → List (Piece S) → List (Piece S)

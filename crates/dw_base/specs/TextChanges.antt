@@ -1,15 +1,17 @@
 -- The texts that pieces of units name, and what becomes of the pieces when the tables of texts change. The offset in a field
 -- is read and written by words of their own.
-use Rattle.std.specs.Prelude.{Bool, ℕ, List, [], ◌∷◌, ◌++◌, length, if◌then◌else◌, IsTrue, ⊤, Option, Some, None, pos, ℤ, ◌-ℤ◌}
+use Rattle.std.specs.Prelude.{Bool, ℕ, List, [], ◌∷◌, ◌++◌, length, get_or, if◌then◌else◌, IsTrue, ⊤, Option, Some, None, pos, ℤ, ◌-ℤ◌}
 use Rattle.dw_base.specs.Cells.{Cell, Relocation, bytes_of, with_bytes, first_relocation, offset_of, wrapped}
-use Rattle.dw_base.specs.DebugData.{Around, table_of}
+use Rattle.dw_base.specs.DebugData.{Around, line_table, table_of}
 use Rattle.dw_base.specs.Readings.{Readings}
 use Rattle.dw_base.specs.Forms.{TextSection, in_str, in_line_str}
 use Rattle.dw_base.specs.InlinePaths.{inline_fits, mapped_inline}
 use Rattle.dw_base.specs.Numbers.{number_bytes}
 use Rattle.dw_base.specs.Paths.{PathMap}
 use Rattle.dw_base.specs.Pieces.{Piece}
-use Rattle.dw_base.specs.Roles.{Role, fixed, offset, inline_path, role_of}
+use Rattle.dw_base.specs.LineMeanings.{is_there}
+use Rattle.dw_base.specs.LineReadings.{starts_from}
+use Rattle.dw_base.specs.Roles.{Role, fixed, offset, inline_path, line_start, role_of}
 use Rattle.dw_base.specs.StringTables.{Mention, Plan, new_place}
 use Rattle.dw_base.specs.Texts.{text, text_in, ends_in}
 use Rattle.dw_base.specs.UnitStates.{UnitState}
@@ -68,11 +70,12 @@ pub record TableChange : Type 0 where
   pub plan : Plan
   pub texts : List (List ℕ)
 
--- what becomes of all tables, and the map of paths
+-- what becomes of all tables of texts, the map of paths, and the new line tables
 pub record TableChanges : Type 0 where
   pub map : PathMap
   pub str : TableChange
   pub line_str : TableChange
+  pub lines : List (List ℕ)
 
 abbrev pub change_of : TableChanges → TextSection → TableChange
 change_of changes in_str = changes.str
@@ -83,12 +86,18 @@ abbrev pub moved_field : TableChange → PathMap → Order → Mention → List 
 moved_field change m order mention p =
     if change.plan.asks mention then with_offset order p (new_place change.plan m change.texts mention) else p
 
+-- the start of a line table in a field becomes the new one
+abbrev pub moved_start : List ℕ → Order → Option ℕ → List Cell → List Cell
+moved_start starts order None p = p
+moved_start starts order (Some k) p = with_offset order p (get_or starts k 0)
+
 -- what becomes of cells of a role
 abbrev pub edited_by : Role → TableChanges → Around → List Cell → List Cell
 edited_by fixed changes around p = p
 edited_by (offset table path) changes around p =
     moved_field (change_of changes table) changes.map around.lasting.base.order (mention_at around table path p) p
 edited_by inline_path changes around p = with_bytes p (mapped_inline changes.map (text (bytes_of p)))
+edited_by line_start changes around p = moved_start (starts_from 0 changes.lines) around.lasting.base.order (line_table around p) p
 
 abbrev pub edited : TableChanges → Around → Piece UnitState → Piece UnitState
 edited changes around x = record { state = x.state; cells = edited_by (role_of x) changes around x.cells }
@@ -97,9 +106,10 @@ abbrev pub edited_all : TableChanges → Around → List (Piece UnitState) → L
 edited_all changes around [] = []
 edited_all changes around (x ∷ xs) = edited changes around x ∷ edited_all changes around xs
 
--- an offset of a text names one that ends in its table
+-- an offset of a text names one that ends in its table, and the start of a line table names one
 abbrev pub NamesTextBy : Role → Around → List Cell → Type 0
 NamesTextBy (offset table path) around p = IsTrue (ends_in (table_of around table).bytes (offset_in around table p))
+NamesTextBy line_start around p = IsTrue (is_there (line_table around p))
 NamesTextBy r around p = ⊤
 
 abbrev pub NamesText : Around → Piece UnitState → Type 0

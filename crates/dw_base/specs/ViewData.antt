@@ -2,9 +2,10 @@
 -- name the bytes of the sections that are meant as they stand.
 use Rattle.std.specs.Prelude.{Bool, ℕ, zero, suc, ◌||◌, not, if◌then◌else◌, List, [], ◌∷◌, ◌++◌, drop, Option, Some, None, true, false}
 use Rattle.dw_base.specs.Cells.{Cell, Located, CellSection, plain_cells}
-use Rattle.dw_base.specs.DebugData.{DebugData, DataReadings}
+use Rattle.dw_base.specs.DebugData.{DebugData, DataReadings, line_source}
 use Rattle.dw_base.specs.DebugSections.{debug_section, name_of}
 use Rattle.dw_base.specs.FileViews.{Contents, plain_contents, bytes_in, ViewSection, View, section_bytes, section_named}
+use Rattle.dw_base.specs.LineMeanings.{LineMeaning, line_meanings, mapped_lines}
 use Rattle.dw_base.specs.MappedSlots.{unit_slots, mapped_slots}
 use Rattle.dw_base.specs.MappedUnits.{mapped_units}
 use Rattle.dw_base.specs.Notes.{BuildId, zeroed}
@@ -15,7 +16,7 @@ use Rattle.dw_base.specs.Texts.{same_text}
 use Rattle.dw_base.specs.UnitHeaders.{UnitSection, SectionKind, in_info, in_types}
 use Rattle.dw_base.specs.UnitMeanings.{UnitMeaning, units_of}
 use Rattle.dw_base.specs.declared.debug_sections.DebugSection.{DebugSection}
-use Rattle.dw_base.specs.declared.debug_sections.DebugSection.TheVariants.{Info, Types, Abbrev, Str, LineStr, StrOffsets, Names}
+use Rattle.dw_base.specs.declared.debug_sections.DebugSection.TheVariants.{Info, Types, Abbrev, Str, LineStr, StrOffsets, Line, Names}
 
 -- contents as cells
 abbrev pub cells_in : Contents → List Cell
@@ -66,10 +67,11 @@ debug_data v = record {
   str = located v Str;
   line_str = located v LineStr;
   offsets = cell_section (located v StrOffsets);
+  lines = cell_section (located v Line);
   names = cell_section (located v Names);
 }
 
--- a section whose bytes are read: units, their abbreviations, the tables of texts, string offsets, and name tables
+-- a section whose bytes are read: units, their abbreviations, the tables of texts, string offsets, line tables, and name tables
 abbrev pub is_read : Option DebugSection → Bool
 is_read (Some Info) = true
 is_read (Some Types) = true
@@ -77,6 +79,7 @@ is_read (Some Abbrev) = true
 is_read (Some Str) = true
 is_read (Some LineStr) = true
 is_read (Some StrOffsets) = true
+is_read (Some Line) = true
 is_read (Some Names) = true
 is_read s = false
 
@@ -111,11 +114,12 @@ abbrev pub without_id : Option BuildId → List ViewSection → List ViewSection
 without_id None ss = ss
 without_id (Some id) ss = zeroed_at id.section id ss
 
--- what debug data mean: the units in order; the texts of the slots of string offsets, and the parts of name tables; and by name, in
--- order, the bytes of the sections that are meant as they stand
+-- what debug data mean: the units in order; the texts of the slots of string offsets, the line tables with their rows, and the parts of
+-- name tables; and by name, in order, the bytes of the sections that are meant as they stand
 pub record Meaning : Type 0 where
   pub units : List UnitMeaning
   pub slots : List (List ℕ)
+  pub lines : List LineMeaning
   pub names : List NamePart
   pub others : List ℕ → List (List ℕ)
 
@@ -124,10 +128,11 @@ unfoldable pub meaning_of : View → DataReadings → Meaning
 meaning_of v r = record {
   units = units_of (debug_data v) r;
   slots = slot_texts v.order (located v Str) r.offsets;
+  lines = line_meanings (line_source (debug_data v)) r.lines;
   names = name_parts v.order (located v Str) r.names;
   others = bytes_named (other_sections (without_id v.id v.sections));
 }
 
--- the meaning with each path mapped, and each slot that stands with a path
+-- the meaning with each path mapped, each slot that stands with a path, and the paths of line tables and of their rows
 abbrev pub mapped : PathMap → Meaning → Meaning
-mapped m x = record x { units = mapped_units m x.units; slots = mapped_slots m (unit_slots x.units) 0 x.slots }
+mapped m x = record x { units = mapped_units m x.units; slots = mapped_slots m (unit_slots x.units) 0 x.slots; lines = mapped_lines m x.lines }

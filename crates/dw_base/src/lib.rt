@@ -22,6 +22,9 @@ mod fault;
 mod file_header;
 mod lebs;
 mod limits;
+pub mod line_numbers;
+mod line_rows;
+pub mod line_tables;
 mod name_tables;
 mod numbers;
 mod records;
@@ -36,6 +39,8 @@ pub use debug_sections::{DebugRow, DebugSection, LISTED_COUNT, READ_SECTIONS, li
 pub use fault::{Fault, Kind, NoMemory, Refusal};
 pub use lebs::{FIRST_RESERVED_LENGTH, initial_length_at, sleb_at, uleb_at};
 pub use limits::{FILE_LIMIT, OUTPUT_LIMIT};
+pub use line_rows::{LineParams, Operation, Row};
+pub use line_tables::{FilePlace, LineHeader, TextPlace};
 pub use name_tables::{NameCounts, NameTable};
 pub use numbers::{number_at, number_in, put_number};
 pub use records::{FileKind, Section, Segment};

@@ -1,10 +1,14 @@
 -- Debug data with moved texts and mapped paths can be read, and its units and slots mean the mapped ones.
-use Rattle.std.proofs.Common.{◌≡◌, ℕ, ◌+◌, ◌≤◌, List, [], ◌∷◌, ◌++◌, length, sym, ap, ◌∙◌, refl, subst, arith, ◌^◌, append_assoc}
+use Rattle.std.proofs.Common.{true, ◌≡◌, ◌≢◌, ℕ, ◌+◌, ◌≤◌, List, [], ◌∷◌, ◌++◌, length, sym, ap, ◌∙◌, refl, subst, arith, ◌^◌, append_assoc}
 use Rattle.std.specs.Bool.{⊤}
 use Rattle.std.proofs.lemmas.List.{length-append, append-nil}
-use Rattle.dw_base.specs.Cells.{Cell, Located, bytes_of, located_cells}
-use Rattle.dw_base.specs.DebugData.{DebugData, DataReadings, begins_by, units_in, ReadsAll, EntryPlace, place_by, entry_places, all_places, info_number, info_numbers, Around, around_of, indexing_of, path_slots}
-use Rattle.dw_base.specs.Forms.{in_str, in_line_str}
+use Rattle.dw_base.specs.Cells.{Cell, Located, bytes_of, plain_cells, located_cells}
+use Rattle.dw_base.specs.DebugData.{DebugData, DataReadings, begins_by, units_in, ReadsAll, EntryPlace, place_by, entry_places, all_places, info_number, info_numbers, Around, around_of, indexing_of, line_source, path_slots, table_of}
+use Rattle.dw_base.specs.Forms.{TextSection, in_str, in_line_str}
+use Rattle.dw_base.specs.LineChanges.{line_mentions}
+use Rattle.dw_base.specs.LineReadings.{LineReading, TablesTo, table_starts, starts_from, all_lines}
+use Rattle.dw_base.specs.TableStarts.{HasStartForm}
+use Rattle.dw_base.specs.Texts.{ends_in, laid_texts}
 use Rattle.dw_base.specs.MappedSlots.{unit_slots, mapped_slots}
 use Rattle.dw_base.specs.MappedUnits.{mapped_unit, mapped_units}
 use Rattle.dw_base.specs.NamePieces.{NameState, at_table, names_at}
@@ -16,7 +20,7 @@ use Rattle.dw_base.specs.Roles.{role_of, role_of_mode}
 use Rattle.dw_base.specs.SectionTexts.{slot_role, name_role, mentions_with, file_mentions, NameTexts}
 use Rattle.dw_base.specs.SlotTexts.{contributions_in, slot_texts, name_parts}
 use Rattle.dw_base.specs.StringTables.{Mention, texts_after, new_table}
-use Rattle.dw_base.specs.TextChanges.{TableChanges, mentions_of, all_mentions, edited_all, NamesTextBy, NamesText, InlineFits}
+use Rattle.dw_base.specs.TextChanges.{TableChanges, change_of, mentions_of, all_mentions, edited_all, NamesTextBy, NamesText, InlineFits}
 use Rattle.dw_base.specs.TextIndexes.{Indexing, IndexUse, SaidBase, bases_in, all_bases, uses_in, index_uses, EachUse, NamesSlot}
 use Rattle.dw_base.specs.UnitHeaders.{UnitBase, UnitSection}
 use Rattle.dw_base.specs.UnitMeanings.{UnitMeaning, unit_meanings, units_read, units_of}
@@ -28,13 +32,16 @@ use Rattle.dw_base.proofs.IndexKeptLaws.{bases-kept, bases-same, uses-kept, cont
 use Rattle.dw_base.proofs.OffsetChangeLaws.{slots-mapped, names-kept}
 use Rattle.dw_base.proofs.PathLaws.{mapped_path-none}
 use Rattle.dw_base.proofs.PieceFrameLaws.{chain-changed}
-use Rattle.dw_base.proofs.PlainCellLaws.{IsPlain, plain-parts}
+use Rattle.dw_base.proofs.PlainCellLaws.{IsPlain, plain-parts, bytes_of-plain}
 use Rattle.dw_base.proofs.UnitEditLaws.{Shift, Becomes, UnitChange, UnitsChanged, length-becomes, length-bytes_of, units_preserve}
-use Rattle.dw_meaning.specs.DataOutput.{DataReads, DataFits, table_change, changes_of, offsets_after, names_after}
+use Rattle.dw_meaning.specs.DataOutput.{DataReads, DataFits, EachWritable, table_change, new_lines, changes_of, offsets_after, names_after}
 use Rattle.dw_meaning.proofs.IndexTextLaws.{IsApart, texts-apart, slots-move}
+use Rattle.dw_meaning.proofs.LineColumnLaws.{edited_source, Grows}
+use Rattle.dw_meaning.proofs.LinePathLaws.{BothMove}
+use Rattle.dw_meaning.proofs.LineSectionLaws.{EachCan, LinesMoved, TablesApart, section-moved}
 use Rattle.dw_meaning.proofs.OffsetMoveLaws.{RolesChanged, cells-plain, offsets-can, names-can, roles-length, names-becomes, roles-named, offsets-reads, names-reads}
 use Rattle.dw_meaning.proofs.SlotMeaningLaws.{units-slots}
-use Rattle.dw_meaning.proofs.TextEditLaws.{appending-keeps, TablesMove, TextsAre, behind_piece, PlainPiece, SlotMoves, edited-changed, roles-changed, shift_of, moved_table}
+use Rattle.dw_meaning.proofs.TextEditLaws.{appending-keeps, LinesMove, TablesMove, TextsAre, behind_piece, PlainPiece, SlotMoves, edited-changed, roles-changed, shift_of, moved_table}
 use Rattle.dw_meaning.proofs.UnitMeaningLaws.{units-changed}
 
 -- pieces after a change are as long
@@ -210,11 +217,12 @@ readings-plain base first (z ∷ zs) (r ∷ rs) reads plain = (
   readings-plain base (first + units_in r.pieces) zs rs reads.2 plain.1,
 )
 
--- the readings with these changes
-abbrev pub edited_reads : TableChanges → DebugData → DataReadings → DataReadings
-edited_reads c d r = record {
+-- the readings with these changes, and with new readings of line tables
+abbrev pub edited_reads : TableChanges → DebugData → DataReadings → List LineReading → DataReadings
+edited_reads c d r ls = record {
   units = edited_readings c (around_of d r) r.units;
   offsets = offsets_after c (around_of d r) r;
+  lines = ls;
   names = names_after c (around_of d r) r;
 }
 
@@ -226,6 +234,7 @@ edited_data c d r = record {
   str = moved_table d.str c.str;
   line_str = moved_table d.line_str c.line_str;
   offsets = record { number = d.offsets.number; contents = joined (offsets_after c (around_of d r) r) };
+  lines = record { number = d.lines.number; contents = plain_cells (all_lines c.lines) };
   names = record { number = d.names.number; contents = joined (names_after c (around_of d r) r) };
 }
 
@@ -239,19 +248,107 @@ pub record DataMoves (m : PathMap) (d : DebugData) (r : DataReadings) : Type 0 w
   pub names_plain : IsPlain d.names.contents
   pub str : length (new_table (table_change m in_str (around_of d r) r).plan (table_change m in_str (around_of d r) r).texts) ≤ 2 ^ 32
   pub line_str : length (new_table (table_change m in_line_str (around_of d r) r).plan (table_change m in_line_str (around_of d r) r).texts) ≤ 2 ^ 32
+  pub lines : length (all_lines (new_lines m (around_of d r) r)) ≤ 2 ^ 32
+  pub apart : TablesApart (line_source d) r.lines
+  pub tables : (at : ℕ) → ends_in d.line_str.bytes at ≡ true → d.line_str.number ≢ d.str.number
 
-tables-move : (m : PathMap) (d : DebugData) (r : DataReadings) → DataMoves m d r → TablesMove (changes_of m (around_of d r) r) (around_of d r)
-unfolding table_change
-tables-move m d r w = record {
-  map = w.map;
-  str = record { keeps = appending-keeps m d.str.bytes; small = w.str };
-  line_str = record { keeps = appending-keeps m d.line_str.bytes; small = w.line_str };
-}
+-- the mentions behind those of units, and behind those of slots
+abbrev slots_in : TextSection → DebugData → DataReadings → List Mention
+slots_in table d r = mentions_with (slot_role (path_slots (around_of d r))) table (around_of d r) r.offsets
+
+abbrev lines_in : TextSection → DebugData → DataReadings → List Mention
+lines_in table d r = line_mentions (line_source d) table r.lines
+
+abbrev names_in : TextSection → DebugData → DataReadings → List Mention
+names_in table d r = mentions_with name_role table (around_of d r) r.names
+
+abbrev behind_units_in : TextSection → DebugData → DataReadings → List Mention
+behind_units_in table d r = slots_in table d r ++ (lines_in table d r ++ names_in table d r)
+
+-- the new texts after the mentions of units, of slots, and of line tables
+abbrev units_texts : PathMap → TextSection → DebugData → DataReadings → List (List ℕ)
+units_texts m table d r = texts_after (change_of (changes_of m (around_of d r) r) table).plan m [] (all_mentions table (around_of d r) r.units)
+
+abbrev slots_texts : PathMap → TextSection → DebugData → DataReadings → List (List ℕ)
+slots_texts m table d r = texts_after (change_of (changes_of m (around_of d r) r) table).plan m (units_texts m table d r) (slots_in table d r)
+
+abbrev lines_texts : PathMap → TextSection → DebugData → DataReadings → List (List ℕ)
+lines_texts m table d r = texts_after (change_of (changes_of m (around_of d r) r) table).plan m (slots_texts m table d r) (lines_in table d r)
 
 texts-are : (m : PathMap) (d : DebugData) (r : DataReadings)
     → TextsAre (changes_of m (around_of d r) r) [] [] (file_mentions in_str (around_of d r) r) (file_mentions in_line_str (around_of d r) r)
 unfolding table_change
 texts-are m d r = record { str = refl; line_str = refl }
+
+behind-units : (m : PathMap) (d : DebugData) (r : DataReadings)
+    → TextsAre (changes_of m (around_of d r) r) (units_texts m in_str d r) (units_texts m in_line_str d r) (behind_units_in in_str d r) (behind_units_in in_line_str d r)
+behind-units m d r =
+    behind_units (changes_of m (around_of d r) r) (around_of d r) [] [] r.units (behind_units_in in_str d r) (behind_units_in in_line_str d r) (texts-are m d r)
+
+behind-slots : (m : PathMap) (d : DebugData) (r : DataReadings)
+    → TextsAre (changes_of m (around_of d r) r) (slots_texts m in_str d r) (slots_texts m in_line_str d r) (lines_in in_str d r ++ names_in in_str d r)
+    (lines_in in_line_str d r ++ names_in in_line_str d r)
+behind-slots m d r =
+    behind_piece (changes_of m (around_of d r) r) (units_texts m in_str d r) (units_texts m in_line_str d r) (slots_in in_str d r) (slots_in in_line_str d r)
+    (lines_in in_str d r ++ names_in in_str d r) (lines_in in_line_str d r ++ names_in in_line_str d r) (behind-units m d r)
+
+behind-lines : (m : PathMap) (d : DebugData) (r : DataReadings)
+    → TextsAre (changes_of m (around_of d r) r) (lines_texts m in_str d r) (lines_texts m in_line_str d r) (names_in in_str d r) (names_in in_line_str d r)
+behind-lines m d r =
+    behind_piece (changes_of m (around_of d r) r) (slots_texts m in_str d r) (slots_texts m in_line_str d r) (lines_in in_str d r) (lines_in in_line_str d r)
+    (names_in in_str d r) (names_in in_line_str d r) (behind-slots m d r)
+
+-- line tables, changed
+both-move : (m : PathMap) (d : DebugData) (r : DataReadings) → DataMoves m d r → BothMove (changes_of m (around_of d r) r) (line_source d)
+unfolding table_change
+both-move m d r w = record {
+  map = w.map;
+  str = record { keeps = appending-keeps m d.str.bytes; small = w.str };
+  line_str = record { keeps = appending-keeps m d.line_str.bytes; small = w.line_str };
+}
+
+table-grows : (m : PathMap) (table : TextSection) (d : DebugData) (r : DataReadings)
+    → Grows (table_of (around_of d r) table).bytes (new_table (table_change m table (around_of d r) r).plan (table_change m table (around_of d r) r).texts)
+unfolding table_change
+table-grows m table d r = record { more = laid_texts (table_change m table (around_of d r) r).texts; is = refl }
+
+pub each-can : (m : PathMap) (c : TableChanges) (d : DebugData) (r : DataReadings) (rs : List LineReading) → EachWritable m c (around_of d r) rs → EachCan (line_source d) m c rs
+each-can m c d r [] h = tt
+each-can m c d r (x ∷ xs) h = (h.0, each-can m c d r xs h.1)
+
+abbrev pub LinesAfter : PathMap → DebugData → DataReadings → Type 0
+LinesAfter m d r =
+    LinesMoved (line_source d) (line_source (edited_data (changes_of m (around_of d r) r) d r)) m 0 (length (all_lines (new_lines m (around_of d r) r)))
+    (new_lines m (around_of d r) r) r.lines
+
+pub lines-data : (m : PathMap) (d : DebugData) (r : DataReadings) → DataMoves m d r → LinesAfter m d r
+lines-data m d r w =
+    let c : TableChanges = changes_of m (around_of d r) r in
+    let s : List ℕ = new_table c.str.plan c.str.texts in
+    let l : List ℕ = new_table c.line_str.plan c.line_str.texts in
+    subst (λ (bs : List ℕ). LinesMoved (line_source d) (edited_source (line_source d) bs s l) m 0 (length (all_lines (new_lines m (around_of d r) r))) (new_lines m (around_of d r) r) r.lines)
+    (sym (bytes_of-plain (all_lines (new_lines m (around_of d r) r))))
+    (section-moved (changes_of m (around_of d r) r) (line_source d) (slots_texts m in_str d r) (slots_texts m in_line_str d r) (names_in in_str d r) (names_in in_line_str d r) r.lines
+    (both-move m d r w) (table-grows m in_str d r) (table-grows m in_line_str d r) w.apart w.tables w.reads.lines
+    (each-can m (changes_of m (around_of d r) r) d r r.lines w.fits.lines) (behind-slots m d r))
+
+lines-move : (m : PathMap) (d : DebugData) (r : DataReadings) → DataMoves m d r → LinesMove (changes_of m (around_of d r) r) (around_of d r)
+lines-move m d r w =
+    let x : LinesAfter m d r = lines-data m d r w in
+    record { count = x.count; some = x.some; small = w.lines }
+
+-- all readings after the change
+abbrev pub after_reads : (m : PathMap) (d : DebugData) (r : DataReadings) → DataMoves m d r → DataReadings
+after_reads m d r w = edited_reads (changes_of m (around_of d r) r) d r (lines-data m d r w).readings
+
+tables-move : (m : PathMap) (d : DebugData) (r : DataReadings) → DataMoves m d r → TablesMove (changes_of m (around_of d r) r) (around_of d r)
+unfolding table_change
+tables-move m d r w = record {
+  map = w.map;
+  lines = lines-move m d r w;
+  str = record { keeps = appending-keeps m d.str.bytes; small = w.str };
+  line_str = record { keeps = appending-keeps m d.line_str.bytes; small = w.line_str };
+}
 
 -- the change as one of what stands around
 abbrev pub data_shift : PathMap → DebugData → DataReadings → Shift
@@ -268,30 +365,17 @@ units-changed-all : (m : PathMap) (d : DebugData) (r : DataReadings) → DataMov
     → AllReadingsChanged (data_shift m d r) r.units (edited_readings (changes_of m (around_of d r) r) (around_of d r) r.units)
 units-changed-all m d r w =
     readings-edited d.base (changes_of m (around_of d r) r) (around_of d r) [] [] 0 d.units r.units
-    (mentions_with (slot_role (path_slots (around_of d r))) in_str (around_of d r) r.offsets ++ mentions_with name_role in_str (around_of d r) r.names)
-    (mentions_with (slot_role (path_slots (around_of d r))) in_line_str (around_of d r) r.offsets ++ mentions_with name_role in_line_str (around_of d r) r.names)
+    (behind_units_in in_str d r)
+    (behind_units_in in_line_str d r)
     (tables-move m d r w) (texts-are m d r) w.reads.units (readings-plain d.base 0 d.units r.units w.reads.units w.plain) w.reads.texts w.fits.inline
     (slots-move (changes_of m (around_of d r) r) (around_of d r) r.units (mapped_path-none m w.map) (data-apart m d r w) refl)
 
 -- string offsets and name tables, changed
-behind-units : (m : PathMap) (d : DebugData) (r : DataReadings)
-    → TextsAre (changes_of m (around_of d r) r) (texts_after (changes_of m (around_of d r) r).str.plan m [] (all_mentions in_str (around_of d r) r.units))
-    (texts_after (changes_of m (around_of d r) r).line_str.plan m [] (all_mentions in_line_str (around_of d r) r.units))
-    (mentions_with (slot_role (path_slots (around_of d r))) in_str (around_of d r) r.offsets ++ mentions_with name_role in_str (around_of d r) r.names)
-    (mentions_with (slot_role (path_slots (around_of d r))) in_line_str (around_of d r) r.offsets ++ mentions_with name_role in_line_str (around_of d r) r.names)
-behind-units m d r =
-    behind_units (changes_of m (around_of d r) r) (around_of d r) [] [] r.units
-    (mentions_with (slot_role (path_slots (around_of d r))) in_str (around_of d r) r.offsets ++ mentions_with name_role in_str (around_of d r) r.names)
-    (mentions_with (slot_role (path_slots (around_of d r))) in_line_str (around_of d r) r.offsets ++ mentions_with name_role in_line_str (around_of d r) r.names)
-    (texts-are m d r)
-
 offsets-changed : (m : PathMap) (d : DebugData) (r : DataReadings) → DataMoves m d r
     → RolesChanged (slot_role (path_slots (around_of d r))) (data_shift m d r) r.offsets (offsets_after (changes_of m (around_of d r) r) (around_of d r) r)
 offsets-changed m d r w =
     roles-changed (slot_role (path_slots (around_of d r))) (changes_of m (around_of d r) r) (around_of d r)
-    (texts_after (changes_of m (around_of d r) r).str.plan m [] (all_mentions in_str (around_of d r) r.units))
-    (texts_after (changes_of m (around_of d r) r).line_str.plan m [] (all_mentions in_line_str (around_of d r) r.units))
-    r.offsets (mentions_with name_role in_str (around_of d r) r.names) (mentions_with name_role in_line_str (around_of d r) r.names)
+    (units_texts m in_str d r) (units_texts m in_line_str d r) r.offsets (lines_in in_str d r ++ names_in in_str d r) (lines_in in_line_str d r ++ names_in in_line_str d r)
     (tables-move m d r w) (behind-units m d r)
     (offsets-can (path_slots (around_of d r)) (around_of d r) d.base.order (offsets_at (length d.offsets.contents) 0 0 at_contribution) r.offsets w.reads.offsets.chain
     (cells-plain r.offsets (subst IsPlain (sym w.reads.offsets.cells) w.offsets_plain)))
@@ -300,20 +384,12 @@ offsets-changed m d r w =
 names-changed-all : (m : PathMap) (d : DebugData) (r : DataReadings) → DataMoves m d r
     → RolesChanged name_role (data_shift m d r) r.names (names_after (changes_of m (around_of d r) r) (around_of d r) r)
 names-changed-all m d r w =
-    let c : TableChanges = changes_of m (around_of d r) r in
-    let around : Around = around_of d r in
-    let ts : List (List ℕ) = texts_after c.str.plan m [] (all_mentions in_str around r.units) in
-    let us : List (List ℕ) = texts_after c.line_str.plan m [] (all_mentions in_line_str around r.units) in
-    let heres : List Mention = mentions_with (slot_role (path_slots (around_of d r))) in_str (around_of d r) r.offsets in
-    let lines : List Mention = mentions_with (slot_role (path_slots (around_of d r))) in_line_str (around_of d r) r.offsets in
-    let ms : List Mention = mentions_with name_role in_str (around_of d r) r.names in
-    let ns : List Mention = mentions_with name_role in_line_str (around_of d r) r.names in
-    let all = behind_piece c ts us heres lines ms ns (behind-units m d r) in
-    roles-changed name_role (changes_of m (around_of d r) r) (around_of d r) (texts_after c.str.plan m ts heres) (texts_after c.line_str.plan m us lines)
+    let all = behind-lines m d r in
+    roles-changed name_role (changes_of m (around_of d r) r) (around_of d r) (lines_texts m in_str d r) (lines_texts m in_line_str d r)
     r.names [] [] (tables-move m d r w)
     (record {
-      str = all.str ∙ ap (texts_after c.str.plan m (texts_after c.str.plan m ts heres)) (sym (append-nil ms));
-      line_str = all.line_str ∙ ap (texts_after c.line_str.plan m (texts_after c.line_str.plan m us lines)) (sym (append-nil ns));
+      str = all.str ∙ ap (texts_after (changes_of m (around_of d r) r).str.plan m (lines_texts m in_str d r)) (sym (append-nil (names_in in_str d r)));
+      line_str = all.line_str ∙ ap (texts_after (changes_of m (around_of d r) r).line_str.plan m (lines_texts m in_line_str d r)) (sym (append-nil (names_in in_line_str d r)));
     })
     (names-can (around_of d r) d.base.order (names_at (length d.names.contents) 0 at_table) r.names w.reads.names.chain
     (cells-plain r.names (subst IsPlain (sym w.reads.names.cells) w.names_plain)))
@@ -346,8 +422,8 @@ indexing-parts bs as_ ds es us vs e f g =
     ap (λ (x : List SaidBase). indexing_with x ds us) e ∙ ap (λ (x : List Contribution). indexing_with as_ x us) f
     ∙ ap (λ (x : List IndexUse). indexing_with as_ es x) g
 
-indexing-edited : (m : PathMap) (d : DebugData) (r : DataReadings) → DataMoves m d r
-    → indexing_of (edited_data (changes_of m (around_of d r) r) d r) (edited_reads (changes_of m (around_of d r) r) d r) ≡ indexing_of d r
+indexing-edited : (m : PathMap) (d : DebugData) (r : DataReadings) (w : DataMoves m d r)
+    → indexing_of (edited_data (changes_of m (around_of d r) r) d r) (after_reads m d r w) ≡ indexing_of d r
 indexing-edited m d r w =
     let c : TableChanges = changes_of m (around_of d r) r in
     let qs : Readings = edited_readings (changes_of m (around_of d r) r) (around_of d r) r.units in
@@ -363,15 +439,22 @@ indexing-edited m d r w =
     (all-uses (data_shift m d r) d.base.order r.units qs (units-changed-all m d r w))
 
 -- what stands around the new units is what the change says
-abbrev around_with : UnitBase → Located → Located → List EntryPlace → List ℕ → Indexing → List (List ℕ) → Around
-around_with base str line es is_ g ts =
-    record { lasting = record { base = base; entries = es; infos = is_; indexing = g }; str = str; line_str = line; slots = ts }
+abbrev around_with : UnitBase → Located → Located → ℕ → List EntryPlace → List ℕ → Indexing → List (List ℕ) → List ℕ → List ℕ → Around
+around_with base str line n es is_ g ts bs ns = record {
+  lasting = record { base = base; entries = es; infos = is_; indexing = g };
+  str = str;
+  line_str = line;
+  slots = ts;
+  lines = record { number = n; bytes = bs };
+  starts = ns;
+}
 
-around-parts : (base : UnitBase) (str line : Located) (es fs : List EntryPlace) (is_ js : List ℕ) (g h : Indexing) (ts us : List (List ℕ)) → es ≡ fs → is_ ≡ js → g ≡ h → ts ≡ us
-    → around_with base str line es is_ g ts ≡ around_with base str line fs js h us
-around-parts base str line es fs is_ js g h ts us e i x t =
-    ap (λ (y : List EntryPlace). around_with base str line y is_ g ts) e ∙ ap (λ (y : List ℕ). around_with base str line fs y g ts) i
-    ∙ ap (λ (y : Indexing). around_with base str line fs js y ts) x ∙ ap (λ (y : List (List ℕ)). around_with base str line fs js h y) t
+around-parts : (base : UnitBase) (str line : Located) (n : ℕ) (es fs : List EntryPlace) (is_ js : List ℕ) (g h : Indexing) (ts us : List (List ℕ)) (bs cs ns ks : List ℕ)
+    → es ≡ fs → is_ ≡ js → g ≡ h → ts ≡ us → bs ≡ cs → ns ≡ ks → around_with base str line n es is_ g ts bs ns ≡ around_with base str line n fs js h us cs ks
+around-parts base str line n es fs is_ js g h ts us bs cs ns ks e i x t b k =
+    ap (λ (y : List EntryPlace). around_with base str line n y is_ g ts bs ns) e ∙ ap (λ (y : List ℕ). around_with base str line n fs y g ts bs ns) i
+    ∙ ap (λ (y : Indexing). around_with base str line n fs js y ts bs ns) x ∙ ap (λ (y : List (List ℕ)). around_with base str line n fs js h y bs ns) t
+    ∙ ap (λ (y : List ℕ). around_with base str line n fs js h us y ns) b ∙ ap (around_with base str line n fs js h us cs) k
 
 slots-edited : (m : PathMap) (d : DebugData) (r : DataReadings) → DataMoves m d r
     → slot_texts d.base.order (moved_table d.str (changes_of m (around_of d r) r).str) (offsets_after (changes_of m (around_of d r) r) (around_of d r) r)
@@ -380,19 +463,30 @@ slots-edited m d r w =
     slots-mapped (path_slots (around_of d r)) (data_shift m d r) d.base.order (offsets_at (length d.offsets.contents) 0 0 at_contribution) r.offsets
     (offsets_after (changes_of m (around_of d r) r) (around_of d r) r) (offsets-changed m d r w) w.reads.offsets.chain
 
-around-edited : (m : PathMap) (d : DebugData) (r : DataReadings) → DataMoves m d r
-    → around_of (edited_data (changes_of m (around_of d r) r) d r) (edited_reads (changes_of m (around_of d r) r) d r) ≡ (data_shift m d r).new
+around-edited : (m : PathMap) (d : DebugData) (r : DataReadings) (w : DataMoves m d r)
+    → around_of (edited_data (changes_of m (around_of d r) r) d r) (after_reads m d r w) ≡ (data_shift m d r).new
 around-edited m d r w =
     let c : TableChanges = changes_of m (around_of d r) r in
     let qs : Readings = edited_readings (changes_of m (around_of d r) r) (around_of d r) r.units in
-    around-parts d.base (moved_table d.str c.str) (moved_table d.line_str c.line_str) (all_places qs) (all_places r.units)
-    (info_numbers (edited_sections d.units qs)) (info_numbers d.units) (indexing_of (edited_data c d r) (edited_reads c d r)) (indexing_of d r)
+    around-parts d.base (moved_table d.str c.str) (moved_table d.line_str c.line_str) d.lines.number (all_places qs) (all_places r.units)
+    (info_numbers (edited_sections d.units qs)) (info_numbers d.units) (indexing_of (edited_data c d r) (after_reads m d r w)) (indexing_of d r)
     (slot_texts d.base.order (moved_table d.str c.str) (offsets_after c (around_of d r) r)) (mapped_slots m (path_slots (around_of d r)) 0 (slot_texts d.base.order d.str r.offsets))
+    (bytes_of (plain_cells (all_lines c.lines))) (all_lines c.lines) (table_starts (lines-data m d r w).readings) (starts_from 0 c.lines)
     (all-places (data_shift m d r) r.units qs (units-changed-all m d r w)) (same-infos d.units qs) (indexing-edited m d r w) (slots-edited m d r w)
+    (bytes_of-plain (all_lines c.lines)) (lines-data m d r w).starts
+
+-- the forms of values stay
+forms-kept : (c : TableChanges) (around : Around) (xs : List (Piece UnitState)) → EachPiece HasStartForm xs → EachPiece HasStartForm (edited_all c around xs)
+forms-kept c around [] h = tt
+forms-kept c around (x ∷ xs) h = (h.0, forms-kept c around xs h.1)
+
+all-forms : (c : TableChanges) (around : Around) (rs : Readings) → EachReading HasStartForm rs → EachReading HasStartForm (edited_readings c around rs)
+all-forms c around [] h = tt
+all-forms c around (r ∷ rs) h = (forms-kept c around r.pieces h.0, all-forms c around rs h.1)
 
 -- they can be read
-pub data-reads : (m : PathMap) (d : DebugData) (r : DataReadings) → DataMoves m d r
-    → DataReads (edited_data (changes_of m (around_of d r) r) d r) (edited_reads (changes_of m (around_of d r) r) d r)
+pub data-reads : (m : PathMap) (d : DebugData) (r : DataReadings) (w : DataMoves m d r)
+    → DataReads (edited_data (changes_of m (around_of d r) r) d r) (after_reads m d r w)
 data-reads m d r w =
     let c : TableChanges = changes_of m (around_of d r) r in
     let qs : Readings = edited_readings (changes_of m (around_of d r) r) (around_of d r) r.units in
@@ -401,6 +495,8 @@ data-reads m d r w =
     record {
       units = all-changed d.base (data_shift m d r) 0 d.units r.units qs (units-changed-all m d r w) w.reads.units;
       offsets = offsets-reads (data_shift m d r) (path_slots (around_of d r)) d.base.order d.offsets.contents r.offsets ys (offsets-changed m d r w) w.reads.offsets;
+      lines = subst (TablesTo (line_source (edited_data (changes_of m (around_of d r) r) d r)) 0 (lines-data m d r w).readings)
+          (ap length (sym (bytes_of-plain (all_lines (new_lines m (around_of d r) r))))) (lines-data m d r w).are;
       names = names-reads (data_shift m d r) d.base.order d.names.contents r.names ns (names-changed-all m d r w) w.reads.names;
       texts = subst (λ (a : Around). EachReading (NamesText a) qs) (sym (around-edited m d r w)) (all-names (data_shift m d r) r.units qs (units-changed-all m d r w));
       slot_texts = subst (λ (a : Around). NameTexts (slot_role (path_slots a)) a ys) (sym (around-edited m d r w))
@@ -408,11 +504,12 @@ data-reads m d r w =
       name_texts = subst (λ (a : Around). NameTexts name_role a ns) (sym (around-edited m d r w))
           (roles-named name_role (data_shift m d r) r.names ns (names-changed-all m d r w));
       indexes = subst (λ (g : Indexing). EachUse (NamesSlot g) g.uses) (sym (indexing-edited m d r w)) w.reads.indexes;
+      forms = all-forms (changes_of m (around_of d r) r) (around_of d r) r.units w.reads.forms;
     }
 
 -- and mean the mapped units
-pub data-mapped : (m : PathMap) (d : DebugData) (r : DataReadings) → DataMoves m d r
-    → units_of (edited_data (changes_of m (around_of d r) r) d r) (edited_reads (changes_of m (around_of d r) r) d r) ≡ mapped_units m (units_of d r)
+pub data-mapped : (m : PathMap) (d : DebugData) (r : DataReadings) (w : DataMoves m d r)
+    → units_of (edited_data (changes_of m (around_of d r) r) d r) (after_reads m d r w) ≡ mapped_units m (units_of d r)
 unfolding units_of
 data-mapped m d r w =
     let qs : Readings = edited_readings (changes_of m (around_of d r) r) (around_of d r) r.units in

@@ -1,7 +1,8 @@
 -- Debug data is read in one way, so a file means one thing.
 use Rattle.std.proofs.Common.{◌≡◌, ℕ, ◌+◌, List, [], ◌∷◌, sym, ap, ◌∙◌, refl, subst, length}
 use Rattle.dw_meaning.specs.DataOutput.{DataReads}
-use Rattle.dw_base.specs.DebugData.{DebugData, DataReadings, units_in, ReadsAll}
+use Rattle.dw_base.specs.DebugData.{DebugData, DataReadings, line_source, units_in, ReadsAll}
+use Rattle.dw_base.specs.LineReadings.{LineReading}
 use Rattle.dw_base.specs.Readings.{Reading, Readings}
 use Rattle.dw_meaning.specs.FileMeanings.{file_data, Means}
 use Rattle.dw_base.specs.FileViews.{view_of}
@@ -15,6 +16,7 @@ use Rattle.dw_base.specs.UnitHeaders.{UnitBase, UnitSection}
 use Rattle.dw_base.specs.UnitPieces.{ReadsUnits, unit_grammar}
 use Rattle.dw_base.specs.UnitStates.{UnitState, before_unit}
 use Rattle.dw_base.specs.ViewData.{Meaning, meaning_of}
+use Rattle.dw_meaning.proofs.LineOneLaws.{tables-one}
 use Rattle.dw_meaning.proofs.PieceLaws.{ReadsOneWay, chain-unique}
 use Rattle.dw_meaning.proofs.UnitOneLaws.{units_one_way}
 
@@ -65,9 +67,12 @@ names-one order contents xs ys r t =
 -- and so are all sections of debug data
 pub data-one : (d : DebugData) (r q : DataReadings) → DataReads d r → DataReads d q → r ≡ q
 data-one d r q a b =
-    ap (λ (x : Readings). record { units = x; offsets = r.offsets; names = r.names }) (readings-one d.base 0 d.units r.units q.units a.units b.units)
-    ∙ ap (λ (x : List (Piece OffsetState)). record { units = q.units; offsets = x; names = r.names }) (offsets-one d.base.order d.offsets.contents r.offsets q.offsets a.offsets b.offsets)
-    ∙ ap (λ (x : List (Piece NameState)). record { units = q.units; offsets = q.offsets; names = x }) (names-one d.base.order d.names.contents r.names q.names a.names b.names)
+    ap (λ (x : Readings). record { units = x; offsets = r.offsets; lines = r.lines; names = r.names }) (readings-one d.base 0 d.units r.units q.units a.units b.units)
+    ∙ ap (λ (x : List (Piece OffsetState)). record { units = q.units; offsets = x; lines = r.lines; names = r.names })
+    (offsets-one d.base.order d.offsets.contents r.offsets q.offsets a.offsets b.offsets)
+    ∙ ap (λ (x : List LineReading). record { units = q.units; offsets = q.offsets; lines = x; names = r.names })
+    (tables-one (line_source d) 0 (length (line_source d).bytes) r.lines q.lines a.lines b.lines)
+    ∙ ap (λ (x : List (Piece NameState)). record { units = q.units; offsets = q.offsets; lines = q.lines; names = x }) (names-one d.base.order d.names.contents r.names q.names a.names b.names)
 
 -- whatever is read in a file says the same
 pub means-one : (b : List ℕ) (x y : Meaning) → Means b x → Means b y → x ≡ y

@@ -1,15 +1,22 @@
 -- A file that is taken isn't refused: each row of an edit excludes that the file is taken.
-use Rattle.std.proofs.Common.{◌≡◌, ℕ, List, subst}
+use Rattle.std.proofs.Common.{◌≡◌, ℕ, List, ◌∷◌, ◌++◌, length, sym, subst}
+use Rattle.dw_base.specs.LineChanges.{line_place}
+use Rattle.dw_base.specs.LineReadings.{LineReading, TablesTo, table_read}
+use Rattle.dw_base.specs.LineWriteFails.{WriteFails}
+use Rattle.dw_base.specs.TextChanges.{TableChanges}
+use Rattle.dw_meaning.proofs.DataKeptLaws.{each-can}
+use Rattle.dw_meaning.proofs.LineRowLaws.{lines-exclude, starts-exclude, write-excludes, TableAmong, table-among, can-among}
+use Rattle.dw_meaning.proofs.LineSectionLaws.{EachCan}
 use Rattle.dw_base.specs.Cells.{CellSection}
-use Rattle.dw_base.specs.DebugData.{DataReadings}
+use Rattle.dw_base.specs.DebugData.{DataReadings, around_of, line_source}
 use Rattle.dw_base.specs.FileViews.{view_of}
 use Rattle.dw_base.specs.OffsetPieces.{ReadsOffsets}
 use Rattle.dw_base.specs.ViewData.{debug_data, string_offsets}
-use Rattle.dw_meaning.specs.DataOutput.{DataReads}
+use Rattle.dw_meaning.specs.DataOutput.{DataReads, DataFits, changes_of}
 use Rattle.dw_meaning.proofs.FileKeptLaws.{offsets-are}
 use Rattle.dw_meaning.proofs.SlotRowLaws.{slot_texts-exclude, shared-row, string_tables-exclude, name_tables-exclude}
-use Rattle.dw_meaning.specs.EditRows.{EditFails, file as file_row, inline as inline_row, shared as shared_row, output as output_row, IsAccepted}
-use Rattle.dw_meaning.specs.FileFails.{FileFails, elf as elf_row, sections as sections_row, loaded as loaded_row, units as units_row, texts as texts_row, unbuilt as unbuilt_row, string_tables as string_tables_row, slots as slots_row, name_tables as name_tables_row}
+use Rattle.dw_meaning.specs.EditRows.{EditFails, file as file_row, inline as inline_row, shared as shared_row, line_table as line_table_row, output as output_row, IsAccepted}
+use Rattle.dw_meaning.specs.FileFails.{FileFails, elf as elf_row, sections as sections_row, loaded as loaded_row, units as units_row, texts as texts_row, unbuilt as unbuilt_row, string_tables as string_tables_row, slots as slots_row, lines as lines_row, starts as starts_row, name_tables as name_tables_row}
 use Rattle.dw_meaning.specs.FileMeanings.{file_data, new_body}
 use Rattle.dw_base.specs.LayoutFails.{LayoutFails}
 use Rattle.dw_base.specs.Paths.{PathMap}
@@ -36,6 +43,8 @@ file-excludes m b r a (string_tables_row e f) =
     string_tables-exclude (view_of b).order (string_offsets (view_of b)) a.readings.offsets r
     (subst (λ (z : CellSection). ReadsOffsets (view_of b).order z.contents a.readings.offsets) (offsets-are b) (file-offsets b a.readings a.reads.data_reads)) f
 file-excludes m b r a (slots_row e f) = slot_texts-exclude (file_data b) a.readings r a.reads.data_reads f
+file-excludes m b r a (lines_row e f) = lines-exclude (file_data b) a.readings r a.reads.data_reads f
+file-excludes m b r a (starts_row e f) = starts-exclude (file_data b) a.readings r a.reads.data_reads f
 file-excludes m b r a (name_tables_row e f) = name_tables-exclude (view_of b) a.readings r a.reads.data_reads f
 file-excludes m b r a (unbuilt_row u) = a.built u
 
@@ -44,6 +53,24 @@ pub edit-excludes : (m : PathMap) (b : List ℕ) (r : Refusal) → IsAccepted m 
 edit-excludes m b r a (file_row f) = file-excludes m b r a f
 edit-excludes m b r a (inline_row e f) = inline-excludes m (file_data b) a.readings r a.reads.data_reads a.fits f
 edit-excludes m b r a (shared_row readings e i f) = shared-row m (file_data b) a.readings readings r a.reads.data_reads a.fits i f
+edit-excludes m b r a (line_table_row readings before behind t reads split f) =
+    let same : readings ≡ a.readings = data-one (file_data b) readings a.readings reads.data_reads a.reads.data_reads in
+    by_readings readings same reads.data_reads split f
+  where
+    by_readings : (rs : DataReadings) → rs ≡ a.readings → DataReads (file_data b) rs → rs.lines ≡ before ++ t ∷ behind
+        → WriteFails (line_source (file_data b)) m (line_place m (changes_of m (around_of (file_data b) rs) rs).str (changes_of m (around_of (file_data b) rs) rs).line_str (line_source (file_data b)))
+        (table_read (line_source (file_data b)) t) r → ⊥
+    by_readings rs same reads split f =
+        let c : TableChanges = changes_of m (around_of (file_data b) rs) rs in
+        let among : TableAmong (line_source (file_data b)) t =
+        table-among (line_source (file_data b)) 0 (length (line_source (file_data b)).bytes) before behind t
+        (subst (λ (ts : List LineReading). TablesTo (line_source (file_data b)) 0 ts (length (line_source (file_data b)).bytes)) split reads.lines) in
+        let fits : DataFits m (file_data b) rs = subst (DataFits m (file_data b)) (sym same) a.fits in
+        let can : EachCan (line_source (file_data b)) m (changes_of m (around_of (file_data b) rs) rs) (before ++ t ∷ behind) =
+        subst (EachCan (line_source (file_data b)) m (changes_of m (around_of (file_data b) rs) rs)) split
+        (each-can m (changes_of m (around_of (file_data b) rs) rs) (file_data b) rs rs.lines fits.lines) in
+        write-excludes (line_source (file_data b)) m (line_place m (changes_of m (around_of (file_data b) rs) rs).str (changes_of m (around_of (file_data b) rs) rs).line_str (line_source (file_data b)))
+        among.start t r among.reads (can-among (line_source (file_data b)) m (changes_of m (around_of (file_data b) rs) rs) before behind t can) f
 edit-excludes m b r a (output_row readings reads fits f) =
     let same : readings ≡ a.readings = data-one (file_data b) readings a.readings reads.data_reads a.reads.data_reads in
     layout_excludes b (new_body m b a.readings) r a.written (subst (λ (rs : DataReadings). LayoutFails b (new_body m b rs) r) same f)

@@ -2,13 +2,16 @@
 use Rattle.std.proofs.Common.{true, false, ◌≡◌, ◌≢◌, ◌⊎◌, inl, inr, ℕ, ◌<◌, List, [], drop, Option, Some, None, Bool, ◌∷◌, length, true≢false, sym, ap, ◌∙◌, refl, subst, arith, if◌then◌else◌, take}
 use Rattle.std.proofs.lemmas.Bool.{ne_eqb, eq-eqb, cases_eq}
 use Rattle.dw_base.specs.Cells.{Cell, Located, CellSection, bytes_of, plain_cells}
-use Rattle.dw_meaning.specs.DataOutput.{DataFits, table_change, changes_of, offsets_after, names_after, Body, unit_bodies, body_in, new_bodies}
-use Rattle.dw_base.specs.DebugData.{Around, DataReadings, around_of, path_slots}
+use Rattle.dw_meaning.specs.DataOutput.{DataFits, table_change, new_lines, changes_of, offsets_after, names_after, Body, unit_bodies, body_in, new_bodies}
+use Rattle.dw_base.specs.DebugData.{Around, DataReadings, around_of, line_source, path_slots}
+use Rattle.dw_base.specs.LineChanges.{line_mentions, lines_after}
+use Rattle.dw_base.specs.LineReadings.{LineReading, TablesTo, all_lines}
+use Rattle.dw_base.specs.Texts.{ends_in}
 use Rattle.dw_base.specs.DebugSections.{debug_section, name_of}
 use Rattle.dw_base.specs.Elf.{e_shoff, nth_section, section_count, section_name, contents_of, contents_at, is_empty_kind}
 use Rattle.dw_meaning.specs.FileMeanings.{file_data, FileReads, new_body}
 use Rattle.dw_base.specs.FileViews.{view_of, section_named, section_after}
-use Rattle.dw_base.specs.Forms.{in_str, in_line_str}
+use Rattle.dw_base.specs.Forms.{TextSection, in_str, in_line_str}
 use Rattle.dw_base.specs.LayoutReads.{ReadsBack}
 use Rattle.dw_base.specs.Paths.{PathMap, IsPathMap}
 use Rattle.dw_base.specs.StringTables.{new_table}
@@ -24,7 +27,11 @@ use Rattle.dw_meaning.proofs.FileBackLaws.{Back, SectionBack, is_read_name, sect
 use Rattle.dw_base.proofs.FileViewLaws.{section_bytes-view_of}
 use Rattle.dw_meaning.proofs.SectionKeptLaws.{edited-plain, edited-size, units-skip}
 use Rattle.dw_meaning.proofs.OffsetMoveLaws.{EachCells, cells-plain}
-use Rattle.dw_base.proofs.PlainCellLaws.{IsPlain, plain-append, plain_cells-plain}
+use Rattle.dw_base.proofs.PlainCellLaws.{IsPlain, plain-append, bytes_of-plain, plain_cells-plain}
+use Rattle.dw_base.proofs.TextLaws.{ends_in-inside}
+use Rattle.dw_meaning.proofs.LineColumnLaws.{texts_in}
+use Rattle.dw_meaning.proofs.LinePathLaws.{lines-none}
+use Rattle.dw_meaning.proofs.LineSectionLaws.{TablesApart, no-tables}
 use Rattle.std.proofs.lemmas.List.{length-append}
 use Rattle.dw_meaning.proofs.TableKeptLaws.{FoundAt, found-named, TablePlace, nowhere, lies_at, table-place, new_table-none, drop-at, found-back, sections-self}
 
@@ -54,7 +61,11 @@ new_offsets m b r = joined (offsets_after (changes_file m b r) (around_file b r)
 abbrev pub new_names : PathMap → List ℕ → DataReadings → List Cell
 new_names m b r = joined (names_after (changes_file m b r) (around_file b r) r)
 
--- the four sections with new bytes that hold no units
+-- the new line tables
+abbrev pub new_line_tables : PathMap → List ℕ → DataReadings → List ℕ
+new_line_tables m b r = all_lines (new_lines m (around_file b r) r)
+
+-- the five sections with new bytes that hold no units
 abbrev pub str_new : PathMap → List ℕ → DataReadings → Body
 str_new m b r = record { number = (file_data b).str.number; bytes = new_str m b r }
 
@@ -64,6 +75,9 @@ line_new m b r = record { number = (file_data b).line_str.number; bytes = new_li
 abbrev pub offsets_new : PathMap → List ℕ → DataReadings → Body
 offsets_new m b r = record { number = (file_data b).offsets.number; bytes = bytes_of (new_offsets m b r) }
 
+abbrev pub tables_new : PathMap → List ℕ → DataReadings → Body
+tables_new m b r = record { number = (file_data b).lines.number; bytes = new_line_tables m b r }
+
 abbrev pub names_new : PathMap → List ℕ → DataReadings → Body
 names_new m b r = record { number = (file_data b).names.number; bytes = bytes_of (new_names m b r) }
 
@@ -71,8 +85,11 @@ abbrev pub units_new : PathMap → List ℕ → DataReadings → List Body
 units_new m b r = unit_bodies (changes_file m b r) (around_file b r) r.units
 
 -- what stands behind each in the list of new bodies
+abbrev behind_lines : PathMap → List ℕ → DataReadings → List Body
+behind_lines m b r = names_new m b r ∷ units_new m b r
+
 abbrev behind_offsets : PathMap → List ℕ → DataReadings → List Body
-behind_offsets m b r = names_new m b r ∷ units_new m b r
+behind_offsets m b r = tables_new m b r ∷ behind_lines m b r
 
 abbrev behind_line : PathMap → List ℕ → DataReadings → List Body
 behind_line m b r = offsets_new m b r ∷ behind_offsets m b r
@@ -82,7 +99,7 @@ behind_str m b r = line_new m b r ∷ behind_line m b r
 
 -- the body of a section of a number
 body-open : (m : PathMap) (b : List ℕ) (r : DataReadings) (i : ℕ)
-    → new_body m b r i ≡ body_in (str_new m b r ∷ line_new m b r ∷ offsets_new m b r ∷ names_new m b r ∷ units_new m b r) (contents_of b) i
+    → new_body m b r i ≡ body_in (str_new m b r ∷ line_new m b r ∷ offsets_new m b r ∷ tables_new m b r ∷ names_new m b r ∷ units_new m b r) (contents_of b) i
 unfolding new_body new_bodies
 body-open m b r i = refl
 
@@ -98,6 +115,9 @@ line-place b = table-place b LineStr
 pub offsets-place : (b : List ℕ) → TablePlace b (name_of StrOffsets) (located (view_of b) StrOffsets)
 offsets-place b = table-place b StrOffsets
 
+pub tables-place : (b : List ℕ) → TablePlace b (name_of Line) (located (view_of b) Line)
+tables-place b = table-place b Line
+
 pub names-place : (b : List ℕ) → TablePlace b (name_of Names) (located (view_of b) Names)
 names-place b = table-place b Names
 
@@ -105,16 +125,51 @@ pub offsets-are : (b : List ℕ) → (file_data b).offsets ≡ cell_section (loc
 unfolding debug_data
 offsets-are b = refl
 
+pub lines-are : (b : List ℕ) → (file_data b).lines ≡ cell_section (located (view_of b) Line)
+unfolding debug_data
+lines-are b = refl
+
 pub names-are : (b : List ℕ) → (file_data b).names ≡ cell_section (located (view_of b) Names)
 unfolding debug_data
 names-are b = refl
 
+-- the section of a table's number isn't one of another name
+pub name-apart : (b name : List ℕ) (z : Located) (i : ℕ) → TablePlace b name z → 0 < i → section_name b i ≢ name → i ≢ z.number
+name-apart b name z i (nowhere zero none) some other same = omega (arith, same, zero, some)
+name-apart b name z i (lies_at there within named bytes) some other same = other (ap (section_name b) same ∙ named)
+
+pub tables-apart : (b : List ℕ) → 0 < (file_data b).line_str.number → section_name b (file_data b).line_str.number ≡ name_of LineStr
+    → (file_data b).line_str.number ≢ (file_data b).str.number
+tables-apart b there named =
+    name-apart b (name_of Str) (file_data b).str (file_data b).line_str.number (str-place b) there (λ (e : section_name b (file_data b).line_str.number ≡ name_of Str). differ (sym named ∙ e))
+  where
+    differ : name_of LineStr ≡ name_of Str → ⊥
+    differ e = cc
+
+-- and that of the second is another than the first, where a text is in it
+pub texts-apart : (b : List ℕ) (at : ℕ) → ends_in (file_data b).line_str.bytes at ≡ true → (file_data b).line_str.number ≢ (file_data b).str.number
+texts-apart b at ends = by_place (line-place b)
+  where
+    by_place : TablePlace b (name_of LineStr) (file_data b).line_str → (file_data b).line_str.number ≢ (file_data b).str.number
+    by_place (nowhere zero none) =
+        let inside : ends_in [] at ≡ true = ap (λ (t : List ℕ). ends_in t at) (sym none) ∙ ends in
+        absurd (omega (arith, ends_in-inside [] at inside))
+    by_place (lies_at there within named bytes) = tables-apart b there named
+
+-- the mentions of line tables, where a table of texts isn't there
+lines_no : (m : PathMap) (table : TextSection) (b : List ℕ) (r : DataReadings) → CanMap m b r → (texts_in (line_source (file_data b)) table).bytes ≡ []
+    → line_mentions (line_source (file_data b)) table r.lines ≡ []
+lines_no m table b r w none =
+    lines-none (line_source (file_data b)) table 0 (length (line_source (file_data b)).bytes) r.lines (texts-apart b) none w.reads.data_reads.lines
+
 -- a table that isn't there has no new bytes
 pub str-none : (m : PathMap) (b : List ℕ) (r : DataReadings) → CanMap m b r → (file_data b).str.bytes ≡ [] → new_str m b r ≡ []
 str-none m b r w none = new_table-none m in_str (around_of (file_data b) r) r none w.reads.data_reads.texts w.reads.data_reads.slot_texts w.reads.data_reads.name_texts
+    (lines_no m in_str b r w none)
 
 pub line-none : (m : PathMap) (b : List ℕ) (r : DataReadings) → CanMap m b r → (file_data b).line_str.bytes ≡ [] → new_line_str m b r ≡ []
 line-none m b r w none = new_table-none m in_line_str (around_of (file_data b) r) r none w.reads.data_reads.texts w.reads.data_reads.slot_texts w.reads.data_reads.name_texts
+    (lines_no m in_line_str b r w none)
 
 -- nor have string offsets and name tables: their pieces are as long as they were
 length-none : (p : List Cell) → length p ≡ 0 → p ≡ []
@@ -145,6 +200,15 @@ names-none m b r w none =
     edited-none name_role (changes_file m b r) (around_file b r) r.names (located (view_of b) Names).bytes
     (w.reads.data_reads.names.cells ∙ ap (λ (z : CellSection). z.contents) (names-are b)) none
 
+-- nor line tables
+pub line-bytes : (b : List ℕ) → (line_source (file_data b)).bytes ≡ (located (view_of b) Line).bytes
+line-bytes b = ap (λ (z : CellSection). bytes_of z.contents) (lines-are b) ∙ bytes_of-plain (located (view_of b) Line).bytes
+
+pub tables-none : (m : PathMap) (b : List ℕ) (r : DataReadings) → CanMap m b r → (located (view_of b) Line).bytes ≡ [] → new_line_tables m b r ≡ []
+tables-none m b r w none =
+    ap (λ (rs : List LineReading). all_lines (lines_after m (table_change m in_str (around_file b r) r) (table_change m in_line_str (around_file b r) r) (line_source (file_data b)) rs))
+    (no-tables (line_source (file_data b)) r.lines (line-bytes b ∙ none) w.reads.data_reads.lines)
+
 -- section 0 has no bytes
 section_0 : (m : PathMap) (b : List ℕ) (r : DataReadings) → CanMap m b r → 0 < section_count b → contents_of b 0 ≡ []
 unfolding contents_of contents_at section_count
@@ -155,11 +219,6 @@ section_0 m b r w some = by_table (cases_eq (e_shoff b) 0)
         let zero : section_count b ≡ 0 = rw none refl in
         absurd (omega (arith, zero, some))
     by_table (inr there) = rw (w.reads.elf.debug.index.null there) refl
-
--- the section of a table's number isn't one of another name
-pub name-apart : (b name : List ℕ) (z : Located) (i : ℕ) → TablePlace b name z → 0 < i → section_name b i ≢ name → i ≢ z.number
-name-apart b name z i (nowhere zero none) some other same = omega (arith, same, zero, some)
-name-apart b name z i (lies_at there within named bytes) some other same = other (ap (section_name b) same ∙ named)
 
 -- the first body of a list, and the others
 here-body : (x : Body) (xs : List Body) (old : ℕ → List ℕ) (i : ℕ) → i ≡ x.number → body_in (x ∷ xs) old i ≡ x.bytes
@@ -186,32 +245,42 @@ body-offsets m b r i same str line =
     body-open m b r i ∙ next-body (str_new m b r) (behind_str m b r) (contents_of b) i str ∙ next-body (line_new m b r) (behind_line m b r) (contents_of b) i line
     ∙ here-body (offsets_new m b r) (behind_offsets m b r) (contents_of b) i same
 
-pub body-names : (m : PathMap) (b : List ℕ) (r : DataReadings) (i : ℕ) → i ≡ (file_data b).names.number → i ≢ (file_data b).str.number → i ≢ (file_data b).line_str.number
-    → i ≢ (file_data b).offsets.number → new_body m b r i ≡ bytes_of (new_names m b r)
-body-names m b r i same str line offsets =
+pub body-tables : (m : PathMap) (b : List ℕ) (r : DataReadings) (i : ℕ) → i ≡ (file_data b).lines.number → i ≢ (file_data b).str.number → i ≢ (file_data b).line_str.number
+    → i ≢ (file_data b).offsets.number → new_body m b r i ≡ new_line_tables m b r
+body-tables m b r i same str line offsets =
     body-open m b r i ∙ next-body (str_new m b r) (behind_str m b r) (contents_of b) i str ∙ next-body (line_new m b r) (behind_line m b r) (contents_of b) i line
-    ∙ next-body (offsets_new m b r) (behind_offsets m b r) (contents_of b) i offsets ∙ here-body (names_new m b r) (units_new m b r) (contents_of b) i same
+    ∙ next-body (offsets_new m b r) (behind_offsets m b r) (contents_of b) i offsets ∙ here-body (tables_new m b r) (behind_lines m b r) (contents_of b) i same
+
+pub body-names : (m : PathMap) (b : List ℕ) (r : DataReadings) (i : ℕ) → i ≡ (file_data b).names.number → i ≢ (file_data b).str.number → i ≢ (file_data b).line_str.number
+    → i ≢ (file_data b).offsets.number → i ≢ (file_data b).lines.number → new_body m b r i ≡ bytes_of (new_names m b r)
+body-names m b r i same str line offsets tables =
+    body-open m b r i ∙ next-body (str_new m b r) (behind_str m b r) (contents_of b) i str ∙ next-body (line_new m b r) (behind_line m b r) (contents_of b) i line
+    ∙ next-body (offsets_new m b r) (behind_offsets m b r) (contents_of b) i offsets ∙ next-body (tables_new m b r) (behind_lines m b r) (contents_of b) i tables
+    ∙ here-body (names_new m b r) (units_new m b r) (contents_of b) i same
 
 -- the number is that of none of them
 pub record IsApart (b : List ℕ) (i : ℕ) : Type 0 where
   pub str : i ≢ (file_data b).str.number
   pub line : i ≢ (file_data b).line_str.number
   pub offsets : i ≢ (file_data b).offsets.number
+  pub lines : i ≢ (file_data b).lines.number
   pub names : i ≢ (file_data b).names.number
 
 -- the new body of every other section
 pub body-other : (m : PathMap) (b : List ℕ) (r : DataReadings) (i : ℕ) → IsApart b i → new_body m b r i ≡ body_in (units_new m b r) (contents_of b) i
 body-other m b r i a =
     body-open m b r i ∙ next-body (str_new m b r) (behind_str m b r) (contents_of b) i a.str ∙ next-body (line_new m b r) (behind_line m b r) (contents_of b) i a.line
-    ∙ next-body (offsets_new m b r) (behind_offsets m b r) (contents_of b) i a.offsets ∙ next-body (names_new m b r) (units_new m b r) (contents_of b) i a.names
+    ∙ next-body (offsets_new m b r) (behind_offsets m b r) (contents_of b) i a.offsets ∙ next-body (tables_new m b r) (behind_lines m b r) (contents_of b) i a.lines
+    ∙ next-body (names_new m b r) (units_new m b r) (contents_of b) i a.names
 
--- a section that has none of the four names is none of them
+-- a section that has none of the five names is none of them
 pub named-apart : (b : List ℕ) (i : ℕ) → 0 < i → section_name b i ≢ name_of Str → section_name b i ≢ name_of LineStr → section_name b i ≢ name_of StrOffsets
-    → section_name b i ≢ name_of Names → IsApart b i
-named-apart b i some str line offsets names = record {
+    → section_name b i ≢ name_of Line → section_name b i ≢ name_of Names → IsApart b i
+named-apart b i some str line offsets tables names = record {
   str = name-apart b (name_of Str) (file_data b).str i (str-place b) some str;
   line = name-apart b (name_of LineStr) (file_data b).line_str i (line-place b) some line;
   offsets = subst (λ (z : CellSection). i ≢ z.number) (sym (offsets-are b)) (name-apart b (name_of StrOffsets) (located (view_of b) StrOffsets) i (offsets-place b) some offsets);
+  lines = subst (λ (z : CellSection). i ≢ z.number) (sym (lines-are b)) (name-apart b (name_of Line) (located (view_of b) Line) i (tables-place b) some tables);
   names = subst (λ (z : CellSection). i ≢ z.number) (sym (names-are b)) (name-apart b (name_of Names) (located (view_of b) Names) i (names-place b) some names);
 }
 
@@ -232,7 +301,7 @@ unread-units (Some Abbrev) e = absurd cc
 unread-units (Some Str) e = absurd cc
 unread-units (Some LineStr) e = absurd cc
 unread-units (Some StrOffsets) e = absurd cc
-unread-units (Some Line) e = refl
+unread-units (Some Line) e = absurd cc
 unread-units (Some Macro) e = refl
 unread-units (Some Names) e = absurd cc
 
@@ -269,10 +338,13 @@ unread-kept m b r i w lt unread =
     (keep-body (offsets_new m b r) (behind_offsets m b r) (contents_of b) i
     (λ same. unread-same m b r i StrOffsets (located (view_of b) StrOffsets) (bytes_of (new_offsets m b r)) w lt refl unread
     (λ none. ap bytes_of (offsets-none m b r w none)) (offsets-place b) (same ∙ ap (λ (z : CellSection). z.number) (offsets-are b)))
+    (keep-body (tables_new m b r) (behind_lines m b r) (contents_of b) i
+    (λ same. unread-same m b r i Line (located (view_of b) Line) (new_line_tables m b r) w lt refl unread
+    (tables-none m b r w) (tables-place b) (same ∙ ap (λ (z : CellSection). z.number) (lines-are b)))
     (keep-body (names_new m b r) (units_new m b r) (contents_of b) i
     (λ same. unread-same m b r i Names (located (view_of b) Names) (bytes_of (new_names m b r)) w lt refl unread
     (λ none. ap bytes_of (names-none m b r w none)) (names-place b) (same ∙ ap (λ (z : CellSection). z.number) (names-are b)))
-    (units-none m b r i w (unread-units (debug_section (section_name b i)) unread)))))
+    (units-none m b r i w (unread-units (debug_section (section_name b i)) unread))))))
 
 -- so the output is a file that was written with new bodies for what is read
 pub file-back : (m : PathMap) (b : List ℕ) (r : DataReadings) (out : List ℕ) → CanMap m b r → ReadsBack b (new_body m b r) out → Back b (new_body m b r) out
@@ -329,14 +401,6 @@ str-back m b r out w back = by_place (located-back m b r out Str w back)
         is ∙ ap (λ (bs : List ℕ). record { number = (located (view_of b) Str).number; bytes = bs }) (body-str m b r)
 
 -- no two tables of texts are in one section
-pub tables-apart : (b : List ℕ) → 0 < (file_data b).line_str.number → section_name b (file_data b).line_str.number ≡ name_of LineStr
-    → (file_data b).line_str.number ≢ (file_data b).str.number
-tables-apart b there named =
-    name-apart b (name_of Str) (file_data b).str (file_data b).line_str.number (str-place b) there (λ (e : section_name b (file_data b).line_str.number ≡ name_of Str). differ (sym named ∙ e))
-  where
-    differ : name_of LineStr ≡ name_of Str → ⊥
-    differ e = cc
-
 pub line-back : (m : PathMap) (b : List ℕ) (r : DataReadings) (out : List ℕ) → CanMap m b r → ReadsBack b (new_body m b r) out
     → (file_data out).line_str ≡ record { number = (file_data b).line_str.number; bytes = new_line_str m b r }
 unfolding debug_data
@@ -350,7 +414,7 @@ line-back m b r out w back = by_place (located-back m b r out LineStr w back)
     by_place (stands there within named bytes is) =
         is ∙ ap (λ (bs : List ℕ). record { number = (located (view_of b) LineStr).number; bytes = bs }) (body-line m b r (tables-apart b there named))
 
--- a section of a name of its own, not of the four, has the bytes that it had
+-- a section of a name of its own, not of the five, has the bytes that it had
 pub abbrev-back : (m : PathMap) (b : List ℕ) (r : DataReadings) (out : List ℕ) → CanMap m b r → ReadsBack b (new_body m b r) out
     → located (view_of out) Abbrev ≡ located (view_of b) Abbrev
 abbrev-back m b r out w back = by_place (located-back m b r out Abbrev w back)
@@ -363,7 +427,7 @@ abbrev-back m b r out w back = by_place (located-back m b r out Abbrev w back)
     by_place (stands there within named bytes is) =
         let apart : IsApart b (located (view_of b) Abbrev).number =
         named-apart b (located (view_of b) Abbrev).number there (λ e. other Str refl (sym named ∙ e)) (λ e. other LineStr refl (sym named ∙ e))
-        (λ e. other StrOffsets refl (sym named ∙ e)) (λ e. other Names refl (sym named ∙ e)) in
+        (λ e. other StrOffsets refl (sym named ∙ e)) (λ e. other Line refl (sym named ∙ e)) (λ e. other Names refl (sym named ∙ e)) in
         let none : unit_kind (debug_section (section_name b (located (view_of b) Abbrev).number)) ≡ None =
         ap (λ (n : List ℕ). unit_kind (debug_section n)) named ∙ ap unit_kind (debug_section-name Abbrev) in
         is ∙ ap (λ (bs : List ℕ). record { number = (located (view_of b) Abbrev).number; bytes = bs })
@@ -424,6 +488,78 @@ offsets-back m b r out w back = by_place (located-back m b r out StrOffsets w ba
         (body-offsets m b r (located (view_of b) StrOffsets).number refl str line)
         ∙ ap (λ (p : List Cell). record { number = (located (view_of b) StrOffsets).number; contents = p }) (sym (offsets-cells m b r w).plain)
 
+pub tables-back : (m : PathMap) (b : List ℕ) (r : DataReadings) (out : List ℕ) → CanMap m b r → ReadsBack b (new_body m b r) out
+    → (file_data out).lines ≡ record { number = (file_data b).lines.number; contents = plain_cells (new_line_tables m b r) }
+unfolding debug_data
+tables-back m b r out w back = by_place (located-back m b r out Line w back)
+  where
+    str_no : Some Line ≡ Some Str → ⊥
+    str_no e = cc
+
+    line_no : Some Line ≡ Some LineStr → ⊥
+    line_no e = cc
+
+    offsets_no : Some Line ≡ Some StrOffsets → ⊥
+    offsets_no e = cc
+
+    by_place : LocatedBack m b r (name_of Line) (located (view_of b) Line) (located (view_of out) Line)
+        → cell_section (located (view_of out) Line) ≡ record { number = (located (view_of b) Line).number; contents = plain_cells (new_line_tables m b r) }
+    by_place (gone zero none is) =
+        ap cell_section is ∙ ap (λ (n : ℕ). record { number = n; contents = [] }) (sym zero)
+        ∙ ap (λ (bs : List ℕ). record { number = (located (view_of b) Line).number; contents = plain_cells bs }) (sym (tables-none m b r w none))
+    by_place (stands there within named bytes is) =
+        let str = name-apart b (name_of Str) (file_data b).str (located (view_of b) Line).number (str-place b) there (λ e. str_no (differ Line Str (sym named ∙ e))) in
+        let line = name-apart b (name_of LineStr) (file_data b).line_str (located (view_of b) Line).number (line-place b) there (λ e. line_no (differ Line LineStr (sym named ∙ e))) in
+        let offsets = name-apart b (name_of StrOffsets) (located (view_of b) StrOffsets) (located (view_of b) Line).number (offsets-place b) there (λ e. offsets_no (differ Line StrOffsets (sym named ∙ e))) in
+        ap cell_section is
+        ∙ ap (λ (bs : List ℕ). record { number = (located (view_of b) Line).number; contents = plain_cells bs })
+        (body-tables m b r (located (view_of b) Line).number refl str line offsets)
+
+pub body-lines : (m : PathMap) (b : List ℕ) (r : DataReadings) → 0 < (located (view_of b) Line).number → section_name b (located (view_of b) Line).number ≡ name_of Line
+    → new_body m b r (located (view_of b) Line).number ≡ new_line_tables m b r
+body-lines m b r there named =
+    body-tables m b r (located (view_of b) Line).number (sym (ap (λ (z : CellSection). z.number) (lines-are b)))
+    (name-apart b (name_of Str) (file_data b).str (located (view_of b) Line).number (str-place b) there (λ e. str_no (differ Line Str (sym named ∙ e))))
+    (name-apart b (name_of LineStr) (file_data b).line_str (located (view_of b) Line).number (line-place b) there (λ e. line_no (differ Line LineStr (sym named ∙ e))))
+    (subst (λ (z : CellSection). (located (view_of b) Line).number ≢ z.number) (sym (offsets-are b))
+    (name-apart b (name_of StrOffsets) (located (view_of b) StrOffsets) (located (view_of b) Line).number (offsets-place b) there (λ e. offsets_no (differ Line StrOffsets (sym named ∙ e)))))
+  where
+    str_no : Some Line ≡ Some Str → ⊥
+    str_no e = cc
+
+    line_no : Some Line ≡ Some LineStr → ⊥
+    line_no e = cc
+
+    offsets_no : Some Line ≡ Some StrOffsets → ⊥
+    offsets_no e = cc
+
+-- where there are line tables, their section is none of those of texts
+pub lines-apart : (m : PathMap) (b : List ℕ) (r : DataReadings) → CanMap m b r → TablesApart (line_source (file_data b)) r.lines
+unfolding debug_data
+lines-apart m b r w = by_lines r.lines w.reads.data_reads.lines
+  where
+    str_no : Some Line ≡ Some Str → ⊥
+    str_no e = cc
+
+    line_no : Some Line ≡ Some LineStr → ⊥
+    line_no e = cc
+
+    by_place : TablePlace b (name_of Line) (located (view_of b) Line) → (x : LineReading) (xs : List LineReading)
+        → TablesTo (line_source (file_data b)) 0 (x ∷ xs) (length (line_source (file_data b)).bytes)
+        → ((located (view_of b) Line).number ≢ (file_data b).str.number) × ((located (view_of b) Line).number ≢ (file_data b).line_str.number)
+    by_place (nowhere zero none) x xs reads = absurd (some_none (no-tables (line_source (file_data b)) (x ∷ xs) (line-bytes b ∙ none) reads))
+      where
+        some_none : ◌≡◌ {A = List LineReading} (x ∷ xs) [] → ⊥
+        some_none e = cc
+    by_place (lies_at there within named bytes) x xs reads = (
+      name-apart b (name_of Str) (file_data b).str (located (view_of b) Line).number (str-place b) there (λ e. str_no (differ Line Str (sym named ∙ e))),
+      name-apart b (name_of LineStr) (file_data b).line_str (located (view_of b) Line).number (line-place b) there (λ e. line_no (differ Line LineStr (sym named ∙ e))),
+    )
+
+    by_lines : (xs : List LineReading) → TablesTo (line_source (file_data b)) 0 xs (length (line_source (file_data b)).bytes) → TablesApart (line_source (file_data b)) xs
+    by_lines [] reads = tt
+    by_lines (x ∷ xs) reads = by_place (tables-place b) x xs reads
+
 pub names-section : (m : PathMap) (b : List ℕ) (r : DataReadings) (out : List ℕ) → CanMap m b r → ReadsBack b (new_body m b r) out
     → (file_data out).names ≡ record { number = (file_data b).names.number; contents = new_names m b r }
 unfolding debug_data
@@ -438,6 +574,9 @@ names-section m b r out w back = by_place (located-back m b r out Names w back)
     offsets_no : Some Names ≡ Some StrOffsets → ⊥
     offsets_no e = cc
 
+    tables_no : Some Names ≡ Some Line → ⊥
+    tables_no e = cc
+
     by_place : LocatedBack m b r (name_of Names) (located (view_of b) Names) (located (view_of out) Names)
         → cell_section (located (view_of out) Names) ≡ record { number = (located (view_of b) Names).number; contents = new_names m b r }
     by_place (gone zero none is) =
@@ -447,7 +586,8 @@ names-section m b r out w back = by_place (located-back m b r out Names w back)
         let str = name-apart b (name_of Str) (file_data b).str (located (view_of b) Names).number (str-place b) there (λ e. str_no (differ Names Str (sym named ∙ e))) in
         let line = name-apart b (name_of LineStr) (file_data b).line_str (located (view_of b) Names).number (line-place b) there (λ e. line_no (differ Names LineStr (sym named ∙ e))) in
         let offsets = name-apart b (name_of StrOffsets) (located (view_of b) StrOffsets) (located (view_of b) Names).number (offsets-place b) there (λ e. offsets_no (differ Names StrOffsets (sym named ∙ e))) in
+        let tables = name-apart b (name_of Line) (located (view_of b) Line) (located (view_of b) Names).number (tables-place b) there (λ e. tables_no (differ Names Line (sym named ∙ e))) in
         ap cell_section is
         ∙ ap (λ (bs : List ℕ). record { number = (located (view_of b) Names).number; contents = plain_cells bs })
-        (body-names m b r (located (view_of b) Names).number refl str line offsets)
+        (body-names m b r (located (view_of b) Names).number refl str line offsets tables)
         ∙ ap (λ (p : List Cell). record { number = (located (view_of b) Names).number; contents = p }) (sym (names-cells m b r w).plain)

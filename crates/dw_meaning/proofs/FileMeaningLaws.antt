@@ -1,9 +1,10 @@
 -- The output of a file means what the file means, with each source path mapped: from what reads back of it.
 use Rattle.std.proofs.Common.{Bool, true, false, ◌≡◌, ◌≢◌, ℕ, suc, ◌^◌, ◌≤◌, List, [], ◌∷◌, ◌++◌, length, drop, Option, Some, None, sym, ap, ◌∙◌, refl, subst, arith, if◌then◌else◌}
-use Rattle.dw_base.specs.Cells.{Located, CellSection}
+use Rattle.dw_base.specs.Cells.{Located, CellSection, plain_cells}
 use Rattle.dw_meaning.specs.DataOutput.{DataReads}
-use Rattle.dw_base.specs.DebugData.{DebugData, DataReadings}
-use Rattle.dw_base.specs.Readings.{EachReading}
+use Rattle.dw_base.specs.DebugData.{DebugData, DataReadings, line_source}
+use Rattle.dw_base.specs.LineMeanings.{LineMeaning, line_meanings, mapped_lines}
+use Rattle.dw_base.specs.Readings.{Readings, EachReading}
 use Rattle.dw_base.specs.SlotTexts.{slot_texts, NamePart, name_parts}
 use Rattle.dw_base.specs.MappedSlots.{unit_slots, mapped_slots}
 use Rattle.dw_base.specs.DebugSections.{debug_section, name_of}
@@ -18,13 +19,13 @@ use Rattle.dw_base.specs.UnitHeaders.{UnitSection, SectionKind}
 use Rattle.dw_base.specs.UnitMeanings.{UnitMeaning, units_of}
 use Rattle.dw_base.specs.ViewData.{unit_kind, unit_section, unit_sections_from, unit_sections, located, debug_data, NamedBytes, other_sections, bytes_named, without_id, Meaning, meaning_of, mapped}
 use Rattle.dw_base.specs.declared.debug_sections.DebugSection.{DebugSection}
-use Rattle.dw_base.specs.declared.debug_sections.DebugSection.TheVariants.{Abbrev, Str, LineStr, StrOffsets, Names}
+use Rattle.dw_base.specs.declared.debug_sections.DebugSection.TheVariants.{Abbrev, Str, LineStr, StrOffsets, Line, Names}
 use Rattle.dw_base.specs.declared.shared.Order.{Order}
-use Rattle.dw_meaning.proofs.DataKeptLaws.{DataMoves, EachPlain, edited_data, edited_reads, edited_sections, readings-plain, data-reads, data-mapped, slots-data, names-data}
+use Rattle.dw_meaning.proofs.DataKeptLaws.{DataMoves, EachPlain, edited_data, edited_readings, after_reads, lines-data, edited_sections, readings-plain, data-reads, data-mapped, slots-data, names-data}
 use Rattle.dw_meaning.proofs.DataOneLaws.{means-one}
 use Rattle.dw_base.proofs.DebugSectionLaws.{debug_section-name}
 use Rattle.dw_meaning.proofs.FileBackLaws.{SectionBack, sections-back, elf-back, kind-back, names-back, others-back}
-use Rattle.dw_meaning.proofs.FileKeptLaws.{CanMap, around_file, changes_file, new_str, new_line_str, file-back, str-back, line-back, abbrev-back, offsets-back, names-section, new_offsets, new_names, offsets-are, names-are, named-apart, body-str, body-line, body-other, tables-apart, str-place, line-place, str-none, line-none}
+use Rattle.dw_meaning.proofs.FileKeptLaws.{CanMap, around_file, changes_file, new_str, new_line_str, new_line_tables, tables-back, tables-none, tables-place, lines-apart, texts-apart, body-lines, file-back, str-back, line-back, abbrev-back, offsets-back, names-section, new_offsets, new_names, offsets-are, names-are, named-apart, body-str, body-line, body-other, tables-apart, str-place, line-place, str-none, line-none}
 use Rattle.dw_base.proofs.FileViewLaws.{order-view_of}
 use Rattle.dw_base.proofs.PlainCellLaws.{IsPlain, plain_cells-plain}
 use Rattle.dw_meaning.proofs.SectionKeptLaws.{units-edited}
@@ -50,9 +51,9 @@ file-plain b = units-plain 1 (drop 1 (view_of b).sections)
 pieces-plain : (m : PathMap) (b : List ℕ) (r : DataReadings) → CanMap m b r → EachReading PlainPiece r.units
 pieces-plain m b r w = readings-plain (file_data b).base 0 (file_data b).units r.units w.reads.data_reads.units (file-plain b)
 
--- the readings of the output
-abbrev pub new_readings : PathMap → List ℕ → DataReadings → DataReadings
-new_readings m b r = edited_reads (changes_file m b r) (file_data b) r
+-- the units of the output
+abbrev pub new_units : PathMap → List ℕ → DataReadings → Readings
+new_units m b r = edited_readings (changes_file m b r) (around_file b r) r.units
 
 -- a section of units isn't one of a table
 units-apart : (b : List ℕ) (i : ℕ) (kind : SectionKind) (s : DebugSection) → unit_kind (Some s) ≡ None → unit_kind (debug_section (section_name b i)) ≡ Some kind
@@ -67,7 +68,7 @@ units-apart b i kind s none some same =
 
 -- its unit sections are those of the file, edited
 units-back : (m : PathMap) (b : List ℕ) (r : DataReadings) (out : List ℕ) → CanMap m b r → ReadsBack b (new_body m b r) out
-    → (file_data out).units ≡ edited_sections (file_data b).units (new_readings m b r).units
+    → (file_data out).units ≡ edited_sections (file_data b).units (new_units m b r)
 unfolding debug_data unit_sections
 units-back m b r out w back =
     units-edited b (new_body m b r) (file_data b).base (changes_file m b r) (around_file b r) 0 1 (drop 1 (view_of b).sections) (drop 1 (view_of out).sections) r.units
@@ -76,32 +77,33 @@ units-back m b r out w back =
     (λ i kind le lt some.
     body-other m b r i
     (named-apart b i (omega arith) (units-apart b i kind Str refl some) (units-apart b i kind LineStr refl some) (units-apart b i kind StrOffsets refl some)
-    (units-apart b i kind Names refl some)))
+    (units-apart b i kind Line refl some) (units-apart b i kind Names refl some)))
 
 -- so its debug data are the file's, edited
 order-back : (m : PathMap) (b : List ℕ) (r : DataReadings) (out : List ℕ) → ReadsBack b (new_body m b r) out → (view_of out).order ≡ (view_of b).order
 order-back m b r out back = order-view_of out ∙ back.order ∙ sym (order-view_of b)
 
 -- debug data by their parts
-abbrev data_with : Order → Located → List UnitSection → Located → Located → CellSection → CellSection → DebugData
-data_with order abbrevs units str line offsets names =
-    record { base = record { order = order; abbrevs = abbrevs }; units = units; str = str; line_str = line; offsets = offsets; names = names }
+abbrev data_with : Order → Located → List UnitSection → Located → Located → CellSection → CellSection → CellSection → DebugData
+data_with order abbrevs units str line offsets lines names =
+    record { base = record { order = order; abbrevs = abbrevs }; units = units; str = str; line_str = line; offsets = offsets; lines = lines; names = names }
 
 data-parts : (b : List ℕ) → file_data b ≡ data_with (view_of b).order (located (view_of b) Abbrev) (file_data b).units (file_data b).str (file_data b).line_str
-    (file_data b).offsets (file_data b).names
+    (file_data b).offsets (file_data b).lines (file_data b).names
 unfolding debug_data
 data-parts b = refl
 
-same-parts : (o p : Order) (a c : Located) (us vs : List UnitSection) (s t l k : Located) (x y n q : CellSection) → o ≡ p → a ≡ c → us ≡ vs → s ≡ t → l ≡ k → x ≡ y → n ≡ q
-    → data_with o a us s l x n ≡ data_with p c vs t k y q
-same-parts o p a c us vs s t l k x y n q e f g h i j d =
-    ap (λ (z : Order). data_with z a us s l x n) e ∙ ap (λ (z : Located). data_with p z us s l x n) f ∙ ap (λ (z : List UnitSection). data_with p c z s l x n) g
-    ∙ ap (λ (z : Located). data_with p c vs z l x n) h ∙ ap (λ (z : Located). data_with p c vs t z x n) i ∙ ap (λ (z : CellSection). data_with p c vs t k z n) j
-    ∙ ap (λ (z : CellSection). data_with p c vs t k y z) d
+same-parts : (o p : Order) (a c : Located) (us vs : List UnitSection) (s t l k : Located) (x y i j n q : CellSection) → o ≡ p → a ≡ c → us ≡ vs → s ≡ t → l ≡ k → x ≡ y → i ≡ j → n ≡ q
+    → data_with o a us s l x i n ≡ data_with p c vs t k y j q
+same-parts o p a c us vs s t l k x y i j n q e1 e2 e3 e4 e5 e6 e7 e8 =
+    ap (λ (z : Order). data_with z a us s l x i n) e1 ∙ ap (λ (z : Located). data_with p z us s l x i n) e2 ∙ ap (λ (z : List UnitSection). data_with p c z s l x i n) e3
+    ∙ ap (λ (z : Located). data_with p c vs z l x i n) e4 ∙ ap (λ (z : Located). data_with p c vs t z x i n) e5 ∙ ap (λ (z : CellSection). data_with p c vs t k z i n) e6
+    ∙ ap (λ (z : CellSection). data_with p c vs t k y z n) e7 ∙ ap (data_with p c vs t k y j) e8
 
 edited-parts : (m : PathMap) (b : List ℕ) (r : DataReadings) → data_with (view_of b).order (located (view_of b) Abbrev)
-    (edited_sections (file_data b).units (new_readings m b r).units) (record { number = (file_data b).str.number; bytes = new_str m b r })
+    (edited_sections (file_data b).units (new_units m b r)) (record { number = (file_data b).str.number; bytes = new_str m b r })
     (record { number = (file_data b).line_str.number; bytes = new_line_str m b r }) (record { number = (file_data b).offsets.number; contents = new_offsets m b r })
+    (record { number = (file_data b).lines.number; contents = plain_cells (new_line_tables m b r) })
     (record { number = (file_data b).names.number; contents = new_names m b r }) ≡ edited_data (changes_file m b r) (file_data b) r
 unfolding debug_data
 edited-parts m b r = refl
@@ -111,12 +113,13 @@ pub data-back : (m : PathMap) (b : List ℕ) (r : DataReadings) (out : List ℕ)
 data-back m b r out w back =
     data-parts out
     ∙ same-parts (view_of out).order (view_of b).order (located (view_of out) Abbrev) (located (view_of b) Abbrev) (file_data out).units
-    (edited_sections (file_data b).units (new_readings m b r).units) (file_data out).str (record { number = (file_data b).str.number; bytes = new_str m b r })
+    (edited_sections (file_data b).units (new_units m b r)) (file_data out).str (record { number = (file_data b).str.number; bytes = new_str m b r })
     (file_data out).line_str (record { number = (file_data b).line_str.number; bytes = new_line_str m b r })
     (file_data out).offsets (record { number = (file_data b).offsets.number; contents = new_offsets m b r })
+    (file_data out).lines (record { number = (file_data b).lines.number; contents = plain_cells (new_line_tables m b r) })
     (file_data out).names (record { number = (file_data b).names.number; contents = new_names m b r })
     (order-back m b r out back) (abbrev-back m b r out w back) (units-back m b r out w back) (str-back m b r out w back) (line-back m b r out w back)
-    (offsets-back m b r out w back) (names-section m b r out w back)
+    (offsets-back m b r out w back) (tables-back m b r out w back) (names-section m b r out w back)
     ∙ edited-parts m b r
 
 -- the tables stay small where the output does
@@ -145,6 +148,22 @@ line-small m b r out w back small = by_place (line-place b)
         let size : length (contents_of out (file_data b).line_str.number) ≡ length (new_line_str m b r) = ap length here in
         omega (arith, size, length-contents out (file_data b).line_str.number, small)
 
+lines-small : (m : PathMap) (b : List ℕ) (r : DataReadings) (out : List ℕ) → CanMap m b r → ReadsBack b (new_body m b r) out → length out ≤ output_limit
+    → length (new_line_tables m b r) ≤ 2 ^ 32
+unfolding debug_data
+lines-small m b r out w back small = by_place (tables-place b)
+  where
+    by_place : TablePlace b (name_of Line) (located (view_of b) Line) → length (new_line_tables m b r) ≤ 2 ^ 32
+    by_place (nowhere zero none) =
+        let size : length (new_line_tables m b r) ≡ 0 = ap length (tables-none m b r w none) in
+        omega (arith, size)
+    by_place (lies_at there within named bytes) =
+        let own : ℕ = (located (view_of b) Line).number in
+        let here : contents_of out (located (view_of b) Line).number ≡ new_line_tables m b r =
+        back.contents (located (view_of b) Line).number within ∙ body-lines m b r there named in
+        let size : length (contents_of out (located (view_of b) Line).number) ≡ length (new_line_tables m b r) = ap length here in
+        omega (arith, size, length-contents out (located (view_of b) Line).number, small)
+
 -- what the data law asks for
 data-moves : (m : PathMap) (b : List ℕ) (r : DataReadings) (out : List ℕ) → CanMap m b r → ReadsBack b (new_body m b r) out → length out ≤ output_limit
     → DataMoves m (file_data b) r
@@ -157,45 +176,55 @@ data-moves m b r out w back small = record {
   names_plain = subst (λ (z : CellSection). IsPlain z.contents) (sym (names-are b)) (plain_cells-plain (located (view_of b) Names).bytes);
   str = str-small m b r out w back small;
   line_str = line-small m b r out w back small;
+  lines = lines-small m b r out w back small;
+  apart = lines-apart m b r w;
+  tables = texts-apart b;
 }
 
+-- the readings of the output
+abbrev file_moves : (m : PathMap) (b : List ℕ) (r : DataReadings) (out : List ℕ) → CanMap m b r → ReadsBack b (new_body m b r) out → length out ≤ output_limit → DataReadings
+file_moves m b r out w back small = after_reads m (file_data b) r (data-moves m b r out w back small)
+
 -- the output can be read
-reads-back : (m : PathMap) (b : List ℕ) (r : DataReadings) (out : List ℕ) → CanMap m b r → ReadsBack b (new_body m b r) out → length out ≤ output_limit
-    → FileReads out (new_readings m b r)
+reads-back : (m : PathMap) (b : List ℕ) (r : DataReadings) (out : List ℕ) (w : CanMap m b r) (back : ReadsBack b (new_body m b r) out) (small : length out ≤ output_limit)
+    → FileReads out (file_moves m b r out w back small)
 reads-back m b r out w back small =
     let f = file-back m b r out w back in
     record {
       elf = elf-back b (new_body m b r) out f;
       kind = kind-back b (new_body m b r) out f;
       names = names-back b (new_body m b r) out f;
-      data_reads = subst (λ (d : DebugData). DataReads d (new_readings m b r)) (sym (data-back m b r out w back)) (data-reads m (file_data b) r (data-moves m b r out w back small));
+      data_reads = subst (λ (d : DebugData). DataReads d (file_moves m b r out w back small)) (sym (data-back m b r out w back)) (data-reads m (file_data b) r (data-moves m b r out w back small));
     }
 
 -- and means the mapped meaning
-abbrev means_with : List UnitMeaning → List (List ℕ) → List NamePart → List NamedBytes → Meaning
-means_with units slots names others = record { units = units; slots = slots; names = names; others = bytes_named others }
+abbrev pub means_with : List UnitMeaning → List (List ℕ) → List LineMeaning → List NamePart → List NamedBytes → Meaning
+means_with units slots lines names others = record { units = units; slots = slots; lines = lines; names = names; others = bytes_named others }
 
-same-meaning : (us vs : List UnitMeaning) (ss ts : List (List ℕ)) (ns ps : List NamePart) (os qs : List NamedBytes) → us ≡ vs → ss ≡ ts → ns ≡ ps → os ≡ qs
-    → means_with us ss ns os ≡ means_with vs ts ps qs
-same-meaning us vs ss ts ns ps os qs e f g h =
-    ap (λ (z : List UnitMeaning). means_with z ss ns os) e ∙ ap (λ (z : List (List ℕ)). means_with vs z ns os) f
-    ∙ ap (λ (z : List NamePart). means_with vs ts z os) g ∙ ap (λ (z : List NamedBytes). means_with vs ts ps z) h
+same-meaning : (us vs : List UnitMeaning) (ss ts : List (List ℕ)) (ls ks : List LineMeaning) (ns ps : List NamePart) (os qs : List NamedBytes) → us ≡ vs → ss ≡ ts → ls ≡ ks → ns ≡ ps → os ≡ qs
+    → means_with us ss ls ns os ≡ means_with vs ts ks ps qs
+same-meaning us vs ss ts ls ks ns ps os qs e f l g h =
+    ap (λ (z : List UnitMeaning). means_with z ss ls ns os) e ∙ ap (λ (z : List (List ℕ)). means_with vs z ls ns os) f
+    ∙ ap (λ (z : List LineMeaning). means_with vs ts z ns os) l
+    ∙ ap (λ (z : List NamePart). means_with vs ts ks z os) g ∙ ap (λ (z : List NamedBytes). means_with vs ts ks ps z) h
 
-meaning-back : (m : PathMap) (b : List ℕ) (r : DataReadings) (out : List ℕ) → CanMap m b r → ReadsBack b (new_body m b r) out → length out ≤ output_limit
-    → meaning_of (view_of out) (new_readings m b r) ≡ mapped m (meaning_of (view_of b) r)
+meaning-back : (m : PathMap) (b : List ℕ) (r : DataReadings) (out : List ℕ) (w : CanMap m b r) (back : ReadsBack b (new_body m b r) out) (small : length out ≤ output_limit)
+    → meaning_of (view_of out) (file_moves m b r out w back small) ≡ mapped m (meaning_of (view_of b) r)
 unfolding meaning_of debug_data
 meaning-back m b r out w back small =
     let moves : DataMoves m (file_data b) r = data-moves m b r out w back small in
-    same-meaning (units_of (file_data out) (new_readings m b r)) (mapped_units m (units_of (file_data b) r))
-    (slot_texts (view_of out).order (located (view_of out) Str) (new_readings m b r).offsets)
+    same-meaning (units_of (file_data out) (file_moves m b r out w back small)) (mapped_units m (units_of (file_data b) r))
+    (slot_texts (view_of out).order (located (view_of out) Str) (file_moves m b r out w back small).offsets)
     (mapped_slots m (unit_slots (units_of (file_data b) r)) 0 (slot_texts (view_of b).order (located (view_of b) Str) r.offsets))
-    (name_parts (view_of out).order (located (view_of out) Str) (new_readings m b r).names) (name_parts (view_of b).order (located (view_of b) Str) r.names)
+    (line_meanings (line_source (file_data out)) (file_moves m b r out w back small).lines) (mapped_lines m (line_meanings (line_source (file_data b)) r.lines))
+    (name_parts (view_of out).order (located (view_of out) Str) (file_moves m b r out w back small).names) (name_parts (view_of b).order (located (view_of b) Str) r.names)
     (other_sections (without_id (view_of out).id (view_of out).sections)) (other_sections (without_id (view_of b).id (view_of b).sections))
-    (ap (λ (d : DebugData). units_of d (new_readings m b r)) (data-back m b r out w back) ∙ data-mapped m (file_data b) r moves)
-    (ap (λ (o : Order). slot_texts o (located (view_of out) Str) (new_readings m b r).offsets) (order-back m b r out back)
-    ∙ ap (λ (z : Located). slot_texts (view_of b).order z (new_readings m b r).offsets) (str-back m b r out w back) ∙ slots-data m (file_data b) r moves)
-    (ap (λ (o : Order). name_parts o (located (view_of out) Str) (new_readings m b r).names) (order-back m b r out back)
-    ∙ ap (λ (z : Located). name_parts (view_of b).order z (new_readings m b r).names) (str-back m b r out w back) ∙ names-data m (file_data b) r moves)
+    (ap (λ (d : DebugData). units_of d (file_moves m b r out w back small)) (data-back m b r out w back) ∙ data-mapped m (file_data b) r moves)
+    (ap (λ (o : Order). slot_texts o (located (view_of out) Str) (file_moves m b r out w back small).offsets) (order-back m b r out back)
+    ∙ ap (λ (z : Located). slot_texts (view_of b).order z (file_moves m b r out w back small).offsets) (str-back m b r out w back) ∙ slots-data m (file_data b) r moves)
+    (ap (λ (d : DebugData). line_meanings (line_source d) (file_moves m b r out w back small).lines) (data-back m b r out w back) ∙ (lines-data m (file_data b) r moves).says)
+    (ap (λ (o : Order). name_parts o (located (view_of out) Str) (file_moves m b r out w back small).names) (order-back m b r out back)
+    ∙ ap (λ (z : Located). name_parts (view_of b).order z (file_moves m b r out w back small).names) (str-back m b r out w back) ∙ names-data m (file_data b) r moves)
     (others-back b (new_body m b r) out (file-back m b r out w back))
 
 -- the file law
@@ -204,7 +233,7 @@ pub file-meaning : (m : PathMap) (b : List ℕ) (r : DataReadings) (out : List �
 file-meaning m b r out w back small =
     let old : Means b (meaning_of (view_of b) r) = record { readings = r; reads = w.reads; says = refl } in
     let new : Means out (mapped m (meaning_of (view_of b) r)) =
-    record { readings = new_readings m b r; reads = reads-back m b r out w back small; says = meaning-back m b r out w back small } in
+    record { readings = file_moves m b r out w back small; reads = reads-back m b r out w back small; says = meaning-back m b r out w back small } in
     record {
       meaning = meaning_of (view_of b) r;
       old = old;

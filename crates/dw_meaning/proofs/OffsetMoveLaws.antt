@@ -6,7 +6,7 @@ use Rattle.dw_base.specs.DebugData.{Around}
 use Rattle.dw_base.specs.NamePieces.{NameMode, at_table, at_string, at_rest, no_names, NameState, names_at, FitsNames, name_grammar, ReadsNames}
 use Rattle.dw_base.specs.OffsetPieces.{OffsetMode, at_contribution, at_slot, no_offsets, OffsetState, offsets_at, FitsOffsets, offset_grammar, ReadsOffsets}
 use Rattle.dw_base.specs.Pieces.{Piece, joined, Chain, EachPiece}
-use Rattle.dw_base.specs.Roles.{Role, fixed, offset, inline_path}
+use Rattle.dw_base.specs.Roles.{Role, fixed, offset, inline_path, line_start}
 use Rattle.dw_base.specs.SectionTexts.{offset_role, slot_role, name_role_by, name_role}
 use Rattle.dw_base.specs.TextChanges.{NamesTextBy}
 use Rattle.dw_base.specs.declared.shared.Order.{Order}
@@ -74,6 +74,7 @@ pub names-becomes : (r : Role) (c : Shift) (p q : List Cell) → Becomes r c p q
 names-becomes fixed c p q h = tt
 names-becomes inline_path c p q h = tt
 names-becomes (offset table path) c p q h = h.ends
+names-becomes line_start c p q h = h.names
 
 pub roles-named : {S : Type 0} (role : S → Role) (c : Shift) (xs ys : List (Piece S)) → RolesChanged role c xs ys
     → EachPiece (λ x. NamesTextBy (role x.state) c.new x.cells) ys

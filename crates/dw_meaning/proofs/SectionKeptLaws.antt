@@ -1,18 +1,19 @@
 -- The unit sections of an output are those of the file, edited.
-use Rattle.std.proofs.Common.{Bool, true, false, ◌≡◌, ◌≢◌, ℕ, suc, ◌+◌, ◌<◌, ◌≤◌, List, [], ◌∷◌, ◌++◌, length, Option, Some, None, sym, ap, ◌∙◌, refl, subst, arith, if◌then◌else◌}
+use Rattle.std.proofs.Common.{Bool, true, false, ◌≡◌, ◌≢◌, ℕ, suc, ◌+◌, ◌<◌, ◌≤◌, List, [], ◌∷◌, ◌++◌, length, Option, Some, None, sym, ap, ◌∙◌, refl, subst, arith, if◌then◌else◌, get_or}
 use Rattle.std.specs.Prelude.{◌==◌}
 use Rattle.std.proofs.lemmas.Bool.{ne_eqb, eq-eqb}
 use Rattle.dw_base.specs.Cells.{Cell, bytes_of, plain_cells, with_bytes}
 use Rattle.dw_meaning.specs.DataOutput.{Body, unit_body, unit_bodies, body_in}
-use Rattle.dw_base.specs.DebugData.{Around, units_in, ReadsAll}
+use Rattle.dw_base.specs.DebugData.{Around, line_table, units_in, ReadsAll}
 use Rattle.dw_base.specs.Readings.{Readings, EachReading}
 use Rattle.dw_base.specs.DebugSections.{debug_section}
 use Rattle.dw_base.specs.Elf.{section_count, section_name, contents_of}
 use Rattle.dw_base.specs.FileViews.{ViewSection, bytes_in}
 use Rattle.dw_base.specs.Pieces.{Piece, joined, EachPiece}
-use Rattle.dw_base.specs.Roles.{Role, fixed, offset, inline_path, role_of}
+use Rattle.dw_base.specs.LineReadings.{starts_from}
+use Rattle.dw_base.specs.Roles.{Role, fixed, offset, inline_path, line_start, role_of}
 use Rattle.dw_base.specs.StringTables.{new_place}
-use Rattle.dw_base.specs.TextChanges.{TableChanges, change_of, mention_at, with_offset, edited_by, edited_all}
+use Rattle.dw_base.specs.TextChanges.{TableChanges, change_of, mention_at, with_offset, moved_start, edited_by, edited_all}
 use Rattle.dw_base.specs.UnitHeaders.{UnitBase, UnitSection, SectionKind}
 use Rattle.dw_base.specs.UnitStates.{UnitState}
 use Rattle.dw_base.specs.ViewData.{unit_kind, unit_section, unit_sections_from, cells_in}
@@ -45,6 +46,11 @@ edited-plain (offset table path) c around p h = by_asks ((change_of c table).pla
     by_asks true = subst IsPlain (sym (with_offset-is around.lasting.base.order p
         (new_place (change_of c table).plan c.map (change_of c table).texts (mention_at around table path p)) h)) (plain_cells-plain _)
     by_asks false = h
+edited-plain line_start c around p h = by_table (line_table around p)
+  where
+    by_table : (o : Option ℕ) → IsPlain (moved_start (starts_from 0 c.lines) around.lasting.base.order o p)
+    by_table None = h
+    by_table (Some k) = subst IsPlain (sym (with_offset-is around.lasting.base.order p (get_or (starts_from 0 c.lines) k 0) h)) (plain_cells-plain _)
 
 -- and as long
 length-with_bytes : (p : List Cell) (bs : List ℕ) → length (with_bytes p bs) ≡ length p
@@ -61,6 +67,11 @@ edited-size (offset table path) c around p h = by_asks ((change_of c table).plan
         (new_place (change_of c table).plan c.map (change_of c table).texts (mention_at around table path p)) else p) ≡ length p
     by_asks true = length-with_offset around.lasting.base.order p _ h
     by_asks false = refl
+edited-size line_start c around p h = by_table (line_table around p)
+  where
+    by_table : (o : Option ℕ) → length (moved_start (starts_from 0 c.lines) around.lasting.base.order o p) ≡ length p
+    by_table None = refl
+    by_table (Some k) = length-with_offset around.lasting.base.order p (get_or (starts_from 0 c.lines) k 0) h
 
 all-plain : (c : TableChanges) (around : Around) (xs : List (Piece UnitState)) → EachPiece PlainPiece xs → IsPlain (joined (edited_all c around xs))
 unfolding role_of

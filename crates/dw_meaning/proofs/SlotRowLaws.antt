@@ -17,7 +17,8 @@ use Rattle.dw_base.specs.Cells.{Cell, Located, bytes_of, plain_cells}
 use Rattle.dw_base.specs.DebugData.{DebugData, DataReadings, Around, around_of, indexing_of, path_slots}
 use Rattle.dw_base.specs.Forms.{in_str}
 use Rattle.dw_base.specs.IndexFails.{IndexFails, no_slot, SlotFails, no_text, SlotFitsBy, SlotFits, SharedFails, shared}
-use Rattle.dw_base.specs.OffsetPieces.{OffsetMode, OffsetState, ReadsOffsets}
+use Rattle.dw_base.specs.OffsetPieces.{OffsetMode, at_contribution, at_slot, no_offsets, OffsetState, ReadsOffsets}
+use Rattle.dw_base.specs.LineReadings.{table_starts}
 use Rattle.dw_base.specs.Paths.{PathMap}
 use Rattle.dw_base.specs.Pieces.{Piece, EachPiece}
 use Rattle.dw_base.specs.Readings.{Readings}
@@ -41,7 +42,7 @@ use-among : (P : IndexUse → Type 0) (before behind : List IndexUse) (u : Index
 use-among P [] behind u h = h.0
 use-among P (x ∷ xs) behind u h = use-among P xs behind u h.1
 
-piece-among : {S : Type 0} (P : Piece S → Type 0) (before behind : List (Piece S)) (x : Piece S) → EachPiece P (before ++ x ∷ behind) → P x
+pub piece-among : {S : Type 0} (P : Piece S → Type 0) (before behind : List (Piece S)) (x : Piece S) → EachPiece P (before ++ x ∷ behind) → P x
 piece-among P [] behind x h = h.0
 piece-among P (y ∷ ys) behind x h = piece-among P ys behind x h.1
 
@@ -76,13 +77,37 @@ shared-excludes m section around xs r all (shared x here path other changes) =
     let own : SlotFits m around x = piece-among (SlotFits m around) here.before here.behind x (subst (EachPiece (SlotFits m around)) here.pieces all) in
     changes (subst (λ (k : OffsetMode). SlotFitsBy k m around x.state.slot x.cells) here.mode own path other)
 
--- units and string offsets are read in one way, and so is what stands around them
-around-one : (d : DebugData) (r q : DataReadings) → IndexesRead d r → DataReads d q → (around_of d r ≡ around_of d q) × (r.offsets ≡ q.offsets)
+-- slots don't ask where line tables start
+abbrev with_starts : Around → List ℕ → Around
+with_starts around ns = record around { starts = ns }
+
+starts-names : (around : Around) (ns : List ℕ) (xs : List (Piece OffsetState)) → NameTexts (slot_role (path_slots around)) around xs
+    → NameTexts (slot_role (path_slots around)) (with_starts around ns) xs
+starts-names around ns [] h = tt
+starts-names around ns (x ∷ xs) h = (by_mode x.state.mode h.0, starts-names around ns xs h.1)
+  where
+    by_mode : (k : OffsetMode) → NamesTextBy (offset_role (path_slots around) k x.state.slot) around x.cells
+        → NamesTextBy (offset_role (path_slots around) k x.state.slot) (with_starts around ns) x.cells
+    by_mode at_contribution own = own
+    by_mode (at_slot width end) own = own
+    by_mode no_offsets own = own
+
+starts-fits : (m : PathMap) (around : Around) (ns : List ℕ) (xs : List (Piece OffsetState)) → EachPiece (SlotFits m around) xs → EachPiece (SlotFits m (with_starts around ns)) xs
+starts-fits m around ns [] h = tt
+starts-fits m around ns (x ∷ xs) h = (by_mode x.state.mode h.0, starts-fits m around ns xs h.1)
+  where
+    by_mode : (k : OffsetMode) → SlotFitsBy k m around x.state.slot x.cells → SlotFitsBy k m (with_starts around ns) x.state.slot x.cells
+    by_mode at_contribution own = own
+    by_mode (at_slot width end) own = own
+    by_mode no_offsets own = own
+
+-- units and string offsets are read in one way, and so is what stands around them but for line tables
+around-one : (d : DebugData) (r q : DataReadings) → IndexesRead d r → DataReads d q → (around_of d r ≡ with_starts (around_of d q) (table_starts r.lines)) × (r.offsets ≡ q.offsets)
 around-one d r q i a =
     let units : r.units ≡ q.units = readings-one d.base 0 d.units r.units q.units i.units a.units in
     let offsets : r.offsets ≡ q.offsets = offsets-one d.base.order d.offsets.contents r.offsets q.offsets i.offsets a.offsets in (
-      ap (λ (us : Readings). around_of d (record { units = us; offsets = r.offsets; names = [] })) units
-          ∙ ap (λ (xs : List (Piece OffsetState)). around_of d (record { units = q.units; offsets = xs; names = [] })) offsets,
+      ap (λ (us : Readings). around_of d (record { units = us; offsets = r.offsets; lines = r.lines; names = [] })) units
+          ∙ ap (λ (xs : List (Piece OffsetState)). around_of d (record { units = q.units; offsets = xs; lines = r.lines; names = [] })) offsets,
       offsets,
     )
 
@@ -92,16 +117,18 @@ slot_texts-exclude d q r a (index_row readings i f) =
     indexes-exclude (indexing_of d q) r a.indexes (subst (λ (x : Around). IndexFails x.lasting.indexing r) same.0 f)
 slot_texts-exclude d q r a (slot_row readings i f) =
     let same = around-one d readings q i a in
-    slots-exclude d.offsets.number (around_of d q) q.offsets r a.slot_texts
-    (subst (λ (xs : List (Piece OffsetState)). SlotFails d.offsets.number (around_of d q) xs r) same.1
+    slots-exclude d.offsets.number (with_starts (around_of d q) (table_starts readings.lines)) q.offsets r
+    (starts-names (around_of d q) (table_starts readings.lines) q.offsets a.slot_texts)
+    (subst (λ (xs : List (Piece OffsetState)). SlotFails d.offsets.number (with_starts (around_of d q) (table_starts readings.lines)) xs r) same.1
     (subst (λ (x : Around). SlotFails d.offsets.number x readings.offsets r) same.0 f))
 
 pub shared-row : (m : PathMap) (d : DebugData) (q readings : DataReadings) (r : Refusal) → DataReads d q → DataFits m d q → IndexesRead d readings
     → SharedFails m d.offsets.number (around_of d readings) readings.offsets r → ⊥
 shared-row m d q readings r a fits i f =
     let same = around-one d readings q i a in
-    shared-excludes m d.offsets.number (around_of d q) q.offsets r fits.slots
-    (subst (λ (xs : List (Piece OffsetState)). SharedFails m d.offsets.number (around_of d q) xs r) same.1
+    shared-excludes m d.offsets.number (with_starts (around_of d q) (table_starts readings.lines)) q.offsets r
+    (starts-fits m (around_of d q) (table_starts readings.lines) q.offsets fits.slots)
+    (subst (λ (xs : List (Piece OffsetState)). SharedFails m d.offsets.number (with_starts (around_of d q) (table_starts readings.lines)) xs r) same.1
     (subst (λ (x : Around). SharedFails m d.offsets.number x readings.offsets r) same.0 f))
 
 -- string offsets that can be read exclude the refusals of contributions

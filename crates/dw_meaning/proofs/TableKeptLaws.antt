@@ -4,7 +4,8 @@ use Rattle.std.proofs.lemmas.List.{append-nil}
 use Rattle.std.proofs.lemmas.Bool.{and_parts}
 use Rattle.dw_base.specs.Cells.{Cell, Located}
 use Rattle.dw_meaning.specs.DataOutput.{table_change}
-use Rattle.dw_base.specs.DebugData.{Around, DataReadings, path_slots, table_of}
+use Rattle.dw_base.specs.DebugData.{Around, DataReadings, path_slots, source_around, table_of}
+use Rattle.dw_base.specs.LineChanges.{line_mentions}
 use Rattle.dw_base.specs.Readings.{Readings, EachReading}
 use Rattle.dw_base.specs.DebugSections.{name_of}
 use Rattle.dw_base.specs.Elf.{section_count, section_name, contents_of}
@@ -12,7 +13,7 @@ use Rattle.dw_base.specs.FileViews.{ViewSection, view_section, view_of, is_fille
 use Rattle.dw_base.specs.Forms.{TextSection, in_str, in_line_str}
 use Rattle.dw_base.specs.Paths.{PathMap}
 use Rattle.dw_base.specs.Pieces.{Piece, EachPiece}
-use Rattle.dw_base.specs.Roles.{Role, fixed, offset, inline_path, role_of}
+use Rattle.dw_base.specs.Roles.{Role, fixed, offset, inline_path, line_start, role_of}
 use Rattle.dw_base.specs.SectionTexts.{slot_role, name_role, mentions_with, file_mentions, NameTexts}
 use Rattle.dw_base.specs.StringTables.{Mention, new_table, new_texts, appending}
 use Rattle.dw_base.specs.TextChanges.{offset_in, mentions_by, mentions_of, all_mentions, NamesText, NamesTextBy}
@@ -108,6 +109,7 @@ role-none r u around p none names = by_role r u none names
     by_role : (r : Role) (u : TextSection) → (table_of around u).bytes ≡ [] → NamesTextBy r around p → mentions_by r u around p ≡ []
     by_role fixed u empty text = refl
     by_role inline_path u empty text = refl
+    by_role line_start u empty text = refl
     by_role (offset in_str path) in_str empty text = absurd (clash in_str empty text)
     by_role (offset in_str path) in_line_str empty text = refl
     by_role (offset in_line_str path) in_str empty text = refl
@@ -136,13 +138,16 @@ with-none role table around (x ∷ xs) none names =
 
 pub new_table-none : (m : PathMap) (table : TextSection) (around : Around) (r : DataReadings) → (table_of around table).bytes ≡ []
     → EachReading (NamesText around) r.units → NameTexts (slot_role (path_slots around)) around r.offsets → NameTexts name_role around r.names
+    → line_mentions (source_around around) table r.lines ≡ []
     → new_table (table_change m table around r).plan (table_change m table around r).texts ≡ []
 unfolding table_change
-new_table-none m table around r none texts slots names =
+new_table-none m table around r none texts slots names lines_none =
     let slots_none : mentions_with (slot_role (path_slots around)) table around r.offsets ≡ [] = with-none (slot_role (path_slots around)) table around r.offsets none slots in
     let names_none : mentions_with name_role table around r.names ≡ [] = with-none name_role table around r.names none names in
     let all : file_mentions table around r ≡ [] =
-    ap (λ (ms : List Mention). ms ++ (mentions_with (slot_role (path_slots around)) table around r.offsets ++ mentions_with name_role table around r.names)) (all-none table around r.units none texts)
-    ∙ ap (λ (ms : List Mention). ms ++ mentions_with name_role table around r.names) slots_none ∙ names_none in
+    ap (λ (ms : List Mention). ms ++ (mentions_with (slot_role (path_slots around)) table around r.offsets ++ (line_mentions (source_around around) table r.lines ++ mentions_with name_role table around r.names)))
+    (all-none table around r.units none texts)
+    ∙ ap (λ (ms : List Mention). ms ++ (line_mentions (source_around around) table r.lines ++ mentions_with name_role table around r.names)) slots_none
+    ∙ ap (λ (ms : List Mention). ms ++ mentions_with name_role table around r.names) lines_none ∙ names_none in
     ap (λ (ms : List Mention). new_table (appending m (table_of around table).bytes) (new_texts (appending m (table_of around table).bytes) m ms)) all
     ∙ append-nil (table_of around table).bytes ∙ none

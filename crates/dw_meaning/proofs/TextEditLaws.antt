@@ -1,19 +1,19 @@
 -- The text law, for both plans of tables of texts: where the tables change, each field of an offset names the new text of
 -- its mention, and each path that stands in its value is mapped there. Of files that aren't relocatable.
-use Rattle.std.proofs.Common.{Bool, true, false, ◌≡◌, ℕ, ◌+◌, ◌^◌, ◌<◌, ◌≤◌, List, [], ◌∷◌, ◌++◌, length, drop, IsTrue, not, sym, ap, ◌∙◌, refl, subst, arith, if◌then◌else◌, None, Some, append_assoc}
+use Rattle.std.proofs.Common.{Bool, true, false, ◌≡◌, ℕ, ◌+◌, ◌^◌, ◌<◌, ◌≤◌, List, [], ◌∷◌, ◌++◌, length, drop, get_or, ◌==◌, ◌||◌, Option, IsTrue, not, sym, ap, ◌∙◌, refl, subst, arith, if◌then◌else◌, None, Some, append_assoc}
 use Rattle.std.specs.Bool.{⊤}
 use Rattle.std.proofs.lemmas.List.{length-append, drop_all}
 use Rattle.dw_base.specs.Cells.{Cell, Located, bytes_of, with_bytes, plain_cells, offset_of}
-use Rattle.dw_base.specs.DebugData.{Around, path_slots}
+use Rattle.dw_base.specs.DebugData.{Around, line_table, path_slots, start_number}
 use Rattle.dw_base.specs.Forms.{TextSection, in_str, in_line_str, ValueKind, number_of, leb_number, signed_leb, block_of, counted, counted_leb, inline_text, text_offset, present, in_abbreviation, form_in_front, supplementary, unlisted, kind_in, width_size}
 use Rattle.dw_base.specs.InlinePaths.{mapped_inline}
 use Rattle.dw_base.specs.MappedSlots.{mapped_slots}
 use Rattle.dw_base.specs.SectionTexts.{mentions_with, edited_with}
 use Rattle.dw_base.specs.Paths.{PathMap, IsPathMap, mapped_path}
 use Rattle.dw_base.specs.Pieces.{Piece, Chain, EachPiece}
-use Rattle.dw_base.specs.Roles.{Role, fixed, offset, inline_path, role_of_kind, role_of_mode, role_of, Use, is_path_use, use_of}
+use Rattle.dw_base.specs.Roles.{Role, fixed, offset, inline_path, line_start, names_line_table, is_line_start, role_of_kind, role_of_mode, role_of, Use, is_path_use, use_of}
 use Rattle.dw_base.specs.StringTables.{Mention, Plan, new_text, appending, rebuilding, with_mention, texts_after, place_in, new_table, new_place}
-use Rattle.dw_base.specs.TextChanges.{with_offset, mention_at, mentions_by, mentions_of, TableChange, TableChanges, change_of, moved_field, edited_by, edited_all, NamesTextBy, NamesText, InlineFitsBy, InlineFits}
+use Rattle.dw_base.specs.TextChanges.{with_offset, mention_at, mentions_by, mentions_of, TableChange, TableChanges, change_of, moved_field, moved_start, edited_by, edited_all, NamesTextBy, NamesText, InlineFitsBy, InlineFits}
 use Rattle.dw_base.specs.Texts.{text, has_nul, text_in, ends_in, is_in, same_text, laid_texts}
 use Rattle.dw_base.specs.UnitHeaders.{UnitBase}
 use Rattle.dw_base.specs.UnitPieces.{IsValue, FitsKind, FitsMode, unit_grammar}
@@ -24,15 +24,20 @@ use Rattle.dw_base.specs.declared.shared.Width.TheVariants.{W32, W64}
 use Rattle.dw_base.specs.Values.{value_of, text_value, offset_class}
 use Rattle.dw_base.specs.declared.values.Spec.{Spec}
 use Rattle.dw_base.specs.declared.values.Value.{Value}
-use Rattle.dw_base.specs.declared.values.ValueClass.TheVariants.{InlineText}
-use Rattle.dw_base.proofs.FormSizeLaws.{is_sized, offset_sized, offset-size}
+use Rattle.dw_base.specs.declared.values.ValueClass.TheVariants.{InlineText, Number, SecOffset}
+use Rattle.dw_base.specs.LineMeanings.{is_there}
+use Rattle.dw_base.specs.LineReadings.{starts_from, all_lines}
+use Rattle.std.proofs.lemmas.Bool.{eqb-true}
+use Rattle.dw_base.specs.declared.values.ValueClass.{ValueClass}
+use Rattle.dw_meaning.proofs.LineStartLaws.{EachSome, start-end, start-found, number-below}
+use Rattle.dw_base.proofs.FormSizeLaws.{is_sized, offset_sized, offset-size, is_offset_sized, section_offset-sized}
 use Rattle.dw_base.proofs.InlineLaws.{has_nul-mapped_inline, length-mapped_inline}
 use Rattle.dw_base.proofs.PathLaws.{has_nul-mapped_path}
 use Rattle.dw_base.proofs.PieceFrameLaws.{AllChanged}
 use Rattle.dw_base.proofs.PlainCellLaws.{IsPlain, bytes_of-plain, with_bytes-is, length-with_offset, length-plain_cells, offset-put, offset_of-plain}
 use Rattle.dw_base.proofs.TableLaws.{is_in-texts_after, is_in-with_mention}
 use Rattle.dw_base.proofs.TextLaws.{has_nul-append, text-append_nul, has_nul-text, drop-text, has_nul-text_in, same_text-true, text_in-append, ends_in-append, ends_in-inside, text_in-place_in, ends_in-place_in, place_in-lt}
-use Rattle.dw_base.proofs.UnitEditLaws.{Shift, Rewritten, Becomes, PieceSlot, UnitsChanged, length-bytes_of, number-there}
+use Rattle.dw_base.proofs.UnitEditLaws.{Shift, Restarted, Rewritten, Becomes, PieceSlot, UnitsChanged, length-bytes_of, number-there}
 
 -- a plan under which a mention that asks for no place keeps its text, which stays where it is
 pub record KeepsTexts (plan : Plan) (m : PathMap) (table : List ℕ) : Type 0 where
@@ -61,7 +66,7 @@ has_nul-new_text m true t is none = has_nul-mapped_path m t is none
 has_nul-new_text m false t is none = none
 
 -- a place in a table of at most 2^32 bytes fits an offset
-offset-fits : (w : Width) (size n most : ℕ) → size ≡ width_size w → n < most → most ≤ 2 ^ 32 → n < 256 ^ size
+pub offset-fits : (w : Width) (size n most : ℕ) → size ≡ width_size w → n < most → most ≤ 2 ^ 32 → n < 256 ^ size
 offset-fits W32 size n most is lt fits = subst (λ (k : ℕ). n < 256 ^ k) (sym is) (omega arith)
 offset-fits W64 size n most is lt fits = subst (λ (k : ℕ). n < 256 ^ k) (sym is) (omega arith)
 
@@ -74,9 +79,16 @@ pub record TableMoves (m : PathMap) (c : TableChange) (z : Located) : Type 0 whe
   pub keeps : KeepsTexts c.plan m z.bytes
   pub small : length (new_table c.plan c.texts) ≤ 2 ^ 32
 
+-- what holds of the new line tables: there are as many, each has a byte at least, and all have at most 2^32 bytes
+pub record LinesMove (c : TableChanges) (around : Around) : Type 0 where
+  pub count : length c.lines ≡ length around.starts
+  pub some : EachSome c.lines
+  pub small : length (all_lines c.lines) ≤ 2 ^ 32
+
 -- and of the changes of all tables
 pub record TablesMove (c : TableChanges) (around : Around) : Type 0 where
   pub map : IsPathMap c.map
+  pub lines : LinesMove c around
   pub str : TableMoves c.map c.str around.str
   pub line_str : TableMoves c.map c.line_str around.line_str
 
@@ -158,6 +170,8 @@ shift_of c around = record {
     str = moved_table around.str c.str;
     line_str = moved_table around.line_str c.line_str;
     slots = mapped_slots c.map (path_slots around) 0 around.slots;
+    lines = record { number = around.lines.number; bytes = all_lines c.lines };
+    starts = starts_from 0 c.lines;
   };
   lasting = refl;
 }
@@ -238,6 +252,58 @@ inline-moves c around s x p is_map plain f fits =
       says = says;
     }
 
+-- the start of a line table
+start-fits : (n v : ℕ) → (n == 4 || n == 8) ≡ true → v < 2 ^ 32 → v < 256 ^ n
+start-fits n v size lt = by_size (n == 4) (n == 8) refl refl size
+  where
+    by_size : (a b : Bool) → (n == 4) ≡ a → (n == 8) ≡ b → (a || b) ≡ true → v < 256 ^ n
+    by_size true b x y e = subst (λ (k : ℕ). v < 256 ^ k) (sym (eqb-true n 4 x)) (omega (arith, lt))
+    by_size false true x y e = subst (λ (k : ℕ). v < 256 ^ k) (sym (eqb-true n 8 y)) (omega (arith, lt))
+    by_size false false x y e = absurd cc
+
+start-moves : (c : TableChanges) (around : Around) (p : List Cell) → TablesMove c around → IsPlain p → (length p == 4 || length p == 8) ≡ true → NamesTextBy line_start around p
+    → Restarted (shift_of c around) p (edited_by line_start c around p)
+start-moves c around p t plain size names = by_table (line_table around p) refl names
+  where
+    by_table : (o : Option ℕ) → line_table around p ≡ o → IsTrue (is_there o)
+        → Restarted (shift_of c around) p (moved_start (starts_from 0 c.lines) around.lasting.base.order o p)
+    by_table None e some = absurd cc
+    by_table (Some k) e some =
+        let count = t.lines.count in
+        let small = t.lines.small in
+        let below : k < 0 + length around.starts = number-below 0 around.starts (offset_of around.lasting.base.order around.lines p) k e in
+        let here : k < length c.lines = omega (arith, below, count) in
+        let v : ℕ = get_or (starts_from 0 c.lines) k 0 in
+        let last = start-end 0 k c.lines t.lines.some here in
+        let reads : offset_of around.lasting.base.order (record { number = around.lines.number; bytes = all_lines c.lines })
+        (with_offset around.lasting.base.order p (get_or (starts_from 0 c.lines) k 0)) ≡ get_or (starts_from 0 c.lines) k 0 =
+        offset-put around.lasting.base.order (record { number = around.lines.number; bytes = all_lines c.lines }) p (get_or (starts_from 0 c.lines) k 0) plain
+        (start-fits (length p) (get_or (starts_from 0 c.lines) k 0) size (omega (arith, last, small))) in
+        let zero_ : 0 + k ≡ k = omega arith in
+        let found : start_number 0 (starts_from 0 c.lines) (offset_of around.lasting.base.order (record { number = around.lines.number; bytes = all_lines c.lines })
+        (with_offset around.lasting.base.order p (get_or (starts_from 0 c.lines) k 0))) ≡ Some k =
+        ap (start_number 0 (starts_from 0 c.lines)) reads ∙ start-found 0 0 k c.lines t.lines.some here ∙ ap (λ (i : ℕ). Some i) zero_ in
+        record {
+          size = length-with_offset around.lasting.base.order p (get_or (starts_from 0 c.lines) k 0) plain;
+          says = found ∙ sym e;
+          names = ap is_there found;
+        }
+
+-- a number that says where a line table starts has 4 or 8 bytes
+start-size : (u : Use) (class : ValueClass) (n : ℕ) → is_line_start u class n ≡ true → is_offset_sized (number_of class n) ≡ true → (n == 4 || n == 8) ≡ true
+start-size names_line_table SecOffset n e sized = sized
+start-size names_line_table Number n e sized = e
+start-size u class n e sized = absurd cc
+
+number-moves : (b : Bool) (u : Use) (class : ValueClass) (n : ℕ) (c : TableChanges) (around : Around) (s : UnitState) (x : Spec) (p : List Cell) → is_line_start u class n ≡ b
+    → TablesMove c around → IsPlain p → is_offset_sized (number_of class n) ≡ true → IsValue s x (number_of class n) p → NamesTextBy (if b then line_start else fixed) around p
+    → Becomes (if b then line_start else fixed) (shift_of c around) p (edited_by (if b then line_start else fixed) c around p)
+unfolding value_of
+number-moves false u class n c around s x p e t plain sized f names = refl
+number-moves true u class n c around s x p e t plain sized f names =
+    let size : length p ≡ n = sym f.size ∙ (number-there s.header.params.order (bytes_of p) class n f.value f.is).1 in
+    start-moves c around p t plain (ap (λ (k : ℕ). k == 4 || k == 8) size ∙ start-size u class n e sized) names
+
 -- an offset's size in its unit
 offset-length : (s : UnitState) (x : Spec) (table : TextSection) (n : ℕ) (p : List Cell) → IsValue s x (text_offset table n) p → length p ≡ n
 unfolding value_of
@@ -252,13 +318,15 @@ inline-role false c around s x p is_map plain f fits = refl
 
 -- cells of a value
 value-moves : (k : ValueKind) (u : Use) (c : TableChanges) (around : Around) (s : UnitState) (x : Spec) (p : List Cell) → TablesMove c around → IsPlain p
-    → is_sized s.header.params.width k ≡ true → FitsKind k s x p → NamesTextBy (role_of_kind k u) around p → InlineFitsBy (role_of_kind k u) c.map p
+    → is_sized s.header.params.width k ≡ true → is_offset_sized k ≡ true → FitsKind k s x p → NamesTextBy (role_of_kind k u) around p → InlineFitsBy (role_of_kind k u) c.map p
     → Provided (role_of_kind k u) c around p → Becomes (role_of_kind k u) (shift_of c around) p (edited_by (role_of_kind k u) c around p)
-value-moves (text_offset table n) u c around s x p t plain sized f names fits there =
+value-moves (number_of class n) u c around s x p t plain sized offsets f names fits there =
+    number-moves (is_line_start u class n) u class n c around s x p refl t plain offsets f names
+value-moves (text_offset table n) u c around s x p t plain sized offsets f names fits there =
     offset-moves table (is_path_use u) c around p s.header.params.width t plain
     (offset-length s x table n p f ∙ offset-size s.header.params (text_offset table n) table n sized refl) names there
-value-moves inline_text u c around s x p t plain sized f names fits there = inline-role (is_path_use u) c around s x p t.map plain f fits
-value-moves k u c around s x p t plain sized f names fits there = refl
+value-moves inline_text u c around s x p t plain sized offsets f names fits there = inline-role (is_path_use u) c around s x p t.map plain f fits
+value-moves k u c around s x p t plain sized offsets f names fits there = refl
 
 -- a value whose form was read fits as a value of its kind
 pub chosen-fits : (k : ValueKind) (s : UnitState) (x : Spec) (p : List Cell) → IsValue s x k p → FitsKind k s x p
@@ -289,9 +357,9 @@ mode-moves at_header base s c around p t plain f names fits there = refl
 mode-moves at_code base s c around p t plain f names fits there = refl
 mode-moves (at_values n tag []) base s c around p t plain f names fits there = refl
 mode-moves (at_values n tag (x ∷ xs)) base s c around p t plain f names fits there =
-    value-moves (kind_in s.header.params x.form) (use_of n tag x.name) c around s x p t plain (offset_sized s.header.params x.form) f names fits there
+    value-moves (kind_in s.header.params x.form) (use_of n tag x.name) c around s x p t plain (offset_sized s.header.params x.form) (section_offset-sized s.header.params x.form) f names fits there
 mode-moves (at_chosen n tag start x xs) base s c around p t plain f names fits there =
-    value-moves (kind_in s.header.params x.form) (use_of n tag x.name) c around s x p t plain (offset_sized s.header.params x.form)
+    value-moves (kind_in s.header.params x.form) (use_of n tag x.name) c around s x p t plain (offset_sized s.header.params x.form) (section_offset-sized s.header.params x.form)
     (chosen-fits (kind_in s.header.params x.form) s x p f) names fits there
 mode-moves stuck base s c around p t plain f names fits there = refl
 
@@ -311,6 +379,7 @@ provided : (r : Role) (c : TableChanges) (around : Around) (ts us : List (List �
     → TextsAre c ts us (mentions_by r in_str around p ++ ms) (mentions_by r in_line_str around p ++ ns) → Provided r c around p
 provided fixed c around ts us p ms ns all = tt
 provided inline_path c around ts us p ms ns all = tt
+provided line_start c around ts us p ms ns all = tt
 provided (offset in_str path) c around ts us p ms ns all = λ asks.
     let x : Mention = mention_at around in_str path p in
     subst (λ (vs : List (List ℕ)). is_in vs (new_text c.map x) ≡ true) (sym all.str)
@@ -369,12 +438,14 @@ abbrev pub CanMove : Role → Around → List Cell → Type 0
 CanMove fixed around p = ⊤
 CanMove (offset table path) around p = OffsetField table around p
 CanMove inline_path around p = ⊥
+CanMove line_start around p = ⊥
 
 role-moves : (r : Role) (c : TableChanges) (around : Around) (p : List Cell) → TablesMove c around → CanMove r around p → NamesTextBy r around p
     → Provided r c around p → Becomes r (shift_of c around) p (edited_by r c around p)
 role-moves fixed c around p t can names there = refl
 role-moves (offset table path) c around p t can names there = offset-moves table path c around p can.width t can.plain can.size names there
 role-moves inline_path c around p t can names there = absurd can
+role-moves line_start c around p t can names there = absurd can
 
 -- the text law, for pieces of roles
 pub roles-changed : {S : Type 0} (role : S → Role) (c : TableChanges) (around : Around) (ts us : List (List ℕ)) (xs : List (Piece S)) (ms ns : List Mention)

@@ -1,15 +1,16 @@
 -- The meaning law: units whose texts are moved and mapped mean the mapped meaning.
-use Rattle.std.proofs.Common.{Bool, true, false, ◌≡◌, ℕ, List, [], ◌∷◌, length, ap, ◌∙◌, refl}
+use Rattle.std.proofs.Common.{Bool, true, false, IsTrue, sym, ◌≡◌, ℕ, List, [], ◌∷◌, length, ap, ◌∙◌, refl}
 use Rattle.std.specs.Prelude.{◌==◌, ◌&&◌, ◌+◌, if◌then◌else◌, Option, Some, None}
 use Rattle.dw_base.specs.AbbreviationTables.{Abbreviation, abbreviation_of}
-use Rattle.dw_base.specs.Cells.{Cell, bytes_of, field_of}
-use Rattle.dw_base.specs.DebugData.{Lasting, EntryPlace, table_of}
+use Rattle.dw_base.specs.Cells.{Cell, bytes_of, field_of, offset_of}
+use Rattle.dw_base.specs.LineMeanings.{is_there}
+use Rattle.dw_base.specs.DebugData.{Lasting, EntryPlace, line_table, table_of}
 use Rattle.dw_base.specs.Forests.{AttributeMeaning, Forest, no_entries, entry, Mark, begins, opens, attribute, null, no_mark, followed_by, all_entries, innermost, outer, with_entry}
 use Rattle.dw_base.specs.Forms.{ValueKind, number_of, leb_number, inline_text, text_offset, form_in_front, kind_in}
 use Rattle.dw_base.specs.MappedUnits.{mapped_value, mapped_attribute, mapped_attributes, mapped_forest, mapped_units}
 use Rattle.dw_base.specs.Paths.{PathMap}
 use Rattle.dw_base.specs.Pieces.{Piece}
-use Rattle.dw_base.specs.Roles.{fixed, inline_path, role_of_kind, role_of_mode, Use, is_path_use, use_of}
+use Rattle.dw_base.specs.Roles.{fixed, inline_path, line_start, is_line_start, role_of_kind, role_of_mode, Use, is_path_use, use_of}
 use Rattle.dw_base.specs.StringTables.{new_text}
 use Rattle.dw_base.specs.TextChanges.{offset_in}
 use Rattle.dw_base.specs.Numbers.{spelled}
@@ -17,7 +18,7 @@ use Rattle.dw_base.specs.TextIndexes.{slot_of}
 use Rattle.dw_base.specs.Texts.{text, text_in}
 use Rattle.dw_base.specs.UnitMeanings.{head_mark, entry_mark, code_mark, value_mark, mark_by, mark_of, Following, with_mark, following, unit_meanings}
 use Rattle.dw_base.specs.UnitStates.{Mode, at_header, at_code, at_values, at_chosen, stuck, UnitState, code_value, piece_header}
-use Rattle.dw_base.specs.ValueMeanings.{ValueMeaning, string, entry_of, stray, inline, by_offset, found_entry, first_of, global_entry, local_entry, meaning_of_number, meaning_of_leb, by_slot, indexed, number_meaning, leb_meaning, meaning_of_value}
+use Rattle.dw_base.specs.ValueMeanings.{ValueMeaning, string, entry_of, stray, inline, by_offset, found_entry, first_of, global_entry, local_entry, meaning_of_number, meaning_of_leb, by_slot, indexed, number_meaning, leb_meaning, meaning_of_value, line_meaning, table_named}
 use Rattle.dw_base.specs.TextIndexes.{holds_number}
 use Rattle.dw_base.specs.declared.units.UnitHeader.{UnitHeader}
 use Rattle.dw_base.specs.declared.values.Spec.{Spec}
@@ -25,7 +26,7 @@ use Rattle.dw_base.specs.declared.values.ValueClass.{ValueClass}
 use Rattle.dw_base.specs.declared.values.ValueClass.TheVariants.{Address, LocalRef, GlobalRef, StrIndex}
 use Rattle.dw_base.specs.declared.view_fields.Field.{Field}
 use Rattle.dw_base.specs.declared.view_fields.Field.TheVariants.{Num, Into, Sym}
-use Rattle.dw_base.proofs.UnitEditLaws.{Shift, Becomes, SlotBecomes, ValueSlot, PieceSlot, UnitsChanged}
+use Rattle.dw_base.proofs.UnitEditLaws.{Shift, Restarted, Becomes, SlotBecomes, ValueSlot, PieceSlot, UnitsChanged}
 
 abbrev mapped_mark : PathMap → Mark → Mark
 mapped_mark m (attribute a) = attribute (mapped_attribute m a)
@@ -113,6 +114,16 @@ leb-means StrIndex u c s p q h i =
     ∙ indexed-changed (slot_of c.old.lasting.indexing s.unit (code_value p)) (is_path_use u) c p i
 leb-means class u c s p q h i = leb-changed c s class p q h
 
+-- a line table is that of the same number
+line-means : (c : Shift) (p q : List Cell) → Restarted c p q → line_meaning c.new q ≡ mapped_value c.map (line_meaning c.old p)
+line-means c p q h = by_table (line_table c.new q) refl h.names
+  where
+    by_table : (o : Option ℕ) → line_table c.new q ≡ o → IsTrue (is_there o) → line_meaning c.new q ≡ mapped_value c.map (line_meaning c.old p)
+    by_table None e some = absurd cc
+    by_table (Some k) e some =
+        ap (λ (o : Option ℕ). table_named o (offset_of c.new.lasting.base.order c.new.lines q)) e
+        ∙ sym (ap (λ (o : Option ℕ). mapped_value c.map (table_named o (offset_of c.old.lasting.base.order c.old.lines p))) (sym h.says ∙ e))
+
 -- what a value means after the change: a further form is a clause here
 value-changed : (k : ValueKind) (u : Use) (x : Spec) (c : Shift) (s : UnitState) (p q : List Cell) → Becomes (role_of_kind k u) c p q
     → ValueSlot k (is_path_use u) c s.unit p → meaning_of_value c.new s u x k q ≡ mapped_value c.map (meaning_of_value c.old s u x k p)
@@ -120,7 +131,12 @@ value-changed (text_offset table n) u x c s p q h i =
     text-meaning c.map (is_path_use u) (text_in (table_of c.old table).bytes (offset_in c.old table p))
     (text_in (table_of c.new table).bytes (offset_in c.new table q)) h.says
 value-changed inline_text u x c s p q h i = inline-changed (is_path_use u) c p q h
-value-changed (number_of class n) u x c s p q h i = number-means class n u c s p q h i
+value-changed (number_of class n) u x c s p q h i = by_start (is_line_start u class n) h
+  where
+    by_start : (b : Bool) → Becomes (if b then line_start else fixed) c p q
+        → (if b then line_meaning c.new q else number_meaning c.new s u class q) ≡ mapped_value c.map (if b then line_meaning c.old p else number_meaning c.old s u class p)
+    by_start true h = line-means c p q h
+    by_start false h = number-means class n u c s p q h i
 value-changed (leb_number class) u x c s p q h i = leb-means class u c s p q h i
 value-changed k u x c s p q h i = ap (λ (z : List Cell). meaning_of_value c.old s u x k z) h
 

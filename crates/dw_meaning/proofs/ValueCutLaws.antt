@@ -84,7 +84,7 @@ uleb-inside bytes place v n e =
     let within : n ≤ length (drop place bytes) = (number-cut bytes place v n e).1 in
     omega (arith, within, uleb-some bytes place v n e, length-drop place bytes)
 
-sleb-inside : (bytes : List ℕ) (place : ℕ) (v : ℤ) (n : ℕ) → sleb_at bytes place ≡ Some (v, n) → place + n ≤ length bytes
+pub sleb-inside : (bytes : List ℕ) (place : ℕ) (v : ℤ) (n : ℕ) → sleb_at bytes place ≡ Some (v, n) → place + n ≤ length bytes
 sleb-inside bytes place v n e =
     let within : n ≤ length (drop place bytes) = (signed-cut bytes place v n e).1 in
     omega (arith, within, sleb-some bytes place v n e, length-drop place bytes)

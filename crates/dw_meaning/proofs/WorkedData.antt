@@ -45,6 +45,7 @@ worked_data pieces abbrevs str line_str = record {
   str = record { number = 3; bytes = str };
   line_str = record { number = 4; bytes = line_str };
   offsets = no_section;
+  lines = no_section;
   names = no_section;
 }
 
@@ -90,7 +91,7 @@ shared_map = record { base = codes "/build/p"; dest = codes "/usr/src/debug/p" }
 
 pub shared-output : new_bodies shared_map shared_data (worked_readings shared_data 26 shared_pieces)
     ≡ record { number = 3; bytes = codes "/build/p/a.c\0" ++ codes "/build/p\0" ++ codes "/usr/src/debug/p/a.c\0" ++ codes "/usr/src/debug/p\0" }
-    ∷ record { number = 4; bytes = [] } ∷ record { number = 0; bytes = [] } ∷ record { number = 0; bytes = [] }
+    ∷ record { number = 4; bytes = [] } ∷ record { number = 0; bytes = [] } ∷ record { number = 0; bytes = [] } ∷ record { number = 0; bytes = [] }
     ∷ record {
       number = 1;
       bytes = all_bytes (
@@ -140,7 +141,7 @@ inline_map = record { base = codes "/build/package-1.0"; dest = codes "/usr/src/
 
 pub inline-output : new_bodies inline_map inline_data (worked_readings inline_data 35 inline_pieces)
     ≡ record { number = 3; bytes = codes "/build/p/a.c\0" ++ codes "/build/p\0" }
-    ∷ record { number = 4; bytes = [] } ∷ record { number = 0; bytes = [] } ∷ record { number = 0; bytes = [] }
+    ∷ record { number = 4; bytes = [] } ∷ record { number = 0; bytes = [] } ∷ record { number = 0; bytes = [] } ∷ record { number = 0; bytes = [] }
     ∷ record {
       number = 1;
       bytes = all_bytes (
@@ -212,7 +213,7 @@ wide_map = record { base = codes "/build/p"; dest = codes "/usr/src/debug/p" }
 
 pub wide-output : new_bodies wide_map wide_data (worked_readings wide_data 85 wide_pieces)
     ≡ record { number = 3; bytes = codes "/build/p/a.c\0" ++ codes "/build/p/b.c\0" ++ codes "/usr/src/debug/p/a.c\0" ++ codes "/usr/src/debug/p/b.c\0" }
-    ∷ record { number = 4; bytes = [] } ∷ record { number = 0; bytes = [] } ∷ record { number = 0; bytes = [] }
+    ∷ record { number = 4; bytes = [] } ∷ record { number = 0; bytes = [] } ∷ record { number = 0; bytes = [] } ∷ record { number = 0; bytes = [] }
     ∷ record {
       number = 1;
       bytes = all_bytes (
@@ -311,7 +312,7 @@ forms_map = record { base = codes "/build/p"; dest = codes "/usr/src/debug/p" }
 
 pub forms-output : new_bodies forms_map forms_data (worked_readings forms_data 149 forms_pieces)
     ≡ record { number = 3; bytes = codes "/build/p/a.c\0" ++ codes "/build/p\0" ++ codes "/usr/src/debug/p/a.c\0" }
-    ∷ record { number = 4; bytes = codes "/build/p\0" ++ codes "a.c\0" ++ codes "/usr/src/debug/p\0" } ∷ record { number = 0; bytes = [] } ∷ record { number = 0; bytes = [] }
+    ∷ record { number = 4; bytes = codes "/build/p\0" ++ codes "a.c\0" ++ codes "/usr/src/debug/p\0" } ∷ record { number = 0; bytes = [] } ∷ record { number = 0; bytes = [] } ∷ record { number = 0; bytes = [] }
     ∷ record {
       number = 1;
       bytes = all_bytes (

@@ -96,7 +96,7 @@ new_readings order address = lone_readings (new_data order address) 20 (paths_pi
 -- the new bodies
 abbrev pub paths_bodies : Order → ℕ → List Body
 paths_bodies order address =
-    record { number = 3; bytes = all_texts } ∷ record { number = 0; bytes = [] } ∷ record { number = 0; bytes = [] } ∷ record { number = 0; bytes = [] }
+    record { number = 3; bytes = all_texts } ∷ record { number = 0; bytes = [] } ∷ record { number = 0; bytes = [] } ∷ record { number = 0; bytes = [] } ∷ record { number = 0; bytes = [] }
     ∷ record { number = 1; bytes = all_bytes (paths_pieces order address 22 43) } ∷ []
 
 -- what the units mean
@@ -124,7 +124,7 @@ abbrev pub unnamed : List NamedBytes
 unnamed = record { name = []; bytes = [] } ∷ []
 
 abbrev pub paths_meaning : ℕ → Meaning
-paths_meaning address = record { units = paths_units address paths; slots = []; names = []; others = bytes_named unnamed }
+paths_meaning address = record { units = paths_units address paths; slots = []; lines = []; names = []; others = bytes_named unnamed }
 
 -- the debug data are read so
 pub one-old_reads : DataReads (old_data Little 8) (old_readings Little 8)
@@ -133,11 +133,13 @@ unfolding unit_header initial_length_at number_at spelled between after_code kin
 one-old_reads = record {
   units = (refl, record { chain = chain-sound _ _ (paths_pieces Little 8 0 13) paths-table refl; cells = refl }, tt);
   offsets = none-offsets Little;
+  lines = refl;
   names = none-names Little;
   texts = ((tt, (tt, (refl, (refl, tt)))), tt);
   slot_texts = tt;
   name_texts = tt;
   indexes = tt;
+  forms = ((refl, (refl, (refl, (refl, tt)))), tt);
 }
 
 pub one-new_reads : DataReads (new_data Little 8) (new_readings Little 8)
@@ -146,11 +148,13 @@ unfolding unit_header initial_length_at number_at spelled between after_code kin
 one-new_reads = record {
   units = (refl, record { chain = chain-sound _ _ (paths_pieces Little 8 22 43) paths-table refl; cells = refl }, tt);
   offsets = none-offsets Little;
+  lines = refl;
   names = none-names Little;
   texts = ((tt, (tt, (refl, (refl, tt)))), tt);
   slot_texts = tt;
   name_texts = tt;
   indexes = tt;
+  forms = ((refl, (refl, (refl, (refl, tt)))), tt);
 }
 
 pub big-old_reads : DataReads (old_data Big 4) (old_readings Big 4)
@@ -159,11 +163,13 @@ unfolding unit_header initial_length_at number_at spelled between after_code kin
 big-old_reads = record {
   units = (refl, record { chain = chain-sound _ _ (paths_pieces Big 4 0 13) paths-table refl; cells = refl }, tt);
   offsets = none-offsets Big;
+  lines = refl;
   names = none-names Big;
   texts = ((tt, (tt, (refl, (refl, tt)))), tt);
   slot_texts = tt;
   name_texts = tt;
   indexes = tt;
+  forms = ((refl, (refl, (refl, (refl, tt)))), tt);
 }
 
 pub big-new_reads : DataReads (new_data Big 4) (new_readings Big 4)
@@ -172,11 +178,13 @@ unfolding unit_header initial_length_at number_at spelled between after_code kin
 big-new_reads = record {
   units = (refl, record { chain = chain-sound _ _ (paths_pieces Big 4 22 43) paths-table refl; cells = refl }, tt);
   offsets = none-offsets Big;
+  lines = refl;
   names = none-names Big;
   texts = ((tt, (tt, (refl, (refl, tt)))), tt);
   slot_texts = tt;
   name_texts = tt;
   indexes = tt;
+  forms = ((refl, (refl, (refl, (refl, tt)))), tt);
 }
 
 -- one unit with a name and a directory: the smallest file of which every table is used
@@ -235,7 +243,7 @@ unfolding unit_header initial_length_at number_at spelled between after_code kin
 one_unit-output = record {
   readings = old_readings Little 8;
   reads = one_unit-reads.data_reads;
-  fits = record { inline = ((tt, (tt, (tt, (tt, tt)))), tt); slots = tt };
+  fits = record { inline = ((tt, (tt, (tt, (tt, tt)))), tt); slots = tt; lines = tt };
   is = sym (output-is worked_map one_unit (old_data Little 8) (old_readings Little 8) (paths_bodies Little 8) one_unit-data one_unit-bodies ∙ one_unit-written);
 }
 
@@ -264,7 +272,7 @@ pub one_unit-means : Means one_unit (paths_meaning 8)
 one_unit-means = record {
   readings = old_readings Little 8;
   reads = one_unit-reads;
-  says = meaning-is one_unit (old_data Little 8) (old_readings Little 8) (paths_units 8 paths) unnamed one_unit-data one_unit-units one_unit-others refl refl;
+  says = meaning-is one_unit (old_data Little 8) (old_readings Little 8) (paths_units 8 paths) unnamed one_unit-data one_unit-units one_unit-others refl refl refl;
 }
 
 pub one_unit_out-means : Means one_unit_out (mapped worked_map (paths_meaning 8))
@@ -272,7 +280,7 @@ unfolding lies_under mapped_path
 one_unit_out-means = record {
   readings = new_readings Little 8;
   reads = one_unit_out-reads;
-  says = meaning-is one_unit_out (new_data Little 8) (new_readings Little 8) (paths_units 8 mapped_paths) unnamed one_unit_out-data one_unit_out-units one_unit_out-others refl refl;
+  says = meaning-is one_unit_out (new_data Little 8) (new_readings Little 8) (paths_units 8 mapped_paths) unnamed one_unit_out-data one_unit_out-units one_unit_out-others refl refl refl;
 }
 
 pub one_unit-kept : MeaningKept worked_map one_unit one_unit_out
@@ -340,7 +348,7 @@ unfolding unit_header initial_length_at number_at spelled between after_code kin
 of_32_bits-output = record {
   readings = old_readings Big 4;
   reads = of_32_bits-reads.data_reads;
-  fits = record { inline = ((tt, (tt, (tt, (tt, tt)))), tt); slots = tt };
+  fits = record { inline = ((tt, (tt, (tt, (tt, tt)))), tt); slots = tt; lines = tt };
   is = sym (output-is worked_map of_32_bits (old_data Big 4) (old_readings Big 4) (paths_bodies Big 4) of_32_bits-data of_32_bits-bodies ∙ of_32_bits-written);
 }
 
@@ -369,7 +377,7 @@ pub of_32_bits-means : Means of_32_bits (paths_meaning 4)
 of_32_bits-means = record {
   readings = old_readings Big 4;
   reads = of_32_bits-reads;
-  says = meaning-is of_32_bits (old_data Big 4) (old_readings Big 4) (paths_units 4 paths) unnamed of_32_bits-data of_32_bits-units of_32_bits-others refl refl;
+  says = meaning-is of_32_bits (old_data Big 4) (old_readings Big 4) (paths_units 4 paths) unnamed of_32_bits-data of_32_bits-units of_32_bits-others refl refl refl;
 }
 
 pub of_32_bits_out-means : Means of_32_bits_out (mapped worked_map (paths_meaning 4))
@@ -377,7 +385,7 @@ unfolding lies_under mapped_path
 of_32_bits_out-means = record {
   readings = new_readings Big 4;
   reads = of_32_bits_out-reads;
-  says = meaning-is of_32_bits_out (new_data Big 4) (new_readings Big 4) (paths_units 4 mapped_paths) unnamed of_32_bits_out-data of_32_bits_out-units of_32_bits_out-others refl refl;
+  says = meaning-is of_32_bits_out (new_data Big 4) (new_readings Big 4) (paths_units 4 mapped_paths) unnamed of_32_bits_out-data of_32_bits_out-units of_32_bits_out-others refl refl refl;
 }
 
 pub of_32_bits-kept : MeaningKept worked_map of_32_bits of_32_bits_out

@@ -44,6 +44,7 @@ data_in n name directory str = record {
   str = record { number = suc (suc n); bytes = str };
   line_str = record { number = 0; bytes = [] };
   offsets = no_section;
+  lines = no_section;
   names = no_section;
 }
 
@@ -53,7 +54,7 @@ readings_in n name directory str =
 
 abbrev pub bodies_in : ℕ → List Body
 bodies_in n =
-    record { number = suc (suc n); bytes = all_texts } ∷ record { number = 0; bytes = [] } ∷ record { number = 0; bytes = [] } ∷ record { number = 0; bytes = [] }
+    record { number = suc (suc n); bytes = all_texts } ∷ record { number = 0; bytes = [] } ∷ record { number = 0; bytes = [] } ∷ record { number = 0; bytes = [] } ∷ record { number = 0; bytes = [] }
     ∷ record { number = n; bytes = all_bytes (paths_pieces Little 8 22 43) } ∷ []
 
 abbrev pub units_in : ℕ → List AttributeMeaning → List UnitMeaning
@@ -72,11 +73,13 @@ unfolding unit_header initial_length_at number_at spelled between after_code kin
 with_id-old_reads = record {
   units = (refl, record { chain = chain-sound _ _ (paths_pieces Little 8 0 13) paths-table refl; cells = refl }, tt);
   offsets = none-offsets Little;
+  lines = refl;
   names = none-names Little;
   texts = ((tt, (tt, (refl, (refl, tt)))), tt);
   slot_texts = tt;
   name_texts = tt;
   indexes = tt;
+  forms = ((refl, (refl, (refl, (refl, tt)))), tt);
 }
 
 pub with_id-new_reads : DataReads (data_in 2 22 43 all_texts) (readings_in 2 22 43 all_texts)
@@ -85,11 +88,13 @@ unfolding unit_header initial_length_at number_at spelled between after_code kin
 with_id-new_reads = record {
   units = (refl, record { chain = chain-sound _ _ (paths_pieces Little 8 22 43) paths-table refl; cells = refl }, tt);
   offsets = none-offsets Little;
+  lines = refl;
   names = none-names Little;
   texts = ((tt, (tt, (refl, (refl, tt)))), tt);
   slot_texts = tt;
   name_texts = tt;
   indexes = tt;
+  forms = ((refl, (refl, (refl, (refl, tt)))), tt);
 }
 
 pub with_id-reads : FileReads with_id (readings_in 2 0 13 path_texts)
@@ -118,7 +123,7 @@ unfolding unit_header initial_length_at number_at spelled between after_code kin
 with_id-output = record {
   readings = (readings_in 2 0 13 path_texts);
   reads = with_id-reads.data_reads;
-  fits = record { inline = ((tt, (tt, (tt, (tt, tt)))), tt); slots = tt };
+  fits = record { inline = ((tt, (tt, (tt, (tt, tt)))), tt); slots = tt; lines = tt };
   is = sym (output-is worked_map with_id (data_in 2 0 13 path_texts) (readings_in 2 0 13 path_texts) (bodies_in 2) with_id-data.0 with_id-bodies ∙ with_id-written);
 }
 
@@ -148,13 +153,13 @@ unfolding spelled e_type e_phnum e_phoff e_phentsize e_shoff e_shentsize e_shnum
 with_id-others = (refl, refl)
 
 abbrev pub with_id_meaning : Meaning
-with_id_meaning = record { units = units_in 2 paths; slots = []; names = []; others = bytes_named with_id_named }
+with_id_meaning = record { units = units_in 2 paths; slots = []; lines = []; names = []; others = bytes_named with_id_named }
 
 pub with_id-means : Means with_id with_id_meaning
 with_id-means = record {
   readings = (readings_in 2 0 13 path_texts);
   reads = with_id-reads;
-  says = meaning-is with_id (data_in 2 0 13 path_texts) (readings_in 2 0 13 path_texts) (units_in 2 paths) with_id_named with_id-data.0 with_id-units.0 with_id-others.0 refl refl;
+  says = meaning-is with_id (data_in 2 0 13 path_texts) (readings_in 2 0 13 path_texts) (units_in 2 paths) with_id_named with_id-data.0 with_id-units.0 with_id-others.0 refl refl refl;
 }
 
 pub with_id_out-means : Means with_id_out (mapped worked_map with_id_meaning)
@@ -162,7 +167,7 @@ unfolding lies_under mapped_path
 with_id_out-means = record {
   readings = (readings_in 2 22 43 all_texts);
   reads = with_id_out-reads;
-  says = meaning-is with_id_out (data_in 2 22 43 all_texts) (readings_in 2 22 43 all_texts) (units_in 2 mapped_paths) with_id_named with_id-data.1 with_id-units.1 with_id-others.1 refl refl;
+  says = meaning-is with_id_out (data_in 2 22 43 all_texts) (readings_in 2 22 43 all_texts) (units_in 2 mapped_paths) with_id_named with_id-data.1 with_id-units.1 with_id-others.1 refl refl refl;
 }
 
 pub with_id-kept : MeaningKept worked_map with_id with_id_out
@@ -226,11 +231,13 @@ unfolding unit_header initial_length_at number_at spelled between after_code kin
 with_a_segment-old_reads = record {
   units = (refl, record { chain = chain-sound _ _ (paths_pieces Little 8 0 13) paths-table refl; cells = refl }, tt);
   offsets = none-offsets Little;
+  lines = refl;
   names = none-names Little;
   texts = ((tt, (tt, (refl, (refl, tt)))), tt);
   slot_texts = tt;
   name_texts = tt;
   indexes = tt;
+  forms = ((refl, (refl, (refl, (refl, tt)))), tt);
 }
 
 with_a_segment-new_reads : DataReads (data_in 3 22 43 all_texts) (readings_in 3 22 43 all_texts)
@@ -239,11 +246,13 @@ unfolding unit_header initial_length_at number_at spelled between after_code kin
 with_a_segment-new_reads = record {
   units = (refl, record { chain = chain-sound _ _ (paths_pieces Little 8 22 43) paths-table refl; cells = refl }, tt);
   offsets = none-offsets Little;
+  lines = refl;
   names = none-names Little;
   texts = ((tt, (tt, (refl, (refl, tt)))), tt);
   slot_texts = tt;
   name_texts = tt;
   indexes = tt;
+  forms = ((refl, (refl, (refl, (refl, tt)))), tt);
 }
 
 pub with_a_segment-reads : FileReads with_a_segment (readings_in 3 0 13 path_texts)
@@ -272,7 +281,7 @@ unfolding unit_header initial_length_at number_at spelled between after_code kin
 with_a_segment-output = record {
   readings = (readings_in 3 0 13 path_texts);
   reads = with_a_segment-reads.data_reads;
-  fits = record { inline = ((tt, (tt, (tt, (tt, tt)))), tt); slots = tt };
+  fits = record { inline = ((tt, (tt, (tt, (tt, tt)))), tt); slots = tt; lines = tt };
   is = sym (output-is worked_map with_a_segment (data_in 3 0 13 path_texts) (readings_in 3 0 13 path_texts) (bodies_in 3) with_a_segment-data.0 with_a_segment-bodies ∙ with_a_segment-written);
 }
 
@@ -290,13 +299,13 @@ unfolding spelled e_type e_phnum e_phoff e_phentsize e_shoff e_shentsize e_shnum
 with_a_segment-others = (refl, refl)
 
 abbrev pub with_a_segment_meaning : Meaning
-with_a_segment_meaning = record { units = units_in 3 paths; slots = []; names = []; others = bytes_named unnamed }
+with_a_segment_meaning = record { units = units_in 3 paths; slots = []; lines = []; names = []; others = bytes_named unnamed }
 
 pub with_a_segment-means : Means with_a_segment with_a_segment_meaning
 with_a_segment-means = record {
   readings = (readings_in 3 0 13 path_texts);
   reads = with_a_segment-reads;
-  says = meaning-is with_a_segment (data_in 3 0 13 path_texts) (readings_in 3 0 13 path_texts) (units_in 3 paths) unnamed with_a_segment-data.0 with_a_segment-units.0 with_a_segment-others.0 refl refl;
+  says = meaning-is with_a_segment (data_in 3 0 13 path_texts) (readings_in 3 0 13 path_texts) (units_in 3 paths) unnamed with_a_segment-data.0 with_a_segment-units.0 with_a_segment-others.0 refl refl refl;
 }
 
 pub with_a_segment_out-means : Means with_a_segment_out (mapped worked_map with_a_segment_meaning)
@@ -304,7 +313,7 @@ unfolding lies_under mapped_path
 with_a_segment_out-means = record {
   readings = (readings_in 3 22 43 all_texts);
   reads = with_a_segment_out-reads;
-  says = meaning-is with_a_segment_out (data_in 3 22 43 all_texts) (readings_in 3 22 43 all_texts) (units_in 3 mapped_paths) unnamed with_a_segment-data.1 with_a_segment-units.1 with_a_segment-others.1 refl refl;
+  says = meaning-is with_a_segment_out (data_in 3 22 43 all_texts) (readings_in 3 22 43 all_texts) (units_in 3 mapped_paths) unnamed with_a_segment-data.1 with_a_segment-units.1 with_a_segment-others.1 refl refl refl;
 }
 
 pub with_a_segment-kept : MeaningKept worked_map with_a_segment with_a_segment_out

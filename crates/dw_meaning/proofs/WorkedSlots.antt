@@ -67,6 +67,7 @@ slot_data units offsets names = record {
   str = record { number = 3; bytes = codes "/build/p\0" };
   line_str = record { number = 0; bytes = [] };
   offsets = record { number = 4; contents = plain_cells (all_bytes offsets) };
+  lines = no_section;
   names = record { number = 5; contents = plain_cells (all_bytes names) };
 }
 
@@ -74,6 +75,7 @@ abbrev slot_readings : DebugData → List (List ℕ) → List (List ℕ) → Lis
 slot_readings d units offsets names = record {
   units = record { number = 1; pieces = pieces_from d.base (before_unit 1 in_info 21 0 0) units } ∷ [];
   offsets = offsets_from Little (offsets_at (length (all_bytes offsets)) 0 0 at_contribution) offsets;
+  lines = [];
   names = names_from Little (names_at (length (all_bytes names)) 0 at_table) names;
 }
 
@@ -131,7 +133,7 @@ own-names = refl
 -- slot 0 has a new place, and slot 1, the name and the units stay
 pub own-output : new_bodies slot_map own_data own_readings
     ≡ record { number = 3; bytes = codes "/build/p\0/usr/src/debug/p\0" } ∷ record { number = 0; bytes = [] }
-    ∷ record { number = 4; bytes = all_bytes (two_slots 9 0) } ∷ record { number = 5; bytes = all_bytes name_table }
+    ∷ record { number = 4; bytes = all_bytes (two_slots 9 0) } ∷ record { number = 0; bytes = [] } ∷ record { number = 5; bytes = all_bytes name_table }
     ∷ record { number = 1; bytes = all_bytes (slot_units 8 1) } ∷ []
 unfolding new_bodies table_change unit_header initial_length_at number_at spelled between after_code kind_in form_rows abbreviations_at
     uleb_at text_in offset_of field_of role_of lies_under mapped_path mapped_inline with_offset before_slot slot_of name_counts before_strings
@@ -182,6 +184,7 @@ wide_data = record {
   str = record { number = 3; bytes = codes "/build/p\0" };
   line_str = record { number = 0; bytes = [] };
   offsets = record { number = 4; contents = plain_cells (all_bytes (wide_slots 0)) };
+  lines = no_section;
   names = no_section;
 }
 
@@ -189,6 +192,7 @@ abbrev wide_readings : DataReadings
 wide_readings = record {
   units = record { number = 1; pieces = pieces_from wide_data.base (before_unit 1 in_info 20 0 0) wide_units } ∷ [];
   offsets = offsets_from Little (offsets_at 36 0 0 at_contribution) (wide_slots 0);
+  lines = [];
   names = [];
 }
 
@@ -205,7 +209,7 @@ wide-units = refl
 -- the slot of the first contribution stays
 pub wide-output : new_bodies slot_map wide_data wide_readings
     ≡ record { number = 3; bytes = codes "/build/p\0/usr/src/debug/p\0" } ∷ record { number = 0; bytes = [] }
-    ∷ record { number = 4; bytes = all_bytes (wide_slots 9) } ∷ record { number = 0; bytes = [] }
+    ∷ record { number = 4; bytes = all_bytes (wide_slots 9) } ∷ record { number = 0; bytes = [] } ∷ record { number = 0; bytes = [] }
     ∷ record { number = 1; bytes = all_bytes wide_units } ∷ []
 unfolding new_bodies table_change unit_header initial_length_at number_at spelled between after_code kind_in form_rows abbreviations_at
     uleb_at text_in offset_of field_of role_of lies_under mapped_path mapped_inline with_offset before_slot slot_of

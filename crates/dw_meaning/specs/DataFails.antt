@@ -1,18 +1,21 @@
 -- Why debug data can't be read, or not be mapped: what is wrong with a unit, its table of abbreviations or its entries; an
 -- offset of a text, or an index of one, that names none; and a path that stands in its value and would grow.
-use Rattle.std.specs.Prelude.{true, false, ◌≡◌, ℕ, List, ◌∷◌, ◌++◌, Option, Some, None}
+use Rattle.std.specs.Prelude.{true, false, ◌≡◌, ◌<◌, ℕ, length, List, ◌∷◌, ◌++◌, Option, Some, None}
 use Rattle.dw_base.specs.AbbreviationFails.{AbbreviationFails}
 use Rattle.dw_base.specs.AbbreviationTables.{Abbreviation}
 use Rattle.dw_base.specs.Cells.{Located, cells_at, offset_of}
-use Rattle.dw_base.specs.DebugData.{DebugData, DataReadings, ReadsAll, around_of, indexing_of}
+use Rattle.dw_base.specs.DebugData.{DebugData, DataReadings, ReadsAll, around_of, indexing_of, line_source}
 use Rattle.dw_base.specs.EntryScans.{EntryFails}
 use Rattle.dw_base.specs.EntryValues.{HasUnit, HasTable, HasValue, bytes_up_to}
 use Rattle.dw_base.specs.IndexFails.{IndexFails, SlotFails}
 use Rattle.dw_base.specs.InlinePaths.{inline_fits}
+use Rattle.dw_base.specs.LineFails.{LineFails}
+use Rattle.dw_base.specs.LineReadings.{LineReading, TablesTo, AreTables}
 use Rattle.dw_base.specs.OffsetPieces.{ReadsOffsets}
 use Rattle.dw_base.specs.Paths.{PathMap}
 use Rattle.dw_base.specs.Refusals.{at}
 use Rattle.dw_base.specs.Roles.{is_path}
+use Rattle.dw_base.specs.TableStarts.{StrayFails}
 use Rattle.dw_base.specs.Texts.{text_in, ends_in}
 use Rattle.dw_base.specs.UnitFails.{UnitFails}
 use Rattle.dw_base.specs.UnitHeaders.{UnitSection}
@@ -60,6 +63,20 @@ pub data SlotTextFails (d : DebugData) : Refusal → Type 0 where
   index : (readings : DataReadings) {r : Refusal} → IndexesRead d readings → IndexFails (indexing_of d readings) r → SlotTextFails d r
   slot : (readings : DataReadings) {r : Refusal} → IndexesRead d readings → SlotFails d.offsets.number (around_of d readings) readings.offsets r
       → SlotTextFails d r
+
+-- the row of line tables: behind tables that can be read one starts that can't
+pub data LinesFail (d : DebugData) : Refusal → Type 0 where
+  line_table : (before : List LineReading) (start : ℕ) {r : Refusal} → TablesTo (line_source d) 0 before start → start < length (line_source d).bytes
+      → LineFails (line_source d) start r → LinesFail d r
+
+-- the units and the line tables can be read: they are these
+pub record StartsRead (d : DebugData) (r : DataReadings) : Type 0 where
+  pub units : ReadsAll d.base 0 d.units r.units
+  pub lines : AreTables (line_source d) r.lines
+
+-- the row of values that say where line tables start
+pub data StartsFail (d : DebugData) : Refusal → Type 0 where
+  stray : (readings : DataReadings) {r : Refusal} → StartsRead d readings → StrayFails (around_of d readings) readings.units r → StartsFail d r
 
 -- the row of paths that stand in their values, at the text
 pub data InlineFails (m : PathMap) (d : DebugData) : Refusal → Type 0 where

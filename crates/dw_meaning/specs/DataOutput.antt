@@ -1,10 +1,13 @@
 -- The debug data that an edit writes: each field of a path's text names the mapped text, that of a slot too, each path that stands in
 -- its value is mapped there, and all else stays; and when debug data can be read and mapped.
-use Rattle.std.specs.Prelude.{ℕ, ◌==◌, if◌then◌else◌, List, [], ◌∷◌}
+use Rattle.std.specs.Prelude.{ℕ, ◌==◌, if◌then◌else◌, List, [], ◌∷◌, ⊤}
 use Rattle.dw_base.specs.Cells.{Cell, Located, bytes_of}
-use Rattle.dw_base.specs.DebugData.{DebugData, DataReadings, Around, around_of, indexing_of, path_slots, table_of, ReadsAll}
+use Rattle.dw_base.specs.DebugData.{DebugData, DataReadings, Around, around_of, indexing_of, line_source, path_slots, source_around, table_of, ReadsAll}
 use Rattle.dw_base.specs.Forms.{TextSection, in_str, in_line_str}
 use Rattle.dw_base.specs.IndexFails.{SlotFits}
+use Rattle.dw_base.specs.LineChanges.{line_place, lines_after}
+use Rattle.dw_base.specs.LineReadings.{LineReading, AreTables, all_lines, table_read}
+use Rattle.dw_base.specs.LineWriteFails.{CanWrite}
 use Rattle.dw_base.specs.NamePieces.{NameState, ReadsNames}
 use Rattle.dw_base.specs.OffsetPieces.{OffsetState, ReadsOffsets}
 use Rattle.dw_base.specs.Paths.{PathMap}
@@ -12,25 +15,22 @@ use Rattle.dw_base.specs.Pieces.{Piece, EachPiece, joined}
 use Rattle.dw_base.specs.Readings.{Reading, Readings, EachReading}
 use Rattle.dw_base.specs.SectionTexts.{slot_role, name_role, file_mentions, edited_with, NameTexts}
 use Rattle.dw_base.specs.StringTables.{Plan, appending, new_texts, new_table}
+use Rattle.dw_base.specs.TableStarts.{HasStartForm}
 use Rattle.dw_base.specs.TextChanges.{TableChange, TableChanges, edited_all, NamesText, InlineFits}
 use Rattle.dw_base.specs.TextIndexes.{EachUse, NamesSlot, index_uses}
 
--- debug data can be read: units, string offsets and name tables are these pieces, each offset names a text that ends, and each value
--- by index a slot
+-- debug data can be read: units, string offsets and name tables are these pieces, line tables fill their section, each offset names a
+-- text that ends, each value by index a slot, and each value that is to say where a line table starts says it
 pub record DataReads (d : DebugData) (r : DataReadings) : Type 0 where
   pub units : ReadsAll d.base 0 d.units r.units
   pub offsets : ReadsOffsets d.base.order d.offsets.contents r.offsets
+  pub lines : AreTables (line_source d) r.lines
   pub names : ReadsNames d.base.order d.names.contents r.names
   pub texts : EachReading (NamesText (around_of d r)) r.units
   pub slot_texts : NameTexts (slot_role (path_slots (around_of d r))) (around_of d r) r.offsets
   pub name_texts : NameTexts name_role (around_of d r) r.names
   pub indexes : EachUse (NamesSlot (indexing_of d r)) (index_uses d.base.order r.units)
-
--- and be mapped: each path that stands in its value fits its room, and no slot is named by a path whose text changes and by a value
--- that isn't a path
-pub record DataFits (m : PathMap) (d : DebugData) (r : DataReadings) : Type 0 where
-  pub inline : EachReading (InlineFits m) r.units
-  pub slots : EachPiece (SlotFits m (around_of d r)) r.offsets
+  pub forms : EachReading HasStartForm r.units
 
 -- what becomes of a table: old bytes are kept, and mapped texts that differ get a place behind them
 unfoldable pub table_change : PathMap → TextSection → Around → DataReadings → TableChange
@@ -38,8 +38,26 @@ table_change m table around r =
     let plan : Plan = appending m (table_of around table).bytes in
     record { plan = plan; texts = new_texts plan m (file_mentions table around r) }
 
+-- the new line tables
+abbrev pub new_lines : PathMap → Around → DataReadings → List (List ℕ)
+new_lines m around r = lines_after m (table_change m in_str around r) (table_change m in_line_str around r) (source_around around) r.lines
+
 abbrev pub changes_of : PathMap → Around → DataReadings → TableChanges
-changes_of m around r = record { map = m; str = table_change m in_str around r; line_str = table_change m in_line_str around r }
+changes_of m around r =
+    record { map = m; str = table_change m in_str around r; line_str = table_change m in_line_str around r; lines = new_lines m around r }
+
+-- each line table can be written with its paths mapped
+abbrev pub EachWritable : PathMap → TableChanges → Around → List LineReading → Type 0
+EachWritable m c around [] = ⊤
+EachWritable m c around (r ∷ rs) =
+    CanWrite (source_around around) m (line_place m c.str c.line_str (source_around around)) (table_read (source_around around) r) × EachWritable m c around rs
+
+-- and be mapped: each path that stands in its value fits its room, no slot is named by a path whose text changes and by a value that
+-- isn't a path, and each line table can be written
+pub record DataFits (m : PathMap) (d : DebugData) (r : DataReadings) : Type 0 where
+  pub inline : EachReading (InlineFits m) r.units
+  pub slots : EachPiece (SlotFits m (around_of d r)) r.offsets
+  pub lines : EachWritable m (changes_of m (around_of d r) r) (around_of d r) r.lines
 
 -- a section and its new bytes
 pub record Body : Type 0 where
@@ -66,11 +84,14 @@ names_after changes around r = edited_with name_role changes around r.names
 abbrev pub cells_body : ℕ → List Cell → Body
 cells_body i p = record { number = i; bytes = bytes_of p }
 
+abbrev pub lines_body : TableChanges → DebugData → Body
+lines_body changes d = record { number = d.lines.number; bytes = all_lines changes.lines }
+
 -- the sections with new bytes
 abbrev pub bodies_by : TableChanges → DebugData → Around → DataReadings → List Body
 bodies_by changes d around r =
     table_body around.str changes.str ∷ table_body around.line_str changes.line_str
-    ∷ cells_body d.offsets.number (joined (offsets_after changes around r)) ∷ cells_body d.names.number (joined (names_after changes around r))
+    ∷ cells_body d.offsets.number (joined (offsets_after changes around r)) ∷ lines_body changes d ∷ cells_body d.names.number (joined (names_after changes around r))
     ∷ unit_bodies changes around r.units
 
 unfoldable pub new_bodies : PathMap → DebugData → DataReadings → List Body

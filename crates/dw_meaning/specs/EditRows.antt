@@ -1,29 +1,35 @@
 -- Why a file isn't edited with a prefix map, and the record of what holds where it is.
-use Rattle.std.specs.Prelude.{◌<◌, ℕ, List}
+use Rattle.std.specs.Prelude.{◌≡◌, ◌<◌, ◌++◌, ◌∷◌, ℕ, List}
 use Rattle.dw_meaning.specs.DataFails.{IndexesRead, InlineFails}
-use Rattle.dw_meaning.specs.DataOutput.{DataFits}
-use Rattle.dw_base.specs.DebugData.{DataReadings, around_of}
+use Rattle.dw_meaning.specs.DataOutput.{DataFits, changes_of}
+use Rattle.dw_base.specs.DebugData.{DataReadings, around_of, line_source}
 use Rattle.dw_base.specs.IndexFails.{SharedFails}
 use Rattle.dw_base.specs.Elf.{section_count}
 use Rattle.dw_base.specs.ElfFails.{ElfReads}
 use Rattle.dw_meaning.specs.FileFails.{ReadIsLoaded, UnbuiltFile, FileFails}
 use Rattle.dw_meaning.specs.FileMeanings.{file_data, FileReads, new_body}
 use Rattle.dw_base.specs.LayoutFails.{LayoutFails, LayoutFits}
+use Rattle.dw_base.specs.LineChanges.{line_place}
+use Rattle.dw_base.specs.LineReadings.{LineReading, table_read}
+use Rattle.dw_base.specs.LineWriteFails.{WriteFails}
 use Rattle.dw_base.specs.Paths.{PathMap}
 use Rattle.dw_base.specs.declared.fault.Refusal.{Refusal}
 
 -- every row: those of the file; a path that stands in its value would grow; a slot is named by a path whose text changes and by a
--- value that isn't a path; and the output can be too long, or a section lie
+-- value that isn't a path; a line table can't be written with its paths mapped; and the output can be too long, or a section lie
 -- across the end of the part that stays, begin in the file header, or stay and have to change
 pub data EditFails (m : PathMap) (b : List ℕ) : Refusal → Type 0 where
   file : {r : Refusal} → FileFails b r → EditFails m b r
   inline : {r : Refusal} → ElfReads b → InlineFails m (file_data b) r → EditFails m b r
   shared : (readings : DataReadings) {r : Refusal} → ElfReads b → IndexesRead (file_data b) readings
       → SharedFails m (file_data b).offsets.number (around_of (file_data b) readings) readings.offsets r → EditFails m b r
+  line_table : (readings : DataReadings) (before behind : List LineReading) (t : LineReading) {r : Refusal} → FileReads b readings → readings.lines ≡ before ++ t ∷ behind
+      → WriteFails (line_source (file_data b)) m (line_place m (changes_of m (around_of (file_data b) readings) readings).str
+      (changes_of m (around_of (file_data b) readings) readings).line_str (line_source (file_data b))) (table_read (line_source (file_data b)) t) r → EditFails m b r
   output : (readings : DataReadings) {r : Refusal} → FileReads b readings → DataFits m (file_data b) readings
       → LayoutFails b (new_body m b readings) r → EditFails m b r
 
--- the file is taken: it can be read, its paths fit the rooms in which they stand and its slots are fit to be mapped, no section that is read is loaded, it is of
+-- the file is taken: it can be read, its paths fit the rooms in which they stand, its slots are fit to be mapped and its line tables can be written, no section that is read is loaded, it is of
 -- a shape that is taken, and its output can be written
 pub record IsAccepted (m : PathMap) (b : List ℕ) : Type 0 where
   pub readings : DataReadings

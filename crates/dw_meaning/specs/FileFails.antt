@@ -2,7 +2,7 @@
 -- version of the program doesn't take. Each row names a condition that holds, and its place.
 use Rattle.std.specs.Prelude.{Bool, true, false, ◌≡◌, ℕ, ◌<◌, ◌==◌, ◌||◌, List, IsTrue, Option, Some}
 use Rattle.dw_base.specs.AbbreviationTables.{Abbreviation}
-use Rattle.dw_meaning.specs.DataFails.{DataFails, TextFails, SlotTextFails}
+use Rattle.dw_meaning.specs.DataFails.{DataFails, TextFails, SlotTextFails, LinesFail, StartsFail}
 use Rattle.dw_base.specs.DebugSectionFails.{is_active, DebugSectionsFail}
 use Rattle.dw_base.specs.DebugSections.{debug_section}
 use Rattle.dw_base.specs.Elf.{e_type, nth_section, section_count, section_name, is_empty_kind}
@@ -17,14 +17,14 @@ use Rattle.dw_base.specs.UnitHeaders.{UnitSection}
 use Rattle.dw_base.specs.StringOffsetFails.{ContributionsFail}
 use Rattle.dw_base.specs.ViewData.{is_read, string_offsets}
 use Rattle.dw_base.specs.declared.debug_sections.DebugSection.{DebugSection}
-use Rattle.dw_base.specs.declared.debug_sections.DebugSection.TheVariants.{Line, Macro}
+use Rattle.dw_base.specs.declared.debug_sections.DebugSection.TheVariants.{Macro}
 use Rattle.dw_base.specs.declared.fault.Kind.TheVariants.{Fixed, Unbuilt}
 use Rattle.dw_base.specs.declared.fault.Refusal.{Refusal}
 use Rattle.dw_base.specs.declared.units.UnitHeader.{UnitHeader}
 use Rattle.dw_base.specs.declared.values.Spec.{Spec}
 use Rattle.dw_base.specs.declared.values.Value.{Value}
 use Rattle.dw_base.specs.declared.elf_numbers.TheConstants.{ET_REL}
-use Rattle.dw_base.specs.declared.dwarf_numbers.TheConstants.{DW_AT_stmt_list, DW_AT_macros, DW_AT_GNU_macros}
+use Rattle.dw_base.specs.declared.dwarf_numbers.TheConstants.{DW_AT_macros, DW_AT_GNU_macros}
 
 -- a section that is read, of a number, is ALLOC and has bytes (gABI ch. 4 "Sections", `sh_flags`)
 pub record ReadIsLoaded (b : List ℕ) (i : ℕ) : Type 0 where
@@ -34,13 +34,12 @@ pub record ReadIsLoaded (b : List ℕ) (i : ℕ) : Type 0 where
 
 -- a section of debug data that isn't read yet
 abbrev pub is_unbuilt_section : Option DebugSection → Bool
-is_unbuilt_section (Some Line) = true
 is_unbuilt_section (Some Macro) = true
 is_unbuilt_section s = false
 
--- an attribute that says the place of a line table or of macros
+-- an attribute that says the place of macros
 abbrev pub is_unbuilt_value : Spec → Bool
-is_unbuilt_value x = x.name == DW_AT_stmt_list || x.name == DW_AT_macros || x.name == DW_AT_GNU_macros
+is_unbuilt_value x = x.name == DW_AT_macros || x.name == DW_AT_GNU_macros
 
 -- shapes of files that aren't taken yet
 pub data UnbuiltFile (b : List ℕ) : Type 0 where
@@ -60,5 +59,7 @@ pub data FileFails (b : List ℕ) : Refusal → Type 0 where
   texts : {r : Refusal} → ElfReads b → TextFails (file_data b) r → FileFails b r
   string_tables : {r : Refusal} → ElfReads b → ContributionsFail (view_of b).order (string_offsets (view_of b)) r → FileFails b r
   slots : {r : Refusal} → ElfReads b → SlotTextFails (file_data b) r → FileFails b r
+  lines : {r : Refusal} → ElfReads b → LinesFail (file_data b) r → FileFails b r
+  starts : {r : Refusal} → ElfReads b → StartsFail (file_data b) r → FileFails b r
   name_tables : {r : Refusal} → ElfReads b → NameTablesFail (view_of b) r → FileFails b r
   unbuilt : UnbuiltFile b → FileFails b (at Unbuilt 0 0)

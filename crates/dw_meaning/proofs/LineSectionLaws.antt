@@ -1,0 +1,146 @@
+-- Line tables one after another that were written with their paths mapped are read, start where they were laid, and mean the mapped tables.
+use Rattle.std.proofs.Common.{true, ◌≡◌, ◌≢◌, ℕ, suc, ◌+◌, ◌<◌, ◌≤◌, List, [], ◌∷◌, ◌++◌, length, refl, sym, ap, ◌∙◌, subst, arith, append_assoc}
+use Rattle.std.specs.Prelude.{⊤}
+use Rattle.std.proofs.lemmas.List.{length-append, append-nil}
+use Rattle.dw_base.specs.Forms.{in_str, in_line_str}
+use Rattle.dw_base.specs.LineChanges.{paths_mentions, line_mentions, line_place, lines_after}
+use Rattle.dw_base.specs.LineMeanings.{LineMeaning, line_meaning, line_meanings, mapped_line, mapped_lines}
+use Rattle.dw_base.specs.LineReadings.{LineReading, ReadsTable, TablesTo, table_read, table_starts, starts_from, all_lines}
+use Rattle.dw_base.specs.LineSources.{LineSource}
+use Rattle.dw_base.specs.LineWriteFails.{CanWrite}
+use Rattle.dw_base.specs.Paths.{PathMap}
+use Rattle.dw_base.specs.StringTables.{Mention, new_table, texts_after}
+use Rattle.dw_base.specs.Texts.{ends_in}
+use Rattle.dw_base.specs.TextChanges.{TableChanges}
+use Rattle.dw_base.specs.WrittenLines.{length_size, length_bytes, written_rest, written_table}
+use Rattle.dw_base.specs.declared.line_tables.TextPlace.{TextPlace}
+use Rattle.dw_base.specs.declared.shared.Width.{Width}
+use Rattle.dw_base.specs.declared.shared.Width.TheVariants.{W32, W64}
+use Rattle.dw_base.proofs.ContributionBackLaws.{StandsAt}
+use Rattle.dw_meaning.proofs.LineColumnLaws.{edited_source, Grows, SourceMoves}
+use Rattle.dw_meaning.proofs.LineHeaderLaws.{header-is, length-size}
+use Rattle.dw_meaning.proofs.LineLaidLaws.{stands-first, stands-next, length-bytes}
+use Rattle.dw_meaning.proofs.LineMeaningLaws.{table-moved}
+use Rattle.dw_meaning.proofs.LinePathLaws.{BothMove, paths-move}
+use Rattle.dw_meaning.proofs.LineStartLaws.{EachSome}
+use Rattle.dw_meaning.proofs.TextEditLaws.{TextsAre, behind_piece}
+
+-- each table can be written
+abbrev pub EachCan : LineSource → PathMap → TableChanges → List LineReading → Type 0
+EachCan g m c [] = ⊤
+EachCan g m c (r ∷ rs) = CanWrite g m (line_place m c.str c.line_str g) (table_read g r) × EachCan g m c rs
+
+some-size : (w : Width) → 0 < length_size w
+some-size W32 = omega arith
+some-size W64 = omega arith
+
+-- a table that is written has a byte at least
+written-some : (g : LineSource) (m : PathMap) (c : TableChanges) (r : LineReading) → 0 < length (written_table g m (line_place m c.str c.line_str g) (table_read g r))
+unfolding written_table
+written-some g m c r =
+    let first = length-bytes g.order r.header.width (length (written_rest g m (line_place m c.str c.line_str g) (table_read g r))) in
+    let some = some-size r.header.width in
+    omega (
+      arith,
+      first,
+      some,
+      length-append (length_bytes g.order r.header.width (length (written_rest g m (line_place m c.str c.line_str g) (table_read g r))))
+          (written_rest g m (line_place m c.str c.line_str g) (table_read g r)),
+    )
+
+-- the tables after the edit
+pub record LinesMoved (g k : LineSource) (m : PathMap) (q e : ℕ) (ts : List (List ℕ)) (rs : List LineReading) : Type 0 where
+  pub readings : List LineReading
+  pub are : TablesTo k q readings e
+  pub starts : table_starts readings ≡ starts_from q ts
+  pub says : line_meanings k readings ≡ mapped_lines m (line_meanings g rs)
+  pub some : EachSome ts
+  pub count : length ts ≡ length (table_starts rs)
+
+pub lines-moved : (c : TableChanges) (g : LineSource) (bytes : List ℕ) (ts us : List (List ℕ)) (ms ns : List Mention) (p e q : ℕ) (rs : List LineReading)
+    → SourceMoves g c.map (new_table c.str.plan c.str.texts) (new_table c.line_str.plan c.line_str.texts) → BothMove c g → TablesTo g p rs e → EachCan g c.map c rs
+    → TextsAre c ts us (line_mentions g in_str rs ++ ms) (line_mentions g in_line_str rs ++ ns)
+    → StandsAt bytes (all_lines (lines_after c.map c.str c.line_str g rs)) q
+    → LinesMoved g (edited_source g bytes (new_table c.str.plan c.str.texts) (new_table c.line_str.plan c.line_str.texts)) c.map q
+    (q + length (all_lines (lines_after c.map c.str c.line_str g rs))) (lines_after c.map c.str c.line_str g rs) rs
+lines-moved c g bytes ts us ms ns p e q [] w both reads can all st =
+    record { readings = []; are = omega arith; starts = refl; says = refl; some = tt; count = refl }
+lines-moved c g bytes ts us ms ns p e q (r ∷ rs) w both reads can all st =
+    let s : List ℕ = new_table c.str.plan c.str.texts in
+    let l : List ℕ = new_table c.line_str.plan c.line_str.texts in
+    let xs : List TextPlace = r.dirs ++ Rattle.dw_base.specs.LineTables.texts_of r.files in
+    let t : List ℕ = written_table g c.map (line_place c.map c.str c.line_str g) (table_read g r) in
+    let rest : List (List ℕ) = lines_after c.map c.str c.line_str g rs in
+    let here : TextsAre c ts us (paths_mentions g in_str xs ++ (line_mentions g in_str rs ++ ms)) (paths_mentions g in_line_str xs ++ (line_mentions g in_line_str rs ++ ns)) = record {
+      str = all.str ∙ ap (texts_after c.str.plan c.map ts) (append_assoc (paths_mentions g in_str xs) (line_mentions g in_str rs) ms);
+      line_str = all.line_str ∙ ap (texts_after c.line_str.plan c.map us) (append_assoc (paths_mentions g in_line_str xs) (line_mentions g in_line_str rs) ns);
+    } in
+    let moves = paths-move c g r.header.width ts us (line_mentions g in_str rs ++ ms) (line_mentions g in_line_str rs ++ ns) xs both here in
+    let one = table-moved g c.map (line_place c.map c.str c.line_str g) bytes s l p q r w reads.0 (record { table = can.0.table; header = can.0.header }) moves can.0.defined
+    (stands-first bytes t (all_lines rest) q st) in
+    let more = lines-moved c g bytes (texts_after c.str.plan c.map ts (paths_mentions g in_str xs)) (texts_after c.line_str.plan c.map us (paths_mentions g in_line_str xs)) ms ns
+    r.header.end e (q + length t) rs w both reads.1 can.1
+    (behind_piece c ts us (paths_mentions g in_str xs) (paths_mentions g in_line_str xs) (line_mentions g in_str rs ++ ms) (line_mentions g in_line_str rs ++ ns) here)
+    (stands-next bytes t (all_lines rest) q st) in
+    let k : LineSource = edited_source g bytes s l in
+    let end : q + length t + length (all_lines rest) ≡ q + length (t ++ all_lines rest) = omega (arith, length-append t (all_lines rest)) in
+    record {
+      readings = one.reading ∷ more.readings;
+      are = (
+        one.reads,
+        subst (λ (i : ℕ). TablesTo k i more.readings (q + length (t ++ all_lines rest))) (sym one.ends)
+            (subst (TablesTo k (q + length t) more.readings) end more.are),
+      );
+      starts = ap (λ (i : ℕ). i ∷ table_starts more.readings) one.begins ∙ ap (λ (is_ : List ℕ). q ∷ is_) more.starts;
+      says = ap (λ (x : LineMeaning). x ∷ line_meanings k more.readings) one.says ∙ ap (λ (ys : List LineMeaning). mapped_line c.map (line_meaning g r) ∷ ys) more.says;
+      some = (written-some g c.map c r, more.some);
+      count = ap suc more.count;
+    }
+
+-- where there are tables, their section is none of those of texts
+abbrev pub TablesApart : LineSource → List LineReading → Type 0
+TablesApart g [] = ⊤
+TablesApart g (r ∷ rs) = (g.number ≢ g.str.number) × (g.number ≢ g.line_str.number)
+
+-- what a section of tables alone holds stands in it from its start on
+whole-stands : (bs : List ℕ) → StandsAt bs bs 0
+whole-stands bs = record { behind = []; is = sym (append-nil bs); inside = omega arith }
+
+zero-plus : (n : ℕ) → 0 + n ≡ n
+zero-plus n = omega arith
+
+-- a section of no bytes has no tables
+pub some-bytes : (g : LineSource) (p : ℕ) (r : LineReading) → ReadsTable g p r → p < r.header.end × (r.header.end ≤ length g.bytes)
+some-bytes g p r reads =
+    let x = header-is g.order g.bytes p r.header reads.header in
+    let within = x.within in
+    let end = x.end_is in
+    let four = length-size g.order g.bytes p r.header.width x.count x.size x.length_is in
+    let some = some-size r.header.width in
+    (omega (arith, within, end, four, some), omega (arith, within, end))
+
+pub no-tables : (g : LineSource) (rs : List LineReading) → g.bytes ≡ [] → TablesTo g 0 rs (length g.bytes) → rs ≡ []
+no-tables g [] none reads = refl
+no-tables g (r ∷ rs) none reads =
+    let some = some-bytes g 0 r reads.0 in
+    let below = some.0 in
+    let within = some.1 in
+    let size : length g.bytes ≡ 0 = ap length none in
+    absurd (omega (arith, below, within, size))
+
+-- the new section
+pub section-moved : (c : TableChanges) (g : LineSource) (ts us : List (List ℕ)) (ms ns : List Mention) (rs : List LineReading) → BothMove c g
+    → Grows g.str.bytes (new_table c.str.plan c.str.texts) → Grows g.line_str.bytes (new_table c.line_str.plan c.line_str.texts) → TablesApart g rs
+    → ((at : ℕ) → ends_in g.line_str.bytes at ≡ true → g.line_str.number ≢ g.str.number) → TablesTo g 0 rs (length g.bytes) → EachCan g c.map c rs
+    → TextsAre c ts us (line_mentions g in_str rs ++ ms) (line_mentions g in_line_str rs ++ ns)
+    → LinesMoved g (edited_source g (all_lines (lines_after c.map c.str c.line_str g rs)) (new_table c.str.plan c.str.texts) (new_table c.line_str.plan c.line_str.texts)) c.map 0
+    (length (all_lines (lines_after c.map c.str c.line_str g rs))) (lines_after c.map c.str c.line_str g rs) rs
+section-moved c g ts us ms ns [] both a b apart tables reads can all =
+    record { readings = []; are = refl; starts = refl; says = refl; some = tt; count = refl }
+section-moved c g ts us ms ns (r ∷ rs) both a b apart tables reads can all =
+    subst (λ (e : ℕ). LinesMoved g (edited_source g (all_lines (lines_after c.map c.str c.line_str g (r ∷ rs))) (new_table c.str.plan c.str.texts) (new_table c.line_str.plan c.line_str.texts))
+    c.map 0 e (lines_after c.map c.str c.line_str g (r ∷ rs)) (r ∷ rs))
+    (zero-plus (length (all_lines (lines_after c.map c.str c.line_str g (r ∷ rs)))))
+    (lines-moved c g (all_lines (lines_after c.map c.str c.line_str g (r ∷ rs))) ts us ms ns 0 (length g.bytes) 0 (r ∷ rs)
+    (record { map = both.map; str = a; line_str = b; apart_str = apart.0; apart_line = apart.1; tables = tables }) both reads can all
+    (whole-stands (all_lines (lines_after c.map c.str c.line_str g (r ∷ rs)))))
