@@ -1,22 +1,22 @@
 -- Laws of the changes of a header: paths in their order, offsets that fit, and changes one after another.
-use Rattle.std.proofs.Common.{Bool, true, false, ◌≡◌, ◌≢◌, ℕ, suc, ◌+◌, ◌-◌, ◌<◌, ◌≤◌, ◌^◌, ◌==◌, nat_lt, List, [], ◌∷◌, ◌++◌, length, take, drop, get_or, min, Option, Some, None, All, Contains, refl, sym, ap, ◌∙◌, subst, inl, inr, cond, if◌then◌else◌, arith}
+use Rattle.std.proofs.Common.{Bool, true, false, ◌≡◌, ◌≢◌, ℕ, ◌+◌, ◌<◌, ◌≤◌, ◌^◌, ◌==◌, List, [], ◌∷◌, ◌++◌, length, take, drop, get_or, Option, Some, None, Contains, refl, sym, ap, ◌∙◌, subst, inl, inr, if◌then◌else◌, arith}
 use Rattle.std.proofs.lemmas.Bool.{cases_lt}
 use Rattle.std.proofs.lemmas.Bool.Decides.{nat_tests}
 use Rattle.std.proofs.lemmas.List.{append-nil, append_assoc, take_more, take_all, map-append, get_or_default, length-take, length-drop}
 use Rattle.dw_base.specs.Forms.{width_size}
-use Rattle.dw_base.specs.FileViews.{View, section_bytes}
+use Rattle.dw_base.specs.LineSources.{LineSource}
 use Rattle.dw_base.specs.Numbers.{number_bytes}
 use Rattle.dw_base.specs.Paths.{PathMap, mapped_path}
 use Rattle.dw_base.specs.Refusals.{at}
 use Rattle.dw_base.specs.declared.fault.Kind.TheVariants.{TooWide}
 use Rattle.dw_base.specs.declared.fault.Refusal.{Refusal}
 use Rattle.dw_base.specs.declared.shared.Width.{Width}
-use Rattle.dw_strings.specs.declared.place.TextPlace.{TextPlace}
-use Rattle.dw_lines.specs.ChangeSteps.{after_change, after_changes, fits_width, offset_fits, OffsetsFit}
-use Rattle.dw_lines.specs.LineTables.{texts_of}
-use Rattle.dw_lines.specs.WriteFails.{WideOffset, wide}
-use Rattle.dw_lines.specs.WrittenTables.{Change, all_changes, bytes_at, changed, inline_change, offset_changes, part, path_changes}
-use Rattle.dw_lines.specs.declared.texts.FilePlace.{FilePlace}
+use Rattle.dw_base.specs.declared.line_tables.TextPlace.{TextPlace}
+use Rattle.dw_lines.specs.ChangeSteps.{after_change, after_changes, fits_width, offset_fits}
+use Rattle.dw_base.specs.LineTables.{texts_of}
+use Rattle.dw_base.specs.LineWriteFails.{WideOffset, wide}
+use Rattle.dw_base.specs.WrittenLines.{Change, all_changes, bytes_at, changed, part, path_changes}
+use Rattle.dw_base.specs.declared.line_tables.FilePlace.{FilePlace}
 
 -- paths of directories and files
 pub paths-start : (dirs paths : List TextPlace) (files : List FilePlace) → paths ≡ dirs → paths ≡ dirs ++ texts_of (take 0 files)
@@ -76,12 +76,12 @@ pub changes-joined : (bytes : List ℕ) (s : List ℕ × ℕ) (cs ds : List Chan
 changes-joined bytes s [] ds = refl
 changes-joined bytes s (c ∷ cs) ds = changes-joined bytes (after_change bytes s c) cs ds
 
-pub all-joined : (v : View) (m : PathMap) (places : TextPlace → Option ℕ) (section : ℕ) (width : Width) (xs ys : List TextPlace)
-    → all_changes v m places section width (xs ++ ys) ≡ all_changes v m places section width xs ++ all_changes v m places section width ys
-all-joined v m places section width [] ys = refl
-all-joined v m places section width (x ∷ xs) ys =
-    ap (λ (cs : List Change). path_changes v m places section width x ++ cs) (all-joined v m places section width xs ys)
-    ∙ sym (append_assoc (path_changes v m places section width x) (all_changes v m places section width xs) (all_changes v m places section width ys))
+pub all-joined : (g : LineSource) (m : PathMap) (places : TextPlace → Option ℕ) (width : Width) (xs ys : List TextPlace)
+    → all_changes g m places width (xs ++ ys) ≡ all_changes g m places width xs ++ all_changes g m places width ys
+all-joined g m places width [] ys = refl
+all-joined g m places width (x ∷ xs) ys =
+    ap (λ (cs : List Change). path_changes g m places width x ++ cs) (all-joined g m places width xs ys)
+    ∙ sym (append_assoc (path_changes g m places width x) (all_changes g m places width xs) (all_changes g m places width ys))
 
 -- the changed bytes are those so far, and what is left
 pub changes-done : (bytes : List ℕ) (end : ℕ) (s : List ℕ × ℕ) (cs : List Change)
@@ -111,57 +111,57 @@ behind-is bytes old at n e = ap (λ (xs : List ℕ). at + length xs) e
 pub ruleset behind_laws = (behind-small, behind-is)
 
 -- what becomes of a path
-pub put-inline : (v : View) (m : PathMap) (places : TextPlace → Option ℕ) (section : ℕ) (width : Width) (x : TextPlace) (bytes old new out more : List ℕ) (from next : ℕ)
-    → bytes ≡ section_bytes v section → x.section ≡ section → old ≡ bytes_at bytes x.at x.len → new ≡ mapped_path m old → more ≡ out ++ (part bytes from x.at ++ new)
+pub put-inline : (g : LineSource) (m : PathMap) (places : TextPlace → Option ℕ) (width : Width) (x : TextPlace) (bytes old new out more : List ℕ) (from next : ℕ)
+    → bytes ≡ g.bytes → x.section ≡ g.number → old ≡ bytes_at bytes x.at x.len → new ≡ mapped_path m old → more ≡ out ++ (part bytes from x.at ++ new)
     → next ≡ x.at + length (bytes_at bytes x.at x.len)
-    → ◌≡◌ {A = List ℕ × ℕ} (more, next) (after_changes (section_bytes v section) (out, from) (path_changes v m places section width x))
-put-inline v m places section width x bytes old new out more from next b s o n e is =
-    let here : (x.section == section) ≡ true = grind (arith, nat_tests) in
+    → ◌≡◌ {A = List ℕ × ℕ} (more, next) (after_changes (g.bytes) (out, from) (path_changes g m places width x))
+put-inline g m places width x bytes old new out more from next b s o n e is =
+    let here : (x.section == g.number) ≡ true = grind (arith, nat_tests) in
     rw (here, is, e, n, o, b) refl
 
-pub put-offset : (v : View) (m : PathMap) (places : TextPlace → Option ℕ) (section : ℕ) (width : Width) (x : TextPlace) (bytes out more : List ℕ) (from next place : ℕ)
-    → bytes ≡ section_bytes v section → x.section ≢ section → Some place ≡ places x → more ≡ out ++ (part bytes from x.field ++ number_bytes v.order (width_size width) place)
+pub put-offset : (g : LineSource) (m : PathMap) (places : TextPlace → Option ℕ) (width : Width) (x : TextPlace) (bytes out more : List ℕ) (from next place : ℕ)
+    → bytes ≡ g.bytes → x.section ≢ g.number → Some place ≡ places x → more ≡ out ++ (part bytes from x.field ++ number_bytes g.order (width_size width) place)
     → next ≡ x.field + length (bytes_at bytes x.field (width_size width))
-    → ◌≡◌ {A = List ℕ × ℕ} (more, next) (after_changes (section_bytes v section) (out, from) (path_changes v m places section width x))
-put-offset v m places section width x bytes out more from next place b s p e is =
-    let other : (x.section == section) ≡ false = grind (arith, nat_tests) in
+    → ◌≡◌ {A = List ℕ × ℕ} (more, next) (after_changes (g.bytes) (out, from) (path_changes g m places width x))
+put-offset g m places width x bytes out more from next place b s p e is =
+    let other : (x.section == g.number) ≡ false = grind (arith, nat_tests) in
     rw (other, ← p, is, e, b) refl
 
-pub put-none : (v : View) (m : PathMap) (places : TextPlace → Option ℕ) (section : ℕ) (width : Width) (x : TextPlace) (out : List ℕ) (from : ℕ)
-    → x.section ≢ section → None ≡ places x
-    → ◌≡◌ {A = List ℕ × ℕ} (out, from) (after_changes (section_bytes v section) (out, from) (path_changes v m places section width x))
-put-none v m places section width x out from s p =
-    let other : (x.section == section) ≡ false = grind (arith, nat_tests) in
+pub put-none : (g : LineSource) (m : PathMap) (places : TextPlace → Option ℕ) (width : Width) (x : TextPlace) (out : List ℕ) (from : ℕ)
+    → x.section ≢ g.number → None ≡ places x
+    → ◌≡◌ {A = List ℕ × ℕ} (out, from) (after_changes (g.bytes) (out, from) (path_changes g m places width x))
+put-none g m places width x out from s p =
+    let other : (x.section == g.number) ≡ false = grind (arith, nat_tests) in
     rw (other, ← p) refl
 
 pub ruleset put_laws = (put-inline, put-offset, put-none)
 
 -- what becomes of paths, one after another
-pub put-start : (v : View) (m : PathMap) (places : TextPlace → Option ℕ) (section : ℕ) (width : Width) (xs : List TextPlace) (out : List ℕ) (from : ℕ)
-    → ◌≡◌ {A = List ℕ × ℕ} (out, from) (after_changes (section_bytes v section) (out, from) (all_changes v m places section width (take 0 xs)))
-put-start v m places section width xs out from = refl
+pub put-start : (g : LineSource) (m : PathMap) (places : TextPlace → Option ℕ) (width : Width) (xs : List TextPlace) (out : List ℕ) (from : ℕ)
+    → ◌≡◌ {A = List ℕ × ℕ} (out, from) (after_changes (g.bytes) (out, from) (all_changes g m places width (take 0 xs)))
+put-start g m places width xs out from = refl
 
-pub put-more : (v : View) (m : PathMap) (places : TextPlace → Option ℕ) (section : ℕ) (width : Width) (xs : List TextPlace) (i : ℕ) (x d : TextPlace) (out so more : List ℕ)
-    (from place next : ℕ) → ◌≡◌ {A = List ℕ × ℕ} (so, place) (after_changes (section_bytes v section) (out, from) (all_changes v m places section width (take i xs)))
+pub put-more : (g : LineSource) (m : PathMap) (places : TextPlace → Option ℕ) (width : Width) (xs : List TextPlace) (i : ℕ) (x d : TextPlace) (out so more : List ℕ)
+    (from place next : ℕ) → ◌≡◌ {A = List ℕ × ℕ} (so, place) (after_changes (g.bytes) (out, from) (all_changes g m places width (take i xs)))
     → i < length xs → x ≡ get_or xs i d
-    → ◌≡◌ {A = List ℕ × ℕ} (more, next) (after_changes (section_bytes v section) (so, place) (path_changes v m places section width x))
-    → ◌≡◌ {A = List ℕ × ℕ} (more, next) (after_changes (section_bytes v section) (out, from) (all_changes v m places section width (take (i + 1) xs)))
-put-more v m places section width xs i x d out so more from place next s lt e n =
-    n ∙ ap (λ (t : List ℕ × ℕ). after_changes (section_bytes v section) t (path_changes v m places section width x)) s
-    ∙ sym (changes-joined (section_bytes v section) (out, from) (all_changes v m places section width (take i xs)) (path_changes v m places section width x))
-    ∙ ap (after_changes (section_bytes v section) (out, from)) (sym whole)
+    → ◌≡◌ {A = List ℕ × ℕ} (more, next) (after_changes (g.bytes) (so, place) (path_changes g m places width x))
+    → ◌≡◌ {A = List ℕ × ℕ} (more, next) (after_changes (g.bytes) (out, from) (all_changes g m places width (take (i + 1) xs)))
+put-more g m places width xs i x d out so more from place next s lt e n =
+    n ∙ ap (λ (t : List ℕ × ℕ). after_changes (g.bytes) t (path_changes g m places width x)) s
+    ∙ sym (changes-joined (g.bytes) (out, from) (all_changes g m places width (take i xs)) (path_changes g m places width x))
+    ∙ ap (after_changes (g.bytes) (out, from)) (sym whole)
   where
-    whole : all_changes v m places section width (take (i + 1) xs) ≡ all_changes v m places section width (take i xs) ++ path_changes v m places section width x
+    whole : all_changes g m places width (take (i + 1) xs) ≡ all_changes g m places width (take i xs) ++ path_changes g m places width x
     whole =
-        ap (all_changes v m places section width) (take_more xs i d lt ∙ ap (λ (y : TextPlace). take i xs ++ y ∷ []) (sym e))
-        ∙ all-joined v m places section width (take i xs) (x ∷ [])
-        ∙ ap (λ (cs : List Change). all_changes v m places section width (take i xs) ++ cs) (append-nil (path_changes v m places section width x))
+        ap (all_changes g m places width) (take_more xs i d lt ∙ ap (λ (y : TextPlace). take i xs ++ y ∷ []) (sym e))
+        ∙ all-joined g m places width (take i xs) (x ∷ [])
+        ∙ ap (λ (cs : List Change). all_changes g m places width (take i xs) ++ cs) (append-nil (path_changes g m places width x))
 
-pub put-over : (v : View) (m : PathMap) (places : TextPlace → Option ℕ) (section : ℕ) (width : Width) (xs : List TextPlace) (out so : List ℕ) (from place i : ℕ)
-    → ◌≡◌ {A = List ℕ × ℕ} (so, place) (after_changes (section_bytes v section) (out, from) (all_changes v m places section width (take i xs))) → length xs ≤ i
-    → ◌≡◌ {A = List ℕ × ℕ} (so, place) (after_changes (section_bytes v section) (out, from) (all_changes v m places section width xs))
-put-over v m places section width xs out so from place i s le =
-    s ∙ ap (λ (ys : List TextPlace). after_changes (section_bytes v section) (out, from) (all_changes v m places section width ys)) (take_all i xs le)
+pub put-over : (g : LineSource) (m : PathMap) (places : TextPlace → Option ℕ) (width : Width) (xs : List TextPlace) (out so : List ℕ) (from place i : ℕ)
+    → ◌≡◌ {A = List ℕ × ℕ} (so, place) (after_changes (g.bytes) (out, from) (all_changes g m places width (take i xs))) → length xs ≤ i
+    → ◌≡◌ {A = List ℕ × ℕ} (so, place) (after_changes (g.bytes) (out, from) (all_changes g m places width xs))
+put-over g m places width xs out so from place i s le =
+    s ∙ ap (λ (ys : List TextPlace). after_changes (g.bytes) (out, from) (all_changes g m places width ys)) (take_all i xs le)
 
 pub ruleset put_all_laws = (put-start, put-more, put-over)
 

@@ -1,5 +1,5 @@
 -- Laws of the files that a program defines: of a walk on which no opcode defines a file whose path changes, none does.
-use Rattle.std.proofs.Common.{Bool, true, false, ◌≡◌, ℕ, ◌<◌, ◌≤◌, nat_lt, List, [], ◌∷◌, ◌++◌, length, Option, Some, None, refl, sym, ap, ◌∙◌, subst, inl, inr, ◌⊎◌, arith}
+use Rattle.std.proofs.Common.{Bool, true, false, ◌≡◌, ℕ, ◌<◌, ◌≤◌, nat_lt, List, [], ◌∷◌, length, Option, Some, None, refl, sym, ap, ◌∙◌, subst, inl, inr, ◌⊎◌, arith}
 use Rattle.std.specs.Prelude.{option_map, if◌then◌else◌}
 use Rattle.std.proofs.lemmas.List.{length-append}
 use Rattle.dw_base.proofs.ReachLaws.{Reaches, here, on, reach-more, Determined, Stops, reach-total}
@@ -10,12 +10,12 @@ use Rattle.dw_base.specs.Refusals.{at}
 use Rattle.dw_base.specs.Texts.{same_text}
 use Rattle.dw_base.specs.declared.fault.Kind.TheVariants.{DefinedPath}
 use Rattle.dw_base.specs.declared.fault.Refusal.{Refusal}
-use Rattle.dw_lines.specs.Programs.{next_opcode, opcode_at, with_file}
-use Rattle.dw_lines.specs.Walks.{Step, goes, ends, Walks, no_step, one_more, ComesTo}
-use Rattle.dw_lines.specs.WriteFails.{ProgramFails, defined, changes_file}
-use Rattle.dw_lines.specs.declared.header.LineHeader.{LineHeader}
-use Rattle.dw_lines.specs.declared.opcodes.Opcode.{Opcode}
-use Rattle.dw_lines.specs.declared.texts.FilePlace.{FilePlace}
+use Rattle.dw_base.specs.LinePrograms.{next_opcode, opcode_at, with_file}
+use Rattle.dw_base.specs.Walks.{Step, goes, ends, Walks, no_step, one_more, ComesTo}
+use Rattle.dw_base.specs.LineWriteFails.{ProgramFails, defined, changes_file}
+use Rattle.dw_base.specs.declared.line_tables.LineHeader.{LineHeader}
+use Rattle.dw_base.specs.declared.line_tables.Opcode.{Opcode}
+use Rattle.dw_base.specs.declared.line_tables.FilePlace.{FilePlace}
 use Rattle.dw_lines.proofs.ProgramLaws.{opcode-more, opcode-none, opcode-over}
 use Rattle.dw_lines.proofs.WalkLaws.{Next, determined, over-stops, none-stops, reached}
 
@@ -141,7 +141,7 @@ reach-longer section h table s t (here r) = omega arith
 reach-longer section h table s t (on p q r n rest) = omega (arith, step-longer section h table p q n, reach-longer section h table q r rest)
 
 -- a program that comes to no files defines none
-over-files : (section : ℕ) (h : LineHeader) (table : List ℕ) (s : List FilePlace × ℕ) (files : List FilePlace) → next_opcode section h table s ≡ Some (ends files) → s.0 ≡ files
+pub over-files : (section : ℕ) (h : LineHeader) (table : List ℕ) (s : List FilePlace × ℕ) (files : List FilePlace) → next_opcode section h table s ≡ Some (ends files) → s.0 ≡ files
 unfolding next_opcode
 over-files section h table s files e = by_test (nat_lt s.1 (length table)) e
   where

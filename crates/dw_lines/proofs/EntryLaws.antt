@@ -3,7 +3,7 @@ use Rattle.std.proofs.Common.{◌≡◌, ℕ, zero, suc, ◌+◌, ◌-◌, ◌<�
 use Rattle.std.specs.Prelude.{Result, Ok, Err}
 use Rattle.std.proofs.Math.Seq.{drop-cons}
 use Rattle.std.proofs.lemmas.List.{take_all, drop_all}
-use Rattle.dw_base.specs.FileViews.{View}
+use Rattle.dw_base.specs.LineSources.{LineSource}
 use Rattle.dw_base.specs.Lebs.{uleb_at}
 use Rattle.dw_base.specs.Values.{value_at}
 use Rattle.dw_base.specs.declared.fault.Refusal.{Refusal}
@@ -11,12 +11,12 @@ use Rattle.dw_base.specs.declared.shared.Order.{Order}
 use Rattle.dw_base.specs.declared.values.Spec.{Spec}
 use Rattle.dw_base.specs.declared.values.Value.{Value}
 use Rattle.dw_forms.proofs.InsideLaws.{value_at-inside}
-use Rattle.dw_lines.specs.Entries.{bad_table, column_params, value_column, next_column, columns, entry_at, next_entry, counted_entries, entries_at}
-use Rattle.dw_lines.specs.Formats.{format_at}
-use Rattle.dw_lines.specs.Walks.{fallible_steps, or_refused, Since}
-use Rattle.dw_lines.specs.declared.entries.Entry.{Entry}
-use Rattle.dw_lines.specs.declared.header.LineHeader.{LineHeader}
-use Rattle.dw_lines.specs.declared.texts.FilePlace.{FilePlace}
+use Rattle.dw_base.specs.LineEntries.{bad_table, column_params, value_column, next_column, columns, entry_at, next_entry, counted_entries, entries_at}
+use Rattle.dw_base.specs.LineFormats.{format_at}
+use Rattle.dw_base.specs.Walks.{fallible_steps, or_refused, Since}
+use Rattle.dw_base.specs.declared.line_tables.Entry.{Entry}
+use Rattle.dw_base.specs.declared.line_tables.LineHeader.{LineHeader}
+use Rattle.dw_base.specs.declared.line_tables.FilePlace.{FilePlace}
 
 -- a value of the whole table
 whole-table : (table : List ℕ) (end : ℕ) → end ≡ length table → take end table ≡ table
@@ -46,79 +46,79 @@ value-none section order h table spec place e =
 pub ruleset value_laws = (value-inside, value-some, value-none)
 
 -- the columns one after another
-columns-step : (v : View) (section : ℕ) (h : LineHeader) (table : List ℕ) (specs : List Spec) (i : ℕ) (d : Spec) (e : Entry) → i < length specs
-    → columns v section h table (drop i specs) e ≡ or_refused (columns v section h table (drop (i + 1) specs)) (next_column v section h table (get_or specs i d) e)
-columns-step v section h table specs i d e lt =
+columns-step : (g : LineSource) (h : LineHeader) (table : List ℕ) (specs : List Spec) (i : ℕ) (d : Spec) (e : Entry) → i < length specs
+    → columns g h table (drop i specs) e ≡ or_refused (columns g h table (drop (i + 1) specs)) (next_column g h table (get_or specs i d) e)
+columns-step g h table specs i d e lt =
     let one : suc i ≡ i + 1 = omega arith in
-    ap (λ (ss : List Spec). columns v section h table ss e) (drop-cons specs i d lt)
-    ∙ ap (λ (k : ℕ). or_refused (columns v section h table (drop k specs)) (next_column v section h table (get_or specs i d) e)) one
+    ap (λ (ss : List Spec). columns g h table ss e) (drop-cons specs i d lt)
+    ∙ ap (λ (k : ℕ). or_refused (columns g h table (drop k specs)) (next_column g h table (get_or specs i d) e)) one
 
-pub columns-more : (whole : Result Entry Refusal) (v : View) (section : ℕ) (h : LineHeader) (table : List ℕ) (specs : List Spec) (i : ℕ) (d : Spec) (e next : Entry)
-    → whole ≡ columns v section h table (drop i specs) e → i < length specs → Ok next ≡ next_column v section h table (get_or specs i d) e
-    → whole ≡ columns v section h table (drop (i + 1) specs) next
-columns-more whole v section h table specs i d e next w lt n =
-    w ∙ columns-step v section h table specs i d e lt ∙ ap (or_refused (columns v section h table (drop (i + 1) specs))) (sym n)
+pub columns-more : (whole : Result Entry Refusal) (g : LineSource) (h : LineHeader) (table : List ℕ) (specs : List Spec) (i : ℕ) (d : Spec) (e next : Entry)
+    → whole ≡ columns g h table (drop i specs) e → i < length specs → Ok next ≡ next_column g h table (get_or specs i d) e
+    → whole ≡ columns g h table (drop (i + 1) specs) next
+columns-more whole g h table specs i d e next w lt n =
+    w ∙ columns-step g h table specs i d e lt ∙ ap (or_refused (columns g h table (drop (i + 1) specs))) (sym n)
 
-pub columns-refused : (whole : Result Entry Refusal) (v : View) (section : ℕ) (h : LineHeader) (table : List ℕ) (specs : List Spec) (i : ℕ) (d : Spec) (e : Entry) (r : Refusal)
-    → whole ≡ columns v section h table (drop i specs) e → i < length specs → Err r ≡ next_column v section h table (get_or specs i d) e → Err r ≡ whole
-columns-refused whole v section h table specs i d e r w lt n =
-    sym (w ∙ columns-step v section h table specs i d e lt ∙ ap (or_refused (columns v section h table (drop (i + 1) specs))) (sym n))
+pub columns-refused : (whole : Result Entry Refusal) (g : LineSource) (h : LineHeader) (table : List ℕ) (specs : List Spec) (i : ℕ) (d : Spec) (e : Entry) (r : Refusal)
+    → whole ≡ columns g h table (drop i specs) e → i < length specs → Err r ≡ next_column g h table (get_or specs i d) e → Err r ≡ whole
+columns-refused whole g h table specs i d e r w lt n =
+    sym (w ∙ columns-step g h table specs i d e lt ∙ ap (or_refused (columns g h table (drop (i + 1) specs))) (sym n))
 
-pub columns-over : (whole : Result Entry Refusal) (v : View) (section : ℕ) (h : LineHeader) (table : List ℕ) (specs : List Spec) (e : Entry)
-    → whole ≡ columns v section h table (drop (length specs) specs) e → Ok e ≡ whole
-columns-over whole v section h table specs e w =
-    sym (w ∙ ap (λ (ss : List Spec). columns v section h table ss e) (drop_all (length specs) specs (omega arith)))
+pub columns-over : (whole : Result Entry Refusal) (g : LineSource) (h : LineHeader) (table : List ℕ) (specs : List Spec) (e : Entry)
+    → whole ≡ columns g h table (drop (length specs) specs) e → Ok e ≡ whole
+columns-over whole g h table specs e w =
+    sym (w ∙ ap (λ (ss : List Spec). columns g h table ss e) (drop_all (length specs) specs (omega arith)))
 
 pub ruleset column_laws = (columns-more, columns-refused, columns-over)
 
 -- the entries are what so many behind those so far make of them
-pub record EntriesFrom (v : View) (section : ℕ) (h : LineHeader) (table : List ℕ) (specs : List Spec) (place left : ℕ) (files : List FilePlace) (next : ℕ) : Type 0 where
-  pub same : counted_entries v section h table specs place (uleb_at table place) ≡ fallible_steps (next_entry v section h table specs) left (files, next)
+pub record EntriesFrom (g : LineSource) (h : LineHeader) (table : List ℕ) (specs : List Spec) (place left : ℕ) (files : List FilePlace) (next : ℕ) : Type 0 where
+  pub same : counted_entries g h table specs place (uleb_at table place) ≡ fallible_steps (next_entry g h table specs) left (files, next)
 
-pub entries-start : (v : View) (section : ℕ) (h : LineHeader) (table : List ℕ) (specs : List Spec) (place count size next : ℕ) → Some (count, size) ≡ uleb_at table place
-    → next ≡ place + size → EntriesFrom v section h table specs place count [] next
-entries-start v section h table specs place count size next e n = rw n (record { same = rw (← e) refl })
+pub entries-start : (g : LineSource) (h : LineHeader) (table : List ℕ) (specs : List Spec) (place count size next : ℕ) → Some (count, size) ≡ uleb_at table place
+    → next ≡ place + size → EntriesFrom g h table specs place count [] next
+entries-start g h table specs place count size next e n = rw n (record { same = rw (← e) refl })
 
-entry-step : (v : View) (section : ℕ) (h : LineHeader) (table : List ℕ) (specs : List Spec) (n next behind : ℕ) (files : List FilePlace) (f : FilePlace)
-    → Ok (f, behind) ≡ entry_at v section h table specs next
-    → fallible_steps (next_entry v section h table specs) (suc n) (files, next) ≡ fallible_steps (next_entry v section h table specs) n (files ++ f ∷ [], behind)
-entry-step v section h table specs n next behind files f e = rw (← e) refl
+entry-step : (g : LineSource) (h : LineHeader) (table : List ℕ) (specs : List Spec) (n next behind : ℕ) (files : List FilePlace) (f : FilePlace)
+    → Ok (f, behind) ≡ entry_at g h table specs next
+    → fallible_steps (next_entry g h table specs) (suc n) (files, next) ≡ fallible_steps (next_entry g h table specs) n (files ++ f ∷ [], behind)
+entry-step g h table specs n next behind files f e = rw (← e) refl
 
-pub entries-more : (v : View) (section : ℕ) (h : LineHeader) (table : List ℕ) (specs : List Spec) (place left next behind : ℕ) (files more : List FilePlace) (f : FilePlace)
-    → EntriesFrom v section h table specs place left files next → 0 < left → Ok (f, behind) ≡ entry_at v section h table specs next → more ≡ files ++ f ∷ []
-    → EntriesFrom v section h table specs place (left - 1) more behind
-entries-more v section h table specs place zero next behind files more f from lt e m = absurd (omega (arith, lt))
-entries-more v section h table specs place (suc n) next behind files more f from lt e m =
+pub entries-more : (g : LineSource) (h : LineHeader) (table : List ℕ) (specs : List Spec) (place left next behind : ℕ) (files more : List FilePlace) (f : FilePlace)
+    → EntriesFrom g h table specs place left files next → 0 < left → Ok (f, behind) ≡ entry_at g h table specs next → more ≡ files ++ f ∷ []
+    → EntriesFrom g h table specs place (left - 1) more behind
+entries-more g h table specs place zero next behind files more f from lt e m = absurd (omega (arith, lt))
+entries-more g h table specs place (suc n) next behind files more f from lt e m =
     let same : n ≡ suc n - 1 = omega arith in
-    rw m (subst (λ (k : ℕ). EntriesFrom v section h table specs place k (files ++ f ∷ []) behind) same
-    (record { same = from.same ∙ entry-step v section h table specs n next behind files f e }))
+    rw m (subst (λ (k : ℕ). EntriesFrom g h table specs place k (files ++ f ∷ []) behind) same
+    (record { same = from.same ∙ entry-step g h table specs n next behind files f e }))
 
-pub entries-over : (v : View) (section : ℕ) (h : LineHeader) (table : List ℕ) (specs : List Spec) (place left next : ℕ) (files : List FilePlace)
-    → EntriesFrom v section h table specs place left files next → left ≤ 0 → counted_entries v section h table specs place (uleb_at table place) ≡ Ok (files, next)
-entries-over v section h table specs place zero next files from le = from.same
-entries-over v section h table specs place (suc n) next files from le = absurd (omega (arith, le))
+pub entries-over : (g : LineSource) (h : LineHeader) (table : List ℕ) (specs : List Spec) (place left next : ℕ) (files : List FilePlace)
+    → EntriesFrom g h table specs place left files next → left ≤ 0 → counted_entries g h table specs place (uleb_at table place) ≡ Ok (files, next)
+entries-over g h table specs place zero next files from le = from.same
+entries-over g h table specs place (suc n) next files from le = absurd (omega (arith, le))
 
-pub entries-refused : (v : View) (section : ℕ) (h : LineHeader) (table : List ℕ) (specs : List Spec) (place left next : ℕ) (files : List FilePlace) (r : Refusal)
-    → EntriesFrom v section h table specs place left files next → 0 < left → Err r ≡ entry_at v section h table specs next
-    → counted_entries v section h table specs place (uleb_at table place) ≡ Err r
-entries-refused v section h table specs place zero next files r from lt e = absurd (omega (arith, lt))
-entries-refused v section h table specs place (suc n) next files r from lt e = from.same ∙ rw (← e) refl
+pub entries-refused : (g : LineSource) (h : LineHeader) (table : List ℕ) (specs : List Spec) (place left next : ℕ) (files : List FilePlace) (r : Refusal)
+    → EntriesFrom g h table specs place left files next → 0 < left → Err r ≡ entry_at g h table specs next
+    → counted_entries g h table specs place (uleb_at table place) ≡ Err r
+entries-refused g h table specs place zero next files r from lt e = absurd (omega (arith, lt))
+entries-refused g h table specs place (suc n) next files r from lt e = from.same ∙ rw (← e) refl
 
-pub entries-uncounted : (v : View) (section : ℕ) (h : LineHeader) (table : List ℕ) (specs : List Spec) (place : ℕ) → None ≡ uleb_at table place
-    → counted_entries v section h table specs place (uleb_at table place) ≡ Err (bad_table section h)
-entries-uncounted v section h table specs place e = rw (← e) refl
+pub entries-uncounted : (g : LineSource) (h : LineHeader) (table : List ℕ) (specs : List Spec) (place : ℕ) → None ≡ uleb_at table place
+    → counted_entries g h table specs place (uleb_at table place) ≡ Err (bad_table g.number h)
+entries-uncounted g h table specs place e = rw (← e) refl
 
 pub ruleset entry_laws = (entries-start, entries-more, entries-over, entries-refused, entries-uncounted)
 
 -- behind the format
-pub list-unformed : (v : View) (section : ℕ) (h : LineHeader) (table : List ℕ) (place : ℕ) (r : Refusal) → Since (bad_table section h) (format_at table place ≡ None) r
-    → entries_at v section h table place ≡ Err r
+pub list-unformed : (g : LineSource) (h : LineHeader) (table : List ℕ) (place : ℕ) (r : Refusal) → Since (bad_table g.number h) (format_at table place ≡ None) r
+    → entries_at g h table place ≡ Err r
 unfolding entries_at
-list-unformed v section h table place r s = rw (s.why, s.same) refl
+list-unformed g h table place r s = rw (s.why, s.same) refl
 
-pub list-behind : (v : View) (section : ℕ) (h : LineHeader) (table : List ℕ) (place next : ℕ) (specs : List Spec) (x : Result (List FilePlace × ℕ) Refusal)
-    → format_at table place ≡ Some (specs, next) → counted_entries v section h table specs next (uleb_at table next) ≡ x → entries_at v section h table place ≡ x
+pub list-behind : (g : LineSource) (h : LineHeader) (table : List ℕ) (place next : ℕ) (specs : List Spec) (x : Result (List FilePlace × ℕ) Refusal)
+    → format_at table place ≡ Some (specs, next) → counted_entries g h table specs next (uleb_at table next) ≡ x → entries_at g h table place ≡ x
 unfolding entries_at
-list-behind v section h table place next specs x f e = rw f e
+list-behind g h table place next specs x f e = rw f e
 
 pub ruleset list_laws = (list-unformed, list-behind)

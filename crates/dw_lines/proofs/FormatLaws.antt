@@ -3,8 +3,8 @@ use Rattle.std.proofs.Common.{true, false, ◌≡◌, ℕ, zero, suc, ◌+◌, �
 use Rattle.std.proofs.lemmas.Bool.Decides.{nat_tests}
 use Rattle.dw_base.specs.declared.fault.Refusal.{Refusal}
 use Rattle.dw_base.specs.declared.values.Spec.{Spec}
-use Rattle.dw_lines.specs.Formats.{is_column, spec_at, next_spec, format_at}
-use Rattle.dw_lines.specs.Walks.{Since, steps}
+use Rattle.dw_base.specs.LineFormats.{is_column, spec_at, next_spec, format_at}
+use Rattle.dw_base.specs.Walks.{Since, steps}
 
 below : (m n : ℕ) → m < n → nat_lt m n ≡ true
 below m n lt = grind (arith, nat_tests)

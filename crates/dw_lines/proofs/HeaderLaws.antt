@@ -1,7 +1,7 @@
 -- Laws of the numbers at the front of a line table's header.
 use Rattle.std.proofs.Common.{◌≡◌, ℕ, ◌+◌, ◌-◌, ◌<◌, ◌≤◌, sym, subst}
-use Rattle.dw_lines.specs.LineHeaders.{HeaderFits}
-use Rattle.dw_lines.specs.declared.header.LineHeader.{LineHeader}
+use Rattle.dw_base.specs.LineHeaders.{HeaderFits}
+use Rattle.dw_base.specs.declared.line_tables.LineHeader.{LineHeader}
 
 pub header-fits : (start end : ℕ) (h : LineHeader) → h.start ≡ start → h.end ≡ end → start < end → 0 < h.opcode_base → h.lists ≡ h.operands + (h.opcode_base - 1)
     → h.lists ≤ h.end → h.program ≤ h.end → HeaderFits start end h

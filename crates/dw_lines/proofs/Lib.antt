@@ -10,3 +10,5 @@ pub mod PartLaws
 pub mod ChangeLaws
 pub mod DefinedLaws
 pub mod WrittenLaws
+pub mod CanLaws
+pub mod ReadingLaws

@@ -2,11 +2,11 @@
 use Rattle.std.proofs.Common.{◌≡◌, ◌≢◌, ℕ, ◌+◌, List, [], ◌∷◌, ◌++◌, Some, None, refl, ap, ◌∙◌, arith}
 use Rattle.std.proofs.lemmas.Bool.{eq-eqb, ne_eqb}
 use Rattle.dw_base.specs.declared.fault.Refusal.{Refusal}
-use Rattle.dw_lines.specs.LineTexts.{inline_text, file_numbers}
-use Rattle.dw_lines.specs.OldLists.{next_dir, next_file}
-use Rattle.dw_lines.specs.Walks.{goes, ends, Walks, no_step, one_more, ComesTo, Breaks, Since}
-use Rattle.dw_lines.specs.declared.texts.FilePlace.{FilePlace}
-use Rattle.dw_strings.specs.declared.place.TextPlace.{TextPlace}
+use Rattle.dw_base.specs.LineTexts.{inline_text, file_numbers}
+use Rattle.dw_base.specs.OldLineLists.{next_dir, next_file}
+use Rattle.dw_base.specs.Walks.{goes, ends, Walks, no_step, one_more, ComesTo, Breaks, Since}
+use Rattle.dw_base.specs.declared.line_tables.FilePlace.{FilePlace}
+use Rattle.dw_base.specs.declared.line_tables.TextPlace.{TextPlace}
 
 -- directories
 dir-over : (section : ℕ) (table : List ℕ) (dirs : List TextPlace) (place : ℕ) (t : TextPlace) → Some t ≡ inline_text section table place → t.len ≡ 0

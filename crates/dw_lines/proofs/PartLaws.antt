@@ -1,10 +1,10 @@
 -- Laws of parts of bytes, and of the length of a table.
-use Rattle.std.proofs.Common.{◌≡◌, ℕ, ◌+◌, ◌-◌, ◌≤◌, ◌<◌, List, [], ◌++◌, length, take, drop, min, refl, sym, ap, ◌∙◌, subst, arith}
+use Rattle.std.proofs.Common.{◌≡◌, ℕ, ◌-◌, ◌≤◌, ◌<◌, List, ◌++◌, length, take, drop, min, sym, ap, ◌∙◌, arith}
 use Rattle.std.proofs.lemmas.List.{take_all, drop_all, take_min, append_assoc, length-drop, length-take}
 use Rattle.dw_base.specs.Numbers.{number_bytes}
 use Rattle.dw_base.specs.declared.shared.Order.{Order}
 use Rattle.dw_base.specs.declared.shared.Width.TheVariants.{W64}
-use Rattle.dw_lines.specs.WrittenTables.{bytes_at, length_bytes, part}
+use Rattle.dw_base.specs.WrittenLines.{bytes_at, length_bytes, part}
 
 pub part-none : (bytes : List ℕ) (from end stop : ℕ) → stop ≡ min end (length bytes) → stop ≤ from → take 0 bytes ≡ part bytes from end
 part-none bytes from end stop s le =

@@ -2,11 +2,11 @@
 use Rattle.std.proofs.Common.{true, false, ◌≡◌, ℕ, ◌<◌, ◌≤◌, nat_lt, List, [], ◌∷◌, ◌++◌, length, Some, None, refl, sym, ap, ◌∙◌, arith}
 use Rattle.std.proofs.lemmas.Bool.Decides.{nat_tests}
 use Rattle.dw_base.specs.declared.fault.Refusal.{Refusal}
-use Rattle.dw_lines.specs.Programs.{opcode_at, with_file, next_opcode}
-use Rattle.dw_lines.specs.Walks.{goes, ends, Walks, no_step, one_more, ComesTo, Breaks, Since}
-use Rattle.dw_lines.specs.declared.header.LineHeader.{LineHeader}
-use Rattle.dw_lines.specs.declared.opcodes.Opcode.{Opcode}
-use Rattle.dw_lines.specs.declared.texts.FilePlace.{FilePlace}
+use Rattle.dw_base.specs.LinePrograms.{opcode_at, with_file, next_opcode}
+use Rattle.dw_base.specs.Walks.{goes, ends, Walks, no_step, one_more, ComesTo, Breaks, Since}
+use Rattle.dw_base.specs.declared.line_tables.LineHeader.{LineHeader}
+use Rattle.dw_base.specs.declared.line_tables.Opcode.{Opcode}
+use Rattle.dw_base.specs.declared.line_tables.FilePlace.{FilePlace}
 
 below : (m n : ℕ) → m < n → nat_lt m n ≡ true
 below m n lt = grind (arith, nat_tests)

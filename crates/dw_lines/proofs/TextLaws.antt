@@ -14,7 +14,8 @@ use Rattle.dw_base.specs.declared.fault.Kind.TheVariants.{StringOffset}
 use Rattle.dw_base.specs.declared.fault.Refusal.{Refusal}
 use Rattle.dw_base.specs.declared.view_fields.Field.{Field}
 use Rattle.dw_forms.proofs.ReadLaws.{text-within}
-use Rattle.dw_lines.specs.LineTexts.{named_text, skip_lebs, text_if}
+use Rattle.dw_lines.specs.ViewSources.{view_source}
+use Rattle.dw_base.specs.LineTexts.{named_text, skip_lebs, text_if}
 
 pub ruleset inline_laws = (text-within)
 
@@ -55,19 +56,19 @@ nothing-ends place = ap has_nul (drop_all place [] (omega arith))
 
 -- the text that a field names
 pub named-in : (v : View) (texts : DebugSection) (section place size offset : ℕ) (f : Field) (z : Located) → z ≡ located v texts → f ≡ field_at v section place size
-    → offset ≡ offset_into (located v texts) f → named_text v texts section place size ≡ text_if z section place offset
-unfolding named_text
+    → offset ≡ offset_into (located v texts) f → named_text (view_source v section) (located v texts) place size ≡ text_if z section place offset
+unfolding named_text field_at
 named-in v texts section place size offset f z l e o = rw (l, o, e) refl
 
 pub named-nowhere : (v : View) (texts : DebugSection) (section place size offset : ℕ) (f : Field) (r : Refusal) → None ≡ section_named v (name_of texts)
-    → f ≡ field_at v section place size → offset ≡ offset_into (located v texts) f → r ≡ at StringOffset section place → Err r ≡ named_text v texts section place size
+    → f ≡ field_at v section place size → offset ≡ offset_into (located v texts) f → r ≡ at StringOffset section place → Err r ≡ named_text (view_source v section) (located v texts) place size
 named-nowhere v texts section place size offset f r none e o is =
     sym (named-in v texts section place size offset f (record { number = 0; bytes = [] }) (sym (located-none v texts none)) e o
     ∙ rw (nothing-ends offset, is) refl)
 
 pub named-not : (v : View) (texts : DebugSection) (section place size offset number : ℕ) (bytes : List ℕ) (f : Field) (r : Refusal)
     → Some number ≡ section_named v (name_of texts) → bytes ≡ section_bytes v number → f ≡ field_at v section place size
-    → offset ≡ offset_into (located v texts) f → ends_in bytes offset ≡ false → r ≡ at StringOffset section place → Err r ≡ named_text v texts section place size
+    → offset ≡ offset_into (located v texts) f → ends_in bytes offset ≡ false → r ≡ at StringOffset section place → Err r ≡ named_text (view_source v section) (located v texts) place size
 named-not v texts section place size offset number bytes f r some b e o none is =
     sym (named-in v texts section place size offset f (record { number = number; bytes = section_bytes v number }) (sym (located-some v texts number some)) e o
     ∙ rw (← b, none, is) refl)
@@ -75,7 +76,7 @@ named-not v texts section place size offset number bytes f r some b e o none is 
 pub named-some : (v : View) (texts : DebugSection) (section place size offset number len : ℕ) (bytes text : List ℕ) (f : Field)
     → Some number ≡ section_named v (name_of texts) → bytes ≡ section_bytes v number → f ≡ field_at v section place size
     → offset ≡ offset_into (located v texts) f → ends_in bytes offset ≡ true → text ≡ text_in bytes offset → len ≡ length text
-    → Ok (record { section = number; at = offset; len = len; field = place }) ≡ named_text v texts section place size
+    → Ok (record { section = number; at = offset; len = len; field = place }) ≡ named_text (view_source v section) (located v texts) place size
 named-some v texts section place size offset number len bytes text f some b e o ends t l =
     sym (named-in v texts section place size offset f (record { number = number; bytes = section_bytes v number }) (sym (located-some v texts number some)) e o
     ∙ rw (← b, ends, l, t) refl)

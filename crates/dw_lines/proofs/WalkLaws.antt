@@ -1,7 +1,7 @@
 -- Walks are determined: what one comes to is one thing, and a walk that comes to something doesn't break.
 use Rattle.std.proofs.Common.{◌≡◌, Option, Some, None, sym, ap, ◌∙◌}
 use Rattle.dw_base.proofs.ReachLaws.{Reaches, here, reach-more, Determined, Stops, stops-one}
-use Rattle.dw_lines.specs.Walks.{Step, goes, ends, Walks, no_step, one_more, ComesTo, Breaks}
+use Rattle.dw_base.specs.Walks.{Step, goes, ends, Walks, no_step, one_more, ComesTo, Breaks}
 
 abbrev pub Next : {S X : Type 0} → (S → Option (Step S X)) → S → S → Type 0
 Next step s t = step s ≡ Some (goes t)

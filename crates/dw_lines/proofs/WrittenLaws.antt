@@ -1,5 +1,5 @@
 -- Laws of a table that is written: its parts, and what refuses it.
-use Rattle.std.proofs.Common.{Bool, true, false, ◌≡◌, ◌≢◌, ℕ, ◌+◌, ◌-◌, ◌<◌, ◌≤◌, ◌^◌, List, [], ◌∷◌, ◌++◌, length, take, Option, Some, None, Contains, refl, sym, ap, ◌∙◌, subst, arith}
+use Rattle.std.proofs.Common.{Bool, true, false, ◌≡◌, ℕ, ◌+◌, ◌<◌, ◌≤◌, ◌^◌, List, [], ◌++◌, length, Option, Some, None, refl, sym, ap, ◌∙◌, subst, arith}
 use Rattle.std.specs.Prelude.{IsSome, nat_lt, ◌==◌, if◌then◌else◌}
 use Rattle.std.proofs.lemmas.Bool.Decides.{nat_tests}
 use Rattle.std.proofs.lemmas.List.{append_assoc, length-append}
@@ -15,16 +15,18 @@ use Rattle.dw_base.specs.declared.fault.Refusal.{Refusal}
 use Rattle.dw_base.specs.declared.shared.Order.{Order}
 use Rattle.dw_base.specs.declared.shared.Width.{Width}
 use Rattle.dw_base.specs.declared.shared.Width.TheVariants.{W32, W64}
-use Rattle.dw_strings.specs.declared.place.TextPlace.{TextPlace}
+use Rattle.dw_base.specs.declared.line_tables.TextPlace.{TextPlace}
 use Rattle.dw_lines.specs.ChangeSteps.{after_changes, OffsetsFit, offset_fits}
-use Rattle.dw_lines.specs.LineHeaders.{line_header}
-use Rattle.dw_lines.specs.LineTables.{LineTable, IsLineTable, table_bytes, table_with, texts_of}
-use Rattle.dw_lines.specs.Programs.{next_opcode}
-use Rattle.dw_lines.specs.Walks.{ComesTo, Since}
-use Rattle.dw_lines.specs.WriteFails.{ProgramFails, WideOffset, wide, WriteFails, wide_table, wide_header, wide_offset, program, length_field, length_limit}
-use Rattle.dw_lines.specs.WrittenTables.{Change, all_changes, behind_lengths, changed, header_length_place, length_bytes, length_size, part, with_header_length, with_program, written_front, written_header, written_program, written_rest, written_table}
-use Rattle.dw_lines.specs.declared.header.LineHeader.{LineHeader}
-use Rattle.dw_lines.specs.declared.texts.FilePlace.{FilePlace}
+use Rattle.dw_base.specs.LineHeaders.{line_header}
+use Rattle.dw_base.specs.LineSources.{LineSource}
+use Rattle.dw_lines.specs.ViewSources.{view_source}
+use Rattle.dw_base.specs.LineTables.{LineTable, IsLineTable, table_bytes, table_with, texts_of}
+use Rattle.dw_base.specs.LinePrograms.{next_opcode}
+use Rattle.dw_base.specs.Walks.{ComesTo, Since}
+use Rattle.dw_base.specs.LineWriteFails.{ProgramFails, WideOffset, wide, WriteFails, wide_table, wide_header, wide_offset, program, length_field, length_limit}
+use Rattle.dw_base.specs.WrittenLines.{Change, all_changes, behind_lengths, changed, header_length_place, length_bytes, length_size, part, with_header_length, with_program, written_front, written_header, written_program, written_rest, written_table}
+use Rattle.dw_base.specs.declared.line_tables.LineHeader.{LineHeader}
+use Rattle.dw_base.specs.declared.line_tables.FilePlace.{FilePlace}
 use Rattle.dw_lines.proofs.ChangeLaws.{changes-done}
 
 -- the header from behind its length
@@ -71,106 +73,114 @@ header-once a b x e f = ap (header_or a) (sym e ∙ f)
     header_or d None = d
     header_or d (Some h) = h
 
-pub table-there : (v : View) (section start : ℕ) (t : LineTable) → IsLineTable v t.section t.start t → section ≡ t.section → start ≡ t.start
+pub table-there : (v : View) (section start : ℕ) (t : LineTable) → IsLineTable (view_source v t.section) t.start t → section ≡ t.section → start ≡ t.start
     → IsSome (line_header v.order (section_bytes v section) start)
 table-there v section start t is s p =
     subst (λ (x : ℕ). IsSome (line_header v.order (section_bytes v x) start)) (sym s)
     (subst (λ (x : ℕ). IsSome (line_header v.order (section_bytes v t.section) x)) (sym p) (subst (λ x. IsSome x) (sym is.header_is) refl))
 
-pub same-table : (v : View) (section start : ℕ) (t : LineTable) (h : LineHeader) (dirs : List TextPlace) (files : List FilePlace) → IsLineTable v t.section t.start t → section ≡ t.section
-    → start ≡ t.start → dirs ≡ t.dirs → files ≡ t.files → Some h ≡ line_header v.order (section_bytes v section) start → t ≡ table_with section h dirs files t.defined
-same-table v section start t h dirs files is s p d f e =
-    let here : line_header v.order (section_bytes v t.section) t.start ≡ Some h =
-    sym (e ∙ ap (λ (x : ℕ). line_header v.order (section_bytes v x) start) s ∙ ap (λ (x : ℕ). line_header v.order (section_bytes v t.section) x) p) in
-    let same : is.header ≡ h = header-once is.header h (line_header v.order (section_bytes v t.section) t.start) is.header_is here in
-    let fields : t ≡ table_with t.section h t.dirs t.files t.defined =
-    by_parts is.dirs is.files is.defined (is.is ∙ ap (λ (x : LineHeader). table_with t.section x is.dirs is.files is.defined) same) in
-    fields ∙ ap (λ (x : ℕ). table_with x h t.dirs t.files t.defined) (sym s) ∙ ap (λ (x : List TextPlace). table_with section h x t.files t.defined) (sym d)
-    ∙ ap (λ (x : List FilePlace). table_with section h dirs x t.defined) (sym f)
+-- a table that stands at its own place in its own section stands where these are
+pub table-here : (v : View) (section start : ℕ) (t : LineTable) → IsLineTable (view_source v t.section) t.start t → section ≡ t.section → start ≡ t.start
+    → IsLineTable (view_source v section) start t
+table-here v section start t is s p =
+    subst (λ (n : ℕ). IsLineTable (view_source v n) start t) (sym s) (subst (λ (n : ℕ). IsLineTable (view_source v t.section) n t) (sym p) is)
+
+pub same-table : (g : LineSource) (start : ℕ) (t : LineTable) (h : LineHeader) (dirs : List TextPlace) (files : List FilePlace) → IsLineTable g start t → dirs ≡ t.dirs → files ≡ t.files
+    → Some h ≡ line_header g.order g.bytes start → t ≡ table_with g.number h dirs files t.defined
+same-table g start t h dirs files is d f e =
+    let same : is.header ≡ h = header-once is.header h (line_header g.order g.bytes start) is.header_is (sym e) in
+    let fields : t ≡ table_with g.number h t.dirs t.files t.defined =
+    by_parts is.dirs is.files is.defined (is.is ∙ ap (λ (x : LineHeader). table_with g.number x is.dirs is.files is.defined) same) in
+    fields ∙ ap (λ (x : List TextPlace). table_with g.number h x t.files t.defined) (sym d)
+    ∙ ap (λ (x : List FilePlace). table_with g.number h dirs x t.defined) (sym f)
   where
-    by_parts : (ds : List TextPlace) (fs es : List FilePlace) → t ≡ table_with t.section h ds fs es → t ≡ table_with t.section h t.dirs t.files t.defined
+    by_parts : (ds : List TextPlace) (fs es : List FilePlace) → t ≡ table_with g.number h ds fs es → t ≡ table_with g.number h t.dirs t.files t.defined
     by_parts ds fs es q =
-        q ∙ ap (λ (x : List TextPlace). table_with t.section h x fs es) (sym (ap (λ (x : LineTable). x.dirs) q))
-        ∙ ap (λ (x : List FilePlace). table_with t.section h t.dirs x es) (sym (ap (λ (x : LineTable). x.files) q))
-        ∙ ap (λ (x : List FilePlace). table_with t.section h t.dirs t.files x) (sym (ap (λ (x : LineTable). x.defined) q))
+        q ∙ ap (λ (x : List TextPlace). table_with g.number h x fs es) (sym (ap (λ (x : LineTable). x.dirs) q))
+        ∙ ap (λ (x : List FilePlace). table_with g.number h t.dirs x es) (sym (ap (λ (x : LineTable). x.files) q))
+        ∙ ap (λ (x : List FilePlace). table_with g.number h t.dirs t.files x) (sym (ap (λ (x : LineTable). x.defined) q))
 
 -- and the files that it defines are those that its program does
-pub same-defined : (v : View) (section start : ℕ) (t : LineTable) (h : LineHeader) (files : List FilePlace) → IsLineTable v t.section t.start t → section ≡ t.section
+pub same-defined : (v : View) (section start : ℕ) (t : LineTable) (h : LineHeader) (files : List FilePlace) → IsLineTable (view_source v t.section) t.start t → section ≡ t.section
     → start ≡ t.start → files ≡ t.defined → Some h ≡ line_header v.order (section_bytes v section) start
-    → ComesTo (next_opcode section h (table_bytes v section h)) ([], h.program) files
-same-defined v section start t h files is s p d e =
-    let here : line_header v.order (section_bytes v t.section) t.start ≡ Some h =
-    sym (e ∙ ap (λ (x : ℕ). line_header v.order (section_bytes v x) start) s ∙ ap (λ (x : ℕ). line_header v.order (section_bytes v t.section) x) p) in
-    let same : is.header ≡ h = header-once is.header h (line_header v.order (section_bytes v t.section) t.start) is.header_is here in
+    → ComesTo (next_opcode section h (table_bytes (view_source v section) h)) ([], h.program) files
+same-defined v section start t h files own s p d e =
+    let is = table-here v section start t own s p in
+    let same : is.header ≡ h = header-once is.header h (line_header v.order (section_bytes v section) start) is.header_is (sym e) in
     let all : is.defined ≡ files = sym (ap (λ (x : LineTable). x.defined) is.is) ∙ sym d in
-    subst (λ (x : List FilePlace). ComesTo (next_opcode section h (table_bytes v section h)) ([], h.program) x) all
-    (subst (λ (x : ℕ). ComesTo (next_opcode x h (table_bytes v x h)) ([], h.program) is.defined) (sym s)
-    (subst (λ (x : LineHeader). ComesTo (next_opcode t.section x (table_bytes v t.section x)) ([], x.program) is.defined) same is.program))
+    subst (λ (x : List FilePlace). ComesTo (next_opcode section h (table_bytes (view_source v section) h)) ([], h.program) x) all
+    (subst (λ (x : LineHeader). ComesTo (next_opcode section x (table_bytes (view_source v section) x)) ([], x.program) is.defined) same is.program)
 
 -- its parts
-pub lists-are : (v : View) (m : PathMap) (places : TextPlace → Option ℕ) (s : ℕ) (h : LineHeader) (dirs paths : List TextPlace) (files defined : List FilePlace) (t : LineTable) (lists : List ℕ)
-    → t ≡ table_with s h dirs files defined → paths ≡ dirs ++ texts_of files
-    → lists ≡ changed (section_bytes v s) (behind_lengths h.start h.width h.version) h.program (all_changes v m places s h.width paths) → lists ≡ written_header v m places t
+pub lists-are : (g : LineSource) (m : PathMap) (places : TextPlace → Option ℕ) (h : LineHeader) (dirs paths : List TextPlace) (files defined : List FilePlace) (t : LineTable) (lists : List ℕ)
+    → t ≡ table_with g.number h dirs files defined → paths ≡ dirs ++ texts_of files
+    → lists ≡ changed g.bytes (behind_lengths h.start h.width h.version) h.program (all_changes g m places h.width paths) → lists ≡ written_header g m places t
 unfolding written_header
-lists-are v m places s h dirs paths files defined t lists e p l =
-    subst (λ (x : LineTable). lists ≡ written_header v m places x) (sym e)
-    (l ∙ ap (λ (xs : List TextPlace). changed (section_bytes v s) (behind_lengths h.start h.width h.version) h.program (all_changes v m places s h.width xs)) p)
+lists-are g m places h dirs paths files defined t lists e p l =
+    subst (λ (x : LineTable). lists ≡ written_header g m places x) (sym e)
+    (l ∙ ap (λ (xs : List TextPlace). changed g.bytes (behind_lengths h.start h.width h.version) h.program (all_changes g m places h.width xs)) p)
 
-pub front-is : (v : View) (m : PathMap) (places : TextPlace → Option ℕ) (s : ℕ) (h : LineHeader) (dirs : List TextPlace) (files defined : List FilePlace) (t : LineTable) (lists front : List ℕ)
-    → t ≡ table_with s h dirs files defined → lists ≡ written_header v m places t → front ≡ with_header_length v (table_with s h [] [] []) lists → front ≡ written_front v m places t
-front-is v m places s h dirs files defined t lists front e l f =
-    f ∙ subst (λ (x : LineTable). with_header_length v (table_with s h [] [] []) lists ≡ with_header_length v x lists) (sym e) refl
-    ∙ ap (with_header_length v t) l
+pub front-is : (g : LineSource) (m : PathMap) (places : TextPlace → Option ℕ) (h : LineHeader) (dirs : List TextPlace) (files defined : List FilePlace) (t : LineTable) (lists front : List ℕ)
+    → t ≡ table_with g.number h dirs files defined → lists ≡ written_header g m places t → front ≡ with_header_length g (table_with g.number h [] [] []) lists
+    → front ≡ written_front g m places t
+front-is g m places h dirs files defined t lists front e l f =
+    f ∙ subst (λ (x : LineTable). with_header_length g (table_with g.number h [] [] []) lists ≡ with_header_length g x lists) (sym e) refl
+    ∙ ap (with_header_length g t) l
 
-rest-is : (v : View) (m : PathMap) (places : TextPlace → Option ℕ) (s : ℕ) (h : LineHeader) (dirs : List TextPlace) (files defined : List FilePlace) (t : LineTable) (front : List ℕ)
-    → t ≡ table_with s h dirs files defined → front ≡ written_front v m places t → with_program v (table_with s h [] [] []) front ≡ written_rest v m places t
-rest-is v m places s h dirs files defined t front e f =
-    subst (λ (x : LineTable). with_program v (table_with s h [] [] []) front ≡ with_program v x front) (sym e) refl ∙ ap (with_program v t) f
+rest-is : (g : LineSource) (m : PathMap) (places : TextPlace → Option ℕ) (h : LineHeader) (dirs : List TextPlace) (files defined : List FilePlace) (t : LineTable) (front : List ℕ)
+    → t ≡ table_with g.number h dirs files defined → front ≡ written_front g m places t → with_program g (table_with g.number h [] [] []) front ≡ written_rest g m places t
+rest-is g m places h dirs files defined t front e f =
+    subst (λ (x : LineTable). with_program g (table_with g.number h [] [] []) front ≡ with_program g x front) (sym e) refl ∙ ap (with_program g t) f
 
 width-is : (s : ℕ) (h : LineHeader) (dirs : List TextPlace) (files defined : List FilePlace) (t : LineTable) → t ≡ table_with s h dirs files defined → h.width ≡ t.width
 width-is s h dirs files defined t e = sym (ap (λ (x : LineTable). x.width) e)
 
-pub table-is : (v : View) (m : PathMap) (places : TextPlace → Option ℕ) (s : ℕ) (h : LineHeader) (dirs : List TextPlace) (files defined : List FilePlace) (t : LineTable) (front bytes : List ℕ)
-    → t ≡ table_with s h dirs files defined → front ≡ written_front v m places t
-    → bytes ≡ length_bytes v.order h.width (length (with_program v (table_with s h [] [] []) front)) ++ with_program v (table_with s h [] [] []) front
-    → bytes ≡ written_table v m places t
+pub table-is : (g : LineSource) (m : PathMap) (places : TextPlace → Option ℕ) (h : LineHeader) (dirs : List TextPlace) (files defined : List FilePlace) (t : LineTable) (front bytes : List ℕ)
+    → t ≡ table_with g.number h dirs files defined → front ≡ written_front g m places t
+    → bytes ≡ length_bytes g.order h.width (length (with_program g (table_with g.number h [] [] []) front)) ++ with_program g (table_with g.number h [] [] []) front
+    → bytes ≡ written_table g m places t
 unfolding written_table
-table-is v m places s h dirs files defined t front bytes e f b =
-    b ∙ ap (λ (xs : List ℕ). length_bytes v.order h.width (length xs) ++ xs) (rest-is v m places s h dirs files defined t front e f)
-    ∙ ap (λ (x : Width). length_bytes v.order x (length (written_rest v m places t)) ++ written_rest v m places t) (width-is s h dirs files defined t e)
+table-is g m places h dirs files defined t front bytes e f b =
+    b ∙ ap (λ (xs : List ℕ). length_bytes g.order h.width (length xs) ++ xs) (rest-is g m places h dirs files defined t front e f)
+    ∙ ap (λ (x : Width). length_bytes g.order x (length (written_rest g m places t)) ++ written_rest g m places t) (width-is g.number h dirs files defined t e)
 
-pub program-is : (v : View) (m : PathMap) (places : TextPlace → Option ℕ) (s : ℕ) (h : LineHeader) (dirs : List TextPlace) (files defined : List FilePlace) (t : LineTable) (front : List ℕ) (p : ℕ)
-    → t ≡ table_with s h dirs files defined → front ≡ written_front v m places t → p ≡ length_size h.width + length front → p ≡ written_program v m places t
+pub program-is : (g : LineSource) (m : PathMap) (places : TextPlace → Option ℕ) (h : LineHeader) (dirs : List TextPlace) (files defined : List FilePlace) (t : LineTable) (front : List ℕ) (p : ℕ)
+    → t ≡ table_with g.number h dirs files defined → front ≡ written_front g m places t → p ≡ length_size h.width + length front → p ≡ written_program g m places t
 unfolding written_program
-program-is v m places s h dirs files defined t front p e f b =
+program-is g m places h dirs files defined t front p e f b =
     b ∙ ap (λ (xs : List ℕ). length_size h.width + length xs) f
-    ∙ ap (λ (x : Width). length_size x + length (written_front v m places t)) (width-is s h dirs files defined t e)
+    ∙ ap (λ (x : Width). length_size x + length (written_front g m places t)) (width-is g.number h dirs files defined t e)
 
 -- what refuses it
-pub wide-fails : (v : View) (m : PathMap) (places : TextPlace → Option ℕ) (s : ℕ) (h : LineHeader) (dirs : List TextPlace) (files defined : List FilePlace) (t : LineTable) (front : List ℕ) (f : Fault)
-    → t ≡ table_with s h dirs files defined → front ≡ written_front v m places t
-    → Blames (Since (at TooWide s (length_field h.start h.width)) (length_limit h.width ≤ length (with_program v (table_with s h [] [] []) front))) f
-    → Blames (WriteFails v m places t) f
-wide-fails v m places s h dirs files defined t front NoMemory e f b = tt
-wide-fails v m places s h dirs files defined t front (Refused r) e f b =
-    let rest = rest-is v m places s h dirs files defined t front e f in
-    let far : length_limit t.width ≤ length (written_rest v m places t) =
-    subst (λ (x : Width). length_limit x ≤ length (written_rest v m places t)) (width-is s h dirs files defined t e)
+pub wide-fails : (g : LineSource) (m : PathMap) (places : TextPlace → Option ℕ) (h : LineHeader) (dirs : List TextPlace) (files defined : List FilePlace) (t : LineTable) (front : List ℕ) (f : Fault)
+    → t ≡ table_with g.number h dirs files defined → front ≡ written_front g m places t
+    → Blames (Since (at TooWide g.number (length_field h.start h.width)) (length_limit h.width ≤ length (with_program g (table_with g.number h [] [] []) front))) f
+    → Blames (WriteFails g m places t) f
+wide-fails g m places h dirs files defined t front NoMemory e f b = tt
+wide-fails g m places h dirs files defined t front (Refused r) e f b =
+    let rest = rest-is g m places h dirs files defined t front e f in
+    let far : length_limit t.width ≤ length (written_rest g m places t) =
+    subst (λ (x : Width). length_limit x ≤ length (written_rest g m places t)) (width-is g.number h dirs files defined t e)
     (subst (λ (xs : List ℕ). length_limit h.width ≤ length xs) rest b.why) in
-    let place : r ≡ at TooWide t.section (length_field t.start t.width) = b.same ∙ sym (ap (λ (x : LineTable). at TooWide x.section (length_field x.start x.width)) e) in
+    let place : r ≡ at TooWide g.number (length_field t.start t.width) = b.same ∙ sym (ap (λ (x : LineTable). at TooWide g.number (length_field x.start x.width)) e) in
     rw place (wide_table far)
 
-pub offset-fails : (v : View) (m : PathMap) (places : TextPlace → Option ℕ) (s : ℕ) (h : LineHeader) (dirs paths : List TextPlace) (files defined : List FilePlace) (t : LineTable) (r : Refusal)
-    → t ≡ table_with s h dirs files defined → paths ≡ dirs ++ texts_of files → WideOffset s h.width places paths r → WriteFails v m places t r
-offset-fails v m places s h dirs paths files defined t r e p w =
-    subst (λ (x : LineTable). WriteFails v m places x r) (sym e) (wide_offset (subst (λ (xs : List TextPlace). WideOffset s h.width places xs r) p w))
+pub offset-fails : (g : LineSource) (m : PathMap) (places : TextPlace → Option ℕ) (h : LineHeader) (dirs paths : List TextPlace) (files defined : List FilePlace) (t : LineTable) (r : Refusal)
+    → t ≡ table_with g.number h dirs files defined → paths ≡ dirs ++ texts_of files → WideOffset g.number h.width places paths r → WriteFails g m places t r
+offset-fails g m places h dirs paths files defined t r e p w =
+    subst (λ (x : LineTable). WriteFails g m places x r) (sym e) (wide_offset (subst (λ (xs : List TextPlace). WideOffset g.number h.width places xs r) p w))
+
+-- what refuses a table of a section refuses it in its own
+pub own-fails : (v : View) (m : PathMap) (places : TextPlace → Option ℕ) (section : ℕ) (t : LineTable) (f : Fault) → section ≡ t.section
+    → Blames (WriteFails (view_source v section) m places t) f → Blames (WriteFails (view_source v t.section) m places t) f
+own-fails v m places section t f s b = subst (λ (n : ℕ). Blames (WriteFails (view_source v n) m places t) f) s b
 
 pub program-fails : (v : View) (m : PathMap) (places : TextPlace → Option ℕ) (s start : ℕ) (h : LineHeader) (t : LineTable) (f : Fault) → s ≡ t.section → start ≡ t.start
-    → Some h ≡ line_header v.order (section_bytes v s) start → Blames (ProgramFails m s h (table_bytes v s h)) f → Blames (WriteFails v m places t) f
+    → Some h ≡ line_header v.order (section_bytes v s) start → Blames (ProgramFails m s h (table_bytes (view_source v s) h)) f
+    → Blames (WriteFails (view_source v t.section) m places t) f
 program-fails v m places s start h t NoMemory is p e b = tt
 program-fails v m places s start h t (Refused r) is p e b =
-    program h (sym (e ∙ ap (λ (x : ℕ). line_header v.order (section_bytes v x) start) is ∙ ap (λ (x : ℕ). line_header v.order (section_bytes v t.section) x) p))
-    (subst (λ (x : ℕ). ProgramFails m x h (table_bytes v x h) r) is b)
+    own-fails v m places s t (Refused r) is (program h (sym (e ∙ ap (λ (x : ℕ). line_header v.order (section_bytes v s) x) p)) b)
 
 -- one excludes the other
 limit-below : (width : Width) → length_limit width ≤ 256 ^ width_size width
@@ -186,40 +196,39 @@ fit-excludes s width places xs r fit (wide x place c other p far) =
     by_test true e h = other (grind (arith, nat_tests))
     by_test false e h = grind (arith, nat_tests)
 
-pub write-excludes : (v : View) (m : PathMap) (places : TextPlace → Option ℕ) (s start : ℕ) (h : LineHeader) (dirs paths : List TextPlace) (files defined : List FilePlace) (t : LineTable)
-    (lists front : List ℕ) (r : Refusal) → t ≡ table_with s h dirs files defined → s ≡ t.section → start ≡ t.start → Some h ≡ line_header v.order (section_bytes v s) start
-    → paths ≡ dirs ++ texts_of files → lists ≡ written_header v m places t → front ≡ written_front v m places t
-    → ((q : Refusal) → ProgramFails m s h (table_bytes v s h) q → ⊥) → OffsetsFit s h.width places paths
-    → length (with_program v (table_with s h [] [] []) front) < length_limit h.width → WriteFails v m places t r → ⊥
-write-excludes v m places s start h dirs paths files defined t lists front r e is ps he p l f none fit lt (wide_table far) =
-    let rest = ap length (rest-is v m places s h dirs files defined t front e f) in
-    let far : length_limit h.width ≤ length (written_rest v m places t) =
-    subst (λ (x : Width). length_limit x ≤ length (written_rest v m places t)) (sym (width-is s h dirs files defined t e)) far in
+pub write-excludes : (g : LineSource) (m : PathMap) (places : TextPlace → Option ℕ) (start : ℕ) (h : LineHeader) (dirs paths : List TextPlace) (files defined : List FilePlace) (t : LineTable)
+    (lists front : List ℕ) (r : Refusal) → t ≡ table_with g.number h dirs files defined → start ≡ t.start → Some h ≡ line_header g.order g.bytes start
+    → paths ≡ dirs ++ texts_of files → lists ≡ written_header g m places t → front ≡ written_front g m places t
+    → ((q : Refusal) → ProgramFails m g.number h (table_bytes g h) q → ⊥) → OffsetsFit g.number h.width places paths
+    → length (with_program g (table_with g.number h [] [] []) front) < length_limit h.width → WriteFails g m places t r → ⊥
+write-excludes g m places start h dirs paths files defined t lists front r e ps he p l f none fit lt (wide_table far) =
+    let rest = ap length (rest-is g m places h dirs files defined t front e f) in
+    let far : length_limit h.width ≤ length (written_rest g m places t) =
+    subst (λ (x : Width). length_limit x ≤ length (written_rest g m places t)) (sym (width-is g.number h dirs files defined t e)) far in
     absurd (omega (arith, rest, far, lt))
-write-excludes v m places s start h dirs paths files defined t lists front r e is ps he p l f none fit lt (wide_header far) =
-    let rest = ap length (rest-is v m places s h dirs files defined t front e f) in
-    let far : 256 ^ width_size h.width ≤ length (written_header v m places t) =
-    subst (λ (x : Width). 256 ^ width_size x ≤ length (written_header v m places t)) (sym (width-is s h dirs files defined t e)) far in
+write-excludes g m places start h dirs paths files defined t lists front r e ps he p l f none fit lt (wide_header far) =
+    let rest = ap length (rest-is g m places h dirs files defined t front e f) in
+    let far : 256 ^ width_size h.width ≤ length (written_header g m places t) =
+    subst (λ (x : Width). 256 ^ width_size x ≤ length (written_header g m places t)) (sym (width-is g.number h dirs files defined t e)) far in
     let limit = limit-below h.width in
-    let inside = header-inside v t (written_header v m places t) in
+    let inside = header-inside t (written_header g m places t) in
     absurd (omega (arith, rest, far, lt, limit, inside))
   where
-    header-inside : (v : View) (t : LineTable) (xs : List ℕ) → length xs ≤ length (with_program v t (with_header_length v t xs))
-    header-inside v t xs =
+    header-inside : (t : LineTable) (xs : List ℕ) → length xs ≤ length (with_program g t (with_header_length g t xs))
+    header-inside t xs =
         omega (
           arith,
-          length-append (with_header_length v t xs) (part (section_bytes v t.section) t.program t.end),
-          length-append (part (section_bytes v t.section) (t.start + length_size t.width) (header_length_place t.start t.width t.version))
-              (number_bytes v.order (width_size t.width) (length xs) ++ xs),
-          length-append (number_bytes v.order (width_size t.width) (length xs)) xs,
+          length-append (with_header_length g t xs) (part g.bytes t.program t.end),
+          length-append (part g.bytes (t.start + length_size t.width) (header_length_place t.start t.width t.version))
+              (number_bytes g.order (width_size t.width) (length xs) ++ xs),
+          length-append (number_bytes g.order (width_size t.width) (length xs)) xs,
         )
-write-excludes v m places s start h dirs paths files defined t lists front r e is ps he p l f none fit lt (wide_offset w) =
-    fit-excludes s h.width places paths r fit
-    (subst (λ (xs : List TextPlace). WideOffset s h.width places xs r) (sym p) (subst (λ (x : LineTable). WideOffset x.section x.width places (x.dirs ++ texts_of x.files) r) e w))
-write-excludes v m places s start h dirs paths files defined t lists front r e is ps he p l f none fit lt (program g ge b) =
-    let here : line_header v.order (section_bytes v t.section) t.start ≡ Some h =
-    sym (he ∙ ap (λ (x : ℕ). line_header v.order (section_bytes v x) start) is ∙ ap (λ (x : ℕ). line_header v.order (section_bytes v t.section) x) ps) in
-    let same : g ≡ h = header-once g h (line_header v.order (section_bytes v t.section) t.start) ge here in
-    none r (subst (λ (x : ℕ). ProgramFails m x h (table_bytes v x h) r) (sym is) (subst (λ (x : LineHeader). ProgramFails m t.section x (table_bytes v t.section x) r) same b))
+write-excludes g m places start h dirs paths files defined t lists front r e ps he p l f none fit lt (wide_offset w) =
+    fit-excludes g.number h.width places paths r fit
+    (subst (λ (xs : List TextPlace). WideOffset g.number h.width places xs r) (sym p) (subst (λ (x : LineTable). WideOffset g.number x.width places (x.dirs ++ texts_of x.files) r) e w))
+write-excludes g m places start h dirs paths files defined t lists front r e ps he p l f none fit lt (program k ke b) =
+    let here : line_header g.order g.bytes t.start ≡ Some h = sym (he ∙ ap (λ (x : ℕ). line_header g.order g.bytes x) ps) in
+    let same : k ≡ h = header-once k h (line_header g.order g.bytes t.start) ke here in
+    none r (subst (λ (x : LineHeader). ProgramFails m g.number x (table_bytes g x) r) same b)
 
 pub ruleset write_laws = (table-there, program-fails, same-defined)

@@ -2,8 +2,8 @@
 use Rattle.std.specs.Prelude.{Bool, true, ◌≡◌, ℕ, ◌+◌, ◌^◌, ◌==◌, nat_lt, if◌then◌else◌, List, [], ◌∷◌, ◌++◌, length, All, Option, Some, None}
 use Rattle.dw_base.specs.Forms.{width_size}
 use Rattle.dw_base.specs.declared.shared.Width.{Width}
-use Rattle.dw_strings.specs.declared.place.TextPlace.{TextPlace}
-use Rattle.dw_lines.specs.WrittenTables.{Change, part}
+use Rattle.dw_base.specs.declared.line_tables.TextPlace.{TextPlace}
+use Rattle.dw_base.specs.WrittenLines.{Change, part}
 
 abbrev pub after_change : List ℕ → List ℕ × ℕ → Change → List ℕ × ℕ
 after_change bytes s c = (s.0 ++ (part bytes s.1 c.at ++ c.new), c.at + length c.old)

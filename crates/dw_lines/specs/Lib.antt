@@ -1,12 +1,2 @@
-pub mod LineHeaders
-pub mod Walks
-pub mod LineTexts
-pub mod OldLists
-pub mod Formats
-pub mod Programs
-pub mod Entries
-pub mod LineTables
-pub mod LineFails
-pub mod WrittenTables
+pub mod ViewSources
 pub mod ChangeSteps
-pub mod WriteFails

@@ -1,8 +1,8 @@
 //! The changes of a header, one after another, and whether new offsets fit their fields.
 //!
-//! Read first: `specs/WrittenTables.antt`, then `specs/ChangeSteps.antt`.
+//! Read first: `WrittenLines` in `dw_base/specs`, then `specs/ChangeSteps.antt`.
 
-ghost use Rattle.std.specs.Prelude.{◌≡◌, ◌+◌, ◌≤◌, ◌<◌, ◌^◌, ◌++◌, length, nat_eq, IfOk, IfErr, OnOk};
+ghost use Rattle.std.specs.Prelude.{◌≡◌, ◌+◌, ◌≤◌, ◌<◌, ◌^◌, ◌==◌, ◌++◌, if◌then◌else◌, length, nat_eq, IfOk, IfErr, OnOk};
 ghost use Rattle.std.specs.HashMap.{get};
 ghost use Rattle.dw_base.specs.FileViews.{section_bytes};
 ghost use Rattle.dw_base.specs.Forms.{width_size};
@@ -10,17 +10,16 @@ ghost use Rattle.dw_base.specs.Numbers.{number_bytes};
 ghost use Rattle.dw_base.specs.Paths.{mapped_path};
 ghost use Rattle.dw_base.specs.ViewData.{located};
 ghost use Rattle.dw_base.specs.declared.debug_sections.DebugSection.TheVariants.{Str};
+ghost use Rattle.dw_lines.specs.ViewSources.{view_source};
 ghost use Rattle.dw_lines.specs.ChangeSteps.{after_change, after_changes, fits_width, offset_fits, OffsetsFit};
-ghost use Rattle.dw_lines.specs.WriteFails.{WideOffset};
-ghost use Rattle.dw_lines.specs.WrittenTables.{all_changes, bytes_at, new_place, part, path_changes};
-ghost use Rattle.dw_lines.specs.LineTables.{texts_of};
+ghost use Rattle.dw_base.specs.LineWriteFails.{WideOffset};
+ghost use Rattle.dw_base.specs.WrittenLines.{all_changes, bytes_at, new_place, part, path_changes};
+ghost use Rattle.dw_base.specs.LineTables.{texts_of};
 
 use crate::header::width_size;
 use crate::parts::{bytes_at, part, push_number};
-use crate::texts::FilePlace;
-use dw_base::{DebugSection, Kind, NoMemory, Refusal, Width};
+use dw_base::{DebugSection, FilePlace, Kind, NoMemory, Refusal, TextPlace, Width};
 use dw_paths::{Maps, map_path};
-use dw_strings::TextPlace;
 use dw_view::View;
 use std::alloc::{AllocError, Global};
 use std::collections::HashMap;
@@ -59,7 +58,7 @@ fn new_place(
     line_str: &HashMap<u64, u64>,
     path: &TextPlace,
 ) -> Option<u64>
-    ensures place { result ≡ new_place view.now (λ o. get nat_eq str.now o) (λ o. get nat_eq line_str.now o) path.now }
+    ensures place { result ≡ (if path.now.section == (located view.now Str).number then get nat_eq str.now path.now.at else get nat_eq line_str.now path.now.at) }
 {
     if path.section == str_section(view) {
         return str.get(&path.at).copied();
@@ -100,8 +99,8 @@ pub(crate) fn check_offsets(
     width: Width,
     paths: &[TextPlace],
 ) -> Result<(), Refusal>
-    ensures fit { OnOk result (OffsetsFit section width (new_place view.now (λ o. get nat_eq str.now o) (λ o. get nat_eq line_str.now o)) paths.now) }
-    ensures refused { IfErr result (WideOffset section width (new_place view.now (λ o. get nat_eq str.now o) (λ o. get nat_eq line_str.now o)) paths.now) }
+    ensures fit { OnOk result (OffsetsFit section width (new_place (view_source view.now section) (λ o. get nat_eq str.now o) (λ o. get nat_eq line_str.now o)) paths.now) }
+    ensures refused { IfErr result (WideOffset section width (new_place (view_source view.now section) (λ o. get nat_eq str.now o) (λ o. get nat_eq line_str.now o)) paths.now) }
 {
     for path in paths {
         let place = new_place(view, str, line_str, path);
@@ -170,7 +169,7 @@ fn put_path(
     out: &mut Vec<u8>,
 ) -> Result<u64, NoMemory>
     requires there { section < length view.now.sections }
-    ensures put { IfOk result (λ next. (out.new.items, next) ≡ after_changes (section_bytes view.now section) (out.old.items, from) (path_changes view.now maps.now (new_place view.now (λ o. get nat_eq str.now o) (λ o. get nat_eq line_str.now o)) section width path.now)) }
+    ensures put { IfOk result (λ next. (out.new.items, next) ≡ after_changes (section_bytes view.now section) (out.old.items, from) (path_changes (view_source view.now section) maps.now (new_place (view_source view.now section) (λ o. get nat_eq str.now o) (λ o. get nat_eq line_str.now o)) width path.now)) }
 {
     let bytes = view.bytes(section);
     if path.section == section {
@@ -202,7 +201,7 @@ pub(crate) fn put_paths(
     out: &mut Vec<u8>,
 ) -> Result<u64, NoMemory>
     requires there { section < length view.now.sections }
-    ensures put { IfOk result (λ next. (out.new.items, next) ≡ after_changes (section_bytes view.now section) (out.old.items, from) (all_changes view.now maps.now (new_place view.now (λ o. get nat_eq str.now o) (λ o. get nat_eq line_str.now o)) section width paths.now)) }
+    ensures put { IfOk result (λ next. (out.new.items, next) ≡ after_changes (section_bytes view.now section) (out.old.items, from) (all_changes (view_source view.now section) maps.now (new_place (view_source view.now section) (λ o. get nat_eq str.now o) (λ o. get nat_eq line_str.now o)) width paths.now)) }
 {
     let mut place = from;
     for path in paths {

@@ -8,14 +8,12 @@ ghost use Rattle.dw_base.specs.Paths.{mapped_path};
 ghost use Rattle.dw_base.specs.Refusals.{Blames};
 ghost use Rattle.dw_base.specs.Texts.{same_text};
 ghost use Rattle.dw_base.specs.declared.fault.Refusal.{Refusal as RefusalOf};
-ghost use Rattle.dw_lines.specs.WriteFails.{ProgramFails, changes_file, changes_path};
-ghost use Rattle.dw_lines.specs.WrittenTables.{bytes_at};
+ghost use Rattle.dw_base.specs.LineWriteFails.{ProgramFails, changes_file, changes_path};
+ghost use Rattle.dw_base.specs.WrittenLines.{bytes_at};
 
-use crate::header::LineHeader;
 use crate::opcodes::opcode_at;
 use crate::parts::bytes_at;
-use crate::texts::FilePlace;
-use dw_base::{Fault, Kind, NoMemory, Refusal};
+use dw_base::{Fault, FilePlace, Kind, LineHeader, NoMemory, Refusal};
 use dw_paths::{Maps, map_path};
 use std::alloc::Global;
 

@@ -6,44 +6,27 @@
 
 ghost use Rattle.std.specs.Prelude.{◌≡◌, ◌+◌, ◌≤◌, ◌<◌, Some, Ok, Err, length, take, IfOk, IfErr};
 ghost use Rattle.dw_base.specs.FileViews.{section_bytes};
+ghost use Rattle.dw_base.specs.ViewData.{located};
+ghost use Rattle.dw_lines.specs.ViewSources.{view_source};
 ghost use Rattle.dw_base.specs.Refusals.{Blames};
 ghost use Rattle.dw_base.specs.Values.{value_at};
 ghost use Rattle.dw_base.specs.Lebs.{uleb_at};
-ghost use Rattle.dw_lines.specs.LineTexts.{inline_text};
-ghost use Rattle.dw_lines.specs.Entries.{counted_entries, first_of, bad_table, column_at, column_params, columns, entries_at, entries_behind, entry_at, file_of, inline_column, next_column, offset_column, value_column, with_column};
+ghost use Rattle.dw_base.specs.LineTexts.{inline_text};
+ghost use Rattle.dw_base.specs.LineEntries.{counted_entries, first_of, bad_table, column_at, column_params, columns, entries_at, entries_behind, entry_at, file_of, inline_column, next_column, offset_column, value_column, with_column};
 
 use crate::formats::format_at;
-use crate::header::{LineHeader, width_size};
-use crate::line_numbers::{DW_LNCT_directory_index, DW_LNCT_path};
-use crate::texts::{FilePlace, inline_text, named_text};
+use crate::header::width_size;
+use crate::texts::{inline_text, named_text};
 use dw_base::dwarf_numbers::{DW_FORM_line_strp, DW_FORM_string, DW_FORM_strp};
-use dw_base::{DebugSection, Fault, Kind, Order, Params, Refusal, Spec, uleb_at};
+use dw_base::line_numbers::{DW_LNCT_directory_index, DW_LNCT_path};
+use dw_base::line_tables::{Column, Entry};
+use dw_base::{
+    DebugSection, Fault, FilePlace, Kind, LineHeader, Order, Params, Refusal, Spec, TextPlace,
+    uleb_at,
+};
 use dw_forms::value_at;
-use dw_strings::TextPlace;
 use dw_view::View;
 use std::alloc::Global;
-
-/// The value of a column.
-#[derive(Clone, Copy)]
-pub(crate) struct Column {
-    /// Its text, where it is one.
-    pub text: Option<TextPlace>,
-    /// Its number, 0 of a text or a block.
-    pub number: u64,
-    /// The place behind it.
-    pub next: u64,
-}
-
-/// What was read of an entry.
-#[derive(Clone, Copy)]
-pub(crate) struct Entry {
-    /// Its path.
-    pub text: Option<TextPlace>,
-    /// The number of its directory.
-    pub dir: Option<u64>,
-    /// The place behind what was read.
-    pub next: u64,
-}
 
 /// The refusal of a table.
 pub(crate) fn bad_table(section: u32, header: &LineHeader) -> Refusal
@@ -73,7 +56,7 @@ fn inline_column(
 }
 
 /// A column whose text an offset names.
-#[tactic(auto, unfolding(crate::specs::Entries::offset_column))]
+#[tactic(auto, unfolding(dw_base::specs::LineEntries::offset_column))]
 fn offset_column(
     view: &View,
     section: u32,
@@ -84,7 +67,7 @@ fn offset_column(
 ) -> Result<Column, Refusal>
     requires there { section < length view.now.sections }
     requires within { length table.now ≤ length (section_bytes view.now section) }
-    ensures column { result ≡ offset_column view.now section header.now table.now texts place }
+    ensures column { result ≡ offset_column (view_source view.now section) header.now table.now (located view.now texts) place }
     ensures within { IfOk result (λ c. c.next ≤ length table.now) }
 {
     let size = width_size(header.width);
@@ -141,7 +124,7 @@ fn value_column(
 }
 
 /// The value of a column at a place.
-#[tactic(auto, unfolding(crate::specs::Entries::column_at))]
+#[tactic(auto, unfolding(dw_base::specs::LineEntries::column_at))]
 fn column_at(
     view: &View,
     section: u32,
@@ -152,7 +135,7 @@ fn column_at(
 ) -> Result<Column, Refusal>
     requires there { section < length view.now.sections }
     requires within { length table.now ≤ length (section_bytes view.now section) }
-    ensures column { result ≡ column_at view.now section header.now table.now spec.now place }
+    ensures column { result ≡ column_at (view_source view.now section) header.now table.now spec.now place }
 {
     if spec.form == DW_FORM_string {
         return inline_column(section, header, table, place);
@@ -219,7 +202,7 @@ fn next_column(
 ) -> Result<Entry, Refusal>
     requires there { section < length view.now.sections }
     requires within { length table.now ≤ length (section_bytes view.now section) }
-    ensures entry { result ≡ next_column view.now section header.now table.now spec.now entry.now }
+    ensures entry { result ≡ next_column (view_source view.now section) header.now table.now spec.now entry.now }
 {
     match column_at(view, section, header, table, spec, entry.next) {
         Ok(column) => Ok(with_column(spec, entry, &column)),
@@ -239,7 +222,7 @@ fn columns(
 ) -> Result<Entry, Refusal>
     requires there { section < length view.now.sections }
     requires within { length table.now ≤ length (section_bytes view.now section) }
-    ensures entry { result ≡ columns view.now section header.now table.now specs.now (record { text = None; dir = None; next = place }) }
+    ensures entry { result ≡ columns (view_source view.now section) header.now table.now specs.now (record { text = None; dir = None; next = place }) }
 {
     let mut entry = Entry {
         text: None,
@@ -257,7 +240,7 @@ fn columns(
 
 /// The entry at a place, and the place behind it. Refused as its columns are, or at the table where it has no
 /// path.
-#[tactic(auto, unfolding(crate::specs::Entries::entry_at))]
+#[tactic(auto, unfolding(dw_base::specs::LineEntries::entry_at))]
 fn entry_at(
     view: &View,
     section: u32,
@@ -268,7 +251,7 @@ fn entry_at(
 ) -> Result<(FilePlace, u64), Refusal>
     requires there { section < length view.now.sections }
     requires within { length table.now ≤ length (section_bytes view.now section) }
-    ensures entry { result ≡ entry_at view.now section header.now table.now specs.now place }
+    ensures entry { result ≡ entry_at (view_source view.now section) header.now table.now specs.now place }
 {
     match columns(view, section, header, table, specs, place) {
         Ok(entry) => match entry.text {
@@ -298,8 +281,8 @@ fn counted_entries(
 ) -> Result<(Vec<FilePlace>, u64), Fault>
     requires there { section < length view.now.sections }
     requires within { length table.now ≤ length (section_bytes view.now section) }
-    ensures read { IfOk result (λ f. counted_entries view.now section header.now table.now specs.now place (uleb_at table.now place) ≡ Ok (f.0.items, f.1)) }
-    ensures refused { IfErr result (Blames (λ r. counted_entries view.now section header.now table.now specs.now place (uleb_at table.now place) ≡ Err r)) }
+    ensures read { IfOk result (λ f. counted_entries (view_source view.now section) header.now table.now specs.now place (uleb_at table.now place) ≡ Ok (f.0.items, f.1)) }
+    ensures refused { IfErr result (Blames (λ r. counted_entries (view_source view.now section) header.now table.now specs.now place (uleb_at table.now place) ≡ Err r)) }
 {
     let Some((count, size)) = uleb_at(table, place) else {
         return Err(Fault::Refused(bad_table(section, header)));
@@ -331,8 +314,8 @@ pub(crate) fn entries_at(
 ) -> Result<(Vec<FilePlace>, u64), Fault>
     requires there { section < length view.now.sections }
     requires within { length table.now ≤ length (section_bytes view.now section) }
-    ensures read { IfOk result (λ f. entries_at view.now section header.now table.now place ≡ Ok (f.0.items, f.1)) }
-    ensures refused { IfErr result (Blames (λ r. entries_at view.now section header.now table.now place ≡ Err r)) }
+    ensures read { IfOk result (λ f. entries_at (view_source view.now section) header.now table.now place ≡ Ok (f.0.items, f.1)) }
+    ensures refused { IfErr result (Blames (λ r. entries_at (view_source view.now section) header.now table.now place ≡ Err r)) }
 {
     let (specs, next) = format_at(alloc, table, place, bad_table(section, header))?;
     counted_entries(alloc, view, section, header, table, &specs, next)

@@ -5,14 +5,14 @@
 
 ghost use Rattle.std.specs.Prelude.{◌≡◌, ◌≤◌, ◌<◌, Some, None, length, IfSome, IfOk, IfErr};
 ghost use Rattle.dw_base.specs.Refusals.{Blames};
-ghost use Rattle.dw_lines.specs.Formats.{format_at, is_column, is_column_form, is_index_form, is_text_form, spec_at};
-ghost use Rattle.dw_lines.specs.Walks.{Since};
+ghost use Rattle.dw_base.specs.LineFormats.{format_at, is_column, is_column_form, is_index_form, is_text_form, spec_at};
+ghost use Rattle.dw_base.specs.Walks.{Since};
 
-use crate::line_numbers::{DW_LNCT_directory_index, DW_LNCT_path};
 use dw_base::dwarf_numbers::{
     DW_FORM_block, DW_FORM_data1, DW_FORM_data2, DW_FORM_data4, DW_FORM_data8, DW_FORM_data16,
     DW_FORM_line_strp, DW_FORM_string, DW_FORM_strp, DW_FORM_udata,
 };
+use dw_base::line_numbers::{DW_LNCT_directory_index, DW_LNCT_path};
 use dw_base::{Fault, Refusal, Spec, uleb_at};
 use std::alloc::Global;
 
@@ -42,7 +42,7 @@ fn is_column_form(form: u64) -> bool
 }
 
 /// A column may stand by its form.
-#[tactic(auto, unfolding(crate::specs::Formats::is_column))]
+#[tactic(auto, unfolding(dw_base::specs::LineFormats::is_column))]
 fn is_column(spec: &Spec) -> bool
     ensures column { result ≡ is_column spec.now }
 {
@@ -56,7 +56,7 @@ fn is_column(spec: &Spec) -> bool
 }
 
 /// The column at a place, and the place behind it. `None` exactly where one of its numbers passes the end.
-#[tactic(auto, unfolding(crate::specs::Formats::spec_at))]
+#[tactic(auto, unfolding(dw_base::specs::LineFormats::spec_at))]
 fn spec_at(table: &[u8], place: u64) -> Option<(Spec, u64)>
     ensures spec { result ≡ spec_at table.now place }
     ensures behind { IfSome result (λ s. place < s.1) }

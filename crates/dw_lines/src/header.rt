@@ -7,42 +7,9 @@ ghost use Rattle.std.specs.Prelude.{◌≡◌, ◌+◌, ◌-◌, ◌≤◌, ◌<
 ghost use Rattle.std.specs.Bool.{OnTrue};
 ghost use Rattle.dw_base.specs.Forms.{width_size};
 ghost use Rattle.dw_base.specs.Numbers.{spelled};
-ghost use Rattle.dw_lines.specs.LineHeaders.{flags_place, has_standard_operands, header_at, header_in, header_of_length, header_of_version, header_with, HeaderFits, is_header, is_line_version, length_place, line_header};
+ghost use Rattle.dw_base.specs.LineHeaders.{flags_place, has_standard_operands, header_at, header_in, header_of_length, header_of_version, header_with, HeaderFits, is_header, is_line_version, length_place, line_header};
 
-use dw_base::{Order, Width, initial_length_at, number_at, number_in};
-
-/// The numbers at the front of a table's header, with all places in bytes from the section's start.
-#[derive(Clone, Copy, Debug, PartialEq, Eq)]
-pub(crate) struct LineHeader {
-    /// Where the table starts.
-    pub start: u64,
-    /// Where it ends.
-    pub end: u64,
-    /// Its version, 2 to 5.
-    pub version: u16,
-    /// How wide its offsets are.
-    pub width: Width,
-    /// The size of an address, in bytes; 0 before version 5, which has none.
-    pub address: u8,
-    /// Where the program starts.
-    pub program: u64,
-    /// The size of the smallest instruction, in bytes.
-    pub min_length: u8,
-    /// How many operations an instruction has at most; 1 before version 4.
-    pub max_ops: u8,
-    /// Whether rows begin statements at first.
-    pub default_stmt: bool,
-    /// The smallest line advance of a special opcode.
-    pub line_base: i8,
-    /// How many line advances special opcodes have.
-    pub line_range: u8,
-    /// The first special opcode.
-    pub opcode_base: u8,
-    /// Where the operand counts of the standard opcodes stand, one byte each.
-    pub operands: u64,
-    /// Where the lists of directories and files start.
-    pub lists: u64,
-}
+use dw_base::{LineHeader, Order, Width, initial_length_at, number_at, number_in};
 
 /// How many operands the standard opcodes from 1 on have (DWARF 5, 6.2.5.2).
 const STANDARD_OPERANDS: [u8; 12] = [0, 1, 1, 1, 1, 0, 0, 0, 1, 0, 0, 1];
@@ -67,7 +34,7 @@ fn is_line_version(version: u64) -> bool
 }
 
 /// Where the length of the header stands, for the version's place.
-#[tactic(auto, unfolding(crate::specs::LineHeaders::length_place))]
+#[tactic(auto, unfolding(dw_base::specs::LineHeaders::length_place))]
 pub(crate) fn length_place(version: u64, at: u64) -> u64
     requires small { at ≤ 2 ^ 32 }
     ensures place { result ≡ length_place version at }
@@ -78,7 +45,7 @@ pub(crate) fn length_place(version: u64, at: u64) -> u64
 }
 
 /// Where the default of statements stands, for the place behind the length of the header.
-#[tactic(auto, unfolding(crate::specs::LineHeaders::flags_place))]
+#[tactic(auto, unfolding(dw_base::specs::LineHeaders::flags_place))]
 fn flags_place(version: u64, first: u64) -> u64
     requires small { first ≤ 2 ^ 33 }
     ensures place { result ≡ flags_place version first }
@@ -89,7 +56,7 @@ fn flags_place(version: u64, first: u64) -> u64
 }
 
 /// The operand counts of the standard opcodes are the standard's.
-#[tactic(auto, unfolding(crate::specs::LineHeaders::has_standard_operands))]
+#[tactic(auto, unfolding(dw_base::specs::LineHeaders::has_standard_operands))]
 fn has_standard_operands(table: &[u8], header: &LineHeader) -> bool
     requires inside { header.now.operands + (header.now.opcode_base - 1) ≤ length table.now }
     requires some { 0 < header.now.opcode_base }
@@ -102,7 +69,7 @@ fn has_standard_operands(table: &[u8], header: &LineHeader) -> bool
 
 /// The numbers of a header, for the places of its version, of what stands behind its length, and of the default
 /// of statements.
-#[tactic(auto, unfolding(crate::specs::LineHeaders::header_with))]
+#[tactic(auto, unfolding(dw_base::specs::LineHeaders::header_with))]
 fn header_with(
     table: &[u8],
     start: u64,
@@ -156,7 +123,7 @@ fn header_with(
 }
 
 /// The numbers of a header are such that a table may have, and its operand counts lie in the table.
-#[tactic(auto, unfolding(crate::specs::LineHeaders::is_header))]
+#[tactic(auto, unfolding(dw_base::specs::LineHeaders::is_header))]
 fn is_header(table: &[u8], header: &LineHeader) -> bool
     requires end { header.now.end ≡ length table.now }
     requires lists { header.now.lists ≡ header.now.operands + (header.now.opcode_base - 1) }
@@ -177,7 +144,7 @@ fn is_header(table: &[u8], header: &LineHeader) -> bool
 }
 
 /// The header whose length was read.
-#[tactic(auto, using(crate::proofs::HeaderLaws::header_laws), unfolding(crate::specs::LineHeaders::header_of_length))]
+#[tactic(auto, using(crate::proofs::HeaderLaws::header_laws), unfolding(dw_base::specs::LineHeaders::header_of_length))]
 fn header_of_length(
     table: &[u8],
     start: u64,
@@ -217,7 +184,7 @@ fn header_of_length(
 }
 
 /// The header for the places of its fields.
-#[tactic(auto, unfolding(crate::specs::LineHeaders::header_at))]
+#[tactic(auto, unfolding(dw_base::specs::LineHeaders::header_at))]
 fn header_at(
     order: Order,
     table: &[u8],
@@ -255,7 +222,7 @@ fn header_at(
 }
 
 /// The header of a version, which stands at a place.
-#[tactic(auto, unfolding(crate::specs::LineHeaders::header_of_version))]
+#[tactic(auto, unfolding(dw_base::specs::LineHeaders::header_of_version))]
 fn header_of_version(
     order: Order,
     table: &[u8],
@@ -280,7 +247,7 @@ fn header_of_version(
 }
 
 /// The header of the table that these bytes up to its end have, with its version at a place.
-#[tactic(auto, unfolding(crate::specs::LineHeaders::header_in))]
+#[tactic(auto, unfolding(dw_base::specs::LineHeaders::header_in))]
 fn header_in(order: Order, table: &[u8], start: u64, width: Width, at: u64) -> Option<LineHeader>
     requires small { length table.now ≤ 2 ^ 31 }
     requires further { start ≤ at }
@@ -295,7 +262,7 @@ fn header_in(order: Order, table: &[u8], start: u64, width: Width, at: u64) -> O
 }
 
 /// The numbers at the front of the table that starts at a place of a section.
-#[tactic(auto, using(crate::proofs::HeaderLaws::line_laws), unfolding(crate::specs::LineHeaders::line_header))]
+#[tactic(auto, using(crate::proofs::HeaderLaws::line_laws), unfolding(dw_base::specs::LineHeaders::line_header))]
 pub(crate) fn line_header(order: Order, bytes: &[u8], start: u64) -> Option<LineHeader>
     requires small { length bytes.now ≤ 2 ^ 31 }
     ensures header { result ≡ line_header order bytes.now start }

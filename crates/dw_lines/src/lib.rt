@@ -5,7 +5,8 @@
 //! where none can be read there: as `Line` at the table, as `StringOffset` at an offset that names no text. A table
 //! that is written with mapped paths is the defined one, byte for byte, and is refused exactly where that can't be.
 //! It does not promise: the rows of a program, which isn't run.
-//! Read first: `specs/LineTables.antt`, `specs/LineFails.antt`, then `specs/WrittenTables.antt`.
+//! Read first: `LineTables`, `LineFails`, `WrittenLines` and `LineWriteFails` in `dw_base/specs`, then
+//! `specs/ViewSources.antt`.
 //!
 //! ```
 //! use dw_lines::LineTable;
@@ -25,7 +26,6 @@ mod entries;
 mod fixtures;
 mod formats;
 mod header;
-mod line_numbers;
 mod old_lists;
 mod opcodes;
 mod parts;
@@ -34,8 +34,6 @@ mod table;
 mod texts;
 mod written;
 
-pub use dw_base::{Fault, Kind, Refusal, Width};
-pub use dw_strings::TextPlace;
+pub use dw_base::{Fault, FilePlace, Kind, Refusal, TextPlace, Width};
 pub use table::LineTable;
-pub use texts::FilePlace;
 pub use written::WrittenTable;

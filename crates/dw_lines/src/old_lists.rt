@@ -5,12 +5,11 @@
 
 ghost use Rattle.std.specs.Prelude.{◌≡◌, ◌+◌, ◌≤◌, ◌<◌, [], length, IfOk, IfErr};
 ghost use Rattle.dw_base.specs.Refusals.{Blames};
-ghost use Rattle.dw_lines.specs.OldLists.{next_dir, next_file};
-ghost use Rattle.dw_lines.specs.Walks.{Breaks, ComesTo, Since};
+ghost use Rattle.dw_base.specs.OldLineLists.{next_dir, next_file};
+ghost use Rattle.dw_base.specs.Walks.{Breaks, ComesTo, Since};
 
-use crate::texts::{FilePlace, file_numbers, inline_text};
-use dw_base::{Fault, Refusal};
-use dw_strings::TextPlace;
+use crate::texts::{file_numbers, inline_text};
+use dw_base::{Fault, FilePlace, Refusal, TextPlace};
 use std::alloc::Global;
 
 /// The directories from a place on, and the place behind them. Refused by this refusal only where one

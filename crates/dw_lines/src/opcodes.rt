@@ -4,27 +4,18 @@
 //! a table may have ends in the bytes. A program isn't run.
 
 ghost use Rattle.std.specs.Prelude.{◌≡◌, ◌+◌, ◌-◌, ◌≤◌, ◌<◌, ◌^◌, length, take, IfSome};
-ghost use Rattle.dw_lines.specs.Programs.{plain_opcode, defined_file, extended_at, extended_in, extended_operands, if_ranged, opcode_at, standard_end};
+ghost use Rattle.dw_base.specs.LinePrograms.{plain_opcode, defined_file, extended_at, extended_in, extended_operands, if_ranged, opcode_at, standard_end};
 
-use crate::header::LineHeader;
-use crate::line_numbers::{
+use crate::texts::{file_numbers, inline_text, skip_lebs};
+use dw_base::line_numbers::{
     DW_LNE_define_file, DW_LNE_set_address, DW_LNE_set_discriminator, DW_LNS_advance_line,
     DW_LNS_const_add_pc, DW_LNS_fixed_advance_pc,
 };
-use crate::texts::{FilePlace, file_numbers, inline_text, skip_lebs};
-use dw_base::{sleb_at, uleb_at};
-
-/// An opcode of a program.
-#[derive(Clone, Copy)]
-pub(crate) struct Opcode {
-    /// Where the next one stands.
-    pub next: u64,
-    /// The file that it defines.
-    pub file: Option<FilePlace>,
-}
+use dw_base::line_tables::Opcode;
+use dw_base::{FilePlace, LineHeader, sleb_at, uleb_at};
 
 /// The place behind an opcode that divides by the line range. `None` exactly where that is 0.
-#[tactic(auto, unfolding(crate::specs::Programs::if_ranged))]
+#[tactic(auto, unfolding(dw_base::specs::LinePrograms::if_ranged))]
 fn if_ranged(header: &LineHeader, next: u64) -> Option<u64>
     ensures next { result ≡ if_ranged header.now next }
     ensures same { IfSome result (λ n. n ≡ next) }
@@ -37,7 +28,7 @@ fn if_ranged(header: &LineHeader, next: u64) -> Option<u64>
 
 /// Where a standard opcode ends whose operands stand at a place. `None` exactly where they pass the end,
 /// or it divides by a line range of 0.
-#[tactic(auto, unfolding(crate::specs::Programs::standard_end))]
+#[tactic(auto, unfolding(dw_base::specs::LinePrograms::standard_end))]
 fn standard_end(header: &LineHeader, table: &[u8], opcode: u8, place: u64) -> Option<u64>
     requires small { length table.now ≤ 2 ^ 31 }
     requires inside { place ≤ length table.now }
@@ -70,7 +61,7 @@ fn standard_end(header: &LineHeader, table: &[u8], opcode: u8, place: u64) -> Op
 
 /// A file that an opcode defines, whose name stands at a place of the bytes up to the opcode's end. `None`
 /// exactly where it passes that end.
-#[tactic(auto, unfolding(crate::specs::Programs::defined_file))]
+#[tactic(auto, unfolding(dw_base::specs::LinePrograms::defined_file))]
 fn defined_file(section: u32, body: &[u8], place: u64) -> Option<FilePlace>
     ensures file { result ≡ defined_file section body.now place }
 {
@@ -85,7 +76,7 @@ fn defined_file(section: u32, body: &[u8], place: u64) -> Option<FilePlace>
 
 /// The file that an extended opcode of a code defines, if any, its operands from a place on in the bytes up to
 /// its end. `None` exactly where they pass that end, or an address has another size than 2, 4 or 8.
-#[tactic(auto, unfolding(crate::specs::Programs::extended_operands))]
+#[tactic(auto, unfolding(dw_base::specs::LinePrograms::extended_operands))]
 fn extended_operands(section: u32, body: &[u8], code: u8, place: u64) -> Option<Option<FilePlace>>
     requires inside { place ≤ length body.now }
     ensures operands { result ≡ extended_operands section body.now code place }
@@ -113,7 +104,7 @@ fn extended_operands(section: u32, body: &[u8], code: u8, place: u64) -> Option<
 }
 
 /// An extended opcode of so many bytes from a place on, its code the first of them.
-#[tactic(auto, unfolding(crate::specs::Programs::extended_in))]
+#[tactic(auto, unfolding(dw_base::specs::LinePrograms::extended_in))]
 fn extended_in(section: u32, table: &[u8], first: u64, size: u64) -> Option<Opcode>
     requires inside { first ≤ length table.now }
     ensures opcode { result ≡ extended_in section table.now first size }
@@ -135,7 +126,7 @@ fn extended_in(section: u32, table: &[u8], first: u64, size: u64) -> Option<Opco
 }
 
 /// An extended opcode whose length stands at a place.
-#[tactic(auto, unfolding(crate::specs::Programs::extended_at))]
+#[tactic(auto, unfolding(dw_base::specs::LinePrograms::extended_at))]
 fn extended_at(section: u32, table: &[u8], place: u64) -> Option<Opcode>
     ensures opcode { result ≡ extended_at section table.now place }
     ensures behind { IfSome result (λ o. place < o.next) }
@@ -159,7 +150,7 @@ fn plain_opcode(next: Option<u64>) -> Option<Opcode>
 
 /// The opcode at a place. `None` exactly where none stands there that ends in the bytes and that a table may
 /// have.
-#[tactic(auto, unfolding(crate::specs::Programs::opcode_at))]
+#[tactic(auto, unfolding(dw_base::specs::LinePrograms::opcode_at))]
 pub(crate) fn opcode_at(
     section: u32,
     header: &LineHeader,

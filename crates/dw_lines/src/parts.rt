@@ -3,7 +3,7 @@
 ghost use Rattle.std.specs.Prelude.{◌≡◌, ◌^◌, ◌≤◌, ◌++◌, length, OnOk};
 ghost use Rattle.dw_base.specs.Forms.{width_size};
 ghost use Rattle.dw_base.specs.Numbers.{number_bytes};
-ghost use Rattle.dw_lines.specs.WrittenTables.{bytes_at, length_bytes, part};
+ghost use Rattle.dw_base.specs.WrittenLines.{bytes_at, length_bytes, part};
 
 use dw_base::{Order, Width};
 use std::alloc::AllocError;

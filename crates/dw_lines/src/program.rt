@@ -5,13 +5,11 @@
 
 ghost use Rattle.std.specs.Prelude.{◌≡◌, ◌+◌, ◌-◌, ◌≤◌, ◌^◌, [], length, IfOk, IfErr};
 ghost use Rattle.dw_base.specs.Refusals.{Blames};
-ghost use Rattle.dw_lines.specs.Programs.{next_opcode};
-ghost use Rattle.dw_lines.specs.Walks.{Breaks, ComesTo, Since};
+ghost use Rattle.dw_base.specs.LinePrograms.{next_opcode};
+ghost use Rattle.dw_base.specs.Walks.{Breaks, ComesTo, Since};
 
-use crate::header::LineHeader;
 use crate::opcodes::opcode_at;
-use crate::texts::FilePlace;
-use dw_base::{Fault, Refusal};
+use dw_base::{Fault, FilePlace, LineHeader, Refusal};
 use std::alloc::Global;
 
 /// The files that the program of a table defines, the bytes up to the table's end. Refused by this refusal

@@ -2,18 +2,17 @@
 
 ghost use Rattle.std.specs.Prelude.{◌≡◌, ◌≢◌, ◌+◌, ◌-◌, ◌≤◌, ◌<◌, ◌^◌, length, IfOk, IfErr, OnOk};
 ghost use Rattle.dw_base.specs.FileViews.{section_bytes};
+ghost use Rattle.dw_lines.specs.ViewSources.{view_source};
 ghost use Rattle.dw_base.specs.Refusals.{Blames};
 ghost use Rattle.dw_base.specs.declared.fault.Refusal.{Refusal as RefusalOf};
-ghost use Rattle.dw_lines.specs.LineTables.{HasLists, IsLineTable, LineTable as LineTableOf, table_with, texts_of};
-ghost use Rattle.dw_lines.specs.LineFails.{LineFails, ListsFail};
+ghost use Rattle.dw_base.specs.LineTables.{HasLists, IsLineTable, LineTable as LineTableOf, table_with, texts_of};
+ghost use Rattle.dw_base.specs.LineFails.{LineFails, ListsFail};
 
 use crate::entries::{bad_table, entries_at};
-use crate::header::{LineHeader, line_header};
+use crate::header::line_header;
 use crate::old_lists::{old_dirs, old_files};
 use crate::program::defined_files;
-use crate::texts::FilePlace;
-use dw_base::{Fault, Kind, Refusal, Width};
-use dw_strings::TextPlace;
+use dw_base::{Fault, FilePlace, Kind, LineHeader, Refusal, TextPlace, Width};
 use dw_view::View;
 use std::alloc::{AllocError, Global};
 use std::marker::Model;
@@ -93,8 +92,8 @@ fn new_lists(
     requires there { section < length view.now.sections }
     requires within { length table.now ≤ length (section_bytes view.now section) }
     requires version { header.now.version ≡ 5 }
-    ensures read { IfOk result (λ l. HasLists view.now section header.now table.now l.dirs.items l.files.items l.behind) }
-    ensures refused { IfErr result (Blames (ListsFail view.now section header.now table.now)) }
+    ensures read { IfOk result (λ l. HasLists (view_source view.now section) header.now table.now l.dirs.items l.files.items l.behind) }
+    ensures refused { IfErr result (Blames (ListsFail (view_source view.now section) header.now table.now)) }
 {
     let (dirs, place) = match entries_at(alloc, view, section, header, table, header.lists) {
         Ok(read) => read,
@@ -122,8 +121,8 @@ fn old_lists(
     table: &[u8],
 ) -> Result<Lists, Fault>
     requires version { header.now.version ≢ 5 }
-    ensures read { IfOk result (λ l. HasLists view.now section header.now table.now l.dirs.items l.files.items l.behind) }
-    ensures refused { IfErr result (Blames (ListsFail view.now section header.now table.now)) }
+    ensures read { IfOk result (λ l. HasLists (view_source view.now section) header.now table.now l.dirs.items l.files.items l.behind) }
+    ensures refused { IfErr result (Blames (ListsFail (view_source view.now section) header.now table.now)) }
 {
     let refusal = bad_table(section, header);
     let (dirs, place) = match old_dirs(alloc, section, table, header.lists, refusal) {
@@ -151,8 +150,8 @@ fn lists_at(
 ) -> Result<Lists, Fault>
     requires there { section < length view.now.sections }
     requires within { length table.now ≤ length (section_bytes view.now section) }
-    ensures read { IfOk result (λ l. HasLists view.now section header.now table.now l.dirs.items l.files.items l.behind) }
-    ensures refused { IfErr result (Blames (ListsFail view.now section header.now table.now)) }
+    ensures read { IfOk result (λ l. HasLists (view_source view.now section) header.now table.now l.dirs.items l.files.items l.behind) }
+    ensures refused { IfErr result (Blames (ListsFail (view_source view.now section) header.now table.now)) }
 {
     if header.version == 5 {
         return new_lists(alloc, view, section, header, table);
@@ -192,9 +191,13 @@ impl LineTable {
     #[tactic(auto, using(crate::proofs::TableLaws::table_laws))]
     pub fn read(alloc: Global, view: &View, section: u32, at: u64) -> Result<LineTable, Fault>
         requires there { section < length view.now.sections }
-        ensures read { IfOk result (IsLineTable view.now section at) }
-        ensures none { OnOk result ((r : RefusalOf) → LineFails view.now section at r → ⊥) }
-        ensures refused { IfErr result (Blames (LineFails view.now section at)) }
+        ensures read { IfOk result (IsLineTable (view_source view.now section) at) }
+        ensures section { IfOk result (λ t. t.section ≡ section) }
+        ensures start { IfOk result (λ t. t.start ≡ at) }
+        ensures after { IfOk result (λ t. at < t.end) }
+        ensures within { IfOk result (λ t. t.end ≤ length (section_bytes view.now section)) }
+        ensures none { OnOk result ((r : RefusalOf) → LineFails (view_source view.now section) at r → ⊥) }
+        ensures refused { IfErr result (Blames (LineFails (view_source view.now section) at)) }
     {
         let bytes = view.bytes(section);
         let Some(header) = line_header(view.order(), bytes, at) else {

@@ -4,23 +4,15 @@ ghost use Rattle.std.specs.Prelude.{◌≡◌, ◌+◌, ◌≤◌, ◌<◌, ◌^
 ghost use Rattle.dw_base.specs.Cells.{offset_into};
 ghost use Rattle.dw_base.specs.FileViews.{section_bytes};
 ghost use Rattle.dw_base.specs.ViewData.{located};
-ghost use Rattle.dw_lines.specs.LineTexts.{file_numbers, inline_text, named_text, skip_lebs};
+ghost use Rattle.dw_lines.specs.ViewSources.{view_source};
+ghost use Rattle.dw_base.specs.LineTexts.{file_numbers, inline_text, named_text, skip_lebs};
 
-use dw_base::{DebugSection, Field, Kind, Refusal, uleb_at};
-use dw_strings::{TextPlace, text_at};
+use dw_base::{DebugSection, Field, Kind, Refusal, TextPlace, uleb_at};
+use dw_strings::text_at;
 use dw_view::View;
 
-/// A file of a line table.
-#[derive(Clone, Copy, Debug, PartialEq, Eq)]
-pub struct FilePlace {
-    /// Its path.
-    pub text: TextPlace,
-    /// The number of its directory.
-    pub dir: u64,
-}
-
 /// The text at a place of the bytes up to a table's end. `None` exactly where no NUL follows in them.
-#[tactic(auto, using(crate::proofs::TextLaws::inline_laws), unfolding(crate::specs::LineTexts::inline_text))]
+#[tactic(auto, using(crate::proofs::TextLaws::inline_laws), unfolding(dw_base::specs::LineTexts::inline_text))]
 pub(crate) fn inline_text(section: u32, table: &[u8], place: u64) -> Option<TextPlace>
     ensures text { result ≡ inline_text section table.now place }
     ensures within { IfSome result (λ t. place + (t.len + 1) ≤ length table.now) }
@@ -58,7 +50,7 @@ pub(crate) fn skip_lebs(count: u8, table: &[u8], start: u64) -> Option<u64>
 
 /// The directory of a file before version 5 whose name ends before a place, and the place behind its
 /// numbers. `None` exactly where one of them passes the end.
-#[tactic(auto, unfolding(crate::specs::LineTexts::file_numbers))]
+#[tactic(auto, unfolding(dw_base::specs::LineTexts::file_numbers))]
 pub(crate) fn file_numbers(table: &[u8], place: u64) -> Option<(u64, u64)>
     ensures numbers { result ≡ file_numbers table.now place }
     ensures behind { IfSome result (λ n. place ≤ n.1) }
@@ -100,7 +92,7 @@ fn offset_into(view: &View, texts: DebugSection, field: Field) -> u64
 
 /// The text that an offset of `size` bytes at a place of a section names in a section of texts. Refused as
 /// `StringOffset` at the offset exactly where no text that ends begins there.
-#[tactic(auto, using(crate::proofs::TextLaws::named_laws), unfolding(crate::specs::LineTexts::named_text))]
+#[tactic(auto, using(crate::proofs::TextLaws::named_laws), unfolding(dw_base::specs::LineTexts::named_text))]
 pub(crate) fn named_text(
     view: &View,
     texts: DebugSection,
@@ -112,7 +104,7 @@ pub(crate) fn named_text(
     requires some { 0 < size }
     requires wide { size ≤ 8 }
     requires inside { place + size ≤ length (section_bytes view.now section) }
-    ensures text { result ≡ named_text view.now texts section place size }
+    ensures text { result ≡ named_text (view_source view.now section) (located view.now texts) place size }
 {
     let field = view.field(section, place, size)?;
     let at = offset_into(view, texts, field);

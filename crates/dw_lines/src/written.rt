@@ -2,30 +2,29 @@
 //!
 //! This file promises: the table that is given is the defined one, byte for byte; it is refused exactly where a
 //! new length or offset doesn't fit its field, or the program defines a file whose path changes.
-//! Read first: `specs/WrittenTables.antt`, then `specs/WriteFails.antt`.
+//! Read first: `WrittenLines` and `LineWriteFails` in `dw_base/specs`.
 
 ghost use Rattle.std.specs.Prelude.{◌≡◌, ◌↔◌, ◌+◌, ◌-◌, ◌≤◌, ◌<◌, ◌^◌, ◌++◌, [], length, nat_eq, Some, IsSome, IsTrue, IfOk, IfErr, OnOk};
 ghost use Rattle.std.specs.HashMap.{get};
 ghost use Rattle.dw_base.specs.FileViews.{section_bytes};
+ghost use Rattle.dw_lines.specs.ViewSources.{view_source};
 ghost use Rattle.dw_base.specs.Refusals.{Blames, at};
 ghost use Rattle.dw_base.specs.declared.fault.Kind.TheVariants.{TooWide};
 ghost use Rattle.dw_base.specs.declared.fault.Refusal.{Refusal as RefusalOf};
-ghost use Rattle.dw_lines.specs.LineTables.{IsLineTable, table_bytes, table_with};
-ghost use Rattle.dw_lines.specs.LineHeaders.{line_header};
-ghost use Rattle.dw_lines.specs.Programs.{next_opcode};
-ghost use Rattle.dw_lines.specs.Walks.{ComesTo, Since};
-ghost use Rattle.dw_lines.specs.WriteFails.{ProgramFails, WriteFails, length_field, length_limit};
-ghost use Rattle.dw_lines.specs.WrittenTables.{all_changes, behind_lengths, changed, header_length_place, length_bytes, length_size, new_place, with_header_length, with_program, written_front, written_header, written_program, written_rest, written_table};
+ghost use Rattle.dw_base.specs.LineTables.{IsLineTable, table_bytes, table_with};
+ghost use Rattle.dw_base.specs.LineHeaders.{line_header};
+ghost use Rattle.dw_base.specs.LinePrograms.{next_opcode};
+ghost use Rattle.dw_base.specs.Walks.{ComesTo, Since};
+ghost use Rattle.dw_base.specs.LineWriteFails.{CanWrite, ProgramFails, WriteFails, length_field, length_limit};
+ghost use Rattle.dw_base.specs.WrittenLines.{all_changes, behind_lengths, changed, header_length_place, length_bytes, length_size, new_place, with_header_length, with_program, written_front, written_header, written_program, written_rest, written_table};
 
 use crate::changes::{check_offsets, paths_of, put_paths};
 use crate::defined_paths::check_opcodes;
-use crate::header::{LineHeader, length_place, line_header, width_size};
+use crate::header::{length_place, line_header, width_size};
 use crate::parts::{part, push_length, push_number};
 use crate::table::LineTable;
-use crate::texts::FilePlace;
-use dw_base::{Fault, Kind, NoMemory, Refusal, Width};
+use dw_base::{Fault, FilePlace, Kind, LineHeader, NoMemory, Refusal, TextPlace, Width};
 use dw_paths::Maps;
-use dw_strings::TextPlace;
 use dw_view::View;
 use std::alloc::{AllocError, Global};
 use std::collections::HashMap;
@@ -76,7 +75,7 @@ fn written_header(
 ) -> Result<Vec<u8>, NoMemory>
     requires there { section < length view.now.sections }
     requires small { header.now.start ≤ 2 ^ 31 }
-    ensures bytes { IfOk result (λ out. out.items ≡ changed (section_bytes view.now section) (behind_lengths header.now.start header.now.width header.now.version) header.now.program (all_changes view.now maps.now (new_place view.now (λ o. get nat_eq str.now o) (λ o. get nat_eq line_str.now o)) section header.now.width paths.now)) }
+    ensures bytes { IfOk result (λ out. out.items ≡ changed (section_bytes view.now section) (behind_lengths header.now.start header.now.width header.now.version) header.now.program (all_changes (view_source view.now section) maps.now (new_place (view_source view.now section) (λ o. get nat_eq str.now o) (λ o. get nat_eq line_str.now o)) header.now.width paths.now)) }
 {
     let first = header_length_place(header) + u64::from(width_size(header.width));
     let mut out = Vec::new(alloc);
@@ -107,7 +106,7 @@ fn written_front(
 ) -> Result<Vec<u8>, AllocError>
     requires there { section < length view.now.sections }
     requires small { header.now.start ≤ 2 ^ 31 }
-    ensures bytes { IfOk result (λ out. out.items ≡ with_header_length view.now (table_with section header.now [] [] []) lists.now) }
+    ensures bytes { IfOk result (λ out. out.items ≡ with_header_length (view_source view.now section) (table_with section header.now [] [] []) lists.now) }
 {
     let version = header.start + length_size(header.width);
     let mut out = Vec::new(alloc);
@@ -150,10 +149,10 @@ fn whole_table(
 ) -> Result<WrittenTable, Fault>
     requires there { section < length view.now.sections }
     requires small { header.now.start ≤ 2 ^ 31 }
-    ensures bytes { IfOk result (λ w. w.bytes.items ≡ length_bytes view.now.order header.now.width (length (with_program view.now (table_with section header.now [] [] []) front.now)) ++ with_program view.now (table_with section header.now [] [] []) front.now) }
+    ensures bytes { IfOk result (λ w. w.bytes.items ≡ length_bytes view.now.order header.now.width (length (with_program (view_source view.now section) (table_with section header.now [] [] []) front.now)) ++ with_program (view_source view.now section) (table_with section header.now [] [] []) front.now) }
     ensures program { IfOk result (λ w. w.program ≡ length_size header.now.width + length front.now) }
-    ensures fits { OnOk result (length (with_program view.now (table_with section header.now [] [] []) front.now) < length_limit header.now.width) }
-    ensures refused { IfErr result (Blames (Since (at TooWide section (length_field header.now.start header.now.width)) (length_limit header.now.width ≤ length (with_program view.now (table_with section header.now [] [] []) front.now)))) }
+    ensures fits { OnOk result (length (with_program (view_source view.now section) (table_with section header.now [] [] []) front.now) < length_limit header.now.width) }
+    ensures refused { IfErr result (Blames (Since (at TooWide section (length_field header.now.start header.now.width)) (length_limit header.now.width ≤ length (with_program (view_source view.now section) (table_with section header.now [] [] []) front.now)))) }
 {
     let program = part(view.bytes(section), header.program, header.end);
     let len = front.len() as u64 + program.len() as u64;
@@ -200,12 +199,12 @@ fn check_program(
     defined: &[FilePlace],
 ) -> Result<(), Fault>
     requires there { section < length view.now.sections }
-    requires defined { ComesTo (next_opcode section header.now (table_bytes view.now section header.now)) ([], header.now.program) defined.now }
+    requires defined { ComesTo (next_opcode section header.now (table_bytes (view_source view.now section) header.now)) ([], header.now.program) defined.now }
     requires operands { header.now.lists ≡ header.now.operands + (header.now.opcode_base - 1) }
     requires lists { header.now.lists ≤ header.now.end }
     requires within { header.now.end ≤ length (section_bytes view.now section) }
-    ensures none { OnOk result ((r : RefusalOf) → ProgramFails maps.now section header.now (table_bytes view.now section header.now) r → ⊥) }
-    ensures refused { IfErr result (Blames (ProgramFails maps.now section header.now (table_bytes view.now section header.now))) }
+    ensures none { OnOk result ((r : RefusalOf) → ProgramFails maps.now section header.now (table_bytes (view_source view.now section) header.now) r → ⊥) }
+    ensures refused { IfErr result (Blames (ProgramFails maps.now section header.now (table_bytes (view_source view.now section) header.now))) }
 {
     if defined.is_empty() {
         return Ok(());
@@ -230,11 +229,12 @@ impl LineTable {
         line_str: &HashMap<u64, u64>,
     ) -> Result<WrittenTable, Fault>
         requires there { self.now.section < length view.now.sections }
-        requires table { IsLineTable view.now self.now.section self.now.start self.now }
-        ensures bytes { IfOk result (λ w. w.bytes.items ≡ written_table view.now maps.now (new_place view.now (λ o. get nat_eq str.now o) (λ o. get nat_eq line_str.now o)) self.now) }
-        ensures program { IfOk result (λ w. w.program ≡ written_program view.now maps.now (new_place view.now (λ o. get nat_eq str.now o) (λ o. get nat_eq line_str.now o)) self.now) }
-        ensures none { OnOk result ((r : RefusalOf) → WriteFails view.now maps.now (new_place view.now (λ o. get nat_eq str.now o) (λ o. get nat_eq line_str.now o)) self.now r → ⊥) }
-        ensures refused { IfErr result (Blames (WriteFails view.now maps.now (new_place view.now (λ o. get nat_eq str.now o) (λ o. get nat_eq line_str.now o)) self.now)) }
+        requires table { IsLineTable (view_source view.now self.now.section) self.now.start self.now }
+        ensures bytes { IfOk result (λ w. w.bytes.items ≡ written_table (view_source view.now self.now.section) maps.now (new_place (view_source view.now self.now.section) (λ o. get nat_eq str.now o) (λ o. get nat_eq line_str.now o)) self.now) }
+        ensures program { IfOk result (λ w. w.program ≡ written_program (view_source view.now self.now.section) maps.now (new_place (view_source view.now self.now.section) (λ o. get nat_eq str.now o) (λ o. get nat_eq line_str.now o)) self.now) }
+        ensures can { OnOk result (CanWrite (view_source view.now self.now.section) maps.now (new_place (view_source view.now self.now.section) (λ o. get nat_eq str.now o) (λ o. get nat_eq line_str.now o)) self.now) }
+        ensures none { OnOk result ((r : RefusalOf) → WriteFails (view_source view.now self.now.section) maps.now (new_place (view_source view.now self.now.section) (λ o. get nat_eq str.now o) (λ o. get nat_eq line_str.now o)) self.now r → ⊥) }
+        ensures refused { IfErr result (Blames (WriteFails (view_source view.now self.now.section) maps.now (new_place (view_source view.now self.now.section) (λ o. get nat_eq str.now o) (λ o. get nat_eq line_str.now o)) self.now)) }
     {
         let section = self.section;
         let header = header_of(view, section, self.start);

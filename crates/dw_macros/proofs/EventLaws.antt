@@ -25,7 +25,7 @@ use Rattle.dw_macros.specs.declared.operation.MacroEvent.TheVariants.{StartFile,
 use Rattle.dw_macros.specs.declared.operation.Operation.{Operation}
 use Rattle.dw_macros.specs.declared.operation.Operation.TheVariants.{End, Inline, Named, Enter, Leave, Bring, Foreign}
 use Rattle.dw_macros.specs.declared.units.MacroUnit.{MacroUnit}
-use Rattle.dw_strings.specs.declared.place.TextPlace.{TextPlace}
+use Rattle.dw_base.specs.declared.line_tables.TextPlace.{TextPlace}
 
 -- the text that an offset names
 located-some : (v : View) (number : ℕ) (bytes : List ℕ) → Some number ≡ section_named v (name_of Str) → bytes ≡ section_bytes v number

@@ -16,7 +16,7 @@ use Rattle.dw_macros.specs.declared.operation.MacroEvent.TheVariants.{Define, Un
 use Rattle.dw_macros.specs.declared.operation.Operation.{Operation}
 use Rattle.dw_macros.specs.declared.operation.Operation.TheVariants.{End, Inline, Named, Enter, Leave, Bring, Foreign}
 use Rattle.dw_macros.specs.declared.units.MacroUnit.{MacroUnit}
-use Rattle.dw_strings.specs.declared.place.TextPlace.{TextPlace}
+use Rattle.dw_base.specs.declared.line_tables.TextPlace.{TextPlace}
 
 -- a definition, or its end
 abbrev pub text_event : Bool → ℕ → TextPlace → MacroEvent

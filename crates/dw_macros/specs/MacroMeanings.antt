@@ -6,7 +6,7 @@ use Rattle.dw_macros.specs.MacroPieces.{table_number, unit_number}
 use Rattle.dw_macros.specs.declared.operation.MacroEvent.{MacroEvent}
 use Rattle.dw_macros.specs.declared.operation.MacroEvent.TheVariants.{Define, Undef, StartFile, EndFile, Import}
 use Rattle.dw_macros.specs.declared.units.MacroUnit.{MacroUnit}
-use Rattle.dw_strings.specs.declared.place.TextPlace.{TextPlace}
+use Rattle.dw_base.specs.declared.line_tables.TextPlace.{TextPlace}
 
 -- an event with its text, or with the number of the unit that it brings in
 pub data EventMeaning : Type 0 where

@@ -15,8 +15,8 @@ use crate::reading::operation_at;
 use crate::texts::{offset_at, section_of};
 use crate::units::MacroUnit;
 use crate::widths::width_size;
-use dw_base::{DebugSection, Field, Width};
-use dw_strings::{TextPlace, text_at};
+use dw_base::{DebugSection, Field, TextPlace, Width};
+use dw_strings::text_at;
 use dw_view::View;
 use std::marker::Model;
 

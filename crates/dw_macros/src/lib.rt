@@ -29,8 +29,7 @@ mod texts;
 mod units;
 mod widths;
 
-pub use dw_base::{Fault, Kind, Refusal, Width};
-pub use dw_strings::TextPlace;
+pub use dw_base::{Fault, Kind, Refusal, TextPlace, Width};
 pub use events::MacroEvents;
 pub use operation::MacroEvent;
 pub use units::{MacroUnit, macro_units};

@@ -1,6 +1,6 @@
 //! The operations of a macro unit as they stand in its bytes, and as events (DWARF 5, 6.3.2).
 
-use dw_strings::TextPlace;
+use dw_base::TextPlace;
 
 /// An event of a macro unit.
 #[derive(Clone, Copy, Debug, PartialEq, Eq)]

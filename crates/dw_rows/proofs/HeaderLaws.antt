@@ -9,8 +9,9 @@ use Rattle.dw_base.specs.Numbers.{number_at, spelled}
 use Rattle.dw_base.specs.declared.shared.Order.{Order}
 use Rattle.dw_base.specs.declared.shared.Width.{Width}
 use Rattle.dw_base.specs.declared.shared.Width.TheVariants.{W32, W64}
-use Rattle.dw_lines.specs.LineHeaders.{line_header, header_from, header_in, header_of_version, header_at, header_of_length, header_if, header_with, is_header, has_standard_operands, is_line_version, length_place, flags_place}
-use Rattle.dw_rows.specs.TableRows.{initial_size, counts_place}
+use Rattle.dw_base.specs.LineHeaders.{line_header, header_from, header_in, header_of_version, header_at, header_of_length, header_if, header_with, is_header, has_standard_operands, is_line_version, length_place, flags_place}
+use Rattle.dw_base.specs.WrittenLines.{length_size}
+use Rattle.dw_rows.specs.TableRows.{counts_place}
 
 -- what an option held that led to something
 pub then-some : {X Y : Type 0} (f : X → Option Y) (x : Option X) (y : Y) → option_and_then f x ≡ Some y → (a : X) × (x ≡ Some a) × (f a ≡ Some y)
@@ -115,27 +116,27 @@ version-fits order table start width at version h e =
     (if-some (is_line_version version) (header_at order table start width version at (length_place version at) (flags_of width at version)) h e).1
 
 -- the size of the length's field
-initial-size : (order : Order) (bytes : List ℕ) (start : ℕ) (l : Width × ℕ × ℕ) → initial_length_at order bytes start ≡ Some l → l.2 ≡ initial_size l.0
+initial-size : (order : Order) (bytes : List ℕ) (start : ℕ) (l : Width × ℕ × ℕ) → initial_length_at order bytes start ≡ Some l → l.2 ≡ length_size l.0
 unfolding initial_length_at
 initial-size order bytes start l e = by_word (number_at order bytes start 4) (number_at order bytes (start + 4) 8) e
   where
-    by_long : (n : Option ℕ) → long_length n ≡ Some l → l.2 ≡ initial_size l.0
+    by_long : (n : Option ℕ) → long_length n ≡ Some l → l.2 ≡ length_size l.0
     by_long None f = absurd (by_kind f)
       where
         by_kind : None ≡ Some l → ⊥
         by_kind g = cc
-    by_long (Some n) f = ap (λ (x : Width × ℕ × ℕ). x.2) (sym (some-same (W64, n, 12) l f)) ∙ ap (λ (x : Width × ℕ × ℕ). initial_size x.0) (some-same (W64, n, 12) l f)
+    by_long (Some n) f = ap (λ (x : Width × ℕ × ℕ). x.2) (sym (some-same (W64, n, 12) l f)) ∙ ap (λ (x : Width × ℕ × ℕ). length_size x.0) (some-same (W64, n, 12) l f)
 
-    by_tests : (a b : Bool) (word : ℕ) (behind : Option ℕ) → (if a then Some (W32, word, 4) else (if b then long_length behind else None)) ≡ Some l → l.2 ≡ initial_size l.0
+    by_tests : (a b : Bool) (word : ℕ) (behind : Option ℕ) → (if a then Some (W32, word, 4) else (if b then long_length behind else None)) ≡ Some l → l.2 ≡ length_size l.0
     by_tests true b word behind f =
-        ap (λ (x : Width × ℕ × ℕ). x.2) (sym (some-same (W32, word, 4) l f)) ∙ ap (λ (x : Width × ℕ × ℕ). initial_size x.0) (some-same (W32, word, 4) l f)
+        ap (λ (x : Width × ℕ × ℕ). x.2) (sym (some-same (W32, word, 4) l f)) ∙ ap (λ (x : Width × ℕ × ℕ). length_size x.0) (some-same (W32, word, 4) l f)
     by_tests false true word behind f = by_long behind f
     by_tests false false word behind f = absurd (by_kind f)
       where
         by_kind : None ≡ Some l → ⊥
         by_kind g = cc
 
-    by_word : (word behind : Option ℕ) → initial_length word behind ≡ Some l → l.2 ≡ initial_size l.0
+    by_word : (word behind : Option ℕ) → initial_length word behind ≡ Some l → l.2 ≡ length_size l.0
     by_word None behind f = absurd (by_kind f)
       where
         by_kind : None ≡ Some l → ⊥
@@ -155,7 +156,7 @@ pub record HeaderIs (bytes : List ℕ) (start : ℕ) (own_start : ℕ) (width : 
   pub base_some : 0 < base
   pub standard_is : standard ≡ true
 
-counts-same : (start at version flags operands : ℕ) (width own : Width) (own_version : ℕ) → at ≡ start + initial_size width → own ≡ width → own_version ≡ version
+counts-same : (start at version flags operands : ℕ) (width own : Width) (own_version : ℕ) → at ≡ start + length_size width → own ≡ width → own_version ≡ version
     → operands ≡ flags_of width at version + 4 → operands ≡ counts_place start own own_version
 unfolding counts_place
 counts-same start at version flags operands width own own_version a w v o = rw (w, v, ← a) o

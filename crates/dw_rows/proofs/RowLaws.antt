@@ -1,11 +1,11 @@
 -- Laws of rows, operation by operation.
 use Rattle.std.proofs.Common.{true, false, ◌≡◌, ℕ, zero, suc, ◌-◌, ◌<◌, Bool, if◌then◌else◌, List, [], ◌∷◌, drop, Some, None, refl, sym, ap, ◌∙◌, arith}
-use Rattle.dw_rows.specs.Operations.{operation_in, operations, operations_behind, with_those}
-use Rattle.dw_rows.specs.Registers.{moved, gives_row, behind_row, rows_of}
+use Rattle.dw_base.specs.LineOperations.{operation_in, operations, operations_behind, with_those}
+use Rattle.dw_base.specs.LineRegisters.{moved, gives_row, behind_row, rows_of}
 use Rattle.dw_rows.specs.TableRows.{rows_from}
-use Rattle.dw_rows.specs.declared.operation.LineParams.{LineParams}
-use Rattle.dw_rows.specs.declared.operation.Operation.{Operation}
-use Rattle.dw_rows.specs.declared.row.Row.{Row}
+use Rattle.dw_base.specs.declared.line_rows.LineParams.{LineParams}
+use Rattle.dw_base.specs.declared.line_rows.Operation.{Operation}
+use Rattle.dw_base.specs.declared.line_rows.Row.{Row}
 
 -- operations behind so many bytes are those of the bytes behind them
 operations-drop : (p : LineParams) (counts : List ℕ) (n : ℕ) (bytes : List ℕ) → operations_behind p counts n bytes ≡ operations p counts (drop n bytes)

@@ -4,12 +4,15 @@ use Rattle.std.proofs.lemmas.List.{drop-take, take-take, length-take-le, length-
 use Rattle.dw_base.specs.FileViews.{View, section_bytes}
 use Rattle.dw_base.specs.declared.shared.Order.{Order}
 use Rattle.dw_base.specs.declared.shared.Width.{Width}
-use Rattle.dw_lines.specs.LineTables.{LineTable, IsLineTable, table_bytes}
-use Rattle.dw_rows.specs.Operations.{operations, Spells}
-use Rattle.dw_rows.specs.Registers.{start_registers}
+use Rattle.dw_base.specs.LineTables.{LineTable, IsLineTable, table_bytes}
+use Rattle.dw_base.specs.LineMeanings.{line_params, program_rows}
+use Rattle.dw_base.specs.WrittenLines.{part}
+use Rattle.dw_lines.specs.ViewSources.{view_source}
+use Rattle.dw_base.specs.LineOperations.{operations, Spells}
+use Rattle.dw_base.specs.LineRegisters.{start_registers}
 use Rattle.dw_rows.specs.TableRows.{IsTableIn, IsWhole, RowsFit, RowsState, counts_of, counts_place, params_of, program_of, rows_from, rows_start, table_rows}
-use Rattle.dw_rows.specs.declared.operation.LineParams.{LineParams}
-use Rattle.dw_rows.specs.declared.row.Row.{Row}
+use Rattle.dw_base.specs.declared.line_rows.LineParams.{LineParams}
+use Rattle.dw_base.specs.declared.line_rows.Row.{Row}
 use Rattle.dw_rows.proofs.HeaderLaws.{HeaderIs, header-back}
 use Rattle.dw_rows.proofs.WholeLaws.{program-whole}
 
@@ -61,8 +64,10 @@ take-inside bytes place n end le =
     let small : n ≤ end - place = omega (arith, le) in
     ap (λ (k : ℕ). take n (drop place (take k bytes))) (sym sum) ∙ ap (take n) (drop-take place (end - place) bytes) ∙ take-take n (end - place) (drop place bytes) small
 
-pub table-whole : (v : View) (t : LineTable) → IsTableIn v t → IsWhole (rows_start v t)
-table-whole v t is =
+-- the operand counts and the program of a table are those that its header says
+pub counts-said : (v : View) (t : LineTable) (is : IsTableIn v t)
+    → counts_of v t ≡ take (is.is.header.opcode_base - 1) (drop is.is.header.operands (table_bytes (view_source v t.section) is.is.header))
+counts-said v t is =
     let h = is.is.header in
     let same = is.is.is in
     let header = header-back v.order (section_bytes v t.section) is.start h is.is.header_is in
@@ -75,15 +80,41 @@ table-whole v t is =
     ap (λ (n : ℕ). counts_place n t.width t.version) start ∙ ap (λ (x : Width). counts_place is.start x t.version) (ap (λ (x : LineTable). x.width) same)
     ∙ ap (counts_place is.start h.width) (ap (λ (x : LineTable). x.version) same) ∙ sym header.operands_is in
     let room : h.operands + (h.opcode_base - 1) ≤ h.end = omega (arith, counts_in, place, base, end) in
-    let counts : counts_of v t ≡ take (h.opcode_base - 1) (drop h.operands (table_bytes v t.section h)) =
     ap (λ (n : ℕ). take (n - 1) (drop (counts_place t.start t.width t.version) (section_bytes v t.section))) base
     ∙ ap (λ (n : ℕ). take (h.opcode_base - 1) (drop n (section_bytes v t.section))) place
-    ∙ sym (take-inside (section_bytes v t.section) h.operands (h.opcode_base - 1) h.end room) in
-    let program : drop h.program (table_bytes v t.section h) ≡ program_of v t =
-    ap (λ (n : ℕ). drop n (table_bytes v t.section h)) (sym (ap (λ (x : LineTable). x.program) same)) ∙ ap (λ (n : ℕ). drop t.program (take n (section_bytes v t.section))) (sym end) in
-    subst (λ (bs : List ℕ). Spells (params_of v.order t) (counts_of v t) bs (operations (params_of v.order t) (counts_of v t) bs)) program
-    (program-whole (params_of v.order t) t.section h (table_bytes v t.section h) (counts_of v t) is.is.defined header.standard_is
-    (sym (ap (λ (x : LineTable). x.line_range) same)) (sym base) counts is.is.program)
+    ∙ sym (take-inside (section_bytes v t.section) h.operands (h.opcode_base - 1) h.end room)
+
+pub program-said : (v : View) (t : LineTable) (is : IsTableIn v t) → drop is.is.header.program (table_bytes (view_source v t.section) is.is.header) ≡ program_of v t
+program-said v t is =
+    let h = is.is.header in
+    let same = is.is.is in
+    ap (λ (n : ℕ). drop n (table_bytes (view_source v t.section) h)) (sym (ap (λ (x : LineTable). x.program) same))
+    ∙ ap (λ (n : ℕ). drop t.program (take n (section_bytes v t.section))) (sym (ap (λ (x : LineTable). x.end) same))
+
+pub table-whole : (v : View) (t : LineTable) → IsTableIn v t → IsWhole (rows_start v t)
+table-whole v t is =
+    let h = is.is.header in
+    let same = is.is.is in
+    let header = header-back v.order (section_bytes v t.section) is.start h is.is.header_is in
+    subst (λ (bs : List ℕ). Spells (params_of v.order t) (counts_of v t) bs (operations (params_of v.order t) (counts_of v t) bs)) (program-said v t is)
+    (program-whole (params_of v.order t) t.section h (table_bytes (view_source v t.section) h) (counts_of v t) is.is.defined header.standard_is
+    (sym (ap (λ (x : LineTable). x.line_range) same)) (sym (ap (λ (x : LineTable). x.opcode_base) same)) (counts-said v t is) is.is.program)
+
+-- the rows of a table are those that it means
+pub rows-meant : (v : View) (t : LineTable) (is : IsTableIn v t) → table_rows v t
+    ≡ program_rows (line_params v.order is.is.header) (part (table_bytes (view_source v t.section) is.is.header) is.is.header.operands is.is.header.lists)
+    (drop is.is.header.program (table_bytes (view_source v t.section) is.is.header))
+rows-meant v t is =
+    let h = is.is.header in
+    let header = header-back v.order (section_bytes v t.section) is.start h is.is.header_is in
+    let lists_is = header.lists_is in
+    let params : params_of v.order t ≡ line_params v.order h = ap (params_of v.order) is.is.is in
+    let size : h.opcode_base - 1 ≡ h.lists - h.operands = omega (arith, lists_is) in
+    let counts : counts_of v t ≡ part (table_bytes (view_source v t.section) h) h.operands h.lists =
+    counts-said v t is ∙ ap (λ (n : ℕ). take n (drop h.operands (table_bytes (view_source v t.section) h))) size in
+    ap (λ (x : LineParams). program_rows x (counts_of v t) (program_of v t)) params
+    ∙ ap (λ (xs : List ℕ). program_rows (line_params v.order h) xs (program_of v t)) counts
+    ∙ ap (program_rows (line_params v.order h) (part (table_bytes (view_source v t.section) h) h.operands h.lists)) (sym (program-said v t is))
 
 -- parts of the section's bytes
 pub counts-cut : (bytes : List ℕ) (place n : ℕ) → take (place + n - place) (drop place bytes) ≡ take n (drop place bytes)
@@ -168,13 +199,13 @@ pub table-bytes : (v : View) (t : LineTable) (section : ℕ) (bytes : List ℕ) 
 table-bytes v t section bytes b s = b ∙ ap (section_bytes v) s
 
 -- a table that was read is one in the view
-pub read-table : (v : View) (section start : ℕ) (t : LineTable) → section < length v.sections → IsLineTable v section start t → IsTableIn v t
+pub read-table : (v : View) (section start : ℕ) (t : LineTable) → section < length v.sections → IsLineTable (view_source v section) start t → IsTableIn v t
 read-table v section start t there is =
     let own : section ≡ t.section = sym (ap (λ (x : LineTable). x.section) is.is) in
     record {
       start = start;
       there = subst (λ (n : ℕ). n < length v.sections) own there;
-      is = subst (λ (n : ℕ). IsLineTable v n start t) own is;
+      is = subst (λ (n : ℕ). IsLineTable (view_source v n) start t) own is;
     }
 
 pub ruleset caller_laws = (read-table)

@@ -8,15 +8,15 @@ use Rattle.dw_base.specs.Lebs.{uleb_at, uleb, uleb_within, sleb_at, sleb, sleb_w
 use Rattle.dw_base.specs.Numbers.{number_at, spelled}
 use Rattle.dw_base.specs.UnitHeaders.{is_address_size}
 use Rattle.dw_base.specs.declared.shared.Order.{Order}
-use Rattle.dw_lines.specs.LineHeaders.{standard_operands, standard_count, has_standard_operands}
-use Rattle.dw_lines.specs.LineTexts.{skip_lebs}
-use Rattle.dw_lines.specs.Programs.{if_ranged, behind_bytes, standard_end, extended_operands, extended_by, extended_in as opcode_in, extended_at, plain_opcode, opcode_at, next_opcode, with_file}
-use Rattle.dw_lines.specs.declared.texts.FilePlace.{FilePlace}
-use Rattle.dw_lines.specs.Walks.{Step, goes, ends, Walks, no_step, one_more as one_step, ComesTo}
-use Rattle.dw_rows.specs.Operations.{address_field, special, special_operation, const_operation, is_numbered, numbered, unnumbered, standard_operation, extended, extended_in, extended_operation, operation_of, operation_in, operations, Spells, none_left, one_more}
-use Rattle.dw_rows.specs.declared.operation.LineParams.{LineParams}
-use Rattle.dw_rows.specs.declared.operation.Operation.{Operation}
-use Rattle.dw_rows.specs.declared.operation.Operation.TheVariants.{AddLine, AddAddress, EndSequence, SetAddress, SetDiscriminator, Skip, Advance}
+use Rattle.dw_base.specs.LineHeaders.{standard_operands, standard_count, has_standard_operands}
+use Rattle.dw_base.specs.LineTexts.{skip_lebs}
+use Rattle.dw_base.specs.LinePrograms.{if_ranged, behind_bytes, standard_end, extended_operands, extended_by, extended_in as opcode_in, extended_at, plain_opcode, opcode_at, next_opcode, with_file}
+use Rattle.dw_base.specs.declared.line_tables.FilePlace.{FilePlace}
+use Rattle.dw_base.specs.Walks.{Step, goes, ends, Walks, no_step, one_more as one_step, ComesTo}
+use Rattle.dw_base.specs.LineOperations.{address_field, special, special_operation, const_operation, is_numbered, numbered, unnumbered, standard_operation, extended, extended_in, extended_operation, operation_of, operation_in, operations, Spells, none_left, one_more}
+use Rattle.dw_base.specs.declared.line_rows.LineParams.{LineParams}
+use Rattle.dw_base.specs.declared.line_rows.Operation.{Operation}
+use Rattle.dw_base.specs.declared.line_rows.Operation.TheVariants.{AddLine, AddAddress, EndSequence, SetAddress, SetDiscriminator, Skip, Advance}
 use Rattle.dw_rows.proofs.HeaderLaws.{then-some, if-some, some-same}
 use Rattle.dw_rows.proofs.RowLaws.{operations-more}
 

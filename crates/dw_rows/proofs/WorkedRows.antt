@@ -4,11 +4,11 @@ use Rattle.std.specs.Prelude.{negsuc}
 use Rattle.dw_base.specs.Lebs.{uleb_at}
 use Rattle.dw_base.specs.Numbers.{spelled, number_at}
 use Rattle.dw_base.specs.declared.shared.Order.TheVariants.{Little}
-use Rattle.dw_rows.specs.Operations.{special_operation, const_operation, is_numbered, numbered, unnumbered, standard_operation, extended, extended_in, extended_operation, operation_of, operation_in}
-use Rattle.dw_rows.specs.Registers.{start_registers, advanced, on_line, at_address, moved, gives_row, behind_row}
+use Rattle.dw_base.specs.LineOperations.{special_operation, const_operation, is_numbered, numbered, unnumbered, standard_operation, extended, extended_in, extended_operation, operation_of, operation_in}
+use Rattle.dw_base.specs.LineRegisters.{start_registers, advanced, on_line, at_address, moved, gives_row, behind_row}
 use Rattle.dw_rows.specs.TableRows.{rows_from}
-use Rattle.dw_rows.specs.declared.operation.LineParams.{LineParams}
-use Rattle.dw_rows.specs.declared.row.Row.{Row}
+use Rattle.dw_base.specs.declared.line_rows.LineParams.{LineParams}
+use Rattle.dw_base.specs.declared.line_rows.Row.{Row}
 
 -- a table whose instructions have so many bytes, and so many operations
 abbrev params : ℕ → ℕ → LineParams

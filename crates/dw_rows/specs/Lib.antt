@@ -1,4 +1,2 @@
-pub mod Operations
-pub mod Registers
 pub mod TableRows
 pub mod ShownFiles

@@ -4,19 +4,20 @@ use Rattle.dw_base.specs.FileViews.{View, section_bytes}
 use Rattle.dw_base.specs.Forms.{width_size}
 use Rattle.dw_base.specs.declared.shared.Order.{Order}
 use Rattle.dw_base.specs.declared.shared.Width.{Width}
-use Rattle.dw_base.specs.declared.shared.Width.TheVariants.{W32, W64}
-use Rattle.dw_lines.specs.LineHeaders.{length_place, flags_place}
-use Rattle.dw_lines.specs.LineTables.{LineTable, IsLineTable}
-use Rattle.dw_rows.specs.Operations.{operations, Spells}
-use Rattle.dw_rows.specs.Registers.{start_registers, rows_of}
-use Rattle.dw_rows.specs.declared.operation.LineParams.{LineParams}
-use Rattle.dw_rows.specs.declared.row.Row.{Row}
+use Rattle.dw_base.specs.LineHeaders.{length_place, flags_place}
+use Rattle.dw_base.specs.LineTables.{LineTable, IsLineTable}
+use Rattle.dw_base.specs.WrittenLines.{length_size}
+use Rattle.dw_lines.specs.ViewSources.{view_source}
+use Rattle.dw_base.specs.LineOperations.{operations, Spells}
+use Rattle.dw_base.specs.LineRegisters.{start_registers, rows_of}
+use Rattle.dw_base.specs.declared.line_rows.LineParams.{LineParams}
+use Rattle.dw_base.specs.declared.line_rows.Row.{Row}
 
 -- a table that can be read in a section of the view
 pub record IsTableIn (v : View) (t : LineTable) : Type 0 where
   pub start : ℕ
   pub there : t.section < length v.sections
-  pub is : IsLineTable v t.section start t
+  pub is : IsLineTable (view_source v t.section) start t
 
 -- the numbers on which the rows depend
 abbrev pub params_of : Order → LineTable → LineParams
@@ -30,14 +31,9 @@ params_of order t = record {
   opcode_base = t.opcode_base;
 }
 
--- how many bytes the length of a table has (DWARF 5, 7.4)
-abbrev pub initial_size : Width → ℕ
-initial_size W32 = 4
-initial_size W64 = 12
-
 -- where the operand counts of the standard opcodes stand, for a table's start, width and version: behind the opcode base
 unfoldable pub counts_place : ℕ → Width → ℕ → ℕ
-counts_place start width version = flags_place version (length_place version (start + initial_size width) + width_size width) + 4
+counts_place start width version = flags_place version (length_place version (start + length_size width) + width_size width) + 4
 
 -- the operand counts of the standard opcodes from 1 on
 abbrev pub counts_of : View → LineTable → List ℕ

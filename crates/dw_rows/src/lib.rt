@@ -4,7 +4,7 @@
 //! machine are, step by step, where its program appends them. No step can fail on a table that was read, and
 //! none takes memory.
 //! It does not promise: the texts of a row's file, which the table has (`specs/ShownFiles.antt` says which).
-//! Read first: `specs/TableRows.antt`, then `specs/Registers.antt` and `specs/Operations.antt`.
+//! Read first: `specs/TableRows.antt`, then `LineRegisters` and `LineOperations` in `dw_base/specs`.
 //!
 //! # Example
 //!
@@ -18,13 +18,10 @@
 
 #[cfg(test)]
 mod fixtures;
-mod line_numbers;
-mod operation;
 mod reading;
 mod registers;
-mod row;
 mod rows;
 
+pub use dw_base::Row;
 pub use dw_lines::{FilePlace, LineTable, TextPlace};
-pub use row::Row;
 pub use rows::Rows;

@@ -4,17 +4,16 @@
 //! that a table may have ends in the bytes.
 
 ghost use Rattle.std.specs.Prelude.{◌≡◌, ◌+◌, ◌-◌, ◌≤◌, ◌<◌, ◌^◌, length, IfSome};
-ghost use Rattle.dw_lines.specs.LineTexts.{skip_lebs};
-ghost use Rattle.dw_rows.specs.Operations.{const_operation, extended, extended_in, extended_operation, is_numbered, numbered, operation_in, special, special_operation, standard_operation, unnumbered};
+ghost use Rattle.dw_base.specs.LineTexts.{skip_lebs};
+ghost use Rattle.dw_base.specs.LineOperations.{const_operation, extended, extended_in, extended_operation, is_numbered, numbered, operation_in, special, special_operation, standard_operation, unnumbered};
 
-use crate::line_numbers::{
+use dw_base::line_numbers::{
     DW_LNE_end_sequence, DW_LNE_set_address, DW_LNE_set_discriminator, DW_LNS_advance_line,
     DW_LNS_advance_pc, DW_LNS_const_add_pc, DW_LNS_copy, DW_LNS_fixed_advance_pc,
     DW_LNS_negate_stmt, DW_LNS_set_basic_block, DW_LNS_set_column, DW_LNS_set_epilogue_begin,
     DW_LNS_set_file, DW_LNS_set_isa, DW_LNS_set_prologue_end,
 };
-use crate::operation::{LineParams, Operation};
-use dw_base::{Field, Order, number_at, number_in, sleb_at, uleb_at};
+use dw_base::{Field, LineParams, Operation, Order, number_at, number_in, sleb_at, uleb_at};
 
 /// What a special opcode does that is so far above the first.
 fn special(params: &LineParams, above: u8) -> Operation
@@ -27,7 +26,7 @@ fn special(params: &LineParams, above: u8) -> Operation
 }
 
 /// A special opcode. `None` exactly where the line range is 0.
-#[tactic(auto, unfolding(crate::specs::Operations::special_operation))]
+#[tactic(auto, unfolding(dw_base::specs::LineOperations::special_operation))]
 fn special_operation(params: &LineParams, opcode: u8) -> Option<(Operation, u64)>
     requires above { params.now.opcode_base ≤ opcode }
     ensures operation { result ≡ special_operation params.now opcode }
@@ -40,7 +39,7 @@ fn special_operation(params: &LineParams, opcode: u8) -> Option<(Operation, u64)
 }
 
 /// The advance of the special opcode 255. `None` exactly where the line range is 0.
-#[tactic(auto, unfolding(crate::specs::Operations::const_operation))]
+#[tactic(auto, unfolding(dw_base::specs::LineOperations::const_operation))]
 fn const_operation(params: &LineParams) -> Option<(Operation, u64)>
     ensures operation { result ≡ const_operation params.now }
     ensures size { IfSome result (λ o. o.1 ≡ 1) }
@@ -53,7 +52,7 @@ fn const_operation(params: &LineParams) -> Option<(Operation, u64)>
 }
 
 /// Whether a standard opcode has one unsigned number.
-#[tactic(auto, unfolding(crate::specs::Operations::is_numbered))]
+#[tactic(auto, unfolding(dw_base::specs::LineOperations::is_numbered))]
 fn is_numbered(opcode: u8) -> bool
     ensures { result ≡ is_numbered opcode }
 {
@@ -64,7 +63,7 @@ fn is_numbered(opcode: u8) -> bool
 }
 
 /// What a standard opcode with one unsigned number does.
-#[tactic(auto, unfolding(crate::specs::Operations::numbered))]
+#[tactic(auto, unfolding(dw_base::specs::LineOperations::numbered))]
 fn numbered(opcode: u8, number: u64) -> Operation
     ensures operation { result ≡ numbered opcode number }
 {
@@ -81,7 +80,7 @@ fn numbered(opcode: u8, number: u64) -> Operation
 }
 
 /// What a standard opcode does of which no number counts.
-#[tactic(auto, unfolding(crate::specs::Operations::unnumbered))]
+#[tactic(auto, unfolding(dw_base::specs::LineOperations::unnumbered))]
 fn unnumbered(opcode: u8) -> Operation
     ensures operation { result ≡ unnumbered opcode }
 {
@@ -125,7 +124,7 @@ fn skip_lebs(count: u8, left: &[u8], start: u64) -> Option<u64>
 
 /// A standard opcode at the front. `None` exactly where its numbers pass the end, or it divides by a line
 /// range of 0.
-#[tactic(auto, unfolding(crate::specs::Operations::standard_operation))]
+#[tactic(auto, unfolding(dw_base::specs::LineOperations::standard_operation))]
 fn standard_operation(
     params: &LineParams,
     counts: &[u8],
@@ -170,7 +169,7 @@ fn standard_operation(
 
 /// What an extended opcode of a code does, its operands from a place on in the bytes up to its end. `None`
 /// exactly where they pass that end, or an address has another size than 2, 4 or 8.
-#[tactic(auto, unfolding(crate::specs::Operations::extended))]
+#[tactic(auto, unfolding(dw_base::specs::LineOperations::extended))]
 fn extended(order: Order, body: &[u8], code: u8, place: u64) -> Option<Operation>
     requires inside { place ≤ length body.now }
     ensures operation { result ≡ extended order body.now code place }
@@ -196,7 +195,7 @@ fn extended(order: Order, body: &[u8], code: u8, place: u64) -> Option<Operation
 }
 
 /// An extended opcode of so many bytes from a place on, its code the first of them.
-#[tactic(auto, unfolding(crate::specs::Operations::extended_in))]
+#[tactic(auto, unfolding(dw_base::specs::LineOperations::extended_in))]
 fn extended_in(order: Order, left: &[u8], first: u64, size: u64) -> Option<(Operation, u64)>
     requires inside { first ≤ length left.now }
     ensures operation { result ≡ extended_in order left.now first size }
@@ -218,7 +217,7 @@ fn extended_in(order: Order, left: &[u8], first: u64, size: u64) -> Option<(Oper
 }
 
 /// An extended opcode at the front.
-#[tactic(auto, unfolding(crate::specs::Operations::extended_operation))]
+#[tactic(auto, unfolding(dw_base::specs::LineOperations::extended_operation))]
 fn extended_operation(order: Order, left: &[u8]) -> Option<(Operation, u64)>
     ensures operation { result ≡ extended_operation order left.now }
     ensures further { IfSome result (λ o. 0 < o.1) }
@@ -232,7 +231,7 @@ fn extended_operation(order: Order, left: &[u8]) -> Option<(Operation, u64)>
 
 /// The operation at the front of what is left of a program, and its size in bytes. `None` exactly where none
 /// stands there that ends in the bytes and that a table may have.
-#[tactic(auto, unfolding(crate::specs::Operations::operation_in, crate::specs::Operations::operation_of))]
+#[tactic(auto, unfolding(dw_base::specs::LineOperations::operation_in, dw_base::specs::LineOperations::operation_of))]
 pub(crate) fn operation_in(
     params: &LineParams,
     counts: &[u8],

@@ -1,14 +1,12 @@
 //! The registers of the line machine (DWARF 5, 6.2.2): what an operation makes of them.
 
 ghost use Rattle.std.specs.Prelude.{◌≡◌, ◌<◌, ◌+◌, ◌*◌, ◌/◌, ◌%◌, ◌^◌};
-ghost use Rattle.dw_rows.specs.Registers.{advanced, at_address, behind_row, gives_row, moved, on_line, start_registers};
+ghost use Rattle.dw_base.specs.LineRegisters.{advanced, at_address, behind_row, gives_row, moved, on_line, start_registers};
 
-use crate::operation::{LineParams, Operation};
-use crate::row::Row;
-use dw_base::Field;
+use dw_base::{Field, LineParams, Operation, Row};
 
 /// The registers where each sequence starts.
-#[tactic(auto, unfolding(crate::specs::Registers::start_registers))]
+#[tactic(auto, unfolding(dw_base::specs::LineRegisters::start_registers))]
 pub(crate) fn start_registers(params: &LineParams) -> Row
     ensures registers { result ≡ start_registers params.now }
     ensures index { result.op_index ≡ 0 }
@@ -67,7 +65,7 @@ fn address_behind(address: u64, min_length: u8, op_index: u64, operations: u64, 
 }
 
 /// So many operations further.
-#[tactic(auto, unfolding(crate::specs::Registers::advanced))]
+#[tactic(auto, unfolding(dw_base::specs::LineRegisters::advanced))]
 fn advanced(params: &LineParams, operations: u64, row: Row) -> Row
     requires some { 0 < params.now.max_ops }
     requires index { row.op_index < params.now.max_ops }
@@ -89,7 +87,7 @@ fn advanced(params: &LineParams, operations: u64, row: Row) -> Row
 }
 
 /// A signed number is added to the line.
-#[tactic(auto, unfolding(crate::specs::Registers::on_line))]
+#[tactic(auto, unfolding(dw_base::specs::LineRegisters::on_line))]
 fn on_line(lines: i64, row: Row) -> Row
     ensures registers { result ≡ on_line lines row }
     ensures index { result.op_index ≡ row.op_index }
@@ -112,7 +110,7 @@ fn at_instruction(address: u64, row: Row) -> Row
 }
 
 /// At an address, with the symbol of its relocation.
-#[tactic(auto, unfolding(crate::specs::Registers::at_address))]
+#[tactic(auto, unfolding(dw_base::specs::LineRegisters::at_address))]
 fn at_address(address: Field, row: Row) -> Row
     ensures registers { result ≡ at_address address row }
     ensures index { result.op_index ≡ 0 }
@@ -130,7 +128,7 @@ fn at_address(address: Field, row: Row) -> Row
 }
 
 /// The registers behind an operation, where a row of it shows them.
-#[tactic(auto, unfolding(crate::specs::Registers::moved))]
+#[tactic(auto, unfolding(dw_base::specs::LineRegisters::moved))]
 pub(crate) fn moved(params: &LineParams, operation: Operation, row: Row) -> Row
     requires some { 0 < params.now.max_ops }
     requires index { row.op_index < params.now.max_ops }
@@ -170,7 +168,7 @@ pub(crate) fn moved(params: &LineParams, operation: Operation, row: Row) -> Row
 }
 
 /// Whether an operation gives a row.
-#[tactic(auto, unfolding(crate::specs::Registers::gives_row))]
+#[tactic(auto, unfolding(dw_base::specs::LineRegisters::gives_row))]
 pub(crate) fn gives_row(operation: Operation) -> bool
     ensures { result ≡ gives_row operation }
 {
@@ -184,7 +182,7 @@ pub(crate) fn gives_row(operation: Operation) -> bool
 
 /// The registers behind a row: as at the start behind the last of a sequence, else without what holds of the
 /// row alone.
-#[tactic(auto, unfolding(crate::specs::Registers::behind_row))]
+#[tactic(auto, unfolding(dw_base::specs::LineRegisters::behind_row))]
 pub(crate) fn behind_row(params: &LineParams, row: Row) -> Row
     requires some { 0 < params.now.max_ops }
     requires index { row.op_index < params.now.max_ops }

@@ -5,13 +5,12 @@
 
 ghost use Rattle.std.specs.Prelude.{◌≡◌, ◌+◌, ◌-◌, ◌<◌, ◌≤◌, ◌^◌, ◌∷◌, [], drop, length, take, IfNone, IfSome};
 ghost use Rattle.std.specs.Iterator.{YieldsFirst, item_count};
-ghost use Rattle.dw_rows.specs.TableRows.{IsTableIn, IsWhole, RowsFit, RowsState, counts_place, initial_size, params_of, rows_from, rows_left, rows_start};
+ghost use Rattle.dw_base.specs.WrittenLines.{length_size};
+ghost use Rattle.dw_rows.specs.TableRows.{IsTableIn, IsWhole, RowsFit, RowsState, counts_place, params_of, rows_from, rows_left, rows_start};
 
-use crate::operation::LineParams;
 use crate::reading::operation_in;
 use crate::registers::{behind_row, gives_row, moved, start_registers};
-use crate::row::Row;
-use dw_base::{Order, Width};
+use dw_base::{LineParams, Order, Row, Width};
 use dw_lines::LineTable;
 use dw_view::View;
 use std::marker::Model;
@@ -81,8 +80,8 @@ fn next_row<'v>(
 }
 
 /// How many bytes the length of a table has (DWARF 5, 7.4).
-fn initial_size(width: Width) -> u64
-    ensures { result ≡ initial_size width }
+fn length_size(width: Width) -> u64
+    ensures { result ≡ length_size width }
 {
     match width {
         Width::W32 => 4,
@@ -91,12 +90,12 @@ fn initial_size(width: Width) -> u64
 }
 
 /// Where the operand counts of the standard opcodes stand, for a table's start, width and version.
-#[tactic(auto, unfolding(crate::specs::TableRows::counts_place, dw_lines::specs::LineHeaders::length_place, dw_lines::specs::LineHeaders::flags_place))]
+#[tactic(auto, unfolding(crate::specs::TableRows::counts_place, dw_base::specs::LineHeaders::length_place, dw_base::specs::LineHeaders::flags_place))]
 fn counts_place(start: u64, width: Width, version: u16) -> u64
     requires small { start ≤ 2 ^ 31 }
     ensures place { result ≡ counts_place start width version }
 {
-    let at = start + initial_size(width);
+    let at = start + length_size(width);
     let place = if version == 5 { at + 4 } else { at + 2 };
     let first = place
         + match width {

@@ -14,12 +14,10 @@
 //! ```
 #![tactic(auto)]
 
-mod place;
 mod pool;
 mod pools;
 mod text;
 
-pub use place::TextPlace;
 pub use pool::Pool;
 pub use pools::Pools;
 pub use text::text_at;

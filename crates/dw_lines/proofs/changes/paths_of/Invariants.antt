@@ -1,5 +1,5 @@
 use Rattle.std.proofs.Common.{◌≡◌, ◌++◌, take}
-use Rattle.dw_lines.specs.LineTables.{texts_of}
+use Rattle.dw_base.specs.LineTables.{texts_of}
 use Rattle.dw_lines.proofs.changes.paths_of.Given as goal
 
 -- the paths so far are the directories and those of the files so far

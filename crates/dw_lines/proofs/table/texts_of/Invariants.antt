@@ -1,5 +1,5 @@
 use Rattle.std.proofs.Common.{◌≡◌, take}
-use Rattle.dw_lines.specs.LineTables.{texts_of}
+use Rattle.dw_base.specs.LineTables.{texts_of}
 use Rattle.dw_lines.proofs.table.texts_of.Given as goal
 
 -- the texts so far are those of the entries so far

@@ -1,5 +1,5 @@
 use Rattle.std.proofs.Common.{◌≡◌, ◌≤◌, length}
-use Rattle.dw_lines.specs.LineTexts.{skip_lebs}
+use Rattle.dw_base.specs.LineTexts.{skip_lebs}
 use Rattle.dw_lines.proofs.texts.skip_lebs.Given as goal
 
 -- the numbers that are left stand from this place on

@@ -1,13 +1,14 @@
 -- The table of a test stands at its own place, in the section of line tables, which is there.
 use Rattle.std.proofs.Common.{rules, ◌≡◌, ℕ, ◌<◌, length, sym, subst}
 use Rattle.dw_base.specs.FileViews.{View}
-use Rattle.dw_lines.specs.LineTables.{LineTable, IsLineTable}
+use Rattle.dw_base.specs.LineTables.{LineTable, IsLineTable}
+use Rattle.dw_lines.specs.ViewSources.{view_source}
 use Rattle.dw_lines.proofs.written.tests.written_of.Goals as goal
 
-own-place : (v : View) (section start : ℕ) (t : LineTable) → IsLineTable v section start t → t.section ≡ section → t.start ≡ start
-    → IsLineTable v t.section t.start t
+own-place : (v : View) (section start : ℕ) (t : LineTable) → IsLineTable (view_source v section) start t → t.section ≡ section → t.start ≡ start
+    → IsLineTable (view_source v t.section) t.start t
 own-place v section start t is s e =
-    subst (λ (n : ℕ). IsLineTable v n t.start t) (sym s) (subst (λ (n : ℕ). IsLineTable v section n t) (sym e) is)
+    subst (λ (n : ℕ). IsLineTable (view_source v n) t.start t) (sym s) (subst (λ (n : ℕ). IsLineTable (view_source v section) n t) (sym e) is)
 
 pub write_mapped-requires-clause-there : goal.write_mapped-requires-clause-there
 write_mapped-requires-clause-there g c =
