@@ -24,8 +24,3 @@ mod place;
 pub use digest::{id_text, set_id};
 pub use dw_base::{Kind, NoMemory, Refusal};
 pub use place::{IdPlace, find_id};
-
-#[cfg(test)]
-mod fixtures;
-#[cfg(test)]
-mod tests;

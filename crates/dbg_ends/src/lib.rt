@@ -13,8 +13,6 @@ pub mod input;
 pub mod line;
 pub mod output;
 pub mod telling;
-#[cfg(test)]
-mod tests;
 
 pub use end::End;
 pub use input::read_input;

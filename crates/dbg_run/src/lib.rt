@@ -10,7 +10,5 @@
 pub mod built;
 pub mod edit;
 pub mod run;
-#[cfg(test)]
-mod tests;
 
 pub use run::run_words;

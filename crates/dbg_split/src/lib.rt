@@ -17,16 +17,12 @@
 
 mod debug_file;
 mod dropping;
-#[cfg(test)]
-mod fixtures;
 mod judging;
 mod marking;
 mod names;
 mod read_names;
 mod splitting;
 mod stripping;
-#[cfg(test)]
-mod tests;
 
 pub use dropping::droppable;
 pub use splitting::{Pair, split};

@@ -24,7 +24,5 @@ mod named;
 mod path_words;
 mod settings;
 mod several;
-#[cfg(test)]
-mod tests;
 
 pub use command::Command;

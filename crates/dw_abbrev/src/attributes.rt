@@ -71,22 +71,3 @@ impl Specs {
         self.specs.len()
     }
 }
-
-#[cfg(test)]
-mod tests {
-    use super::*;
-    use std::alloc::AllocError;
-
-    #[test]
-    fn attributes_give_their_vector_back(rt: HostRuntime) -> Result<(), AllocError> {
-        let name = Spec {
-            name: 0x03,
-            form: 0x0e,
-            implicit: 0,
-        };
-        let specs = Specs::new(Vec::from_slice(rt.alloc(), &[name])?);
-        assert_eq!(rt; specs.len(), 1);
-        assert_eq!(rt; specs.into_vec().as_slice(), [name].as_slice());
-        Ok(())
-    }
-}

@@ -153,8 +153,3 @@ impl AbbrevTable {
         }
     }
 }
-
-#[cfg(test)]
-mod samples;
-#[cfg(test)]
-mod tests;

@@ -105,8 +105,3 @@ impl<'v, 't> Iterator for EntryScan<'v, 't> {
         }
     }
 }
-
-#[cfg(test)]
-mod samples;
-#[cfg(test)]
-mod tests;

@@ -131,8 +131,3 @@ pub fn value_at(
 {
     value_in(spec, params, section, &bytes[..end as usize], at)
 }
-
-#[cfg(test)]
-mod samples;
-#[cfg(test)]
-mod tests;

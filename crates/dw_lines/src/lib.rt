@@ -22,8 +22,6 @@
 mod changes;
 mod defined_paths;
 mod entries;
-#[cfg(test)]
-mod fixtures;
 mod formats;
 mod header;
 mod old_lists;

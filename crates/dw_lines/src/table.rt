@@ -219,6 +219,3 @@ impl LineTable {
         Ok(table_with(section, &header, lists, defined))
     }
 }
-
-#[cfg(test)]
-mod tests;

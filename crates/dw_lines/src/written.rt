@@ -253,6 +253,3 @@ impl LineTable {
         }
     }
 }
-
-#[cfg(test)]
-mod tests;

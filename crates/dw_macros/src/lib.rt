@@ -19,8 +19,6 @@
 #![tactic(auto)]
 
 mod events;
-#[cfg(test)]
-mod fixtures;
 mod header;
 mod macro_numbers;
 mod operation;

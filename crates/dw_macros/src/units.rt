@@ -214,6 +214,3 @@ pub fn macro_units(alloc: Global, view: &View, section: u32) -> Result<Vec<Macro
     }
     Ok(units)
 }
-
-#[cfg(test)]
-mod tests;

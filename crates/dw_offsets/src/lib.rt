@@ -20,8 +20,6 @@
 //! ```
 #![tactic(auto)]
 
-#[cfg(test)]
-mod fixtures;
 mod name_headers;
 mod name_lists;
 mod name_texts;

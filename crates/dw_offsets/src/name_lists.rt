@@ -76,6 +76,3 @@ fn tables_in(alloc: Global, view: &View, section: u32) -> Result<Vec<NameTable>,
     }
     Ok(list)
 }
-
-#[cfg(test)]
-mod tests;

@@ -124,6 +124,3 @@ fn contribution_at(
         width,
     })
 }
-
-#[cfg(test)]
-mod tests;

@@ -140,6 +140,3 @@ fn fits_size(value: u64, size: u8) -> bool
         _ => true,
     }
 }
-
-#[cfg(test)]
-mod tests;

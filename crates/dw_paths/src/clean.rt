@@ -135,37 +135,3 @@ fn append_slashed(path: &mut Vec<u8>, parts: &[&[u8]]) -> Result<(), NoMemory>
     }
     Ok(())
 }
-
-#[cfg(test)]
-mod tests {
-    use super::*;
-    use std::test::Fail;
-
-    const CLEANED: [(&[u8], &[u8]); 17] = [
-        (b"/build/p/../p/inc/./x.h", b"/build/p/inc/x.h"),
-        (b"/build/p", b"/build/p"),
-        (b"//build///p//", b"/build/p"),
-        (b"build/./p/.", b"build/p"),
-        (b"/", b"/"),
-        (b"", b""),
-        (b".", b""),
-        (b"a/..", b""),
-        (b"/a/..", b"/"),
-        (b"/../../a", b"/a"),
-        (b"/a/../../b", b"/b"),
-        (b"../a", b"../a"),
-        (b"../../a/../b", b"../../b"),
-        (b"a/../../b", b"../b"),
-        (b"./..", b".."),
-        (b"a/b/../../../c", b"../c"),
-        (b"/.../..a/.b", b"/.../..a/.b"),
-    ];
-
-    #[test]
-    fn a_cleaned_path_has_no_component_that_leads_nowhere(rt: HostRuntime) -> Result<(), Fail> {
-        for (path, cleaned) in CLEANED.iter() {
-            assert_eq!(rt; clean_path(rt.alloc(), path)?.as_slice(), *cleaned);
-        }
-        Ok(())
-    }
-}

@@ -23,26 +23,3 @@ pub fn join_path(alloc: Global, dir: &[u8], name: &[u8]) -> Result<Vec<u8>, NoMe
     path.extend_from_slice(name)?;
     Ok(path)
 }
-
-#[cfg(test)]
-mod tests {
-    use super::*;
-    use std::test::Fail;
-
-    const JOINED: [(&[u8], &[u8], &[u8]); 6] = [
-        (b"/build/p", b"a.c", b"/build/p/a.c"),
-        (b"/build/p/", b"a.c", b"/build/p//a.c"),
-        (b"/build/p", b"/usr/include/a.h", b"/usr/include/a.h"),
-        (b"", b"a.c", b"a.c"),
-        (b"inc", b"", b"inc/"),
-        (b"", b"", b""),
-    ];
-
-    #[test]
-    fn a_relative_name_is_taken_from_its_directory(rt: HostRuntime) -> Result<(), Fail> {
-        for (dir, name, joined) in JOINED.iter() {
-            assert_eq!(rt; join_path(rt.alloc(), dir, name)?.as_slice(), *joined);
-        }
-        Ok(())
-    }
-}

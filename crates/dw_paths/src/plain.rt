@@ -30,34 +30,3 @@ fn is_name(part: &[u8]) -> bool
 {
     !part.is_empty() && part != b".".as_slice() && part != b"..".as_slice()
 }
-
-#[cfg(test)]
-mod tests {
-    use super::*;
-
-    const PATHS: [(&[u8], bool); 16] = [
-        (b"usr/bin/a", true),
-        (b"a", true),
-        (b".a/..b/...", true),
-        (b"", false),
-        (b"/", false),
-        (b"/usr/bin/a", false),
-        (b"usr//bin", false),
-        (b"usr/bin/", false),
-        (b".", false),
-        (b"..", false),
-        (b"./a", false),
-        (b"a/.", false),
-        (b"a/../b", false),
-        (b"a/..", false),
-        (b"a\0b", false),
-        (b"\0", false),
-    ];
-
-    #[test]
-    fn a_plain_path_has_only_names(rt: HostRuntime) {
-        for (path, plain) in PATHS.iter() {
-            assert_eq!(rt; is_plain(path), *plain);
-        }
-    }
-}

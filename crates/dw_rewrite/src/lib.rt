@@ -21,16 +21,10 @@
 mod all_sections;
 mod asks;
 mod bodies;
-#[cfg(test)]
-mod cases;
 mod change;
 mod fields;
 mod file;
-#[cfg(test)]
-mod fixtures;
 mod found;
-#[cfg(test)]
-mod index_cases;
 mod inline;
 mod judge;
 mod known;
@@ -39,8 +33,6 @@ mod refusal;
 mod sections;
 mod slots;
 mod tables;
-#[cfg(test)]
-mod tests;
 mod texts;
 mod units;
 

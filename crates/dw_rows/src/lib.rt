@@ -16,8 +16,6 @@
 //! ```
 #![tactic(auto)]
 
-#[cfg(test)]
-mod fixtures;
 mod reading;
 mod registers;
 mod rows;

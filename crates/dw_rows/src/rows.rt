@@ -188,6 +188,3 @@ impl<'v> Iterator for Rows<'v> {
         }
     }
 }
-
-#[cfg(test)]
-mod tests;

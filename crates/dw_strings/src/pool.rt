@@ -133,35 +133,3 @@ fn append(bytes: &mut Vec<u8>, text: &[u8])
         Err(_) => unreachable!(),
     }
 }
-
-#[cfg(test)]
-mod tests {
-    use super::*;
-    use std::test::Fail;
-
-    #[test]
-    fn each_new_text_is_appended_once_with_its_nul(rt: HostRuntime) -> Result<(), Fail> {
-        let mut pool = Pool::new(rt.alloc(), b"/build/p/a.c\0/build/p\0")?;
-        assert_eq!(rt; pool.bytes().len(), 22);
-        assert_eq!(rt; pool.add(b"/usr/src/debug/p/a.c")?, 22);
-        assert_eq!(rt; pool.add(b"/usr/src/debug/p")?, 43);
-        assert_eq!(rt; pool.add(b"/usr/src/debug/p/a.c")?, 22);
-        let bytes = b"/build/p/a.c\0/build/p\0/usr/src/debug/p/a.c\0/usr/src/debug/p\0";
-        assert_eq!(rt; pool.bytes(), bytes.as_slice());
-        assert_eq!(rt; pool.bytes().len(), 60);
-        Ok(())
-    }
-
-    #[test]
-    fn only_added_texts_have_a_place(rt: HostRuntime) -> Result<(), Fail> {
-        let mut pool = Pool::new(rt.alloc(), b"a\0")?;
-        assert_eq!(rt; pool.place(b"a"), None);
-        assert_eq!(rt; pool.place(b""), None);
-        pool.add(b"")?;
-        pool.add(b"a")?;
-        assert_eq!(rt; pool.place(b""), Some(2));
-        assert_eq!(rt; pool.place(b"a"), Some(3));
-        assert_eq!(rt; pool.place(b"b"), None);
-        Ok(())
-    }
-}

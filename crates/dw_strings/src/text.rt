@@ -43,30 +43,3 @@ fn nul_in(rest: &[u8]) -> Option<usize>
 {
     rest.iter().position(|b| *b == 0)
 }
-
-#[cfg(test)]
-mod tests {
-    use super::*;
-
-    const TABLE: &[u8] = b"a.c\0\0left";
-
-    #[test]
-    fn a_text_ends_before_its_nul(rt: HostRuntime) {
-        assert_eq!(rt; text_at(2, TABLE, 0).ok(), Some(b"a.c".as_slice()));
-        assert_eq!(rt; text_at(2, TABLE, 2).ok(), Some(b"c".as_slice()));
-        assert_eq!(rt; text_at(2, TABLE, 3).ok(), Some(b"".as_slice()));
-        assert_eq!(rt; text_at(2, TABLE, 4).ok(), Some(b"".as_slice()));
-    }
-
-    #[test]
-    fn a_text_with_no_nul_is_refused_at_its_place(rt: HostRuntime) {
-        for at in [5, 8, 9, 10, 0xffff_ffff_ffff_ffff] {
-            let refusal = Refusal {
-                kind: Kind::StringOffset,
-                section: 2,
-                offset: at,
-            };
-            assert_eq!(rt; text_at(2, TABLE, at).err(), Some(refusal));
-        }
-    }
-}

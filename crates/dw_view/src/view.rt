@@ -135,6 +135,3 @@ impl<'a> View<'a> {
         Ok(Field::Num(number_in(self.order(), self.bytes(section), at, size)))
     }
 }
-
-#[cfg(test)]
-mod tests;

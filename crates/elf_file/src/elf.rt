@@ -176,8 +176,3 @@ impl ElfFile<'_> {
         Ok(file)
     }
 }
-
-#[cfg(test)]
-mod samples;
-#[cfg(test)]
-mod tests;

@@ -23,14 +23,10 @@
 
 mod bodies;
 mod fixed;
-#[cfg(test)]
-mod fixtures;
 mod laying;
 mod part;
 mod parts;
 mod section_headers;
-#[cfg(test)]
-mod tests;
 
 pub use bodies::emit;
 pub use fixed::{begins_in_header, lies_across};

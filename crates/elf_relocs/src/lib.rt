@@ -26,8 +26,6 @@ mod records;
 pub mod relocation_numbers;
 mod relocs;
 mod symbols;
-#[cfg(test)]
-mod tests;
 
 pub use absolute_types::absolute_size;
 pub use dw_base::{Class, Order};

@@ -33,8 +33,6 @@ mod places;
 mod sink;
 mod sorts;
 mod stops;
-#[cfg(test)]
-mod tests;
 mod text;
 mod tree;
 

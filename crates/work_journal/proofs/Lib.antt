@@ -17,7 +17,6 @@ pub mod RoundLaws
 pub mod PlannedLaws
 pub mod SweepLaws
 pub mod EndLaws
-pub mod ToyLaws
 pub mod RestartLaws
 pub mod PresentLaws
 pub mod ApartLaws

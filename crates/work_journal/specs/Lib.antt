@@ -20,4 +20,3 @@ pub mod Clearing
 pub mod Rounds
 pub mod Settling
 pub mod Ending
-pub mod Toys

@@ -34,8 +34,6 @@ mod starting;
 mod steps;
 mod sweeping;
 mod taking;
-#[cfg(test)]
-mod tests;
 
 pub use clearing::clear;
 pub use desk::Desk;

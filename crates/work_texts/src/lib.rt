@@ -26,8 +26,6 @@ mod plan;
 mod read;
 mod reading;
 mod stop;
-#[cfg(test)]
-mod tests;
 mod writing;
 
 pub use compare::check_key;

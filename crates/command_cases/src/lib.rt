@@ -1,0 +1,36 @@
+//! Worked cases of the commands: their words, their ends, files that are split, and whole runs over trees in memory.
+//!
+//! This layer promises: each case ends as it says, by the rules and the expected values of other programs. It is a crate of its own, so
+//! that the functions of the commands' crates aren't proved a second time with their tests.
+//! Read first: `runs.rt`.
+#![tactic(auto)]
+
+ghost use Rattle.std.specs.Prelude.{◌≤◌, length, OnOk};
+ghost use Rattle.dw_base.specs.Layout.{output_limit};
+
+use dbg_split::{Pair, split};
+use dw_base::{Fault, OUTPUT_LIMIT};
+use std::alloc::Global;
+
+#[cfg(test)]
+mod ends;
+#[cfg(test)]
+mod runs;
+#[cfg(test)]
+mod settings;
+#[cfg(test)]
+mod split_files;
+#[cfg(test)]
+mod splits;
+#[cfg(test)]
+mod words;
+
+/// The two files of a split, of which the debug file has this name; no memory where the file is longer than any that is written.
+pub fn parted(alloc: Global, bytes: &[u8], name: &[u8]) -> Result<Pair, Fault>
+    ensures small { OnOk result (length bytes.now ≤ output_limit) }
+{
+    if bytes.len() as u64 > OUTPUT_LIMIT {
+        return Err(Fault::NoMemory);
+    }
+    split(alloc, bytes, name)
+}

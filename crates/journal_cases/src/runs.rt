@@ -1,0 +1,318 @@
+//! Runs of a small maker over a tree in memory: stopped after each call, and started again.
+ghost use Rattle.std.specs.Prelude.{◌≡◌, ◌<◌, ◌≤◌, IfOk, length};
+
+use crate::toy::Toy;
+use file_tree::{Blob, Listed, MemTree, Node, Tree};
+use std::alloc::{AllocError, Global};
+use std::process::Abort;
+use std::test::Fail;
+use work_journal::*;
+use work_texts::{Jobs, PlanData, RunKey, Sources, write_finished, write_plan};
+
+/// A tree of these jobs' files.
+fn begun(alloc: Global, jobs: u32) -> Result<MemTree, Fail> {
+    let mut nodes = Vec::new(alloc);
+    for job in 0..jobs {
+        let path = format!(in alloc; "r/{job}")?;
+        let bytes = Blob::from_slice(alloc, b"file")?;
+        nodes.push((path, Node::File { bytes, mode: 0o755 }))?;
+    }
+    Ok(MemTree::new(alloc, nodes)?)
+}
+
+/// The key of the small runs.
+fn key(alloc: Global) -> Result<RunKey, AllocError> {
+    Ok(RunKey {
+        base: Blob::from_slice(alloc, b"/b")?,
+        dest: Blob::from_slice(alloc, b"/d")?,
+        build_id: false,
+        seed: Blob::from_slice(alloc, b"")?,
+        skip: false,
+        max_file: 100,
+    })
+}
+
+/// A plan of a run with this key, which names no jobs.
+fn plan_of(alloc: Global, key: RunKey) -> Result<PlanData, Fail> {
+    Ok(PlanData {
+        key,
+        report: Blob::from_slice(alloc, b"done")?,
+        jobs: Jobs::new(Vec::new(alloc)),
+        sources: Sources::new(Vec::new(alloc)),
+    })
+}
+
+/// Its text.
+fn plan_text(alloc: Global, key: RunKey) -> Result<Vec<u8>, Fail> {
+    let plan = plan_of(alloc, key)?;
+    Ok(write_plan(alloc, &plan)?)
+}
+
+/// The four texts of the end of the small runs.
+fn texts_of(alloc: Global, key: &RunKey) -> Result<Vec<Node>, Fail>
+    ensures four { IfOk result (λ v. length v.items ≡ 4) }
+{
+    let sources = Vec::from_slice(alloc, b"s")?;
+    let debug_files = Vec::from_slice(alloc, b"d")?;
+    let links = Vec::from_slice(alloc, b"l")?;
+    let finished = write_finished(alloc, key, b"done")?;
+    let texts = end_nodes(alloc, sources, debug_files, links, finished)?;
+    Ok(texts)
+}
+
+/// The paths of the tree once it is settled, unless a call fails.
+fn paths_of(tree: &mut MemTree) -> Option<Vec<String>> {
+    if tree.settle().is_err() {
+        return None;
+    }
+    match tree.list("r", 100_000) {
+        Ok(Listed::Paths(paths)) => Some(paths.into_vec()),
+        _ => None,
+    }
+}
+
+/// Brings a run from what its work folder holds to its end, and whether it came there.
+fn finish_run(
+    alloc: Global,
+    tree: &mut MemTree,
+    opened: &Opened,
+    present: &[String],
+    maker: &mut Toy,
+    in_flight: u8,
+    texts: &Vec<Node>,
+) -> Result<bool, Fail>
+    requires some { 0 < in_flight }
+    requires most { in_flight ≤ 64 }
+    requires four { length texts.now.items ≡ 4 }
+{
+    let plan = plan_of(alloc, key(alloc)?)?;
+    let core = start_core(alloc, opened, "r/w", present, maker)?;
+    let ended = finish(
+        alloc, tree, core, "r/w", present, maker, in_flight, &plan, texts,
+    );
+    Ok(ended.is_ok())
+}
+
+/// A start of a run, from wherever the tree is, and whether it came to the end.
+fn start(alloc: Global, tree: &mut MemTree, maker: &mut Toy, in_flight: u8) -> Result<bool, Fail>
+    requires some { 0 < in_flight }
+    requires most { in_flight ≤ 64 }
+{
+    let key = key(alloc)?;
+    let texts = texts_of(alloc, &key)?;
+    let Some(present) = paths_of(tree) else {
+        return Ok(false);
+    };
+    let Ok(opened) = open_work(alloc, tree, "r/w", &present, &key) else {
+        return Ok(false);
+    };
+    finish_run(alloc, tree, &opened, &present, maker, in_flight, &texts)
+}
+
+/// Whether two nodes are one.
+fn is_same(a: &Node, b: &Node) -> bool {
+    match (a, b) {
+        (Node::File { bytes: x, mode: m }, Node::File { bytes: y, mode: n }) => {
+            m == n && x.as_slice() == y.as_slice()
+        }
+        _ => false,
+    }
+}
+
+/// Whether two trees hold the same.
+fn are_same(a: &MemTree, b: &MemTree) -> bool {
+    let (ours, theirs) = (a.nodes(), b.nodes());
+    if ours.len() != theirs.len() {
+        return false;
+    }
+    for i in 0..ours.len() {
+        if ours[i].0 != theirs[i].0 || !is_same(&ours[i].1, &theirs[i].1) {
+            return false;
+        }
+    }
+    true
+}
+
+/// A run of so many jobs that no stop disturbs, and how often it settles.
+fn undisturbed(
+    rt: &impl Abort,
+    alloc: Global,
+    jobs: u32,
+    in_flight: u8,
+    settles: u64,
+) -> Result<MemTree, Fail>
+    requires some { 0 < in_flight }
+    requires most { in_flight ≤ 64 }
+{
+    let mut tree = begun(alloc, jobs)?;
+    let mut maker = Toy { jobs, first: b'f' };
+    let ended = start(alloc, &mut tree, &mut maker, in_flight)?;
+    assert!(rt; ended);
+    assert_eq!(rt; tree.settle_count(), settles);
+    Ok(tree)
+}
+
+/// A run that stops after so many calls, which leaves the first of its changes, as many as `kept`, with
+/// torn files; and the next start, with another number in flight, ends as the undisturbed run.
+fn stop_and_start(
+    rt: &impl Abort,
+    alloc: Global,
+    jobs: u32,
+    calls: u64,
+    kept: u64,
+    whole: &MemTree,
+) -> Result<(), Fail> {
+    let mut tree = begun(alloc, jobs)?;
+    let mut maker = Toy { jobs, first: b'f' };
+    tree.stop_after(calls);
+    let ended = start(alloc, &mut tree, &mut maker, 2)?;
+    assert!(rt; !ended);
+    let mut left = tree.stopped(kept, b"torn")?;
+    let ended = start(alloc, &mut left, &mut maker, 1)?;
+    assert!(rt; ended);
+    assert!(rt; are_same(&left, whole));
+    Ok(())
+}
+
+#[test]
+fn five_jobs_share_their_settles(rt: HostRuntime) -> Result<(), Fail> {
+    let alloc = rt.alloc();
+    let one = undisturbed(&rt, alloc, 5, 1, 9)?;
+    let two = undisturbed(&rt, alloc, 5, 2, 7)?;
+    let three = undisturbed(&rt, alloc, 5, 3, 6)?;
+    let eight = undisturbed(&rt, alloc, 5, 8, 5)?;
+    assert!(rt; are_same(&one, &two));
+    assert!(rt; are_same(&one, &three));
+    assert!(rt; are_same(&one, &eight));
+    Ok(())
+}
+
+#[test]
+fn stopped_after_each_call_it_ends_as_if_it_were_not(rt: HostRuntime) -> Result<(), Fail> {
+    let alloc = rt.alloc();
+    let whole = undisturbed(&rt, alloc, 3, 2, 6)?;
+    let calls = whole.calls().len() as u64;
+    for stop in 0..calls {
+        for kept in 0..4u64 {
+            stop_and_start(&rt, alloc, 3, stop, kept, &whole)?;
+        }
+        stop_and_start(&rt, alloc, 3, stop, 100, &whole)?;
+    }
+    Ok(())
+}
+
+/// A run of which one call fails, and the next start.
+fn fail_and_start(rt: &impl Abort, alloc: Global, call: u64, whole: &MemTree) -> Result<(), Fail> {
+    let mut tree = begun(alloc, 3)?;
+    let mut maker = Toy {
+        jobs: 3,
+        first: b'f',
+    };
+    tree.fail_calls(vec![in alloc; call; 1]?);
+    let ended = start(alloc, &mut tree, &mut maker, 2)?;
+    assert!(rt; !ended);
+    let ended = start(alloc, &mut tree, &mut maker, 3)?;
+    assert!(rt; ended);
+    assert!(rt; are_same(&tree, whole));
+    Ok(())
+}
+
+#[test]
+fn after_each_call_that_fails_the_next_start_ends(rt: HostRuntime) -> Result<(), Fail> {
+    let alloc = rt.alloc();
+    let whole = undisturbed(&rt, alloc, 3, 2, 6)?;
+    let calls = whole.calls().len() as u64;
+    for call in 0..calls {
+        fail_and_start(&rt, alloc, call, &whole)?;
+    }
+    Ok(())
+}
+
+#[test]
+fn many_jobs_end(rt: HostRuntime) -> Result<(), Fail> {
+    let alloc = rt.alloc();
+    let tree = undisturbed(&rt, alloc, 300, 64, 9)?;
+    assert_eq!(rt; tree.nodes().len(), 604);
+    Ok(())
+}
+
+/// Puts a text at a path.
+fn put_text(alloc: Global, tree: &mut MemTree, path: &str, text: &[u8]) -> Result<(), Fail> {
+    let bytes = Blob::from_slice(alloc, text)?;
+    tree.put(path, &Node::File { bytes, mode: 0o755 })?;
+    Ok(())
+}
+
+/// One job's file, and this text in the work folder.
+fn begun_with(alloc: Global, path: &str, text: &[u8]) -> Result<MemTree, Fail> {
+    let mut tree = begun(alloc, 1)?;
+    put_text(alloc, &mut tree, path, text)?;
+    Ok(tree)
+}
+
+/// A start over a work folder whose `plan` is this text, which is no plan of the run: all stays.
+fn left_alone(rt: &impl Abort, alloc: Global, text: &[u8]) -> Result<(), Fail> {
+    let mut tree = begun_with(alloc, "r/w/plan", text)?;
+    let before = begun_with(alloc, "r/w/plan", text)?;
+    let mut maker = Toy {
+        jobs: 1,
+        first: b'f',
+    };
+    let ended = start(alloc, &mut tree, &mut maker, 1)?;
+    assert!(rt; !ended);
+    assert!(rt; are_same(&tree, &before));
+    Ok(())
+}
+
+#[test]
+fn plan_that_is_cut_stops_the_start(rt: HostRuntime) -> Result<(), Fail> {
+    let alloc = rt.alloc();
+    let plan = plan_text(alloc, key(alloc)?)?;
+    for cut in 0..plan.len() {
+        left_alone(&rt, alloc, &plan[..cut])?;
+    }
+    Ok(())
+}
+
+#[test]
+fn plan_of_other_options_stops_the_start(rt: HostRuntime) -> Result<(), Fail> {
+    let alloc = rt.alloc();
+    let mut other = key(alloc)?;
+    other.max_file = 99;
+    let plan = plan_text(alloc, other)?;
+    left_alone(&rt, alloc, plan.as_slice())
+}
+
+#[test]
+fn work_folder_with_no_plan_is_emptied(rt: HostRuntime) -> Result<(), Fail> {
+    let alloc = rt.alloc();
+    let whole = undisturbed(&rt, alloc, 1, 1, 5)?;
+    let mut tree = begun_with(alloc, "r/w/other/file", b"text")?;
+    let mut maker = Toy {
+        jobs: 1,
+        first: b'f',
+    };
+    let ended = start(alloc, &mut tree, &mut maker, 1)?;
+    assert!(rt; ended);
+    assert!(rt; are_same(&tree, &whole));
+    Ok(())
+}
+
+#[test]
+fn file_that_was_changed_stops_the_run_until_it_is_back(rt: HostRuntime) -> Result<(), Fail> {
+    let alloc = rt.alloc();
+    let whole = undisturbed(&rt, alloc, 3, 1, 7)?;
+    let mut tree = begun(alloc, 3)?;
+    put_text(alloc, &mut tree, "r/1", b"by hand")?;
+    let mut maker = Toy {
+        jobs: 3,
+        first: b'f',
+    };
+    let ended = start(alloc, &mut tree, &mut maker, 1)?;
+    assert!(rt; !ended);
+    put_text(alloc, &mut tree, "r/1", b"file")?;
+    let ended = start(alloc, &mut tree, &mut maker, 1)?;
+    assert!(rt; ended);
+    assert!(rt; are_same(&tree, &whole));
+    Ok(())
+}

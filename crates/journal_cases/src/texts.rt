@@ -1,0 +1,198 @@
+//! The texts of the work folder as a whole, against bytes that were written by hand from the rules.
+use file_tree::{Blob, Text};
+use std::alloc::Global;
+use std::test::Fail;
+use work_texts::{
+    FinishedData, JobLine, Jobs, JournalErr, PlanData, RunKey, Sources, WorkFile, check_key,
+    read_finished, read_plan, write_finished, write_plan,
+};
+
+/// A plan with one job that is edited and one that is split.
+const PLAN: &[u8] =
+    b"dbgplan 1\0/build/p\0/usr/src/debug/p\x001\0seed-1\x000\x001073741824\0split 1, edited 1\n\x002\0E\0usr/bin/a\0a9993e364706816aba3e25717850c26c9cd0d89d\0\x000\0S\0usr/lib/b.so\0da39a3ee5e6b4b0d3255bfef95601890afd80709\x0000ff1234abcd\x003\x002\0a.c\0inc/x.h\0end\0";
+
+/// Where its fields begin.
+const STARTS: [usize; 23] = [
+    0, 10, 19, 36, 38, 45, 47, 58, 77, 79, 81, 91, 132, 133, 135, 137, 150, 191, 204, 206, 208,
+    212, 220,
+];
+
+const FINISHED: &[u8] =
+    b"dbgfinished 1\0/build/p\0/usr/src/debug/p\x001\0seed-1\x000\x001073741824\0split 1, edited 1\n\0";
+
+fn key(alloc: Global) -> Result<RunKey, Fail> {
+    Ok(RunKey {
+        base: Blob::from_slice(alloc, b"/build/p")?,
+        dest: Blob::from_slice(alloc, b"/usr/src/debug/p")?,
+        build_id: true,
+        seed: Blob::from_slice(alloc, b"seed-1")?,
+        skip: false,
+        max_file: 1073741824,
+    })
+}
+
+fn jobs(alloc: Global) -> Result<Jobs, Fail> {
+    let mut jobs = Vec::new(alloc);
+    // the SHA-1 digest of `abc`
+    let digest = [
+        0xa9, 0x99, 0x3e, 0x36, 0x47, 0x06, 0x81, 0x6a, 0xba, 0x3e, 0x25, 0x71, 0x78, 0x50, 0xc2,
+        0x6c, 0x9c, 0xd0, 0xd8, 0x9d,
+    ];
+    jobs.push(JobLine {
+        split: false,
+        path: Text::copy_of(alloc, "usr/bin/a")?,
+        digest,
+        id: Blob::from_slice(alloc, b"")?,
+        number: 0,
+    })?;
+    // the SHA-1 digest of no bytes
+    let digest = [
+        0xda, 0x39, 0xa3, 0xee, 0x5e, 0x6b, 0x4b, 0x0d, 0x32, 0x55, 0xbf, 0xef, 0x95, 0x60, 0x18,
+        0x90, 0xaf, 0xd8, 0x07, 0x09,
+    ];
+    jobs.push(JobLine {
+        split: true,
+        path: Text::copy_of(alloc, "usr/lib/b.so")?,
+        digest,
+        id: Blob::from_slice(alloc, &[0, 0xff, 0x12, 0x34, 0xab, 0xcd])?,
+        number: 3,
+    })?;
+    Ok(Jobs::new(jobs))
+}
+
+fn sources(alloc: Global) -> Result<Sources, Fail> {
+    let mut names = Vec::new(alloc);
+    names.push(Vec::from_slice(alloc, b"a.c")?)?;
+    names.push(Vec::from_slice(alloc, b"inc/x.h")?)?;
+    Ok(Sources::new(names))
+}
+
+/// The place of the first bad field of a plan, if it has one.
+fn bad_place(alloc: Global, bytes: &[u8]) -> Option<u64> {
+    match read_plan(alloc, bytes) {
+        Err(
+            JournalErr::PlanText {
+                file: WorkFile::Plan,
+                at,
+            },
+        ) => Some(at),
+        _ => None,
+    }
+}
+
+/// The plan with other bytes from one place to another.
+fn changed(alloc: Global, from: usize, to: usize, new: &[u8]) -> Result<Vec<u8>, Fail> {
+    let mut bytes = Vec::from_slice(alloc, PLAN.get(..from).ok_or("from")?)?;
+    bytes.extend_from_slice(new)?;
+    bytes.extend_from_slice(PLAN.get(to..).ok_or("to")?)?;
+    Ok(bytes)
+}
+
+#[test]
+fn a_plan_is_written_byte_for_byte(rt: HostRuntime) -> Result<(), Fail> {
+    let alloc = rt.alloc();
+    let plan = PlanData {
+        key: key(alloc)?,
+        report: Blob::from_slice(alloc, b"split 1, edited 1\n")?,
+        jobs: jobs(alloc)?,
+        sources: sources(alloc)?,
+    };
+    assert_eq!(rt; write_plan(alloc, &plan)?.as_slice(), PLAN);
+    Ok(())
+}
+
+#[test]
+fn a_plan_is_read_and_written_again(rt: HostRuntime) -> Result<(), Fail> {
+    let plan = read_plan(rt.alloc(), PLAN)?;
+    assert_eq!(rt; plan.jobs.len(), 2);
+    assert_eq!(rt; plan.sources.len(), 2);
+    assert_eq!(rt; plan.key.max_file, 1073741824);
+    assert_eq!(rt; write_plan(rt.alloc(), &plan)?.as_slice(), PLAN);
+    Ok(())
+}
+
+#[test]
+fn a_plan_that_ends_too_early_is_bad_at_its_last_field(rt: HostRuntime) -> Result<(), Fail> {
+    for len in 0..PLAN.len() {
+        let mut start = 0;
+        for at in STARTS {
+            if at <= len {
+                start = at;
+            }
+        }
+        let cut = PLAN.get(..len).ok_or("cut")?;
+        assert_eq!(rt; bad_place(rt.alloc(), cut), Some(start as u64));
+    }
+    Ok(())
+}
+
+/// From where to where other bytes stand, these bytes, and the place of the first bad field.
+const CHANGES: [(usize, usize, &[u8], u64); 30] = [
+    (0, 224, b"x", 0),
+    (0, 224, b"dbgplan 3\0", 0),
+    (0, 224, b"dbgplan 1\0build\0", 10),
+    (0, 224, b"dbgplan 1\0/build/p\0", 19),
+    (0, 9, b"dbgplan 2", 0),
+    (10, 18, b"build/p", 10),
+    (10, 18, b"/build/p/", 10),
+    (19, 35, b"usr/src/debug/p", 19),
+    (36, 37, b"2", 36),
+    (45, 46, b"y", 45),
+    (47, 57, b"01073741824", 47),
+    (47, 57, b"1073741825", 47),
+    (47, 57, b"0", 47),
+    (77, 78, b"+2", 77),
+    (77, 78, b"02", 77),
+    (79, 80, b"e", 79),
+    (81, 90, b"usr//bin/a", 81),
+    (81, 90, b"usr/bin/\xff", 81),
+    (81, 90, b"usr/lib/b.so", 140),
+    (91, 131, b"A9993e364706816aba3e25717850c26c9cd0d89d", 91),
+    (91, 92, b"", 91),
+    (132, 132, b"abcd", 132),
+    (133, 134, b"1", 133),
+    (135, 136, b"E", 191),
+    (191, 203, b"00ff1234abcD", 191),
+    (191, 203, b"00", 191),
+    (204, 205, b"4294967296", 204),
+    (206, 207, b"3", 220),
+    (208, 211, b"inc/x.h", 216),
+    (224, 224, b"\0", 224),
+];
+
+#[test]
+fn a_changed_field_is_bad_at_its_first_byte(rt: HostRuntime) -> Result<(), Fail> {
+    for (from, to, new, at) in CHANGES {
+        let bytes = changed(rt.alloc(), from, to, new)?;
+        assert_eq!(rt; bad_place(rt.alloc(), &bytes), Some(at));
+    }
+    Ok(())
+}
+
+#[test]
+fn an_end_is_written_and_read(rt: HostRuntime) -> Result<(), Fail> {
+    let alloc = rt.alloc();
+    let text = write_finished(alloc, &key(alloc)?, b"split 1, edited 1\n")?;
+    assert_eq!(rt; text.as_slice(), FINISHED);
+    let FinishedData { key: kept, report } = read_finished(alloc, FINISHED)?;
+    assert_eq!(rt; report.as_slice(), b"split 1, edited 1\n".as_slice());
+    assert!(rt; check_key(alloc, &kept, &key(alloc)?).is_ok());
+    assert!(rt; read_finished(alloc, PLAN).is_err());
+    Ok(())
+}
+
+#[test]
+fn the_first_field_that_differs_is_named(rt: HostRuntime) -> Result<(), Fail> {
+    let alloc = rt.alloc();
+    let mut other = key(alloc)?;
+    other.skip = true;
+    other.max_file = 1000;
+    let Err(JournalErr::OtherRun { field, kept, given }) = check_key(alloc, &key(alloc)?, &other)
+    else {
+        return Err("the same".into());
+    };
+    assert_eq!(rt; field, 4);
+    assert_eq!(rt; kept.as_slice(), b"0".as_slice());
+    assert_eq!(rt; given.as_slice(), b"1".as_slice());
+    Ok(())
+}

@@ -1,0 +1,329 @@
+//! Trees and sinks tried on worked cases, the real file system among them.
+use file_tree::*;
+use std::alloc::{AllocError, Global};
+use std::io::ErrorKind;
+use std::process::Abort;
+use std::test::Fail;
+use std::{fs, io};
+
+/// One call of a tree.
+#[derive(Drop)]
+enum Step {
+    Put(&'static str, u32, &'static str),
+    Link(&'static str, &'static str),
+    Read(&'static str, u64),
+    List(&'static str, u64),
+    Rename(&'static str, &'static str),
+    Remove(&'static str),
+    Settle,
+}
+
+fn error_text(e: TreeErr) -> &'static str {
+    match e {
+        TreeErr::Failed => "failed",
+        TreeErr::NoMemory => "no memory",
+    }
+}
+
+fn done_text(alloc: Global, given: Result<(), TreeErr>) -> Result<String, AllocError> {
+    match given {
+        Ok(()) => String::from_str(alloc, "ok"),
+        Err(e) => String::from_str(alloc, error_text(e)),
+    }
+}
+
+fn found_text(alloc: Global, given: Result<Found, TreeErr>) -> Result<String, AllocError> {
+    match given {
+        Ok(Found::Absent) => String::from_str(alloc, "absent"),
+        Ok(Found::Folder) => String::from_str(alloc, "folder"),
+        Ok(Found::File { bytes, mode }) => {
+            let text = str::from_utf8(bytes.as_slice()).unwrap_or("?");
+            format!(in alloc; "file {mode:o} {text}")
+        }
+        Ok(Found::Link { target }) => {
+            let target = target.as_str();
+            format!(in alloc; "link {target}")
+        }
+        Ok(Found::TooLarge { size }) => format!(in alloc; "too large {size}"),
+        Err(e) => String::from_str(alloc, error_text(e)),
+    }
+}
+
+fn listed_text(alloc: Global, given: Result<Listed, TreeErr>) -> Result<String, AllocError> {
+    match given {
+        Ok(Listed::Paths(paths)) => {
+            let mut text = String::from_str(alloc, "paths")?;
+            for path in paths.as_slice() {
+                text.push_str(" ")?;
+                text.push_str(path.as_str())?;
+            }
+            Ok(text)
+        }
+        Ok(Listed::TooMany) => String::from_str(alloc, "too many"),
+        Err(e) => String::from_str(alloc, error_text(e)),
+    }
+}
+
+fn file(alloc: Global, mode: u32, text: &str) -> Result<Node, AllocError> {
+    let bytes = Blob::from_slice(alloc, text.as_bytes())?;
+    Ok(Node::File { bytes, mode })
+}
+
+fn link(alloc: Global, target: &str) -> Result<Node, AllocError> {
+    let target = Text::copy_of(alloc, target)?;
+    Ok(Node::Link { target })
+}
+
+fn put<T: Tree>(alloc: Global, tree: &mut T, path: &str, node: Node) -> Result<String, AllocError> {
+    done_text(alloc, tree.put(path, &node))
+}
+
+/// What the tree answers to the step.
+fn answer<T: Tree>(alloc: Global, tree: &mut T, step: &Step) -> Result<String, AllocError> {
+    match step {
+        Step::Put(path, mode, text) => put(alloc, tree, path, file(alloc, *mode, text)?),
+        Step::Link(path, target) => put(alloc, tree, path, link(alloc, target)?),
+        Step::Read(path, limit) => found_text(alloc, tree.read(path, *limit)),
+        Step::List(folder, limit) => listed_text(alloc, tree.list(folder, *limit)),
+        Step::Rename(from, to) => done_text(alloc, tree.rename(from, to)),
+        Step::Remove(path) => done_text(alloc, tree.remove(path)),
+        Step::Settle => done_text(alloc, tree.settle()),
+    }
+}
+
+/// Tries the steps one after the other, each with the answer that it is to have.
+fn try_steps<T: Tree>(
+    rt: &impl Abort,
+    alloc: Global,
+    tree: &mut T,
+    steps: &[(Step, &'static str)],
+) -> Result<(), AllocError> {
+    for i in 0..steps.len() {
+        let given = answer(alloc, tree, &steps[i].0)?;
+        assert_eq!(rt; given.as_str(), steps[i].1, "at step {i}");
+    }
+    Ok(())
+}
+
+/// Calls that every tree answers alike, below a folder that isn't there at first.
+const COMMON: [(Step, &str); 22] = [
+    (Step::List("tree_test", 9), "paths"),
+    (Step::Read("tree_test/a", 9), "absent"),
+    (Step::Put("tree_test/a/c", 0o4666, "first"), "ok"),
+    (Step::Put("tree_test/a.b", 0o600, "second"), "ok"),
+    (Step::Link("tree_test/to", "../elsewhere"), "ok"),
+    (Step::Read("tree_test/a/c", 5), "file 4666 first"),
+    (Step::Read("tree_test/a/c", 3), "too large 5"),
+    (Step::Read("tree_test/to", 0), "link ../elsewhere"),
+    (Step::Read("tree_test/a", 9), "folder"),
+    (
+        Step::List("tree_test", 3),
+        "paths tree_test/a.b tree_test/a/c tree_test/to",
+    ),
+    (Step::List("tree_test", 2), "too many"),
+    (Step::List("tree_test/a", 1), "paths tree_test/a/c"),
+    (Step::Settle, "ok"),
+    (Step::Rename("tree_test/to", "tree_test/a/c"), "ok"),
+    (Step::Read("tree_test/a/c", 9), "link ../elsewhere"),
+    (Step::Rename("tree_test/missing", "tree_test/a.b"), "ok"),
+    (Step::Remove("tree_test/missing"), "ok"),
+    (Step::Put("tree_test/a/c", 0o444, "third"), "ok"),
+    (Step::Read("tree_test/a/c", 9), "file 444 third"),
+    (Step::Remove("tree_test/a.b"), "ok"),
+    (Step::Settle, "ok"),
+    (Step::List("tree_test", u64::MAX), "paths tree_test/a/c"),
+];
+
+#[test]
+fn a_tree_in_memory_answers_as_its_map(rt: HostRuntime) -> Result<(), Fail> {
+    let mut tree = MemTree::new(rt.alloc(), Vec::new(rt.alloc()))?;
+    try_steps(&rt, rt.alloc(), &mut tree, &COMMON)?;
+    assert_eq!(rt; tree.calls().len(), COMMON.len());
+    assert_eq!(rt; tree.settle_count(), 2);
+    assert_eq!(rt; tree.nodes().len(), 1);
+    Ok(())
+}
+
+/// Calls on what only a real file system has, after `COMMON`.
+const REAL: [(Step, &str); 20] = [
+    (
+        Step::Put("tree_test/a", 0o600, "folder in the way"),
+        "failed",
+    ),
+    (
+        Step::Put("tree_test/a/c/d", 0o600, "file in the way"),
+        "failed",
+    ),
+    (Step::Put("/dev/full", 0o600, "device in the way"), "failed"),
+    (Step::Read("/dev/full", 99), "absent"),
+    (Step::Remove("/dev/full"), "ok"),
+    (Step::Rename("/dev/full", "tree_test/a/c"), "ok"),
+    (Step::Rename("tree_test/a/c", "tree_test/a"), "failed"),
+    (Step::Read("tree_test/a/c/d", 9), "absent"),
+    (Step::Rename("tree_test/a", "tree_test/b"), "ok"),
+    (Step::Remove("tree_test/a"), "ok"),
+    (Step::Read("tree_test/a", 9), "folder"),
+    (Step::Link("tree_test/to", "a/c"), "ok"),
+    (Step::Put("tree_test/to", 0o7751, "link replaced"), "ok"),
+    (Step::Read("tree_test/to", 99), "file 7751 link replaced"),
+    (Step::Read("tree_test/a/c", 9), "file 444 third"),
+    (Step::Rename("tree_test/to", "tree_test/z/to"), "ok"),
+    (Step::Read("tree_test/to", 9), "absent"),
+    (Step::Put("tree_test/y", 0o600, "before z"), "ok"),
+    (
+        Step::List("tree_test", 9),
+        "paths tree_test/a/c tree_test/y tree_test/z/to",
+    ),
+    (Step::Settle, "ok"),
+];
+
+/// Tries that the steps note a folder: the next settle opens it, and fails where it became a loop of
+/// links.
+fn try_noting<T: Tree>(
+    rt: &impl Abort,
+    files: &HostRuntime,
+    tree: &mut T,
+    steps: &[(Step, &'static str)],
+) -> Result<(), Fail> {
+    let alloc = files.alloc();
+    try_steps(rt, alloc, tree, steps)?;
+    fs::remove_dir(files, "tree_test/noted")?;
+    std::os::unix::fs::symlink(files, "noted", "tree_test/noted")?;
+    try_steps(rt, alloc, tree, &[(Step::Settle, "failed")])?;
+    fs::remove_file(files, "tree_test/noted")?;
+    try_steps(rt, alloc, tree, &[(Step::Settle, "ok")])?;
+    Ok(())
+}
+
+#[test]
+fn the_real_file_system_answers_alike(rt: HostRuntime) -> Result<(), Fail> {
+    match fs::remove_dir_all(&rt, "tree_test") {
+        Ok(()) => {}
+        Err(e) => assert_eq!(rt; e.kind(), ErrorKind::NotFound),
+    }
+    let mut tree = OsTree::new(&rt);
+    try_steps(&rt, rt.alloc(), &mut tree, &COMMON)?;
+    try_steps(&rt, rt.alloc(), &mut tree, &REAL)?;
+    let put = [
+        (Step::Put("tree_test/noted/file", 0o600, "put"), "ok"),
+        (Step::Settle, "ok"),
+        (Step::Remove("tree_test/noted/file"), "ok"),
+    ];
+    try_noting(&rt, &rt, &mut tree, &put)?;
+    fs::create_dir(&rt, "tree_test/noted")?;
+    let listed = [
+        (Step::Settle, "ok"),
+        (Step::List("tree_test/noted", 9), "paths"),
+        (Step::Read("tree_test/noted/file", 9), "absent"),
+    ];
+    try_noting(&rt, &rt, &mut tree, &listed)?;
+    fs::remove_dir_all(&rt, "tree_test")?;
+    Ok(())
+}
+
+#[test]
+fn a_listed_call_fails_and_is_counted(rt: HostRuntime) -> Result<(), Fail> {
+    let alloc = rt.alloc();
+    let steps = [
+        (Step::Put("a", 0o644, "kept"), "ok"),
+        (Step::Put("a", 0o644, "lost"), "failed"),
+        (Step::Settle, "ok"),
+        (Step::Rename("a", "b"), "failed"),
+        (Step::Remove("a"), "failed"),
+        (Step::Read("a", 9), "failed"),
+    ];
+    let mut tree = MemTree::new(alloc, Vec::new(alloc))?;
+    let mut listed = Vec::new(alloc);
+    listed.push(1)?;
+    tree.fail_calls(listed);
+    tree.stop_after(3);
+    try_steps(&rt, rt.alloc(), &mut tree, &steps)?;
+    assert_eq!(rt; tree.calls().len(), 6);
+    tree.fail_calls(Vec::new(alloc));
+    Ok(())
+}
+
+#[test]
+fn a_sink_in_memory_takes_what_there_is_room_for(rt: HostRuntime) -> Result<(), Fail> {
+    let mut sink = MemSink::new(rt.alloc(), 4, Some(4))?;
+    assert_eq!(rt; sink.write(b"ab"), Ok(()));
+    assert_eq!(rt; sink.write(b"cde"), Err(SinkErr::Failed));
+    assert_eq!(rt; sink.write(b"cd"), Ok(()));
+    assert_eq!(rt; sink.write(b""), Ok(()));
+    assert_eq!(rt; sink.write(b""), Err(SinkErr::Failed));
+    assert!(rt; sink.bytes() == b"abcd".as_slice());
+    Ok(())
+}
+
+/// A writer that takes two bytes at a time, and nothing once it is full.
+#[derive(Drop)]
+struct Drip<'a> {
+    taken: &'a mut Vec<u8>,
+    room: usize,
+}
+
+impl io::Write for Drip<'_> {
+    fn write(&mut self, buf: &[u8]) -> io::Result<usize> {
+        let n = buf.len().min(2).min(self.room);
+        self.taken.extend_from_slice(&buf[..n])?;
+        self.room -= n;
+        Ok(n)
+    }
+
+    fn flush(&mut self) -> io::Result<()> {
+        Ok(())
+    }
+}
+
+#[test]
+fn a_writer_takes_each_byte_until_it_is_full(rt: HostRuntime) -> Result<(), Fail> {
+    let mut taken = Vec::new(rt.alloc());
+    let drip = Drip {
+        taken: &mut taken,
+        room: 7,
+    };
+    let mut sink = OsSink::new(drip);
+    assert_eq!(rt; sink.write(b"abcde"), Ok(()));
+    assert_eq!(rt; sink.write(b""), Ok(()));
+    assert_eq!(rt; sink.write(b"fgh"), Err(SinkErr::Failed));
+    assert!(rt; taken.as_slice() == b"abcdefg".as_slice());
+    let mut out = OsSink::new(rt.stdout());
+    assert_eq!(rt; out.write(b"sink\n"), Ok(()));
+    Ok(())
+}
+
+/// A put, a rename of it over a file, and a removal, all pending.
+const PENDING: [(Step, &str); 6] = [
+    (Step::Put("r/b", 0o644, "old b"), "ok"),
+    (Step::Put("r/d", 0o644, "old d"), "ok"),
+    (Step::Settle, "ok"),
+    (Step::Put("r/n", 0o600, "new"), "ok"),
+    (Step::Rename("r/n", "r/b"), "ok"),
+    (Step::Remove("r/d"), "ok"),
+];
+
+/// For each number of changes that are kept: the paths, and what is at the target of the rename.
+const LEFT: [(u64, &str, &str); 5] = [
+    (0, "paths r/b r/d", "file 644 old b"),
+    (1, "paths r/b r/d r/n", "file 644 old b"),
+    (2, "paths r/b r/d", "file 600 torn"),
+    (3, "paths r/b", "file 600 torn"),
+    (4, "paths r/b", "file 600 torn"),
+];
+
+#[test]
+fn a_stop_keeps_a_first_part_of_the_changes(rt: HostRuntime) -> Result<(), Fail> {
+    let alloc = rt.alloc();
+    for (kept, paths, at_target) in LEFT {
+        let mut tree = MemTree::new(alloc, Vec::new(alloc))?;
+        try_steps(&rt, alloc, &mut tree, &PENDING)?;
+        let mut left = tree.stopped(kept, b"torn")?;
+        assert_eq!(rt; left.calls().len(), 0);
+        let seen = [
+            (Step::List("r", 9), paths),
+            (Step::Read("r/b", 9), at_target),
+        ];
+        try_steps(&rt, alloc, &mut left, &seen)?;
+    }
+    Ok(())
+}

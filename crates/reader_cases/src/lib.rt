@@ -1,0 +1,59 @@
+//! Worked examples of paths, texts, and the readers of ELF files and debug data: what each call answers for them, and at which
+//! place it refuses them.
+//!
+//! This layer promises: each file and each table of bytes in it is read, refused or written as its table says, by the expected
+//! values of other programs. It has a module for each crate that it tests, and is a crate of its own, so that their functions
+//! aren't proved a second time with their tests.
+//! Read first: `files.rt`, then the module of a crate.
+#![tactic(auto)]
+
+#[cfg(test)]
+mod build_ident_samples;
+#[cfg(test)]
+mod build_ident_tests;
+#[cfg(test)]
+mod debug_link_tests;
+#[cfg(test)]
+mod dw_abbrev_samples;
+#[cfg(test)]
+mod dw_abbrev_tests;
+#[cfg(test)]
+mod dw_entries_samples;
+#[cfg(test)]
+mod dw_entries_tests;
+#[cfg(test)]
+mod dw_forms_samples;
+#[cfg(test)]
+mod dw_forms_tests;
+#[cfg(test)]
+mod dw_lines_samples;
+#[cfg(test)]
+mod dw_lines_tests;
+#[cfg(test)]
+mod dw_lines_written_tests;
+#[cfg(test)]
+mod dw_macros_tests;
+#[cfg(test)]
+mod dw_offsets_name_tests;
+#[cfg(test)]
+mod dw_offsets_tests;
+#[cfg(test)]
+mod dw_paths_tests;
+#[cfg(test)]
+mod dw_rows_tests;
+#[cfg(test)]
+mod dw_strings_tests;
+#[cfg(test)]
+mod dw_view_tests;
+#[cfg(test)]
+mod elf_file_samples;
+#[cfg(test)]
+mod elf_file_tests;
+#[cfg(test)]
+mod elf_layout_samples;
+#[cfg(test)]
+mod elf_layout_tests;
+#[cfg(test)]
+mod elf_relocs_tests;
+#[cfg(test)]
+mod files;

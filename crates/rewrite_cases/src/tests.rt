@@ -1,0 +1,118 @@
+//! Files are rewritten, or refused at their places, as the cases say, and entries stay where they are.
+
+ghost use Rattle.dw_entries.specs.ViewUnits.{IsUnitSection};
+
+use crate::cases::{CASES, Case};
+use crate::fixtures::file_of;
+use crate::index_cases::INDEX_CASES;
+use crate::rewritten;
+use dw_abbrev::AbbrevTable;
+use dw_base::{DebugSection, Fault, Refusal};
+use dw_entries::{EntryScan, unit_headers};
+use dw_view::View;
+use elf_file::ElfFile;
+use std::alloc::Global;
+use std::process::Abort;
+use std::test::Fail;
+
+/// What becomes of the file of a case.
+fn wanted(alloc: Global, case: &Case) -> Result<Vec<u8>, Fault> {
+    match case.result {
+        Ok(changes) => Ok(file_of(alloc, case.shape, case.sections, changes)?),
+        Err((kind, section, offset)) => Err(Fault::Refused(Refusal {
+            kind,
+            section,
+            offset,
+        })),
+    }
+}
+
+/// The file of a case is rewritten or refused as the case says.
+fn ends_as_it_says(rt: &impl Abort, alloc: Global, case: &Case) -> Result<(), Fail> {
+    let file = file_of(alloc, case.shape, case.sections, &[])?;
+    assert_eq!(rt;
+        rewritten(alloc, &file, case.maps),
+        wanted(alloc, case),
+        "{}",
+        case.shows
+    );
+    Ok(())
+}
+
+#[test]
+fn each_file_is_rewritten_or_refused_at_its_place(rt: HostRuntime) -> Result<(), Fail> {
+    for case in CASES.iter() {
+        ends_as_it_says(&rt, rt.alloc(), case)?;
+    }
+    for case in INDEX_CASES.iter() {
+        ends_as_it_says(&rt, rt.alloc(), case)?;
+    }
+    Ok(())
+}
+
+/// Appends place, depth and code of each entry of the units of a section.
+#[tactic(auto, using(dw_entries::proofs::CallerLaws::caller_laws))]
+fn push_entries(
+    alloc: Global,
+    view: &View,
+    section: u32,
+    abbrevs: &[u8],
+    entries: &mut Vec<(u64, u32, u64)>,
+) -> Result<(), Fault>
+    requires there { IsUnitSection view.now section }
+{
+    let units = unit_headers(alloc, view, section)?;
+    for unit in units.as_slice() {
+        let table = AbbrevTable::read(alloc, 0, abbrevs, unit.abbrevs)?;
+        for item in EntryScan::new(view, unit, &table) {
+            let entry = item?;
+            entries.push((entry.offset, entry.depth, entry.code))?;
+        }
+    }
+    Ok(())
+}
+
+/// The entries of all units of a file.
+#[tactic(auto, using(dw_entries::proofs::CallerLaws::caller_laws))]
+fn entries_of(rt: &impl Abort, alloc: Global, file: &[u8]) -> Result<Vec<(u64, u32, u64)>, Fault> {
+    assert!(rt; file.len() <= 0x8000_0000);
+    let elf = ElfFile::read(alloc, file)?;
+    let view = View::one(&elf)?;
+    let mut entries = Vec::new(alloc);
+    let Some(section) = view.first(DebugSection::Abbrev) else {
+        return Ok(entries);
+    };
+    let abbrevs = view.bytes(section);
+    if let Some(info) = view.first(DebugSection::Info) {
+        push_entries(alloc, &view, info, abbrevs, &mut entries)?;
+    }
+    if let Some(types) = view.first(DebugSection::Types) {
+        push_entries(alloc, &view, types, abbrevs, &mut entries)?;
+    }
+    Ok(entries)
+}
+
+/// The entries of a case's file that is rewritten stay where they are.
+fn keeps_entries(rt: &impl Abort, alloc: Global, case: &Case) -> Result<(), Fail> {
+    let file = file_of(alloc, case.shape, case.sections, &[])?;
+    let out = rewritten(alloc, &file, case.maps)?;
+    let before = entries_of(rt, alloc, &file)?;
+    let after = entries_of(rt, alloc, &out)?;
+    assert_eq!(rt; before.as_slice(), after.as_slice(), "{}", case.shows);
+    Ok(())
+}
+
+#[test]
+fn entries_stay_where_they_are(rt: HostRuntime) -> Result<(), Fail> {
+    for case in CASES.iter() {
+        if case.result.is_ok() {
+            keeps_entries(&rt, rt.alloc(), case)?;
+        }
+    }
+    for case in INDEX_CASES.iter() {
+        if case.result.is_ok() {
+            keeps_entries(&rt, rt.alloc(), case)?;
+        }
+    }
+    Ok(())
+}
