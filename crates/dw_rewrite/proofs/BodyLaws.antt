@@ -10,14 +10,15 @@ use Rattle.dw_base.specs.Elf.{contents_of, contents_at, is_empty_kind, nth_secti
 use Rattle.dw_base.specs.ElfFails.{ElfReads}
 use Rattle.dw_meaning.specs.FileMeanings.{file_data, new_body}
 use Rattle.dw_base.specs.FileViews.{ViewSection, first_filled, is_filled, section_after, section_named, view_of, view_section}
+use Rattle.dw_base.specs.LineReadings.{all_lines}
 use Rattle.dw_base.specs.Paths.{PathMap}
 use Rattle.dw_base.specs.TextChanges.{TableChange, TableChanges}
 use Rattle.dw_base.specs.UnitHeaders.{SectionKind, UnitBase}
 use Rattle.dw_base.specs.ViewData.{debug_data, located, located_at, unit_kind, unit_section, unit_sections, unit_sections_from}
 use Rattle.dw_base.specs.declared.debug_sections.DebugSection.{DebugSection}
-use Rattle.dw_base.specs.declared.debug_sections.DebugSection.TheVariants.{Str, LineStr, StrOffsets, Names}
+use Rattle.dw_base.specs.declared.debug_sections.DebugSection.TheVariants.{Line, Str, LineStr, StrOffsets, Names}
 use Rattle.dw_meaning.proofs.FileBackLaws.{AllAt, tabulate-at}
-use Rattle.dw_meaning.proofs.FileKeptLaws.{CanMap, around_file, body-line, body-names, body-offsets, body-other, body-str, changes_file, line-none, line-place, names-none, names-place, new_names, new_offsets, offsets-none, offsets-place, str-none, str-place}
+use Rattle.dw_meaning.proofs.FileKeptLaws.{CanMap, around_file, body-line, body-names, body-offsets, body-other, body-str, body-tables, changes_file, line-none, line-place, names-none, names-place, new_names, new_offsets, offsets-none, offsets-place, str-none, str-place, tables-none, tables-place}
 use Rattle.dw_meaning.proofs.TableKeptLaws.{TablePlace, nowhere, lies_at, drop-at}
 use Rattle.dw_rewrite.specs.Rewritten.{AllStand, Stands, body_with, bytes_given, bytes_or, is_of}
 
@@ -102,6 +103,17 @@ cells-stand b s p = by_found (section_named (view_of b) (name_of s)) refl
         let f : IsFull b i = found-full b (name_of s) 1 i (drop 1 (view_of b).sections) (drop 1 (view_of b).sections) (all_sections b) e in
         record { within = λ some. f.within; full = λ some. f.full }
 
+-- so is that of line tables
+lines-stand : (b : List ℕ) (bytes : List ℕ) → Stands b (record { number = (located (view_of b) Line).number; bytes = bytes })
+unfolding located section_named section_after
+lines-stand b bytes = by_found (section_named (view_of b) (name_of Line)) refl
+  where
+    by_found : (o : Option ℕ) → section_named (view_of b) (name_of Line) ≡ o → Stands b (record { number = (located_at (view_of b) o).number; bytes = bytes })
+    by_found None e = record { within = λ some. absurd (some refl); full = λ some. absurd (some refl) }
+    by_found (Some i) e =
+        let f : IsFull b i = found-full b (name_of Line) 1 i (drop 1 (view_of b).sections) (drop 1 (view_of b).sections) (all_sections b) e in
+        record { within = λ some. f.within; full = λ some. f.full }
+
 pub bodies-stand : (m : PathMap) (b : List ℕ) (r : DataReadings) → DataReads (file_data b) r → AllStand b (new_bodies m (file_data b) r)
 unfolding new_bodies debug_data unit_sections
 bodies-stand m b r reads = (
@@ -111,8 +123,11 @@ bodies-stand m b r reads = (
     (
       cells-stand b StrOffsets (new_offsets m b r),
       (
-        cells-stand b Names (new_names m b r),
-        units-stand b (file_data b).base (changes_file m b r) (around_file b r) 0 1 (drop 1 (view_of b).sections) (drop 1 (view_of b).sections) r.units (all_sections b) reads.units,
+        lines-stand b (all_lines (changes_file m b r).lines),
+        (
+          cells-stand b Names (new_names m b r),
+          units-stand b (file_data b).base (changes_file m b r) (around_file b r) 0 1 (drop 1 (view_of b).sections) (drop 1 (view_of b).sections) r.units (all_sections b) reads.units,
+        ),
       ),
     ),
   ),
@@ -159,19 +174,25 @@ body-first m b r w some = by_str (cases_eq 0 (file_data b).str.number) (str-plac
     own : contents_of b 0 ≡ []
     own = section_0 b w.reads.elf some
 
-    by_names : 0 ≢ (file_data b).str.number → 0 ≢ (file_data b).line_str.number → 0 ≢ (file_data b).offsets.number
+    by_names : 0 ≢ (file_data b).str.number → 0 ≢ (file_data b).line_str.number → 0 ≢ (file_data b).offsets.number → 0 ≢ (file_data b).lines.number
         → (0 ≡ (file_data b).names.number) ⊎ (0 ≡ (file_data b).names.number → ⊥) → TablePlace b (name_of Names) (located (view_of b) Names)
         → new_body m b r 0 ≡ contents_of b 0
-    by_names str line offsets (inr names) place =
-        body-other m b r 0 (record { str = str; line = line; offsets = offsets; names = names })
+    by_names str line offsets lines (inr names) place =
+        body-other m b r 0 (record { str = str; line = line; offsets = offsets; lines = lines; names = names })
         ∙ units-above (file_data b).base (changes_file m b r) (around_file b r) (contents_of b) 0 0 1 (drop 1 (view_of b).sections) r.units w.reads.data_reads.units (omega arith)
-    by_names str line offsets (inl same) (nowhere zero none) =
-        body-names m b r 0 same str line offsets ∙ ap bytes_of (names-none m b r w none) ∙ sym own
-    by_names str line offsets (inl same) (lies_at there within named bytes) = absurd (omega (arith, same, there))
+    by_names str line offsets lines (inl same) (nowhere zero none) =
+        body-names m b r 0 same str line offsets lines ∙ ap bytes_of (names-none m b r w none) ∙ sym own
+    by_names str line offsets lines (inl same) (lies_at there within named bytes) = absurd (omega (arith, same, there))
+
+    by_tables : 0 ≢ (file_data b).str.number → 0 ≢ (file_data b).line_str.number → 0 ≢ (file_data b).offsets.number
+        → (0 ≡ (file_data b).lines.number) ⊎ (0 ≡ (file_data b).lines.number → ⊥) → TablePlace b (name_of Line) (located (view_of b) Line) → new_body m b r 0 ≡ contents_of b 0
+    by_tables str line offsets (inr other) place = by_names str line offsets other (cases_eq 0 (file_data b).names.number) (names-place b)
+    by_tables str line offsets (inl same) (nowhere zero none) = body-tables m b r 0 same str line offsets ∙ tables-none m b r w none ∙ sym own
+    by_tables str line offsets (inl same) (lies_at there within named bytes) = absurd (omega (arith, same, there))
 
     by_offsets : 0 ≢ (file_data b).str.number → 0 ≢ (file_data b).line_str.number → (0 ≡ (file_data b).offsets.number) ⊎ (0 ≡ (file_data b).offsets.number → ⊥)
         → TablePlace b (name_of StrOffsets) (located (view_of b) StrOffsets) → new_body m b r 0 ≡ contents_of b 0
-    by_offsets str line (inr other) place = by_names str line other (cases_eq 0 (file_data b).names.number) (names-place b)
+    by_offsets str line (inr other) place = by_tables str line other (cases_eq 0 (file_data b).lines.number) (tables-place b)
     by_offsets str line (inl same) (nowhere zero none) =
         body-offsets m b r 0 same str line ∙ ap bytes_of (offsets-none m b r w none) ∙ sym own
     by_offsets str line (inl same) (lies_at there within named bytes) = absurd (omega (arith, same, there))

@@ -1,18 +1,19 @@
 -- The new texts and the new bytes of a unit section, by its pieces and by what they say of paths.
-use Rattle.std.proofs.Common.{Bool, true, false, ◌≡◌, ℕ, ◌+◌, ◌-◌, ◌≤◌, List, [], ◌∷◌, ◌++◌, length, take, drop, cond, sym, ap, ◌∙◌, refl, arith, append_assoc, subst}
+use Rattle.std.proofs.Common.{Bool, true, false, ◌≡◌, ℕ, ◌+◌, ◌-◌, ◌≤◌, List, [], ◌∷◌, ◌++◌, length, take, drop, get_or, cond, Option, Some, None, sym, ap, ◌∙◌, refl, arith, append_assoc, subst}
 use Rattle.std.specs.Bool.{⊤}
 use Rattle.std.proofs.Math.Seq.{drop-append_seam, take-append_seam, take-append-add, drop-append-add}
 use Rattle.std.proofs.lemmas.List.{take-append-le, drop-append-le}
-use Rattle.dw_base.specs.Cells.{Cell, bytes_of, with_bytes}
-use Rattle.dw_base.specs.DebugData.{Around, table_of}
+use Rattle.dw_base.specs.Cells.{Cell, bytes_of, offset_of, with_bytes}
+use Rattle.dw_base.specs.DebugData.{Around, start_number, table_of}
+use Rattle.dw_base.specs.LineReadings.{starts_from}
 use Rattle.dw_base.specs.Forms.{TextSection, in_str, in_line_str}
 use Rattle.dw_base.specs.InlinePaths.{inline_fits, mapped_inline}
 use Rattle.dw_base.specs.Numbers.{spelled, number_bytes, with_number}
 use Rattle.dw_base.specs.Paths.{PathMap}
 use Rattle.dw_base.specs.Pieces.{Piece, joined, EachPiece}
-use Rattle.dw_base.specs.Roles.{Role, fixed, offset, inline_path, role_of}
+use Rattle.dw_base.specs.Roles.{Role, fixed, offset, inline_path, line_start, role_of}
 use Rattle.dw_base.specs.StringTables.{Mention, Plan, appending, with_mention, texts_after, new_place}
-use Rattle.dw_base.specs.TextChanges.{TableChange, TableChanges, with_offset, mention_at, mentions_by, mentions_of, moved_field, change_of, edited_by}
+use Rattle.dw_base.specs.TextChanges.{TableChange, TableChanges, with_offset, mention_at, mentions_by, mentions_of, moved_field, moved_start, change_of, edited_by}
 use Rattle.dw_base.specs.Texts.{text, text_in}
 use Rattle.dw_base.specs.UnitStates.{UnitState}
 use Rattle.dw_base.specs.declared.shared.Order.{Order}
@@ -21,8 +22,8 @@ use Rattle.dw_base.proofs.NumberLaws.{spelled-append, spelled-drop}
 use Rattle.dw_base.proofs.PlainCellLaws.{IsPlain, offset_of-plain, with_offset-is, with_bytes-is, bytes_of-plain}
 use Rattle.dw_meaning.proofs.TextEditLaws.{PlainPiece}
 use Rattle.dw_base.proofs.UnitEditLaws.{length-bytes_of}
-use Rattle.dw_rewrite.specs.Changes.{OffsetTable, path_at, texts_at, patched_at, patched}
-use Rattle.dw_rewrite.specs.UnitPaths.{field_by, path_fields, offset_table, inline_text, inlined_at}
+use Rattle.dw_rewrite.specs.Changes.{OffsetTable, new_start, offset_at, path_at, texts_at, patched_at, patched, start_known, start_table, with_known, with_all_known}
+use Rattle.dw_rewrite.specs.UnitPaths.{field_by, path_fields, offset_table, inline_text, inlined_at, start_by, start_fields}
 use Rattle.dw_rewrite.specs.declared.fields.PathField.{PathField}
 use Rattle.dw_rewrite.proofs.PlacedLaws.{Placed}
 
@@ -53,6 +54,8 @@ piece_texts fixed in_str plan m around info ts p rest place more fs is plain e h
 piece_texts fixed in_line_str plan m around info ts p rest place more fs is plain e h = h ts
 piece_texts inline_path in_str plan m around info ts p rest place more fs is plain e h = h ts
 piece_texts inline_path in_line_str plan m around info ts p rest place more fs is plain e h = h ts
+piece_texts line_start in_str plan m around info ts p rest place more fs is plain e h = h ts
+piece_texts line_start in_line_str plan m around info ts p rest place more fs is plain e h = h ts
 piece_texts (offset in_str true) in_str plan m around info ts p rest place more fs is plain e h =
     ap (λ (x : Mention). texts_after plan m (with_mention plan m ts x) more) (mention_is around in_str p rest info place plain e)
     ∙ h (with_mention plan m ts (path_at (offset_table around in_str) info (field_at place p)))
@@ -115,6 +118,25 @@ patched_turns table changes around info front p place behind at plain e rest =
     field_turns ((change_of changes table).plan.asks x) around.lasting.base.order front p rest place
     (new_place (change_of changes table).plan changes.map (change_of changes table).texts x) at plain
     ∙ ap (λ (y : Mention). front ++ (bytes_of (moved_field (change_of changes table) changes.map around.lasting.base.order y p) ++ rest)) (sym same)
+
+-- a field that says where a line table starts
+start_put : (o : Order) (news : List ℕ) (number : Option ℕ) (front : List ℕ) (p : List Cell) (rest : List ℕ) (place : ℕ) → length front ≡ place → IsPlain p
+    → with_known o (front ++ (bytes_of p ++ rest)) (field_at place p) (new_start news number) ≡ front ++ (bytes_of (moved_start news o number p) ++ rest)
+start_put o news None front p rest place at plain = refl
+start_put o news (Some k) front p rest place at plain = field_turns true o front p rest place (get_or news k 0) at plain
+
+pub start_turns : (changes : TableChanges) (around : Around) (info front : List ℕ) (p : List Cell) (place : ℕ) (behind : List ℕ)
+    → length front ≡ place → IsPlain p → bytes_of p ++ behind ≡ drop place info
+    → Turns (λ out. with_known around.lasting.base.order out (field_at place p)
+    (start_known around.starts (starts_from 0 changes.lines) (offset_at (start_table around.lasting.base.order) info (field_at place p)))) front (bytes_of p)
+    (bytes_of (edited_by line_start changes around p))
+start_turns changes around info front p place behind at plain e rest =
+    let o : Order = around.lasting.base.order in
+    let same : offset_of around.lasting.base.order around.lines p ≡ spelled around.lasting.base.order info place (length p) =
+    offset_of-plain around.lasting.base.order around.lines p plain
+    ∙ piece_number around.lasting.base.order (bytes_of p) behind info place (length p) e (length-bytes_of p) in
+    start_put around.lasting.base.order (starts_from 0 changes.lines) (start_number 0 around.starts (spelled around.lasting.base.order info place (length p))) front p rest place at plain
+    ∙ ap (λ (n : ℕ). front ++ (bytes_of (moved_start (starts_from 0 changes.lines) around.lasting.base.order (start_number 0 around.starts n) p) ++ rest)) (sym same)
 
 -- a path in its room
 pub inlined_turns : (changes : TableChanges) (around : Around) (info front : List ℕ) (p : List Cell) (place : ℕ) (behind : List ℕ)
@@ -202,6 +224,32 @@ patched-behind c m table info n (f ∷ fs) rest h =
       after = more.after;
       is = λ (front : List ℕ) (e : length front ≡ n). ap (λ (out : List ℕ). patched c m table info out fs) (here.is front e) ∙ more.is front e;
     }
+
+known-put : (o : Order) (n : ℕ) (f : PathField) (new : Option ℕ) (rest : List ℕ) → n ≤ f.at → Behind (λ out. with_known o out f new) n rest
+known-put o n f None rest le = behind-same n rest
+known-put o n f (Some x) rest le = number-behind o n f.at f.size x rest le
+
+pub known-behind : (table : OffsetTable) (info : List ℕ) (known : ℕ → Option ℕ) (n : ℕ) (fs : List PathField) (rest : List ℕ) → FieldsFrom n fs
+    → Behind (λ out. with_all_known table info known out fs) n rest
+known-behind table info known n [] rest h = behind-same n rest
+known-behind table info known n (f ∷ fs) rest h =
+    let here : Behind (λ out. with_known table.order out f (known (offset_at table info f))) n rest = known-put table.order n f (known (offset_at table info f)) rest h.0 in
+    let more : Behind (λ out. with_all_known table info known out fs) n here.after = known-behind table info known n fs here.after h.1 in
+    record {
+      after = more.after;
+      is = λ (front : List ℕ) (e : length front ≡ n). ap (λ (out : List ℕ). with_all_known table info known out fs) (here.is front e) ∙ more.is front e;
+    }
+
+pub from-start : (r : Role) (place size : ℕ) (fs : List PathField) → FieldsFrom place fs → FieldsFrom place (start_by r place size ++ fs)
+from-start line_start place size fs h = (omega arith, h)
+from-start r place size fs h = h
+
+pub from-starts : (info : List ℕ) (place : ℕ) (xs : List (Piece UnitState)) → Placed info place xs → FieldsFrom place (start_fields xs)
+from-starts info place [] l = tt
+from-starts info place (x ∷ xs) l =
+    subst (λ (i : ℕ). FieldsFrom place (start_by (role_of x) i (length x.cells) ++ start_fields xs)) (sym l.0)
+    (from-start (role_of x) place (length x.cells) (start_fields xs)
+    (from-less place (place + length x.cells) (start_fields xs) (omega arith) (from-starts info (place + length x.cells) xs l.2)))
 
 -- what turns bytes of the front goes past what is done behind them
 pub swap : (H F : List ℕ → List ℕ) (front p q rest : List ℕ) (n : ℕ) → Turns H front p q → Behind F n rest → length (front ++ p) ≡ n → length (front ++ q) ≡ n

@@ -62,20 +62,20 @@ values_places-append params bytes n tag (x ∷ xs) ys start place e = by_value (
         → ((p : ℕ) → values_end params bytes xs p ≡ Some place
         → values_places params bytes n tag (xs ++ ys) p ≡ values_places params bytes n tag xs p ++ values_places params bytes n tag ys place)
         → end_behind (λ p. values_end params bytes xs p) start o ≡ Some place
-        → value_places_behind (λ p. values_places params bytes n tag (xs ++ ys) p) n tag x start o
-        ≡ value_places_behind (λ p. values_places params bytes n tag xs p) n tag x start o ++ values_places params bytes n tag ys place
+        → value_places_behind (λ p. values_places params bytes n tag (xs ++ ys) p) n tag x bytes start o
+        ≡ value_places_behind (λ p. values_places params bytes n tag xs p) n tag x bytes start o ++ values_places params bytes n tag ys place
     by_value None step e = absurd cc
     by_value (Some v) step e =
-        ap (λ (ts : List TextPlace). value_places n tag x start v ++ ts) (step (start + v.size) e)
-        ∙ sym (append_assoc (value_places n tag x start v) (values_places params bytes n tag xs (start + v.size)) (values_places params bytes n tag ys place))
+        ap (λ (ts : List TextPlace). value_places n tag x bytes start v ++ ts) (step (start + v.size) e)
+        ∙ sym (append_assoc (value_places n tag x bytes start v) (values_places params bytes n tag xs (start + v.size)) (values_places params bytes n tag ys place))
 
 -- the places of values, and of one more
 pub values_places-more : (params : Params) (bytes : List ℕ) (n tag : ℕ) (start place : ℕ) (xs : List Spec) (y : Spec) (v : Value)
     → SpellsValues params bytes start xs place → value_at params y bytes place ≡ Some v
-    → values_places params bytes n tag (xs ++ y ∷ []) start ≡ values_places params bytes n tag xs start ++ value_places n tag y place v
+    → values_places params bytes n tag (xs ++ y ∷ []) start ≡ values_places params bytes n tag xs start ++ value_places n tag y bytes place v
 values_places-more params bytes n tag start place xs y v s e =
     values_places-append params bytes n tag xs (y ∷ []) start place (spells-end params bytes start xs place s)
-    ∙ ap (λ (ts : List TextPlace). values_places params bytes n tag xs start ++ ts) (ap (value_places_behind (λ p. []) n tag y place) e ∙ append-nil (value_places n tag y place v))
+    ∙ ap (λ (ts : List TextPlace). values_places params bytes n tag xs start ++ ts) (ap (value_places_behind (λ p. []) n tag y bytes place) e ∙ append-nil (value_places n tag y bytes place v))
 
 -- values, one after another
 values-run : (base : UnitBase) (cells : List Cell) (s : UnitState) (start e d n tag : ℕ) (xs rest : List Spec) (place : ℕ)
@@ -86,7 +86,7 @@ values-run base cells s start e d n tag xs rest z order (more_values ys y place 
     let bytes : List ℕ = unit_bytes s cells in
     let front = values-run base cells s start e d n tag ys (y ∷ rest) place order spells in
     let all = placed-more base cells s.section s.unit (inside s start e d n tag (ys ++ y ∷ rest)) (inside s place e d n tag (y ∷ rest)) (inside s (place + v.size) e d n tag rest)
-    start place (place + v.size) (values_places s.header.params (unit_bytes s cells) n tag ys start) (value_places n tag y place v)
+    start place (place + v.size) (values_places s.header.params (unit_bytes s cells) n tag ys start) (value_places n tag y (unit_bytes s cells) place v)
     front (placed-value base cells s place e d n tag y rest v order is) in
     let said = subst (λ (ts : List TextPlace). PlacedRun base cells s.section s.unit (inside s start e d n tag (ys ++ y ∷ rest)) (inside s (place + v.size) e d n tag rest) start (place + v.size) ts)
     (sym (values_places-more s.header.params (unit_bytes s cells) n tag start place ys y v spells is)) all in

@@ -1,16 +1,18 @@
 -- How the calls on a whole file end: what they refuse has a row, and what they give is the output of a file that is taken.
-use Rattle.std.proofs.Common.{Bool, true, false, ◌≡◌, ◌≢◌, ℕ, ◌<◌, ◌≤◌, List, length, if◌then◌else◌, sym, ap, ◌∙◌, refl, subst, arith}
+use Rattle.std.proofs.Common.{Bool, true, false, ◌≡◌, ◌≢◌, ℕ, suc, ◌+◌, ◌<◌, ◌≤◌, List, [], ◌∷◌, ◌++◌, length, if◌then◌else◌, Option, sym, ap, ◌∙◌, refl, subst, arith}
 use Rattle.std.proofs.lemmas.Bool.{true≢false}
-use Rattle.dw_meaning.specs.DataOutput.{Body, DataReads, new_bodies}
-use Rattle.dw_base.specs.DebugData.{DataReadings, around_of, table_of}
+use Rattle.std.proofs.lemmas.List.{length-append}
+use Rattle.dw_meaning.specs.DataOutput.{Body, DataReads, changes_of, new_bodies, new_lines}
+use Rattle.dw_base.specs.DebugData.{DataReadings, around_of, line_source, table_of}
+use Rattle.dw_base.specs.Cells.{CellSection}
 use Rattle.dw_base.specs.DebugSectionFails.{DebugSectionsFail}
 use Rattle.dw_base.specs.DebugSections.{name_of}
 use Rattle.dw_meaning.specs.EditRows.{EditFails, IsAccepted}
-use Rattle.dw_meaning.specs.EditRows.EditFails.{file, inline, output, shared}
+use Rattle.dw_meaning.specs.EditRows.EditFails.{file, inline, line_table as line_table_row, output, shared}
 use Rattle.dw_base.specs.Elf.{contents_of, is_empty_kind, nth_section, section_count}
 use Rattle.dw_base.specs.ElfFails.{ElfFails, ElfReads}
 use Rattle.dw_meaning.specs.FileFails.{FileFails, UnbuiltFile}
-use Rattle.dw_meaning.specs.FileFails.FileFails.{elf, sections, units as units_row, texts as texts_row, string_tables as string_tables_row, slots as slots_row, name_tables as name_tables_row, unbuilt as unbuilt_row}
+use Rattle.dw_meaning.specs.FileFails.FileFails.{elf, lines as lines_row, starts as starts_row, sections, units as units_row, texts as texts_row, string_tables as string_tables_row, slots as slots_row, name_tables as name_tables_row, unbuilt as unbuilt_row}
 use Rattle.dw_meaning.specs.FileFails.UnbuiltFile.{relocatable, section as section_row, value as value_row}
 use Rattle.dw_meaning.specs.FileMeanings.{FileReads, IsOutput, MeaningKept, file_data, new_body, output_of}
 use Rattle.dw_base.specs.FileViews.{View, view_of}
@@ -22,30 +24,39 @@ use Rattle.dw_base.specs.LayoutFails.SectionStays.{changed}
 use Rattle.dw_base.specs.LayoutFails.TooLong.{long}
 use Rattle.dw_base.specs.LayoutReads.{ReadsBack}
 use Rattle.dw_meaning.specs.Loaded.{LoadedKept}
+use Rattle.dw_base.specs.LineChanges.{line_place}
+use Rattle.dw_base.specs.LineReadings.{LineReading, all_lines, table_read}
+use Rattle.dw_base.specs.LineSources.{LineSource}
+use Rattle.dw_base.specs.LineTables.{LineTable}
+use Rattle.dw_base.specs.LineWriteFails.{WriteFails, defined, program, wide, wide_header, wide_offset, wide_table}
 use Rattle.dw_base.specs.Paths.{IsPathMap, PathMap}
 use Rattle.dw_base.specs.Refusals.{Blames, at}
-use Rattle.dw_base.specs.ViewData.{debug_data}
-use Rattle.dw_base.specs.declared.debug_sections.DebugSection.TheVariants.{LineStr}
+use Rattle.dw_base.specs.ViewData.{debug_data, located}
+use Rattle.dw_base.specs.declared.debug_sections.DebugSection.TheVariants.{Line, LineStr}
 use Rattle.dw_base.specs.declared.fault.Fault.{Fault}
 use Rattle.dw_base.specs.declared.fault.Fault.TheVariants.{NoMemory, Refused}
 use Rattle.dw_base.specs.declared.fault.Kind.TheVariants.{Fixed, TooLarge}
 use Rattle.dw_base.specs.declared.fault.Refusal.{Refusal}
+use Rattle.dw_base.specs.declared.line_tables.TextPlace.{TextPlace}
+use Rattle.dw_meaning.specs.DataFails.{LinesFail}
 use Rattle.dw_meaning.proofs.DataOneLaws.{data-one}
 use Rattle.dw_meaning.proofs.FileBackLaws.{build_id-back}
-use Rattle.dw_meaning.proofs.FileKeptLaws.{CanMap, body-line, body-str, file-back, line-place, tables-apart}
+use Rattle.dw_meaning.proofs.FileKeptLaws.{CanMap, body-line, body-lines, body-str, file-back, line-bytes, line-place, lines-are, tables-apart, tables-place}
 use Rattle.dw_meaning.proofs.FileMeaningLaws.{file-meaning}
+use Rattle.dw_meaning.proofs.LineSectionLaws.{no-tables}
 use Rattle.dw_base.proofs.LayoutLaws.{fixed_end-within}
 use Rattle.dw_base.proofs.ReadsBackLaws.{reads_back-same, with_bodies-same}
 use Rattle.dw_base.proofs.SectionLaws.{length-contents}
 use Rattle.dw_meaning.proofs.TableKeptLaws.{TablePlace, nowhere, lies_at}
 use Rattle.dw_rewrite.specs.Bodies.{BodiesMade, BodiesRefuse, PathsFound, PathsRefuse, long_table}
-use Rattle.dw_rewrite.specs.Bodies.BodiesRefuse.{long_table_of}
-use Rattle.dw_rewrite.specs.Bodies.PathsRefuse.{units as paths_units, inline as paths_inline, string_tables as paths_string_tables, name_tables as paths_name_tables, slots as paths_slots, shared as paths_shared}
+use Rattle.dw_rewrite.specs.Bodies.BodiesRefuse.{line_table_of, long_lines_of, long_table_of}
+use Rattle.dw_rewrite.specs.Bodies.PathsRefuse.{units as paths_units, starts as paths_starts, inline as paths_inline, string_tables as paths_string_tables, name_tables as paths_name_tables, slots as paths_slots, shared as paths_shared}
 use Rattle.dw_rewrite.specs.Judged.{IsJudged}
-use Rattle.dw_rewrite.specs.Rewritten.{AllStand, IsInFile, body_with, long_fault}
+use Rattle.dw_rewrite.specs.Rewritten.{AllStand, IsInFile, body_with, long_fault, long_or, long_refusal, told_refusal}
 use Rattle.dw_rewrite.specs.UnitPaths.{UnitPaths}
 use Rattle.dw_rewrite.specs.UnitTexts.{HasUnbuilt}
 use Rattle.dw_rewrite.specs.UnitTexts.UnitsRefuse.{data_fails, text_fails, unbuilt as value_unbuilt}
+use Rattle.dw_rewrite.specs.ViewLines.{TablesFound}
 use Rattle.dw_rewrite.proofs.BodyLaws.{bodies-same, bodies-stand, made-stand}
 use Rattle.dw_meaning.proofs.LoadedLaws.{loaded-kept}
 use Rattle.dw_rewrite.proofs.WrittenLaws.{fits_same, layout_same, length-moved}
@@ -74,6 +85,7 @@ data_fail m b r reads (paths_units (data_fails h)) = file (units_row reads h)
 data_fail m b r reads (paths_units (text_fails h)) = file (texts_row reads h)
 data_fail m b _ reads (paths_units (value_unbuilt u)) =
     file (unbuilt_row (value_row u.section u.header u.table u.number u.abbreviation u.spec u.place u.value reads u.there u.stands u.unbuilt))
+data_fail m b r reads (paths_starts h) = file (starts_row reads h)
 data_fail m b r reads (paths_inline h) = inline reads h
 data_fail m b r reads (paths_string_tables h) = file (string_tables_row reads h)
 data_fail m b r reads (paths_name_tables h) = file (name_tables_row reads h)
@@ -84,31 +96,44 @@ pub refused_paths : (m : PathMap) (b : List ℕ) (v : View) (f : Fault) → IsJu
 refused_paths m b v NoMemory j is h = tt
 refused_paths m b v (Refused r) j is h = data_fail m b r j.elf (subst (λ (w : View). PathsRefuse m w r) is h)
 
-pub found_paths : (m : PathMap) (b : List ℕ) (v : View) (us : List UnitPaths) → v ≡ view_of b → PathsFound m v us → PathsFound m (view_of b) us
-found_paths m b v us is h = subst (λ (w : View). PathsFound m w us) is h
+pub found_paths : (m : PathMap) (b : List ℕ) (v : View) (us : List UnitPaths) (ts : List LineTable) → v ≡ view_of b → PathsFound m v us ts → PathsFound m (view_of b) us ts
+found_paths m b v us ts is h = subst (λ (w : View). PathsFound m w us ts) is h
 
-pub ruleset paths_rules = (refused_paths, found_paths)
+pub seen_tables : (b : List ℕ) (v : View) (ts : List LineTable) → v ≡ view_of b → TablesFound (view_of b) ts → TablesFound v ts
+seen_tables b v ts is h = subst (λ (w : View). TablesFound w ts) (sym is) h
+
+pub ruleset paths_rules = (refused_paths, found_paths, seen_tables)
+
+-- so are line tables that can't be read.
+pub refused_tables : (m : PathMap) (b : List ℕ) (v : View) (f : Fault) → IsJudged b → v ≡ view_of b → Blames (LinesFail (debug_data v)) f → Blames (EditFails m b) f
+refused_tables m b v NoMemory j is h = tt
+refused_tables m b v (Refused r) j is h = file (lines_row j.elf (subst (λ (w : View). LinesFail (debug_data w) r) is h))
+
+pub found_tables : (b : List ℕ) (v : View) (ts : List LineTable) → v ≡ view_of b → TablesFound v ts → TablesFound (view_of b) ts
+found_tables b v ts is h = subst (λ (w : View). TablesFound w ts) is h
+
+pub ruleset tables_rules = (refused_tables, found_tables)
 
 -- A file whose debug data can be read reads as a whole.
 reads_judged : (b : List ℕ) (r : DataReadings) → IsJudged b → DataReads (file_data b) r → FileReads b r
 reads_judged b r j reads = record { elf = j.elf; kind = j.kind; names = j.names; data_reads = reads }
 
-pub seen_paths : (m : PathMap) (b : List ℕ) (v : View) (us : List UnitPaths) → v ≡ view_of b → PathsFound m (view_of b) us → PathsFound m v us
-seen_paths m b v us is h = subst (λ (w : View). PathsFound m w us) (sym is) h
+pub seen_paths : (m : PathMap) (b : List ℕ) (v : View) (us : List UnitPaths) (ts : List LineTable) → v ≡ view_of b → PathsFound m (view_of b) us ts → PathsFound m v us ts
+seen_paths m b v us ts is h = subst (λ (w : View). PathsFound m w us ts) (sym is) h
 
 pub made_bodies : (m : PathMap) (b : List ℕ) (v : View) (bodies : List Body) → v ≡ view_of b → BodiesMade m (debug_data v) bodies → BodiesMade m (file_data b) bodies
 made_bodies m b v bodies is h = subst (λ (w : View). BodiesMade m (debug_data w) bodies) is h
 
 -- A table of texts that is too long may not change where it stays, and makes the file too long where it moves.
--- the table is that of a section, with bytes, and these are its new ones
-record IsTableBody (m : PathMap) (b : List ℕ) (r : DataReadings) (table : TextSection) (i : ℕ) : Type 0 where
+-- these are the new bytes of a section that has bytes
+record IsNewBody (m : PathMap) (b : List ℕ) (r : DataReadings) (bytes : List ℕ) (i : ℕ) : Type 0 where
   within : i < section_count b
   full : is_empty_kind (nth_section b i) ≡ false
-  body : new_body m b r i ≡ long_table m (file_data b) r table
+  body : new_body m b r i ≡ bytes
 
 table_body : (m : PathMap) (b : List ℕ) (r : DataReadings) (table : TextSection) → DataReads (file_data b) r
     → (table_of (around_of (file_data b) r) table).number ≢ 0
-    → IsTableBody m b r table (table_of (around_of (file_data b) r) table).number
+    → IsNewBody m b r (long_table m (file_data b) r table) (table_of (around_of (file_data b) r) table).number
 unfolding new_bodies
 table_body m b r in_str reads some =
     let stand = (bodies-stand m b r reads).0 in
@@ -121,29 +146,65 @@ table_body m b r in_line_str reads some =
     apart (nowhere zero none) = absurd (some zero)
     apart (lies_at there within named bytes) = tables-apart b there named
 
-long_at : (m : PathMap) (b : List ℕ) (r : DataReadings) (table : TextSection) (i : ℕ) → length b ≤ output_limit → IsJudged b → IsTableBody m b r table i
-    → output_limit < length (long_table m (file_data b) r table) → (fixed : Bool) → is_fixed b (nth_section b i) ≡ fixed
+lines_body : (m : PathMap) (b : List ℕ) (r : DataReadings) → DataReads (file_data b) r → (file_data b).lines.number ≢ 0
+    → IsNewBody m b r (all_lines (new_lines m (around_of (file_data b) r) r)) (file_data b).lines.number
+unfolding new_bodies
+lines_body m b r reads some =
+    let stand = (bodies-stand m b r reads).1.1.1.0 in
+    record { within = stand.within some; full = stand.full some; body = by_place (tables-place b) refl }
+  where
+    same : (located (view_of b) Line).number ≡ (file_data b).lines.number
+    same = sym (ap (λ (z : CellSection). z.number) (lines-are b))
+
+    by_place : TablePlace b (name_of Line) (located (view_of b) Line) → (file_data b).lines.number ≡ (file_data b).lines.number
+        → new_body m b r (file_data b).lines.number ≡ all_lines (new_lines m (around_of (file_data b) r) r)
+    by_place (nowhere zero none) e = absurd (some (sym same ∙ zero))
+    by_place (lies_at there within named bytes) e = ap (new_body m b r) (sym same) ∙ body-lines m b r there named
+
+long_at : (m : PathMap) (b : List ℕ) (r : DataReadings) (bytes : List ℕ) (i : ℕ) → length b ≤ output_limit → IsJudged b → IsNewBody m b r bytes i
+    → output_limit < length bytes → (fixed : Bool) → is_fixed b (nth_section b i) ≡ fixed
     → LayoutFails b (new_body m b r) (if fixed then at Fixed i 0 else at TooLarge 0 0)
 unfolding part_of
-long_at m b r table i small j t over true fixed =
+long_at m b r bytes i small j t over true fixed =
     section i t.within (changed (record {
       stays = fixed;
-      body = λ e. (let size : length (long_table m (file_data b) r table) ≡ length (contents_of b i) = ap (λ (x : List ℕ). length x) (sym t.body ∙ e) in
+      body = λ e. (let size : length bytes ≡ length (contents_of b i) = ap (λ (x : List ℕ). length x) (sym t.body ∙ e) in
           absurd (omega (arith, over, size, length-contents b i, small)));
     }))
-long_at m b r table i small j t over false moves =
+long_at m b r bytes i small j t over false moves =
     let there : (part_of b (new_body m b r) i).moves ≡ true = rw (t.full, moves) refl in
     let longer : length (new_body m b r i) ≤ length (with_bodies b (new_body m b r)) =
     length-moved b (new_body m b r) i t.within (fixed_end-within b j.elf.debug j.elf.segments) there in
-    let size : length (new_body m b r i) ≡ length (long_table m (file_data b) r table) = ap (λ (x : List ℕ). length x) t.body in
+    let size : length (new_body m b r i) ≡ length bytes = ap (λ (x : List ℕ). length x) t.body in
     large (long (omega (arith, over, longer, size)))
+
+-- a line table is refused by another kind
+data IsOther : Refusal → Type 0 where
+  another : {r : Refusal} → ((long : Refusal) → long_or r.kind long r ≡ r) → IsOther r
+
+write_other : (g : LineSource) (m : PathMap) (p : TextPlace → Option ℕ) (t : LineTable) (r : Refusal) → WriteFails g m p t r → IsOther r × (r.section ≡ g.number)
+write_other g m p t r (wide_table far) = (another (λ long. refl), refl)
+write_other g m p t r (wide_header far) = (another (λ long. refl), refl)
+write_other g m p t r (wide_offset (wide x place here apart is far)) = (another (λ long. refl), refl)
+write_other g m p t r (program h e (defined files place o walks lt at_ changes)) = (another (λ long. refl), refl)
+
+other_told : (b : List ℕ) (r : Refusal) → IsOther r → told_refusal b r ≡ r
+other_told b r (another f) = f (long_refusal b r.section)
 
 long_fails : (m : PathMap) (b : List ℕ) (f : Fault) → length b ≤ output_limit → IsJudged b → Blames (BodiesRefuse m (file_data b)) f
     → Blames (EditFails m b) (long_fault b f)
 long_fails m b NoMemory small j h = tt
 long_fails m b (Refused _) small j (long_table_of table r reads fits some over) =
     let t = table_body m b r table reads some in
-    output r (reads_judged b r j reads) fits (long_at m b r table _ small j t over (is_fixed b (nth_section b _)) refl)
+    output r (reads_judged b r j reads) fits (long_at m b r (long_table m (file_data b) r table) _ small j t over (is_fixed b (nth_section b _)) refl)
+long_fails m b (Refused _) small j (long_lines_of r reads fits some over) =
+    let t = lines_body m b r reads some in
+    output r (reads_judged b r j reads) fits (long_at m b r (all_lines (new_lines m (around_of (file_data b) r) r)) _ small j t over (is_fixed b (nth_section b _)) refl)
+long_fails m b (Refused x) small j (line_table_of r before behind t reads split fails) =
+    let o = write_other (line_source (file_data b)) m
+    (line_place m (changes_of m (around_of (file_data b) r) r).str (changes_of m (around_of (file_data b) r) r).line_str (line_source (file_data b)))
+    (table_read (line_source (file_data b)) t) x fails in
+    subst (EditFails m b) (sym (other_told b x o.0)) (line_table_row r before behind t (reads_judged b r j reads) split fails)
 
 pub refused_bodies : (m : PathMap) (b : List ℕ) (v : View) (f told : Fault) → length b ≤ output_limit → IsJudged b → v ≡ view_of b
     → Blames (BodiesRefuse m (debug_data v)) f → told ≡ long_fault b f → Blames (EditFails m b) told
@@ -151,9 +212,31 @@ refused_bodies m b v f told small j v_is h is =
     subst (λ (x : Fault). Blames (EditFails m b) x) (sym is)
     (long_fails m b f small j (subst (λ (w : View). Blames (BodiesRefuse m (debug_data w)) f) v_is h))
 
+some_tables : (b : List ℕ) (r : DataReadings) (before behind : List LineReading) (t : LineReading) → DataReads (file_data b) r → r.lines ≡ before ++ t ∷ behind → (file_data b).lines.number ≢ 0
+some_tables b r before behind t reads split zero_ = by_place (tables-place b)
+  where
+    same : (located (view_of b) Line).number ≡ (file_data b).lines.number
+    same = sym (ap (λ (z : CellSection). z.number) (lines-are b))
+
+    size : length r.lines ≡ length before + suc (length behind)
+    size = ap (λ (l : List LineReading). length l) split ∙ length-append before (t ∷ behind)
+
+    by_place : TablePlace b (name_of Line) (located (view_of b) Line) → ⊥
+    by_place (nowhere none empty) =
+        let no_lines : r.lines ≡ [] = no-tables (line_source (file_data b)) r.lines (line-bytes b ∙ empty) reads.lines in
+        let none_ : length r.lines ≡ 0 = ap (λ (l : List LineReading). length l) no_lines in
+        omega (arith, size, none_)
+    by_place (lies_at there within named bytes) = omega (arith, there, same, zero_)
+
 in_file : (m : PathMap) (b : List ℕ) (f : Fault) → Blames (BodiesRefuse m (file_data b)) f → Blames (IsInFile b) f
 in_file m b NoMemory h = tt
 in_file m b (Refused _) (long_table_of table r reads fits some over) = record { within = (table_body m b r table reads some).within }
+in_file m b (Refused _) (long_lines_of r reads fits some over) = record { within = (lines_body m b r reads some).within }
+in_file m b (Refused x) (line_table_of r before behind t reads split fails) =
+    let o = write_other (line_source (file_data b)) m
+    (line_place m (changes_of m (around_of (file_data b) r) r).str (changes_of m (around_of (file_data b) r) r).line_str (line_source (file_data b)))
+    (table_read (line_source (file_data b)) t) x fails in
+    record { within = subst (λ (n : ℕ). n < section_count b) (sym o.1) (lines_body m b r reads (some_tables b r before behind t reads split)).within }
 
 pub told_in_file : (m : PathMap) (b : List ℕ) (v : View) (f : Fault) → v ≡ view_of b → Blames (BodiesRefuse m (debug_data v)) f → Blames (IsInFile b) f
 told_in_file m b v f v_is h = in_file m b f (subst (λ (w : View). Blames (BodiesRefuse m (debug_data w)) f) v_is h)

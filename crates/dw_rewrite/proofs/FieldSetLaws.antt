@@ -54,6 +54,15 @@ pub apart-behind : (fs gs : List PathField) → AllApart (fs ++ gs) → AllApart
 apart-behind [] gs h = h
 apart-behind (f ∷ fs) gs h = apart-behind fs gs h.1
 
+-- where fields are left out no other two have a byte in common
+apart-without : (f : PathField) (fs gs hs : List PathField) → IsApartFrom f (fs ++ (gs ++ hs)) → IsApartFrom f (fs ++ hs)
+apart-without f [] gs hs h = apart-rest f gs hs h
+apart-without f (x ∷ xs) gs hs h = (h.0, apart-without f xs gs hs h.1)
+
+pub apart-skip : (fs gs hs : List PathField) → AllApart (fs ++ (gs ++ hs)) → AllApart (fs ++ hs)
+apart-skip [] gs hs h = apart-behind gs hs h
+apart-skip (f ∷ fs) gs hs h = (apart-without f fs gs hs h.0, apart-skip fs gs hs h.1)
+
 -- and when all others are set
 pub free-behind : (o : OffsetTable) (info : List ℕ) (known : ℕ → Option ℕ) (patches : List Patch) (fs gs : List PathField) → AllApart (fs ++ gs) → AreFree patches gs
     → AreFree (patches ++ known_patches o info known fs) gs
@@ -123,6 +132,8 @@ pass-end o info known fields old now i end p = record {
 
 pub ruleset set_rules = (path_there, pass-start, pass-end)
 
+pub ruleset start_rules = (pass-start, pass-end)
+
 pub ruleset at_rules = (fits_known)
 
 -- what is put is what is known, field by field
@@ -141,17 +152,24 @@ put-known o info out known (f ∷ fs) =
     put-first o.order out f (known (offset_at o info f)) (known_patches o info known fs)
     ∙ put-known o info (with_known o.order out f (known (offset_at o info f))) known fs
 
--- the same of two tables, where nothing was set before
-pub both-put : (o l : OffsetTable) (info out new : List ℕ) (ks kl : ℕ → Option ℕ) (fs gs : List PathField) (p q r : PatchList) → p.order ≡ o.order → l.order ≡ o.order → p.list ≡ []
-    → AreSet p q (known_patches o info ks fs) → AreSet q r (known_patches l info kl gs) → new ≡ with_patches r.order out r.list
-    → new ≡ with_all_known l info kl (with_all_known o info ks out fs) gs
-both-put o l info out new ks kl fs gs p q r order same none first second is =
-    let order_is : r.order ≡ o.order = second.order ∙ first.order ∙ order in
-    let list_is : r.list ≡ known_patches o info ks fs ++ known_patches l info kl gs =
-    second.list ∙ ap (λ (ps : List Patch). ps ++ known_patches l info kl gs) (first.list ∙ ap (λ (ps : List Patch). ps ++ known_patches o info ks fs) none) in
-    is ∙ ap (λ (ps : List Patch). with_patches r.order out ps) list_is
-    ∙ ap (λ (x : Order). with_patches x out (known_patches o info ks fs ++ known_patches l info kl gs)) order_is
-    ∙ put-append o.order out (known_patches o info ks fs) (known_patches l info kl gs)
-    ∙ ap (λ (bs : List ℕ). with_patches o.order bs (known_patches l info kl gs)) (put-known o info out ks fs)
-    ∙ ap (λ (x : Order). with_patches x (with_all_known o info ks out fs) (known_patches l info kl gs)) (sym same)
-    ∙ put-known l info (with_all_known o info ks out fs) kl gs
+-- the same of three lists of fields, where nothing was set before
+pub all-put : (o l t : OffsetTable) (info out new : List ℕ) (ks kl kt : ℕ → Option ℕ) (fs gs hs : List PathField) (p q r w : PatchList) → p.order ≡ o.order → l.order ≡ o.order
+    → t.order ≡ o.order → p.list ≡ [] → AreSet p q (known_patches o info ks fs) → AreSet q r (known_patches l info kl gs) → AreSet r w (known_patches t info kt hs)
+    → new ≡ with_patches w.order out w.list → new ≡ with_all_known t info kt (with_all_known l info kl (with_all_known o info ks out fs) gs) hs
+all-put o l t info out new ks kl kt fs gs hs p q r w order same_l same_t none first second third is =
+    let order_is : w.order ≡ o.order = third.order ∙ second.order ∙ first.order ∙ order in
+    let fp : List Patch = known_patches o info ks fs in
+    let gp : List Patch = known_patches l info kl gs in
+    let hp : List Patch = known_patches t info kt hs in
+    let list_is : w.list ≡ (known_patches o info ks fs ++ known_patches l info kl gs) ++ known_patches t info kt hs =
+    third.list ∙ ap (λ (ps : List Patch). ps ++ known_patches t info kt hs)
+    (second.list ∙ ap (λ (ps : List Patch). ps ++ known_patches l info kl gs) (first.list ∙ ap (λ (ps : List Patch). ps ++ known_patches o info ks fs) none)) in
+    is ∙ ap (λ (ps : List Patch). with_patches w.order out ps) list_is
+    ∙ ap (λ (x : Order). with_patches x out ((known_patches o info ks fs ++ known_patches l info kl gs) ++ known_patches t info kt hs)) order_is
+    ∙ put-append o.order out (fp ++ gp) hp
+    ∙ ap (λ (bs : List ℕ). with_patches o.order bs (known_patches t info kt hs)) (put-append o.order out fp gp)
+    ∙ ap (λ (bs : List ℕ). with_patches o.order (with_patches o.order bs (known_patches l info kl gs)) (known_patches t info kt hs)) (put-known o info out ks fs)
+    ∙ ap (λ (x : Order). with_patches o.order (with_patches x (with_all_known o info ks out fs) (known_patches l info kl gs)) (known_patches t info kt hs)) (sym same_l)
+    ∙ ap (λ (bs : List ℕ). with_patches o.order bs (known_patches t info kt hs)) (put-known l info (with_all_known o info ks out fs) kl gs)
+    ∙ ap (λ (x : Order). with_patches x (with_all_known l info kl (with_all_known o info ks out fs) gs) (known_patches t info kt hs)) (sym same_t)
+    ∙ put-known t info (with_all_known l info kl (with_all_known o info ks out fs) gs) kt hs

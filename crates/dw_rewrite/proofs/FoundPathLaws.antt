@@ -2,11 +2,13 @@
 use Rattle.std.proofs.Common.{true, false, ◌≡◌, ◌⊎◌, inl, inr, ℕ, ◌+◌, ◌<◌, ◌≤◌, if◌then◌else◌, Bool, List, [], ◌∷◌, ◌++◌, length, drop, replicate, Option, Some, None, refl, sym, ap, ◌∙◌, subst, arith, append_assoc}
 use Rattle.std.proofs.lemmas.List.{length-append, length-drop, length-replicate}
 use Rattle.dw_base.specs.Cells.{Cell, bytes_of, plain_cells}
-use Rattle.dw_base.specs.DebugData.{Around, DataReadings, ReadsAll, around_of, indexing_of, path_slots}
+use Rattle.dw_base.specs.DebugData.{Around, DataReadings, ReadsAll, around_of, indexing_of, line_source, path_slots}
 use Rattle.dw_base.specs.DebugSections.{name_of}
 use Rattle.dw_base.specs.FileViews.{View, section_bytes, section_named}
 use Rattle.dw_base.specs.Forms.{in_str, width_size}
 use Rattle.dw_base.specs.IndexFails.{IndexFails}
+use Rattle.dw_base.specs.LineReadings.{LineReading, table_starts}
+use Rattle.dw_base.specs.LineTables.{LineTable}
 use Rattle.dw_base.specs.NamePieces.{NameMode, at_table, at_string, at_rest, no_names, NameState, ReadsNames}
 use Rattle.dw_base.specs.NameTables.{AreNameTables, names_of}
 use Rattle.dw_base.specs.NameTableFails.{NameTablesFail}
@@ -49,22 +51,25 @@ use Rattle.dw_offsets.specs.declared.slot_fields.PathSlot.{PathSlot}
 use Rattle.dw_offsets.proofs.NamePieceLaws.{NamesRead, names-read}
 use Rattle.dw_offsets.proofs.OffsetPieceLaws.{contributions-read}
 use Rattle.dw_offsets.proofs.SlotPieceLaws.{SlotsAround, SlotsSay, SlotsFail, slot_fails, shared_fails, slots-fail, slots-say}
-use Rattle.dw_rewrite.specs.Bodies.{PathsFound, PathsRefuse, SlotsFound, UnitPathsRefuse, UnitsFound}
-use Rattle.dw_rewrite.specs.Bodies.PathsRefuse.{units, inline, string_tables, name_tables, slots, shared}
+use Rattle.dw_rewrite.specs.Bodies.{PathsFound, PathsRefuse, SlotsFound, UnitPathsRefuse, UnitsFound, without_lines}
+use Rattle.dw_rewrite.specs.Bodies.PathsRefuse.{units, starts, inline, string_tables, name_tables, slots, shared}
 use Rattle.dw_rewrite.specs.Bodies.UnitPathsRefuse.{texts as refused_texts, inline as refused_inline}
 use Rattle.dw_rewrite.specs.Changes.{ArePathFields, IsPathField, OffsetTable, offset_at}
-use Rattle.dw_rewrite.specs.IndexedTexts.{SlotsMarked, TextsIndexed, indexing_with}
-use Rattle.dw_rewrite.specs.IndexedTexts.TextsRefuse.{units as texts_units, index as texts_index}
+use Rattle.dw_rewrite.specs.IndexedTexts.{SlotsMarked, TablesStart, TextsIndexed, indexing_with}
+use Rattle.dw_rewrite.specs.IndexedTexts.TextsRefuse.{units as texts_units, starts as texts_starts, index as texts_index}
 use Rattle.dw_rewrite.specs.NamedSlots.{LieWithin}
 use Rattle.dw_rewrite.proofs.SlotRunLaws.{contributions-lie}
-use Rattle.dw_rewrite.specs.NewTables.{AllHavePaths, AllRoomsFit, HasPaths, offsets_in}
+use Rattle.dw_rewrite.specs.NewTables.{AllHaveFields, AllHavePaths, AllRoomsFit, HasPaths, offsets_in}
 use Rattle.dw_rewrite.specs.SlotPaths.{as_fields, offset_fields, read_fields, slots_by, slots_of_view, slots_read}
 use Rattle.dw_rewrite.specs.TextPlaces.{AllFitRooms, AllPlaced, InlinesFit}
 use Rattle.dw_rewrite.specs.UnitPaths.{UnitPaths, field_by}
+use Rattle.dw_rewrite.specs.ViewLines.{TablesFound, lines_of_view, starts_of}
 use Rattle.dw_rewrite.specs.declared.fields.PathField.{PathField}
 use Rattle.dw_rewrite.proofs.ApartLaws.{slots-apart}
 use Rattle.dw_rewrite.proofs.EditedLaws.{piece_number}
 use Rattle.dw_rewrite.proofs.FoundLaws.{FoundReadings, found-readings, found-fits}
+use Rattle.dw_rewrite.proofs.LineReadLaws.{read-starts}
+use Rattle.dw_rewrite.proofs.MadeBodyLaws.{lines-have, without-is}
 use Rattle.dw_rewrite.proofs.NewBodyLaws.{offsets-placed, offsets-plain, offsets-of}
 use Rattle.dw_rewrite.proofs.PlaceValueLaws.{EachOf, each-get}
 use Rattle.dw_rewrite.proofs.SectionFactLaws.{SectionFacts, all-facts, has-paths, says-bytes}
@@ -101,27 +106,27 @@ offsets-read v list are =
     record { pieces = r.pieces; reads = r.reads; list_is = contributions-are v.order (plain_cells (string_offsets v).bytes) r.pieces list r.reads up }
 
 -- what was read of units and string offsets
-abbrev readings_with : Readings → List (Piece OffsetState) → List (Piece NameState) → DataReadings
-readings_with us xs ns = record { units = us; offsets = xs; names = ns }
+abbrev readings_with : Readings → List (Piece OffsetState) → List LineReading → List (Piece NameState) → DataReadings
+readings_with us xs ls ns = record { units = us; offsets = xs; lines = ls; names = ns }
 
-indexing-is : (v : View) (list : List Contribution) (us : Readings) (xs : List (Piece OffsetState)) (ns : List (Piece NameState)) → contributions_in v.order xs ≡ list
-    → indexing_with (debug_data v) list us ≡ indexing_of (debug_data v) (readings_with us xs ns)
+indexing-is : (v : View) (list : List Contribution) (us : Readings) (xs : List (Piece OffsetState)) (ls : List LineReading) (ns : List (Piece NameState)) → contributions_in v.order xs ≡ list
+    → indexing_with (debug_data v) list us ≡ indexing_of (debug_data v) (readings_with us xs ls ns)
 unfolding debug_data
-indexing-is v list us xs ns e =
+indexing-is v list us xs ls ns e =
     ap (λ (cs_ : List Contribution). indexing_with (debug_data v) cs_ us) (sym e)
 
-indexes-read : (v : View) (list : List Contribution) (us : Readings) (o : OffsetsRead v list) (ns : List (Piece NameState)) → ReadsAll (debug_data v).base 0 (debug_data v).units us
-    → IndexesRead (debug_data v) (readings_with us o.pieces ns)
+indexes-read : (v : View) (list : List Contribution) (us : Readings) (o : OffsetsRead v list) (ls : List LineReading) (ns : List (Piece NameState)) → ReadsAll (debug_data v).base 0 (debug_data v).units us
+    → IndexesRead (debug_data v) (readings_with us o.pieces ls ns)
 unfolding debug_data
-indexes-read v list us o ns reads = record { units = reads; offsets = o.reads }
+indexes-read v list us o ls ns reads = record { units = reads; offsets = o.reads }
 
 -- the slots, with what stands around them
-slots-around : (v : View) (list : List Contribution) (marks : List ℕ) (us : Readings) (o : OffsetsRead v list) (ns : List (Piece NameState))
+slots-around : (v : View) (list : List Contribution) (marks : List ℕ) (us : Readings) (o : OffsetsRead v list) (ls : List LineReading) (ns : List (Piece NameState))
     → SlotsMarked (indexing_with (debug_data v) list us) marks
-    → SlotsAround (around_of (debug_data v) (readings_with us o.pieces ns)) (slots_in v) (plain_cells (string_offsets v).bytes) o.pieces marks
+    → SlotsAround (around_of (debug_data v) (readings_with us o.pieces ls ns)) (slots_in v) (plain_cells (string_offsets v).bytes) o.pieces marks
 unfolding debug_data
-slots-around v list marks us o ns marked =
-    let same = indexing-is v list us o.pieces ns o.list_is in
+slots-around v list marks us o ls ns marked =
+    let same = indexing-is v list us o.pieces ls ns o.list_is in
     record {
       reads = o.reads;
       plain = plain_cells-plain (string_offsets v).bytes;
@@ -132,10 +137,10 @@ slots-around v list marks us o ns marked =
       are_marks = subst (λ (g : Indexing). AreMarks marks g g.uses) same marked.slots;
     }
 
-contributions-around : (v : View) (list : List Contribution) (us : Readings) (o : OffsetsRead v list) (ns : List (Piece NameState))
-    → (around_of (debug_data v) (readings_with us o.pieces ns)).lasting.indexing.contributions ≡ list
+contributions-around : (v : View) (list : List Contribution) (us : Readings) (o : OffsetsRead v list) (ls : List LineReading) (ns : List (Piece NameState))
+    → (around_of (debug_data v) (readings_with us o.pieces ls ns)).lasting.indexing.contributions ≡ list
 unfolding debug_data
-contributions-around v list us o ns = o.list_is
+contributions-around v list us o ls ns = o.list_is
 
 -- each string offset of a name table names a text
 string-names : (m : NameMode) (v : View) (rs : DataReadings) (p : List Cell) → StringNamesBy m v p → NamesTextBy (name_role_by m) (around_of (debug_data v) rs) p
@@ -220,6 +225,7 @@ slots-have-by v rs (Some i) there r names = (
         (pieces-fields (path_slots (around_of (debug_data v) rs)) v.order (around_of (debug_data v) rs) (section_bytes v i) _ rs.offsets 0 r.chain
         (offsets-placed v (Some i) rs.offsets r) (offsets-plain v (Some i) rs.offsets r) names);
     line_str = record { each = λ k d lt. absurd (omega (arith, lt)) };
+    starts = record { each = λ k d lt. absurd (omega (arith, lt)) };
     apart = slots-apart (section_bytes v i) 0 (path_slots (around_of (debug_data v) rs)) rs.offsets (offsets-placed v (Some i) rs.offsets r);
     rooms = record { each = λ k d lt. absurd (omega (arith, lt)) };
   },
@@ -241,6 +247,11 @@ has-each : (v : View) (us : List UnitPaths) → EachOf (SectionFacts v) us → E
 has-each v [] h = tt
 has-each v (u ∷ us) h = (has-paths v u h.0, has-each v us h.1)
 
+-- so they have fields, and with more sections behind
+have-fields : (v : View) (xs ys : List UnitPaths) → AllHavePaths v xs → AllHaveFields v ys → AllHaveFields v (xs ++ ys)
+have-fields v [] ys h k = k
+have-fields v (x ∷ xs) ys h k = (record { there = h.0.there; str = h.0.str; line_str = h.0.line_str }, have-fields v xs ys h.1 k)
+
 rooms-each : (m : PathMap) (v : View) (before zs : List UnitSection) (us ws : List UnitPaths) → (debug_data v).units ≡ before ++ zs → AllPlaced (debug_data v) zs us
     → AllFitRooms m zs us → AllRoomsFit m v ws → AllRoomsFit m v (us ++ ws)
 rooms-each m v before [] [] ws split all fits rest = rest
@@ -256,60 +267,82 @@ slots-rooms m v None fields = tt
 slots-rooms m v (Some i) fields = (tt, tt)
 
 -- what was found
-record Parts (m : PathMap) (v : View) (list : List Contribution) (marks : List ℕ) (us : List UnitPaths) (tables : List NameTable) : Type 0 where
+record Parts (m : PathMap) (v : View) (list : List Contribution) (marks first : List ℕ) (us : List UnitPaths) (tables : List NameTable) : Type 0 where
   offsets : OffsetsRead v list
   found : FoundReadings (debug_data v) 0 (debug_data v).units us
   names : NamesRead v (plain_cells (names_of v).bytes)
   marked : SlotsMarked (indexing_with (debug_data v) list found.readings) marks
 
-parts-of : (m : PathMap) (v : View) (list : List Contribution) (marks : List ℕ) (us : List UnitPaths) (tables : List NameTable) → AreContributions v.order (string_offsets v) list
-    → AreNameTables v tables → UnitsFound m (debug_data v) us → TextsIndexed (debug_data v) list marks → Parts m v list marks us tables
-parts-of m v list marks us tables are names found indexed =
+parts-of : (m : PathMap) (v : View) (list : List Contribution) (marks first : List ℕ) (us : List UnitPaths) (tables : List NameTable) → AreContributions v.order (string_offsets v) list
+    → AreNameTables v tables → UnitsFound m (debug_data v) first us → TextsIndexed (debug_data v) list marks → Parts m v list marks first us tables
+parts-of m v list marks first us tables are names found indexed =
     let f : FoundReadings (debug_data v) 0 (debug_data v).units us = found-readings (debug_data v) 0 (debug_data v).units us found.placed in
     record { offsets = offsets-read v list are; found = f; names = names-read v tables names; marked = indexed.each f.readings f.reads }
 
-pub paths-found : (m : PathMap) (v : View) (list : List Contribution) (marks : List ℕ) (tables : List NameTable) (us all : List UnitPaths)
-    → AreContributions v.order (string_offsets v) list → AreNameTables v tables → UnitsFound m (debug_data v) us → TextsIndexed (debug_data v) list marks
-    → SlotsFound m v list marks us all → PathsFound m v all
-paths-found m v list marks tables us all are named found indexed slots_found =
-    let p : Parts m v list marks us tables = parts-of m v list marks us tables are named found indexed in
-    let rs : DataReadings = readings_with p.found.readings p.offsets.pieces p.names.pieces in
-    let i = indexes-read v list p.found.readings p.offsets p.names.pieces p.found.reads in
-    let around = slots-around v list marks p.found.readings p.offsets p.names.pieces p.marked in
-    let same = contributions-around v list p.found.readings p.offsets p.names.pieces in
-    let say : SlotsSay m (around_of (debug_data v) (readings_with p.found.readings p.offsets.pieces p.names.pieces)) p.offsets.pieces slots_found.fields =
-    slots-say m (around_of (debug_data v) (readings_with p.found.readings p.offsets.pieces p.names.pieces)) (slots_in v) (plain_cells (string_offsets v).bytes) p.offsets.pieces marks
-    slots_found.fields around (subst (λ (cs_ : List Contribution). SlotsTaken m (slots_in v) marks (slots_of cs_) [] slots_found.fields) (sym same) slots_found.taken) in
-    let fields : as_fields slots_found.fields ≡ read_fields (debug_data v) (readings_with p.found.readings p.offsets.pieces p.names.pieces) =
-    ap as_fields say.fields_are ∙ fields-are (path_slots (around_of (debug_data v) (readings_with p.found.readings p.offsets.pieces p.names.pieces))) p.offsets.pieces in
-    let is : all ≡ us ++ slots_read v (readings_with p.found.readings p.offsets.pieces p.names.pieces) =
+-- where the line tables of a view start
+pub tables-start : (v : View) (ts : List LineTable) (first : List ℕ) → TablesFound v ts → first ≡ starts_of ts → TablesStart (debug_data v) first
+tables-start v ts first found is = record {
+  tables = found.readings;
+  are = found.reads;
+  is = is ∙ ap starts_of found.is ∙ read-starts (line_source (debug_data v)) found.readings;
+}
+
+pub slice-start : (v : View) (ts : List LineTable) (first slice : List ℕ) → TablesFound v ts → first ≡ starts_of ts → slice ≡ first → TablesStart (debug_data v) slice
+slice-start v ts first slice found is same = tables-start v ts slice found (same ∙ is)
+
+pub paths-found : (m : PathMap) (v : View) (list : List Contribution) (marks first slice : List ℕ) (tables : List NameTable) (ts : List LineTable) (us with_slots all : List UnitPaths)
+    → AreContributions v.order (string_offsets v) list → AreNameTables v tables → TablesFound v ts → first ≡ starts_of ts → slice ≡ first
+    → UnitsFound m (debug_data v) slice us → TextsIndexed (debug_data v) list marks
+    → SlotsFound m v list marks us with_slots → all ≡ with_slots ++ lines_of_view v ts → PathsFound m v all ts
+unfolding slice-start tables-start
+paths-found m v list marks first slice tables ts us with_slots all are named lines starts_are same found indexed slots_found all_is =
+    let p : Parts m v list marks slice us tables = parts-of m v list marks slice us tables are named found indexed in
+    let rs : DataReadings = readings_with p.found.readings p.offsets.pieces lines.readings p.names.pieces in
+    let i = indexes-read v list p.found.readings p.offsets lines.readings p.names.pieces p.found.reads in
+    let around = slots-around v list marks p.found.readings p.offsets lines.readings p.names.pieces p.marked in
+    let same_list = contributions-around v list p.found.readings p.offsets lines.readings p.names.pieces in
+    let start_is : slice ≡ table_starts lines.readings = (slice-start v ts first slice lines starts_are same).is in
+    let say : SlotsSay m (around_of (debug_data v) (readings_with p.found.readings p.offsets.pieces lines.readings p.names.pieces)) p.offsets.pieces slots_found.fields =
+    slots-say m (around_of (debug_data v) (readings_with p.found.readings p.offsets.pieces lines.readings p.names.pieces)) (slots_in v) (plain_cells (string_offsets v).bytes) p.offsets.pieces marks
+    slots_found.fields around (subst (λ (cs_ : List Contribution). SlotsTaken m (slots_in v) marks (slots_of cs_) [] slots_found.fields) (sym same_list) slots_found.taken) in
+    let fields : as_fields slots_found.fields ≡ read_fields (debug_data v) (readings_with p.found.readings p.offsets.pieces lines.readings p.names.pieces) =
+    ap as_fields say.fields_are ∙ fields-are (path_slots (around_of (debug_data v) (readings_with p.found.readings p.offsets.pieces lines.readings p.names.pieces))) p.offsets.pieces in
+    let is : with_slots ≡ us ++ slots_read v (readings_with p.found.readings p.offsets.pieces lines.readings p.names.pieces) =
     slots_found.is ∙ ap (λ (fs : List PathField). us ++ slots_of_view v fs) fields in
+    let without : without_lines v all ≡ with_slots = without-is v all with_slots ts all_is in
+    let have : AllHavePaths v with_slots =
+    subst (AllHavePaths v) (sym is)
+    (have-append v us (slots_read v (readings_with p.found.readings p.offsets.pieces lines.readings p.names.pieces))
+    (has-each v us (all-facts v [] (debug_data v).units us refl found.placed))
+    (slots-have v (readings_with p.found.readings p.offsets.pieces lines.readings p.names.pieces) i.offsets say.texts)) in
+    let rooms : AllRoomsFit m v with_slots =
+    subst (AllRoomsFit m v) (sym is)
+    (rooms-each m v [] (debug_data v).units us (slots_read v (readings_with p.found.readings p.offsets.pieces lines.readings p.names.pieces)) refl found.placed found.fits
+    (slots-rooms m v (section_named v (name_of StrOffsets)) (read_fields (debug_data v) (readings_with p.found.readings p.offsets.pieces lines.readings p.names.pieces)))) in
     record {
-      readings = readings_with p.found.readings p.offsets.pieces p.names.pieces;
+      readings = readings_with p.found.readings p.offsets.pieces lines.readings p.names.pieces;
       reads = record {
         units = p.found.reads;
         offsets = i.offsets;
+        lines = lines.reads;
         names = names-cells v p.names.pieces p.names.reads;
-        texts = p.found.names (readings_with p.found.readings p.offsets.pieces p.names.pieces);
+        texts = p.found.names (readings_with p.found.readings p.offsets.pieces lines.readings p.names.pieces) slice start_is found.named;
         slot_texts = say.texts;
-        name_texts = all-names v (readings_with p.found.readings p.offsets.pieces p.names.pieces) p.names.pieces p.names.texts;
+        name_texts = all-names v (readings_with p.found.readings p.offsets.pieces lines.readings p.names.pieces) p.names.pieces p.names.texts;
         indexes = subst (λ (g : Indexing). EachUse (NamesSlot g) g.uses)
-            (indexing-is v list p.found.readings p.offsets.pieces p.names.pieces p.offsets.list_is) p.marked.named;
+            (indexing-is v list p.found.readings p.offsets.pieces lines.readings p.names.pieces p.offsets.list_is) p.marked.named;
+        forms = p.found.forms slice found.named;
       };
-      fits = record {
-        inline = found-fits (debug_data v).base m 0 (debug_data v).units p.found.readings p.found.reads
-            (subst (AllFitRooms m (debug_data v).units) (sym p.found.says) found.fits);
-        slots = say.fits;
-      };
+      inline = found-fits (debug_data v).base m 0 (debug_data v).units p.found.readings p.found.reads
+          (subst (AllFitRooms m (debug_data v).units) (sym p.found.says) found.fits);
+      slots = say.fits;
       built = found.built;
-      have = subst (AllHavePaths v) (sym is)
-          (have-append v us (slots_read v (readings_with p.found.readings p.offsets.pieces p.names.pieces))
-          (has-each v us (all-facts v [] (debug_data v).units us refl found.placed))
-          (slots-have v (readings_with p.found.readings p.offsets.pieces p.names.pieces) i.offsets say.texts));
-      rooms = subst (AllRoomsFit m v) (sym is)
-          (rooms-each m v [] (debug_data v).units us (slots_read v (readings_with p.found.readings p.offsets.pieces p.names.pieces)) refl found.placed found.fits
-          (slots-rooms m v (section_named v (name_of StrOffsets)) (read_fields (debug_data v) (readings_with p.found.readings p.offsets.pieces p.names.pieces))));
-      is = is ∙ ap (λ (ws : List UnitPaths). ws ++ slots_read v (readings_with p.found.readings p.offsets.pieces p.names.pieces)) (sym p.found.says);
+      fields = subst (AllHaveFields v) (sym all_is) (have-fields v with_slots (lines_of_view v ts) have (lines-have v lines.readings ts lines.reads lines.is));
+      have = subst (AllHavePaths v) (sym without) have;
+      rooms = subst (AllRoomsFit m v) (sym without) rooms;
+      is = all_is ∙ ap (λ (ws : List UnitPaths). ws ++ lines_of_view v ts)
+          (is ∙ ap (λ (ws : List UnitPaths). ws ++ slots_read v (readings_with p.found.readings p.offsets.pieces lines.readings p.names.pieces)) (sym p.found.says));
+      tables = lines.is;
     }
 
 -- why nothing was found
@@ -324,10 +357,11 @@ names-fault m v (Refused r) h = name_tables h
 units-row : (m : PathMap) (v : View) (list : List Contribution) (r : Refusal) → AreContributions v.order (string_offsets v) list → UnitPathsRefuse m (debug_data v) list r → PathsRefuse m v r
 units-row m v list r are (refused_inline h) = inline h
 units-row m v list r are (refused_texts (texts_units h)) = units h
+units-row m v list r are (refused_texts (texts_starts h)) = starts h
 units-row m v list r are (refused_texts (texts_index us reads h)) =
     let o : OffsetsRead v list = offsets-read v list are in
-    slots (index_row (readings_with us o.pieces []) (indexes-read v list us o [] reads)
-    (subst (λ (g : Indexing). IndexFails g r) (indexing-is v list us o.pieces [] o.list_is) h))
+    slots (index_row (readings_with us o.pieces [] []) (indexes-read v list us o [] [] reads)
+    (subst (λ (g : Indexing). IndexFails g r) (indexing-is v list us o.pieces [] [] o.list_is) h))
 
 pub units-fault : (m : PathMap) (v : View) (list : List Contribution) (f : Fault) → AreContributions v.order (string_offsets v) list
     → Blames (UnitPathsRefuse m (debug_data v) list) f → Blames (PathsRefuse m v) f
@@ -343,18 +377,18 @@ slots-row : (m : PathMap) (v : View) (rs : DataReadings) (r : Refusal) → Index
 slots-row m v rs r i (slot_fails h) = slots (slot_row rs i h)
 slots-row m v rs r i (shared_fails h) = shared rs i h
 
-pub slots-fault : (m : PathMap) (v : View) (list : List Contribution) (marks : List ℕ) (tables : List NameTable) (us : List UnitPaths) (f : Fault)
-    → AreContributions v.order (string_offsets v) list → AreNameTables v tables → UnitsFound m (debug_data v) us → TextsIndexed (debug_data v) list marks
+pub slots-fault : (m : PathMap) (v : View) (list : List Contribution) (marks first : List ℕ) (tables : List NameTable) (us : List UnitPaths) (f : Fault)
+    → AreContributions v.order (string_offsets v) list → AreNameTables v tables → UnitsFound m (debug_data v) first us → TextsIndexed (debug_data v) list marks
     → Blames (SlotsRefuse m (slots_in v) marks (slots_of list)) f → Blames (PathsRefuse m v) f
-slots-fault m v list marks tables us NoMemory are named found indexed h = tt
-slots-fault m v list marks tables us (Refused r) are named found indexed h =
-    let p : Parts m v list marks us tables = parts-of m v list marks us tables are named found indexed in
-    let same = contributions-around v list p.found.readings p.offsets p.names.pieces in
-    slots-row m v (readings_with p.found.readings p.offsets.pieces p.names.pieces) r
-    (indexes-read v list p.found.readings p.offsets p.names.pieces p.found.reads)
-    (subst (λ (n : ℕ). SlotsFail m n (around_of (debug_data v) (readings_with p.found.readings p.offsets.pieces p.names.pieces)) p.offsets.pieces r) (number-is v)
-    (slots-fail m (around_of (debug_data v) (readings_with p.found.readings p.offsets.pieces p.names.pieces)) (slots_in v) (plain_cells (string_offsets v).bytes) p.offsets.pieces marks r
-    (slots-around v list marks p.found.readings p.offsets p.names.pieces p.marked)
+slots-fault m v list marks first tables us NoMemory are named found indexed h = tt
+slots-fault m v list marks first tables us (Refused r) are named found indexed h =
+    let p : Parts m v list marks first us tables = parts-of m v list marks first us tables are named found indexed in
+    let same = contributions-around v list p.found.readings p.offsets [] p.names.pieces in
+    slots-row m v (readings_with p.found.readings p.offsets.pieces [] p.names.pieces) r
+    (indexes-read v list p.found.readings p.offsets [] p.names.pieces p.found.reads)
+    (subst (λ (n : ℕ). SlotsFail m n (around_of (debug_data v) (readings_with p.found.readings p.offsets.pieces [] p.names.pieces)) p.offsets.pieces r) (number-is v)
+    (slots-fail m (around_of (debug_data v) (readings_with p.found.readings p.offsets.pieces [] p.names.pieces)) (slots_in v) (plain_cells (string_offsets v).bytes) p.offsets.pieces marks r
+    (slots-around v list marks p.found.readings p.offsets [] p.names.pieces p.marked)
     (subst (λ (cs_ : List Contribution). SlotsRefuse m (slots_in v) marks (slots_of cs_) r) (sym same) h)))
 
 -- the contributions lie in as many bytes as are marked
@@ -365,4 +399,4 @@ lie-marks v list marks are is =
     let size : length marks ≡ length (string_offsets v).bytes = ap (λ (l : List ℕ). length l) is ∙ length-replicate (length (string_offsets v).bytes) none in
     contributions-lie v.order (string_offsets v) list (length marks) are size
 
-pub ruleset found_rules = (paths-found, contributions-fault, names-fault, units-fault, slots-fault, lie-marks)
+pub ruleset found_rules = (paths-found, slice-start, contributions-fault, names-fault, units-fault, slots-fault, lie-marks)

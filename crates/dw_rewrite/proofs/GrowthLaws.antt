@@ -5,7 +5,7 @@ use Rattle.std.proofs.lemmas.Bool.{cases_lt}
 use Rattle.std.proofs.lemmas.List.{length-append, drop_all}
 use Rattle.dw_base.specs.DebugSections.{name_of}
 use Rattle.dw_base.specs.FileViews.{View, section_named}
-use Rattle.dw_base.specs.Forms.{TextSection}
+use Rattle.dw_base.specs.Forms.{TextSection, in_str, in_line_str}
 use Rattle.dw_base.specs.Layout.{output_limit}
 use Rattle.dw_base.specs.LayoutFails.{TooLong, long}
 use Rattle.dw_base.specs.Paths.{PathMap}
@@ -20,7 +20,7 @@ use Rattle.dw_base.specs.declared.shared.Order.{Order}
 use Rattle.dw_base.proofs.FileViewLaws.{section_after-within}
 use Rattle.dw_base.proofs.TextLaws.{ends_in-inside}
 use Rattle.dw_rewrite.specs.Changes.{OffsetTable, ArePathFields, IsPathField, AreNoted, Knows, Remembers, texts_at}
-use Rattle.dw_rewrite.specs.NewTables.{as_table, offsets_in, plan_in, table_number, fields_of, info_of, HasPaths, AllHavePaths, section_texts_at, all_texts_at, IsSectionNoted, AllNoted, Growing, GrownBy, TableMade, table_with, fault_at, LongTable, long_table}
+use Rattle.dw_rewrite.specs.NewTables.{as_table, offsets_in, plan_in, table_number, fields_of, info_of, HasFields, HasPaths, AllHaveFields, AllHavePaths, section_texts_at, all_texts_at, IsSectionNoted, AllNoted, Growing, GrownBy, TableMade, table_with, fault_at, LongTable, long_table}
 use Rattle.dw_rewrite.specs.UnitPaths.{UnitPaths}
 use Rattle.dw_rewrite.specs.declared.fields.PathField.{PathField}
 use Rattle.dw_rewrite.specs.declared.tables.TextsOf.{TextsOf}
@@ -79,11 +79,15 @@ no-fields o info (f ∷ fs) none are =
     let less = ends_in-inside o.bytes _ one.ends in
     absurd (omega (arith, less, ap length none))
 
-no-texts : (m : PathMap) (v : View) (table : TextSection) (ts : List (List ℕ)) (us : List UnitPaths) → (offsets_in v table).bytes ≡ [] → EachOf (HasPaths v) us
+own-fields : (v : View) (u : UnitPaths) (table : TextSection) → HasFields v u → ArePathFields (offsets_in v table) (info_of v u) (fields_of table u)
+own-fields v u in_str h = h.str
+own-fields v u in_line_str h = h.line_str
+
+no-texts : (m : PathMap) (v : View) (table : TextSection) (ts : List (List ℕ)) (us : List UnitPaths) → (offsets_in v table).bytes ≡ [] → EachOf (HasFields v) us
     → all_texts_at m v table ts us ≡ ts
 no-texts m v table ts [] none each = refl
 no-texts m v table ts (u ∷ us) none each =
-    let fields : fields_of table u ≡ [] = no-fields (offsets_in v table) (info_of v u) (fields_of table u) none (paths-fields v u table each.0) in
+    let fields : fields_of table u ≡ [] = no-fields (offsets_in v table) (info_of v u) (fields_of table u) none (own-fields v u table each.0) in
     ap (λ (fs : List PathField). all_texts_at m v table (texts_at (plan_in m v table) m (offsets_in v table) (info_of v u) ts fs) us) fields
     ∙ no-texts m v table ts us none each.1
 
@@ -109,17 +113,25 @@ each-has v (u ∷ us) all = (all.0, each-has v us all.1)
 pub has-at : (v : View) (us : List UnitPaths) (i : ℕ) (u : UnitPaths) → AllHavePaths v us → i < length us → u ≡ get_or us i u → HasPaths v u
 has-at v us i u all lt is = subst (HasPaths v) (sym is) (each-get (HasPaths v) us i u lt (each-has v us all))
 
-long-there : (m : PathMap) (v : View) (t : TextsOf) (us : List UnitPaths) → AllHavePaths v us
+-- of fields
+each-fields : (v : View) (us : List UnitPaths) → AllHaveFields v us → EachOf (HasFields v) us
+each-fields v [] all = tt
+each-fields v (u ∷ us) all = (all.0, each-fields v us all.1)
+
+pub fields-at : (v : View) (us : List UnitPaths) (i : ℕ) (u : UnitPaths) → AllHaveFields v us → i < length us → u ≡ get_or us i u → HasFields v u
+fields-at v us i u all lt is = subst (HasFields v) (sym is) (each-get (HasFields v) us i u lt (each-fields v us all))
+
+long-there : (m : PathMap) (v : View) (t : TextsOf) (us : List UnitPaths) → AllHaveFields v us
     → output_limit < length (table_bytes (table_with v (as_table t) (all_texts_at m v (as_table t) [] us))) → table_number (debug_data v) (as_table t) ≢ 0
 long-there m v t us placed over zero_ =
     let none : (offsets_in v (as_table t)).bytes ≡ [] = no-number v t zero_ in
-    let texts : all_texts_at m v (as_table t) [] us ≡ [] = no-texts m v (as_table t) [] us none (each-has v us placed) in
+    let texts : all_texts_at m v (as_table t) [] us ≡ [] = no-texts m v (as_table t) [] us none (each-fields v us placed) in
     let same : table_bytes (table_with v (as_table t) (all_texts_at m v (as_table t) [] us)) ≡ [] =
     ap (λ (ts : List (List ℕ)). (offsets_in v (as_table t)).bytes ++ laid_texts ts) texts ∙ ap (λ (b : List ℕ). b ++ laid_texts []) none in
     omega (arith, over, ap length same)
 
 -- the row of a table that is too long
-pub table-row : (m : PathMap) (v : View) (t : TextsOf) (us : List UnitPaths) (f g : Fault) (n : ℕ) → AllHavePaths v us
+pub table-row : (m : PathMap) (v : View) (t : TextsOf) (us : List UnitPaths) (f g : Fault) (n : ℕ) → AllHaveFields v us
     → Blames (TooLong (length (table_bytes (table_with v (as_table t) (all_texts_at m v (as_table t) [] us))))) f
     → n ≡ table_number (debug_data v) (as_table t) → g ≡ fault_at f n → Blames (LongTable m v (as_table t) us) g
 table-row m v t us NoMemory g n placed b number is = subst (Blames (LongTable m v (as_table t) us)) (sym is) tt

@@ -7,7 +7,8 @@ use Rattle.dw_base.specs.EntryScans.{depth_behind}
 use Rattle.dw_base.specs.Forms.{ValueKind, number_of, leb_number, form_in_front, kind_in}
 use Rattle.dw_base.specs.Numbers.{spelled}
 use Rattle.dw_base.specs.Pieces.{Piece, EachPiece, Leads, joined}
-use Rattle.dw_base.specs.Roles.{Role, fixed, offset, inline_path, role_of, is_path}
+use Rattle.dw_base.specs.Roles.{Role, fixed, offset, inline_path, line_start, role_of, is_path, use_of}
+use Rattle.dw_base.specs.TableStarts.{start_form_by}
 use Rattle.dw_base.specs.TextIndexes.{SaidBase, IndexUse, base_value, bases_by, bases_in, index_value, is_base, said_by, use_by, uses_by, uses_in}
 use Rattle.dw_base.specs.UnitHeaders.{UnitBase}
 use Rattle.dw_base.specs.UnitPieces.{unit_grammar}
@@ -18,7 +19,7 @@ use Rattle.dw_base.specs.declared.values.Spec.{Spec}
 use Rattle.dw_base.specs.declared.values.ValueClass.{ValueClass}
 use Rattle.dw_base.specs.declared.values.ValueClass.TheVariants.{Number, StrIndex, SecOffset}
 use Rattle.dw_base.proofs.PlainCellLaws.{IsPlain, offset_of-plain, plain-parts}
-use Rattle.dw_rewrite.specs.TextPlaces.{TextPlace, place_of, indexed_kind, indexed_in, places_in, use_at, uses_among, base_at, bases_among, UnitSays, numbered_uses, numbered_bases}
+use Rattle.dw_rewrite.specs.TextPlaces.{TextPlace, place_of, indexed_kind, indexed_in, places_in, stray_at, use_at, uses_among, base_at, bases_among, UnitSays, numbered_uses, numbered_bases}
 use Rattle.dw_rewrite.proofs.ValueRunLaws.{OrderIs, IsNumbered}
 
 -- lists, one behind another
@@ -67,11 +68,22 @@ place-uses : (r : Role) (section unit at len : ℕ) → uses_among section unit 
 place-uses fixed section unit at len = refl
 place-uses (offset t path) section unit at len = refl
 place-uses inline_path section unit at len = refl
+place-uses line_start section unit at len = refl
 
 place-bases : (r : Role) (unit at len : ℕ) → bases_among unit (place_of r at len) ≡ []
 place-bases fixed unit at len = refl
 place-bases (offset t path) unit at len = refl
 place-bases inline_path unit at len = refl
+place-bases line_start unit at len = refl
+
+-- and neither does a value that can't say where a line table starts
+stray-uses : (b : Bool) (section unit at : ℕ) (ts : List TextPlace) → uses_among section unit (ts ++ stray_at b at) ≡ uses_among section unit ts
+stray-uses true section unit at ts = ap (uses_among section unit) (append-nil ts)
+stray-uses false section unit at ts = uses_among-append section unit ts (stray_at false at) ∙ append-nil (uses_among section unit ts)
+
+stray-bases : (b : Bool) (unit at : ℕ) (ts : List TextPlace) → bases_among unit (ts ++ stray_at b at) ≡ bases_among unit ts
+stray-bases true unit at ts = ap (bases_among unit) (append-nil ts)
+stray-bases false unit at ts = bases_among-append unit ts (stray_at false at) ∙ append-nil (bases_among unit ts)
 
 -- a value that names a text by index
 kind-uses : (k : ValueKind) (path base : Bool) (order : Order) (s : UnitState) (at : ℕ) (p : List Cell)
@@ -102,9 +114,13 @@ piece-uses (at_values n tag []) order s p same = refl
 piece-uses (at_values n tag (x ∷ xs)) order s p same =
     kind-uses (kind_in s.header.params x.form) (is_path n tag x.name) (is_base n x.name) order s s.place p
     ∙ ap (λ (o : Order). uses_among s.section s.unit (indexed_kind (kind_in s.header.params x.form) (is_path n tag x.name) (is_base n x.name) o s.place p)) (sym same)
+    ∙ sym (stray-uses (start_form_by (kind_in s.header.params x.form) (use_of n tag x.name)) s.section s.unit s.place
+    (indexed_kind (kind_in s.header.params x.form) (is_path n tag x.name) (is_base n x.name) s.header.params.order s.place p))
 piece-uses (at_chosen n tag start x xs) order s p same =
     kind-uses (kind_in s.header.params x.form) (is_path n tag x.name) (is_base n x.name) order s start p
     ∙ ap (λ (o : Order). uses_among s.section s.unit (indexed_kind (kind_in s.header.params x.form) (is_path n tag x.name) (is_base n x.name) o start p)) (sym same)
+    ∙ sym (stray-uses (start_form_by (kind_in s.header.params x.form) (use_of n tag x.name)) s.section s.unit s.place
+    (indexed_kind (kind_in s.header.params x.form) (is_path n tag x.name) (is_base n x.name) s.header.params.order start p))
 piece-uses stuck order s p same = refl
 
 -- so do pieces of a unit
@@ -165,9 +181,13 @@ piece-bases (at_values n tag []) order y s p same plain = refl
 piece-bases (at_values n tag (x ∷ xs)) order y s p same plain =
     kind-bases (kind_in s.header.params x.form) (is_path n tag x.name) (is_base n x.name) order y s s.place p plain
     ∙ ap (λ (o : Order). bases_among s.unit (indexed_kind (kind_in s.header.params x.form) (is_path n tag x.name) (is_base n x.name) o s.place p)) (sym same)
+    ∙ sym (stray-bases (start_form_by (kind_in s.header.params x.form) (use_of n tag x.name)) s.unit s.place
+    (indexed_kind (kind_in s.header.params x.form) (is_path n tag x.name) (is_base n x.name) s.header.params.order s.place p))
 piece-bases (at_chosen n tag start x xs) order y s p same plain =
     kind-bases (kind_in s.header.params x.form) (is_path n tag x.name) (is_base n x.name) order y s start p plain
     ∙ ap (λ (o : Order). bases_among s.unit (indexed_kind (kind_in s.header.params x.form) (is_path n tag x.name) (is_base n x.name) o start p)) (sym same)
+    ∙ sym (stray-bases (start_form_by (kind_in s.header.params x.form) (use_of n tag x.name)) s.unit s.place
+    (indexed_kind (kind_in s.header.params x.form) (is_path n tag x.name) (is_base n x.name) s.header.params.order start p))
 piece-bases stuck order y s p same plain = refl
 
 pub run-bases : (order : Order) (section unit : ℕ) (y : Located) (xs : List (Piece UnitState)) → EachPiece (IsNumbered order section unit) xs → IsPlain (joined xs)

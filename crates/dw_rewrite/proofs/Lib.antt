@@ -5,6 +5,7 @@ pub mod ChangedLaws
 pub mod PlacedLaws
 pub mod EditedLaws
 pub mod UnitWrittenLaws
+pub mod StartFormLaws
 pub mod ValuePlaceLaws
 pub mod ValueRunLaws
 pub mod EntryRunLaws
@@ -37,11 +38,19 @@ pub mod ApartLaws
 pub mod FieldSetLaws
 pub mod SectionFactLaws
 pub mod RoomFitLaws
+pub mod StartLaws
 pub mod GrowthLaws
 pub mod SectionBytesLaws
 pub mod SlotWrittenLaws
+pub mod LineReadLaws
+pub mod LineFieldLaws
+pub mod LineWriteLaws
+pub mod LinePlaceLaws
+pub mod LineMentionLaws
+pub mod LineKnownLaws
 pub mod SlotPathLaws
 pub mod PushLaws
 pub mod NewBodyLaws
+pub mod MadeBodyLaws
 pub mod FoundPathLaws
 pub mod SharedLaws

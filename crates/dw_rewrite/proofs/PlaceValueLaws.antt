@@ -1,6 +1,6 @@
 -- Each place of a text in a section has a value behind it: so the fields of paths are fields, paths that stand in their values
 -- have rooms, and one that would grow is a row of the debug data.
-use Rattle.std.proofs.Common.{Bool, true, false, ◌≡◌, ◌≢◌, ◌⊎◌, ℕ, zero, suc, ◌+◌, ◌-◌, ◌≤◌, ◌<◌, List, [], ◌∷◌, ◌++◌, length, take, drop, get_or, Option, Some, None, refl, sym, ap, ◌∙◌, subst, arith, append_assoc}
+use Rattle.std.proofs.Common.{Bool, true, false, ◌≡◌, ◌≢◌, ◌⊎◌, ℕ, zero, suc, ◌+◌, ◌-◌, ◌==◌, ◌≤◌, ◌<◌, List, [], ◌∷◌, ◌++◌, length, take, drop, get_or, Option, Some, None, refl, sym, ap, ◌∙◌, subst, arith, append_assoc}
 use Rattle.std.specs.Bool.{⊤}
 use Rattle.dw_base.specs.AbbreviationTables.{Abbreviation, abbreviation_of}
 use Rattle.dw_base.specs.Cells.{Cell, Located, bytes_of, cells_at, offset_of}
@@ -14,7 +14,8 @@ use Rattle.dw_base.specs.Lebs.{uleb_at}
 use Rattle.dw_base.specs.Numbers.{spelled}
 use Rattle.dw_base.specs.Paths.{PathMap}
 use Rattle.dw_base.specs.Refusals.{at as refusal_at}
-use Rattle.dw_base.specs.Roles.{Role, fixed, offset, inline_path, is_path}
+use Rattle.dw_base.specs.Roles.{Role, fixed, offset, inline_path, line_start, is_path}
+use Rattle.dw_base.specs.declared.dwarf_numbers.TheConstants.{DW_AT_stmt_list}
 use Rattle.dw_base.specs.TextIndexes.{is_base}
 use Rattle.dw_base.specs.Texts.{text_in, ends_in}
 use Rattle.dw_base.specs.UnitHeaders.{UnitBase, UnitSection, UnitsUpTo, no_units, more_units}
@@ -32,10 +33,10 @@ use Rattle.dw_base.proofs.PlainCellLaws.{IsPlain, offset_of-plain}
 use Rattle.dw_meaning.proofs.ScanPieceLaws.{part-bytes, before-end, bytes_of-take, bytes_of-drop}
 use Rattle.std.proofs.lemmas.List.{length-take, length-take-le, length-drop}
 use Rattle.dw_base.proofs.UnitEditLaws.{length-bytes_of}
-use Rattle.dw_rewrite.specs.Changes.{IsPathField, ArePathFields}
+use Rattle.dw_rewrite.specs.Changes.{IsPathField, ArePathFields, IsStartField, AreStartFields}
 use Rattle.dw_rewrite.specs.InlineRooms.{AreRooms, grows, Grows, one}
 use Rattle.dw_rewrite.specs.NewTables.{offsets_of}
-use Rattle.dw_rewrite.specs.TextPlaces.{TextPlace, no_index, unit_base, text_index, UnitSays, class_places, value_places, value_places_behind, values_places, entry_places, entries_places, UnitsPlaced, none_placed, more_placed, PlaceNames, PlacesName, fields_in, inline_at, inline_in}
+use Rattle.dw_rewrite.specs.TextPlaces.{TextPlace, no_index, no_start, unit_base, text_index, UnitSays, indexed_at, is_start_form, line_at, line_places, own_form, own_place, start_at, starts_in, stray_at, stray_places, class_places, value_places, value_places_behind, values_places, entry_places, entries_places, UnitsPlaced, none_placed, more_placed, PlaceNames, PlacesName, fields_in, inline_at, inline_in}
 use Rattle.dw_rewrite.specs.UnitPaths.{field_by, inline_text}
 use Rattle.dw_rewrite.specs.declared.fields.InlinePath.{InlinePath}
 use Rattle.dw_rewrite.specs.declared.fields.PathField.{PathField}
@@ -44,7 +45,7 @@ use Rattle.dw_rewrite.proofs.TakenLaws.{plain-at}
 use Rattle.dw_rewrite.proofs.ValueRunLaws.{number-at_place}
 use Rattle.dw_rewrite.proofs.UnitTextLaws.{places-given}
 use Rattle.dw_rewrite.proofs.UnitWrittenLaws.{text-front}
-use Rattle.dw_rewrite.proofs.ValueFactLaws.{OffsetRead, OffsetFacts, value-facts}
+use Rattle.dw_rewrite.proofs.ValueFactLaws.{OffsetRead, OffsetFacts, start-read, value-facts}
 use Rattle.dw_rewrite.proofs.ValueTextLaws.{TextRead, value-text}
 
 -- this holds of each of a list
@@ -65,6 +66,12 @@ pub each-of : {X : Type 0} (P Q : X → Type 0) (xs : List X) → ((x : X) → P
 each-of P Q [] f all = tt
 each-of P Q (x ∷ xs) f all = (f x all.0, each-of P Q xs f all.1)
 
+-- a value says a place: by its class, as the start of a line table, or as one that can't say a start
+pub data SaysPlace (number tag : ℕ) (x : Spec) (bytes : List ℕ) (place : ℕ) (v : Value) (t : TextPlace) : Type 0 where
+  by_class : class_places v.class (is_path number tag x.name) (is_base number x.name) place v ≡ t ∷ [] → SaysPlace number tag x bytes place v t
+  by_start : is_start_form (own_form x bytes place) ≡ true → line_at true v ≡ t ∷ [] → SaysPlace number tag x bytes place v t
+  by_stray : (at : ℕ) → indexed_at at no_start ≡ t ∷ [] → SaysPlace number tag x bytes place v t
+
 -- the value in a unit that says a place
 pub record ValueBehind (h : UnitHeader) (table : List Abbreviation) (bytes : List ℕ) (t : TextPlace) : Type 0 where
   pub number : ℕ
@@ -73,7 +80,7 @@ pub record ValueBehind (h : UnitHeader) (table : List Abbreviation) (bytes : Lis
   pub place : ℕ
   pub value : Value
   pub stands : HasValue h table bytes number abbreviation spec place value
-  pub is : value_places number abbreviation.tag spec place value ≡ t ∷ []
+  pub is : SaysPlace number abbreviation.tag spec bytes place value t
 
 class-each : (P : TextPlace → Type 0) (c : ValueClass) (b base : Bool) (place : ℕ) (v : Value)
     → ((t : TextPlace) → class_places c b base place v ≡ t ∷ [] → P t) → EachOf P (class_places c b base place v)
@@ -88,11 +95,37 @@ class-each P SecOffset b true place v f = (f _ refl, tt)
 class-each P SecOffset b false place v f = tt
 class-each P c b base place v f = tt
 
+line-each : (P : TextPlace → Type 0) (line : Bool) (form : ℕ) (v : Value) → ((t : TextPlace) → is_start_form form ≡ true → line_at true v ≡ t ∷ [] → P t)
+    → EachOf P (line_places line form v)
+line-each P false form v f = tt
+line-each P true form v f = by_form (is_start_form form) refl
+  where
+    by_form : (b : Bool) → is_start_form form ≡ b → EachOf P (line_at b v)
+    by_form true is = (f _ is refl, tt)
+    by_form false is = tt
+
+stray-each : (P : TextPlace → Type 0) (line : Bool) (form at : ℕ) → ((t : TextPlace) → indexed_at at no_start ≡ t ∷ [] → P t) → EachOf P (stray_places line form at)
+stray-each P false form at f = tt
+stray-each P true form at f = by_form (is_start_form form)
+  where
+    by_form : (b : Bool) → EachOf P (stray_at b at)
+    by_form true = tt
+    by_form false = (f _ refl, tt)
+
 value-each : (h : UnitHeader) (table : List Abbreviation) (bytes : List ℕ) (number : ℕ) (a : Abbreviation) (x : Spec) (place : ℕ) (v : Value)
-    → HasValue h table bytes number a x place v → EachOf (ValueBehind h table bytes) (value_places number a.tag x place v)
+    → HasValue h table bytes number a x place v → EachOf (ValueBehind h table bytes) (value_places number a.tag x bytes place v)
 value-each h table bytes number a x place v has =
-    class-each (ValueBehind h table bytes) v.class (is_path number a.tag x.name) (is_base number x.name) place v
-    (λ (t : TextPlace) e. record { number = number; abbreviation = a; spec = x; place = place; value = v; stands = has; is = e })
+    let line : Bool = x.name == DW_AT_stmt_list in
+    let texts : List TextPlace = class_places v.class (is_path number a.tag x.name) (is_base number x.name) place v in
+    each-append (ValueBehind h table bytes) (line_places (x.name == DW_AT_stmt_list) (own_form x bytes place) v)
+    (texts ++ stray_places (x.name == DW_AT_stmt_list) (own_form x bytes place) (own_place x bytes place))
+    (line-each (ValueBehind h table bytes) (x.name == DW_AT_stmt_list) (own_form x bytes place) v
+    (λ (t : TextPlace) f e. record { number = number; abbreviation = a; spec = x; place = place; value = v; stands = has; is = by_start f e }))
+    (each-append (ValueBehind h table bytes) texts (stray_places (x.name == DW_AT_stmt_list) (own_form x bytes place) (own_place x bytes place))
+    (class-each (ValueBehind h table bytes) v.class (is_path number a.tag x.name) (is_base number x.name) place v
+    (λ (t : TextPlace) e. record { number = number; abbreviation = a; spec = x; place = place; value = v; stands = has; is = by_class e }))
+    (stray-each (ValueBehind h table bytes) (x.name == DW_AT_stmt_list) (own_form x bytes place) (own_place x bytes place)
+    (λ (t : TextPlace) e. record { number = number; abbreviation = a; spec = x; place = place; value = v; stands = has; is = by_stray (own_place x bytes place) e })))
 
 -- an entry whose values are met
 record EntryStands (h : UnitHeader) (table : List Abbreviation) (bytes : List ℕ) (items : List Scanned) (start depth code size : ℕ) (a : Abbreviation) : Type 0 where
@@ -111,10 +144,10 @@ values-each h table bytes items start depth code size a before (x ∷ xs) place 
   where
     by_value : (o : Option Value) → value_at h.params x bytes place ≡ o
         → ((p : ℕ) → SpellsValues h.params bytes (start + size) (before ++ x ∷ []) p → EachOf (ValueBehind h table bytes) (values_places h.params bytes (length items) a.tag xs p))
-        → EachOf (ValueBehind h table bytes) (value_places_behind (λ p. values_places h.params bytes (length items) a.tag xs p) (length items) a.tag x place o)
+        → EachOf (ValueBehind h table bytes) (value_places_behind (λ p. values_places h.params bytes (length items) a.tag xs p) (length items) a.tag x bytes place o)
     by_value None is rest = tt
     by_value (Some v) is rest =
-        each-append (ValueBehind h table bytes) (value_places (length items) a.tag x place v) (values_places h.params bytes (length items) a.tag xs (place + v.size))
+        each-append (ValueBehind h table bytes) (value_places (length items) a.tag x bytes place v) (values_places h.params bytes (length items) a.tag xs (place + v.size))
         (value-each h table bytes (length items) a x place v (record {
           items = items;
           start = start;
@@ -201,6 +234,7 @@ abbrev pub RoleFacts : Role → DebugData → UnitSection → TextPlace → Type
 RoleFacts fixed d z t = ⊤
 RoleFacts (offset table path) d z t = FieldPlace (bytes_of z.contents) t
 RoleFacts inline_path d z t = InlineOf d z (record { at = t.at; len = t.len - 1 })
+RoleFacts line_start d z t = FieldPlace (bytes_of z.contents) t
 
 once : (s t : TextPlace) → s ∷ [] ≡ t ∷ [] → s ≡ t
 once s t e = cc
@@ -255,11 +289,23 @@ class-facts c b base d z h table number a x place v t there has class path facts
 pub place-facts : (d : DebugData) (z : UnitSection) (t : TextPlace) → PlaceOf d z t → RoleFacts t.role d z t
 place-facts d z t p =
     let b = p.behind in
-    class-facts b.value.class (is_path b.number b.abbreviation.tag b.spec.name) (is_base b.number b.spec.name) d z p.header p.table b.number b.abbreviation b.spec b.place b.value t p.there b.stands refl refl
-    (value-facts p.header.params b.spec (bytes_up_to z p.header) b.place b.value b.stands.is).offset b.is
+    by_place b.is
+  where
+    by_place : SaysPlace p.behind.number p.behind.abbreviation.tag p.behind.spec (bytes_up_to z p.header) p.behind.place p.behind.value t → RoleFacts t.role d z t
+    by_place (by_class e) =
+        let b = p.behind in
+        class-facts b.value.class (is_path b.number b.abbreviation.tag b.spec.name) (is_base b.number b.spec.name) d z p.header p.table b.number b.abbreviation b.spec b.place b.value t p.there b.stands refl refl
+        (value-facts p.header.params b.spec (bytes_up_to z p.header) b.place b.value b.stands.is).offset e
+    by_place (by_start f e) =
+        let b = p.behind in
+        let same : record { role = line_start; at = b.value.at; len = b.value.len; says = no_index } ≡ t = once _ t e in
+        subst (λ (s : TextPlace). RoleFacts s.role d z s) same
+        (field-place z p.header b.value _ (start-read p.header.params b.spec (bytes_up_to z p.header) b.place b.value b.stands.is f) refl refl)
+    by_place (by_stray at e) =
+        subst (λ (s : TextPlace). RoleFacts s.role d z s) (once (record { role = fixed; at = at; len = 0; says = no_start }) t e) tt
 
 -- the offset in a field of plain cells
-offset-number : (o : Order) (z : Located) (cells : List Cell) (a n : ℕ) → IsPlain cells → a + n ≤ length (bytes_of cells)
+pub offset-number : (o : Order) (z : Located) (cells : List Cell) (a n : ℕ) → IsPlain cells → a + n ≤ length (bytes_of cells)
     → offset_of o z (cells_at cells a n) ≡ spelled o (bytes_of cells) a n
 offset-number o z cells a n plain room =
     let size : length (cells_at cells a n) ≡ n = length-take-le n (drop a cells) (omega (arith, room, length-bytes_of cells, length-drop a cells)) in
@@ -292,10 +338,29 @@ path-fields table d z ts plain each names = record {
       each-get (IsPathField (offsets_of d table) (bytes_of z.contents)) (fields_in table ts) k x lt (fields-each table d z ts plain each names);
 }
 
+-- the fields that say where line tables start are fields
+start-each : (r : Role) (d : DebugData) (z : UnitSection) (t : TextPlace) → RoleFacts r d z t → EachOf (IsStartField (bytes_of z.contents)) (start_at r t.at t.len)
+start-each fixed d z t f = tt
+start-each (offset table path) d z t f = tt
+start-each inline_path d z t f = tt
+start-each line_start d z t f = (record { sized = f.sized; inside = f.inside }, tt)
+
+starts-each : (d : DebugData) (z : UnitSection) (ts : List TextPlace) → EachOf (PlaceOf d z) ts → EachOf (IsStartField (bytes_of z.contents)) (starts_in ts)
+starts-each d z [] each = tt
+starts-each d z (t ∷ ts) each =
+    each-append (IsStartField (bytes_of z.contents)) (start_at t.role t.at t.len) (starts_in ts) (start-each t.role d z t (place-facts d z t each.0)) (starts-each d z ts each.1)
+
+pub start-fields : (d : DebugData) (z : UnitSection) (ts : List TextPlace) → EachOf (PlaceOf d z) ts → AreStartFields (bytes_of z.contents) (starts_in ts)
+start-fields d z ts each = record {
+  each = λ (k : ℕ) (x : PathField) (lt : k < length (starts_in ts)).
+      each-get (IsStartField (bytes_of z.contents)) (starts_in ts) k x lt (starts-each d z ts each);
+}
+
 -- the paths that stand in their values
 inline-each : (r : Role) (d : DebugData) (z : UnitSection) (t : TextPlace) → RoleFacts r d z t → EachOf (InlineOf d z) (inline_at r t.at t.len)
 inline-each fixed d z t f = tt
 inline-each (offset table path) d z t f = tt
+inline-each line_start d z t f = tt
 inline-each inline_path d z t f = (f, tt)
 
 pub inlines-each : (d : DebugData) (z : UnitSection) (ts : List TextPlace) → EachOf (PlaceOf d z) ts → EachOf (InlineOf d z) (inline_in ts)

@@ -14,14 +14,14 @@ use Rattle.dw_base.proofs.PlainCellLaws.{IsPlain, plain_cells-plain, bytes_of-pl
 use Rattle.dw_entries.specs.Fronts.{IsOfView}
 use Rattle.dw_entries.proofs.HasUnitLaws.{section-at, is-unit_section}
 use Rattle.dw_entries.proofs.UnitSectionLaws.{is-of-view}
-use Rattle.dw_rewrite.specs.Changes.{ArePathFields}
+use Rattle.dw_rewrite.specs.Changes.{ArePathFields, AreStartFields}
 use Rattle.dw_rewrite.specs.InlineRooms.{AreRooms, Grows}
 use Rattle.dw_rewrite.specs.NewTables.{offsets_in, fields_of, info_of, HasPaths}
 use Rattle.dw_rewrite.specs.TextPlaces.{InlinesFit, AllFitRooms, SectionSays, AllPlaced, fields_in}
 use Rattle.dw_rewrite.specs.UnitPaths.{UnitPaths}
 use Rattle.dw_rewrite.specs.UnitTexts.{AllTaken}
 use Rattle.dw_rewrite.proofs.ApartLaws.{says-apart}
-use Rattle.dw_rewrite.proofs.PlaceValueLaws.{EachOf, each-get, PlaceOf, section-each, path-fields, InlineOf, inlines-each, inline-rooms, inline-row}
+use Rattle.dw_rewrite.proofs.PlaceValueLaws.{EachOf, each-get, PlaceOf, section-each, path-fields, InlineOf, inlines-each, inline-rooms, inline-row, start-fields}
 
 -- a section that was taken, in its place among all
 pub record SectionFacts (v : View) (u : UnitPaths) : Type 0 where
@@ -77,6 +77,9 @@ has-paths v u f = record {
   there = subst (λ (n : ℕ). n < length v.sections) (sym (says-number (debug_data v) f.section u f.says)) (own-section v f.before f.behind f.section f.split).there;
   str = facts-fields v u in_str f (ap (λ (x : UnitPaths). x.str) f.says.says);
   line_str = facts-fields v u in_line_str f (ap (λ (x : UnitPaths). x.line_str) f.says.says);
+  starts = subst (λ (bs : List ℕ). AreStartFields bs u.starts) (says-bytes v f.before f.behind f.section u f.split f.says)
+      (subst (AreStartFields (bytes_of f.section.contents)) (sym (ap (λ (x : UnitPaths). x.starts) f.says.says))
+      (start-fields (debug_data v) f.section f.says.places (facts-each v u f)));
   apart = says-apart (debug_data v) f.section u f.says;
   rooms = subst (λ (bs : List ℕ). AreRooms bs u.inline) (says-bytes v f.before f.behind f.section u f.split f.says)
       (inline-rooms (debug_data v) f.section u.inline (facts-inline v u f));

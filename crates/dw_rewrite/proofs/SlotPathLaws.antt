@@ -36,12 +36,14 @@ fields-all slots i fields end is = is ∙ ap as_fields (take_all i slots end)
 pub ruleset field_rules = (fields-more, fields-all)
 
 -- what the section says
-pub with-fields : (n : ℕ) (fields str line_str : List PathField) (inline : List InlinePath) → str ≡ fields → line_str ≡ [] → inline ≡ []
-    → record { number = n; str = str; line_str = line_str; inline = inline } ≡ slots_with n fields
-with-fields n fields str line_str inline s l i =
-    ap (λ (fs : List PathField). record { number = n; str = fs; line_str = line_str; inline = inline }) s
-    ∙ ap (λ (fs : List PathField). record { number = n; str = fields; line_str = fs; inline = inline }) l
-    ∙ ap (λ (ps : List InlinePath). record { number = n; str = fields; line_str = []; inline = ps }) i
+pub with-fields : (n : ℕ) (fields str line_str starts : List PathField) (inline : List InlinePath) (stray : Option ℕ) → str ≡ fields → line_str ≡ [] → inline ≡ [] → starts ≡ []
+    → stray ≡ None → record { number = n; str = str; line_str = line_str; inline = inline; starts = starts; stray = stray } ≡ slots_with n fields
+with-fields n fields str line_str starts inline stray s l i t none =
+    ap (λ (fs : List PathField). record { number = n; str = fs; line_str = line_str; inline = inline; starts = starts; stray = stray }) s
+    ∙ ap (λ (fs : List PathField). record { number = n; str = fields; line_str = fs; inline = inline; starts = starts; stray = stray }) l
+    ∙ ap (λ (ps : List InlinePath). record { number = n; str = fields; line_str = []; inline = ps; starts = starts; stray = stray }) i
+    ∙ ap (λ (fs : List PathField). record { number = n; str = fields; line_str = []; inline = []; starts = fs; stray = stray }) t
+    ∙ ap (λ (o : Option ℕ). record { number = n; str = fields; line_str = []; inline = []; starts = []; stray = o }) none
 
 pub ruleset with_rules = (with-fields)
 

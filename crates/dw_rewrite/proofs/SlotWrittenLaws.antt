@@ -22,7 +22,7 @@ use Rattle.dw_meaning.proofs.OffsetMoveLaws.{EachCells}
 use Rattle.dw_offsets.proofs.SlotPieceLaws.{place-next}
 use Rattle.dw_rewrite.specs.Changes.{texts_at}
 use Rattle.dw_rewrite.specs.SlotPaths.{offset_fields}
-use Rattle.dw_rewrite.specs.UnitPaths.{field_by, inline_by, offset_table}
+use Rattle.dw_rewrite.specs.UnitPaths.{field_by, inline_by, offset_table, start_by}
 use Rattle.dw_rewrite.specs.declared.fields.InlinePath.{InlinePath}
 use Rattle.dw_rewrite.specs.declared.fields.PathField.{PathField}
 use Rattle.dw_rewrite.proofs.EditedLaws.{piece_texts, FieldsFrom, from-less, from-piece}
@@ -85,6 +85,11 @@ no-inline paths at_contribution n place p = refl
 no-inline paths (at_slot w end) n place p = refl
 no-inline paths no_offsets n place p = refl
 
+pub no-start : (paths : List ℕ) (m : OffsetMode) (n place size : ℕ) → start_by (offset_role paths m n) place size ≡ []
+no-start paths at_contribution n place size = refl
+no-start paths (at_slot w end) n place size = refl
+no-start paths no_offsets n place size = refl
+
 fits-inline : (paths : List ℕ) (m : OffsetMode) (n : ℕ) (map : PathMap) (p : List Cell) → InlineFitsBy (offset_role paths m n) map p
 fits-inline paths at_contribution n map p = tt
 fits-inline paths (at_slot w end) n map p = tt
@@ -100,7 +105,7 @@ from-place table info place paths (x ∷ xs) l =
 -- what pieces become
 pub slots_written : (c : TableChanges) (a : Around) (info front : List ℕ) (place : ℕ) (paths : List ℕ) (xs : List (Piece OffsetState))
     → c.str.plan ≡ appending c.map a.str.bytes → c.line_str.plan ≡ appending c.map a.line_str.bytes → length front ≡ place → SlotsPlaced info place xs → EachCells xs
-    → unit_by c a info (offset_fields in_str paths xs) (offset_fields in_line_str paths xs) [] (front ++ bytes_of (joined xs))
+    → unit_by c a info (offset_fields in_str paths xs) (offset_fields in_line_str paths xs) [] [] (front ++ bytes_of (joined xs))
     ≡ front ++ bytes_of (joined (edited_with (slot_role paths) c a xs))
 slots_written c a info front place paths [] str line at l plain = refl
 slots_written c a info front place paths (x ∷ xs) str line at l plain =
@@ -112,16 +117,19 @@ slots_written c a info front place paths (x ∷ xs) str line at l plain =
     let fits : InlineFitsBy (slot_role paths x.state) c.map x.cells = fits-inline paths x.state.mode x.state.slot c.map x.cells in
     let size : length q ≡ length x.cells = length-edited (slot_role paths x.state) c a x.cells plain.0 fits in
     let next : length (front ++ bytes_of q) ≡ place + length x.cells = length-append front (bytes_of q) ∙ omega (arith, at, size, length-bytes_of q) in
-    ap (λ (i : ℕ). unit_by c a info (field_by in_str (slot_role paths x.state) i (length x.cells) ++ fs) (field_by in_line_str (slot_role paths x.state) i (length x.cells) ++ gs) []
+    ap (λ (i : ℕ). unit_by c a info (field_by in_str (slot_role paths x.state) i (length x.cells) ++ fs) (field_by in_line_str (slot_role paths x.state) i (length x.cells) ++ gs) [] []
     (front ++ bytes_of (x.cells ++ joined xs))) l.0
     ∙ ap (λ (b : List ℕ). unit_by c a info (field_by in_str (slot_role paths x.state) place (length x.cells) ++ fs)
-    (field_by in_line_str (slot_role paths x.state) place (length x.cells) ++ gs) [] (front ++ b)) (bytes_of-append x.cells (joined xs))
+    (field_by in_line_str (slot_role paths x.state) place (length x.cells) ++ gs) [] [] (front ++ b)) (bytes_of-append x.cells (joined xs))
     ∙ ap (λ (is : List InlinePath). unit_by c a info (field_by in_str (slot_role paths x.state) place (length x.cells) ++ fs)
-    (field_by in_line_str (slot_role paths x.state) place (length x.cells) ++ gs) (is ++ []) (front ++ (bytes_of x.cells ++ rest)))
+    (field_by in_line_str (slot_role paths x.state) place (length x.cells) ++ gs) [] (is ++ []) (front ++ (bytes_of x.cells ++ rest)))
     (sym (no-inline paths x.state.mode x.state.slot place x.cells))
-    ∙ piece_written (slot_role paths x.state) c a info front x.cells rest place fs gs [] str line at plain.0 l.1 fits
-    (from-place in_str info (place + length x.cells) paths xs l.2) (from-place in_line_str info (place + length x.cells) paths xs l.2)
-    ∙ ap (unit_by c a info fs gs []) (sym (append_assoc front (bytes_of q) rest))
+    ∙ ap (λ (hs : List PathField). unit_by c a info (field_by in_str (slot_role paths x.state) place (length x.cells) ++ fs)
+    (field_by in_line_str (slot_role paths x.state) place (length x.cells) ++ gs) (hs ++ []) (inline_by (slot_role paths x.state) place x.cells ++ []) (front ++ (bytes_of x.cells ++ rest)))
+    (sym (no-start paths x.state.mode x.state.slot place (length x.cells)))
+    ∙ piece_written (slot_role paths x.state) c a info front x.cells rest place fs gs [] [] str line at plain.0 l.1 fits
+    (from-place in_str info (place + length x.cells) paths xs l.2) (from-place in_line_str info (place + length x.cells) paths xs l.2) tt
+    ∙ ap (unit_by c a info fs gs [] []) (sym (append_assoc front (bytes_of q) rest))
     ∙ slots_written c a info (front ++ bytes_of q) (place + length x.cells) paths xs str line next l.2 plain.1
     ∙ append_assoc front (bytes_of q) (bytes_of (joined (edited_with (slot_role paths) c a xs)))
     ∙ ap (λ (b : List ℕ). front ++ b) (sym (bytes_of-append q (joined (edited_with (slot_role paths) c a xs))))

@@ -1,5 +1,5 @@
 -- Entries whose values were taken: their offsets name texts; and why a unit that can't be taken is a row of the debug data.
-use Rattle.std.proofs.Common.{Bool, true, false, ◌≡◌, ℕ, ◌+◌, List, [], ◌∷◌, ◌++◌, length, take, drop, Option, Some, None, IsTrue, refl, sym, ap, ◌∙◌, subst}
+use Rattle.std.proofs.Common.{Bool, true, false, ◌≡◌, ℕ, ◌+◌, ◌==◌, List, [], ◌∷◌, ◌++◌, length, take, drop, Option, Some, None, IsTrue, refl, sym, ap, ◌∙◌, subst}
 use Rattle.std.proofs.lemmas.List.{take-append-drop}
 use Rattle.dw_base.specs.AbbreviationTables.{Abbreviation, abbreviation_of}
 use Rattle.dw_base.specs.Cells.{Cell, Located, bytes_of, cells_at, offset_of}
@@ -20,7 +20,8 @@ use Rattle.dw_base.specs.declared.values.ValueClass.TheVariants.{Number, StrOffs
 use Rattle.dw_base.proofs.PlainCellLaws.{IsPlain, offset_of-plain, plain-parts}
 use Rattle.dw_meaning.proofs.ScanPieceLaws.{part-bytes, part-length, before-end}
 use Rattle.dw_rewrite.specs.EntryTexts.{OffsetNames, IsTaken, TakenBehind, AreTaken}
-use Rattle.dw_rewrite.specs.TextPlaces.{TextPlace, PlacesName, class_places, value_places, value_places_behind, values_places, places_behind, places_by, entry_places, entries_places}
+use Rattle.dw_base.specs.declared.dwarf_numbers.TheConstants.{DW_AT_stmt_list}
+use Rattle.dw_rewrite.specs.TextPlaces.{TextPlace, PlacesName, class_places, is_start_form, line_at, line_places, own_form, own_place, stray_at, stray_places, value_places, value_places_behind, values_places, places_behind, places_by, entry_places, entries_places}
 use Rattle.dw_rewrite.specs.UnitTexts.{tables_of, TakenOf, TakenBy, EntryTaken, EntriesTaken}
 use Rattle.dw_rewrite.proofs.ValueFactLaws.{OffsetRead, OffsetFacts, value-facts}
 use Rattle.dw_rewrite.proofs.ValueRunLaws.{number-at_place}
@@ -70,10 +71,34 @@ class-names SecOffset path true place d cells params end v u f h = (tt, tt)
 class-names SecOffset path false place d cells params end v u f h = tt
 class-names class path base place d cells params end v u f h = tt
 
+-- a start names no text
+line-names : (line : Bool) (form : ℕ) (d : DebugData) (cells : List Cell) (v : Value) → PlacesName d cells (line_places line form v)
+line-names false form d cells v = tt
+line-names true form d cells v = by_form (is_start_form form)
+  where
+    by_form : (b : Bool) → PlacesName d cells (line_at b v)
+    by_form true = (tt, tt)
+    by_form false = tt
+
+stray-names : (line : Bool) (form own : ℕ) (d : DebugData) (cells : List Cell) → PlacesName d cells (stray_places line form own)
+stray-names false form own d cells = tt
+stray-names true form own d cells = by_form (is_start_form form)
+  where
+    by_form : (b : Bool) → PlacesName d cells (stray_at b own)
+    by_form true = tt
+    by_form false = (tt, tt)
+
 value-names : (d : DebugData) (cells : List Cell) (params : Params) (end n tag : ℕ) (x : Spec) (place : ℕ) (v : Value) → UnitCells d cells params end
-    → value_at params x (take end (bytes_of cells)) place ≡ Some v → IsTaken (tables_of d) x v → PlacesName d cells (value_places n tag x place v)
+    → value_at params x (take end (bytes_of cells)) place ≡ Some v → IsTaken (tables_of d) x v → PlacesName d cells (value_places n tag x (take end (bytes_of cells)) place v)
 value-names d cells params end n tag x place v u is taken =
-    class-names v.class (is_path n tag x.name) (is_base n x.name) place d cells params end v u (value-facts params x (take end (bytes_of cells)) place v is).offset taken.names
+    let form : ℕ = own_form x (take end (bytes_of cells)) place in
+    let own : ℕ = own_place x (take end (bytes_of cells)) place in
+    let texts : List TextPlace = class_places v.class (is_path n tag x.name) (is_base n x.name) place v in
+    names-append d cells (line_places (x.name == DW_AT_stmt_list) form v) (texts ++ stray_places (x.name == DW_AT_stmt_list) form own)
+    (line-names (x.name == DW_AT_stmt_list) form d cells v)
+    (names-append d cells texts (stray_places (x.name == DW_AT_stmt_list) form own)
+    (class-names v.class (is_path n tag x.name) (is_base n x.name) place d cells params end v u (value-facts params x (take end (bytes_of cells)) place v is).offset taken.names)
+    (stray-names (x.name == DW_AT_stmt_list) form own d cells))
 
 -- so do the values of an entry
 values-names : (d : DebugData) (cells : List Cell) (params : Params) (end n tag : ℕ) (xs : List Spec) (place : ℕ) → UnitCells d cells params end
@@ -85,10 +110,10 @@ values-names d cells params end n tag (x ∷ xs) place u taken =
     by_value : (o : Option Value) → value_at params x (take end (bytes_of cells)) place ≡ o
         → ((p : ℕ) → AreTaken (tables_of d) params (take end (bytes_of cells)) xs p → PlacesName d cells (values_places params (take end (bytes_of cells)) n tag xs p))
         → TakenBehind (λ p. AreTaken (tables_of d) params (take end (bytes_of cells)) xs p) (tables_of d) x place o
-        → PlacesName d cells (value_places_behind (λ p. values_places params (take end (bytes_of cells)) n tag xs p) n tag x place o)
+        → PlacesName d cells (value_places_behind (λ p. values_places params (take end (bytes_of cells)) n tag xs p) n tag x (take end (bytes_of cells)) place o)
     by_value None is rest h = tt
     by_value (Some v) is rest h =
-        names-append d cells (value_places n tag x place v) (values_places params (take end (bytes_of cells)) n tag xs (place + v.size))
+        names-append d cells (value_places n tag x (take end (bytes_of cells)) place v) (values_places params (take end (bytes_of cells)) n tag xs (place + v.size))
         (value-names d cells params end n tag x place v u is h.0) (rest (place + v.size) h.1)
 
 -- and of all entries

@@ -18,6 +18,8 @@ use Rattle.dw_base.proofs.FormLaws.{value_by-own}
 use Rattle.dw_base.proofs.FormSizeLaws.{is_sized, offset_sized, offset-size}
 use Rattle.dw_meaning.proofs.ValueCutLaws.{value_of-own}
 use Rattle.dw_rewrite.specs.EntryTexts.{OffsetSized}
+use Rattle.dw_rewrite.specs.TextPlaces.{is_start_form, own_form}
+use Rattle.dw_rewrite.proofs.StartFormLaws.{StartKind, chosen-form, plain-form, start-kind}
 use Rattle.dw_rewrite.proofs.ValuePlaceLaws.{is_plain_kind, kind_plain, is_plain_class, leb_plain, number-fields, leb-class, signed-class, block-class, counted-class, counted_leb-class, bare-class, text-fields}
 use Rattle.dw_rewrite.proofs.ValueRunLaws.{is_front, Chosen, chosen-read}
 
@@ -50,6 +52,25 @@ number-read params class bytes at n v size e = by_room (nat_le (at + n) (length 
         let number_is : v.number ≡ spelled params.order bytes at n = cc in
         record {
           sized = width-size params.width v.len (len_is ∙ size);
+          inside = omega (arith, at_is, len_is, leb-true _ _ is);
+          number = number_is ∙ rw (at_is, len_is) refl;
+        }
+    by_room false is e = absurd cc
+
+-- the same of so many bytes
+sized-read : (params : Params) (class : ValueClass) (bytes : List ℕ) (at n : ℕ) (v : Value) → (n ≡ 4) ⊎ (n ≡ 8)
+    → number_value class at n (number_at params.order bytes at n) ≡ Some v → OffsetRead params bytes v
+unfolding number_at
+sized-read params class bytes at n v size e = by_room (nat_le (at + n) (length bytes)) refl e
+  where
+    by_room : (b : Bool) → nat_le (at + n) (length bytes) ≡ b
+        → number_value class at n (cond {A = Option ℕ} b (Some (spelled params.order bytes at n)) None) ≡ Some v → OffsetRead params bytes v
+    by_room true is e =
+        let at_is : v.at ≡ at = cc in
+        let len_is : v.len ≡ n = cc in
+        let number_is : v.number ≡ spelled params.order bytes at n = cc in
+        record {
+          sized = subst (λ (m : ℕ). (m ≡ 4) ⊎ (m ≡ 8)) (sym len_is) size;
           inside = omega (arith, at_is, len_is, leb-true _ _ is);
           number = number_is ∙ rw (at_is, len_is) refl;
         }
@@ -149,3 +170,26 @@ value-inside params x bytes place v is = (value-facts params x bytes place v is)
 
 pub value-sized : (params : Params) (x : Spec) (bytes : List ℕ) (place : ℕ) (v : Value) → value_at params x bytes place ≡ Some v → OffsetSized v.class v.len
 value-sized params x bytes place v is = sized-class v.class params bytes v (value-facts params x bytes place v is).offset
+
+-- a value of a form that can say where a line table starts is a field of four or eight bytes
+kind-start : (params : Params) (form : ℕ) (bytes : List ℕ) (at : ℕ) (implicit : ℤ) (v : Value) → is_start_form form ≡ true
+    → value_of (kind_in params form) params.order bytes at implicit ≡ Some v → OffsetRead params bytes v
+unfolding value_of
+kind-start params form bytes at i v is e =
+    let k : StartKind params form = start-kind params form is in
+    sized-read params k.class bytes at k.size v k.sized (sym (ap (λ (y : ValueKind). value_of y params.order bytes at i) k.kind_is) ∙ e)
+
+pub start-read : (params : Params) (x : Spec) (bytes : List ℕ) (place : ℕ) (v : Value) → value_at params x bytes place ≡ Some v → is_start_form (own_form x bytes place) ≡ true
+    → OffsetRead params bytes v
+unfolding value_at
+start-read params x bytes place v is start = by_front (is_front (kind_in params x.form))
+  where
+    by_front : (kind_in params x.form ≡ form_in_front) ⊎ (kind_in params x.form ≡ form_in_front → ⊥) → OffsetRead params bytes v
+    by_front (inl front) =
+        let c : Chosen params x bytes place v = chosen-read params x bytes place v front is in
+        read-same params bytes v c.value c.at_is c.len_is c.number_is
+        (kind-start params c.form bytes (place + c.size) x.implicit c.value
+        (ap is_start_form (sym (chosen-form params x bytes place c.form c.size front c.spells)) ∙ start) c.is)
+    by_front (inr other) =
+        kind-start params x.form bytes place x.implicit v (ap is_start_form (sym (plain-form params x bytes place other)) ∙ start)
+        (sym (value_by-own (kind_in params x.form) params x bytes place other) ∙ is)

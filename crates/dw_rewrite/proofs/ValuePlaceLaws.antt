@@ -1,12 +1,13 @@
 -- Where the text of a value stands, by the kind of its form and by its class.
-use Rattle.std.proofs.Common.{Bool, true, false, ◌≡◌, ℕ, ◌+◌, ◌==◌, ◌&&◌, ◌||◌, List, [], ◌∷◌, ◌++◌, length, cond, Option, Some, None, refl}
+use Rattle.std.proofs.Common.{Bool, true, false, ◌≡◌, ◌≢◌, ℕ, ◌+◌, ◌==◌, ◌&&◌, ◌||◌, List, [], ◌∷◌, ◌++◌, length, cond, Option, Some, None, refl, sym, ap, ◌∙◌, append_assoc, append-nil}
 use Rattle.std.specs.Bool.{⊤}
 use Rattle.std.specs.Prelude.{ℤ, nat_le}
 use Rattle.dw_base.specs.Cells.{Cell, bytes_of}
 use Rattle.dw_base.specs.Forms.{TextSection, in_str, in_line_str, ValueKind, number_of, leb_number, signed_leb, block_of, counted, counted_leb, inline_text, text_offset, present, in_abbreviation, form_in_front, supplementary, unlisted, FormRow, form_rows, kind_by, kind_in}
 use Rattle.dw_base.specs.Lebs.{uleb_at, sleb_at}
 use Rattle.dw_base.specs.Numbers.{number_at, spelled}
-use Rattle.dw_base.specs.Roles.{fixed, offset, inline_path, role_of_kind, names_path, names_line_table, names_macro_unit, names_other, use_of, is_path_use, is_path}
+use Rattle.dw_base.specs.Roles.{Role, fixed, offset, inline_path, line_start, role_of_kind, Use, names_path, names_line_table, names_macro_unit, names_other, use_of, is_path_use, is_path, is_line_start}
+use Rattle.dw_base.specs.TableStarts.{can_start, start_form_by}
 use Rattle.dw_base.specs.Texts.{ends_in, text_in}
 use Rattle.dw_base.specs.UnitStates.{code_value}
 use Rattle.dw_base.specs.Values.{value_of, number_value, leb_value_at, signed_value_at, block_value, counted_value, counted_leb_value, text_value, bare_value, offset_class}
@@ -16,7 +17,8 @@ use Rattle.dw_base.specs.declared.shared.Params.{Params}
 use Rattle.dw_base.specs.declared.values.Value.{Value}
 use Rattle.dw_base.specs.declared.values.ValueClass.{ValueClass}
 use Rattle.dw_base.specs.declared.values.ValueClass.TheVariants.{InlineText, Number, StrOffset, LineStrOffset, StrIndex, SecOffset, Signed, Bytes, Flag}
-use Rattle.dw_rewrite.specs.TextPlaces.{place_of, indexed_kind, class_places}
+use Rattle.dw_rewrite.specs.TextPlaces.{TextPlace, no_index, place_of, indexed_kind, class_places, is_start_form, line_at, line_places, stray_at, stray_places}
+use Rattle.dw_rewrite.proofs.StartFormLaws.{is_other_use, line-path, line-starts, line-use, other-starts, other-use}
 
 -- a class that isn't of texts
 abbrev pub is_plain_class : ValueClass → Bool
@@ -187,33 +189,112 @@ leb_places Number path true order place p v plain is same = rw (is, same) refl
 leb_places Number path false order place p v plain is same = rw is refl
 leb_places class path base order place p v plain is same = rw is refl
 
+-- the role of a value that is a text, of a path or not
+abbrev text_role : ValueKind → Bool → Role
+text_role (text_offset table n) path = offset table path
+text_role inline_text path = cond path inline_path fixed
+text_role k path = fixed
+
 -- a value of a kind has its text where its class says, and says by index what its class says
-pub value-placed : (k : ValueKind) (order : Order) (bytes : List ℕ) (at : ℕ) (implicit : ℤ) (number tag name : ℕ) (base : Bool) (place : ℕ) (p : List Cell) (v : Value)
+text-placed : (k : ValueKind) (order : Order) (bytes : List ℕ) (at : ℕ) (implicit : ℤ) (path base : Bool) (place : ℕ) (p : List Cell) (v : Value)
     → is_plain_kind k ≡ true → value_of k order bytes at implicit ≡ Some v → SpellsNumber k order p v.number
-    → place_of (role_of_kind k (use_of number tag name)) at v.size ++ indexed_kind k (is_path number tag name) base order place p
-    ≡ class_places v.class (is_path number tag name) base place v
+    → place_of (text_role k path) at v.size ++ indexed_kind k path base order place p ≡ class_places v.class path base place v
 unfolding value_of
-value-placed (number_of class n) order bytes at i number tag name base place p v plain e same =
-    number_places class n (is_path number tag name) base order place p v plain (number-fields class at n (number_at order bytes at n) v e).class_is same
-value-placed (leb_number class) order bytes at i number tag name base place p v plain e same =
-    leb_places class (is_path number tag name) base order place p v plain (leb-class class at (uleb_at bytes at) v e) same
-value-placed signed_leb order bytes at i number tag name base place p v plain e same =
-    no_places Signed (is_path number tag name) base place v refl (signed-class at (sleb_at bytes at) v e)
-value-placed (block_of n) order bytes at i number tag name base place p v plain e same =
-    no_places Bytes (is_path number tag name) base place v refl (block-class bytes at 0 n v e)
-value-placed (counted n) order bytes at i number tag name base place p v plain e same =
-    no_places Bytes (is_path number tag name) base place v refl (counted-class bytes at n (number_at order bytes at n) v e)
-value-placed counted_leb order bytes at i number tag name base place p v plain e same =
-    no_places Bytes (is_path number tag name) base place v refl (counted_leb-class bytes at (uleb_at bytes at) v e)
-value-placed inline_text order bytes at i number tag name base place p v plain e same =
-    text_places (is_path_use (use_of number tag name)) (is_path number tag name) base place v at (length (text_in bytes at)) (path_use number tag name) (text-fields bytes at v e)
-value-placed (text_offset table n) order bytes at i number tag name base place p v plain e same =
-    offset_places table (is_path_use (use_of number tag name)) (is_path number tag name) base place v at n (path_use number tag name)
+text-placed (number_of class n) order bytes at i path base place p v plain e same =
+    number_places class n path base order place p v plain (number-fields class at n (number_at order bytes at n) v e).class_is same
+text-placed (leb_number class) order bytes at i path base place p v plain e same =
+    leb_places class path base order place p v plain (leb-class class at (uleb_at bytes at) v e) same
+text-placed signed_leb order bytes at i path base place p v plain e same =
+    no_places Signed path base place v refl (signed-class at (sleb_at bytes at) v e)
+text-placed (block_of n) order bytes at i path base place p v plain e same =
+    no_places Bytes path base place v refl (block-class bytes at 0 n v e)
+text-placed (counted n) order bytes at i path base place p v plain e same =
+    no_places Bytes path base place v refl (counted-class bytes at n (number_at order bytes at n) v e)
+text-placed counted_leb order bytes at i path base place p v plain e same =
+    no_places Bytes path base place v refl (counted_leb-class bytes at (uleb_at bytes at) v e)
+text-placed inline_text order bytes at i path base place p v plain e same =
+    text_places path path base place v at (length (text_in bytes at)) refl (text-fields bytes at v e)
+text-placed (text_offset table n) order bytes at i path base place p v plain e same =
+    offset_places table path path base place v at n refl
     (number-fields (offset_class table) at n (number_at order bytes at n) v e)
-value-placed present order bytes at i number tag name base place p v plain e same =
-    no_places Flag (is_path number tag name) base place v refl (bare-class bytes at Flag 1 v e)
-value-placed in_abbreviation order bytes at i number tag name base place p v plain e same =
-    no_places Signed (is_path number tag name) base place v refl (bare-class bytes at Signed _ v e)
-value-placed form_in_front order bytes at i number tag name base place p v plain e same = absurd cc
-value-placed supplementary order bytes at i number tag name base place p v plain e same = absurd cc
-value-placed unlisted order bytes at i number tag name base place p v plain e same = absurd cc
+text-placed present order bytes at i path base place p v plain e same =
+    no_places Flag path base place v refl (bare-class bytes at Flag 1 v e)
+text-placed in_abbreviation order bytes at i path base place p v plain e same =
+    no_places Signed path base place v refl (bare-class bytes at Signed _ v e)
+text-placed form_in_front order bytes at i path base place p v plain e same = absurd cc
+text-placed supplementary order bytes at i path base place p v plain e same = absurd cc
+text-placed unlisted order bytes at i path base place p v plain e same = absurd cc
+
+-- the role of a value that says no start
+number-other : (u : Use) (class : ValueClass) (n : ℕ) → is_other_use u ≡ true → cond (is_line_start u class n) line_start fixed ≡ fixed
+number-other names_line_table class n other = absurd cc
+number-other names_path class n other = refl
+number-other names_macro_unit class n other = refl
+number-other names_other class n other = refl
+
+role-other : (k : ValueKind) (u : Use) → is_other_use u ≡ true → role_of_kind k u ≡ text_role k (is_path_use u)
+role-other (number_of class n) u other = number-other u class n other
+role-other k u other = refl
+
+role-stray : (k : ValueKind) → can_start k ≡ false → role_of_kind k names_line_table ≡ text_role k false
+role-stray (number_of class n) no_ = rw no_ refl
+role-stray k no_ = refl
+
+-- a number that says where a line table starts
+start-placed : (k : ValueKind) (order : Order) (bytes : List ℕ) (at : ℕ) (implicit : ℤ) (base : Bool) (place : ℕ) (p : List Cell) (v : Value)
+    → is_plain_kind k ≡ true → can_start k ≡ true → value_of k order bytes at implicit ≡ Some v → SpellsNumber k order p v.number
+    → place_of (role_of_kind k names_line_table) at v.size ++ (indexed_kind k false base order place p ++ []) ≡ line_at true v ++ (class_places v.class false base place v ++ [])
+unfolding value_of
+start-placed (number_of class n) order bytes at i base place p v plain says e same =
+    let f : Fields v class at n n = number-fields class at n (number_at order bytes at n) v e in
+    ap (λ (r : Role). place_of r at v.size ++ (indexed_kind (number_of class n) false base order place p ++ [])) (ap (λ (b : Bool). cond b line_start fixed) says)
+    ∙ ap (λ (ts : List TextPlace). record { role = line_start; at = at; len = v.size; says = no_index } ∷ (ts ++ []))
+    (number_places class n false base order place p v plain f.class_is same)
+    ∙ ap (λ (k : ℕ). record { role = line_start; at = k; len = v.size; says = no_index } ∷ (class_places v.class false base place v ++ [])) (sym f.at_is)
+    ∙ ap (λ (k : ℕ). record { role = line_start; at = v.at; len = k; says = no_index } ∷ (class_places v.class false base place v ++ [])) (f.size_is ∙ sym f.len_is)
+start-placed k order bytes at i base place p v plain says e same = absurd cc
+
+-- a value of a kind has its text where its class says, says by index what its class says, and where it is to say where a line table
+-- starts, says that or can't
+pub value-placed : (k : ValueKind) (order : Order) (bytes : List ℕ) (at : ℕ) (implicit : ℤ) (number tag name form : ℕ) (base : Bool) (place : ℕ) (p : List Cell) (v : Value)
+    → is_plain_kind k ≡ true → k ≢ form_in_front → can_start k ≡ is_start_form form → value_of k order bytes at implicit ≡ Some v → SpellsNumber k order p v.number
+    → place_of (role_of_kind k (use_of number tag name)) at v.size
+    ++ (indexed_kind k (is_path number tag name) base order place p ++ stray_at (start_form_by k (use_of number tag name)) at)
+    ≡ line_places (name == DW_AT_stmt_list) form v
+    ++ (class_places v.class (is_path number tag name) base place v ++ stray_places (name == DW_AT_stmt_list) form at)
+value-placed k order bytes at i number tag name form base place p v plain own starts e same = by_line (name == DW_AT_stmt_list) refl
+  where
+    by_start : (b : Bool) → can_start k ≡ b → is_start_form form ≡ b
+        → place_of (role_of_kind k names_line_table) at v.size ++ (indexed_kind k false base order place p ++ stray_at (start_form_by k names_line_table) at)
+        ≡ line_at (is_start_form form) v ++ (class_places v.class false base place v ++ stray_at (is_start_form form) at)
+    by_start true can is =
+        ap (λ (x : Bool). place_of (role_of_kind k names_line_table) at v.size ++ (indexed_kind k false base order place p ++ stray_at x at)) (line-starts k own ∙ can)
+        ∙ start-placed k order bytes at i base place p v plain can e same
+        ∙ ap (λ (x : Bool). line_at x v ++ (class_places v.class false base place v ++ stray_at x at)) (sym is)
+    by_start false can is =
+        ap (λ (x : Bool). place_of (role_of_kind k names_line_table) at v.size ++ (indexed_kind k false base order place p ++ stray_at x at)) (line-starts k own ∙ can)
+        ∙ ap (λ (r : Role). place_of r at v.size ++ (indexed_kind k false base order place p ++ stray_at false at)) (role-stray k can)
+        ∙ sym (append_assoc (place_of (text_role k false) at v.size) (indexed_kind k false base order place p) (stray_at false at))
+        ∙ ap (λ (ts : List TextPlace). ts ++ stray_at false at) (text-placed k order bytes at i false base place p v plain e same)
+        ∙ ap (λ (x : Bool). line_at x v ++ (class_places v.class false base place v ++ stray_at x at)) (sym is)
+
+    by_line : (b : Bool) → (name == DW_AT_stmt_list) ≡ b
+        → place_of (role_of_kind k (use_of number tag name)) at v.size
+        ++ (indexed_kind k (is_path number tag name) base order place p ++ stray_at (start_form_by k (use_of number tag name)) at)
+        ≡ line_places b form v ++ (class_places v.class (is_path number tag name) base place v ++ stray_places b form at)
+    by_line true line =
+        ap (λ (u : Use). place_of (role_of_kind k u) at v.size ++ (indexed_kind k (is_path number tag name) base order place p ++ stray_at (start_form_by k u) at))
+        (line-use number tag name line)
+        ∙ ap (λ (x : Bool). place_of (role_of_kind k names_line_table) at v.size ++ (indexed_kind k x base order place p ++ stray_at (start_form_by k names_line_table) at))
+        (line-path number tag name line)
+        ∙ by_start (can_start k) refl (sym starts)
+        ∙ ap (λ (x : Bool). line_at (is_start_form form) v ++ (class_places v.class x base place v ++ stray_at (is_start_form form) at)) (sym (line-path number tag name line))
+    by_line false line =
+        let other : is_other_use (use_of number tag name) ≡ true = other-use number tag name line in
+        ap (λ (x : Bool). place_of (role_of_kind k (use_of number tag name)) at v.size ++ (indexed_kind k (is_path number tag name) base order place p ++ stray_at x at))
+        (other-starts k (use_of number tag name) other)
+        ∙ ap (λ (r : Role). place_of r at v.size ++ (indexed_kind k (is_path number tag name) base order place p ++ []))
+        (role-other k (use_of number tag name) other ∙ ap (text_role k) (path_use number tag name))
+        ∙ ap (λ (ts : List TextPlace). place_of (text_role k (is_path number tag name)) at v.size ++ ts) (append-nil (indexed_kind k (is_path number tag name) base order place p))
+        ∙ text-placed k order bytes at i (is_path number tag name) base place p v plain e same
+        ∙ sym (append-nil (class_places v.class (is_path number tag name) base place v))

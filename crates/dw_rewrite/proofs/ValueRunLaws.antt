@@ -1,5 +1,5 @@
 -- From values that a pass over a unit meets to its pieces, and where texts stand in them.
-use Rattle.std.proofs.Common.{ℤ, Bool, true, false, ◌≡◌, ◌≢◌, ◌⊎◌, inl, inr, ℕ, ◌+◌, ◌≤◌, List, [], ◌∷◌, ◌++◌, length, take, drop, cond, nat_le, Option, Some, None, refl, sym, ap, ◌∙◌, subst, arith, append_assoc, append-nil}
+use Rattle.std.proofs.Common.{ℤ, Bool, true, false, ◌≡◌, ◌≢◌, ◌⊎◌, inl, inr, ℕ, ◌+◌, ◌==◌, ◌≤◌, List, [], ◌∷◌, ◌++◌, length, take, drop, cond, nat_le, Option, Some, None, refl, sym, ap, ◌∙◌, subst, arith, append_assoc, append-nil}
 use Rattle.std.specs.Bool.{⊤}
 use Rattle.std.proofs.lemmas.List.{length-take-le, length-drop, take-append-drop, drop-drop}
 use Rattle.dw_base.specs.Cells.{Cell, bytes_of}
@@ -8,6 +8,8 @@ use Rattle.dw_base.specs.Lebs.{uleb_at}
 use Rattle.dw_base.specs.Numbers.{number_at, spelled}
 use Rattle.dw_base.specs.Pieces.{Piece, joined, EachPiece, Leads}
 use Rattle.dw_base.specs.Roles.{role_of, role_of_kind, role_of_mode, use_of, is_path}
+use Rattle.dw_base.specs.TableStarts.{start_form_by}
+use Rattle.dw_base.specs.declared.dwarf_numbers.TheConstants.{DW_AT_stmt_list}
 use Rattle.dw_base.specs.TextIndexes.{is_base}
 use Rattle.dw_base.specs.UnitHeaders.{UnitBase}
 use Rattle.dw_base.specs.UnitPieces.{IsValue, IsFrontForm, FitsKind, FitsMode, unit_grammar}
@@ -25,7 +27,8 @@ use Rattle.dw_meaning.proofs.PieceLaws.{leads-more, joined-append}
 use Rattle.dw_meaning.proofs.ScanPieceLaws.{part-bytes, before-end, part-length, inside-same, unit_bytes, NumberPiece, number-piece}
 use Rattle.dw_meaning.proofs.TextEditLaws.{chosen-fits}
 use Rattle.dw_meaning.proofs.ValueCutLaws.{IsCut, value_of-own}
-use Rattle.dw_rewrite.specs.TextPlaces.{TextPlace, place_of, indexed_kind, indexed_in, places_in, class_places, value_places}
+use Rattle.dw_rewrite.specs.TextPlaces.{TextPlace, place_of, indexed_kind, indexed_in, places_in, class_places, value_places, is_start_form, line_at, line_places, own_form, own_place, stray_at, stray_places}
+use Rattle.dw_rewrite.proofs.StartFormLaws.{chosen-form, chosen-place, form-starts, plain-form, plain-place}
 use Rattle.dw_rewrite.proofs.ValuePlaceLaws.{SpellsNumber, kind_plain, value-placed}
 
 -- a piece of a unit: its section and its unit, and the byte order of its values
@@ -197,11 +200,22 @@ value-spells s form_in_front cells place implicit v is inside_ = tt
 value-spells s supplementary cells place implicit v is inside_ = tt
 value-spells s unlisted cells place implicit v is inside_ = tt
 
+-- the places of a value by its own form
+value-own : (n tag : ℕ) (x : Spec) (bytes : List ℕ) (place form own : ℕ) (v : Value) → own_form x bytes place ≡ form → own_place x bytes place ≡ own
+    → line_places (x.name == DW_AT_stmt_list) form v
+    ++ (class_places v.class (is_path n tag x.name) (is_base n x.name) place v ++ stray_places (x.name == DW_AT_stmt_list) form own)
+    ≡ value_places n tag x bytes place v
+value-own n tag x bytes place form own v f o =
+    ap (λ (k : ℕ). line_places (x.name == DW_AT_stmt_list) k v
+    ++ (class_places v.class (is_path n tag x.name) (is_base n x.name) place v ++ stray_places (x.name == DW_AT_stmt_list) k own)) (sym f)
+    ∙ ap (λ (k : ℕ). line_places (x.name == DW_AT_stmt_list) (own_form x bytes place) v
+    ++ (class_places v.class (is_path n tag x.name) (is_base n x.name) place v ++ stray_places (x.name == DW_AT_stmt_list) (own_form x bytes place) k)) (sym o)
+
 -- so a value of an attribute that isn't behind a form is one
 own-run : (base : UnitBase) (cells : List Cell) (s : UnitState) (place e d n tag : ℕ) (x : Spec) (xs : List Spec) (v : Value)
     → s.header.params.order ≡ base.order → kind_in s.header.params x.form ≢ form_in_front
     → value_of (kind_in s.header.params x.form) s.header.params.order (unit_bytes s cells) place x.implicit ≡ Some v
-    → PlacedRun base cells s.section s.unit (in_unit s place e d (at_values n tag (x ∷ xs))) (inside s (place + v.size) e d n tag xs) place (place + v.size) (value_places n tag x place v)
+    → PlacedRun base cells s.section s.unit (in_unit s place e d (at_values n tag (x ∷ xs))) (inside s (place + v.size) e d n tag xs) place (place + v.size) (value_places n tag x (unit_bytes s cells) place v)
 own-run base cells s place e d n tag x xs v order other is =
     let t : UnitState = in_unit s place e d (at_values n tag (x ∷ xs)) in
     let k : ValueKind = kind_in s.header.params x.form in
@@ -211,17 +225,20 @@ own-run base cells s place e d n tag x xs v order other is =
     let inside_ : place + v.size ≤ length (unit_bytes s cells) =
     (value_of-own (kind_in s.header.params x.form) s.header.params.order (unit_bytes s cells) place x.implicit v is).inside in
     let size : length (take v.size (drop place cells)) ≡ v.size = part-length v.size place s.header.end cells inside_ in
-    placed-one base cells (in_unit s place e d (at_values n tag (x ∷ xs))) (inside s (place + v.size) e d n tag xs) place v.size (value_places n tag x place v)
+    placed-one base cells (in_unit s place e d (at_values n tag (x ∷ xs))) (inside s (place + v.size) e d n tag xs) place v.size (value_places n tag x (unit_bytes s cells) place v)
     (chosen-fits (kind_in s.header.params x.form) (in_unit s place e d (at_values n tag (x ∷ xs))) x (take v.size (drop place cells)) f)
     (after-own (kind_in s.header.params x.form) (in_unit s place e d (at_values n tag (x ∷ xs))) (place + length (take v.size (drop place cells)))
     (code_value (take v.size (drop place cells))) n tag x xs other
     ∙ inside-same s place e d (at_values n tag (x ∷ xs)) (place + length (take v.size (drop place cells))) e d n tag xs
     ∙ ap (λ (m : ℕ). inside s (place + m) e d n tag xs) size)
     (ap (λ (m : ℕ). place_of (role_of_kind (kind_in s.header.params x.form) (use_of n tag x.name)) place m
-    ++ indexed_kind (kind_in s.header.params x.form) (is_path n tag x.name) (is_base n x.name) s.header.params.order place (take v.size (drop place cells))) size
-    ∙ value-placed (kind_in s.header.params x.form) s.header.params.order (unit_bytes s cells) place x.implicit n tag x.name (is_base n x.name) place
-    (take v.size (drop place cells)) v (kind_plain s.header.params x.form) is
-    (value-spells s (kind_in s.header.params x.form) cells place x.implicit v is inside_))
+    ++ (indexed_kind (kind_in s.header.params x.form) (is_path n tag x.name) (is_base n x.name) s.header.params.order place (take v.size (drop place cells))
+    ++ stray_at (start_form_by (kind_in s.header.params x.form) (use_of n tag x.name)) place)) size
+    ∙ value-placed (kind_in s.header.params x.form) s.header.params.order (unit_bytes s cells) place x.implicit n tag x.name x.form (is_base n x.name) place
+    (take v.size (drop place cells)) v (kind_plain s.header.params x.form) other (form-starts s.header.params x.form) is
+    (value-spells s (kind_in s.header.params x.form) cells place x.implicit v is inside_)
+    ∙ value-own n tag x (unit_bytes s cells) place x.form place v (plain-form s.header.params x (unit_bytes s cells) place other)
+    (plain-place s.header.params x (unit_bytes s cells) place other))
     order
 
 -- a value behind a form: the form's number, and the value that was read behind it
@@ -319,27 +336,31 @@ front-run base cells s place e d n tag form size x xs order front is other own =
     ∙ ap (λ (m : ℕ). in_unit s (place + m) e d (at_chosen n tag place (of_chosen x (code_value (take size (drop place cells)))) xs)) c.size
     ∙ ap (λ (f : ℕ). in_unit s (place + size) e d (at_chosen n tag place (of_chosen x f) xs)) c.value)
     (ap (λ (k : ValueKind). place_of (role_of_kind k (use_of n tag x.name)) place (length (take size (drop place cells)))
-    ++ indexed_kind k (is_path n tag x.name) (is_base n x.name) s.header.params.order place (take size (drop place cells))) front)
+    ++ (indexed_kind k (is_path n tag x.name) (is_base n x.name) s.header.params.order place (take size (drop place cells))
+    ++ stray_at (start_form_by k (use_of n tag x.name)) place)) front)
     order
 
 -- and the value behind it
 chosen-run : (base : UnitBase) (cells : List Cell) (s : UnitState) (place e d n tag start form : ℕ) (x : Spec) (xs : List Spec) (v : Value)
-    → s.header.params.order ≡ base.order → value_of (kind_in s.header.params form) s.header.params.order (unit_bytes s cells) place x.implicit ≡ Some v
+    → s.header.params.order ≡ base.order → kind_in s.header.params form ≢ form_in_front → own_form x (unit_bytes s cells) start ≡ form → own_place x (unit_bytes s cells) start ≡ place
+    → value_of (kind_in s.header.params form) s.header.params.order (unit_bytes s cells) place x.implicit ≡ Some v
     → PlacedRun base cells s.section s.unit (in_unit s place e d (at_chosen n tag start (of_chosen x form) xs)) (inside s (place + v.size) e d n tag xs) place (place + v.size)
-    (value_places n tag x start v)
-chosen-run base cells s place e d n tag start form x xs v order is =
+    (value_places n tag x (unit_bytes s cells) start v)
+chosen-run base cells s place e d n tag start form x xs v order other own here is =
     let inside_ : place + v.size ≤ length (unit_bytes s cells) =
     (value_of-own (kind_in s.header.params form) s.header.params.order (unit_bytes s cells) place x.implicit v is).inside in
     let size : length (take v.size (drop place cells)) ≡ v.size = part-length v.size place s.header.end cells inside_ in
-    placed-one base cells (in_unit s place e d (at_chosen n tag start (of_chosen x form) xs)) (inside s (place + v.size) e d n tag xs) place v.size (value_places n tag x start v)
+    placed-one base cells (in_unit s place e d (at_chosen n tag start (of_chosen x form) xs)) (inside s (place + v.size) e d n tag xs) place v.size (value_places n tag x (unit_bytes s cells) start v)
     (value-piece s (of_chosen x form) (kind_in s.header.params form) cells place e d (at_chosen n tag start (of_chosen x form) xs) v is)
     (inside-same s place e d (at_chosen n tag start (of_chosen x form) xs) (place + length (take v.size (drop place cells))) e d n tag xs
     ∙ ap (λ (m : ℕ). inside s (place + m) e d n tag xs) size)
     (ap (λ (m : ℕ). place_of (role_of_kind (kind_in s.header.params form) (use_of n tag x.name)) place m
-    ++ indexed_kind (kind_in s.header.params form) (is_path n tag x.name) (is_base n x.name) s.header.params.order start (take v.size (drop place cells))) size
-    ∙ value-placed (kind_in s.header.params form) s.header.params.order (unit_bytes s cells) place x.implicit n tag x.name (is_base n x.name) start
-    (take v.size (drop place cells)) v (kind_plain s.header.params form) is
-    (value-spells s (kind_in s.header.params form) cells place x.implicit v is inside_))
+    ++ (indexed_kind (kind_in s.header.params form) (is_path n tag x.name) (is_base n x.name) s.header.params.order start (take v.size (drop place cells))
+    ++ stray_at (start_form_by (kind_in s.header.params form) (use_of n tag x.name)) place)) size
+    ∙ value-placed (kind_in s.header.params form) s.header.params.order (unit_bytes s cells) place x.implicit n tag x.name form (is_base n x.name) start
+    (take v.size (drop place cells)) v (kind_plain s.header.params form) other (form-starts s.header.params form) is
+    (value-spells s (kind_in s.header.params form) cells place x.implicit v is inside_)
+    ∙ value-own n tag x (unit_bytes s cells) start form place v own here)
     order
 
 -- values that are the same but for their sizes
@@ -356,30 +377,47 @@ class_places-same SecOffset path true place v w at len number = rw number refl
 class_places-same SecOffset path false place v w at len number = refl
 class_places-same class path base place v w at len number = refl
 
-places-same : (n tag : ℕ) (x : Spec) (place : ℕ) (v w : Value) → v.class ≡ w.class → v.at ≡ w.at → v.len ≡ w.len → v.number ≡ w.number
-    → value_places n tag x place w ≡ value_places n tag x place v
-places-same n tag x place v w class at len number =
-    class_places-same w.class (is_path n tag x.name) (is_base n x.name) place v w at len number
-    ∙ ap (λ (c : ValueClass). class_places c (is_path n tag x.name) (is_base n x.name) place v) (sym class)
+line_at-same : (b : Bool) (v w : Value) → v.at ≡ w.at → v.len ≡ w.len → line_at b w ≡ line_at b v
+line_at-same true v w at len = rw (at, len) refl
+line_at-same false v w at len = refl
+
+line_places-same : (line : Bool) (form : ℕ) (v w : Value) → v.at ≡ w.at → v.len ≡ w.len → line_places line form w ≡ line_places line form v
+line_places-same true form v w at len = line_at-same (is_start_form form) v w at len
+line_places-same false form v w at len = refl
+
+places-same : (n tag : ℕ) (x : Spec) (bytes : List ℕ) (place : ℕ) (v w : Value) → v.class ≡ w.class → v.at ≡ w.at → v.len ≡ w.len → v.number ≡ w.number
+    → value_places n tag x bytes place w ≡ value_places n tag x bytes place v
+places-same n tag x bytes place v w class at len number =
+    let line : Bool = x.name == DW_AT_stmt_list in
+    let stray : List TextPlace = stray_places (x.name == DW_AT_stmt_list) (own_form x bytes place) (own_place x bytes place) in
+    ap (λ (ts : List TextPlace). ts ++ (class_places w.class (is_path n tag x.name) (is_base n x.name) place w
+    ++ stray_places (x.name == DW_AT_stmt_list) (own_form x bytes place) (own_place x bytes place)))
+    (line_places-same (x.name == DW_AT_stmt_list) (own_form x bytes place) v w at len)
+    ∙ ap (λ (ts : List TextPlace). line_places (x.name == DW_AT_stmt_list) (own_form x bytes place) v
+    ++ (ts ++ stray_places (x.name == DW_AT_stmt_list) (own_form x bytes place) (own_place x bytes place)))
+    (class_places-same w.class (is_path n tag x.name) (is_base n x.name) place v w at len number
+    ∙ ap (λ (c : ValueClass). class_places c (is_path n tag x.name) (is_base n x.name) place v) (sym class))
 
 -- a value of an attribute is one piece or two
 pub placed-value : (base : UnitBase) (cells : List Cell) (s : UnitState) (place e d n tag : ℕ) (x : Spec) (xs : List Spec) (v : Value)
     → s.header.params.order ≡ base.order → value_at s.header.params x (unit_bytes s cells) place ≡ Some v
-    → PlacedRun base cells s.section s.unit (in_unit s place e d (at_values n tag (x ∷ xs))) (inside s (place + v.size) e d n tag xs) place (place + v.size) (value_places n tag x place v)
+    → PlacedRun base cells s.section s.unit (in_unit s place e d (at_values n tag (x ∷ xs))) (inside s (place + v.size) e d n tag xs) place (place + v.size) (value_places n tag x (unit_bytes s cells) place v)
 unfolding value_at
 placed-value base cells s place e d n tag x xs v order is = by_front (is_front (kind_in s.header.params x.form))
   where
     by_front : (kind_in s.header.params x.form ≡ form_in_front) ⊎ (kind_in s.header.params x.form ≡ form_in_front → ⊥)
-        → PlacedRun base cells s.section s.unit (in_unit s place e d (at_values n tag (x ∷ xs))) (inside s (place + v.size) e d n tag xs) place (place + v.size) (value_places n tag x place v)
+        → PlacedRun base cells s.section s.unit (in_unit s place e d (at_values n tag (x ∷ xs))) (inside s (place + v.size) e d n tag xs) place (place + v.size) (value_places n tag x (unit_bytes s cells) place v)
     by_front (inl front) =
         let c : Chosen s.header.params x (unit_bytes s cells) place v = chosen-read s.header.params x (unit_bytes s cells) place v front is in
         let both = placed-more base cells s.section s.unit (in_unit s place e d (at_values n tag (x ∷ xs))) (in_unit s (place + c.size) e d (at_chosen n tag place (of_chosen x c.form) xs))
-        (inside s (place + c.size + c.value.size) e d n tag xs) place (place + c.size) (place + c.size + c.value.size) [] (value_places n tag x place c.value)
+        (inside s (place + c.size + c.value.size) e d n tag xs) place (place + c.size) (place + c.size + c.value.size) [] (value_places n tag x (unit_bytes s cells) place c.value)
         (front-run base cells s place e d n tag c.form c.size x xs order front c.spells c.other c.own)
-        (chosen-run base cells s (place + c.size) e d n tag place c.form x xs c.value order c.is) in
+        (chosen-run base cells s (place + c.size) e d n tag place c.form x xs c.value order c.other
+        (chosen-form s.header.params x (unit_bytes s cells) place c.form c.size front c.spells)
+        (chosen-place s.header.params x (unit_bytes s cells) place c.form c.size front c.spells) c.is) in
         let whole : place + c.size + c.value.size ≡ place + v.size = omega (arith, c.whole) in
-        let at_end : PlacedRun base cells s.section s.unit (in_unit s place e d (at_values n tag (x ∷ xs))) (inside s (place + v.size) e d n tag xs) place (place + v.size) (value_places n tag x place c.value) =
-        subst (λ (m : ℕ). PlacedRun base cells s.section s.unit (in_unit s place e d (at_values n tag (x ∷ xs))) (inside s m e d n tag xs) place m (value_places n tag x place c.value)) whole both in
+        let at_end : PlacedRun base cells s.section s.unit (in_unit s place e d (at_values n tag (x ∷ xs))) (inside s (place + v.size) e d n tag xs) place (place + v.size) (value_places n tag x (unit_bytes s cells) place c.value) =
+        subst (λ (m : ℕ). PlacedRun base cells s.section s.unit (in_unit s place e d (at_values n tag (x ∷ xs))) (inside s m e d n tag xs) place m (value_places n tag x (unit_bytes s cells) place c.value)) whole both in
         subst (λ (ts : List TextPlace). PlacedRun base cells s.section s.unit (in_unit s place e d (at_values n tag (x ∷ xs))) (inside s (place + v.size) e d n tag xs) place (place + v.size) ts)
-        (places-same n tag x place v c.value c.class_is c.at_is c.len_is c.number_is) at_end
+        (places-same n tag x (unit_bytes s cells) place v c.value c.class_is c.at_is c.len_is c.number_is) at_end
     by_front (inr other) = own-run base cells s place e d n tag x xs v order other (sym (value_by-own (kind_in s.header.params x.form) s.header.params x (unit_bytes s cells) place other) ∙ is)

@@ -1,5 +1,6 @@
 -- What becomes of the bytes of a unit section and of a table of texts, by the fields that hold the offsets of paths into it.
 use Rattle.std.specs.Prelude.{true, ◌≡◌, ◌≢◌, ◌⊎◌, ℕ, ◌+◌, ◌^◌, ◌<◌, ◌≤◌, List, length, get_or, [], ◌∷◌, if◌then◌else◌, Option, Some, None, is_some, ◌++◌, ⊤}
+use Rattle.dw_base.specs.DebugData.{start_number}
 use Rattle.dw_base.specs.Numbers.{spelled, with_number}
 use Rattle.dw_base.specs.Paths.{PathMap}
 use Rattle.dw_base.specs.StringTables.{Mention, Plan, TextTable, appending, with_mention, with_text, place_in, new_place, new_text}
@@ -98,6 +99,28 @@ abbrev pub with_all_known : OffsetTable → List ℕ → (ℕ → Option ℕ) �
 with_all_known table info known out [] = out
 with_all_known table info known out (f ∷ fs) =
     with_all_known table info known (with_known table.order out f (known (offset_at table info f))) fs
+
+-- the table of fields that hold no offsets of texts
+abbrev pub start_table : Order → OffsetTable
+start_table order = record { order = order; bytes = [] }
+
+-- the new start of a line table, by its number
+abbrev pub new_start : List ℕ → Option ℕ → Option ℕ
+new_start news None = None
+new_start news (Some k) = Some (get_or news k 0)
+
+-- the new start of the line table that started at a place
+abbrev pub start_known : List ℕ → List ℕ → ℕ → Option ℕ
+start_known olds news n = new_start news (start_number 0 olds n)
+
+-- a field that can say where a line table starts lies in the section
+pub record IsStartField (info : List ℕ) (f : PathField) : Type 0 where
+  pub sized : (f.size ≡ 4) ⊎ (f.size ≡ 8)
+  pub inside : f.at + f.size ≤ length info
+
+-- each of these does
+pub record AreStartFields (info : List ℕ) (fields : List PathField) : Type 0 where
+  pub each : (k : ℕ) (d : PathField) → k < length fields → IsStartField info (get_or fields k d)
 
 -- the new places of the paths of these fields are noted
 pub record AreNoted (plan : Plan) (table : OffsetTable) (info : List ℕ) (fields : List PathField) (count : ℕ) (known : ℕ → Option ℕ) : Type 0 where

@@ -1,5 +1,5 @@
 -- What a pass over the values of an entry finds: the texts that they name, and the paths among them; and what it refuses.
-use Rattle.std.specs.Prelude.{false, ◌≡◌, ◌⊎◌, ℕ, ◌+◌, List, [], ◌∷◌, ◌++◌, IsTrue, ⊤, Option, Some, None}
+use Rattle.std.specs.Prelude.{true, false, ◌≡◌, ◌⊎◌, ℕ, ◌+◌, List, [], ◌∷◌, ◌++◌, IsTrue, ⊤, Option, Some, None}
 use Rattle.dw_base.specs.EntryScans.{SpellsValues, ValuesFail}
 use Rattle.dw_meaning.specs.FileFails.{is_unbuilt_value}
 use Rattle.dw_base.specs.FormFails.{FormFails}
@@ -14,7 +14,7 @@ use Rattle.dw_base.specs.declared.values.Spec.{Spec}
 use Rattle.dw_base.specs.declared.values.Value.{Value}
 use Rattle.dw_base.specs.declared.values.ValueClass.{ValueClass}
 use Rattle.dw_base.specs.declared.values.ValueClass.TheVariants.{StrOffset, LineStrOffset}
-use Rattle.dw_rewrite.specs.TextPlaces.{TextPlace, base_in, fields_in, indexes_in, inline_in, value_places}
+use Rattle.dw_rewrite.specs.TextPlaces.{TextPlace, base_in, fields_in, indexes_in, inline_in, is_start_form, starts_in, stray_in, value_places}
 use Rattle.dw_rewrite.specs.UnitPaths.{UnitPaths}
 use Rattle.dw_rewrite.specs.declared.fields.TextIndex.{TextIndex}
 
@@ -31,11 +31,16 @@ pub record Found : Type 0 where
 
 -- nothing was found in a section
 abbrev pub no_paths : ℕ → UnitPaths
-no_paths number = record { number = number; str = []; line_str = []; inline = [] }
+no_paths number = record { number = number; str = []; line_str = []; inline = []; starts = []; stray = None }
 
 -- what was found before a unit: the paths of those before it
 abbrev pub none_found : UnitPaths → Found
 none_found u = record { paths = u; base = None; indexes = [] }
+
+-- the first value that can't say where a line table starts, or else one of these places
+abbrev pub with_stray : Option ℕ → List TextPlace → Option ℕ
+with_stray None ts = stray_in ts
+with_stray (Some n) ts = Some n
 
 -- paths, with more places behind
 unfoldable pub with_paths : UnitPaths → List TextPlace → UnitPaths
@@ -44,6 +49,8 @@ with_paths u ts = record {
   str = u.str ++ fields_in in_str ts;
   line_str = u.line_str ++ fields_in in_line_str ts;
   inline = u.inline ++ inline_in ts;
+  starts = u.starts ++ starts_in ts;
+  stray = with_stray u.stray ts;
 }
 
 -- a base, or else one that these places say
@@ -70,6 +77,10 @@ abbrev pub OffsetSized : ValueClass → ℕ → Type 0
 OffsetSized StrOffset n = (n ≡ 4) ⊎ (n ≡ 8)
 OffsetSized LineStrOffset n = (n ≡ 4) ⊎ (n ≡ 8)
 OffsetSized class n = ⊤
+
+-- a value of a form that can say where a line table starts has four bytes or eight
+pub record StartSized (form n : ℕ) : Type 0 where
+  pub sized : is_start_form form ≡ true → (n ≡ 4) ⊎ (n ≡ 8)
 
 -- a value can be taken: it isn't of a kind that isn't taken yet, and its offset names a text
 pub record IsTaken (t : Tables) (x : Spec) (v : Value) : Type 0 where
@@ -109,7 +120,7 @@ pub record ValueTaken (t : Tables) (params : Params) (bytes : List ℕ) (number 
   pub is : value_at params x bytes place ≡ Some value
   pub size_is : size ≡ value.size
   pub taken : IsTaken t x value
-  pub found : new ≡ with_places old (value_places number tag x place value)
+  pub found : new ≡ with_places old (value_places number tag x bytes place value)
 
 -- where the last text of each table ends
 pub record TablesEnd (t : Tables) (str_end line_str_end : ℕ) : Type 0 where

@@ -7,6 +7,8 @@ pub mod UnitTexts
 pub mod IndexedTexts
 pub mod InlineRooms
 pub mod NewTables
+pub mod LineStarts
+pub mod ViewLines
 pub mod SlotPaths
 pub mod Bodies
 pub mod Judged

@@ -17,7 +17,7 @@ use Rattle.dw_base.specs.declared.fault.Fault.{Fault}
 use Rattle.dw_base.specs.declared.fault.Fault.TheVariants.{NoMemory, Refused}
 use Rattle.dw_base.specs.declared.fault.Kind.TheVariants.{TooLarge}
 use Rattle.dw_base.specs.declared.fault.Refusal.{Refusal}
-use Rattle.dw_rewrite.specs.Changes.{OffsetTable, AllApart, ArePathFields, AreNoted, Knows, Remembers, texts_at, patched, with_all_known}
+use Rattle.dw_rewrite.specs.Changes.{OffsetTable, AllApart, ArePathFields, AreStartFields, AreNoted, Knows, Remembers, texts_at, patched, start_table, with_all_known}
 use Rattle.dw_rewrite.specs.InlineRooms.{AreRooms}
 use Rattle.dw_rewrite.specs.TextPlaces.{InlinesFit}
 use Rattle.dw_rewrite.specs.UnitPaths.{UnitPaths, inlined}
@@ -59,14 +59,26 @@ fields_of in_line_str u = u.line_str
 abbrev pub info_of : View → UnitPaths → List ℕ
 info_of v u = section_bytes v u.number
 
--- a section of a view: it is there, its fields of paths are fields of which no two have a byte in common, and its paths that
--- stand in their values have rooms
+-- a section of a view: it is there, its fields of paths and of line tables are fields of which no two have a byte in common, and its paths
+-- that stand in their values have rooms
 pub record HasPaths (v : View) (u : UnitPaths) : Type 0 where
   pub there : u.number < length v.sections
   pub str : ArePathFields (offsets_in v in_str) (info_of v u) u.str
   pub line_str : ArePathFields (offsets_in v in_line_str) (info_of v u) u.line_str
-  pub apart : AllApart (u.str ++ u.line_str)
+  pub starts : AreStartFields (info_of v u) u.starts
+  pub apart : AllApart (u.str ++ (u.line_str ++ u.starts))
   pub rooms : AreRooms (info_of v u) u.inline
+
+-- its fields of paths' offsets are fields
+pub record HasFields (v : View) (u : UnitPaths) : Type 0 where
+  pub there : u.number < length v.sections
+  pub str : ArePathFields (offsets_in v in_str) (info_of v u) u.str
+  pub line_str : ArePathFields (offsets_in v in_line_str) (info_of v u) u.line_str
+
+-- those of all of these are
+abbrev pub AllHaveFields : View → List UnitPaths → Type 0
+AllHaveFields v [] = ⊤
+AllHaveFields v (u ∷ us) = HasFields v u × AllHaveFields v us
 
 -- so have all of these
 abbrev pub AllHavePaths : View → List UnitPaths → Type 0
@@ -120,19 +132,19 @@ table_with v table ts = record { kept = (offsets_in v table).bytes; texts = ts }
 abbrev pub change_in : PathMap → View → TextSection → List (List ℕ) → TableChange
 change_in m v table ts = record { plan = plan_in m v table; texts = ts }
 
--- the new bytes of a section, where these are the new texts of the two tables
-unfoldable pub section_after : PathMap → View → List (List ℕ) → List (List ℕ) → UnitPaths → List ℕ
-section_after m v ts ls u =
+-- the new bytes of a section, where these are the new texts of the two tables, and the new starts of line tables by their old ones
+unfoldable pub section_after : PathMap → View → List (List ℕ) → List (List ℕ) → (ℕ → Option ℕ) → UnitPaths → List ℕ
+section_after m v ts ls kt u =
     let with_str = patched (change_in m v in_str ts) m (offsets_in v in_str) (info_of v u) (info_of v u) u.str in
     let with_both = patched (change_in m v in_line_str ls) m (offsets_in v in_line_str) (info_of v u) with_str u.line_str in
-    inlined m (info_of v u) with_both u.inline
+    inlined m (info_of v u) (with_all_known (start_table v.order) (info_of v u) kt with_both u.starts) u.inline
 
-abbrev pub body_after : PathMap → View → List (List ℕ) → List (List ℕ) → UnitPaths → Body
-body_after m v ts ls u = record { number = u.number; bytes = section_after m v ts ls u }
+abbrev pub body_after : PathMap → View → List (List ℕ) → List (List ℕ) → (ℕ → Option ℕ) → UnitPaths → Body
+body_after m v ts ls kt u = record { number = u.number; bytes = section_after m v ts ls kt u }
 
-abbrev pub bodies_after : PathMap → View → List (List ℕ) → List (List ℕ) → List UnitPaths → List Body
-bodies_after m v ts ls [] = []
-bodies_after m v ts ls (u ∷ us) = body_after m v ts ls u ∷ bodies_after m v ts ls us
+abbrev pub bodies_after : PathMap → View → List (List ℕ) → List (List ℕ) → (ℕ → Option ℕ) → List UnitPaths → List Body
+bodies_after m v ts ls kt [] = []
+bodies_after m v ts ls kt (u ∷ us) = body_after m v ts ls kt u ∷ bodies_after m v ts ls kt us
 
 -- the fault of a section
 abbrev pub fault_at : Fault → ℕ → Fault
@@ -145,23 +157,24 @@ pub data LongTable (m : PathMap) (v : View) (table : TextSection) (us : List Uni
       → LongTable m v table us (at TooLarge (table_number (debug_data v) table) 0)
 
 -- the same from the new places that are known
-unfoldable pub section_known : PathMap → View → (ℕ → Option ℕ) → (ℕ → Option ℕ) → UnitPaths → List ℕ
-section_known m v ks kl u =
+unfoldable pub section_known : PathMap → View → (ℕ → Option ℕ) → (ℕ → Option ℕ) → (ℕ → Option ℕ) → UnitPaths → List ℕ
+section_known m v ks kl kt u =
     let with_str = with_all_known (offsets_in v in_str) (info_of v u) ks (info_of v u) u.str in
     let with_both = with_all_known (offsets_in v in_line_str) (info_of v u) kl with_str u.line_str in
-    inlined m (info_of v u) with_both u.inline
+    inlined m (info_of v u) (with_all_known (start_table v.order) (info_of v u) kt with_both u.starts) u.inline
 
--- the bytes of a section with the new offsets that are known in its fields of both tables
-abbrev pub fields_known : View → (ℕ → Option ℕ) → (ℕ → Option ℕ) → UnitPaths → List ℕ → List ℕ
-fields_known v ks kl u out =
-    with_all_known (offsets_in v in_line_str) (info_of v u) kl (with_all_known (offsets_in v in_str) (info_of v u) ks out u.str) u.line_str
+-- the bytes of a section with the new offsets that are known in its fields of both tables, and the new starts of line tables
+abbrev pub fields_known : View → (ℕ → Option ℕ) → (ℕ → Option ℕ) → (ℕ → Option ℕ) → UnitPaths → List ℕ → List ℕ
+fields_known v ks kl kt u out =
+    with_all_known (start_table v.order) (info_of v u) kt
+    (with_all_known (offsets_in v in_line_str) (info_of v u) kl (with_all_known (offsets_in v in_str) (info_of v u) ks out u.str) u.line_str) u.starts
 
-abbrev pub body_known : PathMap → View → (ℕ → Option ℕ) → (ℕ → Option ℕ) → UnitPaths → Body
-body_known m v ks kl u = record { number = u.number; bytes = section_known m v ks kl u }
+abbrev pub body_known : PathMap → View → (ℕ → Option ℕ) → (ℕ → Option ℕ) → (ℕ → Option ℕ) → UnitPaths → Body
+body_known m v ks kl kt u = record { number = u.number; bytes = section_known m v ks kl kt u }
 
-abbrev pub bodies_known : PathMap → View → (ℕ → Option ℕ) → (ℕ → Option ℕ) → List UnitPaths → List Body
-bodies_known m v ks kl [] = []
-bodies_known m v ks kl (u ∷ us) = body_known m v ks kl u ∷ bodies_known m v ks kl us
+abbrev pub bodies_known : PathMap → View → (ℕ → Option ℕ) → (ℕ → Option ℕ) → (ℕ → Option ℕ) → List UnitPaths → List Body
+bodies_known m v ks kl kt [] = []
+bodies_known m v ks kl kt (u ∷ us) = body_known m v ks kl kt u ∷ bodies_known m v ks kl kt us
 
 -- a table of texts with its new bytes
 abbrev pub table_body_of : View → TextSection → TextTable → Body

@@ -8,6 +8,7 @@ use Rattle.dw_base.specs.Layout.{is_fixed}
 use Rattle.dw_base.specs.Refusals.{at}
 use Rattle.dw_base.specs.declared.fault.Fault.{Fault}
 use Rattle.dw_base.specs.declared.fault.Fault.TheVariants.{NoMemory, Refused}
+use Rattle.dw_base.specs.declared.fault.Kind.{Kind}
 use Rattle.dw_base.specs.declared.fault.Kind.TheVariants.{Fixed, TooLarge}
 use Rattle.dw_base.specs.declared.fault.Refusal.{Refusal}
 use Rattle.elf_layout.specs.Given.{item_of}
@@ -53,14 +54,22 @@ pub record IsGiven (old new : List (Option (Vec ℕ Global))) (x : Body) : Type 
   pub size : length new ≡ length old
   pub given : (i : ℕ) → i < length old → item_bytes (item_of new i) ≡ (if is_of x i then Some x.bytes else item_bytes (item_of old i))
 
--- what refuses a table of texts that is too long, in the section of a number: it may not change where it stays, and makes
--- the file too long where it is laid out anew
+-- what refuses a section that is too long, of a number: it may not change where it stays, and makes the file too long where it is laid out
+-- anew
 abbrev pub long_refusal : List ℕ → ℕ → Refusal
 long_refusal b i = if is_fixed b (nth_section b i) then at Fixed i 0 else at TooLarge 0 0
 
+-- so where new bytes are refused as too long, and else by what refused them
+abbrev pub long_or : Kind → Refusal → Refusal → Refusal
+long_or TooLarge long own = long
+long_or kind long own = own
+
+abbrev pub told_refusal : List ℕ → Refusal → Refusal
+told_refusal b r = long_or r.kind (long_refusal b r.section) r
+
 abbrev pub long_fault : List ℕ → Fault → Fault
 long_fault b NoMemory = NoMemory
-long_fault b (Refused r) = Refused (long_refusal b r.section)
+long_fault b (Refused r) = Refused (told_refusal b r)
 
 -- what is refused stands in a section of the file
 pub record IsInFile (b : List ℕ) (r : Refusal) : Type 0 where

@@ -9,7 +9,7 @@ use Rattle.dw_base.specs.Paths.{PathMap}
 use Rattle.dw_base.specs.Pieces.{Piece}
 use Rattle.dw_base.specs.SectionTexts.{slot_role}
 use Rattle.dw_base.specs.ViewData.{debug_data}
-use Rattle.dw_base.specs.declared.debug_sections.DebugSection.TheVariants.{Names, StrOffsets}
+use Rattle.dw_base.specs.declared.debug_sections.DebugSection.TheVariants.{Line, Names, StrOffsets}
 use Rattle.dw_meaning.specs.DataOutput.{Body}
 use Rattle.dw_offsets.specs.declared.slot_fields.PathSlot.{PathSlot}
 use Rattle.dw_rewrite.specs.NewTables.{bodies_known}
@@ -28,7 +28,7 @@ offset_fields table paths (x ∷ xs) = field_by table (slot_role paths x.state) 
 
 -- what a section of string offsets says of paths, by its number and these fields
 abbrev pub slots_with : ℕ → List PathField → UnitPaths
-slots_with number fields = record { number = number; str = fields; line_str = []; inline = [] }
+slots_with number fields = record { number = number; str = fields; line_str = []; inline = []; starts = []; stray = None }
 
 -- the same of the section of a view, where there is one
 abbrev pub slots_by : Option ℕ → List PathField → List UnitPaths
@@ -66,8 +66,13 @@ count_of (Some i) = 1
 abbrev pub slots_count : View → ℕ
 slots_count v = count_of (section_named v (name_of StrOffsets))
 
+-- how many sections of line tables it has: one or none
+abbrev pub lines_count : View → ℕ
+lines_count v = count_of (section_named v (name_of Line))
+
 -- the bodies behind the tables of texts, by what all sections say of paths, of which the last is that of string offsets, if there is
--- one: string offsets, name tables, and units
-abbrev pub pushed_bodies : PathMap → View → (ℕ → Option ℕ) → (ℕ → Option ℕ) → List UnitPaths → List Body
-pushed_bodies m v ks kl us =
-    one_body (bodies_known m v ks kl (drop (length us - slots_count v) us)) ++ names_body v ∷ bodies_known m v ks kl (take (length us - slots_count v) us)
+-- one: string offsets, line tables, name tables, and units
+abbrev pub pushed_bodies : PathMap → View → (ℕ → Option ℕ) → (ℕ → Option ℕ) → (ℕ → Option ℕ) → Body → List UnitPaths → List Body
+pushed_bodies m v ks kl kt lines us =
+    one_body (bodies_known m v ks kl kt (drop (length us - slots_count v) us))
+    ++ lines ∷ names_body v ∷ bodies_known m v ks kl kt (take (length us - slots_count v) us)

@@ -1,23 +1,26 @@
 -- What a pass over the entries of units meets of texts: where they stand, each place with its role, and the values that name them by
--- index (DWARF 5, 7.5.5, class string); and what these places say of source paths.
-use Rattle.std.specs.Prelude.{Bool, true, ◌≡◌, ℕ, ◌+◌, ◌-◌, List, [], ◌∷◌, ◌++◌, IsTrue, ⊤, Option, Some, None, length}
+-- index (DWARF 5, 7.5.5, class string), or say where line tables start (DWARF 5, 3.1.1); and what these places say of source paths.
+use Rattle.std.specs.Prelude.{Bool, true, false, ◌≡◌, ℕ, ◌+◌, ◌-◌, ◌==◌, ◌||◌, if◌then◌else◌, List, [], ◌∷◌, ◌++◌, IsTrue, ⊤, Option, Some, None, length}
 use Rattle.dw_base.specs.AbbreviationTables.{Abbreviation, abbreviation_of, IsTable}
-use Rattle.dw_base.specs.Cells.{Cell, bytes_of, cells_at, offset_of}
-use Rattle.dw_base.specs.DebugData.{DebugData}
+use Rattle.dw_base.specs.Cells.{Cell, bytes_of, cells_at, located_cells, offset_of}
+use Rattle.dw_base.specs.DebugData.{DebugData, start_number}
 use Rattle.dw_base.specs.EntryScans.{AreEntries}
 use Rattle.dw_base.specs.EntryValues.{bytes_up_to}
 use Rattle.dw_base.specs.Forms.{TextSection, in_str, in_line_str, ValueKind, number_of, leb_number, kind_in}
 use Rattle.dw_base.specs.InlinePaths.{inline_fits}
 use Rattle.dw_base.specs.Lebs.{uleb_at}
+use Rattle.dw_base.specs.LineMeanings.{is_there}
 use Rattle.dw_base.specs.Numbers.{spelled}
 use Rattle.dw_base.specs.Paths.{PathMap}
 use Rattle.dw_base.specs.Pieces.{Piece}
-use Rattle.dw_base.specs.Roles.{Role, fixed, offset, inline_path, role_of, is_path}
+use Rattle.dw_base.specs.Roles.{Role, fixed, offset, inline_path, line_start, role_of, is_path, use_of}
+use Rattle.dw_base.specs.TableStarts.{start_form_by}
 use Rattle.dw_base.specs.TextIndexes.{SaidBase, IndexUse, is_base}
 use Rattle.dw_base.specs.Texts.{ends_in}
 use Rattle.dw_base.specs.UnitHeaders.{UnitBase, UnitSection, IsUnit}
-use Rattle.dw_base.specs.UnitStates.{Mode, at_values, at_chosen, UnitState, code_value}
+use Rattle.dw_base.specs.UnitStates.{Mode, at_values, at_chosen, UnitState, code_value, read_value}
 use Rattle.dw_base.specs.Values.{value_at}
+use Rattle.dw_base.specs.declared.dwarf_numbers.TheConstants.{DW_AT_stmt_list, DW_FORM_data4, DW_FORM_data8, DW_FORM_indirect, DW_FORM_sec_offset}
 use Rattle.dw_base.specs.declared.shared.Order.{Order}
 use Rattle.dw_base.specs.declared.shared.Params.{Params}
 use Rattle.dw_base.specs.declared.units.Scanned.{Scanned}
@@ -31,11 +34,13 @@ use Rattle.dw_rewrite.specs.declared.fields.InlinePath.{InlinePath}
 use Rattle.dw_rewrite.specs.declared.fields.PathField.{PathField}
 use Rattle.dw_rewrite.specs.declared.fields.TextIndex.{TextIndex}
 
--- what a value says of texts by index: nothing, the base of its unit, or the index of a text, of a path or not
+-- what a value that stays says: nothing; of texts by index the base of its unit, or the index of a text, of a path or not; or that it is to
+-- say where a line table starts, and has a form that can't
 pub data Indexed : Type 0 where
   no_index : Indexed
   unit_base : ℕ → Indexed
   text_index : Bool → ℕ → Indexed
+  no_start : Indexed
 
 -- bytes that an edit may change: their role, where they stand in the section, and how many they are; or the place of a value that
 -- stays as it is, its form with it, and what it says of texts by index
@@ -63,12 +68,19 @@ indexed_kind (number_of SecOffset n) path true order at p = indexed_at at (unit_
 indexed_kind (leb_number Number) path true order at p = indexed_at at (unit_base (code_value p))
 indexed_kind k path base order at p = []
 
+-- a value at a place that is to say where a line table starts, by whether its form can
+abbrev pub stray_at : Bool → ℕ → List TextPlace
+stray_at true at = []
+stray_at false at = indexed_at at no_start
+
 -- what a piece says so
 abbrev pub indexed_in : Mode → UnitState → List Cell → List TextPlace
 indexed_in (at_values number tag (x ∷ xs)) s p =
     indexed_kind (kind_in s.header.params x.form) (is_path number tag x.name) (is_base number x.name) s.header.params.order s.place p
+    ++ stray_at (start_form_by (kind_in s.header.params x.form) (use_of number tag x.name)) s.place
 indexed_in (at_chosen number tag start x xs) s p =
     indexed_kind (kind_in s.header.params x.form) (is_path number tag x.name) (is_base number x.name) s.header.params.order start p
+    ++ stray_at (start_form_by (kind_in s.header.params x.form) (use_of number tag x.name)) s.place
 indexed_in m s p = []
 
 -- the places of pieces, in order
@@ -88,19 +100,52 @@ class_places Number path true place v = indexed_at place (unit_base v.number)
 class_places SecOffset path true place v = indexed_at place (unit_base v.number)
 class_places class path base place v = []
 
--- those of a value at a place, of an attribute of entry `number`, whose tag is `tag`
-abbrev pub value_places : ℕ → ℕ → Spec → ℕ → Value → List TextPlace
-value_places number tag x place v = class_places v.class (is_path number tag x.name) (is_base number x.name) place v
+-- the form of a value that stands at a place: its attribute's, or the one in front of it (DWARF 5, 7.5.3)
+abbrev pub own_form : Spec → List ℕ → ℕ → ℕ
+own_form x bytes place = if x.form == DW_FORM_indirect then read_value (uleb_at bytes place) else x.form
+
+-- and where it stands behind that
+abbrev pub read_size : Option (ℕ × ℕ) → ℕ
+read_size None = 0
+read_size (Some n) = n.1
+
+abbrev pub own_place : Spec → List ℕ → ℕ → ℕ
+own_place x bytes place = if x.form == DW_FORM_indirect then place + read_size (uleb_at bytes place) else place
+
+-- a form that can say where a line table starts (DWARF 5, 3.1.1; before version 4 a number of 4 or 8 bytes)
+abbrev pub is_start_form : ℕ → Bool
+is_start_form form = form == DW_FORM_sec_offset || form == DW_FORM_data4 || form == DW_FORM_data8
+
+-- the field of a value of a form that says where a line table starts, where it is to say that
+abbrev pub line_at : Bool → Value → List TextPlace
+line_at true v = record { role = line_start; at = v.at; len = v.len; says = no_index } ∷ []
+line_at false v = []
+
+abbrev pub line_places : Bool → ℕ → Value → List TextPlace
+line_places true form v = line_at (is_start_form form) v
+line_places false form v = []
+
+-- and where it stands, where its form can't
+abbrev pub stray_places : Bool → ℕ → ℕ → List TextPlace
+stray_places true form place = stray_at (is_start_form form) place
+stray_places false form place = []
+
+-- those of a value at a place of some bytes, of an attribute of entry `number`, whose tag is `tag`
+abbrev pub value_places : ℕ → ℕ → Spec → List ℕ → ℕ → Value → List TextPlace
+value_places number tag x bytes place v =
+    line_places (x.name == DW_AT_stmt_list) (own_form x bytes place) v
+    ++ (class_places v.class (is_path number tag x.name) (is_base number x.name) place v
+    ++ stray_places (x.name == DW_AT_stmt_list) (own_form x bytes place) (own_place x bytes place))
 
 -- those of the values of attributes that stand one after another from a place on
-abbrev pub value_places_behind : (ℕ → List TextPlace) → ℕ → ℕ → Spec → ℕ → Option Value → List TextPlace
-value_places_behind rest number tag x place None = []
-value_places_behind rest number tag x place (Some v) = value_places number tag x place v ++ rest (place + v.size)
+abbrev pub value_places_behind : (ℕ → List TextPlace) → ℕ → ℕ → Spec → List ℕ → ℕ → Option Value → List TextPlace
+value_places_behind rest number tag x bytes place None = []
+value_places_behind rest number tag x bytes place (Some v) = value_places number tag x bytes place v ++ rest (place + v.size)
 
 abbrev pub values_places : Params → List ℕ → ℕ → ℕ → List Spec → ℕ → List TextPlace
 values_places params bytes number tag [] place = []
 values_places params bytes number tag (x ∷ xs) place =
-    value_places_behind (λ p. values_places params bytes number tag xs p) number tag x place (value_at params x bytes place)
+    value_places_behind (λ p. values_places params bytes number tag xs p) number tag x bytes place (value_at params x bytes place)
 
 -- those of entry `number`, whose code stands at a place
 abbrev pub places_behind : Params → List ℕ → ℕ → ℕ → Option Abbreviation → List TextPlace
@@ -164,6 +209,24 @@ abbrev pub inline_in : List TextPlace → List InlinePath
 inline_in [] = []
 inline_in (t ∷ ts) = inline_at t.role t.at t.len ++ inline_in ts
 
+-- the fields that say where line tables start
+abbrev pub start_at : Role → ℕ → ℕ → List PathField
+start_at line_start at len = record { at = at; size = len } ∷ []
+start_at r at len = []
+
+abbrev pub starts_in : List TextPlace → List PathField
+starts_in [] = []
+starts_in (t ∷ ts) = start_at t.role t.at t.len ++ starts_in ts
+
+-- and where the first value stands that can't
+abbrev pub stray_or : ℕ → Indexed → Option ℕ → Option ℕ
+stray_or at no_start o = Some at
+stray_or at i o = o
+
+abbrev pub stray_in : List TextPlace → Option ℕ
+stray_in [] = None
+stray_in (t ∷ ts) = stray_or t.at t.says (stray_in ts)
+
 -- the values by index among the places of a unit: where each stands, whether it is a path, and the index
 abbrev pub index_at : ℕ → Indexed → List TextIndex
 index_at at (text_index path n) = record { place = at; path = path; index = n } ∷ []
@@ -211,7 +274,14 @@ numbered_bases unit (u ∷ us) = bases_among unit u.places ++ numbered_bases (un
 
 -- what a unit section says of paths, by its number and its places of texts
 abbrev pub paths_by : ℕ → List TextPlace → UnitPaths
-paths_by number ts = record { number = number; str = fields_in in_str ts; line_str = fields_in in_line_str ts; inline = inline_in ts }
+paths_by number ts = record {
+  number = number;
+  str = fields_in in_str ts;
+  line_str = fields_in in_line_str ts;
+  inline = inline_in ts;
+  starts = starts_in ts;
+  stray = stray_in ts;
+}
 
 -- the units of a section can be read whole, and texts stand at these places
 pub record SectionPlaced (base : UnitBase) (z : UnitSection) (ts : List TextPlace) : Type 0 where
@@ -243,3 +313,29 @@ abbrev pub AllFitRooms : PathMap → List UnitSection → List UnitPaths → Typ
 AllFitRooms m [] us = ⊤
 AllFitRooms m (z ∷ zs) [] = ⊤
 AllFitRooms m (z ∷ zs) (u ∷ us) = InlinesFit m (bytes_of z.contents) u.inline × AllFitRooms m zs us
+
+-- at each of these starts begins a line table: it is one of those
+abbrev pub StartsHere : Order → List ℕ → List ℕ → List PathField → Type 0
+StartsHere order info starts [] = ⊤
+StartsHere order info starts (f ∷ fs) = IsTrue (is_there (start_number 0 starts (spelled order info f.at f.size))) × StartsHere order info starts fs
+
+-- each value of a section that is to say where a line table starts says it
+pub record SectionStarts (order : Order) (info starts : List ℕ) (u : UnitPaths) : Type 0 where
+  pub all_say : u.stray ≡ None
+  pub there : StartsHere order info starts u.starts
+
+-- the same of the cells of a section of debug data
+abbrev pub StartsNamed : DebugData → List ℕ → List Cell → List PathField → Type 0
+StartsNamed d starts cells [] = ⊤
+StartsNamed d starts cells (f ∷ fs) =
+    IsTrue (is_there (start_number 0 starts (offset_of d.base.order (located_cells d.lines) (cells_at cells f.at f.size)))) × StartsNamed d starts cells fs
+
+pub record SectionNamed (d : DebugData) (starts : List ℕ) (z : UnitSection) (u : UnitPaths) : Type 0 where
+  pub all_say : u.stray ≡ None
+  pub named : StartsNamed d starts z.contents u.starts
+
+-- in all sections
+abbrev pub AllStarts : DebugData → List ℕ → List UnitSection → List UnitPaths → Type 0
+AllStarts d starts [] us = ⊤
+AllStarts d starts (z ∷ zs) [] = ⊤
+AllStarts d starts (z ∷ zs) (u ∷ us) = SectionNamed d starts z u × AllStarts d starts zs us

@@ -1,43 +1,55 @@
 //! What a view says of paths, and the new bytes of the sections that an edit changes: the tables of texts, string
-//! offsets, and the unit sections.
+//! offsets, line tables, and the unit sections.
 //!
 //! Read first: `specs/Bodies.antt`.
 
 ghost use Rattle.std.specs.HashMap.{get};
 ghost use Rattle.std.specs.Prelude.{[], ◌≡◌, ◌∷◌, ◌++◌, ◌≤◌, length, nat_eq, replicate, IfErr, IfOk, OnOk};
-ghost use Rattle.dw_base.specs.Refusals.{Blames};
+ghost use Rattle.dw_base.specs.Refusals.{Blames, at};
 ghost use Rattle.dw_base.specs.Slots.{slots_of};
 ghost use Rattle.dw_base.specs.StringOffsets.{AreContributions};
 ghost use Rattle.dw_base.specs.ViewData.{debug_data, string_offsets};
 ghost use Rattle.dw_offsets.specs.PathSlots.{SlotsRefuse, slots_in};
 ghost use Rattle.dw_base.specs.declared.fault.Fault.TheVariants.{NoMemory};
 ghost use Rattle.dw_rewrite.specs.Changes.{AllFit};
-ghost use Rattle.dw_rewrite.specs.NewTables.{AllHavePaths, AllRoomsFit, bodies_known};
-ghost use Rattle.dw_rewrite.specs.Bodies.{BodiesMade, BodiesRefuse, PathsFound, PathsRefuse, SlotsFound, UnitPathsRefuse, UnitsFound};
-ghost use Rattle.dw_rewrite.specs.IndexedTexts.{TextsIndexed};
+ghost use Rattle.dw_rewrite.specs.NewTables.{AllHavePaths, AllRoomsFit, TableMade, as_table, bodies_known};
+ghost use Rattle.dw_rewrite.specs.Bodies.{BodiesMade, BodiesRefuse, PathsFound, PathsRefuse, SlotsFound, UnitPathsRefuse, UnitsFound, long_or_none, without_lines};
+ghost use Rattle.dw_rewrite.specs.IndexedTexts.{TablesStart, TextsIndexed};
+ghost use Rattle.dw_rewrite.specs.LineStarts.{known_starts};
 ghost use Rattle.dw_rewrite.specs.NamedSlots.{no_slots};
-ghost use Rattle.dw_rewrite.specs.SlotPaths.{as_fields, names_body, one_body, pushed_bodies, slots_count, slots_with};
+ghost use Rattle.dw_rewrite.specs.ViewLines.{TablesFound};
+ghost use Rattle.dw_rewrite.specs.SlotPaths.{as_fields, lines_count, names_body, one_body, pushed_bodies, slots_count, slots_with};
 
 use crate::all_sections::all_texts;
 use crate::fields::PathField;
 use crate::found::{TextTables, UnitPaths};
 use crate::inline::all_rooms_fit;
+use crate::lines::{NewLines, new_lines, push_lines, starts_of};
 use crate::new_sections::{Body, new_sections};
 use crate::slots::NamedSlots;
+use crate::starts::NewStarts;
 use crate::tables::{NewTable, TextsOf, new_table, table_number, table_texts};
-use dw_base::{DebugSection, Fault};
+use dw_base::{DebugSection, Fault, Kind, OUTPUT_LIMIT, Refusal};
+use dw_lines::LineTable;
 use dw_offsets::{ContributionList, PathSlot, SlotMarks, contributions, name_tables, path_slots};
 use dw_paths::Maps;
 use dw_view::View;
 use std::alloc::{AllocError, Global};
 use std::collections::HashMap;
 
-/// What the unit sections of the view say of paths, in the order of their numbers, and behind them what its
-/// string offsets say. Refused where one of these sections or a name table can't be read, names no text or isn't
-/// taken yet, where a path that stands in its value would grow, and where a slot is shared.
+/// What the unit sections of the view say of paths, in the order of their numbers, behind them what its string
+/// offsets say, and behind these its line tables. Refused where one of these sections or a name table can't be read,
+/// names no text or isn't taken yet, where a value that is to say where a line table starts names none, where a path
+/// that stands in its value would grow, and where a slot is shared.
 #[tactic(auto, using(crate::proofs::FoundPathLaws::found_rules))]
-pub(crate) fn found_paths(alloc: Global, view: &View, maps: &Maps) -> Result<Vec<UnitPaths>, Fault>
-    ensures found { IfOk result (λ paths. PathsFound maps.now view.now paths.items) }
+pub(crate) fn found_paths(
+    alloc: Global,
+    view: &View,
+    maps: &Maps,
+    tables: &[LineTable],
+) -> Result<Vec<UnitPaths>, Fault>
+    requires tables { TablesFound view.now tables.now }
+    ensures found { IfOk result (λ paths. PathsFound maps.now view.now paths.items tables.now) }
     ensures refused { IfErr result (Blames (PathsRefuse maps.now view.now)) }
 {
     let list = contributions(alloc, view)?;
@@ -45,8 +57,10 @@ pub(crate) fn found_paths(alloc: Global, view: &View, maps: &Maps) -> Result<Vec
     let _ = names.as_slice();
     let marks = no_marks(alloc, view)?;
     let mut slots = NamedSlots::new(&list, marks);
-    let mut paths = unit_paths(alloc, view, maps, &mut slots)?;
+    let starts = starts_of(alloc, tables)?;
+    let mut paths = unit_paths(alloc, view, maps, starts.as_slice(), &mut slots)?;
     push_slots(alloc, view, maps, &list, &slots.marks, &mut paths)?;
+    push_lines(alloc, view, tables, &mut paths)?;
     Ok(paths)
 }
 
@@ -70,22 +84,24 @@ fn offsets_bytes<'a>(view: &'a View) -> &'a [u8]
 }
 
 /// What the unit sections say of paths; exactly the slots that their values name are marked.
-#[tactic(auto, using(crate::proofs::NewBodyLaws::unit_rules))]
+#[tactic(auto, using(crate::proofs::MadeBodyLaws::unit_rules))]
 fn unit_paths(
     alloc: Global,
     view: &View,
     maps: &Maps,
+    starts: &[u64],
     slots: &mut NamedSlots,
 ) -> Result<Vec<UnitPaths>, Fault>
     requires none { slots.old ≡ no_slots slots.old.list (length slots.old.marks) }
-    ensures found { IfOk result (λ us. UnitsFound maps.now (debug_data view.now) us.items) }
+    requires starts { TablesStart (debug_data view.now) starts.now }
+    ensures found { IfOk result (λ us. UnitsFound maps.now (debug_data view.now) starts.now us.items) }
     ensures indexed { OnOk result (TextsIndexed (debug_data view.now) slots.old.list slots.new.marks) }
     ensures refused { IfErr result (Blames (UnitPathsRefuse maps.now (debug_data view.now) slots.old.list)) }
 {
     let str = table_texts(view, TextsOf::Str);
     let line_str = table_texts(view, TextsOf::LineStr);
     let tables = TextTables::new(str, line_str);
-    let paths = all_texts(alloc, view, &tables, slots)?;
+    let paths = all_texts(alloc, view, &tables, starts, slots)?;
     all_rooms_fit(view, maps, paths.as_slice())?;
     Ok(paths)
 }
@@ -122,6 +138,8 @@ fn slots_with(alloc: Global, section: u32, slots: &[PathSlot]) -> Result<UnitPat
         str,
         line_str: Vec::new(alloc),
         inline: Vec::new(alloc),
+        starts: Vec::new(alloc),
+        stray: None,
     })
 }
 
@@ -138,25 +156,33 @@ fn path_fields(alloc: Global, slots: &[PathSlot]) -> Result<Vec<PathField>, Allo
     Ok(fields)
 }
 
-/// The sections with new bytes: the tables of texts, string offsets and name tables, then the unit sections in the
-/// order of their numbers. Refused as `TooLarge`, at the section of a table, where that would be longer than a file that
-/// is written.
-#[tactic(auto, using(crate::proofs::NewBodyLaws::body_rules))]
+/// The sections with new bytes: the tables of texts, string offsets, line tables and name tables, then the unit
+/// sections in the order of their numbers. Refused as `TooLarge`, at the section, where a table of texts or the line
+/// tables would be longer than a file that is written, and where a line table can't be written.
+#[tactic(auto, using(crate::proofs::MadeBodyLaws::body_rules))]
 pub(crate) fn new_bodies(
     alloc: Global,
     view: &View,
     maps: &Maps,
+    tables: &[LineTable],
     paths: &[UnitPaths],
 ) -> Result<Vec<Body>, Fault>
-    requires found { PathsFound maps.now view.now paths.now }
+    requires found { PathsFound maps.now view.now paths.now tables.now }
     ensures made { IfOk result (λ bodies. BodiesMade maps.now (debug_data view.now) bodies.items) }
     ensures refused { IfErr result (Blames (BodiesRefuse maps.now (debug_data view.now))) }
 {
-    let NewTable { pool, known } = new_table(alloc, view, maps, TextsOf::Str, paths)?;
+    let old = starts_of(alloc, tables)?;
+    let NewTable { pool, known } = text_table(alloc, view, maps, TextsOf::Str, tables, paths)?;
     let NewTable {
         pool: line_pool,
         known: line_known,
-    } = new_table(alloc, view, maps, TextsOf::LineStr, paths)?;
+    } = text_table(alloc, view, maps, TextsOf::LineStr, tables, paths)?;
+    let lines = new_lines(alloc, view, maps, &known, &line_known, tables)?;
+    if lines.bytes.len() as u64 > OUTPUT_LIMIT {
+        return Err(Fault::Refused(long_lines(view)));
+    }
+    let NewLines { bytes, starts: new } = lines;
+    let starts = NewStarts::new(old.as_slice(), new.as_slice());
     let mut bodies = Vec::new(alloc);
     bodies.push(Body {
         section: table_number(view, TextsOf::Str),
@@ -166,12 +192,97 @@ pub(crate) fn new_bodies(
         section: table_number(view, TextsOf::LineStr),
         bytes: line_pool.into_bytes(),
     })?;
-    push_bodies(alloc, view, maps, &known, &line_known, paths, &mut bodies)?;
+    let lines = Body {
+        section: lines_number(view),
+        bytes,
+    };
+    let sections = without_lines(view, paths);
+    push_bodies(
+        alloc,
+        view,
+        maps,
+        &known,
+        &line_known,
+        &starts,
+        lines,
+        sections,
+        &mut bodies,
+    )?;
     Ok(bodies)
 }
 
-/// Appends string offsets, name tables and the unit sections with their new bytes, from the new places of paths
-/// that are known of each table.
+/// A table of texts with the mapped paths of all these sections. Refused as `TooLarge`, at its section, where it would
+/// be longer than a file that is written. Where it would and there are line tables, whether these could be written
+/// isn't known, since that goes by the places in a table that this program doesn't hold: then memory is wanting.
+#[tactic(auto, using(crate::proofs::MadeBodyLaws::text_rules))]
+fn text_table(
+    alloc: Global,
+    view: &View,
+    maps: &Maps,
+    texts: TextsOf,
+    tables: &[LineTable],
+    paths: &[UnitPaths],
+) -> Result<NewTable, Fault>
+    requires found { PathsFound maps.now view.now paths.now tables.now }
+    ensures made { IfOk result (λ t. TableMade maps.now view.now (as_table texts) paths.now t.pool (λ o. get nat_eq t.known o)) }
+    ensures refused { IfErr result (Blames (BodiesRefuse maps.now (debug_data view.now))) }
+{
+    match new_table(alloc, view, maps, texts, paths) {
+        Ok(table) => Ok(table),
+        Err(fault) => Err(long_or_none(tables, fault)),
+    }
+}
+
+/// The fault of a table of texts that is too long, where there are no line tables.
+fn long_or_none(tables: &[LineTable], fault: Fault) -> Fault
+    ensures { result ≡ long_or_none tables.now fault }
+{
+    if tables.is_empty() {
+        return fault;
+    }
+    Fault::NoMemory
+}
+
+/// The number of the section of line tables; 0 where there is none.
+#[tactic(auto, using(crate::proofs::LineReadLaws::number_rules))]
+fn lines_number(view: &View) -> u32
+    ensures { result ≡ (debug_data view.now).lines.number }
+{
+    match view.first(DebugSection::Line) {
+        Some(section) => section,
+        None => 0,
+    }
+}
+
+/// What refuses line tables that are too long.
+fn long_lines(view: &View) -> Refusal
+    ensures { result ≡ at Kind.TooLarge (debug_data view.now).lines.number 0 }
+{
+    Refusal::at(Kind::TooLarge, lines_number(view), 0)
+}
+
+/// What the sections say of paths without that of line tables, which is the last, if there is one.
+#[tactic(auto, using(crate::proofs::PushLaws::without_rules))]
+fn without_lines<'a>(view: &View, paths: &'a [UnitPaths]) -> &'a [UnitPaths]
+    requires lines { lines_count view.now ≤ length paths.now }
+    ensures { result.now ≡ without_lines view.now paths.now }
+{
+    &paths[..paths.len() - lines_count(view)]
+}
+
+/// How many sections of line tables there are: one or none.
+#[tactic(auto, using(crate::proofs::PushLaws::count_rules))]
+fn lines_count(view: &View) -> usize
+    ensures { result ≡ lines_count view.now }
+{
+    match view.first(DebugSection::Line) {
+        Some(_) => 1,
+        None => 0,
+    }
+}
+
+/// Appends string offsets, line tables, name tables and the unit sections with their new bytes, from the new places of
+/// paths that are known of each table, and the starts of line tables.
 #[tactic(auto, using(crate::proofs::PushLaws::all_rules))]
 fn push_bodies(
     alloc: Global,
@@ -179,6 +290,8 @@ fn push_bodies(
     maps: &Maps,
     str: &HashMap<u64, u64>,
     line_str: &HashMap<u64, u64>,
+    starts: &NewStarts,
+    lines: Body,
     paths: &[UnitPaths],
     bodies: &mut Vec<Body>,
 ) -> Result<(), Fault>
@@ -187,13 +300,14 @@ fn push_bodies(
     requires slots { slots_count view.now ≤ length paths.now }
     requires str { AllFit (λ o. get nat_eq str.now o) }
     requires line_str { AllFit (λ o. get nat_eq line_str.now o) }
-    ensures bodies { OnOk result (bodies.new.items ≡ bodies.old.items ++ pushed_bodies maps.now view.now (λ o. get nat_eq str.now o) (λ o. get nat_eq line_str.now o) paths.now) }
+    ensures bodies { OnOk result (bodies.new.items ≡ bodies.old.items ++ pushed_bodies maps.now view.now (λ o. get nat_eq str.now o) (λ o. get nat_eq line_str.now o) (λ o. known_starts starts.now o) lines paths.now) }
     ensures only { IfErr result (λ f. f ≡ NoMemory) }
 {
     let (units, slots) = paths.split_at(paths.len() - slots_count(view));
-    push_slots_body(alloc, view, maps, str, line_str, slots, bodies)?;
+    push_slots_body(alloc, view, maps, str, line_str, starts, slots, bodies)?;
+    bodies.push(lines)?;
     push_names(alloc, view, bodies)?;
-    new_sections(alloc, view, maps, str, line_str, units, bodies)?;
+    new_sections(alloc, view, maps, str, line_str, starts, units, bodies)?;
     Ok(())
 }
 
@@ -216,6 +330,7 @@ fn push_slots_body(
     maps: &Maps,
     str: &HashMap<u64, u64>,
     line_str: &HashMap<u64, u64>,
+    starts: &NewStarts,
     slots: &[UnitPaths],
     bodies: &mut Vec<Body>,
 ) -> Result<(), Fault>
@@ -223,7 +338,7 @@ fn push_slots_body(
     requires rooms { AllRoomsFit maps.now view.now slots.now }
     requires str { AllFit (λ o. get nat_eq str.now o) }
     requires line_str { AllFit (λ o. get nat_eq line_str.now o) }
-    ensures body { OnOk result (bodies.new.items ≡ bodies.old.items ++ one_body (bodies_known maps.now view.now (λ o. get nat_eq str.now o) (λ o. get nat_eq line_str.now o) slots.now)) }
+    ensures body { OnOk result (bodies.new.items ≡ bodies.old.items ++ one_body (bodies_known maps.now view.now (λ o. get nat_eq str.now o) (λ o. get nat_eq line_str.now o) (λ o. known_starts starts.now o) slots.now)) }
     ensures only { IfErr result (λ f. f ≡ NoMemory) }
 {
     if slots.is_empty() {
@@ -233,7 +348,7 @@ fn push_slots_body(
         })?;
         return Ok(());
     }
-    new_sections(alloc, view, maps, str, line_str, slots, bodies)?;
+    new_sections(alloc, view, maps, str, line_str, starts, slots, bodies)?;
     Ok(())
 }
 

@@ -1,4 +1,5 @@
-//! What becomes of the fields of paths: the new places of their texts are noted, and the fields are set to them.
+//! What becomes of the fields of paths, and of those that say where line tables start: the new places are noted, and the
+//! fields are set to them.
 //!
 //! Read first: `specs/Changes.antt`.
 
@@ -12,10 +13,12 @@ ghost use Rattle.dw_base.specs.Refusals.{Blames};
 ghost use Rattle.dw_base.specs.StringTables.{appending, table_bytes};
 ghost use Rattle.dw_base.specs.declared.fault.Fault.TheVariants.{NoMemory};
 ghost use Rattle.dw_patch.specs.Patching.{IsFree};
-ghost use Rattle.dw_rewrite.specs.Changes.{AllApart, AllFit, AreFree, AreNoted, ArePathFields, AreSet, IsPathField, Knows, Remembers, known_patches, offset_at, patch_by, texts_at};
+ghost use Rattle.dw_rewrite.specs.Changes.{AllApart, AllFit, AreFree, AreNoted, ArePathFields, AreSet, AreStartFields, IsPathField, Knows, Remembers, known_patches, offset_at, patch_by, start_table, texts_at};
+ghost use Rattle.dw_rewrite.specs.LineStarts.{known_starts};
 
 use crate::fields::PathField;
 use crate::known::{note_path, offset_in};
+use crate::starts::{NewStarts, start_in};
 use dw_base::{Fault, Order};
 use dw_patch::{NewPlace, Patches};
 use dw_paths::Maps;
@@ -108,6 +111,30 @@ fn set_known(field: PathField, known: Option<u64>, patches: &mut Patches) -> Res
 {
     if let Some(place) = known {
         patches.set(field.at, field.size, NewPlace::Offset(place))?;
+    }
+    Ok(())
+}
+
+/// Sets these fields of a section to the new starts of the line tables that started where they say.
+#[tactic(auto, using(crate::proofs::FieldSetLaws::start_rules))]
+pub(crate) fn set_starts(
+    order: Order,
+    info: &[u8],
+    fields: &[PathField],
+    starts: &NewStarts,
+    patches: &mut Patches,
+) -> Result<(), Fault>
+    requires fields { AreStartFields info.now fields.now }
+    requires size { patches.old.size ≡ length info.now }
+    requires apart { AllApart fields.now }
+    requires free { AreFree patches.old.list fields.now }
+    ensures set { OnOk result (AreSet patches.old patches.new (known_patches (start_table order) info.now (λ o. known_starts starts.now o) fields.now)) }
+    ensures only { IfErr result (λ f. f ≡ NoMemory) }
+{
+    for at in fields {
+        let start = start_in(order, info, *at);
+        let new = starts.get(start);
+        set_known(*at, new, patches)?;
     }
     Ok(())
 }

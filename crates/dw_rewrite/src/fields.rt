@@ -1,7 +1,8 @@
-//! What a unit section says of texts: the fields that hold offsets of source paths, the paths that stand
-//! in their values, and the values that name texts by index (DWARF 5, 7.5.5, class string).
+//! What a unit section says of texts and line tables: the fields that hold offsets of source paths, or say where line
+//! tables start, the paths that stand in their values, and the values that name texts by index (DWARF 5, 7.5.5,
+//! class string, and 3.1.1).
 
-/// A field that holds the offset of a path's text.
+/// A field that holds the offset of a path's text, or that says where a line table starts.
 #[derive(Clone, Copy)]
 pub(crate) struct PathField {
     /// Where it stands, in bytes from the section's start.

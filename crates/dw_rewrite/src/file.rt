@@ -15,14 +15,17 @@ ghost use Rattle.dw_meaning.specs.Loaded.{LoadedKept};
 ghost use Rattle.dw_base.specs.Refusals.{Blames};
 ghost use Rattle.dw_rewrite.specs.Bodies.{BodiesMade, PathsFound};
 ghost use Rattle.dw_rewrite.specs.Judged.{IsJudged};
-ghost use Rattle.dw_rewrite.specs.Rewritten.{AllStand, AreGiven, IsGiven, IsInFile, body_with, long_fault, long_refusal};
+ghost use Rattle.dw_rewrite.specs.ViewLines.{TablesFound};
+ghost use Rattle.dw_rewrite.specs.Rewritten.{AllStand, AreGiven, IsGiven, IsInFile, body_with, long_fault, long_refusal, told_refusal};
 
 use crate::bodies::{found_paths, new_bodies};
 use crate::found::UnitPaths;
 use crate::judge::judge;
+use crate::lines::line_tables;
 use crate::new_sections::Body;
 use crate::refusal::{fixed, too_large};
-use dw_base::{Fault, Refusal};
+use dw_base::{Fault, Kind, Refusal};
+use dw_lines::LineTable;
 use dw_paths::Maps;
 use dw_view::View;
 use elf_file::ElfFile;
@@ -94,19 +97,44 @@ fn made_bodies(alloc: Global, elf: &ElfFile, view: &View, maps: &Maps) -> Result
     ensures made { IfOk result (λ bodies. BodiesMade maps.now (file_data elf.now.bytes.now) bodies.items) }
     ensures refused { IfErr result (Blames (EditFails maps.now elf.now.bytes.now)) }
 {
-    let paths = paths_in(alloc, elf, view, maps)?;
-    bodies_in(alloc, elf, view, maps, &paths)
+    let tables = tables_in(alloc, elf, view, maps)?;
+    let paths = paths_in(alloc, elf, view, maps, &tables)?;
+    bodies_in(alloc, elf, view, maps, &tables, &paths)
 }
 
-/// What the units and the string offsets of the file say of paths.
-#[tactic(auto, using(crate::proofs::ExitLaws::paths_rules))]
-fn paths_in(alloc: Global, elf: &ElfFile, view: &View, maps: &Maps) -> Result<Vec<UnitPaths>, Fault>
+/// The line tables of the file.
+#[tactic(auto, using(crate::proofs::ExitLaws::tables_rules))]
+fn tables_in(
+    alloc: Global,
+    elf: &ElfFile,
+    view: &View,
+    maps: &Maps,
+) -> Result<Vec<LineTable>, Fault>
     requires judged { IsJudged elf.now.bytes.now }
     requires view { view.now ≡ view_of elf.now.bytes.now }
-    ensures found { IfOk result (λ paths. PathsFound maps.now (view_of elf.now.bytes.now) paths.items) }
+    ensures tables { IfOk result (λ tables. TablesFound (view_of elf.now.bytes.now) tables.items) }
     ensures refused { IfErr result (Blames (EditFails maps.now elf.now.bytes.now)) }
 {
-    let paths = found_paths(alloc, view, maps)?;
+    let tables = line_tables(alloc, view)?;
+    Ok(tables)
+}
+
+/// What the units, the string offsets and the line tables of the file say of paths.
+#[tactic(auto, using(crate::proofs::ExitLaws::paths_rules))]
+fn paths_in(
+    alloc: Global,
+    elf: &ElfFile,
+    view: &View,
+    maps: &Maps,
+    tables: &[LineTable],
+) -> Result<Vec<UnitPaths>, Fault>
+    requires judged { IsJudged elf.now.bytes.now }
+    requires view { view.now ≡ view_of elf.now.bytes.now }
+    requires tables { TablesFound (view_of elf.now.bytes.now) tables.now }
+    ensures found { IfOk result (λ paths. PathsFound maps.now (view_of elf.now.bytes.now) paths.items tables.now) }
+    ensures refused { IfErr result (Blames (EditFails maps.now elf.now.bytes.now)) }
+{
+    let paths = found_paths(alloc, view, maps, tables)?;
     Ok(paths)
 }
 
@@ -117,22 +145,23 @@ fn bodies_in(
     elf: &ElfFile,
     view: &View,
     maps: &Maps,
+    tables: &[LineTable],
     paths: &[UnitPaths],
 ) -> Result<Vec<Body>, Fault>
     requires small { length elf.now.bytes.now ≤ output_limit }
     requires judged { IsJudged elf.now.bytes.now }
     requires view { view.now ≡ view_of elf.now.bytes.now }
-    requires found { PathsFound maps.now (view_of elf.now.bytes.now) paths.now }
+    requires found { PathsFound maps.now (view_of elf.now.bytes.now) paths.now tables.now }
     ensures made { IfOk result (λ bodies. BodiesMade maps.now (file_data elf.now.bytes.now) bodies.items) }
     ensures refused { IfErr result (Blames (EditFails maps.now elf.now.bytes.now)) }
 {
-    match new_bodies(alloc, view, maps, paths) {
+    match new_bodies(alloc, view, maps, tables, paths) {
         Ok(bodies) => Ok(bodies),
         Err(fault) => Err(long_fault(elf, fault)),
     }
 }
 
-/// The fault of a table of texts that is too long.
+/// The fault of new bytes that can't be: of those that are too long, by their section.
 fn long_fault(elf: &ElfFile, fault: Fault) -> Fault
     requires segments { SegmentsRead elf.now.bytes.now }
     requires there { Blames (IsInFile elf.now.bytes.now) fault }
@@ -140,12 +169,24 @@ fn long_fault(elf: &ElfFile, fault: Fault) -> Fault
 {
     match fault {
         Fault::NoMemory => Fault::NoMemory,
-        Fault::Refused(refusal) => Fault::Refused(long_refusal(elf, refusal.section)),
+        Fault::Refused(refusal) => Fault::Refused(told_refusal(elf, refusal)),
     }
 }
 
-/// What refuses a table of texts that is too long, in the section of a number: one that stays may not change, and one
-/// that is laid out anew makes the file too long.
+/// What refuses them, by what refused them in their section.
+fn told_refusal(elf: &ElfFile, refusal: Refusal) -> Refusal
+    requires segments { SegmentsRead elf.now.bytes.now }
+    requires there { refusal.section < section_count elf.now.bytes.now }
+    ensures { result ≡ told_refusal elf.now.bytes.now refusal }
+{
+    match refusal.kind {
+        Kind::TooLarge => long_refusal(elf, refusal.section),
+        _ => refusal,
+    }
+}
+
+/// What refuses a section that is too long, of a number: one that stays may not change, and one that is laid out anew
+/// makes the file too long.
 fn long_refusal(elf: &ElfFile, section: u32) -> Refusal
     requires segments { SegmentsRead elf.now.bytes.now }
     requires there { section < section_count elf.now.bytes.now }

@@ -20,12 +20,16 @@ pub(crate) struct UnitPaths {
     pub line_str: Vec<PathField>,
     /// The paths that stand in their values.
     pub inline: Vec<InlinePath>,
+    /// The fields that say where line tables start.
+    pub starts: Vec<PathField>,
+    /// Where the first value stands that is to say so, and has a form that can't.
+    pub stray: Option<u64>,
 }
 
 impl Model for UnitPaths {
     ghost Value = { PathsOf };
 
-    ghost view = { λ u. record { number = u.section; str = u.str.items; line_str = u.line_str.items; inline = u.inline.items } };
+    ghost view = { λ u. record { number = u.section; str = u.str.items; line_str = u.line_str.items; inline = u.inline.items; starts = u.starts.items; stray = u.stray } };
 }
 
 impl UnitPaths {
@@ -38,6 +42,8 @@ impl UnitPaths {
             str: Vec::new(alloc),
             line_str: Vec::new(alloc),
             inline: Vec::new(alloc),
+            starts: Vec::new(alloc),
+            stray: None,
         }
     }
 }

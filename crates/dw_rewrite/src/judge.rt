@@ -97,6 +97,7 @@ fn is_read(kind: Option<DebugSection>) -> bool
         Some(DebugSection::Str) => true,
         Some(DebugSection::LineStr) => true,
         Some(DebugSection::StrOffsets) => true,
+        Some(DebugSection::Line) => true,
         Some(DebugSection::Names) => true,
         _ => false,
     }
@@ -107,7 +108,6 @@ fn is_unbuilt(kind: Option<DebugSection>) -> bool
     ensures { result ≡ is_unbuilt_section kind }
 {
     match kind {
-        Some(DebugSection::Line) => true,
         Some(DebugSection::Macro) => true,
         _ => false,
     }

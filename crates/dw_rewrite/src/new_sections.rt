@@ -1,5 +1,5 @@
-//! The unit sections with new bytes: new offsets in the fields of paths, and paths that stand in their values
-//! mapped in their rooms.
+//! The unit sections with new bytes: new offsets in the fields of paths, new starts of line tables, and paths that stand
+//! in their values mapped in their rooms.
 //!
 //! Read first: `specs/NewTables.antt`.
 
@@ -8,13 +8,15 @@ ghost use Rattle.std.specs.HashMap.{get};
 ghost use Rattle.dw_meaning.specs.DataOutput.{Body as BodyOf};
 ghost use Rattle.dw_base.specs.Refusals.{Blames};
 ghost use Rattle.dw_base.specs.declared.fault.Fault.TheVariants.{NoMemory};
-ghost use Rattle.dw_rewrite.specs.Changes.{AllFit, AreFree, AreSet, known_patches};
+ghost use Rattle.dw_rewrite.specs.Changes.{AllFit, AreFree, AreSet, known_patches, start_table};
 ghost use Rattle.dw_rewrite.specs.InlineRooms.{Grows};
+ghost use Rattle.dw_rewrite.specs.LineStarts.{known_starts};
 ghost use Rattle.dw_rewrite.specs.NewTables.{AllHavePaths, AllRoomsFit, HasPaths, as_table, bodies_known, body_known, fields_known, fields_of, info_of, offsets_in, section_known};
 
-use crate::change::set_fields;
+use crate::change::{set_fields, set_starts};
 use crate::found::UnitPaths;
 use crate::inline::map_rooms;
+use crate::starts::NewStarts;
 use crate::tables::{TextsOf, fields_of, table_texts};
 use dw_base::Fault;
 use dw_patch::Patches;
@@ -39,7 +41,8 @@ impl Model for Body {
     ghost view = { λ b. record { number = b.section; bytes = b.bytes.items } };
 }
 
-/// Appends the unit sections with their new bytes, from the new places of paths that are known of each table.
+/// Appends the unit sections with their new bytes, from the new places of paths that are known of each table, and the new
+/// starts of line tables.
 #[tactic(auto, using(crate::proofs::SectionBytesLaws::all_rules))]
 pub(crate) fn new_sections(
     alloc: Global,
@@ -47,6 +50,7 @@ pub(crate) fn new_sections(
     maps: &Maps,
     str: &HashMap<u64, u64>,
     line_str: &HashMap<u64, u64>,
+    starts: &NewStarts,
     paths: &[UnitPaths],
     bodies: &mut Vec<Body>,
 ) -> Result<(), Fault>
@@ -54,11 +58,11 @@ pub(crate) fn new_sections(
     requires rooms { AllRoomsFit maps.now view.now paths.now }
     requires str { AllFit (λ o. get nat_eq str.now o) }
     requires line_str { AllFit (λ o. get nat_eq line_str.now o) }
-    ensures bodies { OnOk result (bodies.new.items ≡ bodies.old.items ++ bodies_known maps.now view.now (λ o. get nat_eq str.now o) (λ o. get nat_eq line_str.now o) paths.now) }
+    ensures bodies { OnOk result (bodies.new.items ≡ bodies.old.items ++ bodies_known maps.now view.now (λ o. get nat_eq str.now o) (λ o. get nat_eq line_str.now o) (λ o. known_starts starts.now o) paths.now) }
     ensures only { IfErr result (λ f. f ≡ NoMemory) }
 {
     for found in paths {
-        let body = new_section(alloc, view, maps, str, line_str, found)?;
+        let body = new_section(alloc, view, maps, str, line_str, starts, found)?;
         bodies.push(body)?;
     }
     Ok(())
@@ -72,16 +76,17 @@ fn new_section(
     maps: &Maps,
     str: &HashMap<u64, u64>,
     line_str: &HashMap<u64, u64>,
+    starts: &NewStarts,
     found: &UnitPaths,
 ) -> Result<Body, Fault>
     requires paths { HasPaths view.now found.now }
     requires str { AllFit (λ o. get nat_eq str.now o) }
     requires line_str { AllFit (λ o. get nat_eq line_str.now o) }
-    ensures body { IfOk result (λ b. b ≡ body_known maps.now view.now (λ o. get nat_eq str.now o) (λ o. get nat_eq line_str.now o) found.now) }
+    ensures body { IfOk result (λ b. b ≡ body_known maps.now view.now (λ o. get nat_eq str.now o) (λ o. get nat_eq line_str.now o) (λ o. known_starts starts.now o) found.now) }
     ensures refused { IfErr result (Blames (Grows maps.now found.now.number (info_of view.now found.now) found.now.inline)) }
 {
     let mut bytes = Vec::from_slice(alloc, view.bytes(found.section))?;
-    write_section(alloc, view, maps, str, line_str, found, &mut bytes)?;
+    write_section(alloc, view, maps, str, line_str, starts, found, &mut bytes)?;
     Ok(Body {
         section: found.section,
         bytes,
@@ -96,6 +101,7 @@ fn write_section(
     maps: &Maps,
     str: &HashMap<u64, u64>,
     line_str: &HashMap<u64, u64>,
+    starts: &NewStarts,
     found: &UnitPaths,
     out: &mut [u8],
 ) -> Result<(), Fault>
@@ -103,11 +109,11 @@ fn write_section(
     requires str { AllFit (λ o. get nat_eq str.now o) }
     requires line_str { AllFit (λ o. get nat_eq line_str.now o) }
     requires start { out.old ≡ info_of view.now found.now }
-    ensures out { OnOk result (out.new ≡ section_known maps.now view.now (λ o. get nat_eq str.now o) (λ o. get nat_eq line_str.now o) found.now) }
+    ensures out { OnOk result (out.new ≡ section_known maps.now view.now (λ o. get nat_eq str.now o) (λ o. get nat_eq line_str.now o) (λ o. known_starts starts.now o) found.now) }
     ensures long { OnOk result (length out.new ≡ length (info_of view.now found.now)) }
     ensures refused { IfErr result (Blames (Grows maps.now found.now.number (info_of view.now found.now) found.now.inline)) }
 {
-    put_fields(alloc, view, str, line_str, found, out)?;
+    put_fields(alloc, view, str, line_str, starts, found, out)?;
     let info = view.bytes(found.section);
     map_rooms(
         alloc,
@@ -120,12 +126,13 @@ fn write_section(
     Ok(())
 }
 
-/// Puts the new offsets into the fields of a section's paths, those of both tables at once.
+/// Puts the new offsets into the fields of a section's paths, and the new starts of line tables, all at once.
 fn put_fields(
     alloc: Global,
     view: &View,
     str: &HashMap<u64, u64>,
     line_str: &HashMap<u64, u64>,
+    starts: &NewStarts,
     found: &UnitPaths,
     out: &mut [u8],
 ) -> Result<(), Fault>
@@ -133,13 +140,14 @@ fn put_fields(
     requires long { length out.old ≡ length (info_of view.now found.now) }
     requires str { AllFit (λ o. get nat_eq str.now o) }
     requires line_str { AllFit (λ o. get nat_eq line_str.now o) }
-    ensures out { OnOk result (out.new ≡ fields_known view.now (λ o. get nat_eq str.now o) (λ o. get nat_eq line_str.now o) found.now out.old) }
+    ensures out { OnOk result (out.new ≡ fields_known view.now (λ o. get nat_eq str.now o) (λ o. get nat_eq line_str.now o) (λ o. known_starts starts.now o) found.now out.old) }
     ensures long { OnOk result (length out.new ≡ length (info_of view.now found.now)) }
     ensures only { IfErr result (λ f. f ≡ NoMemory) }
 {
     let mut patches = Patches::new(alloc, view, found.section)?;
     set_section(view, TextsOf::Str, found, str, &mut patches)?;
     set_section(view, TextsOf::LineStr, found, line_str, &mut patches)?;
+    set_section_starts(view, found, starts, &mut patches)?;
     patches.apply(out);
     Ok(())
 }
@@ -169,5 +177,23 @@ fn set_section(
         known,
         patches,
     )?;
+    Ok(())
+}
+
+/// Sets the fields of a section that say where line tables start to their new starts.
+fn set_section_starts(
+    view: &View,
+    found: &UnitPaths,
+    starts: &NewStarts,
+    patches: &mut Patches,
+) -> Result<(), Fault>
+    requires paths { HasPaths view.now found.now }
+    requires size { patches.old.size ≡ length (info_of view.now found.now) }
+    requires free { AreFree patches.old.list found.now.starts }
+    ensures set { OnOk result (AreSet patches.old patches.new (known_patches (start_table view.now.order) (info_of view.now found.now) (λ o. known_starts starts.now o) found.now.starts)) }
+    ensures only { IfErr result (λ f. f ≡ NoMemory) }
+{
+    let info = view.bytes(found.section);
+    set_starts(view.order(), info, found.starts.as_slice(), starts, patches)?;
     Ok(())
 }

@@ -8,7 +8,7 @@ ghost use Rattle.dw_base.specs.LayoutFails.{TooLong};
 ghost use Rattle.dw_base.specs.Refusals.{Blames};
 ghost use Rattle.dw_base.specs.StringTables.{table_bytes};
 ghost use Rattle.dw_base.specs.ViewData.{debug_data};
-ghost use Rattle.dw_rewrite.specs.NewTables.{AllHavePaths, GrownBy, Growing, HasPaths, LongTable, TableMade, all_texts_at, as_table, fault_at, fields_of, offsets_in, section_of, section_texts_at, table_number, table_with};
+ghost use Rattle.dw_rewrite.specs.NewTables.{AllHaveFields, GrownBy, Growing, HasFields, LongTable, TableMade, all_texts_at, as_table, fault_at, fields_of, offsets_in, section_of, section_texts_at, table_number, table_with};
 
 use crate::change::note_fields;
 use crate::fields::PathField;
@@ -93,7 +93,7 @@ pub(crate) fn new_table(
     texts: TextsOf,
     paths: &[UnitPaths],
 ) -> Result<NewTable, Fault>
-    requires paths { AllHavePaths view.now paths.now }
+    requires paths { AllHaveFields view.now paths.now }
     ensures made { IfOk result (λ t. TableMade maps.now view.now (as_table texts) paths.now t.pool (λ o. get nat_eq t.known o)) }
     ensures refused { IfErr result (Blames (LongTable maps.now view.now (as_table texts) paths.now)) }
 {
@@ -112,7 +112,7 @@ fn grown_table(
     texts: TextsOf,
     paths: &[UnitPaths],
 ) -> Result<NewTable, Fault>
-    requires paths { AllHavePaths view.now paths.now }
+    requires paths { AllHaveFields view.now paths.now }
     ensures made { IfOk result (λ t. TableMade maps.now view.now (as_table texts) paths.now t.pool (λ o. get nat_eq t.known o)) }
     ensures refused { IfErr result (Blames (TooLong (length (table_bytes (table_with view.now (as_table texts) (all_texts_at maps.now view.now (as_table texts) [] paths.now)))))) }
 {
@@ -140,7 +140,7 @@ fn note_section(
     known: &mut HashMap<u64, u64>,
 ) -> Result<(), Fault>
     requires table { table.now ≡ (offsets_in view.now (as_table texts)).bytes }
-    requires paths { HasPaths view.now found.now }
+    requires paths { HasFields view.now found.now }
     requires growing { Growing maps.now view.now (as_table texts) pool.old (λ o. get nat_eq known.old o) }
     ensures grown { OnOk result (GrownBy maps.now view.now (as_table texts) found.now pool.old pool.new (λ o. get nat_eq known.old o) (λ o. get nat_eq known.new o)) }
     ensures refused { IfErr result (Blames (TooLong (length (table_bytes (table_with view.now (as_table texts) (section_texts_at maps.now view.now (as_table texts) pool.old.texts found.now)))))) }

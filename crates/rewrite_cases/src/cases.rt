@@ -39,7 +39,7 @@ const CORE: Shape = Shape {
     kind: 4,
 };
 
-const BIG_32: Shape = Shape {
+pub(crate) const BIG_32: Shape = Shape {
     class: Class::C32,
     order: Order::Big,
     kind: ET_EXEC,
@@ -74,7 +74,7 @@ pub(crate) const NEW_ROOT_4: &[u8] = b"\x01\x16\0\0\0+\0\0\0";
 pub(crate) const NEW_TEXTS: &[u8] = b"/usr/src/debug/p/a.c\0/usr/src/debug/p\0";
 
 /// All of them.
-pub(crate) const CASES: [Case; 30] = [
+pub(crate) const CASES: [Case; 28] = [
     Case {
         shows: "the paths of a unit are mapped",
         shape: EXEC,
@@ -530,13 +530,6 @@ pub(crate) const CASES: [Case; 30] = [
         result: Err((Kind::Unbuilt, 0, 0)),
     },
     Case {
-        shows: "a section of line tables",
-        shape: EXEC,
-        sections: &[ONE_UNIT, ONE_TABLE, TWO_TEXTS, (b".debug_line", 0, &[])],
-        maps: MAPS,
-        result: Err((Kind::Unbuilt, 0, 0)),
-    },
-    Case {
         shows: ".debug_info that is loaded",
         shape: EXEC,
         sections: &[(INFO, SHF_ALLOC, &[UNIT_4, ROOT_4]), ONE_TABLE, TWO_TEXTS],
@@ -707,16 +700,5 @@ pub(crate) const CASES: [Case; 30] = [
         sections: &[ONE_UNIT, ONE_TABLE, (STR, 0, &[b"/build/p/a.c\0/build/p"])],
         maps: MAPS,
         result: Err((Kind::StringOffset, 1, 16)),
-    },
-    Case {
-        shows: "the place of a line table",
-        shape: EXEC,
-        sections: &[
-            ONE_UNIT,
-            (ABBREV, 0, &[b"\x01\x11\0\x03\x0e\x10\x17\0\0\0"]),
-            TWO_TEXTS,
-        ],
-        maps: MAPS,
-        result: Err((Kind::Unbuilt, 0, 0)),
     },
 ];

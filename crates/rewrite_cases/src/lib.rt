@@ -21,6 +21,8 @@ mod fixtures;
 #[cfg(test)]
 mod index_cases;
 #[cfg(test)]
+mod line_cases;
+#[cfg(test)]
 mod patch_tests;
 #[cfg(test)]
 mod tests;

@@ -5,6 +5,7 @@ ghost use Rattle.dw_entries.specs.ViewUnits.{IsUnitSection};
 use crate::cases::{CASES, Case};
 use crate::fixtures::file_of;
 use crate::index_cases::INDEX_CASES;
+use crate::line_cases::LINE_CASES;
 use crate::rewritten;
 use dw_abbrev::AbbrevTable;
 use dw_base::{DebugSection, Fault, Refusal};
@@ -45,6 +46,9 @@ fn each_file_is_rewritten_or_refused_at_its_place(rt: HostRuntime) -> Result<(),
         ends_as_it_says(&rt, rt.alloc(), case)?;
     }
     for case in INDEX_CASES.iter() {
+        ends_as_it_says(&rt, rt.alloc(), case)?;
+    }
+    for case in LINE_CASES.iter() {
         ends_as_it_says(&rt, rt.alloc(), case)?;
     }
     Ok(())

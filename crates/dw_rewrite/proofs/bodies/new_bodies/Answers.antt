@@ -1,18 +1,38 @@
--- The new bodies are those of the readings; a table that is too long is a row.
+-- The new bodies are those of the readings; line tables that can't be written, or are too long, are rows.
+use Rattle.std.proofs.Common.{ℕ, List, ap, ◌∙◌, ◌<◌, ◌≤◌, length, arith}
 use Rattle.std.proofs.lemmas.Result.{err_from_is_err_and}
 use Rattle.dw_base.specs.Forms.{in_str, in_line_str}
-use Rattle.dw_rewrite.proofs.NewBodyLaws.{made, made-fit, long-fault, table-body, two-pushed}
+use Rattle.dw_base.specs.Layout.{output_limit}
+use Rattle.dw_rewrite.proofs.MadeBodyLaws.{lines-among, lines-fault, long-lines, made, made-fit, slices-fit, slots-among, table-body, two-pushed}
 use Rattle.dw_rewrite.proofs.bodies.new_bodies.Goals as goal
 
-pub returns-in_err-pool-clause-refused : goal.returns-in_err-pool-clause-refused
-returns-in_err-pool-clause-refused c =
-    let p = err_from_is_err_and c.from_residual.result c.from_residual.ensures.1 in
-    rw (p.1, p.2) (long-fault c.args.maps.now c.args.view.now in_str c.args.paths.now c.in_err-pool.field-0.0 c.requires.found c.in_err-pool.ensures.refused)
+pub returns-in_err-lines-clause-refused : goal.returns-in_err-lines-clause-refused
+returns-in_err-lines-clause-refused c =
+    let p = err_from_is_err_and c.from_residual-in_err-lines.result c.from_residual-in_err-lines.ensures.1 in
+    rw (p.1, p.2) (lines-fault c.args.maps.now c.args.view.now c.args.paths.now c.args.tables.now _ _ _ _ c.in_err-lines.field-0.0 c.requires.found c.in_ok-pool.ensures.made
+    c.in_ok-line_pool.ensures.made c.in_err-lines.ensures.refused)
 
-pub returns-in_err-line_pool-clause-refused : goal.returns-in_err-line_pool-clause-refused
-returns-in_err-line_pool-clause-refused c =
-    let p = err_from_is_err_and c.from_residual-in_err-line_pool.result c.from_residual-in_err-line_pool.ensures.1 in
-    rw (p.1, p.2) (long-fault c.args.maps.now c.args.view.now in_line_str c.args.paths.now c.in_err-line_pool.field-0.0 c.requires.found c.in_err-line_pool.ensures.refused)
+pub returns-then-len-gt-OUTPUT_LIMIT-clause-refused :
+    goal.returns-then-len-gt-OUTPUT_LIMIT-clause-refused
+returns-then-len-gt-OUTPUT_LIMIT-clause-refused c =
+    let over : output_limit < length c.in_ok-lines.lines.bytes.items = omega (arith, c.len.ensures, c.in_ok-lines.lines.bytes.ok.0) in
+    long-lines c.args.maps.now c.args.view.now c.args.paths.now c.args.tables.now _ _ _ _ c.in_ok-lines.lines.bytes.items c.in_ok-lines.lines.starts.items c.long_lines.result
+    c.requires.found c.in_ok-pool.ensures.made c.in_ok-line_pool.ensures.made c.in_ok-lines.ensures.written over c.long_lines.ensures
+
+pub new-starts-requires : goal.new-starts-requires
+new-starts-requires c =
+    let small : length c.in_ok-lines.lines.bytes.items ≤ output_limit = omega (arith, c.len.ensures, c.in_ok-lines.lines.bytes.ok.0) in
+    record {
+      fit = slices-fit c.args.maps.now c.args.view.now c.args.paths.now c.args.tables.now _ _ c.in_ok-lines.lines.bytes.items c.in_ok-lines.lines.starts.items c.in_ok-old.old.items
+          c.as_slice.result.now c.as_slice-2.result.now c.requires.found c.in_ok-lines.ensures.written c.in_ok-old.ensures c.as_slice.ensures.value c.as_slice-2.ensures.value small;
+    }
+
+pub without_lines-sections-requires : goal.without_lines-sections-requires
+without_lines-sections-requires c = record { lines = lines-among c.args.maps.now c.args.view.now c.args.paths.now c.args.tables.now c.requires.found }
+
+pub push_bodies-requires-clause-slots : goal.push_bodies-requires-clause-slots
+push_bodies-requires-clause-slots c =
+    slots-among c.args.maps.now c.args.view.now c.args.paths.now c.without_lines-sections.result.now c.args.tables.now c.requires.found c.without_lines-sections.ensures
 
 pub push_bodies-requires-clause-str : goal.push_bodies-requires-clause-str
 push_bodies-requires-clause-str c = made-fit _ _ _ _ _ _ c.in_ok-pool.ensures.made
@@ -22,7 +42,11 @@ push_bodies-requires-clause-line_str c = made-fit _ _ _ _ _ _ c.in_ok-line_pool.
 
 pub returns-clause-made : goal.returns-clause-made
 returns-clause-made c =
-    made c.args.maps.now c.args.view.now c.args.paths.now _ _ _ _ _ c.requires.found c.in_ok-pool.ensures.made c.in_ok-line_pool.ensures.made
+    made c.args.maps.now c.args.view.now c.args.paths.now c.without_lines-sections.result.now c.args.tables.now _ _ _ _ c.in_ok-lines.lines.bytes.items c.in_ok-lines.lines.starts.items
+    c.as_slice.result.now c.new-starts.result _ _ c.requires.found c.in_ok-pool.ensures.made c.in_ok-line_pool.ensures.made c.in_ok-lines.ensures.written
+    (c.as_slice.ensures.value ∙ c.in_ok-old.ensures)
+    (c.new-starts.ensures ∙ ap (λ (xs : List ℕ). record { old = c.as_slice.result.now; new = xs }) c.as_slice-2.ensures.value)
+    (ap (λ (n : ℕ). record { number = n; bytes = c.in_ok-lines.lines.bytes.items }) c.lines_number.ensures) c.without_lines-sections.ensures
     (two-pushed _ _ _ _ _ _ _ _ _ c.new-bodies.ensures.items c.in_ok-push.ensures.items c.in_ok-push-2.ensures.items c.in_ok-push_bodies.ensures.bodies
     (table-body c.args.view.now in_str _ _ _ c.table_number.ensures c.into_bytes.ensures.value)
     (table-body c.args.view.now in_line_str _ _ _ c.table_number-2.ensures c.into_bytes-2.ensures.value))

@@ -1,0 +1,208 @@
+-- The new line tables from places that are known are those of the change of the tables of texts.
+use Rattle.std.proofs.Common.{Bool, true, false, ◌≡◌, ◌≢◌, ℕ, zero, suc, ◌+◌, ◌^◌, ◌<◌, ◌≤◌, ◌==◌, ◌&&◌, not, List, [], ◌∷◌, ◌++◌, length, get_or, if◌then◌else◌, Contains, Option, Some, None, is_some, refl, sym, ap, ◌∙◌, subst, arith}
+use Rattle.std.specs.Prelude.{⊤}
+use Rattle.std.proofs.lemmas.Bool.{ne_eqb, true≢false}
+use Rattle.dw_base.specs.Forms.{TextSection, in_str, in_line_str, width_size}
+use Rattle.dw_base.specs.LineChanges.{asked_place, line_place, lines_after, path_in}
+use Rattle.dw_base.specs.LineReadings.{LineReading, TablesTo, table_read}
+use Rattle.dw_base.specs.LineSources.{LineSource}
+use Rattle.dw_base.specs.LineTables.{LineTable, texts_of}
+use Rattle.dw_base.specs.LineWriteFails.{CanWrite, WideOffset, WriteFails, wide, wide_table, wide_header, wide_offset, program, length_limit}
+use Rattle.dw_base.specs.Numbers.{spelled}
+use Rattle.dw_base.specs.Paths.{PathMap}
+use Rattle.dw_base.specs.StringTables.{Plan, new_place as text_place}
+use Rattle.dw_base.specs.TextChanges.{TableChange}
+use Rattle.dw_base.specs.WrittenLines.{Change, all_changes, inline_change, new_place, offset_changes, path_changes, paths_of, written_header, written_rest, written_table, with_header_length, with_program, changed, behind_lengths, length_bytes}
+use Rattle.dw_base.specs.declared.fault.Refusal.{Refusal}
+use Rattle.dw_base.specs.declared.line_tables.TextPlace.{TextPlace}
+use Rattle.dw_base.specs.declared.shared.Width.{Width}
+use Rattle.dw_rewrite.specs.Changes.{IsNoted, KnownPlace, Knows, OffsetTable, offset_at, path_of}
+use Rattle.dw_rewrite.specs.ViewLines.{AllCanWrite, LinesRefuse, is_text_of, lines_known, table_fails, table_fields, tables_read, text_field, text_fields}
+use Rattle.dw_rewrite.specs.declared.fields.PathField.{PathField}
+use Rattle.dw_rewrite.proofs.LineMentionLaws.{texts_table}
+use Rattle.dw_rewrite.proofs.LinePlaceLaws.{EachReads, PathReads, offset-read, table-paths}
+use Rattle.dw_rewrite.proofs.PlaceValueLaws.{EachOf}
+
+-- the new places of paths that stand elsewhere are the same
+abbrev pub EachAgree : LineSource → (TextPlace → Option ℕ) → (TextPlace → Option ℕ) → List TextPlace → Type 0
+EachAgree g p q [] = ⊤
+EachAgree g p q (x ∷ xs) = ((x.section == g.number) ≡ false → p x ≡ q x) × EachAgree g p q xs
+
+agree-back : (g : LineSource) (p q : TextPlace → Option ℕ) (xs : List TextPlace) → EachAgree g p q xs → EachAgree g q p xs
+agree-back g p q [] a = tt
+agree-back g p q (x ∷ xs) a = ((λ other. sym (a.0 other)), agree-back g p q xs a.1)
+
+agree-at : (g : LineSource) (p q : TextPlace → Option ℕ) (xs : List TextPlace) (x : TextPlace) → EachAgree g p q xs → Contains xs x → x.section ≢ g.number → p x ≡ q x
+agree-at g p q [] x a here other = absurd (omega (arith, here.1))
+agree-at g p q (y ∷ ys) x a here other = by (λ c. agree-at g p q ys x a.1 c other) here.0 here.1 here.2
+  where
+    by : (Contains ys x → p x ≡ q x) → (k : ℕ) → k < suc (length ys) → get_or (y ∷ ys) k x ≡ x → p x ≡ q x
+    by rest zero lt e = subst (λ (z : TextPlace). (z.section == g.number) ≡ false → p z ≡ q z) e a.0 (ne_eqb x.section g.number other)
+    by rest (suc k) lt e = rest (k, omega (arith, lt), e)
+
+-- so changes are
+one-change : (g : LineSource) (m : PathMap) (p q : TextPlace → Option ℕ) (w : Width) (x : TextPlace) → ((x.section == g.number) ≡ false → p x ≡ q x)
+    → path_changes g m p w x ≡ path_changes g m q w x
+one-change g m p q w x a = by (x.section == g.number) refl
+  where
+    by : (b : Bool) → (x.section == g.number) ≡ b
+        → (if b then inline_change m g.bytes x ∷ [] else offset_changes g.order w g.bytes x.field (p x)) ≡ (if b then inline_change m g.bytes x ∷ [] else offset_changes g.order w g.bytes x.field (q x))
+    by true e = refl
+    by false e = ap (offset_changes g.order w g.bytes x.field) (a e)
+
+changes-same : (g : LineSource) (m : PathMap) (p q : TextPlace → Option ℕ) (w : Width) (xs : List TextPlace) → EachAgree g p q xs → all_changes g m p w xs ≡ all_changes g m q w xs
+changes-same g m p q w [] a = refl
+changes-same g m p q w (x ∷ xs) a =
+    ap (λ (cs : List Change). cs ++ all_changes g m p w xs) (one-change g m p q w x a.0) ∙ ap (λ (cs : List Change). path_changes g m q w x ++ cs) (changes-same g m p q w xs a.1)
+
+-- and the table
+header-same : (g : LineSource) (m : PathMap) (p q : TextPlace → Option ℕ) (t : LineTable) → EachAgree g p q (paths_of t) → written_header g m p t ≡ written_header g m q t
+unfolding written_header
+header-same g m p q t a =
+    ap (changed g.bytes (behind_lengths t.start t.width t.version) t.program) (changes-same g m p q t.width (paths_of t) a)
+
+rest-same : (g : LineSource) (m : PathMap) (p q : TextPlace → Option ℕ) (t : LineTable) → EachAgree g p q (paths_of t) → written_rest g m p t ≡ written_rest g m q t
+rest-same g m p q t a = ap (λ (header : List ℕ). with_program g t (with_header_length g t header)) (header-same g m p q t a)
+
+pub table-same : (g : LineSource) (m : PathMap) (p q : TextPlace → Option ℕ) (t : LineTable) → EachAgree g p q (paths_of t) → written_table g m p t ≡ written_table g m q t
+unfolding written_table
+table-same g m p q t a = ap (λ (rest : List ℕ). length_bytes g.order t.width (length rest) ++ rest) (rest-same g m p q t a)
+
+pub can-same : (g : LineSource) (m : PathMap) (p q : TextPlace → Option ℕ) (t : LineTable) → EachAgree g p q (paths_of t) → CanWrite g m p t → CanWrite g m q t
+can-same g m p q t a can = record {
+  table = subst (λ (rest : List ℕ). length rest < length_limit t.width) (rest-same g m p q t a) can.table;
+  header = subst (λ (header : List ℕ). length header < 256 ^ width_size t.width) (header-same g m p q t a) can.header;
+  offsets = λ x place here other is. can.offsets x place here other (agree-at g p q (paths_of t) x a here other ∙ is);
+  defined = can.defined;
+}
+
+pub fails-same : (g : LineSource) (m : PathMap) (p q : TextPlace → Option ℕ) (t : LineTable) (r : Refusal) → EachAgree g p q (paths_of t) → WriteFails g m p t r → WriteFails g m q t r
+fails-same g m p q t r a (wide_table far) = wide_table (subst (λ (rest : List ℕ). length_limit t.width ≤ length rest) (rest-same g m p q t a) far)
+fails-same g m p q t r a (wide_header far) = wide_header (subst (λ (header : List ℕ). 256 ^ width_size t.width ≤ length header) (header-same g m p q t a) far)
+fails-same g m p q t r a (wide_offset (wide x place here other is far)) =
+    wide_offset (wide x place here other (agree-at g q p (paths_of t) x (agree-back g p q (paths_of t) a) here other ∙ is) far)
+fails-same g m p q t r a (program h e f) = program h e f
+
+-- the place of a path that is known is the one that it asks for
+pub known-asked : (plan : Plan) (m : PathMap) (table : OffsetTable) (ts : List (List ℕ)) (known : ℕ → Option ℕ) (o : ℕ) → Knows plan m table ts known → IsNoted plan table known o
+    → known o ≡ (if plan.asks (path_of table o) then Some (text_place plan m ts (path_of table o)) else None)
+known-asked plan m table ts known o knows noted = by (known o) refl (plan.asks (path_of table o)) refl
+  where
+    by : (k : Option ℕ) → known o ≡ k → (b : Bool) → plan.asks (path_of table o) ≡ b → k ≡ (if b then Some (text_place plan m ts (path_of table o)) else None)
+    by None e true a = absurd (true≢false (sym (noted.noted a) ∙ ap is_some e))
+    by None e false a = refl
+    by (Some n) e true a = ap Some (knows.each o n e).place_is
+    by (Some n) e false a = absurd (true≢false (sym (knows.each o n e).asks ∙ a))
+
+-- of the paths of a table
+abbrev pub NotedIn : Plan → OffsetTable → List ℕ → (ℕ → Option ℕ) → PathField → Type 0
+NotedIn plan table info known f = IsNoted plan table known (offset_at table info f)
+
+one-agrees : (g : LineSource) (m : PathMap) (str line_str : TableChange) (ks kl : ℕ → Option ℕ) (w : Width) (x : TextPlace) → PathReads g w x
+    → Knows str.plan m (texts_table g in_str) str.texts ks → Knows line_str.plan m (texts_table g in_line_str) line_str.texts kl
+    → EachOf (NotedIn str.plan (texts_table g in_str) g.bytes ks) (text_field g.number g.str.number in_str w x)
+    → EachOf (NotedIn line_str.plan (texts_table g in_line_str) g.bytes kl) (text_field g.number g.str.number in_line_str w x)
+    → (x.section == g.number) ≡ false → new_place g ks kl x ≡ line_place m str line_str g x
+one-agrees g m str line_str ks kl w x reads s l ns nl other = by (x.section == g.number) (x.section == g.str.number) other ns nl
+  where
+    at : x.at ≡ spelled g.order g.bytes x.field (width_size w)
+    at = offset-read g w x reads other
+
+    by : (a b : Bool) → a ≡ false
+        → EachOf (NotedIn str.plan (texts_table g in_str) g.bytes ks) (if (not a && b) then record { at = x.field; size = width_size w } ∷ [] else [])
+        → EachOf (NotedIn line_str.plan (texts_table g in_line_str) g.bytes kl) (if (not a && not b) then record { at = x.field; size = width_size w } ∷ [] else [])
+        → (if b then ks x.at else kl x.at) ≡ (if b then asked_place str m (path_in g.str.bytes x) else asked_place line_str m (path_in g.line_str.bytes x))
+    by true b e ns nl = absurd (true≢false e)
+    by false true e ns nl =
+        known-asked str.plan m (texts_table g in_str) str.texts ks x.at s (subst (IsNoted str.plan (texts_table g in_str) ks) (sym at) ns.0)
+    by false false e ns nl =
+        known-asked line_str.plan m (texts_table g in_line_str) line_str.texts kl x.at l (subst (IsNoted line_str.plan (texts_table g in_line_str) kl) (sym at) nl.0)
+
+each-parts : {X : Type 0} (P : X → Type 0) (xs ys : List X) → EachOf P (xs ++ ys) → EachOf P xs × EachOf P ys
+each-parts P [] ys h = (tt, h)
+each-parts P (x ∷ xs) ys h = let rest = each-parts P xs ys h.1 in ((h.0, rest.0), rest.1)
+
+paths-agree : (g : LineSource) (m : PathMap) (str line_str : TableChange) (ks kl : ℕ → Option ℕ) (w : Width) (xs : List TextPlace) → EachReads g w xs
+    → Knows str.plan m (texts_table g in_str) str.texts ks → Knows line_str.plan m (texts_table g in_line_str) line_str.texts kl
+    → EachOf (NotedIn str.plan (texts_table g in_str) g.bytes ks) (text_fields g.number g.str.number in_str w xs)
+    → EachOf (NotedIn line_str.plan (texts_table g in_line_str) g.bytes kl) (text_fields g.number g.str.number in_line_str w xs)
+    → EachAgree g (new_place g ks kl) (line_place m str line_str g) xs
+paths-agree g m str line_str ks kl w [] reads s l ns nl = tt
+paths-agree g m str line_str ks kl w (x ∷ xs) reads s l ns nl =
+    let a = each-parts (NotedIn str.plan (texts_table g in_str) g.bytes ks) (text_field g.number g.str.number in_str w x) (text_fields g.number g.str.number in_str w xs) ns in
+    let b = each-parts (NotedIn line_str.plan (texts_table g in_line_str) g.bytes kl) (text_field g.number g.str.number in_line_str w x) (text_fields g.number g.str.number in_line_str w xs) nl in
+    (one-agrees g m str line_str ks kl w x reads.0 s l a.0 b.0, paths-agree g m str line_str ks kl w xs reads.1 s l a.1 b.1)
+
+-- of all tables
+abbrev pub TablesAgree : LineSource → (TextPlace → Option ℕ) → (TextPlace → Option ℕ) → List LineReading → Type 0
+TablesAgree g p q [] = ⊤
+TablesAgree g p q (r ∷ rs) = EachAgree g p q (paths_of (table_read g r)) × TablesAgree g p q rs
+
+pub tables-agree : (g : LineSource) (m : PathMap) (str line_str : TableChange) (ks kl : ℕ → Option ℕ) (p e : ℕ) (rs : List LineReading) → TablesTo g p rs e
+    → Knows str.plan m (texts_table g in_str) str.texts ks → Knows line_str.plan m (texts_table g in_line_str) line_str.texts kl
+    → EachOf (NotedIn str.plan (texts_table g in_str) g.bytes ks) (table_fields g.number g.str.number in_str (tables_read g rs))
+    → EachOf (NotedIn line_str.plan (texts_table g in_line_str) g.bytes kl) (table_fields g.number g.str.number in_line_str (tables_read g rs))
+    → TablesAgree g (new_place g ks kl) (line_place m str line_str g) rs
+tables-agree g m str line_str ks kl p e [] reads s l ns nl = tt
+tables-agree g m str line_str ks kl p e (r ∷ rs) reads s l ns nl =
+    let a = each-parts (NotedIn str.plan (texts_table g in_str) g.bytes ks) (text_fields g.number g.str.number in_str r.header.width (paths_of (table_read g r)))
+    (table_fields g.number g.str.number in_str (tables_read g rs)) ns in
+    let b = each-parts (NotedIn line_str.plan (texts_table g in_line_str) g.bytes kl) (text_fields g.number g.str.number in_line_str r.header.width (paths_of (table_read g r)))
+    (table_fields g.number g.str.number in_line_str (tables_read g rs)) nl in (
+      paths-agree g m str line_str ks kl r.header.width (paths_of (table_read g r)) (table-paths g p r reads.0) s l a.0 b.0,
+      tables-agree g m str line_str ks kl r.header.end e rs reads.1 s l a.1 b.1,
+    )
+
+-- the new tables
+pub lines-same : (g : LineSource) (m : PathMap) (str line_str : TableChange) (ks kl : ℕ → Option ℕ) (rs : List LineReading)
+    → TablesAgree g (new_place g ks kl) (line_place m str line_str g) rs → lines_known m g ks kl (tables_read g rs) ≡ lines_after m str line_str g rs
+lines-same g m str line_str ks kl [] a = refl
+lines-same g m str line_str ks kl (r ∷ rs) a =
+    ap (λ (t : List ℕ). t ∷ lines_known m g ks kl (tables_read g rs)) (table-same g m (new_place g ks kl) (line_place m str line_str g) (table_read g r) a.0)
+    ∙ ap (λ (ts : List (List ℕ)). written_table g m (line_place m str line_str g) (table_read g r) ∷ ts) (lines-same g m str line_str ks kl rs a.1)
+
+-- each can be written
+abbrev pub EachCanWrite : LineSource → PathMap → TableChange → TableChange → List LineReading → Type 0
+EachCanWrite g m str line_str [] = ⊤
+EachCanWrite g m str line_str (r ∷ rs) = CanWrite g m (line_place m str line_str g) (table_read g r) × EachCanWrite g m str line_str rs
+
+pub all-can : (g : LineSource) (m : PathMap) (str line_str : TableChange) (ks kl : ℕ → Option ℕ) (rs : List LineReading)
+    → TablesAgree g (new_place g ks kl) (line_place m str line_str g) rs → AllCanWrite m g ks kl (tables_read g rs) → EachCanWrite g m str line_str rs
+all-can g m str line_str ks kl [] a can = tt
+all-can g m str line_str ks kl (r ∷ rs) a can =
+    (can-same g m (new_place g ks kl) (line_place m str line_str g) (table_read g r) a.0 can.0, all-can g m str line_str ks kl rs a.1 can.1)
+
+-- or one can't
+pub record TableRefused (g : LineSource) (m : PathMap) (str line_str : TableChange) (rs : List LineReading) (r : Refusal) : Type 0 where
+  pub before : List LineReading
+  pub behind : List LineReading
+  pub table : LineReading
+  pub split : rs ≡ before ++ table ∷ behind
+  pub fails : WriteFails g m (line_place m str line_str g) (table_read g table) r
+
+abbrev tail-of : (d : List LineTable) → List LineTable → List LineTable
+tail-of d [] = d
+tail-of d (x ∷ xs) = xs
+
+abbrev head-of : LineTable → List LineTable → LineTable
+head-of d [] = d
+head-of d (x ∷ xs) = x
+
+pub table-refused : (g : LineSource) (m : PathMap) (str line_str : TableChange) (ks kl : ℕ → Option ℕ) (rs : List LineReading) (before behind : List LineTable) (t : LineTable) (r : Refusal)
+    → TablesAgree g (new_place g ks kl) (line_place m str line_str g) rs → tables_read g rs ≡ before ++ t ∷ behind → WriteFails g m (new_place g ks kl) t r
+    → TableRefused g m str line_str rs r
+table-refused g m str line_str ks kl [] [] behind t r a split fails = absurd cc
+table-refused g m str line_str ks kl [] (b ∷ bs) behind t r a split fails = absurd cc
+table-refused g m str line_str ks kl (x ∷ xs) [] behind t r a split fails =
+    let here : table_read g x ≡ t = ap (head-of t) split in
+    record {
+      before = [];
+      behind = xs;
+      table = x;
+      split = refl;
+      fails = fails-same g m (new_place g ks kl) (line_place m str line_str g) (table_read g x) r a.0
+          (subst (λ (y : LineTable). WriteFails g m (new_place g ks kl) y r) (sym here) fails);
+    }
+table-refused g m str line_str ks kl (x ∷ xs) (b ∷ bs) behind t r a split fails =
+    let rest = table-refused g m str line_str ks kl xs bs behind t r a.1 (ap (tail-of []) split) fails in
+    record { before = x ∷ rest.before; behind = rest.behind; table = rest.table; split = ap (λ (ys : List LineReading). x ∷ ys) rest.split; fails = rest.fails }

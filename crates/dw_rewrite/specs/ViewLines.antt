@@ -1,0 +1,114 @@
+-- The line tables of a view, as they were read: the fields of their paths by offset, and the tables with mapped paths, from new places
+-- by old ones (DWARF 5, 6.2.4).
+use Rattle.std.specs.Prelude.{Bool, ◌≡◌, ℕ, ◌<◌, ◌==◌, ◌&&◌, not, if◌then◌else◌, List, [], ◌∷◌, ◌++◌, length, Option, Some, None, ⊤}
+use Rattle.dw_base.specs.DebugData.{line_source}
+use Rattle.dw_base.specs.DebugSections.{name_of}
+use Rattle.dw_base.specs.FileViews.{View, section_named}
+use Rattle.dw_base.specs.Forms.{TextSection, in_str, in_line_str, width_size}
+use Rattle.dw_base.specs.LineFails.{LineFails}
+use Rattle.dw_base.specs.LineReadings.{LineReading, TablesTo, all_lines, starts_from, table_read}
+use Rattle.dw_base.specs.LineSources.{LineSource}
+use Rattle.dw_base.specs.LineTables.{LineTable, IsLineTable}
+use Rattle.dw_base.specs.LineWriteFails.{CanWrite, WriteFails}
+use Rattle.dw_base.specs.Paths.{PathMap}
+use Rattle.dw_base.specs.ViewData.{debug_data}
+use Rattle.dw_base.specs.WrittenLines.{new_place, paths_of, written_table}
+use Rattle.dw_base.specs.declared.debug_sections.DebugSection.TheVariants.{Line}
+use Rattle.dw_base.specs.declared.fault.Refusal.{Refusal}
+use Rattle.dw_base.specs.declared.line_tables.TextPlace.{TextPlace}
+use Rattle.dw_base.specs.declared.shared.Width.{Width}
+use Rattle.dw_rewrite.specs.UnitPaths.{UnitPaths}
+use Rattle.dw_rewrite.specs.declared.fields.PathField.{PathField}
+
+-- the tables of readings
+abbrev pub tables_read : LineSource → List LineReading → List LineTable
+tables_read g [] = []
+tables_read g (r ∷ rs) = table_read g r ∷ tables_read g rs
+
+-- these tables stand one after another from the start of their section up to a place
+pub record TablesUpTo (g : LineSource) (ts : List LineTable) (e : ℕ) : Type 0 where
+  pub readings : List LineReading
+  pub reads : TablesTo g 0 readings e
+  pub is : ts ≡ tables_read g readings
+
+-- behind tables that can be read one starts that can't
+pub data TablesRefuse (g : LineSource) : Refusal → Type 0 where
+  line_table : (before : List LineReading) (start : ℕ) {r : Refusal} → TablesTo g 0 before start → start < length g.bytes → LineFails g start r
+      → TablesRefuse g r
+
+-- these are the line tables of a view
+abbrev pub TablesFound : View → List LineTable → Type 0
+TablesFound v ts = TablesUpTo (line_source (debug_data v)) ts (length (line_source (debug_data v)).bytes)
+
+-- where tables start
+abbrev pub starts_of : List LineTable → List ℕ
+starts_of [] = []
+starts_of (t ∷ ts) = t.start ∷ starts_of ts
+
+-- a text lies in a table of texts: not in its line table, whose section has a number, and not in the other; by the number of the
+-- first table of texts
+abbrev pub is_text_of : ℕ → ℕ → TextSection → TextPlace → Bool
+is_text_of section str in_str x = not (x.section == section) && x.section == str
+is_text_of section str in_line_str x = not (x.section == section) && not (x.section == str)
+
+-- the field of its offset, where it lies there
+abbrev pub text_field : ℕ → ℕ → TextSection → Width → TextPlace → List PathField
+text_field section str table w x = if is_text_of section str table x then record { at = x.field; size = width_size w } ∷ [] else []
+
+abbrev pub text_fields : ℕ → ℕ → TextSection → Width → List TextPlace → List PathField
+text_fields section str table w [] = []
+text_fields section str table w (x ∷ xs) = text_field section str table w x ++ text_fields section str table w xs
+
+-- those of the paths of line tables: of each its directories, then its files
+abbrev pub table_fields : ℕ → ℕ → TextSection → List LineTable → List PathField
+table_fields section str table [] = []
+table_fields section str table (t ∷ ts) = text_fields section str table t.width (paths_of t) ++ table_fields section str table ts
+
+-- what line tables say of paths
+abbrev pub lines_with : LineSource → List LineTable → UnitPaths
+lines_with g ts = record {
+  number = g.number;
+  str = table_fields g.number g.str.number in_str ts;
+  line_str = table_fields g.number g.str.number in_line_str ts;
+  inline = [];
+  starts = [];
+  stray = None;
+}
+
+-- the same of those of a view, where it has any
+abbrev pub lines_by : Option ℕ → LineSource → List LineTable → List UnitPaths
+lines_by None g ts = []
+lines_by (Some i) g ts = lines_with g ts ∷ []
+
+abbrev pub lines_of_view : View → List LineTable → List UnitPaths
+lines_of_view v ts = lines_by (section_named v (name_of Line)) (line_source (debug_data v)) ts
+
+-- each table stands in the section of line tables, where it starts
+pub record StandsIn (g : LineSource) (t : LineTable) : Type 0 where
+  pub section : t.section ≡ g.number
+  pub is : IsLineTable g t.start t
+
+abbrev pub AllStandIn : LineSource → List LineTable → Type 0
+AllStandIn g [] = ⊤
+AllStandIn g (t ∷ ts) = StandsIn g t × AllStandIn g ts
+
+-- the new tables, from the new places that are known in each table of texts
+abbrev pub lines_known : PathMap → LineSource → (ℕ → Option ℕ) → (ℕ → Option ℕ) → List LineTable → List (List ℕ)
+lines_known m g ks kl [] = []
+lines_known m g ks kl (t ∷ ts) = written_table g m (new_place g ks kl) t ∷ lines_known m g ks kl ts
+
+-- each of them can be written
+abbrev pub AllCanWrite : PathMap → LineSource → (ℕ → Option ℕ) → (ℕ → Option ℕ) → List LineTable → Type 0
+AllCanWrite m g ks kl [] = ⊤
+AllCanWrite m g ks kl (t ∷ ts) = CanWrite g m (new_place g ks kl) t × AllCanWrite m g ks kl ts
+
+-- these are their bytes, and where they start
+pub record LinesWritten (m : PathMap) (g : LineSource) (ks kl : ℕ → Option ℕ) (ts : List LineTable) (bs ns : List ℕ) : Type 0 where
+  pub bytes : bs ≡ all_lines (lines_known m g ks kl ts)
+  pub starts : ns ≡ starts_from 0 (lines_known m g ks kl ts)
+  pub can : AllCanWrite m g ks kl ts
+
+-- one of them can't
+pub data LinesRefuse (m : PathMap) (g : LineSource) (ks kl : ℕ → Option ℕ) (ts : List LineTable) : Refusal → Type 0 where
+  table_fails : (before behind : List LineTable) (t : LineTable) {r : Refusal} → ts ≡ before ++ t ∷ behind → WriteFails g m (new_place g ks kl) t r
+      → LinesRefuse m g ks kl ts r
