@@ -15,7 +15,7 @@ use std::process::Abort;
 use std::test::Fail;
 
 /// A file of two unit sections, number 1 and 2, and their abbreviations.
-fn units_file(alloc: Global, info: &[u8], types: &[u8]) -> Result<Vec<u8>, AllocError> {
+fn units_file<'b>(alloc: Global, info: &'b [u8], types: &'b [u8]) -> Result<Vec<u8>, AllocError> {
     let rows = [
         (b".debug_info".as_slice(), SHT_PROGBITS, 0, info),
         (b".debug_types".as_slice(), SHT_PROGBITS, 0, types),

@@ -1,11 +1,11 @@
 //! Contributions of made files, whole and damaged, with their slots; and those that clang wrote.
 
 use crate::files::file_of;
+use crate::records;
 use dw_base::Order;
 use dw_base::elf_numbers::{ET_EXEC, SHT_PROGBITS};
 use dw_offsets::{Contribution, Fault, Kind, Refusal, Width, contributions, slot_place};
 use dw_view::View;
-use elf_file::ElfFile;
 use std::alloc::Global;
 use std::process::Abort;
 use std::test::Fail;
@@ -86,8 +86,7 @@ fn check_read(
 ) -> Result<(), Fail> {
     let sections = [(b".debug_str_offsets".as_slice(), SHT_PROGBITS, 0, bytes)];
     let file = file_of(alloc, order, ET_EXEC, &sections, b".shstrtab")?;
-    assert!(rt; file.len() <= 0x8000_0000);
-    let elf = ElfFile::read(alloc, &file)?;
+    let elf = records(alloc, &file)?;
     let view = View::one(&elf)?;
     let list = contributions(alloc, &view)?;
     assert_eq!(rt; list.as_slice().len(), wanted.len());
@@ -138,8 +137,7 @@ fn a_damaged_contribution_is_refused_at_its_place(rt: HostRuntime) -> Result<(),
             (b".debug_str_offsets".as_slice(), SHT_PROGBITS, 0, bytes),
         ];
         let file = file_of(rt.alloc(), Order::Little, ET_EXEC, &sections, b".shstrtab")?;
-        assert!(rt; file.len() <= 0x8000_0000);
-        let elf = ElfFile::read(rt.alloc(), &file)?;
+        let elf = records(rt.alloc(), &file)?;
         let view = View::one(&elf)?;
         let answer = contributions(rt.alloc(), &view).map(|_list| ());
         let wanted = Refusal::at(Kind::StringTable, 2, offset);

@@ -1,6 +1,7 @@
 //! Files of a few sections: which are refused and where, and what is seen of one that isn't.
 
 use crate::files::{Row, file_of};
+use crate::records;
 use dw_base::elf_numbers::{
     ET_DYN, ET_EXEC, ET_REL, SHF_COMPRESSED, SHT_NOBITS, SHT_NULL, SHT_PROGBITS,
 };
@@ -8,7 +9,6 @@ use dw_base::{DebugSection, Fault, Field, Kind, Order, Refusal};
 use dw_view::View;
 use elf_file::ElfFile;
 use std::alloc::{AllocError, Global};
-use std::process::Abort;
 use std::test::Fail;
 
 /// A file: its type, its sections from number 1 on, the name of its section name table, which is the last
@@ -198,9 +198,8 @@ fn case_file(alloc: Global, case: &Case) -> Result<Vec<u8>, AllocError> {
 }
 
 /// How the view of a file is answered, the view left out.
-fn answer_of(rt: &impl Abort, alloc: Global, file: &[u8]) -> Result<(), Fault> {
-    assert!(rt; file.len() <= 0x8000_0000);
-    let elf = ElfFile::read(alloc, file)?;
+fn answer_of(alloc: Global, file: &[u8]) -> Result<(), Fault> {
+    let elf = records(alloc, file)?;
     let _view = View::one(&elf)?;
     Ok(())
 }
@@ -221,11 +220,7 @@ fn wanted(refusal: Option<(Kind, u32, u64)>) -> Result<(), Fault> {
 fn a_file_is_refused_at_the_section_that_is_wrong(rt: HostRuntime) -> Result<(), Fail> {
     for case in CASES.iter() {
         let file = case_file(rt.alloc(), case)?;
-        assert_eq!(rt;
-            answer_of(&rt, rt.alloc(), &file),
-            wanted(case.3),
-            "{case:?}"
-        );
+        assert_eq!(rt; answer_of(rt.alloc(), &file), wanted(case.3), "{case:?}");
     }
     Ok(())
 }

@@ -3,6 +3,7 @@
 
 use crate::elf_file_samples::{AARCH64, Line, POWERPC, Real, SegmentLine};
 use crate::files::{Piece, Sample, built};
+use crate::records;
 use dw_base::{
     Class, Fault, FileKind, Kind, OUTPUT_LIMIT, Order, Refusal, Section, Segment, put_number,
 };
@@ -32,9 +33,8 @@ const ONE_UNIT: Sample = Sample {
 };
 
 /// What `read` answers, without the records.
-fn answer_of(rt: &impl Abort, alloc: Global, file: &[u8]) -> Result<(), Fault> {
-    assert!(rt; file.len() as u64 <= OUTPUT_LIMIT);
-    match ElfFile::read(alloc, file) {
+fn answer_of(alloc: Global, file: &[u8]) -> Result<(), Fault> {
+    match records(alloc, file) {
         Ok(_) => Ok(()),
         Err(fault) => Err(fault),
     }
@@ -156,7 +156,7 @@ fn a_changed_file_is_refused_at_its_place(rt: HostRuntime) -> Result<(), Fail> {
     for (changes, want) in CHANGED.iter() {
         let file = changed_file(&rt, rt.alloc(), changes.as_slice())?;
         assert_eq!(rt;
-            answer_of(&rt, rt.alloc(), file.as_slice()),
+            answer_of(rt.alloc(), file.as_slice()),
             wanted(*want),
             "{changes:?}"
         );
@@ -262,7 +262,7 @@ fn a_segment_past_the_end_of_debug_data(rt: HostRuntime) -> Result<(), Fail> {
     assert!(rt; put_number(Order::Little, file.as_mut_slice(), 152, 8, 3017));
     assert_eq!(rt; file.len(), 3248);
     assert_eq!(rt;
-        answer_of(&rt, rt.alloc(), file.as_slice()),
+        answer_of(rt.alloc(), file.as_slice()),
         wanted(Some((Kind::Range, 0, 120)))
     );
     let elf = ElfFile::read_debug(rt.alloc(), file.as_slice())?;

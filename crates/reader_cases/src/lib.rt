@@ -7,6 +7,13 @@
 //! Read first: `files.rt`, then the module of a crate.
 #![tactic(auto)]
 
+ghost use Rattle.std.specs.Prelude.{◌≡◌, ◌≤◌, length, IfOk, OnOk};
+ghost use Rattle.dw_base.specs.Layout.{output_limit};
+
+use dw_base::{Fault, OUTPUT_LIMIT};
+use elf_file::ElfFile;
+use std::alloc::Global;
+
 #[cfg(test)]
 mod build_ident_samples;
 #[cfg(test)]
@@ -57,3 +64,15 @@ mod elf_layout_tests;
 mod elf_relocs_tests;
 #[cfg(test)]
 mod files;
+
+/// The records of a file; no memory where it is longer than any that is read.
+pub fn records(alloc: Global, bytes: &[u8]) -> Result<ElfFile<'_>, Fault>
+    ensures small { OnOk result (length bytes.now ≤ output_limit) }
+    ensures bytes { IfOk result (λ file. file.bytes.now ≡ bytes.now) }
+{
+    if bytes.len() as u64 > OUTPUT_LIMIT {
+        return Err(Fault::NoMemory);
+    }
+    let file = ElfFile::read(alloc, bytes)?;
+    Ok(file)
+}

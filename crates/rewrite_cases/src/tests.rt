@@ -40,18 +40,27 @@ fn ends_as_it_says(rt: &impl Abort, alloc: Global, case: &Case) -> Result<(), Fa
     Ok(())
 }
 
-#[test]
-fn each_file_is_rewritten_or_refused_at_its_place(rt: HostRuntime) -> Result<(), Fail> {
-    for case in CASES.iter() {
-        ends_as_it_says(&rt, rt.alloc(), case)?;
-    }
-    for case in INDEX_CASES.iter() {
-        ends_as_it_says(&rt, rt.alloc(), case)?;
-    }
-    for case in LINE_CASES.iter() {
-        ends_as_it_says(&rt, rt.alloc(), case)?;
+/// So is the file of each case.
+fn each_ends_as_it_says(rt: &impl Abort, alloc: Global, cases: &[Case]) -> Result<(), Fail> {
+    for case in cases {
+        ends_as_it_says(rt, alloc, case)?;
     }
     Ok(())
+}
+
+#[test]
+fn each_file_is_rewritten_or_refused_at_its_place(rt: HostRuntime) -> Result<(), Fail> {
+    each_ends_as_it_says(&rt, rt.alloc(), &CASES)
+}
+
+#[test]
+fn so_is_each_file_with_texts_by_index(rt: HostRuntime) -> Result<(), Fail> {
+    each_ends_as_it_says(&rt, rt.alloc(), &INDEX_CASES)
+}
+
+#[test]
+fn so_is_each_file_with_line_tables(rt: HostRuntime) -> Result<(), Fail> {
+    each_ends_as_it_says(&rt, rt.alloc(), &LINE_CASES)
 }
 
 /// Appends place, depth and code of each entry of the units of a section.
