@@ -11,3 +11,5 @@ pub mod UnitSectionLaws
 pub mod UnitListLaws
 pub mod HasUnitLaws
 pub mod CallerLaws
+pub mod SectionOrderLaws
+pub mod SectionListLaws

@@ -3,3 +3,4 @@ pub mod ScanStates
 pub mod ViewUnits
 pub mod Fronts
 pub mod ValueWalks
+pub mod SectionOrder

@@ -1,7 +1,7 @@
 //! The units of a section, and the entries of a unit (DWARF 5, 7.5.1 to 7.5.3; for versions 2 to 4 the
 //! standards' own).
 //!
-//! This layer promises: the units that are given fill their section, with the headers that stand there, in
+//! This layer promises: the unit sections of a view are all that it has, in order; the units that are given fill their section, with the headers that stand there, in
 //! 32-bit and 64-bit DWARF of versions 2 to 5; the entries that a pass gives are those of the unit, in the
 //! order of their places, each with its depth; both are refused only where a unit or an entry can't be
 //! read, at its place. A pass takes no memory and doesn't recurse, and it ends without an error only where
@@ -11,10 +11,10 @@
 //! `specs/ScanStates.antt`.
 //!
 //! ```
-//! use dw_entries::{unit_headers, EntryScan};
+//! use dw_entries::{unit_headers, unit_sections, EntryScan};
 //!
-//! if let Some(info) = view.first(DebugSection::Info) {
-//!     let units = unit_headers(alloc, &view, info)?;
+//! for section in unit_sections(alloc, &view)?.as_slice() {
+//!     let units = unit_headers(alloc, &view, *section)?;
 //!     for unit in units.as_slice() {
 //!         let table = AbbrevTable::read(alloc, abbrevs, view.bytes(abbrevs), unit.abbrevs)?;
 //!         for entry in EntryScan::new(&view, unit, &table) {
@@ -33,6 +33,7 @@ mod headers;
 mod nulls;
 mod places;
 mod scan;
+mod sections;
 mod step;
 mod unit_kinds;
 mod values;
@@ -40,4 +41,5 @@ mod values;
 pub use dw_base::{Fault, Kind, NoMemory, Params, Refusal, Scanned, Spec, UnitHeader, Value};
 pub use headers::{UnitHeaders, unit_headers};
 pub use scan::EntryScan;
+pub use sections::unit_sections;
 pub use values::EntryValues;

@@ -12,3 +12,4 @@ pub mod DefinedLaws
 pub mod WrittenLaws
 pub mod CanLaws
 pub mod ReadingLaws
+pub mod ViewTableLaws

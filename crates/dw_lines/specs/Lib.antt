@@ -1,2 +1,3 @@
 pub mod ViewSources
 pub mod ChangeSteps
+pub mod ViewTables

@@ -2,18 +2,19 @@
 //!
 //! This layer promises: a table that is given is the one that stands at the place: the numbers of its header, its
 //! directories and files, and the files that its program defines, each text where it is. It is refused exactly
-//! where none can be read there: as `Line` at the table, as `StringOffset` at an offset that names no text. A table
-//! that is written with mapped paths is the defined one, byte for byte, and is refused exactly where that can't be.
+//! where none can be read there: as `Line` at the table, as `StringOffset` at an offset that names no text. The tables
+//! of a view are all that fill its section of line tables. A table that is written with mapped paths is the defined
+//! one, byte for byte, and is refused exactly where that can't be.
 //! It does not promise: the rows of a program, which isn't run.
 //! Read first: `LineTables`, `LineFails`, `WrittenLines` and `LineWriteFails` in `dw_base/specs`, then
-//! `specs/ViewSources.antt`.
+//! `specs/ViewSources.antt` and `specs/ViewTables.antt`.
 //!
 //! ```
-//! use dw_lines::LineTable;
+//! use dw_lines::line_tables;
 //!
-//! // The table that starts `.debug_line`.
-//! if let Some(section) = view.first(DebugSection::Line) {
-//!     let table = LineTable::read(rt.alloc(), &view, section, 0)?;
+//! // Each line table of the file.
+//! let tables = line_tables(rt.alloc(), &view)?;
+//! for table in &tables {
 //!     assert!(rt; table.version >= 2);
 //! }
 //! ```
@@ -30,8 +31,10 @@ mod parts;
 mod program;
 mod table;
 mod texts;
+mod view_tables;
 mod written;
 
 pub use dw_base::{Fault, FilePlace, Kind, Refusal, TextPlace, Width};
 pub use table::LineTable;
+pub use view_tables::line_tables;
 pub use written::WrittenTable;

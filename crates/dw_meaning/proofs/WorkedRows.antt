@@ -352,9 +352,9 @@ unfolding spelled e_type e_phnum e_phoff e_phentsize e_shoff e_shentsize e_shnum
     name_index name_table section_name contents_of contents_at text_in ends_in debug_section is_listed elf_test names_test segments_of
     nth_segment segment_at sections_of part_of is_fixed fixed_end padding role_of kind_in form_rows between after_code unit_header initial_length_at number_at abbreviations_at uleb_at offset_of field_of
 output-refused = (
-  output (old_readings Little 8) all_stays-reads (record { inline = ((tt, (tt, (tt, (tt, tt)))), tt); slots = tt; lines = tt })
+  output (old_readings Little 8) all_stays-reads (record { inline = ((tt, (tt, (tt, (tt, tt)))), tt); slots = tt })
       (section_row 1 (ltb-true _ _ refl) (changed_row (record { stays = refl; body = λ same. other_offset (sym (all_stays-body 1) ∙ same) }))),
-  output (old_readings Little 8) all_stays-reads (record { inline = ((tt, (tt, (tt, (tt, tt)))), tt); slots = tt; lines = tt })
+  output (old_readings Little 8) all_stays-reads (record { inline = ((tt, (tt, (tt, (tt, tt)))), tt); slots = tt })
       (section_row 3 (ltb-true _ _ refl) (changed_row (record { stays = refl; body = λ same. longer (sym (all_stays-body 3) ∙ same) }))),
 )
   where
@@ -391,7 +391,7 @@ unfolding spelled e_type e_phnum e_phoff e_phentsize e_shoff e_shentsize e_shnum
     name_index name_table section_name contents_of contents_at text_in ends_in debug_section is_listed elf_test names_test segments_of
     nth_segment segment_at sections_of part_of is_fixed fixed_end padding role_of kind_in form_rows between after_code unit_header initial_length_at number_at abbreviations_at uleb_at offset_of field_of
 across-refused =
-    output (readings_in 3 0 13 path_texts) places-reads.1 (record { inline = ((tt, (tt, (tt, (tt, tt)))), tt); slots = tt; lines = tt })
+    output (readings_in 3 0 13 path_texts) places-reads.1 (record { inline = ((tt, (tt, (tt, (tt, tt)))), tt); slots = tt })
     (section_row 5 (ltb-true _ _ refl)
     (across (record { bytes = refl; alloc = refl; begins = ltb-true _ _ refl; ends = ltb-true _ _ refl })))
 
@@ -400,7 +400,7 @@ unfolding spelled e_type e_phnum e_phoff e_phentsize e_shoff e_shentsize e_shnum
     name_index name_table section_name contents_of contents_at text_in ends_in debug_section is_listed elf_test names_test segments_of
     nth_segment segment_at sections_of part_of is_fixed fixed_end padding role_of kind_in form_rows between after_code unit_header initial_length_at number_at abbreviations_at uleb_at offset_of field_of
 in_header-refused =
-    output (readings_in 3 0 13 path_texts) places-reads.0 (record { inline = ((tt, (tt, (tt, (tt, tt)))), tt); slots = tt; lines = tt })
+    output (readings_in 3 0 13 path_texts) places-reads.0 (record { inline = ((tt, (tt, (tt, (tt, tt)))), tt); slots = tt })
     (section_row 1 (ltb-true _ _ refl)
     (in_header (record { loaded = refl; bytes = refl; some = eqb-false _ _ refl; begins = ltb-true _ _ refl })))
 

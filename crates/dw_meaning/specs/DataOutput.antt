@@ -52,8 +52,13 @@ EachWritable m c around [] = ⊤
 EachWritable m c around (r ∷ rs) =
     CanWrite (source_around around) m (line_place m c.str c.line_str (source_around around)) (table_read (source_around around) r) × EachWritable m c around rs
 
--- and be mapped: each path that stands in its value fits its room, no slot is named by a path whose text changes and by a value that
--- isn't a path, and each line table can be written
+-- and paths outside line tables be mapped: each that stands in its value fits its room, and no slot is named by a path whose text changes
+-- and by a value that isn't a path
+pub record PathsFit (m : PathMap) (d : DebugData) (r : DataReadings) : Type 0 where
+  pub inline : EachReading (InlineFits m) r.units
+  pub slots : EachPiece (SlotFits m (around_of d r)) r.offsets
+
+-- and so can all: each line table can be written too
 pub record DataFits (m : PathMap) (d : DebugData) (r : DataReadings) : Type 0 where
   pub inline : EachReading (InlineFits m) r.units
   pub slots : EachPiece (SlotFits m (around_of d r)) r.offsets

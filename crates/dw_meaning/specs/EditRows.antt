@@ -1,7 +1,7 @@
 -- Why a file isn't edited with a prefix map, and the record of what holds where it is.
 use Rattle.std.specs.Prelude.{◌≡◌, ◌<◌, ◌++◌, ◌∷◌, ℕ, List}
 use Rattle.dw_meaning.specs.DataFails.{IndexesRead, InlineFails}
-use Rattle.dw_meaning.specs.DataOutput.{DataFits, changes_of}
+use Rattle.dw_meaning.specs.DataOutput.{DataFits, PathsFit, changes_of}
 use Rattle.dw_base.specs.DebugData.{DataReadings, around_of, line_source}
 use Rattle.dw_base.specs.IndexFails.{SharedFails}
 use Rattle.dw_base.specs.Elf.{section_count}
@@ -26,7 +26,7 @@ pub data EditFails (m : PathMap) (b : List ℕ) : Refusal → Type 0 where
   line_table : (readings : DataReadings) (before behind : List LineReading) (t : LineReading) {r : Refusal} → FileReads b readings → readings.lines ≡ before ++ t ∷ behind
       → WriteFails (line_source (file_data b)) m (line_place m (changes_of m (around_of (file_data b) readings) readings).str
       (changes_of m (around_of (file_data b) readings) readings).line_str (line_source (file_data b))) (table_read (line_source (file_data b)) t) r → EditFails m b r
-  output : (readings : DataReadings) {r : Refusal} → FileReads b readings → DataFits m (file_data b) readings
+  output : (readings : DataReadings) {r : Refusal} → FileReads b readings → PathsFit m (file_data b) readings
       → LayoutFails b (new_body m b readings) r → EditFails m b r
 
 -- the file is taken: it can be read, its paths fit the rooms in which they stand, its slots are fit to be mapped and its line tables can be written, no section that is read is loaded, it is of

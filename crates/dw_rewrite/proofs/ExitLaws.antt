@@ -2,6 +2,7 @@
 use Rattle.std.proofs.Common.{Bool, true, false, ◌≡◌, ◌≢◌, ℕ, suc, ◌+◌, ◌<◌, ◌≤◌, List, [], ◌∷◌, ◌++◌, length, if◌then◌else◌, Option, sym, ap, ◌∙◌, refl, subst, arith}
 use Rattle.std.proofs.lemmas.Bool.{true≢false}
 use Rattle.std.proofs.lemmas.List.{length-append}
+use Rattle.dw_lines.specs.ViewTables.{TablesFound}
 use Rattle.dw_meaning.specs.DataOutput.{Body, DataReads, changes_of, new_bodies, new_lines}
 use Rattle.dw_base.specs.DebugData.{DataReadings, around_of, line_source, table_of}
 use Rattle.dw_base.specs.Cells.{CellSection}
@@ -56,7 +57,6 @@ use Rattle.dw_rewrite.specs.Rewritten.{AllStand, IsInFile, body_with, long_fault
 use Rattle.dw_rewrite.specs.UnitPaths.{UnitPaths}
 use Rattle.dw_rewrite.specs.UnitTexts.{HasUnbuilt}
 use Rattle.dw_rewrite.specs.UnitTexts.UnitsRefuse.{data_fails, text_fails, unbuilt as value_unbuilt}
-use Rattle.dw_rewrite.specs.ViewLines.{TablesFound}
 use Rattle.dw_rewrite.proofs.BodyLaws.{bodies-same, bodies-stand, made-stand}
 use Rattle.dw_meaning.proofs.LoadedLaws.{loaded-kept}
 use Rattle.dw_rewrite.proofs.WrittenLaws.{fits_same, layout_same, length-moved}
@@ -314,7 +314,7 @@ pub refused_written : (m : PathMap) (b : List ℕ) (bodies : List Body) (f : Fau
     → Blames (LayoutFails b (body_with b bodies)) f → Blames (EditFails m b) f
 refused_written m b bodies NoMemory map j d h = tt
 refused_written m b bodies (Refused r) map j d h =
-    output d.readings (reads_judged b d.readings j d.reads) d.fits
+    output d.readings (reads_judged b d.readings j d.reads) (record { inline = d.fits.inline; slots = d.fits.slots })
     (layout_same b (body_with b bodies) (new_body m b d.readings) r (made_same m b bodies map j d) h)
 
 pub made_stand : (m : PathMap) (b : List ℕ) (bodies : List Body) → BodiesMade m (file_data b) bodies → AllStand b bodies

@@ -43,6 +43,7 @@ use Rattle.dw_base.proofs.FileViewLaws.{section_after-within}
 use Rattle.dw_base.proofs.NameBackLaws.{StringNamesBy}
 use Rattle.dw_base.proofs.PlainCellLaws.{IsPlain, bytes_of-plain, plain_cells-plain, offset_of-plain}
 use Rattle.dw_base.proofs.UnitEditLaws.{length-bytes_of}
+use Rattle.dw_lines.specs.ViewTables.{TablesFound}
 use Rattle.dw_meaning.specs.DataFails.{IndexesRead, index as index_row, slot as slot_row}
 use Rattle.dw_meaning.proofs.OffsetMoveLaws.{EachCells}
 use Rattle.dw_offsets.specs.PathSlots.{SlotsRefuse, SlotsTaken, slot_field, slot_fields, slots_in}
@@ -63,7 +64,7 @@ use Rattle.dw_rewrite.specs.NewTables.{AllHaveFields, AllHavePaths, AllRoomsFit,
 use Rattle.dw_rewrite.specs.SlotPaths.{as_fields, offset_fields, read_fields, slots_by, slots_of_view, slots_read}
 use Rattle.dw_rewrite.specs.TextPlaces.{AllFitRooms, AllPlaced, InlinesFit}
 use Rattle.dw_rewrite.specs.UnitPaths.{UnitPaths, field_by}
-use Rattle.dw_rewrite.specs.ViewLines.{TablesFound, lines_of_view, starts_of}
+use Rattle.dw_rewrite.specs.ViewLines.{lines_of_view, starts_of}
 use Rattle.dw_rewrite.specs.declared.fields.PathField.{PathField}
 use Rattle.dw_rewrite.proofs.ApartLaws.{slots-apart}
 use Rattle.dw_rewrite.proofs.EditedLaws.{piece_number}

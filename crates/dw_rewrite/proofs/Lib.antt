@@ -31,7 +31,7 @@ pub mod ExitLaws
 pub mod ValueTextLaws
 pub mod PlaceValueLaws
 pub mod BuiltLaws
-pub mod SectionOrderLaws
+pub mod SectionListLaws
 pub mod IndexedLaws
 pub mod TableLaws
 pub mod ApartLaws

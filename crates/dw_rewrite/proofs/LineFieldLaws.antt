@@ -15,12 +15,12 @@ use Rattle.dw_base.specs.declared.line_tables.FilePlace.{FilePlace}
 use Rattle.dw_base.specs.declared.line_tables.TextPlace.{TextPlace}
 use Rattle.dw_base.specs.declared.shared.Width.{Width}
 use Rattle.dw_lines.specs.ViewSources.{view_source}
+use Rattle.dw_lines.proofs.ReadingLaws.{source-is}
 use Rattle.dw_rewrite.specs.NewTables.{table_number}
 use Rattle.dw_rewrite.specs.UnitPaths.{UnitPaths}
 use Rattle.dw_rewrite.specs.ViewLines.{is_text_of, lines_by, lines_of_view, lines_with, table_fields, text_field, text_fields}
 use Rattle.dw_rewrite.specs.declared.fields.InlinePath.{InlinePath}
 use Rattle.dw_rewrite.specs.declared.fields.PathField.{PathField}
-use Rattle.dw_rewrite.proofs.LineReadLaws.{source-some}
 
 -- one field
 pub field-some : (section str : ℕ) (table : TextSection) (w : Width) (x : TextPlace) (size : ℕ) (old new : List PathField) → true ≡ is_text_of section str table x → size ≡ width_size w
@@ -158,7 +158,7 @@ pub ruleset with_rules = (with-fields)
 pub lines-pushed : (v : View) (section : ℕ) (ts : List LineTable) (old new : List UnitPaths) (u : UnitPaths) → Some section ≡ section_named v (name_of Line)
     → u ≡ lines_with (view_source v section) ts → new ≡ old ++ u ∷ [] → new ≡ old ++ lines_of_view v ts
 lines-pushed v section ts old new u found is more =
-    more ∙ ap (λ (x : UnitPaths). old ++ x ∷ []) is ∙ ap (λ (g : LineSource). old ++ lines_with g ts ∷ []) (source-some v section found)
+    more ∙ ap (λ (x : UnitPaths). old ++ x ∷ []) is ∙ ap (λ (g : LineSource). old ++ lines_with g ts ∷ []) (sym (source-is v section found))
     ∙ ap (λ (o : Option ℕ). old ++ lines_by o (line_source (debug_data v)) ts) found
 
 pub lines-absent : (v : View) (ts : List LineTable) (old new : List UnitPaths) → None ≡ section_named v (name_of Line) → new ≡ old → new ≡ old ++ lines_of_view v ts

@@ -1,13 +1,13 @@
 -- The new line tables from places that are known are those of the change of the tables of texts.
-use Rattle.std.proofs.Common.{Bool, true, false, ◌≡◌, ◌≢◌, ℕ, zero, suc, ◌+◌, ◌^◌, ◌<◌, ◌≤◌, ◌==◌, ◌&&◌, not, List, [], ◌∷◌, ◌++◌, length, get_or, if◌then◌else◌, Contains, Option, Some, None, is_some, refl, sym, ap, ◌∙◌, subst, arith}
+use Rattle.std.proofs.Common.{Bool, true, false, ◌≡◌, ◌≢◌, ℕ, zero, suc, ◌^◌, ◌<◌, ◌≤◌, ◌==◌, ◌&&◌, not, List, [], ◌∷◌, ◌++◌, length, get_or, if◌then◌else◌, Contains, Option, Some, None, is_some, refl, sym, ap, ◌∙◌, subst, arith}
 use Rattle.std.specs.Prelude.{⊤}
 use Rattle.std.proofs.lemmas.Bool.{ne_eqb, true≢false}
-use Rattle.dw_base.specs.Forms.{TextSection, in_str, in_line_str, width_size}
+use Rattle.dw_base.specs.Forms.{in_str, in_line_str, width_size}
 use Rattle.dw_base.specs.LineChanges.{asked_place, line_place, lines_after, path_in}
 use Rattle.dw_base.specs.LineReadings.{LineReading, TablesTo, table_read}
 use Rattle.dw_base.specs.LineSources.{LineSource}
-use Rattle.dw_base.specs.LineTables.{LineTable, texts_of}
-use Rattle.dw_base.specs.LineWriteFails.{CanWrite, WideOffset, WriteFails, wide, wide_table, wide_header, wide_offset, program, length_limit}
+use Rattle.dw_base.specs.LineTables.{LineTable}
+use Rattle.dw_base.specs.LineWriteFails.{CanWrite, WriteFails, wide, wide_table, wide_header, wide_offset, program, length_limit}
 use Rattle.dw_base.specs.Numbers.{spelled}
 use Rattle.dw_base.specs.Paths.{PathMap}
 use Rattle.dw_base.specs.StringTables.{Plan, new_place as text_place}
@@ -16,8 +16,9 @@ use Rattle.dw_base.specs.WrittenLines.{Change, all_changes, inline_change, new_p
 use Rattle.dw_base.specs.declared.fault.Refusal.{Refusal}
 use Rattle.dw_base.specs.declared.line_tables.TextPlace.{TextPlace}
 use Rattle.dw_base.specs.declared.shared.Width.{Width}
-use Rattle.dw_rewrite.specs.Changes.{IsNoted, KnownPlace, Knows, OffsetTable, offset_at, path_of}
-use Rattle.dw_rewrite.specs.ViewLines.{AllCanWrite, LinesRefuse, is_text_of, lines_known, table_fails, table_fields, tables_read, text_field, text_fields}
+use Rattle.dw_lines.specs.ViewTables.{tables_read}
+use Rattle.dw_rewrite.specs.Changes.{IsNoted, Knows, OffsetTable, offset_at, path_of}
+use Rattle.dw_rewrite.specs.ViewLines.{AllCanWrite, lines_known, table_fields, text_field, text_fields}
 use Rattle.dw_rewrite.specs.declared.fields.PathField.{PathField}
 use Rattle.dw_rewrite.proofs.LineMentionLaws.{texts_table}
 use Rattle.dw_rewrite.proofs.LinePlaceLaws.{EachReads, PathReads, offset-read, table-paths}

@@ -1,11 +1,10 @@
 -- The texts that line tables mention are those of the fields of their paths.
-use Rattle.std.proofs.Common.{Bool, true, false, ◌≡◌, ◌≢◌, ◌⊎◌, inl, inr, ℕ, ◌+◌, ◌<◌, ◌≤◌, ◌==◌, ◌&&◌, not, List, [], ◌∷◌, ◌++◌, length, get_or, if◌then◌else◌, refl, sym, ap, ◌∙◌, subst, arith, append_assoc}
+use Rattle.std.proofs.Common.{Bool, true, false, ◌≡◌, ◌≢◌, ◌⊎◌, inl, inr, ℕ, ◌==◌, ◌&&◌, not, List, [], ◌∷◌, ◌++◌, length, if◌then◌else◌, refl, sym, ap, ◌∙◌}
 use Rattle.std.proofs.lemmas.Bool.{eq-eqb, ne_eqb, true≢false}
 use Rattle.dw_base.specs.Forms.{TextSection, in_str, in_line_str, width_size}
 use Rattle.dw_base.specs.LineChanges.{path_in, mention_in, paths_mentions, line_mentions}
 use Rattle.dw_base.specs.LineReadings.{LineReading, TablesTo, table_read}
 use Rattle.dw_base.specs.LineSources.{LineSource}
-use Rattle.dw_base.specs.LineTables.{texts_of}
 use Rattle.dw_base.specs.Numbers.{spelled}
 use Rattle.dw_base.specs.Paths.{PathMap}
 use Rattle.dw_base.specs.StringTables.{Mention, Plan, with_mention, texts_after}
@@ -14,9 +13,10 @@ use Rattle.dw_base.specs.WrittenLines.{paths_of}
 use Rattle.dw_base.specs.declared.line_tables.TextPlace.{TextPlace}
 use Rattle.dw_base.specs.declared.shared.Width.{Width}
 use Rattle.dw_base.specs.declared.shared.Width.TheVariants.{W32, W64}
+use Rattle.dw_lines.specs.ViewTables.{tables_read}
 use Rattle.dw_meaning.proofs.LineColumnLaws.{texts_in}
 use Rattle.dw_rewrite.specs.Changes.{OffsetTable, ArePathFields, IsPathField, texts_at}
-use Rattle.dw_rewrite.specs.ViewLines.{is_text_of, table_fields, tables_read, text_field, text_fields}
+use Rattle.dw_rewrite.specs.ViewLines.{is_text_of, table_fields, text_field, text_fields}
 use Rattle.dw_rewrite.specs.declared.fields.PathField.{PathField}
 use Rattle.dw_rewrite.proofs.LinePlaceLaws.{EachReads, PathReads, stands_there, named_there, offset-read, table-paths}
 use Rattle.dw_rewrite.proofs.PlaceValueLaws.{EachOf, each-append, each-get}

@@ -1,6 +1,6 @@
 -- The paths of line tables that were read: each stands in the section, or a field of the section holds its offset into a table of texts,
 -- in which it ends.
-use Rattle.std.proofs.Common.{Bool, true, false, ◌≡◌, ◌≢◌, ℕ, ◌+◌, ◌<◌, ◌≤◌, ◌==◌, List, [], ◌∷◌, ◌++◌, length, take, Option, Some, None, refl, sym, ap, ◌∙◌, subst, arith}
+use Rattle.std.proofs.Common.{Bool, true, false, ◌≡◌, ℕ, ◌+◌, ◌≤◌, ◌==◌, List, [], ◌∷◌, ◌++◌, length, Option, Some, None, refl, sym, ap, ◌∙◌, subst, arith}
 use Rattle.std.specs.Prelude.{⊤, Ok}
 use Rattle.std.proofs.lemmas.Bool.{eq-eqb, true≢false}
 use Rattle.std.proofs.lemmas.List.{length-take}
@@ -20,7 +20,7 @@ use Rattle.dw_base.specs.declared.line_tables.LineHeader.{LineHeader}
 use Rattle.dw_base.specs.declared.line_tables.TextPlace.{TextPlace}
 use Rattle.dw_base.specs.declared.shared.Width.{Width}
 use Rattle.dw_base.specs.declared.values.Spec.{Spec}
-use Rattle.dw_meaning.proofs.LineColumnLaws.{texts_in, ColumnIs, inline_is, offset_is, value_is, column-is, offset_at}
+use Rattle.dw_meaning.proofs.LineColumnLaws.{texts_in, ColumnIs, inline_is, offset_is, value_is, column-is}
 use Rattle.dw_meaning.proofs.LineEntryLaws.{text_with, column-step, entry-same}
 use Rattle.dw_meaning.proofs.LineListLaws.{entry-is, list-is}
 use Rattle.dw_meaning.proofs.LineReadLaws.{inline-inside}

@@ -1,5 +1,5 @@
 -- Line tables written one after another: the bytes so far and those of the rest are those of all.
-use Rattle.std.proofs.Common.{◌≡◌, ℕ, zero, suc, ◌+◌, ◌<◌, ◌≤◌, List, [], ◌∷◌, ◌++◌, length, get_or, take, drop, Option, Some, None, refl, sym, ap, ◌∙◌, subst, arith, append_assoc, append-nil}
+use Rattle.std.proofs.Common.{◌≡◌, ℕ, zero, suc, ◌+◌, ◌<◌, ◌≤◌, List, [], ◌∷◌, ◌++◌, length, get_or, take, drop, Option, Some, None, sym, ap, ◌∙◌, subst, arith, append_assoc, append-nil}
 use Rattle.std.proofs.Math.Seq.{drop-cons}
 use Rattle.std.proofs.lemmas.List.{drop_all, length-append, take-append-drop}
 use Rattle.dw_base.specs.DebugData.{line_source}
@@ -17,9 +17,12 @@ use Rattle.dw_base.specs.declared.debug_sections.DebugSection.TheVariants.{Line}
 use Rattle.dw_base.specs.declared.fault.Fault.{Fault}
 use Rattle.dw_base.specs.declared.fault.Fault.TheVariants.{NoMemory, Refused}
 use Rattle.dw_lines.specs.ViewSources.{view_source}
+use Rattle.dw_lines.specs.ViewTables.{TablesFound, tables_read}
+use Rattle.dw_lines.proofs.ViewTableLaws.{source-none}
+use Rattle.dw_lines.proofs.ReadingLaws.{source-is}
 use Rattle.dw_meaning.proofs.LineSectionLaws.{no-tables}
-use Rattle.dw_rewrite.specs.ViewLines.{AllCanWrite, AllStandIn, LinesRefuse, LinesWritten, StandsIn, TablesFound, lines_known, table_fails, tables_read}
-use Rattle.dw_rewrite.proofs.LineReadLaws.{all-stand, source-none, source-some}
+use Rattle.dw_rewrite.specs.ViewLines.{AllCanWrite, AllStandIn, LinesRefuse, LinesWritten, StandsIn, lines_known, table_fails}
+use Rattle.dw_rewrite.proofs.LineReadLaws.{all-stand}
 
 -- a table that stands in a section of a number, by its own number
 pub stands-there : (v : View) (i : ℕ) (t : LineTable) → i < length v.sections → StandsIn (view_source v i) t → t.section < length v.sections
@@ -111,21 +114,21 @@ pub ruleset tables_rules = (pass-starts, pass-ends)
 -- those of a view
 pub view-stand : (v : View) (i : ℕ) (ts : List LineTable) → Some i ≡ section_named v (name_of Line) → TablesFound v ts → AllStandIn (view_source v i) ts
 view-stand v i ts e found =
-    subst (λ (g : LineSource). AllStandIn g ts) (sym (source-some v i e)) (all-stand (line_source (debug_data v)) ts (length (line_source (debug_data v)).bytes) found)
+    subst (λ (g : LineSource). AllStandIn g ts) (source-is v i e) (all-stand (line_source (debug_data v)) ts (length (line_source (debug_data v)).bytes) found)
 
 pub view-written : (m : PathMap) (v : View) (i : ℕ) (ks kl : ℕ → Option ℕ) (ts : List LineTable) (bs ns : List ℕ) → Some i ≡ section_named v (name_of Line)
     → LinesWritten m (view_source v i) ks kl ts bs ns → LinesWritten m (line_source (debug_data v)) ks kl ts bs ns
-view-written m v i ks kl ts bs ns e w = subst (λ (g : LineSource). LinesWritten m g ks kl ts bs ns) (source-some v i e) w
+view-written m v i ks kl ts bs ns e w = subst (λ (g : LineSource). LinesWritten m g ks kl ts bs ns) (sym (source-is v i e)) w
 
 pub none-written : (m : PathMap) (v : View) (ks kl : ℕ → Option ℕ) (ts : List LineTable) (bs ns : List ℕ) → None ≡ section_named v (name_of Line) → TablesFound v ts → bs ≡ [] → ns ≡ []
     → LinesWritten m (line_source (debug_data v)) ks kl ts bs ns
 none-written m v ks kl ts bs ns e found b n =
-    let none : found.readings ≡ [] = no-tables (line_source (debug_data v)) found.readings (sym (source-none v e)) found.reads in
+    let none : found.readings ≡ [] = no-tables (line_source (debug_data v)) found.readings (source-none v e) found.reads in
     let empty : ts ≡ [] = found.is ∙ ap (tables_read (line_source (debug_data v))) none in
     subst (λ (us : List LineTable). LinesWritten m (line_source (debug_data v)) ks kl us bs ns) (sym empty) (record { bytes = b; starts = n; can = tt })
 
 pub view-fault : (m : PathMap) (v : View) (i : ℕ) (ks kl : ℕ → Option ℕ) (ts : List LineTable) (f : Fault) → Some i ≡ section_named v (name_of Line)
     → Blames (LinesRefuse m (view_source v i) ks kl ts) f → Blames (LinesRefuse m (line_source (debug_data v)) ks kl ts) f
-view-fault m v i ks kl ts f e b = subst (λ (g : LineSource). Blames (LinesRefuse m g ks kl ts) f) (source-some v i e) b
+view-fault m v i ks kl ts f e b = subst (λ (g : LineSource). Blames (LinesRefuse m g ks kl ts) f) (sym (source-is v i e)) b
 
 pub ruleset view_rules = (view-stand, view-written, none-written, view-fault)

@@ -1,16 +1,15 @@
 -- The new bodies, as the code makes them, are those of the readings of debug data; and why there are none.
-use Rattle.std.proofs.Common.{true, false, ◌≡◌, ◌≢◌, ℕ, zero, suc, ◌+◌, ◌-◌, ◌^◌, ◌<◌, ◌≤◌, ◌&&◌, Bool, List, [], ◌∷◌, ◌++◌, length, take, drop, get_or, if◌then◌else◌, Option, Some, None, refl, sym, ap, ◌∙◌, subst, arith, append_assoc}
+use Rattle.std.proofs.Common.{true, false, ◌≡◌, ◌≢◌, ℕ, zero, suc, ◌+◌, ◌-◌, ◌^◌, ◌<◌, ◌≤◌, Bool, List, [], ◌∷◌, ◌++◌, length, take, drop, get_or, if◌then◌else◌, Option, Some, None, refl, sym, ap, ◌∙◌, subst, arith, append_assoc}
 use Rattle.std.proofs.Math.Seq.{drop-append_seam, take-append_seam}
 use Rattle.std.proofs.lemmas.Bool.{and_parts}
 use Rattle.std.proofs.lemmas.List.{length-append}
-use Rattle.dw_base.specs.Cells.{bytes_of, plain_cells}
-use Rattle.dw_base.specs.DebugData.{DebugData, DataReadings, Around, around_of, line_source, path_slots, source_around, table_of, ReadsAll}
+use Rattle.dw_base.specs.DebugData.{DebugData, DataReadings, around_of, line_source, path_slots, ReadsAll}
 use Rattle.dw_base.specs.DebugSections.{name_of}
 use Rattle.dw_base.specs.FileViews.{View, ViewSection, first_filled, is_filled, section_after, section_bytes, section_named}
 use Rattle.dw_base.specs.Forms.{TextSection, in_str, in_line_str}
 use Rattle.dw_base.specs.Layout.{output_limit}
-use Rattle.dw_base.specs.LineChanges.{line_mentions, line_place, lines_after}
-use Rattle.dw_base.specs.LineReadings.{LineReading, AreTables, TablesTo, all_lines, starts_from, table_read, table_starts}
+use Rattle.dw_base.specs.LineChanges.{line_mentions, line_place}
+use Rattle.dw_base.specs.LineReadings.{LineReading, AreTables, all_lines, starts_from, table_starts}
 use Rattle.dw_base.specs.LineSources.{LineSource}
 use Rattle.dw_base.specs.LineTables.{LineTable}
 use Rattle.dw_base.specs.OffsetPieces.{ReadsOffsets}
@@ -18,7 +17,7 @@ use Rattle.dw_base.specs.Paths.{PathMap}
 use Rattle.dw_base.specs.Pieces.{joined}
 use Rattle.dw_base.specs.Refusals.{Blames, at}
 use Rattle.dw_base.specs.SectionTexts.{file_mentions, mentions_with, name_role, slot_role}
-use Rattle.dw_base.specs.StringTables.{Mention, Plan, TextTable, appending, texts_after, table_bytes}
+use Rattle.dw_base.specs.StringTables.{Mention, Plan, TextTable, texts_after, table_bytes}
 use Rattle.dw_base.specs.TextChanges.{TableChange, all_mentions}
 use Rattle.dw_base.specs.Texts.{ends_in, laid_texts, same_text}
 use Rattle.dw_base.specs.ViewData.{debug_data, located, located_at}
@@ -28,33 +27,33 @@ use Rattle.dw_base.specs.declared.fault.Fault.{Fault}
 use Rattle.dw_base.specs.declared.fault.Fault.TheVariants.{NoMemory, Refused}
 use Rattle.dw_base.specs.declared.fault.Kind.TheVariants.{TooLarge}
 use Rattle.dw_base.specs.declared.fault.Refusal.{Refusal}
-use Rattle.dw_base.specs.declared.line_tables.TextPlace.{TextPlace}
 use Rattle.dw_base.specs.declared.string_offsets.Contribution.{Contribution}
 use Rattle.dw_base.proofs.FileViewLaws.{section_after-within}
 use Rattle.dw_base.proofs.TextLaws.{ends_in-inside, same_text-true}
-use Rattle.dw_lines.specs.ViewSources.{view_source}
-use Rattle.dw_meaning.specs.DataFails.{LinesFail}
-use Rattle.dw_meaning.specs.DataOutput.{Body, DataFits, EachWritable, cells_body, changes_of, lines_body, names_after, new_bodies, new_lines, offsets_after, table_change, unit_bodies}
+use Rattle.dw_lines.specs.ViewTables.{TablesFound, tables_read}
+use Rattle.dw_lines.proofs.ViewTableLaws.{source-none}
+use Rattle.dw_lines.proofs.ReadingLaws.{source-is}
+use Rattle.dw_meaning.specs.DataOutput.{Body, DataFits, PathsFit, EachWritable, cells_body, changes_of, lines_body, names_after, new_bodies, new_lines, offsets_after, table_change, unit_bodies}
 use Rattle.dw_meaning.proofs.DataKeptLaws.{readings-plain}
 use Rattle.dw_meaning.proofs.LineSectionLaws.{no-tables}
-use Rattle.dw_rewrite.specs.Bodies.{PathsFound, UnitsFound, UnitPathsRefuse, texts, BodiesMade, BodiesRefuse, long_table_of, long_lines_of, line_table_of, long_or_none, without_lines}
+use Rattle.dw_rewrite.specs.Bodies.{PathsFound, UnitsFound, UnitPathsRefuse, texts, BodiesMade, BodiesRefuse, long_table_of, long_lines_of, line_table_of, without_lines}
 use Rattle.dw_rewrite.specs.Bodies.UnitPathsRefuse.{inline}
-use Rattle.dw_rewrite.specs.Changes.{OffsetTable, AllFit, ArePathFields, IsNoted, Knows, offset_at, start_known, texts_at}
+use Rattle.dw_rewrite.specs.Changes.{OffsetTable, AllFit, ArePathFields, Knows, start_known, texts_at}
 use Rattle.dw_rewrite.specs.EntryTexts.{Tables}
 use Rattle.dw_rewrite.specs.IndexedTexts.{TextsRefuse}
 use Rattle.dw_rewrite.specs.LineStarts.{StartChange, StartsFit, known_starts}
-use Rattle.dw_rewrite.specs.NewTables.{AllHaveFields, AllHavePaths, AllRoomsFit, HasFields, IsSectionNoted, LongTable, TableMade, all_texts_at, bodies_after, bodies_known, fields_of, info_of, long_table, offsets_in, plan_in, section_texts_at, table_body_of, table_number}
+use Rattle.dw_rewrite.specs.NewTables.{AllHaveFields, AllHavePaths, AllRoomsFit, IsSectionNoted, LongTable, TableMade, all_texts_at, bodies_after, bodies_known, fields_of, info_of, long_table, offsets_in, plan_in, table_body_of, table_number}
 use Rattle.dw_rewrite.specs.SlotPaths.{count_of, lines_count, names_body, one_body, pushed_bodies, read_fields, slots_by, slots_count, slots_of_view, slots_read}
 use Rattle.dw_rewrite.specs.TextPlaces.{AllPlaced, AllFitRooms, AllStarts}
 use Rattle.dw_rewrite.specs.UnitPaths.{UnitPaths, paths_of}
 use Rattle.dw_rewrite.specs.UnitTexts.{AllTaken, tables_of}
-use Rattle.dw_rewrite.specs.ViewLines.{AllCanWrite, LinesRefuse, LinesWritten, TablesFound, lines_by, lines_known, lines_of_view, lines_with, starts_of, table_fails, table_fields, tables_read}
+use Rattle.dw_rewrite.specs.ViewLines.{AllCanWrite, LinesRefuse, LinesWritten, lines_by, lines_known, lines_of_view, lines_with, starts_of, table_fails, table_fields}
 use Rattle.dw_rewrite.specs.declared.fields.PathField.{PathField}
 use Rattle.dw_rewrite.proofs.BuiltLaws.{all-built}
 use Rattle.dw_rewrite.proofs.ChangedLaws.{known_fit}
 use Rattle.dw_rewrite.proofs.LineKnownLaws.{EachCanWrite, NotedIn, TableRefused, TablesAgree, all-can, lines-same, table-refused, tables-agree}
 use Rattle.dw_rewrite.proofs.LineMentionLaws.{TextsApart, lines-fields, lines-texts, texts_table}
-use Rattle.dw_rewrite.proofs.LineReadLaws.{read-starts, source-none, source-some}
+use Rattle.dw_rewrite.proofs.LineReadLaws.{read-starts}
 use Rattle.dw_rewrite.proofs.NewBodyLaws.{all_texts-append, known-bodies, made-noted, names-body, readings-bodies, readings-texts, same-plan, sections-plain, slots-body, slots-texts, starts_after, texts_after-append}
 use Rattle.dw_rewrite.proofs.PlaceValueLaws.{EachOf}
 use Rattle.dw_rewrite.proofs.SectionFactLaws.{taken-placed}
@@ -63,10 +62,10 @@ use Rattle.dw_rewrite.proofs.StartLaws.{starts-rise}
 
 -- The line tables of a view. Their section is the one of a number, or there are none.
 bytes-some : (v : View) (i : ℕ) → Some i ≡ section_named v (name_of Line) → (line_source (debug_data v)).bytes ≡ section_bytes v (line_source (debug_data v)).number
-bytes-some v i e = subst (λ (g : LineSource). g.bytes ≡ section_bytes v g.number) (source-some v i e) refl
+bytes-some v i e = subst (λ (g : LineSource). g.bytes ≡ section_bytes v g.number) (sym (source-is v i e)) refl
 
 lines-none : (v : View) (rs : List LineReading) → None ≡ section_named v (name_of Line) → AreTables (line_source (debug_data v)) rs → rs ≡ []
-lines-none v rs e are = no-tables (line_source (debug_data v)) rs (sym (source-none v e)) are
+lines-none v rs e are = no-tables (line_source (debug_data v)) rs (source-none v e) are
 
 same-texts : (v : View) (table : TextSection) → texts_table (line_source (debug_data v)) table ≡ offsets_in v table
 same-texts v in_str = refl
@@ -175,7 +174,7 @@ unfolding section_named
 lines-have-by v rs None e are = tt
 lines-have-by v rs (Some i) e are =
     let own = bytes-some v i e in
-    let number : i ≡ (line_source (debug_data v)).number = ap (λ (g : LineSource). g.number) (source-some v i e) in
+    let number : i ≡ (line_source (debug_data v)).number = ap (λ (g : LineSource). g.number) (sym (source-is v i e)) in
     let there : i < length v.sections = (section_after-within v (name_of Line) 0 i (sym e)).1 in
     let fields = λ (table : TextSection). lines-fields (line_source (debug_data v)) table 0 (length (line_source (debug_data v)).bytes) rs (view-apart v) are in (
       record {
@@ -445,42 +444,31 @@ made-fit m v table us pool known t =
     known_fit (plan_in m v table) m (offsets_in v table) pool.texts known
     (subst (λ (k : List ℕ). length (k ++ laid_texts pool.texts) ≤ output_limit) t.grown.kept t.grown.small) t.grown.knows
 
--- a table that would be too long is a row, where there are no line tables
-no-readings : (g : LineSource) (rs : List LineReading) → [] ≡ tables_read g rs → rs ≡ []
-no-readings g [] e = refl
-no-readings g (r ∷ rs) e = absurd cc
+-- a table that would be too long is a row
+paths-fit : (m : PathMap) (v : View) (us : List UnitPaths) (ts : List LineTable) (f : PathsFound m v us ts) → PathsFit m (debug_data v) f.readings
+paths-fit m v us ts f = record { inline = f.inline; slots = f.slots }
 
-none-fits : (m : PathMap) (v : View) (us : List UnitPaths) (f : PathsFound m v us []) → DataFits m (debug_data v) f.readings
-none-fits m v us f = record {
-  inline = f.inline;
-  slots = f.slots;
-  lines = subst (EachWritable m (changes_of m (around_of (debug_data v) f.readings) f.readings) (around_of (debug_data v) f.readings))
-      (sym (no-readings (line_source (debug_data v)) f.readings.lines f.tables)) tt;
-}
-
-long-row : (m : PathMap) (v : View) (table : TextSection) (us : List UnitPaths) (r : Refusal) → PathsFound m v us [] → LongTable m v table us r → BodiesRefuse m (debug_data v) r
+long-row : (m : PathMap) (v : View) (table : TextSection) (us : List UnitPaths) (ts : List LineTable) (r : Refusal) → PathsFound m v us ts → LongTable m v table us r
+    → BodiesRefuse m (debug_data v) r
 unfolding table_change
-long-row m v in_str us r f (long_table there over) =
+long-row m v in_str us ts r f (long_table there over) =
     let texts_are : (table_change m in_str (around_of (debug_data v) f.readings) f.readings).texts ≡ all_texts_at m v in_str [] us =
-    table-texts m v f.readings [] in_str f.reads.units f.reads.offsets f.reads.lines f.tables ∙ ap (all_texts_at m v in_str []) (sym f.is) in
-    long_table_of in_str f.readings f.reads (none-fits m v us f) there
-    (subst (λ (ts : List (List ℕ)). output_limit < length ((debug_data v).str.bytes ++ laid_texts ts)) (sym texts_are) over)
-long-row m v in_line_str us r f (long_table there over) =
+    table-texts m v f.readings ts in_str f.reads.units f.reads.offsets f.reads.lines f.tables ∙ ap (all_texts_at m v in_str []) (sym f.is) in
+    long_table_of in_str f.readings f.reads (paths-fit m v us ts f) there
+    (subst (λ (xs : List (List ℕ)). output_limit < length ((debug_data v).str.bytes ++ laid_texts xs)) (sym texts_are) over)
+long-row m v in_line_str us ts r f (long_table there over) =
     let texts_are : (table_change m in_line_str (around_of (debug_data v) f.readings) f.readings).texts ≡ all_texts_at m v in_line_str [] us =
-    table-texts m v f.readings [] in_line_str f.reads.units f.reads.offsets f.reads.lines f.tables ∙ ap (all_texts_at m v in_line_str []) (sym f.is) in
-    long_table_of in_line_str f.readings f.reads (none-fits m v us f) there
-    (subst (λ (ts : List (List ℕ)). output_limit < length ((debug_data v).line_str.bytes ++ laid_texts ts)) (sym texts_are) over)
+    table-texts m v f.readings ts in_line_str f.reads.units f.reads.offsets f.reads.lines f.tables ∙ ap (all_texts_at m v in_line_str []) (sym f.is) in
+    long_table_of in_line_str f.readings f.reads (paths-fit m v us ts f) there
+    (subst (λ (xs : List (List ℕ)). output_limit < length ((debug_data v).line_str.bytes ++ laid_texts xs)) (sym texts_are) over)
 
-pub long-fault : (m : PathMap) (v : View) (table : TextSection) (us : List UnitPaths) (ts : List LineTable) (f g : Fault) → PathsFound m v us ts → Blames (LongTable m v table us) f
-    → g ≡ long_or_none ts f → Blames (BodiesRefuse m (debug_data v)) g
-long-fault m v table us [] NoMemory g found b is = subst (Blames (BodiesRefuse m (debug_data v))) (sym is) tt
-long-fault m v table us [] (Refused r) g found b is = subst (Blames (BodiesRefuse m (debug_data v))) (sym is) (long-row m v table us r found b)
-long-fault m v table us (t ∷ ts) f g found b is = subst (Blames (BodiesRefuse m (debug_data v))) (sym is) tt
+pub long-fault : (m : PathMap) (v : View) (table : TextSection) (us : List UnitPaths) (ts : List LineTable) (f : Fault) → PathsFound m v us ts → Blames (LongTable m v table us) f
+    → Blames (BodiesRefuse m (debug_data v)) f
+long-fault m v table us ts NoMemory found b = tt
+long-fault m v table us ts (Refused r) found b = long-row m v table us ts r found b
 
 pub all-fields : (m : PathMap) (v : View) (us : List UnitPaths) (ts : List LineTable) → PathsFound m v us ts → AllHaveFields v us
 all-fields m v us ts f = f.fields
-
-pub ruleset text_rules = (long-fault, all-fields)
 
 -- so is a line table that can't be written,
 lines-row : (m : PathMap) (v : View) (us : List UnitPaths) (ts : List LineTable) (ps pl : TextTable) (ks kl : ℕ → Option ℕ) (r : Refusal) → (f : PathsFound m v us ts)
@@ -509,7 +497,7 @@ some-number m v ks kl us ts bs f is some zero_ = by (section_named v (name_of Li
         omega (arith, empty, some)
     by (Some i) e =
         let above = (section_after-within v (name_of Line) 0 i (sym e)).0 in
-        let number : i ≡ (line_source (debug_data v)).number = ap (λ (g : LineSource). g.number) (source-some v i e) in
+        let number : i ≡ (line_source (debug_data v)).number = ap (λ (g : LineSource). g.number) (sym (source-is v i e)) in
         omega (arith, above, number, zero_)
 
 pub long-lines : (m : PathMap) (v : View) (us : List UnitPaths) (ts : List LineTable) (ps pl : TextTable) (ks kl : ℕ → Option ℕ) (bs ns : List ℕ) (r : Refusal) → PathsFound m v us ts
@@ -517,7 +505,7 @@ pub long-lines : (m : PathMap) (v : View) (us : List UnitPaths) (ts : List LineT
     → r ≡ at TooLarge (debug_data v).lines.number 0 → BodiesRefuse m (debug_data v) r
 long-lines m v us ts ps pl ks kl bs ns r f s l w over is =
     subst (BodiesRefuse m (debug_data v)) (sym is)
-    (long_lines_of f.readings f.reads (made-fits m v us ts ps pl ks kl bs ns f s l w) (some-number m v ks kl us ts bs f w.bytes (omega (arith, over)))
+    (long_lines_of f.readings f.reads (paths-fit m v us ts f) (some-number m v ks kl us ts bs f w.bytes (omega (arith, over)))
     (subst (λ (x : List ℕ). output_limit < length x) (w.bytes ∙ ap all_lines (known-lines m v us ts ps pl ks kl f s l)) over))
 
 -- the new starts fit
@@ -577,7 +565,7 @@ rooms-fit m v us part ts f is = subst (AllRoomsFit m v) (sym is) f.rooms
 pub found-tables : (m : PathMap) (v : View) (us : List UnitPaths) (ts : List LineTable) → PathsFound m v us ts → TablesFound v ts
 found-tables m v us ts f = record { readings = f.readings.lines; reads = f.reads.lines; is = f.tables }
 
-pub ruleset body_rules = (made-fit, slots-among, lines-among, have-paths, rooms-fit, found-tables)
+pub ruleset body_rules = (all-fields, made-fit, slots-among, lines-among, have-paths, rooms-fit, found-tables)
 
 -- what was found of paths in units
 pub units-found : (m : PathMap) (d : DebugData) (starts : List ℕ) (us : List UnitPaths) → AllTaken d d.units us → AllFitRooms m d.units us → AllStarts d starts d.units us

@@ -1,55 +1,39 @@
 -- The new bodies are those of the readings of debug data.
-use Rattle.std.proofs.Common.{◌≡◌, ℕ, suc, ◌+◌, ◌-◌, ◌<◌, ◌≤◌, List, [], ◌∷◌, ◌++◌, length, take, drop, get_or, Option, Some, None, refl, sym, ap, ◌∙◌, subst, arith, append_assoc}
-use Rattle.std.proofs.Math.Seq.{drop-append_seam, take-append_seam}
-use Rattle.std.proofs.lemmas.List.{length-append}
+use Rattle.std.proofs.Common.{◌≡◌, ℕ, suc, ◌+◌, ◌<◌, List, [], ◌∷◌, ◌++◌, length, get_or, Option, Some, None, refl, sym, ap, ◌∙◌, subst, arith, append_assoc}
 use Rattle.dw_base.specs.Cells.{bytes_of, plain_cells}
 use Rattle.dw_base.specs.DebugSections.{name_of}
 use Rattle.dw_base.specs.OffsetPieces.{OffsetState, ReadsOffsets, at_contribution, offsets_at}
-use Rattle.dw_base.specs.SectionTexts.{edited_with, file_mentions, mentions_with, name_role, slot_role}
+use Rattle.dw_base.specs.SectionTexts.{edited_with, mentions_with, slot_role}
 use Rattle.dw_base.specs.declared.debug_sections.DebugSection.TheVariants.{Names, StrOffsets}
-use Rattle.dw_base.specs.declared.string_offsets.Contribution.{Contribution}
 use Rattle.dw_base.proofs.PlainCellLaws.{IsPlain, bytes_of-plain, plain_cells-plain}
 use Rattle.dw_meaning.proofs.OffsetMoveLaws.{EachCells, cells-plain}
-use Rattle.dw_meaning.specs.DataOutput.{Body, cells_body, table_change, changes_of, names_after, offsets_after, unit_body, unit_bodies, new_bodies}
+use Rattle.dw_meaning.specs.DataOutput.{Body, cells_body, table_change, changes_of, names_after, offsets_after, unit_body, unit_bodies}
 use Rattle.dw_base.specs.DebugData.{DebugData, DataReadings, Around, around_of, path_slots, table_of, units_in, ReadsAll}
 use Rattle.dw_base.specs.Readings.{Reading, Readings, EachReading}
 use Rattle.dw_base.specs.FileViews.{View, section_bytes, section_named}
 use Rattle.dw_base.specs.Forms.{TextSection, in_str, in_line_str}
-use Rattle.dw_base.specs.Layout.{output_limit}
 use Rattle.dw_base.specs.Paths.{PathMap}
 use Rattle.dw_base.specs.Pieces.{Piece, joined, EachPiece}
-use Rattle.dw_base.specs.Refusals.{Blames}
-use Rattle.dw_base.specs.StringTables.{Mention, Plan, TextTable, appending, with_mention, texts_after, table_bytes}
+use Rattle.dw_base.specs.StringTables.{Mention, Plan, TextTable, appending, with_mention, texts_after}
 use Rattle.dw_base.specs.TextChanges.{mentions_of, all_mentions, edited_all, InlineFits}
-use Rattle.dw_base.specs.Texts.{laid_texts}
 use Rattle.dw_base.specs.UnitHeaders.{UnitSection}
 use Rattle.dw_base.specs.UnitPieces.{ReadsUnits}
 use Rattle.dw_base.specs.UnitStates.{UnitState, before_unit}
 use Rattle.dw_base.specs.ViewData.{debug_data, located, located_at}
-use Rattle.dw_base.specs.declared.fault.Fault.{Fault}
-use Rattle.dw_base.specs.declared.fault.Fault.TheVariants.{NoMemory, Refused}
-use Rattle.dw_base.specs.declared.fault.Refusal.{Refusal}
-use Rattle.dw_meaning.proofs.DataKeptLaws.{EachPlain, readings-plain}
+use Rattle.dw_meaning.proofs.DataKeptLaws.{EachPlain}
 use Rattle.dw_meaning.proofs.TextEditLaws.{PlainPiece}
-use Rattle.dw_rewrite.specs.Bodies.{PathsFound, UnitsFound, UnitPathsRefuse, texts, BodiesMade, BodiesRefuse, long_table_of}
-use Rattle.dw_rewrite.specs.Bodies.UnitPathsRefuse.{inline}
-use Rattle.dw_rewrite.specs.IndexedTexts.{TextsRefuse}
-use Rattle.dw_rewrite.specs.SlotPaths.{count_of, kept_body, names_body, offset_fields, one_body, pushed_bodies, read_fields, slots_by, slots_count, slots_of_view, slots_read, slots_with}
-use Rattle.dw_rewrite.proofs.SlotWrittenLaws.{SlotsPlaced, line-fields, names-kept, names-texts, no-offsets, slots-placed, slots_written, texts_by_slots}
-use Rattle.dw_rewrite.specs.Changes.{OffsetTable, texts_at, patched, start_table, with_all_known, AllFit}
+use Rattle.dw_rewrite.specs.SlotPaths.{kept_body, names_body, offset_fields, one_body, read_fields, slots_by, slots_read, slots_with}
+use Rattle.dw_rewrite.proofs.SlotWrittenLaws.{SlotsPlaced, line-fields, names-kept, no-offsets, slots-placed, slots_written, texts_by_slots}
+use Rattle.dw_rewrite.specs.Changes.{OffsetTable, texts_at, patched, start_table, with_all_known}
 use Rattle.dw_base.specs.declared.shared.Order.{Order}
-use Rattle.dw_rewrite.specs.EntryTexts.{Tables}
-use Rattle.dw_rewrite.specs.NewTables.{AllHavePaths, AllRoomsFit, offsets_of, offsets_in, plan_in, table_number, fields_of, info_of, section_texts_at, all_texts_at, IsSectionNoted, Growing, TableMade, change_in, section_after, body_after, bodies_after, LongTable, long_table, section_known, bodies_known, table_body_of}
-use Rattle.dw_rewrite.specs.TextPlaces.{AllPlaced, AllFitRooms}
+use Rattle.dw_rewrite.specs.NewTables.{offsets_of, offsets_in, plan_in, fields_of, info_of, section_texts_at, all_texts_at, IsSectionNoted, Growing, TableMade, change_in, section_after, body_after, bodies_after, section_known, bodies_known}
 use Rattle.dw_rewrite.specs.UnitPaths.{UnitPaths, path_fields, inline_paths, paths_in, paths_of, offset_table, inlined, start_fields}
-use Rattle.dw_rewrite.specs.UnitTexts.{AllTaken, tables_of}
 use Rattle.dw_rewrite.specs.declared.fields.PathField.{PathField}
-use Rattle.dw_rewrite.proofs.BuiltLaws.{all-built}
-use Rattle.dw_rewrite.proofs.ChangedLaws.{put_is_patched, known_fit}
+use Rattle.dw_rewrite.proofs.ChangedLaws.{put_is_patched}
 use Rattle.dw_rewrite.proofs.EditedLaws.{texts_by_fields}
 use Rattle.dw_rewrite.proofs.PlaceValueLaws.{EachOf}
 use Rattle.dw_rewrite.proofs.PlacedLaws.{Placed, placed}
-use Rattle.dw_rewrite.proofs.SectionFactLaws.{own-section, own-bytes, own-plain, taken-placed}
+use Rattle.dw_rewrite.proofs.SectionFactLaws.{own-section, own-bytes, own-plain}
 use Rattle.dw_rewrite.proofs.UnitWrittenLaws.{pieces_written, starts_by}
 
 -- the sections of a view have plain cells

@@ -1,7 +1,8 @@
 -- The new bytes of the sections that an edit changes, from what the units of debug data say of paths; and why there are none.
 use Rattle.std.specs.Prelude.{◌≡◌, ◌≢◌, ℕ, ◌-◌, ◌<◌, List, [], ◌∷◌, ◌++◌, length, take}
+use Rattle.dw_lines.specs.ViewTables.{tables_read}
 use Rattle.dw_meaning.specs.DataFails.{IndexesRead, InlineFails, SlotTextFails, StartsFail}
-use Rattle.dw_meaning.specs.DataOutput.{Body, DataReads, DataFits, changes_of, new_bodies, new_lines, table_change}
+use Rattle.dw_meaning.specs.DataOutput.{Body, DataReads, DataFits, PathsFit, changes_of, new_bodies, new_lines, table_change}
 use Rattle.dw_base.specs.DebugData.{DebugData, DataReadings, around_of, line_source, table_of}
 use Rattle.dw_base.specs.FileViews.{View}
 use Rattle.dw_base.specs.Forms.{TextSection}
@@ -21,8 +22,6 @@ use Rattle.dw_base.specs.StringOffsetFails.{ContributionsFail}
 use Rattle.dw_base.specs.StringTables.{new_table}
 use Rattle.dw_base.specs.TextChanges.{InlineFits, TableChange}
 use Rattle.dw_base.specs.ViewData.{debug_data, string_offsets}
-use Rattle.dw_base.specs.declared.fault.Fault.{Fault}
-use Rattle.dw_base.specs.declared.fault.Fault.TheVariants.{NoMemory}
 use Rattle.dw_base.specs.declared.fault.Kind.TheVariants.{TooLarge}
 use Rattle.dw_base.specs.declared.fault.Refusal.{Refusal}
 use Rattle.dw_base.specs.declared.string_offsets.Contribution.{Contribution}
@@ -34,7 +33,7 @@ use Rattle.dw_rewrite.specs.SlotPaths.{as_fields, lines_count, slots_of_view, sl
 use Rattle.dw_rewrite.specs.TextPlaces.{AllPlaced, AllFitRooms, AllStarts}
 use Rattle.dw_rewrite.specs.UnitPaths.{UnitPaths, paths_of}
 use Rattle.dw_rewrite.specs.UnitTexts.{HasUnbuilt, UnitsRefuse}
-use Rattle.dw_rewrite.specs.ViewLines.{lines_of_view, tables_read}
+use Rattle.dw_rewrite.specs.ViewLines.{lines_of_view}
 
 -- the unit sections of debug data can be read and say this of paths, each path that stands in its value fits its room, each value that is
 -- to say where a line table starts names one of these starts, and no value is of a kind that isn't taken yet
@@ -100,17 +99,12 @@ long_table m d r table =
     let change : TableChange = table_change m table (around_of d r) r in
     new_table change.plan change.texts
 
--- the fault of a table of texts that is too long, where there are no line tables
-abbrev pub long_or_none : List LineTable → Fault → Fault
-long_or_none [] fault = fault
-long_or_none (t ∷ ts) fault = NoMemory
-
 -- why there are no new bytes: a table of texts or the line tables, of a section that is there, would be too long, or a line table can't be
 -- written
 pub data BodiesRefuse (m : PathMap) (d : DebugData) : Refusal → Type 0 where
-  long_table_of : (table : TextSection) (r : DataReadings) → DataReads d r → DataFits m d r → (table_of (around_of d r) table).number ≢ 0
+  long_table_of : (table : TextSection) (r : DataReadings) → DataReads d r → PathsFit m d r → (table_of (around_of d r) table).number ≢ 0
       → output_limit < length (long_table m d r table) → BodiesRefuse m d (at TooLarge (table_of (around_of d r) table).number 0)
-  long_lines_of : (r : DataReadings) → DataReads d r → DataFits m d r → d.lines.number ≢ 0
+  long_lines_of : (r : DataReadings) → DataReads d r → PathsFit m d r → d.lines.number ≢ 0
       → output_limit < length (all_lines (new_lines m (around_of d r) r)) → BodiesRefuse m d (at TooLarge d.lines.number 0)
   line_table_of : (r : DataReadings) (before behind : List LineReading) (t : LineReading) {x : Refusal} → DataReads d r → r.lines ≡ before ++ t ∷ behind
       → WriteFails (line_source d) m (line_place m (changes_of m (around_of d r) r).str (changes_of m (around_of d r) r).line_str (line_source d)) (table_read (line_source d) t) x

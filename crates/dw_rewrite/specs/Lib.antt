@@ -13,4 +13,3 @@ pub mod SlotPaths
 pub mod Bodies
 pub mod Judged
 pub mod Rewritten
-pub mod SectionOrder

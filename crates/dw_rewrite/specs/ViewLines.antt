@@ -1,12 +1,11 @@
--- The line tables of a view, as they were read: the fields of their paths by offset, and the tables with mapped paths, from new places
+-- The line tables of a view, as they were read: where they start, the fields of their paths by offset, and the tables with mapped paths, from new places
 -- by old ones (DWARF 5, 6.2.4).
-use Rattle.std.specs.Prelude.{Bool, ◌≡◌, ℕ, ◌<◌, ◌==◌, ◌&&◌, not, if◌then◌else◌, List, [], ◌∷◌, ◌++◌, length, Option, Some, None, ⊤}
+use Rattle.std.specs.Prelude.{Bool, ◌≡◌, ℕ, ◌==◌, ◌&&◌, not, if◌then◌else◌, List, [], ◌∷◌, ◌++◌, Option, Some, None, ⊤}
 use Rattle.dw_base.specs.DebugData.{line_source}
 use Rattle.dw_base.specs.DebugSections.{name_of}
 use Rattle.dw_base.specs.FileViews.{View, section_named}
 use Rattle.dw_base.specs.Forms.{TextSection, in_str, in_line_str, width_size}
-use Rattle.dw_base.specs.LineFails.{LineFails}
-use Rattle.dw_base.specs.LineReadings.{LineReading, TablesTo, all_lines, starts_from, table_read}
+use Rattle.dw_base.specs.LineReadings.{all_lines, starts_from}
 use Rattle.dw_base.specs.LineSources.{LineSource}
 use Rattle.dw_base.specs.LineTables.{LineTable, IsLineTable}
 use Rattle.dw_base.specs.LineWriteFails.{CanWrite, WriteFails}
@@ -19,26 +18,6 @@ use Rattle.dw_base.specs.declared.line_tables.TextPlace.{TextPlace}
 use Rattle.dw_base.specs.declared.shared.Width.{Width}
 use Rattle.dw_rewrite.specs.UnitPaths.{UnitPaths}
 use Rattle.dw_rewrite.specs.declared.fields.PathField.{PathField}
-
--- the tables of readings
-abbrev pub tables_read : LineSource → List LineReading → List LineTable
-tables_read g [] = []
-tables_read g (r ∷ rs) = table_read g r ∷ tables_read g rs
-
--- these tables stand one after another from the start of their section up to a place
-pub record TablesUpTo (g : LineSource) (ts : List LineTable) (e : ℕ) : Type 0 where
-  pub readings : List LineReading
-  pub reads : TablesTo g 0 readings e
-  pub is : ts ≡ tables_read g readings
-
--- behind tables that can be read one starts that can't
-pub data TablesRefuse (g : LineSource) : Refusal → Type 0 where
-  line_table : (before : List LineReading) (start : ℕ) {r : Refusal} → TablesTo g 0 before start → start < length g.bytes → LineFails g start r
-      → TablesRefuse g r
-
--- these are the line tables of a view
-abbrev pub TablesFound : View → List LineTable → Type 0
-TablesFound v ts = TablesUpTo (line_source (debug_data v)) ts (length (line_source (debug_data v)).bytes)
 
 -- where tables start
 abbrev pub starts_of : List LineTable → List ℕ

@@ -1,12 +1,9 @@
 //! What all unit sections of a view say of paths, in the order of their numbers.
-//!
-//! Read first: `specs/SectionOrder.antt`.
 
 ghost use Rattle.std.specs.Prelude.{◌≡◌, IfErr, IfOk, OnOk, length};
-ghost use Rattle.dw_base.specs.DebugSections.{name_of};
 ghost use Rattle.dw_base.specs.Refusals.{Blames};
 ghost use Rattle.dw_base.specs.ViewData.{debug_data};
-ghost use Rattle.dw_rewrite.specs.SectionOrder.{first_of, known_after};
+ghost use Rattle.dw_entries.specs.SectionOrder.{AreSections};
 ghost use Rattle.dw_rewrite.specs.IndexedTexts.{TablesStart, TextsIndexed, TextsRefuse};
 ghost use Rattle.dw_rewrite.specs.NamedSlots.{no_slots};
 ghost use Rattle.dw_rewrite.specs.TextPlaces.{AllStarts};
@@ -16,7 +13,8 @@ use crate::found::{TextTables, UnitPaths};
 use crate::sections::section_texts;
 use crate::slots::NamedSlots;
 use crate::starts::all_start;
-use dw_base::{DebugSection, Fault};
+use dw_base::Fault;
+use dw_entries::unit_sections;
 use dw_view::View;
 use std::alloc::Global;
 use std::collections::HashMap;
@@ -50,7 +48,6 @@ pub(crate) fn all_texts(
 }
 
 /// What the unit sections of the view say of paths, with the slots that their values name.
-#[tactic(auto, using(crate::proofs::SectionOrderLaws::all_rules))]
 fn read_all(
     alloc: Global,
     view: &View,
@@ -61,39 +58,29 @@ fn read_all(
     ensures taken { IfOk result (λ us. AllIndexed (debug_data view.now) (debug_data view.now).units us.items slots.old slots.new) }
     ensures refused { IfErr result (Blames (UnitsRefuse (debug_data view.now))) }
 {
+    let sections = unit_sections(alloc, view)?;
+    read_sections(alloc, view, tables, sections.as_slice(), slots)
+}
+
+/// The same of the sections of these numbers, which are all unit sections of the view.
+#[tactic(auto, using(crate::proofs::SectionListLaws::all_rules))]
+fn read_sections(
+    alloc: Global,
+    view: &View,
+    tables: &TextTables,
+    sections: &[u32],
+    slots: &mut NamedSlots,
+) -> Result<Vec<UnitPaths>, Fault>
+    requires tables { tables.now ≡ tables_of (debug_data view.now) }
+    requires sections { AreSections view.now sections.now }
+    ensures taken { IfOk result (λ us. AllIndexed (debug_data view.now) (debug_data view.now).units us.items slots.old slots.new) }
+    ensures refused { IfErr result (Blames (UnitsRefuse (debug_data view.now))) }
+{
     let mut found = Vec::new(alloc);
     let mut shared = HashMap::new(alloc);
-    let mut info = view.first(DebugSection::Info);
-    let mut types = view.first(DebugSection::Types);
-    while let Some(section) = first_of(info, types) {
-        let paths = section_texts(alloc, view, tables, section, &mut shared, slots)?;
+    for section in sections {
+        let paths = section_texts(alloc, view, tables, *section, &mut shared, slots)?;
         found.push(paths)?;
-        info = known_after(view, DebugSection::Info, info, section);
-        types = known_after(view, DebugSection::Types, types, section);
     }
     Ok(found)
-}
-
-/// The smaller of two numbers, where there are any.
-fn first_of(a: Option<u32>, b: Option<u32>) -> Option<u32>
-    ensures { result ≡ first_of a b }
-{
-    match (a, b) {
-        (Some(a), Some(b)) => Some(if a <= b { a } else { b }),
-        (Some(a), None) => Some(a),
-        (None, b) => b,
-    }
-}
-
-/// The first section of a name above a number, where the first above an earlier one is known.
-fn known_after(view: &View, name: DebugSection, known: Option<u32>, section: u32) -> Option<u32>
-    ensures { result ≡ known_after view.now (name_of name) known section }
-{
-    let Some(number) = known else {
-        return None;
-    };
-    if number == section {
-        return view.section(name.name(), section);
-    }
-    known
 }

@@ -11,13 +11,13 @@ ghost use Rattle.dw_base.specs.StringOffsets.{AreContributions};
 ghost use Rattle.dw_base.specs.ViewData.{debug_data, string_offsets};
 ghost use Rattle.dw_offsets.specs.PathSlots.{SlotsRefuse, slots_in};
 ghost use Rattle.dw_base.specs.declared.fault.Fault.TheVariants.{NoMemory};
+ghost use Rattle.dw_lines.specs.ViewTables.{TablesFound};
 ghost use Rattle.dw_rewrite.specs.Changes.{AllFit};
 ghost use Rattle.dw_rewrite.specs.NewTables.{AllHavePaths, AllRoomsFit, TableMade, as_table, bodies_known};
-ghost use Rattle.dw_rewrite.specs.Bodies.{BodiesMade, BodiesRefuse, PathsFound, PathsRefuse, SlotsFound, UnitPathsRefuse, UnitsFound, long_or_none, without_lines};
+ghost use Rattle.dw_rewrite.specs.Bodies.{BodiesMade, BodiesRefuse, PathsFound, PathsRefuse, SlotsFound, UnitPathsRefuse, UnitsFound, without_lines};
 ghost use Rattle.dw_rewrite.specs.IndexedTexts.{TablesStart, TextsIndexed};
 ghost use Rattle.dw_rewrite.specs.LineStarts.{known_starts};
 ghost use Rattle.dw_rewrite.specs.NamedSlots.{no_slots};
-ghost use Rattle.dw_rewrite.specs.ViewLines.{TablesFound};
 ghost use Rattle.dw_rewrite.specs.SlotPaths.{as_fields, lines_count, names_body, one_body, pushed_bodies, slots_count, slots_with};
 
 use crate::all_sections::all_texts;
@@ -172,11 +172,11 @@ pub(crate) fn new_bodies(
     ensures refused { IfErr result (Blames (BodiesRefuse maps.now (debug_data view.now))) }
 {
     let old = starts_of(alloc, tables)?;
-    let NewTable { pool, known } = text_table(alloc, view, maps, TextsOf::Str, tables, paths)?;
+    let NewTable { pool, known } = new_table(alloc, view, maps, TextsOf::Str, paths)?;
     let NewTable {
         pool: line_pool,
         known: line_known,
-    } = text_table(alloc, view, maps, TextsOf::LineStr, tables, paths)?;
+    } = new_table(alloc, view, maps, TextsOf::LineStr, paths)?;
     let lines = new_lines(alloc, view, maps, &known, &line_known, tables)?;
     if lines.bytes.len() as u64 > OUTPUT_LIMIT {
         return Err(Fault::Refused(long_lines(view)));
@@ -209,38 +209,6 @@ pub(crate) fn new_bodies(
         &mut bodies,
     )?;
     Ok(bodies)
-}
-
-/// A table of texts with the mapped paths of all these sections. Refused as `TooLarge`, at its section, where it would
-/// be longer than a file that is written. Where it would and there are line tables, whether these could be written
-/// isn't known, since that goes by the places in a table that this program doesn't hold: then memory is wanting.
-#[tactic(auto, using(crate::proofs::MadeBodyLaws::text_rules))]
-fn text_table(
-    alloc: Global,
-    view: &View,
-    maps: &Maps,
-    texts: TextsOf,
-    tables: &[LineTable],
-    paths: &[UnitPaths],
-) -> Result<NewTable, Fault>
-    requires found { PathsFound maps.now view.now paths.now tables.now }
-    ensures made { IfOk result (λ t. TableMade maps.now view.now (as_table texts) paths.now t.pool (λ o. get nat_eq t.known o)) }
-    ensures refused { IfErr result (Blames (BodiesRefuse maps.now (debug_data view.now))) }
-{
-    match new_table(alloc, view, maps, texts, paths) {
-        Ok(table) => Ok(table),
-        Err(fault) => Err(long_or_none(tables, fault)),
-    }
-}
-
-/// The fault of a table of texts that is too long, where there are no line tables.
-fn long_or_none(tables: &[LineTable], fault: Fault) -> Fault
-    ensures { result ≡ long_or_none tables.now fault }
-{
-    if tables.is_empty() {
-        return fault;
-    }
-    Fault::NoMemory
 }
 
 /// The number of the section of line tables; 0 where there is none.

@@ -3,6 +3,7 @@
 //! Read first: `dw_meaning/specs/EditRows.antt` and `dw_meaning/specs/FileMeanings.antt`, then `specs/Rewritten.antt`.
 
 ghost use Rattle.std.specs.Prelude.{◌≡◌, ◌≢◌, ◌<◌, ◌≤◌, ℕ, List, [], length, OnOk, IfOk, IfErr};
+ghost use Rattle.dw_lines.specs.ViewTables.{TablesFound};
 ghost use Rattle.dw_meaning.specs.EditRows.{EditFails, IsAccepted};
 ghost use Rattle.dw_base.specs.Elf.{section_count};
 ghost use Rattle.dw_base.specs.ElfFails.{ElfReads, SegmentsRead};
@@ -15,17 +16,15 @@ ghost use Rattle.dw_meaning.specs.Loaded.{LoadedKept};
 ghost use Rattle.dw_base.specs.Refusals.{Blames};
 ghost use Rattle.dw_rewrite.specs.Bodies.{BodiesMade, PathsFound};
 ghost use Rattle.dw_rewrite.specs.Judged.{IsJudged};
-ghost use Rattle.dw_rewrite.specs.ViewLines.{TablesFound};
 ghost use Rattle.dw_rewrite.specs.Rewritten.{AllStand, AreGiven, IsGiven, IsInFile, body_with, long_fault, long_refusal, told_refusal};
 
 use crate::bodies::{found_paths, new_bodies};
 use crate::found::UnitPaths;
 use crate::judge::judge;
-use crate::lines::line_tables;
 use crate::new_sections::Body;
 use crate::refusal::{fixed, too_large};
 use dw_base::{Fault, Kind, Refusal};
-use dw_lines::LineTable;
+use dw_lines::{LineTable, line_tables};
 use dw_paths::Maps;
 use dw_view::View;
 use elf_file::ElfFile;

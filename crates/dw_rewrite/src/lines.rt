@@ -1,14 +1,13 @@
-//! The line tables of a view: read one after another, what they say of paths by offsets, and written with mapped paths
+//! The line tables of a view: what they say of paths by offsets, and written with mapped paths
 //! (DWARF 5, 6.2.4).
 //!
-//! This file promises: the tables are all that fill `.debug_line`; the fields of paths' offsets are theirs, in order; the
-//! new tables are the defined ones, one after another. What can't be read or written is refused, by the table's refusals.
+//! This file promises: the fields of paths' offsets are those of the tables, in order; the new tables are the defined
+//! ones, one after another. What can't be written is refused, by the table's refusals.
 //! Read first: `specs/ViewLines.antt`.
 
 ghost use Rattle.std.specs.HashMap.{get};
 ghost use Rattle.std.specs.Prelude.{◌≡◌, ◌++◌, ◌<◌, ◌≤◌, length, nat_eq, IfErr, IfOk, OnOk};
 ghost use Rattle.dw_base.specs.DebugData.{line_source};
-ghost use Rattle.dw_base.specs.FileViews.{section_bytes};
 ghost use Rattle.dw_base.specs.Forms.{width_size};
 ghost use Rattle.dw_base.specs.LineTables.{IsLineTable, texts_of};
 ghost use Rattle.dw_base.specs.LineWriteFails.{CanWrite, WriteFails};
@@ -16,9 +15,9 @@ ghost use Rattle.dw_base.specs.Refusals.{Blames};
 ghost use Rattle.dw_base.specs.ViewData.{debug_data};
 ghost use Rattle.dw_base.specs.WrittenLines.{new_place, paths_of, written_table};
 ghost use Rattle.dw_lines.specs.ViewSources.{view_source};
-ghost use Rattle.dw_meaning.specs.DataFails.{LinesFail};
+ghost use Rattle.dw_lines.specs.ViewTables.{TablesFound};
 ghost use Rattle.dw_rewrite.specs.NewTables.{as_table};
-ghost use Rattle.dw_rewrite.specs.ViewLines.{AllStandIn, LinesRefuse, LinesWritten, StandsIn, TablesFound, TablesRefuse, TablesUpTo, is_text_of, lines_of_view, lines_with, starts_of, table_fields, text_field, text_fields};
+ghost use Rattle.dw_rewrite.specs.ViewLines.{AllStandIn, LinesRefuse, LinesWritten, StandsIn, is_text_of, lines_of_view, lines_with, starts_of, table_fields, text_field, text_fields};
 
 use crate::fields::PathField;
 use crate::found::UnitPaths;
@@ -29,43 +28,6 @@ use dw_paths::Maps;
 use dw_view::View;
 use std::alloc::{AllocError, Global};
 use std::collections::HashMap;
-
-/// The line tables of the view, in the order of their places. Refused where one can't be read.
-#[tactic(auto, using(crate::proofs::LineReadLaws::view_rules))]
-pub(crate) fn line_tables(alloc: Global, view: &View) -> Result<Vec<LineTable>, Fault>
-    ensures tables { IfOk result (λ tables. TablesFound view.now tables.items) }
-    ensures refused { IfErr result (Blames (LinesFail (debug_data view.now))) }
-{
-    match view.first(DebugSection::Line) {
-        Some(section) => tables_in(alloc, view, section),
-        None => Ok(Vec::new(alloc)),
-    }
-}
-
-/// Those of the section of a number.
-#[tactic(auto, using(crate::proofs::LineReadLaws::read_rules))]
-fn tables_in(alloc: Global, view: &View, section: u32) -> Result<Vec<LineTable>, Fault>
-    requires there { section < length view.now.sections }
-    ensures tables { IfOk result (λ tables. TablesUpTo (view_source view.now section) tables.items (length (section_bytes view.now section))) }
-    ensures refused { IfErr result (Blames (TablesRefuse (view_source view.now section))) }
-{
-    let end = view.bytes(section).len() as u64;
-    let mut tables = Vec::new(alloc);
-    let mut at = 0;
-    while at < end {
-        let table = LineTable::read(alloc, view, section, at)?;
-        at = end_of(&table);
-        tables.push(table)?;
-    }
-    Ok(tables)
-}
-
-/// Where a table ends.
-fn end_of(table: &LineTable) -> u64
-    ensures { result ≡ table.now.end }
-{
-    table.end
-}
 
 /// Where a table starts.
 fn start_of(table: &LineTable) -> u64

@@ -1,17 +1,17 @@
 -- The tables of the section that a view has, or none.
-use Rattle.std.proofs.Common.{IfOk, subst}
+use Rattle.std.proofs.Common.{IfOk, subst, sym}
 use Rattle.std.specs.HashMap.{get}
 use Rattle.std.specs.Prelude.{nat_eq}
 use Rattle.dw_base.specs.LineSources.{LineSource}
+use Rattle.dw_lines.proofs.ReadingLaws.{source-is}
 use Rattle.dw_rewrite.specs.ViewLines.{LinesWritten}
-use Rattle.dw_rewrite.proofs.LineReadLaws.{source-some}
 use Rattle.dw_rewrite.proofs.LineWriteLaws.{none-written}
 use Rattle.dw_rewrite.proofs.lines.new_lines.Goals as goal
 
 pub returns-in-Some-clause-written : goal.returns-in-Some-clause-written
 returns-in-Some-clause-written c =
     subst (λ (g : LineSource). IfOk c.written_tables.result (λ n. LinesWritten c.args.maps.now g (λ o. get nat_eq c.args.str.now o) (λ o. get nat_eq c.args.line_str.now o) c.args.tables.now
-    n.bytes.items n.starts.items)) (source-some c.args.view.now c.in-Some.section c.in-Some.ensures.section) c.written_tables.ensures.written
+    n.bytes.items n.starts.items)) (sym (source-is c.args.view.now c.in-Some.section c.in-Some.ensures.section)) c.written_tables.ensures.written
 
 pub returns-in-None-clause-written : goal.returns-in-None-clause-written
 returns-in-None-clause-written c =

@@ -1,5 +1,4 @@
 use Rattle.std.proofs.Common.{◌≡◌, ◌++◌, drop}
-use Rattle.dw_base.specs.LineTables.{texts_of}
 use Rattle.dw_rewrite.specs.NewTables.{as_table}
 use Rattle.dw_rewrite.specs.ViewLines.{text_fields}
 use Rattle.dw_rewrite.proofs.lines.push_dirs.Given as goal

@@ -1,10 +1,10 @@
 -- The unit sections of a view, found one after another by their two names.
-use Rattle.std.proofs.Common.{Bool, true, false, ◌≡◌, ◌⊎◌, inl, inr, ℕ, zero, suc, ◌+◌, ◌-◌, ◌≤◌, ◌<◌, ◌==◌, ◌&&◌, List, [], ◌∷◌, ◌++◌, length, drop, Option, Some, None, cond, refl, sym, ap, ◌∙◌, subst, arith, append_assoc, append-nil, if◌then◌else◌}
+use Rattle.std.proofs.Common.{Bool, true, false, ◌≡◌, ◌⊎◌, inl, inr, ℕ, zero, suc, ◌+◌, ◌-◌, ◌≤◌, ◌<◌, ◌==◌, ◌&&◌, List, [], ◌∷◌, ◌++◌, map, length, drop, Option, Some, None, cond, refl, sym, ap, ◌∙◌, subst, arith, append_assoc, append-nil, if◌then◌else◌}
 use Rattle.std.specs.Prelude.{nat_le}
 use Rattle.std.specs.Bool.{⊤}
 use Rattle.std.proofs.lemmas.Bool.{and_parts, leb-true, cases_eq}
 use Rattle.std.proofs.lemmas.Bool.Decides.{nat_tests}
-use Rattle.std.proofs.lemmas.List.{drop-drop}
+use Rattle.std.proofs.lemmas.List.{drop-drop, map-append}
 use Rattle.dw_base.specs.DebugData.{DebugData}
 use Rattle.dw_base.specs.DebugSections.{debug_section, name_of}
 use Rattle.dw_base.specs.FileViews.{View, ViewSection, is_filled, first_filled, section_after, section_named}
@@ -17,13 +17,9 @@ use Rattle.dw_base.proofs.DebugSectionLaws.{debug_section-name, debug_section-na
 use Rattle.dw_base.proofs.FileViewLaws.{section_after-within}
 use Rattle.dw_base.proofs.TextLaws.{same_text-true, same_text-from}
 use Rattle.dw_entries.specs.ViewUnits.{IsUnitSection, unit_section_at}
+use Rattle.dw_entries.proofs.UnitSectionLaws.{is-of-view}
 use Rattle.dw_entries.proofs.HasUnitLaws.{section-at, is-unit_section}
-use Rattle.dw_rewrite.specs.NamedSlots.{Slots, TakesUnits}
-use Rattle.dw_rewrite.specs.SectionOrder.{first_of, known_after}
-use Rattle.dw_rewrite.specs.TextPlaces.{UnitSays}
-use Rattle.dw_rewrite.specs.UnitPaths.{UnitPaths}
-use Rattle.dw_rewrite.specs.UnitTexts.{SectionTaken, SectionIndexed, AllTaken, AllIndexed, units_taken}
-use Rattle.dw_rewrite.proofs.SlotRunLaws.{units-none, units-more}
+use Rattle.dw_entries.specs.SectionOrder.{first_of, known_after, EachSection, AreSections}
 
 -- a section of one of the two names is a unit section
 one-unit : (i : ℕ) (s : ViewSection) (kind : SectionKind) (has : Bool) (found : Option SectionKind) → has ≡ true → found ≡ Some kind
@@ -193,71 +189,53 @@ later name secs (suc k) i o f le =
     below None h = tt
     below (Some m) h = omega (arith, h)
 
--- where a pass over the unit sections stands: those so far are done, up to a number
-pub record SectionsPass (v : View) (info types : Option ℕ) (found : List UnitPaths) (first now : Slots) : Type 0 where
+-- where a pass over the unit sections stands: the numbers so far are of the sections in front of a place
+pub record SectionsPass (v : View) (info types : Option ℕ) (numbers : List ℕ) : Type 0 where
   pub after : ℕ
   pub done : List UnitSection
   pub info_is : first_filled (name_of Info) (suc after) (drop (suc after) v.sections) ≡ info
   pub types_is : first_filled (name_of Types) (suc after) (drop (suc after) v.sections) ≡ types
   pub split : (debug_data v).units ≡ done ++ unit_sections_from (suc after) (drop (suc after) v.sections)
-  pub taken : AllIndexed (debug_data v) done found first now
+  pub each : EachSection v numbers
+  pub done_is : done ≡ map (unit_section_at v) numbers
 
-pub pass-none : (v : View) (info types : Option ℕ) (found : List UnitPaths) (first : Slots) → info ≡ section_named v (name_of Info)
-    → types ≡ section_named v (name_of Types) → found ≡ [] → SectionsPass v info types found first first
+pub pass-none : (v : View) (info types : Option ℕ) (numbers : List ℕ) → info ≡ section_named v (name_of Info)
+    → types ≡ section_named v (name_of Types) → numbers ≡ [] → SectionsPass v info types numbers
 unfolding section_named section_after debug_data unit_sections
-pass-none v info types found first i t none = record {
-  after = 0;
-  done = [];
-  info_is = sym i;
-  types_is = sym t;
-  split = refl;
-  taken = subst (λ (us : List UnitPaths). AllIndexed (debug_data v) [] us first first) (sym none) (record { taken = tt; slots = units-none first });
-}
+pass-none v info types numbers i t none =
+    subst (SectionsPass v info types) (sym none) (record {
+      after = 0;
+      done = [];
+      info_is = sym i;
+      types_is = sym t;
+      split = refl;
+      each = tt;
+      done_is = refl;
+    })
 
 -- the next of them
-pass-next : (v : View) (info types : Option ℕ) (found : List UnitPaths) (first now : Slots) (n : ℕ) → (p : SectionsPass v info types found first now) → Some n ≡ first_of info types
+pass-next : (v : View) (info types : Option ℕ) (numbers : List ℕ) (n : ℕ) → (p : SectionsPass v info types numbers) → Some n ≡ first_of info types
     → NextSection v.sections (suc p.after) (drop (suc p.after) v.sections) n
-pass-next v info types found first now n p e =
+pass-next v info types numbers n p e =
     subst (Nexts v.sections (suc p.after) (drop (suc p.after) v.sections)) (sym e)
     (nexts v.sections (suc p.after) (drop (suc p.after) v.sections) info types refl p.info_is p.types_is)
 
-next-split : (v : View) (info types : Option ℕ) (found : List UnitPaths) (first now : Slots) (n : ℕ) → (p : SectionsPass v info types found first now) → (e : Some n ≡ first_of info types)
-    → (debug_data v).units ≡ p.done ++ (pass-next v info types found first now n p e).section ∷ unit_sections_from (suc n) (drop (suc n) v.sections)
-next-split v info types found first now n p e = p.split ∙ ap (λ (zs : List UnitSection). p.done ++ zs) (pass-next v info types found first now n p e).is
+next-split : (v : View) (info types : Option ℕ) (numbers : List ℕ) (n : ℕ) → (p : SectionsPass v info types numbers) → (e : Some n ≡ first_of info types)
+    → (debug_data v).units ≡ p.done ++ (pass-next v info types numbers n p e).section ∷ unit_sections_from (suc n) (drop (suc n) v.sections)
+next-split v info types numbers n p e = p.split ∙ ap (λ (zs : List UnitSection). p.done ++ zs) (pass-next v info types numbers n p e).is
 
 data-units : (v : View) → (debug_data v).units ≡ unit_sections v
 unfolding debug_data
 data-units v = refl
 
-pub pass-there : (v : View) (info types : Option ℕ) (found : List UnitPaths) (first now : Slots) (n : ℕ) → SectionsPass v info types found first now → Some n ≡ first_of info types → IsUnitSection v n
-pass-there v info types found first now n p e =
-    let x = pass-next v info types found first now n p e in
-    subst (IsUnitSection v) x.number (is-unit_section v p.done (unit_sections_from (suc n) (drop (suc n) v.sections)) x.section (sym (data-units v) ∙ next-split v info types found first now n p e))
+pass-there : (v : View) (info types : Option ℕ) (numbers : List ℕ) (n : ℕ) → SectionsPass v info types numbers → Some n ≡ first_of info types → IsUnitSection v n
+pass-there v info types numbers n p e =
+    let x = pass-next v info types numbers n p e in
+    subst (IsUnitSection v) x.number (is-unit_section v p.done (unit_sections_from (suc n) (drop (suc n) v.sections)) x.section (sym (data-units v) ∙ next-split v info types numbers n p e))
 
-taken-append : (d : DebugData) (zs : List UnitSection) (us : List UnitPaths) (z : UnitSection) (u : UnitPaths) → AllTaken d zs us → SectionTaken d z u
-    → AllTaken d (zs ++ z ∷ []) (us ++ u ∷ [])
-taken-append d [] [] z u all one = (one, tt)
-taken-append d [] (y ∷ us) z u all one = absurd all
-taken-append d (x ∷ zs) [] z u all one = absurd all
-taken-append d (x ∷ zs) (y ∷ us) z u all one = (all.0, taken-append d zs us z u all.1 one)
-
-units_taken-append : (d : DebugData) (zs : List UnitSection) (us : List UnitPaths) (z : UnitSection) (u : UnitPaths) → (all : AllTaken d zs us) → (one : SectionTaken d z u)
-    → units_taken d (zs ++ z ∷ []) (us ++ u ∷ []) (taken-append d zs us z u all one) ≡ units_taken d zs us all ++ one.says.section.units
-unfolding taken-append
-units_taken-append d [] [] z u all one = append-nil one.says.section.units
-units_taken-append d [] (y ∷ us) z u all one = absurd all
-units_taken-append d (x ∷ zs) [] z u all one = absurd all
-units_taken-append d (x ∷ zs) (y ∷ us) z u all one =
-    ap (λ (ws : List UnitSays). all.0.says.section.units ++ ws) (units_taken-append d zs us z u all.1 one)
-    ∙ sym (append_assoc all.0.says.section.units (units_taken d zs us all.1) one.says.section.units)
-
-indexed-append : (d : DebugData) (zs : List UnitSection) (us : List UnitPaths) (z : UnitSection) (u : UnitPaths) (first now next_slots : Slots) → AllIndexed d zs us first now
-    → SectionIndexed d z u now next_slots → AllIndexed d (zs ++ z ∷ []) (us ++ u ∷ []) first next_slots
-indexed-append d zs us z u first now next_slots all one = record {
-  taken = taken-append d zs us z u all.taken one.taken;
-  slots = subst (λ (ws : List UnitSays). TakesUnits ws first next_slots) (sym (units_taken-append d zs us z u all.taken one.taken))
-      (units-more (units_taken d zs us all.taken) one.taken.says.section.units first now next_slots all.slots one.slots);
-}
+each-append : (v : View) (ns : List ℕ) (n : ℕ) → EachSection v ns → IsUnitSection v n → EachSection v (ns ++ n ∷ [])
+each-append v [] n all one = (one, tt)
+each-append v (m ∷ ms) n all one = (all.0, each-append v ms n all.1 one)
 
 -- of two numbers the smaller is at most each
 first-least : (a b : Option ℕ) (n : ℕ) → Some n ≡ first_of a b → AtLeast n a × AtLeast n b
@@ -293,34 +271,38 @@ known-is v name after n (Some m) le f least = by_same (cases_eq m n)
         rest ∙ rw test refl
 
 -- one section more
-pub pass-more : (v : View) (info types next_info next_types : Option ℕ) (found : List UnitPaths) (first now next_slots : Slots) (n : ℕ) (u : UnitPaths)
-    → SectionsPass v info types found first now → Some n ≡ first_of info types → SectionIndexed (debug_data v) (unit_section_at v n) u now next_slots
+pub pass-more : (v : View) (info types next_info next_types : Option ℕ) (numbers : List ℕ) (n : ℕ)
+    → SectionsPass v info types numbers → Some n ≡ first_of info types
     → next_info ≡ known_after v (name_of Info) info n → next_types ≡ known_after v (name_of Types) types n
-    → SectionsPass v next_info next_types (found ++ u ∷ []) first next_slots
-pass-more v info types next_info next_types found first now next_slots n u p e one i t =
-    let x = pass-next v info types found first now n p e in
+    → SectionsPass v next_info next_types (numbers ++ n ∷ [])
+pass-more v info types next_info next_types numbers n p e i t =
+    let x = pass-next v info types numbers n p e in
     let least = first-least info types n e in
     let own : unit_section_at v n ≡ x.section =
     ap (unit_section_at v) (sym x.number)
-    ∙ section-at v p.done (unit_sections_from (suc n) (drop (suc n) v.sections)) x.section (sym (data-units v) ∙ next-split v info types found first now n p e) in
+    ∙ section-at v p.done (unit_sections_from (suc n) (drop (suc n) v.sections)) x.section (sym (data-units v) ∙ next-split v info types numbers n p e) in
     record {
       after = n;
       done = p.done ++ x.section ∷ [];
       info_is = known-is v (name_of Info) p.after n info x.above p.info_is least.0 ∙ sym i;
       types_is = known-is v (name_of Types) p.after n types x.above p.types_is least.1 ∙ sym t;
-      split = next-split v info types found first now n p e ∙ sym (append_assoc p.done (x.section ∷ []) (unit_sections_from (suc n) (drop (suc n) v.sections)));
-      taken = indexed-append (debug_data v) p.done found x.section u first now next_slots p.taken
-          (subst (λ (z : UnitSection). SectionIndexed (debug_data v) z u now next_slots) own one);
+      split = next-split v info types numbers n p e ∙ sym (append_assoc p.done (x.section ∷ []) (unit_sections_from (suc n) (drop (suc n) v.sections)));
+      each = each-append v numbers n p.each (pass-there v info types numbers n p e);
+      done_is =
+          ap (λ (zs : List UnitSection). zs ++ x.section ∷ []) p.done_is ∙ ap (λ (z : UnitSection). map (unit_section_at v) numbers ++ z ∷ []) (sym own)
+          ∙ sym (map-append (unit_section_at v) numbers (n ∷ []));
     }
 
 -- the end
-pub pass-ends : (v : View) (info types : Option ℕ) (found : List UnitPaths) (first now : Slots) → SectionsPass v info types found first now → None ≡ first_of info types
-    → AllIndexed (debug_data v) (debug_data v).units found first now
-pass-ends v info types found first now p e =
+pub pass-ends : (v : View) (info types : Option ℕ) (numbers : List ℕ) → SectionsPass v info types numbers → None ≡ first_of info types → AreSections v numbers
+pass-ends v info types numbers p e =
     let none : unit_sections_from (suc p.after) (drop (suc p.after) v.sections) ≡ [] =
     subst (Nexts v.sections (suc p.after) (drop (suc p.after) v.sections)) (sym e)
     (nexts v.sections (suc p.after) (drop (suc p.after) v.sections) info types refl p.info_is p.types_is) in
-    subst (λ (zs : List UnitSection). AllIndexed (debug_data v) zs found first now) (sym (p.split ∙ ap (λ (zs : List UnitSection). p.done ++ zs) none ∙ append-nil p.done)) p.taken
+    record {
+      each = p.each;
+      all = p.split ∙ ap (λ (zs : List UnitSection). p.done ++ zs) none ∙ append-nil p.done ∙ p.done_is;
+    }
 
 -- how many sections are left
 abbrev pub sections_left : View → Option ℕ → ℕ
@@ -364,4 +346,10 @@ left-less v info types next_info next_types n e lt i t =
     by_next : (a b : Option ℕ) → ((k : ℕ) → a ≡ Some k → n < k) → ((k : ℕ) → b ≡ Some k → n < k) → sections_left v (first_of a b) < suc (length v.sections) - n
     by_next a b f g = by_first (first_of a b) (λ m h. above a b m f g h)
 
-pub ruleset all_rules = (pass-none, pass-there)
+pub left-pass : (v : View) (info types next_info next_types : Option ℕ) (numbers : List ℕ) (n : ℕ) → SectionsPass v info types numbers → Some n ≡ first_of info types
+    → next_info ≡ known_after v (name_of Info) info n → next_types ≡ known_after v (name_of Types) types n
+    → sections_left v (first_of next_info next_types) < sections_left v (first_of info types)
+left-pass v info types next_info next_types numbers n p e i t =
+    left-less v info types next_info next_types n e (is-of-view v n (pass-there v info types numbers n p e)).there i t
+
+pub ruleset all_rules = (pass-none)

@@ -1,0 +1,15 @@
+use Rattle.std.proofs.Common.{◌-◌, ◌≤◌, length}
+use Rattle.dw_base.specs.FileViews.{section_bytes}
+use Rattle.dw_lines.specs.ViewSources.{view_source}
+use Rattle.dw_lines.specs.ViewTables.{TablesUpTo}
+use Rattle.dw_lines.proofs.view_tables.tables_in.Given as goal
+
+-- the tables so far stand from the section's start up to this place
+abbrev pub invariant-tables : goal.invariant-tables
+invariant-tables l = record {
+  read : TablesUpTo (view_source l.view l.section) l.tables.items l.start;
+  within : l.start ≤ length (section_bytes l.view l.section);
+}
+
+abbrev pub decreases-tables : goal.decreases-tables
+decreases-tables l = length (section_bytes l.view l.section) - l.start
