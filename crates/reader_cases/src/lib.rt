@@ -49,6 +49,8 @@ mod dw_paths_tests;
 #[cfg(test)]
 mod dw_rows_tests;
 #[cfg(test)]
+mod dw_sources_tests;
+#[cfg(test)]
 mod dw_strings_tests;
 #[cfg(test)]
 mod dw_view_tests;

@@ -1,0 +1,11 @@
+pub mod NameLaws
+pub mod RootLaws
+pub mod BaseLaws
+pub mod TextLaws
+pub mod StandLaws
+pub mod JoinLaws
+pub mod PathLaws
+pub mod TableLaws
+pub mod UnitLaws
+pub mod SourceLaws
+pub mod ExcludeLaws

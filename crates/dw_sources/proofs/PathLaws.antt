@@ -1,0 +1,79 @@
+-- Paths that are added to names, one after another.
+use Rattle.std.proofs.Common.{true, false, ◌≡◌, ℕ, zero, suc, ◌+◌, ◌≤◌, ◌<◌, List, [], ◌∷◌, ◌++◌, length, drop, get_or, Option, Some, None, refl, sym, ap, ◌∙◌, arith}
+use Rattle.std.proofs.Math.Seq.{drop-cons}
+use Rattle.std.proofs.lemmas.List.{drop_all}
+use Rattle.dw_base.specs.DebugData.{DebugData, line_source}
+use Rattle.dw_base.specs.LineMeanings.{item_at}
+use Rattle.dw_base.specs.LineSources.{LineSource}
+use Rattle.dw_base.specs.LineTables.{LineTable}
+use Rattle.dw_base.specs.declared.line_tables.FilePlace.{FilePlace}
+use Rattle.dw_base.specs.declared.line_tables.TextPlace.{TextPlace}
+use Rattle.dw_sources.specs.KeptNames.{kept_name, with_kept, with_paths}
+use Rattle.dw_sources.specs.UnitPaths.{file_path, files_paths, is_made_up, listed, lines_paths, paths_in, unit_path}
+use Rattle.dw_sources.proofs.JoinLaws.{joined-stays}
+
+pub paths-append : (front : List ℕ) (names ps qs : List (List ℕ)) → with_paths front names (ps ++ qs) ≡ with_paths front (with_paths front names ps) qs
+paths-append front names [] qs = refl
+paths-append front names (p ∷ ps) qs = paths-append front (with_kept names (kept_name front p)) ps qs
+
+-- a name that is made up isn't listed
+pub named-none : (front name path : List ℕ) (names : List (List ℕ)) → is_made_up name ≡ true → names ≡ with_paths front names (listed name path)
+named-none front name path names is = rw is refl
+
+pub named-one : (front name path joined : List ℕ) (names new : List (List ℕ)) → is_made_up name ≡ false → path ≡ joined
+    → new ≡ with_kept names (kept_name front path) → new ≡ with_paths front names (listed name joined)
+named-one front name path joined names new other is e = rw (other, sym is) e
+
+pub ruleset named_rules = (named-none, named-one)
+
+-- the directory of a number
+pub item-get : (xs : List TextPlace) (i : ℕ) (d : TextPlace) → i < length xs → Some (get_or xs i d) ≡ item_at xs i
+item-get [] i d lt = absurd (omega (arith, lt))
+item-get (x ∷ xs) zero d lt = refl
+item-get (x ∷ xs) (suc i) d lt = item-get xs i d (omega (arith, lt))
+
+pub item-past : (xs : List TextPlace) (i : ℕ) → length xs ≤ i → None ≡ item_at xs i
+item-past [] i le = refl
+item-past (x ∷ xs) zero le = absurd (omega (arith, le))
+item-past (x ∷ xs) (suc i) le = item-past xs i (omega (arith, le))
+
+pub ruleset item_rules = (item-get, item-past)
+
+-- where a pass over the files of a table stands
+pub record FilesPass (g : LineSource) (front folder : List ℕ) (t : LineTable) (files : List FilePlace) (i : ℕ) (old now : List (List ℕ)) : Type 0 where
+  pub same : with_paths front now (files_paths g folder t (drop i files)) ≡ with_paths front old (files_paths g folder t files)
+
+pub files-start : (g : LineSource) (front folder : List ℕ) (t : LineTable) (files : List FilePlace) (old : List (List ℕ)) → FilesPass g front folder t files 0 old old
+files-start g front folder t files old = record { same = refl }
+
+front-of : (fs : List FilePlace) (f : FilePlace) (i : ℕ) → i < length fs → f ≡ get_or fs i f → drop i fs ≡ f ∷ drop (i + 1) fs
+front-of fs f i lt is =
+    let next : suc i ≡ i + 1 = omega arith in
+    drop-cons fs i f lt ∙ ap (λ (n : ℕ). get_or fs i f ∷ drop n fs) next ∙ ap (λ (y : FilePlace). y ∷ drop (i + 1) fs) (sym is)
+
+pub files-more : (g : LineSource) (front folder : List ℕ) (t : LineTable) (files : List FilePlace) (i : ℕ) (f : FilePlace) (old now new : List (List ℕ)) → i < length files
+    → f ≡ get_or files i f → FilesPass g front folder t files i old now → new ≡ with_paths front now (file_path g folder t f)
+    → FilesPass g front folder t files (i + 1) old new
+files-more g front folder t files i f old now new lt is p e = record {
+  same =
+      ap (λ (ns : List (List ℕ)). with_paths front ns (files_paths g folder t (drop (i + 1) files))) e
+      ∙ sym (paths-append front now (file_path g folder t f) (files_paths g folder t (drop (i + 1) files)))
+      ∙ ap (λ (fs : List FilePlace). with_paths front now (files_paths g folder t fs)) (sym (front-of files f i lt is)) ∙ p.same;
+}
+
+pub files-end : (g : LineSource) (front folder : List ℕ) (t : LineTable) (files : List FilePlace) (i : ℕ) (old now : List (List ℕ)) → length files ≤ i
+    → FilesPass g front folder t files i old now → now ≡ with_paths front old (files_paths g folder t files)
+files-end g front folder t files i old now end p =
+    ap (λ (fs : List FilePlace). with_paths front now (files_paths g folder t fs)) (sym (drop_all i files end)) ∙ p.same
+
+pub ruleset files_rules = (files-start, files-more, files-end)
+
+-- a unit's own path, and those of its files
+pub unit-both : (d : DebugData) (front folder : List ℕ) (tables : ℕ → Option LineTable) (name : Option (List ℕ)) (lines : Option ℕ) (old now new : List (List ℕ))
+    → now ≡ with_paths front old (unit_path folder name) → new ≡ with_paths front now (lines_paths (line_source d) tables folder lines)
+    → new ≡ with_paths front old (paths_in d tables folder name lines)
+unit-both d front folder tables name lines old now new is e =
+    e ∙ ap (λ (ns : List (List ℕ)). with_paths front ns (lines_paths (line_source d) tables folder lines)) is
+    ∙ sym (paths-append front old (unit_path folder name) (lines_paths (line_source d) tables folder lines))
+
+pub ruleset unit_rules = (unit-both, joined-stays)

@@ -1,0 +1,318 @@
+-- The units of a view: their tables of abbreviations, their paths one after another, and their rows.
+use Rattle.std.proofs.Common.{Bool, true, false, ◌≡◌, ℕ, suc, ◌+◌, ◌≤◌, ◌<◌, ◌==◌, if◌then◌else◌, List, [], ◌∷◌, ◌++◌, length, map, take, drop, get_or, cond, Option, Some, None, refl, sym, ap, ◌∙◌, subst, arith, append_assoc, append-nil}
+use Rattle.std.proofs.Math.Seq.{take-suc, drop-cons}
+use Rattle.std.proofs.lemmas.Bool.Decides.{nat_tests}
+use Rattle.std.proofs.lemmas.List.{drop_all, take_all}
+use Rattle.dw_base.specs.AbbreviationFails.{AbbreviationFails}
+use Rattle.dw_base.specs.AbbreviationTables.{Abbreviation, IsTable}
+use Rattle.dw_base.specs.DebugData.{DebugData}
+use Rattle.dw_base.specs.DebugSections.{name_of}
+use Rattle.dw_base.specs.EntryValues.{HasUnit, bytes_up_to}
+use Rattle.dw_base.specs.FileViews.{View, section_bytes, section_named}
+use Rattle.dw_base.specs.LineTables.{LineTable}
+use Rattle.dw_base.specs.Refusals.{Blames}
+use Rattle.dw_base.specs.UnitFails.{UnitFails}
+use Rattle.dw_base.specs.UnitHeaders.{UnitBase, UnitSection, IsUnit, UnitsUpTo, no_units, more_units, AreUnits}
+use Rattle.dw_base.specs.ViewData.{debug_data, located, located_at, unit_sections}
+use Rattle.dw_base.specs.declared.debug_sections.DebugSection.TheVariants.{Abbrev}
+use Rattle.dw_base.specs.declared.fault.Fault.{Fault}
+use Rattle.dw_base.specs.declared.fault.Fault.TheVariants.{NoMemory, Refused}
+use Rattle.dw_base.specs.declared.string_offsets.Contribution.{Contribution}
+use Rattle.dw_base.specs.declared.units.UnitHeader.{UnitHeader}
+use Rattle.dw_base.proofs.AbbreviationLaws.{table-found}
+use Rattle.dw_entries.specs.SectionOrder.{AreSections}
+use Rattle.dw_entries.specs.ViewUnits.{IsUnitSection, numbered, unit_base, unit_section_at}
+use Rattle.dw_entries.proofs.HasUnitLaws.{unit-of-view, unit-section}
+use Rattle.dw_entries.proofs.SectionListLaws.{sections-next, sections-whole}
+use Rattle.dw_entries.proofs.UnitSectionLaws.{is-of-view}
+use Rattle.dw_sources.specs.KeptNames.{with_paths}
+use Rattle.dw_sources.specs.RootValues.{root_at}
+use Rattle.dw_sources.specs.declared.roots.Root.{Root}
+use Rattle.dw_sources.specs.Sources.{AreShared, AddsSection, AddsSections, EachTable, EachUnits, HasAbbreviations, HasUnits, SourcesFail, unit as unit_fails, table as table_fails, section_paths, sections_paths}
+use Rattle.dw_sources.specs.UnitPaths.{root_paths, unit_paths}
+use Rattle.dw_sources.proofs.PathLaws.{paths-append}
+
+-- the table of abbreviations, where its section was found
+pub table-some : (v : View) (i at : ℕ) (bytes : List ℕ) (t : List Abbreviation) → section_named v (name_of Abbrev) ≡ Some i → bytes ≡ section_bytes v i → IsTable bytes at t
+    → IsTable (debug_data v).base.abbrevs.bytes at t
+unfolding debug_data located
+table-some v i at bytes t found is h =
+    subst (λ (o : Option ℕ). IsTable (located_at v o).bytes at t) (sym found) (subst (λ (bs : List ℕ). IsTable bs at t) is h)
+
+pub table-none : (v : View) (at : ℕ) (t : List Abbreviation) → section_named v (name_of Abbrev) ≡ None → IsTable [] at t
+    → IsTable (debug_data v).base.abbrevs.bytes at t
+unfolding debug_data located
+table-none v at t found h = subst (λ (o : Option ℕ). IsTable (located_at v o).bytes at t) (sym found) h
+
+pub refused-some : (v : View) (i at : ℕ) (bytes : List ℕ) (f : Fault) → section_named v (name_of Abbrev) ≡ Some i → bytes ≡ section_bytes v i
+    → Blames (AbbreviationFails bytes i at) f → Blames (AbbreviationFails (debug_data v).base.abbrevs.bytes (debug_data v).base.abbrevs.number at) f
+unfolding debug_data located
+refused-some v i at bytes f found is h =
+    subst (λ (o : Option ℕ). Blames (AbbreviationFails (located_at v o).bytes (located_at v o).number at) f) (sym found)
+    (subst (λ (bs : List ℕ). Blames (AbbreviationFails bs i at) f) is h)
+
+pub refused-none : (v : View) (at : ℕ) (f : Fault) → section_named v (name_of Abbrev) ≡ None
+    → Blames (AbbreviationFails [] 0 at) f → Blames (AbbreviationFails (debug_data v).base.abbrevs.bytes (debug_data v).base.abbrevs.number at) f
+unfolding debug_data located
+refused-none v at f found h =
+    subst (λ (o : Option ℕ). Blames (AbbreviationFails (located_at v o).bytes (located_at v o).number at) f) (sym found) h
+
+pub ruleset table_rules = (table-some, table-none, refused-some, refused-none)
+
+-- tables that are kept: none at first, and one more
+pub none-shared : (d : DebugData) (shared : ℕ → Option (List Abbreviation)) → ((at : ℕ) → shared at ≡ None) → AreShared d shared
+none-shared d shared none = record { each = λ (at : ℕ) (table : List Abbreviation) e. (let gone : None ≡ Some table = sym (none at) ∙ e in absurd cc) }
+
+pub one-shared : (d : DebugData) (old new : ℕ → Option (List Abbreviation)) (at : ℕ) (table : List Abbreviation) → AreShared d old → IsTable d.base.abbrevs.bytes at table
+    → ((o : ℕ) → new o ≡ (if o == at then Some table else old o)) → AreShared d new
+one-shared d old new at table are is more = record { each = λ (o : ℕ) (t : List Abbreviation) e. by_offset o t (o == at) refl (sym (more o) ∙ e) }
+  where
+    by_offset : (o : ℕ) (t : List Abbreviation) (b : Bool) → (o == at) ≡ b → (if b then Some table else old o) ≡ Some t → IsTable d.base.abbrevs.bytes o t
+    by_offset o t true test e =
+        let same : o ≡ at = grind (arith, nat_tests) in
+        let own : table ≡ t = once table t e in
+        subst (λ (n : ℕ). IsTable d.base.abbrevs.bytes n t) (sym same) (subst (IsTable d.base.abbrevs.bytes at) own is)
+      where
+        once : (x y : List Abbreviation) → Some x ≡ Some y → x ≡ y
+        once x y e = cc
+    by_offset o t false test e = are.each o t e
+
+pub shared-there : (d : DebugData) (shared : ℕ → Option (List Abbreviation)) (at : ℕ) (table : List Abbreviation) → AreShared d shared → Some table ≡ shared at
+    → IsTable d.base.abbrevs.bytes at table
+shared-there d shared at table are e = are.each at table (sym e)
+
+pub own-table : (d : DebugData) (shared : ℕ → Option (List Abbreviation)) (at : ℕ) (table : List Abbreviation) → AreShared d shared → Some table ≡ shared at
+    → HasAbbreviations d at
+own-table d shared at table are e =
+    let t = shared-there d shared at table are e in
+    subst (IsTable d.base.abbrevs.bytes at) (sym (table-found d.base.abbrevs.bytes at table t)) t
+
+pub ruleset read_rules = (one-shared)
+
+-- a unit's bytes up to its end, and its paths
+unit-bytes : (v : View) (h : UnitHeader) (bs : List ℕ) → HasUnit (debug_data v) (unit_section_at v h.section) h → bs ≡ section_bytes v h.section
+    → take h.end bs ≡ bytes_up_to (unit_section_at v h.section) h
+unit-bytes v h bs u is = ap (take h.end) is ∙ (unit-of-view v h u).bytes
+
+pub unit-added : (v : View) (list : List Contribution) (tables : ℕ → Option LineTable) (front : List ℕ) (h : UnitHeader) (abbrevs : List Abbreviation) (bs : List ℕ) (root : Root)
+    (old new : List (List ℕ)) → HasUnit (debug_data v) (unit_section_at v h.section) h → IsTable (debug_data v).base.abbrevs.bytes h.abbrevs abbrevs
+    → bs ≡ section_bytes v h.section → root ≡ root_at h.params abbrevs (take h.end bs) h.first
+    → new ≡ with_paths front old (root_paths (debug_data v) list tables (take h.end bs) root)
+    → new ≡ with_paths front old (unit_paths (debug_data v) list tables (unit_section_at v h.section) h)
+unfolding unit_paths
+unit-added v list tables front h abbrevs bs root old new u t is r e =
+    e ∙ ap (λ (x : Root). with_paths front old (root_paths (debug_data v) list tables (take h.end bs) x)) r
+    ∙ ap (λ (x : List ℕ). with_paths front old (root_paths (debug_data v) list tables x (root_at h.params abbrevs x h.first))) (unit-bytes v h bs u is)
+    ∙ ap (λ (x : List Abbreviation). with_paths front old (root_paths (debug_data v) list tables (bytes_up_to (unit_section_at v h.section) h)
+    (root_at h.params x (bytes_up_to (unit_section_at v h.section) h) h.first)))
+    (sym (table-found (debug_data v).base.abbrevs.bytes h.abbrevs abbrevs t))
+
+pub ruleset unit_rules = (unit-added)
+
+-- a table of abbreviations that can't be read
+pub table-row : (d : DebugData) (z : UnitSection) (h : UnitHeader) (f : Fault) → HasUnit d z h
+    → Blames (AbbreviationFails d.base.abbrevs.bytes d.base.abbrevs.number h.abbrevs) f → Blames (SourcesFail d) f
+table-row d z h NoMemory u b = tt
+table-row d z h (Refused r) u b = table_fails z h u b
+
+pub ruleset one_rules = (shared-there, own-table, table-row)
+
+-- the units of a section from a place on, front first
+abbrev pub UnitsFrom : UnitBase → UnitSection → ℕ → List UnitHeader → ℕ → Type 0
+UnitsFrom base z start [] end = start ≡ end
+UnitsFrom base z start (h ∷ hs) end = IsUnit base z start h × UnitsFrom base z h.end hs end
+
+from-upto : (base : UnitBase) (z : UnitSection) (list : List UnitHeader) (place : ℕ) (more : List UnitHeader) (end : ℕ) → UnitsUpTo base z list place
+    → UnitsFrom base z place more end → UnitsFrom base z 0 (list ++ more) end
+from-upto base z list place more end no_units h = h
+from-upto base z all p more end (more_units list u start before is) h =
+    subst (λ (xs : List UnitHeader). UnitsFrom base z 0 xs end) (sym (append_assoc list (u ∷ []) more))
+    (from-upto base z list start (u ∷ more) end before (is, h))
+
+-- a section of a number is one of the list
+pub record Stands (zs : List UnitSection) (z : UnitSection) : Type 0 where
+  pub before : List UnitSection
+  pub behind : List UnitSection
+  pub is : zs ≡ before ++ z ∷ behind
+
+stands-numbered : (zs : List UnitSection) (i : ℕ) (z : UnitSection) → numbered zs i ≡ Some z → Stands zs z
+stands-numbered [] i z e = absurd cc
+stands-numbered (y ∷ ys) i z e = by_number (y.number == i) (λ f. stands-numbered ys i z f) e
+  where
+    by_number : (b : Bool) → (numbered ys i ≡ Some z → Stands ys z) → cond b (Some y) (numbered ys i) ≡ Some z → Stands (y ∷ ys) z
+    by_number true rest e =
+        let same : y ≡ z = cc in
+        record { before = []; behind = ys; is = ap (λ (x : UnitSection). x ∷ ys) same }
+    by_number false rest e =
+        let s : Stands ys z = rest e in
+        record { before = y ∷ s.before; behind = s.behind; is = ap (λ (xs : List UnitSection). y ∷ xs) s.is }
+
+stands-section : (v : View) (section : ℕ) → IsUnitSection v section → Stands (debug_data v).units (unit_section_at v section)
+unfolding debug_data
+stands-section v section there = stands-numbered (unit_sections v) section (unit_section_at v section) there
+
+-- where a pass over the units of a section stands
+pub record UnitsPass (v : View) (list : List Contribution) (tables : ℕ → Option LineTable) (front : List ℕ) (section : ℕ) (hs : List UnitHeader) (i : ℕ)
+    (old now : List (List ℕ)) : Type 0 where
+  pub start : ℕ
+  pub before : UnitsUpTo (debug_data v).base (unit_section_at v section) (take i hs) start
+  pub rest : UnitsFrom (debug_data v).base (unit_section_at v section) start (drop i hs) (length (unit_section_at v section).contents)
+  pub declared : EachTable (debug_data v) (take i hs)
+  pub same : with_paths front now (section_paths (debug_data v) list tables (unit_section_at v section) (drop i hs))
+      ≡ with_paths front old (section_paths (debug_data v) list tables (unit_section_at v section) hs)
+
+pub units-start : (v : View) (list : List Contribution) (tables : ℕ → Option LineTable) (front : List ℕ) (section : ℕ) (hs : List UnitHeader) (old : List (List ℕ))
+    → AreUnits (debug_data v).base (unit_section_at v section) hs → UnitsPass v list tables front section hs 0 old old
+units-start v list tables front section hs old units = record {
+  start = 0;
+  before = no_units;
+  rest = subst (λ (xs : List UnitHeader). UnitsFrom (debug_data v).base (unit_section_at v section) 0 xs (length (unit_section_at v section).contents)) (append-nil hs)
+      (from-upto (debug_data v).base (unit_section_at v section) hs (length (unit_section_at v section).contents) [] (length (unit_section_at v section).contents) units refl);
+  declared = tt;
+  same = refl;
+}
+
+front-of : (hs : List UnitHeader) (h : UnitHeader) (i : ℕ) → i < length hs → h ≡ get_or hs i h → drop i hs ≡ h ∷ drop (i + 1) hs
+front-of hs h i lt is =
+    let next : suc i ≡ i + 1 = omega arith in
+    drop-cons hs i h lt ∙ ap (λ (n : ℕ). get_or hs i h ∷ drop n hs) next ∙ ap (λ (y : UnitHeader). y ∷ drop (i + 1) hs) (sym is)
+
+behind-of : (hs : List UnitHeader) (h : UnitHeader) (i : ℕ) → i < length hs → h ≡ get_or hs i h → take (i + 1) hs ≡ take i hs ++ h ∷ []
+behind-of hs h i lt is =
+    let next : i + 1 ≡ suc i = omega arith in
+    ap (λ (n : ℕ). take n hs) next ∙ take-suc hs i h lt ∙ ap (λ (y : UnitHeader). take i hs ++ y ∷ []) (sym is)
+
+next-unit : (v : View) (list : List Contribution) (tables : ℕ → Option LineTable) (front : List ℕ) (section : ℕ) (hs : List UnitHeader) (i : ℕ) (old now : List (List ℕ))
+    (h : UnitHeader) → i < length hs → h ≡ get_or hs i h → (p : UnitsPass v list tables front section hs i old now)
+    → IsUnit (debug_data v).base (unit_section_at v section) p.start h × UnitsFrom (debug_data v).base (unit_section_at v section) h.end (drop (i + 1) hs) (length (unit_section_at v section).contents)
+next-unit v list tables front section hs i old now h lt is p =
+    subst (λ (xs : List UnitHeader). UnitsFrom (debug_data v).base (unit_section_at v section) p.start xs (length (unit_section_at v section).contents)) (front-of hs h i lt is) p.rest
+
+own-unit : (v : View) (list : List Contribution) (tables : ℕ → Option LineTable) (front : List ℕ) (section : ℕ) (hs : List UnitHeader) (i : ℕ) (old now : List (List ℕ))
+    (h : UnitHeader) → IsUnitSection v section → i < length hs → h ≡ get_or hs i h → UnitsPass v list tables front section hs i old now
+    → HasUnit (debug_data v) (unit_section_at v section) h
+own-unit v list tables front section hs i old now h there lt is p =
+    let s : Stands (debug_data v).units (unit_section_at v section) = stands-section v section there in
+    record {
+      before = s.before;
+      behind = s.behind;
+      sections = s.is;
+      list = take i hs;
+      start = p.start;
+      units = p.before;
+      is = (next-unit v list tables front section hs i old now h lt is p).0;
+    }
+
+own-section : (v : View) (section : ℕ) (h : UnitHeader) → IsUnitSection v section → HasUnit (debug_data v) (unit_section_at v section) h → h.section ≡ section
+own-section v section h there u =
+    unit-section (debug_data v).base (unit_section_at v section) u.start h u.is.header ∙ (is-of-view v section there).number
+
+pub units-there : (v : View) (list : List Contribution) (tables : ℕ → Option LineTable) (front : List ℕ) (section : ℕ) (hs : List UnitHeader) (i : ℕ) (old now : List (List ℕ))
+    (h : UnitHeader) → IsUnitSection v section → i < length hs → h ≡ get_or hs i h → UnitsPass v list tables front section hs i old now
+    → HasUnit (debug_data v) (unit_section_at v h.section) h
+units-there v list tables front section hs i old now h there lt is p =
+    let u : HasUnit (debug_data v) (unit_section_at v section) h = own-unit v list tables front section hs i old now h there lt is p in
+    subst (λ (n : ℕ). HasUnit (debug_data v) (unit_section_at v n) h) (sym (own-section v section h there u)) u
+
+each-table-append : (d : DebugData) (hs : List UnitHeader) (h : UnitHeader) → EachTable d hs → HasAbbreviations d h.abbrevs → EachTable d (hs ++ h ∷ [])
+each-table-append d [] h all one = (one, tt)
+each-table-append d (x ∷ xs) h all one = (all.0, each-table-append d xs h all.1 one)
+
+pub units-more : (v : View) (list : List Contribution) (tables : ℕ → Option LineTable) (front : List ℕ) (section : ℕ) (hs : List UnitHeader) (i : ℕ) (old now new : List (List ℕ))
+    (h : UnitHeader) → IsUnitSection v section → i < length hs → h ≡ get_or hs i h → UnitsPass v list tables front section hs i old now
+    → new ≡ with_paths front now (unit_paths (debug_data v) list tables (unit_section_at v h.section) h) → HasAbbreviations (debug_data v) h.abbrevs
+    → UnitsPass v list tables front section hs (i + 1) old new
+units-more v list tables front section hs i old now new h there lt is p e own_table =
+    let z : UnitSection = unit_section_at v section in
+    let u : HasUnit (debug_data v) (unit_section_at v section) h = own-unit v list tables front section hs i old now h there lt is p in
+    let next = next-unit v list tables front section hs i old now h lt is p in
+    let own : new ≡ with_paths front now (unit_paths (debug_data v) list tables (unit_section_at v section) h) =
+    e ∙ ap (λ (n : ℕ). with_paths front now (unit_paths (debug_data v) list tables (unit_section_at v n) h)) (own-section v section h there u) in
+    record {
+      start = h.end;
+      before = subst (λ (xs : List UnitHeader). UnitsUpTo (debug_data v).base (unit_section_at v section) xs h.end) (sym (behind-of hs h i lt is))
+          (more_units (take i hs) h p.start p.before next.0);
+      rest = next.1;
+      declared = subst (EachTable (debug_data v)) (sym (behind-of hs h i lt is)) (each-table-append (debug_data v) (take i hs) h p.declared own_table);
+      same =
+          ap (λ (ns : List (List ℕ)). with_paths front ns (section_paths (debug_data v) list tables (unit_section_at v section) (drop (i + 1) hs))) own
+          ∙ sym (paths-append front now (unit_paths (debug_data v) list tables (unit_section_at v section) h)
+          (section_paths (debug_data v) list tables (unit_section_at v section) (drop (i + 1) hs)))
+          ∙ ap (λ (xs : List UnitHeader). with_paths front now (section_paths (debug_data v) list tables (unit_section_at v section) xs)) (sym (front-of hs h i lt is)) ∙ p.same;
+    }
+
+pub units-end : (v : View) (list : List Contribution) (tables : ℕ → Option LineTable) (front : List ℕ) (section : ℕ) (hs : List UnitHeader) (i : ℕ) (old now : List (List ℕ))
+    → length hs ≤ i → UnitsPass v list tables front section hs i old now
+    → now ≡ with_paths front old (section_paths (debug_data v) list tables (unit_section_at v section) hs)
+units-end v list tables front section hs i old now end p =
+    ap (λ (xs : List UnitHeader). with_paths front now (section_paths (debug_data v) list tables (unit_section_at v section) xs)) (sym (drop_all i hs end)) ∙ p.same
+
+pub units-tables : (v : View) (list : List Contribution) (tables : ℕ → Option LineTable) (front : List ℕ) (section : ℕ) (hs : List UnitHeader) (i : ℕ) (old now : List (List ℕ))
+    → UnitsPass v list tables front section hs i old now → length hs ≤ i → EachTable (debug_data v) hs
+units-tables v list tables front section hs i old now p end = subst (EachTable (debug_data v)) (take_all i hs end) p.declared
+
+pub ruleset units_rules = (units-start, units-end, units-tables)
+
+-- the units of a section that can't be read
+pub section-row : (v : View) (section : ℕ) (f : Fault) → IsUnitSection v section → Blames (UnitFails (unit_base v) (unit_section_at v section)) f
+    → Blames (SourcesFail (debug_data v)) f
+section-row v section NoMemory there b = tt
+section-row v section (Refused r) there b =
+    let s : Stands (debug_data v).units (unit_section_at v section) = stands-section v section there in
+    unit_fails (unit_section_at v section) s.before s.behind s.is b
+
+pub section-added : (d : DebugData) (list : List Contribution) (tables : ℕ → Option LineTable) (front : List ℕ) (z : UnitSection) (hs : List UnitHeader)
+    (old new : List (List ℕ)) → AreUnits d.base z hs → EachTable d hs → new ≡ with_paths front old (section_paths d list tables z hs)
+    → AddsSection d list tables front z old new
+section-added d list tables front z hs old new units each e = record { headers = hs; units = record { units = units; tables = each }; added = e }
+
+pub ruleset section_rules = (section-row, section-added)
+
+-- the sections so far: none at first
+pub sections-start : (v : View) (list : List Contribution) (tables : ℕ → Option LineTable) (front : List ℕ) (numbers : List ℕ) (old : List (List ℕ))
+    → AddsSections (debug_data v) list tables front (map (unit_section_at v) (take 0 numbers)) old old
+sections-start v list tables front numbers old = record { headers = []; units = tt; added = refl }
+
+each-append : (d : DebugData) (zs : List UnitSection) (hss : List (List UnitHeader)) (z : UnitSection) (hs : List UnitHeader) → EachUnits d zs hss → HasUnits d z hs
+    → EachUnits d (zs ++ z ∷ []) (hss ++ hs ∷ [])
+each-append d [] [] z hs all one = (one, tt)
+each-append d [] (y ∷ ys) z hs all one = absurd all
+each-append d (x ∷ xs) [] z hs all one = absurd all
+each-append d (x ∷ xs) (y ∷ ys) z hs all one = (all.0, each-append d xs ys z hs all.1 one)
+
+sections-append : (d : DebugData) (list : List Contribution) (tables : ℕ → Option LineTable) (zs : List UnitSection) (hss : List (List UnitHeader)) (z : UnitSection) (hs : List UnitHeader)
+    → EachUnits d zs hss
+    → sections_paths d list tables (zs ++ z ∷ []) (hss ++ hs ∷ []) ≡ sections_paths d list tables zs hss ++ section_paths d list tables z hs
+sections-append d list tables [] [] z hs all = append-nil (section_paths d list tables z hs)
+sections-append d list tables [] (y ∷ ys) z hs all = absurd all
+sections-append d list tables (x ∷ xs) [] z hs all = absurd all
+sections-append d list tables (x ∷ xs) (y ∷ ys) z hs all =
+    ap (λ (ps : List (List ℕ)). section_paths d list tables x y ++ ps) (sections-append d list tables xs ys z hs all.1)
+    ∙ sym (append_assoc (section_paths d list tables x y) (sections_paths d list tables xs ys) (section_paths d list tables z hs))
+
+adds-more : (d : DebugData) (list : List Contribution) (tables : ℕ → Option LineTable) (front : List ℕ) (zs : List UnitSection) (z : UnitSection) (old now new : List (List ℕ))
+    → AddsSections d list tables front zs old now → AddsSection d list tables front z now new → AddsSections d list tables front (zs ++ z ∷ []) old new
+adds-more d list tables front zs z old now new p one = record {
+  headers = p.headers ++ one.headers ∷ [];
+  units = each-append d zs p.headers z one.headers p.units one.units;
+  added =
+      one.added ∙ ap (λ (ns : List (List ℕ)). with_paths front ns (section_paths d list tables z one.headers)) p.added
+      ∙ sym (paths-append front old (sections_paths d list tables zs p.headers) (section_paths d list tables z one.headers))
+      ∙ ap (with_paths front old) (sym (sections-append d list tables zs p.headers z one.headers p.units));
+}
+
+pub sections-more : (v : View) (list : List Contribution) (tables : ℕ → Option LineTable) (front : List ℕ) (numbers : List ℕ) (i n : ℕ) (old now new : List (List ℕ))
+    → i < length numbers → n ≡ get_or numbers i n → AddsSections (debug_data v) list tables front (map (unit_section_at v) (take i numbers)) old now
+    → AddsSection (debug_data v) list tables front (unit_section_at v n) now new
+    → AddsSections (debug_data v) list tables front (map (unit_section_at v) (take (i + 1) numbers)) old new
+sections-more v list tables front numbers i n old now new lt is p one =
+    subst (λ (zs : List UnitSection). AddsSections (debug_data v) list tables front zs old new) (sym (sections-next v numbers i n lt is))
+    (adds-more (debug_data v) list tables front (map (unit_section_at v) (take i numbers)) (unit_section_at v n) old now new p one)
+
+pub sections-end : (v : View) (list : List Contribution) (tables : ℕ → Option LineTable) (front : List ℕ) (numbers : List ℕ) (i : ℕ) (old now : List (List ℕ))
+    → length numbers ≤ i → AreSections v numbers → AddsSections (debug_data v) list tables front (map (unit_section_at v) (take i numbers)) old now
+    → AddsSections (debug_data v) list tables front (debug_data v).units old now
+sections-end v list tables front numbers i old now end are p =
+    subst (λ (zs : List UnitSection). AddsSections (debug_data v) list tables front zs old now) (sections-whole v numbers i are end) p
+
+pub ruleset all_rules = (none-shared, sections-start, sections-end)

@@ -1,0 +1,5 @@
+pub mod KeptNames
+pub mod RootValues
+pub mod UnitPaths
+pub mod JoinedFiles
+pub mod Sources

@@ -1,0 +1,111 @@
+//! The names of sources: those below a base, in byte order; and which line tables' files are among them.
+
+ghost use Rattle.std.specs.Prelude.{◌≡◌, [], map, option_map, IfOk, OnOk};
+ghost use Rattle.dw_sources.specs.JoinedFiles.{Marks};
+ghost use Rattle.dw_sources.specs.KeptNames.{behind_front, bytes_of, front_of, kept_name, with_kept, with_name};
+
+use dw_base::NoMemory;
+use dw_paths::clean_path;
+use std::alloc::Global;
+use std::collections::BTreeSet;
+
+/// What was found so far.
+#[derive(Drop)]
+pub(crate) struct Found {
+    /// The names.
+    pub names: BTreeSet<Vec<u8>>,
+    /// The start of each line table whose files are among them, with the folder that they were joined with.
+    pub joined: BTreeSet<(u64, Vec<u8>)>,
+}
+
+/// Nothing yet.
+pub(crate) fn none_found(alloc: Global) -> Found
+    ensures names { result.names.keys ≡ [] }
+    ensures joined { result.joined.keys ≡ [] }
+{
+    Found {
+        names: BTreeSet::new(alloc),
+        joined: BTreeSet::new(alloc),
+    }
+}
+
+/// Notes that the files of the table of a start are joined with a folder. Whether they weren't before.
+#[tactic(auto, using(crate::proofs::JoinLaws::mark_rules))]
+pub(crate) fn mark(
+    alloc: Global,
+    start: u64,
+    folder: &[u8],
+    joined: &mut BTreeSet<(u64, Vec<u8>)>,
+) -> Result<bool, NoMemory>
+    ensures marked { IfOk result (λ fresh. Marks joined.old.keys joined.new.keys start folder.now fresh) }
+{
+    let folder = Vec::from_slice(alloc, folder)?;
+    Ok(joined.insert((start, folder))?)
+}
+
+/// What the paths below a base begin with.
+pub(crate) fn front_of(alloc: Global, base: &[u8]) -> Result<Vec<u8>, NoMemory>
+    ensures value { IfOk result (λ front. front.items ≡ front_of base.now) }
+{
+    let mut front = clean_path(alloc, base)?;
+    front.push(b'/')?;
+    Ok(front)
+}
+
+/// A path without its front. `None` exactly where it doesn't begin with it.
+fn behind_front<'p>(front: &[u8], path: &'p [u8]) -> Option<&'p [u8]>
+    ensures value { option_map (λ n. n.now) result ≡ behind_front front.now path.now }
+{
+    if path.starts_with(front) {
+        return Some(&path[front.len()..]);
+    }
+    None
+}
+
+/// The name that is kept of a path, where one is.
+#[tactic(auto, unfolding(crate::specs::KeptNames::kept_name))]
+fn kept_name(alloc: Global, front: &[u8], path: &[u8]) -> Result<Option<Vec<u8>>, NoMemory>
+    ensures value { IfOk result (λ o. option_map bytes_of o ≡ kept_name front.now path.now) }
+{
+    let cleaned = clean_path(alloc, path)?;
+    match behind_front(front, &cleaned) {
+        Some(name) => Ok(Some(Vec::from_slice(alloc, name)?)),
+        None => Ok(None),
+    }
+}
+
+/// Adds a name.
+#[tactic(auto, using(crate::proofs::NameLaws::name_rules))]
+fn add_name(names: &mut BTreeSet<Vec<u8>>, name: Vec<u8>) -> Result<(), NoMemory>
+    ensures value { OnOk result (map bytes_of names.new.keys ≡ with_name (map bytes_of names.old.keys) name.items) }
+{
+    names.insert(name)?;
+    Ok(())
+}
+
+/// Adds the name that is kept of a path, where one is.
+pub(crate) fn add_path(
+    alloc: Global,
+    front: &[u8],
+    path: &[u8],
+    names: &mut BTreeSet<Vec<u8>>,
+) -> Result<(), NoMemory>
+    ensures value { OnOk result (map bytes_of names.new.keys ≡ with_kept (map bytes_of names.old.keys) (kept_name front.now path.now)) }
+{
+    match kept_name(alloc, front, path)? {
+        Some(name) => add_name(names, name)?,
+        None => {}
+    }
+    Ok(())
+}
+
+/// The names, in byte order.
+pub(crate) fn in_order(alloc: Global, names: BTreeSet<Vec<u8>>) -> Result<Vec<Vec<u8>>, NoMemory>
+    ensures value { IfOk result (λ v. v.items ≡ names.keys) }
+{
+    let mut list = Vec::new(alloc);
+    for name in names {
+        list.push(name)?;
+    }
+    Ok(list)
+}

@@ -1,0 +1,226 @@
+//! The paths that a unit names, added to the names of sources (DWARF 5, 3.1.1 and 6.2.4).
+//!
+//! Read first: `specs/UnitPaths.antt`.
+
+ghost use Rattle.std.specs.Prelude.{◌≡◌, map, nat_eq, option_map, OnOk};
+ghost use Rattle.std.specs.HashMap.{get};
+ghost use Rattle.dw_base.specs.DebugData.{line_source};
+ghost use Rattle.dw_base.specs.LineMeanings.{item_at};
+ghost use Rattle.dw_base.specs.ViewData.{debug_data};
+ghost use Rattle.dw_sources.specs.JoinedFiles.{AreJoined};
+ghost use Rattle.dw_sources.specs.KeptNames.{bytes_of, with_paths};
+ghost use Rattle.dw_sources.specs.UnitPaths.{dir_place, dir_text, file_path, files_paths, folder_of, is_made_up, lines_paths, listed, paths_in, root_paths, table_paths, unit_path};
+ghost use Rattle.dw_paths.specs.CleanPaths.{joined_path};
+
+use crate::names::{Found, add_path, mark};
+use crate::roots::Root;
+use crate::texts::{place_text, value_text};
+use dw_base::{FilePlace, NoMemory, TextPlace};
+use dw_lines::LineTable;
+use dw_offsets::ContributionList;
+use dw_paths::join_path;
+use dw_view::View;
+use std::alloc::Global;
+use std::collections::{BTreeSet, HashMap};
+
+/// A text that names no file, as `<built-in>`.
+fn is_made_up(text: &[u8]) -> bool
+    ensures value { result ≡ is_made_up text.now }
+{
+    text.starts_with(b"<")
+}
+
+/// Adds the path of a name in a folder, but for a name that is made up.
+#[tactic(auto, using(crate::proofs::PathLaws::named_rules))]
+fn add_named(
+    alloc: Global,
+    front: &[u8],
+    folder: &[u8],
+    name: &[u8],
+    names: &mut BTreeSet<Vec<u8>>,
+) -> Result<(), NoMemory>
+    ensures value { OnOk result (map bytes_of names.new.keys ≡ with_paths front.now (map bytes_of names.old.keys) (listed name.now (joined_path folder.now name.now))) }
+{
+    if is_made_up(name) {
+        return Ok(());
+    }
+    let path = join_path(alloc, folder, name)?;
+    add_path(alloc, front, &path, names)?;
+    Ok(())
+}
+
+/// Adds the path of a unit, where it has a name.
+fn add_unit_path(
+    alloc: Global,
+    front: &[u8],
+    folder: &[u8],
+    name: Option<&[u8]>,
+    names: &mut BTreeSet<Vec<u8>>,
+) -> Result<(), NoMemory>
+    ensures value { OnOk result (map bytes_of names.new.keys ≡ with_paths front.now (map bytes_of names.old.keys) (unit_path folder.now (option_map (λ t. t.now) name.entry))) }
+{
+    match name {
+        Some(name) => add_named(alloc, front, folder, name, names),
+        None => Ok(()),
+    }
+}
+
+/// The place of a number in a list, where it has one.
+#[tactic(auto, using(crate::proofs::PathLaws::item_rules))]
+fn item_at(places: &[TextPlace], number: u64) -> Option<TextPlace>
+    ensures value { result ≡ item_at places.now number }
+{
+    if number >= places.len() as u64 {
+        return None;
+    }
+    Some(places[number as usize])
+}
+
+/// Where the text of a directory of a table stands; none where the table hasn't one of this number.
+fn dir_place(table: &LineTable, number: u64) -> Option<TextPlace>
+    ensures value { result ≡ dir_place table.now.version table.now.dirs number }
+{
+    if table.version == 5 {
+        return item_at(&table.dirs, number);
+    }
+    item_at(&table.dirs, number.saturating_sub(1))
+}
+
+/// The text of a directory of a table, which is empty for the folder itself.
+fn dir_text<'v>(view: &'v View, table: &LineTable, number: u64) -> Option<&'v [u8]>
+    ensures value { option_map (λ t. t.now) result ≡ dir_text (line_source (debug_data view.now)) table.now.version table.now.dirs number }
+{
+    if table.version != 5 && number == 0 {
+        return Some(b"");
+    }
+    match dir_place(table, number) {
+        Some(place) => Some(place_text(view, &place)),
+        None => None,
+    }
+}
+
+/// Adds the path of a file of a table, of a unit that was compiled in a folder.
+fn add_file(
+    alloc: Global,
+    view: &View,
+    front: &[u8],
+    folder: &[u8],
+    table: &LineTable,
+    file: &FilePlace,
+    names: &mut BTreeSet<Vec<u8>>,
+) -> Result<(), NoMemory>
+    ensures value { OnOk result (map bytes_of names.new.keys ≡ with_paths front.now (map bytes_of names.old.keys) (file_path (line_source (debug_data view.now)) folder.now table.now file.now)) }
+{
+    let Some(dir) = dir_text(view, table, file.dir) else {
+        return Ok(());
+    };
+    let dir = join_path(alloc, folder, dir)?;
+    add_named(alloc, front, &dir, place_text(view, &file.text), names)?;
+    Ok(())
+}
+
+/// Adds the paths of files of a table.
+#[tactic(auto, using(crate::proofs::PathLaws::files_rules))]
+fn add_files(
+    alloc: Global,
+    view: &View,
+    front: &[u8],
+    folder: &[u8],
+    table: &LineTable,
+    files: &[FilePlace],
+    names: &mut BTreeSet<Vec<u8>>,
+) -> Result<(), NoMemory>
+    ensures value { OnOk result (map bytes_of names.new.keys ≡ with_paths front.now (map bytes_of names.old.keys) (files_paths (line_source (debug_data view.now)) folder.now table.now files.now)) }
+{
+    for file in files {
+        add_file(alloc, view, front, folder, table, file, names)?;
+    }
+    Ok(())
+}
+
+/// Adds those of the table that a unit names, where it names one, and they weren't joined with its folder before.
+#[tactic(auto, using(crate::proofs::JoinLaws::lines_rules))]
+fn add_lines(
+    alloc: Global,
+    view: &View,
+    tables: &HashMap<u64, LineTable>,
+    front: &[u8],
+    folder: &[u8],
+    lines: Option<u64>,
+    found: &mut Found,
+) -> Result<(), NoMemory>
+    requires joined { AreJoined (debug_data view.now) (λ at. get nat_eq tables.now at) front.now (map bytes_of found.old.names.keys) found.old.joined.keys }
+    ensures joined { OnOk result (AreJoined (debug_data view.now) (λ at. get nat_eq tables.now at) front.now (map bytes_of found.new.names.keys) found.new.joined.keys) }
+    ensures value { OnOk result (map bytes_of found.new.names.keys ≡ with_paths front.now (map bytes_of found.old.names.keys) (lines_paths (line_source (debug_data view.now)) (λ at. get nat_eq tables.now at) folder.now lines)) }
+{
+    let Some(start) = lines else {
+        return Ok(());
+    };
+    let Some(table) = tables.get(&start) else {
+        return Ok(());
+    };
+    if mark(alloc, start, folder, &mut found.joined)? {
+        add_files(
+            alloc,
+            view,
+            front,
+            folder,
+            table,
+            &table.files,
+            &mut found.names,
+        )?;
+    }
+    Ok(())
+}
+
+/// The folder of a unit: empty where it says none.
+fn folder_of<'t>(folder: Option<&'t [u8]>) -> &'t [u8]
+    ensures value { result.now ≡ folder_of (option_map (λ t. t.now) folder.entry) }
+{
+    match folder {
+        Some(folder) => folder,
+        None => b"",
+    }
+}
+
+/// Adds the paths of a unit, compiled in a folder, with a name and a line table.
+#[tactic(auto, using(crate::proofs::PathLaws::unit_rules))]
+fn add_paths(
+    alloc: Global,
+    view: &View,
+    tables: &HashMap<u64, LineTable>,
+    front: &[u8],
+    folder: &[u8],
+    name: Option<&[u8]>,
+    lines: Option<u64>,
+    found: &mut Found,
+) -> Result<(), NoMemory>
+    requires joined { AreJoined (debug_data view.now) (λ at. get nat_eq tables.now at) front.now (map bytes_of found.old.names.keys) found.old.joined.keys }
+    ensures joined { OnOk result (AreJoined (debug_data view.now) (λ at. get nat_eq tables.now at) front.now (map bytes_of found.new.names.keys) found.new.joined.keys) }
+    ensures value { OnOk result (map bytes_of found.new.names.keys ≡ with_paths front.now (map bytes_of found.old.names.keys) (paths_in (debug_data view.now) (λ at. get nat_eq tables.now at) folder.now (option_map (λ t. t.now) name.entry) lines)) }
+{
+    add_unit_path(alloc, front, folder, name, &mut found.names)?;
+    add_lines(alloc, view, tables, front, folder, lines, found)?;
+    Ok(())
+}
+
+/// Adds the paths of a unit whose first entry says this, and which has these bytes up to its end.
+#[tactic(auto, unfolding(crate::specs::UnitPaths::root_paths))]
+pub(crate) fn add_root(
+    alloc: Global,
+    view: &View,
+    list: &ContributionList,
+    tables: &HashMap<u64, LineTable>,
+    front: &[u8],
+    bytes: &[u8],
+    root: Root,
+    found: &mut Found,
+) -> Result<(), NoMemory>
+    requires joined { AreJoined (debug_data view.now) (λ at. get nat_eq tables.now at) front.now (map bytes_of found.old.names.keys) found.old.joined.keys }
+    ensures joined { OnOk result (AreJoined (debug_data view.now) (λ at. get nat_eq tables.now at) front.now (map bytes_of found.new.names.keys) found.new.joined.keys) }
+    ensures value { OnOk result (map bytes_of found.new.names.keys ≡ with_paths front.now (map bytes_of found.old.names.keys) (root_paths (debug_data view.now) list.now (λ at. get nat_eq tables.now at) bytes.now root)) }
+{
+    let folder = folder_of(value_text(view, list, bytes, root.base, root.comp_dir));
+    let name = value_text(view, list, bytes, root.base, root.name);
+    add_paths(alloc, view, tables, front, folder, name, root.lines, found)
+}

@@ -1,0 +1,189 @@
+//! The texts that values and line tables name (DWARF 5, 7.5.5, class string; 6.2.4; 7.26).
+
+ghost use Rattle.std.specs.Prelude.{◌≡◌, ◌≤◌, ◌<◌, ◌^◌, length, take, drop, option_map, IfOk, IfErr};
+ghost use Rattle.dw_base.specs.DebugData.{line_source};
+ghost use Rattle.dw_base.specs.Forms.{width_size};
+ghost use Rattle.dw_base.specs.LineMeanings.{place_text, section_in};
+ghost use Rattle.dw_base.specs.ViewData.{debug_data, located};
+ghost use Rattle.dw_offsets.specs.SlotSearch.{BasesRise, HasBase, IsBaseGap};
+ghost use Rattle.dw_sources.specs.UnitPaths.{base_width, class_text, index_text, named_text, slot_text, value_text};
+
+use dw_base::{Contribution, DebugSection, TextPlace, Value, ValueClass, Width, number_at};
+use dw_offsets::{ContributionList, slot_place};
+use dw_strings::text_at;
+use dw_view::View;
+
+/// The number of the first section of a kind, 0 where there is none.
+#[tactic(auto, using(dw_offsets::proofs::PathSlotLaws::located_laws))]
+fn first_number(view: &View, section: DebugSection) -> u32
+    ensures number { result ≡ (located view.now section).number }
+{
+    match view.first(section) {
+        Some(number) => number,
+        None => 0,
+    }
+}
+
+/// Its bytes, none where there is none.
+#[tactic(auto, using(dw_offsets::proofs::PathSlotLaws::located_laws))]
+fn first_bytes<'v>(view: &'v View, section: DebugSection) -> &'v [u8]
+    ensures bytes { result.now ≡ (located view.now section).bytes }
+    ensures small { length result.now ≤ 2 ^ 31 }
+{
+    match view.first(section) {
+        Some(number) => view.bytes(number),
+        None => b"",
+    }
+}
+
+/// The text at a place of a table; none where no NUL follows.
+fn named_text(table: &[u8], at: u64) -> Option<&[u8]>
+    ensures value { option_map (λ t. t.now) result ≡ named_text table.now at }
+{
+    match text_at(0, table, at) {
+        Ok(text) => Some(text),
+        Err(_) => None,
+    }
+}
+
+/// The width of the contribution whose slots begin at a base.
+#[tactic(auto, using(crate::proofs::BaseLaws::width_rules))]
+fn base_width(list: &ContributionList, base: u64) -> Option<Width>
+    ensures value { result ≡ base_width list.now base }
+{
+    let list = list.as_slice();
+    match with_base(list, base) {
+        Ok(at) => Some(list[at].width),
+        Err(_) => None,
+    }
+}
+
+/// Which contribution has a base, or where it would stand. Their bases rise.
+fn with_base(list: &[Contribution], base: u64) -> Result<usize, usize>
+    requires rising { BasesRise list.now }
+    ensures found { IfOk result (HasBase list.now base) }
+    ensures absent { IfErr result (IsBaseGap list.now base) }
+{
+    list.binary_search_by_key(&base, |contribution| contribution.base)
+}
+
+/// How many bytes an offset has.
+fn width_size(width: Width) -> u8
+    ensures value { result ≡ width_size width }
+    ensures some { 0 < result }
+    ensures wide { result ≤ 8 }
+{
+    match width {
+        Width::W32 => 4,
+        Width::W64 => 8,
+    }
+}
+
+/// The text of the slot of an index, in the contribution of a base.
+#[tactic(auto, using(crate::proofs::TextLaws::slot_rules))]
+fn slot_text<'v>(view: &'v View, list: &ContributionList, base: u64, index: u64) -> Option<&'v [u8]>
+    ensures value { option_map (λ t. t.now) result ≡ slot_text (debug_data view.now) list.now base index }
+{
+    let Some(width) = base_width(list, base) else {
+        return None;
+    };
+    let Some(place) = slot_place(list, base, index) else {
+        return None;
+    };
+    let offsets = first_bytes(view, DebugSection::StrOffsets);
+    let Some(offset) = number_at(view.order(), offsets, place, width_size(width)) else {
+        return None;
+    };
+    named_text(first_bytes(view, DebugSection::Str), offset)
+}
+
+/// The text of an index in a unit of a base, where it has one.
+fn index_text<'v>(
+    view: &'v View,
+    list: &ContributionList,
+    base: Option<u64>,
+    index: u64,
+) -> Option<&'v [u8]>
+    ensures value { option_map (λ t. t.now) result ≡ index_text (debug_data view.now) list.now base index }
+{
+    match base {
+        Some(base) => slot_text(view, list, base, index),
+        None => None,
+    }
+}
+
+/// The text that a value holds in a unit with these bytes up to its end and this base.
+#[tactic(auto, using(crate::proofs::TextLaws::class_rules))]
+fn class_text<'v>(
+    view: &'v View,
+    list: &ContributionList,
+    bytes: &'v [u8],
+    base: Option<u64>,
+    value: &Value,
+) -> Option<&'v [u8]>
+    ensures value { option_map (λ t. t.now) result ≡ class_text value.now.class (debug_data view.now) list.now bytes.now base value.now }
+{
+    match value.class {
+        ValueClass::InlineText => named_text(bytes, value.at),
+        ValueClass::StrOffset => named_text(first_bytes(view, DebugSection::Str), value.number),
+        ValueClass::LineStrOffset => {
+            named_text(first_bytes(view, DebugSection::LineStr), value.number)
+        }
+        ValueClass::StrIndex => index_text(view, list, base, value.number),
+        _ => None,
+    }
+}
+
+/// The same, of a value that may be there.
+pub(crate) fn value_text<'v>(
+    view: &'v View,
+    list: &ContributionList,
+    bytes: &'v [u8],
+    base: Option<u64>,
+    value: Option<Value>,
+) -> Option<&'v [u8]>
+    ensures value { option_map (λ t. t.now) result ≡ value_text (debug_data view.now) list.now bytes.now base value }
+{
+    match value {
+        Some(value) => class_text(view, list, bytes, base, &value),
+        None => None,
+    }
+}
+
+/// So many bytes from a place on, or those that there are.
+#[tactic(auto, using(crate::proofs::TextLaws::part_rules))]
+fn part_of(bytes: &[u8], at: u64, len: u64) -> &[u8]
+    requires small { length bytes.now ≤ 2 ^ 31 }
+    ensures value { result.now ≡ take len (drop at bytes.now) }
+{
+    if at > bytes.len() as u64 {
+        return b"";
+    }
+    let rest = &bytes[at as usize..];
+    if len > rest.len() as u64 {
+        return rest;
+    }
+    &rest[..len as usize]
+}
+
+/// The bytes of the section of a number, of those that a line table's texts stand in.
+#[tactic(auto, using(crate::proofs::TextLaws::section_rules))]
+fn section_in<'v>(view: &'v View, section: u32) -> &'v [u8]
+    ensures value { result.now ≡ section_in (line_source (debug_data view.now)) section }
+    ensures small { length result.now ≤ 2 ^ 31 }
+{
+    if section == first_number(view, DebugSection::Line) {
+        return first_bytes(view, DebugSection::Line);
+    }
+    if section == first_number(view, DebugSection::Str) {
+        return first_bytes(view, DebugSection::Str);
+    }
+    first_bytes(view, DebugSection::LineStr)
+}
+
+/// The text at a place.
+pub(crate) fn place_text<'v>(view: &'v View, place: &TextPlace) -> &'v [u8]
+    ensures value { result.now ≡ place_text (line_source (debug_data view.now)) place.now }
+{
+    part_of(section_in(view, place.section), place.at, place.len)
+}

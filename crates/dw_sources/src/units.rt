@@ -1,0 +1,230 @@
+//! The units of a view, whose paths are added to the names of sources (DWARF 5, 7.5.1).
+//!
+//! Read first: `specs/Sources.antt`.
+
+ghost use Rattle.std.specs.Prelude.{◌≡◌, true, is_some, map, nat_eq, IfErr, IfOk, OnOk};
+ghost use Rattle.std.specs.HashMap.{get};
+ghost use Rattle.dw_base.specs.AbbreviationFails.{AbbreviationFails};
+ghost use Rattle.dw_base.specs.AbbreviationTables.{IsTable};
+ghost use Rattle.dw_base.specs.EntryValues.{HasUnit};
+ghost use Rattle.dw_base.specs.Refusals.{Blames};
+ghost use Rattle.dw_base.specs.UnitHeaders.{AreUnits};
+ghost use Rattle.dw_base.specs.ViewData.{debug_data};
+ghost use Rattle.dw_entries.specs.SectionOrder.{AreSections};
+ghost use Rattle.dw_entries.specs.ViewUnits.{IsUnitSection, unit_section_at};
+ghost use Rattle.dw_sources.specs.JoinedFiles.{AreJoined};
+ghost use Rattle.dw_sources.specs.KeptNames.{bytes_of, with_paths};
+ghost use Rattle.dw_sources.specs.Sources.{AddsSection, AddsSections, AreShared, EachTable, HasAbbreviations, SourcesFail, section_paths};
+ghost use Rattle.dw_sources.specs.UnitPaths.{unit_paths};
+
+use crate::names::Found;
+use crate::paths::add_root;
+use crate::roots::root_at;
+use dw_abbrev::AbbrevTable;
+use dw_base::{DebugSection, Fault, NoMemory, UnitHeader};
+use dw_entries::{unit_headers, unit_sections};
+use dw_lines::LineTable;
+use dw_offsets::ContributionList;
+use dw_view::View;
+use std::alloc::Global;
+use std::collections::HashMap;
+
+/// Reads the table of abbreviations at an offset, if it wasn't read before.
+#[tactic(auto, using(crate::proofs::UnitLaws::read_rules))]
+fn read_table(
+    alloc: Global,
+    view: &View,
+    at: u64,
+    shared: &mut HashMap<u64, AbbrevTable>,
+) -> Result<(), Fault>
+    requires shared { AreShared (debug_data view.now) (λ at. get nat_eq shared.old at) }
+    ensures shared { OnOk result (AreShared (debug_data view.now) (λ at. get nat_eq shared.new at)) }
+    ensures there { OnOk result (is_some (get nat_eq shared.new at) ≡ true) }
+    ensures refused { IfErr result (Blames (AbbreviationFails (debug_data view.now).base.abbrevs.bytes (debug_data view.now).base.abbrevs.number at)) }
+{
+    if shared.contains_key(&at) {
+        return Ok(());
+    }
+    let table = table_at(alloc, view, at)?;
+    shared.insert(at, table)?;
+    Ok(())
+}
+
+/// The table of abbreviations at an offset of the view's `.debug_abbrev`.
+#[tactic(auto, using(crate::proofs::UnitLaws::table_rules))]
+fn table_at(alloc: Global, view: &View, at: u64) -> Result<AbbrevTable, Fault>
+    ensures table { IfOk result (λ t. IsTable (debug_data view.now).base.abbrevs.bytes at t) }
+    ensures refused { IfErr result (Blames (AbbreviationFails (debug_data view.now).base.abbrevs.bytes (debug_data view.now).base.abbrevs.number at)) }
+{
+    match view.first(DebugSection::Abbrev) {
+        Some(section) => AbbrevTable::read(alloc, section, view.bytes(section), at),
+        None => AbbrevTable::read(alloc, 0, b"", at),
+    }
+}
+
+/// Adds the paths of a unit with its table of abbreviations.
+#[tactic(auto, using(crate::proofs::UnitLaws::unit_rules))]
+fn add_unit(
+    alloc: Global,
+    view: &View,
+    list: &ContributionList,
+    tables: &HashMap<u64, LineTable>,
+    front: &[u8],
+    unit: &UnitHeader,
+    abbrevs: &AbbrevTable,
+    found: &mut Found,
+) -> Result<(), NoMemory>
+    requires unit { HasUnit (debug_data view.now) (unit_section_at view.now unit.now.section) unit.now }
+    requires table { IsTable (debug_data view.now).base.abbrevs.bytes unit.now.abbrevs abbrevs.now }
+    requires joined { AreJoined (debug_data view.now) (λ at. get nat_eq tables.now at) front.now (map bytes_of found.old.names.keys) found.old.joined.keys }
+    ensures joined { OnOk result (AreJoined (debug_data view.now) (λ at. get nat_eq tables.now at) front.now (map bytes_of found.new.names.keys) found.new.joined.keys) }
+    ensures value { OnOk result (map bytes_of found.new.names.keys ≡ with_paths front.now (map bytes_of found.old.names.keys) (unit_paths (debug_data view.now) list.now (λ at. get nat_eq tables.now at) (unit_section_at view.now unit.now.section) unit.now)) }
+{
+    let bytes = &view.bytes(unit.section)[..unit.end as usize];
+    let root = root_at(&unit.params, abbrevs, bytes, unit.first);
+    add_root(alloc, view, list, tables, front, bytes, root, found)?;
+    Ok(())
+}
+
+/// Adds the paths of a unit; its table of abbreviations is kept for other units.
+#[tactic(auto, using(crate::proofs::UnitLaws::one_rules))]
+fn one_unit(
+    alloc: Global,
+    view: &View,
+    list: &ContributionList,
+    tables: &HashMap<u64, LineTable>,
+    front: &[u8],
+    unit: &UnitHeader,
+    shared: &mut HashMap<u64, AbbrevTable>,
+    found: &mut Found,
+) -> Result<(), Fault>
+    requires unit { HasUnit (debug_data view.now) (unit_section_at view.now unit.now.section) unit.now }
+    requires shared { AreShared (debug_data view.now) (λ at. get nat_eq shared.old at) }
+    requires joined { AreJoined (debug_data view.now) (λ at. get nat_eq tables.now at) front.now (map bytes_of found.old.names.keys) found.old.joined.keys }
+    ensures shared { OnOk result (AreShared (debug_data view.now) (λ at. get nat_eq shared.new at)) }
+    ensures joined { OnOk result (AreJoined (debug_data view.now) (λ at. get nat_eq tables.now at) front.now (map bytes_of found.new.names.keys) found.new.joined.keys) }
+    ensures value { OnOk result (map bytes_of found.new.names.keys ≡ with_paths front.now (map bytes_of found.old.names.keys) (unit_paths (debug_data view.now) list.now (λ at. get nat_eq tables.now at) (unit_section_at view.now unit.now.section) unit.now)) }
+    ensures table { OnOk result (HasAbbreviations (debug_data view.now) unit.now.abbrevs) }
+    ensures refused { IfErr result (Blames (SourcesFail (debug_data view.now))) }
+{
+    read_table(alloc, view, unit.abbrevs, shared)?;
+    let Some(abbrevs) = shared.get(&unit.abbrevs) else {
+        unreachable!()
+    };
+    add_unit(alloc, view, list, tables, front, unit, abbrevs, found)?;
+    Ok(())
+}
+
+/// Adds the paths of the units of a section.
+#[tactic(auto, using(crate::proofs::UnitLaws::units_rules))]
+fn add_units(
+    alloc: Global,
+    view: &View,
+    list: &ContributionList,
+    tables: &HashMap<u64, LineTable>,
+    front: &[u8],
+    section: u32,
+    units: &[UnitHeader],
+    shared: &mut HashMap<u64, AbbrevTable>,
+    found: &mut Found,
+) -> Result<(), Fault>
+    requires there { IsUnitSection view.now section }
+    requires units { AreUnits (debug_data view.now).base (unit_section_at view.now section) units.now }
+    requires shared { AreShared (debug_data view.now) (λ at. get nat_eq shared.old at) }
+    requires joined { AreJoined (debug_data view.now) (λ at. get nat_eq tables.now at) front.now (map bytes_of found.old.names.keys) found.old.joined.keys }
+    ensures shared { OnOk result (AreShared (debug_data view.now) (λ at. get nat_eq shared.new at)) }
+    ensures joined { OnOk result (AreJoined (debug_data view.now) (λ at. get nat_eq tables.now at) front.now (map bytes_of found.new.names.keys) found.new.joined.keys) }
+    ensures value { OnOk result (map bytes_of found.new.names.keys ≡ with_paths front.now (map bytes_of found.old.names.keys) (section_paths (debug_data view.now) list.now (λ at. get nat_eq tables.now at) (unit_section_at view.now section) units.now)) }
+    ensures tables { OnOk result (EachTable (debug_data view.now) units.now) }
+    ensures refused { IfErr result (Blames (SourcesFail (debug_data view.now))) }
+{
+    for unit in units {
+        one_unit(alloc, view, list, tables, front, unit, shared, found)?;
+    }
+    Ok(())
+}
+
+/// Adds the paths of a section.
+#[tactic(auto, using(crate::proofs::UnitLaws::section_rules))]
+fn add_section(
+    alloc: Global,
+    view: &View,
+    list: &ContributionList,
+    tables: &HashMap<u64, LineTable>,
+    front: &[u8],
+    section: u32,
+    shared: &mut HashMap<u64, AbbrevTable>,
+    found: &mut Found,
+) -> Result<(), Fault>
+    requires there { IsUnitSection view.now section }
+    requires shared { AreShared (debug_data view.now) (λ at. get nat_eq shared.old at) }
+    requires joined { AreJoined (debug_data view.now) (λ at. get nat_eq tables.now at) front.now (map bytes_of found.old.names.keys) found.old.joined.keys }
+    ensures shared { OnOk result (AreShared (debug_data view.now) (λ at. get nat_eq shared.new at)) }
+    ensures joined { OnOk result (AreJoined (debug_data view.now) (λ at. get nat_eq tables.now at) front.now (map bytes_of found.new.names.keys) found.new.joined.keys) }
+    ensures value { OnOk result (AddsSection (debug_data view.now) list.now (λ at. get nat_eq tables.now at) front.now (unit_section_at view.now section) (map bytes_of found.old.names.keys) (map bytes_of found.new.names.keys)) }
+    ensures refused { IfErr result (Blames (SourcesFail (debug_data view.now))) }
+{
+    let units = unit_headers(alloc, view, section)?;
+    add_units(
+        alloc,
+        view,
+        list,
+        tables,
+        front,
+        section,
+        units.as_slice(),
+        shared,
+        found,
+    )
+}
+
+/// Adds the paths of the sections of these numbers, which are all unit sections of the view.
+#[tactic(auto, using(crate::proofs::UnitLaws::all_rules))]
+fn add_sections(
+    alloc: Global,
+    view: &View,
+    list: &ContributionList,
+    tables: &HashMap<u64, LineTable>,
+    front: &[u8],
+    numbers: &[u32],
+    found: &mut Found,
+) -> Result<(), Fault>
+    requires sections { AreSections view.now numbers.now }
+    requires joined { AreJoined (debug_data view.now) (λ at. get nat_eq tables.now at) front.now (map bytes_of found.old.names.keys) found.old.joined.keys }
+    ensures joined { OnOk result (AreJoined (debug_data view.now) (λ at. get nat_eq tables.now at) front.now (map bytes_of found.new.names.keys) found.new.joined.keys) }
+    ensures value { OnOk result (AddsSections (debug_data view.now) list.now (λ at. get nat_eq tables.now at) front.now (debug_data view.now).units (map bytes_of found.old.names.keys) (map bytes_of found.new.names.keys)) }
+    ensures refused { IfErr result (Blames (SourcesFail (debug_data view.now))) }
+{
+    let mut shared = HashMap::new(alloc);
+    for section in numbers {
+        add_section(
+            alloc,
+            view,
+            list,
+            tables,
+            front,
+            *section,
+            &mut shared,
+            found,
+        )?;
+    }
+    Ok(())
+}
+
+/// Adds the paths of all units of the view.
+pub(crate) fn add_all(
+    alloc: Global,
+    view: &View,
+    list: &ContributionList,
+    tables: &HashMap<u64, LineTable>,
+    front: &[u8],
+    found: &mut Found,
+) -> Result<(), Fault>
+    requires joined { AreJoined (debug_data view.now) (λ at. get nat_eq tables.now at) front.now (map bytes_of found.old.names.keys) found.old.joined.keys }
+    ensures joined { OnOk result (AreJoined (debug_data view.now) (λ at. get nat_eq tables.now at) front.now (map bytes_of found.new.names.keys) found.new.joined.keys) }
+    ensures value { OnOk result (AddsSections (debug_data view.now) list.now (λ at. get nat_eq tables.now at) front.now (debug_data view.now).units (map bytes_of found.old.names.keys) (map bytes_of found.new.names.keys)) }
+    ensures refused { IfErr result (Blames (SourcesFail (debug_data view.now))) }
+{
+    let numbers = unit_sections(alloc, view)?;
+    add_sections(alloc, view, list, tables, front, &numbers, found)
+}
