@@ -1,0 +1,11 @@
+pub mod AppendLaws
+pub mod QuotingLaws
+pub mod RowTextLaws
+pub mod ListLaws
+pub mod PrintingLaws
+pub mod LoopLaws
+pub mod MeaningLaws
+pub mod UnitRowLaws
+pub mod ExcludeLaws
+pub mod UnitLaws
+pub mod ReadLaws

@@ -1,0 +1,228 @@
+-- Line tables that are read one after another, and their text.
+use Rattle.std.proofs.Common.{◌≡◌, ℕ, zero, suc, ◌+◌, ◌<◌, ◌≤◌, List, [], ◌∷◌, ◌++◌, length, map, take, drop, drop-cons, get_or, Option, Some, None, refl, sym, ap, ◌∙◌, subst, arith, append-nil}
+use Rattle.std.specs.Prelude.{OnOk, Result, Ok, Err}
+use Rattle.std.proofs.lemmas.List.{drop_all, take-append-drop}
+use Rattle.dw_base.specs.Cells.{Located}
+use Rattle.dw_base.specs.DebugData.{line_source}
+use Rattle.dw_base.specs.DebugSections.{name_of}
+use Rattle.dw_base.specs.FileViews.{View, section_bytes, section_named}
+use Rattle.dw_base.specs.LineMeanings.{FileText, dir_columns, dir_texts, entries_with, file_columns, file_path, file_texts, line_meaning, line_meanings, shown_rows}
+use Rattle.dw_base.specs.LineReadings.{LineReading, ReadsTable, AreTables, TablesTo, table_read}
+use Rattle.dw_base.specs.LineSources.{LineSource}
+use Rattle.dw_base.specs.LineTables.{LineTable}
+use Rattle.dw_base.specs.Refusals.{Blames}
+use Rattle.dw_base.specs.ViewData.{debug_data, located, located_at}
+use Rattle.dw_base.specs.declared.debug_sections.DebugSection.TheVariants.{Str, LineStr, Line}
+use Rattle.dw_base.specs.declared.fault.Fault.{Fault}
+use Rattle.dw_base.specs.declared.fault.Fault.TheVariants.{NoMemory, Refused}
+use Rattle.dw_base.specs.declared.fault.Refusal.{Refusal}
+use Rattle.dw_base.specs.declared.line_rows.Row.{Row}
+use Rattle.dw_base.specs.declared.shared.Order.{Order}
+use Rattle.dw_base.proofs.PlainCellLaws.{bytes_of-plain}
+use Rattle.dw_lines.specs.ViewSources.{view_source}
+use Rattle.dw_lines.specs.ViewTables.{tables_read, TablesUpTo, TablesFound}
+use Rattle.dw_base.proofs.FileViewLaws.{section_after-within}
+use Rattle.dw_meaning.proofs.LineOneLaws.{tables-one}
+use Rattle.dw_lines.proofs.ReadingLaws.{source-is}
+use Rattle.dw_meaning.specs.DataFails.{LinesFail}
+use Rattle.dw_rows.specs.TableRows.{IsTableIn, table_rows}
+use Rattle.dw_rows.proofs.TableLaws.{rows-meant}
+use Rattle.file_tree.specs.Heard.{Heard, grown}
+use Rattle.dbg_show.specs.LineTexts.{entry_file, entry_path, dirs_text, files_text, first_number, lines_text, table_line, table_text, tables_text}
+use Rattle.dbg_show.specs.Printing.{Printed, Cut, Goes}
+use Rattle.dbg_show.specs.ReadTables.{AllIn, read_text, all_read, ViewTables}
+use Rattle.dbg_show.specs.Rows.{rows_text}
+use Rattle.dbg_show.specs.ReadUnits.{AllRead, UnitsRefuse}
+use Rattle.dbg_show.specs.Shows.{ShowReads, IsShown, ShowRefuses, of_units, of_lines, ShowEnds, refused, unread, cut}
+use Rattle.dbg_show.specs.declared.show_err.ShowErr.{ShowErr}
+use Rattle.dbg_show.specs.declared.show_err.ShowErr.TheVariants as err
+use Rattle.dbg_show.proofs.ExcludeLaws.{show-excludes}
+use Rattle.dbg_show.proofs.MeaningLaws.{dirs-meant, files-meant}
+use Rattle.dbg_show.proofs.PrintingLaws.{goes-start, goes-more, goes-over, goes-cut, printed-then, cut-then}
+
+-- what the texts stand in
+pub source-made : (v : View) (order : Order) (lines str line_str : Located) → order ≡ v.order → lines ≡ located v Line → str ≡ located v Str → line_str ≡ located v LineStr
+    → ◌≡◌ {A = LineSource} (record { order = order; number = lines.number; bytes = lines.bytes; str = str; line_str = line_str }) (line_source (debug_data v))
+unfolding debug_data
+source-made v order lines str line_str o l s t =
+    rw (o, l, s, t) (ap (λ (bs : List ℕ). record { order = v.order; number = (located v Line).number; bytes = bs; str = located v Str; line_str = located v LineStr })
+    (sym (bytes_of-plain (located v Line).bytes)))
+
+pub ruleset source_laws = (source-made)
+
+-- the tables of a view
+abbrev own-table : (v : View) (section p : ℕ) (r : LineReading) → section < length v.sections → ReadsTable (view_source v section) p r → IsTableIn v (table_read (view_source v section) r)
+own-table v section p r there reads = record {
+  start = p;
+  there = there;
+  is = record {
+    header = r.header;
+    dirs = r.dirs;
+    files = r.files;
+    defined = r.defined;
+    behind = r.behind;
+    is = refl;
+    header_is = reads.header;
+    lists = reads.lists;
+    before = reads.before;
+    program = reads.program;
+  };
+}
+
+tables-in : (v : View) (section p e : ℕ) (rs : List LineReading) → section < length v.sections → TablesTo (view_source v section) p rs e
+    → AllIn v (tables_read (view_source v section) rs)
+tables-in v section p e [] there to = tt
+tables-in v section p e (r ∷ rs) there to = (own-table v section p r there to.0, tables-in v section r.header.end e rs there to.1)
+
+-- the text of a table is that of what it means
+table-meant : (v : View) (section p n : ℕ) (r : LineReading) → section < length v.sections → ReadsTable (view_source v section) p r
+    → read_text n (view_source v section) (table_read (view_source v section) r) (table_rows v (table_read (view_source v section) r)) ≡ table_text n (line_meaning (view_source v section) r)
+unfolding table_text
+table-meant v section p n r there reads =
+    ap (λ (ds : List (List ℕ)). table_line n r.header.version ++ (dirs_text (first_number r.header.version) ds
+    ++ (files_text (first_number r.header.version) (file_texts (view_source v section) r.files) ++ rows_text (shown_rows r.header.version (dir_texts (view_source v section) r.dirs)
+    (file_texts (view_source v section) r.files ++ file_texts (view_source v section) r.defined) (table_rows v (table_read (view_source v section) r))))))
+    (sym (dirs-meant (view_source v section) r))
+    ∙ ap (λ (fs : List FileText). table_line n r.header.version ++ (dirs_text (first_number r.header.version) (map entry_path (entries_with (dir_texts (view_source v section) r.dirs) (dir_columns (view_source v section) r)))
+    ++ (files_text (first_number r.header.version) fs ++ rows_text (shown_rows r.header.version (dir_texts (view_source v section) r.dirs)
+    (file_texts (view_source v section) r.files ++ file_texts (view_source v section) r.defined) (table_rows v (table_read (view_source v section) r))))))
+    (sym (files-meant (view_source v section) p r reads))
+    ∙ ap (λ (rs : List Row). table_line n r.header.version ++ (dirs_text (first_number r.header.version) (map entry_path (entries_with (dir_texts (view_source v section) r.dirs) (dir_columns (view_source v section) r)))
+    ++ (files_text (first_number r.header.version) (map entry_file (entries_with (map file_path (file_texts (view_source v section) r.files)) (file_columns (view_source v section) r)))
+    ++ rows_text (shown_rows r.header.version (dir_texts (view_source v section) r.dirs)
+    (file_texts (view_source v section) r.files ++ file_texts (view_source v section) r.defined) rs))))
+    (rows-meant v (table_read (view_source v section) r) (own-table v section p r there reads))
+
+all-meant : (v : View) (section p e n : ℕ) (rs : List LineReading) → section < length v.sections → TablesTo (view_source v section) p rs e
+    → all_read v (view_source v section) n (tables_read (view_source v section) rs) ≡ tables_text n (line_meanings (view_source v section) rs)
+all-meant v section p e n [] there to = refl
+all-meant v section p e n (r ∷ rs) there to =
+    ap (λ (t : List ℕ). t ++ all_read v (view_source v section) (suc n) (tables_read (view_source v section) rs)) (table-meant v section p n r there to.0)
+    ∙ ap (λ (t : List ℕ). table_text n (line_meaning (view_source v section) r) ++ t) (all-meant v section r.header.end e (suc n) rs there to.1)
+
+view-by : (v : View) (section : ℕ) (ts : List LineTable) → section < length v.sections → line_source (debug_data v) ≡ view_source v section
+    → TablesUpTo (view_source v section) ts (length (section_bytes v section)) → ViewTables v ts
+view-by v section ts there source r = record {
+  readings = r.readings;
+  tables = subst (λ (g : LineSource). AreTables g r.readings) (sym source) r.reads;
+  each = subst (AllIn v) (sym r.is) (tables-in v section 0 (length (section_bytes v section)) r.readings there r.reads);
+  text = subst (λ (g : LineSource). all_read v g 0 ts ≡ lines_text (line_meanings g r.readings)) (sym source)
+      (ap (all_read v (view_source v section) 0) r.is ∙ all-meant v section 0 (length (section_bytes v section)) 0 r.readings there r.reads);
+}
+
+-- a view without a section of line tables
+no-bytes : (v : View) → None ≡ section_named v (name_of Line) → (line_source (debug_data v)).bytes ≡ []
+unfolding debug_data located
+no-bytes v none = bytes_of-plain (located_at v (section_named v (name_of Line))).bytes ∙ ap (λ (o : Option ℕ). (located_at v o).bytes) (sym none)
+
+view-none : (v : View) (ts : List LineTable) → None ≡ section_named v (name_of Line) → TablesFound v ts → ViewTables v ts
+view-none v ts none f =
+    let empty : length (line_source (debug_data v)).bytes ≡ 0 = ap length (no-bytes v none) in
+    let first : [] ≡ f.readings =
+    tables-one (line_source (debug_data v)) 0 (length (line_source (debug_data v)).bytes) [] f.readings (sym empty) f.reads in
+    subst (ViewTables v) (sym (f.is ∙ ap (tables_read (line_source (debug_data v))) (sym first))) (record { readings = []; tables = sym empty; each = tt; text = refl })
+
+section-within : (v : View) (section : ℕ) → section_named v (name_of Line) ≡ Some section → section < length v.sections
+unfolding section_named
+section-within v section e = (section_after-within v (name_of Line) 0 section e).1
+
+pub view-found : (v : View) (ts : List LineTable) → TablesFound v ts → ViewTables v ts
+view-found v ts f = by_section (section_named v (name_of Line)) refl
+  where
+    by_section : (o : Option ℕ) → section_named v (name_of Line) ≡ o → ViewTables v ts
+    by_section None e = view-none v ts (sym e) f
+    by_section (Some section) e =
+        let source : line_source (debug_data v) ≡ view_source v section = source-is v section (sym e) in
+        view-by v section ts (section-within v section e) source (subst (λ (g : LineSource). TablesUpTo g ts (length g.bytes)) source f)
+
+pub ruleset view_laws = (view-found)
+
+-- tables are printed one after another
+table-first : (v : View) (g : LineSource) (ts : List LineTable) (i : ℕ) (d : LineTable) → i < length ts
+    → all_read v g i (drop i ts) ≡ read_text i g (get_or ts i d) (table_rows v (get_or ts i d)) ++ all_read v g (i + 1) (drop (i + 1) ts)
+table-first v g ts i d lt =
+    let next : suc i ≡ i + 1 = omega arith in
+    ap (all_read v g i) (drop-cons ts i d lt) ∙ ap (λ (k : ℕ). read_text i g (get_or ts i d) (table_rows v (get_or ts i d)) ++ all_read v g k (drop k ts)) next
+
+pub print-start : (v : View) (g : LineSource) (ts : List LineTable) (before : List ℕ) (h : Heard) → Goes (all_read v g 0 ts) (all_read v g 0 (drop 0 ts)) before h h before
+print-start v g ts before h = goes-start (all_read v g 0 ts) before h
+
+pub print-more : (v : View) (g : LineSource) (ts : List LineTable) (i : ℕ) (d : LineTable) (total before between behind : List ℕ) (old mid new : Heard)
+    → Goes total (all_read v g i (drop i ts)) before old mid between → i < length ts
+    → Printed (read_text i g (get_or ts i d) (table_rows v (get_or ts i d))) between mid new behind → Goes total (all_read v g (i + 1) (drop (i + 1) ts)) before old new behind
+print-more v g ts i d total before between behind old mid new goes lt p =
+    goes-more total (read_text i g (get_or ts i d) (table_rows v (get_or ts i d))) (all_read v g (i + 1) (drop (i + 1) ts)) before between behind old mid new
+    (subst (λ (rest : List ℕ). Goes total rest before old mid between) (table-first v g ts i d lt) goes) p
+
+pub print-over : (v : View) (g : LineSource) (ts : List LineTable) (i : ℕ) (before behind : List ℕ) (old new : Heard)
+    → Goes (all_read v g 0 ts) (all_read v g i (drop i ts)) before old new behind → length ts ≤ i → Printed (all_read v g 0 ts) before old new behind
+print-over v g ts i before behind old new goes past =
+    goes-over (all_read v g 0 ts) before behind old new
+    (subst (λ (rest : List ℕ). Goes (all_read v g 0 ts) rest before old new behind) (ap (all_read v g i) (drop_all i ts past)) goes)
+
+pub print-cut : (v : View) (g : LineSource) (ts : List LineTable) (i : ℕ) (t d : LineTable) (before between : List ℕ) (old mid new : Heard) (e : ShowErr)
+    → Goes (all_read v g 0 ts) (all_read v g i (drop i ts)) before old mid between → i < length ts → t ≡ get_or ts i d
+    → Cut (between ++ read_text i g t (table_rows v t)) mid new e → Cut (before ++ all_read v g 0 ts) old new e
+print-cut v g ts i t d before between old mid new e goes lt is c =
+    goes-cut (all_read v g 0 ts) (read_text i g t (table_rows v t)) (all_read v g (i + 1) (drop (i + 1) ts)) before between old mid new e
+    (subst (λ (rest : List ℕ). Goes (all_read v g 0 ts) rest before old mid between)
+    (table-first v g ts i d lt ∙ ap (λ (x : LineTable). read_text i g x (table_rows v x) ++ all_read v g (i + 1) (drop (i + 1) ts)) (sym is)) goes) c
+
+pub table-in : (v : View) (ts : List LineTable) (i : ℕ) (d : LineTable) → AllIn v ts → i < length ts → IsTableIn v (get_or ts i d)
+table-in v [] i d all lt = absurd (omega (arith, lt))
+table-in v (t ∷ ts) zero d all lt = all.0
+table-in v (t ∷ ts) (suc i) d all lt = table-in v ts i d all.1 (omega (arith, lt))
+
+pub ruleset loop_laws = (print-start, print-more, table-in)
+
+-- all of it, through an empty buffer
+pub all-printed : (t buffer behind : List ℕ) (old mid new : Heard) → Printed t [] old mid buffer → Printed [] buffer mid new behind → behind ≡ [] → Printed t [] old new []
+all-printed t buffer behind old mid new p q none =
+    subst (λ (b : List ℕ). Printed t [] old new b) none
+    (subst (λ (x : List ℕ). Printed x [] old new behind) (append-nil t) (printed-then t [] [] buffer behind old mid new p q))
+
+pub all-cut : (t buffer : List ℕ) (old mid new : Heard) (e : ShowErr) → Printed t [] old mid buffer → Cut buffer mid new e → Cut t old new e
+all-cut t buffer old mid new e p c =
+    subst (λ (x : List ℕ). Cut x old new e) (append-nil t)
+    (cut-then t [] [] buffer old mid new e p (subst (λ (x : List ℕ). Cut x mid new e) (sym (append-nil buffer)) c))
+
+pub ruleset write_laws = (all-printed, all-cut)
+
+-- what was heard of a text that was printed whole
+heard-whole : (t : List ℕ) (old new : Heard) (p : Printed t [] old new []) → new.bytes ≡ grown old.bytes t
+heard-whole t old new p =
+    let whole : take p.begun.count t ≡ t =
+    sym (append-nil (take p.begun.count t)) ∙ ap (λ (x : List ℕ). take p.begun.count t ++ x) p.rest ∙ take-append-drop p.begun.count t in
+    p.begun.bytes ∙ ap (grown old.bytes) whole
+
+-- what was read of a view
+abbrev reads-of : (v : View) (ts : List LineTable) → AllRead (debug_data v) (debug_data v).units → ViewTables v ts → ShowReads (debug_data v)
+reads-of v ts a t = record { units = a; tables = t.readings; lines = t.tables }
+
+pub is-shown : (v : View) (ts : List LineTable) (old new : Heard) → AllRead (debug_data v) (debug_data v).units → ViewTables v ts
+    → Printed (all_read v (line_source (debug_data v)) 0 ts) [] old new [] → IsShown v old new
+is-shown v ts old new a r p = record {
+  reads = reads-of v ts a r;
+  bytes = heard-whole (all_read v (line_source (debug_data v)) 0 ts) old new p ∙ ap (grown old.bytes) r.text;
+  later = p.begun.later;
+}
+
+pub ends-cut : (v : View) (ts : List LineTable) (old new : Heard) (e : ShowErr) → AllRead (debug_data v) (debug_data v).units → ViewTables v ts
+    → Cut (all_read v (line_source (debug_data v)) 0 ts) old new e → ShowEnds v old new e
+ends-cut v ts old new e a r c = cut (reads-of v ts a r) (subst (λ (t : List ℕ). Cut t old new e) r.text c)
+
+pub ends-lines : (v : View) (h : Heard) (x : Fault) (e : ShowErr) → Blames (LinesFail (debug_data v)) x → e ≡ err.Fault x → ShowEnds v h h e
+ends-lines v h NoMemory e b is = subst (λ (y : ShowErr). ShowEnds v h h y) (sym is) (unread refl)
+ends-lines v h (Refused r) e b is = subst (λ (y : ShowErr). ShowEnds v h h y) (sym is) (refused r (of_lines b) refl)
+
+pub ends-units : (v : View) (h : Heard) (x : Fault) (e : ShowErr) → Blames (UnitsRefuse (debug_data v)) x → e ≡ err.Fault x → ShowEnds v h h e
+ends-units v h NoMemory e b is = subst (λ (y : ShowErr). ShowEnds v h h y) (sym is) (unread refl)
+ends-units v h (Refused r) e b is = subst (λ (y : ShowErr). ShowEnds v h h y) (sym is) (refused r (of_units b) refl)
+
+-- a view that was read is refused by no row
+pub none-refuses : {X E : Type 0} (x : Result X E) (v : View) (ts : List LineTable) → AllRead (debug_data v) (debug_data v).units → ViewTables v ts
+    → OnOk x ((r : Refusal) → ShowRefuses (debug_data v) r → ⊥)
+none-refuses (Ok y) v ts a t = λ r row. show-excludes (debug_data v) r (reads-of v ts a t) row
+none-refuses (Err e) v ts a t = tt
+
+pub ruleset show_laws = (is-shown, ends-cut, ends-lines, ends-units)

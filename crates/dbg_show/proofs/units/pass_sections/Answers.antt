@@ -1,0 +1,18 @@
+-- The next unit section, and one more.
+use Rattle.std.proofs.Common.{arith}
+use Rattle.std.proofs.lemmas.List.{get_or_default}
+use Rattle.dw_entries.proofs.SectionListLaws.{number-there}
+use Rattle.dbg_show.proofs.UnitLaws.{sections-more}
+use Rattle.dbg_show.proofs.units.pass_sections.Goals as goal
+
+pub pass_section-requires-clause-there : goal.pass_section-requires-clause-there
+pass_section-requires-clause-there c =
+    number-there c.args.view.now c.args.numbers.now c.loop-section.section-index _ c.requires.sections (omega arith)
+    (get_or_default c.args.numbers.now c.loop-section.section-index _ _ (omega arith))
+
+pub loop-section-preserved : goal.loop-section-preserved
+loop-section-preserved c = record {
+  passed = sections-more c.args.view.now c.args.numbers.now c.loop-section.section-index _ (omega arith)
+      (get_or_default c.args.numbers.now c.loop-section.section-index _ _ (omega arith)) c.loop-section.invariant.passed c.in_ok-pass_section.ensures.read;
+  shared = c.in_ok-pass_section.ensures.shared;
+}

@@ -1,0 +1,8 @@
+pub mod Quoting
+pub mod Rows
+pub mod LineTexts
+pub mod TableLists
+pub mod Printing
+pub mod ReadTables
+pub mod ReadUnits
+pub mod Shows

@@ -1,0 +1,44 @@
+-- What `show` writes of a view, and why it doesn't.
+use Rattle.std.specs.Prelude.{◌≡◌, ◌≤◌, ℕ, List}
+use Rattle.dw_base.specs.DebugData.{DebugData, line_source}
+use Rattle.dw_base.specs.FileViews.{View}
+use Rattle.dw_base.specs.LineMeanings.{line_meanings}
+use Rattle.dw_base.specs.LineReadings.{LineReading, AreTables}
+use Rattle.dw_base.specs.ViewData.{debug_data}
+use Rattle.dw_base.specs.declared.fault.Fault.TheVariants.{NoMemory, Refused}
+use Rattle.dw_base.specs.declared.fault.Refusal.{Refusal}
+use Rattle.dw_meaning.specs.DataFails.{LinesFail}
+use Rattle.file_tree.specs.Heard.{Heard, grown}
+use Rattle.dbg_show.specs.LineTexts.{lines_text}
+use Rattle.dbg_show.specs.Printing.{Cut}
+use Rattle.dbg_show.specs.ReadUnits.{AllRead, UnitsRefuse}
+use Rattle.dbg_show.specs.declared.show_err.ShowErr.{ShowErr}
+use Rattle.dbg_show.specs.declared.show_err.ShowErr.TheVariants as err
+
+-- debug data can be shown: their units and their line tables can be read, and no entry says where macros stand
+pub record ShowReads (d : DebugData) : Type 0 where
+  pub units : AllRead d d.units
+  pub tables : List LineReading
+  pub lines : AreTables (line_source d) tables
+
+-- why debug data can't be shown
+pub data ShowRefuses (d : DebugData) (r : Refusal) : Type 0 where
+  of_units : UnitsRefuse d r → ShowRefuses d r
+  of_lines : LinesFail d r → ShowRefuses d r
+
+-- the text of debug data that can be shown
+abbrev pub view_text : (d : DebugData) → ShowReads d → List ℕ
+view_text d reads = lines_text (line_meanings (line_source d) reads.tables)
+
+-- the view can be shown, and the sink heard its text
+pub record IsShown (v : View) (old new : Heard) : Type 0 where
+  pub reads : ShowReads (debug_data v)
+  pub bytes : new.bytes ≡ grown old.bytes (view_text (debug_data v) reads)
+  pub later : old.faults ≤ new.faults
+
+-- how it ends else: the view can't be shown, and nothing was written; there was not enough memory to read it, and nothing was written; or a
+-- first part of the text went out, where the sink failed or memory was wanting
+pub data ShowEnds (v : View) (old new : Heard) : ShowErr → Type 0 where
+  refused : (r : Refusal) → ShowRefuses (debug_data v) r → new ≡ old → ShowEnds v old new (err.Fault (Refused r))
+  unread : new ≡ old → ShowEnds v old new (err.Fault NoMemory)
+  cut : (reads : ShowReads (debug_data v)) {e : ShowErr} → Cut (view_text (debug_data v) reads) old new e → ShowEnds v old new e

@@ -1,0 +1,24 @@
+//! The line tables of a view, which are all read before something is printed.
+
+ghost use Rattle.std.specs.Prelude.{IfErr, IfOk};
+ghost use Rattle.dw_base.specs.Refusals.{Blames};
+ghost use Rattle.dw_base.specs.ViewData.{debug_data};
+ghost use Rattle.dw_meaning.specs.DataFails.{LinesFail};
+ghost use Rattle.dbg_show.specs.ReadTables.{ViewTables};
+
+use dw_base::Fault;
+use dw_rows::LineTable;
+use dw_view::View;
+use std::alloc::Global;
+
+/// The line tables of a view. Refused where one can't be read, at the table or at the offset of a text.
+#[tactic(auto, using(crate::proofs::ReadLaws::view_laws))]
+pub(crate) fn line_tables(alloc: Global, view: &View) -> Result<Vec<LineTable>, Fault>
+    ensures read { IfOk result (λ ts. ViewTables view.now ts.items) }
+    ensures refused { IfErr result (Blames (LinesFail (debug_data view.now))) }
+{
+    match dw_lines::line_tables(alloc, view) {
+        Ok(tables) => Ok(tables),
+        Err(fault) => Err(fault),
+    }
+}

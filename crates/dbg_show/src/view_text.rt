@@ -1,0 +1,173 @@
+//! The text of a view, read first and then printed.
+
+ghost use Rattle.std.specs.Prelude.{◌≡◌, ◌++◌, [], IfErr, OnOk};
+ghost use Rattle.std.specs.String.{string_bytes};
+ghost use Rattle.dw_base.specs.DebugData.{line_source};
+ghost use Rattle.dw_base.specs.LineMeanings.{dir_texts, file_texts};
+ghost use Rattle.dw_base.specs.ViewData.{debug_data};
+ghost use Rattle.dw_base.specs.declared.fault.Refusal.{Refusal as RefusalOf};
+ghost use Rattle.file_tree.specs.Heard.{grown};
+ghost use Rattle.dw_rows.specs.TableRows.{IsTableIn, rows_left, table_rows};
+ghost use Rattle.dbg_show.specs.LineTexts.{dirs_text, files_text, first_number};
+ghost use Rattle.dbg_show.specs.Printing.{Begun, Cut, Printed};
+ghost use Rattle.dbg_show.specs.ReadTables.{AllIn, ViewTables, all_read, lists_of, read_text};
+ghost use Rattle.dbg_show.specs.Rows.{rows_text};
+ghost use Rattle.dbg_show.specs.Shows.{IsShown, ShowEnds, ShowRefuses};
+ghost use Rattle.dbg_show.specs.TableLists.{listed_rows};
+
+use crate::lists::TableLists;
+use crate::printing::write_all;
+use crate::reading::line_tables;
+use crate::show_err::ShowErr;
+use crate::source::{LineSource, line_source};
+use crate::table_lines::{print_dirs, print_files, print_row, print_start};
+use crate::units::pass_all;
+use dw_rows::{LineTable, Rows};
+use dw_view::View;
+use file_tree::Sink;
+use std::alloc::Global;
+
+/// The lists of a table.
+fn lists_of<'t>(source: &'t LineSource<'t>, table: &'t LineTable) -> TableLists<'t>
+    ensures lists { result ≡ lists_of source.now table.now }
+{
+    TableLists {
+        source,
+        version: table.version,
+        dirs: table.dirs.as_slice(),
+        files: table.files.as_slice(),
+        defined: table.defined.as_slice(),
+    }
+}
+
+/// The version of a table.
+fn version_of(table: &LineTable) -> u16
+    ensures { result ≡ table.now.version }
+{
+    table.version
+}
+
+/// Prints the lines of rows.
+#[tactic(auto, using(crate::proofs::LoopLaws::row_laws))]
+fn print_rows<'v, O: Sink>(
+    text: &mut String,
+    out: &mut O,
+    lists: &TableLists,
+    rows: Rows<'v>,
+) -> Result<(), ShowErr>
+    ensures done { OnOk result (Printed (rows_text (listed_rows lists.now (rows_left rows.entry))) (string_bytes text.old) (O.heard out.old) (O.heard out.new) (string_bytes text.new)) }
+    ensures cut { IfErr result (Cut (string_bytes text.old ++ rows_text (listed_rows lists.now (rows_left rows.entry))) (O.heard out.old) (O.heard out.new)) }
+{
+    for row in rows {
+        match print_row(text, out, lists, &row) {
+            Ok(()) => {}
+            Err(e) => return Err(e),
+        }
+    }
+    Ok(())
+}
+
+/// Prints the files of a table, and its rows.
+#[tactic(auto, using(crate::proofs::PrintingLaws::then_laws))]
+fn print_files_rows<'v, O: Sink>(
+    text: &mut String,
+    out: &mut O,
+    lists: &TableLists,
+    rows: Rows<'v>,
+) -> Result<(), ShowErr>
+    ensures done { OnOk result (Printed (files_text (first_number lists.now.version) (file_texts lists.now.source lists.now.files) ++ rows_text (listed_rows lists.now (rows_left rows.entry))) (string_bytes text.old) (O.heard out.old) (O.heard out.new) (string_bytes text.new)) }
+    ensures cut { IfErr result (Cut (string_bytes text.old ++ (files_text (first_number lists.now.version) (file_texts lists.now.source lists.now.files) ++ rows_text (listed_rows lists.now (rows_left rows.entry)))) (O.heard out.old) (O.heard out.new)) }
+{
+    print_files(text, out, lists)?;
+    print_rows(text, out, lists, rows)
+}
+
+/// Prints the directories of a table, its files and its rows.
+#[tactic(auto, using(crate::proofs::PrintingLaws::then_laws))]
+fn print_lists<'v, O: Sink>(
+    text: &mut String,
+    out: &mut O,
+    lists: &TableLists,
+    rows: Rows<'v>,
+) -> Result<(), ShowErr>
+    ensures done { OnOk result (Printed (dirs_text (first_number lists.now.version) (dir_texts lists.now.source lists.now.dirs) ++ (files_text (first_number lists.now.version) (file_texts lists.now.source lists.now.files) ++ rows_text (listed_rows lists.now (rows_left rows.entry)))) (string_bytes text.old) (O.heard out.old) (O.heard out.new) (string_bytes text.new)) }
+    ensures cut { IfErr result (Cut (string_bytes text.old ++ (dirs_text (first_number lists.now.version) (dir_texts lists.now.source lists.now.dirs) ++ (files_text (first_number lists.now.version) (file_texts lists.now.source lists.now.files) ++ rows_text (listed_rows lists.now (rows_left rows.entry))))) (O.heard out.old) (O.heard out.new)) }
+{
+    print_dirs(text, out, lists)?;
+    print_files_rows(text, out, lists, rows)
+}
+
+/// Prints the table of a number.
+#[tactic(auto, using(crate::proofs::PrintingLaws::then_laws))]
+fn print_table<O: Sink>(
+    text: &mut String,
+    out: &mut O,
+    view: &View,
+    source: &LineSource,
+    number: u64,
+    table: &LineTable,
+) -> Result<(), ShowErr>
+    requires table { IsTableIn view.now table.now }
+    ensures done { OnOk result (Printed (read_text number source.now table.now (table_rows view.now table.now)) (string_bytes text.old) (O.heard out.old) (O.heard out.new) (string_bytes text.new)) }
+    ensures cut { IfErr result (Cut (string_bytes text.old ++ read_text number source.now table.now (table_rows view.now table.now)) (O.heard out.old) (O.heard out.new)) }
+{
+    let lists = lists_of(source, table);
+    print_start(text, out, number, version_of(table))?;
+    print_lists(text, out, &lists, Rows::new(view, table))
+}
+
+/// Prints tables, numbered from 0.
+#[tactic(auto, using(crate::proofs::ReadLaws::loop_laws))]
+fn print_tables<O: Sink>(
+    text: &mut String,
+    out: &mut O,
+    view: &View,
+    source: &LineSource,
+    tables: &[LineTable],
+) -> Result<(), ShowErr>
+    requires tables { AllIn view.now tables.now }
+    ensures done { OnOk result (Printed (all_read view.now source.now 0 tables.now) (string_bytes text.old) (O.heard out.old) (O.heard out.new) (string_bytes text.new)) }
+    ensures cut { IfErr result (Cut (string_bytes text.old ++ all_read view.now source.now 0 tables.now) (O.heard out.old) (O.heard out.new)) }
+{
+    for (number, table) in tables.iter().enumerate() {
+        match print_table(text, out, view, source, number as u64, table) {
+            Ok(()) => {}
+            Err(e) => return Err(e),
+        }
+    }
+    Ok(())
+}
+
+/// Writes the text of tables.
+#[tactic(auto, using(crate::proofs::ReadLaws::write_laws))]
+fn write_tables<O: Sink>(
+    alloc: Global,
+    view: &View,
+    tables: &[LineTable],
+    out: &mut O,
+) -> Result<(), ShowErr>
+    requires tables { AllIn view.now tables.now }
+    ensures done { OnOk result (Printed (all_read view.now (line_source (debug_data view.now)) 0 tables.now) [] (O.heard out.old) (O.heard out.new) []) }
+    ensures cut { IfErr result (Cut (all_read view.now (line_source (debug_data view.now)) 0 tables.now) (O.heard out.old) (O.heard out.new)) }
+{
+    let source = line_source(view);
+    let mut text = String::new(alloc);
+    print_tables(&mut text, out, view, &source, tables)?;
+    write_all(&mut text, out)
+}
+
+/// Writes the text of a view: its line tables, each with its directories, its files and its rows. Before the first byte
+/// is written all units and their entries are passed over, and all line tables are read. Refused where one of them can't
+/// be read, at the unit, abbreviation, entry, value, table or offset of a text, and as `Unbuilt` where an entry says where
+/// macros stand; nothing was written then. The text goes out in pieces of a few thousand bytes and is never held whole;
+/// where the sink fails or memory is wanting, a first part of it went out.
+#[tactic(auto, using(crate::proofs::ReadLaws::show_laws))]
+pub fn show<O: Sink>(alloc: Global, view: &View, out: &mut O) -> Result<(), ShowErr>
+    ensures shown { OnOk result (IsShown view.now (O.heard out.old) (O.heard out.new)) }
+    ensures none { OnOk result ((r : RefusalOf) → ShowRefuses (debug_data view.now) r → ⊥) }
+    ensures ends { IfErr result (ShowEnds view.now (O.heard out.old) (O.heard out.new)) }
+{
+    pass_all(alloc, view)?;
+    let tables = line_tables(alloc, view)?;
+    write_tables(alloc, view, tables.as_slice(), out)
+}
