@@ -19,6 +19,16 @@ mod runs;
 #[cfg(test)]
 mod settings;
 #[cfg(test)]
+mod show_files;
+#[cfg(test)]
+mod show_samples;
+#[cfg(test)]
+mod show_texts;
+#[cfg(test)]
+mod shown_file;
+#[cfg(test)]
+mod shows;
+#[cfg(test)]
 mod split_files;
 #[cfg(test)]
 mod splits;

@@ -12,17 +12,16 @@ const EDIT: &str = "edit in out --base-dir /build/p --dest-dir /usr/src/debug/p"
 const MIXED_EDIT: &str = "edit --dest-dir=/usr/src/debug/p/ ./in --base-dir /build/p -- out//";
 
 /// Words that are no command, and words of commands that aren't carried out.
-const USAGE: [&str; 13] = [
+const USAGE: [&str; 12] = [
     "edit",
     "edit in ./in --base-dir /build/p --dest-dir /usr/src/debug/p",
     "edit in out --base-dir /build/p --dest-dir /usr/src/debug/p --max-file 01",
-    "edit in out --base-dir /build/p --dest-dir /usr/src/debug/p --list-file l",
+    "edit in out --base-dir /build/p --dest-dir /usr/src/debug/p --list-file ./out",
     "edit in out --base-dir /build/p --dest-dir /usr/src/debug/p --build-id",
     "edit in out --base-dir /build/p --dest-dir /usr/src/debug/p --seed s",
     "split in out out.debug",
     "run /r --base-dir /build/p --dest-dir /usr/src/debug/p",
     "run /r --base-dir /build/p --dest-dir /usr/src/debug/p --jobs 2",
-    "show in",
     "show in out",
     "exercise 0 1",
     "check in out out.debug",
@@ -88,7 +87,7 @@ fn section_headers(alloc: Global, texts_len: u8, names_at: u8) -> Result<Vec<u8>
 }
 
 /// A file of 488 bytes whose one unit has the name `/build/p/a.c` and the directory `/build/p`.
-fn built_file(alloc: Global) -> Result<Vec<u8>, AllocError> {
+pub(crate) fn built_file(alloc: Global) -> Result<Vec<u8>, AllocError> {
     let mut file = Vec::from_slice(alloc, &file_header(168))?;
     file.extend_from_slice(&unit(0, 13))?;
     file.extend_from_slice(&ABBREVIATIONS)?;
@@ -131,14 +130,14 @@ fn numbered_in_section_0(mut file: Vec<u8>, headers_at: u8) -> Vec<u8> {
 }
 
 /// A tree with one node.
-fn tree_with(alloc: Global, path: &str, node: Node) -> Result<MemTree, TreeErr> {
+pub(crate) fn tree_with(alloc: Global, path: &str, node: Node) -> Result<MemTree, TreeErr> {
     let mut nodes = Vec::new(alloc);
     nodes.push((String::from_str(alloc, path)?, node))?;
     MemTree::new(alloc, nodes)
 }
 
 /// A tree with a file of these bytes at `in`, and a node at another path.
-fn tree_with_input(
+pub(crate) fn tree_with_input(
     alloc: Global,
     bytes: Vec<u8>,
     path: &str,
@@ -151,7 +150,7 @@ fn tree_with_input(
 }
 
 /// A file with these bytes, which all may run.
-fn file_of(bytes: Vec<u8>) -> Node {
+pub(crate) fn file_of(bytes: Vec<u8>) -> Node {
     Node::File {
         bytes: Blob::new(bytes),
         mode: 0o755,
@@ -160,19 +159,28 @@ fn file_of(bytes: Vec<u8>) -> Node {
 
 /// What a run answered, and what went to its sinks.
 #[derive(Drop)]
-struct Ran {
-    status: u8,
-    output: MemSink,
-    errors: MemSink,
+pub(crate) struct Ran {
+    pub status: u8,
+    pub output: MemSink,
+    pub errors: MemSink,
 }
 
-/// Runs the program on the words of the line.
-fn run(alloc: Global, line: &str, tree: &mut MemTree) -> Result<Ran, TreeErr> {
+/// Runs the program on the words of the line, with an output of 1000 bytes.
+pub(crate) fn run(alloc: Global, line: &str, tree: &mut MemTree) -> Result<Ran, TreeErr> {
+    run_to(alloc, line, tree, MemSink::new(alloc, 1000, None)?)
+}
+
+/// Runs the program on the words of the line, with this output.
+pub(crate) fn run_to(
+    alloc: Global,
+    line: &str,
+    tree: &mut MemTree,
+    mut output: MemSink,
+) -> Result<Ran, TreeErr> {
     let mut texts = Vec::new(alloc);
     for word in line.split(' ') {
         texts.push(String::from_str(alloc, word)?)?;
     }
-    let mut output = MemSink::new(alloc, 100, None)?;
     let mut errors = MemSink::new(alloc, 100, None)?;
     let status = run_words(alloc, texts.as_slice(), tree, &mut output, &mut errors);
     Ok(Ran {

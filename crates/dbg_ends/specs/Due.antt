@@ -33,7 +33,7 @@ OutputDue (found.File bytes mode) n after = after
 OutputDue (found.Link target) n after = n ≡ 5
 OutputDue (found.TooLarge size) n after = after
 
--- statuses that may come in place of the one that is due: of a fault, and of want of memory
+-- statuses that may come in place of the one that is due: of a fault of the tree, and of want of memory
 pub data IsCut (n : ℕ) : Type 0 where
   tree_fault : n ≡ 6 → IsCut n
   no_memory : n ≡ 13 → IsCut n
@@ -46,7 +46,7 @@ pub data IsRefusal (n : ℕ) : Type 0 where
   taken : n ≡ 5 → IsRefusal n
   limit : n ≡ 8 → IsRefusal n
 
--- the status is this one only where it is due, and is it wherever it is due, cuts aside
-pub record Exactly (answer status : ℕ) (due : Type 0) : Type 0 where
-  pub only : answer ≡ status → due ⊎ IsCut status
-  pub comes : due → (answer ≡ status) ⊎ IsCut answer
+-- the status is this one only where it is due, and is it wherever it is due, those aside that may come in its place
+pub record Exactly (cut : ℕ → Type 0) (answer status : ℕ) (due : Type 0) : Type 0 where
+  pub only : answer ≡ status → due ⊎ cut status
+  pub comes : due → (answer ≡ status) ⊎ cut answer

@@ -17,6 +17,7 @@ status_of (end.Folder path) = 4
 status_of (end.Link path) = 4
 status_of (end.Taken path) = 5
 status_of end.TreeFault = 6
+status_of end.OutputFault = 7
 status_of (end.Limit path size) = 8
 status_of end.NoMemory = 13
 
@@ -36,4 +37,5 @@ line_of (end.Link path) = codes "link: " ++ (path ++ codes "\n")
 line_of (end.Taken path) = codes "taken: " ++ (path ++ codes "\n")
 line_of (end.Limit path size) = codes "limit: file " ++ (path ++ (codes " " ++ (decimal size ++ codes "\n")))
 line_of end.TreeFault = codes "tree fault\n"
+line_of end.OutputFault = codes "output fault\n"
 line_of end.NoMemory = codes "no memory\n"

@@ -1,5 +1,6 @@
 -- The steps that commands share: how each may end, and what became of the tree.
-use Rattle.std.specs.Prelude.{◌≡◌, ◌<◌, ℕ, List, Option, Some}
+use Rattle.std.specs.Prelude.{◌≡◌, ◌≢◌, ◌<◌, ℕ, List, Option, Some, is_some}
+use Rattle.std.specs.FinMap as fin
 use Rattle.file_tree.specs.declared.node.Found.TheVariants as found
 use Rattle.file_tree.specs.declared.call.Call.TheVariants as call
 use Rattle.file_tree.specs.declared.call.Effect.TheVariants as effect
@@ -35,6 +36,21 @@ pub record OutputFree (old : Option TreeMap) (path : List ℕ) : Type 0 where
 pub data OutputEnds (path : List ℕ) (old new : Seen) : End → Type 0 where
   failed : Rose old.faults new.faults → OnlyAt path (now_of old) (now_of new) → OutputEnds path old new end.TreeFault
   memory : OnlyAt path (now_of old) (now_of new) → OutputEnds path old new end.NoMemory
+
+-- the two paths hold anything or nothing, and all else stays
+pub record OnlyAtBoth (path beside : List ℕ) (old new : Option TreeMap) : Type 0 where
+  pub tells : is_some new ≡ is_some old
+  pub others : (t u : TreeMap) (q : List ℕ) → old ≡ Some t → new ≡ Some u → q ≢ path → q ≢ beside → fin.get u q ≡ fin.get t q
+
+-- the mode of a list: its owner may write it, and all may read it
+abbrev pub list_mode : ℕ
+list_mode = 420
+
+-- how the writing of an output and of a list ends where it isn't done; their paths hold anything or nothing, and all else is as
+-- it was
+pub data OutputsEnd (path beside : List ℕ) (old new : Seen) : End → Type 0 where
+  failed : Rose old.faults new.faults → OnlyAtBoth path beside (now_of old) (now_of new) → OutputsEnd path beside old new end.TreeFault
+  memory : OnlyAtBoth path beside (now_of old) (now_of new) → OutputsEnd path beside old new end.NoMemory
 
 -- the last call stored all changes
 pub record IsSettled (past : Past) : Type 0 where

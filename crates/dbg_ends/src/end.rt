@@ -27,6 +27,8 @@ pub enum End {
     Limit { path: Text, size: u64 },
     /// A call of the tree failed.
     TreeFault,
+    /// A write to the output failed.
+    OutputFault,
     /// There was not enough memory.
     NoMemory,
 }
@@ -67,6 +69,7 @@ pub fn status(end: &End) -> u8
         End::Link { .. } => 4,
         End::Taken { .. } => 5,
         End::TreeFault => 6,
+        End::OutputFault => 7,
         End::Limit { .. } => 8,
         End::NoMemory => 13,
     }

@@ -29,6 +29,7 @@ pub fn read_input<T: Tree>(
     ensures due { IfErr result (λ e. ForSome (now_of (T.seen tree.old)) (λ t. InputDue (stands_at t path.now limit) (status_of e) (λ _. ⊥) ⊎ IsCut (status_of e))) }
     ensures not_done { IfErr result (λ e. 0 ≢ status_of e) }
     ensures not_usage { IfErr result (λ e. 2 ≢ status_of e) }
+    ensures not_output { IfErr result (λ e. 7 ≢ status_of e) }
     ensures fault { IfErr result (λ e. status_of e ≡ 6 → Rose (T.seen tree.old).faults (T.seen tree.new).faults) }
     ensures kept { Calm (T.seen tree.old) (T.seen tree.new) }
     ensures tells { (T.seen tree.new).tells ≡ (T.seen tree.old).tells }

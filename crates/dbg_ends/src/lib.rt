@@ -1,7 +1,7 @@
 //! How a command ends: its status, its line on the error sink, and the steps that commands share.
 //!
 //! This layer promises: each end has one status and one line; the line goes to the error sink, and at
-//! status 0 that sink isn't called; a file is read and written as the trait `Tree` says, and each end
+//! status 0 that sink isn't called; files are read and written as the trait `Tree` says, and each end
 //! of a step has its cause.
 //! It does not promise: when a command comes to an end, which `dbg_run` states; that a line goes out in
 //! one call of `write`.
@@ -16,5 +16,5 @@ pub mod telling;
 
 pub use end::End;
 pub use input::read_input;
-pub use output::{free_output, write_output};
+pub use output::{free_output, write_output, write_with_list};
 pub use telling::tell;

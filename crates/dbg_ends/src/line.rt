@@ -55,6 +55,7 @@ pub fn line(alloc: Global, end: &End) -> Result<String, AllocError>
         }
         End::Limit { path, size } => limit_line(alloc, path.as_str(), *size),
         End::TreeFault => String::from_str(alloc, "tree fault\n"),
+        End::OutputFault => String::from_str(alloc, "output fault\n"),
         End::NoMemory => String::from_str(alloc, "no memory\n"),
     }
 }

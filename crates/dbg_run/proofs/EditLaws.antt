@@ -9,13 +9,14 @@ use Rattle.file_tree.specs.declared.node.Found.TheVariants as found
 use Rattle.file_tree.specs.Seen.{Seen, now_of}
 use Rattle.file_tree.specs.Trees.{TreeMap, stands_at}
 use Rattle.dbg_ends.specs.declared.end.End.{End}
+use Rattle.dbg_ends.specs.declared.end.End.TheVariants as end
 use Rattle.dbg_ends.specs.Due.{InputDue, IsCut, IsFree, OutputDue}
 use Rattle.dbg_ends.specs.Due.IsCut.{tree_fault, no_memory}
 use Rattle.dbg_ends.specs.Ends.{status_of}
-use Rattle.dbg_ends.specs.Steps.{InputEnds, OutputTaken, OutputEnds}
-use Rattle.dbg_ends.specs.Steps.{InputEnds as inputs, OutputTaken as outputs, OutputEnds as written}
-use Rattle.dbg_run.specs.Edits.{EditEnds, EditUnopposed, RewriteEnds}
-use Rattle.dbg_run.specs.Edits.{EditEnds as edits, RewriteEnds as rewrites}
+use Rattle.dbg_ends.specs.Steps.{InputEnds, OutputTaken, OutputEnds, OutputsEnd}
+use Rattle.dbg_ends.specs.Steps.{InputEnds as inputs, OutputTaken as outputs, OutputEnds as written, OutputsEnd as both_written}
+use Rattle.dbg_run.specs.Edits.{EditEnds, EditUnopposed, ListedEnds, ListedUnopposed, RewriteEnds}
+use Rattle.dbg_run.specs.Edits.{EditEnds as edits, ListedEnds as listed, RewriteEnds as rewrites}
 
 -- what is due where no file is there is due whatever files are due
 pub input_due : (what : Found) (n : ℕ) (P : List ℕ → Type 0) → InputDue what n (λ _. ⊥) → InputDue what n P
@@ -45,8 +46,12 @@ free_due (found.TooLarge size) n P free due = due
 pub not_accepted : (m : PathMap) (b : List ℕ) (r : Refusal) → EditFails m b r → IsAccepted m b → ⊥
 not_accepted m b r fails ok = edit-excludes m b r ok fails
 
+-- want of memory ends a rewriting, too
+pub rewrite_wants : (path : List ℕ) (m : PathMap) (b : List ℕ) (e : End) → e ≡ end.NoMemory → RewriteEnds path m b e
+rewrite_wants path m b e is = subst (RewriteEnds path m b) (sym is) rewrites.memory
+
 -- where nothing is against an edit, it ends with no refusal
-input_completes : (input : List ℕ) (limit : ℕ) (old new : Seen) (e : End) (t : TreeMap) (b : List ℕ) (mode : ℕ) → now_of old ≡ Some t
+pub input_completes : (input : List ℕ) (limit : ℕ) (old new : Seen) (e : End) (t : TreeMap) (b : List ℕ) (mode : ℕ) → now_of old ≡ Some t
     → stands_at t input limit ≡ found.File b mode → InputEnds input limit old new e → IsCut (status_of e)
 input_completes input limit old new e t b mode tells file (inputs.absent stood) = let no : found.Absent ≡ found.File b mode = sym (stood.is t tells) ∙ file in absurd cc
 input_completes input limit old new e t b mode tells file (inputs.folder stood) = let no : found.Folder ≡ found.File b mode = sym (stood.is t tells) ∙ file in absurd cc
@@ -65,7 +70,7 @@ output_completes output old new e t tells free (outputs.failed rose) = tree_faul
 output_completes output old new e t tells free outputs.memory = no_memory refl
 
 -- a file is one of the same bytes
-same_bytes : (b c : List ℕ) (n k : ℕ) → found.File b n ≡ found.File c k → b ≡ c
+pub same_bytes : (b c : List ℕ) (n k : ℕ) → found.File b n ≡ found.File c k → b ≡ c
 same_bytes b c n k e = cc
 
 rewrite_completes : (path : List ℕ) (m : PathMap) (b : List ℕ) (e : End) → ((r : Refusal) → EditFails m b r → ⊥) → RewriteEnds path m b e → IsCut (status_of e)
@@ -88,3 +93,24 @@ edit_completes input output m limit old new e t tells is (edits.rewriting {b = b
 edit_completes input output m limit old new e t tells is (edits.writing {mid = mid} stood free ok calm row) = inr (written_completes output mid new e row)
 edit_completes input output m limit old new e t tells is (edits.memory at) = inr (no_memory refl)
 edit_completes input output m limit old new e t tells is (edits.done d) = inl refl
+
+both_completes : (path beside : List ℕ) (old new : Seen) (e : End) → OutputsEnd path beside old new e → IsCut (status_of e)
+both_completes path beside old new e (both_written.failed rose at) = tree_fault refl
+both_completes path beside old new e (both_written.memory at) = no_memory refl
+
+pub listed_completes : (input output list : List ℕ) (m : PathMap) (limit : ℕ) (old new : Seen) (e : End) (t : TreeMap) → now_of old ≡ Some t
+    → ListedUnopposed m (stands_at t input limit) (stands_at t output 0) (stands_at t list 0) → ListedEnds input output list m limit old new e
+    → (status_of e ≡ 0) ⊎ IsCut (status_of e)
+listed_completes input output list m limit old new e t tells is (listed.reading row calm) =
+    inr (input_completes input limit old new e t is.edit.b is.edit.mode tells is.edit.file row)
+listed_completes input output list m limit old new e t tells is (listed.taking {mid = mid} stood calm row still) =
+    inr (output_completes output mid new e t (calm.now ∙ tells) is.edit.free row)
+listed_completes input output list m limit old new e t tells is (listed.list_taking {mid = mid} stood free calm row still) =
+    inr (output_completes list mid new e t (calm.now ∙ tells) is.free row)
+listed_completes input output list m limit old new e t tells is (listed.rewriting {b = b} {mode = mode} stood free list_free row calm) =
+    let same : is.edit.b ≡ b = same_bytes is.edit.b b is.edit.mode mode (sym is.edit.file ∙ stood.is t tells) in
+    inr (rewrite_completes input m b e (subst (λ (x : List ℕ). (r : Refusal) → EditFails m x r → ⊥) same is.edit.unrefused) row)
+listed_completes input output list m limit old new e t tells is (listed.writing {mid = mid} stood free list_free ok calm row) =
+    inr (both_completes output list mid new e row)
+listed_completes input output list m limit old new e t tells is (listed.memory at) = inr (no_memory refl)
+listed_completes input output list m limit old new e t tells is (listed.done d) = inl refl

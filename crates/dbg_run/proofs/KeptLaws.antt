@@ -1,8 +1,12 @@
 -- What a finished edit keeps, in words of the two files.
-use Rattle.std.proofs.Common.{◌≡◌, ℕ, List, length, sym, ap, ◌∙◌, cond, true, false, Bool, subst}
-use Rattle.std.specs.Prelude.{if◌then◌else◌, Option, Some, None, option_map, nat_le, unwrap_or}
+use Rattle.std.proofs.Common.{◌≡◌, ◌≢◌, ℕ, List, length, refl, sym, ap, ◌∙◌, cond, true, false, Bool, subst}
+use Rattle.std.specs.Prelude.{if◌then◌else◌, Option, Some, None, option_map, nat_le, unwrap_or, ⊤}
 use Rattle.std.specs.List.{list_any}
-use Rattle.std.specs.Cmp.Lexicographic.{nat_list_cmp_total}
+use Rattle.std.specs.Cmp.Lexicographic.{nat_list_cmp_total, slice_cmp}
+use Rattle.std.specs.Ordering.{eq_by_cmp, is_eq, nat_cmp}
+use Rattle.std.specs.FinMap.{slice_cmp-IsAntisymmetric, nat_cmp-IsAntisymmetric}
+use Rattle.std.specs.declared.cmp.Ordering.{Ordering}
+use Rattle.std.specs.declared.cmp.Ordering.TheVariants.{Less, Equal, Greater}
 use Rattle.std.specs.FinMap as fin
 use Rattle.std.proofs.lemmas.Cmp.{eq_by_cmp_equiv}
 use Rattle.dw_meaning.specs.Loaded.{LoadedKept}
@@ -16,8 +20,11 @@ use Rattle.file_tree.specs.Heard.{Heard}
 use Rattle.file_tree.specs.Seen.{Seen, now_of}
 use Rattle.file_tree.specs.Trees.{TreeMap, found_of, is_below, stands_at, with_node}
 use Rattle.dbg_words.specs.declared.command.Command.{Command}
-use Rattle.dbg_words.specs.declared.command.Command.TheVariants.{Edit}
-use Rattle.dbg_run.specs.Edits.{EditDone, OfFiles, Keeps}
+use Rattle.dbg_words.specs.declared.command.Command.TheVariants.{Edit, Show}
+use Rattle.dbg_ends.specs.Steps.{list_mode}
+use Rattle.dbg_run.proofs.BuiltLaws.{listed_apart}
+use Rattle.dbg_run.specs.Built.{built}
+use Rattle.dbg_run.specs.Edits.{EditDone, ListedDone, OfFiles, Keeps}
 use Rattle.dbg_run.specs.Edits.Keeps.{both}
 use Rattle.dbg_run.specs.Runs.{Done, KeepsMeaning, KeepsLoaded}
 
@@ -76,12 +83,69 @@ meaning_kept m b out (both meaning loaded) = meaning
 loaded_kept : (m : PathMap) (b out : List ℕ) → Keeps m b out → LoadedKept b out
 loaded_kept m b out (both meaning loaded) = loaded
 
-pub keeps_meaning : (c : Option Command) (old new : Seen) (heard said : Heard) → Done c old new heard said → KeepsMeaning c (now_of old) (now_of new)
-keeps_meaning (Some (Edit input output o list)) old new heard said d =
-    of_files (MeaningKept o.maps) input output o.maps o.max_file old new d.0 (meaning_kept o.maps d.0.b d.0.out d.0.keeps)
-keeps_meaning c old new heard said d = d
+tied : (a b : List ℕ) → slice_cmp nat_cmp a b ≡ Equal → a ≡ b
+tied a b e = slice_cmp-IsAntisymmetric nat_cmp-IsAntisymmetric a b e
 
-pub keeps_loaded : (c : Option Command) (old new : Seen) (heard said : Heard) → Done c old new heard said → KeepsLoaded c (now_of old) (now_of new)
-keeps_loaded (Some (Edit input output o list)) old new heard said d =
+by_eq : (o : Ordering) → is_eq o ≡ true → o ≡ Equal
+by_eq Less t = cc
+by_eq Equal t = refl
+by_eq Greater t = cc
+
+-- a path that wasn't put holds what it held
+get_put_other : (t : TreeMap) (path other : List ℕ) (n : Node) → other ≢ path → fin.get (with_node path n t) other ≡ fin.get t other
+get_put_other t path other n apart =
+    fin.get-insert nat_list_cmp_total t path n other
+    ∙ ap (λ (b : Bool). cond b (Some n) (fin.get t other)) (by_test (eq_by_cmp (slice_cmp nat_cmp) other path) refl)
+  where
+    by_test : (b : Bool) → eq_by_cmp (slice_cmp nat_cmp) other path ≡ b → eq_by_cmp (slice_cmp nat_cmp) other path ≡ false
+    by_test true e = absurd (apart (tied other path (by_eq (slice_cmp nat_cmp other path) e)))
+    by_test false e = e
+
+-- where a list was put behind the output, the output holds what it would have without one
+of_listed : (P : List ℕ → List ℕ → Type 0) (input output list : List ℕ) (m : PathMap) (limit : ℕ) (old new : Seen) → list ≢ output
+    → (d : ListedDone input output list m limit old new) → P d.b d.out → OfFiles P input output (now_of old) (now_of new)
+unfolding node_bytes
+of_listed P input output list m limit old new apart d holds = record {
+  is = λ t u b out mode out_mode old_is new_is there put.
+      let input_is : b ≡ d.b = read-file t input b d.b mode d.mode limit there (d.read.is t old_is) in
+      let mid = with_node output (node.File d.out d.mode) t in
+      let map : Some u ≡ Some (with_node list (node.File d.text list_mode) mid) =
+      sym new_is ∙ d.written
+      ∙ ap (λ (x : Option TreeMap). option_map (with_node list (node.File d.text list_mode)) (option_map (with_node output (node.File d.out d.mode)) x)) old_is in
+      let whole : u ≡ with_node list (node.File d.text list_mode) mid = ap (λ (o : Option TreeMap). unwrap_or o u) map in
+      let held : fin.get mid output ≡ Some (node.File out out_mode) =
+      sym (get_put_other mid list output (node.File d.text list_mode) (λ e. apart (sym e))) ∙ ap (λ (v : TreeMap). fin.get v output) (sym whole) ∙ put in
+      let output_is : d.out ≡ out = ap (node_bytes out) (sym (get_put t output (node.File d.out d.mode)) ∙ held) in
+      subst (λ (o : List ℕ). P b o) output_is (subst (λ (i : List ℕ). P i d.out) (sym input_is) holds);
+}
+
+-- a list's path is another one than the output's
+abbrev ListApart : Option Command → Type 0
+ListApart (Some (Edit input output o (Some list))) = list ≢ output
+ListApart c = ⊤
+
+list_apart : (words : List (List ℕ)) (c : Option Command) → built words ≡ c → ListApart c
+list_apart words (Some (Edit input output o (Some list))) is = listed_apart words input output list o is
+list_apart words c is = tt
+
+meaning_by : (c : Option Command) (old new : Seen) (heard said : Heard) → ListApart c → Done c old new heard said → KeepsMeaning c (now_of old) (now_of new)
+meaning_by (Some (Edit input output o None)) old new heard said apart d =
+    of_files (MeaningKept o.maps) input output o.maps o.max_file old new d.0 (meaning_kept o.maps d.0.b d.0.out d.0.keeps)
+meaning_by (Some (Edit input output o (Some list))) old new heard said apart d =
+    of_listed (MeaningKept o.maps) input output list o.maps o.max_file old new apart d.0 (meaning_kept o.maps d.0.b d.0.out d.0.keeps)
+meaning_by (Some (Show file debug)) old new heard said apart d = tt
+meaning_by c old new heard said apart d = d
+
+loaded_by : (c : Option Command) (old new : Seen) (heard said : Heard) → ListApart c → Done c old new heard said → KeepsLoaded c (now_of old) (now_of new)
+loaded_by (Some (Edit input output o None)) old new heard said apart d =
     of_files LoadedKept input output o.maps o.max_file old new d.0 (loaded_kept o.maps d.0.b d.0.out d.0.keeps)
-keeps_loaded c old new heard said d = d
+loaded_by (Some (Edit input output o (Some list))) old new heard said apart d =
+    of_listed LoadedKept input output list o.maps o.max_file old new apart d.0 (loaded_kept o.maps d.0.b d.0.out d.0.keeps)
+loaded_by (Some (Show file debug)) old new heard said apart d = tt
+loaded_by c old new heard said apart d = d
+
+pub keeps_meaning : (words : List (List ℕ)) (old new : Seen) (heard said : Heard) → Done (built words) old new heard said → KeepsMeaning (built words) (now_of old) (now_of new)
+keeps_meaning words old new heard said d = meaning_by (built words) old new heard said (list_apart words (built words) refl) d
+
+pub keeps_loaded : (words : List (List ℕ)) (old new : Seen) (heard said : Heard) → Done (built words) old new heard said → KeepsLoaded (built words) (now_of old) (now_of new)
+keeps_loaded words old new heard said d = loaded_by (built words) old new heard said (list_apart words (built words) refl) d

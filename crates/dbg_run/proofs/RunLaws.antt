@@ -1,6 +1,6 @@
 -- Laws on runs: one status is due, and an end may give way to want of memory.
 use Rattle.std.proofs.Common.{◌≡◌, ◌≢◌, ℕ, List, refl, sym, ap, subst, ◌∙◌, ◌⊎◌, inl, inr}
-use Rattle.std.specs.Prelude.{Option, Some, is_some}
+use Rattle.std.specs.Prelude.{Option, Some, None, is_some}
 use Rattle.dw_meaning.specs.EditRows.{IsAccepted}
 use Rattle.dw_base.specs.Paths.{PathMap}
 use Rattle.file_tree.specs.declared.node.Found.{Found}
@@ -14,19 +14,32 @@ use Rattle.dbg_ends.specs.declared.end.End.TheVariants as end
 use Rattle.dbg_ends.specs.Due.{Where, OutputDue, IsCut, Exactly}
 use Rattle.dbg_ends.specs.Due.{IsCut as cut}
 use Rattle.dbg_ends.specs.Due.Where.{here, elsewhere}
-use Rattle.dbg_ends.specs.Steps.{OutputEnds as output_}
+use Rattle.dbg_ends.specs.Steps.{OnlyAtBoth}
+use Rattle.dbg_ends.specs.Steps.{OutputEnds as output_, OutputsEnd as both_}
 use Rattle.dbg_ends.specs.Ends.{status_of}
 use Rattle.dbg_ends.specs.Told.{Told, Ended}
 use Rattle.dbg_ends.specs.Told.{Told as told}
 use Rattle.dbg_words.specs.declared.command.Command.{Command}
-use Rattle.dbg_words.specs.declared.command.Command.TheVariants.{Edit}
-use Rattle.dbg_job.specs.Settings.{Settings}
+use Rattle.dbg_words.specs.declared.command.Command.TheVariants.{Edit, Split, Run, Show, Exercise}
+use Rattle.dbg_job.specs.Settings.{Settings, most_file}
 use Rattle.dbg_run.specs.Built.{built}
-use Rattle.dbg_run.specs.Edits.{EditEnds, EditDue}
-use Rattle.dbg_run.proofs.EditLaws.{edit_completes}
-use Rattle.dbg_run.specs.Edits.{EditEnds as edit}
-use Rattle.dbg_run.specs.Runs.{Ends, Due, Unopposed}
+use Rattle.dbg_run.specs.Edits.{EditEnds, EditDue, ListedEnds, ListedDue}
+use Rattle.dbg_run.proofs.EditLaws.{edit_completes, listed_completes}
+use Rattle.dbg_run.proofs.ShowLaws.{show_completes, show_memory}
+use Rattle.dbg_run.specs.Shows.{HasBegun, IsShowable, ShowDue, ShowEnds}
+use Rattle.dbg_run.specs.Shows.{HasBegun as begun_}
+use Rattle.dbg_run.specs.Edits.{EditEnds as edit, ListedEnds as listed}
+use Rattle.dbg_run.specs.Runs.{Cuts, EditWays, Ends, Due, MayWrite, Unopposed}
 use Rattle.dbg_run.specs.Runs.{Ends as ends}
+
+-- want of memory may come in place of every status
+pub cuts_memory : (c : Option Command) (n : ℕ) → n ≡ 13 → Cuts c n
+cuts_memory None n is = cut.no_memory is
+cuts_memory (Some (Edit input output o list)) n is = cut.no_memory is
+cuts_memory (Some (Split input stripped debug)) n is = cut.no_memory is
+cuts_memory (Some (Run root o jobs)) n is = cut.no_memory is
+cuts_memory (Some (Show file debug)) n is = inl (cut.no_memory is)
+cuts_memory (Some (Exercise seed units)) n is = cut.no_memory is
 
 -- of two numbers, one where P holds and one elsewhere, only one can be
 where-one : (P : Type 0) (a b n m : ℕ) → Where P (n ≡ a) (n ≡ b) → Where P (m ≡ a) (m ≡ b) → n ≡ m
@@ -50,35 +63,73 @@ edit-one m (found.Link target) there n k is also = is ∙ sym also
 edit-one m (found.TooLarge size) there n k is also = is ∙ sym also
 edit-one m (found.File b mode) there n k is also = output-one there n k _ _ (where-one (IsAccepted m b) 0 3 n k) is also
 
+listed-one : (m : PathMap) (what there beside : Found) (n k : ℕ) → ListedDue m what there beside n → ListedDue m what there beside k → n ≡ k
+listed-one m found.Absent there beside n k is also = is ∙ sym also
+listed-one m found.Folder there beside n k is also = is ∙ sym also
+listed-one m (found.Link target) there beside n k is also = is ∙ sym also
+listed-one m (found.TooLarge size) there beside n k is also = is ∙ sym also
+listed-one m (found.File b mode) there beside n k is also =
+    output-one there n k _ _ (output-one beside n k _ _ (where-one (IsAccepted m b) 0 3 n k)) is also
+
+show-one : (what : Found) (n k : ℕ) → ShowDue what n → ShowDue what k → n ≡ k
+show-one found.Absent n k is also = is ∙ sym also
+show-one found.Folder n k is also = is ∙ sym also
+show-one (found.Link target) n k is also = is ∙ sym also
+show-one (found.TooLarge size) n k is also = is ∙ sym also
+show-one (found.File b mode) n k is also = where-one (IsShowable b) 0 3 n k is also
+
 -- one status is due
 due-one : (c : Option Command) (t : TreeMap) (n k : ℕ) → Due c t n → Due c t k → n ≡ k
-due-one (Some (Edit input output o list)) t n k is also = edit-one o.maps (stands_at t input o.max_file) (stands_at t output 0) n k is also
+due-one (Some (Edit input output o None)) t n k is also = edit-one o.maps (stands_at t input o.max_file) (stands_at t output 0) n k is also
+due-one (Some (Edit input output o (Some list))) t n k is also =
+    listed-one o.maps (stands_at t input o.max_file) (stands_at t output 0) (stands_at t list 0) n k is also
+due-one (Some (Show file debug)) t n k is also = show-one (stands_at t file most_file) n k is also
 due-one c t n k is also = is ∙ sym also
 
 -- where nothing is against a command, it is done, or cut
-way-completes : (words : List (List ℕ)) (old new : Seen) (heard said : Heard) (e : End) (t : TreeMap) → now_of old ≡ Some t → Unopposed (built words) t
-    → Ends words old new heard said e → (status_of e ≡ 0) ⊎ IsCut (status_of e)
-way-completes words old new heard said e t tells is (ends.usage none same silent) = absurd (subst (λ c. Unopposed c t) none is)
-way-completes words old new heard said e t tells is (ends.memory same silent) = inr (cut.no_memory refl)
-way-completes words old new heard said e t tells is (ends.edit {input = input} {output = output} {o = o} command row silent) =
-    edit_completes input output o.maps o.max_file old new e t tells (subst (λ c. Unopposed c t) command is) row
+way_completes : (input output : List ℕ) (o : Settings) (list : Option (List ℕ)) (old new : Seen) (e : End) (t : TreeMap) → now_of old ≡ Some t
+    → Unopposed (Some (Edit input output o list)) t → EditWays input output list o.maps o.max_file old new e → (status_of e ≡ 0) ⊎ IsCut (status_of e)
+way_completes input output o None old new e t tells is row = edit_completes input output o.maps o.max_file old new e t tells is row
+way_completes input output o (Some list) old new e t tells is row = listed_completes input output list o.maps o.max_file old new e t tells is row
 
-cut_by : (answer before now : ℕ) → (answer ≡ 0) ⊎ IsCut answer → (answer ≡ 6 → Rose before now) → (Rose before now → ⊥) → (answer ≡ 0) ⊎ (answer ≡ 13)
-cut_by answer before now (inl done) fault calm = inl done
-cut_by answer before now (inr (cut.tree_fault six)) fault calm = absurd (calm (fault six))
-cut_by answer before now (inr (cut.no_memory want)) fault calm = inr want
+all-complete : (words : List (List ℕ)) (old new : Seen) (heard said : Heard) (e : End) (t : TreeMap) → now_of old ≡ Some t → Unopposed (built words) t
+    → Ends words old new heard said e → (status_of e ≡ 0) ⊎ Cuts (built words) (status_of e)
+all-complete words old new heard said e t tells is (ends.usage none same silent) = absurd (subst (λ c. Unopposed c t) none is)
+all-complete words old new heard said e t tells is (ends.memory same silent) = inr (cuts_memory (built words) 13 refl)
+all-complete words old new heard said e t tells is (ends.edit {input = input} {output = output} {o = o} {list = list} command row silent) =
+    subst (λ (c : Option Command). (status_of e ≡ 0) ⊎ Cuts c (status_of e)) (sym command)
+    (way_completes input output o list old new e t tells (subst (λ c. Unopposed c t) command is) row)
+all-complete words old new heard said e t tells is (ends.show {file = file} command row) =
+    subst (λ (c : Option Command). (status_of e ≡ 0) ⊎ Cuts c (status_of e)) (sym command)
+    (show_completes file old new heard said e t tells (subst (λ c. Unopposed c t) command is) row)
+
+cuts_open : (c : Option Command) (n : ℕ) → Cuts c n → IsCut n ⊎ (n ≡ 7)
+cuts_open (Some (Show file debug)) n cut = cut
+cuts_open c n cut = inl cut
+
+cut_by : (answer before now : ℕ) (Fails : Type 0) → (answer ≡ 0) ⊎ (IsCut answer ⊎ (answer ≡ 7)) → (answer ≡ 6 → Rose before now) → (answer ≡ 7 → Fails)
+    → (Rose before now → ⊥) → (Fails → ⊥) → (answer ≡ 0) ⊎ (answer ≡ 13)
+cut_by answer before now Fails (inl done) fault output calm well = inl done
+cut_by answer before now Fails (inr (inl (cut.tree_fault six))) fault output calm well = absurd (calm (fault six))
+cut_by answer before now Fails (inr (inl (cut.no_memory want))) fault output calm well = inr want
+cut_by answer before now Fails (inr (inr seven)) fault output calm well = absurd (well (output seven))
+
+done_or : (c : Option Command) (n : ℕ) → (n ≡ 0) ⊎ Cuts c n → (n ≡ 0) ⊎ (IsCut n ⊎ (n ≡ 7))
+done_or c n (inl done) = inl done
+done_or c n (inr cut) = inr (cuts_open c n cut)
 
 -- where nothing is against a command, and no fault came, it is done, want of memory aside
-pub completed : (words : List (List ℕ)) (old new : Seen) (heard said before after : Heard) (t : TreeMap) (answer first now : ℕ) → now_of old ≡ Some t
-    → Ended (Ends words old new heard said) before after answer → (answer ≡ 6 → Rose first now) → Unopposed (built words) t → (Rose first now → ⊥)
-    → (answer ≡ 0) ⊎ (answer ≡ 13)
-completed words old new heard said before after t answer first now tells ended fault is calm =
-    cut_by answer first now
-    (subst (λ (n : ℕ). (n ≡ 0) ⊎ IsCut n) (sym ended.status) (way-completes words old new heard said ended.end t tells is ended.way)) fault calm
+pub completed : (words : List (List ℕ)) (old new : Seen) (heard said before after : Heard) (t : TreeMap) (answer first now : ℕ) (Fails : Type 0) → now_of old ≡ Some t
+    → Ended (Ends words old new heard said) before after answer → (answer ≡ 6 → Rose first now) → (answer ≡ 7 → Fails) → Unopposed (built words) t
+    → (Rose first now → ⊥) → (Fails → ⊥) → (answer ≡ 0) ⊎ (answer ≡ 13)
+completed words old new heard said before after t answer first now Fails tells ended fault output is calm well =
+    cut_by answer first now Fails
+    (done_or (built words) answer (subst (λ (n : ℕ). (n ≡ 0) ⊎ Cuts (built words) n) (sym ended.status) (all-complete words old new heard said ended.end t tells is ended.way)))
+    fault output calm well
 
-pub due_exact : (c : Option Command) (t : TreeMap) (answer n : ℕ) → Due c t answer ⊎ IsCut answer → Exactly answer n (Due c t n)
+pub due_exact : (c : Option Command) (t : TreeMap) (answer n : ℕ) → Due c t answer ⊎ Cuts c answer → Exactly (Cuts c) answer n (Due c t n)
 due_exact c t answer n (inl due) = record { only = λ is. inl (subst (λ k. Due c t k) is due); comes = λ other. inl (due-one c t answer n due other) }
-due_exact c t answer n (inr cut) = record { only = λ is. inr (subst IsCut is cut); comes = λ other. inr cut }
+due_exact c t answer n (inr cut) = record { only = λ is. inr (subst (Cuts c) is cut); comes = λ other. inr cut }
 
 -- a map that is as it was differs nowhere
 same-at : (path : List ℕ) (old new : Option TreeMap) → new ≡ old → OnlyAt path old new
@@ -96,20 +147,58 @@ edit-memory input output m limit old new e (edit.writing {mid = mid} stood free 
 edit-memory input output m limit old new e (edit.memory at) undone = edit.memory at
 edit-memory input output m limit old new e (edit.done is) undone = absurd (undone refl)
 
+-- the same of two paths
+same-both : (path beside : List ℕ) (old new : Option TreeMap) → new ≡ old → OnlyAtBoth path beside old new
+same-both path beside old new e = record {
+  tells = ap is_some e;
+  others = λ t u q of_old of_new other away. let same : Some u ≡ Some t = sym of_new ∙ (e ∙ of_old) in cc;
+}
+
+calm-both : (path beside : List ℕ) (old mid : Seen) (new : Option TreeMap) → Calm old mid → OnlyAtBoth path beside (now_of mid) new → OnlyAtBoth path beside (now_of old) new
+calm-both path beside old mid new calm at = let P : Option TreeMap → Type 0 = λ x. OnlyAtBoth path beside x new in subst P calm.now at
+
+listed-memory : (input output list : List ℕ) (m : PathMap) (limit : ℕ) (old new : Seen) (e : End) → ListedEnds input output list m limit old new e → e ≢ end.Done
+    → ListedEnds input output list m limit old new end.NoMemory
+listed-memory input output list m limit old new e (listed.reading row calm) undone = listed.memory (same-both output list _ _ calm.now)
+listed-memory input output list m limit old new e (listed.taking stood calm row still) undone = listed.memory (same-both output list _ _ (still.now ∙ calm.now))
+listed-memory input output list m limit old new e (listed.list_taking stood free calm row still) undone = listed.memory (same-both output list _ _ (still.now ∙ calm.now))
+listed-memory input output list m limit old new e (listed.rewriting stood free list_free row calm) undone = listed.memory (same-both output list _ _ calm.now)
+listed-memory input output list m limit old new e (listed.writing {mid = mid} stood free list_free ok calm (both_.failed rose at)) undone = listed.memory (calm-both output list old mid _ calm at)
+listed-memory input output list m limit old new e (listed.writing {mid = mid} stood free list_free ok calm (both_.memory at)) undone = listed.memory (calm-both output list old mid _ calm at)
+listed-memory input output list m limit old new e (listed.memory at) undone = listed.memory at
+listed-memory input output list m limit old new e (listed.done d) undone = absurd (undone refl)
+
+way-memory : (input output : List ℕ) (list : Option (List ℕ)) (m : PathMap) (limit : ℕ) (old new : Seen) (e : End) → EditWays input output list m limit old new e → e ≢ end.Done
+    → EditWays input output list m limit old new end.NoMemory
+way-memory input output None m limit old new e row undone = edit-memory input output m limit old new e row undone
+way-memory input output (Some list) m limit old new e row undone = listed-memory input output list m limit old new e row undone
+
 -- an edit of these words ends as the edit of their paths
 pub edit_ends : (words : List (List ℕ)) (old new : Seen) (heard : Heard) (e : End) (input output read written : List ℕ) (o : Settings) (list : Option (List ℕ))
-    → built words ≡ Some (Edit input output o list) → read ≡ input → written ≡ output → EditEnds read written o.maps o.max_file old new e
+    → built words ≡ Some (Edit input output o list) → read ≡ input → written ≡ output → EditWays read written list o.maps o.max_file old new e
     → Ends words old new heard heard e
 edit_ends words old new heard e input output read written o list is of_input of_output row =
-    let P : List ℕ → Type 0 = λ x. EditEnds x output o.maps o.max_file old new e in
-    let Q : List ℕ → Type 0 = λ x. EditEnds read x o.maps o.max_file old new e in
+    let P : List ℕ → Type 0 = λ x. EditWays x output list o.maps o.max_file old new e in
+    let Q : List ℕ → Type 0 = λ x. EditWays read x list o.maps o.max_file old new e in
     ends.edit is (subst P of_input (subst Q of_output row)) refl
+
+-- a showing of these words ends as the showing of their path
+pub show_ends : (words : List (List ℕ)) (old new : Seen) (heard said : Heard) (e : End) (file read : List ℕ) (debug : Option (List ℕ))
+    → built words ≡ Some (Show file debug) → read ≡ file → ShowEnds read old new heard said e → Ends words old new heard said e
+show_ends words old new heard said e file read debug is of_file row = ends.show is (subst (λ (x : List ℕ). ShowEnds x old new heard said e) of_file row)
 
 -- where a command isn't done, it may as well want memory
 ends-memory : (words : List (List ℕ)) (old new : Seen) (heard said : Heard) (e : End) → Ends words old new heard said e → e ≢ end.Done → Ends words old new heard said end.NoMemory
 ends-memory words old new heard said e (ends.usage none same silent) undone = ends.memory same silent
 ends-memory words old new heard said e (ends.memory same silent) undone = ends.memory same silent
-ends-memory words old new heard said e (ends.edit is row silent) undone = ends.edit is (edit-memory _ _ _ _ old new e row undone) silent
+ends-memory words old new heard said e (ends.edit is row silent) undone = ends.edit is (way-memory _ _ _ _ _ old new e row undone) silent
+ends-memory words old new heard said e (ends.show is row) undone = ends.show is (show_memory _ old new heard said e row undone)
+
+-- what went to the output sink is said by the status that is told
+pub silent_told : (c : Option Command) (answer status : ℕ) → (answer ≡ status) ⊎ (answer ≡ 13) → (MayWrite c answer → ⊥) → MayWrite c status → ⊥
+silent_told (Some (Show file debug)) answer status (inl same) un begun = un (subst HasBegun (sym same) begun)
+silent_told (Some (Show file debug)) answer status (inr want) un begun = un (begun_.wanting want)
+silent_told c answer status told un begun = begun
 
 -- an end that is told is how the run ended, or want of memory is
 pub told_run : (words : List (List ℕ)) (old new : Seen) (heard said : Heard) (e : End) (before after : Heard) (answer : ℕ)

@@ -1,13 +1,14 @@
 -- The commands that are carried out. Words that are another command, or that give an option which isn't carried out yet, end
 -- as those that are none.
-use Rattle.std.specs.Prelude.{Bool, false, ◌&&◌, ◌==◌, not, if◌then◌else◌, ℕ, List, length, Option, Some, None, option_and_then}
+use Rattle.std.specs.Prelude.{Bool, true, false, ◌&&◌, ◌==◌, not, if◌then◌else◌, ℕ, List, length, Option, Some, None, option_and_then}
 use Rattle.dbg_words.specs.declared.command.Command.{Command}
-use Rattle.dbg_words.specs.declared.command.Command.TheVariants.{Edit}
+use Rattle.dbg_words.specs.declared.command.Command.TheVariants.{Edit, Show}
 use Rattle.dbg_words.specs.Words.{command}
 
--- what is carried out: an edit that makes no build-id and lists no sources
+-- what is carried out: an edit that makes no build-id, and the showing of one file
 abbrev pub is_built : Command → Bool
-is_built (Edit input output o None) = not o.build_id && length o.seed == 0
+is_built (Edit input output o list) = not o.build_id && length o.seed == 0
+is_built (Show file None) = true
 is_built c = false
 
 abbrev pub if_built : Command → Option Command

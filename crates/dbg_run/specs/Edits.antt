@@ -1,8 +1,9 @@
--- The command `edit`: how each of its steps may end, when it is done, and which status is due.
+-- The command `edit`, without a list of sources and with one: how each of its steps may end, when it is done, and which status
+-- is due.
 use Rattle.std.specs.Prelude.{◌≡◌, ℕ, true, List, Option, Some, option_map}
 use Rattle.dw_base.specs.declared.fault.Refusal.{Refusal}
 use Rattle.dw_meaning.specs.EditRows.{IsAccepted, EditFails}
-use Rattle.dw_meaning.specs.FileMeanings.{IsOutput, MeaningKept}
+use Rattle.dw_meaning.specs.FileMeanings.{file_data, IsOutput, MeaningKept}
 use Rattle.dw_meaning.specs.Loaded.{LoadedKept}
 use Rattle.dw_base.specs.Paths.{PathMap}
 use Rattle.file_tree.specs.declared.node.Found.{Found}
@@ -15,7 +16,9 @@ use Rattle.file_tree.specs.Causes.{Stood, Calm, OnlyAt}
 use Rattle.dbg_ends.specs.declared.end.End.{End}
 use Rattle.dbg_ends.specs.declared.end.End.TheVariants as end
 use Rattle.dbg_ends.specs.Due.{Where, InputDue, IsFree, OutputDue}
-use Rattle.dbg_ends.specs.Steps.{InputEnds, OutputTaken, OutputFree, OutputEnds, IsSettled}
+use Rattle.dbg_ends.specs.Steps.{InputEnds, OutputTaken, OutputFree, OutputEnds, OutputsEnd, OnlyAtBoth, IsSettled, list_mode}
+use Rattle.dw_base.specs.Texts.{laid_texts}
+use Rattle.dw_sources.specs.Sources.{AreSources}
 
 -- how the rewriting of the bytes of a path ends where it gives no output
 pub data RewriteEnds (path : List ℕ) (m : PathMap) (b : List ℕ) : End → Type 0 where
@@ -70,3 +73,53 @@ pub record EditUnopposed (m : PathMap) (what there : Found) : Type 0 where
   pub file : what ≡ found.File b mode
   pub unrefused : (r : Refusal) → EditFails m b r → ⊥
   pub free : IsFree there
+
+-- ### With a list of sources
+
+-- the text of a list: the names of the sources below the map's base that the debug data of a file name, before they are mapped,
+-- each ended by a NUL
+pub record IsListText (m : PathMap) (b text : List ℕ) : Type 0 where
+  pub names : List (List ℕ)
+  pub sources : AreSources (file_data b) m.base names
+  pub is : text ≡ laid_texts names
+
+-- the edit is done, as without a list, and the list's path holds the list, which all may read
+pub record ListedDone (input output list : List ℕ) (m : PathMap) (limit : ℕ) (old new : Seen) : Type 0 where
+  pub b : List ℕ
+  pub mode : ℕ
+  pub out : List ℕ
+  pub text : List ℕ
+  pub read : Stood (now_of old) input limit (found.File b mode)
+  pub free : OutputFree (now_of old) output
+  pub list_free : OutputFree (now_of old) list
+  pub accepted : IsAccepted m b
+  pub is : IsOutput m b out
+  pub only : (o : List ℕ) → IsOutput m b o → o ≡ out
+  pub keeps : Keeps m b out
+  pub listed : IsListText m b text
+  pub written : now_of new ≡ option_map (with_node list (node.File text list_mode)) (option_map (with_node output (node.File out mode)) (now_of old))
+  pub settled : old.tells ≡ true → IsSettled new.past
+
+-- how an edit with a list ends, by the step at which it does
+pub data ListedEnds (input output list : List ℕ) (m : PathMap) (limit : ℕ) (old new : Seen) : End → Type 0 where
+  reading : {e : End} → InputEnds input limit old new e → Calm old new → ListedEnds input output list m limit old new e
+  taking : {b : List ℕ} {mode : ℕ} {mid : Seen} {e : End} → Stood (now_of old) input limit (found.File b mode) → Calm old mid
+      → OutputTaken output mid new e → Calm mid new → ListedEnds input output list m limit old new e
+  list_taking : {b : List ℕ} {mode : ℕ} {mid : Seen} {e : End} → Stood (now_of old) input limit (found.File b mode) → OutputFree (now_of old) output
+      → Calm old mid → OutputTaken list mid new e → Calm mid new → ListedEnds input output list m limit old new e
+  rewriting : {b : List ℕ} {mode : ℕ} {e : End} → Stood (now_of old) input limit (found.File b mode) → OutputFree (now_of old) output
+      → OutputFree (now_of old) list → RewriteEnds input m b e → Calm old new → ListedEnds input output list m limit old new e
+  writing : {b : List ℕ} {mode : ℕ} {mid : Seen} {e : End} → Stood (now_of old) input limit (found.File b mode)
+      → OutputFree (now_of old) output → OutputFree (now_of old) list → IsAccepted m b → Calm old mid → OutputsEnd output list mid new e
+      → ListedEnds input output list m limit old new e
+  memory : OnlyAtBoth output list (now_of old) (now_of new) → ListedEnds input output list m limit old new end.NoMemory
+  done : ListedDone input output list m limit old new → ListedEnds input output list m limit old new end.Done
+
+-- the status that is due of an edit with a list, by what is found at its input, then at its output, and then at the list's path
+abbrev pub ListedDue : PathMap → Found → Found → Found → ℕ → Type 0
+ListedDue m what there beside n = InputDue what n (λ b. OutputDue there n (OutputDue beside n (Where (IsAccepted m b) (n ≡ 0) (n ≡ 3))))
+
+-- nothing is against the edit, and a file may be put at the list's path
+pub record ListedUnopposed (m : PathMap) (what there beside : Found) : Type 0 where
+  pub edit : EditUnopposed m what there
+  pub free : IsFree beside

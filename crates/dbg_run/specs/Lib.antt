@@ -1,3 +1,4 @@
 pub mod Built
 pub mod Edits
+pub mod Shows
 pub mod Runs

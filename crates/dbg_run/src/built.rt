@@ -7,16 +7,13 @@ use dbg_words::Command;
 use dw_base::NoMemory;
 use std::alloc::Global;
 
-/// Whether the command is carried out: an edit that makes no build-id and lists no sources.
+/// Whether the command is carried out: an edit that makes no build-id, or the showing of one file.
 fn is_built(command: &Command) -> bool
     ensures value { result ≡ is_built command.now }
 {
     match command {
-        Command::Edit {
-            options,
-            list: None,
-            ..
-        } => !options.build_id && options.seed.len() == 0,
+        Command::Edit { options, .. } => !options.build_id && options.seed.len() == 0,
+        Command::Show { debug: None, .. } => true,
         _ => false,
     }
 }

@@ -1,4 +1,4 @@
-//! The command `edit`: a file with each source path in its debug data mapped.
+//! The command `edit`: a file with each source path in its debug data mapped, and the list of its sources where one is asked for.
 ghost use Rattle.std.specs.Prelude.{◌≡◌, ◌≢◌, ◌⊎◌, ◌≤◌, ℕ, List, length, IfOk, IfErr, OnOk};
 ghost use Rattle.std.specs.Option.{ForSome};
 ghost use Rattle.dw_meaning.specs.EditRows.{IsAccepted};
@@ -9,9 +9,11 @@ ghost use Rattle.file_tree.specs.Trees.{stands_at};
 ghost use Rattle.file_tree.specs.Causes.{Rose, OnlyAt};
 ghost use Rattle.dbg_ends.specs.Ends.{status_of};
 ghost use Rattle.dbg_ends.specs.Due.{Where, IsCut, IsRefusal};
-ghost use Rattle.dbg_run.specs.Edits.{Keeps, RewriteEnds, EditDone, EditEnds, EditDue};
+ghost use Rattle.dbg_ends.specs.Steps.{OnlyAtBoth};
+ghost use Rattle.dbg_run.specs.Edits.{Keeps, RewriteEnds, EditDone, EditEnds, EditDue, ListedDone, ListedEnds, ListedDue};
 
-use dbg_ends::{End, free_output, read_input, write_output};
+use crate::sources::list_text;
+use dbg_ends::{End, free_output, read_input, write_output, write_with_list};
 use dbg_job::Options;
 use dw_base::Fault;
 use dw_paths::Maps;
@@ -32,6 +34,7 @@ fn rewrite_bytes(alloc: Global, path: &str, bytes: &Vec<u8>, maps: &Maps) -> Res
     ensures due { IfErr result (λ e. Where (IsAccepted maps.now bytes.now.items) (status_of e ≡ 0) (status_of e ≡ 3) ⊎ IsCut (status_of e)) }
     ensures not_done { IfErr result (λ e. 0 ≢ status_of e) }
     ensures not_usage { IfErr result (λ e. 2 ≢ status_of e) }
+    ensures not_output { IfErr result (λ e. 7 ≢ status_of e) }
     ensures no_fault { IfErr result (λ e. 6 ≢ status_of e) }
 {
     match rewrite(alloc, bytes.as_slice(), maps) {
@@ -61,6 +64,7 @@ fn edit_steps<T: Tree>(
     ensures due_done { OnOk result (ForSome (now_of (T.seen tree.old)) (λ t. EditDue maps.now (stands_at t input.now limit) (stands_at t output.now 0) 0)) }
     ensures not_done { IfErr result (λ e. 0 ≢ status_of e) }
     ensures not_usage { IfErr result (λ e. 2 ≢ status_of e) }
+    ensures not_output { IfErr result (λ e. 7 ≢ status_of e) }
     ensures fault { IfErr result (λ e. status_of e ≡ 6 → Rose (T.seen tree.old).faults (T.seen tree.new).faults) }
     ensures kept { IfErr result (λ e. IsRefusal (status_of e) → now_of (T.seen tree.new) ≡ now_of (T.seen tree.old)) }
     ensures others { OnlyAt output.now (now_of (T.seen tree.old)) (now_of (T.seen tree.new)) }
@@ -86,12 +90,81 @@ pub fn edit<T: Tree>(
     ensures done { 0 ≡ status_of result → EditDone input.now output.now options.now.maps options.now.max_file (T.seen tree.old) (T.seen tree.new) }
     ensures due { ForSome (now_of (T.seen tree.old)) (λ t. EditDue options.now.maps (stands_at t input.now options.now.max_file) (stands_at t output.now 0) (status_of result) ⊎ IsCut (status_of result)) }
     ensures not_usage { 2 ≢ status_of result }
+    ensures not_output { 7 ≢ status_of result }
     ensures fault { status_of result ≡ 6 → Rose (T.seen tree.old).faults (T.seen tree.new).faults }
     ensures kept { IsRefusal (status_of result) → now_of (T.seen tree.new) ≡ now_of (T.seen tree.old) }
     ensures others { OnlyAt output.now (now_of (T.seen tree.old)) (now_of (T.seen tree.new)) }
     ensures tells { (T.seen tree.new).tells ≡ (T.seen tree.old).tells }
 {
     match edit_steps(alloc, input, output, &options.maps, options.max_file, tree) {
+        Ok(()) => End::Done,
+        Err(end) => end,
+    }
+}
+
+/// Reads the input, looks whether the output and the list may be put, rewrites the input, lists its sources, and writes both.
+#[tactic(auto, using(crate::proofs::Rows::listed_rows))]
+fn listed_steps<T: Tree>(
+    alloc: Global,
+    input: &str,
+    output: &str,
+    list: &str,
+    maps: &Maps,
+    limit: u64,
+    tree: &mut T,
+) -> Result<(), End>
+    requires limit { limit ≤ output_limit }
+    ensures done { OnOk result (ListedDone input.now output.now list.now maps.now limit (T.seen tree.old) (T.seen tree.new)) }
+    ensures ends { IfErr result (ListedEnds input.now output.now list.now maps.now limit (T.seen tree.old) (T.seen tree.new)) }
+    ensures due { IfErr result (λ e. ForSome (now_of (T.seen tree.old)) (λ t. ListedDue maps.now (stands_at t input.now limit) (stands_at t output.now 0) (stands_at t list.now 0) (status_of e) ⊎ IsCut (status_of e))) }
+    ensures due_done { OnOk result (ForSome (now_of (T.seen tree.old)) (λ t. ListedDue maps.now (stands_at t input.now limit) (stands_at t output.now 0) (stands_at t list.now 0) 0)) }
+    ensures not_done { IfErr result (λ e. 0 ≢ status_of e) }
+    ensures not_usage { IfErr result (λ e. 2 ≢ status_of e) }
+    ensures not_output { IfErr result (λ e. 7 ≢ status_of e) }
+    ensures fault { IfErr result (λ e. status_of e ≡ 6 → Rose (T.seen tree.old).faults (T.seen tree.new).faults) }
+    ensures kept { IfErr result (λ e. IsRefusal (status_of e) → now_of (T.seen tree.new) ≡ now_of (T.seen tree.old)) }
+    ensures others { OnlyAtBoth output.now list.now (now_of (T.seen tree.old)) (now_of (T.seen tree.new)) }
+    ensures tells { (T.seen tree.new).tells ≡ (T.seen tree.old).tells }
+{
+    let (file, mode) = read_input(alloc, input, limit, tree)?;
+    free_output(alloc, output, tree)?;
+    free_output(alloc, list, tree)?;
+    let rewritten = rewrite_bytes(alloc, input, &file, maps)?;
+    let names = list_text(alloc, &file, maps)?;
+    write_with_list(output, rewritten, mode, list, names, tree)?;
+    Ok(())
+}
+
+/// How the edit with a list of sources ends. The output is set to the rewritten input, with the input's mode, and then the list's path
+/// to the list.
+#[tactic(auto, using(crate::proofs::Rows::listed_rows))]
+pub fn edit_listed<T: Tree>(
+    alloc: Global,
+    input: &str,
+    output: &str,
+    list: &str,
+    options: &Options,
+    tree: &mut T,
+) -> End
+    ensures ends { ListedEnds input.now output.now list.now options.now.maps options.now.max_file (T.seen tree.old) (T.seen tree.new) result }
+    ensures done { 0 ≡ status_of result → ListedDone input.now output.now list.now options.now.maps options.now.max_file (T.seen tree.old) (T.seen tree.new) }
+    ensures due { ForSome (now_of (T.seen tree.old)) (λ t. ListedDue options.now.maps (stands_at t input.now options.now.max_file) (stands_at t output.now 0) (stands_at t list.now 0) (status_of result) ⊎ IsCut (status_of result)) }
+    ensures not_usage { 2 ≢ status_of result }
+    ensures not_output { 7 ≢ status_of result }
+    ensures fault { status_of result ≡ 6 → Rose (T.seen tree.old).faults (T.seen tree.new).faults }
+    ensures kept { IsRefusal (status_of result) → now_of (T.seen tree.new) ≡ now_of (T.seen tree.old) }
+    ensures others { OnlyAtBoth output.now list.now (now_of (T.seen tree.old)) (now_of (T.seen tree.new)) }
+    ensures tells { (T.seen tree.new).tells ≡ (T.seen tree.old).tells }
+{
+    match listed_steps(
+        alloc,
+        input,
+        output,
+        list,
+        &options.maps,
+        options.max_file,
+        tree,
+    ) {
         Ok(()) => End::Done,
         Err(end) => end,
     }

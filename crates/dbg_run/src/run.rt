@@ -1,5 +1,5 @@
 //! The top call: a run of the program, from its words to its status.
-ghost use Rattle.std.specs.Prelude.{◌≡◌, ◌⊎◌, ℕ, None};
+ghost use Rattle.std.specs.Prelude.{◌≡◌, ◌≢◌, ◌⊎◌, ℕ, None, Some};
 ghost use Rattle.std.specs.Option.{ForSome};
 ghost use Rattle.file_tree.specs.Seen.{now_of};
 ghost use Rattle.file_tree.specs.Heard.{Heard};
@@ -8,27 +8,57 @@ ghost use Rattle.dbg_ends.specs.Ends.{status_of};
 ghost use Rattle.dbg_ends.specs.Due.{IsCut, IsRefusal, Exactly};
 ghost use Rattle.dbg_ends.specs.Told.{Ended};
 ghost use Rattle.dbg_words.specs.Words.{texts};
+ghost use Rattle.dbg_words.specs.declared.command.Command.TheVariants.{Edit};
 ghost use Rattle.dbg_run.specs.Built.{built};
-ghost use Rattle.dbg_run.specs.Runs.{Ends, Done, Due, Unopposed, KeepsLoaded, KeepsMeaning, OnlyOutputs};
+ghost use Rattle.dbg_run.specs.Runs.{Cuts, EditWays, Ends, Done, Due, MayWrite, Unopposed, KeepsLoaded, KeepsMeaning, OnlyOutputs, OutputFails};
 
 use crate::built::built;
-use crate::edit::edit;
+use crate::edit::{edit, edit_listed};
+use crate::show::show;
 use dbg_ends::{End, tell};
+use dbg_job::Options;
 use dbg_words::Command;
-use file_tree::{Sink, Tree};
+use file_tree::{Sink, Text, Tree};
 use std::alloc::Global;
+
+/// How the edit of the input ends, which lists its sources where a path for the list is given.
+fn edit_command<T: Tree>(
+    alloc: Global,
+    input: &str,
+    output: &str,
+    options: &Options,
+    list: &Option<Text>,
+    tree: &mut T,
+) -> End
+    ensures ends { EditWays input.now output.now list.now options.now.maps options.now.max_file (T.seen tree.old) (T.seen tree.new) result }
+    ensures done { 0 ≡ status_of result → (h : Heard) → Done (Some (Edit input.now output.now options.now list.now)) (T.seen tree.old) (T.seen tree.new) h h }
+    ensures due { ForSome (now_of (T.seen tree.old)) (λ t. Due (Some (Edit input.now output.now options.now list.now)) t (status_of result) ⊎ IsCut (status_of result)) }
+    ensures not_usage { 2 ≢ status_of result }
+    ensures not_output { 7 ≢ status_of result }
+    ensures fault { status_of result ≡ 6 → Rose (T.seen tree.old).faults (T.seen tree.new).faults }
+    ensures kept { IsRefusal (status_of result) → now_of (T.seen tree.new) ≡ now_of (T.seen tree.old) }
+    ensures others { OnlyOutputs (Some (Edit input.now output.now options.now list.now)) (T.seen tree.old) (T.seen tree.new) }
+    ensures tells { (T.seen tree.new).tells ≡ (T.seen tree.old).tells }
+{
+    match list {
+        None => edit(alloc, input, output, options, tree),
+        Some(list) => edit_listed(alloc, input, output, list.as_str(), options, tree),
+    }
+}
 
 /// How the command of these words ends.
 #[tactic(auto, using(crate::proofs::Rows::run_rows))]
-fn run_command<T: Tree>(alloc: Global, words: &[String], tree: &mut T) -> End
-    ensures ends { (h : Heard) → Ends (texts words.now) (T.seen tree.old) (T.seen tree.new) h h result }
-    ensures done { 0 ≡ status_of result → (h : Heard) → Done (built (texts words.now)) (T.seen tree.old) (T.seen tree.new) h h }
-    ensures due { ForSome (now_of (T.seen tree.old)) (λ t. Due (built (texts words.now)) t (status_of result) ⊎ IsCut (status_of result)) }
+fn run_command<T: Tree, O: Sink>(alloc: Global, words: &[String], tree: &mut T, out: &mut O) -> End
+    ensures ends { Ends (texts words.now) (T.seen tree.old) (T.seen tree.new) (O.heard out.old) (O.heard out.new) result }
+    ensures done { 0 ≡ status_of result → Done (built (texts words.now)) (T.seen tree.old) (T.seen tree.new) (O.heard out.old) (O.heard out.new) }
+    ensures due { ForSome (now_of (T.seen tree.old)) (λ t. Due (built (texts words.now)) t (status_of result) ⊎ Cuts (built (texts words.now)) (status_of result)) }
     ensures usage { status_of result ≡ 2 → built (texts words.now) ≡ None }
     ensures no_command { built (texts words.now) ≡ None → (status_of result ≡ 2) ⊎ (status_of result ≡ 13) }
     ensures fault { status_of result ≡ 6 → Rose (T.seen tree.old).faults (T.seen tree.new).faults }
+    ensures output_fault { status_of result ≡ 7 → OutputFails (built (texts words.now)) (O.heard out.old) (O.heard out.new) }
     ensures kept { IsRefusal (status_of result) → now_of (T.seen tree.new) ≡ now_of (T.seen tree.old) }
     ensures others { OnlyOutputs (built (texts words.now)) (T.seen tree.old) (T.seen tree.new) }
+    ensures silent { (MayWrite (built (texts words.now)) (status_of result) → ⊥) → O.heard out.new ≡ O.heard out.old }
     ensures tells { (T.seen tree.new).tells ≡ (T.seen tree.old).tells }
 {
     let Ok(read) = built(alloc, words) else {
@@ -42,8 +72,16 @@ fn run_command<T: Tree>(alloc: Global, words: &[String], tree: &mut T) -> End
             input,
             output,
             options,
-            ..
-        } => edit(alloc, input.as_str(), output.as_str(), &options, tree),
+            list,
+        } => edit_command(
+            alloc,
+            input.as_str(),
+            output.as_str(),
+            &options,
+            &list,
+            tree,
+        ),
+        Command::Show { file, .. } => show(alloc, file.as_str(), tree, out),
         _ => End::Usage,
     }
 }
@@ -58,18 +96,19 @@ fn run_told<T: Tree, O: Sink, E: Sink>(
     err: &mut E,
 ) -> u8
     ensures ended { Ended (Ends (texts words.now) (T.seen tree.old) (T.seen tree.new) (O.heard out.old) (O.heard out.new)) (E.heard err.old) (E.heard err.new) result }
-    ensures due { ForSome (now_of (T.seen tree.old)) (λ t. Due (built (texts words.now)) t result ⊎ IsCut result) }
+    ensures due { ForSome (now_of (T.seen tree.old)) (λ t. Due (built (texts words.now)) t result ⊎ Cuts (built (texts words.now)) result) }
     ensures done { result ≡ 0 → Done (built (texts words.now)) (T.seen tree.old) (T.seen tree.new) (O.heard out.old) (O.heard out.new) }
     ensures usage { result ≡ 2 → built (texts words.now) ≡ None }
     ensures no_command { built (texts words.now) ≡ None → (result ≡ 2) ⊎ (result ≡ 13) }
     ensures fault { result ≡ 6 → Rose (T.seen tree.old).faults (T.seen tree.new).faults }
+    ensures output_fault { result ≡ 7 → OutputFails (built (texts words.now)) (O.heard out.old) (O.heard out.new) }
     ensures kept { IsRefusal result → now_of (T.seen tree.new) ≡ now_of (T.seen tree.old) }
     ensures others { OnlyOutputs (built (texts words.now)) (T.seen tree.old) (T.seen tree.new) }
     ensures quiet { result ≡ 0 → E.heard err.new ≡ E.heard err.old }
-    ensures silent { O.heard out.new ≡ O.heard out.old }
+    ensures silent { (MayWrite (built (texts words.now)) result → ⊥) → O.heard out.new ≡ O.heard out.old }
     ensures tells { (T.seen tree.new).tells ≡ (T.seen tree.old).tells }
 {
-    let end = run_command(alloc, words, tree);
+    let end = run_command(alloc, words, tree, out);
     tell(alloc, &end, err)
 }
 
@@ -87,13 +126,14 @@ pub fn run_words<T: Tree, O: Sink, E: Sink>(
 
     // Where the tree tells, each status comes exactly where it is due. Usage does on every tree, want of
     // memory aside.
-    ensures exact { ForSome (now_of (T.seen tree.old)) (λ t. (n : ℕ) → Exactly result n (Due (built (texts words.now)) t n)) }
+    ensures exact { ForSome (now_of (T.seen tree.old)) (λ t. (n : ℕ) → Exactly (Cuts (built (texts words.now))) result n (Due (built (texts words.now)) t n)) }
     ensures usage { result ≡ 2 → built (texts words.now) ≡ None }
     ensures no_command { built (texts words.now) ≡ None → (result ≡ 2) ⊎ (result ≡ 13) }
     ensures fault { result ≡ 6 → Rose (T.seen tree.old).faults (T.seen tree.new).faults }
+    ensures output_fault { result ≡ 7 → OutputFails (built (texts words.now)) (O.heard out.old) (O.heard out.new) }
 
     // Where nothing is against the command, and no fault came, it is done, want of memory aside.
-    ensures completes { ForSome (now_of (T.seen tree.old)) (λ t. Unopposed (built (texts words.now)) t → (Rose (T.seen tree.old).faults (T.seen tree.new).faults → ⊥) → (result ≡ 0) ⊎ (result ≡ 13)) }
+    ensures completes { ForSome (now_of (T.seen tree.old)) (λ t. Unopposed (built (texts words.now)) t → (Rose (T.seen tree.old).faults (T.seen tree.new).faults → ⊥) → (OutputFails (built (texts words.now)) (O.heard out.old) (O.heard out.new) → ⊥) → (result ≡ 0) ⊎ (result ≡ 13)) }
 
     // At 0 the command is done, and the error sink isn't called; a refusal leaves the tree as it was.
     ensures done { result ≡ 0 → Done (built (texts words.now)) (T.seen tree.old) (T.seen tree.new) (O.heard out.old) (O.heard out.new) }
@@ -105,9 +145,10 @@ pub fn run_words<T: Tree, O: Sink, E: Sink>(
     ensures meaning { result ≡ 0 → KeepsMeaning (built (texts words.now)) (now_of (T.seen tree.old)) (now_of (T.seen tree.new)) }
     ensures loaded { result ≡ 0 → KeepsLoaded (built (texts words.now)) (now_of (T.seen tree.old)) (now_of (T.seen tree.new)) }
 
-    // At every status all but the command's outputs is as it was, and nothing went to the output sink.
+    // At every status all but the command's outputs is as it was. To the output sink nothing went, but where a showing is done, or was cut
+    // after it had begun to write.
     ensures others { OnlyOutputs (built (texts words.now)) (T.seen tree.old) (T.seen tree.new) }
-    ensures silent { O.heard out.new ≡ O.heard out.old }
+    ensures silent { (MayWrite (built (texts words.now)) result → ⊥) → O.heard out.new ≡ O.heard out.old }
     ensures tells { (T.seen tree.new).tells ≡ (T.seen tree.old).tells }
 {
     run_told(alloc, words, tree, out, err)

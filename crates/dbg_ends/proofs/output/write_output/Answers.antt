@@ -3,4 +3,4 @@ use Rattle.std.proofs.Common.{rules}
 use Rattle.dbg_ends.proofs.output.write_output.Goals as goal
 
 pub returns-clause-settled : goal.returns-clause-settled
-returns-clause-settled g c = λ told. record { before = (g.T.Tree.seen c.put.new.self).past; is = search rules }
+returns-clause-settled g c = λ told. record { before = (g.T.Tree.seen c.put_output.new.tree).past; is = search rules }
