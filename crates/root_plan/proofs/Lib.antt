@@ -13,3 +13,7 @@ pub mod SearchLaws
 pub mod PlaceLaws
 pub mod TakenLaws
 pub mod MadeLaws
+pub mod UnionLaws
+pub mod JobLaws
+pub mod WholeLaws
+pub mod OneLaws

@@ -1,5 +1,5 @@
 -- The plan of a root, and why there is none, from its parts.
-use Rattle.std.proofs.Common.{◌≡◌, ℕ, ◌≤◌, List, map, refl, sym, ap, ◌∙◌, subst, Option, String}
+use Rattle.std.proofs.Common.{◌≡◌, ℕ, ◌≤◌, List, map, sym, ap, ◌∙◌, subst, Option, String}
 use Rattle.std.specs.declared.alloc.Global.{Global}
 use Rattle.std.specs.String.{string_bytes}
 use Rattle.dw_base.specs.declared.fault.Refusal.{Refusal}
@@ -10,9 +10,7 @@ use Rattle.work_texts.specs.declared.plan.JobLine.{JobLine}
 use Rattle.work_texts.specs.declared.plan.PlanData.{PlanData}
 use Rattle.work_texts.specs.Rules.{text_limit}
 use Rattle.root_plan.specs.declared.plan_err.PlanErr.{PlanErr}
-use Rattle.root_plan.specs.declared.plan_err.PlanErr.TheVariants as err
 use Rattle.root_plan.specs.Roots.{count_outside, most_outside}
-use Rattle.root_plan.specs.Looks.{Looked}
 use Rattle.root_plan.specs.Targets.{new_paths}
 use Rattle.root_plan.specs.Verdicts.{JudgeView}
 use Rattle.root_plan.specs.Tallies.{Tally, Tallies}

@@ -13,3 +13,4 @@ pub mod Lists
 pub mod Makers
 pub mod Fits
 pub mod Searches
+pub mod Jobs

@@ -1,5 +1,5 @@
 -- The plan of a build root, and why there is none. This project's profile.
-use Rattle.std.specs.Prelude.{◌≡◌, ◌≤◌, ◌<◌, ℕ, Bool, true, ◌||◌, List, [], length, take, get_or, count_by, Option, Contains}
+use Rattle.std.specs.Prelude.{◌≡◌, ◌≤◌, ◌<◌, ℕ, Bool, true, ◌||◌, List, [], length, take, get_or, count_by, Option, Some, Contains}
 use Rattle.dw_base.specs.declared.fault.Refusal.{Refusal}
 use Rattle.dw_base.specs.Texts.{same_text}
 use Rattle.file_tree.specs.Trees.{TreeMap, is_below}
@@ -13,6 +13,7 @@ use Rattle.work_texts.specs.Rules.{text_limit}
 use Rattle.root_plan.specs.declared.plan_err.PlanErr.{PlanErr}
 use Rattle.root_plan.specs.declared.plan_err.PlanErr.TheVariants as err
 use Rattle.root_plan.specs.Roots.{count_outside, most_outside, longest_path}
+use Rattle.root_plan.specs.Errors.{IsStopped}
 use Rattle.root_plan.specs.Targets.{new_paths}
 use Rattle.root_plan.specs.Reports.{report_of}
 use Rattle.root_plan.specs.Tallies.{Tally, Tallies, PathEnds, IsTooLong}
@@ -110,3 +111,14 @@ pub data PlanEnds (old new : Seen) (root : List ℕ) (present : List (List ℕ))
   at_text : {t : Tally} → IsTallied (now_of old) root present s v fails t → CanBeMade present (new_paths root t.jobs)
       → text_limit < plan_length (plan_of s t) → PlanEnds old new root present s v fails err.PlanTooLarge
   no_memory : PlanEnds old new root present s v fails err.NoMemory
+
+-- what can come in place of a plan that there is: a fault of the tree; a cut; and, of a run that skips files, that the text is
+-- too long, since of several conditions that refuse a skipped file the report names one
+pub data IsCut (s : Settings) : PlanErr → Type 0 where
+  stopped : {e : PlanErr} → IsStopped e → IsCut s e
+  too_large : s.skip ≡ true → IsCut s err.PlanTooLarge
+
+-- where the tree tells, and there is a plan, nothing but this comes in its place
+pub record OnlyCut (old : Seen) (root : List ℕ) (present : List (List ℕ)) (s : Settings) (v : JudgeView)
+    (fails : List ℕ → List ℕ → Refusal → Type 0) (e : PlanErr) : Type 0 where
+  pub cut : (t : TreeMap) (plan : PlanData) → now_of old ≡ Some t → AreInOrder present → IsPlanOf (now_of old) root present s v fails plan → IsCut s e

@@ -6,6 +6,7 @@ use Rattle.file_tree.specs.Causes.{Rose, AreInOrder}
 use Rattle.root_plan.specs.declared.plan_err.PlanErr.{PlanErr}
 use Rattle.root_plan.specs.declared.plan_err.PlanErr.TheVariants as err
 use Rattle.root_plan.specs.Roots.{most_paths}
+use Rattle.root_plan.specs.Errors.{IsStopped}
 
 -- where the tree tells, these are all paths below the root
 pub record AreBelow (old : Option TreeMap) (root : List ℕ) (paths : List (List ℕ)) : Type 0 where
@@ -28,3 +29,7 @@ pub data WalkEnds (old new : Seen) (root : List ℕ) : PlanErr → Type 0 where
   many : AreMany (now_of old) root → WalkEnds old new root err.Entries
   failed : Rose old.faults new.faults → WalkEnds old new root err.Tree
   memory : WalkEnds old new root err.NoMemory
+
+-- where the tree tells, and there is an answer, nothing but this comes in its place
+pub record OnlyStopped (old : Seen) (root : List ℕ) (e : PlanErr) : Type 0 where
+  pub stopped : (t : TreeMap) (paths : List (List ℕ)) → now_of old ≡ Some t → AreWalked (now_of old) root paths → IsStopped e

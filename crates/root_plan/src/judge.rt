@@ -15,13 +15,13 @@ use std::alloc::Global;
 
 /// A stripped file and its debug file.
 #[derive(Drop)]
-pub(crate) struct Parts {
+pub struct Parts {
     pub stripped: Vec<u8>,
     pub debug: Vec<u8>,
 }
 
 /// Says what becomes of files, and makes it.
-pub(crate) trait Judge {
+pub trait Judge {
     ghost view: { Self → JudgeView };
     // what refuses a file, by its bytes and the name of its debug file: as a whole, to be edited, and to be split
     ghost fails: { Self → List ℕ → List ℕ → Refusal → Type 0 };

@@ -2,14 +2,16 @@
 //! stand (this project's profile).
 //!
 //! **This layer promises**: `walk` answers all paths below a root, in byte order, and says exactly why it
-//! doesn't. Inside, over any judge of files: the plan of a root, path by path in byte order, or at which path
-//! and why there is none; the report, the lists and the new paths of jobs; and a maker of a journal whose jobs
-//! are a plan's.
+//! doesn't. Over any judge of files: `make_plan` answers the plan of a root, path by path in byte order, or at
+//! which path and why there is none, and `RootMaker` is a maker of a journal whose jobs are a plan's, with its
+//! lists.
 //! It does not promise: what a judge says.
 //! Read first: `specs/Roots.antt`, `specs/Tallies.antt`, `specs/Targets.antt`, `specs/Plans.antt`.
 //!
 //! ```
 //! let paths = walk(&mut tree, "root")?;
+//! let plan = make_plan(alloc, &mut tree, "root", &paths, &options, &judge)?;
+//! let maker = RootMaker::new(alloc, "root", plan, judge)?;
 //! ```
 #![tactic(auto)]
 
@@ -28,9 +30,10 @@ mod survey;
 mod surveying;
 mod taken;
 mod targets;
-#[cfg(test)]
-mod tests;
 mod walking;
 
+pub use judge::{Judge, Parts};
 pub use plan_err::PlanErr;
+pub use planning::make_plan;
+pub use root_maker::RootMaker;
 pub use walking::walk;

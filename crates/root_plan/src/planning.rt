@@ -8,7 +8,8 @@ ghost use Rattle.work_texts.specs.Lists.{bytes_of};
 ghost use Rattle.work_texts.specs.Rules.{text_limit};
 ghost use Rattle.root_plan.specs.Looks.{Looked};
 ghost use Rattle.root_plan.specs.Targets.{new_paths};
-ghost use Rattle.root_plan.specs.Plans.{key_of, plan_of, plan_length, IsLongPlan, CanBeMade, NewEnds, IsPlanOf, PlanEnds};
+ghost use Rattle.root_plan.specs.Plans.{key_of, plan_of, plan_length, IsLongPlan, CanBeMade, NewEnds, IsPlanOf, PlanEnds, OnlyCut};
+ghost use Rattle.root_plan.specs.Jobs.{Serves};
 
 use crate::judge::Judge;
 use crate::names::Root;
@@ -112,11 +113,9 @@ fn check_new(alloc: Global, root: &str, present: &[String], plan: &PlanData) -> 
     Ok(())
 }
 
-/// The plan of a build root: what becomes of its files, of which these are the paths in byte order, and all
-/// that is made of them. It is refused where a limit is passed, where a file is refused that isn't to be
-/// skipped, and where a path that is to be made is taken.
+/// The plan of a build root, step by step.
 #[tactic(auto, using(crate::proofs::MadeLaws::plan_rules))]
-pub(crate) fn make_plan<T: Tree, J: Judge>(
+fn plan_root<T: Tree, J: Judge>(
     alloc: Global,
     tree: &mut T,
     root: &str,
@@ -134,5 +133,27 @@ pub(crate) fn make_plan<T: Tree, J: Judge>(
     let plan = plan_of(alloc, options, survey)?;
     check_new(alloc, root, present, &plan)?;
     check_text(alloc, &plan)?;
+    Ok(plan)
+}
+
+/// The plan of a build root: what becomes of its files, of which these are the paths in byte order, and all
+/// that is made of them. It is refused where a limit is passed, where a file is refused that isn't to be
+/// skipped, and where a path that is to be made is taken.
+#[tactic(auto, using(crate::proofs::OneLaws::cut_rules, crate::proofs::WholeLaws::serve_rules))]
+pub fn make_plan<T: Tree, J: Judge>(
+    alloc: Global,
+    tree: &mut T,
+    root: &str,
+    present: &[String],
+    options: &Options,
+    judge: &J,
+) -> Result<PlanData, PlanErr>
+    ensures plan { IfOk result (IsPlanOf (now_of (T.seen tree.old)) root.now (map string_bytes present.now) options.now (J.view judge.now) (J.fails judge.now)) }
+    ensures ends { IfErr result (PlanEnds (T.seen tree.old) (T.seen tree.new) root.now (map string_bytes present.now) options.now (J.view judge.now) (J.fails judge.now)) }
+    ensures looked { Looked (T.seen tree.old) (T.seen tree.new) }
+    ensures whole { IfErr result (OnlyCut (T.seen tree.old) root.now (map string_bytes present.now) options.now (J.view judge.now) (J.fails judge.now)) }
+    ensures serves { IfOk result (Serves (now_of (T.seen tree.old)) root.now (map string_bytes present.now) options.now (J.view judge.now)) }
+{
+    let plan = plan_root(alloc, tree, root, present, options, judge)?;
     Ok(plan)
 }

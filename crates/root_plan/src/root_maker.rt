@@ -19,7 +19,7 @@ use work_texts::{JobLine, PlanData};
 
 /// The jobs of a plan of a build root.
 #[derive(Drop)]
-pub(crate) struct RootMaker<J> {
+pub struct RootMaker<J> {
     root: String,
     plan: PlanData,
     judge: J,
@@ -37,7 +37,7 @@ fn job_of(plan: &PlanData, job: u32) -> &JobLine
 
 impl<J: Judge + Drop> RootMaker<J> {
     /// The maker of a plan's jobs.
-    pub(crate) fn new(
+    pub fn new(
         alloc: Global,
         root: &str,
         plan: PlanData,
@@ -53,14 +53,14 @@ impl<J: Judge + Drop> RootMaker<J> {
     }
 
     /// The plan.
-    pub(crate) fn plan(&self) -> &PlanData
+    pub fn plan(&self) -> &PlanData
         ensures value { result.now ≡ self.now.plan }
     {
         &self.plan
     }
 
     /// The lists of sources, debug files and links.
-    pub(crate) fn lists(&self, alloc: Global) -> Result<[Vec<u8>; 3], NoMemory>
+    pub fn lists(&self, alloc: Global) -> Result<[Vec<u8>; 3], NoMemory>
         ensures value { IfOk result (λ l. map bytes_of l ≡ source_list self.now.plan.sources ∷ debug_file_list self.now.plan.jobs ∷ link_list self.now.plan.jobs ∷ []) }
     {
         let sources = source_list(alloc, self.plan.sources.as_slice())?;

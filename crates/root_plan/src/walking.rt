@@ -5,7 +5,7 @@ ghost use Rattle.std.specs.Prelude.{◌≡◌, IfOk, IfErr, map};
 ghost use Rattle.std.specs.String.{string_bytes};
 ghost use Rattle.file_tree.specs.Seen.{now_of};
 ghost use Rattle.root_plan.specs.Looks.{Looked};
-ghost use Rattle.root_plan.specs.Walks.{AreWalked, WalkEnds};
+ghost use Rattle.root_plan.specs.Walks.{AreWalked, WalkEnds, OnlyStopped};
 
 use crate::looking::list;
 use crate::plan_err::PlanErr;
@@ -14,10 +14,9 @@ use file_tree::{Listed, Tree};
 /// The most paths below a root.
 const MOST_PATHS: u64 = 1_100_000;
 
-/// All paths below the root, in byte order. `Absent` exactly where nothing lies below it, `Entries` exactly
-/// where more than 1,100,000 paths do.
+/// The paths that a list of the root says.
 #[tactic(auto, using(crate::proofs::WalkLaws::walk_rules))]
-pub fn walk<T: Tree>(tree: &mut T, root: &str) -> Result<Vec<String>, PlanErr>
+fn list_root<T: Tree>(tree: &mut T, root: &str) -> Result<Vec<String>, PlanErr>
     ensures walked { IfOk result (λ v. AreWalked (now_of (T.seen tree.old)) root.now (map string_bytes v.items)) }
     ensures ends { IfErr result (WalkEnds (T.seen tree.old) (T.seen tree.new) root.now) }
     ensures looked { Looked (T.seen tree.old) (T.seen tree.new) }
@@ -31,4 +30,17 @@ pub fn walk<T: Tree>(tree: &mut T, root: &str) -> Result<Vec<String>, PlanErr>
             Ok(paths.into_vec())
         }
     }
+}
+
+/// All paths below the root, in byte order. `Absent` exactly where nothing lies below it, `Entries` exactly
+/// where more than 1,100,000 paths do.
+#[tactic(auto, using(crate::proofs::OneLaws::stop_rules))]
+pub fn walk<T: Tree>(tree: &mut T, root: &str) -> Result<Vec<String>, PlanErr>
+    ensures walked { IfOk result (λ v. AreWalked (now_of (T.seen tree.old)) root.now (map string_bytes v.items)) }
+    ensures ends { IfErr result (WalkEnds (T.seen tree.old) (T.seen tree.new) root.now) }
+    ensures looked { Looked (T.seen tree.old) (T.seen tree.new) }
+    ensures whole { IfErr result (OnlyStopped (T.seen tree.old) root.now) }
+{
+    let paths = list_root(tree, root)?;
+    Ok(paths)
 }

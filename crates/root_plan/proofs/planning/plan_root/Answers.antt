@@ -1,7 +1,7 @@
 -- Too many paths lie outside the work folder.
 use Rattle.std.proofs.lemmas.Result.{err_from_is_err_and}
 use Rattle.root_plan.proofs.MadeLaws.{many_ends}
-use Rattle.root_plan.proofs.planning.make_plan.Goals as goal
+use Rattle.root_plan.proofs.planning.plan_root.Goals as goal
 
 pub returns-in_err-check_count-clause-ends : goal.returns-in_err-check_count-clause-ends
 returns-in_err-check_count-clause-ends g c =

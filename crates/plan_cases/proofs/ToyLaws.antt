@@ -1,0 +1,15 @@
+-- The judge of the tests refuses only a file of which it says nothing.
+use Rattle.std.proofs.Common.{◌≡◌, Option, Some, None, Result, Ok, Err, refl}
+use Rattle.std.specs.Prelude.{IfErr, IsOkUnless}
+use Rattle.dw_base.specs.declared.fault.Fault.{Fault}
+use Rattle.dw_base.specs.declared.fault.Fault.TheVariants as fault
+use Rattle.dw_base.specs.Refusals.{Blames}
+use Rattle.root_plan.specs.Verdicts.{Verdict}
+
+pub said_whole : {X : Type 0} (r : Result X Fault) (o : Option Verdict) → IfErr r (Blames (λ q. o ≡ None)) → (x : Verdict) → o ≡ Some x → IsOkUnless r fault.NoMemory
+said_whole {X} (Ok y) o bad x e = tt
+said_whole {X} (Err fault.NoMemory) o bad x e = refl
+said_whole {X} (Err (fault.Refused q)) None bad x e = cc
+said_whole {X} (Err (fault.Refused q)) (Some y) bad x e = cc
+
+pub ruleset toy_rules = (said_whole)

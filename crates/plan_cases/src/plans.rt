@@ -1,0 +1,396 @@
+//! Walks and plans of small build roots, or why they are refused, and what is made of their jobs.
+use crate::toy::Toy;
+use dbg_job::Options;
+use dw_paths::Maps;
+use file_tree::{Blob, MemTree, Node, Text};
+use root_plan::{PlanErr, RootMaker, make_plan, walk};
+use std::alloc::{AllocError, Global};
+use std::test::Fail;
+use work_journal::{MakeErr, Maker};
+use work_texts::PlanData;
+
+/// A tree with an empty file at each of these paths.
+fn tree_of(alloc: Global, paths: &[&str]) -> Result<MemTree, Fail> {
+    let mut nodes = Vec::new(alloc);
+    for path in paths {
+        let bytes = Blob::new(Vec::new(alloc));
+        let path = String::from_str(alloc, path)?;
+        nodes.push((path, Node::File { bytes, mode: 0o644 }))?;
+    }
+    Ok(MemTree::new(alloc, nodes)?)
+}
+
+#[test]
+fn a_root_is_walked_in_byte_order_and_an_empty_one_is_absent(rt: HostRuntime) -> Result<(), Fail> {
+    let alloc = rt.alloc();
+    let mut tree = tree_of(alloc, &["r/b", "r/a/c", "s/a", "r/a-b"])?;
+    let paths = walk(&mut tree, "r")?;
+    assert_eq!(rt; paths.len(), 3);
+    assert_eq!(rt; paths[0].as_str(), "r/a-b");
+    assert_eq!(rt; paths[1].as_str(), "r/a/c");
+    assert_eq!(rt; paths[2].as_str(), "r/b");
+    match walk(&mut tree, "q") {
+        Err(PlanErr::Absent) => {}
+        _ => assert!(rt; false, "nothing lies below"),
+    }
+    Ok(())
+}
+
+/// A file at a path.
+fn file(alloc: Global, path: &str, bytes: &[u8]) -> Result<(String, Node), AllocError> {
+    let path = String::from_str(alloc, path)?;
+    let bytes = Blob::from_slice(alloc, bytes)?;
+    Ok((path, Node::File { bytes, mode: 0o755 }))
+}
+
+/// The options of a run that reads files of at most ten bytes.
+fn options(alloc: Global, skip: bool) -> Result<Options, Fail> {
+    let maps = Maps::new(alloc, b"/build/p", b"/usr/src/debug/p")?.ok_or("no map")?;
+    let seed = Blob::from_slice(alloc, b"")?;
+    Ok(Options {
+        maps,
+        build_id: false,
+        seed,
+        skip,
+        max_file: 10,
+    })
+}
+
+/// The files of a root, by their paths and bytes.
+fn files(alloc: Global, table: &[(&str, &[u8])]) -> Result<Vec<(String, Node)>, AllocError> {
+    let mut nodes = Vec::new(alloc);
+    for (path, bytes) in table {
+        nodes.push(file(alloc, path, bytes)?)?;
+    }
+    Ok(nodes)
+}
+
+/// The plan of the root `r` of these nodes.
+fn plan_of(
+    alloc: Global,
+    nodes: Vec<(String, Node)>,
+    skip: bool,
+) -> Result<Result<PlanData, PlanErr>, Fail> {
+    let mut tree = MemTree::new(alloc, nodes)?;
+    let Ok(present) = walk(&mut tree, "r") else {
+        return Err(Fail::from("no paths"));
+    };
+    let options = options(alloc, skip)?;
+    Ok(make_plan(alloc, &mut tree, "r", &present, &options, &Toy {}))
+}
+
+/// The plan of the root `r` of these nodes, which has one.
+fn made_plan(alloc: Global, nodes: Vec<(String, Node)>, skip: bool) -> Result<PlanData, Fail> {
+    match plan_of(alloc, nodes, skip)? {
+        Ok(plan) => Ok(plan),
+        Err(_) => Err(Fail::from("no plan")),
+    }
+}
+
+/// Whether the jobs of a plan have these paths.
+fn has_paths(plan: &PlanData, paths: &[&str]) -> bool {
+    let jobs = plan.jobs.as_slice();
+    if jobs.len() != paths.len() {
+        return false;
+    }
+    for i in 0..paths.len() {
+        if jobs[i].path.as_str() != paths[i] {
+            return false;
+        }
+    }
+    true
+}
+
+/// Whether the sources of a plan are these.
+fn has_sources(plan: &PlanData, names: &[&[u8]]) -> bool {
+    let sources = plan.sources.as_slice();
+    if sources.len() != names.len() {
+        return false;
+    }
+    for i in 0..names.len() {
+        if sources[i].as_slice() != names[i] {
+            return false;
+        }
+    }
+    true
+}
+
+/// A root with a file of each kind.
+const ROOT: &[(&str, &[u8])] = &[
+    ("r/.dbgwork/old", b"Sz\x01"),
+    ("r/usr/bin/linked", b"L"),
+    ("r/usr/bin/prog", b"Sb\x01"),
+    ("r/usr/bin/script", b"#!"),
+    ("r/usr/lib/debug/old", b"Sz\x01"),
+    ("r/usr/lib/mod/x.ko", b"Ec"),
+    ("r/usr/lib64/libx.so.1.2", b"Sa\x02"),
+];
+
+#[test]
+fn a_root_is_planned_file_by_file(rt: HostRuntime) -> Result<(), Fail> {
+    let alloc = rt.alloc();
+    let mut nodes = files(alloc, ROOT)?;
+    let path = String::from_str(alloc, "r/usr/lib64/libx.so.1")?;
+    let target = Text::copy_of(alloc, "libx.so.1.2")?;
+    nodes.push((path, Node::Link { target }))?;
+    let plan = made_plan(alloc, nodes, false)?;
+    let report = b"split 2, edited 1, left 2, skipped 0, links 4, sources 3\n";
+    assert_eq!(rt; plan.report.as_slice(), report.as_slice());
+    let paths = ["usr/bin/prog", "usr/lib/mod/x.ko", "usr/lib64/libx.so.1.2"];
+    assert!(rt; has_paths(&plan, &paths));
+    let sources = [b"a".as_slice(), b"b".as_slice(), b"c".as_slice()];
+    assert!(rt; has_sources(&plan, &sources));
+    Ok(())
+}
+
+/// Two equal files.
+const TWINS: &[(&str, &[u8])] = &[("r/usr/bin/a", b"Sx\x01"), ("r/usr/bin/b", b"Sx\x01")];
+
+/// The maker of the jobs of a root of these files.
+fn maker_of(alloc: Global, table: &[(&str, &[u8])]) -> Result<RootMaker<Toy>, Fail> {
+    let plan = made_plan(alloc, files(alloc, table)?, false)?;
+    if plan.jobs.as_slice().len() > 2 {
+        return Err(Fail::from("too many jobs"));
+    }
+    Ok(RootMaker::new(alloc, "r", plan, Toy {})?)
+}
+
+/// Where the node of a step of the second job comes to stand.
+fn second_target(alloc: Global, maker: &RootMaker<Toy>, step: u8) -> Result<String, Fail> {
+    if maker.jobs() != 2 {
+        return Err(Fail::from("not two jobs"));
+    }
+    if step >= maker.steps(1) {
+        return Err(Fail::from("no such step"));
+    }
+    Ok(maker.target(alloc, 1, step)?)
+}
+
+/// Whether a step of the second job has this target.
+fn has_target(alloc: Global, maker: &RootMaker<Toy>, step: u8, wanted: &str) -> Result<bool, Fail> {
+    let target = second_target(alloc, maker, step)?;
+    Ok(target.as_str() == wanted)
+}
+
+/// The targets of the second of two equal files.
+const TARGETS: &[(u8, &str)] = &[
+    (0, "r/usr/lib/debug/usr/bin/b.debug"),
+    (1, "r/usr/lib/debug/.build-id/ab/01.1"),
+    (2, "r/usr/lib/debug/.build-id/ab/01.1.debug"),
+    (3, "r/usr/bin/b"),
+];
+
+#[test]
+fn equal_files_have_links_of_their_own(rt: HostRuntime) -> Result<(), Fail> {
+    let alloc = rt.alloc();
+    let maker = maker_of(alloc, TWINS)?;
+    for (step, wanted) in TARGETS {
+        assert!(rt; has_target(alloc, &maker, *step, wanted)?);
+    }
+    Ok(())
+}
+
+#[test]
+fn equal_files_are_both_reported(rt: HostRuntime) -> Result<(), Fail> {
+    let alloc = rt.alloc();
+    let plan = made_plan(alloc, files(alloc, TWINS)?, false)?;
+    let report = b"split 2, edited 0, left 0, skipped 0, links 4, sources 1\n";
+    assert_eq!(rt; plan.report.as_slice(), report.as_slice());
+    Ok(())
+}
+
+/// A file with a build-id.
+const ONE: &[(&str, &[u8])] = &[("r/usr/bin/a", b"Sx\x01")];
+
+/// What the lists of its job say: sources, debug files, and links.
+const LISTS: &[(usize, &[u8])] = &[
+    (0, b"x\0"),
+    (1, b"/usr/lib/debug/usr/bin/a.debug\0"),
+    (
+        2,
+        b"/usr/lib/debug/.build-id/ab/01\0../../../../../usr/bin/a\0/usr/lib/debug/.build-id/ab/01.debug\0../../../../../usr/lib/debug/usr/bin/a.debug\0",
+    ),
+];
+
+/// Whether one of some lists is this.
+fn has_list(lists: &[Vec<u8>], number: usize, wanted: &[u8]) -> bool {
+    match lists.get(number) {
+        Some(list) => list.as_slice() == wanted,
+        None => false,
+    }
+}
+
+#[test]
+fn sources_debug_files_and_links_are_listed(rt: HostRuntime) -> Result<(), Fail> {
+    let alloc = rt.alloc();
+    let maker = maker_of(alloc, ONE)?;
+    let lists = maker.lists(alloc)?;
+    for (number, wanted) in LISTS {
+        assert!(rt; has_list(&lists, *number, wanted));
+    }
+    Ok(())
+}
+
+/// What the second job makes of a file.
+fn second_made(
+    alloc: Global,
+    maker: &mut RootMaker<Toy>,
+    bytes: &[u8],
+) -> Result<Result<Vec<Node>, MakeErr>, Fail> {
+    if maker.jobs() != 2 {
+        return Err(Fail::from("not two jobs"));
+    }
+    Ok(maker.make(alloc, 1, bytes, 0o755))
+}
+
+/// Whether these are four nodes, the first of which is a file with these bytes and this mode.
+fn begin_with_file(nodes: &[Node], wanted: &[u8], wanted_mode: u32) -> bool {
+    if nodes.len() != 4 {
+        return false;
+    }
+    match nodes.first() {
+        Some(Node::File { bytes, mode }) => bytes.as_slice() == wanted && *mode == wanted_mode,
+        _ => false,
+    }
+}
+
+#[test]
+fn the_planned_file_is_made(rt: HostRuntime) -> Result<(), Fail> {
+    let alloc = rt.alloc();
+    let mut maker = maker_of(alloc, TWINS)?;
+    let made = second_made(alloc, &mut maker, b"Sx\x01")?;
+    assert!(rt; matches!(&made, Ok(nodes) if begin_with_file(nodes, b"Sx\x01eb.debug", 0o644)));
+    Ok(())
+}
+
+#[test]
+fn a_file_that_was_changed_is_not_made(rt: HostRuntime) -> Result<(), Fail> {
+    let alloc = rt.alloc();
+    let mut maker = maker_of(alloc, TWINS)?;
+    let made = second_made(alloc, &mut maker, b"Sx\x02")?;
+    assert!(rt; matches!(&made, Err(MakeErr::Changed { .. })));
+    Ok(())
+}
+
+/// Whether this path is the one that is taken in the root of these files.
+fn is_taken(alloc: Global, table: &[(&str, &[u8])], taken: &str) -> Result<bool, Fail> {
+    let answer = plan_of(alloc, files(alloc, table)?, false)?;
+    Ok(matches!(&answer, Err(PlanErr::Taken(path)) if path.as_str() == taken))
+}
+
+/// Roots in which a new path is taken, and that path.
+const TAKEN: &[(&[(&str, &[u8])], &str)] = &[
+    // it stands
+    (
+        &[
+            ("r/bin/a", b"Sx\x01"),
+            ("r/usr/lib/debug/bin/a.debug", b"L"),
+        ],
+        "r/usr/lib/debug/bin/a.debug",
+    ),
+    // it lies below a file
+    (
+        &[("r/bin/a", b"Sx\x01"), ("r/usr/lib/debug/bin", b"L")],
+        "r/usr/lib/debug/bin/a.debug",
+    ),
+    // a file lies below it
+    (
+        &[
+            ("r/bin/a", b"Sx\x01"),
+            ("r/usr/lib/debug/bin/a.debug/x", b"L"),
+        ],
+        "r/usr/lib/debug/bin/a.debug",
+    ),
+    // it lies below another new path
+    (
+        &[("r/bin/a", b"Sx\x01"), ("r/bin/a.debug/b", b"Sy")],
+        "r/usr/lib/debug/bin/a.debug/b.debug",
+    ),
+    // it is a debug file and a link
+    (
+        &[("r/.build-id/ab/01", b"Sx\x01")],
+        "r/usr/lib/debug/.build-id/ab/01.debug",
+    ),
+];
+
+#[test]
+fn new_paths_that_are_taken_are_named(rt: HostRuntime) -> Result<(), Fail> {
+    let alloc = rt.alloc();
+    for (table, taken) in TAKEN {
+        assert!(rt; is_taken(alloc, table, taken)?);
+    }
+    Ok(())
+}
+
+#[test]
+fn a_refused_file_ends_the_plan(rt: HostRuntime) -> Result<(), Fail> {
+    let alloc = rt.alloc();
+    let answer = plan_of(alloc, files(alloc, &[("r/usr/bin/x", b"R")])?, false)?;
+    assert!(rt;
+        matches!(&answer, Err(PlanErr::Refused { path, refusal }) if path.as_str() == "r/usr/bin/x" && refusal.section == 4)
+    );
+    Ok(())
+}
+
+/// A file that is refused beside one that isn't.
+const REFUSED: &[(&str, &[u8])] = &[("r/usr/bin/x", b"R"), ("r/usr/bin/y", b"Sx")];
+
+#[test]
+fn a_refused_file_is_skipped_where_that_is_asked(rt: HostRuntime) -> Result<(), Fail> {
+    let alloc = rt.alloc();
+    let plan = made_plan(alloc, files(alloc, REFUSED)?, true)?;
+    let report =
+        b"split 1, edited 0, left 0, skipped 1, links 0, sources 1\nskipped usr/bin/x: unknown debug section 4 offset 0\n";
+    assert_eq!(rt; plan.report.as_slice(), report.as_slice());
+    Ok(())
+}
+
+#[test]
+fn a_file_of_too_many_bytes_is_refused(rt: HostRuntime) -> Result<(), Fail> {
+    let alloc = rt.alloc();
+    let nodes = files(alloc, &[("r/usr/bin/x", b"S0123456789")])?;
+    let answer = plan_of(alloc, nodes, false)?;
+    assert!(rt;
+        matches!(&answer, Err(PlanErr::FileTooLarge { path, size }) if path.as_str() == "r/usr/bin/x" && *size == 11)
+    );
+    Ok(())
+}
+
+/// A path below `r` of 4,096 bytes.
+fn longest_path(alloc: Global) -> Result<String, AllocError> {
+    let mut path = String::from_str(alloc, "r/")?;
+    for _ in 0..4094 {
+        path.push('a')?;
+    }
+    Ok(path)
+}
+
+#[test]
+fn a_path_that_becomes_too_long_is_refused(rt: HostRuntime) -> Result<(), Fail> {
+    let alloc = rt.alloc();
+    let path = longest_path(alloc)?;
+    let answer = plan_of(alloc, files(alloc, &[(path.as_str(), b"Sx")])?, false)?;
+    assert!(rt; matches!(&answer, Err(PlanErr::PathTooLong(path)) if path.as_str().len() == 4116));
+    Ok(())
+}
+
+/// A path, 200,001 times.
+fn many_paths(alloc: Global) -> Result<Vec<String>, AllocError> {
+    let mut present = Vec::new(alloc);
+    for _ in 0..200_001 {
+        present.push(String::from_str(alloc, "r/x")?)?;
+    }
+    Ok(present)
+}
+
+#[test]
+fn too_many_paths_are_refused_before_a_file_is_read(rt: HostRuntime) -> Result<(), Fail> {
+    let alloc = rt.alloc();
+    let mut tree = tree_of(alloc, &["r/x"])?;
+    let present = many_paths(alloc)?;
+    let options = options(alloc, false)?;
+    let answer = make_plan(alloc, &mut tree, "r", &present, &options, &Toy {});
+    assert!(rt; matches!(&answer, Err(PlanErr::Entries)));
+    assert_eq!(rt; tree.calls().len(), 0);
+    Ok(())
+}
