@@ -138,12 +138,26 @@ const WITH_MACROS: &[u8] = &[0x01, 0x11, 0x00, 0x79, 0x17, 0x00, 0x00, 0x00];
 /// The same, by `DW_AT_GNU_macros`.
 const WITH_GNU_MACROS: &[u8] = &[0x01, 0x11, 0x00, 0x99, 0x42, 0x17, 0x00, 0x00, 0x00];
 
+/// One that says where a line table starts, by `DW_AT_stmt_list`.
+const WITH_LINES: &[u8] = &[0x01, 0x11, 0x00, 0x10, 0x17, 0x00, 0x00, 0x00];
+
+/// One whose name is in `.debug_str`.
+const WITH_NAME: &[u8] = &[0x01, 0x11, 0x00, 0x03, 0x0e, 0x00, 0x00, 0x00];
+
+/// One whose name has an index of 4 bytes.
+const WITH_INDEX: &[u8] = &[0x01, 0x11, 0x00, 0x03, 0x28, 0x00, 0x00, 0x00];
+
 /// A unit of version 4 with one entry, whose value has 4 bytes.
 const ONE_UNIT: &[u8] = &[
     0x0c, 0x00, 0x00, 0x00, 0x04, 0x00, 0x00, 0x00, 0x00, 0x00, 0x08, 0x01, 0x00, 0x00, 0x00, 0x00,
 ];
 
-/// The same with a code that isn't declared.
+/// The same with 1 as its value.
+const NEXT_UNIT: &[u8] = &[
+    0x0c, 0x00, 0x00, 0x00, 0x04, 0x00, 0x00, 0x00, 0x00, 0x00, 0x08, 0x01, 0x01, 0x00, 0x00, 0x00,
+];
+
+/// One with a code that isn't declared.
 const OTHER_CODE: &[u8] = &[
     0x0c, 0x00, 0x00, 0x00, 0x04, 0x00, 0x00, 0x00, 0x00, 0x00, 0x08, 0x02, 0x00, 0x00, 0x00, 0x00,
 ];
@@ -164,7 +178,7 @@ const SHORT_UNIT: &[u8] = &[
 ];
 
 /// Abbreviations and units, and the refusal of their file, where they are the sections 1 and 2.
-pub const UNITS: [(&[u8], &[u8], Option<(Kind, u32, u64)>); 7] = [
+pub const UNITS: [(&[u8], &[u8], Option<(Kind, u32, u64)>); 11] = [
     (PLAIN_UNIT, ONE_UNIT, None),
     (WITH_MACROS, ONE_UNIT, Some((Kind::Unbuilt, 0, 0))),
     (WITH_GNU_MACROS, ONE_UNIT, Some((Kind::Unbuilt, 0, 0))),
@@ -172,4 +186,8 @@ pub const UNITS: [(&[u8], &[u8], Option<(Kind, u32, u64)>); 7] = [
     (PLAIN_UNIT, LONG_UNIT, Some((Kind::Unit, 2, 0))),
     (PLAIN_UNIT, NO_TABLE, Some((Kind::Abbreviation, 1, 9))),
     (PLAIN_UNIT, SHORT_UNIT, Some((Kind::Entry, 2, 12))),
+    (WITH_LINES, ONE_UNIT, None),
+    (WITH_LINES, NEXT_UNIT, Some((Kind::Stray, 2, 12))),
+    (WITH_NAME, ONE_UNIT, Some((Kind::StringOffset, 2, 12))),
+    (WITH_INDEX, ONE_UNIT, Some((Kind::StringTable, 2, 12))),
 ];

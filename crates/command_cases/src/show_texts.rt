@@ -39,7 +39,9 @@ fn each_table_is_shown_with_its_lists_and_rows(rt: HostRuntime) -> Result<(), Fa
 }
 
 #[test]
-fn nothing_is_shown_behind_a_damaged_unit_or_one_with_macros(rt: HostRuntime) -> Result<(), Fail> {
+fn nothing_is_shown_behind_a_unit_that_cannot_be_read_or_is_not_taken(
+    rt: HostRuntime,
+) -> Result<(), Fail> {
     for (abbrevs, units, expected) in UNITS {
         let mut out = MemSink::new(rt.alloc(), 0x1000, None)?;
         let sections = [

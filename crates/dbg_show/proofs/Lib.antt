@@ -5,7 +5,5 @@ pub mod ListLaws
 pub mod PrintingLaws
 pub mod LoopLaws
 pub mod MeaningLaws
-pub mod UnitRowLaws
 pub mod ExcludeLaws
-pub mod UnitLaws
 pub mod ReadLaws

@@ -24,16 +24,15 @@ use Rattle.dw_lines.specs.ViewTables.{tables_read, TablesUpTo, TablesFound}
 use Rattle.dw_base.proofs.FileViewLaws.{section_after-within}
 use Rattle.dw_meaning.proofs.LineOneLaws.{tables-one}
 use Rattle.dw_lines.proofs.ReadingLaws.{source-is}
-use Rattle.dw_meaning.specs.DataFails.{LinesFail}
+use Rattle.dw_find.specs.ReadData.{DataRead, DataRefuses}
 use Rattle.dw_rows.specs.TableRows.{IsTableIn, table_rows}
 use Rattle.dw_rows.proofs.TableLaws.{rows-meant}
 use Rattle.file_tree.specs.Heard.{Heard, grown}
 use Rattle.dbg_show.specs.LineTexts.{entry_file, entry_path, dirs_text, files_text, first_number, lines_text, table_line, table_text, tables_text}
 use Rattle.dbg_show.specs.Printing.{Printed, Cut, Goes}
-use Rattle.dbg_show.specs.ReadTables.{AllIn, read_text, all_read, ViewTables}
+use Rattle.dbg_show.specs.ReadTables.{AllIn, read_text, all_read, TablesMeant, ViewTables}
 use Rattle.dbg_show.specs.Rows.{rows_text}
-use Rattle.dbg_show.specs.ReadUnits.{AllRead, UnitsRefuse}
-use Rattle.dbg_show.specs.Shows.{ShowReads, IsShown, ShowRefuses, of_units, of_lines, ShowEnds, refused, unread, cut}
+use Rattle.dbg_show.specs.Shows.{ShowReads, IsShown, ShowRefuses, of_view, ShowEnds, refused, unread, cut}
 use Rattle.dbg_show.specs.declared.show_err.ShowErr.{ShowErr}
 use Rattle.dbg_show.specs.declared.show_err.ShowErr.TheVariants as err
 use Rattle.dbg_show.proofs.ExcludeLaws.{show-excludes}
@@ -101,7 +100,7 @@ all-meant v section p e n (r ∷ rs) there to =
     ∙ ap (λ (t : List ℕ). table_text n (line_meaning (view_source v section) r) ++ t) (all-meant v section r.header.end e (suc n) rs there to.1)
 
 view-by : (v : View) (section : ℕ) (ts : List LineTable) → section < length v.sections → line_source (debug_data v) ≡ view_source v section
-    → TablesUpTo (view_source v section) ts (length (section_bytes v section)) → ViewTables v ts
+    → TablesUpTo (view_source v section) ts (length (section_bytes v section)) → TablesMeant v ts
 view-by v section ts there source r = record {
   readings = r.readings;
   tables = subst (λ (g : LineSource). AreTables g r.readings) (sym source) r.reads;
@@ -115,27 +114,35 @@ no-bytes : (v : View) → None ≡ section_named v (name_of Line) → (line_sour
 unfolding debug_data located
 no-bytes v none = bytes_of-plain (located_at v (section_named v (name_of Line))).bytes ∙ ap (λ (o : Option ℕ). (located_at v o).bytes) (sym none)
 
-view-none : (v : View) (ts : List LineTable) → None ≡ section_named v (name_of Line) → TablesFound v ts → ViewTables v ts
+view-none : (v : View) (ts : List LineTable) → None ≡ section_named v (name_of Line) → TablesFound v ts → TablesMeant v ts
 view-none v ts none f =
     let empty : length (line_source (debug_data v)).bytes ≡ 0 = ap length (no-bytes v none) in
     let first : [] ≡ f.readings =
     tables-one (line_source (debug_data v)) 0 (length (line_source (debug_data v)).bytes) [] f.readings (sym empty) f.reads in
-    subst (ViewTables v) (sym (f.is ∙ ap (tables_read (line_source (debug_data v))) (sym first))) (record { readings = []; tables = sym empty; each = tt; text = refl })
+    subst (TablesMeant v) (sym (f.is ∙ ap (tables_read (line_source (debug_data v))) (sym first))) (record { readings = []; tables = sym empty; each = tt; text = refl })
 
 section-within : (v : View) (section : ℕ) → section_named v (name_of Line) ≡ Some section → section < length v.sections
 unfolding section_named
 section-within v section e = (section_after-within v (name_of Line) 0 section e).1
 
-pub view-found : (v : View) (ts : List LineTable) → TablesFound v ts → ViewTables v ts
+view-found : (v : View) (ts : List LineTable) → TablesFound v ts → TablesMeant v ts
 view-found v ts f = by_section (section_named v (name_of Line)) refl
   where
-    by_section : (o : Option ℕ) → section_named v (name_of Line) ≡ o → ViewTables v ts
+    by_section : (o : Option ℕ) → section_named v (name_of Line) ≡ o → TablesMeant v ts
     by_section None e = view-none v ts (sym e) f
     by_section (Some section) e =
         let source : line_source (debug_data v) ≡ view_source v section = source-is v section (sym e) in
         view-by v section ts (section-within v section e) source (subst (λ (g : LineSource). TablesUpTo g ts (length g.bytes)) source f)
 
-pub ruleset view_laws = (view-found)
+-- the debug data of a view were read
+pub view-read : (v : View) (ts : List LineTable) → DataRead v ts → ViewTables v ts
+view-read v ts d =
+    let t : TablesMeant v ts = view-found v ts (record { readings = d.readings.lines; reads = d.reads.lines; is = d.tables }) in
+    let same : t.readings ≡ d.readings.lines =
+    tables-one (line_source (debug_data v)) 0 (length (line_source (debug_data v)).bytes) t.readings d.readings.lines t.tables d.reads.lines in
+    record { read = d; each = t.each; text = t.text ∙ ap (λ (rs : List LineReading). lines_text (line_meanings (line_source (debug_data v)) rs)) same }
+
+pub ruleset view_laws = (view-read)
 
 -- tables are printed one after another
 table-first : (v : View) (g : LineSource) (ts : List LineTable) (i : ℕ) (d : LineTable) → i < length ts
@@ -196,33 +203,29 @@ heard-whole t old new p =
     p.begun.bytes ∙ ap (grown old.bytes) whole
 
 -- what was read of a view
-abbrev reads-of : (v : View) (ts : List LineTable) → AllRead (debug_data v) (debug_data v).units → ViewTables v ts → ShowReads (debug_data v)
-reads-of v ts a t = record { units = a; tables = t.readings; lines = t.tables }
+abbrev reads-of : (v : View) (ts : List LineTable) → ViewTables v ts → ShowReads (debug_data v)
+reads-of v ts t = record { readings = t.read.readings; reads = t.read.reads; built = t.read.built }
 
-pub is-shown : (v : View) (ts : List LineTable) (old new : Heard) → AllRead (debug_data v) (debug_data v).units → ViewTables v ts
+pub is-shown : (v : View) (ts : List LineTable) (old new : Heard) → ViewTables v ts
     → Printed (all_read v (line_source (debug_data v)) 0 ts) [] old new [] → IsShown v old new
-is-shown v ts old new a r p = record {
-  reads = reads-of v ts a r;
+is-shown v ts old new r p = record {
+  reads = reads-of v ts r;
   bytes = heard-whole (all_read v (line_source (debug_data v)) 0 ts) old new p ∙ ap (grown old.bytes) r.text;
   later = p.begun.later;
 }
 
-pub ends-cut : (v : View) (ts : List LineTable) (old new : Heard) (e : ShowErr) → AllRead (debug_data v) (debug_data v).units → ViewTables v ts
+pub ends-cut : (v : View) (ts : List LineTable) (old new : Heard) (e : ShowErr) → ViewTables v ts
     → Cut (all_read v (line_source (debug_data v)) 0 ts) old new e → ShowEnds v old new e
-ends-cut v ts old new e a r c = cut (reads-of v ts a r) (subst (λ (t : List ℕ). Cut t old new e) r.text c)
+ends-cut v ts old new e r c = cut (reads-of v ts r) (subst (λ (t : List ℕ). Cut t old new e) r.text c)
 
-pub ends-lines : (v : View) (h : Heard) (x : Fault) (e : ShowErr) → Blames (LinesFail (debug_data v)) x → e ≡ err.Fault x → ShowEnds v h h e
-ends-lines v h NoMemory e b is = subst (λ (y : ShowErr). ShowEnds v h h y) (sym is) (unread refl)
-ends-lines v h (Refused r) e b is = subst (λ (y : ShowErr). ShowEnds v h h y) (sym is) (refused r (of_lines b) refl)
-
-pub ends-units : (v : View) (h : Heard) (x : Fault) (e : ShowErr) → Blames (UnitsRefuse (debug_data v)) x → e ≡ err.Fault x → ShowEnds v h h e
-ends-units v h NoMemory e b is = subst (λ (y : ShowErr). ShowEnds v h h y) (sym is) (unread refl)
-ends-units v h (Refused r) e b is = subst (λ (y : ShowErr). ShowEnds v h h y) (sym is) (refused r (of_units b) refl)
+pub ends-unread : (v : View) (h : Heard) (x : Fault) (e : ShowErr) → Blames (DataRefuses v) x → e ≡ err.Fault x → ShowEnds v h h e
+ends-unread v h NoMemory e b is = subst (λ (y : ShowErr). ShowEnds v h h y) (sym is) (unread refl)
+ends-unread v h (Refused r) e b is = subst (λ (y : ShowErr). ShowEnds v h h y) (sym is) (refused r (of_view v refl b) refl)
 
 -- a view that was read is refused by no row
-pub none-refuses : {X E : Type 0} (x : Result X E) (v : View) (ts : List LineTable) → AllRead (debug_data v) (debug_data v).units → ViewTables v ts
+pub none-refuses : {X E : Type 0} (x : Result X E) (v : View) (ts : List LineTable) → ViewTables v ts
     → OnOk x ((r : Refusal) → ShowRefuses (debug_data v) r → ⊥)
-none-refuses (Ok y) v ts a t = λ r row. show-excludes (debug_data v) r (reads-of v ts a t) row
-none-refuses (Err e) v ts a t = tt
+none-refuses (Ok y) v ts t = λ r row. show-excludes (debug_data v) r (reads-of v ts t) row
+none-refuses (Err e) v ts t = tt
 
-pub ruleset show_laws = (is-shown, ends-cut, ends-lines, ends-units)
+pub ruleset show_laws = (is-shown, ends-cut, ends-unread)

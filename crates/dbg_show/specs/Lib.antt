@@ -4,5 +4,4 @@ pub mod LineTexts
 pub mod TableLists
 pub mod Printing
 pub mod ReadTables
-pub mod ReadUnits
 pub mod Shows

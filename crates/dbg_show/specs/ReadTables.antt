@@ -9,6 +9,7 @@ use Rattle.dw_base.specs.LineTables.{LineTable}
 use Rattle.dw_base.specs.ViewData.{debug_data}
 use Rattle.dw_base.specs.declared.line_rows.Row.{Row}
 use Rattle.dw_rows.specs.TableRows.{IsTableIn, table_rows}
+use Rattle.dw_find.specs.ReadData.{DataRead}
 use Rattle.dbg_show.specs.LineTexts.{dirs_text, files_text, first_number, lines_text, table_line}
 use Rattle.dbg_show.specs.Rows.{rows_text}
 use Rattle.dbg_show.specs.TableLists.{TableLists, listed_rows}
@@ -33,9 +34,15 @@ abbrev pub all_read : View → LineSource → ℕ → List LineTable → List �
 all_read v g n [] = []
 all_read v g n (t ∷ ts) = read_text n g t (table_rows v t) ++ all_read v g (suc n) ts
 
--- these are the line tables of a view, and their text is that of what they mean
-pub record ViewTables (v : View) (ts : List LineTable) : Type 0 where
+-- the line tables of a view, and their text is that of what they mean
+pub record TablesMeant (v : View) (ts : List LineTable) : Type 0 where
   pub readings : List LineReading
   pub tables : AreTables (line_source (debug_data v)) readings
   pub each : AllIn v ts
   pub text : all_read v (line_source (debug_data v)) 0 ts ≡ lines_text (line_meanings (line_source (debug_data v)) readings)
+
+-- the debug data of a view were read, and the text of their line tables is that of what they mean
+pub record ViewTables (v : View) (ts : List LineTable) : Type 0 where
+  pub read : DataRead v ts
+  pub each : AllIn v ts
+  pub text : all_read v (line_source (debug_data v)) 0 ts ≡ lines_text (line_meanings (line_source (debug_data v)) read.readings.lines)

@@ -1,9 +1,8 @@
-//! The line tables of a view, which are all read before something is printed.
+//! The debug data of a view, which are all read before something is printed.
 
 ghost use Rattle.std.specs.Prelude.{IfErr, IfOk};
 ghost use Rattle.dw_base.specs.Refusals.{Blames};
-ghost use Rattle.dw_base.specs.ViewData.{debug_data};
-ghost use Rattle.dw_meaning.specs.DataFails.{LinesFail};
+ghost use Rattle.dw_find.specs.ReadData.{DataRefuses};
 ghost use Rattle.dbg_show.specs.ReadTables.{ViewTables};
 
 use dw_base::Fault;
@@ -11,13 +10,13 @@ use dw_rows::LineTable;
 use dw_view::View;
 use std::alloc::Global;
 
-/// The line tables of a view. Refused where one can't be read, at the table or at the offset of a text.
+/// The line tables of a view, all of whose debug data are read. Refused where they can't be, at the place.
 #[tactic(auto, using(crate::proofs::ReadLaws::view_laws))]
 pub(crate) fn line_tables(alloc: Global, view: &View) -> Result<Vec<LineTable>, Fault>
     ensures read { IfOk result (λ ts. ViewTables view.now ts.items) }
-    ensures refused { IfErr result (Blames (LinesFail (debug_data view.now))) }
+    ensures refused { IfErr result (Blames (DataRefuses view.now)) }
 {
-    match dw_lines::line_tables(alloc, view) {
+    match dw_find::read_data(alloc, view) {
         Ok(tables) => Ok(tables),
         Err(fault) => Err(fault),
     }

@@ -21,7 +21,6 @@ use crate::reading::line_tables;
 use crate::show_err::ShowErr;
 use crate::source::{LineSource, line_source};
 use crate::table_lines::{print_dirs, print_files, print_row, print_start};
-use crate::units::pass_all;
 use dw_rows::{LineTable, Rows};
 use dw_view::View;
 use file_tree::Sink;
@@ -157,9 +156,9 @@ fn write_tables<O: Sink>(
 }
 
 /// Writes the text of a view: its line tables, each with its directories, its files and its rows. Before the first byte
-/// is written all units and their entries are passed over, and all line tables are read. Refused where one of them can't
-/// be read, at the unit, abbreviation, entry, value, table or offset of a text, and as `Unbuilt` where an entry says where
-/// macros stand; nothing was written then. The text goes out in pieces of a few thousand bytes and is never held whole;
+/// is written all debug data are read: units and their entries, string offsets, name tables and line tables. Refused where
+/// they can't be, at the place: also where an offset or an index names no text, or a value no line table; and as `Unbuilt`
+/// where an entry says where macros stand. Nothing was written then. The text goes out in pieces of a few thousand bytes and is never held whole;
 /// where the sink fails or memory is wanting, a first part of it went out.
 #[tactic(auto, using(crate::proofs::ReadLaws::show_laws))]
 pub fn show<O: Sink>(alloc: Global, view: &View, out: &mut O) -> Result<(), ShowErr>
@@ -167,7 +166,6 @@ pub fn show<O: Sink>(alloc: Global, view: &View, out: &mut O) -> Result<(), Show
     ensures none { OnOk result ((r : RefusalOf) → ShowRefuses (debug_data view.now) r → ⊥) }
     ensures ends { IfErr result (ShowEnds view.now (O.heard out.old) (O.heard out.new)) }
 {
-    pass_all(alloc, view)?;
     let tables = line_tables(alloc, view)?;
     write_tables(alloc, view, tables.as_slice(), out)
 }

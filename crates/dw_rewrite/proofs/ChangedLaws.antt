@@ -18,8 +18,9 @@ use Rattle.dw_base.proofs.NumberLaws.{length-with_number}
 use Rattle.dw_base.proofs.TextLaws.{laid_texts-append, place_in-lt}
 use Rattle.std.specs.Option.{ForSome}
 use Rattle.dw_rewrite.proofs.KnownLaws.{remembers_all}
-use Rattle.dw_rewrite.specs.declared.fields.PathField.{PathField}
-use Rattle.dw_rewrite.specs.Changes.{OffsetTable, path_of, path_at, offset_at, texts_at, patched, patched_at, KnownPlace, Knows, IsNoted, Remembers, AreNoted, AllFit, with_known, with_all_known, ArePathFields, IsPathField}
+use Rattle.dw_find.specs.declared.fields.PathField.{PathField}
+use Rattle.dw_find.specs.Fields.{OffsetTable, offset_at, ArePathFields, IsPathField}
+use Rattle.dw_rewrite.specs.Changes.{path_of, path_at, texts_at, patched, patched_at, KnownPlace, Knows, IsNoted, Remembers, AreNoted, AllFit, with_known, with_all_known}
 
 -- one field more of a list
 pub field_front : (fields : List PathField) (d : PathField) (i : ℕ) → i < length fields → drop i fields ≡ get_or fields i d ∷ drop (i + 1) fields

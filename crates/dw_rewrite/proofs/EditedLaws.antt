@@ -1,6 +1,5 @@
 -- The new texts and the new bytes of a unit section, by its pieces and by what they say of paths.
-use Rattle.std.proofs.Common.{Bool, true, false, ◌≡◌, ℕ, ◌+◌, ◌-◌, ◌≤◌, List, [], ◌∷◌, ◌++◌, length, take, drop, get_or, cond, Option, Some, None, sym, ap, ◌∙◌, refl, arith, append_assoc, subst}
-use Rattle.std.specs.Bool.{⊤}
+use Rattle.std.proofs.Common.{Bool, true, false, ◌≡◌, ℕ, ◌+◌, ◌-◌, ◌≤◌, List, [], ◌∷◌, ◌++◌, length, take, drop, get_or, cond, Option, Some, None, sym, ap, ◌∙◌, refl, arith, append_assoc}
 use Rattle.std.proofs.Math.Seq.{drop-append_seam, take-append_seam, take-append-add, drop-append-add}
 use Rattle.std.proofs.lemmas.List.{take-append-le, drop-append-le}
 use Rattle.dw_base.specs.Cells.{Cell, bytes_of, offset_of, with_bytes}
@@ -18,20 +17,16 @@ use Rattle.dw_base.specs.Texts.{text, text_in}
 use Rattle.dw_base.specs.UnitStates.{UnitState}
 use Rattle.dw_base.specs.declared.shared.Order.{Order}
 use Rattle.dw_base.proofs.InlineLaws.{length-mapped_inline}
-use Rattle.dw_base.proofs.NumberLaws.{spelled-append, spelled-drop}
 use Rattle.dw_base.proofs.PlainCellLaws.{IsPlain, offset_of-plain, with_offset-is, with_bytes-is, bytes_of-plain}
 use Rattle.dw_meaning.proofs.TextEditLaws.{PlainPiece}
 use Rattle.dw_base.proofs.UnitEditLaws.{length-bytes_of}
-use Rattle.dw_rewrite.specs.Changes.{OffsetTable, new_start, offset_at, path_at, texts_at, patched_at, patched, start_known, start_table, with_known, with_all_known}
-use Rattle.dw_rewrite.specs.UnitPaths.{field_by, path_fields, offset_table, inline_text, inlined_at, start_by, start_fields}
-use Rattle.dw_rewrite.specs.declared.fields.PathField.{PathField}
-use Rattle.dw_rewrite.proofs.PlacedLaws.{Placed}
-
--- the bytes of a piece are the number at its place
-pub piece_number : (o : Order) (p rest info : List ℕ) (place n : ℕ) → p ++ rest ≡ drop place info → length p ≡ n → spelled o p 0 n ≡ spelled o info place n
-piece_number o p rest info place n e size =
-    sym (spelled-append o p rest 0 n (omega (arith, size))) ∙ ap (λ (x : List ℕ). spelled o x 0 n) e
-    ∙ spelled-drop o info place 0 n ∙ ap (λ (i : ℕ). spelled o info i n) (omega arith)
+use Rattle.dw_find.specs.Fields.{OffsetTable, offset_at}
+use Rattle.dw_rewrite.specs.Changes.{new_start, path_at, texts_at, patched_at, patched, start_known, start_table, with_known, with_all_known}
+use Rattle.dw_find.specs.UnitPaths.{field_by, path_fields, inline_text}
+use Rattle.dw_rewrite.specs.UnitsAfter.{offset_table, inlined_at}
+use Rattle.dw_find.specs.declared.fields.PathField.{PathField}
+use Rattle.dw_find.proofs.PlacedLaws.{Placed}
+use Rattle.dw_find.proofs.PieceFieldLaws.{FieldsFrom, piece_number}
 
 -- a field of a piece at a place
 abbrev field_at : ℕ → List Cell → PathField
@@ -164,27 +159,6 @@ inlined_turns changes around info front p place behind at plain e fits short is 
     ∙ ap (λ (b : List ℕ). front ++ b) (sym (append_assoc q (drop (length t) (bytes_of p)) rest))
     ∙ ap (λ (b : List ℕ). front ++ (b ++ rest)) (sym written)
 
--- fields that stand from a place on
-abbrev pub FieldsFrom : ℕ → List PathField → Type 0
-FieldsFrom n [] = ⊤
-FieldsFrom n (f ∷ fs) = (n ≤ f.at) × FieldsFrom n fs
-
-pub from-less : (n k : ℕ) (fs : List PathField) → n ≤ k → FieldsFrom k fs → FieldsFrom n fs
-from-less n k [] le h = tt
-from-less n k (f ∷ fs) le h = (omega (arith, le, h.0), from-less n k fs le h.1)
-
-pub from-piece : (table : TextSection) (r : Role) (place size : ℕ) (fs : List PathField) → FieldsFrom place fs → FieldsFrom place (field_by table r place size ++ fs)
-from-piece in_str (offset in_str true) place size fs h = (omega arith, h)
-from-piece in_line_str (offset in_line_str true) place size fs h = (omega arith, h)
-from-piece table r place size fs h = h
-
-pub from-place : (table : TextSection) (info : List ℕ) (place : ℕ) (xs : List (Piece UnitState)) → Placed info place xs → FieldsFrom place (path_fields table xs)
-from-place table info place [] l = tt
-from-place table info place (x ∷ xs) l =
-    subst (λ (i : ℕ). FieldsFrom place (field_by table (role_of x) i (length x.cells) ++ path_fields table xs)) (sym l.0)
-    (from-piece table (role_of x) place (length x.cells) (path_fields table xs)
-    (from-less place (place + length x.cells) (path_fields table xs) (omega arith) (from-place table info (place + length x.cells) xs l.2)))
-
 -- bytes at the front, so many, stay as they are, and what becomes of those behind them doesn't depend on them
 pub record Behind (F : List ℕ → List ℕ) (n : ℕ) (rest : List ℕ) : Type 0 where
   pub after : List ℕ
@@ -239,17 +213,6 @@ known-behind table info known n (f ∷ fs) rest h =
       after = more.after;
       is = λ (front : List ℕ) (e : length front ≡ n). ap (λ (out : List ℕ). with_all_known table info known out fs) (here.is front e) ∙ more.is front e;
     }
-
-pub from-start : (r : Role) (place size : ℕ) (fs : List PathField) → FieldsFrom place fs → FieldsFrom place (start_by r place size ++ fs)
-from-start line_start place size fs h = (omega arith, h)
-from-start r place size fs h = h
-
-pub from-starts : (info : List ℕ) (place : ℕ) (xs : List (Piece UnitState)) → Placed info place xs → FieldsFrom place (start_fields xs)
-from-starts info place [] l = tt
-from-starts info place (x ∷ xs) l =
-    subst (λ (i : ℕ). FieldsFrom place (start_by (role_of x) i (length x.cells) ++ start_fields xs)) (sym l.0)
-    (from-start (role_of x) place (length x.cells) (start_fields xs)
-    (from-less place (place + length x.cells) (start_fields xs) (omega arith) (from-starts info (place + length x.cells) xs l.2)))
 
 -- what turns bytes of the front goes past what is done behind them
 pub swap : (H F : List ℕ → List ℕ) (front p q rest : List ℕ) (n : ℕ) → Turns H front p q → Behind F n rest → length (front ++ p) ≡ n → length (front ++ q) ≡ n

@@ -49,14 +49,15 @@ use Rattle.dw_base.proofs.LayoutLaws.{fixed_end-within}
 use Rattle.dw_base.proofs.ReadsBackLaws.{reads_back-same, with_bodies-same}
 use Rattle.dw_base.proofs.SectionLaws.{length-contents}
 use Rattle.dw_meaning.proofs.TableKeptLaws.{TablePlace, nowhere, lies_at}
-use Rattle.dw_rewrite.specs.Bodies.{BodiesMade, BodiesRefuse, PathsFound, PathsRefuse, long_table}
+use Rattle.dw_rewrite.specs.Bodies.{BodiesMade, BodiesRefuse, long_table}
+use Rattle.dw_find.specs.FoundPaths.{PathsFound, PathsRefuse}
 use Rattle.dw_rewrite.specs.Bodies.BodiesRefuse.{line_table_of, long_lines_of, long_table_of}
-use Rattle.dw_rewrite.specs.Bodies.PathsRefuse.{units as paths_units, starts as paths_starts, inline as paths_inline, string_tables as paths_string_tables, name_tables as paths_name_tables, slots as paths_slots, shared as paths_shared}
+use Rattle.dw_find.specs.FoundPaths.PathsRefuse.{units as paths_units, starts as paths_starts, inline as paths_inline, string_tables as paths_string_tables, name_tables as paths_name_tables, slots as paths_slots, shared as paths_shared}
 use Rattle.dw_rewrite.specs.Judged.{IsJudged}
 use Rattle.dw_rewrite.specs.Rewritten.{AllStand, IsInFile, body_with, long_fault, long_or, long_refusal, told_refusal}
-use Rattle.dw_rewrite.specs.UnitPaths.{UnitPaths}
-use Rattle.dw_rewrite.specs.UnitTexts.{HasUnbuilt}
-use Rattle.dw_rewrite.specs.UnitTexts.UnitsRefuse.{data_fails, text_fails, unbuilt as value_unbuilt}
+use Rattle.dw_find.specs.UnitPaths.{UnitPaths}
+use Rattle.dw_find.specs.UnitTexts.{HasUnbuilt}
+use Rattle.dw_find.specs.UnitTexts.UnitsRefuse.{data_fails, text_fails, unbuilt as value_unbuilt}
 use Rattle.dw_rewrite.proofs.BodyLaws.{bodies-same, bodies-stand, made-stand}
 use Rattle.dw_meaning.proofs.LoadedLaws.{loaded-kept}
 use Rattle.dw_rewrite.proofs.WrittenLaws.{fits_same, layout_same, length-moved}

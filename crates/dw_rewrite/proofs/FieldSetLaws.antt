@@ -6,8 +6,9 @@ use Rattle.dw_base.specs.declared.shared.Order.{Order}
 use Rattle.dw_patch.specs.Patching.{IsFree, PatchList, with_patch, with_patches}
 use Rattle.dw_patch.specs.declared.patches.Patch.{Patch}
 use Rattle.dw_patch.proofs.PatchLaws.{free-more}
-use Rattle.dw_rewrite.specs.Changes.{OffsetTable, AllApart, AreFree, AreSet, IsApartFrom, known_patches, offset_at, patch_by, with_all_known, with_known}
-use Rattle.dw_rewrite.specs.declared.fields.PathField.{PathField}
+use Rattle.dw_find.specs.Fields.{OffsetTable, AllApart, IsApartFrom, offset_at}
+use Rattle.dw_rewrite.specs.Changes.{AreFree, AreSet, known_patches, patch_by, with_all_known, with_known}
+use Rattle.dw_find.specs.declared.fields.PathField.{PathField}
 use Rattle.dw_rewrite.proofs.ChangedLaws.{field_front, fits_known, path_there}
 
 -- nothing is set, or one field is

@@ -19,15 +19,17 @@ use Rattle.dw_base.specs.declared.fault.Fault.TheVariants.{NoMemory, Refused}
 use Rattle.dw_base.specs.declared.shared.Order.{Order}
 use Rattle.dw_base.proofs.FileViewLaws.{section_after-within}
 use Rattle.dw_base.proofs.TextLaws.{ends_in-inside}
-use Rattle.dw_rewrite.specs.Changes.{OffsetTable, ArePathFields, IsPathField, AreNoted, Knows, Remembers, texts_at}
-use Rattle.dw_rewrite.specs.NewTables.{as_table, offsets_in, plan_in, table_number, fields_of, info_of, HasFields, HasPaths, AllHaveFields, AllHavePaths, section_texts_at, all_texts_at, IsSectionNoted, AllNoted, Growing, GrownBy, TableMade, table_with, fault_at, LongTable, long_table}
-use Rattle.dw_rewrite.specs.UnitPaths.{UnitPaths}
-use Rattle.dw_rewrite.specs.declared.fields.PathField.{PathField}
-use Rattle.dw_rewrite.specs.declared.tables.TextsOf.{TextsOf}
-use Rattle.dw_rewrite.specs.declared.tables.TextsOf.TheVariants.{Str, LineStr}
+use Rattle.dw_find.specs.Fields.{OffsetTable, ArePathFields, IsPathField}
+use Rattle.dw_rewrite.specs.Changes.{AreNoted, Knows, Remembers, texts_at}
+use Rattle.dw_find.specs.ViewFields.{as_table, offsets_in, table_number, fields_of, info_of, HasFields, HasPaths, AllHaveFields, AllHavePaths}
+use Rattle.dw_rewrite.specs.NewTables.{plan_in, section_texts_at, all_texts_at, IsSectionNoted, AllNoted, Growing, GrownBy, TableMade, table_with, fault_at, LongTable, long_table}
+use Rattle.dw_find.specs.UnitPaths.{UnitPaths}
+use Rattle.dw_find.specs.declared.fields.PathField.{PathField}
+use Rattle.dw_find.specs.declared.tables.TextsOf.{TextsOf}
+use Rattle.dw_find.specs.declared.tables.TextsOf.TheVariants.{Str, LineStr}
 use Rattle.dw_rewrite.proofs.ChangedLaws.{length-texts_at, knows_nothing}
-use Rattle.dw_rewrite.proofs.PlaceValueLaws.{EachOf, each-get}
-use Rattle.dw_rewrite.proofs.SectionFactLaws.{paths-fields}
+use Rattle.dw_find.proofs.PlaceValueLaws.{EachOf, each-get}
+use Rattle.dw_find.proofs.SectionFactLaws.{paths-fields}
 
 -- the table of a section of texts, as the code has it
 pub same-offsets : (v : View) (t : TextsOf) (order : Order) (bytes : List ℕ) → order ≡ v.order → bytes ≡ (offsets_in v (as_table t)).bytes

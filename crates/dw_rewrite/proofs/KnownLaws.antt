@@ -6,8 +6,9 @@ use Rattle.dw_base.specs.StringTables.{Plan, TextTable, appending, with_mention,
 use Rattle.dw_base.specs.Texts.{is_in, text_in, ends_in, has_nul}
 use Rattle.dw_base.proofs.TextLaws.{is_in-with_text, is_in-with_text_kept, place_in-with_text, has_nul-text_in, ends_in-inside}
 use Rattle.dw_base.proofs.PathLaws.{has_nul-mapped_path}
-use Rattle.dw_rewrite.specs.declared.fields.PathField.{PathField}
-use Rattle.dw_rewrite.specs.Changes.{OffsetTable, path_of, IsPathField, KnownPlace, Knows, IsNoted, Remembers, Adds, place_after}
+use Rattle.dw_find.specs.declared.fields.PathField.{PathField}
+use Rattle.dw_find.specs.Fields.{OffsetTable, IsPathField}
+use Rattle.dw_rewrite.specs.Changes.{path_of, KnownPlace, Knows, IsNoted, Remembers, Adds, place_after}
 
 -- the place of a text that was added
 pub place_added : (table : TextTable) (t : List ℕ) (place : ℕ) → text_place (with_added table t) t ≡ Some place → place ≡ place_after table t

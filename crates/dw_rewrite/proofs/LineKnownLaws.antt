@@ -17,12 +17,14 @@ use Rattle.dw_base.specs.declared.fault.Refusal.{Refusal}
 use Rattle.dw_base.specs.declared.line_tables.TextPlace.{TextPlace}
 use Rattle.dw_base.specs.declared.shared.Width.{Width}
 use Rattle.dw_lines.specs.ViewTables.{tables_read}
-use Rattle.dw_rewrite.specs.Changes.{IsNoted, Knows, OffsetTable, offset_at, path_of}
-use Rattle.dw_rewrite.specs.ViewLines.{AllCanWrite, lines_known, table_fields, text_field, text_fields}
-use Rattle.dw_rewrite.specs.declared.fields.PathField.{PathField}
-use Rattle.dw_rewrite.proofs.LineMentionLaws.{texts_table}
-use Rattle.dw_rewrite.proofs.LinePlaceLaws.{EachReads, PathReads, offset-read, table-paths}
-use Rattle.dw_rewrite.proofs.PlaceValueLaws.{EachOf}
+use Rattle.dw_rewrite.specs.Changes.{IsNoted, Knows, path_of}
+use Rattle.dw_find.specs.Fields.{OffsetTable, offset_at}
+use Rattle.dw_rewrite.specs.NewLines.{AllCanWrite, lines_known}
+use Rattle.dw_find.specs.ViewLines.{table_fields, text_field, text_fields}
+use Rattle.dw_find.specs.declared.fields.PathField.{PathField}
+use Rattle.dw_find.proofs.LineTextLaws.{texts_table}
+use Rattle.dw_find.proofs.LinePlaceLaws.{EachReads, PathReads, offset-read, table-paths}
+use Rattle.dw_find.proofs.PlaceValueLaws.{EachOf}
 
 -- the new places of paths that stand elsewhere are the same
 abbrev pub EachAgree : LineSource → (TextPlace → Option ℕ) → (TextPlace → Option ℕ) → List TextPlace → Type 0

@@ -1,6 +1,5 @@
 -- The texts that line tables mention are those of the fields of their paths.
-use Rattle.std.proofs.Common.{Bool, true, false, ◌≡◌, ◌≢◌, ◌⊎◌, inl, inr, ℕ, ◌==◌, ◌&&◌, not, List, [], ◌∷◌, ◌++◌, length, if◌then◌else◌, refl, sym, ap, ◌∙◌}
-use Rattle.std.proofs.lemmas.Bool.{eq-eqb, ne_eqb, true≢false}
+use Rattle.std.proofs.Common.{Bool, true, false, ◌≡◌, ℕ, ◌==◌, ◌&&◌, not, List, [], ◌∷◌, ◌++◌, if◌then◌else◌, refl, sym, ap, ◌∙◌}
 use Rattle.dw_base.specs.Forms.{TextSection, in_str, in_line_str, width_size}
 use Rattle.dw_base.specs.LineChanges.{path_in, mention_in, paths_mentions, line_mentions}
 use Rattle.dw_base.specs.LineReadings.{LineReading, TablesTo, table_read}
@@ -8,22 +7,17 @@ use Rattle.dw_base.specs.LineSources.{LineSource}
 use Rattle.dw_base.specs.Numbers.{spelled}
 use Rattle.dw_base.specs.Paths.{PathMap}
 use Rattle.dw_base.specs.StringTables.{Mention, Plan, with_mention, texts_after}
-use Rattle.dw_base.specs.Texts.{ends_in, text_in}
+use Rattle.dw_base.specs.Texts.{text_in}
 use Rattle.dw_base.specs.WrittenLines.{paths_of}
 use Rattle.dw_base.specs.declared.line_tables.TextPlace.{TextPlace}
 use Rattle.dw_base.specs.declared.shared.Width.{Width}
-use Rattle.dw_base.specs.declared.shared.Width.TheVariants.{W32, W64}
 use Rattle.dw_lines.specs.ViewTables.{tables_read}
-use Rattle.dw_meaning.proofs.LineColumnLaws.{texts_in}
-use Rattle.dw_rewrite.specs.Changes.{OffsetTable, ArePathFields, IsPathField, texts_at}
-use Rattle.dw_rewrite.specs.ViewLines.{is_text_of, table_fields, text_field, text_fields}
-use Rattle.dw_rewrite.specs.declared.fields.PathField.{PathField}
-use Rattle.dw_rewrite.proofs.LinePlaceLaws.{EachReads, PathReads, stands_there, named_there, offset-read, table-paths}
-use Rattle.dw_rewrite.proofs.PlaceValueLaws.{EachOf, each-append, each-get}
-
--- the table of texts that fields of line tables are of
-abbrev pub texts_table : LineSource → TextSection → OffsetTable
-texts_table g table = record { order = g.order; bytes = (texts_in g table).bytes }
+use Rattle.dw_find.specs.Fields.{OffsetTable}
+use Rattle.dw_rewrite.specs.Changes.{texts_at}
+use Rattle.dw_find.specs.ViewLines.{table_fields, text_field, text_fields}
+use Rattle.dw_find.specs.declared.fields.PathField.{PathField}
+use Rattle.dw_find.proofs.LinePlaceLaws.{EachReads, PathReads, offset-read, table-paths}
+use Rattle.dw_find.proofs.LineTextLaws.{texts_table}
 
 texts_after-append : (plan : Plan) (m : PathMap) (ts : List (List ℕ)) (xs ys : List Mention) → texts_after plan m ts (xs ++ ys) ≡ texts_after plan m (texts_after plan m ts xs) ys
 texts_after-append plan m ts [] ys = refl
@@ -76,69 +70,3 @@ lines-texts g table plan m ts p e (r ∷ rs) reads =
     ∙ lines-texts g table plan m (texts_at plan m (texts_table g table) g.bytes ts (text_fields g.number g.str.number table r.header.width (paths_of (table_read g r)))) r.header.end e rs reads.1
     ∙ sym (texts_at-append plan m (texts_table g table) g.bytes ts (text_fields g.number g.str.number table r.header.width (paths_of (table_read g r)))
     (table_fields g.number g.str.number table (tables_read g rs)))
-
--- the field of a path is one
-each-if : {X : Type 0} (P : X → Type 0) (x : X) (b : Bool) → (b ≡ true → P x) → EachOf P (if b then x ∷ [] else [])
-each-if P x true f = (f refl, tt)
-each-if P x false f = tt
-
-sized : (w : Width) → (width_size w ≡ 4) ⊎ (width_size w ≡ 8)
-sized W32 = inl refl
-sized W64 = inr refl
-
--- texts of the second table lie in a section of its own
-abbrev pub TextsApart : LineSource → Type 0
-TextsApart g = (at : ℕ) → ends_in g.line_str.bytes at ≡ true → g.line_str.number ≢ g.str.number
-
-no-both : (a : Bool) → (not a && false) ≡ true → ⊥
-no-both true e = true≢false (sym e)
-no-both false e = true≢false (sym e)
-
-path-field : (g : LineSource) (table : TextSection) (w : Width) (x : TextPlace) → TextsApart g → PathReads g w x
-    → EachOf (IsPathField (texts_table g table) g.bytes) (text_field g.number g.str.number table w x)
-path-field g table w x apart (stands_there y is) =
-    each-if (IsPathField (texts_table g table) g.bytes) (record { at = x.field; size = width_size w }) (is_text_of g.number g.str.number table x) (λ e. absurd (by_table table e))
-  where
-    here : (x.section == g.number) ≡ true
-    here = eq-eqb x.section g.number is
-
-    by_table : (t : TextSection) → is_text_of g.number g.str.number t x ≡ true → ⊥
-    by_table in_str e = true≢false (sym e ∙ ap (λ (a : Bool). not a && x.section == g.str.number) here)
-    by_table in_line_str e = true≢false (sym e ∙ ap (λ (a : Bool). not a && not (x.section == g.str.number)) here)
-path-field g table w x apart (named_there z field room ends) =
-    each-if (IsPathField (texts_table g table) g.bytes) (record { at = x.field; size = width_size w }) (is_text_of g.number g.str.number table x)
-    (λ e. record { sized = sized w; inside = room; ends = by_table table z ends e })
-  where
-    by_table : (t u : TextSection) → ends_in (texts_in g u).bytes (spelled g.order g.bytes field (width_size w)) ≡ true
-        → is_text_of g.number g.str.number t
-        (record { section = (texts_in g u).number; at = spelled g.order g.bytes field (width_size w); len = length (text_in (texts_in g u).bytes (spelled g.order g.bytes field (width_size w))); field = field }) ≡ true
-        → ends_in (texts_in g t).bytes (spelled g.order g.bytes field (width_size w)) ≡ true
-    by_table in_str in_str ends e = ends
-    by_table in_line_str in_line_str ends e = ends
-    by_table in_str in_line_str ends e =
-        let other : (g.line_str.number == g.str.number) ≡ false = ne_eqb g.line_str.number g.str.number (apart _ ends) in
-        absurd (no-both (g.line_str.number == g.number) (ap (λ (b : Bool). not (g.line_str.number == g.number) && b) (sym other) ∙ e))
-    by_table in_line_str in_str ends e =
-        let same : (g.str.number == g.str.number) ≡ true = eq-eqb g.str.number g.str.number refl in
-        absurd (no-both (g.str.number == g.number) (ap (λ (b : Bool). not (g.str.number == g.number) && not b) (sym same) ∙ e))
-
-paths-fields : (g : LineSource) (table : TextSection) (w : Width) (xs : List TextPlace) → TextsApart g → EachReads g w xs
-    → EachOf (IsPathField (texts_table g table) g.bytes) (text_fields g.number g.str.number table w xs)
-paths-fields g table w [] apart reads = tt
-paths-fields g table w (x ∷ xs) apart reads =
-    each-append (IsPathField (texts_table g table) g.bytes) (text_field g.number g.str.number table w x) (text_fields g.number g.str.number table w xs)
-    (path-field g table w x apart reads.0) (paths-fields g table w xs apart reads.1)
-
-lines-each : (g : LineSource) (table : TextSection) (p e : ℕ) (rs : List LineReading) → TextsApart g → TablesTo g p rs e
-    → EachOf (IsPathField (texts_table g table) g.bytes) (table_fields g.number g.str.number table (tables_read g rs))
-lines-each g table p e [] apart reads = tt
-lines-each g table p e (r ∷ rs) apart reads =
-    each-append (IsPathField (texts_table g table) g.bytes) (text_fields g.number g.str.number table r.header.width (paths_of (table_read g r)))
-    (table_fields g.number g.str.number table (tables_read g rs))
-    (paths-fields g table r.header.width (paths_of (table_read g r)) apart (table-paths g p r reads.0)) (lines-each g table r.header.end e rs apart reads.1)
-
-pub lines-fields : (g : LineSource) (table : TextSection) (p e : ℕ) (rs : List LineReading) → TextsApart g → TablesTo g p rs e
-    → ArePathFields (texts_table g table) g.bytes (table_fields g.number g.str.number table (tables_read g rs))
-lines-fields g table p e rs apart reads = record {
-  each = λ k d lt. each-get (IsPathField (texts_table g table) g.bytes) (table_fields g.number g.str.number table (tables_read g rs)) k d lt (lines-each g table p e rs apart reads);
-}

@@ -21,7 +21,7 @@ use Rattle.dw_lines.specs.ViewTables.{TablesFound, tables_read}
 use Rattle.dw_lines.proofs.ViewTableLaws.{source-none}
 use Rattle.dw_lines.proofs.ReadingLaws.{source-is}
 use Rattle.dw_meaning.proofs.LineSectionLaws.{no-tables}
-use Rattle.dw_rewrite.specs.ViewLines.{AllCanWrite, AllStandIn, LinesRefuse, LinesWritten, StandsIn, lines_known, table_fails}
+use Rattle.dw_rewrite.specs.NewLines.{AllCanWrite, AllStandIn, LinesRefuse, LinesWritten, StandsIn, lines_known, table_fails}
 use Rattle.dw_rewrite.proofs.LineReadLaws.{all-stand}
 
 -- a table that stands in a section of a number, by its own number

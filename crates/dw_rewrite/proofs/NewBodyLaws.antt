@@ -1,12 +1,11 @@
 -- The new bodies are those of the readings of debug data.
-use Rattle.std.proofs.Common.{◌≡◌, ℕ, suc, ◌+◌, ◌<◌, List, [], ◌∷◌, ◌++◌, length, get_or, Option, Some, None, refl, sym, ap, ◌∙◌, subst, arith, append_assoc}
+use Rattle.std.proofs.Common.{◌≡◌, ℕ, suc, ◌+◌, ◌<◌, List, [], ◌∷◌, ◌++◌, length, get_or, Option, Some, None, refl, sym, ap, ◌∙◌, arith, append_assoc}
 use Rattle.dw_base.specs.Cells.{bytes_of, plain_cells}
 use Rattle.dw_base.specs.DebugSections.{name_of}
-use Rattle.dw_base.specs.OffsetPieces.{OffsetState, ReadsOffsets, at_contribution, offsets_at}
+use Rattle.dw_base.specs.OffsetPieces.{OffsetState, ReadsOffsets}
 use Rattle.dw_base.specs.SectionTexts.{edited_with, mentions_with, slot_role}
 use Rattle.dw_base.specs.declared.debug_sections.DebugSection.TheVariants.{Names, StrOffsets}
-use Rattle.dw_base.proofs.PlainCellLaws.{IsPlain, bytes_of-plain, plain_cells-plain}
-use Rattle.dw_meaning.proofs.OffsetMoveLaws.{EachCells, cells-plain}
+use Rattle.dw_base.proofs.PlainCellLaws.{bytes_of-plain}
 use Rattle.dw_meaning.specs.DataOutput.{Body, cells_body, table_change, changes_of, names_after, offsets_after, unit_body, unit_bodies}
 use Rattle.dw_base.specs.DebugData.{DebugData, DataReadings, Around, around_of, path_slots, table_of, units_in, ReadsAll}
 use Rattle.dw_base.specs.Readings.{Reading, Readings, EachReading}
@@ -22,19 +21,25 @@ use Rattle.dw_base.specs.UnitStates.{UnitState, before_unit}
 use Rattle.dw_base.specs.ViewData.{debug_data, located, located_at}
 use Rattle.dw_meaning.proofs.DataKeptLaws.{EachPlain}
 use Rattle.dw_meaning.proofs.TextEditLaws.{PlainPiece}
-use Rattle.dw_rewrite.specs.SlotPaths.{kept_body, names_body, offset_fields, one_body, read_fields, slots_by, slots_read, slots_with}
-use Rattle.dw_rewrite.proofs.SlotWrittenLaws.{SlotsPlaced, line-fields, names-kept, no-offsets, slots-placed, slots_written, texts_by_slots}
-use Rattle.dw_rewrite.specs.Changes.{OffsetTable, texts_at, patched, start_table, with_all_known}
+use Rattle.dw_rewrite.specs.PushedBodies.{kept_body, names_body, one_body}
+use Rattle.dw_find.specs.SlotPaths.{offset_fields, read_fields, slots_by, slots_read, slots_with}
+use Rattle.dw_find.proofs.SlotPlaceLaws.{line-fields}
+use Rattle.dw_rewrite.proofs.SlotWrittenLaws.{names-kept, no-offsets, slots_written, texts_by_slots}
+use Rattle.dw_find.specs.Fields.{OffsetTable}
+use Rattle.dw_rewrite.specs.Changes.{texts_at, patched, start_table, with_all_known}
 use Rattle.dw_base.specs.declared.shared.Order.{Order}
-use Rattle.dw_rewrite.specs.NewTables.{offsets_of, offsets_in, plan_in, fields_of, info_of, section_texts_at, all_texts_at, IsSectionNoted, Growing, TableMade, change_in, section_after, body_after, bodies_after, section_known, bodies_known}
-use Rattle.dw_rewrite.specs.UnitPaths.{UnitPaths, path_fields, inline_paths, paths_in, paths_of, offset_table, inlined, start_fields}
-use Rattle.dw_rewrite.specs.declared.fields.PathField.{PathField}
+use Rattle.dw_find.specs.ViewFields.{offsets_of, offsets_in, fields_of, info_of}
+use Rattle.dw_rewrite.specs.NewTables.{plan_in, section_texts_at, all_texts_at, IsSectionNoted, Growing, TableMade, change_in, section_after, body_after, bodies_after, section_known, bodies_known}
+use Rattle.dw_find.specs.UnitPaths.{UnitPaths, path_fields, inline_paths, paths_in, paths_of, start_fields}
+use Rattle.dw_rewrite.specs.UnitsAfter.{offset_table, inlined}
+use Rattle.dw_find.specs.declared.fields.PathField.{PathField}
 use Rattle.dw_rewrite.proofs.ChangedLaws.{put_is_patched}
 use Rattle.dw_rewrite.proofs.EditedLaws.{texts_by_fields}
-use Rattle.dw_rewrite.proofs.PlaceValueLaws.{EachOf}
-use Rattle.dw_rewrite.proofs.PlacedLaws.{Placed, placed}
-use Rattle.dw_rewrite.proofs.SectionFactLaws.{own-section, own-bytes, own-plain}
+use Rattle.dw_find.proofs.PlaceValueLaws.{EachOf}
+use Rattle.dw_find.proofs.PlacedLaws.{Placed, placed}
+use Rattle.dw_find.proofs.SectionFactLaws.{own-section, own-bytes, own-plain}
 use Rattle.dw_rewrite.proofs.UnitWrittenLaws.{pieces_written, starts_by}
+use Rattle.dw_find.proofs.OffsetPlaceLaws.{offsets-of, offsets-placed, offsets-plain}
 
 -- the sections of a view have plain cells
 pub sections-plain : (v : View) (before zs : List UnitSection) → (debug_data v).units ≡ before ++ zs → EachPlain zs
@@ -98,14 +103,6 @@ same-slots : (table : TextSection) (i : ℕ) (d : DebugData) (rs : DataReadings)
 same-slots in_str i d rs = refl
 same-slots in_line_str i d rs = line-fields (path_slots (around_of d rs)) rs.offsets
 
-pub offsets-plain : (v : View) (o : Option ℕ) (xs : List (Piece OffsetState)) → ReadsOffsets v.order (plain_cells (located_at v o).bytes) xs → EachCells xs
-offsets-plain v o xs r = cells-plain xs (subst IsPlain (sym r.cells) (plain_cells-plain (located_at v o).bytes))
-
-pub offsets-placed : (v : View) (o : Option ℕ) (xs : List (Piece OffsetState)) → ReadsOffsets v.order (plain_cells (located_at v o).bytes) xs → SlotsPlaced (located_at v o).bytes 0 xs
-offsets-placed v o xs r =
-    slots-placed v.order (located_at v o).bytes (offsets_at (length (plain_cells (located_at v o).bytes)) 0 0 at_contribution) 0 xs refl r.chain
-    (ap bytes_of r.cells ∙ bytes_of-plain (located_at v o).bytes)
-
 slots-texts-by : (m : PathMap) (v : View) (rs : DataReadings) (table : TextSection) (ts : List (List ℕ)) (o : Option ℕ) → ReadsOffsets v.order (plain_cells (located_at v o).bytes) rs.offsets
     → texts_after (plan_in m v table) m ts (mentions_with (slot_role (path_slots (around_of (debug_data v) rs))) table (around_of (debug_data v) rs) rs.offsets)
     ≡ all_texts_at m v table ts (slots_by o (read_fields (debug_data v) rs))
@@ -117,11 +114,6 @@ slots-texts-by m v rs table ts (Some i) r =
     (offsets-placed v (Some i) rs.offsets r) (offsets-plain v (Some i) rs.offsets r)
     ∙ ap (λ (t : OffsetTable). texts_at (plan_in m v table) m t (section_bytes v i) ts (offset_fields table (path_slots (around_of (debug_data v) rs)) rs.offsets)) (same-offset_table (debug_data v) rs table)
     ∙ ap (texts_at (plan_in m v table) m (offsets_in v table) (section_bytes v i) ts) (same-slots table i (debug_data v) rs)
-
-pub offsets-of : (v : View) (xs : List (Piece OffsetState)) → ReadsOffsets (debug_data v).base.order (debug_data v).offsets.contents xs
-    → ReadsOffsets v.order (plain_cells (located_at v (section_named v (name_of StrOffsets))).bytes) xs
-unfolding debug_data located
-offsets-of v xs r = r
 
 pub slots-texts : (m : PathMap) (v : View) (rs : DataReadings) (table : TextSection) (ts : List (List ℕ)) → ReadsOffsets (debug_data v).base.order (debug_data v).offsets.contents rs.offsets
     → texts_after (plan_in m v table) m ts (mentions_with (slot_role (path_slots (around_of (debug_data v) rs))) table (around_of (debug_data v) rs) rs.offsets)

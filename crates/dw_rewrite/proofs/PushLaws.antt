@@ -8,10 +8,12 @@ use Rattle.dw_base.specs.Paths.{PathMap}
 use Rattle.dw_base.specs.declared.debug_sections.DebugSection.TheVariants.{Line, Names, StrOffsets}
 use Rattle.dw_base.specs.declared.fault.Fault.{Fault}
 use Rattle.dw_base.specs.declared.fault.Fault.TheVariants.{NoMemory}
-use Rattle.dw_rewrite.specs.NewTables.{AllHavePaths, AllRoomsFit, bodies_known}
-use Rattle.dw_rewrite.specs.SlotPaths.{count_of, kept_body, names_body, lines_count, one_body, pushed_bodies, slots_count}
-use Rattle.dw_rewrite.specs.Bodies.{without_lines}
-use Rattle.dw_rewrite.specs.UnitPaths.{UnitPaths}
+use Rattle.dw_find.specs.ViewFields.{AllHavePaths, AllRoomsFit}
+use Rattle.dw_rewrite.specs.NewTables.{bodies_known}
+use Rattle.dw_find.specs.SlotPaths.{count_of, lines_count}
+use Rattle.dw_rewrite.specs.PushedBodies.{kept_body, names_body, one_body, pushed_bodies, slots_count}
+use Rattle.dw_find.specs.FoundPaths.{without_lines}
+use Rattle.dw_find.specs.UnitPaths.{UnitPaths}
 
 -- how many sections of string offsets there are
 pub count-some : (v : View) (i : ℕ) → Some i ≡ section_named v (name_of StrOffsets) → 1 ≡ slots_count v

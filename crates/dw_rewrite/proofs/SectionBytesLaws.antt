@@ -15,19 +15,22 @@ use Rattle.dw_base.specs.declared.fault.Fault.TheVariants.{NoMemory, Refused}
 use Rattle.dw_base.specs.declared.fault.Refusal.{Refusal}
 use Rattle.dw_patch.specs.Patching.{PatchList, no_patches, with_patches}
 use Rattle.dw_patch.specs.declared.patches.Patch.{Patch}
-use Rattle.dw_rewrite.specs.Changes.{OffsetTable, AllApart, AreFree, ArePathFields, AreSet, AreStartFields, IsPathField, IsStartField, known_patches, offset_at, start_table, with_known, with_all_known}
-use Rattle.dw_rewrite.specs.InlineRooms.{grows, Grows, one}
-use Rattle.dw_rewrite.specs.NewTables.{as_table, offsets_in, fields_known, fields_of, info_of, HasPaths, AllRoomsFit, section_known, body_known, bodies_known}
-use Rattle.dw_rewrite.specs.TextPlaces.{InlinesFit}
-use Rattle.dw_rewrite.specs.UnitPaths.{UnitPaths, inline_text, inlined}
-use Rattle.dw_rewrite.specs.declared.fields.InlinePath.{InlinePath}
-use Rattle.dw_rewrite.specs.declared.fields.PathField.{PathField}
-use Rattle.dw_rewrite.specs.declared.tables.TextsOf.{TextsOf}
+use Rattle.dw_find.specs.Fields.{OffsetTable, AllApart, ArePathFields, AreStartFields, IsPathField, IsStartField, offset_at}
+use Rattle.dw_rewrite.specs.Changes.{AreFree, AreSet, known_patches, start_table, with_known, with_all_known}
+use Rattle.dw_find.specs.InlineRooms.{grows, Grows, one}
+use Rattle.dw_find.specs.ViewFields.{as_table, offsets_in, fields_of, info_of, HasPaths, AllRoomsFit}
+use Rattle.dw_rewrite.specs.NewTables.{fields_known, section_known, body_known, bodies_known}
+use Rattle.dw_find.specs.TextPlaces.{InlinesFit}
+use Rattle.dw_find.specs.UnitPaths.{UnitPaths, inline_text}
+use Rattle.dw_rewrite.specs.UnitsAfter.{inlined}
+use Rattle.dw_find.specs.declared.fields.InlinePath.{InlinePath}
+use Rattle.dw_find.specs.declared.fields.PathField.{PathField}
+use Rattle.dw_find.specs.declared.tables.TextsOf.{TextsOf}
 use Rattle.dw_rewrite.proofs.ChangedLaws.{length-with_known}
 use Rattle.dw_rewrite.proofs.FieldSetLaws.{all-put, apart-behind, apart-front, apart-skip, free-behind, free-first}
 use Rattle.dw_rewrite.proofs.GrowthLaws.{moved}
-use Rattle.dw_rewrite.proofs.PlaceValueLaws.{EachOf, each-get}
-use Rattle.dw_rewrite.proofs.SectionFactLaws.{FitsIn}
+use Rattle.dw_find.proofs.PlaceValueLaws.{EachOf, each-get}
+use Rattle.dw_find.proofs.SectionFactLaws.{FitsIn}
 
 -- fields keep the length of the bytes
 rest-fields : (o : OffsetTable) (info : List ℕ) (f : PathField) (fs : List PathField) → ArePathFields o info (f ∷ fs) → ArePathFields o info fs

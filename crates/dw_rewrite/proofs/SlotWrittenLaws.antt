@@ -1,16 +1,14 @@
 -- String offsets and name tables under a change of the tables of texts: the new texts and the new bytes are those that the fields of
 -- paths say, and name tables keep their bytes.
-use Rattle.std.specs.Prelude.{⊤}
-use Rattle.std.proofs.Common.{false, ◌≡◌, ℕ, ◌+◌, List, [], ◌∷◌, ◌++◌, length, drop, sym, ap, ◌∙◌, refl, subst, arith, append_assoc}
-use Rattle.std.proofs.Math.Seq.{drop-append_seam}
-use Rattle.std.proofs.lemmas.List.{length-append, drop-drop}
+use Rattle.std.proofs.Common.{false, ◌≡◌, ℕ, ◌+◌, List, [], ◌∷◌, ◌++◌, length, sym, ap, ◌∙◌, refl, subst, arith, append_assoc}
+use Rattle.std.proofs.lemmas.List.{length-append}
 use Rattle.dw_base.specs.Cells.{Cell, bytes_of}
 use Rattle.dw_base.specs.DebugData.{Around, table_of}
 use Rattle.dw_base.specs.Forms.{TextSection, in_str, in_line_str}
 use Rattle.dw_base.specs.NamePieces.{NameMode, at_table, at_string, at_rest, no_names, NameState}
-use Rattle.dw_base.specs.OffsetPieces.{OffsetMode, at_contribution, at_slot, no_offsets, OffsetState, past_offsets, offset_grammar, IsOffsetsHeader, FitsOffsets, ReadsOffsets}
+use Rattle.dw_base.specs.OffsetPieces.{OffsetMode, at_contribution, at_slot, no_offsets, OffsetState, IsOffsetsHeader, FitsOffsets, ReadsOffsets}
 use Rattle.dw_base.specs.Paths.{PathMap}
-use Rattle.dw_base.specs.Pieces.{Piece, Chain, joined}
+use Rattle.dw_base.specs.Pieces.{Piece, joined}
 use Rattle.dw_base.specs.Roles.{Role}
 use Rattle.dw_base.specs.SectionTexts.{edited_with, mentions_with, name_role, name_role_by, offset_role, slot_role}
 use Rattle.dw_base.specs.StringTables.{Mention, Plan, appending, texts_after, with_mention}
@@ -19,33 +17,15 @@ use Rattle.dw_base.specs.declared.shared.Order.{Order}
 use Rattle.dw_base.proofs.UnitEditLaws.{length-bytes_of}
 use Rattle.dw_base.proofs.UnitHeaderLaws.{bytes_of-append}
 use Rattle.dw_meaning.proofs.OffsetMoveLaws.{EachCells}
-use Rattle.dw_offsets.proofs.SlotPieceLaws.{place-next}
 use Rattle.dw_rewrite.specs.Changes.{texts_at}
-use Rattle.dw_rewrite.specs.SlotPaths.{offset_fields}
-use Rattle.dw_rewrite.specs.UnitPaths.{field_by, inline_by, offset_table, start_by}
-use Rattle.dw_rewrite.specs.declared.fields.InlinePath.{InlinePath}
-use Rattle.dw_rewrite.specs.declared.fields.PathField.{PathField}
-use Rattle.dw_rewrite.proofs.EditedLaws.{piece_texts, FieldsFrom, from-less, from-piece}
+use Rattle.dw_find.specs.SlotPaths.{offset_fields}
+use Rattle.dw_find.specs.UnitPaths.{field_by, inline_by}
+use Rattle.dw_rewrite.specs.UnitsAfter.{offset_table}
+use Rattle.dw_find.specs.declared.fields.InlinePath.{InlinePath}
+use Rattle.dw_find.specs.declared.fields.PathField.{PathField}
+use Rattle.dw_rewrite.proofs.EditedLaws.{piece_texts}
 use Rattle.dw_rewrite.proofs.UnitWrittenLaws.{length-edited, no_path-asks, piece_written, unit_by}
-
--- pieces of string offsets stand where their states say
-abbrev pub SlotsPlaced : List ℕ → ℕ → List (Piece OffsetState) → Type 0
-SlotsPlaced info place [] = ⊤
-SlotsPlaced info place (x ∷ xs) =
-    (x.state.place ≡ place) × (bytes_of x.cells ++ bytes_of (joined xs) ≡ drop place info) × SlotsPlaced info (place + length x.cells) xs
-
-pub slots-placed : (order : Order) (info : List ℕ) (s : OffsetState) (place : ℕ) (xs : List (Piece OffsetState)) → s.place ≡ place
-    → Chain (offset_grammar order) s xs → bytes_of (joined xs) ≡ drop place info → SlotsPlaced info place xs
-slots-placed order info s place [] at c e = tt
-slots-placed order info s place (x ∷ xs) at c e =
-    let here : x.state.place ≡ place = ap (λ (z : OffsetState). z.place) c.0 ∙ at in
-    let parts : bytes_of x.cells ++ bytes_of (joined xs) ≡ drop place info = sym (bytes_of-append x.cells (joined xs)) ∙ e in
-    let behind : bytes_of (joined xs) ≡ drop (place + length x.cells) info =
-    sym (drop-append_seam (bytes_of x.cells) (bytes_of (joined xs))) ∙ ap (λ (n : ℕ). drop n (bytes_of x.cells ++ bytes_of (joined xs))) (length-bytes_of x.cells)
-    ∙ ap (drop (length x.cells)) parts ∙ drop-drop (length x.cells) place info in
-    let next : (past_offsets x.state.mode order x.state x.cells).place ≡ place + length x.cells =
-    place-next x.state.mode order x.state x.cells c.1 ∙ ap (λ (i : ℕ). i + length x.cells) here in
-    (here, parts, slots-placed order info (past_offsets x.state.mode order x.state x.cells) (place + length x.cells) xs next c.2 behind)
+use Rattle.dw_find.proofs.SlotPlaceLaws.{SlotsPlaced, from-place, no-start}
 
 -- a section of no cells has no pieces
 pub no-offsets : (order : Order) (xs : List (Piece OffsetState)) → ReadsOffsets order [] xs → xs ≡ []
@@ -67,40 +47,16 @@ texts_by_slots table plan m around info ts place paths (x ∷ xs) is l plain =
     plain.0 l.1 (λ (us : List (List ℕ)). texts_by_slots table plan m around info us (place + length x.cells) paths xs is l.2 plain.1)
     ∙ ap (λ (i : ℕ). texts_at plan m (offset_table around table) info ts (field_by table (slot_role paths x.state) i (length x.cells) ++ offset_fields table paths xs)) (sym l.0)
 
--- no slot holds an offset into the other table
-line-field : (paths : List ℕ) (m : OffsetMode) (n place size : ℕ) → field_by in_line_str (offset_role paths m n) place size ≡ []
-line-field paths at_contribution n place size = refl
-line-field paths (at_slot w end) n place size = refl
-line-field paths no_offsets n place size = refl
-
-pub line-fields : (paths : List ℕ) (xs : List (Piece OffsetState)) → offset_fields in_line_str paths xs ≡ []
-line-fields paths [] = refl
-line-fields paths (x ∷ xs) =
-    ap (λ (fs : List PathField). fs ++ offset_fields in_line_str paths xs) (line-field paths x.state.mode x.state.slot x.state.place (length x.cells))
-    ∙ line-fields paths xs
-
 -- and none a path
 no-inline : (paths : List ℕ) (m : OffsetMode) (n place : ℕ) (p : List Cell) → inline_by (offset_role paths m n) place p ≡ []
 no-inline paths at_contribution n place p = refl
 no-inline paths (at_slot w end) n place p = refl
 no-inline paths no_offsets n place p = refl
 
-pub no-start : (paths : List ℕ) (m : OffsetMode) (n place size : ℕ) → start_by (offset_role paths m n) place size ≡ []
-no-start paths at_contribution n place size = refl
-no-start paths (at_slot w end) n place size = refl
-no-start paths no_offsets n place size = refl
-
 fits-inline : (paths : List ℕ) (m : OffsetMode) (n : ℕ) (map : PathMap) (p : List Cell) → InlineFitsBy (offset_role paths m n) map p
 fits-inline paths at_contribution n map p = tt
 fits-inline paths (at_slot w end) n map p = tt
 fits-inline paths no_offsets n map p = tt
-
-pub from-place : (table : TextSection) (info : List ℕ) (place : ℕ) (paths : List ℕ) (xs : List (Piece OffsetState)) → SlotsPlaced info place xs → FieldsFrom place (offset_fields table paths xs)
-from-place table info place paths [] l = tt
-from-place table info place paths (x ∷ xs) l =
-    subst (λ (i : ℕ). FieldsFrom place (field_by table (slot_role paths x.state) i (length x.cells) ++ offset_fields table paths xs)) (sym l.0)
-    (from-piece table (slot_role paths x.state) place (length x.cells) (offset_fields table paths xs)
-    (from-less place (place + length x.cells) (offset_fields table paths xs) (omega arith) (from-place table info (place + length x.cells) paths xs l.2)))
 
 -- what pieces become
 pub slots_written : (c : TableChanges) (a : Around) (info front : List ℕ) (place : ℕ) (paths : List ℕ) (xs : List (Piece OffsetState))

@@ -1,5 +1,5 @@
 -- New offsets in the fields of a unit section, and its paths mapped in their rooms, make the bytes of its edited pieces.
-use Rattle.std.proofs.Common.{Bool, true, false, ◌≡◌, ℕ, ◌+◌, ◌≤◌, ◌==◌, List, [], ◌∷◌, ◌++◌, length, take, drop, get_or, cond, Option, Some, None, sym, ap, ◌∙◌, refl, arith, append_assoc}
+use Rattle.std.proofs.Common.{Bool, true, false, ◌≡◌, ℕ, ◌+◌, ◌≤◌, List, [], ◌∷◌, ◌++◌, length, drop, get_or, cond, Option, Some, None, sym, ap, ◌∙◌, refl, arith, append_assoc}
 use Rattle.std.proofs.lemmas.List.{length-append, length-drop}
 use Rattle.dw_base.specs.Cells.{Cell, bytes_of}
 use Rattle.dw_base.specs.DebugData.{Around, line_table}
@@ -19,29 +19,16 @@ use Rattle.dw_base.proofs.PlainCellLaws.{IsPlain, length-with_offset, with_bytes
 use Rattle.dw_meaning.proofs.TextEditLaws.{PlainPiece}
 use Rattle.dw_base.proofs.UnitEditLaws.{length-bytes_of}
 use Rattle.dw_base.proofs.UnitHeaderLaws.{bytes_of-append}
-use Rattle.dw_rewrite.specs.Changes.{offset_at, patched, patched_at, start_known, start_table, with_known, with_all_known}
-use Rattle.dw_rewrite.specs.UnitPaths.{field_by, path_fields, inline_by, inline_paths, offset_table, inlined_at, inlined, start_by, start_fields}
-use Rattle.dw_rewrite.specs.declared.fields.InlinePath.{InlinePath}
-use Rattle.dw_rewrite.specs.declared.fields.PathField.{PathField}
-use Rattle.dw_rewrite.proofs.PlacedLaws.{Placed}
-use Rattle.dw_rewrite.proofs.EditedLaws.{patched_turns, inlined_turns, start_turns, Behind, known-behind, patched-behind, FieldsFrom, from-place, from-starts, swap}
-
--- a text is the front of its bytes
-pub text-length : (bs : List ℕ) → length (text bs) ≤ length bs
-text-length [] = omega arith
-text-length (b ∷ bs) = by_nul (b == 0) (text-length bs)
-  where
-    by_nul : (z : Bool) → length (text bs) ≤ length bs → length (cond z [] (b ∷ text bs)) ≤ length (b ∷ bs)
-    by_nul true h = omega arith
-    by_nul false h = omega (arith, h)
-
-pub text-front : (bs : List ℕ) → text bs ≡ take (length (text bs)) bs
-text-front [] = refl
-text-front (b ∷ bs) = by_nul (b == 0) (text-front bs)
-  where
-    by_nul : (z : Bool) → text bs ≡ take (length (text bs)) bs → cond z [] (b ∷ text bs) ≡ take (length (cond z [] (b ∷ text bs))) (b ∷ bs)
-    by_nul true h = refl
-    by_nul false h = ap (λ (r : List ℕ). b ∷ r) h
+use Rattle.dw_find.specs.Fields.{offset_at}
+use Rattle.dw_rewrite.specs.Changes.{patched, patched_at, start_known, start_table, with_known, with_all_known}
+use Rattle.dw_find.specs.UnitPaths.{field_by, path_fields, inline_by, inline_paths, start_by, start_fields}
+use Rattle.dw_rewrite.specs.UnitsAfter.{offset_table, inlined_at, inlined}
+use Rattle.dw_find.specs.declared.fields.InlinePath.{InlinePath}
+use Rattle.dw_find.specs.declared.fields.PathField.{PathField}
+use Rattle.dw_find.proofs.PlacedLaws.{Placed}
+use Rattle.dw_rewrite.proofs.EditedLaws.{patched_turns, inlined_turns, start_turns, Behind, known-behind, patched-behind, swap}
+use Rattle.dw_find.proofs.PieceFieldLaws.{FieldsFrom, from-place, from-starts}
+use Rattle.dw_find.proofs.InlineTextLaws.{text-front, text-length}
 
 -- an edited piece is as long
 length-asked : (asks : Bool) (o : Order) (p : List Cell) (x : ℕ) → IsPlain p → length (cond asks (with_offset o p x) p) ≡ length p

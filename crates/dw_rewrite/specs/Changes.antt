@@ -1,28 +1,20 @@
 -- What becomes of the bytes of a unit section and of a table of texts, by the fields that hold the offsets of paths into it.
-use Rattle.std.specs.Prelude.{true, ◌≡◌, ◌≢◌, ◌⊎◌, ℕ, ◌+◌, ◌^◌, ◌<◌, ◌≤◌, List, length, get_or, [], ◌∷◌, if◌then◌else◌, Option, Some, None, is_some, ◌++◌, ⊤}
+use Rattle.std.specs.Prelude.{true, ◌≡◌, ◌≢◌, ℕ, ◌+◌, ◌^◌, ◌<◌, List, length, get_or, [], ◌∷◌, if◌then◌else◌, Option, Some, None, is_some, ◌++◌, ⊤}
 use Rattle.dw_base.specs.DebugData.{start_number}
-use Rattle.dw_base.specs.Numbers.{spelled, with_number}
+use Rattle.dw_base.specs.Numbers.{with_number}
 use Rattle.dw_base.specs.Paths.{PathMap}
 use Rattle.dw_base.specs.StringTables.{Mention, Plan, TextTable, appending, with_mention, with_text, place_in, new_place, new_text}
 use Rattle.dw_base.specs.TextChanges.{TableChange}
-use Rattle.dw_base.specs.Texts.{text_in, ends_in, is_in}
+use Rattle.dw_base.specs.Texts.{text_in, is_in}
 use Rattle.dw_base.specs.declared.shared.Order.{Order}
 use Rattle.dw_patch.specs.Patching.{IsFree, PatchList}
 use Rattle.dw_patch.specs.declared.patches.Patch.{Patch}
-use Rattle.dw_rewrite.specs.declared.fields.PathField.{PathField}
-
--- a table of texts, and the byte order in which fields hold offsets into it
-pub record OffsetTable : Type 0 where
-  pub order : Order
-  pub bytes : List ℕ
+use Rattle.dw_find.specs.declared.fields.PathField.{PathField}
+use Rattle.dw_find.specs.Fields.{OffsetTable, offset_at}
 
 -- the mention of the path at an offset of the table
 abbrev pub path_of : OffsetTable → ℕ → Mention
 path_of table offset = record { path = true; text = text_in table.bytes offset }
-
--- the offset in a field
-abbrev pub offset_at : OffsetTable → List ℕ → PathField → ℕ
-offset_at table info f = spelled table.order info f.at f.size
 
 -- the mention of the path whose offset a field holds
 abbrev pub path_at : OffsetTable → List ℕ → PathField → Mention
@@ -71,16 +63,6 @@ pub record Adds (old new : ℕ → Option ℕ) (offset place : ℕ) : Type 0 whe
 abbrev pub place_after : TextTable → List ℕ → ℕ
 place_after table t = length table.kept + place_in (with_text table.texts t) t
 
--- a field holds the offset of a path: it has the size of an offset and lies in the section, and the text ends in the table
-pub record IsPathField (table : OffsetTable) (info : List ℕ) (f : PathField) : Type 0 where
-  pub sized : (f.size ≡ 4) ⊎ (f.size ≡ 8)
-  pub inside : f.at + f.size ≤ length info
-  pub ends : ends_in table.bytes (offset_at table info f) ≡ true
-
--- each of these fields does
-pub record ArePathFields (table : OffsetTable) (info : List ℕ) (fields : List PathField) : Type 0 where
-  pub each : (k : ℕ) (d : PathField) → k < length fields → IsPathField table info (get_or fields k d)
-
 -- what becomes of the table for the paths of these fields
 abbrev pub change_at : PathMap → OffsetTable → List (List ℕ) → TableChange
 change_at m table texts = record { plan = appending m table.bytes; texts = texts }
@@ -113,32 +95,9 @@ new_start news (Some k) = Some (get_or news k 0)
 abbrev pub start_known : List ℕ → List ℕ → ℕ → Option ℕ
 start_known olds news n = new_start news (start_number 0 olds n)
 
--- a field that can say where a line table starts lies in the section
-pub record IsStartField (info : List ℕ) (f : PathField) : Type 0 where
-  pub sized : (f.size ≡ 4) ⊎ (f.size ≡ 8)
-  pub inside : f.at + f.size ≤ length info
-
--- each of these does
-pub record AreStartFields (info : List ℕ) (fields : List PathField) : Type 0 where
-  pub each : (k : ℕ) (d : PathField) → k < length fields → IsStartField info (get_or fields k d)
-
 -- the new places of the paths of these fields are noted
 pub record AreNoted (plan : Plan) (table : OffsetTable) (info : List ℕ) (fields : List PathField) (count : ℕ) (known : ℕ → Option ℕ) : Type 0 where
   pub each : (k : ℕ) (d : PathField) → k < count → k < length fields → IsNoted plan table known (offset_at table info (get_or fields k d))
-
--- two fields have no byte in common
-abbrev pub AreApart : PathField → PathField → Type 0
-AreApart f g = (g.at + g.size ≤ f.at) ⊎ (f.at + f.size ≤ g.at)
-
--- a field has none in common with any of these
-abbrev pub IsApartFrom : PathField → List PathField → Type 0
-IsApartFrom f [] = ⊤
-IsApartFrom f (g ∷ gs) = AreApart f g × IsApartFrom f gs
-
--- no two of these have one in common
-abbrev pub AllApart : List PathField → Type 0
-AllApart [] = ⊤
-AllApart (f ∷ fs) = IsApartFrom f fs × AllApart fs
 
 -- the patch of a field, where a new offset is known
 abbrev pub patch_by : PathField → Option ℕ → List Patch

@@ -13,13 +13,14 @@ ghost use Rattle.dw_base.specs.Refusals.{Blames};
 ghost use Rattle.dw_base.specs.StringTables.{appending, table_bytes};
 ghost use Rattle.dw_base.specs.declared.fault.Fault.TheVariants.{NoMemory};
 ghost use Rattle.dw_patch.specs.Patching.{IsFree};
-ghost use Rattle.dw_rewrite.specs.Changes.{AllApart, AllFit, AreFree, AreNoted, ArePathFields, AreSet, AreStartFields, IsPathField, Knows, Remembers, known_patches, offset_at, patch_by, start_table, texts_at};
-ghost use Rattle.dw_rewrite.specs.LineStarts.{known_starts};
+ghost use Rattle.dw_find.specs.Fields.{AllApart, ArePathFields, AreStartFields, IsPathField, offset_at};
+ghost use Rattle.dw_rewrite.specs.Changes.{AllFit, AreFree, AreNoted, AreSet, Knows, Remembers, known_patches, patch_by, start_table, texts_at};
+ghost use Rattle.dw_rewrite.specs.NewStarts.{known_starts};
 
-use crate::fields::PathField;
 use crate::known::{note_path, offset_in};
-use crate::starts::{NewStarts, start_in};
+use crate::starts::NewStarts;
 use dw_base::{Fault, Order};
+use dw_find::{PathField, start_in};
 use dw_patch::{NewPlace, Patches};
 use dw_paths::Maps;
 use dw_strings::Pool;

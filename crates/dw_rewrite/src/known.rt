@@ -2,7 +2,7 @@
 //!
 //! Each offset is looked at once: a path's text is read, mapped and added where it is first met.
 
-ghost use Rattle.std.specs.Prelude.{◌≡◌, ◌+◌, ◌≤◌, true, false, length, OnOk, IfErr};
+ghost use Rattle.std.specs.Prelude.{◌≡◌, ◌≤◌, true, length, OnOk, IfErr};
 ghost use Rattle.std.specs.HashMap.{get};
 ghost use Rattle.std.specs.Prelude.{nat_eq};
 ghost use Rattle.dw_base.specs.Layout.{output_limit};
@@ -11,12 +11,13 @@ ghost use Rattle.dw_base.specs.Paths.{mapped_path};
 ghost use Rattle.dw_base.specs.Refusals.{Blames};
 ghost use Rattle.dw_base.specs.StringTables.{appending, table_bytes, with_added, with_mention};
 ghost use Rattle.dw_base.specs.Texts.{ends_in, text_in};
-ghost use Rattle.dw_rewrite.specs.Changes.{Adds, IsNoted, IsPathField, Knows, Remembers, offset_at, path_at, place_after};
+ghost use Rattle.dw_rewrite.specs.Changes.{Adds, IsNoted, Knows, Remembers, path_at, place_after};
+ghost use Rattle.dw_find.specs.Fields.{IsPathField, offset_at};
 
 use crate::asks::asks;
-use crate::fields::PathField;
 use crate::refusal::too_large;
 use dw_base::{Fault, OUTPUT_LIMIT, Order, number_in};
+use dw_find::PathField;
 use dw_paths::{Maps, map_path};
 use dw_strings::{Pool, text_at};
 use std::alloc::Global;

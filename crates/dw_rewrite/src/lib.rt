@@ -18,24 +18,17 @@
 //! ```
 #![tactic(auto)]
 
-mod all_sections;
 mod asks;
 mod bodies;
 mod change;
-mod fields;
 mod file;
-mod found;
 mod inline;
 mod judge;
 mod known;
 mod lines;
 mod new_sections;
 mod refusal;
-mod sections;
-mod slots;
 mod starts;
 mod tables;
-mod texts;
-mod units;
 
 pub use file::rewrite;

@@ -2,67 +2,22 @@
 //!
 //! Read first: `specs/NewTables.antt`.
 
-ghost use Rattle.std.specs.Prelude.{◌≡◌, ◌^◌, ◌≤◌, length, nat_eq, IfErr, IfOk, OnOk, []};
+ghost use Rattle.std.specs.Prelude.{◌≡◌, length, nat_eq, IfErr, IfOk, OnOk, []};
 ghost use Rattle.std.specs.HashMap.{get};
 ghost use Rattle.dw_base.specs.LayoutFails.{TooLong};
 ghost use Rattle.dw_base.specs.Refusals.{Blames};
 ghost use Rattle.dw_base.specs.StringTables.{table_bytes};
-ghost use Rattle.dw_base.specs.ViewData.{debug_data};
-ghost use Rattle.dw_rewrite.specs.NewTables.{AllHaveFields, GrownBy, Growing, HasFields, LongTable, TableMade, all_texts_at, as_table, fault_at, fields_of, offsets_in, section_of, section_texts_at, table_number, table_with};
+ghost use Rattle.dw_find.specs.ViewFields.{AllHaveFields, HasFields, as_table, fields_of, offsets_in, table_number};
+ghost use Rattle.dw_rewrite.specs.NewTables.{GrownBy, Growing, LongTable, TableMade, all_texts_at, fault_at, section_texts_at, table_with};
 
 use crate::change::note_fields;
-use crate::fields::PathField;
-use crate::found::UnitPaths;
-use dw_base::{DebugSection, Fault, Refusal};
+use dw_base::{Fault, Refusal};
+use dw_find::{PathField, TextsOf, UnitPaths, table_number, table_texts};
 use dw_paths::Maps;
 use dw_strings::Pool;
 use dw_view::View;
 use std::alloc::Global;
 use std::collections::HashMap;
-
-/// A table of texts.
-#[derive(Clone, Copy)]
-pub(crate) enum TextsOf {
-    /// `.debug_str`.
-    Str,
-    /// `.debug_line_str`.
-    LineStr,
-}
-
-impl TextsOf {
-    /// The section that it is.
-    fn section(self) -> DebugSection
-        ensures { result ≡ section_of self }
-    {
-        match self {
-            TextsOf::Str => DebugSection::Str,
-            TextsOf::LineStr => DebugSection::LineStr,
-        }
-    }
-}
-
-/// The number of the section of a table of texts; 0 where it isn't there.
-#[tactic(auto, using(crate::proofs::TableLaws::located_rules))]
-pub(crate) fn table_number(view: &View, texts: TextsOf) -> u32
-    ensures { result ≡ table_number (debug_data view.now) (as_table texts) }
-{
-    match view.first(texts.section()) {
-        Some(section) => section,
-        None => 0,
-    }
-}
-
-/// Its bytes; none where it isn't there.
-#[tactic(auto, using(crate::proofs::TableLaws::located_rules))]
-pub(crate) fn table_texts<'a>(view: &'a View, texts: TextsOf) -> &'a [u8]
-    ensures bytes { result.now ≡ (offsets_in view.now (as_table texts)).bytes }
-    ensures small { length result.now ≤ 2 ^ 31 }
-{
-    match view.first(texts.section()) {
-        Some(section) => view.bytes(section),
-        None => b"",
-    }
-}
 
 /// The fields of paths' offsets into a table.
 pub(crate) fn fields_of(paths: &UnitPaths, texts: TextsOf) -> &[PathField]

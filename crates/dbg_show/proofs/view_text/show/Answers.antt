@@ -3,4 +3,4 @@ use Rattle.dbg_show.proofs.ReadLaws.{none-refuses}
 use Rattle.dbg_show.proofs.view_text.show.Goals as goal
 
 pub returns-clause-none : goal.returns-clause-none
-returns-clause-none g c = none-refuses c.write_tables.result c.args.view.now c.in_ok-tables.tables.items c.in_ok-pass_all.ensures.read c.in_ok-tables.ensures.read
+returns-clause-none g c = none-refuses c.write_tables.result c.args.view.now c.in_ok-tables.tables.items c.in_ok-tables.ensures.read

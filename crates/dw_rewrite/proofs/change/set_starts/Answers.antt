@@ -2,7 +2,7 @@
 use Rattle.std.proofs.Common.{ℕ, ap, ◌∙◌, arith}
 use Rattle.std.proofs.lemmas.List.{get_or_default}
 use Rattle.dw_rewrite.specs.Changes.{start_table}
-use Rattle.dw_rewrite.specs.LineStarts.{known_starts}
+use Rattle.dw_rewrite.specs.NewStarts.{known_starts}
 use Rattle.dw_rewrite.proofs.FieldSetLaws.{pass-free, pass-more}
 use Rattle.dw_rewrite.proofs.change.set_starts.Goals as goal
 

@@ -1,5 +1,5 @@
 use Rattle.dw_rewrite.specs.Changes.{start_table}
-use Rattle.dw_rewrite.specs.LineStarts.{known_starts}
+use Rattle.dw_rewrite.specs.NewStarts.{known_starts}
 use Rattle.dw_rewrite.proofs.FieldSetLaws.{SetPass}
 use Rattle.dw_rewrite.proofs.change.set_starts.Given as goal
 

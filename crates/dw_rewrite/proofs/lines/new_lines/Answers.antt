@@ -4,7 +4,7 @@ use Rattle.std.specs.HashMap.{get}
 use Rattle.std.specs.Prelude.{nat_eq}
 use Rattle.dw_base.specs.LineSources.{LineSource}
 use Rattle.dw_lines.proofs.ReadingLaws.{source-is}
-use Rattle.dw_rewrite.specs.ViewLines.{LinesWritten}
+use Rattle.dw_rewrite.specs.NewLines.{LinesWritten}
 use Rattle.dw_rewrite.proofs.LineWriteLaws.{none-written}
 use Rattle.dw_rewrite.proofs.lines.new_lines.Goals as goal
 

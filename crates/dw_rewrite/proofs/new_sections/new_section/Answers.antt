@@ -3,9 +3,9 @@ use Rattle.std.proofs.Common.{ap, ◌∙◌, sym, length}
 use Rattle.std.specs.HashMap.{get}
 use Rattle.std.specs.Prelude.{nat_eq}
 use Rattle.std.proofs.lemmas.List.{with_items_is}
-use Rattle.dw_rewrite.specs.LineStarts.{known_starts}
-use Rattle.dw_rewrite.specs.NewTables.{info_of}
-use Rattle.dw_rewrite.specs.UnitPaths.{UnitPaths}
+use Rattle.dw_rewrite.specs.NewStarts.{known_starts}
+use Rattle.dw_find.specs.ViewFields.{info_of}
+use Rattle.dw_find.specs.UnitPaths.{UnitPaths}
 use Rattle.dw_rewrite.proofs.SectionBytesLaws.{body-is}
 use Rattle.dw_rewrite.proofs.new_sections.new_section.Goals as goal
 

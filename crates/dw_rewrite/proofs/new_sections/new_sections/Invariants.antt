@@ -1,7 +1,7 @@
 use Rattle.std.proofs.Common.{◌≡◌, ◌++◌, drop}
 use Rattle.std.specs.HashMap.{get}
 use Rattle.std.specs.Prelude.{nat_eq}
-use Rattle.dw_rewrite.specs.LineStarts.{known_starts}
+use Rattle.dw_rewrite.specs.NewStarts.{known_starts}
 use Rattle.dw_rewrite.specs.NewTables.{bodies_known}
 use Rattle.dw_rewrite.proofs.new_sections.new_sections.Given as goal
 

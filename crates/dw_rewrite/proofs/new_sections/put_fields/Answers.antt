@@ -3,9 +3,9 @@ use Rattle.std.proofs.Common.{ap, ◌∙◌, length}
 use Rattle.std.specs.HashMap.{get}
 use Rattle.std.specs.Prelude.{nat_eq}
 use Rattle.dw_patch.specs.Patching.{PatchList}
-use Rattle.dw_rewrite.specs.LineStarts.{known_starts}
-use Rattle.dw_rewrite.specs.NewTables.{info_of}
-use Rattle.dw_rewrite.specs.UnitPaths.{UnitPaths}
+use Rattle.dw_rewrite.specs.NewStarts.{known_starts}
+use Rattle.dw_find.specs.ViewFields.{info_of}
+use Rattle.dw_find.specs.UnitPaths.{UnitPaths}
 use Rattle.dw_rewrite.proofs.SectionBytesLaws.{fields-long, fields-put, line-free, none-free, start-free}
 use Rattle.dw_rewrite.proofs.new_sections.put_fields.Goals as goal
 

@@ -2,7 +2,7 @@
 use Rattle.std.proofs.Common.{ap, ◌∙◌}
 use Rattle.std.specs.HashMap.{get}
 use Rattle.std.specs.Prelude.{nat_eq}
-use Rattle.dw_rewrite.specs.NewTables.{info_of}
+use Rattle.dw_find.specs.ViewFields.{info_of}
 use Rattle.dw_rewrite.proofs.GrowthLaws.{same-offsets, section-fields}
 use Rattle.dw_rewrite.proofs.SectionBytesLaws.{fields-apart, fields-free, section-set}
 use Rattle.dw_rewrite.proofs.new_sections.set_section.Goals as goal

@@ -1,8 +1,8 @@
 -- The fields as the code has them.
 use Rattle.std.proofs.Common.{ap, ◌∙◌}
-use Rattle.dw_rewrite.specs.LineStarts.{known_starts}
-use Rattle.dw_rewrite.specs.NewTables.{info_of}
-use Rattle.dw_rewrite.specs.UnitPaths.{UnitPaths}
+use Rattle.dw_rewrite.specs.NewStarts.{known_starts}
+use Rattle.dw_find.specs.ViewFields.{info_of}
+use Rattle.dw_find.specs.UnitPaths.{UnitPaths}
 use Rattle.dw_rewrite.proofs.SectionBytesLaws.{starts-apart, starts-fields, starts-free, starts-set}
 use Rattle.dw_rewrite.proofs.new_sections.set_section_starts.Goals as goal
 

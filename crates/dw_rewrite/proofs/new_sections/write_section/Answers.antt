@@ -2,9 +2,9 @@
 use Rattle.std.proofs.Common.{ap, ◌∙◌}
 use Rattle.std.specs.HashMap.{get}
 use Rattle.std.specs.Prelude.{nat_eq}
-use Rattle.dw_rewrite.specs.LineStarts.{known_starts}
-use Rattle.dw_rewrite.specs.NewTables.{info_of}
-use Rattle.dw_rewrite.specs.UnitPaths.{UnitPaths}
+use Rattle.dw_rewrite.specs.NewStarts.{known_starts}
+use Rattle.dw_find.specs.ViewFields.{info_of}
+use Rattle.dw_find.specs.UnitPaths.{UnitPaths}
 use Rattle.dw_rewrite.proofs.SectionBytesLaws.{section-written}
 use Rattle.dw_rewrite.proofs.new_sections.write_section.Goals as goal
 

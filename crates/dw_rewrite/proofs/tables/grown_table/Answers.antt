@@ -1,7 +1,7 @@
 -- What is known of a section, one more, and a table that is too long.
 use Rattle.std.proofs.Common.{arith}
 use Rattle.std.proofs.lemmas.Result.{err_from_is_err_and}
-use Rattle.dw_rewrite.specs.NewTables.{as_table}
+use Rattle.dw_find.specs.ViewFields.{as_table}
 use Rattle.dw_rewrite.proofs.GrowthLaws.{fields-at, pass-more, pass-refused}
 use Rattle.dw_rewrite.proofs.tables.grown_table.Goals as goal
 

@@ -1,6 +1,6 @@
 use Rattle.std.specs.HashMap.{get}
 use Rattle.std.specs.Prelude.{nat_eq}
-use Rattle.dw_rewrite.specs.NewTables.{as_table}
+use Rattle.dw_find.specs.ViewFields.{as_table}
 use Rattle.dw_rewrite.proofs.GrowthLaws.{TablePass}
 use Rattle.dw_rewrite.proofs.tables.grown_table.Given as goal
 

@@ -1,0 +1,406 @@
+-- From the places of texts in units to the readings of debug data, and what they say of paths.
+use Rattle.std.proofs.Common.{Bool, true, false, ◌≡◌, ℕ, ◌+◌, List, [], ◌∷◌, ◌++◌, length, take, drop, cond, IsTrue, Option, Some, None, refl, sym, ap, ◌∙◌, subst, arith, append_assoc, append-nil}
+use Rattle.std.specs.Bool.{⊤}
+use Rattle.std.proofs.Math.Seq.{take-append_seam}
+use Rattle.std.proofs.lemmas.List.{take-append-le}
+use Rattle.dw_base.specs.Cells.{Cell, bytes_of, cells_at, located_cells, offset_of}
+use Rattle.dw_base.specs.DebugData.{DebugData, DataReadings, around_of, start_number, units_in, ReadsAll}
+use Rattle.dw_base.specs.Readings.{Reading, Readings, EachReading}
+use Rattle.dw_base.specs.Forms.{TextSection, in_str, in_line_str, ValueKind, number_of, leb_number, inline_text as inline_kind, text_offset, kind_in}
+use Rattle.dw_base.specs.InlinePaths.{inline_fits}
+use Rattle.dw_base.specs.Numbers.{spelled}
+use Rattle.dw_base.specs.Paths.{PathMap}
+use Rattle.dw_base.specs.Pieces.{Piece, joined, Chain, EachPiece}
+use Rattle.dw_base.specs.Roles.{Role, fixed, offset, inline_path, line_start, role_of, role_of_kind, role_of_mode, Use, use_of, is_line_start, is_path, is_path_use}
+use Rattle.dw_base.specs.TableStarts.{has_start_form, HasStartForm, start_form_by, start_form_in}
+use Rattle.dw_base.specs.LineMeanings.{is_there}
+use Rattle.dw_base.specs.LineReadings.{table_starts}
+use Rattle.dw_base.specs.TextChanges.{NamesTextBy, NamesText, InlineFitsBy, InlineFits}
+use Rattle.dw_base.specs.TextIndexes.{is_base}
+use Rattle.dw_base.specs.Texts.{text, text_in}
+use Rattle.dw_base.specs.UnitHeaders.{UnitBase, UnitSection}
+use Rattle.dw_base.specs.UnitPieces.{IsValue, FitsKind, FitsMode, ReadsUnits, unit_grammar}
+use Rattle.dw_base.specs.UnitStates.{Mode, at_header, at_code, at_values, at_chosen, stuck, UnitState, before_unit, code_value}
+use Rattle.dw_base.specs.Values.{value_of}
+use Rattle.dw_base.specs.declared.shared.Order.{Order}
+use Rattle.dw_base.specs.declared.values.Spec.{Spec}
+use Rattle.dw_base.specs.declared.values.ValueClass.{ValueClass}
+use Rattle.dw_base.specs.declared.values.ValueClass.TheVariants.{Number, StrIndex, SecOffset}
+use Rattle.dw_meaning.proofs.TextEditLaws.{chosen-fits}
+use Rattle.dw_base.proofs.UnitHeaderLaws.{bytes_of-append}
+use Rattle.dw_meaning.proofs.ScanPieceLaws.{bytes_of-drop}
+use Rattle.dw_find.specs.TextPlaces.{TextPlace, Indexed, no_start, unit_base, text_index, place_of, indexed_at, indexed_kind, indexed_in, places_in, PlaceNames, PlacesName, fields_in, inline_at, inline_in, paths_by, SectionSays, AllPlaced, AllStarts, StartsNamed, InlinesFit, AllFitRooms, stray_at, stray_in, starts_in}
+use Rattle.dw_find.specs.UnitPaths.{UnitPaths, field_by, path_fields, inline_by, inline_paths, paths_in, paths_of, inline_text, start_by, start_fields, stray_among}
+use Rattle.dw_find.specs.declared.fields.InlinePath.{InlinePath}
+use Rattle.dw_find.specs.declared.fields.PathField.{PathField}
+use Rattle.dw_find.proofs.PlacedLaws.{PlacedCells, placed-cells}
+use Rattle.dw_find.proofs.SectionRunLaws.{PlacedPieces, section-placed}
+use Rattle.dw_find.proofs.InlineTextLaws.{text-length, text-front}
+use Rattle.dw_find.proofs.ValuePlaceLaws.{text-fields}
+
+-- the fields of places, and of more of them
+pub fields-append : (table : TextSection) (ts us : List TextPlace) → fields_in table (ts ++ us) ≡ fields_in table ts ++ fields_in table us
+fields-append table [] us = refl
+fields-append table (t ∷ ts) us =
+    ap (λ (fs : List PathField). field_by table t.role t.at t.len ++ fs) (fields-append table ts us)
+    ∙ sym (append_assoc (field_by table t.role t.at t.len) (fields_in table ts) (fields_in table us))
+
+pub inline-append : (ts us : List TextPlace) → inline_in (ts ++ us) ≡ inline_in ts ++ inline_in us
+inline-append [] us = refl
+inline-append (t ∷ ts) us =
+    ap (λ (ps : List InlinePath). inline_at t.role t.at t.len ++ ps) (inline-append ts us)
+    ∙ sym (append_assoc (inline_at t.role t.at t.len) (inline_in ts) (inline_in us))
+
+-- paths of parts
+abbrev pub paths_with : ℕ → List PathField → List PathField → List InlinePath → List PathField → Option ℕ → UnitPaths
+paths_with number str line_str inline starts stray =
+    record { number = number; str = str; line_str = line_str; inline = inline; starts = starts; stray = stray }
+
+pub paths-same : (n : ℕ) (s1 s2 l1 l2 : List PathField) (i1 i2 : List InlinePath) (f1 f2 : List PathField) (o1 o2 : Option ℕ) → s1 ≡ s2 → l1 ≡ l2 → i1 ≡ i2 → f1 ≡ f2 → o1 ≡ o2
+    → paths_with n s1 l1 i1 f1 o1 ≡ paths_with n s2 l2 i2 f2 o2
+paths-same n s1 s2 l1 l2 i1 i2 f1 f2 o1 o2 s l i f o =
+    ap (λ (x : List PathField). paths_with n x l1 i1 f1 o1) s ∙ ap (λ (x : List PathField). paths_with n s2 x i1 f1 o1) l
+    ∙ ap (λ (x : List InlinePath). paths_with n s2 l2 x f1 o1) i ∙ ap (λ (x : List PathField). paths_with n s2 l2 i2 x o1) f
+    ∙ ap (λ (x : Option ℕ). paths_with n s2 l2 i2 f2 x) o
+
+-- the field of one place
+field-one : (table : TextSection) (r : Role) (at len : ℕ) → fields_in table (place_of r at len) ≡ field_by table r at len
+field-one in_str fixed at len = refl
+field-one in_line_str fixed at len = refl
+field-one table (offset t path) at len = append-nil (field_by table (offset t path) at len)
+field-one table inline_path at len = append-nil (field_by table inline_path at len)
+field-one table line_start at len = append-nil (field_by table line_start at len)
+
+inline-one : (r : Role) (at len : ℕ) → inline_in (place_of r at len) ≡ inline_at r at len
+inline-one fixed at len = refl
+inline-one (offset t path) at len = refl
+inline-one inline_path at len = refl
+inline-one line_start at len = refl
+
+-- what a piece says that stays is no text that an edit may change
+data IsIndexed : List TextPlace → Type 0 where
+  none_indexed : IsIndexed []
+  more_indexed : (at : ℕ) (i : Indexed) (ts : List TextPlace) → IsIndexed ts → IsIndexed (record { role = fixed; at = at; len = 0; says = i } ∷ ts)
+
+one_indexed : (at : ℕ) (i : Indexed) → IsIndexed (indexed_at at i)
+one_indexed at i = more_indexed at i [] none_indexed
+
+both-indexed : (ts us : List TextPlace) → IsIndexed ts → IsIndexed us → IsIndexed (ts ++ us)
+both-indexed ts us none_indexed h = h
+both-indexed ts us (more_indexed at i rest k) h = more_indexed at i (rest ++ us) (both-indexed rest us k h)
+
+kind-indexed : (k : ValueKind) (path base : Bool) (order : Order) (at : ℕ) (p : List Cell) → IsIndexed (indexed_kind k path base order at p)
+kind-indexed (number_of class n) path base order at p = by_class class base
+  where
+    by_class : (c : ValueClass) (b : Bool) → IsIndexed (indexed_kind (number_of c n) path b order at p)
+    by_class StrIndex b = one_indexed at (text_index path (spelled order (bytes_of p) 0 (length p)))
+    by_class Number true = one_indexed at (unit_base (spelled order (bytes_of p) 0 (length p)))
+    by_class Number false = none_indexed
+    by_class SecOffset true = one_indexed at (unit_base (spelled order (bytes_of p) 0 (length p)))
+    by_class SecOffset false = none_indexed
+    by_class c b = none_indexed
+kind-indexed (leb_number class) path base order at p = by_class class base
+  where
+    by_class : (c : ValueClass) (b : Bool) → IsIndexed (indexed_kind (leb_number c) path b order at p)
+    by_class StrIndex b = one_indexed at (text_index path (code_value p))
+    by_class Number true = one_indexed at (unit_base (code_value p))
+    by_class Number false = none_indexed
+    by_class c b = none_indexed
+kind-indexed k path base order at p = none_indexed
+
+stray-indexed : (b : Bool) (at : ℕ) → IsIndexed (stray_at b at)
+stray-indexed true at = none_indexed
+stray-indexed false at = one_indexed at no_start
+
+piece-indexed : (m : Mode) (s : UnitState) (p : List Cell) → IsIndexed (indexed_in m s p)
+piece-indexed at_header s p = none_indexed
+piece-indexed at_code s p = none_indexed
+piece-indexed (at_values n tag []) s p = none_indexed
+piece-indexed (at_values n tag (x ∷ xs)) s p =
+    both-indexed (indexed_kind (kind_in s.header.params x.form) (is_path n tag x.name) (is_base n x.name) s.header.params.order s.place p)
+    (stray_at (start_form_by (kind_in s.header.params x.form) (use_of n tag x.name)) s.place)
+    (kind-indexed (kind_in s.header.params x.form) (is_path n tag x.name) (is_base n x.name) s.header.params.order s.place p)
+    (stray-indexed (start_form_by (kind_in s.header.params x.form) (use_of n tag x.name)) s.place)
+piece-indexed (at_chosen n tag start x xs) s p =
+    both-indexed (indexed_kind (kind_in s.header.params x.form) (is_path n tag x.name) (is_base n x.name) s.header.params.order start p)
+    (stray_at (start_form_by (kind_in s.header.params x.form) (use_of n tag x.name)) s.place)
+    (kind-indexed (kind_in s.header.params x.form) (is_path n tag x.name) (is_base n x.name) s.header.params.order start p)
+    (stray-indexed (start_form_by (kind_in s.header.params x.form) (use_of n tag x.name)) s.place)
+piece-indexed stuck s p = none_indexed
+
+fields-skip : (table : TextSection) (ts us : List TextPlace) → IsIndexed ts → fields_in table (ts ++ us) ≡ fields_in table us
+fields-skip table ts us none_indexed = refl
+fields-skip in_str ts us (more_indexed at i rest k) = fields-skip in_str rest us k
+fields-skip in_line_str ts us (more_indexed at i rest k) = fields-skip in_line_str rest us k
+
+inline-skip : (ts us : List TextPlace) → IsIndexed ts → inline_in (ts ++ us) ≡ inline_in us
+inline-skip ts us none_indexed = refl
+inline-skip ts us (more_indexed at i rest k) = inline-skip rest us k
+
+starts-skip : (ts us : List TextPlace) → IsIndexed ts → starts_in (ts ++ us) ≡ starts_in us
+starts-skip ts us none_indexed = refl
+starts-skip ts us (more_indexed at i rest k) = starts-skip rest us k
+
+names-skip : (d : DebugData) (cells : List Cell) (ts us : List TextPlace) → IsIndexed ts → PlacesName d cells (ts ++ us) → PlacesName d cells us
+names-skip d cells ts us none_indexed h = h
+names-skip d cells ts us (more_indexed at i rest k) h = names-skip d cells rest us k h.1
+
+-- the starts of pieces are those of their places
+start-piece : (r : Role) (at len : ℕ) (us : List TextPlace) → starts_in (place_of r at len ++ us) ≡ start_by r at len ++ starts_in us
+start-piece fixed at len us = refl
+start-piece (offset t path) at len us = refl
+start-piece inline_path at len us = refl
+start-piece line_start at len us = refl
+
+pub starts-are : (xs : List (Piece UnitState)) → starts_in (places_in xs) ≡ start_fields xs
+starts-are [] = refl
+starts-are (x ∷ xs) =
+    start-piece (role_of x) x.state.place (length x.cells) (indexed_in x.state.mode x.state x.cells ++ places_in xs)
+    ∙ ap (λ (fs : List PathField). start_by (role_of x) x.state.place (length x.cells) ++ fs)
+    (starts-skip (indexed_in x.state.mode x.state x.cells) (places_in xs) (piece-indexed x.state.mode x.state x.cells) ∙ starts-are xs)
+
+-- and so is the first value that can't say one
+stray-role : (r : Role) (at len : ℕ) (us : List TextPlace) → stray_in (place_of r at len ++ us) ≡ stray_in us
+stray-role fixed at len us = refl
+stray-role (offset t path) at len us = refl
+stray-role inline_path at len us = refl
+stray-role line_start at len us = refl
+
+stray-kind : (k : ValueKind) (path base : Bool) (order : Order) (at : ℕ) (p : List Cell) (us : List TextPlace) → stray_in (indexed_kind k path base order at p ++ us) ≡ stray_in us
+stray-kind (number_of class n) path base order at p us = by_class class base
+  where
+    by_class : (c : ValueClass) (b : Bool) → stray_in (indexed_kind (number_of c n) path b order at p ++ us) ≡ stray_in us
+    by_class StrIndex b = refl
+    by_class Number true = refl
+    by_class Number false = refl
+    by_class SecOffset true = refl
+    by_class SecOffset false = refl
+    by_class c b = refl
+stray-kind (leb_number class) path base order at p us = by_class class base
+  where
+    by_class : (c : ValueClass) (b : Bool) → stray_in (indexed_kind (leb_number c) path b order at p ++ us) ≡ stray_in us
+    by_class StrIndex b = refl
+    by_class Number true = refl
+    by_class Number false = refl
+    by_class c b = refl
+stray-kind k path base order at p us = refl
+
+stray-form : (b : Bool) (at : ℕ) (us : List TextPlace) → stray_in (stray_at b at ++ us) ≡ cond b (stray_in us) (Some at)
+stray-form true at us = refl
+stray-form false at us = refl
+
+stray-both : (k : ValueKind) (path base : Bool) (order : Order) (start : ℕ) (p : List Cell) (b : Bool) (at : ℕ) (us : List TextPlace)
+    → stray_in ((indexed_kind k path base order start p ++ stray_at b at) ++ us) ≡ cond b (stray_in us) (Some at)
+stray-both k path base order start p b at us =
+    ap stray_in (append_assoc (indexed_kind k path base order start p) (stray_at b at) us) ∙ stray-kind k path base order start p (stray_at b at ++ us) ∙ stray-form b at us
+
+stray-piece : (m : Mode) (s : UnitState) (p : List Cell) (us : List TextPlace)
+    → stray_in (indexed_in m s p ++ us) ≡ cond (start_form_in m s.header.params) (stray_in us) (Some s.place)
+stray-piece at_header s p us = refl
+stray-piece at_code s p us = refl
+stray-piece (at_values n tag []) s p us = refl
+stray-piece (at_values n tag (x ∷ xs)) s p us =
+    stray-both (kind_in s.header.params x.form) (is_path n tag x.name) (is_base n x.name) s.header.params.order s.place p
+    (start_form_by (kind_in s.header.params x.form) (use_of n tag x.name)) s.place us
+stray-piece (at_chosen n tag start x xs) s p us =
+    stray-both (kind_in s.header.params x.form) (is_path n tag x.name) (is_base n x.name) s.header.params.order start p
+    (start_form_by (kind_in s.header.params x.form) (use_of n tag x.name)) s.place us
+stray-piece stuck s p us = refl
+
+pub stray-are : (xs : List (Piece UnitState)) → stray_in (places_in xs) ≡ stray_among xs
+stray-are [] = refl
+stray-are (x ∷ xs) =
+    stray-role (role_of x) x.state.place (length x.cells) (indexed_in x.state.mode x.state x.cells ++ places_in xs)
+    ∙ stray-piece x.state.mode x.state x.cells (places_in xs)
+    ∙ ap (λ (o : Option ℕ). cond (has_start_form x) o (Some x.state.place)) (stray-are xs)
+
+-- the fields of pieces are those of their places
+pub fields-are : (table : TextSection) (xs : List (Piece UnitState)) → fields_in table (places_in xs) ≡ path_fields table xs
+fields-are table [] = refl
+fields-are table (x ∷ xs) =
+    let rest : List TextPlace = indexed_in x.state.mode x.state x.cells ++ places_in xs in
+    fields-append table (place_of (role_of x) x.state.place (length x.cells)) rest
+    ∙ ap (λ (fs : List PathField). fs ++ fields_in table rest) (field-one table (role_of x) x.state.place (length x.cells))
+    ∙ ap (λ (fs : List PathField). field_by table (role_of x) x.state.place (length x.cells) ++ fs)
+    (fields-skip table (indexed_in x.state.mode x.state x.cells) (places_in xs) (piece-indexed x.state.mode x.state x.cells) ∙ fields-are table xs)
+
+-- a path that stands in a piece fills it, but for its NUL
+abbrev InlineSized : Role → List Cell → Type 0
+InlineSized inline_path p = length (text (bytes_of p)) + 1 ≡ length p
+InlineSized r p = ⊤
+
+sized-text : (b : Bool) (s : UnitState) (x : Spec) (p : List Cell) → IsValue s x inline_kind p → InlineSized (cond b inline_path fixed) p
+unfolding value_of text_in
+sized-text false s x p f = tt
+sized-text true s x p f =
+    let v = text-fields (bytes_of p) 0 f.value f.is in
+    sym v.size_is ∙ f.size
+
+sized-kind : (k : ValueKind) (u : Use) (s : UnitState) (x : Spec) (p : List Cell) → FitsKind k s x p → InlineSized (role_of_kind k u) p
+sized-kind inline_kind u s x p f = sized-text (is_path_use u) s x p f
+sized-kind (text_offset table n) u s x p f = tt
+sized-kind (number_of class n) u s x p f = by_start (is_line_start u class n)
+  where
+    by_start : (b : Bool) → InlineSized (cond b line_start fixed) p
+    by_start true = tt
+    by_start false = tt
+sized-kind k u s x p f = tt
+
+sized-mode : (m : Mode) (base : UnitBase) (s : UnitState) (p : List Cell) → FitsMode m base s p → InlineSized (role_of_mode m s.header.params) p
+sized-mode at_header base s p f = tt
+sized-mode at_code base s p f = tt
+sized-mode (at_values n tag []) base s p f = tt
+sized-mode (at_values n tag (x ∷ xs)) base s p f = sized-kind (kind_in s.header.params x.form) (use_of n tag x.name) s x p f
+sized-mode (at_chosen n tag start x xs) base s p f =
+    sized-kind (kind_in s.header.params x.form) (use_of n tag x.name) s x p (chosen-fits (kind_in s.header.params x.form) s x p f)
+sized-mode stuck base s p f = tt
+
+inline-piece : (r : Role) (at : ℕ) (p : List Cell) → InlineSized r p → inline_at r at (length p) ≡ inline_by r at p
+inline-piece fixed at p h = refl
+inline-piece (offset t path) at p h = refl
+inline-piece line_start at p h = refl
+inline-piece inline_path at p h = ap (λ (n : ℕ). record { at = at; len = n } ∷ []) (omega (arith, h))
+
+-- the paths of pieces are those of their places
+pub inline-are : (base : UnitBase) (s : UnitState) (xs : List (Piece UnitState)) → Chain (unit_grammar base) s xs → inline_in (places_in xs) ≡ inline_paths xs
+unfolding role_of
+inline-are base s [] c = refl
+inline-are base s (x ∷ xs) c =
+    inline-append (place_of (role_of x) x.state.place (length x.cells)) (indexed_in x.state.mode x.state x.cells ++ places_in xs)
+    ∙ ap (λ (ps : List InlinePath). inline_in (place_of (role_of x) x.state.place (length x.cells)) ++ ps)
+    (inline-skip (indexed_in x.state.mode x.state x.cells) (places_in xs) (piece-indexed x.state.mode x.state x.cells))
+    ∙ ap (λ (ps : List InlinePath). ps ++ inline_in (places_in xs))
+    (inline-one (role_of x) x.state.place (length x.cells) ∙ inline-piece (role_of x) x.state.place x.cells (sized-mode x.state.mode base x.state x.cells c.1))
+    ∙ ap (λ (ps : List InlinePath). inline_by (role_of x) x.state.place x.cells ++ ps) (inline-are base ((unit_grammar base).next x.state x.cells) xs c.2)
+
+-- what a section says is what its pieces say
+pub paths-are : (base : UnitBase) (z : UnitSection) (first : ℕ) (xs : List (Piece UnitState)) → ReadsUnits base z first xs
+    → paths_by z.number (places_in xs) ≡ paths_in (record { number = z.number; pieces = xs })
+paths-are base z first xs r =
+    paths-same z.number (fields_in in_str (places_in xs)) (path_fields in_str xs) (fields_in in_line_str (places_in xs)) (path_fields in_line_str xs) (inline_in (places_in xs)) (inline_paths xs)
+    (starts_in (places_in xs)) (start_fields xs) (stray_in (places_in xs)) (stray_among xs) (fields-are in_str xs) (fields-are in_line_str xs)
+    (inline-are base (before_unit z.number z.kind (length z.contents) 0 first) xs r.chain) (starts-are xs) (stray-are xs)
+
+-- the cells of a piece
+piece-cells : (p rest cells : List Cell) (place : ℕ) → p ++ rest ≡ drop place cells → cells_at cells place (length p) ≡ p
+piece-cells p rest cells place e = ap (take (length p)) (sym e) ∙ take-append_seam p rest
+
+-- a start that is there, of cells of a role
+abbrev StartNamed : Role → DebugData → List ℕ → List Cell → Type 0
+StartNamed line_start d starts p = IsTrue (is_there (start_number 0 starts (offset_of d.base.order (located_cells d.lines) p)))
+StartNamed r d starts p = ⊤
+
+-- an offset that names a text is one of a piece, and so is a start
+names-by : (r : Role) (d : DebugData) (rs : DataReadings) (starts : List ℕ) (p : List Cell) → starts ≡ table_starts rs.lines → PlaceNames r d p → StartNamed r d starts p
+    → NamesTextBy r (around_of d rs) p
+names-by fixed d rs starts p e h k = tt
+names-by inline_path d rs starts p e h k = tt
+names-by (offset in_str path) d rs starts p e h k = h
+names-by (offset in_line_str path) d rs starts p e h k = h
+names-by line_start d rs starts p e h k =
+    subst (λ (ss : List ℕ). IsTrue (is_there (start_number 0 ss (offset_of d.base.order (located_cells d.lines) p)))) e k
+
+names-first : (r : Role) (d : DebugData) (cells : List Cell) (at len : ℕ) (ts : List TextPlace) → PlacesName d cells (place_of r at len ++ ts)
+    → PlaceNames r d (cells_at cells at len) × PlacesName d cells ts
+names-first fixed d cells at len ts h = (tt, h)
+names-first inline_path d cells at len ts h = (tt, h.1)
+names-first line_start d cells at len ts h = (tt, h.1)
+names-first (offset in_str path) d cells at len ts h = (h.0, h.1)
+names-first (offset in_line_str path) d cells at len ts h = (h.0, h.1)
+
+starts-first : (r : Role) (d : DebugData) (starts : List ℕ) (cells : List Cell) (at len : ℕ) (fs : List PathField) → StartsNamed d starts cells (start_by r at len ++ fs)
+    → StartNamed r d starts (cells_at cells at len) × StartsNamed d starts cells fs
+starts-first fixed d starts cells at len fs h = (tt, h)
+starts-first inline_path d starts cells at len fs h = (tt, h)
+starts-first (offset t path) d starts cells at len fs h = (tt, h)
+starts-first line_start d starts cells at len fs h = (h.0, h.1)
+
+pub names-are : (d : DebugData) (rs : DataReadings) (starts : List ℕ) (cells : List Cell) (place : ℕ) (xs : List (Piece UnitState)) → starts ≡ table_starts rs.lines
+    → PlacedCells cells place xs → PlacesName d cells (places_in xs) → StartsNamed d starts cells (start_fields xs) → EachPiece (NamesText (around_of d rs)) xs
+names-are d rs starts cells place [] e l h k = tt
+names-are d rs starts cells place (x ∷ xs) e l h k =
+    let said : List TextPlace = indexed_in x.state.mode x.state x.cells in
+    let both = names-first (role_of x) d cells x.state.place (length x.cells) (said ++ places_in xs) h in
+    let starts_ = starts-first (role_of x) d starts cells x.state.place (length x.cells) (start_fields xs) k in
+    let rest : PlacesName d cells (places_in xs) = names-skip d cells said (places_in xs) (piece-indexed x.state.mode x.state x.cells) both.1 in
+    let here : cells_at cells x.state.place (length x.cells) ≡ x.cells =
+    ap (λ (i : ℕ). cells_at cells i (length x.cells)) l.0 ∙ piece-cells x.cells (joined xs) cells place l.1 in (
+      names-by (role_of x) d rs starts x.cells e (subst (PlaceNames (role_of x) d) here both.0) (subst (StartNamed (role_of x) d starts) here starts_.0),
+      names-are d rs starts cells (place + length x.cells) xs e l.2 rest starts_.1,
+    )
+
+-- where none is known that can't say a start, each has a form that can
+pub forms-are : (xs : List (Piece UnitState)) → stray_among xs ≡ None → EachPiece HasStartForm xs
+forms-are [] none = tt
+forms-are (x ∷ xs) none = by_form (has_start_form x) refl none (forms-are xs)
+  where
+    by_form : (b : Bool) → has_start_form x ≡ b → cond {A = Option ℕ} b (stray_among xs) (Some x.state.place) ≡ None → (stray_among xs ≡ None → EachPiece HasStartForm xs)
+        → EachPiece HasStartForm (x ∷ xs)
+    by_form true is e rest = (is, rest e)
+    by_form false is e rest = absurd cc
+
+-- a path that fits its room is one of a piece
+fits-by : (r : Role) (m : PathMap) (cells : List Cell) (p rest : List Cell) (place : ℕ) (ps : List InlinePath) → p ++ rest ≡ drop place cells
+    → InlinesFit m (bytes_of cells) (inline_by r place p ++ ps) → InlineFitsBy r m p × InlinesFit m (bytes_of cells) ps
+fits-by fixed m cells p rest place ps e h = (tt, h)
+fits-by (offset t path) m cells p rest place ps e h = (tt, h)
+fits-by line_start m cells p rest place ps e h = (tt, h)
+fits-by inline_path m cells p rest place ps e h =
+    let bytes : bytes_of p ++ bytes_of rest ≡ drop place (bytes_of cells) = sym (bytes_of-append p rest) ∙ ap bytes_of e ∙ bytes_of-drop place cells in
+    let t : List ℕ = text (bytes_of p) in
+    let same : inline_text (bytes_of cells) (record { at = place; len = length t }) ≡ t =
+    ap (take (length t)) (sym bytes) ∙ take-append-le (length t) (bytes_of p) (bytes_of rest) (text-length (bytes_of p)) ∙ sym (text-front (bytes_of p)) in
+    (subst (λ (u : List ℕ). IsTrue (inline_fits m u)) same h.0, h.1)
+
+pub fits-are : (m : PathMap) (cells : List Cell) (place : ℕ) (xs : List (Piece UnitState)) → PlacedCells cells place xs
+    → InlinesFit m (bytes_of cells) (inline_paths xs) → EachPiece (InlineFits m) xs
+fits-are m cells place [] l h = tt
+fits-are m cells place (x ∷ xs) l h =
+    let at_place : InlinesFit m (bytes_of cells) (inline_by (role_of x) place x.cells ++ inline_paths xs) =
+    subst (λ (i : ℕ). InlinesFit m (bytes_of cells) (inline_by (role_of x) i x.cells ++ inline_paths xs)) l.0 h in
+    let both = fits-by (role_of x) m cells x.cells (joined xs) place (inline_paths xs) l.1 at_place in
+    (both.0, fits-are m cells (place + length x.cells) xs l.2 both.1)
+
+-- the readings of unit sections, with what they say of paths
+pub record FoundReadings (d : DebugData) (first : ℕ) (zs : List UnitSection) (us : List UnitPaths) : Type 0 where
+  pub readings : Readings
+  pub reads : ReadsAll d.base first zs readings
+  pub says : paths_of readings ≡ us
+  pub names : (rs : DataReadings) (starts : List ℕ) → starts ≡ table_starts rs.lines → AllStarts d starts zs us → EachReading (NamesText (around_of d rs)) readings
+  pub forms : (starts : List ℕ) → AllStarts d starts zs us → EachReading HasStartForm readings
+
+pub found-readings : (d : DebugData) (first : ℕ) (zs : List UnitSection) (us : List UnitPaths) → AllPlaced d zs us → FoundReadings d first zs us
+found-readings d first [] [] all = record { readings = []; reads = tt; says = refl; names = λ rs starts e h. tt; forms = λ starts h. tt }
+found-readings d first [] (u ∷ us) all = absurd all
+found-readings d first (z ∷ zs) [] all = absurd all
+found-readings d first (z ∷ zs) (u ∷ us) all =
+    let s : SectionSays d z u = all.0 in
+    let p : PlacedPieces d.base z first s.places s.section.units = section-placed d.base z first s.section.list s.places s.section.units s.section.placed in
+    let r : Reading = record { number = z.number; pieces = p.pieces } in
+    let rest : FoundReadings d (first + units_in p.pieces) zs us = found-readings d (first + units_in p.pieces) zs us all.1 in
+    let cells : PlacedCells z.contents 0 p.pieces =
+    placed-cells d.base z.contents (before_unit z.number z.kind (length z.contents) 0 first) 0 p.pieces refl p.reads.chain p.reads.cells in
+    let own : paths_in (record { number = z.number; pieces = p.pieces }) ≡ u =
+    sym (paths-are d.base z first p.pieces p.reads) ∙ ap (paths_by z.number) p.places_are ∙ sym s.says in
+    record {
+      readings = r ∷ rest.readings;
+      reads = (refl, p.reads, rest.reads);
+      says = ap (λ (v : UnitPaths). v ∷ paths_of rest.readings) own ∙ ap (λ (vs : List UnitPaths). u ∷ vs) rest.says;
+      names = λ (rs : DataReadings) (starts : List ℕ) e h. (
+        names-are d rs starts z.contents 0 p.pieces e cells (subst (PlacesName d z.contents) (sym p.places_are) s.names)
+            (subst (λ (v : UnitPaths). StartsNamed d starts z.contents v.starts) (sym own) h.0.named),
+        rest.names rs starts e h.1,
+      );
+      forms = λ (starts : List ℕ) h. (forms-are p.pieces (ap (λ (v : UnitPaths). v.stray) own ∙ h.0.all_say), rest.forms starts h.1);
+    }
+
+-- each path that stands in its value fits its room
+pub found-fits : (base : UnitBase) (m : PathMap) (first : ℕ) (zs : List UnitSection) (rs : Readings) → ReadsAll base first zs rs → AllFitRooms m zs (paths_of rs)
+    → EachReading (InlineFits m) rs
+found-fits base m first zs [] reads fits = tt
+found-fits base m first [] (r ∷ rs) reads fits = absurd reads
+found-fits base m first (z ∷ zs) (r ∷ rs) reads fits = (
+  fits-are m z.contents 0 r.pieces
+      (placed-cells base z.contents (before_unit z.number z.kind (length z.contents) 0 first) 0 r.pieces refl reads.1.chain reads.1.cells) fits.0,
+  found-fits base m (first + units_in r.pieces) zs rs reads.2 fits.1,
+)

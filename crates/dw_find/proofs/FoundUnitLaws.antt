@@ -1,0 +1,147 @@
+-- What the unit sections of a view say of paths, and the fields of its line tables.
+use Rattle.std.proofs.Common.{true, false, ◌≡◌, ◌≢◌, ℕ, suc, ◌-◌, ◌<◌, ◌≤◌, Bool, List, [], ◌∷◌, ◌++◌, length, take, drop, if◌then◌else◌, Option, Some, None, refl, sym, ap, ◌∙◌, subst, arith}
+use Rattle.std.proofs.Math.Seq.{take-append_seam}
+use Rattle.std.proofs.lemmas.Bool.{and_parts}
+use Rattle.std.proofs.lemmas.List.{length-append}
+use Rattle.dw_base.specs.DebugData.{DebugData, line_source}
+use Rattle.dw_base.specs.DebugSections.{name_of}
+use Rattle.dw_base.specs.FileViews.{View, ViewSection, first_filled, is_filled, section_after, section_bytes, section_named}
+use Rattle.dw_base.specs.Forms.{TextSection, in_str, in_line_str}
+use Rattle.dw_base.specs.LineReadings.{LineReading, AreTables}
+use Rattle.dw_base.specs.LineSources.{LineSource}
+use Rattle.dw_base.specs.LineTables.{LineTable}
+use Rattle.dw_base.specs.Paths.{PathMap}
+use Rattle.dw_base.specs.Refusals.{Blames, at}
+use Rattle.dw_base.specs.Texts.{ends_in, same_text}
+use Rattle.dw_base.specs.ViewData.{debug_data, located, located_at}
+use Rattle.dw_base.specs.declared.debug_sections.DebugSection.TheVariants.{Line, LineStr, Str}
+use Rattle.dw_base.specs.declared.fault.Fault.{Fault}
+use Rattle.dw_base.specs.declared.fault.Fault.TheVariants.{NoMemory, Refused}
+use Rattle.dw_base.specs.declared.string_offsets.Contribution.{Contribution}
+use Rattle.dw_base.proofs.FileViewLaws.{section_after-within}
+use Rattle.dw_base.proofs.TextLaws.{ends_in-inside, same_text-true}
+use Rattle.dw_lines.specs.ViewTables.{tables_read}
+use Rattle.dw_lines.proofs.ReadingLaws.{source-is}
+use Rattle.dw_find.specs.FoundPaths.{UnitsFound, UnitPathsRefuse, texts, without_lines}
+use Rattle.dw_find.specs.FoundPaths.UnitPathsRefuse.{inline}
+use Rattle.dw_find.specs.Fields.{ArePathFields}
+use Rattle.dw_find.specs.EntryTexts.{Tables}
+use Rattle.dw_find.specs.IndexedTexts.{TextsRefuse}
+use Rattle.dw_find.specs.ViewFields.{AllHaveFields, offsets_in}
+use Rattle.dw_find.specs.SlotPaths.{count_of, lines_count}
+use Rattle.dw_find.specs.TextPlaces.{AllPlaced, AllFitRooms, AllStarts}
+use Rattle.dw_find.specs.UnitPaths.{UnitPaths}
+use Rattle.dw_find.specs.UnitTexts.{AllTaken, tables_of}
+use Rattle.dw_find.specs.ViewLines.{lines_by, lines_of_view, table_fields}
+use Rattle.dw_find.proofs.BuiltLaws.{all-built}
+use Rattle.dw_find.proofs.LineTextLaws.{TextsApart, lines-fields}
+use Rattle.dw_find.proofs.SectionFactLaws.{taken-placed}
+
+-- The line tables of a view. Their section is the one of a number, or there are none.
+pub bytes-some : (v : View) (i : ℕ) → Some i ≡ section_named v (name_of Line) → (line_source (debug_data v)).bytes ≡ section_bytes v (line_source (debug_data v)).number
+bytes-some v i e = subst (λ (g : LineSource). g.bytes ≡ section_bytes v g.number) (sym (source-is v i e)) refl
+
+-- of two names that one section has, both are its name
+first-above : (name : List ℕ) (k i : ℕ) (ss : List ViewSection) → first_filled name k ss ≡ Some i → k ≤ i
+first-above name k i [] e = absurd cc
+first-above name k i (s ∷ ss) e = by (is_filled name s) e (λ f. first-above name (suc k) i ss f)
+  where
+    by : (b : Bool) → (if b then Some k else first_filled name (suc k) ss) ≡ Some i → (first_filled name (suc k) ss ≡ Some i → suc k ≤ i) → k ≤ i
+    by true e rest = let same : k ≡ i = cc in omega (arith, same)
+    by false e rest = let more : suc k ≤ i = rest e in omega (arith, more)
+
+some-name : (name : List ℕ) (s : ViewSection) → is_filled name s ≡ true → s.name ≡ name
+some-name name s e = same_text-true s.name name (and_parts s.has_bytes (same_text s.name name) e).1
+
+both-first : (a b : List ℕ) (k i : ℕ) (ss : List ViewSection) → first_filled a k ss ≡ Some i → first_filled b k ss ≡ Some i → a ≡ b
+both-first a b k i [] e f = absurd cc
+both-first a b k i (s ∷ ss) e f = by (is_filled a s) (is_filled b s) refl refl e f (λ g h. both-first a b (suc k) i ss g h)
+  where
+    past : (name : List ℕ) → k ≡ i → first_filled name (suc k) ss ≡ Some i → ⊥
+    past name same g = let above : suc k ≤ i = first-above name (suc k) i ss g in omega (arith, above, same)
+
+    by : (x y : Bool) → is_filled a s ≡ x → is_filled b s ≡ y → (if x then Some k else first_filled a (suc k) ss) ≡ Some i
+        → (if y then Some k else first_filled b (suc k) ss) ≡ Some i → (first_filled a (suc k) ss ≡ Some i → first_filled b (suc k) ss ≡ Some i → a ≡ b) → a ≡ b
+    by true true p q e f rest = sym (some-name a s p) ∙ some-name b s q
+    by true false p q e f rest = let same : k ≡ i = cc in absurd (past b same f)
+    by false true p q e f rest = let same : k ≡ i = cc in absurd (past a same e)
+    by false false p q e f rest = rest e f
+
+names-differ : name_of LineStr ≡ name_of Str → ⊥
+names-differ e =
+    let n : length (name_of LineStr) ≡ length (name_of Str) = ap (λ (l : List ℕ). length l) e in
+    absurd cc
+
+-- so texts of the second table lie in a section of its own
+apart-by : (v : View) (o p : Option ℕ) → o ≡ section_named v (name_of LineStr) → p ≡ section_named v (name_of Str) → (at : ℕ) → ends_in (located_at v o).bytes at ≡ true
+    → (located_at v o).number ≢ (located_at v p).number
+unfolding section_named section_after
+apart-by v None p e f at ends same = let none : ends_in [] at ≡ true = ends in absurd (omega (arith, ends_in-inside [] at none))
+apart-by v (Some i) None e f at ends same =
+    let above : 1 ≤ i = first-above (name_of LineStr) 1 i (drop 1 v.sections) (sym e) in
+    omega (arith, above, same)
+apart-by v (Some i) (Some j) e f at ends same =
+    names-differ (both-first (name_of LineStr) (name_of Str) 1 i (drop 1 v.sections) (sym e) (sym f ∙ ap Some (sym same)))
+
+view-apart : (v : View) → TextsApart (line_source (debug_data v))
+unfolding debug_data located
+view-apart v = apart-by v (section_named v (name_of LineStr)) (section_named v (name_of Str)) refl refl
+
+-- the fields of line tables are fields of the view
+lines-have-by : (v : View) (rs : List LineReading) (o : Option ℕ) → o ≡ section_named v (name_of Line) → AreTables (line_source (debug_data v)) rs
+    → AllHaveFields v (lines_by o (line_source (debug_data v)) (tables_read (line_source (debug_data v)) rs))
+unfolding section_named
+lines-have-by v rs None e are = tt
+lines-have-by v rs (Some i) e are =
+    let own = bytes-some v i e in
+    let number : i ≡ (line_source (debug_data v)).number = ap (λ (g : LineSource). g.number) (sym (source-is v i e)) in
+    let there : i < length v.sections = (section_after-within v (name_of Line) 0 i (sym e)).1 in
+    let fields = λ (table : TextSection). lines-fields (line_source (debug_data v)) table 0 (length (line_source (debug_data v)).bytes) rs (view-apart v) are in (
+      record {
+        there = subst (λ (n : ℕ). n < length v.sections) number there;
+        str = subst (λ (bs : List ℕ). ArePathFields (offsets_in v in_str) bs
+            (table_fields (line_source (debug_data v)).number (line_source (debug_data v)).str.number in_str (tables_read (line_source (debug_data v)) rs))) own (fields in_str);
+        line_str = subst (λ (bs : List ℕ). ArePathFields (offsets_in v in_line_str) bs
+            (table_fields (line_source (debug_data v)).number (line_source (debug_data v)).str.number in_line_str (tables_read (line_source (debug_data v)) rs))) own (fields in_line_str);
+      },
+      tt,
+    )
+
+pub lines-have : (v : View) (rs : List LineReading) (ts : List LineTable) → AreTables (line_source (debug_data v)) rs → ts ≡ tables_read (line_source (debug_data v)) rs
+    → AllHaveFields v (lines_of_view v ts)
+lines-have v rs ts are is =
+    subst (λ (us : List LineTable). AllHaveFields v (lines_of_view v us)) (sym is) (lines-have-by v rs (section_named v (name_of Line)) refl are)
+
+-- all sections are those of units, behind them that of string offsets, and behind that the line tables
+pub front-is : {X : Type 0} (xs ys : List X) (n : ℕ) → length ys ≡ n → take (length (xs ++ ys) - n) (xs ++ ys) ≡ xs
+front-is xs ys n e =
+    let size : length (xs ++ ys) - n ≡ length xs = omega (arith, e, length-append xs ys) in
+    ap (λ (k : ℕ). take k (xs ++ ys)) size ∙ take-append_seam xs ys
+
+pub lines-number : (o : Option ℕ) (g : LineSource) (ts : List LineTable) → length (lines_by o g ts) ≡ count_of o
+lines-number None g ts = refl
+lines-number (Some i) g ts = refl
+
+-- without the last they are the first two
+pub without-is : (v : View) (us xs : List UnitPaths) (ts : List LineTable) → us ≡ xs ++ lines_of_view v ts → without_lines v us ≡ xs
+without-is v us xs ts is =
+    ap (without_lines v) is ∙ front-is xs (lines_of_view v ts) (lines_count v) (lines-number (section_named v (name_of Line)) (line_source (debug_data v)) ts)
+
+-- what was found of paths in units
+pub units-found : (m : PathMap) (d : DebugData) (starts : List ℕ) (us : List UnitPaths) → AllTaken d d.units us → AllFitRooms m d.units us → AllStarts d starts d.units us
+    → UnitsFound m d starts us
+units-found m d starts us taken fits all = record { placed = taken-placed d d.units us taken; fits = fits; named = all; built = all-built d us taken }
+
+pub placed-found : (d : DebugData) (us : List UnitPaths) → AllTaken d d.units us → AllPlaced d d.units us
+placed-found d us taken = taken-placed d d.units us taken
+
+pub texts-fault : (m : PathMap) (d : DebugData) (list : List Contribution) (f : Fault) → Blames (TextsRefuse d list) f
+    → Blames (UnitPathsRefuse m d list) f
+texts-fault m d list NoMemory b = tt
+texts-fault m d list (Refused r) b = texts b
+
+pub tables-same : (v : View) (t : Tables) (s l : List ℕ) → t ≡ record { str = s; line_str = l } → s ≡ (offsets_in v in_str).bytes → l ≡ (offsets_in v in_line_str).bytes
+    → t ≡ tables_of (debug_data v)
+tables-same v t s l is es el = is ∙ ap (λ (x : List ℕ). record { str = x; line_str = l }) es ∙ ap (λ (x : List ℕ). record { str = (debug_data v).str.bytes; line_str = x }) el
+
+pub ruleset unit_rules = (units-found, placed-found, texts-fault, inline, tables-same)

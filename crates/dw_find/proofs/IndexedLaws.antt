@@ -1,0 +1,366 @@
+-- What the units of debug data say by index, from the pass over them to the pieces: the slots that their values name, and the first
+-- value that names none.
+use Rattle.std.proofs.Common.{Bool, true, false, ◌≡◌, ◌≢◌, ℕ, suc, ◌+◌, ◌<◌, ◌≤◌, ◌&&◌, ◌||◌, List, [], ◌∷◌, ◌++◌, length, drop, replicate, if◌then◌else◌, Option, Some, None, refl, sym, ap, ◌∙◌, subst, arith, append_assoc}
+use Rattle.std.specs.Bool.{⊤}
+use Rattle.std.proofs.lemmas.Bool.{eq-eqb, ne_eqb}
+use Rattle.dw_base.specs.Cells.{Located, located_cells}
+use Rattle.dw_base.specs.DebugData.{DebugData, ReadsAll, units_in}
+use Rattle.dw_base.specs.FileViews.{View, ViewSection, bytes_in}
+use Rattle.dw_base.specs.DebugSections.{debug_section}
+use Rattle.dw_base.specs.IndexFails.{no_slot}
+use Rattle.dw_base.specs.Readings.{Readings}
+use Rattle.dw_base.specs.Refusals.{Blames, at as refusal_at}
+use Rattle.dw_base.specs.TextIndexes.{SaidBase, IndexUse, Indexing, EachUse, NamesSlot, all_bases, base_of, index_uses, slot_of}
+use Rattle.dw_base.specs.UnitHeaders.{UnitSection, SectionKind}
+use Rattle.dw_base.specs.ViewData.{unit_kind, unit_section, unit_sections_from, unit_sections, debug_data}
+use Rattle.dw_base.specs.declared.fault.Fault.{Fault}
+use Rattle.dw_base.specs.declared.fault.Fault.TheVariants.{NoMemory, Refused}
+use Rattle.dw_base.specs.declared.fault.Kind.TheVariants.{StringTable}
+use Rattle.dw_base.specs.declared.fault.Refusal.{Refusal}
+use Rattle.dw_base.specs.declared.string_offsets.Contribution.{Contribution}
+use Rattle.dw_base.proofs.PlainCellLaws.{IsPlain, plain_cells-plain}
+use Rattle.dw_meaning.proofs.DataOneLaws.{readings-one}
+use Rattle.dw_offsets.specs.NamedPlaces.{place_by, use_place, is_place, is_kind, names_place}
+use Rattle.dw_offsets.specs.SlotMarks.{marked}
+use Rattle.dw_offsets.proofs.NamedSlotLaws.{named-slot, no-slot}
+use Rattle.dw_offsets.proofs.SlotMarkLaws.{marks-none}
+use Rattle.dw_find.specs.IndexedTexts.{indexing_with, SlotsMarked, TextsIndexed, TextsRefuse, units, index, starts}
+use Rattle.dw_find.specs.NamedSlots.{Slots, no_slots, name_slot, first_refusal, missing_at, missing_in, units_name, units_missing}
+use Rattle.dw_find.specs.TextPlaces.{TextPlace, Indexed, no_index, no_start, unit_base, text_index, UnitSays, SectionSays, base_or, base_in, base_at, bases_among, index_at, indexes_in, use_at, uses_among, numbered_uses, numbered_bases}
+use Rattle.dw_find.specs.UnitPaths.{UnitPaths}
+use Rattle.dw_find.specs.UnitTexts.{AllTaken, AllIndexed, UnitsRefuse, units_taken}
+use Rattle.dw_find.proofs.SectionRunLaws.{PlacedPieces, section-placed}
+
+-- the unit sections of a view have plain cells
+abbrev AllPlain : List UnitSection → Type 0
+AllPlain [] = ⊤
+AllPlain (z ∷ zs) = IsPlain z.contents × AllPlain zs
+
+plain-more : (ys zs : List UnitSection) → AllPlain ys → AllPlain zs → AllPlain (ys ++ zs)
+plain-more [] zs a b = b
+plain-more (y ∷ ys) zs a b = (a.0, plain-more ys zs a.1 b)
+
+one-plain : (i : ℕ) (s : ViewSection) (has : Bool) (kind : Option SectionKind) → AllPlain (if has then unit_section i s kind else [])
+one-plain i s true None = tt
+one-plain i s true (Some kind) = (plain_cells-plain (bytes_in s.contents), tt)
+one-plain i s false kind = tt
+
+sections-plain : (i : ℕ) (ss : List ViewSection) → AllPlain (unit_sections_from i ss)
+sections-plain i [] = tt
+sections-plain i (s ∷ ss) =
+    plain-more (if s.has_bytes then unit_section i s (unit_kind (debug_section s.name)) else []) (unit_sections_from (suc i) ss)
+    (one-plain i s s.has_bytes (unit_kind (debug_section s.name))) (sections-plain (suc i) ss)
+
+view-sections : (v : View) → AllPlain (debug_data v).units
+unfolding debug_data unit_sections
+view-sections v = sections-plain 1 (drop 1 v.sections)
+
+-- units that are numbered on
+numbered_uses-append : (n : ℕ) (us vs : List UnitSays) → numbered_uses n (us ++ vs) ≡ numbered_uses n us ++ numbered_uses (n + length us) vs
+numbered_uses-append n [] vs = ap (λ (k : ℕ). numbered_uses k vs) (omega arith)
+numbered_uses-append n (u ∷ us) vs =
+    ap (λ (xs : List IndexUse). uses_among u.section n u.places ++ xs)
+    (numbered_uses-append (n + 1) us vs ∙ ap (λ (k : ℕ). numbered_uses (n + 1) us ++ numbered_uses k vs) (omega arith))
+    ∙ sym (append_assoc (uses_among u.section n u.places) (numbered_uses (n + 1) us) (numbered_uses (n + length (u ∷ us)) vs))
+
+numbered_bases-append : (n : ℕ) (us vs : List UnitSays) → numbered_bases n (us ++ vs) ≡ numbered_bases n us ++ numbered_bases (n + length us) vs
+numbered_bases-append n [] vs = ap (λ (k : ℕ). numbered_bases k vs) (omega arith)
+numbered_bases-append n (u ∷ us) vs =
+    ap (λ (xs : List SaidBase). bases_among n u.places ++ xs)
+    (numbered_bases-append (n + 1) us vs ∙ ap (λ (k : ℕ). numbered_bases (n + 1) us ++ numbered_bases k vs) (omega arith))
+    ∙ sym (append_assoc (bases_among n u.places) (numbered_bases (n + 1) us) (numbered_bases (n + length (u ∷ us)) vs))
+
+-- the readings of unit sections, with what their units say by index
+record SaidReadings (d : DebugData) (first : ℕ) (zs : List UnitSection) (said : List UnitSays) : Type 0 where
+  readings : Readings
+  reads : ReadsAll d.base first zs readings
+  uses : index_uses d.base.order readings ≡ numbered_uses first said
+  bases : (y : Located) → all_bases d.base.order y readings ≡ numbered_bases first said
+
+said-readings : (d : DebugData) (first : ℕ) (zs : List UnitSection) (us : List UnitPaths) → (all : AllTaken d zs us) → AllPlain zs
+    → SaidReadings d first zs (units_taken d zs us all)
+said-readings d first [] [] all plain = record { readings = []; reads = tt; uses = refl; bases = λ y. refl }
+said-readings d first [] (u ∷ us) all plain = absurd all
+said-readings d first (z ∷ zs) [] all plain = absurd all
+said-readings d first (z ∷ zs) (u ∷ us) all plain =
+    let s : SectionSays d z u = all.0.says in
+    let p : PlacedPieces d.base z first s.places s.section.units = section-placed d.base z first s.section.list s.places s.section.units s.section.placed in
+    let rest : SaidReadings d (first + units_in p.pieces) zs (units_taken d zs us all.1) = said-readings d (first + units_in p.pieces) zs us all.1 plain.1 in
+    let number : first + units_in p.pieces ≡ first + length s.section.units = ap (λ (n : ℕ). first + n) p.count in
+    record {
+      readings = record { number = z.number; pieces = p.pieces } ∷ rest.readings;
+      reads = (refl, p.reads, rest.reads);
+      uses =
+          ap (λ (xs : List IndexUse). xs ++ index_uses d.base.order rest.readings) p.uses
+          ∙ ap (λ (xs : List IndexUse). numbered_uses first s.section.units ++ xs)
+          (rest.uses ∙ ap (λ (n : ℕ). numbered_uses n (units_taken d zs us all.1)) number)
+          ∙ sym (numbered_uses-append first s.section.units (units_taken d zs us all.1));
+      bases = λ (y : Located).
+          ap (λ (xs : List SaidBase). xs ++ all_bases d.base.order y rest.readings) (p.bases y plain.0)
+          ∙ ap (λ (xs : List SaidBase). numbered_bases first s.section.units ++ xs)
+          (rest.bases y ∙ ap (λ (n : ℕ). numbered_bases n (units_taken d zs us all.1)) number)
+          ∙ sym (numbered_bases-append first s.section.units (units_taken d zs us all.1));
+    }
+
+-- the base of a unit: what its own values say, since those of others have other numbers
+abbrev or_base : Option ℕ → Option ℕ → Option ℕ
+or_base None o = o
+or_base (Some n) o = Some n
+
+or_base-none : (o : Option ℕ) → or_base o None ≡ o
+or_base-none None = refl
+or_base-none (Some n) = refl
+
+own-base : (n : ℕ) (ts : List TextPlace) (rest : List SaidBase) → base_of (bases_among n ts ++ rest) n ≡ or_base (base_in ts) (base_of rest n)
+own-base n [] rest = refl
+own-base n (t ∷ ts) rest =
+    ap (λ (xs : List SaidBase). base_of xs n) (append_assoc (base_at n t.says) (bases_among n ts) rest)
+    ∙ by_says t.says (own-base n ts rest)
+  where
+    by_says : (i : Indexed) → base_of (bases_among n ts ++ rest) n ≡ or_base (base_in ts) (base_of rest n)
+        → base_of (base_at n i ++ (bases_among n ts ++ rest)) n ≡ or_base (base_or i (base_in ts)) (base_of rest n)
+    by_says no_index e = e
+    by_says no_start e = e
+    by_says (text_index path x) e = e
+    by_says (unit_base b) e = rw (eq-eqb n n refl) refl
+
+other-base : (n m : ℕ) (ts : List TextPlace) (rest : List SaidBase) → n ≢ m → base_of (bases_among n ts ++ rest) m ≡ base_of rest m
+other-base n m [] rest other = refl
+other-base n m (t ∷ ts) rest other =
+    ap (λ (xs : List SaidBase). base_of xs m) (append_assoc (base_at n t.says) (bases_among n ts) rest)
+    ∙ by_says t.says (other-base n m ts rest other)
+  where
+    by_says : (i : Indexed) → base_of (bases_among n ts ++ rest) m ≡ base_of rest m → base_of (base_at n i ++ (bases_among n ts ++ rest)) m ≡ base_of rest m
+    by_says no_index e = e
+    by_says no_start e = e
+    by_says (text_index path x) e = e
+    by_says (unit_base b) e = rw (ne_eqb n m other) e
+
+no-base : (n m : ℕ) (us : List UnitSays) → m < n → base_of (numbered_bases n us) m ≡ None
+no-base n m [] lt = refl
+no-base n m (u ∷ us) lt = other-base n m u.places (numbered_bases (n + 1) us) (λ e. omega (arith, e, lt)) ∙ no-base (n + 1) m us (omega (arith, lt))
+
+first-base : (n : ℕ) (u : UnitSays) (us : List UnitSays) → base_of (numbered_bases n (u ∷ us)) n ≡ base_in u.places
+first-base n u us =
+    own-base n u.places (numbered_bases (n + 1) us) ∙ ap (or_base (base_in u.places)) (no-base (n + 1) n us (omega arith)) ∙ or_base-none (base_in u.places)
+
+-- the bases that values go by are those of these units, from a number on
+record BasesAre (bs : List SaidBase) (n : ℕ) (us : List UnitSays) : Type 0 where
+  each : (m : ℕ) → n ≤ m → base_of bs m ≡ base_of (numbered_bases n us) m
+
+bases-first : (bs : List SaidBase) (n : ℕ) (u : UnitSays) (us : List UnitSays) → BasesAre bs n (u ∷ us) → base_of bs n ≡ base_in u.places
+bases-first bs n u us b = b.each n (omega arith) ∙ first-base n u us
+
+bases-rest : (bs : List SaidBase) (n : ℕ) (u : UnitSays) (us : List UnitSays) → BasesAre bs n (u ∷ us) → BasesAre bs (n + 1) us
+bases-rest bs n u us b = record {
+  each = λ (m : ℕ) (le : n + 1 ≤ m).
+      b.each m (omega (arith, le)) ∙ other-base n m u.places (numbered_bases (n + 1) us) (λ (e : n ≡ m). omega (arith, e, le));
+}
+
+-- the slots that the values of a unit name
+or-assoc : (a b c : Bool) → (a || (b || c)) ≡ ((a || b) || c)
+or-assoc true b c = refl
+or-assoc false b c = refl
+
+unit-names : (kind : Bool) (g : Indexing) (section n : ℕ) (b : Option ℕ) (ts : List TextPlace) (rest : List IndexUse) (place : ℕ) → base_of g.bases n ≡ b
+    → names_place kind g (uses_among section n ts ++ rest) place ≡ (name_slot kind b g.contributions (indexes_in ts) place || names_place kind g rest place)
+unit-names kind g section n b [] rest place is = refl
+unit-names kind g section n b (t ∷ ts) rest place is =
+    ap (λ (xs : List IndexUse). names_place kind g xs place) (append_assoc (use_at section n t.at t.says) (uses_among section n ts) rest)
+    ∙ by_says t.says (unit-names kind g section n b ts rest place is)
+  where
+    by_says : (i : Indexed)
+        → names_place kind g (uses_among section n ts ++ rest) place ≡ (name_slot kind b g.contributions (indexes_in ts) place || names_place kind g rest place)
+        → names_place kind g (use_at section n t.at i ++ (uses_among section n ts ++ rest)) place
+        ≡ (name_slot kind b g.contributions (index_at t.at i ++ indexes_in ts) place || names_place kind g rest place)
+    by_says no_index e = e
+    by_says no_start e = e
+    by_says (unit_base x) e = e
+    by_says (text_index path x) e =
+        ap (λ (y : Option ℕ). (is_kind kind path && is_place (place_by y g.contributions x) place) || names_place kind g (uses_among section n ts ++ rest) place) is
+        ∙ ap (λ (y : Bool). (is_kind kind path && is_place (place_by b g.contributions x) place) || y) e
+        ∙ or-assoc (is_kind kind path && is_place (place_by b g.contributions x) place) (name_slot kind b g.contributions (indexes_in ts) place) (names_place kind g rest place)
+
+units-names : (kind : Bool) (g : Indexing) (n : ℕ) (us : List UnitSays) (place : ℕ) → BasesAre g.bases n us
+    → names_place kind g (numbered_uses n us) place ≡ units_name kind g.contributions us place
+units-names kind g n [] place b = refl
+units-names kind g n (u ∷ us) place b =
+    unit-names kind g u.section n (base_in u.places) u.places (numbered_uses (n + 1) us) place (bases-first g.bases n u us b)
+    ∙ ap (λ (y : Bool). name_slot kind (base_in u.places) g.contributions (indexes_in u.places) place || y)
+    (units-names kind g (n + 1) us place (bases-rest g.bases n u us b))
+
+-- where none is missing, each names a slot
+first-left : (a b : Option Refusal) → first_refusal a b ≡ None → a ≡ None
+first-left None b e = refl
+first-left (Some r) b e = e
+
+first-right : (a b : Option Refusal) → first_refusal a b ≡ None → b ≡ None
+first-right None b e = e
+first-right (Some r) b e = absurd cc
+
+none-missing : (section place : ℕ) (o : Option ℕ) → missing_at section place o ≡ None → (g : Indexing) (u : IndexUse) → use_place g u ≡ o → NamesSlot g u
+none-missing section place None e g u is = absurd cc
+none-missing section place (Some p) e g u is = named-slot g u p is
+
+unit-named : (g : Indexing) (section n : ℕ) (b : Option ℕ) (ts : List TextPlace) (rest : List IndexUse) → base_of g.bases n ≡ b
+    → missing_in section b g.contributions (indexes_in ts) ≡ None → EachUse (NamesSlot g) rest → EachUse (NamesSlot g) (uses_among section n ts ++ rest)
+unit-named g section n b [] rest is none each = each
+unit-named g section n b (t ∷ ts) rest is none each =
+    subst (EachUse (NamesSlot g)) (sym (append_assoc (use_at section n t.at t.says) (uses_among section n ts) rest))
+    (by_says t.says none (λ e. unit-named g section n b ts rest is e each))
+  where
+    by_says : (i : Indexed) → missing_in section b g.contributions (index_at t.at i ++ indexes_in ts) ≡ None
+        → (missing_in section b g.contributions (indexes_in ts) ≡ None → EachUse (NamesSlot g) (uses_among section n ts ++ rest))
+        → EachUse (NamesSlot g) (use_at section n t.at i ++ (uses_among section n ts ++ rest))
+    by_says no_index e next = next e
+    by_says no_start e next = next e
+    by_says (unit_base x) e next = next e
+    by_says (text_index path x) e next = (
+      none-missing section t.at (place_by b g.contributions x)
+          (first-left (missing_at section t.at (place_by b g.contributions x)) (missing_in section b g.contributions (indexes_in ts)) e)
+          g (record { section = section; place = t.at; unit = n; path = path; index = x }) (ap (λ (y : Option ℕ). place_by y g.contributions x) is),
+      next (first-right (missing_at section t.at (place_by b g.contributions x)) (missing_in section b g.contributions (indexes_in ts)) e),
+    )
+
+units-named : (g : Indexing) (n : ℕ) (us : List UnitSays) → BasesAre g.bases n us → units_missing g.contributions us ≡ None → EachUse (NamesSlot g) (numbered_uses n us)
+units-named g n [] b none = tt
+units-named g n (u ∷ us) b none =
+    let own : Option Refusal = missing_in u.section (base_in u.places) g.contributions (indexes_in u.places) in
+    unit-named g u.section n (base_in u.places) u.places (numbered_uses (n + 1) us) (bases-first g.bases n u us b)
+    (first-left own (units_missing g.contributions us) none)
+    (units-named g (n + 1) us (bases-rest g.bases n u us b) (first-right own (units_missing g.contributions us) none))
+
+-- else the first that names none refuses
+record FirstMissing (g : Indexing) (uses : List IndexUse) (r : Refusal) : Type 0 where
+  before : List IndexUse
+  behind : List IndexUse
+  one : IndexUse
+  split : uses ≡ before ++ one ∷ behind
+  none : slot_of g one.unit one.index ≡ None
+  is : r ≡ refusal_at StringTable one.section one.place
+
+missing-behind : (g : Indexing) (xs uses : List IndexUse) (r : Refusal) → FirstMissing g uses r → FirstMissing g (xs ++ uses) r
+missing-behind g xs uses r f = record {
+  before = xs ++ f.before;
+  behind = f.behind;
+  one = f.one;
+  split = ap (λ (ys : List IndexUse). xs ++ ys) f.split ∙ sym (append_assoc xs f.before (f.one ∷ f.behind));
+  none = f.none;
+  is = f.is;
+}
+
+missing-here : (g : Indexing) (uses : List IndexUse) (u : IndexUse) (o : Option ℕ) (r : Refusal) (other : Option Refusal) → use_place g u ≡ o
+    → first_refusal (missing_at u.section u.place o) other ≡ Some r → (other ≡ Some r → FirstMissing g uses r) → FirstMissing g (u ∷ uses) r
+missing-here g uses u None r other is e next =
+    record { before = []; behind = uses; one = u; split = refl; none = no-slot g u is; is = same (refusal_at StringTable u.section u.place) r e }
+  where
+    same : (a b : Refusal) → Some a ≡ Some b → b ≡ a
+    same a b e = cc
+missing-here g uses u (Some p) r other is e next = missing-behind g (u ∷ []) uses r (next e)
+
+unit-missing : (g : Indexing) (section n : ℕ) (b : Option ℕ) (ts : List TextPlace) (rest : List IndexUse) (r : Refusal) (other : Option Refusal) → base_of g.bases n ≡ b
+    → first_refusal (missing_in section b g.contributions (indexes_in ts)) other ≡ Some r → (other ≡ Some r → FirstMissing g rest r)
+    → FirstMissing g (uses_among section n ts ++ rest) r
+unit-missing g section n b [] rest r other is e next = next e
+unit-missing g section n b (t ∷ ts) rest r other is e next =
+    subst (λ (xs : List IndexUse). FirstMissing g xs r) (sym (append_assoc (use_at section n t.at t.says) (uses_among section n ts) rest))
+    (by_says t.says e (λ f. unit-missing g section n b ts rest r other is f next))
+  where
+    first-assoc : (a c d : Option Refusal) → first_refusal (first_refusal a c) d ≡ first_refusal a (first_refusal c d)
+    first-assoc None c d = refl
+    first-assoc (Some q) c d = refl
+
+    by_says : (i : Indexed) → first_refusal (missing_in section b g.contributions (index_at t.at i ++ indexes_in ts)) other ≡ Some r
+        → (first_refusal (missing_in section b g.contributions (indexes_in ts)) other ≡ Some r → FirstMissing g (uses_among section n ts ++ rest) r)
+        → FirstMissing g (use_at section n t.at i ++ (uses_among section n ts ++ rest)) r
+    by_says no_index e more = more e
+    by_says no_start e more = more e
+    by_says (unit_base x) e more = more e
+    by_says (text_index path x) e more =
+        missing-here g (uses_among section n ts ++ rest) (record { section = section; place = t.at; unit = n; path = path; index = x }) (place_by b g.contributions x) r
+        (first_refusal (missing_in section b g.contributions (indexes_in ts)) other) (ap (λ (y : Option ℕ). place_by y g.contributions x) is)
+        (sym (first-assoc (missing_at section t.at (place_by b g.contributions x)) (missing_in section b g.contributions (indexes_in ts)) other) ∙ e) more
+
+none-some : (r : Refusal) → None ≡ Some r → ⊥
+none-some r e = cc
+
+units-missing : (g : Indexing) (n : ℕ) (us : List UnitSays) (r : Refusal) → BasesAre g.bases n us → units_missing g.contributions us ≡ Some r
+    → FirstMissing g (numbered_uses n us) r
+units-missing g n [] r b e = absurd (none-some r e)
+units-missing g n (u ∷ us) r b e =
+    unit-missing g u.section n (base_in u.places) u.places (numbered_uses (n + 1) us) r (units_missing g.contributions us) (bases-first g.bases n u us b) e
+    (λ f. units-missing g (n + 1) us r (bases-rest g.bases n u us b) f)
+
+-- the units of debug data that were read are these pieces, and go by these bases
+record Said (d : DebugData) (list : List Contribution) (said : List UnitSays) (r : Readings) : Type 0 where
+  uses : (indexing_with d list r).uses ≡ numbered_uses 0 said
+  bases : BasesAre (indexing_with d list r).bases 0 said
+
+said-by : (d : DebugData) (list : List Contribution) (us : List UnitPaths) (r : Readings) → (all : AllTaken d d.units us) → AllPlain d.units → ReadsAll d.base 0 d.units r
+    → Said d list (units_taken d d.units us all) r
+said-by d list us r all plain reads =
+    let f : SaidReadings d 0 d.units (units_taken d d.units us all) = said-readings d 0 d.units us all plain in
+    subst (Said d list (units_taken d d.units us all)) (readings-one d.base 0 d.units f.readings r f.reads reads) (record {
+      uses = f.uses;
+      bases = record { each = λ (m : ℕ) (le : 0 ≤ m). ap (λ (xs : List SaidBase). base_of xs m) (f.bases (located_cells d.offsets)) };
+    })
+
+-- nothing was marked at first
+start-marks : (n : ℕ) (kind : Bool) (place : ℕ) (g : Indexing) → marked kind (replicate n 0) place ≡ false
+start-marks n kind place g = (marks-none n g).each kind place
+
+-- all slots are marked, where none was missing
+marked-all : (d : DebugData) (list : List Contribution) (n : ℕ) (us : List UnitPaths) (now : Slots) → AllPlain d.units
+    → AllIndexed d d.units us (no_slots list n) now → now.missing ≡ None → TextsIndexed d list now.marks
+marked-all d list n us now plain all none = record {
+  each = λ (r : Readings) (reads : ReadsAll d.base 0 d.units r). one r reads (said-by d list us r all.taken plain reads);
+}
+  where
+    one : (r : Readings) → ReadsAll d.base 0 d.units r → Said d list (units_taken d d.units us all.taken) r → SlotsMarked (indexing_with d list r) now.marks
+    one r reads s =
+        let g : Indexing = indexing_with d list r in
+        let said : List UnitSays = units_taken d d.units us all.taken in
+        let missing : units_missing list said ≡ None = sym all.slots.missing ∙ none in
+        record {
+          named = subst (EachUse (NamesSlot g)) (sym s.uses) (units-named g 0 said s.bases missing);
+          slots = record {
+            each = λ (kind : Bool) (place : ℕ).
+                all.slots.marks kind place
+                ∙ ap (λ (b : Bool). b || units_name kind list said place) (start-marks n kind place g)
+                ∙ sym (units-names kind g 0 said place s.bases)
+                ∙ ap (λ (xs : List IndexUse). names_place kind g xs place) (sym s.uses);
+          };
+        }
+
+-- and where one was, that is the row
+missing-row : (d : DebugData) (list : List Contribution) (n : ℕ) (us : List UnitPaths) (now : Slots) (r : Refusal) → AllPlain d.units
+    → AllIndexed d d.units us (no_slots list n) now → now.missing ≡ Some r → TextsRefuse d list r
+missing-row d list n us now r plain all some =
+    let said : List UnitSays = units_taken d d.units us all.taken in
+    let f : SaidReadings d 0 d.units (units_taken d d.units us all.taken) = said-readings d 0 d.units us all.taken plain in
+    let g : Indexing = indexing_with d list f.readings in
+    let s : Said d list (units_taken d d.units us all.taken) f.readings = said-by d list us f.readings all.taken plain f.reads in
+    let m : FirstMissing g (numbered_uses 0 said) r = units-missing g 0 said r s.bases (sym all.slots.missing ∙ some) in
+    subst (TextsRefuse d list) (sym m.is) (index f.readings f.reads (no_slot m.before m.behind m.one (s.uses ∙ m.split) m.none))
+
+-- the same of the debug data of a view
+pub whole-taken : (d : DebugData) (us : List UnitPaths) (old now : Slots) → AllIndexed d d.units us old now → AllTaken d d.units us
+whole-taken d us old now all = all.taken
+
+pub whole-marked : (v : View) (us : List UnitPaths) (old now : Slots) → AllIndexed (debug_data v) (debug_data v).units us old now
+    → old ≡ no_slots old.list (length old.marks) → now.missing ≡ None → TextsIndexed (debug_data v) old.list now.marks
+whole-marked v us old now all start none =
+    marked-all (debug_data v) old.list (length old.marks) us now (view-sections v)
+    (subst (λ (s : Slots). AllIndexed (debug_data v) (debug_data v).units us s now) start all) none
+
+pub whole-row : (v : View) (us : List UnitPaths) (old now : Slots) (r : Refusal) → AllIndexed (debug_data v) (debug_data v).units us old now
+    → old ≡ no_slots old.list (length old.marks) → now.missing ≡ Some r → TextsRefuse (debug_data v) old.list r
+whole-row v us old now r all start some =
+    missing-row (debug_data v) old.list (length old.marks) us now r (view-sections v)
+    (subst (λ (s : Slots). AllIndexed (debug_data v) (debug_data v).units us s now) start all) some
+
+pub whole-refused : (d : DebugData) (list : List Contribution) (f : Fault) → Blames (UnitsRefuse d) f → Blames (TextsRefuse d list) f
+whole-refused d list NoMemory b = tt
+whole-refused d list (Refused r) b = units b
+
+pub ruleset whole_rules = (whole-taken, whole-marked, whole-row, whole-refused, starts)

@@ -1,0 +1,51 @@
+-- Fields of pieces that stand one after another: the number in each, and where those behind a place stand.
+use Rattle.std.proofs.Common.{true, ◌≡◌, ℕ, ◌+◌, ◌≤◌, List, [], ◌∷◌, ◌++◌, length, drop, sym, ap, ◌∙◌, arith, subst}
+use Rattle.std.specs.Bool.{⊤}
+use Rattle.dw_base.specs.Forms.{TextSection, in_str, in_line_str}
+use Rattle.dw_base.specs.Numbers.{spelled}
+use Rattle.dw_base.specs.Pieces.{Piece}
+use Rattle.dw_base.specs.Roles.{Role, offset, line_start, role_of}
+use Rattle.dw_base.specs.UnitStates.{UnitState}
+use Rattle.dw_base.specs.declared.shared.Order.{Order}
+use Rattle.dw_base.proofs.NumberLaws.{spelled-append, spelled-drop}
+use Rattle.dw_find.specs.UnitPaths.{field_by, path_fields, start_by, start_fields}
+use Rattle.dw_find.specs.declared.fields.PathField.{PathField}
+use Rattle.dw_find.proofs.PlacedLaws.{Placed}
+
+-- the bytes of a piece are the number at its place
+pub piece_number : (o : Order) (p rest info : List ℕ) (place n : ℕ) → p ++ rest ≡ drop place info → length p ≡ n → spelled o p 0 n ≡ spelled o info place n
+piece_number o p rest info place n e size =
+    sym (spelled-append o p rest 0 n (omega (arith, size))) ∙ ap (λ (x : List ℕ). spelled o x 0 n) e
+    ∙ spelled-drop o info place 0 n ∙ ap (λ (i : ℕ). spelled o info i n) (omega arith)
+
+-- fields that stand from a place on
+abbrev pub FieldsFrom : ℕ → List PathField → Type 0
+FieldsFrom n [] = ⊤
+FieldsFrom n (f ∷ fs) = (n ≤ f.at) × FieldsFrom n fs
+
+pub from-less : (n k : ℕ) (fs : List PathField) → n ≤ k → FieldsFrom k fs → FieldsFrom n fs
+from-less n k [] le h = tt
+from-less n k (f ∷ fs) le h = (omega (arith, le, h.0), from-less n k fs le h.1)
+
+pub from-piece : (table : TextSection) (r : Role) (place size : ℕ) (fs : List PathField) → FieldsFrom place fs → FieldsFrom place (field_by table r place size ++ fs)
+from-piece in_str (offset in_str true) place size fs h = (omega arith, h)
+from-piece in_line_str (offset in_line_str true) place size fs h = (omega arith, h)
+from-piece table r place size fs h = h
+
+pub from-place : (table : TextSection) (info : List ℕ) (place : ℕ) (xs : List (Piece UnitState)) → Placed info place xs → FieldsFrom place (path_fields table xs)
+from-place table info place [] l = tt
+from-place table info place (x ∷ xs) l =
+    subst (λ (i : ℕ). FieldsFrom place (field_by table (role_of x) i (length x.cells) ++ path_fields table xs)) (sym l.0)
+    (from-piece table (role_of x) place (length x.cells) (path_fields table xs)
+    (from-less place (place + length x.cells) (path_fields table xs) (omega arith) (from-place table info (place + length x.cells) xs l.2)))
+
+pub from-start : (r : Role) (place size : ℕ) (fs : List PathField) → FieldsFrom place fs → FieldsFrom place (start_by r place size ++ fs)
+from-start line_start place size fs h = (omega arith, h)
+from-start r place size fs h = h
+
+pub from-starts : (info : List ℕ) (place : ℕ) (xs : List (Piece UnitState)) → Placed info place xs → FieldsFrom place (start_fields xs)
+from-starts info place [] l = tt
+from-starts info place (x ∷ xs) l =
+    subst (λ (i : ℕ). FieldsFrom place (start_by (role_of x) i (length x.cells) ++ start_fields xs)) (sym l.0)
+    (from-start (role_of x) place (length x.cells) (start_fields xs)
+    (from-less place (place + length x.cells) (start_fields xs) (omega arith) (from-starts info (place + length x.cells) xs l.2)))

@@ -1,0 +1,101 @@
+-- Debug data that are read: a map whose base and destination are one changes no path, so what is refused with it is refused for what debug
+-- data say alone; and what was read excludes what refuses.
+use Rattle.std.proofs.Common.{true, false, ◌≡◌, ℕ, Bool, if◌then◌else◌, nat_le, List, [], ◌∷◌, ◌++◌, length, drop, refl, sym, ap, ◌∙◌, arith}
+use Rattle.std.proofs.lemmas.Bool.Decides.{nat_tests}
+use Rattle.dw_base.specs.Cells.{plain_cells}
+use Rattle.dw_base.specs.DebugData.{DataReadings}
+use Rattle.dw_base.specs.FileViews.{View}
+use Rattle.dw_base.specs.IndexFails.{shared as shared_slot}
+use Rattle.dw_base.specs.InlinePaths.{inline_fits}
+use Rattle.dw_base.specs.LineTables.{LineTable}
+use Rattle.dw_base.specs.OffsetPieces.{ReadsOffsets}
+use Rattle.dw_base.specs.Paths.{PathMap, is_prefix, lies_under, mapped_path, path_map}
+use Rattle.dw_base.specs.Refusals.{Blames}
+use Rattle.dw_base.specs.ViewData.{debug_data, string_offsets}
+use Rattle.dw_base.specs.declared.fault.Fault.{Fault}
+use Rattle.dw_base.specs.declared.fault.Fault.TheVariants.{NoMemory, Refused}
+use Rattle.dw_base.specs.declared.fault.Refusal.{Refusal}
+use Rattle.dw_base.proofs.PathLaws.{lies_under-split}
+use Rattle.dw_meaning.specs.DataFails.{InlineFails, grows, LinesFail}
+use Rattle.dw_meaning.specs.DataOutput.{DataReads}
+use Rattle.dw_meaning.proofs.DataRowLaws.{data-excludes}
+use Rattle.dw_meaning.proofs.LineRowLaws.{lines-exclude, starts-exclude}
+use Rattle.dw_meaning.proofs.SlotRowLaws.{name_tables-exclude, slot_texts-exclude, string_tables-exclude}
+use Rattle.dw_meaning.proofs.ValueRowLaws.{texts-exclude}
+use Rattle.dw_find.specs.FoundPaths.{PathsFound, PathsRefuse}
+use Rattle.dw_find.specs.FoundPaths.PathsRefuse.{units as found_units, starts as found_starts, inline as found_inline, string_tables as found_string_tables, name_tables as found_name_tables, slots as found_slots, shared as found_shared}
+use Rattle.dw_find.specs.ReadData.{DataRead, DataRefuses}
+use Rattle.dw_find.specs.ReadData.DataRefuses.{units, starts, string_tables, slots, name_tables, lines}
+use Rattle.dw_find.specs.UnitPaths.{UnitPaths}
+use Rattle.dw_find.specs.UnitTexts.{HasUnbuilt, data_fails, text_fails, unbuilt}
+
+-- such a map leaves each path
+same-path : (m : PathMap) (t : List ℕ) → m.base ≡ m.dest → mapped_path m t ≡ t
+unfolding mapped_path
+same-path m t same = by (lies_under m.base t) refl
+  where
+    by : (b : Bool) → lies_under m.base t ≡ b → (if b then m.dest ++ drop (length m.base) t else t) ≡ t
+    by true under = ap (λ (l : List ℕ). l ++ drop (length m.base) t) (sym same) ∙ sym (lies_under-split m.base t under)
+    by false under = refl
+
+le-same : (n : ℕ) → nat_le n n ≡ true
+le-same n = grind (arith, nat_tests)
+
+fits-same : (m : PathMap) (t : List ℕ) → m.base ≡ m.dest → inline_fits m t ≡ true
+fits-same m t same = ap (λ (l : List ℕ). nat_le (length l) (length t)) (same-path m t same) ∙ le-same (length t)
+
+not-both : (b : Bool) → b ≡ true → b ≡ false → ⊥
+not-both b e f =
+    let same : true ≡ false = sym e ∙ f in
+    absurd cc
+
+inline-never : (m : PathMap) (v : View) (r : Refusal) → m.base ≡ m.dest → InlineFails m (debug_data v) r → ⊥
+inline-never m v r same (grows z h list number a x place w there stands path inline over) = not-both _ (fits-same m _ same) over
+
+row-same : (m : PathMap) (v : View) (r : Refusal) → m.base ≡ m.dest → PathsRefuse m v r → DataRefuses v r
+row-same m v r same (found_units h) = units h
+row-same m v r same (found_starts h) = starts h
+row-same m v r same (found_inline h) = absurd (inline-never m v r same h)
+row-same m v r same (found_string_tables h) = string_tables h
+row-same m v r same (found_name_tables h) = name_tables h
+row-same m v r same (found_slots h) = slots h
+row-same m v r same (found_shared readings i (shared_slot x there path other changes)) = absurd (changes (same-path m _ same))
+
+pub found-fault : (m : PathMap) (v : View) (f : Fault) → m.base ≡ m.dest → Blames (PathsRefuse m v) f → Blames (DataRefuses v) f
+found-fault m v NoMemory same h = tt
+found-fault m v (Refused r) same h = row-same m v r same h
+
+pub lines-fault : (v : View) (f : Fault) → Blames (LinesFail (debug_data v)) f → Blames (DataRefuses v) f
+lines-fault v NoMemory h = tt
+lines-fault v (Refused r) h = lines h
+
+pub data-read : (m : PathMap) (v : View) (us : List UnitPaths) (ts slice : List LineTable) → slice ≡ ts → PathsFound m v us slice → DataRead v ts
+data-read m v us ts slice same f = record { readings = f.readings; reads = f.reads; built = f.built; tables = sym same ∙ f.tables }
+
+pub ruleset read_rules = (found-fault, lines-fault, data-read)
+
+-- a map of one word twice is such a map, and there is one
+pub same-ends : (m : PathMap) (w : List ℕ) → m ≡ path_map w w → m.base ≡ m.dest
+unfolding path_map
+same-ends m w is = ap (λ (x : PathMap). x.base) is ∙ sym (ap (λ (x : PathMap). x.dest) is)
+
+pub is-word : is_prefix (47 ∷ 97 ∷ []) ≡ true
+unfolding is_prefix
+is-word = refl
+
+pub ruleset map_rules = (same-ends, is-word)
+
+-- what was read excludes each row
+offsets-plain : (v : View) (rs : DataReadings) → DataReads (debug_data v) rs → ReadsOffsets v.order (plain_cells (string_offsets v).bytes) rs.offsets
+unfolding debug_data
+offsets-plain v rs reads = reads.offsets
+
+pub data_read-excludes : (v : View) (rs : DataReadings) (r : Refusal) → DataReads (debug_data v) rs → (HasUnbuilt (debug_data v) → ⊥) → DataRefuses v r → ⊥
+data_read-excludes v rs r reads built (units (data_fails f)) = data-excludes (debug_data v) rs r reads f
+data_read-excludes v rs r reads built (units (text_fails f)) = texts-exclude (debug_data v) rs r reads f
+data_read-excludes v rs r reads built (units (unbuilt u)) = built u
+data_read-excludes v rs r reads built (starts f) = starts-exclude (debug_data v) rs r reads f
+data_read-excludes v rs r reads built (string_tables f) = string_tables-exclude v.order (string_offsets v) rs.offsets r (offsets-plain v rs reads) f
+data_read-excludes v rs r reads built (slots f) = slot_texts-exclude (debug_data v) rs r reads f
+data_read-excludes v rs r reads built (name_tables f) = name_tables-exclude v rs r reads f
+data_read-excludes v rs r reads built (lines f) = lines-exclude (debug_data v) rs r reads f

@@ -1,0 +1,184 @@
+-- A section whose units can be read one after another is pieces, and texts stand in them where the units say.
+use Rattle.std.proofs.Common.{◌≡◌, ℕ, ◌+◌, ◌-◌, List, length, take, drop, Some, refl, sym, ap, ◌∙◌, subst, arith, append_assoc, append-nil, ◌++◌, ◌∷◌, [], length-append}
+use Rattle.std.proofs.lemmas.Bool.{eq-eqb}
+use Rattle.std.proofs.lemmas.List.{length-take-le, take-append-drop, drop_all}
+use Rattle.dw_base.specs.AbbreviationBytes.{abbreviations_at}
+use Rattle.dw_base.specs.AbbreviationTables.{Abbreviation, IsTable}
+use Rattle.dw_base.specs.Cells.{Cell, Located}
+use Rattle.dw_base.specs.DebugData.{units_in}
+use Rattle.dw_base.specs.EntryScans.{AreEntries}
+use Rattle.dw_base.specs.EntryValues.{bytes_up_to}
+use Rattle.dw_base.specs.UnitHeaders.{UnitBase, UnitSection, unit_header, IsUnit}
+use Rattle.dw_base.specs.UnitPieces.{IsHeader, ReadsUnits, unit_grammar}
+use Rattle.dw_base.specs.Pieces.{Piece, Leads, joined}
+use Rattle.dw_base.specs.TextIndexes.{SaidBase, IndexUse, bases_in, uses_in}
+use Rattle.dw_base.specs.UnitStates.{UnitState, before_unit, between, headed, after_header}
+use Rattle.dw_base.specs.declared.units.Scanned.{Scanned}
+use Rattle.dw_base.specs.declared.units.UnitHeader.{UnitHeader}
+use Rattle.dw_base.proofs.AbbreviationLaws.{table-found}
+use Rattle.dw_base.proofs.PlainCellLaws.{IsPlain, plain-parts}
+use Rattle.dw_meaning.proofs.PieceLaws.{leads-chain, leads-more, joined-append}
+use Rattle.dw_meaning.proofs.UnitCutLaws.{header-cut}
+use Rattle.dw_meaning.proofs.ScanSectionLaws.{HeaderPlaced, header-placed}
+use Rattle.dw_find.specs.TextPlaces.{TextPlace, UnitSays, places_in, entries_places, uses_among, bases_among, numbered_uses, numbered_bases, UnitsPlaced, none_placed, more_placed, ArePlaced}
+use Rattle.dw_find.proofs.EntryRunLaws.{scan-placed}
+use Rattle.dw_find.proofs.HeaderLaws.{header-of}
+use Rattle.dw_find.proofs.IndexRunLaws.{uses-append, bases-append, run-uses, run-bases, run-begins, numbered_uses-more, numbered_bases-more}
+use Rattle.dw_find.proofs.ValueRunLaws.{PlacedRun, places-append, placed-more, placed-one}
+
+-- before a unit of a section
+abbrev before : UnitSection → ℕ → ℕ → UnitState
+before z place unit = before_unit z.number z.kind (length z.contents) place unit
+
+-- in a unit that starts at a place
+abbrev in_headed : UnitBase → UnitSection → ℕ → ℕ → UnitHeader → UnitState
+in_headed base z start unit h = headed base (before z start unit) h
+
+-- the header is a piece
+header-run : (base : UnitBase) (z : UnitSection) (start unit : ℕ) (h : UnitHeader) (table : List Abbreviation) → IsUnit base z start h
+    → HeaderPlaced z start h → IsTable base.abbrevs.bytes h.abbrevs table
+    → PlacedRun base z.contents z.number unit (before z start unit) (between (in_headed base z start unit h) h.first 0 0) start h.first []
+header-run base z start unit h table u placed t =
+    let n : ℕ = h.first - start in
+    let p : List Cell = take (h.first - start) (drop start z.contents) in
+    let size : length (take (h.first - start) (drop start z.contents)) ≡ h.first - start =
+    length-take-le (h.first - start) (drop start z.contents) (omega (arith, placed.inside, placed.behind)) in
+    let whole : start + length (take (h.first - start) (drop start z.contents)) ≡ h.first = omega (arith, size, placed.behind) in
+    let found : unit_header base z.kind z.number start (take (h.first - start) (drop start z.contents)) ≡ Some h =
+    header-cut base z.kind z.number start (take (h.first - start) (drop start z.contents)) (drop (h.first - start) (drop start z.contents)) h
+    (ap (unit_header base z.kind z.number start) (take-append-drop (h.first - start) (drop start z.contents)) ∙ u.header) (omega (arith, whole)) in
+    let fits : IsHeader base (before z start unit) (take (h.first - start) (drop start z.contents)) =
+    record {
+      header = h;
+      is = found;
+      size = whole;
+      own = u.whole;
+      within = u.within;
+      table = subst (λ (list : List Abbreviation). IsTable base.abbrevs.bytes h.abbrevs list) (sym (table-found base.abbrevs.bytes h.abbrevs table t)) t;
+    } in
+    let next : after_header base (before z start unit) (start + length (take (h.first - start) (drop start z.contents)))
+    (unit_header base z.kind z.number start (take (h.first - start) (drop start z.contents))) ≡ between (in_headed base z start unit h) h.first 0 0 =
+    ap (after_header base (before z start unit) (start + length (take (h.first - start) (drop start z.contents)))) found
+    ∙ ap (λ (m : ℕ). between (in_headed base z start unit h) m 0 0) whole in
+    let end : start + (h.first - start) ≡ h.first = omega (arith, placed.behind) in
+    subst (λ (m : ℕ). PlacedRun base z.contents z.number unit (before z start unit) (between (in_headed base z start unit h) h.first 0 0) start m []) end
+    (placed-one base z.contents (before z start unit) (between (in_headed base z start unit h) h.first 0 0) start (h.first - start) [] fits next refl tt)
+
+-- behind the last entry comes the next unit
+unit-ends : (s : UnitState) (e : ℕ) → between s s.header.end e 0 ≡ before_unit s.section s.kind s.whole s.header.end (s.unit + 1)
+unfolding between
+unit-ends s e = rw (eq-eqb s.header.end s.header.end refl) refl
+
+-- a unit is pieces
+unit-run : (base : UnitBase) (z : UnitSection) (start unit : ℕ) (h : UnitHeader) (table : List Abbreviation) (items : List Scanned) → IsUnit base z start h
+    → HeaderPlaced z start h → IsTable base.abbrevs.bytes h.abbrevs table → AreEntries h table (bytes_up_to z h) items
+    → PlacedRun base z.contents z.number unit (before z start unit) (before z h.end (unit + 1)) start h.end (entries_places h.params table (bytes_up_to z h) 0 items)
+unit-run base z start unit h table items u placed t entries =
+    let order : h.params.order ≡ base.order = (header-of base z start h u.header).order in
+    let same : abbreviations_at base.abbrevs.bytes h.abbrevs ≡ table = table-found base.abbrevs.bytes h.abbrevs table t in
+    let own : AreEntries h (abbreviations_at base.abbrevs.bytes h.abbrevs) (bytes_up_to z h) items =
+    subst (λ (list : List Abbreviation). AreEntries h list (bytes_up_to z h) items) (sym same) entries in
+    let all : List TextPlace = entries_places h.params (abbreviations_at base.abbrevs.bytes h.abbrevs) (bytes_up_to z h) 0 items in
+    let scan : PlacedRun base z.contents z.number unit (between (in_headed base z start unit h) h.first 0 0) (before z h.end (unit + 1)) h.first h.end all =
+    subst (λ (x : UnitState). PlacedRun base z.contents z.number unit (between (in_headed base z start unit h) h.first 0 0) x h.first h.end all)
+    (unit-ends (in_headed base z start unit h) (length items)) (scan-placed base z.contents (in_headed base z start unit h) items h.end 0 order own) in
+    subst (λ (list : List Abbreviation). PlacedRun base z.contents z.number unit (before z start unit) (before z h.end (unit + 1)) start h.end (entries_places h.params list (bytes_up_to z h) 0 items)) same
+    (placed-more base z.contents z.number unit (before z start unit) (between (in_headed base z start unit h) h.first 0 0) (before z h.end (unit + 1)) start h.first h.end [] all
+    (header-run base z start unit h table u placed t) scan)
+
+-- the pieces of units, with what their values say by index
+pub record UnitsRun (base : UnitBase) (z : UnitSection) (first : ℕ) (list : List UnitHeader) (place : ℕ) (places : List TextPlace) (units : List UnitSays) : Type 0 where
+  pub pieces : List (Piece UnitState)
+  pub leads : Leads (unit_grammar base) (before z 0 first) pieces (before z place (first + length list))
+  pub covers : joined pieces ++ drop place z.contents ≡ z.contents
+  pub places_are : places_in pieces ≡ places
+  pub count : length units ≡ length list
+  pub uses : uses_in base.order pieces ≡ numbered_uses first units
+  pub bases : (y : Located) → IsPlain (joined pieces) → bases_in base.order y pieces ≡ numbered_bases first units
+
+-- one unit more
+units-more : (base : UnitBase) (z : UnitSection) (first : ℕ) (list : List UnitHeader) (h : UnitHeader) (start : ℕ) (places here : List TextPlace) (units : List UnitSays)
+    → UnitsRun base z first list start places units
+    → PlacedRun base z.contents z.number (first + length list) (before z start (first + length list)) (before z h.end (first + length list + 1)) start h.end here
+    → UnitsRun base z first (list ++ h ∷ []) h.end (places ++ here) (units ++ record { section = z.number; places = here } ∷ [])
+units-more base z first list h start places here units m n =
+    let u : ℕ = first + length list in
+    let count : first + length list + 1 ≡ first + length (list ++ h ∷ []) = omega (arith, length-append list (h ∷ [])) in
+    let number : first + length units ≡ first + length list = ap (λ (k : ℕ). first + k) m.count in
+    record {
+      pieces = m.pieces ++ n.pieces;
+      leads = subst (λ (k : ℕ). Leads (unit_grammar base) (before z 0 first) (m.pieces ++ n.pieces) (before z h.end k)) count
+          (leads-more (unit_grammar base) (before z 0 first) (before z start (first + length list)) (before z h.end (first + length list + 1)) m.pieces n.pieces m.leads n.leads);
+      covers =
+          ap (λ (x : List Cell). x ++ drop h.end z.contents) (joined-append m.pieces n.pieces) ∙ append_assoc (joined m.pieces) (joined n.pieces) (drop h.end z.contents)
+          ∙ ap (λ (x : List Cell). joined m.pieces ++ x) n.covers ∙ m.covers;
+      places_are =
+          places-append m.pieces n.pieces ∙ ap (λ (x : List TextPlace). x ++ places_in n.pieces) m.places_are ∙ ap (λ (x : List TextPlace). places ++ x) n.places;
+      count = (let before_ = m.count in omega (arith, before_, length-append list (h ∷ []), length-append units (record { section = z.number; places = here } ∷ [])));
+      uses =
+          uses-append base.order m.pieces n.pieces ∙ ap (λ (x : List IndexUse). x ++ uses_in base.order n.pieces) m.uses
+          ∙ ap (λ (x : List IndexUse). numbered_uses first units ++ x) (run-uses base.order z.number u n.pieces n.numbered ∙ ap (uses_among z.number u) n.places)
+          ∙ ap (λ (k : ℕ). numbered_uses first units ++ uses_among z.number k here) (sym number)
+          ∙ sym (numbered_uses-more first units (record { section = z.number; places = here }));
+      bases = λ (y : Located) (plain : IsPlain (joined (m.pieces ++ n.pieces))).
+          units-bases y (plain-parts (joined m.pieces) (joined n.pieces) (subst IsPlain (joined-append m.pieces n.pieces) plain));
+    }
+  where
+    units-bases : (y : Located) → IsPlain (joined m.pieces) × IsPlain (joined n.pieces)
+        → bases_in base.order y (m.pieces ++ n.pieces) ≡ numbered_bases first (units ++ record { section = z.number; places = here } ∷ [])
+    units-bases y plain =
+        let number : first + length units ≡ first + length list = ap (λ (k : ℕ). first + k) m.count in
+        bases-append base.order y m.pieces n.pieces ∙ ap (λ (x : List SaidBase). x ++ bases_in base.order y n.pieces) (m.bases y plain.0)
+        ∙ ap (λ (x : List SaidBase). numbered_bases first units ++ x)
+        (run-bases base.order z.number (first + length list) y n.pieces n.numbered plain.1 ∙ ap (bases_among (first + length list)) n.places)
+        ∙ ap (λ (k : ℕ). numbered_bases first units ++ bases_among k here) (sym number)
+        ∙ sym (numbered_bases-more first units (record { section = z.number; places = here }))
+
+-- units one after another
+units-run : (base : UnitBase) (z : UnitSection) (first : ℕ) (list : List UnitHeader) (place : ℕ) (places : List TextPlace) (units : List UnitSays)
+    → UnitsPlaced base z list place places units → UnitsRun base z first list place places units
+units-run base z first list place places units none_placed = record {
+  pieces = [];
+  leads = ap (λ (n : ℕ). before z 0 n) (omega arith);
+  covers = refl;
+  places_are = refl;
+  count = refl;
+  uses = refl;
+  bases = λ y plain. refl;
+}
+units-run base z first all z_end all_places all_units (more_placed list h start places units table items placed u t entries) =
+    units-more base z first list h start places (entries_places h.params table (bytes_up_to z h) 0 items) units
+    (units-run base z first list start places units placed)
+    (unit-run base z start (first + length list) h table items u (header-placed base z start h u.header) t entries)
+
+-- the pieces of a section, with the places of texts in them, and what its units say by index
+pub record PlacedPieces (base : UnitBase) (z : UnitSection) (first : ℕ) (places : List TextPlace) (units : List UnitSays) : Type 0 where
+  pub pieces : List (Piece UnitState)
+  pub reads : ReadsUnits base z first pieces
+  pub places_are : places_in pieces ≡ places
+  pub count : units_in pieces ≡ length units
+  pub uses : uses_in base.order pieces ≡ numbered_uses first units
+  pub bases : (y : Located) → IsPlain z.contents → bases_in base.order y pieces ≡ numbered_bases first units
+
+-- a section whose units can be read is pieces
+pub section-placed : (base : UnitBase) (z : UnitSection) (first : ℕ) (list : List UnitHeader) (places : List TextPlace) (units : List UnitSays)
+    → ArePlaced base z list places units → PlacedPieces base z first places units
+section-placed base z first list places units placed =
+    let run : UnitsRun base z first list (length z.contents) places units = units-run base z first list (length z.contents) places units placed in
+    let cells : joined run.pieces ≡ z.contents =
+    sym (append-nil (joined run.pieces))
+    ∙ ap (λ (x : List Cell). joined run.pieces ++ x) (sym (drop_all (length z.contents) z.contents (omega arith))) ∙ run.covers in
+    let number : first + length list ≡ first + units_in run.pieces =
+    run-begins base (before z 0 first) (before z (length z.contents) (first + length list)) run.pieces run.leads in
+    let count = run.count in
+    record {
+      pieces = run.pieces;
+      reads = record {
+        chain = leads-chain (unit_grammar base) (before z 0 first) (before z (length z.contents) (first + length list)) run.pieces run.leads (record { mode = refl; place = refl });
+        cells = cells;
+      };
+      places_are = run.places_are;
+      count = omega (arith, number, count);
+      uses = run.uses;
+      bases = λ (y : Located) (plain : IsPlain z.contents). run.bases y (subst IsPlain (sym cells) plain);
+    }

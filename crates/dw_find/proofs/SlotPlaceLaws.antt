@@ -1,0 +1,61 @@
+-- Pieces of string offsets stand one after another.
+use Rattle.std.specs.Prelude.{⊤}
+use Rattle.std.proofs.Common.{◌≡◌, ℕ, ◌+◌, List, [], ◌∷◌, ◌++◌, length, drop, sym, ap, ◌∙◌, refl, subst, arith}
+use Rattle.std.proofs.Math.Seq.{drop-append_seam}
+use Rattle.std.proofs.lemmas.List.{drop-drop}
+use Rattle.dw_base.specs.Cells.{bytes_of}
+use Rattle.dw_base.specs.Forms.{TextSection, in_line_str}
+use Rattle.dw_base.specs.OffsetPieces.{OffsetMode, at_contribution, at_slot, no_offsets, OffsetState, past_offsets, offset_grammar}
+use Rattle.dw_base.specs.Pieces.{Piece, Chain, joined}
+use Rattle.dw_base.specs.SectionTexts.{offset_role, slot_role}
+use Rattle.dw_base.specs.declared.shared.Order.{Order}
+use Rattle.dw_base.proofs.UnitEditLaws.{length-bytes_of}
+use Rattle.dw_base.proofs.UnitHeaderLaws.{bytes_of-append}
+use Rattle.dw_offsets.proofs.SlotPieceLaws.{place-next}
+use Rattle.dw_find.specs.SlotPaths.{offset_fields}
+use Rattle.dw_find.specs.UnitPaths.{field_by, start_by}
+use Rattle.dw_find.specs.declared.fields.PathField.{PathField}
+use Rattle.dw_find.proofs.PieceFieldLaws.{FieldsFrom, from-less, from-piece}
+
+-- pieces of string offsets stand where their states say
+abbrev pub SlotsPlaced : List ℕ → ℕ → List (Piece OffsetState) → Type 0
+SlotsPlaced info place [] = ⊤
+SlotsPlaced info place (x ∷ xs) =
+    (x.state.place ≡ place) × (bytes_of x.cells ++ bytes_of (joined xs) ≡ drop place info) × SlotsPlaced info (place + length x.cells) xs
+
+pub slots-placed : (order : Order) (info : List ℕ) (s : OffsetState) (place : ℕ) (xs : List (Piece OffsetState)) → s.place ≡ place
+    → Chain (offset_grammar order) s xs → bytes_of (joined xs) ≡ drop place info → SlotsPlaced info place xs
+slots-placed order info s place [] at c e = tt
+slots-placed order info s place (x ∷ xs) at c e =
+    let here : x.state.place ≡ place = ap (λ (z : OffsetState). z.place) c.0 ∙ at in
+    let parts : bytes_of x.cells ++ bytes_of (joined xs) ≡ drop place info = sym (bytes_of-append x.cells (joined xs)) ∙ e in
+    let behind : bytes_of (joined xs) ≡ drop (place + length x.cells) info =
+    sym (drop-append_seam (bytes_of x.cells) (bytes_of (joined xs))) ∙ ap (λ (n : ℕ). drop n (bytes_of x.cells ++ bytes_of (joined xs))) (length-bytes_of x.cells)
+    ∙ ap (drop (length x.cells)) parts ∙ drop-drop (length x.cells) place info in
+    let next : (past_offsets x.state.mode order x.state x.cells).place ≡ place + length x.cells =
+    place-next x.state.mode order x.state x.cells c.1 ∙ ap (λ (i : ℕ). i + length x.cells) here in
+    (here, parts, slots-placed order info (past_offsets x.state.mode order x.state x.cells) (place + length x.cells) xs next c.2 behind)
+
+-- no slot holds an offset into the other table
+line-field : (paths : List ℕ) (m : OffsetMode) (n place size : ℕ) → field_by in_line_str (offset_role paths m n) place size ≡ []
+line-field paths at_contribution n place size = refl
+line-field paths (at_slot w end) n place size = refl
+line-field paths no_offsets n place size = refl
+
+pub line-fields : (paths : List ℕ) (xs : List (Piece OffsetState)) → offset_fields in_line_str paths xs ≡ []
+line-fields paths [] = refl
+line-fields paths (x ∷ xs) =
+    ap (λ (fs : List PathField). fs ++ offset_fields in_line_str paths xs) (line-field paths x.state.mode x.state.slot x.state.place (length x.cells))
+    ∙ line-fields paths xs
+
+pub no-start : (paths : List ℕ) (m : OffsetMode) (n place size : ℕ) → start_by (offset_role paths m n) place size ≡ []
+no-start paths at_contribution n place size = refl
+no-start paths (at_slot w end) n place size = refl
+no-start paths no_offsets n place size = refl
+
+pub from-place : (table : TextSection) (info : List ℕ) (place : ℕ) (paths : List ℕ) (xs : List (Piece OffsetState)) → SlotsPlaced info place xs → FieldsFrom place (offset_fields table paths xs)
+from-place table info place paths [] l = tt
+from-place table info place paths (x ∷ xs) l =
+    subst (λ (i : ℕ). FieldsFrom place (field_by table (slot_role paths x.state) i (length x.cells) ++ offset_fields table paths xs)) (sym l.0)
+    (from-piece table (slot_role paths x.state) place (length x.cells) (offset_fields table paths xs)
+    (from-less place (place + length x.cells) (offset_fields table paths xs) (omega arith) (from-place table info (place + length x.cells) paths xs l.2)))

@@ -1,0 +1,207 @@
+-- Forms of values that are to say where a line table starts (DWARF 5, 3.1.1 and table 7.6), and the form that stands in front of a
+-- value.
+use Rattle.std.proofs.Common.{Bool, true, false, ◌≡◌, ◌≢◌, ◌⊎◌, inl, inr, ℕ, ◌+◌, ◌==◌, ◌&&◌, ◌||◌, not, List, [], ◌∷◌, cond, Option, Some, refl, sym, ap, ◌∙◌, subst}
+use Rattle.std.proofs.lemmas.Bool.{and_parts, eqb-true, ne_eqb}
+use Rattle.dw_base.specs.Forms.{ValueKind, number_of, form_in_front, FormRow, form_rows, kind_by, kind_in, width_size}
+use Rattle.dw_base.specs.Lebs.{uleb_at}
+use Rattle.dw_base.specs.Roles.{Use, names_path, names_line_table, names_macro_unit, names_other, is_line_start, is_path, use_of, is_unit_tag}
+use Rattle.dw_base.specs.TableStarts.{can_start, start_form_by}
+use Rattle.dw_base.specs.UnitStates.{read_value}
+use Rattle.dw_base.specs.declared.dwarf_numbers.TheConstants.{DW_AT_stmt_list, DW_AT_macros, DW_AT_GNU_macros, DW_FORM_data4, DW_FORM_data8, DW_FORM_indirect, DW_FORM_sec_offset}
+use Rattle.dw_base.specs.declared.shared.Params.{Params}
+use Rattle.dw_base.specs.declared.shared.Width.{Width}
+use Rattle.dw_base.specs.declared.shared.Width.TheVariants.{W32, W64}
+use Rattle.dw_base.specs.declared.values.Spec.{Spec}
+use Rattle.dw_base.specs.declared.values.ValueClass.{ValueClass}
+use Rattle.dw_base.specs.declared.values.ValueClass.TheVariants.{Number, SecOffset}
+use Rattle.dw_find.specs.TextPlaces.{is_start_form, own_form, own_place, read_size}
+
+-- in the table of forms the kinds that can say a start are those of these forms, and one form stands in front of values
+abbrev is_front : ValueKind → Bool
+is_front form_in_front = true
+is_front k = false
+
+abbrev row_starts : FormRow → Bool
+row_starts r = not (can_start r.kind) || is_start_form r.form
+
+abbrev row_fronts : FormRow → Bool
+row_fronts r = not (is_front r.kind) || r.form == DW_FORM_indirect
+
+abbrev all_rows : (FormRow → Bool) → List FormRow → Bool
+all_rows P [] = true
+all_rows P (r ∷ rs) = P r && all_rows P rs
+
+rows_start : (params : Params) → all_rows row_starts (form_rows params) ≡ true
+unfolding form_rows
+rows_start params = refl
+
+rows_front : (params : Params) → all_rows row_fronts (form_rows params) ≡ true
+unfolding form_rows
+rows_front params = refl
+
+implied : (a b : Bool) → (not a || b) ≡ true → a ≡ true → b ≡ true
+implied true b h e = h
+implied false b h e = absurd cc
+
+rows-start : (rows : List FormRow) (form : ℕ) → all_rows row_starts rows ≡ true → can_start (kind_by rows form) ≡ true → is_start_form form ≡ true
+rows-start [] form all e = absurd cc
+rows-start (r ∷ rs) form all e =
+    let parts = and_parts (row_starts r) (all_rows row_starts rs) all in
+    by_form (r.form == form) refl parts.0 (rows-start rs form parts.1) e
+  where
+    by_form : (b : Bool) → (r.form == form) ≡ b → row_starts r ≡ true → (can_start (kind_by rs form) ≡ true → is_start_form form ≡ true)
+        → can_start (cond b r.kind (kind_by rs form)) ≡ true → is_start_form form ≡ true
+    by_form true is one rest h = subst (λ (f : ℕ). is_start_form f ≡ true) (eqb-true r.form form is) (implied (can_start r.kind) (is_start_form r.form) one h)
+    by_form false is one rest h = rest h
+
+rows-front : (rows : List FormRow) (form : ℕ) → all_rows row_fronts rows ≡ true → is_front (kind_by rows form) ≡ true → (form == DW_FORM_indirect) ≡ true
+rows-front [] form all e = absurd cc
+rows-front (r ∷ rs) form all e =
+    let parts = and_parts (row_fronts r) (all_rows row_fronts rs) all in
+    by_form (r.form == form) refl parts.0 (rows-front rs form parts.1) e
+  where
+    by_form : (b : Bool) → (r.form == form) ≡ b → row_fronts r ≡ true → (is_front (kind_by rs form) ≡ true → (form == DW_FORM_indirect) ≡ true)
+        → is_front (cond b r.kind (kind_by rs form)) ≡ true → (form == DW_FORM_indirect) ≡ true
+    by_form true is one rest h = subst (λ (f : ℕ). (f == DW_FORM_indirect) ≡ true) (eqb-true r.form form is) (implied (is_front r.kind) (r.form == DW_FORM_indirect) one h)
+    by_form false is one rest h = rest h
+
+-- the kind of such a form
+pub record StartKind (params : Params) (form : ℕ) : Type 0 where
+  pub class : ValueClass
+  pub size : ℕ
+  pub kind_is : kind_in params form ≡ number_of class size
+  pub sized : (size ≡ 4) ⊎ (size ≡ 8)
+  pub says : is_line_start names_line_table class size ≡ true
+
+width-sized : (w : Width) → (width_size w ≡ 4) ⊎ (width_size w ≡ 8)
+width-sized W32 = inl refl
+width-sized W64 = inr refl
+
+or_parts : (a b : Bool) → (a || b) ≡ true → (a ≡ true) ⊎ (b ≡ true)
+or_parts true b h = inl refl
+or_parts false b h = inr h
+
+sec-kind : (params : Params) → StartKind params DW_FORM_sec_offset
+unfolding kind_in form_rows
+sec-kind params = record { class = SecOffset; size = width_size params.width; kind_is = refl; sized = width-sized params.width; says = refl }
+
+four-kind : (params : Params) → StartKind params DW_FORM_data4
+unfolding kind_in form_rows
+four-kind params = record { class = Number; size = 4; kind_is = refl; sized = inl refl; says = refl }
+
+eight-kind : (params : Params) → StartKind params DW_FORM_data8
+unfolding kind_in form_rows
+eight-kind params = record { class = Number; size = 8; kind_is = refl; sized = inr refl; says = refl }
+
+pub start-kind : (params : Params) (form : ℕ) → is_start_form form ≡ true → StartKind params form
+start-kind params form e = by_first (or_parts (form == DW_FORM_sec_offset || form == DW_FORM_data4) (form == DW_FORM_data8) e)
+  where
+    by_second : ((form == DW_FORM_sec_offset) ≡ true) ⊎ ((form == DW_FORM_data4) ≡ true) → StartKind params form
+    by_second (inl is) = subst (StartKind params) (sym (eqb-true form DW_FORM_sec_offset is)) (sec-kind params)
+    by_second (inr is) = subst (StartKind params) (sym (eqb-true form DW_FORM_data4 is)) (four-kind params)
+
+    by_first : ((form == DW_FORM_sec_offset || form == DW_FORM_data4) ≡ true) ⊎ ((form == DW_FORM_data8) ≡ true) → StartKind params form
+    by_first (inl either) = by_second (or_parts (form == DW_FORM_sec_offset) (form == DW_FORM_data4) either)
+    by_first (inr is) = subst (StartKind params) (sym (eqb-true form DW_FORM_data8 is)) (eight-kind params)
+
+same_test : (a b : Bool) → (a ≡ true → b ≡ true) → (b ≡ true → a ≡ true) → a ≡ b
+same_test true true f g = refl
+same_test true false f g = sym (f refl)
+same_test false true f g = g refl
+same_test false false f g = refl
+
+-- a form can say a start where its kind can
+pub form-starts : (params : Params) (form : ℕ) → can_start (kind_in params form) ≡ is_start_form form
+unfolding kind_in
+form-starts params form =
+    same_test (can_start (kind_in params form)) (is_start_form form) (rows-start (form_rows params) form (rows_start params)) there
+  where
+    there : is_start_form form ≡ true → can_start (kind_in params form) ≡ true
+    there e =
+        let k : StartKind params form = start-kind params form e in
+        ap can_start k.kind_is ∙ k.says
+
+-- the form that stands in front of values
+front-form : (params : Params) (form : ℕ) → kind_in params form ≡ form_in_front → (form == DW_FORM_indirect) ≡ true
+unfolding kind_in
+front-form params form e = rows-front (form_rows params) form (rows_front params) (ap is_front e)
+
+form-front : (params : Params) → kind_in params DW_FORM_indirect ≡ form_in_front
+unfolding kind_in form_rows
+form-front params = refl
+
+other-form : (params : Params) (form : ℕ) → kind_in params form ≢ form_in_front → (form == DW_FORM_indirect) ≡ false
+other-form params form other =
+    ne_eqb form DW_FORM_indirect (λ e. other (ap (kind_in params) e ∙ form-front params))
+
+-- so a value's own form is its attribute's, or the one in front of it
+pub plain-form : (params : Params) (x : Spec) (bytes : List ℕ) (place : ℕ) → kind_in params x.form ≢ form_in_front → own_form x bytes place ≡ x.form
+plain-form params x bytes place other = ap (λ (b : Bool). cond b (read_value (uleb_at bytes place)) x.form) (other-form params x.form other)
+
+pub plain-place : (params : Params) (x : Spec) (bytes : List ℕ) (place : ℕ) → kind_in params x.form ≢ form_in_front → own_place x bytes place ≡ place
+plain-place params x bytes place other = ap (λ (b : Bool). cond b (place + read_size (uleb_at bytes place)) place) (other-form params x.form other)
+
+pub chosen-form : (params : Params) (x : Spec) (bytes : List ℕ) (place form size : ℕ) → kind_in params x.form ≡ form_in_front → uleb_at bytes place ≡ Some (form, size)
+    → own_form x bytes place ≡ form
+chosen-form params x bytes place form size front is =
+    ap (λ (b : Bool). cond b (read_value (uleb_at bytes place)) x.form) (front-form params x.form front) ∙ ap read_value is
+
+pub chosen-place : (params : Params) (x : Spec) (bytes : List ℕ) (place form size : ℕ) → kind_in params x.form ≡ form_in_front → uleb_at bytes place ≡ Some (form, size)
+    → own_place x bytes place ≡ place + size
+chosen-place params x bytes place form size front is =
+    ap (λ (b : Bool). cond b (place + read_size (uleb_at bytes place)) place) (front-form params x.form front) ∙ ap (λ (o : Option (ℕ × ℕ)). place + read_size o) is
+
+-- an attribute that says where a line table starts is no path
+and-false : (b : Bool) → (b && false) ≡ false
+and-false true = refl
+and-false false = refl
+
+list-path : (number tag : ℕ) → is_path number tag DW_AT_stmt_list ≡ false
+list-path number tag = and-false (number == 0 && is_unit_tag tag)
+
+pub line-path : (number tag name : ℕ) → (name == DW_AT_stmt_list) ≡ true → is_path number tag name ≡ false
+line-path number tag name e = ap (is_path number tag) (eqb-true name DW_AT_stmt_list e) ∙ list-path number tag
+
+pub line-use : (number tag name : ℕ) → (name == DW_AT_stmt_list) ≡ true → use_of number tag name ≡ names_line_table
+line-use number tag name e =
+    ap (λ (b : Bool). cond b names_path (cond (name == DW_AT_stmt_list) names_line_table (cond (name == DW_AT_macros || name == DW_AT_GNU_macros) names_macro_unit names_other)))
+    (line-path number tag name e)
+    ∙ ap (λ (b : Bool). cond b names_line_table (cond (name == DW_AT_macros || name == DW_AT_GNU_macros) names_macro_unit names_other)) e
+
+-- a use that is no line table's
+abbrev pub is_other_use : Use → Bool
+is_other_use names_line_table = false
+is_other_use u = true
+
+pub other-use : (number tag name : ℕ) → (name == DW_AT_stmt_list) ≡ false → is_other_use (use_of number tag name) ≡ true
+other-use number tag name e =
+    ap (λ (b : Bool). is_other_use (cond (is_path number tag name) names_path (cond b names_line_table (cond (name == DW_AT_macros || name == DW_AT_GNU_macros) names_macro_unit names_other)))) e
+    ∙ by_rest (is_path number tag name) (name == DW_AT_macros || name == DW_AT_GNU_macros)
+  where
+    by_rest : (path macro : Bool) → is_other_use (cond path names_path (cond macro names_macro_unit names_other)) ≡ true
+    by_rest true macro = refl
+    by_rest false true = refl
+    by_rest false false = refl
+
+pub other-starts : (k : ValueKind) (u : Use) → is_other_use u ≡ true → start_form_by k u ≡ true
+other-starts k names_line_table other = absurd cc
+other-starts form_in_front u other = refl
+other-starts k names_path other = by_kind k
+  where
+    by_kind : (x : ValueKind) → start_form_by x names_path ≡ true
+    by_kind form_in_front = refl
+    by_kind x = refl
+other-starts k names_macro_unit other = by_kind k
+  where
+    by_kind : (x : ValueKind) → start_form_by x names_macro_unit ≡ true
+    by_kind form_in_front = refl
+    by_kind x = refl
+other-starts k names_other other = by_kind k
+  where
+    by_kind : (x : ValueKind) → start_form_by x names_other ≡ true
+    by_kind form_in_front = refl
+    by_kind x = refl
+
+pub line-starts : (k : ValueKind) → k ≢ form_in_front → start_form_by k names_line_table ≡ can_start k
+line-starts form_in_front other = absurd (other refl)
+line-starts k other = refl

@@ -1,0 +1,16 @@
+-- The pass begins with the bytes of the section up to the unit's end.
+use Rattle.dw_find.proofs.ScanTextLaws.{unit-there, unit-length, unit-start, unit-first}
+use Rattle.dw_find.proofs.units.unit_texts.Goals as goal
+
+pub bytes-requires : goal.bytes-requires
+bytes-requires c = record { there = unit-there c.args.view.now c.args.unit.now c.requires.unit }
+
+pub slice_bounds-bytes-end : goal.slice_bounds-bytes-end
+slice_bounds-bytes-end c = unit-length c.args.view.now c.args.unit.now c.bytes.result.now c.requires.unit c.bytes.ensures.bytes
+
+pub scan_texts-requires-clause-start : goal.scan_texts-requires-clause-start
+scan_texts-requires-clause-start c =
+    unit-start c.args.view.now c.args.unit.now c.args.table.now c.bytes.result.now c.new-scan.result c.requires.unit c.bytes.ensures.bytes c.new-scan.ensures.start
+
+pub scan_texts-requires-clause-inside : goal.scan_texts-requires-clause-inside
+scan_texts-requires-clause-inside c = unit-first c.args.view.now c.args.unit.now c.bytes.result.now c.requires.unit c.bytes.ensures.bytes

@@ -1,0 +1,48 @@
+-- Fields that hold the offsets of paths, or say where line tables start; and that no two have a byte in common.
+use Rattle.std.specs.Prelude.{true, ◌≡◌, ◌⊎◌, ℕ, ◌+◌, ◌<◌, ◌≤◌, List, length, get_or, [], ◌∷◌, ⊤}
+use Rattle.dw_base.specs.Numbers.{spelled}
+use Rattle.dw_base.specs.Texts.{ends_in}
+use Rattle.dw_base.specs.declared.shared.Order.{Order}
+use Rattle.dw_find.specs.declared.fields.PathField.{PathField}
+
+-- a table of texts, and the byte order in which fields hold offsets into it
+pub record OffsetTable : Type 0 where
+  pub order : Order
+  pub bytes : List ℕ
+
+-- the offset in a field
+abbrev pub offset_at : OffsetTable → List ℕ → PathField → ℕ
+offset_at table info f = spelled table.order info f.at f.size
+
+-- a field holds the offset of a path: it has the size of an offset and lies in the section, and the text ends in the table
+pub record IsPathField (table : OffsetTable) (info : List ℕ) (f : PathField) : Type 0 where
+  pub sized : (f.size ≡ 4) ⊎ (f.size ≡ 8)
+  pub inside : f.at + f.size ≤ length info
+  pub ends : ends_in table.bytes (offset_at table info f) ≡ true
+
+-- each of these fields does
+pub record ArePathFields (table : OffsetTable) (info : List ℕ) (fields : List PathField) : Type 0 where
+  pub each : (k : ℕ) (d : PathField) → k < length fields → IsPathField table info (get_or fields k d)
+
+-- a field that can say where a line table starts lies in the section
+pub record IsStartField (info : List ℕ) (f : PathField) : Type 0 where
+  pub sized : (f.size ≡ 4) ⊎ (f.size ≡ 8)
+  pub inside : f.at + f.size ≤ length info
+
+-- each of these does
+pub record AreStartFields (info : List ℕ) (fields : List PathField) : Type 0 where
+  pub each : (k : ℕ) (d : PathField) → k < length fields → IsStartField info (get_or fields k d)
+
+-- two fields have no byte in common
+abbrev pub AreApart : PathField → PathField → Type 0
+AreApart f g = (g.at + g.size ≤ f.at) ⊎ (f.at + f.size ≤ g.at)
+
+-- a field has none in common with any of these
+abbrev pub IsApartFrom : PathField → List PathField → Type 0
+IsApartFrom f [] = ⊤
+IsApartFrom f (g ∷ gs) = AreApart f g × IsApartFrom f gs
+
+-- no two of these have one in common
+abbrev pub AllApart : List PathField → Type 0
+AllApart [] = ⊤
+AllApart (f ∷ fs) = IsApartFrom f fs × AllApart fs

@@ -1,0 +1,77 @@
+-- What was found of paths in the debug data of a view, by its readings; and why there is nothing.
+use Rattle.std.specs.Prelude.{◌≡◌, ℕ, ◌-◌, List, [], ◌++◌, length, take}
+use Rattle.dw_lines.specs.ViewTables.{tables_read}
+use Rattle.dw_meaning.specs.DataFails.{IndexesRead, InlineFails, SlotTextFails, StartsFail}
+use Rattle.dw_meaning.specs.DataOutput.{DataReads}
+use Rattle.dw_base.specs.DebugData.{DebugData, DataReadings, around_of, line_source}
+use Rattle.dw_base.specs.FileViews.{View}
+use Rattle.dw_base.specs.IndexFails.{SharedFails, SlotFits}
+use Rattle.dw_base.specs.LineTables.{LineTable}
+use Rattle.dw_base.specs.NameTableFails.{NameTablesFail}
+use Rattle.dw_base.specs.Paths.{PathMap}
+use Rattle.dw_base.specs.Pieces.{EachPiece}
+use Rattle.dw_base.specs.Readings.{EachReading}
+use Rattle.dw_base.specs.Slots.{slots_of}
+use Rattle.dw_base.specs.StringOffsetFails.{ContributionsFail}
+use Rattle.dw_base.specs.TextChanges.{InlineFits}
+use Rattle.dw_base.specs.ViewData.{debug_data, string_offsets}
+use Rattle.dw_base.specs.declared.fault.Refusal.{Refusal}
+use Rattle.dw_base.specs.declared.string_offsets.Contribution.{Contribution}
+use Rattle.dw_offsets.specs.PathSlots.{SlotsTaken, slots_in}
+use Rattle.dw_offsets.specs.declared.slot_fields.PathSlot.{PathSlot}
+use Rattle.dw_find.specs.IndexedTexts.{TextsRefuse}
+use Rattle.dw_find.specs.ViewFields.{AllHaveFields, AllHavePaths, AllRoomsFit}
+use Rattle.dw_find.specs.SlotPaths.{as_fields, lines_count, slots_of_view, slots_read}
+use Rattle.dw_find.specs.TextPlaces.{AllPlaced, AllFitRooms, AllStarts}
+use Rattle.dw_find.specs.UnitPaths.{UnitPaths, paths_of}
+use Rattle.dw_find.specs.UnitTexts.{HasUnbuilt, UnitsRefuse}
+use Rattle.dw_find.specs.ViewLines.{lines_of_view}
+
+-- the unit sections of debug data can be read and say this of paths, each path that stands in its value fits its room, each value that is
+-- to say where a line table starts names one of these starts, and no value is of a kind that isn't taken yet
+pub record UnitsFound (m : PathMap) (d : DebugData) (starts : List ℕ) (us : List UnitPaths) : Type 0 where
+  pub placed : AllPlaced d d.units us
+  pub fits : AllFitRooms m d.units us
+  pub named : AllStarts d starts d.units us
+  pub built : HasUnbuilt d → ⊥
+
+-- why they can't be taken: a unit can't be, a value by index names no slot, or a path that stands in its value would grow
+pub data UnitPathsRefuse (m : PathMap) (d : DebugData) (list : List Contribution) : Refusal → Type 0 where
+  texts : {r : Refusal} → TextsRefuse d list r → UnitPathsRefuse m d list r
+  inline : {r : Refusal} → InlineFails m d r → UnitPathsRefuse m d list r
+
+-- what the slots say of paths was put behind what the units say
+pub record SlotsFound (m : PathMap) (v : View) (list : List Contribution) (marks : List ℕ) (old new : List UnitPaths) : Type 0 where
+  pub fields : List PathSlot
+  pub taken : SlotsTaken m (slots_in v) marks (slots_of list) [] fields
+  pub is : new ≡ old ++ slots_of_view v (as_fields fields)
+
+-- the sections without that of line tables, which is the last, if there is one
+abbrev pub without_lines : View → List UnitPaths → List UnitPaths
+without_lines v us = take (length us - lines_count v) us
+
+-- the debug data of a view can be read, its line tables are these, its paths fit the rooms in which they stand, its slots can be mapped,
+-- and no value is of a kind that isn't taken yet; its unit sections say this of paths, behind them its slots, and behind these its line
+-- tables. All of these are fields of the view.
+pub record PathsFound (m : PathMap) (v : View) (us : List UnitPaths) (ts : List LineTable) : Type 0 where
+  pub readings : DataReadings
+  pub reads : DataReads (debug_data v) readings
+  pub inline : EachReading (InlineFits m) readings.units
+  pub slots : EachPiece (SlotFits m (around_of (debug_data v) readings)) readings.offsets
+  pub built : HasUnbuilt (debug_data v) → ⊥
+  pub fields : AllHaveFields v us
+  pub have : AllHavePaths v (without_lines v us)
+  pub rooms : AllRoomsFit m v (without_lines v us)
+  pub is : us ≡ (paths_of readings.units ++ slots_read v readings) ++ lines_of_view v ts
+  pub tables : ts ≡ tables_read (line_source (debug_data v)) readings.lines
+
+-- why it can't be
+pub data PathsRefuse (m : PathMap) (v : View) : Refusal → Type 0 where
+  units : {r : Refusal} → UnitsRefuse (debug_data v) r → PathsRefuse m v r
+  starts : {r : Refusal} → StartsFail (debug_data v) r → PathsRefuse m v r
+  inline : {r : Refusal} → InlineFails m (debug_data v) r → PathsRefuse m v r
+  string_tables : {r : Refusal} → ContributionsFail v.order (string_offsets v) r → PathsRefuse m v r
+  name_tables : {r : Refusal} → NameTablesFail v r → PathsRefuse m v r
+  slots : {r : Refusal} → SlotTextFails (debug_data v) r → PathsRefuse m v r
+  shared : (readings : DataReadings) {r : Refusal} → IndexesRead (debug_data v) readings
+      → SharedFails m (debug_data v).offsets.number (around_of (debug_data v) readings) readings.offsets r → PathsRefuse m v r

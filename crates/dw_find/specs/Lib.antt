@@ -1,0 +1,14 @@
+pub mod Fields
+pub mod UnitPaths
+pub mod TextPlaces
+pub mod EntryTexts
+pub mod NamedSlots
+pub mod UnitTexts
+pub mod IndexedTexts
+pub mod InlineRooms
+pub mod ViewFields
+pub mod LineStarts
+pub mod ViewLines
+pub mod SlotPaths
+pub mod FoundPaths
+pub mod ReadData

@@ -1,0 +1,52 @@
+-- What the section of string offsets says of paths: the fields of the slots that paths name (DWARF 5, 7.26).
+use Rattle.std.specs.Prelude.{ℕ, List, [], ◌∷◌, ◌++◌, length, Option, Some, None}
+use Rattle.dw_base.specs.DebugData.{DebugData, DataReadings, around_of, path_slots}
+use Rattle.dw_base.specs.DebugSections.{name_of}
+use Rattle.dw_base.specs.FileViews.{View, section_named}
+use Rattle.dw_base.specs.Forms.{TextSection, in_str}
+use Rattle.dw_base.specs.OffsetPieces.{OffsetState}
+use Rattle.dw_base.specs.Pieces.{Piece}
+use Rattle.dw_base.specs.SectionTexts.{slot_role}
+use Rattle.dw_base.specs.ViewData.{debug_data}
+use Rattle.dw_base.specs.declared.debug_sections.DebugSection.TheVariants.{Line, StrOffsets}
+use Rattle.dw_offsets.specs.declared.slot_fields.PathSlot.{PathSlot}
+use Rattle.dw_find.specs.UnitPaths.{UnitPaths, field_by}
+use Rattle.dw_find.specs.declared.fields.PathField.{PathField}
+
+-- the fields of slots as fields of paths
+abbrev pub as_fields : List PathSlot → List PathField
+as_fields [] = []
+as_fields (s ∷ ss) = record { at = s.at; size = s.size } ∷ as_fields ss
+
+-- the fields of paths' offsets into a table among pieces of string offsets
+abbrev pub offset_fields : TextSection → List ℕ → List (Piece OffsetState) → List PathField
+offset_fields table paths [] = []
+offset_fields table paths (x ∷ xs) = field_by table (slot_role paths x.state) x.state.place (length x.cells) ++ offset_fields table paths xs
+
+-- what a section of string offsets says of paths, by its number and these fields
+abbrev pub slots_with : ℕ → List PathField → UnitPaths
+slots_with number fields = record { number = number; str = fields; line_str = []; inline = []; starts = []; stray = None }
+
+-- the same of the section of a view, where there is one
+abbrev pub slots_by : Option ℕ → List PathField → List UnitPaths
+slots_by None fields = []
+slots_by (Some number) fields = slots_with number fields ∷ []
+
+abbrev pub slots_of_view : View → List PathField → List UnitPaths
+slots_of_view v fields = slots_by (section_named v (name_of StrOffsets)) fields
+
+-- the fields of the slots that paths name, by what was read
+abbrev pub read_fields : DebugData → DataReadings → List PathField
+read_fields d r = offset_fields in_str (path_slots (around_of d r)) r.offsets
+
+abbrev pub slots_read : View → DataReadings → List UnitPaths
+slots_read v r = slots_of_view v (read_fields (debug_data v) r)
+
+-- how many sections of string offsets a view has: one or none
+abbrev pub count_of : Option ℕ → ℕ
+count_of None = 0
+count_of (Some i) = 1
+
+-- how many sections of line tables it has: one or none
+abbrev pub lines_count : View → ℕ
+lines_count v = count_of (section_named v (name_of Line))

@@ -1,0 +1,147 @@
+-- What a pass over the entries of a unit, and over the units of a section, finds of texts and paths; and what it refuses.
+use Rattle.std.specs.Prelude.{◌≡◌, ℕ, ◌+◌, List, [], ◌∷◌, ◌++◌, ⊤, Option, Some, None, IsTrue}
+use Rattle.dw_base.specs.AbbreviationTables.{Abbreviation, abbreviation_of, IsTable}
+use Rattle.dw_meaning.specs.DataFails.{DataFails, TextFails}
+use Rattle.dw_base.specs.DebugData.{DebugData}
+use Rattle.dw_base.specs.EntryScans.{IsEntry, Scans, AreEntries, EntryFails}
+use Rattle.dw_base.specs.EntryValues.{HasTable, HasValue, bytes_up_to}
+use Rattle.dw_meaning.specs.FileFails.{is_unbuilt_value}
+use Rattle.dw_base.specs.Lebs.{uleb_at}
+use Rattle.dw_base.specs.Refusals.{at}
+use Rattle.dw_base.specs.UnitHeaders.{UnitSection, AreUnits}
+use Rattle.dw_base.specs.declared.fault.Kind.TheVariants.{Unbuilt}
+use Rattle.dw_base.specs.declared.fault.Refusal.{Refusal}
+use Rattle.dw_base.specs.declared.shared.Params.{Params}
+use Rattle.dw_base.specs.declared.units.Scanned.{Scanned}
+use Rattle.dw_base.specs.declared.units.UnitHeader.{UnitHeader}
+use Rattle.dw_base.specs.declared.values.Spec.{Spec}
+use Rattle.dw_base.specs.declared.values.Value.{Value}
+use Rattle.dw_find.specs.EntryTexts.{Tables, AreTaken, Found, ValuesRefuse, with_places, none_found}
+use Rattle.dw_find.specs.NamedSlots.{Slots, TakesIndexes, TakesUnits}
+use Rattle.dw_find.specs.TextPlaces.{UnitSays, entries_places, SectionSays}
+use Rattle.dw_find.specs.UnitPaths.{UnitPaths}
+
+-- an entry that a pass gave stands there
+pub record IsGiven (params : Params) (table : List Abbreviation) (bytes : List ℕ) (e : Scanned) : Type 0 where
+  pub abbreviation : Abbreviation
+  pub entry : IsEntry params table bytes e.offset abbreviation e.after
+
+-- the values of an entry, whose code stands at a place, can be taken
+abbrev pub TakenOf : Tables → Params → List ℕ → ℕ → Option Abbreviation → Type 0
+TakenOf t params bytes place None = ⊤
+TakenOf t params bytes place (Some a) = AreTaken t params bytes a.specs place
+
+abbrev pub TakenBy : Tables → Params → List Abbreviation → List ℕ → ℕ → Option (ℕ × ℕ) → Type 0
+TakenBy t params table bytes place None = ⊤
+TakenBy t params table bytes place (Some (code, size)) = TakenOf t params bytes (place + size) (abbreviation_of table code)
+
+unfoldable pub EntryTaken : Tables → Params → List Abbreviation → List ℕ → Scanned → Type 0
+EntryTaken t params table bytes e = TakenBy t params table bytes e.offset (uleb_at bytes e.offset)
+
+-- so can those of entries
+abbrev pub EntriesTaken : Tables → Params → List Abbreviation → List ℕ → List Scanned → Type 0
+EntriesTaken t params table bytes [] = ⊤
+EntriesTaken t params table bytes (e ∷ es) = EntryTaken t params table bytes e × EntriesTaken t params table bytes es
+
+-- why those of an entry can't be
+pub data EntryRefuses (t : Tables) (params : Params) (table : List Abbreviation) (bytes : List ℕ) (section : ℕ) (e : Scanned) : Refusal → Type 0 where
+  values : (a : Abbreviation) (code size : ℕ) {r : Refusal} → uleb_at bytes e.offset ≡ Some (code, size) → abbreviation_of table code ≡ Some a
+      → ValuesRefuse t params bytes section (e.offset + size) a.specs r → EntryRefuses t params table bytes section e r
+
+-- the entries of a unit were read, and what they say of paths stands behind what was found; `bytes` are those of the section
+-- up to the unit's end
+pub record ScanTaken (t : Tables) (h : UnitHeader) (table : List Abbreviation) (bytes : List ℕ) (old new : Found) : Type 0 where
+  pub items : List Scanned
+  pub entries : AreEntries h table bytes items
+  pub found : new ≡ with_places old (entries_places h.params table bytes 0 items)
+  pub taken : EntriesTaken t h.params table bytes items
+
+abbrev pub UnitTaken : Tables → UnitSection → UnitHeader → List Abbreviation → Found → Found → Type 0
+UnitTaken t z h table old new = ScanTaken t h table (bytes_up_to z h) old new
+
+-- the tables of debug data
+abbrev pub tables_of : DebugData → Tables
+tables_of d = record { str = d.str.bytes; line_str = d.line_str.bytes }
+
+-- a value that isn't taken yet stands in a unit of debug data
+pub record HasUnbuilt (d : DebugData) : Type 0 where
+  pub section : UnitSection
+  pub header : UnitHeader
+  pub table : List Abbreviation
+  pub number : ℕ
+  pub abbreviation : Abbreviation
+  pub spec : Spec
+  pub place : ℕ
+  pub value : Value
+  pub there : HasTable d section header table
+  pub stands : HasValue header table (bytes_up_to section header) number abbreviation spec place value
+  pub unbuilt : IsTrue (is_unbuilt_value spec)
+
+-- why the units of debug data can't be taken
+pub data UnitsRefuse (d : DebugData) : Refusal → Type 0 where
+  data_fails : {r : Refusal} → DataFails d r → UnitsRefuse d r
+  text_fails : {r : Refusal} → TextFails d r → UnitsRefuse d r
+  unbuilt : HasUnbuilt d → UnitsRefuse d (at Unbuilt 0 0)
+
+-- why a unit can't be: its entries can't be read, or an entry's values not be taken, behind entries that were
+pub data UnitRefuses (t : Tables) (h : UnitHeader) (table : List Abbreviation) (bytes : List ℕ) : Refusal → Type 0 where
+  entries : {r : Refusal} → EntryFails h table bytes r → UnitRefuses t h table bytes r
+  entry : (items : List Scanned) (e : Scanned) (depth : ℕ) (a : Abbreviation) {r : Refusal} → Scans h table bytes items e.offset depth
+      → IsEntry h.params table bytes e.offset a e.after → EntryRefuses t h.params table bytes h.section e r
+      → UnitRefuses t h table bytes r
+
+-- a unit was taken, with its table of abbreviations: what it says by index went to the slots
+pub record OneTaken (d : DebugData) (z : UnitSection) (h : UnitHeader) (old new : Found) (before now : Slots) : Type 0 where
+  pub table : List Abbreviation
+  pub declares : IsTable d.base.abbrevs.bytes h.abbrevs table
+  pub found : Found
+  pub scan : ScanTaken (tables_of d) h table (bytes_up_to z h) old found
+  pub slots : TakesIndexes h.section found.base found.indexes before now
+  pub ends : new ≡ none_found found.paths
+
+-- a unit whose entries were taken, and units of a section
+pub record IsUnitTaken (d : DebugData) (z : UnitSection) (h : UnitHeader) : Type 0 where
+  pub table : List Abbreviation
+  pub declares : IsTable d.base.abbrevs.bytes h.abbrevs table
+  pub items : List Scanned
+  pub entries : AreEntries h table (bytes_up_to z h) items
+  pub taken : EntriesTaken (tables_of d) h.params table (bytes_up_to z h) items
+
+abbrev pub UnitsTaken : DebugData → UnitSection → List UnitHeader → Type 0
+UnitsTaken d z [] = ⊤
+UnitsTaken d z (h ∷ hs) = IsUnitTaken d z h × UnitsTaken d z hs
+
+-- what the units of a section say of paths, all of which were taken
+pub record SectionTaken (d : DebugData) (z : UnitSection) (u : UnitPaths) : Type 0 where
+  pub says : SectionSays d z u
+  pub list : List UnitHeader
+  pub units : AreUnits d.base z list
+  pub taken : UnitsTaken d z list
+
+-- and what these units say by index went to the slots
+pub record SectionIndexed (d : DebugData) (z : UnitSection) (u : UnitPaths) (before now : Slots) : Type 0 where
+  pub taken : SectionTaken d z u
+  pub slots : TakesUnits taken.says.section.units before now
+
+-- so do those of sections
+abbrev pub AllTaken : DebugData → List UnitSection → List UnitPaths → Type 0
+AllTaken d [] [] = ⊤
+AllTaken d [] (u ∷ us) = ⊥
+AllTaken d (z ∷ zs) [] = ⊥
+AllTaken d (z ∷ zs) (u ∷ us) = SectionTaken d z u × AllTaken d zs us
+
+-- what the units of these sections say, one after another
+abbrev pub units_taken : (d : DebugData) (zs : List UnitSection) (us : List UnitPaths) → AllTaken d zs us → List UnitSays
+units_taken d [] [] all = []
+units_taken d [] (u ∷ us) all = []
+units_taken d (z ∷ zs) [] all = []
+units_taken d (z ∷ zs) (u ∷ us) all = all.0.says.section.units ++ units_taken d zs us all.1
+
+-- all of it went to the slots
+pub record AllIndexed (d : DebugData) (zs : List UnitSection) (us : List UnitPaths) (before now : Slots) : Type 0 where
+  pub taken : AllTaken d zs us
+  pub slots : TakesUnits (units_taken d zs us taken) before now
+
+-- the tables of abbreviations that are kept by their offsets are those of the debug data
+pub record AreTables (d : DebugData) (shared : ℕ → Option (List Abbreviation)) : Type 0 where
+  pub each : (at : ℕ) (table : List Abbreviation) → shared at ≡ Some table → IsTable d.base.abbrevs.bytes at table

@@ -1,0 +1,78 @@
+-- Fields and rooms of paths in the sections of a view, and the tables of texts that they name.
+use Rattle.std.specs.Prelude.{ℕ, ◌<◌, List, [], ◌∷◌, ◌++◌, length, ⊤}
+use Rattle.dw_base.specs.DebugData.{DebugData}
+use Rattle.dw_base.specs.FileViews.{View, section_bytes}
+use Rattle.dw_base.specs.Forms.{TextSection, in_str, in_line_str}
+use Rattle.dw_base.specs.Paths.{PathMap}
+use Rattle.dw_base.specs.ViewData.{debug_data}
+use Rattle.dw_base.specs.declared.debug_sections.DebugSection.{DebugSection}
+use Rattle.dw_base.specs.declared.debug_sections.DebugSection.TheVariants.{Str as str_section, LineStr as line_str_section}
+use Rattle.dw_find.specs.Fields.{OffsetTable, AllApart, ArePathFields, AreStartFields}
+use Rattle.dw_find.specs.InlineRooms.{AreRooms}
+use Rattle.dw_find.specs.TextPlaces.{InlinesFit}
+use Rattle.dw_find.specs.UnitPaths.{UnitPaths}
+use Rattle.dw_find.specs.declared.fields.PathField.{PathField}
+use Rattle.dw_find.specs.declared.tables.TextsOf.{TextsOf}
+use Rattle.dw_find.specs.declared.tables.TextsOf.TheVariants.{Str, LineStr}
+
+-- a table of texts as the code has it
+abbrev pub as_table : TextsOf → TextSection
+as_table Str = in_str
+as_table LineStr = in_line_str
+
+-- the section that it is
+abbrev pub section_of : TextsOf → DebugSection
+section_of Str = str_section
+section_of LineStr = line_str_section
+
+-- the table of a section of texts, and the byte order of fields
+abbrev pub offsets_of : DebugData → TextSection → OffsetTable
+offsets_of d in_str = record { order = d.base.order; bytes = d.str.bytes }
+offsets_of d in_line_str = record { order = d.base.order; bytes = d.line_str.bytes }
+
+abbrev pub table_number : DebugData → TextSection → ℕ
+table_number d in_str = d.str.number
+table_number d in_line_str = d.line_str.number
+
+abbrev pub offsets_in : View → TextSection → OffsetTable
+offsets_in v table = offsets_of (debug_data v) table
+
+-- the fields of paths' offsets into a table
+abbrev pub fields_of : TextSection → UnitPaths → List PathField
+fields_of in_str u = u.str
+fields_of in_line_str u = u.line_str
+
+-- the bytes of a section that says this of paths
+abbrev pub info_of : View → UnitPaths → List ℕ
+info_of v u = section_bytes v u.number
+
+-- a section of a view: it is there, its fields of paths and of line tables are fields of which no two have a byte in common, and its paths
+-- that stand in their values have rooms
+pub record HasPaths (v : View) (u : UnitPaths) : Type 0 where
+  pub there : u.number < length v.sections
+  pub str : ArePathFields (offsets_in v in_str) (info_of v u) u.str
+  pub line_str : ArePathFields (offsets_in v in_line_str) (info_of v u) u.line_str
+  pub starts : AreStartFields (info_of v u) u.starts
+  pub apart : AllApart (u.str ++ (u.line_str ++ u.starts))
+  pub rooms : AreRooms (info_of v u) u.inline
+
+-- its fields of paths' offsets are fields
+pub record HasFields (v : View) (u : UnitPaths) : Type 0 where
+  pub there : u.number < length v.sections
+  pub str : ArePathFields (offsets_in v in_str) (info_of v u) u.str
+  pub line_str : ArePathFields (offsets_in v in_line_str) (info_of v u) u.line_str
+
+-- those of all of these are
+abbrev pub AllHaveFields : View → List UnitPaths → Type 0
+AllHaveFields v [] = ⊤
+AllHaveFields v (u ∷ us) = HasFields v u × AllHaveFields v us
+
+-- so have all of these
+abbrev pub AllHavePaths : View → List UnitPaths → Type 0
+AllHavePaths v [] = ⊤
+AllHavePaths v (u ∷ us) = HasPaths v u × AllHavePaths v us
+
+-- each path that stands in its value fits its room when it is mapped
+abbrev pub AllRoomsFit : PathMap → View → List UnitPaths → Type 0
+AllRoomsFit m v [] = ⊤
+AllRoomsFit m v (u ∷ us) = InlinesFit m (info_of v u) u.inline × AllRoomsFit m v us

@@ -1,0 +1,59 @@
+-- The line tables of a view, as they were read: where they start, the fields of their paths by offset, and the tables with mapped paths, from new places
+-- by old ones (DWARF 5, 6.2.4).
+use Rattle.std.specs.Prelude.{Bool, ℕ, ◌==◌, ◌&&◌, not, if◌then◌else◌, List, [], ◌∷◌, ◌++◌, Option, Some, None}
+use Rattle.dw_base.specs.DebugData.{line_source}
+use Rattle.dw_base.specs.DebugSections.{name_of}
+use Rattle.dw_base.specs.FileViews.{View, section_named}
+use Rattle.dw_base.specs.Forms.{TextSection, in_str, in_line_str, width_size}
+use Rattle.dw_base.specs.LineSources.{LineSource}
+use Rattle.dw_base.specs.LineTables.{LineTable}
+use Rattle.dw_base.specs.ViewData.{debug_data}
+use Rattle.dw_base.specs.WrittenLines.{paths_of}
+use Rattle.dw_base.specs.declared.debug_sections.DebugSection.TheVariants.{Line}
+use Rattle.dw_base.specs.declared.line_tables.TextPlace.{TextPlace}
+use Rattle.dw_base.specs.declared.shared.Width.{Width}
+use Rattle.dw_find.specs.UnitPaths.{UnitPaths}
+use Rattle.dw_find.specs.declared.fields.PathField.{PathField}
+
+-- where tables start
+abbrev pub starts_of : List LineTable → List ℕ
+starts_of [] = []
+starts_of (t ∷ ts) = t.start ∷ starts_of ts
+
+-- a text lies in a table of texts: not in its line table, whose section has a number, and not in the other; by the number of the
+-- first table of texts
+abbrev pub is_text_of : ℕ → ℕ → TextSection → TextPlace → Bool
+is_text_of section str in_str x = not (x.section == section) && x.section == str
+is_text_of section str in_line_str x = not (x.section == section) && not (x.section == str)
+
+-- the field of its offset, where it lies there
+abbrev pub text_field : ℕ → ℕ → TextSection → Width → TextPlace → List PathField
+text_field section str table w x = if is_text_of section str table x then record { at = x.field; size = width_size w } ∷ [] else []
+
+abbrev pub text_fields : ℕ → ℕ → TextSection → Width → List TextPlace → List PathField
+text_fields section str table w [] = []
+text_fields section str table w (x ∷ xs) = text_field section str table w x ++ text_fields section str table w xs
+
+-- those of the paths of line tables: of each its directories, then its files
+abbrev pub table_fields : ℕ → ℕ → TextSection → List LineTable → List PathField
+table_fields section str table [] = []
+table_fields section str table (t ∷ ts) = text_fields section str table t.width (paths_of t) ++ table_fields section str table ts
+
+-- what line tables say of paths
+abbrev pub lines_with : LineSource → List LineTable → UnitPaths
+lines_with g ts = record {
+  number = g.number;
+  str = table_fields g.number g.str.number in_str ts;
+  line_str = table_fields g.number g.str.number in_line_str ts;
+  inline = [];
+  starts = [];
+  stray = None;
+}
+
+-- the same of those of a view, where it has any
+abbrev pub lines_by : Option ℕ → LineSource → List LineTable → List UnitPaths
+lines_by None g ts = []
+lines_by (Some i) g ts = lines_with g ts ∷ []
+
+abbrev pub lines_of_view : View → List LineTable → List UnitPaths
+lines_of_view v ts = lines_by (section_named v (name_of Line)) (line_source (debug_data v)) ts

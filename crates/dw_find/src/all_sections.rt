@@ -1,0 +1,86 @@
+//! What all unit sections of a view say of paths, in the order of their numbers.
+
+ghost use Rattle.std.specs.Prelude.{◌≡◌, IfErr, IfOk, OnOk, length};
+ghost use Rattle.dw_base.specs.Refusals.{Blames};
+ghost use Rattle.dw_base.specs.ViewData.{debug_data};
+ghost use Rattle.dw_entries.specs.SectionOrder.{AreSections};
+ghost use Rattle.dw_find.specs.IndexedTexts.{TablesStart, TextsIndexed, TextsRefuse};
+ghost use Rattle.dw_find.specs.NamedSlots.{no_slots};
+ghost use Rattle.dw_find.specs.TextPlaces.{AllStarts};
+ghost use Rattle.dw_find.specs.UnitTexts.{AllIndexed, AllTaken, UnitsRefuse, tables_of};
+
+use crate::found::{TextTables, UnitPaths};
+use crate::sections::section_texts;
+use crate::slots::NamedSlots;
+use crate::starts::all_start;
+use dw_base::Fault;
+use dw_entries::unit_sections;
+use dw_view::View;
+use std::alloc::Global;
+use std::collections::HashMap;
+
+/// What the unit sections of the view say of paths; exactly the slots that their values name by index are
+/// marked, and each value that is to say where a line table starts names one of these starts. Refused where a unit of
+/// one can't be read, names no text, or isn't taken yet, and behind the last unit as `StringTable`, at the first value by
+/// index that names no slot, or as `Stray`, at a value that names no line table.
+#[tactic(auto, using(crate::proofs::IndexedLaws::whole_rules))]
+pub(crate) fn all_texts(
+    alloc: Global,
+    view: &View,
+    tables: &TextTables,
+    starts: &[u64],
+    slots: &mut NamedSlots,
+) -> Result<Vec<UnitPaths>, Fault>
+    requires tables { tables.now ≡ tables_of (debug_data view.now) }
+    requires none { slots.old ≡ no_slots slots.old.list (length slots.old.marks) }
+    requires starts { TablesStart (debug_data view.now) starts.now }
+    ensures taken { IfOk result (λ us. AllTaken (debug_data view.now) (debug_data view.now).units us.items) }
+    ensures indexed { OnOk result (TextsIndexed (debug_data view.now) slots.old.list slots.new.marks) }
+    ensures starts { IfOk result (λ us. AllStarts (debug_data view.now) starts.now (debug_data view.now).units us.items) }
+    ensures refused { IfErr result (Blames (TextsRefuse (debug_data view.now) slots.old.list)) }
+{
+    let found = read_all(alloc, view, tables, slots)?;
+    if let Some(refusal) = slots.missing() {
+        return Err(refusal.into());
+    }
+    all_start(view, starts, found.as_slice())?;
+    Ok(found)
+}
+
+/// What the unit sections of the view say of paths, with the slots that their values name.
+fn read_all(
+    alloc: Global,
+    view: &View,
+    tables: &TextTables,
+    slots: &mut NamedSlots,
+) -> Result<Vec<UnitPaths>, Fault>
+    requires tables { tables.now ≡ tables_of (debug_data view.now) }
+    ensures taken { IfOk result (λ us. AllIndexed (debug_data view.now) (debug_data view.now).units us.items slots.old slots.new) }
+    ensures refused { IfErr result (Blames (UnitsRefuse (debug_data view.now))) }
+{
+    let sections = unit_sections(alloc, view)?;
+    read_sections(alloc, view, tables, sections.as_slice(), slots)
+}
+
+/// The same of the sections of these numbers, which are all unit sections of the view.
+#[tactic(auto, using(crate::proofs::SectionListLaws::all_rules))]
+fn read_sections(
+    alloc: Global,
+    view: &View,
+    tables: &TextTables,
+    sections: &[u32],
+    slots: &mut NamedSlots,
+) -> Result<Vec<UnitPaths>, Fault>
+    requires tables { tables.now ≡ tables_of (debug_data view.now) }
+    requires sections { AreSections view.now sections.now }
+    ensures taken { IfOk result (λ us. AllIndexed (debug_data view.now) (debug_data view.now).units us.items slots.old slots.new) }
+    ensures refused { IfErr result (Blames (UnitsRefuse (debug_data view.now))) }
+{
+    let mut found = Vec::new(alloc);
+    let mut shared = HashMap::new(alloc);
+    for section in sections {
+        let paths = section_texts(alloc, view, tables, *section, &mut shared, slots)?;
+        found.push(paths)?;
+    }
+    Ok(found)
+}

@@ -1,0 +1,32 @@
+//! What a unit section says of texts and line tables: the fields that hold offsets of source paths, or say where line
+//! tables start, the paths that stand in their values, and the values that name texts by index (DWARF 5, 7.5.5,
+//! class string, and 3.1.1).
+
+/// A field that holds the offset of a path's text, or that says where a line table starts.
+#[derive(Clone, Copy)]
+pub struct PathField {
+    /// Where it stands, in bytes from the section's start.
+    pub at: u64,
+    /// How many bytes it has: 4 or 8.
+    pub size: u8,
+}
+
+/// A path that stands in its value.
+#[derive(Clone, Copy)]
+pub struct InlinePath {
+    /// Where it stands, in bytes from the section's start.
+    pub at: u64,
+    /// How many bytes it has before its NUL.
+    pub len: u64,
+}
+
+/// A value that names a text by index.
+#[derive(Clone, Copy)]
+pub(crate) struct TextIndex {
+    /// Where it stands, its form with it where that stands in front; in bytes from the section's start.
+    pub place: u64,
+    /// It holds a path.
+    pub path: bool,
+    /// The index.
+    pub index: u64,
+}

@@ -1,0 +1,142 @@
+//! What the units of a unit section of a view say of paths, and which slots they name by index.
+//!
+//! Read first: `specs/UnitTexts.antt`.
+
+ghost use Rattle.std.specs.Prelude.{◌≡◌, true, is_some, nat_eq, IfErr, IfOk, OnOk};
+ghost use Rattle.std.specs.HashMap.{get};
+ghost use Rattle.dw_base.specs.AbbreviationFails.{AbbreviationFails};
+ghost use Rattle.dw_base.specs.AbbreviationTables.{IsTable};
+ghost use Rattle.dw_base.specs.EntryValues.{HasUnit};
+ghost use Rattle.dw_base.specs.Refusals.{Blames};
+ghost use Rattle.dw_base.specs.UnitHeaders.{AreUnits};
+ghost use Rattle.dw_base.specs.ViewData.{debug_data};
+ghost use Rattle.dw_entries.specs.ViewUnits.{IsUnitSection, unit_section_at};
+ghost use Rattle.dw_find.specs.UnitTexts.{AreTables, OneTaken, SectionIndexed, UnitsRefuse, tables_of};
+
+use crate::found::{Found, TextTables, UnitPaths};
+use crate::slots::NamedSlots;
+use crate::units::unit_texts;
+use dw_abbrev::AbbrevTable;
+use dw_base::{DebugSection, Fault, UnitHeader};
+use dw_entries::unit_headers;
+use dw_view::View;
+use std::alloc::Global;
+use std::collections::HashMap;
+
+/// What the units of a unit section of the view say of paths. Refused where they can't be read, name no
+/// text, or aren't taken yet.
+#[tactic(auto, using(crate::proofs::UnitRowLaws::section_rules))]
+pub(crate) fn section_texts(
+    alloc: Global,
+    view: &View,
+    tables: &TextTables,
+    section: u32,
+    shared: &mut HashMap<u64, AbbrevTable>,
+    slots: &mut NamedSlots,
+) -> Result<UnitPaths, Fault>
+    requires there { IsUnitSection view.now section }
+    requires tables { tables.now ≡ tables_of (debug_data view.now) }
+    requires shared { AreTables (debug_data view.now) (λ at. get nat_eq shared.old at) }
+    ensures shared { OnOk result (AreTables (debug_data view.now) (λ at. get nat_eq shared.new at)) }
+    ensures taken { IfOk result (λ u. SectionIndexed (debug_data view.now) (unit_section_at view.now section) u slots.old slots.new) }
+    ensures refused { IfErr result (Blames (UnitsRefuse (debug_data view.now))) }
+{
+    let units = unit_headers(alloc, view, section)?;
+    units_texts(
+        alloc,
+        view,
+        tables,
+        section,
+        units.as_slice(),
+        shared,
+        slots,
+    )
+}
+
+/// The same, from the units of the section.
+#[tactic(auto, using(crate::proofs::UnitRowLaws::units_rules))]
+fn units_texts(
+    alloc: Global,
+    view: &View,
+    tables: &TextTables,
+    section: u32,
+    units: &[UnitHeader],
+    shared: &mut HashMap<u64, AbbrevTable>,
+    slots: &mut NamedSlots,
+) -> Result<UnitPaths, Fault>
+    requires there { IsUnitSection view.now section }
+    requires tables { tables.now ≡ tables_of (debug_data view.now) }
+    requires shared { AreTables (debug_data view.now) (λ at. get nat_eq shared.old at) }
+    requires units { AreUnits (debug_data view.now).base (unit_section_at view.now section) units.now }
+    ensures shared { OnOk result (AreTables (debug_data view.now) (λ at. get nat_eq shared.new at)) }
+    ensures taken { IfOk result (λ u. SectionIndexed (debug_data view.now) (unit_section_at view.now section) u slots.old slots.new) }
+    ensures refused { IfErr result (Blames (UnitsRefuse (debug_data view.now))) }
+{
+    let mut found = Found::new(alloc, section);
+    for unit in units {
+        one_unit(alloc, view, tables, unit, shared, &mut found, slots)?;
+    }
+    Ok(found.paths)
+}
+
+/// Takes a unit of the view, with its table of abbreviations, which is kept for other units; what it says by
+/// index goes to the slots, and is forgotten.
+#[tactic(auto, using(crate::proofs::UnitRowLaws::one_rules))]
+fn one_unit(
+    alloc: Global,
+    view: &View,
+    tables: &TextTables,
+    unit: &UnitHeader,
+    shared: &mut HashMap<u64, AbbrevTable>,
+    found: &mut Found,
+    slots: &mut NamedSlots,
+) -> Result<(), Fault>
+    requires unit { HasUnit (debug_data view.now) (unit_section_at view.now unit.now.section) unit.now }
+    requires tables { tables.now ≡ tables_of (debug_data view.now) }
+    requires shared { AreTables (debug_data view.now) (λ at. get nat_eq shared.old at) }
+    ensures shared { OnOk result (AreTables (debug_data view.now) (λ at. get nat_eq shared.new at)) }
+    ensures taken { OnOk result (OneTaken (debug_data view.now) (unit_section_at view.now unit.now.section) unit.now found.old found.new slots.old slots.new) }
+    ensures refused { IfErr result (Blames (UnitsRefuse (debug_data view.now))) }
+{
+    read_table(alloc, view, unit.abbrevs, shared)?;
+    let Some(table) = shared.get(&unit.abbrevs) else {
+        unreachable!()
+    };
+    unit_texts(view, tables, unit, table, found)?;
+    slots.take(unit.section, found.base, found.indexes.as_slice());
+    found.end_unit();
+    Ok(())
+}
+
+/// Reads the table of abbreviations at an offset, if it wasn't read before.
+#[tactic(auto, using(crate::proofs::SharedLaws::read_rules))]
+fn read_table(
+    alloc: Global,
+    view: &View,
+    at: u64,
+    shared: &mut HashMap<u64, AbbrevTable>,
+) -> Result<(), Fault>
+    requires shared { AreTables (debug_data view.now) (λ at. get nat_eq shared.old at) }
+    ensures shared { OnOk result (AreTables (debug_data view.now) (λ at. get nat_eq shared.new at)) }
+    ensures there { OnOk result (is_some (get nat_eq shared.new at) ≡ true) }
+    ensures refused { IfErr result (Blames (AbbreviationFails (debug_data view.now).base.abbrevs.bytes (debug_data view.now).base.abbrevs.number at)) }
+{
+    if shared.contains_key(&at) {
+        return Ok(());
+    }
+    let table = table_at(alloc, view, at)?;
+    shared.insert(at, table)?;
+    Ok(())
+}
+
+/// The table of abbreviations at an offset of the view's `.debug_abbrev`.
+#[tactic(auto, using(crate::proofs::UnitRowLaws::table_rules))]
+fn table_at(alloc: Global, view: &View, at: u64) -> Result<AbbrevTable, Fault>
+    ensures table { IfOk result (λ t. IsTable (debug_data view.now).base.abbrevs.bytes at t) }
+    ensures refused { IfErr result (Blames (AbbreviationFails (debug_data view.now).base.abbrevs.bytes (debug_data view.now).base.abbrevs.number at)) }
+{
+    match view.first(DebugSection::Abbrev) {
+        Some(section) => AbbrevTable::read(alloc, section, view.bytes(section), at),
+        None => AbbrevTable::read(alloc, 0, b"", at),
+    }
+}

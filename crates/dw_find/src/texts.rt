@@ -1,0 +1,294 @@
+//! The texts that the values of an entry name, the paths among them, and what they say by index (DWARF 5,
+//! 7.5.4 to 7.5.6), and where they say that line tables start (3.1.1).
+//!
+//! Read first: `specs/TextPlaces.antt`, then `specs/EntryTexts.antt`.
+
+ghost use Rattle.std.specs.Prelude.{◌≡◌, ◌⊎◌, ◌+◌, ◌^◌, ◌≤◌, ◌<◌, ◌==◌, ◌&&◌, not, true, false, length, IsTrue, IfErr, IfOk, OnOk, Some};
+ghost use Rattle.dw_base.specs.FormFails.{FormFails};
+ghost use Rattle.dw_base.specs.Values.{value_at};
+ghost use Rattle.dw_meaning.specs.FileFails.{is_unbuilt_value};
+ghost use Rattle.dw_base.specs.Refusals.{Blames, at};
+ghost use Rattle.dw_base.specs.Roles.{is_path};
+ghost use Rattle.dw_base.specs.TextIndexes.{is_base};
+ghost use Rattle.dw_base.specs.UnitHeaders.{is_address_size};
+ghost use Rattle.dw_base.specs.declared.dwarf_numbers.TheConstants.{DW_AT_stmt_list};
+ghost use Rattle.dw_find.specs.EntryTexts.{AreTaken, OffsetNames, OffsetSized, OneRefuses, StartSized, ValueRefuses, ValuesRefuse, ValueTaken, with_places};
+ghost use Rattle.dw_find.specs.TextPlaces.{class_places, is_start_form, line_at, own_form, own_place, stray_at, values_places};
+
+use crate::fields::{InlinePath, PathField, TextIndex};
+use crate::found::{Found, TextTables};
+use crate::refusal::unbuilt;
+use dw_base::dwarf_numbers::{
+    DW_AT_GNU_macros, DW_AT_comp_dir, DW_AT_macros, DW_AT_name, DW_AT_stmt_list,
+    DW_AT_str_offsets_base, DW_FORM_data4, DW_FORM_data8, DW_FORM_indirect, DW_FORM_sec_offset,
+    DW_TAG_compile_unit, DW_TAG_partial_unit, DW_TAG_type_unit,
+};
+use dw_base::{Fault, Kind, Refusal, Spec, UnitHeader, Value, ValueClass, uleb_at};
+use dw_forms::value_at;
+use std::alloc::AllocError;
+
+/// Takes the values of entry `number`, of a tag and with these attributes, which begin at a place of the
+/// bytes up to the unit's end: the paths among them are noted. Refused where one can't be read, names no text, or isn't taken yet.
+#[tactic(auto, using(crate::proofs::EntryTextLaws::entry_rules))]
+pub(crate) fn entry_texts(
+    tables: &TextTables,
+    unit: &UnitHeader,
+    bytes: &[u8],
+    number: u64,
+    tag: u64,
+    specs: &[Spec],
+    from: u64,
+    found: &mut Found,
+) -> Result<(), Fault>
+    requires address { IsTrue (is_address_size unit.now.params.address) }
+    requires small { length bytes.now ≤ 2 ^ 31 }
+    requires inside { from ≤ length bytes.now }
+    ensures found { OnOk result (found.new ≡ with_places found.old (values_places unit.now.params bytes.now number tag specs.now from)) }
+    ensures taken { OnOk result (AreTaken tables.now unit.now.params bytes.now specs.now from) }
+    ensures refused { IfErr result (Blames (ValuesRefuse tables.now unit.now.params bytes.now unit.now.section from specs.now)) }
+{
+    let mut place = from;
+    for spec in specs {
+        place += value_text(tables, unit, bytes, number, tag, spec, place, found)?;
+    }
+    Ok(())
+}
+
+/// Takes the value of an attribute at a place, and gives its size.
+#[tactic(auto, using(crate::proofs::EntryTextLaws::value_rules))]
+fn value_text(
+    tables: &TextTables,
+    unit: &UnitHeader,
+    bytes: &[u8],
+    number: u64,
+    tag: u64,
+    spec: &Spec,
+    place: u64,
+    found: &mut Found,
+) -> Result<u64, Fault>
+    requires address { IsTrue (is_address_size unit.now.params.address) }
+    requires small { length bytes.now ≤ 2 ^ 31 }
+    ensures taken { IfOk result (λ size. ValueTaken tables.now unit.now.params bytes.now number tag spec.now place size found.old found.new) }
+    ensures within { IfOk result (λ size. place + size ≤ length bytes.now) }
+    ensures refused { IfErr result (Blames (OneRefuses tables.now unit.now.params bytes.now unit.now.section place spec.now)) }
+{
+    let value = value_in(unit, bytes, spec, place)?;
+    if is_unbuilt_value(spec) {
+        return Err(unbuilt().into());
+    }
+    let path = is_path(number, tag, spec.name);
+    let base = is_base(number, spec.name);
+    note_start(says_start(spec, bytes, place), &value, found)?;
+    note_value(tables, unit.section, spec, place, &value, path, base, found)?;
+    note_stray(is_stray(spec, bytes, place), spec, bytes, place, found);
+    Ok(value.size)
+}
+
+/// The value of an attribute at a place of the bytes up to the unit's end.
+#[tactic(auto, using(crate::proofs::EntryTextLaws::read_rules))]
+fn value_in(unit: &UnitHeader, bytes: &[u8], spec: &Spec, place: u64) -> Result<Value, Refusal>
+    requires address { IsTrue (is_address_size unit.now.params.address) }
+    ensures value { IfOk result (λ v. value_at unit.now.params spec.now bytes.now place ≡ Some v) }
+    ensures sized { IfOk result (λ v. OffsetSized v.class v.len) }
+    ensures start { IfOk result (λ v. StartSized (own_form spec.now bytes.now place) v.len) }
+    ensures within { IfOk result (λ v. place + v.size ≤ length bytes.now) }
+    ensures refused { IfErr result (FormFails unit.now.params spec.now bytes.now unit.now.section place) }
+{
+    value_at(
+        spec,
+        &unit.params,
+        unit.section,
+        bytes,
+        place,
+        bytes.len() as u64,
+    )
+}
+
+/// An attribute whose values aren't taken yet: the place of macros.
+fn is_unbuilt_value(spec: &Spec) -> bool
+    ensures { result ≡ is_unbuilt_value spec.now }
+{
+    spec.name == DW_AT_macros || spec.name == DW_AT_GNU_macros
+}
+
+/// An attribute that says where a line table starts (DWARF 5, 3.1.1).
+fn is_line(spec: &Spec) -> bool
+    ensures { result ≡ (spec.now.name == DW_AT_stmt_list) }
+{
+    spec.name == DW_AT_stmt_list
+}
+
+/// A form that can say so; before version 4 it is a number of 4 or 8 bytes.
+fn is_start_form(form: u64) -> bool
+    ensures { result ≡ is_start_form form }
+{
+    form == DW_FORM_sec_offset || form == DW_FORM_data4 || form == DW_FORM_data8
+}
+
+/// The form of a value at a place: its attribute's, or the one in front of it (DWARF 5, 7.5.3).
+fn own_form(spec: &Spec, bytes: &[u8], place: u64) -> u64
+    ensures { result ≡ own_form spec.now bytes.now place }
+{
+    if spec.form != DW_FORM_indirect {
+        return spec.form;
+    }
+    match uleb_at(bytes, place) {
+        Some((form, _)) => form,
+        None => 0,
+    }
+}
+
+/// Where the value stands behind that.
+fn own_place(spec: &Spec, bytes: &[u8], place: u64) -> u64
+    requires small { length bytes.now ≤ 2 ^ 31 }
+    requires inside { place ≤ length bytes.now }
+    ensures { result ≡ own_place spec.now bytes.now place }
+{
+    if spec.form != DW_FORM_indirect {
+        return place;
+    }
+    match uleb_at(bytes, place) {
+        Some((_, size)) => place + size,
+        None => place,
+    }
+}
+
+/// A value at a place says where a line table starts.
+#[tactic(auto, using(crate::proofs::EntryTextLaws::says_rules))]
+fn says_start(spec: &Spec, bytes: &[u8], place: u64) -> bool
+    ensures { result ≡ ((spec.now.name == DW_AT_stmt_list) && is_start_form (own_form spec.now bytes.now place)) }
+{
+    if !is_line(spec) {
+        return false;
+    }
+    is_start_form(own_form(spec, bytes, place))
+}
+
+/// A value at a place is to say that, and has a form that can't.
+#[tactic(auto, using(crate::proofs::EntryTextLaws::says_rules))]
+fn is_stray(spec: &Spec, bytes: &[u8], place: u64) -> bool
+    ensures { result ≡ ((spec.now.name == DW_AT_stmt_list) && not (is_start_form (own_form spec.now bytes.now place))) }
+{
+    if !is_line(spec) {
+        return false;
+    }
+    !is_start_form(own_form(spec, bytes, place))
+}
+
+/// Notes the field of a value that says where a line table starts.
+#[tactic(auto, using(crate::proofs::EntryTextLaws::note_rules), unfolding(crate::specs::EntryTexts::with_places, crate::specs::EntryTexts::with_paths))]
+fn note_start(says: bool, value: &Value, found: &mut Found) -> Result<(), AllocError>
+    requires sized { says ≡ true → (value.now.len ≡ 4) ⊎ (value.now.len ≡ 8) }
+    ensures found { OnOk result (found.new ≡ with_places found.old (line_at says value.now)) }
+{
+    if says {
+        found.paths.starts.push(field_of(value))?;
+    }
+    Ok(())
+}
+
+/// Notes where the first value stands that is to say so, and has a form that can't.
+#[tactic(auto, using(crate::proofs::EntryTextLaws::note_rules), unfolding(crate::specs::EntryTexts::with_places, crate::specs::EntryTexts::with_paths))]
+fn note_stray(stray: bool, spec: &Spec, bytes: &[u8], place: u64, found: &mut Found)
+    requires small { length bytes.now ≤ 2 ^ 31 }
+    requires inside { place ≤ length bytes.now }
+    ensures found { found.new ≡ with_places found.old (stray_at (not stray) (own_place spec.now bytes.now place)) }
+{
+    if stray && found.paths.stray.is_none() {
+        found.paths.stray = Some(own_place(spec, bytes, place));
+    }
+}
+
+/// An attribute that holds a path: name or comp_dir of the first entry of a unit whose tag is a unit's
+/// (DWARF 5, 3.1.1).
+fn is_path(number: u64, tag: u64, name: u64) -> bool
+    ensures { result ≡ is_path number tag name }
+{
+    let is_unit = tag == DW_TAG_compile_unit
+        || tag == DW_TAG_partial_unit
+        || tag == DW_TAG_type_unit;
+    number == 0 && is_unit && (name == DW_AT_name || name == DW_AT_comp_dir)
+}
+
+/// An attribute that says the base of its unit's texts by index (DWARF 5, 3.1.1).
+fn is_base(number: u64, name: u64) -> bool
+    ensures { result ≡ is_base number name }
+{
+    number == 0 && name == DW_AT_str_offsets_base
+}
+
+/// Notes what a value at a place says of a path or by index, where it is a path's or a base's, or an index.
+#[tactic(auto, using(crate::proofs::EntryTextLaws::note_rules), unfolding(crate::specs::EntryTexts::with_places, crate::specs::EntryTexts::with_paths))]
+fn note_value(
+    tables: &TextTables,
+    section: u32,
+    spec: &Spec,
+    place: u64,
+    value: &Value,
+    path: bool,
+    base: bool,
+    found: &mut Found,
+) -> Result<(), Fault>
+    requires sized { OffsetSized value.now.class value.now.len }
+    ensures found { OnOk result (found.new ≡ with_places found.old (class_places value.now.class path base place value.now)) }
+    ensures names { OnOk result (OffsetNames tables.now value.now.class value.now.number) }
+    ensures refused { IfErr result (Blames (ValueRefuses tables.now section spec.now value.now)) }
+{
+    match value.class {
+        ValueClass::StrOffset => {
+            if value.number >= tables.str_end {
+                return Err(no_text(section, value.at).into());
+            }
+            if path {
+                found.paths.str.push(field_of(value))?;
+            }
+        }
+        ValueClass::LineStrOffset => {
+            if value.number >= tables.line_str_end {
+                return Err(no_text(section, value.at).into());
+            }
+            if path {
+                found.paths.line_str.push(field_of(value))?;
+            }
+        }
+        ValueClass::InlineText => {
+            if path {
+                found.paths.inline.push(InlinePath {
+                    at: value.at,
+                    len: value.len,
+                })?;
+            }
+        }
+        ValueClass::StrIndex => found.indexes.push(TextIndex {
+            place,
+            path,
+            index: value.number,
+        })?,
+        ValueClass::Number | ValueClass::SecOffset => {
+            if base && found.base.is_none() {
+                found.base = Some(value.number);
+            }
+        }
+        _ => {}
+    }
+    Ok(())
+}
+
+/// The field of a value that is an offset.
+#[tactic(auto, using(crate::proofs::EntryTextLaws::field_rules))]
+fn field_of(value: &Value) -> PathField
+    requires sized { (value.now.len ≡ 4) ⊎ (value.now.len ≡ 8) }
+    ensures { result ≡ record { at = value.now.at; size = value.now.len } }
+{
+    PathField {
+        at: value.at,
+        size: value.len as u8,
+    }
+}
+
+/// An offset that names no text.
+fn no_text(section: u32, field: u64) -> Refusal
+    ensures { result ≡ at Kind.StringOffset section field }
+{
+    Refusal::at(Kind::StringOffset, section, field)
+}

@@ -1,0 +1,95 @@
+//! The texts that the entries of a unit name, and the paths among them.
+//!
+//! Read first: `specs/UnitTexts.antt`.
+
+ghost use Rattle.std.specs.Prelude.{◌≡◌, ◌≤◌, ◌^◌, length, IsTrue, IfErr, OnOk};
+ghost use Rattle.dw_base.specs.EntryValues.{HasUnit, bytes_up_to};
+ghost use Rattle.dw_base.specs.Refusals.{Blames};
+ghost use Rattle.dw_base.specs.UnitHeaders.{is_address_size};
+ghost use Rattle.dw_base.specs.ViewData.{debug_data};
+ghost use Rattle.dw_entries.specs.ScanStates.{scan_start};
+ghost use Rattle.dw_entries.specs.ViewUnits.{unit_section_at};
+ghost use Rattle.dw_find.specs.EntryTexts.{with_places};
+ghost use Rattle.dw_find.specs.TextPlaces.{entry_places};
+ghost use Rattle.dw_find.specs.UnitTexts.{EntryRefuses, EntryTaken, IsGiven, ScanTaken, UnitRefuses, UnitTaken};
+
+use crate::found::{Found, TextTables};
+use crate::texts::entry_texts;
+use dw_abbrev::AbbrevTable;
+use dw_base::{Fault, Scanned, UnitHeader, uleb_at};
+use dw_entries::EntryScan;
+use dw_view::View;
+
+/// Takes the entries of a unit of the view, with its table of abbreviations: the paths that they say are
+/// noted. Refused where one can't be read, names no text, or isn't taken yet.
+#[tactic(auto, using(crate::proofs::ScanTextLaws::unit_rules))]
+pub(crate) fn unit_texts(
+    view: &View,
+    tables: &TextTables,
+    unit: &UnitHeader,
+    table: &AbbrevTable,
+    found: &mut Found,
+) -> Result<(), Fault>
+    requires unit { HasUnit (debug_data view.now) (unit_section_at view.now unit.now.section) unit.now }
+    ensures taken { OnOk result (UnitTaken tables.now (unit_section_at view.now unit.now.section) unit.now table.now found.old found.new) }
+    ensures refused { IfErr result (Blames (UnitRefuses tables.now unit.now table.now (bytes_up_to (unit_section_at view.now unit.now.section) unit.now))) }
+{
+    let scan = EntryScan::new(view, unit, table);
+    let bytes = &view.bytes(unit.section)[..unit.end as usize];
+    scan_texts(tables, unit, table, bytes, scan, found)
+}
+
+/// Takes the entries that a pass gives, from the first on.
+#[tactic(auto, using(crate::proofs::ScanTextLaws::scan_rules))]
+fn scan_texts(
+    tables: &TextTables,
+    unit: &UnitHeader,
+    table: &AbbrevTable,
+    bytes: &[u8],
+    scan: EntryScan,
+    found: &mut Found,
+) -> Result<(), Fault>
+    requires start { scan ≡ scan_start unit.now table.now bytes.now }
+    requires address { IsTrue (is_address_size unit.now.params.address) }
+    requires small { length bytes.now ≤ 2 ^ 31 }
+    requires inside { unit.now.first ≤ length bytes.now }
+    ensures taken { OnOk result (ScanTaken tables.now unit.now table.now bytes.now found.old found.new) }
+    ensures refused { IfErr result (Blames (UnitRefuses tables.now unit.now table.now bytes.now)) }
+{
+    let mut number = 0;
+    for entry in scan {
+        let entry = entry?;
+        scanned_texts(tables, unit, table, bytes, number, &entry, found)?;
+        number += 1;
+    }
+    Ok(())
+}
+
+/// Takes the values of an entry that a pass gave, the entry `number` of its unit.
+#[tactic(auto, using(crate::proofs::UnitTextLaws::given_rules))]
+fn scanned_texts(
+    tables: &TextTables,
+    unit: &UnitHeader,
+    table: &AbbrevTable,
+    bytes: &[u8],
+    number: u64,
+    entry: &Scanned,
+    found: &mut Found,
+) -> Result<(), Fault>
+    requires address { IsTrue (is_address_size unit.now.params.address) }
+    requires small { length bytes.now ≤ 2 ^ 31 }
+    requires given { IsGiven unit.now.params table.now bytes.now entry.now }
+    ensures found { OnOk result (found.new ≡ with_places found.old (entry_places unit.now.params table.now bytes.now number entry.now)) }
+    ensures taken { OnOk result (EntryTaken tables.now unit.now.params table.now bytes.now entry.now) }
+    ensures refused { IfErr result (Blames (EntryRefuses tables.now unit.now.params table.now bytes.now unit.now.section entry.now)) }
+{
+    let Some((code, size)) = uleb_at(bytes, entry.offset) else {
+        unreachable!()
+    };
+    let Some(abbrev) = table.get(code) else {
+        unreachable!()
+    };
+    let specs = abbrev.specs.as_slice();
+    let from = entry.offset + size;
+    entry_texts(tables, unit, bytes, number, abbrev.tag, specs, from, found)
+}

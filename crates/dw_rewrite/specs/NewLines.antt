@@ -1,0 +1,39 @@
+-- Line tables with mapped paths, from new places by old ones; and why one can't be written (DWARF 5, 6.2.4).
+use Rattle.std.specs.Prelude.{◌≡◌, ℕ, List, [], ◌∷◌, ◌++◌, Option, ⊤}
+use Rattle.dw_base.specs.LineReadings.{all_lines, starts_from}
+use Rattle.dw_base.specs.LineSources.{LineSource}
+use Rattle.dw_base.specs.LineTables.{LineTable, IsLineTable}
+use Rattle.dw_base.specs.LineWriteFails.{CanWrite, WriteFails}
+use Rattle.dw_base.specs.Paths.{PathMap}
+use Rattle.dw_base.specs.WrittenLines.{new_place, written_table}
+use Rattle.dw_base.specs.declared.fault.Refusal.{Refusal}
+
+-- each table stands in the section of line tables, where it starts
+pub record StandsIn (g : LineSource) (t : LineTable) : Type 0 where
+  pub section : t.section ≡ g.number
+  pub is : IsLineTable g t.start t
+
+abbrev pub AllStandIn : LineSource → List LineTable → Type 0
+AllStandIn g [] = ⊤
+AllStandIn g (t ∷ ts) = StandsIn g t × AllStandIn g ts
+
+-- the new tables, from the new places that are known in each table of texts
+abbrev pub lines_known : PathMap → LineSource → (ℕ → Option ℕ) → (ℕ → Option ℕ) → List LineTable → List (List ℕ)
+lines_known m g ks kl [] = []
+lines_known m g ks kl (t ∷ ts) = written_table g m (new_place g ks kl) t ∷ lines_known m g ks kl ts
+
+-- each of them can be written
+abbrev pub AllCanWrite : PathMap → LineSource → (ℕ → Option ℕ) → (ℕ → Option ℕ) → List LineTable → Type 0
+AllCanWrite m g ks kl [] = ⊤
+AllCanWrite m g ks kl (t ∷ ts) = CanWrite g m (new_place g ks kl) t × AllCanWrite m g ks kl ts
+
+-- these are their bytes, and where they start
+pub record LinesWritten (m : PathMap) (g : LineSource) (ks kl : ℕ → Option ℕ) (ts : List LineTable) (bs ns : List ℕ) : Type 0 where
+  pub bytes : bs ≡ all_lines (lines_known m g ks kl ts)
+  pub starts : ns ≡ starts_from 0 (lines_known m g ks kl ts)
+  pub can : AllCanWrite m g ks kl ts
+
+-- one of them can't
+pub data LinesRefuse (m : PathMap) (g : LineSource) (ks kl : ℕ → Option ℕ) (ts : List LineTable) : Refusal → Type 0 where
+  table_fails : (before behind : List LineTable) (t : LineTable) {r : Refusal} → ts ≡ before ++ t ∷ behind → WriteFails g m (new_place g ks kl) t r
+      → LinesRefuse m g ks kl ts r
