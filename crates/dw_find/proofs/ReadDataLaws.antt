@@ -72,8 +72,6 @@ lines-fault v (Refused r) h = lines h
 pub data-read : (m : PathMap) (v : View) (us : List UnitPaths) (ts slice : List LineTable) → slice ≡ ts → PathsFound m v us slice → DataRead v ts
 data-read m v us ts slice same f = record { readings = f.readings; reads = f.reads; built = f.built; tables = sym same ∙ f.tables }
 
-pub ruleset read_rules = (found-fault, lines-fault, data-read)
-
 -- a map of one word twice is such a map, and there is one
 pub same-ends : (m : PathMap) (w : List ℕ) → m ≡ path_map w w → m.base ≡ m.dest
 unfolding path_map
@@ -98,4 +96,9 @@ data_read-excludes v rs r reads built (starts f) = starts-exclude (debug_data v)
 data_read-excludes v rs r reads built (string_tables f) = string_tables-exclude v.order (string_offsets v) rs.offsets r (offsets-plain v rs reads) f
 data_read-excludes v rs r reads built (slots f) = slot_texts-exclude (debug_data v) rs r reads f
 data_read-excludes v rs r reads built (name_tables f) = name_tables-exclude v rs r reads f
-data_read-excludes v rs r reads built (lines f) = lines-exclude (debug_data v) rs r reads f
+data_read-excludes v rs r reads built (lines f) = lines-exclude (debug_data v) rs.lines r reads.lines f
+
+pub found-excludes : {m : PathMap} {v : View} {us : List UnitPaths} {ts : List LineTable} (r : Refusal) → PathsFound m v us ts → DataRefuses v r → ⊥
+found-excludes {m} {v} r found f = data_read-excludes v found.readings r found.reads found.built f
+
+pub ruleset read_rules = (found-fault, lines-fault, data-read)

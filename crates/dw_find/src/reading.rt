@@ -2,8 +2,9 @@
 //!
 //! Read first: `specs/ReadData.antt`.
 
-ghost use Rattle.std.specs.Prelude.{◌≡◌, IfErr, IfOk};
+ghost use Rattle.std.specs.Prelude.{◌≡◌, IfErr, IfOk, OnOk};
 ghost use Rattle.dw_base.specs.Refusals.{Blames};
+ghost use Rattle.dw_base.specs.declared.fault.Refusal.{Refusal as RefusalOf};
 ghost use Rattle.dw_find.specs.ReadData.{DataRead, DataRefuses};
 
 use crate::paths::found_paths;
@@ -20,6 +21,7 @@ use std::alloc::Global;
 #[tactic(auto, using(crate::proofs::ReadDataLaws::read_rules))]
 pub fn read_data(alloc: Global, view: &View) -> Result<Vec<LineTable>, Fault>
     ensures read { IfOk result (λ tables. DataRead view.now tables.items) }
+    ensures none { OnOk result ((r : RefusalOf) → DataRefuses view.now r → ⊥) }
     ensures refused { IfErr result (Blames (DataRefuses view.now)) }
 {
     let tables = line_tables(alloc, view)?;

@@ -15,6 +15,7 @@ use Rattle.dw_base.specs.declared.fault.Fault.{Fault}
 use Rattle.dw_base.specs.declared.fault.Fault.TheVariants.{NoMemory, Refused}
 use Rattle.dw_base.specs.declared.fault.Refusal.{Refusal}
 use Rattle.dw_meaning.specs.DataFails.{LinesFail, line_table}
+use Rattle.dw_meaning.proofs.LineRowLaws.{lines-exclude}
 use Rattle.dw_lines.specs.ViewSources.{view_source}
 use Rattle.dw_lines.specs.ViewTables.{TablesFound, TablesUpTo, tables_read}
 use Rattle.dw_lines.proofs.ReadingLaws.{reading_of, reading-end, reading-reads, reading-table, source-is}
@@ -69,4 +70,11 @@ pub tables-none : (v : View) (ts : List LineTable) → None ≡ section_named v 
 tables-none v ts none is =
     subst (λ (bs : List ℕ). TablesUpTo (line_source (debug_data v)) ts (length bs)) (sym (source-none v none)) (tables-start (line_source (debug_data v)) ts is)
 
-pub ruleset view_laws = (tables-none)
+-- tables that were read exclude each refusal
+pub found-excludes : (v : View) (ts : List LineTable) (r : Refusal) → TablesFound v ts → LinesFail (debug_data v) r → ⊥
+found-excludes v ts r found f = lines-exclude (debug_data v) found.readings r found.reads f
+
+pub none-excludes : (v : View) (r : Refusal) → None ≡ section_named v (name_of Line) → LinesFail (debug_data v) r → ⊥
+none-excludes v r none f = found-excludes v [] r (tables-none v [] none refl) f
+
+pub ruleset view_laws = (tables-none, found-excludes, none-excludes)

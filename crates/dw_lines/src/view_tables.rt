@@ -2,13 +2,14 @@
 //!
 //! Read first: `specs/ViewTables.antt`.
 
-ghost use Rattle.std.specs.Prelude.{◌≡◌, ◌<◌, Some, length, IfErr, IfOk};
+ghost use Rattle.std.specs.Prelude.{◌≡◌, ◌<◌, Some, length, IfErr, IfOk, OnOk};
 ghost use Rattle.dw_base.specs.DebugData.{line_source};
 ghost use Rattle.dw_base.specs.DebugSections.{name_of};
 ghost use Rattle.dw_base.specs.FileViews.{section_named};
 ghost use Rattle.dw_base.specs.Refusals.{Blames};
 ghost use Rattle.dw_base.specs.ViewData.{debug_data};
 ghost use Rattle.dw_base.specs.declared.debug_sections.DebugSection.TheVariants.{Line};
+ghost use Rattle.dw_base.specs.declared.fault.Refusal.{Refusal as RefusalOf};
 ghost use Rattle.dw_meaning.specs.DataFails.{LinesFail};
 ghost use Rattle.dw_lines.specs.ViewTables.{TablesFound};
 
@@ -18,10 +19,12 @@ use dw_view::View;
 use std::alloc::Global;
 
 /// The line tables of the view, in the order of their places; none where it has no section of them. They fill the section.
-/// Refused at the first that can't be read: as `Line` at the table, as `StringOffset` at an offset that names no text.
+/// Refused at the first that can't be read: as `Line` at the table, as `StringOffset` at an offset that names no text. Tables that
+/// were read exclude each refusal.
 #[tactic(auto, using(crate::proofs::ViewTableLaws::view_laws))]
 pub fn line_tables(alloc: Global, view: &View) -> Result<Vec<LineTable>, Fault>
     ensures tables { IfOk result (λ tables. TablesFound view.now tables.items) }
+    ensures none { OnOk result ((r : RefusalOf) → LinesFail (debug_data view.now) r → ⊥) }
     ensures refused { IfErr result (Blames (LinesFail (debug_data view.now))) }
 {
     match view.first(DebugSection::Line) {

@@ -43,7 +43,7 @@ file-excludes m b r a (string_tables_row e f) =
     string_tables-exclude (view_of b).order (string_offsets (view_of b)) a.readings.offsets r
     (subst (λ (z : CellSection). ReadsOffsets (view_of b).order z.contents a.readings.offsets) (offsets-are b) (file-offsets b a.readings a.reads.data_reads)) f
 file-excludes m b r a (slots_row e f) = slot_texts-exclude (file_data b) a.readings r a.reads.data_reads f
-file-excludes m b r a (lines_row e f) = lines-exclude (file_data b) a.readings r a.reads.data_reads f
+file-excludes m b r a (lines_row e f) = lines-exclude (file_data b) a.readings.lines r a.reads.data_reads.lines f
 file-excludes m b r a (starts_row e f) = starts-exclude (file_data b) a.readings r a.reads.data_reads f
 file-excludes m b r a (name_tables_row e f) = name_tables-exclude (view_of b) a.readings r a.reads.data_reads f
 file-excludes m b r a (unbuilt_row u) = a.built u

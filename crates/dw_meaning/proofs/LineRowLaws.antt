@@ -7,7 +7,7 @@ use Rattle.dw_base.specs.LineEntries.{entries_at}
 use Rattle.dw_base.specs.LineFails.{ListsFail, old_dirs, old_files, new_dirs, new_files, LineFails, no_header, lists, passes, program}
 use Rattle.dw_base.specs.LineMeanings.{is_there}
 use Rattle.dw_base.specs.LinePrograms.{opcode_at, next_opcode}
-use Rattle.dw_base.specs.LineReadings.{LineReading, ReadsTable, TablesTo, table_read, table_starts}
+use Rattle.dw_base.specs.LineReadings.{AreTables, LineReading, ReadsTable, TablesTo, table_read, table_starts}
 use Rattle.dw_base.specs.LineSources.{LineSource}
 use Rattle.dw_base.specs.LineTables.{table_bytes, HasLists, old_lists, new_lists}
 use Rattle.dw_base.specs.LineWriteFails.{changes_path, changes_file, ProgramFails, defined, wide, WriteFails, wide_table, wide_header, wide_offset, program as defines, DefinedStay, CanWrite}
@@ -129,9 +129,9 @@ begins-behind g p e start (x ∷ xs) (y ∷ ys) r a b lt f =
     let same : y ≡ x = table-one g p y x b.0 a.0 in
     begins-behind g x.header.end e start xs ys r a.1 (subst (λ (t : LineReading). TablesTo g t.header.end ys start) same b.1) lt f
 
-pub lines-exclude : (d : DebugData) (q : DataReadings) (r : Refusal) → DataReads d q → LinesFail d r → ⊥
-lines-exclude d q r a (line_table_row before start reads lt f) =
-    begins-behind (line_source d) 0 (length (line_source d).bytes) start q.lines before r a.lines reads lt f
+pub lines-exclude : (d : DebugData) (tables : List LineReading) (r : Refusal) → AreTables (line_source d) tables → LinesFail d r → ⊥
+lines-exclude d tables r a (line_table_row before start reads lt f) =
+    begins-behind (line_source d) 0 (length (line_source d).bytes) start tables before r a reads lt f
 
 -- one of all pieces of units
 reading-among : (P : Piece UnitState → Type 0) (before behind : Readings) (x : Reading) → EachReading P (before ++ x ∷ behind) → EachPiece P x.pieces

@@ -29,7 +29,7 @@ use Rattle.dw_sources.specs.Sources.{AreSources, EachTable, EachUnits, HasAbbrev
 pub sources-exclude : (d : DebugData) (q : DataReadings) (r : Refusal) → DataReads d q → SourcesFail d r → ⊥
 sources-exclude d q r reads (unit z before behind split f) = data-excludes d q r reads (unit_fails z before behind split f)
 sources-exclude d q r reads (table z h u f) = data-excludes d q r reads (table_fails z h u f)
-sources-exclude d q r reads (lines f) = lines-exclude d q r reads f
+sources-exclude d q r reads (lines f) = lines-exclude d q.lines r reads.lines f
 sources-exclude d q r reads (string_tables f) =
     contributions-exclude d.base.order (bytes_of d.offsets.contents) d.offsets.number (contributions_in d.base.order q.offsets) r
     (contributions-back d.base.order d.offsets.contents q.offsets reads.offsets) f
@@ -103,34 +103,6 @@ unit-table d z hs list start h has up is =
         table-among d list [] h
         (subst (EachTable d) (sym (append-nil (list ++ h ∷ []))) (subst (EachTable d) (ap (λ (s : UnitsRead). s.list) same) has.tables))
 
--- line tables alone: debug data that have no more can be read, so no row of line tables holds of either
-abbrev lines_alone : DebugData → DebugData
-lines_alone d = record {
-  base = d.base;
-  units = [];
-  str = d.str;
-  line_str = d.line_str;
-  offsets = record { number = 0; contents = [] };
-  lines = d.lines;
-  names = record { number = 0; contents = [] };
-}
-
-alone-read : (d : DebugData) (list : List LineReading) → AreTables (line_source d) list → DataReads (lines_alone d) (record { units = []; offsets = []; lines = list; names = [] })
-alone-read d list tables = record {
-  units = tt;
-  offsets = record { chain = record { mode = refl; place = refl }; cells = refl };
-  lines = tables;
-  names = record { chain = record { mode = refl; place = refl }; cells = refl };
-  texts = tt;
-  slot_texts = tt;
-  name_texts = tt;
-  indexes = tt;
-  forms = tt;
-}
-
-alone-fails : (d : DebugData) (r : Refusal) → LinesFail d r → LinesFail (lines_alone d) r
-alone-fails d r (line_table before start reads lt f) = line_table before start reads lt f
-
 -- sources that were read exclude each refusal
 pub read-excludes : (d : DebugData) (base : List ℕ) (names : List (List ℕ)) (r : Refusal) → AreSources d base names → SourcesFail d r → ⊥
 read-excludes d base names r are (unit z before behind split f) =
@@ -142,9 +114,7 @@ read-excludes d base names r are (table z h u f) =
     (unit-table d z s.headers u.list u.start h s.has u.units u.is) f
 read-excludes d base names r are (string_tables f) =
     contributions-exclude d.base.order (located_cells d.offsets).bytes d.offsets.number are.readings.contributions r are.reads.offsets f
-read-excludes d base names r are (lines f) =
-    lines-exclude (lines_alone d) (record { units = []; offsets = []; lines = are.readings.lines; names = [] }) r (alone-read d are.readings.lines are.reads.lines)
-    (alone-fails d r f)
+read-excludes d base names r are (lines f) = lines-exclude d are.readings.lines r are.reads.lines f
 
 pub ruleset want_rules = (want-only, read-excludes)
 
