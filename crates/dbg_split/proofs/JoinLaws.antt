@@ -33,7 +33,7 @@ pub record IsPair (b name d s : List ℕ) : Type 0 where
   pub stripped : ReadsStripped b name s
 
 -- Booleans
-and-true : (x y : Bool) → (x && y) ≡ true → (x ≡ true) × (y ≡ true)
+pub and-true : (x y : Bool) → (x && y) ≡ true → (x ≡ true) × (y ≡ true)
 and-true true true h = (refl, refl)
 and-true true false h = let no : false ≡ true = h in cc
 and-true false y h = let no : false ≡ true = h in cc
@@ -42,17 +42,17 @@ not-true : (x : Bool) → not x ≡ true → x ≡ false
 not-true false h = refl
 not-true true h = let no : false ≡ true = h in cc
 
-never : (x : Bool) → (x ≡ true → ⊥) → x ≡ false
+pub never : (x : Bool) → (x ≡ true → ⊥) → x ≡ false
 never true h = absurd (h refl)
 never false h = refl
 
-eq-is : (m n : ℕ) → (m == n) ≡ true → m ≡ n
+pub eq-is : (m n : ℕ) → (m == n) ≡ true → m ≡ n
 eq-is m n h = grind (arith, nat_tests)
 
-eq-true : (m n : ℕ) → m ≡ n → (m == n) ≡ true
+pub eq-true : (m n : ℕ) → m ≡ n → (m == n) ≡ true
 eq-true m n h = grind (arith, nat_tests)
 
-eq-false : (m n : ℕ) → m ≢ n → (m == n) ≡ false
+pub eq-false : (m n : ℕ) → m ≢ n → (m == n) ≡ false
 eq-false m n h = grind arith
 
 eq-agree : (m n p q : ℕ) → (m ≡ n → p ≡ q) → (p ≡ q → m ≡ n) → (m == n) ≡ (p == q)
@@ -62,7 +62,7 @@ eq-agree m n p q to from = elim (cases_eq m n) [
 ]
 
 -- kept sections have numbers of their own
-kept-apart : (b : List ℕ) (i j : ℕ) → IsKept b i → IsKept b j → kept_before b i ≡ kept_before b j → i ≡ j
+pub kept-apart : (b : List ℕ) (i j : ℕ) → IsKept b i → IsKept b j → kept_before b i ≡ kept_before b j → i ≡ j
 kept-apart b i j one two same = elim (cases_lt i j) [
   | inl below ↦ absurd (omega (arith, same, before-less b i j below one.kept))
   | inr past ↦
@@ -73,10 +73,10 @@ kept-apart b i j one two same = elim (cases_lt i j) [
 ]
 
 -- the section name table is the same one
-name_section-debug : (b name d s : List ℕ) (i : ℕ) → IsPair b name d s → is_name_section d i ≡ is_name_section b i
+pub name_section-debug : (b name d s : List ℕ) (i : ℕ) → IsPair b name d s → is_name_section d i ≡ is_name_section b i
 name_section-debug b name d s i p = ap (λ (n : ℕ). not (n == 0) && i == n) p.debug.named
 
-name_section-some : (b : List ℕ) (i : ℕ) → name_index b ≢ 0 → is_name_section b i ≡ (i == name_index b)
+pub name_section-some : (b : List ℕ) (i : ℕ) → name_index b ≢ 0 → is_name_section b i ≡ (i == name_index b)
 name_section-some b i some = ap (λ (t : Bool). not t && i == name_index b) (eq-false (name_index b) 0 some)
 
 name_section-new : (s : List ℕ) (j n : ℕ) → name_index s ≡ n → n ≢ 0 → is_name_section s j ≡ (j == n)
@@ -109,13 +109,13 @@ head-kind b i = by_test (becomes_nobits b i)
 alloc-by : (s t : Section) → s.flags ≡ t.flags → is_alloc s ≡ is_alloc t
 alloc-by s t same = rw same refl
 
-alloc-debug : (b name d s : List ℕ) (i : ℕ) → IsPair b name d s → i < section_count b → is_alloc (nth_section d i) ≡ is_alloc (nth_section b i)
+pub alloc-debug : (b name d s : List ℕ) (i : ℕ) → IsPair b name d s → i < section_count b → is_alloc (nth_section d i) ≡ is_alloc (nth_section b i)
 alloc-debug b name d s i p lt = alloc-by (nth_section d i) (nth_section b i) ((p.debug.heads i lt).flags ∙ head-flags b i)
 
 alloc-kept : (b name d s : List ℕ) (i : ℕ) → IsPair b name d s → IsKept b i → is_alloc (nth_section s (kept_before b i)) ≡ is_alloc (nth_section b i)
 alloc-kept b name d s i p is = alloc-by (nth_section s (kept_before b i)) (nth_section b i) (p.stripped.heads i is).flags
 
-kind-debug : (b name d s : List ℕ) (i : ℕ) → IsPair b name d s → i < section_count b
+pub kind-debug : (b name d s : List ℕ) (i : ℕ) → IsPair b name d s → i < section_count b
     → (nth_section d i).kind ≡ (if becomes_nobits b i then SHT_NOBITS else (nth_section b i).kind)
 kind-debug b name d s i p lt = (p.debug.heads i lt).kind ∙ head-kind b i
 
@@ -133,7 +133,7 @@ and-last true m x e = refl
 and-last false true x e = refl
 and-last false false x e = rw e refl
 
-nobits-kept : (b : List ℕ) (i : ℕ) → IsKept b i → is_alloc (nth_section b i) ≡ false
+pub nobits-kept : (b : List ℕ) (i : ℕ) → IsKept b i → is_alloc (nth_section b i) ≡ false
     → becomes_nobits b i ≡ (not ((nth_section b i).kind == SHT_NULL) && not (i == name_index b))
 unfolding becomes_nobits
 nobits-kept b i is plain =
@@ -223,7 +223,7 @@ may-by : (b : List ℕ) (i : ℕ) → i ≢ 0 → is_alloc (nth_section b i) ≡
 may-by b i some plain other = rw (eq-false i 0 some, plain, eq-false i (name_index b) other) refl
 
 -- what is known of a kept section for which one may stand
-record IsOwn (b : List ℕ) (i : ℕ) : Type 0 where
+pub record IsOwn (b : List ℕ) (i : ℕ) : Type 0 where
   pub plain : is_alloc (nth_section b i) ≡ false
   pub full : (nth_section b i).kind ≢ SHT_NULL
   pub other : i ≢ name_index b
@@ -239,12 +239,12 @@ own-unnamed b i w is own =
     cc)
 
 -- the section of a test
-record IsElsewhere (d : List ℕ) (i : ℕ) : Type 0 where
+pub record IsElsewhere (d : List ℕ) (i : ℕ) : Type 0 where
   pub kind : (nth_section d i).kind ≡ SHT_NOBITS
   pub plain : is_alloc (nth_section d i) ≡ false
   pub other : is_name_section d i ≡ false
 
-elsewhere-is : (d : List ℕ) (i : ℕ) → is_elsewhere d i ≡ true → IsElsewhere d i
+pub elsewhere-is : (d : List ℕ) (i : ℕ) → is_elsewhere d i ≡ true → IsElsewhere d i
 elsewhere-is d i h =
     let two = and-true ((nth_section d i).kind == SHT_NOBITS && not (is_alloc (nth_section d i))) (not (is_name_section d i)) h in
     let one = and-true ((nth_section d i).kind == SHT_NOBITS) (not (is_alloc (nth_section d i))) two.0 in
@@ -288,7 +288,7 @@ own-name : (d : List ℕ) (i : ℕ) → is_elsewhere d i ≡ true → is_elsewhe
 unfolding is_elsewhere_named
 own-name d i elsewhere = rw (elsewhere, same_text-from (section_name d i) (section_name d i) refl) refl
 
-kept-found : (b name d s : List ℕ) (i : ℕ) → IsPair b name d s → IsKept b i → IsOwn b i → is_elsewhere d i ≡ true → stands_for d s i ≡ Some (kept_before b i)
+pub kept-found : (b name d s : List ℕ) (i : ℕ) → IsPair b name d s → IsKept b i → IsOwn b i → is_elsewhere d i ≡ true → stands_for d s i ≡ Some (kept_before b i)
 unfolding stands_for
 kept-found b name d s i p is own elsewhere =
     let called = section_name d i in
@@ -356,7 +356,7 @@ none-agree b name d s called p named = record {
   kept = λ i lt kept. kept-uncounted b name d s called i p (record { there = lt; kept = kept }) named;
 }
 
-dropped-found : (b name d s : List ℕ) (i : ℕ) → IsPair b name d s → i < section_count b → is_droppable b i ≡ true → (nth_section b i).kind ≡ SHT_NOBITS
+pub dropped-found : (b name d s : List ℕ) (i : ℕ) → IsPair b name d s → i < section_count b → is_droppable b i ≡ true → (nth_section b i).kind ≡ SHT_NOBITS
     → stands_for d s i ≡ None
 unfolding stands_for
 dropped-found b name d s i p lt dropped kind =
@@ -451,19 +451,19 @@ own-joins b name d s i p lt plain here =
     (ap not (empty-by (nth_section d i) (nth_section b i) kind)) (p.debug.contents i lt plain)
     ∙ sym (view-whole b i)
 
-other-name : (b : List ℕ) (i : ℕ) → name_index b ≢ 0 → is_name_section b i ≡ false → i ≢ name_index b
+pub other-name : (b : List ℕ) (i : ℕ) → name_index b ≢ 0 → is_name_section b i ≡ false → i ≢ name_index b
 other-name b i some none e =
     let no : true ≡ false = sym (eq-true i (name_index b) e) ∙ sym (name_section-some b i some) ∙ none in
     cc
 
 -- a section that becomes one without bytes is kept
-nobits-own : (b : List ℕ) (i : ℕ) → becomes_nobits b i ≡ true → i < section_count b → IsKept b i
+pub nobits-own : (b : List ℕ) (i : ℕ) → becomes_nobits b i ≡ true → i < section_count b → IsKept b i
 nobits-own b i nobits lt = record {
   there = lt;
   kept = never (is_droppable b i) (λ dropped. (let no : true ≡ false = sym nobits ∙ nobits-dropped b i dropped in cc));
 }
 
-nobits-full : (b : List ℕ) (i : ℕ) → becomes_nobits b i ≡ true → (nth_section b i).kind ≢ SHT_NULL
+pub nobits-full : (b : List ℕ) (i : ℕ) → becomes_nobits b i ≡ true → (nth_section b i).kind ≢ SHT_NULL
 unfolding becomes_nobits
 nobits-full b i nobits null =
     let first = and-true ((not (is_droppable b i) && not ((nth_section b i).kind == SHT_NULL)) && not (i == name_index b))
@@ -476,17 +476,17 @@ nobits-full b i nobits null =
 all-yes : (x y z : Bool) → x ≡ true → y ≡ false → z ≡ false → ((x && not y) && not z) ≡ true
 all-yes x y z one two three = rw (one, two, three) refl
 
-kind-nobits : (b name d s : List ℕ) (i : ℕ) → IsPair b name d s → i < section_count b → becomes_nobits b i ≡ true → (nth_section d i).kind ≡ SHT_NOBITS
+pub kind-nobits : (b name d s : List ℕ) (i : ℕ) → IsPair b name d s → i < section_count b → becomes_nobits b i ≡ true → (nth_section d i).kind ≡ SHT_NOBITS
 kind-nobits b name d s i p lt nobits = kind-debug b name d s i p lt ∙ ap (λ (t : Bool). if t then SHT_NOBITS else (nth_section b i).kind) nobits
 
-elsewhere-nobits : (b name d s : List ℕ) (i : ℕ) → IsPair b name d s → i < section_count b → (nth_section d i).kind ≡ SHT_NOBITS → is_alloc (nth_section b i) ≡ false
+pub elsewhere-nobits : (b name d s : List ℕ) (i : ℕ) → IsPair b name d s → i < section_count b → (nth_section d i).kind ≡ SHT_NOBITS → is_alloc (nth_section b i) ≡ false
     → is_name_section b i ≡ false → is_elsewhere d i ≡ true
 elsewhere-nobits b name d s i p lt kind plain other =
     all-yes ((nth_section d i).kind == SHT_NOBITS) (is_alloc (nth_section d i)) (is_name_section d i) (eq-true (nth_section d i).kind SHT_NOBITS kind)
     (alloc-debug b name d s i p lt ∙ plain) (name_section-debug b name d s i p ∙ other)
 
 -- a section that doesn't, and has no bytes, is dropped
-plain-dropped : (b : List ℕ) (i : ℕ) → becomes_nobits b i ≡ false → (nth_section b i).kind ≡ SHT_NOBITS → is_alloc (nth_section b i) ≡ false → i ≢ name_index b
+pub plain-dropped : (b : List ℕ) (i : ℕ) → becomes_nobits b i ≡ false → (nth_section b i).kind ≡ SHT_NOBITS → is_alloc (nth_section b i) ≡ false → i ≢ name_index b
     → i < section_count b → is_droppable b i ≡ true
 plain-dropped b i plain kind unloaded other lt =
     elim (cases_Bool (is_droppable b i)) [

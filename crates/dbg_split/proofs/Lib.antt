@@ -16,3 +16,5 @@ pub mod DebugReadLaws
 pub mod SplitLoadedLaws
 pub mod CountLaws
 pub mod JoinLaws
+pub mod PairIdLaws
+pub mod PairMeaningLaws

@@ -10,6 +10,7 @@ use Rattle.dbg_split.specs.DebugFile.{debug_file}
 use Rattle.dbg_split.specs.DebugFileReads.{ReadsDebug}
 use Rattle.dw_meaning.specs.Loaded.{LoadedKept}
 use Rattle.dbg_split.specs.KeptFront.{KeepsFront}
+use Rattle.dbg_split.specs.PairMeanings.{MeansAsOne}
 use Rattle.dbg_split.specs.PairViews.{JoinsTo}
 use Rattle.dbg_split.specs.SplitFails.{SplitFails}
 use Rattle.dbg_split.specs.SplitFails.SplitFails.{long_debug, long_stripped, shape}
@@ -17,7 +18,8 @@ use Rattle.dbg_split.specs.SplitFails.Unsplittable.{file_type, names_stay, secti
 use Rattle.dbg_split.specs.StrippedFile.{stripped_file}
 use Rattle.dbg_split.specs.StrippedReads.{ReadsStripped}
 use Rattle.dbg_split.proofs.DebugReadLaws.{debug-reads}
-use Rattle.dbg_split.proofs.JoinLaws.{pair-joins}
+use Rattle.dbg_split.proofs.JoinLaws.{IsPair, pair-joins}
+use Rattle.dbg_split.proofs.PairMeaningLaws.{means-as-one}
 use Rattle.dbg_split.proofs.SplitLoadedLaws.{loaded-kept}
 use Rattle.dbg_split.proofs.StrippedFitLaws.{IsSplit}
 use Rattle.dbg_split.proofs.StrippedReadLaws.{stripped-reads}
@@ -79,12 +81,18 @@ pub loaded-back : (b name out : List ℕ) → length b ≤ output_limit → ElfR
 loaded-back b name out small reads bytes none front is =
     loaded-kept b name out (split-of b name small reads bytes none) (stripped-back b name out small reads bytes none is) front
 
+pair-of : (b name d s : List ℕ) → length b ≤ output_limit → ElfReads b → ((k : ℕ) → slice_index b k < 256) → NoneFails b name
+    → d ≡ debug_file b → s ≡ stripped_file b name → IsPair b name d s
+pair-of b name d s small reads bytes none d_is s_is = record {
+  split = split-of b name small reads bytes none;
+  debug = debug-back b name d small reads bytes none d_is;
+  stripped = stripped-back b name s small reads bytes none s_is;
+}
+
 pub joins-back : (b name d s : List ℕ) → length b ≤ output_limit → ElfReads b → ((k : ℕ) → slice_index b k < 256) → NoneFails b name
     → d ≡ debug_file b → s ≡ stripped_file b name → JoinsTo b d s
-joins-back b name d s small reads bytes none d_is s_is =
-    pair-joins b name d s
-    (record {
-      split = split-of b name small reads bytes none;
-      debug = debug-back b name d small reads bytes none d_is;
-      stripped = stripped-back b name s small reads bytes none s_is;
-    })
+joins-back b name d s small reads bytes none d_is s_is = pair-joins b name d s (pair-of b name d s small reads bytes none d_is s_is)
+
+pub means-back : (b name d s : List ℕ) → length b ≤ output_limit → ElfReads b → ((k : ℕ) → slice_index b k < 256) → NoneFails b name
+    → d ≡ debug_file b → s ≡ stripped_file b name → MeansAsOne b d s
+means-back b name d s small reads bytes none d_is s_is = means-as-one b name d s (pair-of b name d s small reads bytes none d_is s_is)

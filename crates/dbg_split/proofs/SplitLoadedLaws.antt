@@ -144,7 +144,7 @@ below-same b name out (suc m) r le =
           ∙ or-same b (first_below (is_id_section b) m) m (is_id_section b m)
     ]
 
-all-same : (b name out : List ℕ) → ReadsStripped b name out
+pub all-same : (b name out : List ℕ) → ReadsStripped b name out
     → first_below (is_id_section out) (section_count out) ≡ renumbered b (first_below (is_id_section b) (section_count b))
 all-same b name out r =
     let last = kept_before b (section_count b) in
@@ -210,11 +210,11 @@ id-by : (b name out : List ℕ) (i : ℕ) (o : Option Descriptor) (place : ℕ) 
 id-by b name out i None place w r is kind lt = refl
 id-by b name out i (Some d) place w r is kind lt = place-same b name out i d place w r is kind lt
 
-strings-differ : (s : Section) → s.kind ≡ SHT_STRTAB → s.kind ≢ SHT_NOTE
+pub strings-differ : (s : Section) → s.kind ≡ SHT_STRTAB → s.kind ≢ SHT_NOTE
 strings-differ s is e = let no : SHT_STRTAB ≡ SHT_NOTE = sym is ∙ e in omega arith
 
 -- the contents of the section are as they were
-id-contents : (b name out : List ℕ) (i : ℕ) → IsSplit b → ReadsStripped b name out → IsKept b i → (nth_section b i).kind ≡ SHT_NOTE
+pub id-contents : (b name out : List ℕ) (i : ℕ) → IsSplit b → ReadsStripped b name out → IsKept b i → (nth_section b i).kind ≡ SHT_NOTE
     → id_in (order_of out) (contents_of out (kept_before b i)) ≡ id_in (order_of b) (contents_of b i)
 id-contents b name out i w r is kind =
     let other : i ≢ name_index b =
@@ -231,13 +231,13 @@ id-of b name out (Some i) place w r found lt =
     ap (λ (d : Option Descriptor). in_id_at out (build_id_at (kept_before b i) d) place) (id-contents b name out i w r is.0 is.1)
     ∙ id-by b name out i (id_in (order_of b) (contents_of b i)) place w r is.0 is.1 lt
 
-id-found : (b : List ℕ) (i : ℕ) → first_below (is_id_section b) (section_count b) ≡ Some i → IsKept b i × ((nth_section b i).kind ≡ SHT_NOTE)
+pub id-found : (b : List ℕ) (i : ℕ) → first_below (is_id_section b) (section_count b) ≡ Some i → IsKept b i × ((nth_section b i).kind ≡ SHT_NOTE)
 id-found b i e =
     let found = first_below-found (is_id_section b) (section_count b) i e in
     let note = id-note b i found.1 in
     (record { there = found.0; kept = note-kept b i note.name note.kind }, note.kind)
 
-build_id-is : (b : List ℕ) → build_id_of b ≡ build_id_in b (first_below (is_id_section b) (section_count b))
+pub build_id-is : (b : List ℕ) → build_id_of b ≡ build_id_in b (first_below (is_id_section b) (section_count b))
 unfolding build_id_of
 build_id-is b = refl
 

@@ -7,3 +7,4 @@ pub mod KeptFront
 pub mod StrippedReads
 pub mod DebugFileReads
 pub mod PairViews
+pub mod PairMeanings

@@ -3,9 +3,10 @@
 -- k-th of a name that has none there stands for the k-th of that name in the stripped file, and is empty where there is none.
 use Rattle.std.specs.Prelude.{Bool, true, false, ◌≡◌, ℕ, zero, suc, ◌+◌, ◌<◌, ◌==◌, ◌&&◌, not, if◌then◌else◌, List, [], Option, Some, None}
 use Rattle.dw_base.specs.Elf.{order_of, nth_section, section_count, section_name, contents_of, is_empty_kind}
-use Rattle.dw_base.specs.FileViews.{ViewSection, is_name_section, plain_contents, view_section}
+use Rattle.dw_base.specs.FileViews.{View, ViewSection, is_name_section, plain_contents, view_section}
 use Rattle.dw_base.specs.Layout.{is_alloc}
-use Rattle.dw_base.specs.Notes.{or_this}
+use Rattle.dw_base.specs.Lists.{tabulate}
+use Rattle.dw_base.specs.Notes.{BuildId, build_id_of, first_below, or_this}
 use Rattle.dw_base.specs.Texts.{same_text}
 use Rattle.dw_base.specs.declared.elf_numbers.TheConstants.{SHT_NULL, SHT_NOBITS}
 
@@ -63,6 +64,36 @@ joined_section debug stripped i = record {
 -- the section of a number of a pair
 unfoldable pub pair_section : List ℕ → List ℕ → ℕ → ViewSection
 pair_section debug stripped i = if is_elsewhere debug i then joined_section debug stripped i else view_section debug i
+
+-- the section of a number of the debug file stands for the one of this number of the stripped file
+abbrev pub is_number : Option ℕ → ℕ → Bool
+is_number None j = false
+is_number (Some k) j = k == j
+
+unfoldable pub is_stand_in : List ℕ → List ℕ → ℕ → ℕ → Bool
+is_stand_in debug stripped j i = is_elsewhere debug i && is_number (stands_for debug stripped i) j
+
+-- the section of the debug file that stands for the one of this number of the stripped file
+unfoldable pub stand_in : List ℕ → List ℕ → ℕ → Option ℕ
+stand_in debug stripped j = first_below (is_stand_in debug stripped j) (section_count debug)
+
+-- the build-id of a pair: that of the stripped file, in the section that stands for its own. Where none does, no section of the
+-- pair has its bytes: those of an ALLOC note, or of one with bytes in the debug file, count from there.
+abbrev pub id_at : BuildId → Option ℕ → Option BuildId
+id_at id None = None
+id_at id (Some i) = Some (record id { section = i })
+
+abbrev pub moved_id : List ℕ → List ℕ → Option BuildId → Option BuildId
+moved_id debug stripped None = None
+moved_id debug stripped (Some id) = id_at id (stand_in debug stripped id.section)
+
+-- the view of a pair: the byte order and the numbers of the debug file
+unfoldable pub pair_view : List ℕ → List ℕ → View
+pair_view debug stripped = record {
+  order = order_of debug;
+  sections = tabulate (pair_section debug stripped) (section_count debug);
+  id = moved_id debug stripped (build_id_of stripped);
+}
 
 -- two sections have the same name, and the same place among loaded sections and names
 pub record SameSection (new old : ViewSection) : Type 0 where

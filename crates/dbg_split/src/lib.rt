@@ -2,12 +2,12 @@
 //! links (GNU debugging information in separate files; this project's profile of it).
 //!
 //! This layer promises: the stripped file and the debug file are the defined ones, byte for byte; both read
-//! back, with their sections by number, name and contents, and together have the sections of the file; what
-//! is loaded is kept; a file is refused only by a row that holds, at its place, and split where none does,
-//! want of memory aside. `droppable` takes no memory.
+//! back, with their sections by number, name and contents, and together have the sections of the file and
+//! mean what it means; what is loaded is kept; a file is refused only by a row that holds, at its place, and
+//! split where none does, want of memory aside. `droppable` takes no memory.
 //! It does not promise: what another program makes of the two.
 //! Read first: `specs/Droppable.antt`, then `StrippedFile.antt`, `DebugFile.antt`, `StrippedReads.antt`,
-//! `DebugFileReads.antt`, `PairViews.antt`, `SplitFails.antt`.
+//! `DebugFileReads.antt`, `PairViews.antt`, `PairMeanings.antt`, `SplitFails.antt`.
 //!
 //! ```rust
 //! // bytes.len() as u64 <= OUTPUT_LIMIT
@@ -25,4 +25,5 @@ mod splitting;
 mod stripping;
 
 pub use dropping::droppable;
+pub use marking::droppables;
 pub use splitting::{Pair, split};

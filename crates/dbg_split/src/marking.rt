@@ -7,8 +7,8 @@ ghost use Rattle.dw_base.specs.Lists.{tabulate};
 ghost use Rattle.dbg_split.specs.Droppable.{drops_itself, is_droppable, is_symbol_strings, links_symbols, names_dropped, names_symbols};
 
 use crate::dropping::{drops_along, drops_itself};
-use dw_base::Section;
 use dw_base::elf_numbers::{SHT_STRTAB, SHT_SYMTAB};
+use dw_base::{NoMemory, Section};
 use elf_file::ElfFile;
 use std::alloc::{AllocError, Global};
 
@@ -115,8 +115,9 @@ fn is_dropped(elf: &ElfFile, own: &[bool], section: u32) -> bool
     )
 }
 
-/// Which sections are droppable. Each section is looked at a fixed number of times.
-pub fn droppables(alloc: Global, elf: &ElfFile) -> Result<Vec<bool>, AllocError>
+/// Which sections of a file would be in the debug file alone once the file is split, by their numbers: for
+/// each the answer of `droppable`, all in a time that grows with their number. Fails only for want of memory.
+pub fn droppables(alloc: Global, elf: &ElfFile) -> Result<Vec<bool>, NoMemory>
     ensures dropped { IfOk result (λ dropped. dropped.items ≡ tabulate (is_droppable elf.now.bytes.now) (section_count elf.now.bytes.now)) }
 {
     let marks = names_symbols(alloc, elf)?;

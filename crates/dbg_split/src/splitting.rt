@@ -9,6 +9,7 @@ ghost use Rattle.dw_meaning.specs.Loaded.{LoadedKept};
 ghost use Rattle.dbg_split.specs.DebugFile.{debug_file};
 ghost use Rattle.dbg_split.specs.DebugFileReads.{ReadsDebug};
 ghost use Rattle.dbg_split.specs.KeptFront.{KeepsFront};
+ghost use Rattle.dbg_split.specs.PairMeanings.{MeansAsOne};
 ghost use Rattle.dbg_split.specs.PairViews.{JoinsTo};
 ghost use Rattle.dbg_split.specs.SplitFails.{SplitFails};
 ghost use Rattle.dbg_split.specs.StrippedFile.{stripped_file};
@@ -81,7 +82,8 @@ fn split_bytes(alloc: Global, bytes: &[u8], debug_name: &[u8]) -> Result<Pair, F
 /// contents, and the link behind them. The debug file reads as one of debug data, and has each section under
 /// its number, with its name, and with its contents but for those that the stripped file keeps. Together they
 /// have each section of the file, with its name and contents, of ALLOC sections with bytes the name alone: the
-/// k-th section of a name without bytes in the debug file is the k-th of that name in the stripped one.
+/// k-th section of a name without bytes in the debug file is the k-th of that name in the stripped one. So the
+/// debug data of the two are those of the file, and they mean what the file means, wherever it means something.
 pub fn split(alloc: Global, bytes: &[u8], debug_name: &[u8]) -> Result<Pair, Fault>
     requires small { length bytes.now ≤ output_limit }
     ensures debug { IfOk result (λ pair. pair.debug.items ≡ debug_file bytes.now) }
@@ -90,6 +92,7 @@ pub fn split(alloc: Global, bytes: &[u8], debug_name: &[u8]) -> Result<Pair, Fau
     ensures debug_reads { IfOk result (λ pair. ReadsDebug bytes.now pair.debug.items) }
     ensures stripped_reads { IfOk result (λ pair. ReadsStripped bytes.now debug_name.now pair.stripped.items) }
     ensures joins { IfOk result (λ pair. JoinsTo bytes.now pair.debug.items pair.stripped.items) }
+    ensures meaning { IfOk result (λ pair. MeansAsOne bytes.now pair.debug.items pair.stripped.items) }
     ensures loaded { IfOk result (λ pair. LoadedKept bytes.now pair.stripped.items) }
     ensures none { OnOk result ((r : Refusal) → SplitFails bytes.now debug_name.now r → ⊥) }
     ensures refused { IfErr result (Blames (SplitFails bytes.now debug_name.now)) }

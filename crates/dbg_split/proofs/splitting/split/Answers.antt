@@ -1,5 +1,5 @@
--- Both files read back, what is loaded is kept, and the pair has the sections.
-use Rattle.dbg_split.proofs.PairLaws.{debug-back, joins-back, loaded-back, stripped-back}
+-- Both files read back, what is loaded is kept, and the pair has the sections and the meaning.
+use Rattle.dbg_split.proofs.PairLaws.{debug-back, joins-back, loaded-back, means-back, stripped-back}
 use Rattle.dbg_split.proofs.splitting.split.Goals as goal
 
 pub returns-clause-stripped_reads : goal.returns-clause-stripped_reads
@@ -21,4 +21,10 @@ pub returns-clause-joins : goal.returns-clause-joins
 returns-clause-joins c =
     let made = c.in_ok-pair.ensures in
     joins-back c.args.bytes.now c.args.debug_name.now c.in_ok-pair.pair.debug.items c.in_ok-pair.pair.stripped.items c.requires.small made.reads made.bytes made.none
+    made.debug made.stripped
+
+pub returns-clause-meaning : goal.returns-clause-meaning
+returns-clause-meaning c =
+    let made = c.in_ok-pair.ensures in
+    means-back c.args.bytes.now c.args.debug_name.now c.in_ok-pair.pair.debug.items c.in_ok-pair.pair.stripped.items c.requires.small made.reads made.bytes made.none
     made.debug made.stripped

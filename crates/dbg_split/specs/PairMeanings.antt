@@ -1,0 +1,22 @@
+-- What a view means that isn't that of one file, and that a pair means what the file meant that was split.
+use Rattle.std.specs.Prelude.{◌≡◌, ℕ, List}
+use Rattle.dw_base.specs.DebugData.{DataReadings}
+use Rattle.dw_base.specs.FileViews.{View, view_of}
+use Rattle.dw_base.specs.ViewData.{Meaning, debug_data, meaning_of}
+use Rattle.dw_meaning.specs.DataOutput.{DataReads}
+use Rattle.dw_meaning.specs.FileMeanings.{Means}
+use Rattle.dbg_split.specs.PairViews.{pair_view}
+
+-- the debug data of a view can be read, and mean this
+pub record ViewMeans (v : View) (x : Meaning) : Type 0 where
+  pub readings : DataReadings
+  pub reads : DataReads (debug_data v) readings
+  pub says : meaning_of v readings ≡ x
+
+-- the pair has the debug data of the file `b`, and means the same, however they are read; so where the file means something the
+-- pair means that, and nothing else
+pub record MeansAsOne (b debug stripped : List ℕ) : Type 0 where
+  pub same_data : debug_data (pair_view debug stripped) ≡ debug_data (view_of b)
+  pub same_meaning : (r : DataReadings) → meaning_of (pair_view debug stripped) r ≡ meaning_of (view_of b) r
+  pub means : (x : Meaning) → Means b x → ViewMeans (pair_view debug stripped) x
+  pub one : (x y : Meaning) → Means b x → ViewMeans (pair_view debug stripped) y → y ≡ x
