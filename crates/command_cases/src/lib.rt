@@ -29,7 +29,11 @@ mod shown_file;
 #[cfg(test)]
 mod shows;
 #[cfg(test)]
+mod split_counts;
+#[cfg(test)]
 mod split_files;
+#[cfg(test)]
+mod split_shapes;
 #[cfg(test)]
 mod splits;
 #[cfg(test)]

@@ -1,7 +1,9 @@
 //! Worked examples. The expected bytes are another program's, and `readelf` reads each of them.
 
 use crate::parted;
+use crate::split_counts::{COUNTED, Pieces};
 use crate::split_files::{DEBUG, STRIPPED, WHOLE};
+use crate::split_shapes::SPLITS;
 use dw_base::{Fault, Kind, Refusal};
 use std::alloc::{AllocError, Global};
 use std::test::Fail;
@@ -27,6 +29,49 @@ fn a_file_is_split(rt: HostRuntime) -> Result<(), Fail> {
         pair.stripped.as_slice(),
         joined(rt.alloc(), STRIPPED)?.as_slice()
     );
+    Ok(())
+}
+
+#[test]
+fn files_of_other_classes_and_orders_are_split(rt: HostRuntime) -> Result<(), Fail> {
+    for (whole, stripped, debug) in SPLITS.iter() {
+        let pair = parted(rt.alloc(), &joined(rt.alloc(), whole)?, b"a.debug")?;
+        assert_eq!(rt;
+            pair.debug.as_slice(),
+            joined(rt.alloc(), debug)?.as_slice()
+        );
+        assert_eq!(rt;
+            pair.stripped.as_slice(),
+            joined(rt.alloc(), stripped)?.as_slice()
+        );
+    }
+    Ok(())
+}
+
+/// The bytes of pieces, each so often.
+fn repeated(alloc: Global, pieces: Pieces) -> Result<Vec<u8>, AllocError> {
+    let mut bytes = Vec::new(alloc);
+    for (piece, times) in pieces {
+        for _ in 0..*times {
+            bytes.extend_from_slice(piece)?;
+        }
+    }
+    Ok(bytes)
+}
+
+#[test]
+fn files_with_extended_numbering_are_split(rt: HostRuntime) -> Result<(), Fail> {
+    for (whole, stripped, debug) in COUNTED.iter() {
+        let pair = parted(rt.alloc(), &repeated(rt.alloc(), whole)?, b"a.debug")?;
+        assert_eq!(rt;
+            pair.debug.as_slice(),
+            repeated(rt.alloc(), debug)?.as_slice()
+        );
+        assert_eq!(rt;
+            pair.stripped.as_slice(),
+            repeated(rt.alloc(), stripped)?.as_slice()
+        );
+    }
     Ok(())
 }
 
