@@ -43,7 +43,7 @@ use Rattle.dw_find.specs.declared.fields.PathField.{PathField}
 use Rattle.dw_find.proofs.EntryRunLaws.{entries_places-more}
 use Rattle.dw_find.proofs.TakenLaws.{plain-at}
 use Rattle.dw_find.proofs.ValueRunLaws.{number-at_place}
-use Rattle.dw_find.proofs.UnitTextLaws.{places-given}
+use Rattle.dw_find.proofs.UnitTextLaws.{places-listed}
 use Rattle.dw_find.proofs.InlineTextLaws.{text-front}
 use Rattle.dw_find.proofs.ValueFactLaws.{OffsetRead, OffsetFacts, start-read, value-facts}
 use Rattle.dw_find.proofs.ValueTextLaws.{TextRead, value-text}
@@ -184,7 +184,7 @@ entries-each h table bytes all z d (entry items place depth after a s is root) =
     subst (EachOf (ValueBehind h table bytes)) (sym more)
     (each-append (ValueBehind h table bytes) (entries_places h.params table bytes 0 items) (entry_places h.params table bytes (length items) (scanned place depth a after))
     (entries-each h table bytes items place depth s)
-    (subst (EachOf (ValueBehind h table bytes)) (places-given h.params table bytes (length items) (scanned place depth a after) a is.code is.size is.spells is.listed) here))
+    (subst (EachOf (ValueBehind h table bytes)) (places-listed h.params table bytes (length items) (scanned place depth a after) a is.code is.size is.spells is.listed) here))
 
 -- the value in a section of debug data that says a place
 pub record PlaceOf (d : DebugData) (z : UnitSection) (t : TextPlace) : Type 0 where

@@ -29,3 +29,9 @@ pub shared-there : (d : DebugData) (shared : ℕ → Option (List Abbreviation))
 shared-there d shared at table are e = are.each at table (sym e)
 
 pub ruleset read_rules = (one-shared)
+
+-- a table with how far its values are looked at
+pub same-table : (bytes : List ℕ) (at : ℕ) (old new : List Abbreviation) → IsTable bytes at old → new ≡ old → IsTable bytes at new
+same-table bytes at old new is same = subst (IsTable bytes at) (sym same) is
+
+pub ruleset table_rules = (same-table)

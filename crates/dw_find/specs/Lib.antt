@@ -3,6 +3,7 @@ pub mod UnitPaths
 pub mod TextPlaces
 pub mod EntryTexts
 pub mod NamedSlots
+pub mod QuietValues
 pub mod UnitTexts
 pub mod IndexedTexts
 pub mod InlineRooms

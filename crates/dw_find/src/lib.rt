@@ -24,6 +24,7 @@ mod paths;
 mod reading;
 mod refusal;
 mod rooms;
+mod scan_table;
 mod sections;
 mod slots;
 mod starts;

@@ -14,6 +14,7 @@ ghost use Rattle.dw_entries.specs.ViewUnits.{IsUnitSection, unit_section_at};
 ghost use Rattle.dw_find.specs.UnitTexts.{AreTables, OneTaken, SectionIndexed, UnitsRefuse, tables_of};
 
 use crate::found::{Found, TextTables, UnitPaths};
+use crate::scan_table::ScanTable;
 use crate::slots::NamedSlots;
 use crate::units::unit_texts;
 use dw_abbrev::AbbrevTable;
@@ -31,7 +32,7 @@ pub(crate) fn section_texts(
     view: &View,
     tables: &TextTables,
     section: u32,
-    shared: &mut HashMap<u64, AbbrevTable>,
+    shared: &mut HashMap<u64, ScanTable>,
     slots: &mut NamedSlots,
 ) -> Result<UnitPaths, Fault>
     requires there { IsUnitSection view.now section }
@@ -61,7 +62,7 @@ fn units_texts(
     tables: &TextTables,
     section: u32,
     units: &[UnitHeader],
-    shared: &mut HashMap<u64, AbbrevTable>,
+    shared: &mut HashMap<u64, ScanTable>,
     slots: &mut NamedSlots,
 ) -> Result<UnitPaths, Fault>
     requires there { IsUnitSection view.now section }
@@ -87,7 +88,7 @@ fn one_unit(
     view: &View,
     tables: &TextTables,
     unit: &UnitHeader,
-    shared: &mut HashMap<u64, AbbrevTable>,
+    shared: &mut HashMap<u64, ScanTable>,
     found: &mut Found,
     slots: &mut NamedSlots,
 ) -> Result<(), Fault>
@@ -114,7 +115,7 @@ fn read_table(
     alloc: Global,
     view: &View,
     at: u64,
-    shared: &mut HashMap<u64, AbbrevTable>,
+    shared: &mut HashMap<u64, ScanTable>,
 ) -> Result<(), Fault>
     requires shared { AreTables (debug_data view.now) (λ at. get nat_eq shared.old at) }
     ensures shared { OnOk result (AreTables (debug_data view.now) (λ at. get nat_eq shared.new at)) }
@@ -130,8 +131,19 @@ fn read_table(
 }
 
 /// The table of abbreviations at an offset of the view's `.debug_abbrev`.
+#[tactic(auto, using(crate::proofs::SharedLaws::table_rules))]
+fn table_at(alloc: Global, view: &View, at: u64) -> Result<ScanTable, Fault>
+    ensures table { IfOk result (λ t. IsTable (debug_data view.now).base.abbrevs.bytes at t) }
+    ensures refused { IfErr result (Blames (AbbreviationFails (debug_data view.now).base.abbrevs.bytes (debug_data view.now).base.abbrevs.number at)) }
+{
+    let abbrevs = abbrevs_at(alloc, view, at)?;
+    let table = ScanTable::new(alloc, abbrevs)?;
+    Ok(table)
+}
+
+/// The same, alone.
 #[tactic(auto, using(crate::proofs::UnitRowLaws::table_rules))]
-fn table_at(alloc: Global, view: &View, at: u64) -> Result<AbbrevTable, Fault>
+fn abbrevs_at(alloc: Global, view: &View, at: u64) -> Result<AbbrevTable, Fault>
     ensures table { IfOk result (λ t. IsTable (debug_data view.now).base.abbrevs.bytes at t) }
     ensures refused { IfErr result (Blames (AbbreviationFails (debug_data view.now).base.abbrevs.bytes (debug_data view.now).base.abbrevs.number at)) }
 {

@@ -14,8 +14,8 @@ ghost use Rattle.dw_find.specs.TextPlaces.{entry_places};
 ghost use Rattle.dw_find.specs.UnitTexts.{EntryRefuses, EntryTaken, IsGiven, ScanTaken, UnitRefuses, UnitTaken};
 
 use crate::found::{Found, TextTables};
+use crate::scan_table::ScanTable;
 use crate::texts::entry_texts;
-use dw_abbrev::AbbrevTable;
 use dw_base::{Fault, Scanned, UnitHeader, uleb_at};
 use dw_entries::EntryScan;
 use dw_view::View;
@@ -27,14 +27,14 @@ pub(crate) fn unit_texts(
     view: &View,
     tables: &TextTables,
     unit: &UnitHeader,
-    table: &AbbrevTable,
+    table: &ScanTable,
     found: &mut Found,
 ) -> Result<(), Fault>
     requires unit { HasUnit (debug_data view.now) (unit_section_at view.now unit.now.section) unit.now }
     ensures taken { OnOk result (UnitTaken tables.now (unit_section_at view.now unit.now.section) unit.now table.now found.old found.new) }
     ensures refused { IfErr result (Blames (UnitRefuses tables.now unit.now table.now (bytes_up_to (unit_section_at view.now unit.now.section) unit.now))) }
 {
-    let scan = EntryScan::new(view, unit, table);
+    let scan = EntryScan::new(view, unit, table.abbrevs());
     let bytes = &view.bytes(unit.section)[..unit.end as usize];
     scan_texts(tables, unit, table, bytes, scan, found)
 }
@@ -44,7 +44,7 @@ pub(crate) fn unit_texts(
 fn scan_texts(
     tables: &TextTables,
     unit: &UnitHeader,
-    table: &AbbrevTable,
+    table: &ScanTable,
     bytes: &[u8],
     scan: EntryScan,
     found: &mut Found,
@@ -65,12 +65,12 @@ fn scan_texts(
     Ok(())
 }
 
-/// Takes the values of an entry that a pass gave, the entry `number` of its unit.
+/// Takes the values of an entry that a pass gave, the entry `number` of its unit, up to the last that may say something.
 #[tactic(auto, using(crate::proofs::UnitTextLaws::given_rules))]
 fn scanned_texts(
     tables: &TextTables,
     unit: &UnitHeader,
-    table: &AbbrevTable,
+    table: &ScanTable,
     bytes: &[u8],
     number: u64,
     entry: &Scanned,
@@ -86,10 +86,9 @@ fn scanned_texts(
     let Some((code, size)) = uleb_at(bytes, entry.offset) else {
         unreachable!()
     };
-    let Some(abbrev) = table.get(code) else {
+    let Some((tag, specs)) = table.look(code, number) else {
         unreachable!()
     };
-    let specs = abbrev.specs.as_slice();
     let from = entry.offset + size;
-    entry_texts(tables, unit, bytes, number, abbrev.tag, specs, from, found)
+    entry_texts(tables, unit, bytes, number, tag, specs, from, found)
 }

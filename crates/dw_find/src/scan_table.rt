@@ -1,0 +1,153 @@
+//! A table of abbreviations with how far the values of each are looked at: behind the last attribute that may say
+//! something of texts, line tables or macros no value is read.
+//!
+//! Read first: `specs/QuietValues.antt`.
+
+ghost use Rattle.std.specs.Prelude.{◌≡◌, ◌≤◌, List, None, length, drop, take, IfNone, IfOk, IfSome};
+ghost use Rattle.dw_base.specs.AbbreviationTables.{Abbreviation, abbreviation_of};
+ghost use Rattle.dw_find.specs.QuietValues.{AllQuiet, AreCounts, AreLooked, IsCount, is_place, is_quiet, is_text_form};
+
+use dw_abbrev::{Abbrev, AbbrevTable};
+use dw_base::Spec;
+use dw_base::dwarf_numbers::{
+    DW_AT_GNU_macros, DW_AT_macros, DW_AT_stmt_list, DW_FORM_indirect, DW_FORM_line_strp,
+    DW_FORM_strp, DW_FORM_strx, DW_FORM_strx1, DW_FORM_strx2, DW_FORM_strx3, DW_FORM_strx4,
+};
+use std::alloc::{AllocError, Global};
+use std::marker::Model;
+
+/// A table of abbreviations.
+#[derive(Drop)]
+pub(crate) struct ScanTable {
+    /// The table.
+    table: AbbrevTable,
+    /// For each abbreviation, how many attributes it has up to the last that isn't quiet.
+    counts: Vec<usize>,
+}
+
+impl Model for ScanTable {
+    ghost Value = { List Abbreviation };
+
+    ghost view = { λ t. t.table };
+
+    ghost invariant = { λ t. AreCounts t.table t.counts.items };
+}
+
+impl ScanTable {
+    /// This table.
+    pub(crate) fn new(alloc: Global, table: AbbrevTable) -> Result<ScanTable, AllocError>
+        ensures value { IfOk result (λ t. t ≡ table) }
+    {
+        let counts = counts_of(alloc, table.abbrevs())?;
+        Ok(ScanTable { table, counts })
+    }
+
+    /// The table alone.
+    pub(crate) fn abbrevs(&self) -> &AbbrevTable
+        ensures value { result.now ≡ self.now }
+    {
+        &self.table
+    }
+
+    /// The tag of entry `number` of a unit, of a code, and its attributes whose values are looked at: in a unit's first
+    /// entry all. `None` exactly where the table hasn't the code.
+    #[tactic(auto, using(crate::proofs::QuietLaws::look_rules))]
+    pub(crate) fn look(&self, code: u64, number: u64) -> Option<(u64, &[Spec])>
+        ensures looked { IfSome result (λ l. AreLooked self.now code number l.0 l.1.now) }
+        ensures none { IfNone result (abbreviation_of self.now code ≡ None) }
+    {
+        let Some(index) = self.table.index_of(code) else {
+            return None;
+        };
+        let abbrev = &self.table.abbrevs()[index];
+        if number == 0 {
+            return Some((tag_of(abbrev), specs_of(abbrev)));
+        }
+        Some((tag_of(abbrev), front_of(abbrev, self.counts[index])))
+    }
+}
+
+/// The tag of an abbreviation.
+fn tag_of(abbrev: &Abbrev) -> u64
+    ensures value { result ≡ abbrev.now.tag }
+{
+    abbrev.tag
+}
+
+/// All attributes of an abbreviation.
+fn specs_of(abbrev: &Abbrev) -> &[Spec]
+    ensures value { result.now ≡ abbrev.now.specs }
+{
+    abbrev.specs.as_slice()
+}
+
+/// So many attributes of an abbreviation.
+fn front_of(abbrev: &Abbrev, count: usize) -> &[Spec]
+    requires within { count ≤ length abbrev.now.specs }
+    ensures value { result.now ≡ take count abbrev.now.specs }
+{
+    &abbrev.specs.as_slice()[..count]
+}
+
+/// For each abbreviation, how many attributes it has up to the last that isn't quiet.
+#[tactic(auto, using(crate::proofs::QuietLaws::counts_rules))]
+fn counts_of(alloc: Global, abbrevs: &[Abbrev]) -> Result<Vec<usize>, AllocError>
+    ensures counts { IfOk result (λ counts. AreCounts abbrevs.now counts.items) }
+{
+    let mut counts = Vec::with_capacity(alloc, abbrevs.len())?;
+    for abbrev in abbrevs {
+        counts.push(count_of(abbrev))?;
+    }
+    Ok(counts)
+}
+
+/// How many attributes an abbreviation has up to the last that isn't quiet.
+fn count_of(abbrev: &Abbrev) -> usize
+    ensures count { IsCount abbrev.now result }
+{
+    quiet_from(abbrev.specs.as_slice())
+}
+
+/// How many of these attributes stand up to the last that isn't quiet.
+#[tactic(auto, using(crate::proofs::QuietLaws::from_rules))]
+fn quiet_from(specs: &[Spec]) -> usize
+    ensures within { result ≤ length specs.now }
+    ensures quiet { AllQuiet (drop result specs.now) }
+{
+    let mut count = specs.len();
+    'specs: while count > 0 {
+        if !is_quiet(&specs[count - 1]) {
+            return count;
+        }
+        count -= 1;
+    }
+    count
+}
+
+/// An attribute that says nothing of texts, line tables and macros, but in a unit's first entry.
+fn is_quiet(spec: &Spec) -> bool
+    ensures value { result ≡ is_quiet spec.now }
+{
+    !is_text_form(spec.form) && !is_place(spec)
+}
+
+/// An attribute that says where a line table or macros stand.
+fn is_place(spec: &Spec) -> bool
+    ensures value { result ≡ is_place spec.now }
+{
+    spec.name == DW_AT_stmt_list || spec.name == DW_AT_macros || spec.name == DW_AT_GNU_macros
+}
+
+/// A form whose values name texts, or stand behind their own form.
+fn is_text_form(form: u64) -> bool
+    ensures value { result ≡ is_text_form form }
+{
+    form == DW_FORM_strp
+        || form == DW_FORM_line_strp
+        || form == DW_FORM_indirect
+        || form == DW_FORM_strx
+        || form == DW_FORM_strx1
+        || form == DW_FORM_strx2
+        || form == DW_FORM_strx3
+        || form == DW_FORM_strx4
+}
