@@ -6,148 +6,18 @@
 
 ghost use Rattle.std.specs.Prelude.{◌≡◌, ◌+◌, ◌≤◌, ◌<◌, Some, Ok, Err, length, take, IfOk, IfErr};
 ghost use Rattle.dw_base.specs.FileViews.{section_bytes};
-ghost use Rattle.dw_base.specs.ViewData.{located};
 ghost use Rattle.dw_lines.specs.ViewSources.{view_source};
 ghost use Rattle.dw_base.specs.Refusals.{Blames};
-ghost use Rattle.dw_base.specs.Values.{value_at};
 ghost use Rattle.dw_base.specs.Lebs.{uleb_at};
-ghost use Rattle.dw_base.specs.LineTexts.{inline_text};
-ghost use Rattle.dw_base.specs.LineEntries.{counted_entries, first_of, bad_table, column_at, column_params, columns, entries_at, entries_behind, entry_at, file_of, inline_column, next_column, offset_column, value_column, with_column};
+ghost use Rattle.dw_base.specs.LineEntries.{counted_entries, first_of, bad_table, column_at, columns, entries_at, entries_behind, entry_at, file_of, next_column, with_column};
 
+use crate::columns::{bad_table, column_at};
 use crate::formats::format_at;
-use crate::header::width_size;
-use crate::texts::{inline_text, named_text};
-use dw_base::dwarf_numbers::{DW_FORM_line_strp, DW_FORM_string, DW_FORM_strp};
 use dw_base::line_numbers::{DW_LNCT_directory_index, DW_LNCT_path};
 use dw_base::line_tables::{Column, Entry};
-use dw_base::{
-    DebugSection, Fault, FilePlace, Kind, LineHeader, Order, Params, Refusal, Spec, TextPlace,
-    uleb_at,
-};
-use dw_forms::value_at;
+use dw_base::{Fault, FilePlace, LineHeader, Refusal, Spec, TextPlace, uleb_at};
 use dw_view::View;
 use std::alloc::Global;
-
-/// The refusal of a table.
-pub(crate) fn bad_table(section: u32, header: &LineHeader) -> Refusal
-    ensures { result ≡ bad_table section header.now }
-{
-    Refusal::at(Kind::Line, section, header.start)
-}
-
-/// A column whose text stands inline.
-fn inline_column(
-    section: u32,
-    header: &LineHeader,
-    table: &[u8],
-    place: u64,
-) -> Result<Column, Refusal>
-    ensures column { result ≡ inline_column section header.now place (inline_text section table.now place) }
-    ensures within { IfOk result (λ c. c.next ≤ length table.now) }
-{
-    match inline_text(section, table, place) {
-        Some(text) => Ok(Column {
-            text: Some(text),
-            number: 0,
-            next: place + text.len + 1,
-        }),
-        None => Err(bad_table(section, header)),
-    }
-}
-
-/// A column whose text an offset names.
-#[tactic(auto, unfolding(dw_base::specs::LineEntries::offset_column))]
-fn offset_column(
-    view: &View,
-    section: u32,
-    header: &LineHeader,
-    table: &[u8],
-    texts: DebugSection,
-    place: u64,
-) -> Result<Column, Refusal>
-    requires there { section < length view.now.sections }
-    requires within { length table.now ≤ length (section_bytes view.now section) }
-    ensures column { result ≡ offset_column (view_source view.now section) header.now table.now (located view.now texts) place }
-    ensures within { IfOk result (λ c. c.next ≤ length table.now) }
-{
-    let size = width_size(header.width);
-    let end = table.len() as u64;
-    if place > end {
-        return Err(bad_table(section, header));
-    }
-    if u64::from(size) > end - place {
-        return Err(bad_table(section, header));
-    }
-    match named_text(view, texts, section, place, size) {
-        Ok(text) => Ok(Column {
-            text: Some(text),
-            number: 0,
-            next: place + u64::from(size),
-        }),
-        Err(refusal) => Err(refusal),
-    }
-}
-
-/// What the values of columns depend on; none of their forms takes an address.
-fn column_params(order: Order, header: &LineHeader) -> Params
-    ensures params { result ≡ column_params order header.now }
-{
-    Params {
-        order,
-        width: header.width,
-        version: header.version,
-        address: 8,
-    }
-}
-
-/// A column of another value.
-#[tactic(auto, using(crate::proofs::EntryLaws::value_laws))]
-fn value_column(
-    order: Order,
-    section: u32,
-    header: &LineHeader,
-    table: &[u8],
-    spec: &Spec,
-    place: u64,
-) -> Result<Column, Refusal>
-    ensures column { result ≡ value_column section header.now place (value_at (column_params order header.now) spec.now table.now place) }
-{
-    let params = column_params(order, header);
-    match value_at(spec, &params, section, table, place, table.len() as u64) {
-        Ok(value) => Ok(Column {
-            text: None,
-            number: value.number,
-            next: place + value.size,
-        }),
-        Err(_) => Err(bad_table(section, header)),
-    }
-}
-
-/// The value of a column at a place.
-#[tactic(auto, unfolding(dw_base::specs::LineEntries::column_at))]
-fn column_at(
-    view: &View,
-    section: u32,
-    header: &LineHeader,
-    table: &[u8],
-    spec: &Spec,
-    place: u64,
-) -> Result<Column, Refusal>
-    requires there { section < length view.now.sections }
-    requires within { length table.now ≤ length (section_bytes view.now section) }
-    ensures column { result ≡ column_at (view_source view.now section) header.now table.now spec.now place }
-{
-    if spec.form == DW_FORM_string {
-        return inline_column(section, header, table, place);
-    }
-    if spec.form == DW_FORM_strp {
-        return offset_column(view, section, header, table, DebugSection::Str, place);
-    }
-    if spec.form == DW_FORM_line_strp {
-        return offset_column(view, section, header, table, DebugSection::LineStr, place);
-    }
-    value_column(view.order(), section, header, table, spec, place)
-}
 
 /// The first of two texts that is there.
 fn first_text(text: Option<TextPlace>, next: Option<TextPlace>) -> Option<TextPlace>

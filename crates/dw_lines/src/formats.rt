@@ -8,20 +8,14 @@ ghost use Rattle.dw_base.specs.Refusals.{Blames};
 ghost use Rattle.dw_base.specs.LineFormats.{format_at, is_column, is_column_form, is_index_form, is_text_form, spec_at};
 ghost use Rattle.dw_base.specs.Walks.{Since};
 
+use crate::columns::is_text_form;
 use dw_base::dwarf_numbers::{
     DW_FORM_block, DW_FORM_data1, DW_FORM_data2, DW_FORM_data4, DW_FORM_data8, DW_FORM_data16,
-    DW_FORM_line_strp, DW_FORM_string, DW_FORM_strp, DW_FORM_udata,
+    DW_FORM_udata,
 };
 use dw_base::line_numbers::{DW_LNCT_directory_index, DW_LNCT_path};
 use dw_base::{Fault, Refusal, Spec, uleb_at};
 use std::alloc::Global;
-
-/// A form by which a path may stand.
-fn is_text_form(form: u64) -> bool
-    ensures form { result ≡ is_text_form form }
-{
-    form == DW_FORM_string || form == DW_FORM_strp || form == DW_FORM_line_strp
-}
 
 /// A form by which the number of a directory may stand.
 fn is_index_form(form: u64) -> bool

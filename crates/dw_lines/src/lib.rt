@@ -21,6 +21,7 @@
 #![tactic(auto)]
 
 mod changes;
+mod columns;
 mod defined_paths;
 mod entries;
 mod formats;

@@ -8,7 +8,8 @@ ghost use Rattle.dw_base.specs.declared.fault.Refusal.{Refusal as RefusalOf};
 ghost use Rattle.dw_base.specs.LineTables.{HasLists, IsLineTable, LineTable as LineTableOf, table_with, texts_of};
 ghost use Rattle.dw_base.specs.LineFails.{LineFails, ListsFail};
 
-use crate::entries::{bad_table, entries_at};
+use crate::columns::bad_table;
+use crate::entries::entries_at;
 use crate::header::line_header;
 use crate::old_lists::{old_dirs, old_files};
 use crate::program::defined_files;
