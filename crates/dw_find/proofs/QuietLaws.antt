@@ -8,14 +8,11 @@ use Rattle.dw_abbrev.specs.Coded.{index_of_code}
 use Rattle.dw_abbrev.proofs.CodedLaws.{get-here, get-none}
 use Rattle.dw_base.specs.AbbreviationTables.{Abbreviation, abbreviation_of}
 use Rattle.dw_base.specs.Forms.{ValueKind, number_of, leb_number, signed_leb, block_of, counted, counted_leb, inline_text, text_offset, present, in_abbreviation, form_in_front, supplementary, unlisted, FormRow, form_rows, kind_by, kind_in}
-use Rattle.dw_base.specs.Refusals.{Blames}
 use Rattle.dw_base.specs.Roles.{is_path, is_unit_tag}
 use Rattle.dw_base.specs.TextIndexes.{is_base}
 use Rattle.dw_base.specs.Values.{value_at}
 use Rattle.dw_base.specs.EntryScans.{ValuesFail, value as value_fails}
 use Rattle.dw_base.specs.declared.dwarf_numbers.TheConstants.{DW_AT_comp_dir, DW_AT_name, DW_AT_stmt_list, DW_AT_str_offsets_base}
-use Rattle.dw_base.specs.declared.fault.Fault.{Fault}
-use Rattle.dw_base.specs.declared.fault.Fault.TheVariants.{NoMemory, Refused}
 use Rattle.dw_base.specs.declared.fault.Refusal.{Refusal}
 use Rattle.dw_base.specs.declared.shared.Params.{Params}
 use Rattle.dw_base.specs.declared.values.Spec.{Spec}
@@ -25,7 +22,7 @@ use Rattle.dw_base.specs.declared.values.ValueClass.TheVariants.{Address, Number
 use Rattle.dw_base.proofs.ClassLaws.{class_of_kind, value-class}
 use Rattle.dw_base.proofs.FormLaws.{value_by-own}
 use Rattle.dw_meaning.specs.FileFails.{is_unbuilt_value}
-use Rattle.dw_find.specs.EntryTexts.{Tables, AreTaken, IsTaken, OffsetNames, TakenBehind, ValuesRefuse, fails, value}
+use Rattle.dw_find.specs.EntryTexts.{Tables, AreTaken, OffsetNames, TakenBehind, ValuesRefuse, fails, value}
 use Rattle.dw_find.specs.QuietValues.{AllQuiet, AreCounts, AreLooked, IsCount, SaysNothing, none_left, quiet_left, is_place, is_quiet, is_text_form}
 use Rattle.dw_find.specs.TextPlaces.{TextPlace, class_places, line_places, own_form, own_place, stray_places, value_places, value_places_behind, values_places}
 
