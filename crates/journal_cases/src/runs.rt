@@ -1,13 +1,13 @@
 //! Runs of a small maker over a tree in memory: stopped after each call, and started again.
-ghost use Rattle.std.specs.Prelude.{◌≡◌, ◌<◌, ◌≤◌, IfOk, length};
+ghost use Rattle.std.specs.Prelude.{◌<◌, ◌≤◌};
 
 use crate::toy::Toy;
-use file_tree::{Blob, Listed, MemTree, Node, Tree};
+use file_tree::{Blob, Listed, MemTree, Node, Text, Tree};
 use std::alloc::{AllocError, Global};
 use std::process::Abort;
 use std::test::Fail;
 use work_journal::*;
-use work_texts::{Jobs, PlanData, RunKey, Sources, write_finished, write_plan};
+use work_texts::{Jobs, PlanData, RunKey, Sources, WorkFile, write_finished, write_plan};
 
 /// A tree of these jobs' files.
 fn begun(alloc: Global, jobs: u32) -> Result<MemTree, Fail> {
@@ -48,16 +48,12 @@ fn plan_text(alloc: Global, key: RunKey) -> Result<Vec<u8>, Fail> {
     Ok(write_plan(alloc, &plan)?)
 }
 
-/// The four texts of the end of the small runs.
-fn texts_of(alloc: Global, key: &RunKey) -> Result<Vec<Node>, Fail>
-    ensures four { IfOk result (λ v. length v.items ≡ 4) }
-{
+/// The lists of the end of the small runs.
+fn lists_of(alloc: Global) -> Result<[Vec<u8>; 3], AllocError> {
     let sources = Vec::from_slice(alloc, b"s")?;
     let debug_files = Vec::from_slice(alloc, b"d")?;
     let links = Vec::from_slice(alloc, b"l")?;
-    let finished = write_finished(alloc, key, b"done")?;
-    let texts = end_nodes(alloc, sources, debug_files, links, finished)?;
-    Ok(texts)
+    Ok([sources, debug_files, links])
 }
 
 /// The paths of the tree once it is settled, unless a call fails.
@@ -79,16 +75,16 @@ fn finish_run(
     present: &[String],
     maker: &mut Toy,
     in_flight: u8,
-    texts: &Vec<Node>,
 ) -> Result<bool, Fail>
     requires some { 0 < in_flight }
     requires most { in_flight ≤ 64 }
-    requires four { length texts.now.items ≡ 4 }
 {
-    let plan = plan_of(alloc, key(alloc)?)?;
+    let plan = plan_text(alloc, key(alloc)?)?;
+    let lists = lists_of(alloc)?;
+    let finished = write_finished(alloc, &key(alloc)?, b"done")?;
     let core = start_core(alloc, opened, "r/w", present, maker)?;
     let ended = finish(
-        alloc, tree, core, "r/w", present, maker, in_flight, &plan, texts,
+        alloc, tree, core, "r/w", present, maker, in_flight, plan, lists, &finished,
     );
     Ok(ended.is_ok())
 }
@@ -99,14 +95,13 @@ fn start(alloc: Global, tree: &mut MemTree, maker: &mut Toy, in_flight: u8) -> R
     requires most { in_flight ≤ 64 }
 {
     let key = key(alloc)?;
-    let texts = texts_of(alloc, &key)?;
     let Some(present) = paths_of(tree) else {
         return Ok(false);
     };
     let Ok(opened) = open_work(alloc, tree, "r/w", &present, &key) else {
         return Ok(false);
     };
-    finish_run(alloc, tree, &opened, &present, maker, in_flight, &texts)
+    finish_run(alloc, tree, &opened, &present, maker, in_flight)
 }
 
 /// Whether two nodes are one.
@@ -152,25 +147,57 @@ fn undisturbed(
     Ok(tree)
 }
 
-/// A run that stops after so many calls, which leaves the first of its changes, as many as `kept`, with
-/// torn files; and the next start, with another number in flight, ends as the undisturbed run.
+/// A run of three jobs that stops after so many calls, which leaves the first of its changes, as many as
+/// `kept`, with torn files; and the next start, with another number in flight, ends as the undisturbed run.
 fn stop_and_start(
     rt: &impl Abort,
     alloc: Global,
-    jobs: u32,
+    in_flight: u8,
+    next: u8,
     calls: u64,
     kept: u64,
     whole: &MemTree,
-) -> Result<(), Fail> {
-    let mut tree = begun(alloc, jobs)?;
-    let mut maker = Toy { jobs, first: b'f' };
+) -> Result<(), Fail>
+    requires some { 0 < in_flight }
+    requires most { in_flight ≤ 64 }
+    requires next_some { 0 < next }
+    requires next_most { next ≤ 64 }
+{
+    let mut tree = begun(alloc, 3)?;
+    let mut maker = Toy {
+        jobs: 3,
+        first: b'f',
+    };
     tree.stop_after(calls);
-    let ended = start(alloc, &mut tree, &mut maker, 2)?;
+    let ended = start(alloc, &mut tree, &mut maker, in_flight)?;
     assert!(rt; !ended);
     let mut left = tree.stopped(kept, b"torn")?;
-    let ended = start(alloc, &mut left, &mut maker, 1)?;
+    let ended = start(alloc, &mut left, &mut maker, next)?;
     assert!(rt; ended);
     assert!(rt; are_same(&left, whole));
+    Ok(())
+}
+
+/// Runs of three jobs that stop after each call of the whole one in turn, with each number of the changes
+/// that aren't stored then, which are 13 at most.
+fn stop_each(
+    rt: &impl Abort,
+    alloc: Global,
+    in_flight: u8,
+    next: u8,
+    whole: &MemTree,
+) -> Result<(), Fail>
+    requires some { 0 < in_flight }
+    requires most { in_flight ≤ 64 }
+    requires next_some { 0 < next }
+    requires next_most { next ≤ 64 }
+{
+    let calls = whole.calls().len() as u64;
+    for stop in 0..calls {
+        for kept in 0..14u64 {
+            stop_and_start(rt, alloc, in_flight, next, stop, kept, whole)?;
+        }
+    }
     Ok(())
 }
 
@@ -191,14 +218,14 @@ fn five_jobs_share_their_settles(rt: HostRuntime) -> Result<(), Fail> {
 fn stopped_after_each_call_it_ends_as_if_it_were_not(rt: HostRuntime) -> Result<(), Fail> {
     let alloc = rt.alloc();
     let whole = undisturbed(&rt, alloc, 3, 2, 6)?;
-    let calls = whole.calls().len() as u64;
-    for stop in 0..calls {
-        for kept in 0..4u64 {
-            stop_and_start(&rt, alloc, 3, stop, kept, &whole)?;
-        }
-        stop_and_start(&rt, alloc, 3, stop, 100, &whole)?;
-    }
-    Ok(())
+    stop_each(&rt, alloc, 2, 1, &whole)
+}
+
+#[test]
+fn stopped_with_all_jobs_in_flight_it_ends_by_twos(rt: HostRuntime) -> Result<(), Fail> {
+    let alloc = rt.alloc();
+    let whole = undisturbed(&rt, alloc, 3, 8, 5)?;
+    stop_each(&rt, alloc, 8, 2, &whole)
 }
 
 /// A run of which one call fails, and the next start.
@@ -250,10 +277,10 @@ fn begun_with(alloc: Global, path: &str, text: &[u8]) -> Result<MemTree, Fail> {
     Ok(tree)
 }
 
-/// A start over a work folder whose `plan` is this text, which is no plan of the run: all stays.
-fn left_alone(rt: &impl Abort, alloc: Global, text: &[u8]) -> Result<(), Fail> {
-    let mut tree = begun_with(alloc, "r/w/plan", text)?;
-    let before = begun_with(alloc, "r/w/plan", text)?;
+/// A start over a work folder in which this text stands, which is none of the run: all stays.
+fn left_alone(rt: &impl Abort, alloc: Global, path: &str, text: &[u8]) -> Result<(), Fail> {
+    let mut tree = begun_with(alloc, path, text)?;
+    let before = begun_with(alloc, path, text)?;
     let mut maker = Toy {
         jobs: 1,
         first: b'f',
@@ -269,18 +296,47 @@ fn plan_that_is_cut_stops_the_start(rt: HostRuntime) -> Result<(), Fail> {
     let alloc = rt.alloc();
     let plan = plan_text(alloc, key(alloc)?)?;
     for cut in 0..plan.len() {
-        left_alone(&rt, alloc, &plan[..cut])?;
+        left_alone(&rt, alloc, "r/w/plan", &plan[..cut])?;
     }
     Ok(())
 }
 
 #[test]
-fn plan_of_other_options_stops_the_start(rt: HostRuntime) -> Result<(), Fail> {
+fn texts_of_other_options_stop_the_start(rt: HostRuntime) -> Result<(), Fail> {
     let alloc = rt.alloc();
     let mut other = key(alloc)?;
     other.max_file = 99;
+    let finished = write_finished(alloc, &other, b"done")?;
+    left_alone(&rt, alloc, "r/w/finished", finished.as_slice())?;
     let plan = plan_text(alloc, other)?;
-    left_alone(&rt, alloc, plan.as_slice())
+    left_alone(&rt, alloc, "r/w/plan", plan.as_slice())
+}
+
+/// A tree with one job's file, and a link where the plan stands.
+fn begun_with_link(alloc: Global) -> Result<MemTree, Fail> {
+    let mut tree = begun(alloc, 1)?;
+    let target = Text::copy_of(alloc, "../0")?;
+    tree.put("r/w/plan", &Node::Link { target })?;
+    Ok(tree)
+}
+
+#[test]
+fn link_in_place_of_the_plan_is_bad_at_its_start(rt: HostRuntime) -> Result<(), Fail> {
+    let alloc = rt.alloc();
+    let mut tree = begun_with_link(alloc)?;
+    let paths = paths_of(&mut tree).ok_or("no paths")?;
+    let key = key(alloc)?;
+    let answer = open_work(alloc, &mut tree, "r/w", &paths, &key);
+    assert!(rt;
+        matches!(
+            &answer,
+            Err(JournalErr::PlanText {
+                file: WorkFile::Plan,
+                at: 0
+            })
+        )
+    );
+    Ok(())
 }
 
 #[test]

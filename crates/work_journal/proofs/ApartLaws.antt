@@ -13,7 +13,7 @@ use Rattle.work_journal.specs.Targets.{AreTargetsApart, AreNodesKept}
 
 -- ### Decimals have no dot
 
-data HasNoDot : List ℕ → Type 0 where
+pub data HasNoDot : List ℕ → Type 0 where
   no_byte : HasNoDot []
   byte_more : {x : ℕ} {xs : List ℕ} → x ≢ 46 → HasNoDot xs → HasNoDot (x ∷ xs)
 
@@ -24,20 +24,20 @@ no_dot_joined (x ∷ xs) ys (byte_more ne a) b = byte_more ne (no_dot_joined xs 
 digit_no_dot : (d : ℕ) → HasNoDot ((48 + d) ∷ [])
 digit_no_dot d = byte_more (λ (e : 48 + d ≡ 46). omega (arith, e)) no_byte
 
-decimal_no_dot : (n : ℕ) → n < 2 ^ 64 → HasNoDot (decimal n)
+pub decimal_no_dot : (n : ℕ) → n < 2 ^ 64 → HasNoDot (decimal n)
 decimal_no_dot n l = decimal_by_steps (λ (m : ℕ) (ds : List ℕ). HasNoDot ds) (λ m k. digit_no_dot m)
     (λ m ds k has. no_dot_joined ds ((48 + m % 10) ∷ []) has (digit_no_dot (m % 10))) n l
 
-abbrev head_of : List ℕ → ℕ
+abbrev pub head_of : List ℕ → ℕ
 head_of [] = 0
 head_of (x ∷ xs) = x
 
-abbrev rest_of : List ℕ → List ℕ
+abbrev pub rest_of : List ℕ → List ℕ
 rest_of [] = []
 rest_of (x ∷ xs) = xs
 
 -- what stands before the first dot, and behind it
-split_at_dot : (xs ys us vs : List ℕ) → HasNoDot xs → HasNoDot ys → xs ++ 46 ∷ us ≡ ys ++ 46 ∷ vs → (xs ≡ ys) × (us ≡ vs)
+pub split_at_dot : (xs ys us vs : List ℕ) → HasNoDot xs → HasNoDot ys → xs ++ 46 ∷ us ≡ ys ++ 46 ∷ vs → (xs ≡ ys) × (us ≡ vs)
 split_at_dot [] [] us vs no_byte no_byte e = (refl, ap rest_of e)
 split_at_dot [] (y ∷ ys) us vs no_byte (byte_more ne b) e = absurd (ne (sym (ap head_of e)))
 split_at_dot (x ∷ xs) [] us vs (byte_more ne a) no_byte e = absurd (ne (ap head_of e))
@@ -48,7 +48,7 @@ split_at_dot (x ∷ xs) (y ∷ ys) us vs (byte_more ne a) (byte_more me b) e = m
 
 -- ### The texts of names
 
-abbrev family : List ℕ → ℕ
+abbrev pub family : List ℕ → ℕ
 family t = if head_of t == 112 then 0 else if head_of t == 116 then 1 else if head_of t == 99 then 2 else 3
 
 abbrev family_of : Name → ℕ
@@ -60,11 +60,11 @@ family_of (fresh i) = 3
 family_of (final i) = 3
 family_of (target j k) = 4
 
-fresh_family : (i : ℕ) → i < 4 → family (name_text (fresh i)) ≡ 3
-fresh_family zero l = refl
-fresh_family (suc zero) l = refl
-fresh_family (suc (suc zero)) l = refl
-fresh_family (suc (suc (suc n))) l = refl
+pub fresh_family : (i : ℕ) → family (name_text (fresh i)) ≡ 3
+fresh_family zero = refl
+fresh_family (suc zero) = refl
+fresh_family (suc (suc zero)) = refl
+fresh_family (suc (suc (suc n))) = refl
 
 final_family : (i : ℕ) → i < 4 → family (name_text (final i)) ≡ 3
 final_family zero l = refl
@@ -77,7 +77,7 @@ family_is steps plan_new is = refl
 family_is steps plan is = refl
 family_is steps (temp j k) is = refl
 family_is steps (commit j) is = refl
-family_is steps (fresh i) is = fresh_family i is
+family_is steps (fresh i) is = fresh_family i
 family_is steps (final i) is = final_family i is
 family_is steps (target j k) is = absurd is
 
@@ -100,7 +100,7 @@ final_is (suc (suc zero)) l = refl
 final_is (suc (suc (suc zero))) l = refl
 final_is (suc (suc (suc (suc n)))) l = absurd (omega (arith, l))
 
-wide : {n j : ℕ} → n ≤ 2 ^ 32 → j < n → j < 2 ^ 64
+pub wide : {n j : ℕ} → n ≤ 2 ^ 32 → j < n → j < 2 ^ 64
 wide m l = omega (arith, m, l)
 
 -- at most 2^32 jobs of at most 4 steps
@@ -118,7 +118,7 @@ same_temp steps j k i l m is at h = both (split_at_dot (decimal j) (decimal i) (
     both p = ap (λ (x : ℕ). temp x k) (decimal_injective j i (wide m.jobs is.job_in) (wide m.jobs at.job_in) p.0)
         ∙ ap (λ (x : ℕ). temp i x) (decimal_injective k l (thin steps j k m is) (thin steps i l m at) p.1)
 
-differ : (m n : ℕ) → m ≡ n → (m == n) ≡ false → ⊥
+pub differ : (m n : ℕ) → m ≡ n → (m == n) ≡ false → ⊥
 differ m n e f = let d : true ≡ false = sym (eq-eqb m n e) ∙ f in absurd (cc)
 
 same_family : (steps : List ℕ) (a b : Name) → AreFew steps → IsWorkName steps a → IsWorkName steps b → family_of a ≡ family_of b → name_text a ≡ name_text b → a ≡ b
@@ -166,10 +166,13 @@ same_family steps (commit j) (target i l) m is at same h = absurd at
 same_family steps (fresh j) (target i l) m is at same h = absurd at
 same_family steps (final j) (target i l) m is at same h = absurd at
 
-work_apart : (work steps : List ℕ) (a b : Name) → AreFew steps → IsWorkName steps a → IsWorkName steps b → work_path work a ≡ work_path work b → a ≡ b
+pub same_text : (work : List ℕ) (a b : Name) → work_path work a ≡ work_path work b → name_text a ≡ name_text b
 unfolding work_path
+same_text work a b e = ap rest_of (append_cancel_left work (47 ∷ name_text a) (47 ∷ name_text b) e)
+
+work_apart : (work steps : List ℕ) (a b : Name) → AreFew steps → IsWorkName steps a → IsWorkName steps b → work_path work a ≡ work_path work b → a ≡ b
 work_apart work steps a b m is at e =
-    let h : name_text a ≡ name_text b = ap rest_of (append_cancel_left work (47 ∷ name_text a) (47 ∷ name_text b) e) in
+    let h : name_text a ≡ name_text b = same_text work a b e in
     same_family steps a b m is at (sym (family_is steps a is) ∙ ap family h ∙ family_is steps b at) h
 
 -- ### All names

@@ -6,6 +6,7 @@ use Rattle.std.specs.Str.{bytes_eq}
 use Rattle.std.proofs.lemmas.List.{length-replicate, get_or-replicate, length-map}
 use Rattle.std.proofs.lemmas.Slice.Eq.{bytes_eq-Decides}
 use Rattle.dw_base.specs.declared.fault.Refusal.{Refusal}
+use Rattle.file_tree.specs.declared.node.Node.{Node}
 use Rattle.file_tree.specs.declared.node.TreeErr.{TreeErr}
 use Rattle.file_tree.specs.declared.node.TreeErr.TheVariants as tree
 use Rattle.file_tree.specs.Seen.{Past, Seen, map_now}
@@ -31,8 +32,8 @@ use Rattle.work_journal.specs.Rounds.{is_found, IsBegun, AreDone}
 use Rattle.work_journal.specs.Runs.{Goes, Came}
 use Rattle.work_journal.specs.Settling.{Keeping}
 use Rattle.work_journal.specs.Blames.{run_fault, RunBlames, is_mild_run}
-use Rattle.work_journal.specs.Finishing.{IsStart, is_new, is_begun, is_over, IsPlanned, has_begun, has_ended, end_paths, FinishRan}
-use Rattle.work_journal.proofs.GoesLaws.{came_failed, came_still}
+use Rattle.work_journal.specs.Finishing.{IsStart, is_new, is_begun, is_over, IsPlanned, has_begun, has_ended, AreJobs, IsRun, end_paths, FinishRan}
+use Rattle.work_journal.proofs.GoesLaws.{came_failed, came_still, came_given}
 use Rattle.work_journal.proofs.RestartLaws.{end_whole}
 
 -- ### Calls that are answered by another error, or by another value
@@ -243,3 +244,36 @@ pub finish_whole : {hits : List ℕ → Type 0} {n : ℕ} {A : Type 0} (work : L
     → Came run.Tree hits n work may lent begun d mid r → FinishRan hits n work may c old new r
 finish_whole {hits = hits} {n = n} work may c lent d old begun mid new r core seen same closed a =
     finish_ran work may c d old mid new r closed same (subst (λ (s : Seen). Came run.Tree hits n work may c s d mid r) seen (subst (λ (x : CoreState). Came run.Tree hits n work may x begun d mid r) core a))
+
+-- ### The texts of the end, as they were given and as they were made
+
+pub jobs_by : (w : Wanted) (v : MakerView) (given made : List Node) → made ≡ given → AreJobs w v given → AreJobs w v made
+jobs_by w v given made is a = subst (λ (ns : List Node). AreJobs w v ns) (sym is) a
+
+pub run_by : (w : Wanted) (v : MakerView) (plan put : Node) (given made : List Node) → put ≡ plan → made ≡ given → IsRun w v plan given → IsRun w v put made
+run_by w v plan put given made is are a = subst (λ (n : Node). IsRun w v n made) (sym is) (subst (λ (ns : List Node). IsRun w v plan ns) (sym are) a)
+
+-- fewer wanted files
+pub finish_given : {hits : List ℕ → Type 0} {n : ℕ} {A : Type 0} (work : List ℕ) (may must : Wanted → Type 0) (c : CoreState) (old new : Seen) (r : Result A JournalErr) → ((w : Wanted) → must w → may w) → FinishRan hits n work may c old new r → FinishRan hits n work must c old new r
+finish_given work may must c old new r of a = record {
+  last = a.last;
+  closed = a.closed;
+  came = came_given run.Tree _ _ _ _ _ _ _ _ (λ w given tells m k. of w m) a.came;
+  ended = λ tells w given m k. a.ended tells w given (of w m) k;
+}
+
+on_err : {A : Type 0} (s : Result A JournalErr) (x : JournalErr) (P : Type 0) → s ≡ Err x → OnOk s P
+on_err s x P is = rw is tt
+
+-- memory ran out before any call
+pub finish_no_text : {hits : List ℕ → Type 0} {n : ℕ} {A B : Type 0} (work : List ℕ) (may : Wanted → Type 0) (c : CoreState) (seen : Seen) (r : Result B JournalErr) (s : Result A JournalErr) (x : JournalErr)
+    → r ≡ Err x → IsErrAnd s (λ y. y ≡ x) → IfErr r (λ e. e ≡ run.NoMemory) → FinishRan hits n work may c seen seen s
+finish_no_text work may c seen r s x was is none =
+    let p = err_from_is_err_and s is in
+    let now : s ≡ Err x = rw p.2 at p.1 in
+    record {
+      last = c;
+      closed = on_err s x _ now;
+      came = came_no_text work may c seen r s x was is none;
+      ended = λ tells w given m k. on_err s x _ now;
+    }

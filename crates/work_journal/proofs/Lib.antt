@@ -20,3 +20,4 @@ pub mod EndLaws
 pub mod RestartLaws
 pub mod PresentLaws
 pub mod ApartLaws
+pub mod RunLaws

@@ -1,10 +1,19 @@
 -- The end of a run: its four texts put, settled, and renamed.
-use Rattle.std.specs.Prelude.{◌≡◌, ℕ, suc, false, ◌<◌, List, get_or, IsTrue}
+use Rattle.std.specs.Prelude.{◌≡◌, ℕ, suc, false, ◌<◌, List, [], ◌∷◌, ◌++◌, map, get_or, IsTrue}
 use Rattle.file_tree.specs.declared.node.Node.{Node}
+use Rattle.file_tree.specs.declared.node.Node.TheVariants as node
 use Rattle.journal_core.specs.declared.event.Phase.TheVariants.{Running, Finishing}
 use Rattle.journal_core.specs.Names.{fresh}
 use Rattle.journal_core.specs.Table.{CoreState, all_done, closed_next, in_phase}
 use Rattle.work_journal.specs.Wanted.{Wanted}
+
+-- a text of the work folder as a file
+abbrev pub text_file : List ℕ → Node
+text_file text = node.File text 420
+
+-- the three lists and the finished text as files
+abbrev pub end_nodes : List (List ℕ) → List ℕ → List Node
+end_nodes lists finished = map text_file lists ++ text_file finished ∷ []
 
 -- these are the wanted texts of the end
 abbrev pub AreTexts : Wanted → List Node → Type 0

@@ -1,14 +1,13 @@
 -- A run from a start to its end: the cores that it may begin with, and what is wanted of it.
 use Rattle.std.specs.Prelude.{◌≡◌, ◌∷◌, [], ℕ, List, true, Result, OnOk}
 use Rattle.file_tree.specs.declared.node.Node.{Node}
-use Rattle.file_tree.specs.declared.node.Node.TheVariants as node
 use Rattle.journal_core.specs.declared.event.Phase.TheVariants.{Closed}
 use Rattle.journal_core.specs.Names.{plan_new, final}
 use Rattle.journal_core.specs.Table.{CoreState, new_core}
 use Rattle.work_journal.specs.Views.{MakerView}
 use Rattle.work_journal.specs.Work.{work_path}
 use Rattle.work_journal.specs.Wanted.{Wanted}
-use Rattle.work_journal.specs.Ending.{AreTexts}
+use Rattle.work_journal.specs.Ending.{AreTexts, text_file}
 use Rattle.work_journal.specs.Files.{IsWanted}
 use Rattle.file_tree.specs.Images.{state_of}
 use Rattle.file_tree.specs.Seen.{Seen, map_now}
@@ -39,7 +38,7 @@ pub record AreJobs (w : Wanted) (v : MakerView) (texts : List Node) : Type 0 whe
 
 -- the text of a plan as a file
 abbrev pub plan_node : PlanData → Node
-plan_node plan = node.File (text_of (plan_fields plan)) 420
+plan_node plan = text_file (text_of (plan_fields plan))
 
 -- and the plan
 pub record IsRun (w : Wanted) (v : MakerView) (plan : Node) (texts : List Node) : Type 0 where

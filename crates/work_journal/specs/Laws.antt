@@ -1,6 +1,7 @@
 -- The laws that tie the core to a tree: each call keeps the relation, and a call that failed leaves the run partway.
-use Rattle.std.specs.Prelude.{◌≡◌, ◌≢◌, ℕ, ◌<◌, List, Some, None, Ok, is_some}
+use Rattle.std.specs.Prelude.{◌≡◌, ◌≢◌, ℕ, ◌<◌, ◌≤◌, ◌^◌, List, length, Some, None, Ok, is_some}
 use Rattle.std.specs.FinMap as fin
+use Rattle.file_tree.specs.declared.call.Call.{Call}
 use Rattle.file_tree.specs.Trees.{TreeMap}
 use Rattle.file_tree.specs.Seen.{Past, Happened, Seen, adds}
 use Rattle.file_tree.specs.Images.{State, state_after, state_of, settled_state, LeavesOnly}
@@ -15,6 +16,7 @@ use Rattle.work_journal.specs.Opening.{Opens}
 use Rattle.work_journal.specs.Beginning.{core_by}
 use Rattle.work_journal.specs.Wanted.{Wanted, path_of, IsApart, IsWork, IsPartway}
 use Rattle.work_journal.specs.Keeps.{Does, Broke, Keeps, Kept}
+use Rattle.work_journal.specs.Runs.{Runs}
 
 abbrev pub EveryCallKept : Type 0
 EveryCallKept = (w : Wanted) → IsApart w → IsWork w → (c d : CoreState) (s : State) (x : Happened)
@@ -60,3 +62,10 @@ EveryPresentKeeps = (w : Wanted) → IsApart w → (t : TreeMap) → IsPartway w
 abbrev pub EveryOpenedShown : Type 0
 EveryOpenedShown = (steps work : List ℕ) (paths : List (List ℕ)) (key : RunKey) (seen : Seen) (o : Opened)
     → Opens work paths key seen (Ok o) → core_by o work paths steps ≡ shown_core steps (presence work paths)
+
+-- ### One core alone
+
+-- calls lead the core of a run of at most 2^32 jobs to one core: of the events that it allows, what a call puts or
+-- renames is that of one
+abbrev pub EveryRunOne : Type 0
+EveryRunOne = (work : List ℕ) (c d e : CoreState) (calls : List Call) → length c.states ≤ 2 ^ 32 → Runs work c calls d → Runs work c calls e → d ≡ e

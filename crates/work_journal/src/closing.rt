@@ -1,7 +1,7 @@
 //! The end of a run: its lists and its finished text, put so that a stop leaves all of them or none.
 //!
 //! Read first: `specs/Ending.antt`, `specs/Runs.antt`.
-ghost use Rattle.std.specs.Prelude.{◌≡◌, ◌<◌, OnOk, IsTrue, length, true, false, ⊤};
+ghost use Rattle.std.specs.Prelude.{◌≡◌, ◌<◌, IfOk, IfErr, OnOk, IsTrue, map, true, false, ⊤};
 ghost use Rattle.file_tree.specs.declared.node.TreeErr.TheVariants.{Failed};
 ghost use Rattle.journal_core.specs.declared.event.Phase.TheVariants.{Finishing, Closed};
 ghost use Rattle.journal_core.specs.Cores.{core_of};
@@ -9,13 +9,37 @@ ghost use Rattle.journal_core.specs.Names.{fresh};
 ghost use Rattle.journal_core.specs.Table.{allows, after, in_phase};
 ghost use Rattle.work_journal.specs.Spares.{InWork};
 ghost use Rattle.work_journal.specs.Runs.{Came};
-ghost use Rattle.work_journal.specs.Ending.{AreTexts, IsEnding};
+ghost use Rattle.work_journal.specs.Ending.{AreTexts, IsEnding, end_nodes};
+ghost use Rattle.work_texts.specs.Lists.{bytes_of};
+ghost use Rattle.work_texts.specs.declared.journal_err.JournalErr.TheVariants.{NoMemory as no_memory};
 
 use crate::desk::Desk;
 use crate::names::{final_path, fresh_path};
+use crate::steps::text_node;
 use file_tree::{Node, Tree, TreeErr};
 use journal_core::Event;
 use std::alloc::Global;
+use work_texts::JournalErr;
+
+/// The lists of sources, of debug files and of links, and the finished text, as files; the only error is
+/// want of memory.
+pub(crate) fn end_nodes(
+    alloc: Global,
+    lists: [Vec<u8>; 3],
+    finished: &[u8],
+) -> Result<[Node; 4], JournalErr>
+    ensures nodes { IfOk result (λ ns. ns ≡ end_nodes (map bytes_of lists) finished.now) }
+    ensures memory { IfErr result (λ e. e ≡ no_memory) }
+{
+    let finished = Vec::from_slice(alloc, finished)?;
+    let [sources, debug_files, links] = lists;
+    Ok([
+        text_node(sources),
+        text_node(debug_files),
+        text_node(links),
+        text_node(finished),
+    ])
+}
 
 /// Puts one of the four texts under its temporary name.
 fn put_text<T: Tree>(
@@ -58,13 +82,12 @@ fn put_texts<T: Tree>(
     alloc: Global,
     desk: &mut Desk<T>,
     work: &str,
-    texts: &Vec<Node>,
+    texts: &[Node; 4],
 ) -> Result<(), TreeErr>
-    requires four { length texts.now.items ≡ 4 }
     requires ending { IsEnding (core_of desk.old.core) }
     ensures same_tree { desk.new.tree.ghost_name ≡ desk.old.tree.ghost_name }
     ensures core { OnOk result (core_of desk.new.core ≡ in_phase (core_of desk.old.core) (Finishing 4 false)) }
-    ensures came { Came Failed (InWork work.now) 0 work.now (λ w. AreTexts w texts.now.items) (core_of desk.old.core) (T.seen desk.old.tree.now) (core_of desk.new.core) (T.seen desk.new.tree.now) result }
+    ensures came { Came Failed (InWork work.now) 0 work.now (λ w. AreTexts w texts.now) (core_of desk.old.core) (T.seen desk.old.tree.now) (core_of desk.new.core) (T.seen desk.new.tree.now) result }
 {
     for part in 0..4u8 {
         put_text(alloc, desk, work, part, &texts[part as usize])?;
@@ -91,13 +114,12 @@ pub(crate) fn close_run<T: Tree>(
     alloc: Global,
     desk: &mut Desk<T>,
     work: &str,
-    texts: &Vec<Node>,
+    texts: &[Node; 4],
 ) -> Result<(), TreeErr>
-    requires four { length texts.now.items ≡ 4 }
     requires ending { IsEnding (core_of desk.old.core) }
     ensures same_tree { desk.new.tree.ghost_name ≡ desk.old.tree.ghost_name }
     ensures closed { OnOk result ((core_of desk.new.core).phase ≡ Closed) }
-    ensures came { Came Failed (InWork work.now) 1 work.now (λ w. AreTexts w texts.now.items) (core_of desk.old.core) (T.seen desk.old.tree.now) (core_of desk.new.core) (T.seen desk.new.tree.now) result }
+    ensures came { Came Failed (InWork work.now) 1 work.now (λ w. AreTexts w texts.now) (core_of desk.old.core) (T.seen desk.old.tree.now) (core_of desk.new.core) (T.seen desk.new.tree.now) result }
 {
     put_texts(alloc, desk, work, texts)?;
     desk.settle()?;

@@ -3,7 +3,7 @@
 //! These functions compute nothing: each one's clauses state facts of every run. Read first:
 //! `specs/Wanted.antt`, `specs/Keeps.antt`, `specs/Laws.antt`.
 ghost use Rattle.work_journal.specs.Targets.{EveryTargetApart};
-ghost use Rattle.work_journal.specs.Laws.{EveryCallKept, EveryStepKept, EveryFailurePartway, EveryEndWhole, EveryStartKeeps, EveryPresentKeeps, EveryOpenedShown};
+ghost use Rattle.work_journal.specs.Laws.{EveryCallKept, EveryStepKept, EveryFailurePartway, EveryEndWhole, EveryStartKeeps, EveryPresentKeeps, EveryOpenedShown, EveryRunOne};
 
 /// What the calls of a run keep.
 pub fn bridge_laws()
@@ -25,4 +25,7 @@ pub fn bridge_laws()
 
     // Names are told apart by their paths where the targets differ and lie outside of the work folder.
     ensures apart { EveryTargetApart }
+
+    // The calls that a run made lead its core to one core alone.
+    ensures one { EveryRunOne }
 {}

@@ -37,7 +37,7 @@ mod taking;
 
 pub use clearing::clear;
 pub use desk::Desk;
-pub use finishing::{end_nodes, finish, resume};
+pub use finishing::{finish, resume};
 pub use law::bridge_laws;
 pub use maker::{MakeErr, Maker};
 pub use opening::{Opened, open_work};

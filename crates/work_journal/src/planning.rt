@@ -73,7 +73,7 @@ fn put_plan<T: Tree>(
 }
 
 /// The same, with the error of a run.
-fn put_node<T: Tree>(
+pub(crate) fn put_node<T: Tree>(
     alloc: Global,
     desk: &mut Desk<T>,
     work: &str,

@@ -11,5 +11,5 @@ abbrev pub invariant-loop-part : goal.invariant-loop-part
 invariant-loop-part g l = record {
   same_tree : l.desk.tree.ghost_name ≡ l.fn.desk.tree.ghost_name;
   so_far : IsPutting (core_of l.fn.desk.core) (core_of l.desk.core) l.part;
-  came : Came Failed (InWork l.work) 0 l.work (λ w. AreTexts w l.texts.items) (core_of l.fn.desk.core) (g.T.Tree.seen l.fn.desk.tree.now) (core_of l.desk.core) (g.T.Tree.seen l.desk.tree.now) well;
+  came : Came Failed (InWork l.work) 0 l.work (λ w. AreTexts w l.texts) (core_of l.fn.desk.core) (g.T.Tree.seen l.fn.desk.tree.now) (core_of l.desk.core) (g.T.Tree.seen l.desk.tree.now) well;
 }

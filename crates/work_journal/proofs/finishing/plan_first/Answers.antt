@@ -13,7 +13,7 @@ returns-then-not-is_new-clause-came g c = came_still run.Tree _ _ _ _ _ (λ h. c
 pub returns-clause-planned : goal.returns-clause-planned
 returns-clause-planned g c =
     let phase : (core_of c.args.desk.now.core).phase ≡ Empty = search rules in
-    on_ok_kept _ _ _ (λ k. has_begun (kept_begun _ _ _ (start_new _ _ c.requires.start phase) k)) c.commit_plan.ensures.core
+    on_ok_kept _ _ _ (λ k. has_begun (kept_begun _ _ _ (start_new _ _ c.requires.start phase) k)) c.put_node.ensures.core
 
 pub returns-clause-blame : goal.returns-clause-blame
-returns-clause-blame g c = mild_blames _ _ _ _ c.commit_plan.ensures.mild
+returns-clause-blame g c = mild_blames _ _ _ _ c.put_node.ensures.mild

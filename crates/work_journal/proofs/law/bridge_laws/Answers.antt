@@ -2,6 +2,8 @@ use Rattle.work_journal.proofs.StepLaws.{call_kept, step_kept, failure_partway}
 use Rattle.work_journal.proofs.RestartLaws.{end_whole, start_keeps}
 use Rattle.work_journal.proofs.PresentLaws.{present_keeps, opened_shown}
 use Rattle.work_journal.proofs.ApartLaws.{target_apart}
+use Rattle.work_journal.proofs.RunLaws.{run_one}
+use Rattle.std.proofs.Common.{refl}
 use Rattle.work_journal.proofs.law.bridge_laws.Goals as goal
 
 pub returns-clause-call : goal.returns-clause-call
@@ -27,3 +29,6 @@ returns-clause-opened c = opened_shown
 
 pub returns-clause-apart : goal.returns-clause-apart
 returns-clause-apart c = target_apart
+
+pub returns-clause-one : goal.returns-clause-one
+returns-clause-one c = λ work d e f calls few run go. run_one work d e f calls calls refl few run go
