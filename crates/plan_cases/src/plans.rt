@@ -6,8 +6,8 @@ use file_tree::{Blob, MemTree, Node, Text};
 use root_plan::{PlanErr, RootMaker, make_plan, walk};
 use std::alloc::{AllocError, Global};
 use std::test::Fail;
-use work_journal::{MakeErr, Maker};
-use work_texts::PlanData;
+use work_journal::{MakeErr, Maker, Opened, finish, start_core};
+use work_texts::{PlanData, write_finished, write_plan};
 
 /// A tree with an empty file at each of these paths.
 fn tree_of(alloc: Global, paths: &[&str]) -> Result<MemTree, Fail> {
@@ -269,6 +269,110 @@ fn a_file_that_was_changed_is_not_made(rt: HostRuntime) -> Result<(), Fail> {
     let mut maker = maker_of(alloc, TWINS)?;
     let made = second_made(alloc, &mut maker, b"Sx\x02")?;
     assert!(rt; matches!(&made, Err(MakeErr::Changed { .. })));
+    Ok(())
+}
+
+/// Runs the jobs of a plan to the end, and whether they came there.
+fn is_run(
+    alloc: Global,
+    tree: &mut MemTree,
+    present: &[String],
+    plan: PlanData,
+) -> Result<bool, Fail> {
+    if plan.jobs.as_slice().len() > 2 {
+        return Err(Fail::from("too many jobs"));
+    }
+    let mut maker = RootMaker::new(alloc, "r", plan, Toy {})?;
+    let text = write_plan(alloc, maker.plan())?;
+    let finished = write_finished(alloc, &maker.plan().key, maker.plan().report.as_slice())?;
+    let lists = maker.lists(alloc)?;
+    let work = "r/.dbgwork";
+    let core = start_core(alloc, &Opened::Empty, work, present, &maker)?;
+    let ended = finish(
+        alloc, tree, core, work, present, &mut maker, 2, text, lists, &finished,
+    );
+    Ok(ended.is_ok())
+}
+
+/// The root of these files once it is run.
+fn run_root(alloc: Global, table: &[(&str, &[u8])]) -> Result<MemTree, Fail> {
+    let mut tree = MemTree::new(alloc, files(alloc, table)?)?;
+    let Ok(present) = walk(&mut tree, "r") else {
+        return Err(Fail::from("no paths"));
+    };
+    let options = options(alloc, false)?;
+    let Ok(plan) = make_plan(alloc, &mut tree, "r", &present, &options, &Toy {}) else {
+        return Err(Fail::from("no plan"));
+    };
+    if !is_run(alloc, &mut tree, &present, plan)? {
+        return Err(Fail::from("no end"));
+    }
+    Ok(tree)
+}
+
+/// What a file holds, or what a link leads to.
+fn bytes_in(node: &Node) -> &[u8] {
+    match node {
+        Node::File { bytes, mode: _ } => bytes.as_slice(),
+        Node::Link { target } => target.as_str().as_bytes(),
+    }
+}
+
+/// Whether these are the nodes of a table, by paths and bytes.
+fn are_nodes(nodes: &[(String, Node)], table: &[(&str, &[u8])]) -> bool {
+    if nodes.len() != table.len() {
+        return false;
+    }
+    for i in 0..table.len() {
+        if nodes[i].0.as_str() != table[i].0 || bytes_in(&nodes[i].1) != table[i].1 {
+            return false;
+        }
+    }
+    true
+}
+
+/// The root of the two equal files once it is run.
+const RUN: &[(&str, &[u8])] = &[
+    (
+        "r/.dbgwork/debugfiles",
+        b"/usr/lib/debug/usr/bin/a.debug\0/usr/lib/debug/usr/bin/b.debug\0",
+    ),
+    (
+        "r/.dbgwork/finished",
+        b"dbgfinished 1\0/build/p\0/usr/src/debug/p\x000\0\x000\x0010\0split 2, edited 0, left 0, skipped 0, links 4, sources 1\n\0",
+    ),
+    (
+        "r/.dbgwork/links",
+        b"/usr/lib/debug/.build-id/ab/01\0../../../../../usr/bin/a\0/usr/lib/debug/.build-id/ab/01.debug\0../../../../../usr/lib/debug/usr/bin/a.debug\0/usr/lib/debug/.build-id/ab/01.1\0../../../../../usr/bin/b\0/usr/lib/debug/.build-id/ab/01.1.debug\0../../../../../usr/lib/debug/usr/bin/b.debug\0",
+    ),
+    ("r/.dbgwork/sources", b"x\0"),
+    ("r/usr/bin/a", b"Sx\x01es"),
+    ("r/usr/bin/b", b"Sx\x01es"),
+    (
+        "r/usr/lib/debug/.build-id/ab/01",
+        b"../../../../../usr/bin/a",
+    ),
+    (
+        "r/usr/lib/debug/.build-id/ab/01.1",
+        b"../../../../../usr/bin/b",
+    ),
+    (
+        "r/usr/lib/debug/.build-id/ab/01.1.debug",
+        b"../../../../../usr/lib/debug/usr/bin/b.debug",
+    ),
+    (
+        "r/usr/lib/debug/.build-id/ab/01.debug",
+        b"../../../../../usr/lib/debug/usr/bin/a.debug",
+    ),
+    ("r/usr/lib/debug/usr/bin/a.debug", b"Sx\x01ea.debug"),
+    ("r/usr/lib/debug/usr/bin/b.debug", b"Sx\x01eb.debug"),
+];
+
+#[test]
+fn a_planned_root_is_run_to_its_end(rt: HostRuntime) -> Result<(), Fail> {
+    let alloc = rt.alloc();
+    let tree = run_root(alloc, TWINS)?;
+    assert!(rt; are_nodes(tree.nodes(), RUN));
     Ok(())
 }
 
