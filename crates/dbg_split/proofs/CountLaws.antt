@@ -1,72 +1,13 @@
--- Numbers that pass a test, counted from 0.
-use Rattle.std.proofs.Common.{◌≡◌, ◌≢◌, ℕ, zero, suc, ◌+◌, ◌<◌, ◌≤◌, ◌==◌, ◌&&◌, Bool, true, false, List, if◌then◌else◌, refl, sym, ap, ◌∙◌, arith, inl, inr, subst}
-use Rattle.std.proofs.lemmas.Bool.{cases_lt, cases_Bool}
-use Rattle.std.specs.Prelude.{Option, Some, None}
+-- Numbers that pass a test, counted from 0, before and after sections are dropped.
+use Rattle.std.proofs.Common.{◌≡◌, ℕ, zero, suc, ◌+◌, ◌<◌, ◌≤◌, ◌==◌, ◌&&◌, Bool, true, false, List, if◌then◌else◌, refl, sym, ap, ◌∙◌, arith, inl, inr}
+use Rattle.std.proofs.lemmas.Bool.{cases_Bool}
+use Rattle.std.specs.Prelude.{Option}
 use Rattle.dw_base.specs.Notes.{or_this}
+use Rattle.dw_view.specs.PairViews.{count_below, nth_below}
+use Rattle.dw_view.proofs.CountLaws.{count-same}
 use Rattle.dbg_split.specs.Droppable.{is_droppable}
-use Rattle.dbg_split.specs.PairViews.{count_below, nth_below}
 use Rattle.dbg_split.specs.StrippedFile.{kept_before}
 use Rattle.dbg_split.proofs.SplitLoadedLaws.{next-number, or-none, or-same, renumbered, same-number}
-
--- one more
-count-next : (test : ℕ → Bool) (n : ℕ) → test n ≡ true → count_below test (suc n) ≡ count_below test n + 1
-count-next test n passes = rw passes refl
-
-count-same : (test : ℕ → Bool) (n : ℕ) → test n ≡ false → count_below test (suc n) ≡ count_below test n
-count-same test n fails = rw fails refl
-
-count-more : (test : ℕ → Bool) (m n : ℕ) → m ≤ n → count_below test m ≤ count_below test n
-count-more test m zero le = let e : m ≡ zero = omega arith in subst (λ (k : ℕ). count_below test k ≤ count_below test zero) (sym e) (omega arith)
-count-more test m (suc n) le = elim (cases_lt n m) [
-  | inl above ↦ let e : m ≡ suc n = omega arith in subst (λ (k : ℕ). count_below test k ≤ count_below test (suc n)) (sym e) (omega arith)
-  | inr below ↦
-      let before = count-more test m n below in
-      elim (cases_Bool (test n)) [
-        | inl passes ↦ omega (arith, before, count-next test n passes)
-        | inr fails ↦ omega (arith, before, count-same test n fails)
-      ]
-]
-
-differ : (m n : ℕ) → m ≢ n → (m == n) ≡ false
-differ m n h = grind arith
-
-own : (n : ℕ) → (n == n) ≡ true
-own n = grind arith
-
-and-none : (x y : Bool) → (x ≡ true → y ≡ false) → (x && y) ≡ false
-and-none true y h = h refl
-and-none false y h = refl
-
--- of those before it none has its count
-nth-before : (test : ℕ → Bool) (i m : ℕ) → m ≤ i → nth_below test (count_below test i) m ≡ None
-nth-before test i zero le = refl
-nth-before test i (suc m) le =
-    let before = nth-before test i m (omega arith) in
-    let none : (test m && count_below test m == count_below test i) ≡ false =
-    and-none (test m) (count_below test m == count_below test i)
-    (λ passes. differ (count_below test m) (count_below test i)
-    (λ e. omega (arith, e, count-next test m passes, count-more test (suc m) i (omega arith)))) in
-    ap (λ (t : Bool). or_this (nth_below test (count_below test i) m) m t) none
-    ∙ or-none (nth_below test (count_below test i) m) m
-    ∙ before
-
--- so it is the one
-pub nth-is : (test : ℕ → Bool) (i n : ℕ) → i < n → test i ≡ true → nth_below test (count_below test i) n ≡ Some i
-nth-is test i zero lt passes = absurd (omega arith)
-nth-is test i (suc n) lt passes = elim (cases_lt i n) [
-  | inl below ↦ ap (λ (o : Option ℕ). or_this o n (test n && count_below test n == count_below test i)) (nth-is test i n below passes)
-  | inr above ↦
-      let e : n ≡ i = omega arith in
-      subst (λ (k : ℕ). nth_below test (count_below test i) (suc k) ≡ Some i) (sym e)
-      (ap (λ (o : Option ℕ). or_this o i (test i && count_below test i == count_below test i)) (nth-before test i i (omega arith))
-      ∙ ap (λ (t : Bool). or_this None i (t && count_below test i == count_below test i)) passes
-      ∙ ap (λ (t : Bool). or_this None i t) (own (count_below test i)))
-]
-
--- where none passes there is none
-pub nth-none : (k n : ℕ) → nth_below (λ i. false) k n ≡ None
-nth-none k zero = refl
-nth-none k (suc n) = ap (λ (o : Option ℕ). or_this o n false) (nth-none k n)
 
 -- two tests of old and new numbers that agree
 pub record Agree (b : List ℕ) (old new : ℕ → Bool) (n : ℕ) : Type 0 where

@@ -484,3 +484,8 @@ pub debug-reads : (b : List ℕ) → IsSplit b → length (debug_file b) ≤ out
 debug-reads b w small =
     let short : length (out_of b) ≤ output_limit = subst (λ (out : List ℕ). length out ≤ output_limit) (file-is b) small in
     subst (λ (out : List ℕ). ReadsDebug b out) (sym (file-is b)) (out-reads b w (debug-laid b w short))
+
+pub debug-type : (b : List ℕ) → IsSplit b → length (debug_file b) ≤ output_limit → e_type (debug_file b) ≡ e_type b
+debug-type b w small =
+    let short : length (out_of b) ≤ output_limit = subst (λ (out : List ℕ). length out ≤ output_limit) (file-is b) small in
+    ap e_type (file-is b) ∙ e_type-out b w (debug-laid b w short)

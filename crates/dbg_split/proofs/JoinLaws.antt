@@ -17,10 +17,12 @@ use Rattle.dw_base.proofs.WrittenContents.{contents-empty}
 use Rattle.dbg_split.specs.DebugFile.{becomes_nobits, debug_head}
 use Rattle.dbg_split.specs.DebugFileReads.{ReadsDebug}
 use Rattle.dbg_split.specs.Droppable.{drops_along, drops_itself, is_debug_only_name, is_droppable, may_drop}
-use Rattle.dbg_split.specs.PairViews.{JoinsTo, SameSection, count_below, found_bytes, found_contents, is_counted, is_counted_named, is_elsewhere, is_elsewhere_named, joined_section, nth_below, pair_section, stands_for}
+use Rattle.dw_view.specs.PairViews.{count_below, found_bytes, found_contents, is_counted, is_counted_named, is_elsewhere, is_elsewhere_named, joined_section, nth_below, pair_section, stands_for}
+use Rattle.dbg_split.specs.PairViews.{JoinsTo, SameSection}
 use Rattle.dbg_split.specs.StrippedFile.{kept_before}
 use Rattle.dbg_split.specs.StrippedReads.{IsKept, ReadsStripped}
-use Rattle.dbg_split.proofs.CountLaws.{Agree, nth-is, nth-none, nths-agree}
+use Rattle.dw_view.proofs.CountLaws.{nth-is, nth-none}
+use Rattle.dbg_split.proofs.CountLaws.{Agree, nths-agree}
 use Rattle.dbg_split.proofs.DebugReadLaws.{nobits-names}
 use Rattle.dbg_split.proofs.KeptPartLaws.{before-less}
 use Rattle.dbg_split.proofs.SplitLoadedLaws.{or-none, renumbered}
@@ -90,7 +92,7 @@ name_section-kept b name d s i p is =
     ∙ sym (name_section-some b i p.split.named)
 
 -- ALLOC is what it was
-head-flags : (b : List ℕ) (i : ℕ) → (debug_head b i).flags ≡ (nth_section b i).flags
+pub head-flags : (b : List ℕ) (i : ℕ) → (debug_head b i).flags ≡ (nth_section b i).flags
 unfolding debug_head
 head-flags b i = by_test (becomes_nobits b i)
   where

@@ -18,3 +18,4 @@ pub mod CountLaws
 pub mod JoinLaws
 pub mod PairIdLaws
 pub mod PairMeaningLaws
+pub mod PairReadLaws

@@ -8,7 +8,7 @@ use Rattle.dw_base.specs.Layout.{is_alloc}
 use Rattle.dw_base.specs.Notes.{BuildId, Descriptor, build_id_at, build_id_in, build_id_of, first_below, id_in, is_id_section, or_this}
 use Rattle.dw_base.specs.declared.elf_numbers.TheConstants.{SHT_NOBITS, SHT_NOTE, SHT_NULL}
 use Rattle.dbg_split.specs.DebugFile.{becomes_nobits}
-use Rattle.dbg_split.specs.PairViews.{id_at, is_elsewhere, is_number, is_stand_in, moved_id, pair_view, stand_in, stands_for}
+use Rattle.dw_view.specs.PairViews.{id_at, is_elsewhere, is_number, is_stand_in, moved_id, pair_view, stand_in, stands_for}
 use Rattle.dbg_split.specs.StrippedFile.{kept_before}
 use Rattle.dbg_split.specs.StrippedReads.{IsKept}
 use Rattle.dbg_split.proofs.JoinLaws.{IsOwn, IsPair, alloc-debug, and-true, dropped-found, elsewhere-is, elsewhere-nobits, eq-false, eq-is, eq-true, kept-apart, kept-found, kind-debug, kind-nobits, name_section-debug, name_section-some, never, nobits-full, nobits-kept, nobits-own, other-name, plain-dropped}

@@ -1,7 +1,7 @@
 -- A file that no row refuses is one that is split, and its two files read back.
-use Rattle.std.proofs.Common.{◌≡◌, ◌≢◌, ℕ, ◌<◌, ◌≤◌, true, false, List, length, slice_index, sym, inl, inr, subst}
+use Rattle.std.proofs.Common.{◌≡◌, ◌≢◌, ℕ, ◌<◌, ◌≤◌, true, false, List, length, slice_index, sym, ap, ◌∙◌, inl, inr, subst}
 use Rattle.std.proofs.lemmas.Bool.{cases_lt, cases_Bool}
-use Rattle.dw_base.specs.Elf.{name_index, nth_section}
+use Rattle.dw_base.specs.Elf.{e_type, name_index, nth_section}
 use Rattle.dw_base.specs.ElfFails.{ElfReads}
 use Rattle.dw_base.specs.Layout.{is_fixed, is_loaded_kind, output_limit}
 use Rattle.dw_base.specs.LayoutFails.TooLong.{long}
@@ -10,17 +10,18 @@ use Rattle.dbg_split.specs.DebugFile.{debug_file}
 use Rattle.dbg_split.specs.DebugFileReads.{ReadsDebug}
 use Rattle.dw_meaning.specs.Loaded.{LoadedKept}
 use Rattle.dbg_split.specs.KeptFront.{KeepsFront}
-use Rattle.dbg_split.specs.PairMeanings.{MeansAsOne}
+use Rattle.dbg_split.specs.PairMeanings.{MeansAsOne, ReadAsOne}
 use Rattle.dbg_split.specs.PairViews.{JoinsTo}
 use Rattle.dbg_split.specs.SplitFails.{SplitFails}
 use Rattle.dbg_split.specs.SplitFails.SplitFails.{long_debug, long_stripped, shape}
 use Rattle.dbg_split.specs.SplitFails.Unsplittable.{file_type, names_stay, section, unnamed}
 use Rattle.dbg_split.specs.StrippedFile.{stripped_file}
 use Rattle.dbg_split.specs.StrippedReads.{ReadsStripped}
-use Rattle.dbg_split.proofs.DebugReadLaws.{debug-reads}
+use Rattle.dbg_split.proofs.DebugReadLaws.{debug-reads, debug-type}
 use Rattle.dbg_split.proofs.JoinLaws.{IsPair, pair-joins}
 use Rattle.dbg_split.proofs.PairMeaningLaws.{means-as-one}
-use Rattle.dbg_split.proofs.SplitLoadedLaws.{loaded-kept}
+use Rattle.dbg_split.proofs.PairReadLaws.{debug-sections, is-paired, stripped-sections}
+use Rattle.dbg_split.proofs.SplitLoadedLaws.{loaded-kept, type-same}
 use Rattle.dbg_split.proofs.StrippedFitLaws.{IsSplit}
 use Rattle.dbg_split.proofs.StrippedReadLaws.{stripped-reads}
 
@@ -96,3 +97,14 @@ joins-back b name d s small reads bytes none d_is s_is = pair-joins b name d s (
 pub means-back : (b name d s : List ℕ) → length b ≤ output_limit → ElfReads b → ((k : ℕ) → slice_index b k < 256) → NoneFails b name
     → d ≡ debug_file b → s ≡ stripped_file b name → MeansAsOne b d s
 means-back b name d s small reads bytes none d_is s_is = means-as-one b name d s (pair-of b name d s small reads bytes none d_is s_is)
+
+pub reads-back : (b name d s : List ℕ) → length b ≤ output_limit → ElfReads b → ((k : ℕ) → slice_index b k < 256) → NoneFails b name
+    → KeepsFront b s → d ≡ debug_file b → s ≡ stripped_file b name → ReadAsOne b name d s
+reads-back b name d s small reads bytes none front d_is s_is =
+    let w = split-of b name small reads bytes none in
+    let p = pair-of b name d s small reads bytes none d_is s_is in
+    record {
+      paired = λ plain. is-paired b name d s p d_is plain;
+      debug_reads = λ r. debug-sections b name d s p (ap e_type d_is ∙ debug-type b w (debug-short b name reads none)) r;
+      stripped_reads = λ r. stripped-sections b name d s p (type-same b name s p.stripped front) r;
+    }

@@ -28,7 +28,8 @@ use Rattle.dw_meaning.proofs.DataOneLaws.{data-one}
 use Rattle.dw_meaning.proofs.FileBackLaws.{AllAt, tabulate-at}
 use Rattle.dw_meaning.proofs.TableKeptLaws.{drop-at}
 use Rattle.dbg_split.specs.PairMeanings.{MeansAsOne}
-use Rattle.dbg_split.specs.PairViews.{JoinsTo, SameSection, pair_section, pair_view}
+use Rattle.dw_view.specs.PairViews.{pair_section, pair_view}
+use Rattle.dbg_split.specs.PairViews.{JoinsTo, SameSection}
 use Rattle.dbg_split.specs.ReadNames.{is_one_of, is_read_name}
 use Rattle.dbg_split.specs.SplitFails.SectionBars.{loaded}
 use Rattle.dbg_split.proofs.JoinLaws.{IsPair, never, pair-joins}

@@ -329,7 +329,7 @@ phnum-before : (c : Class) → phnum_place c + 2 ≤ shnum_place c
 phnum-before C32 = omega arith
 phnum-before C64 = omega arith
 
-type-same : (b name out : List ℕ) → ReadsStripped b name out → KeepsFront b out → e_type out ≡ e_type b
+pub type-same : (b name out : List ℕ) → ReadsStripped b name out → KeepsFront b out → e_type out ≡ e_type b
 unfolding e_type
 type-same b name out r k =
     let places = header_places (class_of b) in

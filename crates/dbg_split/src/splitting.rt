@@ -9,7 +9,7 @@ ghost use Rattle.dw_meaning.specs.Loaded.{LoadedKept};
 ghost use Rattle.dbg_split.specs.DebugFile.{debug_file};
 ghost use Rattle.dbg_split.specs.DebugFileReads.{ReadsDebug};
 ghost use Rattle.dbg_split.specs.KeptFront.{KeepsFront};
-ghost use Rattle.dbg_split.specs.PairMeanings.{MeansAsOne};
+ghost use Rattle.dbg_split.specs.PairMeanings.{MeansAsOne, ReadAsOne};
 ghost use Rattle.dbg_split.specs.PairViews.{JoinsTo};
 ghost use Rattle.dbg_split.specs.SplitFails.{SplitFails};
 ghost use Rattle.dbg_split.specs.StrippedFile.{stripped_file};
@@ -84,6 +84,7 @@ fn split_bytes(alloc: Global, bytes: &[u8], debug_name: &[u8]) -> Result<Pair, F
 /// have each section of the file, with its name and contents, of ALLOC sections with bytes the name alone: the
 /// k-th section of a name without bytes in the debug file is the k-th of that name in the stripped one. So the
 /// debug data of the two are those of the file, and they mean what the file means, wherever it means something.
+/// They are a pair by that name, where it has no NUL, and each can be read for its sections where the file can.
 pub fn split(alloc: Global, bytes: &[u8], debug_name: &[u8]) -> Result<Pair, Fault>
     requires small { length bytes.now ≤ output_limit }
     ensures debug { IfOk result (λ pair. pair.debug.items ≡ debug_file bytes.now) }
@@ -93,6 +94,7 @@ pub fn split(alloc: Global, bytes: &[u8], debug_name: &[u8]) -> Result<Pair, Fau
     ensures stripped_reads { IfOk result (λ pair. ReadsStripped bytes.now debug_name.now pair.stripped.items) }
     ensures joins { IfOk result (λ pair. JoinsTo bytes.now pair.debug.items pair.stripped.items) }
     ensures meaning { IfOk result (λ pair. MeansAsOne bytes.now pair.debug.items pair.stripped.items) }
+    ensures reads { IfOk result (λ pair. ReadAsOne bytes.now debug_name.now pair.debug.items pair.stripped.items) }
     ensures loaded { IfOk result (λ pair. LoadedKept bytes.now pair.stripped.items) }
     ensures none { OnOk result ((r : Refusal) → SplitFails bytes.now debug_name.now r → ⊥) }
     ensures refused { IfErr result (Blames (SplitFails bytes.now debug_name.now)) }

@@ -10,7 +10,7 @@
 //! ```
 //! use dw_abbrev::AbbrevTable;
 //!
-//! // A compilation unit with children, with a name by DW_FORM_strp; then the end of the table.
+//! // A compilation unit with children, with a name by an offset of `.debug_str`; then the end of the table.
 //! let bytes = [0x01, 0x11, 0x01, 0x03, 0x0e, 0x00, 0x00, 0x00];
 //! let table = AbbrevTable::read(rt.alloc(), 2, &bytes, 0)?;
 //! if let Some(unit) = table.get(1) {

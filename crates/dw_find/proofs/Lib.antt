@@ -11,6 +11,7 @@ pub mod SectionRunLaws
 pub mod FoundLaws
 pub mod ValueFactLaws
 pub mod EntryTextLaws
+pub mod StrValueLaws
 pub mod QuietLaws
 pub mod UnitTextLaws
 pub mod ScanTextLaws

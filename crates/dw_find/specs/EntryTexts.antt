@@ -3,10 +3,11 @@ use Rattle.std.specs.Prelude.{true, false, ◌≡◌, ◌⊎◌, ℕ, ◌+◌, L
 use Rattle.dw_base.specs.EntryScans.{SpellsValues, ValuesFail}
 use Rattle.dw_meaning.specs.FileFails.{is_unbuilt_value}
 use Rattle.dw_base.specs.FormFails.{FormFails}
-use Rattle.dw_base.specs.Forms.{in_str, in_line_str}
+use Rattle.dw_base.specs.Forms.{in_str, in_line_str, width_size}
+use Rattle.dw_base.specs.Numbers.{number_at}
 use Rattle.dw_base.specs.Refusals.{at}
 use Rattle.dw_base.specs.Texts.{ends_in, IsNulEnd}
-use Rattle.dw_base.specs.Values.{value_at}
+use Rattle.dw_base.specs.Values.{number_value, value_at}
 use Rattle.dw_base.specs.declared.fault.Kind.TheVariants.{StringOffset, Unbuilt}
 use Rattle.dw_base.specs.declared.fault.Refusal.{Refusal}
 use Rattle.dw_base.specs.declared.shared.Params.{Params}
@@ -81,6 +82,10 @@ OffsetSized class n = ⊤
 -- a value of a form that can say where a line table starts has four bytes or eight
 pub record StartSized (form n : ℕ) : Type 0 where
   pub sized : is_start_form form ≡ true → (n ≡ 4) ⊎ (n ≡ 8)
+
+-- the offset of a text in `.debug_str` that stands at a place
+pub record IsStrValue (params : Params) (bytes : List ℕ) (place : ℕ) (v : Value) : Type 0 where
+  pub is : number_value StrOffset place (width_size params.width) (number_at params.order bytes place (width_size params.width)) ≡ Some v
 
 -- a value can be taken: it isn't of a kind that isn't taken yet, and its offset names a text
 pub record IsTaken (t : Tables) (x : Spec) (v : Value) : Type 0 where

@@ -3,8 +3,9 @@
 //!
 //! Read first: `specs/TextPlaces.antt`, then `specs/EntryTexts.antt`.
 
-ghost use Rattle.std.specs.Prelude.{◌≡◌, ◌⊎◌, ◌+◌, ◌^◌, ◌≤◌, ◌<◌, ◌==◌, ◌&&◌, not, true, false, length, IsTrue, IfErr, IfOk, OnOk, Some};
+ghost use Rattle.std.specs.Prelude.{◌≡◌, ◌⊎◌, ◌+◌, ◌^◌, ◌≤◌, ◌<◌, ◌==◌, ◌&&◌, not, true, false, length, IsTrue, IfErr, IfOk, IfSome, OnOk, Some};
 ghost use Rattle.dw_base.specs.FormFails.{FormFails};
+ghost use Rattle.dw_base.specs.Forms.{width_size};
 ghost use Rattle.dw_base.specs.Values.{value_at};
 ghost use Rattle.dw_meaning.specs.FileFails.{is_unbuilt_value};
 ghost use Rattle.dw_base.specs.Refusals.{Blames, at};
@@ -12,7 +13,7 @@ ghost use Rattle.dw_base.specs.Roles.{is_path};
 ghost use Rattle.dw_base.specs.TextIndexes.{is_base};
 ghost use Rattle.dw_base.specs.UnitHeaders.{is_address_size};
 ghost use Rattle.dw_base.specs.declared.dwarf_numbers.TheConstants.{DW_AT_stmt_list};
-ghost use Rattle.dw_find.specs.EntryTexts.{AreTaken, OffsetNames, OffsetSized, OneRefuses, StartSized, ValueRefuses, ValuesRefuse, ValueTaken, with_places};
+ghost use Rattle.dw_find.specs.EntryTexts.{AreTaken, IsStrValue, OffsetNames, OffsetSized, OneRefuses, StartSized, ValueRefuses, ValuesRefuse, ValueTaken, with_places};
 ghost use Rattle.dw_find.specs.TextPlaces.{class_places, is_start_form, line_at, own_form, own_place, stray_at, values_places};
 
 use crate::fields::{InlinePath, PathField, TextIndex};
@@ -21,9 +22,11 @@ use crate::refusal::unbuilt;
 use dw_base::dwarf_numbers::{
     DW_AT_GNU_macros, DW_AT_comp_dir, DW_AT_macros, DW_AT_name, DW_AT_stmt_list,
     DW_AT_str_offsets_base, DW_FORM_data4, DW_FORM_data8, DW_FORM_indirect, DW_FORM_sec_offset,
-    DW_TAG_compile_unit, DW_TAG_partial_unit, DW_TAG_type_unit,
+    DW_FORM_strp, DW_TAG_compile_unit, DW_TAG_partial_unit, DW_TAG_type_unit,
 };
-use dw_base::{Fault, Kind, Refusal, Spec, UnitHeader, Value, ValueClass, uleb_at};
+use dw_base::{
+    Fault, Kind, Params, Refusal, Spec, UnitHeader, Value, ValueClass, Width, number_at, uleb_at,
+};
 use dw_forms::value_at;
 use std::alloc::AllocError;
 
@@ -84,9 +87,57 @@ fn value_text(
     Ok(value.size)
 }
 
-/// The value of an attribute at a place of the bytes up to the unit's end.
-#[tactic(auto, using(crate::proofs::EntryTextLaws::read_rules))]
+/// The value of an attribute at a place of the bytes up to the unit's end. Most of those that are looked at are offsets of names in
+/// `.debug_str`, which are read here.
+#[tactic(auto, using(crate::proofs::StrValueLaws::in_rules))]
 fn value_in(unit: &UnitHeader, bytes: &[u8], spec: &Spec, place: u64) -> Result<Value, Refusal>
+    requires address { IsTrue (is_address_size unit.now.params.address) }
+    ensures value { IfOk result (λ v. value_at unit.now.params spec.now bytes.now place ≡ Some v) }
+    ensures sized { IfOk result (λ v. OffsetSized v.class v.len) }
+    ensures start { IfOk result (λ v. StartSized (own_form spec.now bytes.now place) v.len) }
+    ensures within { IfOk result (λ v. place + v.size ≤ length bytes.now) }
+    ensures refused { IfErr result (FormFails unit.now.params spec.now bytes.now unit.now.section place) }
+{
+    if spec.form == DW_FORM_strp {
+        if let Some(value) = str_value(&unit.params, bytes, place) {
+            return Ok(value);
+        }
+    }
+    any_value(unit, bytes, spec, place)
+}
+
+/// The offset of a text in `.debug_str` at a place; none where it passes the bytes.
+#[tactic(auto, using(crate::proofs::StrValueLaws::str_rules))]
+fn str_value(params: &Params, bytes: &[u8], place: u64) -> Option<Value>
+    ensures value { IfSome result (IsStrValue params.now bytes.now place) }
+    ensures within { IfSome result (λ v. place + v.size ≤ length bytes.now) }
+{
+    let size = width_size(params.width);
+    let number = number_at(params.order, bytes, place, size)?;
+    Some(Value {
+        class: ValueClass::StrOffset,
+        number,
+        at: place,
+        len: u64::from(size),
+        size: u64::from(size),
+    })
+}
+
+/// How many bytes an offset has (DWARF 5, 7.4).
+fn width_size(width: Width) -> u8
+    ensures size { result ≡ width_size width }
+    ensures some { 0 < result }
+    ensures few { result ≤ 8 }
+{
+    match width {
+        Width::W32 => 4,
+        Width::W64 => 8,
+    }
+}
+
+/// The value of an attribute of any form.
+#[tactic(auto, using(crate::proofs::EntryTextLaws::read_rules))]
+fn any_value(unit: &UnitHeader, bytes: &[u8], spec: &Spec, place: u64) -> Result<Value, Refusal>
     requires address { IsTrue (is_address_size unit.now.params.address) }
     ensures value { IfOk result (λ v. value_at unit.now.params spec.now bytes.now place ≡ Some v) }
     ensures sized { IfOk result (λ v. OffsetSized v.class v.len) }

@@ -2,6 +2,7 @@ pub mod HeaderLaws
 pub mod TextLaws
 pub mod OldListLaws
 pub mod ProgramLaws
+pub mod PlainLaws
 pub mod FormatLaws
 pub mod EntryLaws
 pub mod WalkLaws

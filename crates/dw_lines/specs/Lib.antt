@@ -1,3 +1,4 @@
 pub mod ViewSources
 pub mod ChangeSteps
 pub mod ViewTables
+pub mod PlainOpcodes

@@ -4,6 +4,7 @@
 //! a table may have ends in the bytes. A program isn't run.
 
 ghost use Rattle.std.specs.Prelude.{◌≡◌, ◌+◌, ◌-◌, ◌≤◌, ◌<◌, ◌^◌, length, take, IfSome};
+ghost use Rattle.dw_lines.specs.PlainOpcodes.{IsPlain};
 ghost use Rattle.dw_base.specs.LinePrograms.{plain_opcode, defined_file, extended_at, extended_in, extended_operands, if_ranged, opcode_at, standard_end};
 
 use crate::texts::{file_numbers, inline_text, skip_lebs};
@@ -173,4 +174,26 @@ pub(crate) fn opcode_at(
         return extended_at(section, table, place + 1);
     }
     plain_opcode(standard_end(header, table, opcode, place + 1))
+}
+
+/// The place behind a plain opcode at a place: a special one or a standard one. `None` for an extended one, and for one that can't be
+/// had.
+#[tactic(auto, using(crate::proofs::PlainLaws::next_laws))]
+pub(crate) fn plain_next(header: &LineHeader, table: &[u8], place: u64) -> Option<u64>
+    requires small { length table.now ≤ 2 ^ 31 }
+    requires inside { place < length table.now }
+    requires operands { header.now.lists ≡ header.now.operands + (header.now.opcode_base - 1) }
+    requires lists { header.now.lists ≤ length table.now }
+    ensures plain { IfSome result (IsPlain header.now table.now place) }
+    ensures behind { IfSome result (λ next. place < next) }
+    ensures within { IfSome result (λ next. next ≤ length table.now) }
+{
+    let opcode = table[place as usize];
+    if opcode >= header.opcode_base {
+        return if_ranged(header, place + 1);
+    }
+    if opcode == 0 {
+        return None;
+    }
+    standard_end(header, table, opcode, place + 1)
 }

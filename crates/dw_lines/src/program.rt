@@ -3,18 +3,19 @@
 //! This file promises: the files that are given are those of the program, in the order of their places; the
 //! program is refused only where one of its opcodes passes its end or can't be had.
 
-ghost use Rattle.std.specs.Prelude.{◌≡◌, ◌+◌, ◌-◌, ◌≤◌, ◌^◌, [], length, IfOk, IfErr};
+ghost use Rattle.std.specs.Prelude.{◌≡◌, ◌+◌, ◌-◌, ◌≤◌, ◌^◌, [], length, IfOk, IfErr, OnOk};
 ghost use Rattle.dw_base.specs.Refusals.{Blames};
-ghost use Rattle.dw_base.specs.LinePrograms.{next_opcode};
+ghost use Rattle.dw_base.specs.LinePrograms.{next_opcode, with_file};
 ghost use Rattle.dw_base.specs.Walks.{Breaks, ComesTo, Since};
+ghost use Rattle.dw_lines.specs.PlainOpcodes.{PassesPlain};
 
-use crate::opcodes::opcode_at;
+use crate::opcodes::{opcode_at, plain_next};
 use dw_base::{Fault, FilePlace, LineHeader, Refusal};
-use std::alloc::Global;
+use std::alloc::{AllocError, Global};
 
 /// The files that the program of a table defines, the bytes up to the table's end. Refused by this refusal
 /// only where an opcode passes that end or can't be had.
-#[tactic(auto, using(crate::proofs::ProgramLaws::program_laws))]
+#[tactic(auto, using(crate::proofs::ProgramLaws::program_laws, crate::proofs::PlainLaws::defined_laws))]
 pub(crate) fn defined_files(
     alloc: Global,
     section: u32,
@@ -29,16 +30,44 @@ pub(crate) fn defined_files(
     ensures refused { IfErr result (Blames (Since refusal (Breaks (next_opcode section header.now table.now) ([], header.now.program)))) }
 {
     let mut files = Vec::new(alloc);
-    let mut place = header.program;
+    let mut place = behind_plain(header, table, header.program);
     let end = table.len() as u64;
     'opcodes: while place < end {
         let Some(opcode) = opcode_at(section, header, table, place) else {
             return Err(Fault::Refused(refusal));
         };
-        if let Some(file) = opcode.file {
-            files.push(file)?;
-        }
-        place = opcode.next;
+        push_file(&mut files, opcode.file)?;
+        place = behind_plain(header, table, opcode.next);
     }
     Ok(files)
+}
+
+/// Appends a file, where there is one.
+fn push_file(files: &mut Vec<FilePlace>, file: Option<FilePlace>) -> Result<(), AllocError>
+    ensures files { OnOk result (files.new.items ≡ with_file files.old.items file) }
+{
+    if let Some(file) = file {
+        files.push(file)?;
+    }
+    Ok(())
+}
+
+/// The place behind plain opcodes that stand one after another from a place on.
+#[tactic(auto, using(crate::proofs::PlainLaws::run_laws))]
+fn behind_plain(header: &LineHeader, table: &[u8], from: u64) -> u64
+    requires small { length table.now ≤ 2 ^ 31 }
+    requires operands { header.now.lists ≡ header.now.operands + (header.now.opcode_base - 1) }
+    requires lists { header.now.lists ≤ length table.now }
+    ensures passed { PassesPlain header.now table.now from result }
+    ensures further { from ≤ result }
+{
+    let end = table.len() as u64;
+    let mut place = from;
+    'opcodes: while place < end {
+        let Some(next) = plain_next(header, table, place) else {
+            return place;
+        };
+        place = next;
+    }
+    place
 }

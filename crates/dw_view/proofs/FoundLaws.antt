@@ -1,34 +1,60 @@
 -- The search for a section of a name, section by section.
-use Rattle.std.proofs.Common.{◌≡◌, ℕ, suc, ◌+◌, ◌≤◌, Bool, true, false, ◌&&◌, not, List, length, take, None, sym, ap, ◌∙◌, arith}
-use Rattle.dw_base.specs.Elf.{is_empty_kind, nth_section, section_count, section_name}
-use Rattle.dw_base.specs.FileViews.{view_of, view_section, is_filled, section_after}
+use Rattle.std.proofs.Common.{◌≡◌, ℕ, suc, ◌+◌, ◌<◌, ◌≤◌, Bool, true, false, ◌&&◌, if◌then◌else◌, List, ◌∷◌, length, take, drop, Option, Some, None, refl, sym, ap, ◌∙◌, arith}
+use Rattle.std.proofs.lemmas.List.{drop_more, drop_all}
+use Rattle.dw_base.specs.FileViews.{View, is_filled, first_filled, section_after}
 use Rattle.dw_base.specs.Texts.{same_text}
-use Rattle.dw_base.specs.declared.records.Section.{Section}
-use Rattle.dw_base.proofs.FileViewLaws.{first_filled-here, first_filled-further, first_filled-end}
+use Rattle.dw_view.specs.SectionParts.{no_section, section_at}
 use Rattle.dw_view.proofs.FrontLaws.{same_text-take}
 
 -- one byte more of a name than another has tells whether it is that
-pub filled-full : (b name front : List ℕ) (i : ℕ) (s : Section) (t e : Bool) → s ≡ nth_section b i → t ≡ is_empty_kind s → t ≡ false
-    → front ≡ take (length name + 1) (section_name b i) → e ≡ same_text front name → e ≡ is_filled name (view_section b i)
-unfolding view_section
-filled-full b name front i s t e s_is t_is full front_is e_is =
-    let has : is_empty_kind (nth_section b i) ≡ false = ap (λ (y : Section). is_empty_kind y) (sym s_is) ∙ sym t_is ∙ full in
-    e_is ∙ ap (λ (f : List ℕ). same_text f name) front_is ∙ same_text-take (length name + 1) (section_name b i) name (omega arith)
-    ∙ ap (λ (x : Bool). not x && same_text (section_name b i) name) (sym has)
+pub filled-full : (v : View) (name front : List ℕ) (i : ℕ) (t e : Bool) → t ≡ (section_at v i).has_bytes → t ≡ true
+    → front ≡ take (length name + 1) (section_at v i).name → e ≡ same_text front name → e ≡ is_filled name (section_at v i)
+filled-full v name front i t e t_is full front_is e_is =
+    let has : (section_at v i).has_bytes ≡ true = sym t_is ∙ full in
+    e_is ∙ ap (λ (f : List ℕ). same_text f name) front_is ∙ same_text-take (length name + 1) (section_at v i).name name (omega arith)
+    ∙ ap (λ (x : Bool). x && same_text (section_at v i).name name) (sym has)
 
 -- a section without bytes is passed
-pub filled-empty : (b name : List ℕ) (i : ℕ) (s : Section) (t : Bool) → s ≡ nth_section b i → t ≡ is_empty_kind s → t ≡ true
-    → not t ≡ is_filled name (view_section b i)
-unfolding view_section
-filled-empty b name i s t s_is t_is empty =
-    let has : is_empty_kind (nth_section b i) ≡ true = ap (λ (y : Section). is_empty_kind y) (sym s_is) ∙ sym t_is ∙ empty in
-    ap not empty ∙ ap (λ (x : Bool). not x && same_text (section_name b i) name) (sym has)
+pub filled-empty : (v : View) (name : List ℕ) (i : ℕ) (t : Bool) → t ≡ (section_at v i).has_bytes → t ≡ false → t ≡ is_filled name (section_at v i)
+filled-empty v name i t t_is empty =
+    let has : (section_at v i).has_bytes ≡ false = sym t_is ∙ empty in
+    empty ∙ ap (λ (x : Bool). x && same_text (section_at v i).name name) (sym has)
 
 pub ruleset filled_laws = (filled-full, filled-empty)
 
--- above the last section there is none
-pub section_after-past : (b name : List ℕ) (after : ℕ) → section_count b ≤ after → None ≡ section_after (view_of b) name after
-unfolding section_after
-section_after-past b name after le = sym (first_filled-end b name (suc after) (omega arith))
+-- one section further
+sections-from : (v : View) (i : ℕ) → i < length v.sections → drop i v.sections ≡ section_at v i ∷ drop (i + 1) v.sections
+unfolding section_at
+sections-from v i lt = drop_more v.sections i no_section lt
 
-pub ruleset next_laws = (first_filled-here, first_filled-further, first_filled-end, section_after-past)
+found_by : (t : Bool) (i : ℕ) (rest : Option ℕ) → t ≡ true → (if t then Some i else rest) ≡ Some i
+found_by true i rest e = refl
+found_by false i rest e = absurd cc
+
+passed_by : (t : Bool) (i : ℕ) (rest : Option ℕ) → t ≡ false → (if t then Some i else rest) ≡ rest
+passed_by true i rest e = absurd cc
+passed_by false i rest e = refl
+
+pub filled-here : (v : View) (name : List ℕ) (i : ℕ) → i < length v.sections → is_filled name (section_at v i) ≡ true
+    → first_filled name i (drop i v.sections) ≡ Some i
+filled-here v name i lt filled =
+    ap (first_filled name i) (sections-from v i lt)
+    ∙ found_by (is_filled name (section_at v i)) i (first_filled name (suc i) (drop (i + 1) v.sections)) filled
+
+pub filled-further : (v : View) (name : List ℕ) (i : ℕ) → i < length v.sections → is_filled name (section_at v i) ≡ false
+    → first_filled name i (drop i v.sections) ≡ first_filled name (i + 1) (drop (i + 1) v.sections)
+filled-further v name i lt other =
+    let next : suc i ≡ i + 1 = omega arith in
+    ap (first_filled name i) (sections-from v i lt)
+    ∙ passed_by (is_filled name (section_at v i)) i (first_filled name (suc i) (drop (i + 1) v.sections)) other
+    ∙ ap (λ (k : ℕ). first_filled name k (drop (i + 1) v.sections)) next
+
+pub filled-end : (v : View) (name : List ℕ) (i : ℕ) → length v.sections ≤ i → first_filled name i (drop i v.sections) ≡ None
+filled-end v name i end = ap (first_filled name i) (drop_all i v.sections end)
+
+-- above the last section there is none
+pub section_after-past : (v : View) (name : List ℕ) (after : ℕ) → length v.sections ≤ after → None ≡ section_after v name after
+unfolding section_after
+section_after-past v name after le = sym (filled-end v name (suc after) (omega arith))
+
+pub ruleset next_laws = (filled-here, filled-further, filled-end, section_after-past)

@@ -4,3 +4,7 @@ pub mod NameLaws
 pub mod RepeatLaws
 pub mod FoundLaws
 pub mod ViewLaws
+pub mod CountLaws
+pub mod StandLaws
+pub mod PartLaws
+pub mod PairingLaws

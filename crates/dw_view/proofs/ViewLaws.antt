@@ -1,9 +1,8 @@
 -- Laws of a view that was made of a file.
-use Rattle.std.proofs.Common.{◌≡◌, ℕ, zero, suc, ◌<◌, ◌≤◌, Bool, true, false, ◌==◌, ◌||◌, if◌then◌else◌, List, [], ◌∷◌, length, get_or, take, drop, IfSome, Option, Some, None, refl, sym, ap, ◌∙◌, arith}
-use Rattle.std.proofs.lemmas.List.{length-take, length-drop}
+use Rattle.std.proofs.Common.{◌≡◌, ℕ, zero, suc, ◌<◌, true, ◌==◌, ◌||◌, List, [], ◌∷◌, length, get_or, take, IfSome, Option, Some, None, refl, sym, ap, ◌∙◌, arith}
 use Rattle.dw_base.specs.DebugSections.{debug_section, name_of}
 use Rattle.dw_base.specs.DebugSectionFails.{DebugSectionsRead}
-use Rattle.dw_base.specs.Elf.{contents_at, contents_of, e_type, is_empty_kind, nth_section, section_count, section_name}
+use Rattle.dw_base.specs.Elf.{e_type, section_count, section_name}
 use Rattle.dw_base.specs.FileViews.{View, ViewSection, section_after, section_named, view_of, view_section}
 use Rattle.dw_base.specs.Layout.{is_loaded_kind}
 use Rattle.dw_base.specs.declared.elf_numbers.TheConstants.{ET_REL}
@@ -13,7 +12,9 @@ use Rattle.dw_base.proofs.DebugSectionLaws.{debug_section-named}
 use Rattle.dw_base.proofs.FileViewLaws.{order-view_of, length-view_of, get_or-view_of, section_bytes-view_of, section_after-within}
 use Rattle.dw_view.specs.NamesFit.{NamesApart, NamesFit, NamesOnce}
 use Rattle.dw_view.specs.SectionKinds.{kind_at, name_in}
+use Rattle.dw_view.specs.SectionParts.{no_section, section_at}
 use Rattle.dw_view.proofs.NameLaws.{debug_section-take}
+use Rattle.dw_view.proofs.PartLaws.{contents-small, length-pair, section_at-is}
 
 -- what was found part by part is all that is asked
 pub reads-all : (b : List ℕ) → (e_type b == ET_REL || is_loaded_kind b) ≡ true → NamesFit b → NamesOnce b → NamesApart b → DebugSectionsRead b
@@ -25,20 +26,6 @@ reads-all b kind fit once apart = record {
 }
 
 pub ruleset one_laws = (reads-all, debug_sections_exclude)
-
--- no section is longer than the file
-contents-by : (b rest : List ℕ) (size : ℕ) (t : Bool) → length rest ≤ length b → length (if t then [] else take size rest) ≤ length b
-contents-by b rest size true le = omega arith
-contents-by b rest size false le = let e = length-take size rest in omega (arith, e)
-
-pub contents-small : (b : List ℕ) (i m : ℕ) → length b ≤ m → length (contents_of b i) ≤ m
-unfolding contents_of contents_at
-contents-small b i m small =
-    let rest : length (drop (nth_section b i).offset b) ≤ length b = omega (arith, length-drop (nth_section b i).offset b) in
-    let le = contents-by b (drop (nth_section b i).offset b) (nth_section b i).size (is_empty_kind (nth_section b i)) rest in
-    omega arith
-
-pub ruleset view_laws = (order-view_of, length-view_of, section_bytes-view_of, contents-small)
 
 -- the first section of one that is read
 pub first-after : (v : View) (name : List ℕ) (after : ℕ) (s : DebugSection) (found : Option ℕ) → found ≡ section_named v (name_of s) → after ≡ 0
@@ -71,17 +58,24 @@ name_in-get_or [] i d lt = absurd (omega arith)
 name_in-get_or (s ∷ ss) zero d lt = refl
 name_in-get_or (s ∷ ss) (suc i) d lt = name_in-get_or ss i d (omega arith)
 
-pub kind_at-view_of : (b : List ℕ) (i : ℕ) → i < section_count b → kind_at (view_of b) i ≡ debug_section (section_name b i)
-unfolding kind_at view_section
-kind_at-view_of b i lt =
-    ap debug_section
-    (name_in-get_or (view_of b).sections i (view_section b i) (omega (arith, length-view_of b))
-    ∙ ap (λ (s : ViewSection). s.name) (get_or-view_of b i (view_section b i) lt))
+kind_at-is : (v : View) (i : ℕ) → i < length v.sections → kind_at v i ≡ debug_section (section_at v i).name
+unfolding kind_at section_at
+kind_at-is v i lt = ap debug_section (name_in-get_or v.sections i no_section lt)
 
 -- and its first bytes tell which it is
-pub kind-front : (b front : List ℕ) (i : ℕ) (s : Option DebugSection) → i < section_count b → front ≡ take 20 (section_name b i)
-    → s ≡ debug_section front → s ≡ kind_at (view_of b) i
-kind-front b front i s lt front_is is =
-    is ∙ ap debug_section front_is ∙ debug_section-take (section_name b i) ∙ sym (kind_at-view_of b i lt)
+pub kind-front : (v : View) (front : List ℕ) (i : ℕ) (s : Option DebugSection) → i < length v.sections → front ≡ take 20 (section_at v i).name
+    → s ≡ debug_section front → s ≡ kind_at v i
+kind-front v front i s lt front_is is =
+    is ∙ ap debug_section front_is ∙ debug_section-take (section_at v i).name ∙ sym (kind_at-is v i lt)
 
-pub ruleset kind_laws = (length-view_of, kind-front)
+pub ruleset kind_laws = (kind-front)
+
+-- of a view of one file, or of a pair
+pub kind_at-view_of : (b : List ℕ) (i : ℕ) → i < section_count b → kind_at (view_of b) i ≡ debug_section (section_name b i)
+unfolding view_section
+kind_at-view_of b i lt =
+    let size = length-view_of b in
+    kind_at-is (view_of b) i (omega arith)
+    ∙ ap (λ (s : ViewSection). debug_section s.name) (section_at-is (view_of b) i ∙ get_or-view_of b i no_section lt)
+
+pub ruleset view_laws = (order-view_of, length-view_of, section_bytes-view_of, contents-small, length-pair)

@@ -1,3 +1,7 @@
 pub mod NamesFit
 pub mod Kept
 pub mod SectionKinds
+pub mod PairViews
+pub mod SectionParts
+pub mod Pairs
+pub mod Standing

@@ -2,33 +2,32 @@
 
 ghost use Rattle.std.specs.Prelude.{◌≡◌, ◌<◌, map, length, IfOk};
 ghost use Rattle.dw_base.specs.DebugSections.{name_of};
-ghost use Rattle.dw_base.specs.Elf.{section_count};
-ghost use Rattle.dw_base.specs.FileViews.{is_filled, section_after, section_named, view_of, view_section};
+ghost use Rattle.dw_base.specs.FileViews.{is_filled, section_after, section_named};
+ghost use Rattle.dw_view.specs.SectionParts.{section_at};
 
-use crate::fronts::name_front;
+use crate::sections::Sections;
 use dw_base::{DebugSection, NoMemory};
-use elf_file::ElfFile;
 
 /// The section of a number has this name, and bytes in the file.
 #[tactic(auto, using(crate::proofs::FoundLaws::filled_laws))]
-fn is_filled(elf: &ElfFile, index: u32, name: &[u8]) -> bool
-    requires there { index < section_count elf.now.bytes.now }
-    ensures { result ≡ is_filled name.now (view_section elf.now.bytes.now index) }
+fn is_filled(sections: &Sections, index: u32, name: &[u8]) -> bool
+    requires there { index < length sections.now.sections }
+    ensures { result ≡ is_filled name.now (section_at sections.now index) }
 {
-    !elf.section(index).takes_no_room() && name_front(elf, index, name.len() + 1) == name
+    sections.has_bytes(index) && sections.name_front(index, name.len() + 1) == name
 }
 
 /// The first section above a number that has a name and bytes; none exactly where there is none.
 #[tactic(auto, using(crate::proofs::FoundLaws::next_laws), unfolding(dw_base::specs::FileViews::section_after))]
-pub fn next_filled(elf: &ElfFile, name: &[u8], after: u32) -> Option<u32>
-    ensures { result ≡ section_after (view_of elf.now.bytes.now) name.now after }
+pub fn next_filled(sections: &Sections, name: &[u8], after: u32) -> Option<u32>
+    ensures { result ≡ section_after sections.now name.now after }
 {
-    let count = elf.section_count();
+    let count = sections.count();
     if after >= count {
         return None;
     }
     for index in after + 1..count {
-        if is_filled(elf, index, name) {
+        if is_filled(sections, index, name) {
             return Some(index);
         }
     }
@@ -37,12 +36,12 @@ pub fn next_filled(elf: &ElfFile, name: &[u8], after: u32) -> Option<u32>
 
 /// For each of these sections, the number of the first section that has its name and bytes.
 #[tactic(auto, unfolding(dw_base::specs::FileViews::section_named))]
-pub fn firsts_of(elf: &ElfFile, sections: &[DebugSection]) -> Result<Vec<Option<u32>>, NoMemory>
-    ensures firsts { IfOk result (λ firsts. firsts.items ≡ map (λ s. section_named (view_of elf.now.bytes.now) (name_of s)) sections.now) }
+pub fn firsts_of(sections: &Sections, read: &[DebugSection]) -> Result<Vec<Option<u32>>, NoMemory>
+    ensures firsts { IfOk result (λ firsts. firsts.items ≡ map (λ s. section_named sections.now (name_of s)) read.now) }
 {
-    let mut firsts = Vec::with_capacity(*elf.sections.allocator(), sections.len())?;
-    for section in sections {
-        firsts.push(next_filled(elf, section.name(), 0))?;
+    let mut firsts = Vec::with_capacity(sections.allocator(), read.len())?;
+    for section in read {
+        firsts.push(next_filled(sections, section.name(), 0))?;
     }
     Ok(firsts)
 }

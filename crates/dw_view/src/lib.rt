@@ -1,12 +1,15 @@
 //! The view of a file: the sections from which its debug data are read, by number and by name (gABI ch. 4
-//! "Sections"; DWARF 5, Appendix B).
+//! "Sections"; DWARF 5, Appendix B); and that of a stripped file and its debug file (GNU debugging information
+//! in separate files).
 //!
 //! This layer promises: a file has a view only where its type and the names and flags of its sections are
 //! ones that are handled, and then its sections, their names and their bytes are the file's; it is refused
 //! only by a condition of the kinds `Compressed`, `Supplementary`, `SplitDwarf`, `UnknownDebug`, `Twice`
-//! and `FileType` that holds, at its place. A section of a name is the first that has it and bytes.
+//! and `FileType` that holds, at its place. A section of a name is the first that has it and bytes. A pair has
+//! a view only where the link has the debug file's name and sum, and where it hasn't that is the answer.
 //! It does not promise: anything of what the sections hold; relocations are not read yet.
-//! Read first: `dw_base/specs/DebugSectionFails.antt`, then `dw_base/specs/FileViews.antt`.
+//! Read first: `dw_base/specs/DebugSectionFails.antt`, then `dw_base/specs/FileViews.antt`,
+//! `specs/PairViews.antt`, `specs/Pairs.antt`.
 //!
 //! # Example
 //!
@@ -21,9 +24,14 @@
 
 mod found;
 mod fronts;
+mod mismatch;
 mod names;
+mod pairing;
 mod repeats;
+mod sections;
+mod standing;
 mod view;
 
 pub use dw_base::{DebugSection, Fault, Field, Kind, Order, Refusal};
+pub use mismatch::{Mismatch, PairErr};
 pub use view::View;

@@ -1,4 +1,4 @@
-//! The view of one file.
+//! The view of one file, and of a pair.
 
 ghost use Rattle.std.specs.Prelude.{◌≡◌, ◌+◌, ◌<◌, ◌≤◌, ◌^◌, Ok, length, IfErr, IfOk, IfSome, OnOk};
 ghost use Rattle.dw_base.specs.DebugSections.{name_of};
@@ -7,21 +7,26 @@ ghost use Rattle.dw_base.specs.FileViews.{View as FileView, field_at, section_af
 ghost use Rattle.dw_base.specs.Refusals.{Blames};
 ghost use Rattle.dw_base.specs.declared.fault.Refusal.{Refusal};
 ghost use Rattle.dw_view.specs.Kept.{FieldFits, FirstsAre};
+ghost use Rattle.dw_view.specs.PairViews.{pair_view};
+ghost use Rattle.dw_view.specs.Pairs.{IsPaired, PairBlames, PairRefused};
 ghost use Rattle.dw_view.specs.SectionKinds.{kind_at};
+ghost use Rattle.dw_view.specs.declared.mismatch.PairErr.{PairErr};
 
 use crate::found::{firsts_of, next_filled};
-use crate::fronts::name_front;
+use crate::mismatch::PairErr;
 use crate::names::{FRONT_SIZE, kind_fits, names_apart, names_fit};
+use crate::pairing::is_pair;
 use crate::repeats::names_once;
-use dw_base::{DebugSection, Fault, Field, Order, READ_SECTIONS, Refusal, number_in};
+use crate::sections::Sections;
+use dw_base::{DebugSection, Fault, Field, NoMemory, Order, READ_SECTIONS, Refusal, number_in};
 use elf_file::ElfFile;
 use std::marker::Model;
 
-/// The view of a file: its sections by number and by name.
+/// The view of a file, or of a pair: its sections by number and by name.
 #[derive(Drop)]
 pub struct View<'a> {
-    /// The file.
-    elf: &'a ElfFile<'a>,
+    /// The sections.
+    sections: Sections<'a>,
     /// For each section that is read, in the order of the table, the first that has its name and bytes.
     firsts: Vec<Option<u32>>,
 }
@@ -29,36 +34,93 @@ pub struct View<'a> {
 impl<'a> Model for View<'a> {
     ghost Value = { FileView };
 
-    ghost view = { λ v. view_of v.elf.now.bytes.now };
+    ghost view = { λ v. v.sections };
 
-    ghost invariant = { λ v. FirstsAre (view_of v.elf.now.bytes.now) v.firsts.items };
+    ghost invariant = { λ v. FirstsAre v.sections v.firsts.items };
+}
+
+/// The type of a file, and the names and flags of its sections, are ones that are handled.
+#[tactic(auto, using(crate::proofs::ViewLaws::one_laws))]
+fn file_fits(elf: &ElfFile) -> Result<(), Refusal>
+    ensures reads { OnOk result (DebugSectionsRead elf.now.bytes.now) }
+    ensures none { OnOk result ((r : Refusal) → DebugSectionsFail elf.now.bytes.now r → ⊥) }
+    ensures refused { IfErr result (DebugSectionsFail elf.now.bytes.now) }
+{
+    kind_fits(elf)?;
+    names_fit(elf)?;
+    names_once(elf)?;
+    names_apart(elf)?;
+    Ok(())
+}
+
+/// The view of sections.
+fn viewed<'a>(sections: Sections<'a>) -> Result<View<'a>, NoMemory>
+    ensures value { IfOk result (λ view. view ≡ sections.entry) }
+{
+    let firsts = firsts_of(&sections, &READ_SECTIONS)?;
+    Ok(View { sections, firsts })
+}
+
+/// The view of two files that are a pair.
+fn joined<'a>(stripped: &'a ElfFile<'a>, debug: &'a ElfFile<'a>) -> Result<View<'a>, NoMemory>
+    ensures value { IfOk result (λ view. view ≡ pair_view debug.now.bytes.now stripped.now.bytes.now) }
+{
+    let sections = Sections::pair(stripped, debug)?;
+    let view = viewed(sections)?;
+    Ok(view)
 }
 
 impl<'a> View<'a> {
     /// The view of one file. Refused exactly where a condition of `DebugSectionsFail` holds, at its place:
     /// by the type of the file as `FileType`, by its sections as `Compressed`, `Supplementary`,
     /// `SplitDwarf`, `UnknownDebug` and `Twice`.
-    #[tactic(auto, using(crate::proofs::ViewLaws::one_laws))]
     pub fn one(elf: &'a ElfFile<'a>) -> Result<View<'a>, Fault>
         ensures reads { OnOk result (DebugSectionsRead elf.now.bytes.now) }
         ensures none { OnOk result ((r : Refusal) → DebugSectionsFail elf.now.bytes.now r → ⊥) }
         ensures value { IfOk result (λ view. view ≡ view_of elf.now.bytes.now) }
         ensures refused { IfErr result (Blames (DebugSectionsFail elf.now.bytes.now)) }
     {
-        kind_fits(elf)?;
-        names_fit(elf)?;
-        names_once(elf)?;
-        names_apart(elf)?;
-        let firsts = firsts_of(elf, &READ_SECTIONS)?;
-        Ok(View { elf, firsts })
+        file_fits(elf)?;
+        let view = viewed(Sections::one(elf))?;
+        Ok(view)
+    }
+
+    /// The view of a stripped file and the debug file that it names, whose base name is `name`: the sections have the
+    /// numbers of the debug file, and the k-th of a name without bytes there has those of the k-th of that name in
+    /// the stripped file. `NotAPair` exactly where the stripped file has no link that can be read, or the link has another
+    /// name or another sum, with both values; else `Stripped` or `Debug` with a refusal exactly where a condition
+    /// of `DebugSectionsFail` holds of that file, at its place; or for want of memory.
+    #[tactic(auto, using(crate::proofs::PairingLaws::pair_laws))]
+    pub fn pair(
+        stripped: &'a ElfFile<'a>,
+        debug: &'a ElfFile<'a>,
+        name: &[u8],
+    ) -> Result<View<'a>, PairErr>
+        ensures paired { OnOk result (IsPaired stripped.now.bytes.now debug.now.bytes.now name.now) }
+        ensures stripped_reads { OnOk result (DebugSectionsRead stripped.now.bytes.now) }
+        ensures debug_reads { OnOk result (DebugSectionsRead debug.now.bytes.now) }
+        ensures none { OnOk result ((e : PairErr) → PairRefused stripped.now.bytes.now debug.now.bytes.now name.now e → ⊥) }
+        ensures value { IfOk result (λ view. view ≡ pair_view debug.now.bytes.now stripped.now.bytes.now) }
+        ensures refused { IfErr result (PairBlames stripped.now.bytes.now debug.now.bytes.now name.now) }
+    {
+        is_pair(stripped, debug, name)?;
+        if let Err(refusal) = file_fits(stripped) {
+            return Err(PairErr::Stripped(Fault::Refused(refusal)));
+        }
+        if let Err(refusal) = file_fits(debug) {
+            return Err(PairErr::Debug(Fault::Refused(refusal)));
+        }
+        let Ok(view) = joined(stripped, debug) else {
+            return Err(PairErr::Debug(Fault::NoMemory));
+        };
+        Ok(view)
     }
 
     /// The byte order of the file.
-    #[tactic(auto, using(crate::proofs::ViewLaws::view_laws))]
     pub fn order(&self) -> Order
         ensures order { result ≡ self.now.order }
     {
-        self.elf.order
+        self.sections.order()
     }
 
     /// The first section of those that are read: the first of its name that has bytes in the file. None
@@ -98,7 +160,7 @@ impl<'a> View<'a> {
         {
             return self.kept(section);
         }
-        next_filled(self.elf, name, after)
+        next_filled(&self.sections, name, after)
     }
 
     /// Which section that is read the one of a number is, by its name; none exactly where its name is
@@ -108,22 +170,21 @@ impl<'a> View<'a> {
         requires there { section < length self.now.sections }
         ensures kind { result ≡ kind_at self.now section }
     {
-        DebugSection::called(name_front(self.elf, section, FRONT_SIZE))
+        DebugSection::called(self.sections.name_front(section, FRONT_SIZE))
     }
 
     /// The bytes of the section of a number, none where it has none in the file.
-    #[tactic(auto, using(crate::proofs::ViewLaws::view_laws))]
     pub fn bytes(&self, section: u32) -> &[u8]
         requires there { section < length self.now.sections }
         ensures bytes { result.now ≡ section_bytes self.now section }
         ensures small { length result.now ≤ 2 ^ 31 }
     {
-        self.elf.contents(section)
+        self.sections.bytes(section)
     }
 
     /// What a field reads as: the `size` bytes from `at`, in bytes from the start of the section of a
     /// number.
-    #[tactic(auto, using(crate::proofs::ViewLaws::view_laws), unfolding(dw_base::specs::FileViews::field_at))]
+    #[tactic(auto, unfolding(dw_base::specs::FileViews::field_at))]
     pub fn field(&self, section: u32, at: u64, size: u8) -> Result<Field, Refusal>
         requires there { section < length self.now.sections }
         requires some { 0 < size }

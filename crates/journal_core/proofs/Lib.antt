@@ -8,7 +8,7 @@ pub mod Ends
 pub mod Stops
 pub mod Targets
 pub mod Fits
-pub mod Loops
+pub mod SpanLaws
 pub mod Calls
 pub mod Kept
 pub mod Safe

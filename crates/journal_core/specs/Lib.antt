@@ -1,5 +1,6 @@
 pub mod Table
 pub mod Fit
+pub mod Span
 pub mod Cores
 pub mod Names
 pub mod Marks

@@ -6,11 +6,12 @@
 
 ghost use Rattle.std.specs.Prelude.{◌≡◌, ◌<◌, IsTrue, length, IfOk, IsOkAnd};
 ghost use Rattle.journal_core.specs.Fit.{are_fit};
+ghost use Rattle.journal_core.specs.Span.{SpanHas};
 
 use crate::event::{Event, JobState, Phase};
 use crate::rules::{
     after_close, after_move, after_stage, allows_close, allows_finish, are_done, settle_jobs,
-    settle_phase, stands_fresh, stands_going,
+    settle_phase, stands_fresh, stands_going, widened,
 };
 use std::alloc::{AllocError, Global};
 
@@ -20,8 +21,13 @@ pub struct Core {
     phase: Phase,
     steps: Vec<u8>,
     states: Vec<JobState>,
+    // the span of the jobs that were staged since the last settle
+    first: usize,
+    end: usize,
     // each job has a step, and a state that goes with the number of its steps
     ghost fit: { IsTrue (are_fit steps.items states.items) },
+    // all that are staged are in the span
+    ghost span: { SpanHas first end states.items },
 }
 
 impl Core {
@@ -31,7 +37,7 @@ impl Core {
     ghost use Rattle.journal_core.specs.Table.{allows, after, next_of, new_core, resumed_core, closed_core, state_of, is_fresh, is_ready, is_going};
 
     /// A run before its plan is put, of jobs with these numbers of steps.
-    #[tactic(auto, using(crate::proofs::Fits::core_laws))]
+    #[tactic(auto, using(crate::proofs::Fits::core_laws, crate::proofs::SpanLaws::span_laws))]
     pub fn new(alloc: Global, steps: Vec<u8>) -> Result<Core, AllocError>
         requires steps { EachHasStep steps.items }
         ensures new { IfOk result (λ c. core_of c ≡ new_core steps.items) }
@@ -41,23 +47,29 @@ impl Core {
             phase: Phase::Empty,
             steps,
             states,
+            first: 0,
+            end: 0,
         })
     }
 
     /// A run whose plan is at its name, with the states that the names in its work folder show.
-    #[tactic(auto, using(crate::proofs::Fits::core_laws))]
+    #[tactic(auto, using(crate::proofs::Fits::core_laws, crate::proofs::SpanLaws::span_laws))]
     pub fn resumed(steps: Vec<u8>, states: Vec<JobState>) -> Result<Core, AllocError>
         requires fit { AreFit steps.items states.items }
         ensures resumed { IsOkAnd result (λ c. core_of c ≡ resumed_core steps.items states.items) }
     {
+        let end = states.len();
         Ok(Core {
             phase: Phase::Running,
             steps,
             states,
+            first: 0,
+            end,
         })
     }
 
     /// A run that is finished already. It takes no memory.
+    #[tactic(auto, using(crate::proofs::SpanLaws::span_laws))]
     pub fn closed(alloc: Global) -> Core
         ensures closed { core_of result ≡ closed_core }
     {
@@ -65,6 +77,8 @@ impl Core {
             phase: Phase::Closed,
             steps: Vec::new(alloc),
             states: Vec::new(alloc),
+            first: 0,
+            end: 0,
         }
     }
 
@@ -138,17 +152,20 @@ impl Core {
     }
 
     /// One more step of a job is put.
-    #[tactic(auto, using(crate::proofs::Fits::core_laws))]
+    #[tactic(auto, using(crate::proofs::Fits::core_laws, crate::proofs::SpanLaws::span_laws))]
     fn stage(&mut self, job: u32, step: u8)
         requires { IsTrue (is_fresh (state_of (core_of self.old) job) step) }
         ensures { core_of self.new ≡ after (core_of self.old) (Event.Stage job step) }
     {
         let state = after_stage(step, self.steps[job as usize]);
+        let (first, end) = widened(self.first, self.end, job);
+        self.first = first;
+        self.end = end;
         self.states[job as usize] = state;
     }
 
     /// A job is committed.
-    #[tactic(auto, using(crate::proofs::Fits::core_laws))]
+    #[tactic(auto, using(crate::proofs::Fits::core_laws, crate::proofs::SpanLaws::span_laws))]
     fn commit(&mut self, job: u32)
         requires { IsTrue (is_ready (state_of (core_of self.old) job)) }
         ensures { core_of self.new ≡ after (core_of self.old) (Event.Commit job) }
@@ -157,7 +174,7 @@ impl Core {
     }
 
     /// One more step of a job is moved to its target.
-    #[tactic(auto, using(crate::proofs::Fits::core_laws))]
+    #[tactic(auto, using(crate::proofs::Fits::core_laws, crate::proofs::SpanLaws::span_laws))]
     fn move_step(&mut self, job: u32, step: u8)
         requires { IsTrue (is_going (state_of (core_of self.old) job) step) }
         ensures { core_of self.new ≡ after (core_of self.old) (Event.Move job step) }
@@ -167,12 +184,14 @@ impl Core {
     }
 
     /// All that came so far is settled.
-    #[tactic(auto, using(crate::proofs::Fits::core_laws))]
+    #[tactic(auto, using(crate::proofs::Fits::core_laws, crate::proofs::SpanLaws::span_laws))]
     fn settle(&mut self)
         ensures { core_of self.new ≡ after (core_of self.old) Event.Settle }
     {
         self.phase = settle_phase(self.phase);
-        settle_jobs(&mut self.states);
+        settle_jobs(&mut self.states, self.first, self.end);
+        self.first = 0;
+        self.end = 0;
     }
 }
 

@@ -4,6 +4,7 @@
 
 ghost use Rattle.std.specs.Prelude.{◌≡◌, ◌<◌, ◌+◌, map};
 ghost use Rattle.journal_core.specs.Table.{is_fresh, is_going, all_done, may_finish, may_close, staged_next, moved_next, settled_job, settled_phase, closed_next};
+ghost use Rattle.journal_core.specs.Span.{SpanHas, SpanCovers};
 
 use crate::event::{JobState, Phase};
 
@@ -111,11 +112,23 @@ pub fn settle_phase(phase: Phase) -> Phase
     }
 }
 
-/// All jobs after a settle.
-pub fn settle_jobs(states: &mut Vec<JobState>)
+/// The span that has another one and one job more.
+pub fn widened(first: usize, end: usize, job: u32) -> (usize, usize)
+    ensures { SpanCovers first end job result.0 result.1 }
+{
+    let job = job as usize;
+    if first >= end {
+        return (job, job + 1);
+    }
+    (first.min(job), end.max(job + 1))
+}
+
+/// All jobs after a settle, where those that are staged lie in a span.
+pub fn settle_jobs(states: &mut Vec<JobState>, first: usize, end: usize)
+    requires { SpanHas first end states.old.items }
     ensures { states.new.items ≡ map settled_job states.old.items }
 {
-    for state in states.iter_mut() {
-        *state = settle_job(*state);
+    for i in first..end {
+        states[i] = settle_job(states[i]);
     }
 }

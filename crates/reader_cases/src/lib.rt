@@ -53,6 +53,8 @@ mod dw_sources_tests;
 #[cfg(test)]
 mod dw_strings_tests;
 #[cfg(test)]
+mod dw_view_pair_tests;
+#[cfg(test)]
 mod dw_view_tests;
 #[cfg(test)]
 mod elf_file_samples;

@@ -1,5 +1,5 @@
 -- Both files read back, what is loaded is kept, and the pair has the sections and the meaning.
-use Rattle.dbg_split.proofs.PairLaws.{debug-back, joins-back, loaded-back, means-back, stripped-back}
+use Rattle.dbg_split.proofs.PairLaws.{debug-back, joins-back, loaded-back, means-back, reads-back, stripped-back}
 use Rattle.dbg_split.proofs.splitting.split.Goals as goal
 
 pub returns-clause-stripped_reads : goal.returns-clause-stripped_reads
@@ -28,3 +28,9 @@ returns-clause-meaning c =
     let made = c.in_ok-pair.ensures in
     means-back c.args.bytes.now c.args.debug_name.now c.in_ok-pair.pair.debug.items c.in_ok-pair.pair.stripped.items c.requires.small made.reads made.bytes made.none
     made.debug made.stripped
+
+pub returns-clause-reads : goal.returns-clause-reads
+returns-clause-reads c =
+    let made = c.in_ok-pair.ensures in
+    reads-back c.args.bytes.now c.args.debug_name.now c.in_ok-pair.pair.debug.items c.in_ok-pair.pair.stripped.items c.requires.small made.reads made.bytes made.none
+    made.kept made.debug made.stripped

@@ -2,6 +2,7 @@ use Rattle.std.proofs.Common.{◌<◌, ◌∙◌, ap, arith, length}
 use Rattle.std.proofs.lemmas.List.{get_or_default}
 use Rattle.journal_core.specs.Table.{staged_next}
 use Rattle.journal_core.proofs.Fits.{fresh_stands, fresh_below, fit_staged}
+use Rattle.journal_core.proofs.SpanLaws.{span_staged}
 use Rattle.journal_core.proofs.machine.Core.stage.Goals as goal
 
 pub index-requires : goal.index-requires
@@ -23,4 +24,4 @@ invariant_of-self c =
     let read = c.index.ensures ∙ get_or_default c.args.self.now.steps.items c.args.job c.index.result.now 0 stands.in_steps in
     let next = c.after_stage-state.ensures ∙ ap (staged_next c.args.step) read in
     let kept = fit_staged c.args.self.now.steps.items c.args.self.now.states.items c.args.job c.args.step c.args.self.now.fit c.requires in
-    record { fit = rw next kept }
+    record { fit = rw next kept; span = span_staged _ _ _ _ _ _ _ c.args.self.now.span stands.in_states c.widened-first.ensures }

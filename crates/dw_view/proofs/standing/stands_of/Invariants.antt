@@ -1,0 +1,13 @@
+-- Of the sections so far it is known for which they stand, and these are no longer left.
+use Rattle.std.proofs.Common.{◌≡◌}
+use Rattle.dw_base.specs.Lists.{tabulate}
+use Rattle.dw_view.specs.SectionParts.{stand_of}
+use Rattle.dw_view.specs.Standing.{AreTaken, NextAre, heads_of}
+use Rattle.dw_view.proofs.standing.stands_of.Given as goal
+
+abbrev pub invariant-loop-section : goal.invariant-loop-section
+invariant-loop-section l = record {
+  stands : l.stands.items ≡ tabulate (stand_of l.debug.bytes.now l.stripped.bytes.now) l.section;
+  next : NextAre l.stripped.bytes.now l.next.items;
+  taken : AreTaken l.debug.bytes.now l.stripped.bytes.now l.section (heads_of l.heads.heads);
+}
