@@ -50,3 +50,5 @@ pub mod ContributionRowLaws
 pub mod NameRowLaws
 pub mod ContributionBackLaws
 pub mod NameBackLaws
+pub mod MacroRowLaws
+pub mod WorkedMacroUnits

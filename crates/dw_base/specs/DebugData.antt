@@ -1,10 +1,11 @@
 -- The debug data of a file, apart from how its sections lie: the unit sections, and what their values refer to; and the
 -- pieces that were read of them.
-use Rattle.std.specs.Prelude.{true, false, ◌≡◌, ◌+◌, ◌==◌, ℕ, Option, Some, None, if◌then◌else◌, List, [], ◌∷◌, ◌++◌, ⊤}
-use Rattle.dw_base.specs.Cells.{Cell, Located, CellSection, located_cells, offset_of}
+use Rattle.std.specs.Prelude.{true, false, ◌≡◌, ◌+◌, ◌==◌, ◌&&◌, ℕ, Option, Some, None, if◌then◌else◌, List, [], ◌∷◌, ◌++◌, ⊤}
+use Rattle.dw_base.specs.Cells.{Cell, Located, CellSection, located_cells, field_of, offset_of}
 use Rattle.dw_base.specs.Forms.{TextSection, in_str, in_line_str}
 use Rattle.dw_base.specs.LineReadings.{LineReading, table_starts}
 use Rattle.dw_base.specs.LineSources.{LineSource}
+use Rattle.dw_base.specs.MacroReadings.{MacroReading, MacroStart, MacroPlaces, macro_starts, first_macros}
 use Rattle.dw_base.specs.NamePieces.{NameState}
 use Rattle.dw_base.specs.OffsetPieces.{OffsetState}
 use Rattle.dw_base.specs.Pieces.{Piece}
@@ -14,9 +15,11 @@ use Rattle.dw_base.specs.TextIndexes.{Indexing, all_bases, index_uses, slots_nam
 use Rattle.dw_base.specs.UnitHeaders.{UnitBase, UnitSection, SectionKind, in_info, in_types}
 use Rattle.dw_base.specs.UnitPieces.{ReadsUnits}
 use Rattle.dw_base.specs.UnitStates.{Mode, at_header, at_code, UnitState, code_value}
+use Rattle.dw_base.specs.declared.view_fields.Field.{Field}
+use Rattle.dw_base.specs.declared.view_fields.Field.TheVariants.{Num, Into, Sym}
 
--- the unit sections in the order of their numbers, what all units are read by, the tables of texts, string offsets, line tables, and
--- name tables
+-- the unit sections in the order of their numbers, what all units are read by, the tables of texts, string offsets, line tables, the
+-- sections of macro units in the order of their numbers, and name tables
 pub record DebugData : Type 0 where
   pub base : UnitBase
   pub units : List UnitSection
@@ -24,13 +27,15 @@ pub record DebugData : Type 0 where
   pub line_str : Located
   pub offsets : CellSection
   pub lines : CellSection
+  pub macros : List CellSection
   pub names : CellSection
 
--- all that was read of debug data: the unit sections, string offsets, line tables, and name tables
+-- all that was read of debug data: the unit sections, string offsets, line tables, macro units, and name tables
 pub record DataReadings : Type 0 where
   pub units : Readings
   pub offsets : List (Piece OffsetState)
   pub lines : List LineReading
+  pub macros : List MacroReading
   pub names : List (Piece NameState)
 
 -- how many units begin in pieces
@@ -80,13 +85,14 @@ abbrev pub info_numbers : List UnitSection → List ℕ
 info_numbers [] = []
 info_numbers (z ∷ zs) = info_number z z.kind ++ info_numbers zs
 
--- what values refer to and no edit changes: what units are read by, where entries start, which sections are .debug_info, and which
--- slots values by index name
+-- what values refer to and no edit changes: what units are read by, where entries start, which sections are .debug_info, which
+-- slots values by index name, and where macro units start
 pub record Lasting : Type 0 where
   pub base : UnitBase
   pub entries : List EntryPlace
   pub infos : List ℕ
   pub indexing : Indexing
+  pub macros : MacroPlaces
 
 -- what stands around a section that its values refer to: that, the tables of texts, the texts of the slots, and the section of line
 -- tables with their starts
@@ -117,6 +123,22 @@ start_number first (s ∷ ss) n = if s == n then Some first else start_number (f
 abbrev pub line_table : Around → List Cell → Option ℕ
 line_table around p = start_number 0 around.starts (offset_of around.lasting.base.order around.lines p)
 
+-- the number of the macro unit that starts at a place of a section, of units numbered from `first` on
+abbrev pub started_unit : ℕ → List MacroStart → ℕ → ℕ → Option ℕ
+started_unit first [] section place = None
+started_unit first (s ∷ ss) section place =
+    if s.section == section && s.place == place then Some first else started_unit (first + 1) ss section place
+
+-- the number of the macro unit that a field names: by a number one of the first section of macro units, by a relocation one of the
+-- section that it leads to
+abbrev pub unit_named : MacroPlaces → Field → Option ℕ
+unit_named g (Num n) = started_unit 0 g.starts g.first n
+unit_named g (Into z n) = started_unit 0 g.starts z n
+unit_named g (Sym s k a) = None
+
+abbrev pub macro_unit : Lasting → List Cell → Option ℕ
+macro_unit g p = unit_named g.macros (field_of g.base.order p)
+
 abbrev pub table_of : Around → TextSection → Located
 table_of around in_str = around.str
 table_of around in_line_str = around.line_str
@@ -135,10 +157,20 @@ indexing_of d r = record {
   uses = index_uses d.base.order r.units;
 }
 
+-- where the macro units of debug data start
+abbrev pub macro_places : DebugData → DataReadings → MacroPlaces
+macro_places d r = record { first = first_macros d.macros; starts = macro_starts r.macros }
+
 -- what stands around the units of debug data that were read so
 abbrev pub around_of : DebugData → DataReadings → Around
 around_of d r = record {
-  lasting = record { base = d.base; entries = all_places r.units; infos = info_numbers d.units; indexing = indexing_of d r };
+  lasting = record {
+    base = d.base;
+    entries = all_places r.units;
+    infos = info_numbers d.units;
+    indexing = indexing_of d r;
+    macros = macro_places d r;
+  };
   str = d.str;
   line_str = d.line_str;
   slots = slot_texts d.base.order d.str r.offsets;

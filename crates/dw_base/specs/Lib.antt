@@ -72,3 +72,10 @@ pub mod LineReadings
 pub mod LineMeanings
 pub mod LineChanges
 pub mod TableStarts
+pub mod MacroOperations
+pub mod MacroHeaders
+pub mod MacroPieces
+pub mod MacroReadings
+pub mod MacroMeanings
+pub mod MacroUnits
+pub mod MacroFails

@@ -43,6 +43,12 @@ is_line_start names_line_table SecOffset n = true
 is_line_start names_line_table Number n = n == 4 || n == 8
 is_line_start u class n = false
 
+-- a number of a class, in so many bytes, that says where a macro unit starts (DWARF 5, 3.1.1)
+abbrev pub is_macro_start : Use → ValueClass → ℕ → Bool
+is_macro_start names_macro_unit SecOffset n = true
+is_macro_start names_macro_unit Number n = n == 4 || n == 8
+is_macro_start u class n = false
+
 -- what an edit may do to a piece: nothing; give its offset into a table of texts, of a path or not, another value; where a path
 -- stands in it, map that; or give it the new start of a line table
 pub data Role : Type 0 where

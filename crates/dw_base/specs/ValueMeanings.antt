@@ -2,11 +2,11 @@
 -- table, which form holds it and where a section lies are not in it.
 use Rattle.std.specs.Prelude.{Bool, ◌+◌, ℕ, ℤ, pos, ◌==◌, ◌&&◌, if◌then◌else◌, List, [], ◌∷◌, drop, length, get_or, Option, Some, None}
 use Rattle.dw_base.specs.Cells.{Cell, Relocation, bytes_of, field_of, offset_of, first_relocation, symbol_field}
-use Rattle.dw_base.specs.DebugData.{Lasting, Around, EntryPlace, line_table, table_of}
+use Rattle.dw_base.specs.DebugData.{Lasting, Around, EntryPlace, line_table, macro_unit, table_of}
 use Rattle.dw_base.specs.Forms.{ValueKind, number_of, leb_number, signed_leb, block_of, counted, counted_leb, inline_text, text_offset, present, in_abbreviation, form_in_front, supplementary, unlisted}
 use Rattle.dw_base.specs.Lebs.{uleb_at, sleb_at}
 use Rattle.dw_base.specs.Numbers.{spelled}
-use Rattle.dw_base.specs.Roles.{Use, is_line_start, is_path_use}
+use Rattle.dw_base.specs.Roles.{Use, is_line_start, is_macro_start, is_path_use}
 use Rattle.dw_base.specs.TextIndexes.{holds_number, slot_of}
 use Rattle.dw_base.specs.Texts.{text, text_in}
 use Rattle.dw_base.specs.UnitStates.{UnitState, code_value}
@@ -15,7 +15,7 @@ use Rattle.dw_base.specs.declared.values.Spec.{Spec}
 use Rattle.dw_base.specs.declared.values.ValueClass.{ValueClass}
 use Rattle.dw_base.specs.declared.view_fields.Field.{Field}
 use Rattle.dw_base.specs.declared.view_fields.Field.TheVariants.{Num, Into, Sym}
-use Rattle.dw_base.specs.declared.values.ValueClass.TheVariants.{Address, Flag, LocalRef, GlobalRef, StrIndex}
+use Rattle.dw_base.specs.declared.values.ValueClass.TheVariants.{Address, Flag, LocalRef, GlobalRef, SecOffset, StrIndex}
 
 -- how a text is held: where its value stands, by an offset into a table, or by the slot of a number
 pub data TextForm : Type 0 where
@@ -113,10 +113,23 @@ table_named (Some k) n = table_number k
 abbrev pub line_meaning : Around → List Cell → ValueMeaning
 line_meaning around p = table_named (line_table around p) (offset_of around.lasting.base.order around.lines p)
 
+-- what a value means that says where a macro unit starts: the number of the unit
+abbrev pub unit_meant : Option ℕ → Field → ValueMeaning
+unit_meant None f = of_class SecOffset f
+unit_meant (Some k) f = macro_number k
+
+abbrev pub macro_meaning : Lasting → List Cell → ValueMeaning
+macro_meaning g p = unit_meant (macro_unit g p) (field_of g.base.order p)
+
+-- a number that isn't the start of a line table
+abbrev pub plain_meaning : Around → UnitState → Use → ValueClass → ℕ → List Cell → ValueMeaning
+plain_meaning around s u class n p =
+    if is_macro_start u class n then macro_meaning around.lasting p else number_meaning around s u class p
+
 -- what the cells of a value of a kind mean, of an attribute of a unit; cells of a form that isn't listed are never read
 abbrev pub meaning_of_value : Around → UnitState → Use → Spec → ValueKind → List Cell → ValueMeaning
 meaning_of_value around s u x (number_of class n) p =
-    if is_line_start u class n then line_meaning around p else number_meaning around s u class p
+    if is_line_start u class n then line_meaning around p else plain_meaning around s u class n p
 meaning_of_value around s u x (leb_number class) p = leb_meaning around s u class p
 meaning_of_value around s u x signed_leb p = signed_number (read_signed (sleb_at (bytes_of p) 0))
 meaning_of_value around s u x (block_of n) p = raw p

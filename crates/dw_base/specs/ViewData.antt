@@ -1,11 +1,12 @@
 -- The debug data of a view, its sections found by their names (DWARF 5, Appendix B), and what a view means: its units, and by
 -- name the bytes of the sections that are meant as they stand.
-use Rattle.std.specs.Prelude.{Bool, ℕ, zero, suc, ◌||◌, not, if◌then◌else◌, List, [], ◌∷◌, ◌++◌, drop, Option, Some, None, true, false}
+use Rattle.std.specs.Prelude.{Bool, ℕ, zero, suc, ◌||◌, ◌&&◌, not, if◌then◌else◌, List, [], ◌∷◌, ◌++◌, drop, Option, Some, None, true, false}
 use Rattle.dw_base.specs.Cells.{Cell, Located, CellSection, plain_cells}
-use Rattle.dw_base.specs.DebugData.{DebugData, DataReadings, line_source}
+use Rattle.dw_base.specs.DebugData.{DebugData, DataReadings, around_of, line_source}
 use Rattle.dw_base.specs.DebugSections.{debug_section, name_of}
 use Rattle.dw_base.specs.FileViews.{Contents, plain_contents, bytes_in, ViewSection, View, section_bytes, section_named}
 use Rattle.dw_base.specs.LineMeanings.{LineMeaning, line_meanings, mapped_lines}
+use Rattle.dw_base.specs.MacroMeanings.{MacroMeaning, macro_meanings}
 use Rattle.dw_base.specs.MappedSlots.{unit_slots, mapped_slots}
 use Rattle.dw_base.specs.MappedUnits.{mapped_units}
 use Rattle.dw_base.specs.Notes.{BuildId, zeroed}
@@ -16,7 +17,7 @@ use Rattle.dw_base.specs.Texts.{same_text}
 use Rattle.dw_base.specs.UnitHeaders.{UnitSection, SectionKind, in_info, in_types}
 use Rattle.dw_base.specs.UnitMeanings.{UnitMeaning, units_of}
 use Rattle.dw_base.specs.declared.debug_sections.DebugSection.{DebugSection}
-use Rattle.dw_base.specs.declared.debug_sections.DebugSection.TheVariants.{Info, Types, Abbrev, Str, LineStr, StrOffsets, Line, Names}
+use Rattle.dw_base.specs.declared.debug_sections.DebugSection.TheVariants.{Info, Types, Abbrev, Str, LineStr, StrOffsets, Line, Macro, Names}
 
 -- contents as cells
 abbrev pub cells_in : Contents → List Cell
@@ -43,6 +44,25 @@ unit_sections_from i (s ∷ ss) =
 unfoldable pub unit_sections : View → List UnitSection
 unit_sections v = unit_sections_from 1 (drop 1 v.sections)
 
+-- a section of macro units, by the section that its name is
+abbrev pub is_macro : Option DebugSection → Bool
+is_macro (Some Macro) = true
+is_macro s = false
+
+-- such a section of a number, where it is one
+abbrev pub macro_section : ℕ → ViewSection → Bool → List CellSection
+macro_section i s false = []
+macro_section i s true = record { number = i; contents = cells_in s.contents } ∷ []
+
+-- the sections of macro units of a list whose first section has this number: those with bytes in the file
+abbrev pub macro_sections_from : ℕ → List ViewSection → List CellSection
+macro_sections_from i [] = []
+macro_sections_from i (s ∷ ss) = macro_section i s (s.has_bytes && is_macro (debug_section s.name)) ++ macro_sections_from (suc i) ss
+
+-- the sections of macro units of a view, in the order of their numbers
+unfoldable pub macro_sections : View → List CellSection
+macro_sections v = macro_sections_from 1 (drop 1 v.sections)
+
 -- a section of the view for offsets: number 0 and no bytes where there is none
 abbrev pub located_at : View → Option ℕ → Located
 located_at v None = record { number = 0; bytes = [] }
@@ -68,10 +88,12 @@ debug_data v = record {
   line_str = located v LineStr;
   offsets = cell_section (located v StrOffsets);
   lines = cell_section (located v Line);
+  macros = macro_sections v;
   names = cell_section (located v Names);
 }
 
--- a section whose bytes are read: units, their abbreviations, the tables of texts, string offsets, line tables, and name tables
+-- a section whose bytes are read: units, their abbreviations, the tables of texts, string offsets, line tables, macro units, and name
+-- tables
 abbrev pub is_read : Option DebugSection → Bool
 is_read (Some Info) = true
 is_read (Some Types) = true
@@ -80,6 +102,7 @@ is_read (Some Str) = true
 is_read (Some LineStr) = true
 is_read (Some StrOffsets) = true
 is_read (Some Line) = true
+is_read (Some Macro) = true
 is_read (Some Names) = true
 is_read s = false
 
@@ -114,12 +137,13 @@ abbrev pub without_id : Option BuildId → List ViewSection → List ViewSection
 without_id None ss = ss
 without_id (Some id) ss = zeroed_at id.section id ss
 
--- what debug data mean: the units in order; the texts of the slots of string offsets, the line tables with their rows, and the parts of
--- name tables; and by name, in order, the bytes of the sections that are meant as they stand
+-- what debug data mean: the units in order; the texts of the slots of string offsets, the line tables with their rows, the macro units
+-- with their events, and the parts of name tables; and by name, in order, the bytes of the sections that are meant as they stand
 pub record Meaning : Type 0 where
   pub units : List UnitMeaning
   pub slots : List (List ℕ)
   pub lines : List LineMeaning
+  pub macros : List MacroMeaning
   pub names : List NamePart
   pub others : List ℕ → List (List ℕ)
 
@@ -129,10 +153,12 @@ meaning_of v r = record {
   units = units_of (debug_data v) r;
   slots = slot_texts v.order (located v Str) r.offsets;
   lines = line_meanings (line_source (debug_data v)) r.lines;
+  macros = macro_meanings (around_of (debug_data v) r) r.macros;
   names = name_parts v.order (located v Str) r.names;
   others = bytes_named (other_sections (without_id v.id v.sections));
 }
 
--- the meaning with each path mapped, each slot that stands with a path, and the paths of line tables and of their rows
+-- the meaning with each path mapped, each slot that stands with a path, and the paths of line tables and of their rows. No text of a
+-- macro unit is a path.
 abbrev pub mapped : PathMap → Meaning → Meaning
 mapped m x = record x { units = mapped_units m x.units; slots = mapped_slots m (unit_slots x.units) 0 x.slots; lines = mapped_lines m x.lines }

@@ -25,7 +25,7 @@ apart-from : (f : PathField) (n : ℕ) (fs : List PathField) → f.at + f.size �
 apart-from f n [] le h = tt
 apart-from f n (g ∷ gs) le h = (inr (omega (arith, le, h.0)), apart-from f n gs le h.1)
 
-apart-here : (place size : ℕ) (fs : List PathField) → FieldsFrom (place + size) fs → IsApartFrom (record { at = place; size = size }) fs
+pub apart-here : (place size : ℕ) (fs : List PathField) → FieldsFrom (place + size) fs → IsApartFrom (record { at = place; size = size }) fs
 apart-here place size fs h = apart-from (record { at = place; size = size }) (place + size) fs (omega arith) h
 
 apart-append : (f : PathField) (fs gs : List PathField) → IsApartFrom f fs → IsApartFrom f gs → IsApartFrom f (fs ++ gs)

@@ -1,26 +1,24 @@
 -- A pass over the values of an entry, value by value.
-use Rattle.std.proofs.Common.{Bool, true, false, not, ◌&&◌, ◌==◌, ◌≡◌, ◌⊎◌, inl, inr, ℕ, suc, ◌+◌, ◌≤◌, ◌<◌, List, [], ◌∷◌, ◌++◌, length, take, drop, get_or, Option, Some, None, refl, sym, ap, ◌∙◌, subst, arith, append_assoc, append-nil}
+use Rattle.std.proofs.Common.{Bool, true, false, ◌&&◌, ◌==◌, ◌≡◌, ◌⊎◌, inl, inr, ℕ, suc, ◌+◌, ◌≤◌, ◌<◌, List, [], ◌∷◌, ◌++◌, length, take, drop, get_or, Option, Some, None, refl, sym, ap, ◌∙◌, subst, arith, append_assoc, append-nil}
 use Rattle.std.proofs.Math.Seq.{take-length, take-suc, drop-cons}
 use Rattle.std.proofs.lemmas.List.{drop_all, take-append-drop}
 use Rattle.dw_base.specs.EntryScans.{SpellsValues, no_values, more_values, value as value_fails}
-use Rattle.dw_meaning.specs.FileFails.{is_unbuilt_value}
 use Rattle.dw_base.specs.FormFails.{FormFails}
 use Rattle.dw_base.specs.Forms.{in_str, in_line_str}
-use Rattle.dw_base.specs.Refusals.{Blames, at}
+use Rattle.dw_base.specs.Refusals.{Blames}
 use Rattle.dw_base.specs.Roles.{is_path}
 use Rattle.dw_base.specs.TextIndexes.{is_base}
 use Rattle.dw_base.specs.declared.dwarf_numbers.TheConstants.{DW_AT_stmt_list}
 use Rattle.dw_base.specs.Values.{value_at}
 use Rattle.dw_base.specs.declared.fault.Fault.{Fault}
 use Rattle.dw_base.specs.declared.fault.Fault.TheVariants.{NoMemory, Refused}
-use Rattle.dw_base.specs.declared.fault.Kind.TheVariants.{Unbuilt}
 use Rattle.dw_base.specs.declared.fault.Refusal.{Refusal}
 use Rattle.dw_base.specs.declared.shared.Params.{Params}
 use Rattle.dw_base.specs.declared.values.Spec.{Spec}
 use Rattle.dw_base.specs.declared.values.Value.{Value}
 use Rattle.dw_find.specs.EntryTexts.{Tables, Found, OffsetSized, StartSized, with_base, with_paths, with_places, with_stray, TakenBehind, AreTaken, ValueRefuses, OneRefuses, none, some, ValuesRefuse, fails, value, ValueTaken}
-use Rattle.dw_find.specs.EntryTexts.ValueRefuses.{str, line_str, unbuilt}
-use Rattle.dw_find.specs.TextPlaces.{TextPlace, Indexed, no_index, no_start, unit_base, text_index, base_in, base_or, fields_in, index_at, indexes_in, inline_in, is_start_form, line_at, own_form, own_place, start_at, stray_at, starts_in, stray_in, stray_or, line_places, class_places, stray_places, value_places, value_places_behind, values_places}
+use Rattle.dw_find.specs.EntryTexts.ValueRefuses.{str, line_str}
+use Rattle.dw_find.specs.TextPlaces.{TextPlace, Indexed, no_index, no_start, unit_start, unit_base, text_index, base_in, base_or, fields_in, index_at, indexes_in, indexed_at, inline_in, is_macros, is_start, is_start_form, line_at, macros_in, own_form, own_place, said_places, said_value, start_at, starts_in, stray_in, stray_or, line_places, class_places, unit_start_at, value_places, value_places_behind, values_places}
 use Rattle.dw_find.specs.UnitPaths.{UnitPaths}
 use Rattle.dw_find.specs.declared.fields.InlinePath.{InlinePath}
 use Rattle.dw_find.specs.declared.fields.PathField.{PathField}
@@ -35,13 +33,9 @@ small-field n (inr eight) = omega (arith, eight)
 
 pub ruleset field_rules = (small-field)
 
--- a value that isn't taken yet
-pub unbuilt-here : (t : Tables) (params : Params) (bytes : List ℕ) (section place : ℕ) (x : Spec) (v : Value) → value_at params x bytes place ≡ Some v
-    → is_unbuilt_value x ≡ true → OneRefuses t params bytes section place x (at Unbuilt 0 0)
-unbuilt-here t params bytes section place x v is yes_ = some v is (unbuilt yes_)
-
+-- why a value can't be taken that was read
 pub refused-here : (t : Tables) (params : Params) (bytes : List ℕ) (section place : ℕ) (x : Spec) (v : Value) (f : Fault) → value_at params x bytes place ≡ Some v
-    → Blames (ValueRefuses t section x v) f → Blames (OneRefuses t params bytes section place x) f
+    → Blames (ValueRefuses t section v) f → Blames (OneRefuses t params bytes section place x) f
 refused-here t params bytes section place x v NoMemory is b = tt
 refused-here t params bytes section place x v (Refused r) is b = some v is b
 
@@ -93,6 +87,12 @@ starts-append [] us = refl
 starts-append (t ∷ ts) us =
     ap (λ (fs : List PathField). start_at t.role t.at t.len ++ fs) (starts-append ts us) ∙ sym (append_assoc (start_at t.role t.at t.len) (starts_in ts) (starts_in us))
 
+pub macros-append : (ts us : List TextPlace) → macros_in (ts ++ us) ≡ macros_in ts ++ macros_in us
+macros-append [] us = refl
+macros-append (t ∷ ts) us =
+    ap (λ (fs : List PathField). unit_start_at t.at t.len t.says ++ fs) (macros-append ts us)
+    ∙ sym (append_assoc (unit_start_at t.at t.len t.says) (macros_in ts) (macros_in us))
+
 abbrev with_or : Option ℕ → Option ℕ → Option ℕ
 with_or None o = o
 with_or (Some n) o = Some n
@@ -102,6 +102,7 @@ stray_or-append no_index at a b = refl
 stray_or-append (unit_base n) at a b = refl
 stray_or-append (text_index path n) at a b = refl
 stray_or-append no_start at a b = refl
+stray_or-append unit_start at a b = refl
 
 stray-append : (ts us : List TextPlace) → stray_in (ts ++ us) ≡ with_or (stray_in ts) (stray_in us)
 stray-append [] us = refl
@@ -127,23 +128,26 @@ with_paths-more u ts us =
     ((u.line_str ++ fields_in in_line_str ts) ++ fields_in in_line_str us) (u.line_str ++ fields_in in_line_str (ts ++ us))
     ((u.inline ++ inline_in ts) ++ inline_in us) (u.inline ++ inline_in (ts ++ us))
     ((u.starts ++ starts_in ts) ++ starts_in us) (u.starts ++ starts_in (ts ++ us))
+    ((u.macros ++ macros_in ts) ++ macros_in us) (u.macros ++ macros_in (ts ++ us))
     (with_stray (with_stray u.stray ts) us) (with_stray u.stray (ts ++ us))
     (append_assoc u.str (fields_in in_str ts) (fields_in in_str us) ∙ ap (λ (fs : List PathField). u.str ++ fs) (sym (fields-append in_str ts us)))
     (append_assoc u.line_str (fields_in in_line_str ts) (fields_in in_line_str us) ∙ ap (λ (fs : List PathField). u.line_str ++ fs) (sym (fields-append in_line_str ts us)))
     (append_assoc u.inline (inline_in ts) (inline_in us) ∙ ap (λ (ps : List InlinePath). u.inline ++ ps) (sym (inline-append ts us)))
     (append_assoc u.starts (starts_in ts) (starts_in us) ∙ ap (λ (fs : List PathField). u.starts ++ fs) (sym (starts-append ts us)))
+    (append_assoc u.macros (macros_in ts) (macros_in us) ∙ ap (λ (fs : List PathField). u.macros ++ fs) (sym (macros-append ts us)))
     (with_stray-more u.stray ts us)
 
 pub with_paths-none : (u : UnitPaths) → with_paths u [] ≡ u
 unfolding with_paths
 with_paths-none u =
-    paths-same u.number (u.str ++ []) u.str (u.line_str ++ []) u.line_str (u.inline ++ []) u.inline (u.starts ++ []) u.starts (with_stray u.stray []) u.stray
-    (append-nil u.str) (append-nil u.line_str) (append-nil u.inline) (append-nil u.starts) (with_stray-none u.stray)
+    paths-same u.number (u.str ++ []) u.str (u.line_str ++ []) u.line_str (u.inline ++ []) u.inline (u.starts ++ []) u.starts (u.macros ++ []) u.macros (with_stray u.stray []) u.stray
+    (append-nil u.str) (append-nil u.line_str) (append-nil u.inline) (append-nil u.starts) (append-nil u.macros) (with_stray-none u.stray)
 
 -- the base and the values by index
 base_or-append : (i : Indexed) (a b : Option ℕ) → with_or (base_or i a) b ≡ base_or i (with_or a b)
 base_or-append no_index a b = refl
 base_or-append no_start a b = refl
+base_or-append unit_start a b = refl
 base_or-append (unit_base n) a b = refl
 base_or-append (text_index path n) a b = refl
 
@@ -197,28 +201,18 @@ line-says : (line : Bool) (form : ℕ) (v : Value) → line_at (line && is_start
 line-says true form v = refl
 line-says false form v = refl
 
-not-not : (b : Bool) → not (not b) ≡ b
-not-not true = refl
-not-not false = refl
-
-stray-says : (line : Bool) (form at : ℕ) → stray_at (not (line && not (is_start_form form))) at ≡ stray_places line form at
-stray-says true form at = ap (λ (b : Bool). stray_at b at) (not-not (is_start_form form))
-stray-says false form at = refl
-
--- what a value says: the start of a line table, a text or an index, and that it can't say a start
-pub value-found : (number tag : ℕ) (x : Spec) (bytes : List ℕ) (place : ℕ) (v : Value) (f0 f1 f2 f3 : Found) (stray path base says : Bool)
-    → f3 ≡ with_places f2 (stray_at (not stray) (own_place x bytes place)) → f2 ≡ with_places f1 (class_places v.class path base place v) → f1 ≡ with_places f0 (line_at says v)
-    → stray ≡ ((x.name == DW_AT_stmt_list) && not (is_start_form (own_form x bytes place))) → path ≡ is_path number tag x.name → base ≡ is_base number x.name
+-- what a value says: the start of a line table, a text or an index, and what it says of other starts
+pub value-found : (number tag : ℕ) (x : Spec) (bytes : List ℕ) (place : ℕ) (v : Value) (f0 f1 f2 f3 : Found) (path base says : Bool)
+    → f3 ≡ with_places f2 (said_places (is_start x.name) (is_macros x.name) (own_form x bytes place) (own_place x bytes place) v)
+    → f2 ≡ with_places f1 (class_places v.class path base place v) → f1 ≡ with_places f0 (line_at says v)
+    → path ≡ is_path number tag x.name → base ≡ is_base number x.name
     → says ≡ ((x.name == DW_AT_stmt_list) && is_start_form (own_form x bytes place)) → f3 ≡ with_places f0 (value_places number tag x bytes place v)
-value-found number tag x bytes place v f0 f1 f2 f3 stray path base says third second first stray_is path_is base_is says_is =
-    let line : Bool = x.name == DW_AT_stmt_list in
+value-found number tag x bytes place v f0 f1 f2 f3 path base says third second first path_is base_is says_is =
     let ls : List TextPlace = line_places (x.name == DW_AT_stmt_list) (own_form x bytes place) v in
     let cs : List TextPlace = class_places v.class (is_path number tag x.name) (is_base number x.name) place v in
-    let ss : List TextPlace = stray_places (x.name == DW_AT_stmt_list) (own_form x bytes place) (own_place x bytes place) in
+    let ss : List TextPlace = said_places (is_start x.name) (is_macros x.name) (own_form x bytes place) (own_place x bytes place) v in
     third
-    ∙ ap (λ (ts : List TextPlace). with_places f2 ts)
-    (ap (λ (b : Bool). stray_at (not b) (own_place x bytes place)) stray_is ∙ stray-says (x.name == DW_AT_stmt_list) (own_form x bytes place) (own_place x bytes place))
-    ∙ ap (λ (f : Found). with_places f (stray_places (x.name == DW_AT_stmt_list) (own_form x bytes place) (own_place x bytes place)))
+    ∙ ap (λ (f : Found). with_places f (said_places (is_start x.name) (is_macros x.name) (own_form x bytes place) (own_place x bytes place) v))
     (second ∙ ap (λ (b : Bool). with_places f1 (class_places v.class b base place v)) path_is
     ∙ ap (λ (b : Bool). with_places f1 (class_places v.class (is_path number tag x.name) b place v)) base_is)
     ∙ with_places-more f1 cs ss
@@ -235,7 +229,34 @@ start-sized x bytes place n line says sized is yes_ = sized.sized (and-right lin
     and-right true b h = h
     and-right false b h = absurd cc
 
-pub ruleset value_rules = (none, unbuilt-here, refused-here, value-found, start-sized)
+pub ruleset value_rules = (none, refused-here, value-found, start-sized)
+
+-- what is noted of starts
+pub said-none : (start macro : Bool) (form place : ℕ) (v : Value) (f : Found) → start ≡ false → f ≡ with_places f (said_places start macro form place v)
+said-none start macro form place v f e =
+    sym (with_places-none f) ∙ sym (ap (λ (b : Bool). with_places f (said_places b macro form place v)) e)
+
+pub said-stray : (start macro can : Bool) (form own place : ℕ) (v : Value) (f g : Found) → start ≡ true → can ≡ is_start_form form → can ≡ false
+    → g ≡ with_places f (indexed_at place no_start) → g ≡ with_places f (said_places start macro form place v)
+said-stray start macro can form own place v f g e is no_ h =
+    h ∙ sym (ap (λ (b : Bool). with_places f (said_value b macro place v)) (sym is ∙ no_)) ∙ sym (ap (λ (b : Bool). with_places f (said_places b macro form place v)) e)
+
+pub said-unit : (start macro can : Bool) (form place : ℕ) (v : Value) (f g : Found) → start ≡ true → macro ≡ true → can ≡ is_start_form form → can ≡ true
+    → g ≡ with_places f (said_value true true 0 v) → g ≡ with_places f (said_places start macro form place v)
+said-unit start macro can form place v f g e m is yes_ h =
+    h ∙ sym (ap (λ (b : Bool). with_places f (said_value b true place v)) (sym is ∙ yes_)) ∙ sym (ap (λ (b : Bool). with_places f (said_value (is_start_form form) b place v)) m)
+    ∙ sym (ap (λ (b : Bool). with_places f (said_places b macro form place v)) e)
+
+pub said-line : (start macro can : Bool) (form place : ℕ) (v : Value) (f : Found) → start ≡ true → macro ≡ false → can ≡ is_start_form form → can ≡ true
+    → f ≡ with_places f (said_places start macro form place v)
+said-line start macro can form place v f e m is yes_ =
+    sym (with_places-none f) ∙ sym (ap (λ (b : Bool). with_places f (said_value b false place v)) (sym is ∙ yes_))
+    ∙ sym (ap (λ (b : Bool). with_places f (said_value (is_start_form form) b place v)) m) ∙ sym (ap (λ (b : Bool). with_places f (said_places b macro form place v)) e)
+
+pub unit-sized : (form n : ℕ) (can : Bool) → StartSized form n → can ≡ is_start_form form → can ≡ true → (n ≡ 4) ⊎ (n ≡ 8)
+unit-sized form n can s is yes_ = s.sized (sym is ∙ yes_)
+
+pub ruleset said_rules = (said-none, said-stray, said-unit, said-line, unit-sized)
 
 pub ruleset note_rules = (str, line_str, append-nil, with_base-none, with_stray-none)
 
@@ -271,7 +292,7 @@ passed-more t params bytes number tag specs from i place size x old now new lt h
           ∙ ap (λ (n : ℕ). with_places now (value_places number tag x bytes place v.value ++ values_places params bytes number tag (drop (i + 1) specs) (place + n))) v.size_is
           ∙ ap (with_places now) (sym said) ∙ p.found;
       taken = λ h. p.taken (subst (λ (xs : List Spec). AreTaken t params bytes xs place) (sym front)
-          (subst (λ (o : Option Value). TakenBehind (λ p. AreTaken t params bytes (drop (i + 1) specs) p) t x place o) (sym v.is)
+          (subst (λ (o : Option Value). TakenBehind (λ p. AreTaken t params bytes (drop (i + 1) specs) p) t place o) (sym v.is)
           (v.taken, subst (λ (n : ℕ). AreTaken t params bytes (drop (i + 1) specs) (place + n)) v.size_is h)));
     }
 

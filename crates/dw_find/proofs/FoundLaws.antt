@@ -3,8 +3,8 @@ use Rattle.std.proofs.Common.{Bool, true, false, ◌≡◌, ℕ, ◌+◌, List, 
 use Rattle.std.specs.Bool.{⊤}
 use Rattle.std.proofs.Math.Seq.{take-append_seam}
 use Rattle.std.proofs.lemmas.List.{take-append-le}
-use Rattle.dw_base.specs.Cells.{Cell, bytes_of, cells_at, located_cells, offset_of}
-use Rattle.dw_base.specs.DebugData.{DebugData, DataReadings, around_of, start_number, units_in, ReadsAll}
+use Rattle.dw_base.specs.Cells.{Cell, bytes_of, cells_at, field_of, located_cells, offset_of}
+use Rattle.dw_base.specs.DebugData.{DebugData, DataReadings, Lasting, around_of, start_number, started_unit, unit_named, units_in, ReadsAll}
 use Rattle.dw_base.specs.Readings.{Reading, Readings, EachReading}
 use Rattle.dw_base.specs.Forms.{TextSection, in_str, in_line_str, ValueKind, number_of, leb_number, inline_text as inline_kind, text_offset, kind_in}
 use Rattle.dw_base.specs.InlinePaths.{inline_fits}
@@ -12,8 +12,9 @@ use Rattle.dw_base.specs.Numbers.{spelled}
 use Rattle.dw_base.specs.Paths.{PathMap}
 use Rattle.dw_base.specs.Pieces.{Piece, joined, Chain, EachPiece}
 use Rattle.dw_base.specs.Roles.{Role, fixed, offset, inline_path, line_start, role_of, role_of_kind, role_of_mode, Use, use_of, is_line_start, is_path, is_path_use}
-use Rattle.dw_base.specs.TableStarts.{has_start_form, HasStartForm, start_form_by, start_form_in}
+use Rattle.dw_base.specs.TableStarts.{has_start_form, HasStartForm, NamesMacro, NamesUnitIf, is_macro_value, macro_value_by, macro_value_in, start_form_by, start_form_in}
 use Rattle.dw_base.specs.LineMeanings.{is_there}
+use Rattle.dw_base.specs.MacroReadings.{MacroPlaces}
 use Rattle.dw_base.specs.LineReadings.{table_starts}
 use Rattle.dw_base.specs.TextChanges.{NamesTextBy, NamesText, InlineFitsBy, InlineFits}
 use Rattle.dw_base.specs.TextIndexes.{is_base}
@@ -29,10 +30,13 @@ use Rattle.dw_base.specs.declared.values.ValueClass.TheVariants.{Number, StrInde
 use Rattle.dw_meaning.proofs.TextEditLaws.{chosen-fits}
 use Rattle.dw_base.proofs.UnitHeaderLaws.{bytes_of-append}
 use Rattle.dw_meaning.proofs.ScanPieceLaws.{bytes_of-drop}
-use Rattle.dw_find.specs.TextPlaces.{TextPlace, Indexed, no_start, unit_base, text_index, place_of, indexed_at, indexed_kind, indexed_in, places_in, PlaceNames, PlacesName, fields_in, inline_at, inline_in, paths_by, SectionSays, AllPlaced, AllStarts, StartsNamed, InlinesFit, AllFitRooms, stray_at, stray_in, starts_in}
-use Rattle.dw_find.specs.UnitPaths.{UnitPaths, field_by, path_fields, inline_by, inline_paths, paths_in, paths_of, inline_text, start_by, start_fields, stray_among}
+use Rattle.dw_find.specs.TextPlaces.{TextPlace, Indexed, unit_base, text_index, place_of, indexed_at, indexed_kind, indexed_in, places_in, PlaceNames, PlacesName, fields_in, inline_at, inline_in, paths_by, SectionSays, AllPlaced, AllStarts, StartsNamed, UnitsNamed, InlinesFit, AllFitRooms, macros_in, names_place, no_start, said_start, stray_in, starts_in, unit_start}
+use Rattle.dw_find.specs.UnitPaths.{UnitPaths, field_by, path_fields, inline_by, inline_paths, paths_in, paths_of, inline_text, macro_by, macro_fields, start_by, start_fields, stray_among}
 use Rattle.dw_find.specs.declared.fields.InlinePath.{InlinePath}
 use Rattle.dw_find.specs.declared.fields.PathField.{PathField}
+use Rattle.dw_base.specs.declared.view_fields.Field.{Field}
+use Rattle.dw_base.specs.declared.view_fields.Field.TheVariants.{Num, Into, Sym}
+use Rattle.dw_find.proofs.StartFormLaws.{macro-form}
 use Rattle.dw_find.proofs.PlacedLaws.{PlacedCells, placed-cells}
 use Rattle.dw_find.proofs.SectionRunLaws.{PlacedPieces, section-placed}
 use Rattle.dw_find.proofs.InlineTextLaws.{text-length, text-front}
@@ -52,16 +56,16 @@ inline-append (t ∷ ts) us =
     ∙ sym (append_assoc (inline_at t.role t.at t.len) (inline_in ts) (inline_in us))
 
 -- paths of parts
-abbrev pub paths_with : ℕ → List PathField → List PathField → List InlinePath → List PathField → Option ℕ → UnitPaths
-paths_with number str line_str inline starts stray =
-    record { number = number; str = str; line_str = line_str; inline = inline; starts = starts; stray = stray }
+abbrev pub paths_with : ℕ → List PathField → List PathField → List InlinePath → List PathField → List PathField → Option ℕ → UnitPaths
+paths_with number str line_str inline starts macros stray =
+    record { number = number; str = str; line_str = line_str; inline = inline; starts = starts; macros = macros; stray = stray }
 
-pub paths-same : (n : ℕ) (s1 s2 l1 l2 : List PathField) (i1 i2 : List InlinePath) (f1 f2 : List PathField) (o1 o2 : Option ℕ) → s1 ≡ s2 → l1 ≡ l2 → i1 ≡ i2 → f1 ≡ f2 → o1 ≡ o2
-    → paths_with n s1 l1 i1 f1 o1 ≡ paths_with n s2 l2 i2 f2 o2
-paths-same n s1 s2 l1 l2 i1 i2 f1 f2 o1 o2 s l i f o =
-    ap (λ (x : List PathField). paths_with n x l1 i1 f1 o1) s ∙ ap (λ (x : List PathField). paths_with n s2 x i1 f1 o1) l
-    ∙ ap (λ (x : List InlinePath). paths_with n s2 l2 x f1 o1) i ∙ ap (λ (x : List PathField). paths_with n s2 l2 i2 x o1) f
-    ∙ ap (λ (x : Option ℕ). paths_with n s2 l2 i2 f2 x) o
+pub paths-same : (n : ℕ) (s1 s2 l1 l2 : List PathField) (i1 i2 : List InlinePath) (f1 f2 m1 m2 : List PathField) (o1 o2 : Option ℕ) → s1 ≡ s2 → l1 ≡ l2 → i1 ≡ i2 → f1 ≡ f2
+    → m1 ≡ m2 → o1 ≡ o2 → paths_with n s1 l1 i1 f1 m1 o1 ≡ paths_with n s2 l2 i2 f2 m2 o2
+paths-same n s1 s2 l1 l2 i1 i2 f1 f2 m1 m2 o1 o2 s l i f m o =
+    ap (λ (x : List PathField). paths_with n x l1 i1 f1 m1 o1) s ∙ ap (λ (x : List PathField). paths_with n s2 x i1 f1 m1 o1) l
+    ∙ ap (λ (x : List InlinePath). paths_with n s2 l2 x f1 m1 o1) i ∙ ap (λ (x : List PathField). paths_with n s2 l2 i2 x m1 o1) f
+    ∙ ap (λ (x : List PathField). paths_with n s2 l2 i2 f2 x o1) m ∙ ap (λ (x : Option ℕ). paths_with n s2 l2 i2 f2 m2 x) o
 
 -- the field of one place
 field-one : (table : TextSection) (r : Role) (at len : ℕ) → fields_in table (place_of r at len) ≡ field_by table r at len
@@ -80,14 +84,14 @@ inline-one line_start at len = refl
 -- what a piece says that stays is no text that an edit may change
 data IsIndexed : List TextPlace → Type 0 where
   none_indexed : IsIndexed []
-  more_indexed : (at : ℕ) (i : Indexed) (ts : List TextPlace) → IsIndexed ts → IsIndexed (record { role = fixed; at = at; len = 0; says = i } ∷ ts)
+  more_indexed : (at len : ℕ) (i : Indexed) (ts : List TextPlace) → IsIndexed ts → IsIndexed (record { role = fixed; at = at; len = len; says = i } ∷ ts)
 
 one_indexed : (at : ℕ) (i : Indexed) → IsIndexed (indexed_at at i)
-one_indexed at i = more_indexed at i [] none_indexed
+one_indexed at i = more_indexed at 0 i [] none_indexed
 
 both-indexed : (ts us : List TextPlace) → IsIndexed ts → IsIndexed us → IsIndexed (ts ++ us)
 both-indexed ts us none_indexed h = h
-both-indexed ts us (more_indexed at i rest k) h = more_indexed at i (rest ++ us) (both-indexed rest us k h)
+both-indexed ts us (more_indexed at len i rest k) h = more_indexed at len i (rest ++ us) (both-indexed rest us k h)
 
 kind-indexed : (k : ValueKind) (path base : Bool) (order : Order) (at : ℕ) (p : List Cell) → IsIndexed (indexed_kind k path base order at p)
 kind-indexed (number_of class n) path base order at p = by_class class base
@@ -108,9 +112,10 @@ kind-indexed (leb_number class) path base order at p = by_class class base
     by_class c b = none_indexed
 kind-indexed k path base order at p = none_indexed
 
-stray-indexed : (b : Bool) (at : ℕ) → IsIndexed (stray_at b at)
-stray-indexed true at = none_indexed
-stray-indexed false at = one_indexed at no_start
+said-indexed : (b macro : Bool) (at len : ℕ) → IsIndexed (said_start b macro at len)
+said-indexed true true at len = more_indexed at len unit_start [] none_indexed
+said-indexed true false at len = none_indexed
+said-indexed false macro at len = one_indexed at no_start
 
 piece-indexed : (m : Mode) (s : UnitState) (p : List Cell) → IsIndexed (indexed_in m s p)
 piece-indexed at_header s p = none_indexed
@@ -118,32 +123,32 @@ piece-indexed at_code s p = none_indexed
 piece-indexed (at_values n tag []) s p = none_indexed
 piece-indexed (at_values n tag (x ∷ xs)) s p =
     both-indexed (indexed_kind (kind_in s.header.params x.form) (is_path n tag x.name) (is_base n x.name) s.header.params.order s.place p)
-    (stray_at (start_form_by (kind_in s.header.params x.form) (use_of n tag x.name)) s.place)
+    (said_start (start_form_by (kind_in s.header.params x.form) (use_of n tag x.name)) (macro_value_by (kind_in s.header.params x.form) (use_of n tag x.name)) s.place (length p))
     (kind-indexed (kind_in s.header.params x.form) (is_path n tag x.name) (is_base n x.name) s.header.params.order s.place p)
-    (stray-indexed (start_form_by (kind_in s.header.params x.form) (use_of n tag x.name)) s.place)
+    (said-indexed (start_form_by (kind_in s.header.params x.form) (use_of n tag x.name)) (macro_value_by (kind_in s.header.params x.form) (use_of n tag x.name)) s.place (length p))
 piece-indexed (at_chosen n tag start x xs) s p =
     both-indexed (indexed_kind (kind_in s.header.params x.form) (is_path n tag x.name) (is_base n x.name) s.header.params.order start p)
-    (stray_at (start_form_by (kind_in s.header.params x.form) (use_of n tag x.name)) s.place)
+    (said_start (start_form_by (kind_in s.header.params x.form) (use_of n tag x.name)) (macro_value_by (kind_in s.header.params x.form) (use_of n tag x.name)) s.place (length p))
     (kind-indexed (kind_in s.header.params x.form) (is_path n tag x.name) (is_base n x.name) s.header.params.order start p)
-    (stray-indexed (start_form_by (kind_in s.header.params x.form) (use_of n tag x.name)) s.place)
+    (said-indexed (start_form_by (kind_in s.header.params x.form) (use_of n tag x.name)) (macro_value_by (kind_in s.header.params x.form) (use_of n tag x.name)) s.place (length p))
 piece-indexed stuck s p = none_indexed
 
 fields-skip : (table : TextSection) (ts us : List TextPlace) → IsIndexed ts → fields_in table (ts ++ us) ≡ fields_in table us
 fields-skip table ts us none_indexed = refl
-fields-skip in_str ts us (more_indexed at i rest k) = fields-skip in_str rest us k
-fields-skip in_line_str ts us (more_indexed at i rest k) = fields-skip in_line_str rest us k
+fields-skip in_str ts us (more_indexed at len i rest k) = fields-skip in_str rest us k
+fields-skip in_line_str ts us (more_indexed at len i rest k) = fields-skip in_line_str rest us k
 
 inline-skip : (ts us : List TextPlace) → IsIndexed ts → inline_in (ts ++ us) ≡ inline_in us
 inline-skip ts us none_indexed = refl
-inline-skip ts us (more_indexed at i rest k) = inline-skip rest us k
+inline-skip ts us (more_indexed at len i rest k) = inline-skip rest us k
 
 starts-skip : (ts us : List TextPlace) → IsIndexed ts → starts_in (ts ++ us) ≡ starts_in us
 starts-skip ts us none_indexed = refl
-starts-skip ts us (more_indexed at i rest k) = starts-skip rest us k
+starts-skip ts us (more_indexed at len i rest k) = starts-skip rest us k
 
 names-skip : (d : DebugData) (cells : List Cell) (ts us : List TextPlace) → IsIndexed ts → PlacesName d cells (ts ++ us) → PlacesName d cells us
 names-skip d cells ts us none_indexed h = h
-names-skip d cells ts us (more_indexed at i rest k) h = names-skip d cells rest us k h.1
+names-skip d cells ts us (more_indexed at len i rest k) h = names-skip d cells rest us k h.1
 
 -- the starts of pieces are those of their places
 start-piece : (r : Role) (at len : ℕ) (us : List TextPlace) → starts_in (place_of r at len ++ us) ≡ start_by r at len ++ starts_in us
@@ -185,14 +190,16 @@ stray-kind (leb_number class) path base order at p us = by_class class base
     by_class c b = refl
 stray-kind k path base order at p us = refl
 
-stray-form : (b : Bool) (at : ℕ) (us : List TextPlace) → stray_in (stray_at b at ++ us) ≡ cond b (stray_in us) (Some at)
-stray-form true at us = refl
-stray-form false at us = refl
+stray-form : (b macro : Bool) (at len : ℕ) (us : List TextPlace) → stray_in (said_start b macro at len ++ us) ≡ cond b (stray_in us) (Some at)
+stray-form true true at len us = refl
+stray-form true false at len us = refl
+stray-form false macro at len us = refl
 
-stray-both : (k : ValueKind) (path base : Bool) (order : Order) (start : ℕ) (p : List Cell) (b : Bool) (at : ℕ) (us : List TextPlace)
-    → stray_in ((indexed_kind k path base order start p ++ stray_at b at) ++ us) ≡ cond b (stray_in us) (Some at)
-stray-both k path base order start p b at us =
-    ap stray_in (append_assoc (indexed_kind k path base order start p) (stray_at b at) us) ∙ stray-kind k path base order start p (stray_at b at ++ us) ∙ stray-form b at us
+stray-both : (k : ValueKind) (path base : Bool) (order : Order) (start : ℕ) (p : List Cell) (b macro : Bool) (at len : ℕ) (us : List TextPlace)
+    → stray_in ((indexed_kind k path base order start p ++ said_start b macro at len) ++ us) ≡ cond b (stray_in us) (Some at)
+stray-both k path base order start p b macro at len us =
+    ap stray_in (append_assoc (indexed_kind k path base order start p) (said_start b macro at len) us)
+    ∙ stray-kind k path base order start p (said_start b macro at len ++ us) ∙ stray-form b macro at len us
 
 stray-piece : (m : Mode) (s : UnitState) (p : List Cell) (us : List TextPlace)
     → stray_in (indexed_in m s p ++ us) ≡ cond (start_form_in m s.header.params) (stray_in us) (Some s.place)
@@ -201,10 +208,10 @@ stray-piece at_code s p us = refl
 stray-piece (at_values n tag []) s p us = refl
 stray-piece (at_values n tag (x ∷ xs)) s p us =
     stray-both (kind_in s.header.params x.form) (is_path n tag x.name) (is_base n x.name) s.header.params.order s.place p
-    (start_form_by (kind_in s.header.params x.form) (use_of n tag x.name)) s.place us
+    (start_form_by (kind_in s.header.params x.form) (use_of n tag x.name)) (macro_value_by (kind_in s.header.params x.form) (use_of n tag x.name)) s.place (length p) us
 stray-piece (at_chosen n tag start x xs) s p us =
     stray-both (kind_in s.header.params x.form) (is_path n tag x.name) (is_base n x.name) s.header.params.order start p
-    (start_form_by (kind_in s.header.params x.form) (use_of n tag x.name)) s.place us
+    (start_form_by (kind_in s.header.params x.form) (use_of n tag x.name)) (macro_value_by (kind_in s.header.params x.form) (use_of n tag x.name)) s.place (length p) us
 stray-piece stuck s p us = refl
 
 pub stray-are : (xs : List (Piece UnitState)) → stray_in (places_in xs) ≡ stray_among xs
@@ -213,6 +220,66 @@ stray-are (x ∷ xs) =
     stray-role (role_of x) x.state.place (length x.cells) (indexed_in x.state.mode x.state x.cells ++ places_in xs)
     ∙ stray-piece x.state.mode x.state x.cells (places_in xs)
     ∙ ap (λ (o : Option ℕ). cond (has_start_form x) o (Some x.state.place)) (stray-are xs)
+
+-- the fields of the starts of macro units too
+macro-role : (r : Role) (at len : ℕ) (us : List TextPlace) → macros_in (place_of r at len ++ us) ≡ macros_in us
+macro-role fixed at len us = refl
+macro-role (offset t path) at len us = refl
+macro-role inline_path at len us = refl
+macro-role line_start at len us = refl
+
+macro-kind : (k : ValueKind) (path base : Bool) (order : Order) (at : ℕ) (p : List Cell) (us : List TextPlace) → macros_in (indexed_kind k path base order at p ++ us) ≡ macros_in us
+macro-kind (number_of class n) path base order at p us = by_class class base
+  where
+    by_class : (c : ValueClass) (b : Bool) → macros_in (indexed_kind (number_of c n) path b order at p ++ us) ≡ macros_in us
+    by_class StrIndex b = refl
+    by_class Number true = refl
+    by_class Number false = refl
+    by_class SecOffset true = refl
+    by_class SecOffset false = refl
+    by_class c b = refl
+macro-kind (leb_number class) path base order at p us = by_class class base
+  where
+    by_class : (c : ValueClass) (b : Bool) → macros_in (indexed_kind (leb_number c) path b order at p ++ us) ≡ macros_in us
+    by_class StrIndex b = refl
+    by_class Number true = refl
+    by_class Number false = refl
+    by_class c b = refl
+macro-kind k path base order at p us = refl
+
+macro-said : (b macro : Bool) (at len : ℕ) (us : List TextPlace) → (macro ≡ true → b ≡ true) → macros_in (said_start b macro at len ++ us) ≡ macro_by macro at len ++ macros_in us
+macro-said true true at len us form = refl
+macro-said true false at len us form = refl
+macro-said false false at len us form = refl
+macro-said false true at len us form =
+    let is : false ≡ true = form refl in
+    absurd cc
+
+macro-both : (k : ValueKind) (path base : Bool) (order : Order) (start : ℕ) (p : List Cell) (u : Use) (at len : ℕ) (us : List TextPlace)
+    → macros_in ((indexed_kind k path base order start p ++ said_start (start_form_by k u) (macro_value_by k u) at len) ++ us)
+    ≡ macro_by (macro_value_by k u) at len ++ macros_in us
+macro-both k path base order start p u at len us =
+    ap macros_in (append_assoc (indexed_kind k path base order start p) (said_start (start_form_by k u) (macro_value_by k u) at len) us)
+    ∙ macro-kind k path base order start p (said_start (start_form_by k u) (macro_value_by k u) at len ++ us)
+    ∙ macro-said (start_form_by k u) (macro_value_by k u) at len us (macro-form k u)
+
+macro-piece : (m : Mode) (s : UnitState) (p : List Cell) (us : List TextPlace)
+    → macros_in (indexed_in m s p ++ us) ≡ macro_by (macro_value_in m s.header.params) s.place (length p) ++ macros_in us
+macro-piece at_header s p us = refl
+macro-piece at_code s p us = refl
+macro-piece (at_values n tag []) s p us = refl
+macro-piece (at_values n tag (x ∷ xs)) s p us =
+    macro-both (kind_in s.header.params x.form) (is_path n tag x.name) (is_base n x.name) s.header.params.order s.place p (use_of n tag x.name) s.place (length p) us
+macro-piece (at_chosen n tag start x xs) s p us =
+    macro-both (kind_in s.header.params x.form) (is_path n tag x.name) (is_base n x.name) s.header.params.order start p (use_of n tag x.name) s.place (length p) us
+macro-piece stuck s p us = refl
+
+pub macros-are : (xs : List (Piece UnitState)) → macros_in (places_in xs) ≡ macro_fields xs
+macros-are [] = refl
+macros-are (x ∷ xs) =
+    macro-role (role_of x) x.state.place (length x.cells) (indexed_in x.state.mode x.state x.cells ++ places_in xs)
+    ∙ macro-piece x.state.mode x.state x.cells (places_in xs)
+    ∙ ap (λ (fs : List PathField). macro_by (is_macro_value x) x.state.place (length x.cells) ++ fs) (macros-are xs)
 
 -- the fields of pieces are those of their places
 pub fields-are : (table : TextSection) (xs : List (Piece UnitState)) → fields_in table (places_in xs) ≡ path_fields table xs
@@ -278,8 +345,8 @@ pub paths-are : (base : UnitBase) (z : UnitSection) (first : ℕ) (xs : List (Pi
     → paths_by z.number (places_in xs) ≡ paths_in (record { number = z.number; pieces = xs })
 paths-are base z first xs r =
     paths-same z.number (fields_in in_str (places_in xs)) (path_fields in_str xs) (fields_in in_line_str (places_in xs)) (path_fields in_line_str xs) (inline_in (places_in xs)) (inline_paths xs)
-    (starts_in (places_in xs)) (start_fields xs) (stray_in (places_in xs)) (stray_among xs) (fields-are in_str xs) (fields-are in_line_str xs)
-    (inline-are base (before_unit z.number z.kind (length z.contents) 0 first) xs r.chain) (starts-are xs) (stray-are xs)
+    (starts_in (places_in xs)) (start_fields xs) (macros_in (places_in xs)) (macro_fields xs) (stray_in (places_in xs)) (stray_among xs) (fields-are in_str xs) (fields-are in_line_str xs)
+    (inline-are base (before_unit z.number z.kind (length z.contents) 0 first) xs r.chain) (starts-are xs) (macros-are xs) (stray-are xs)
 
 -- the cells of a piece
 piece-cells : (p rest cells : List Cell) (place : ℕ) → p ++ rest ≡ drop place cells → cells_at cells place (length p) ≡ p
@@ -329,6 +396,36 @@ names-are d rs starts cells place (x ∷ xs) e l h k =
       names-are d rs starts cells (place + length x.cells) xs e l.2 rest starts_.1,
     )
 
+-- a value that names a macro unit by its place names it
+units-first : (b : Bool) (d : DebugData) (places : List ℕ) (cells : List Cell) (at len : ℕ) (fs : List PathField) → UnitsNamed d places cells (macro_by b at len ++ fs)
+    → (b ≡ true → names_place places (field_of d.base.order (cells_at cells at len)) ≡ true) × UnitsNamed d places cells fs
+units-first true d places cells at len fs h = (λ e. h.0, h.1)
+units-first false d places cells at len fs h = (λ e. absurd cc, h)
+
+pub record PlacesStart (places : List ℕ) (g : MacroPlaces) : Type 0 where
+  pub named : (n : ℕ) → is_there (started_unit 0 g.starts g.first n) ≡ is_there (start_number 0 places n)
+
+unit-there : (places : List ℕ) (g : MacroPlaces) (f : Field) → PlacesStart places g → names_place places f ≡ true → IsTrue (is_there (unit_named g f))
+unit-there places g (Num n) p e = p.named n ∙ e
+unit-there places g (Into z n) p e = absurd cc
+unit-there places g (Sym s k a) p e = absurd cc
+
+pub names-if : (b : Bool) (places : List ℕ) (g : Lasting) (p : List Cell) → PlacesStart places g.macros → (b ≡ true → names_place places (field_of g.base.order p) ≡ true) → NamesUnitIf b g p
+names-if false places g p s h = tt
+names-if true places g p s h = unit-there places g.macros (field_of g.base.order p) s (h refl)
+
+pub units-are : (d : DebugData) (g : Lasting) (places : List ℕ) (cells : List Cell) (place : ℕ) (xs : List (Piece UnitState)) → g.base.order ≡ d.base.order → PlacesStart places g.macros
+    → PlacedCells cells place xs → UnitsNamed d places cells (macro_fields xs) → EachPiece (NamesMacro g) xs
+units-are d g places cells place [] o s l h = tt
+units-are d g places cells place (x ∷ xs) o s l h =
+    let both = units-first (is_macro_value x) d places cells x.state.place (length x.cells) (macro_fields xs) h in
+    let here : cells_at cells x.state.place (length x.cells) ≡ x.cells =
+    ap (λ (i : ℕ). cells_at cells i (length x.cells)) l.0 ∙ piece-cells x.cells (joined xs) cells place l.1 in (
+      names-if (is_macro_value x) places g x.cells s (λ e.
+          ap (λ (w : Order). names_place places (field_of w x.cells)) o ∙ ap (λ (p : List Cell). names_place places (field_of d.base.order p)) (sym here) ∙ both.0 e),
+      units-are d g places cells (place + length x.cells) xs o s l.2 both.1,
+    )
+
 -- where none is known that can't say a start, each has a form that can
 pub forms-are : (xs : List (Piece UnitState)) → stray_among xs ≡ None → EachPiece HasStartForm xs
 forms-are [] none = tt
@@ -366,11 +463,13 @@ pub record FoundReadings (d : DebugData) (first : ℕ) (zs : List UnitSection) (
   pub readings : Readings
   pub reads : ReadsAll d.base first zs readings
   pub says : paths_of readings ≡ us
-  pub names : (rs : DataReadings) (starts : List ℕ) → starts ≡ table_starts rs.lines → AllStarts d starts zs us → EachReading (NamesText (around_of d rs)) readings
-  pub forms : (starts : List ℕ) → AllStarts d starts zs us → EachReading HasStartForm readings
+  pub names : (rs : DataReadings) (starts places : List ℕ) → starts ≡ table_starts rs.lines → AllStarts d starts places zs us → EachReading (NamesText (around_of d rs)) readings
+  pub forms : (starts places : List ℕ) → AllStarts d starts places zs us → EachReading HasStartForm readings
+  pub units : (g : Lasting) (starts places : List ℕ) → g.base.order ≡ d.base.order → PlacesStart places g.macros → AllStarts d starts places zs us
+      → EachReading (NamesMacro g) readings
 
 pub found-readings : (d : DebugData) (first : ℕ) (zs : List UnitSection) (us : List UnitPaths) → AllPlaced d zs us → FoundReadings d first zs us
-found-readings d first [] [] all = record { readings = []; reads = tt; says = refl; names = λ rs starts e h. tt; forms = λ starts h. tt }
+found-readings d first [] [] all = record { readings = []; reads = tt; says = refl; names = λ rs starts places e h. tt; forms = λ starts places h. tt; units = λ g starts places o s h. tt }
 found-readings d first [] (u ∷ us) all = absurd all
 found-readings d first (z ∷ zs) [] all = absurd all
 found-readings d first (z ∷ zs) (u ∷ us) all =
@@ -386,12 +485,16 @@ found-readings d first (z ∷ zs) (u ∷ us) all =
       readings = r ∷ rest.readings;
       reads = (refl, p.reads, rest.reads);
       says = ap (λ (v : UnitPaths). v ∷ paths_of rest.readings) own ∙ ap (λ (vs : List UnitPaths). u ∷ vs) rest.says;
-      names = λ (rs : DataReadings) (starts : List ℕ) e h. (
+      names = λ (rs : DataReadings) (starts places : List ℕ) e h. (
         names-are d rs starts z.contents 0 p.pieces e cells (subst (PlacesName d z.contents) (sym p.places_are) s.names)
             (subst (λ (v : UnitPaths). StartsNamed d starts z.contents v.starts) (sym own) h.0.named),
-        rest.names rs starts e h.1,
+        rest.names rs starts places e h.1,
       );
-      forms = λ (starts : List ℕ) h. (forms-are p.pieces (ap (λ (v : UnitPaths). v.stray) own ∙ h.0.all_say), rest.forms starts h.1);
+      forms = λ (starts places : List ℕ) h. (forms-are p.pieces (ap (λ (v : UnitPaths). v.stray) own ∙ h.0.all_say), rest.forms starts places h.1);
+      units = λ (g : Lasting) (starts places : List ℕ) o st h. (
+        units-are d g places z.contents 0 p.pieces o st cells (subst (λ (v : UnitPaths). UnitsNamed d places z.contents v.macros) (sym own) h.0.units),
+        rest.units g starts places o st h.1,
+      );
     }
 
 -- each path that stands in its value fits its room

@@ -9,6 +9,7 @@ use Rattle.dw_base.specs.Forms.{in_str, width_size}
 use Rattle.dw_base.specs.IndexFails.{IndexFails}
 use Rattle.dw_base.specs.LineReadings.{LineReading, table_starts}
 use Rattle.dw_base.specs.LineTables.{LineTable}
+use Rattle.dw_base.specs.MacroReadings.{MacroReading}
 use Rattle.dw_base.specs.NamePieces.{NameMode, at_table, at_string, at_rest, no_names, NameState, ReadsNames}
 use Rattle.dw_base.specs.NameTables.{AreNameTables, names_of}
 use Rattle.dw_base.specs.NameTableFails.{NameTablesFail}
@@ -107,27 +108,27 @@ offsets-read v list are =
     record { pieces = r.pieces; reads = r.reads; list_is = contributions-are v.order (plain_cells (string_offsets v).bytes) r.pieces list r.reads up }
 
 -- what was read of units and string offsets
-abbrev readings_with : Readings → List (Piece OffsetState) → List LineReading → List (Piece NameState) → DataReadings
-readings_with us xs ls ns = record { units = us; offsets = xs; lines = ls; names = ns }
+abbrev readings_with : Readings → List (Piece OffsetState) → List LineReading → List MacroReading → List (Piece NameState) → DataReadings
+readings_with us xs ls ms ns = record { units = us; offsets = xs; lines = ls; macros = ms; names = ns }
 
-indexing-is : (v : View) (list : List Contribution) (us : Readings) (xs : List (Piece OffsetState)) (ls : List LineReading) (ns : List (Piece NameState)) → contributions_in v.order xs ≡ list
-    → indexing_with (debug_data v) list us ≡ indexing_of (debug_data v) (readings_with us xs ls ns)
+indexing-is : (v : View) (list : List Contribution) (us : Readings) (xs : List (Piece OffsetState)) (ls : List LineReading) (ms : List MacroReading) (ns : List (Piece NameState)) → contributions_in v.order xs ≡ list
+    → indexing_with (debug_data v) list us ≡ indexing_of (debug_data v) (readings_with us xs ls ms ns)
 unfolding debug_data
-indexing-is v list us xs ls ns e =
+indexing-is v list us xs ls ms ns e =
     ap (λ (cs_ : List Contribution). indexing_with (debug_data v) cs_ us) (sym e)
 
-indexes-read : (v : View) (list : List Contribution) (us : Readings) (o : OffsetsRead v list) (ls : List LineReading) (ns : List (Piece NameState)) → ReadsAll (debug_data v).base 0 (debug_data v).units us
-    → IndexesRead (debug_data v) (readings_with us o.pieces ls ns)
+indexes-read : (v : View) (list : List Contribution) (us : Readings) (o : OffsetsRead v list) (ls : List LineReading) (ms : List MacroReading) (ns : List (Piece NameState)) → ReadsAll (debug_data v).base 0 (debug_data v).units us
+    → IndexesRead (debug_data v) (readings_with us o.pieces ls ms ns)
 unfolding debug_data
-indexes-read v list us o ls ns reads = record { units = reads; offsets = o.reads }
+indexes-read v list us o ls ms ns reads = record { units = reads; offsets = o.reads }
 
 -- the slots, with what stands around them
-slots-around : (v : View) (list : List Contribution) (marks : List ℕ) (us : Readings) (o : OffsetsRead v list) (ls : List LineReading) (ns : List (Piece NameState))
+slots-around : (v : View) (list : List Contribution) (marks : List ℕ) (us : Readings) (o : OffsetsRead v list) (ls : List LineReading) (ms : List MacroReading) (ns : List (Piece NameState))
     → SlotsMarked (indexing_with (debug_data v) list us) marks
-    → SlotsAround (around_of (debug_data v) (readings_with us o.pieces ls ns)) (slots_in v) (plain_cells (string_offsets v).bytes) o.pieces marks
+    → SlotsAround (around_of (debug_data v) (readings_with us o.pieces ls ms ns)) (slots_in v) (plain_cells (string_offsets v).bytes) o.pieces marks
 unfolding debug_data
-slots-around v list marks us o ls ns marked =
-    let same = indexing-is v list us o.pieces ls ns o.list_is in
+slots-around v list marks us o ls ms ns marked =
+    let same = indexing-is v list us o.pieces ls ms ns o.list_is in
     record {
       reads = o.reads;
       plain = plain_cells-plain (string_offsets v).bytes;
@@ -138,10 +139,10 @@ slots-around v list marks us o ls ns marked =
       are_marks = subst (λ (g : Indexing). AreMarks marks g g.uses) same marked.slots;
     }
 
-contributions-around : (v : View) (list : List Contribution) (us : Readings) (o : OffsetsRead v list) (ls : List LineReading) (ns : List (Piece NameState))
-    → (around_of (debug_data v) (readings_with us o.pieces ls ns)).lasting.indexing.contributions ≡ list
+contributions-around : (v : View) (list : List Contribution) (us : Readings) (o : OffsetsRead v list) (ls : List LineReading) (ms : List MacroReading) (ns : List (Piece NameState))
+    → (around_of (debug_data v) (readings_with us o.pieces ls ms ns)).lasting.indexing.contributions ≡ list
 unfolding debug_data
-contributions-around v list us o ls ns = o.list_is
+contributions-around v list us o ls ms ns = o.list_is
 
 -- each string offset of a name table names a text
 string-names : (m : NameMode) (v : View) (rs : DataReadings) (p : List Cell) → StringNamesBy m v p → NamesTextBy (name_role_by m) (around_of (debug_data v) rs) p
@@ -227,6 +228,7 @@ slots-have-by v rs (Some i) there r names = (
         (offsets-placed v (Some i) rs.offsets r) (offsets-plain v (Some i) rs.offsets r) names);
     line_str = record { each = λ k d lt. absurd (omega (arith, lt)) };
     starts = record { each = λ k d lt. absurd (omega (arith, lt)) };
+    macros = record { each = λ k d lt. absurd (omega (arith, lt)) };
     apart = slots-apart (section_bytes v i) 0 (path_slots (around_of (debug_data v) rs)) rs.offsets (offsets-placed v (Some i) rs.offsets r);
     rooms = record { each = λ k d lt. absurd (omega (arith, lt)) };
   },
@@ -274,9 +276,9 @@ record Parts (m : PathMap) (v : View) (list : List Contribution) (marks first : 
   names : NamesRead v (plain_cells (names_of v).bytes)
   marked : SlotsMarked (indexing_with (debug_data v) list found.readings) marks
 
-parts-of : (m : PathMap) (v : View) (list : List Contribution) (marks first : List ℕ) (us : List UnitPaths) (tables : List NameTable) → AreContributions v.order (string_offsets v) list
-    → AreNameTables v tables → UnitsFound m (debug_data v) first us → TextsIndexed (debug_data v) list marks → Parts m v list marks first us tables
-parts-of m v list marks first us tables are names found indexed =
+parts-of : (m : PathMap) (v : View) (list : List Contribution) (marks first places : List ℕ) (us : List UnitPaths) (tables : List NameTable) → AreContributions v.order (string_offsets v) list
+    → AreNameTables v tables → UnitsFound m (debug_data v) first places us → TextsIndexed (debug_data v) list marks → Parts m v list marks first us tables
+parts-of m v list marks first places us tables are names found indexed =
     let f : FoundReadings (debug_data v) 0 (debug_data v).units us = found-readings (debug_data v) 0 (debug_data v).units us found.placed in
     record { offsets = offsets-read v list are; found = f; names = names-read v tables names; marked = indexed.each f.readings f.reads }
 
@@ -297,41 +299,41 @@ pub paths-found : (m : PathMap) (v : View) (list : List Contribution) (marks fir
     → SlotsFound m v list marks us with_slots → all ≡ with_slots ++ lines_of_view v ts → PathsFound m v all ts
 unfolding slice-start tables-start
 paths-found m v list marks first slice tables ts us with_slots all are named lines starts_are same found indexed slots_found all_is =
-    let p : Parts m v list marks slice us tables = parts-of m v list marks slice us tables are named found indexed in
-    let rs : DataReadings = readings_with p.found.readings p.offsets.pieces lines.readings p.names.pieces in
-    let i = indexes-read v list p.found.readings p.offsets lines.readings p.names.pieces p.found.reads in
-    let around = slots-around v list marks p.found.readings p.offsets lines.readings p.names.pieces p.marked in
-    let same_list = contributions-around v list p.found.readings p.offsets lines.readings p.names.pieces in
+    let p : Parts m v list marks slice us tables = parts-of m v list marks slice places us tables are named found indexed in
+    let rs : DataReadings = readings_with p.found.readings p.offsets.pieces lines.readings macros.readings p.names.pieces in
+    let i = indexes-read v list p.found.readings p.offsets lines.readings macros.readings p.names.pieces p.found.reads in
+    let around = slots-around v list marks p.found.readings p.offsets lines.readings macros.readings p.names.pieces p.marked in
+    let same_list = contributions-around v list p.found.readings p.offsets lines.readings macros.readings p.names.pieces in
     let start_is : slice ≡ table_starts lines.readings = (slice-start v ts first slice lines starts_are same).is in
-    let say : SlotsSay m (around_of (debug_data v) (readings_with p.found.readings p.offsets.pieces lines.readings p.names.pieces)) p.offsets.pieces slots_found.fields =
-    slots-say m (around_of (debug_data v) (readings_with p.found.readings p.offsets.pieces lines.readings p.names.pieces)) (slots_in v) (plain_cells (string_offsets v).bytes) p.offsets.pieces marks
+    let say : SlotsSay m (around_of (debug_data v) (readings_with p.found.readings p.offsets.pieces lines.readings macros.readings p.names.pieces)) p.offsets.pieces slots_found.fields =
+    slots-say m (around_of (debug_data v) (readings_with p.found.readings p.offsets.pieces lines.readings macros.readings p.names.pieces)) (slots_in v) (plain_cells (string_offsets v).bytes) p.offsets.pieces marks
     slots_found.fields around (subst (λ (cs_ : List Contribution). SlotsTaken m (slots_in v) marks (slots_of cs_) [] slots_found.fields) (sym same_list) slots_found.taken) in
-    let fields : as_fields slots_found.fields ≡ read_fields (debug_data v) (readings_with p.found.readings p.offsets.pieces lines.readings p.names.pieces) =
-    ap as_fields say.fields_are ∙ fields-are (path_slots (around_of (debug_data v) (readings_with p.found.readings p.offsets.pieces lines.readings p.names.pieces))) p.offsets.pieces in
-    let is : with_slots ≡ us ++ slots_read v (readings_with p.found.readings p.offsets.pieces lines.readings p.names.pieces) =
+    let fields : as_fields slots_found.fields ≡ read_fields (debug_data v) (readings_with p.found.readings p.offsets.pieces lines.readings macros.readings p.names.pieces) =
+    ap as_fields say.fields_are ∙ fields-are (path_slots (around_of (debug_data v) (readings_with p.found.readings p.offsets.pieces lines.readings macros.readings p.names.pieces))) p.offsets.pieces in
+    let is : with_slots ≡ us ++ slots_read v (readings_with p.found.readings p.offsets.pieces lines.readings macros.readings p.names.pieces) =
     slots_found.is ∙ ap (λ (fs : List PathField). us ++ slots_of_view v fs) fields in
     let without : without_lines v all ≡ with_slots = without-is v all with_slots ts all_is in
     let have : AllHavePaths v with_slots =
     subst (AllHavePaths v) (sym is)
-    (have-append v us (slots_read v (readings_with p.found.readings p.offsets.pieces lines.readings p.names.pieces))
+    (have-append v us (slots_read v (readings_with p.found.readings p.offsets.pieces lines.readings macros.readings p.names.pieces))
     (has-each v us (all-facts v [] (debug_data v).units us refl found.placed))
-    (slots-have v (readings_with p.found.readings p.offsets.pieces lines.readings p.names.pieces) i.offsets say.texts)) in
+    (slots-have v (readings_with p.found.readings p.offsets.pieces lines.readings macros.readings p.names.pieces) i.offsets say.texts)) in
     let rooms : AllRoomsFit m v with_slots =
     subst (AllRoomsFit m v) (sym is)
-    (rooms-each m v [] (debug_data v).units us (slots_read v (readings_with p.found.readings p.offsets.pieces lines.readings p.names.pieces)) refl found.placed found.fits
-    (slots-rooms m v (section_named v (name_of StrOffsets)) (read_fields (debug_data v) (readings_with p.found.readings p.offsets.pieces lines.readings p.names.pieces)))) in
+    (rooms-each m v [] (debug_data v).units us (slots_read v (readings_with p.found.readings p.offsets.pieces lines.readings macros.readings p.names.pieces)) refl found.placed found.fits
+    (slots-rooms m v (section_named v (name_of StrOffsets)) (read_fields (debug_data v) (readings_with p.found.readings p.offsets.pieces lines.readings macros.readings p.names.pieces)))) in
     record {
-      readings = readings_with p.found.readings p.offsets.pieces lines.readings p.names.pieces;
+      readings = readings_with p.found.readings p.offsets.pieces lines.readings macros.readings p.names.pieces;
       reads = record {
         units = p.found.reads;
         offsets = i.offsets;
         lines = lines.reads;
         names = names-cells v p.names.pieces p.names.reads;
-        texts = p.found.names (readings_with p.found.readings p.offsets.pieces lines.readings p.names.pieces) slice start_is found.named;
+        texts = p.found.names (readings_with p.found.readings p.offsets.pieces lines.readings macros.readings p.names.pieces) slice start_is found.named;
         slot_texts = say.texts;
-        name_texts = all-names v (readings_with p.found.readings p.offsets.pieces lines.readings p.names.pieces) p.names.pieces p.names.texts;
+        name_texts = all-names v (readings_with p.found.readings p.offsets.pieces lines.readings macros.readings p.names.pieces) p.names.pieces p.names.texts;
         indexes = subst (λ (g : Indexing). EachUse (NamesSlot g) g.uses)
-            (indexing-is v list p.found.readings p.offsets.pieces lines.readings p.names.pieces p.offsets.list_is) p.marked.named;
+            (indexing-is v list p.found.readings p.offsets.pieces lines.readings macros.readings p.names.pieces p.offsets.list_is) p.marked.named;
         forms = p.found.forms slice found.named;
       };
       inline = found-fits (debug_data v).base m 0 (debug_data v).units p.found.readings p.found.reads
@@ -342,7 +344,7 @@ paths-found m v list marks first slice tables ts us with_slots all are named lin
       have = subst (AllHavePaths v) (sym without) have;
       rooms = subst (AllRoomsFit m v) (sym without) rooms;
       is = all_is ∙ ap (λ (ws : List UnitPaths). ws ++ lines_of_view v ts)
-          (is ∙ ap (λ (ws : List UnitPaths). ws ++ slots_read v (readings_with p.found.readings p.offsets.pieces lines.readings p.names.pieces)) (sym p.found.says));
+          (is ∙ ap (λ (ws : List UnitPaths). ws ++ slots_read v (readings_with p.found.readings p.offsets.pieces lines.readings macros.readings p.names.pieces)) (sym p.found.says));
       tables = lines.is;
     }
 
@@ -361,8 +363,8 @@ units-row m v list r are (refused_texts (texts_units h)) = units h
 units-row m v list r are (refused_texts (texts_starts h)) = starts h
 units-row m v list r are (refused_texts (texts_index us reads h)) =
     let o : OffsetsRead v list = offsets-read v list are in
-    slots (index_row (readings_with us o.pieces [] []) (indexes-read v list us o [] [] reads)
-    (subst (λ (g : Indexing). IndexFails g r) (indexing-is v list us o.pieces [] [] o.list_is) h))
+    slots (index_row (readings_with us o.pieces [] [] []) (indexes-read v list us o [] [] [] reads)
+    (subst (λ (g : Indexing). IndexFails g r) (indexing-is v list us o.pieces [] [] [] o.list_is) h))
 
 pub units-fault : (m : PathMap) (v : View) (list : List Contribution) (f : Fault) → AreContributions v.order (string_offsets v) list
     → Blames (UnitPathsRefuse m (debug_data v) list) f → Blames (PathsRefuse m v) f
@@ -378,18 +380,18 @@ slots-row : (m : PathMap) (v : View) (rs : DataReadings) (r : Refusal) → Index
 slots-row m v rs r i (slot_fails h) = slots (slot_row rs i h)
 slots-row m v rs r i (shared_fails h) = shared rs i h
 
-pub slots-fault : (m : PathMap) (v : View) (list : List Contribution) (marks first : List ℕ) (tables : List NameTable) (us : List UnitPaths) (f : Fault)
-    → AreContributions v.order (string_offsets v) list → AreNameTables v tables → UnitsFound m (debug_data v) first us → TextsIndexed (debug_data v) list marks
+pub slots-fault : (m : PathMap) (v : View) (list : List Contribution) (marks first places : List ℕ) (tables : List NameTable) (us : List UnitPaths) (f : Fault)
+    → AreContributions v.order (string_offsets v) list → AreNameTables v tables → UnitsFound m (debug_data v) first places us → TextsIndexed (debug_data v) list marks
     → Blames (SlotsRefuse m (slots_in v) marks (slots_of list)) f → Blames (PathsRefuse m v) f
-slots-fault m v list marks first tables us NoMemory are named found indexed h = tt
-slots-fault m v list marks first tables us (Refused r) are named found indexed h =
-    let p : Parts m v list marks first us tables = parts-of m v list marks first us tables are named found indexed in
-    let same = contributions-around v list p.found.readings p.offsets [] p.names.pieces in
-    slots-row m v (readings_with p.found.readings p.offsets.pieces [] p.names.pieces) r
-    (indexes-read v list p.found.readings p.offsets [] p.names.pieces p.found.reads)
-    (subst (λ (n : ℕ). SlotsFail m n (around_of (debug_data v) (readings_with p.found.readings p.offsets.pieces [] p.names.pieces)) p.offsets.pieces r) (number-is v)
-    (slots-fail m (around_of (debug_data v) (readings_with p.found.readings p.offsets.pieces [] p.names.pieces)) (slots_in v) (plain_cells (string_offsets v).bytes) p.offsets.pieces marks r
-    (slots-around v list marks p.found.readings p.offsets [] p.names.pieces p.marked)
+slots-fault m v list marks first places tables us NoMemory are named found indexed h = tt
+slots-fault m v list marks first places tables us (Refused r) are named found indexed h =
+    let p : Parts m v list marks first us tables = parts-of m v list marks first places us tables are named found indexed in
+    let same = contributions-around v list p.found.readings p.offsets [] [] p.names.pieces in
+    slots-row m v (readings_with p.found.readings p.offsets.pieces [] [] p.names.pieces) r
+    (indexes-read v list p.found.readings p.offsets [] [] p.names.pieces p.found.reads)
+    (subst (λ (n : ℕ). SlotsFail m n (around_of (debug_data v) (readings_with p.found.readings p.offsets.pieces [] [] p.names.pieces)) p.offsets.pieces r) (number-is v)
+    (slots-fail m (around_of (debug_data v) (readings_with p.found.readings p.offsets.pieces [] [] p.names.pieces)) (slots_in v) (plain_cells (string_offsets v).bytes) p.offsets.pieces marks r
+    (slots-around v list marks p.found.readings p.offsets [] [] p.names.pieces p.marked)
     (subst (λ (cs_ : List Contribution). SlotsRefuse m (slots_in v) marks (slots_of cs_) r) (sym same) h)))
 
 -- the contributions lie in as many bytes as are marked

@@ -33,7 +33,6 @@ use Rattle.dw_find.specs.TextPlaces.{AllPlaced, AllFitRooms, AllStarts}
 use Rattle.dw_find.specs.UnitPaths.{UnitPaths}
 use Rattle.dw_find.specs.UnitTexts.{AllTaken, tables_of}
 use Rattle.dw_find.specs.ViewLines.{lines_by, lines_of_view, table_fields}
-use Rattle.dw_find.proofs.BuiltLaws.{all-built}
 use Rattle.dw_find.proofs.LineTextLaws.{TextsApart, lines-fields}
 use Rattle.dw_find.proofs.SectionFactLaws.{taken-placed}
 
@@ -128,9 +127,9 @@ without-is v us xs ts is =
     ap (without_lines v) is ∙ front-is xs (lines_of_view v ts) (lines_count v) (lines-number (section_named v (name_of Line)) (line_source (debug_data v)) ts)
 
 -- what was found of paths in units
-pub units-found : (m : PathMap) (d : DebugData) (starts : List ℕ) (us : List UnitPaths) → AllTaken d d.units us → AllFitRooms m d.units us → AllStarts d starts d.units us
-    → UnitsFound m d starts us
-units-found m d starts us taken fits all = record { placed = taken-placed d d.units us taken; fits = fits; named = all; built = all-built d us taken }
+pub units-found : (m : PathMap) (d : DebugData) (starts places : List ℕ) (us : List UnitPaths) → AllTaken d d.units us → AllFitRooms m d.units us
+    → AllStarts d starts places d.units us → UnitsFound m d starts places us
+units-found m d starts places us taken fits all = record { placed = taken-placed d d.units us taken; fits = fits; named = all }
 
 pub placed-found : (d : DebugData) (us : List UnitPaths) → AllTaken d d.units us → AllPlaced d d.units us
 placed-found d us taken = taken-placed d d.units us taken

@@ -8,7 +8,7 @@ use Rattle.dw_base.specs.Forms.{ValueKind, number_of, leb_number, form_in_front,
 use Rattle.dw_base.specs.Numbers.{spelled}
 use Rattle.dw_base.specs.Pieces.{Piece, EachPiece, Leads, joined}
 use Rattle.dw_base.specs.Roles.{Role, fixed, offset, inline_path, line_start, role_of, is_path, use_of}
-use Rattle.dw_base.specs.TableStarts.{start_form_by}
+use Rattle.dw_base.specs.TableStarts.{macro_value_by, start_form_by}
 use Rattle.dw_base.specs.TextIndexes.{SaidBase, IndexUse, base_value, bases_by, bases_in, index_value, is_base, said_by, use_by, uses_by, uses_in}
 use Rattle.dw_base.specs.UnitHeaders.{UnitBase}
 use Rattle.dw_base.specs.UnitPieces.{unit_grammar}
@@ -19,7 +19,7 @@ use Rattle.dw_base.specs.declared.values.Spec.{Spec}
 use Rattle.dw_base.specs.declared.values.ValueClass.{ValueClass}
 use Rattle.dw_base.specs.declared.values.ValueClass.TheVariants.{Number, StrIndex, SecOffset}
 use Rattle.dw_base.proofs.PlainCellLaws.{IsPlain, offset_of-plain, plain-parts}
-use Rattle.dw_find.specs.TextPlaces.{TextPlace, place_of, indexed_kind, indexed_in, places_in, stray_at, use_at, uses_among, base_at, bases_among, UnitSays, numbered_uses, numbered_bases}
+use Rattle.dw_find.specs.TextPlaces.{TextPlace, place_of, indexed_kind, indexed_in, places_in, said_start, use_at, uses_among, base_at, bases_among, UnitSays, numbered_uses, numbered_bases}
 use Rattle.dw_find.proofs.ValueRunLaws.{OrderIs, IsNumbered}
 
 -- lists, one behind another
@@ -76,14 +76,16 @@ place-bases (offset t path) unit at len = refl
 place-bases inline_path unit at len = refl
 place-bases line_start unit at len = refl
 
--- and neither does a value that can't say where a line table starts
-stray-uses : (b : Bool) (section unit at : ℕ) (ts : List TextPlace) → uses_among section unit (ts ++ stray_at b at) ≡ uses_among section unit ts
-stray-uses true section unit at ts = ap (uses_among section unit) (append-nil ts)
-stray-uses false section unit at ts = uses_among-append section unit ts (stray_at false at) ∙ append-nil (uses_among section unit ts)
+-- and neither does what a value says of starts
+said-uses : (b macro : Bool) (section unit at len : ℕ) (ts : List TextPlace) → uses_among section unit (ts ++ said_start b macro at len) ≡ uses_among section unit ts
+said-uses true true section unit at len ts = uses_among-append section unit ts (said_start true true at len) ∙ append-nil (uses_among section unit ts)
+said-uses true false section unit at len ts = ap (uses_among section unit) (append-nil ts)
+said-uses false macro section unit at len ts = uses_among-append section unit ts (said_start false macro at len) ∙ append-nil (uses_among section unit ts)
 
-stray-bases : (b : Bool) (unit at : ℕ) (ts : List TextPlace) → bases_among unit (ts ++ stray_at b at) ≡ bases_among unit ts
-stray-bases true unit at ts = ap (bases_among unit) (append-nil ts)
-stray-bases false unit at ts = bases_among-append unit ts (stray_at false at) ∙ append-nil (bases_among unit ts)
+said-bases : (b macro : Bool) (unit at len : ℕ) (ts : List TextPlace) → bases_among unit (ts ++ said_start b macro at len) ≡ bases_among unit ts
+said-bases true true unit at len ts = bases_among-append unit ts (said_start true true at len) ∙ append-nil (bases_among unit ts)
+said-bases true false unit at len ts = ap (bases_among unit) (append-nil ts)
+said-bases false macro unit at len ts = bases_among-append unit ts (said_start false macro at len) ∙ append-nil (bases_among unit ts)
 
 -- a value that names a text by index
 kind-uses : (k : ValueKind) (path base : Bool) (order : Order) (s : UnitState) (at : ℕ) (p : List Cell)
@@ -114,12 +116,12 @@ piece-uses (at_values n tag []) order s p same = refl
 piece-uses (at_values n tag (x ∷ xs)) order s p same =
     kind-uses (kind_in s.header.params x.form) (is_path n tag x.name) (is_base n x.name) order s s.place p
     ∙ ap (λ (o : Order). uses_among s.section s.unit (indexed_kind (kind_in s.header.params x.form) (is_path n tag x.name) (is_base n x.name) o s.place p)) (sym same)
-    ∙ sym (stray-uses (start_form_by (kind_in s.header.params x.form) (use_of n tag x.name)) s.section s.unit s.place
+    ∙ sym (said-uses (start_form_by (kind_in s.header.params x.form) (use_of n tag x.name)) (macro_value_by (kind_in s.header.params x.form) (use_of n tag x.name)) s.section s.unit s.place (length p)
     (indexed_kind (kind_in s.header.params x.form) (is_path n tag x.name) (is_base n x.name) s.header.params.order s.place p))
 piece-uses (at_chosen n tag start x xs) order s p same =
     kind-uses (kind_in s.header.params x.form) (is_path n tag x.name) (is_base n x.name) order s start p
     ∙ ap (λ (o : Order). uses_among s.section s.unit (indexed_kind (kind_in s.header.params x.form) (is_path n tag x.name) (is_base n x.name) o start p)) (sym same)
-    ∙ sym (stray-uses (start_form_by (kind_in s.header.params x.form) (use_of n tag x.name)) s.section s.unit s.place
+    ∙ sym (said-uses (start_form_by (kind_in s.header.params x.form) (use_of n tag x.name)) (macro_value_by (kind_in s.header.params x.form) (use_of n tag x.name)) s.section s.unit s.place (length p)
     (indexed_kind (kind_in s.header.params x.form) (is_path n tag x.name) (is_base n x.name) s.header.params.order start p))
 piece-uses stuck order s p same = refl
 
@@ -181,12 +183,12 @@ piece-bases (at_values n tag []) order y s p same plain = refl
 piece-bases (at_values n tag (x ∷ xs)) order y s p same plain =
     kind-bases (kind_in s.header.params x.form) (is_path n tag x.name) (is_base n x.name) order y s s.place p plain
     ∙ ap (λ (o : Order). bases_among s.unit (indexed_kind (kind_in s.header.params x.form) (is_path n tag x.name) (is_base n x.name) o s.place p)) (sym same)
-    ∙ sym (stray-bases (start_form_by (kind_in s.header.params x.form) (use_of n tag x.name)) s.unit s.place
+    ∙ sym (said-bases (start_form_by (kind_in s.header.params x.form) (use_of n tag x.name)) (macro_value_by (kind_in s.header.params x.form) (use_of n tag x.name)) s.unit s.place (length p)
     (indexed_kind (kind_in s.header.params x.form) (is_path n tag x.name) (is_base n x.name) s.header.params.order s.place p))
 piece-bases (at_chosen n tag start x xs) order y s p same plain =
     kind-bases (kind_in s.header.params x.form) (is_path n tag x.name) (is_base n x.name) order y s start p plain
     ∙ ap (λ (o : Order). bases_among s.unit (indexed_kind (kind_in s.header.params x.form) (is_path n tag x.name) (is_base n x.name) o start p)) (sym same)
-    ∙ sym (stray-bases (start_form_by (kind_in s.header.params x.form) (use_of n tag x.name)) s.unit s.place
+    ∙ sym (said-bases (start_form_by (kind_in s.header.params x.form) (use_of n tag x.name)) (macro_value_by (kind_in s.header.params x.form) (use_of n tag x.name)) s.unit s.place (length p)
     (indexed_kind (kind_in s.header.params x.form) (is_path n tag x.name) (is_base n x.name) s.header.params.order start p))
 piece-bases stuck order y s p same plain = refl
 

@@ -26,7 +26,7 @@ use Rattle.dw_offsets.proofs.NamedSlotLaws.{named-slot, no-slot}
 use Rattle.dw_offsets.proofs.SlotMarkLaws.{marks-none}
 use Rattle.dw_find.specs.IndexedTexts.{indexing_with, SlotsMarked, TextsIndexed, TextsRefuse, units, index, starts}
 use Rattle.dw_find.specs.NamedSlots.{Slots, no_slots, name_slot, first_refusal, missing_at, missing_in, units_name, units_missing}
-use Rattle.dw_find.specs.TextPlaces.{TextPlace, Indexed, no_index, no_start, unit_base, text_index, UnitSays, SectionSays, base_or, base_in, base_at, bases_among, index_at, indexes_in, use_at, uses_among, numbered_uses, numbered_bases}
+use Rattle.dw_find.specs.TextPlaces.{TextPlace, Indexed, no_index, no_start, unit_start, unit_base, text_index, UnitSays, SectionSays, base_or, base_in, base_at, bases_among, index_at, indexes_in, use_at, uses_among, numbered_uses, numbered_bases}
 use Rattle.dw_find.specs.UnitPaths.{UnitPaths}
 use Rattle.dw_find.specs.UnitTexts.{AllTaken, AllIndexed, UnitsRefuse, units_taken}
 use Rattle.dw_find.proofs.SectionRunLaws.{PlacedPieces, section-placed}
@@ -121,6 +121,7 @@ own-base n (t ∷ ts) rest =
         → base_of (base_at n i ++ (bases_among n ts ++ rest)) n ≡ or_base (base_or i (base_in ts)) (base_of rest n)
     by_says no_index e = e
     by_says no_start e = e
+    by_says unit_start e = e
     by_says (text_index path x) e = e
     by_says (unit_base b) e = rw (eq-eqb n n refl) refl
 
@@ -133,6 +134,7 @@ other-base n m (t ∷ ts) rest other =
     by_says : (i : Indexed) → base_of (bases_among n ts ++ rest) m ≡ base_of rest m → base_of (base_at n i ++ (bases_among n ts ++ rest)) m ≡ base_of rest m
     by_says no_index e = e
     by_says no_start e = e
+    by_says unit_start e = e
     by_says (text_index path x) e = e
     by_says (unit_base b) e = rw (ne_eqb n m other) e
 
@@ -175,6 +177,7 @@ unit-names kind g section n b (t ∷ ts) rest place is =
         ≡ (name_slot kind b g.contributions (index_at t.at i ++ indexes_in ts) place || names_place kind g rest place)
     by_says no_index e = e
     by_says no_start e = e
+    by_says unit_start e = e
     by_says (unit_base x) e = e
     by_says (text_index path x) e =
         ap (λ (y : Option ℕ). (is_kind kind path && is_place (place_by y g.contributions x) place) || names_place kind g (uses_among section n ts ++ rest) place) is
@@ -214,6 +217,7 @@ unit-named g section n b (t ∷ ts) rest is none each =
         → EachUse (NamesSlot g) (use_at section n t.at i ++ (uses_among section n ts ++ rest))
     by_says no_index e next = next e
     by_says no_start e next = next e
+    by_says unit_start e next = next e
     by_says (unit_base x) e next = next e
     by_says (text_index path x) e next = (
       none-missing section t.at (place_by b g.contributions x)
@@ -275,6 +279,7 @@ unit-missing g section n b (t ∷ ts) rest r other is e next =
         → FirstMissing g (use_at section n t.at i ++ (uses_among section n ts ++ rest)) r
     by_says no_index e more = more e
     by_says no_start e more = more e
+    by_says unit_start e more = more e
     by_says (unit_base x) e more = more e
     by_says (text_index path x) e more =
         missing-here g (uses_among section n ts ++ rest) (record { section = section; place = t.at; unit = n; path = path; index = x }) (place_by b g.contributions x) r

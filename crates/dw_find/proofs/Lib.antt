@@ -22,7 +22,6 @@ pub mod SectionTextLaws
 pub mod UnitRowLaws
 pub mod ValueTextLaws
 pub mod PlaceValueLaws
-pub mod BuiltLaws
 pub mod SectionListLaws
 pub mod IndexedLaws
 pub mod TableLaws
@@ -30,6 +29,13 @@ pub mod ApartLaws
 pub mod SectionFactLaws
 pub mod RoomFitLaws
 pub mod StartLaws
+pub mod MacroPlaceLaws
+pub mod MacroFoundLaws
+pub mod MacroHaveLaws
+pub mod MacroStartLaws
+pub mod MacroListLaws
+pub mod MacroNameLaws
+pub mod MacroSectionLaws
 pub mod SlotPlaceLaws
 pub mod TableStartLaws
 pub mod LineFieldLaws

@@ -21,6 +21,7 @@ use Rattle.dw_find.specs.UnitPaths.{UnitPaths}
 use Rattle.dw_find.specs.ViewLines.{is_text_of, lines_by, lines_of_view, lines_with, table_fields, text_field, text_fields}
 use Rattle.dw_find.specs.declared.fields.InlinePath.{InlinePath}
 use Rattle.dw_find.specs.declared.fields.PathField.{PathField}
+use Rattle.dw_find.proofs.FoundLaws.{paths-same}
 
 -- one field
 pub field-some : (section str : ℕ) (table : TextSection) (w : Width) (x : TextPlace) (size : ℕ) (old new : List PathField) → true ≡ is_text_of section str table x → size ≡ width_size w
@@ -119,38 +120,14 @@ first-number : (v : View) → table_number (debug_data v) in_str ≡ (view_sourc
 unfolding debug_data
 first-number v = refl
 
-pub with-fields : (v : View) (section first : ℕ) (ts : List LineTable) (a b starts : List PathField) (inline : List InlinePath) (stray : Option ℕ)
+pub with-fields : (v : View) (section first : ℕ) (ts : List LineTable) (a b starts macros : List PathField) (inline : List InlinePath) (stray : Option ℕ)
     → first ≡ table_number (debug_data v) in_str → a ≡ table_fields section first in_str ts → b ≡ table_fields section first in_line_str ts → inline ≡ [] → starts ≡ []
-    → stray ≡ None → record { number = section; str = a; line_str = b; inline = inline; starts = starts; stray = stray } ≡ lines_with (view_source v section) ts
-with-fields v section first ts a b starts inline stray number x y i s n =
+    → macros ≡ [] → stray ≡ None
+    → record { number = section; str = a; line_str = b; inline = inline; starts = starts; macros = macros; stray = stray } ≡ lines_with (view_source v section) ts
+with-fields v section first ts a b starts macros inline stray number x y i s m n =
     let same : first ≡ (view_source v section).str.number = number ∙ first-number v in
-    ap (λ (fs : List PathField). record { number = section; str = fs; line_str = b; inline = inline; starts = starts; stray = stray }) x
-    ∙ ap (λ (fs : List PathField). record { number = section; str = table_fields section first in_str ts; line_str = fs; inline = inline; starts = starts; stray = stray }) y
-    ∙ ap (λ (k : ℕ). record { number = section; str = table_fields section k in_str ts; line_str = table_fields section k in_line_str ts; inline = inline; starts = starts; stray = stray }) same
-    ∙ ap (λ (ps : List InlinePath). record {
-      number = section;
-      str = table_fields section (view_source v section).str.number in_str ts;
-      line_str = table_fields section (view_source v section).str.number in_line_str ts;
-      inline = ps;
-      starts = starts;
-      stray = stray;
-    }) i
-    ∙ ap (λ (fs : List PathField). record {
-      number = section;
-      str = table_fields section (view_source v section).str.number in_str ts;
-      line_str = table_fields section (view_source v section).str.number in_line_str ts;
-      inline = [];
-      starts = fs;
-      stray = stray;
-    }) s
-    ∙ ap (λ (o : Option ℕ). record {
-      number = section;
-      str = table_fields section (view_source v section).str.number in_str ts;
-      line_str = table_fields section (view_source v section).str.number in_line_str ts;
-      inline = [];
-      starts = [];
-      stray = o;
-    }) n
+    paths-same section a (table_fields section (view_source v section).str.number in_str ts) b (table_fields section (view_source v section).str.number in_line_str ts) inline [] starts []
+    macros [] stray None (x ∙ ap (λ (k : ℕ). table_fields section k in_str ts) same) (y ∙ ap (λ (k : ℕ). table_fields section k in_line_str ts) same) i s m n
 
 pub ruleset with_rules = (with-fields)
 

@@ -36,7 +36,7 @@ use Rattle.dw_base.proofs.UnitEditLaws.{length-bytes_of}
 use Rattle.dw_find.specs.Fields.{IsPathField, ArePathFields, IsStartField, AreStartFields}
 use Rattle.dw_find.specs.InlineRooms.{AreRooms, grows, Grows, one}
 use Rattle.dw_find.specs.ViewFields.{offsets_of}
-use Rattle.dw_find.specs.TextPlaces.{TextPlace, no_index, no_start, unit_base, text_index, UnitSays, indexed_at, is_start_form, line_at, line_places, own_form, own_place, start_at, starts_in, stray_at, stray_places, class_places, value_places, value_places_behind, values_places, entry_places, entries_places, UnitsPlaced, none_placed, more_placed, PlaceNames, PlacesName, fields_in, inline_at, inline_in}
+use Rattle.dw_find.specs.TextPlaces.{TextPlace, no_index, no_start, unit_base, text_index, UnitSays, indexed_at, Indexed, is_macros, is_start, is_start_form, line_at, line_places, macros_in, own_form, own_place, said_places, said_value, start_at, starts_in, unit_start, unit_start_at, class_places, value_places, value_places_behind, values_places, entry_places, entries_places, UnitsPlaced, none_placed, more_placed, PlaceNames, PlacesName, fields_in, inline_at, inline_in}
 use Rattle.dw_find.specs.UnitPaths.{field_by, inline_text}
 use Rattle.dw_find.specs.declared.fields.InlinePath.{InlinePath}
 use Rattle.dw_find.specs.declared.fields.PathField.{PathField}
@@ -66,10 +66,11 @@ pub each-of : {X : Type 0} (P Q : X → Type 0) (xs : List X) → ((x : X) → P
 each-of P Q [] f all = tt
 each-of P Q (x ∷ xs) f all = (f x all.0, each-of P Q xs f all.1)
 
--- a value says a place: by its class, as the start of a line table, or as one that can't say a start
+-- a value says a place: by its class, as the start of a line table or a macro unit, or as one that can't say a start
 pub data SaysPlace (number tag : ℕ) (x : Spec) (bytes : List ℕ) (place : ℕ) (v : Value) (t : TextPlace) : Type 0 where
   by_class : class_places v.class (is_path number tag x.name) (is_base number x.name) place v ≡ t ∷ [] → SaysPlace number tag x bytes place v t
   by_start : is_start_form (own_form x bytes place) ≡ true → line_at true v ≡ t ∷ [] → SaysPlace number tag x bytes place v t
+  by_unit : is_start_form (own_form x bytes place) ≡ true → said_value true true 0 v ≡ t ∷ [] → SaysPlace number tag x bytes place v t
   by_stray : (at : ℕ) → indexed_at at no_start ≡ t ∷ [] → SaysPlace number tag x bytes place v t
 
 -- the value in a unit that says a place
@@ -104,13 +105,15 @@ line-each P true form v f = by_form (is_start_form form) refl
     by_form true is = (f _ is refl, tt)
     by_form false is = tt
 
-stray-each : (P : TextPlace → Type 0) (line : Bool) (form at : ℕ) → ((t : TextPlace) → indexed_at at no_start ≡ t ∷ [] → P t) → EachOf P (stray_places line form at)
-stray-each P false form at f = tt
-stray-each P true form at f = by_form (is_start_form form)
+said-each : (P : TextPlace → Type 0) (start macro : Bool) (form at : ℕ) (v : Value) → ((t : TextPlace) → is_start_form form ≡ true → said_value true true 0 v ≡ t ∷ [] → P t)
+    → ((t : TextPlace) → indexed_at at no_start ≡ t ∷ [] → P t) → EachOf P (said_places start macro form at v)
+said-each P false macro form at v u f = tt
+said-each P true macro form at v u f = by_form (is_start_form form) macro refl
   where
-    by_form : (b : Bool) → EachOf P (stray_at b at)
-    by_form true = tt
-    by_form false = (f _ refl, tt)
+    by_form : (b m : Bool) → is_start_form form ≡ b → EachOf P (said_value b m at v)
+    by_form true true is = (u _ is refl, tt)
+    by_form true false is = tt
+    by_form false m is = (f _ refl, tt)
 
 value-each : (h : UnitHeader) (table : List Abbreviation) (bytes : List ℕ) (number : ℕ) (a : Abbreviation) (x : Spec) (place : ℕ) (v : Value)
     → HasValue h table bytes number a x place v → EachOf (ValueBehind h table bytes) (value_places number a.tag x bytes place v)
@@ -118,13 +121,14 @@ value-each h table bytes number a x place v has =
     let line : Bool = x.name == DW_AT_stmt_list in
     let texts : List TextPlace = class_places v.class (is_path number a.tag x.name) (is_base number x.name) place v in
     each-append (ValueBehind h table bytes) (line_places (x.name == DW_AT_stmt_list) (own_form x bytes place) v)
-    (texts ++ stray_places (x.name == DW_AT_stmt_list) (own_form x bytes place) (own_place x bytes place))
+    (texts ++ said_places (is_start x.name) (is_macros x.name) (own_form x bytes place) (own_place x bytes place) v)
     (line-each (ValueBehind h table bytes) (x.name == DW_AT_stmt_list) (own_form x bytes place) v
     (λ (t : TextPlace) f e. record { number = number; abbreviation = a; spec = x; place = place; value = v; stands = has; is = by_start f e }))
-    (each-append (ValueBehind h table bytes) texts (stray_places (x.name == DW_AT_stmt_list) (own_form x bytes place) (own_place x bytes place))
+    (each-append (ValueBehind h table bytes) texts (said_places (is_start x.name) (is_macros x.name) (own_form x bytes place) (own_place x bytes place) v)
     (class-each (ValueBehind h table bytes) v.class (is_path number a.tag x.name) (is_base number x.name) place v
     (λ (t : TextPlace) e. record { number = number; abbreviation = a; spec = x; place = place; value = v; stands = has; is = by_class e }))
-    (stray-each (ValueBehind h table bytes) (x.name == DW_AT_stmt_list) (own_form x bytes place) (own_place x bytes place)
+    (said-each (ValueBehind h table bytes) (is_start x.name) (is_macros x.name) (own_form x bytes place) (own_place x bytes place) v
+    (λ (t : TextPlace) f e. record { number = number; abbreviation = a; spec = x; place = place; value = v; stands = has; is = by_unit f e })
     (λ (t : TextPlace) e. record { number = number; abbreviation = a; spec = x; place = place; value = v; stands = has; is = by_stray (own_place x bytes place) e })))
 
 -- an entry whose values are met
@@ -301,8 +305,51 @@ place-facts d z t p =
         let same : record { role = line_start; at = b.value.at; len = b.value.len; says = no_index } ≡ t = once _ t e in
         subst (λ (s : TextPlace). RoleFacts s.role d z s) same
         (field-place z p.header b.value _ (start-read p.header.params b.spec (bytes_up_to z p.header) b.place b.value b.stands.is f) refl refl)
+    by_place (by_unit f e) =
+        let b = p.behind in
+        subst (λ (s : TextPlace). RoleFacts s.role d z s) (once (record { role = fixed; at = b.value.at; len = b.value.len; says = unit_start }) t e) tt
     by_place (by_stray at e) =
         subst (λ (s : TextPlace). RoleFacts s.role d z s) (once (record { role = fixed; at = at; len = 0; says = no_start }) t e) tt
+
+-- what is known of a place that says where a macro unit starts
+abbrev pub SaidFacts : Indexed → UnitSection → TextPlace → Type 0
+SaidFacts unit_start z t = FieldPlace (bytes_of z.contents) t
+SaidFacts i z t = ⊤
+
+class-said : (c : ValueClass) (b base : Bool) (place : ℕ) (v : Value) (z : UnitSection) (t : TextPlace) → class_places c b base place v ≡ t ∷ [] → SaidFacts t.says z t
+class-said StrOffset b base place v z t e =
+    subst (λ (s : TextPlace). SaidFacts s.says z s) (once (record { role = offset in_str b; at = v.at; len = v.len; says = no_index }) t e) tt
+class-said LineStrOffset b base place v z t e =
+    subst (λ (s : TextPlace). SaidFacts s.says z s) (once (record { role = offset in_line_str b; at = v.at; len = v.len; says = no_index }) t e) tt
+class-said InlineText true base place v z t e =
+    subst (λ (s : TextPlace). SaidFacts s.says z s) (once (record { role = inline_path; at = v.at; len = v.len + 1; says = no_index }) t e) tt
+class-said InlineText false base place v z t e = absurd (none-one t e)
+class-said StrIndex b base place v z t e =
+    subst (λ (s : TextPlace). SaidFacts s.says z s) (once (record { role = fixed; at = place; len = 0; says = text_index b v.number }) t e) tt
+class-said Number b true place v z t e =
+    subst (λ (s : TextPlace). SaidFacts s.says z s) (once (record { role = fixed; at = place; len = 0; says = unit_base v.number }) t e) tt
+class-said Number b false place v z t e = absurd (none-one t e)
+class-said SecOffset b true place v z t e =
+    subst (λ (s : TextPlace). SaidFacts s.says z s) (once (record { role = fixed; at = place; len = 0; says = unit_base v.number }) t e) tt
+class-said SecOffset b false place v z t e = absurd (none-one t e)
+class-said c b base place v z t e = absurd (none-one t e)
+
+pub said-facts : (d : DebugData) (z : UnitSection) (t : TextPlace) → PlaceOf d z t → SaidFacts t.says z t
+said-facts d z t p = by_place p.behind.is
+  where
+    by_place : SaysPlace p.behind.number p.behind.abbreviation.tag p.behind.spec (bytes_up_to z p.header) p.behind.place p.behind.value t → SaidFacts t.says z t
+    by_place (by_class e) =
+        let b = p.behind in
+        class-said b.value.class (is_path b.number b.abbreviation.tag b.spec.name) (is_base b.number b.spec.name) b.place b.value z t e
+    by_place (by_start f e) =
+        let b = p.behind in
+        subst (λ (s : TextPlace). SaidFacts s.says z s) (once (record { role = line_start; at = b.value.at; len = b.value.len; says = no_index }) t e) tt
+    by_place (by_unit f e) =
+        let b = p.behind in
+        subst (λ (s : TextPlace). SaidFacts s.says z s) (once (record { role = fixed; at = b.value.at; len = b.value.len; says = unit_start }) t e)
+        (field-place z p.header b.value _ (start-read p.header.params b.spec (bytes_up_to z p.header) b.place b.value b.stands.is f) refl refl)
+    by_place (by_stray at e) =
+        subst (λ (s : TextPlace). SaidFacts s.says z s) (once (record { role = fixed; at = at; len = 0; says = no_start }) t e) tt
 
 -- the offset in a field of plain cells
 pub offset-number : (o : Order) (z : Located) (cells : List Cell) (a n : ℕ) → IsPlain cells → a + n ≤ length (bytes_of cells)
@@ -354,6 +401,25 @@ pub start-fields : (d : DebugData) (z : UnitSection) (ts : List TextPlace) → E
 start-fields d z ts each = record {
   each = λ (k : ℕ) (x : PathField) (lt : k < length (starts_in ts)).
       each-get (IsStartField (bytes_of z.contents)) (starts_in ts) k x lt (starts-each d z ts each);
+}
+
+-- and so are those that say where macro units start
+unit-each : (i : Indexed) (z : UnitSection) (t : TextPlace) → SaidFacts i z t → EachOf (IsStartField (bytes_of z.contents)) (unit_start_at t.at t.len i)
+unit-each unit_start z t f = (record { sized = f.sized; inside = f.inside }, tt)
+unit-each no_index z t f = tt
+unit-each (unit_base n) z t f = tt
+unit-each (text_index path n) z t f = tt
+unit-each no_start z t f = tt
+
+units-each : (d : DebugData) (z : UnitSection) (ts : List TextPlace) → EachOf (PlaceOf d z) ts → EachOf (IsStartField (bytes_of z.contents)) (macros_in ts)
+units-each d z [] each = tt
+units-each d z (t ∷ ts) each =
+    each-append (IsStartField (bytes_of z.contents)) (unit_start_at t.at t.len t.says) (macros_in ts) (unit-each t.says z t (said-facts d z t each.0)) (units-each d z ts each.1)
+
+pub unit-fields : (d : DebugData) (z : UnitSection) (ts : List TextPlace) → EachOf (PlaceOf d z) ts → AreStartFields (bytes_of z.contents) (macros_in ts)
+unit-fields d z ts each = record {
+  each = λ (k : ℕ) (x : PathField) (lt : k < length (macros_in ts)).
+      each-get (IsStartField (bytes_of z.contents)) (macros_in ts) k x lt (units-each d z ts each);
 }
 
 -- the paths that stand in their values

@@ -21,10 +21,9 @@ use Rattle.dw_base.specs.declared.values.ValueClass.{ValueClass}
 use Rattle.dw_base.specs.declared.values.ValueClass.TheVariants.{Address, Number, Signed, Bytes, Flag, InlineText, StrOffset, LineStrOffset, StrIndex, AddrIndex, ListIndex, LocalRef, GlobalRef, Signature, SecOffset}
 use Rattle.dw_base.proofs.ClassLaws.{class_of_kind, value-class}
 use Rattle.dw_base.proofs.FormLaws.{value_by-own}
-use Rattle.dw_meaning.specs.FileFails.{is_unbuilt_value}
 use Rattle.dw_find.specs.EntryTexts.{Tables, AreTaken, OffsetNames, TakenBehind, ValuesRefuse, fails, value}
-use Rattle.dw_find.specs.QuietValues.{AllQuiet, AreCounts, AreLooked, IsCount, SaysNothing, none_left, quiet_left, is_place, is_quiet, is_text_form}
-use Rattle.dw_find.specs.TextPlaces.{TextPlace, class_places, line_places, own_form, own_place, stray_places, value_places, value_places_behind, values_places}
+use Rattle.dw_find.specs.QuietValues.{AllQuiet, AreCounts, AreLooked, IsCount, SaysNothing, none_left, quiet_left, is_quiet, is_text_form}
+use Rattle.dw_find.specs.TextPlaces.{TextPlace, class_places, is_macros, is_start, line_places, own_form, own_place, said_places, value_places, value_places_behind, values_places}
 
 -- the class of a text, or of what names one
 abbrev is_text_class : ValueClass → Bool
@@ -145,7 +144,7 @@ class-names t SecOffset n e = tt
 record Quiet (x : Spec) : Type 0 where
   form : is_text_form x.form ≡ false
   line : (x.name == DW_AT_stmt_list) ≡ false
-  built : is_unbuilt_value x ≡ false
+  start : is_start x.name ≡ false
 
 or-parts : (a b : Bool) → (a || b) ≡ false → (a ≡ false) × (b ≡ false)
 or-parts true b e = absurd cc
@@ -153,9 +152,9 @@ or-parts false b e = (refl, e)
 
 quiet-parts : (x : Spec) → is_quiet x ≡ true → Quiet x
 quiet-parts x e =
-    let both = and_parts (not (is_text_form x.form)) (not (is_place x)) e in
-    let places = or-parts (x.name == DW_AT_stmt_list) (is_unbuilt_value x) (not-true (is_place x) both.1) in
-    record { form = not-true (is_text_form x.form) both.0; line = places.0; built = places.1 }
+    let both = and_parts (not (is_text_form x.form)) (not (is_start x.name)) e in
+    let places = or-parts (x.name == DW_AT_stmt_list) (is_macros x.name) (not-true (is_start x.name) both.1) in
+    record { form = not-true (is_text_form x.form) both.0; line = places.0; start = not-true (is_start x.name) both.1 }
 
 -- entry `number` isn't the first
 number-other : (number : ℕ) → number ≢ 0 → (number == 0) ≡ false
@@ -176,7 +175,9 @@ places-none : (number tag : ℕ) (x : Spec) (bytes : List ℕ) (place : ℕ) (v 
     → value_places number tag x bytes place v ≡ []
 places-none number tag x bytes place v other q class =
     ap (λ (b : Bool). line_places b (own_form x bytes place) v ++ (class_places v.class (is_path number tag x.name) (is_base number x.name) place v
-    ++ stray_places b (own_form x bytes place) (own_place x bytes place))) q.line
+    ++ said_places (is_start x.name) (is_macros x.name) (own_form x bytes place) (own_place x bytes place) v)) q.line
+    ∙ ap (λ (b : Bool). class_places v.class (is_path number tag x.name) (is_base number x.name) place v
+    ++ said_places b (is_macros x.name) (own_form x bytes place) (own_place x bytes place) v) q.start
     ∙ ap (λ (ts : List TextPlace). ts ++ [])
     (ap (λ (b : Bool). class_places v.class b (is_base number x.name) place v) (path-none number tag x.name other)
     ∙ ap (λ (b : Bool). class_places v.class false b place v) (base-none number x.name other) ∙ class-none v.class place v class)
@@ -202,11 +203,10 @@ quiet-taken t params bytes (x ∷ xs) place all =
     by_value (value_at params x bytes place) refl (λ (p : ℕ). quiet-taken t params bytes xs p all.1)
   where
     by_value : (o : Option Value) → value_at params x bytes place ≡ o → ((p : ℕ) → AreTaken t params bytes xs p)
-        → TakenBehind (λ p. AreTaken t params bytes xs p) t x place o
+        → TakenBehind (λ p. AreTaken t params bytes xs p) t place o
     by_value None is rest = tt
     by_value (Some v) is rest = (
       record {
-        built = (quiet-parts x all.0).built;
         names = class-names t v.class v.number (value-quiet params x bytes place v (quiet-parts x all.0).form is);
       },
       rest (place + v.size),
@@ -243,7 +243,7 @@ taken-left t params bytes number (x ∷ xs) rest place left taken =
     by_value (value_at params x bytes place) (λ (p : ℕ) h. taken-left t params bytes number xs rest p left h) taken
   where
     by_value : (o : Option Value) → ((p : ℕ) → AreTaken t params bytes xs p → AreTaken t params bytes (xs ++ rest) p)
-        → TakenBehind (λ p. AreTaken t params bytes xs p) t x place o → TakenBehind (λ p. AreTaken t params bytes (xs ++ rest) p) t x place o
+        → TakenBehind (λ p. AreTaken t params bytes xs p) t place o → TakenBehind (λ p. AreTaken t params bytes (xs ++ rest) p) t place o
     by_value None more h = tt
     by_value (Some v) more h = (h.0, more (place + v.size) h.1)
 

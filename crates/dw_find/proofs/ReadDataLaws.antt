@@ -1,6 +1,6 @@
 -- Debug data that are read: a map whose base and destination are one changes no path, so what is refused with it is refused for what debug
 -- data say alone; and what was read excludes what refuses.
-use Rattle.std.proofs.Common.{true, false, ◌≡◌, ℕ, Bool, if◌then◌else◌, nat_le, List, [], ◌∷◌, ◌++◌, length, drop, refl, sym, ap, ◌∙◌, arith}
+use Rattle.std.proofs.Common.{true, false, ◌≡◌, ℕ, Bool, if◌then◌else◌, nat_le, List, [], ◌∷◌, ◌++◌, length, drop, refl, sym, ap, ◌∙◌, subst, arith}
 use Rattle.std.proofs.lemmas.Bool.Decides.{nat_tests}
 use Rattle.dw_base.specs.Cells.{plain_cells}
 use Rattle.dw_base.specs.DebugData.{DataReadings}
@@ -19,15 +19,18 @@ use Rattle.dw_base.proofs.PathLaws.{lies_under-split}
 use Rattle.dw_meaning.specs.DataFails.{InlineFails, grows, LinesFail}
 use Rattle.dw_meaning.specs.DataOutput.{DataReads}
 use Rattle.dw_meaning.proofs.DataRowLaws.{data-excludes}
-use Rattle.dw_meaning.proofs.LineRowLaws.{lines-exclude, starts-exclude}
+use Rattle.dw_meaning.proofs.LineRowLaws.{lines-exclude}
+use Rattle.dw_meaning.proofs.MacroRowLaws.{macros-exclude}
 use Rattle.dw_meaning.proofs.SlotRowLaws.{name_tables-exclude, slot_texts-exclude, string_tables-exclude}
+use Rattle.dw_meaning.proofs.StartRowLaws.{starts-exclude}
 use Rattle.dw_meaning.proofs.ValueRowLaws.{texts-exclude}
 use Rattle.dw_find.specs.FoundPaths.{PathsFound, PathsRefuse}
 use Rattle.dw_find.specs.FoundPaths.PathsRefuse.{units as found_units, starts as found_starts, inline as found_inline, string_tables as found_string_tables, name_tables as found_name_tables, slots as found_slots, shared as found_shared}
+use Rattle.dw_find.specs.MacroSections.{SectionUnits, UnitsFailIn, UnitsFoundIn, units as section_fails}
 use Rattle.dw_find.specs.ReadData.{DataRead, DataRefuses}
-use Rattle.dw_find.specs.ReadData.DataRefuses.{units, starts, string_tables, slots, name_tables, lines}
+use Rattle.dw_find.specs.ReadData.DataRefuses.{units, starts, string_tables, slots, name_tables, lines, macros}
 use Rattle.dw_find.specs.UnitPaths.{UnitPaths}
-use Rattle.dw_find.specs.UnitTexts.{HasUnbuilt, data_fails, text_fails, unbuilt}
+use Rattle.dw_find.specs.UnitTexts.{data_fails, text_fails}
 
 -- such a map leaves each path
 same-path : (m : PathMap) (t : List ℕ) → m.base ≡ m.dest → mapped_path m t ≡ t
@@ -69,8 +72,17 @@ pub lines-fault : (v : View) (f : Fault) → Blames (LinesFail (debug_data v)) f
 lines-fault v NoMemory h = tt
 lines-fault v (Refused r) h = lines h
 
-pub data-read : (m : PathMap) (v : View) (us : List UnitPaths) (ts slice : List LineTable) → slice ≡ ts → PathsFound m v us slice → DataRead v ts
-data-read m v us ts slice same f = record { readings = f.readings; reads = f.reads; built = f.built; tables = sym same ∙ f.tables }
+pub macros-fault : (v : View) (f : Fault) → Blames (UnitsFailIn v) f → Blames (DataRefuses v) f
+macros-fault v NoMemory h = tt
+macros-fault v (Refused r) h = macros h
+
+pub data-read : (m : PathMap) (v : View) (us : List UnitPaths) (ts slice : List LineTable) (ss : List SectionUnits) → slice ≡ ts → PathsFound m v us slice → UnitsFoundIn v ss
+    → DataRead v ts ss
+data-read m v us ts slice ss same f units_ = record { readings = f.readings; reads = f.reads; tables = sym same ∙ f.tables; units = units_ }
+
+-- those of a slice of the sections are those of the sections
+pub slice-units : (v : View) (ss slice : List SectionUnits) → slice ≡ ss → UnitsFoundIn v ss → UnitsFoundIn v slice
+slice-units v ss slice same found = subst (UnitsFoundIn v) (sym same) found
 
 -- a map of one word twice is such a map, and there is one
 pub same-ends : (m : PathMap) (w : List ℕ) → m ≡ path_map w w → m.base ≡ m.dest
@@ -88,17 +100,17 @@ offsets-plain : (v : View) (rs : DataReadings) → DataReads (debug_data v) rs �
 unfolding debug_data
 offsets-plain v rs reads = reads.offsets
 
-pub data_read-excludes : (v : View) (rs : DataReadings) (r : Refusal) → DataReads (debug_data v) rs → (HasUnbuilt (debug_data v) → ⊥) → DataRefuses v r → ⊥
-data_read-excludes v rs r reads built (units (data_fails f)) = data-excludes (debug_data v) rs r reads f
-data_read-excludes v rs r reads built (units (text_fails f)) = texts-exclude (debug_data v) rs r reads f
-data_read-excludes v rs r reads built (units (unbuilt u)) = built u
-data_read-excludes v rs r reads built (starts f) = starts-exclude (debug_data v) rs r reads f
-data_read-excludes v rs r reads built (string_tables f) = string_tables-exclude v.order (string_offsets v) rs.offsets r (offsets-plain v rs reads) f
-data_read-excludes v rs r reads built (slots f) = slot_texts-exclude (debug_data v) rs r reads f
-data_read-excludes v rs r reads built (name_tables f) = name_tables-exclude v rs r reads f
-data_read-excludes v rs r reads built (lines f) = lines-exclude (debug_data v) rs.lines r reads.lines f
+pub data_read-excludes : (v : View) (rs : DataReadings) (r : Refusal) → DataReads (debug_data v) rs → DataRefuses v r → ⊥
+data_read-excludes v rs r reads (units (data_fails f)) = data-excludes (debug_data v) rs r reads f
+data_read-excludes v rs r reads (units (text_fails f)) = texts-exclude (debug_data v) rs r reads f
+data_read-excludes v rs r reads (starts f) = starts-exclude (debug_data v) rs r reads f
+data_read-excludes v rs r reads (string_tables f) = string_tables-exclude v.order (string_offsets v) rs.offsets r (offsets-plain v rs reads) f
+data_read-excludes v rs r reads (slots f) = slot_texts-exclude (debug_data v) rs r reads f
+data_read-excludes v rs r reads (name_tables f) = name_tables-exclude v rs r reads f
+data_read-excludes v rs r reads (lines f) = lines-exclude (debug_data v) rs.lines r reads.lines f
+data_read-excludes v rs r reads (macros (section_fails z before behind split f)) = macros-exclude v rs before behind z r reads split f
 
 pub found-excludes : {m : PathMap} {v : View} {us : List UnitPaths} {ts : List LineTable} (r : Refusal) → PathsFound m v us ts → DataRefuses v r → ⊥
-found-excludes {m} {v} r found f = data_read-excludes v found.readings r found.reads found.built f
+found-excludes {m} {v} r found f = data_read-excludes v found.readings r found.reads f
 
-pub ruleset read_rules = (found-fault, lines-fault, data-read)
+pub ruleset read_rules = (found-fault, lines-fault, macros-fault, data-read, slice-units)

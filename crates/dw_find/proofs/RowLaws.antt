@@ -21,18 +21,17 @@ use Rattle.dw_base.specs.declared.values.Spec.{Spec}
 use Rattle.dw_base.specs.declared.values.Value.{Value}
 use Rattle.dw_base.specs.declared.values.ValueClass.{ValueClass}
 use Rattle.dw_find.specs.EntryTexts.{ValueRefuses, ValuesRefuse, fails, value}
-use Rattle.dw_find.specs.EntryTexts.ValueRefuses.{str, line_str, unbuilt}
+use Rattle.dw_find.specs.EntryTexts.ValueRefuses.{str, line_str}
 use Rattle.dw_find.specs.UnitTexts.{tables_of, UnitsRefuse, data_fails, text_fails, UnitRefuses}
 use Rattle.dw_find.specs.UnitTexts.EntryRefuses.{values as entry_values}
 use Rattle.dw_find.specs.UnitTexts.UnitRefuses.{entries as unit_entries, entry as unit_entry}
-use Rattle.dw_find.specs.UnitTexts.UnitsRefuse.{unbuilt as units_unbuilt}
 use Rattle.dw_find.proofs.TakenLaws.{UnitCells, value-number}
 use Rattle.dw_find.proofs.ValueFactLaws.{OffsetRead, OffsetFacts, value-facts}
 
 -- a value that can't be taken, in a unit of debug data
 value-row : (d : DebugData) (z : UnitSection) (h : UnitHeader) (table : List Abbreviation) (number : ℕ) (a : Abbreviation) (x : Spec) (place : ℕ) (v : Value) (r : Refusal)
     → HasTable d z h table → UnitCells d z.contents h.params h.end → h.section ≡ z.number
-    → HasValue h table (bytes_up_to z h) number a x place v → ValueRefuses (tables_of d) h.section x v r → UnitsRefuse d r
+    → HasValue h table (bytes_up_to z h) number a x place v → ValueRefuses (tables_of d) h.section v r → UnitsRefuse d r
 value-row d z h table number a x place v r there u section has (str class ends) =
     let facts : OffsetRead h.params (bytes_up_to z h) v =
     subst (λ (c : ValueClass). OffsetFacts c h.params (bytes_up_to z h) v) class (value-facts h.params x (bytes_up_to z h) place v has.is).offset in
@@ -46,19 +45,6 @@ value-row d z h table number a x place v r there u section has (line_str class e
     ap (ends_in d.line_str.bytes) (value-number d z.contents h.params h.end d.line_str v u facts) ∙ ends in
     subst (λ (n : ℕ). UnitsRefuse d (at StringOffset n v.at)) (sym section)
     (text_fails (no_text z h table number a x place v d.line_str there has (ap (text_table d) class) none))
-value-row d z h table number a x place v r there u section has (unbuilt yes_) = units_unbuilt (record {
-  section = z;
-  header = h;
-  table = table;
-  number = number;
-  abbreviation = a;
-  spec = x;
-  place = place;
-  value = v;
-  there = there;
-  stands = has;
-  unbuilt = yes_;
-})
 
 read-same : (a b : ℕ × ℕ) (o : Option (ℕ × ℕ)) → o ≡ Some a → o ≡ Some b → a ≡ b
 read-same a b o e f = cc

@@ -21,7 +21,7 @@ use Rattle.dw_find.specs.TextPlaces.{InlinesFit, AllFitRooms, SectionSays, AllPl
 use Rattle.dw_find.specs.UnitPaths.{UnitPaths}
 use Rattle.dw_find.specs.UnitTexts.{AllTaken}
 use Rattle.dw_find.proofs.ApartLaws.{says-apart}
-use Rattle.dw_find.proofs.PlaceValueLaws.{EachOf, each-get, PlaceOf, section-each, path-fields, InlineOf, inlines-each, inline-rooms, inline-row, start-fields}
+use Rattle.dw_find.proofs.PlaceValueLaws.{EachOf, each-get, PlaceOf, section-each, path-fields, InlineOf, inlines-each, inline-rooms, inline-row, start-fields, unit-fields}
 
 -- a section that was taken, in its place among all
 pub record SectionFacts (v : View) (u : UnitPaths) : Type 0 where
@@ -80,6 +80,9 @@ has-paths v u f = record {
   starts = subst (λ (bs : List ℕ). AreStartFields bs u.starts) (says-bytes v f.before f.behind f.section u f.split f.says)
       (subst (AreStartFields (bytes_of f.section.contents)) (sym (ap (λ (x : UnitPaths). x.starts) f.says.says))
       (start-fields (debug_data v) f.section f.says.places (facts-each v u f)));
+  macros = subst (λ (bs : List ℕ). AreStartFields bs u.macros) (says-bytes v f.before f.behind f.section u f.split f.says)
+      (subst (AreStartFields (bytes_of f.section.contents)) (sym (ap (λ (x : UnitPaths). x.macros) f.says.says))
+      (unit-fields (debug_data v) f.section f.says.places (facts-each v u f)));
   apart = says-apart (debug_data v) f.section u f.says;
   rooms = subst (λ (bs : List ℕ). AreRooms bs u.inline) (says-bytes v f.before f.behind f.section u f.split f.says)
       (inline-rooms (debug_data v) f.section u.inline (facts-inline v u f));

@@ -14,6 +14,7 @@ use Rattle.dw_find.specs.SlotPaths.{as_fields, slots_with, slots_by}
 use Rattle.dw_find.specs.UnitPaths.{UnitPaths}
 use Rattle.dw_find.specs.declared.fields.InlinePath.{InlinePath}
 use Rattle.dw_find.specs.declared.fields.PathField.{PathField}
+use Rattle.dw_find.proofs.FoundLaws.{paths-same}
 
 -- one field more
 more-fields : (slots : List PathSlot) (i : ℕ) (s : PathSlot) → i < length slots → s ≡ get_or slots i s
@@ -36,14 +37,11 @@ fields-all slots i fields end is = is ∙ ap as_fields (take_all i slots end)
 pub ruleset field_rules = (fields-more, fields-all)
 
 -- what the section says
-pub with-fields : (n : ℕ) (fields str line_str starts : List PathField) (inline : List InlinePath) (stray : Option ℕ) → str ≡ fields → line_str ≡ [] → inline ≡ [] → starts ≡ []
-    → stray ≡ None → record { number = n; str = str; line_str = line_str; inline = inline; starts = starts; stray = stray } ≡ slots_with n fields
-with-fields n fields str line_str starts inline stray s l i t none =
-    ap (λ (fs : List PathField). record { number = n; str = fs; line_str = line_str; inline = inline; starts = starts; stray = stray }) s
-    ∙ ap (λ (fs : List PathField). record { number = n; str = fields; line_str = fs; inline = inline; starts = starts; stray = stray }) l
-    ∙ ap (λ (ps : List InlinePath). record { number = n; str = fields; line_str = []; inline = ps; starts = starts; stray = stray }) i
-    ∙ ap (λ (fs : List PathField). record { number = n; str = fields; line_str = []; inline = []; starts = fs; stray = stray }) t
-    ∙ ap (λ (o : Option ℕ). record { number = n; str = fields; line_str = []; inline = []; starts = []; stray = o }) none
+pub with-fields : (n : ℕ) (fields str line_str starts macros : List PathField) (inline : List InlinePath) (stray : Option ℕ) → str ≡ fields → line_str ≡ [] → inline ≡ [] → starts ≡ []
+    → macros ≡ [] → stray ≡ None
+    → record { number = n; str = str; line_str = line_str; inline = inline; starts = starts; macros = macros; stray = stray } ≡ slots_with n fields
+with-fields n fields str line_str starts macros inline stray s l i t m none =
+    paths-same n str fields line_str [] inline [] starts [] macros [] stray None s l i t m none
 
 pub ruleset with_rules = (with-fields)
 

@@ -1,11 +1,11 @@
--- Forms of values that are to say where a line table starts (DWARF 5, 3.1.1 and table 7.6), and the form that stands in front of a
--- value.
+-- Forms of values that are to say where a line table or a macro unit starts (DWARF 5, 3.1.1 and table 7.6), and the form that stands in
+-- front of a value.
 use Rattle.std.proofs.Common.{Bool, true, false, ◌≡◌, ◌≢◌, ◌⊎◌, inl, inr, ℕ, ◌+◌, ◌==◌, ◌&&◌, ◌||◌, not, List, [], ◌∷◌, cond, Option, Some, refl, sym, ap, ◌∙◌, subst}
 use Rattle.std.proofs.lemmas.Bool.{and_parts, eqb-true, ne_eqb}
 use Rattle.dw_base.specs.Forms.{ValueKind, number_of, form_in_front, FormRow, form_rows, kind_by, kind_in, width_size}
 use Rattle.dw_base.specs.Lebs.{uleb_at}
-use Rattle.dw_base.specs.Roles.{Use, names_path, names_line_table, names_macro_unit, names_other, is_line_start, is_path, use_of, is_unit_tag}
-use Rattle.dw_base.specs.TableStarts.{can_start, start_form_by}
+use Rattle.dw_base.specs.Roles.{Use, names_path, names_line_table, names_macro_unit, names_other, is_line_start, is_macro_start, is_path, use_of, is_unit_tag}
+use Rattle.dw_base.specs.TableStarts.{can_start, can_start_unit, macro_value_by, start_form_by}
 use Rattle.dw_base.specs.UnitStates.{read_value}
 use Rattle.dw_base.specs.declared.dwarf_numbers.TheConstants.{DW_AT_stmt_list, DW_AT_macros, DW_AT_GNU_macros, DW_FORM_data4, DW_FORM_data8, DW_FORM_indirect, DW_FORM_sec_offset}
 use Rattle.dw_base.specs.declared.shared.Params.{Params}
@@ -14,7 +14,7 @@ use Rattle.dw_base.specs.declared.shared.Width.TheVariants.{W32, W64}
 use Rattle.dw_base.specs.declared.values.Spec.{Spec}
 use Rattle.dw_base.specs.declared.values.ValueClass.{ValueClass}
 use Rattle.dw_base.specs.declared.values.ValueClass.TheVariants.{Number, SecOffset}
-use Rattle.dw_find.specs.TextPlaces.{is_start_form, own_form, own_place, read_size}
+use Rattle.dw_find.specs.TextPlaces.{is_macros, is_start_form, own_form, own_place, read_size}
 
 -- in the table of forms the kinds that can say a start are those of these forms, and one form stands in front of values
 abbrev is_front : ValueKind → Bool
@@ -168,40 +168,110 @@ line-use number tag name e =
     (line-path number tag name e)
     ∙ ap (λ (b : Bool). cond b names_line_table (cond (name == DW_AT_macros || name == DW_AT_GNU_macros) names_macro_unit names_other)) e
 
--- a use that is no line table's
+-- a use that is no line table's, and one that is no macro unit's either
 abbrev pub is_other_use : Use → Bool
 is_other_use names_line_table = false
 is_other_use u = true
 
-pub other-use : (number tag name : ℕ) → (name == DW_AT_stmt_list) ≡ false → is_other_use (use_of number tag name) ≡ true
-other-use number tag name e =
-    ap (λ (b : Bool). is_other_use (cond (is_path number tag name) names_path (cond b names_line_table (cond (name == DW_AT_macros || name == DW_AT_GNU_macros) names_macro_unit names_other)))) e
-    ∙ by_rest (is_path number tag name) (name == DW_AT_macros || name == DW_AT_GNU_macros)
-  where
-    by_rest : (path macro : Bool) → is_other_use (cond path names_path (cond macro names_macro_unit names_other)) ≡ true
-    by_rest true macro = refl
-    by_rest false true = refl
-    by_rest false false = refl
+abbrev pub is_plain_use : Use → Bool
+is_plain_use names_line_table = false
+is_plain_use names_macro_unit = false
+is_plain_use u = true
 
-pub other-starts : (k : ValueKind) (u : Use) → is_other_use u ≡ true → start_form_by k u ≡ true
-other-starts k names_line_table other = absurd cc
-other-starts form_in_front u other = refl
-other-starts k names_path other = by_kind k
+pub plain-other : (u : Use) → is_plain_use u ≡ true → is_other_use u ≡ true
+plain-other names_line_table e = absurd cc
+plain-other names_macro_unit e = refl
+plain-other names_path e = refl
+plain-other names_other e = refl
+
+pub plain-use : (number tag name : ℕ) → (name == DW_AT_stmt_list) ≡ false → is_macros name ≡ false → is_plain_use (use_of number tag name) ≡ true
+plain-use number tag name e f =
+    ap (λ (b : Bool). is_plain_use (cond (is_path number tag name) names_path (cond b names_line_table (cond (is_macros name) names_macro_unit names_other)))) e
+    ∙ ap (λ (b : Bool). is_plain_use (cond (is_path number tag name) names_path (cond b names_macro_unit names_other))) f
+    ∙ by_path (is_path number tag name)
+  where
+    by_path : (path : Bool) → is_plain_use (cond path names_path names_other) ≡ true
+    by_path true = refl
+    by_path false = refl
+
+pub plain-starts : (k : ValueKind) (u : Use) → is_plain_use u ≡ true → start_form_by k u ≡ true
+plain-starts k names_line_table plain = absurd cc
+plain-starts k names_macro_unit plain = absurd cc
+plain-starts k names_path plain = by_kind k
   where
     by_kind : (x : ValueKind) → start_form_by x names_path ≡ true
     by_kind form_in_front = refl
     by_kind x = refl
-other-starts k names_macro_unit other = by_kind k
-  where
-    by_kind : (x : ValueKind) → start_form_by x names_macro_unit ≡ true
-    by_kind form_in_front = refl
-    by_kind x = refl
-other-starts k names_other other = by_kind k
+plain-starts k names_other plain = by_kind k
   where
     by_kind : (x : ValueKind) → start_form_by x names_other ≡ true
     by_kind form_in_front = refl
     by_kind x = refl
 
+plain-number : (u : Use) (class : ValueClass) (n : ℕ) → is_plain_use u ≡ true → is_macro_start u class n ≡ false
+plain-number names_line_table class n plain = absurd cc
+plain-number names_macro_unit class n plain = absurd cc
+plain-number names_path class n plain = refl
+plain-number names_other class n plain = refl
+
+pub plain-macro : (k : ValueKind) (u : Use) → is_plain_use u ≡ true → macro_value_by k u ≡ false
+plain-macro (number_of class n) u plain = plain-number u class n plain
+plain-macro k u plain = refl
+
 pub line-starts : (k : ValueKind) → k ≢ form_in_front → start_form_by k names_line_table ≡ can_start k
 line-starts form_in_front other = absurd (other refl)
 line-starts k other = refl
+
+pub line-macro : (k : ValueKind) → macro_value_by k names_line_table ≡ false
+line-macro (number_of class n) = refl
+line-macro k = refl
+
+-- an attribute that says where a macro unit starts
+same-class : (class : ValueClass) (n : ℕ) → is_macro_start names_macro_unit class n ≡ is_line_start names_line_table class n
+same-class SecOffset n = refl
+same-class Number n = refl
+same-class class n = refl
+
+same-start : (k : ValueKind) → can_start_unit k ≡ can_start k
+same-start (number_of class n) = same-class class n
+same-start k = refl
+
+pub macro-starts : (k : ValueKind) → k ≢ form_in_front → start_form_by k names_macro_unit ≡ can_start k
+macro-starts form_in_front other = absurd (other refl)
+macro-starts (number_of class n) other = same-class class n
+macro-starts k other = refl
+
+pub macro-value : (k : ValueKind) → macro_value_by k names_macro_unit ≡ can_start k
+macro-value (number_of class n) = same-class class n
+macro-value k = refl
+
+both_or : (a b : Bool) → (a || b) ≡ true → (a ≡ true) ⊎ (b ≡ true)
+both_or true b h = inl refl
+both_or false b h = inr h
+
+pub macro-path : (number tag name : ℕ) → is_macros name ≡ true → is_path number tag name ≡ false
+macro-path number tag name e = by (both_or (name == DW_AT_macros) (name == DW_AT_GNU_macros) e)
+  where
+    by : ((name == DW_AT_macros) ≡ true) ⊎ ((name == DW_AT_GNU_macros) ≡ true) → is_path number tag name ≡ false
+    by (inl is) = ap (is_path number tag) (eqb-true name DW_AT_macros is) ∙ and-false (number == 0 && is_unit_tag tag)
+    by (inr is) = ap (is_path number tag) (eqb-true name DW_AT_GNU_macros is) ∙ and-false (number == 0 && is_unit_tag tag)
+
+pub macro-use : (number tag name : ℕ) → (name == DW_AT_stmt_list) ≡ false → is_macros name ≡ true → use_of number tag name ≡ names_macro_unit
+macro-use number tag name line e =
+    ap (λ (b : Bool). cond b names_path (cond (name == DW_AT_stmt_list) names_line_table (cond (is_macros name) names_macro_unit names_other))) (macro-path number tag name e)
+    ∙ ap (λ (b : Bool). cond b names_line_table (cond (is_macros name) names_macro_unit names_other)) line
+    ∙ ap (λ (b : Bool). cond b names_macro_unit names_other) e
+
+pub line-macros : (name : ℕ) → (name == DW_AT_stmt_list) ≡ true → is_macros name ≡ false
+line-macros name e = ap is_macros (eqb-true name DW_AT_stmt_list e)
+
+-- a value that says where a macro unit starts has a form that can
+number-form : (u : Use) (class : ValueClass) (n : ℕ) → is_macro_start u class n ≡ true → start_form_by (number_of class n) u ≡ true
+number-form names_macro_unit class n e = e
+number-form names_line_table class n e = absurd cc
+number-form names_path class n e = absurd cc
+number-form names_other class n e = absurd cc
+
+pub macro-form : (k : ValueKind) (u : Use) → macro_value_by k u ≡ true → start_form_by k u ≡ true
+macro-form (number_of class n) u e = number-form u class n e
+macro-form k u e = absurd cc

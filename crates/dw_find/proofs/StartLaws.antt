@@ -9,21 +9,22 @@ use Rattle.std.proofs.lemmas.Cmp.{ranked}
 use Rattle.std.proofs.lemmas.List.{drop_all}
 use Rattle.std.proofs.lemmas.List.Sorted.{IsNonDecreasingBy-from_default}
 use Rattle.dw_base.specs.AbbreviationTables.{Abbreviation, abbreviation_of}
-use Rattle.dw_base.specs.Cells.{Cell, bytes_of, located_cells, offset_of}
-use Rattle.dw_base.specs.DebugData.{DebugData, DataReadings, ReadsAll, around_of, line_source, line_table, start_number, units_in}
+use Rattle.dw_base.specs.Cells.{Cell, Relocation, bytes_of, cells_at, field_by, field_of, located_cells, offset_of}
+use Rattle.dw_base.specs.DebugData.{DebugData, DataReadings, ReadsAll, around_of, line_source, line_table, macro_unit, start_number, started_unit, unit_named, units_in}
 use Rattle.dw_base.specs.EntryScans.{depth_behind}
 use Rattle.dw_base.specs.FileViews.{View, section_bytes}
 use Rattle.dw_base.specs.Forms.{ValueKind, form_in_front, kind_in}
 use Rattle.dw_base.specs.LineMeanings.{is_there}
 use Rattle.dw_base.specs.LineReadings.{LineReading, ReadsTable, TablesTo, table_starts}
 use Rattle.dw_base.specs.LineSources.{LineSource}
+use Rattle.dw_base.specs.MacroReadings.{first_macros, macro_starts}
 use Rattle.dw_base.specs.Numbers.{spelled}
 use Rattle.dw_base.specs.Pieces.{Piece, Chain, EachPiece, joined}
 use Rattle.dw_base.proofs.UnitEditLaws.{length-bytes_of}
 use Rattle.dw_base.specs.Readings.{Reading, Readings}
 use Rattle.dw_base.specs.Refusals.{at}
 use Rattle.dw_base.specs.Roles.{Role, fixed, offset, inline_path, line_start, role_of}
-use Rattle.dw_base.specs.TableStarts.{other_form as form_row, no_table as table_row, has_start_form}
+use Rattle.dw_base.specs.TableStarts.{other_form as form_row, no_table as table_row, no_unit as unit_row, has_start_form, is_macro_value}
 use Rattle.dw_base.specs.UnitHeaders.{UnitBase, UnitSection}
 use Rattle.dw_base.specs.UnitPieces.{ReadsUnits, unit_grammar}
 use Rattle.dw_base.specs.UnitStates.{Mode, at_header, at_code, at_values, at_chosen, stuck, UnitState, before_unit, in_unit, between, inside, headed, after_header, after_entry, after_code, after_value, code_value, piece_header, past}
@@ -33,7 +34,9 @@ use Rattle.dw_base.specs.declared.fault.Refusal.{Refusal}
 use Rattle.dw_base.specs.declared.shared.Order.{Order}
 use Rattle.dw_base.specs.declared.units.UnitHeader.{UnitHeader}
 use Rattle.dw_base.specs.declared.values.Spec.{Spec}
-use Rattle.dw_base.proofs.PlainCellLaws.{IsPlain, offset_of-plain, plain-parts}
+use Rattle.dw_base.specs.declared.view_fields.Field.{Field}
+use Rattle.dw_base.specs.declared.view_fields.Field.TheVariants.{Num}
+use Rattle.dw_base.proofs.PlainCellLaws.{IsPlain, first-plain, offset_of-plain, plain-parts}
 use Rattle.dw_entries.specs.Fronts.{IsOfView}
 use Rattle.dw_meaning.specs.DataFails.{StartsFail, stray}
 use Rattle.dw_meaning.proofs.LineHeaderLaws.{header-is}
@@ -41,15 +44,16 @@ use Rattle.dw_meaning.proofs.LineSectionLaws.{some-bytes}
 use Rattle.dw_meaning.proofs.LineTableLaws.{header-places}
 use Rattle.dw_meaning.proofs.SlotRowLaws.{piece-among}
 use Rattle.dw_find.specs.Fields.{AreStartFields, IsStartField}
-use Rattle.dw_find.specs.IndexedTexts.{TablesStart}
-use Rattle.dw_find.specs.LineStarts.{HasStart, IsStartGap, Rises, SectionStrays, other_form, no_table, StartsStray, field}
+use Rattle.dw_find.specs.IndexedTexts.{TablesStart, UnitsStart}
+use Rattle.dw_find.specs.LineStarts.{HasStart, IsStartGap, Rises, SectionStrays, other_form, no_table, no_unit, StartsStray, field}
 use Rattle.dw_find.specs.ViewFields.{HasPaths, info_of}
-use Rattle.dw_find.specs.TextPlaces.{AllPlaced, AllStarts, SectionStarts, StartsHere, StartsNamed}
-use Rattle.dw_find.specs.UnitPaths.{UnitPaths, paths_in, paths_of, start_by, start_fields, stray_among}
+use Rattle.dw_find.specs.TextPlaces.{AllPlaced, AllStarts, SectionStarts, StartsHere, StartsNamed, UnitsNamed, names_place}
+use Rattle.dw_find.specs.UnitPaths.{UnitPaths, paths_in, paths_of, macro_by, macro_fields, start_by, start_fields, stray_among}
 use Rattle.dw_find.specs.UnitTexts.{AllTaken}
 use Rattle.dw_find.specs.declared.fields.PathField.{PathField}
 use Rattle.dw_find.proofs.FoundLaws.{FoundReadings, found-readings}
 use Rattle.dw_find.proofs.PlaceValueLaws.{EachOf, each-get, offset-number}
+use Rattle.dw_find.proofs.TakenLaws.{plain-at}
 use Rattle.dw_find.proofs.PlacedLaws.{Placed, placed}
 use Rattle.dw_find.proofs.PieceFieldLaws.{piece_number}
 use Rattle.dw_find.proofs.SectionFactLaws.{has-paths, own-section, own-bytes, own-plain, paths-at, says-bytes, taken-placed}
@@ -186,19 +190,29 @@ section-there v u h = h.there
 pub section-fields : (v : View) (u : UnitPaths) (info : List ℕ) (fields : List PathField) → HasPaths v u → info ≡ info_of v u → fields ≡ u.starts → AreStartFields info fields
 section-fields v u info fields h ei ef = subst (λ (bs : List ℕ). AreStartFields bs fields) (sym ei) (subst (AreStartFields (info_of v u)) (sym ef) h.starts)
 
-pub section-strays : (order own : Order) (n : ℕ) (info bytes starts : List ℕ) (u : UnitPaths) (fields : List PathField) (r : Refusal) → order ≡ own → n ≡ u.number → info ≡ bytes
-    → fields ≡ u.starts → StartsStray order n info starts fields r → SectionStrays own bytes starts u r
-section-strays order own n info bytes starts u fields r eo en ei ef h =
+pub section-strays : (order own : Order) (n : ℕ) (info bytes starts places : List ℕ) (u : UnitPaths) (fields : List PathField) (r : Refusal) → order ≡ own → n ≡ u.number → info ≡ bytes
+    → fields ≡ u.starts → StartsStray order n info starts fields r → SectionStrays own bytes starts places u r
+section-strays order own n info bytes starts places u fields r eo en ei ef h =
     no_table (subst (λ (o : Order). StartsStray o u.number bytes starts u.starts r) eo
     (subst (λ (k : ℕ). StartsStray order k bytes starts u.starts r) en
     (subst (λ (bs : List ℕ). StartsStray order n bs starts u.starts r) ei (subst (λ (fs : List PathField). StartsStray order n info starts fs r) ef h))))
 
-pub section-stray : (own : Order) (bytes starts : List ℕ) (u : UnitPaths) (n place : ℕ) (r : Refusal) → n ≡ u.number → u.stray ≡ Some place → r ≡ at Stray n place
-    → SectionStrays own bytes starts u r
-section-stray own bytes starts u n place r en some same =
-    subst (SectionStrays own bytes starts u) (sym (same ∙ ap (λ (k : ℕ). at Stray k place) en)) (other_form place some)
+pub unit-strays : (order own : Order) (n : ℕ) (info bytes starts places : List ℕ) (u : UnitPaths) (fields : List PathField) (r : Refusal) → order ≡ own → n ≡ u.number → info ≡ bytes
+    → fields ≡ u.macros → StartsStray order n info places fields r → SectionStrays own bytes starts places u r
+unit-strays order own n info bytes starts places u fields r eo en ei ef h =
+    no_unit (subst (λ (o : Order). StartsStray o u.number bytes places u.macros r) eo
+    (subst (λ (k : ℕ). StartsStray order k bytes places u.macros r) en
+    (subst (λ (bs : List ℕ). StartsStray order n bs places u.macros r) ei (subst (λ (fs : List PathField). StartsStray order n info places fs r) ef h))))
 
-pub ruleset section_rules = (section-there, section-fields)
+pub section-stray : (own : Order) (bytes starts places : List ℕ) (u : UnitPaths) (n place : ℕ) (r : Refusal) → n ≡ u.number → u.stray ≡ Some place → r ≡ at Stray n place
+    → SectionStrays own bytes starts places u r
+section-stray own bytes starts places u n place r en some same =
+    subst (SectionStrays own bytes starts places u) (sym (same ∙ ap (λ (k : ℕ). at Stray k place) en)) (other_form place some)
+
+pub unit-fields : (v : View) (u : UnitPaths) (info : List ℕ) (fields : List PathField) → HasPaths v u → info ≡ info_of v u → fields ≡ u.macros → AreStartFields info fields
+unit-fields v u info fields h ei ef = subst (λ (bs : List ℕ). AreStartFields bs fields) (sym ei) (subst (AreStartFields (info_of v u)) (sym ef) h.macros)
+
+pub ruleset section_rules = (section-there, section-fields, unit-fields)
 
 -- no piece leaves the section
 stays-between : (s : UnitState) (place entry depth : ℕ) → (between s place entry depth).section ≡ s.section
@@ -305,6 +319,25 @@ start-pieces all front (x ∷ xs) split =
     by_role inline_path e rest = rest
     by_role line_start e rest = (record { one = x; front = front; rest = xs; split = split; role = e; is = refl }, rest)
 
+-- the piece of a field that says where a macro unit starts
+record UnitPiece (xs : List (Piece UnitState)) (f : PathField) : Type 0 where
+  one : Piece UnitState
+  front : List (Piece UnitState)
+  rest : List (Piece UnitState)
+  split : xs ≡ front ++ one ∷ rest
+  value : is_macro_value one ≡ true
+  is : f ≡ record { at = one.state.place; size = length one.cells }
+
+unit-pieces : (all front xs : List (Piece UnitState)) → all ≡ front ++ xs → EachOf (UnitPiece all) (macro_fields xs)
+unit-pieces all front [] split = tt
+unit-pieces all front (x ∷ xs) split =
+    by_value (is_macro_value x) refl (unit-pieces all (front ++ x ∷ []) xs (split ∙ sym (append_assoc front (x ∷ []) xs)))
+  where
+    by_value : (b : Bool) → is_macro_value x ≡ b → EachOf (UnitPiece all) (macro_fields xs)
+        → EachOf (UnitPiece all) (macro_by b x.state.place (length x.cells) ++ macro_fields xs)
+    by_value false e rest = rest
+    by_value true e rest = (record { one = x; front = front; rest = xs; split = split; value = e; is = refl }, rest)
+
 -- the reading of a section that says this
 record ReadingOf (v : View) (rs : Readings) (u : UnitPaths) : Type 0 where
   before : Readings
@@ -367,17 +400,35 @@ none-there v q starts info x section same p none =
     ∙ ap (λ (ss : List ℕ). is_there (start_number 0 ss (spelled v.order info x.state.place (length x.cells)))) (sym same)
     ∙ ap is_there none
 
+-- where no macro unit starts
+pub field-plain : (o : Order) (p : List Cell) → IsPlain p → field_of o p ≡ Num (spelled o (bytes_of p) 0 (length p))
+unfolding field_of
+field-plain o p plain = ap (λ (x : Option Relocation). field_by x (length p) (spelled o (bytes_of p) 0 (length p))) (first-plain p plain)
+
+no-unit-there : (v : View) (q : DataReadings) (places info : List ℕ) (x : Piece UnitState) (section : ℕ)
+    → ((n : ℕ) → is_there (started_unit 0 (macro_starts q.macros) (first_macros (debug_data v).macros) n) ≡ is_there (start_number 0 places n)) → PieceFacts section info x
+    → start_number 0 places (spelled v.order info x.state.place (length x.cells)) ≡ None → is_there (macro_unit (around_of (debug_data v) q).lasting x.cells) ≡ false
+unfolding debug_data
+no-unit-there v q places info x section named p none =
+    let number : spelled v.order (bytes_of x.cells) 0 (length x.cells) ≡ spelled v.order info x.state.place (length x.cells) =
+    piece_number v.order (bytes_of x.cells) p.rest info x.state.place (length x.cells) p.stands (length-bytes_of x.cells) in
+    ap (λ (f : Field). is_there (unit_named (around_of (debug_data v) q).lasting.macros f)) (field-plain v.order x.cells p.plain)
+    ∙ named (spelled v.order (bytes_of x.cells) 0 (length x.cells))
+    ∙ ap (λ (n : ℕ). is_there (start_number 0 places n)) number
+    ∙ ap is_there none
+
 -- a value that says none is a row
-pub section-row : (v : View) (starts : List ℕ) (us : List UnitPaths) (i : ℕ) (u : UnitPaths) (r : Refusal) → AllTaken (debug_data v) (debug_data v).units us
-    → TablesStart (debug_data v) starts → i < length us → u ≡ get_or us i u → SectionStrays v.order (info_of v u) starts u r → StartsFail (debug_data v) r
-section-row v starts us i u r taken t lt is row =
+pub section-row : (v : View) (starts places : List ℕ) (us : List UnitPaths) (i : ℕ) (u : UnitPaths) (r : Refusal) → AllTaken (debug_data v) (debug_data v).units us
+    → TablesStart (debug_data v) starts → UnitsStart (debug_data v) places → i < length us → u ≡ get_or us i u → SectionStrays v.order (info_of v u) starts places u r
+    → StartsFail (debug_data v) r
+section-row v starts places us i u r taken t ms lt is row =
     let d : DebugData = debug_data v in
     let f : FoundReadings (debug_data v) 0 (debug_data v).units us = found-readings (debug_data v) 0 (debug_data v).units us (taken-placed (debug_data v) (debug_data v).units us taken) in
     by_row f (reading-of v [] (debug_data v).units 0 f.readings i u refl f.reads (subst (λ (xs : List UnitPaths). i < length xs) (sym f.says) lt)
     (is ∙ ap (λ (xs : List UnitPaths). get_or xs i u) (sym f.says))) r row
   where
     all : FoundReadings (debug_data v) 0 (debug_data v).units us → DataReadings
-    all f = record { units = f.readings; offsets = []; lines = t.tables; names = [] }
+    all f = record { units = f.readings; offsets = []; lines = t.tables; macros = ms.readings; names = [] }
 
     by_field : (f : FoundReadings (debug_data v) 0 (debug_data v).units us) (x : ReadingOf v f.readings u) (g : PathField) → StartPiece x.reading.pieces g
         → start_number 0 starts (spelled v.order (info_of v u) g.at g.size) ≡ None → StartsFail (debug_data v) (at Stray u.number g.at)
@@ -387,18 +438,30 @@ section-row v starts us i u r taken t lt is row =
         let absent : start_number 0 starts (spelled v.order (info_of v u) s.one.state.place (length s.one.cells)) ≡ None =
         subst (λ (y : PathField). start_number 0 starts (spelled v.order (info_of v u) y.at y.size) ≡ None) s.is none in
         refused-at (StartsFail (debug_data v)) s.one.state.section u.number s.one.state.place g.at facts.own (sym (ap (λ (y : PathField). y.at) s.is))
-        (stray (all f) (record { units = f.reads; lines = t.are })
+        (stray (all f) (record { units = f.reads; lines = t.are; macros = ms.are })
         (table_row s.one (record { before = x.before; behind = x.behind; section = x.reading; sections = x.sections; front = s.front; rest = s.rest; pieces = s.split }) s.role
         (none-there v (all f) starts (info_of v u) s.one u.number t.is facts absent)))
 
-    by_row : (f : FoundReadings (debug_data v) 0 (debug_data v).units us) (x : ReadingOf v f.readings u) (q : Refusal) → SectionStrays v.order (info_of v u) starts u q
+    by_unit : (f : FoundReadings (debug_data v) 0 (debug_data v).units us) (x : ReadingOf v f.readings u) (g : PathField) → UnitPiece x.reading.pieces g
+        → start_number 0 places (spelled v.order (info_of v u) g.at g.size) ≡ None → StartsFail (debug_data v) (at Stray u.number g.at)
+    by_unit f x g s none =
+        let facts : PieceFacts u.number (info_of v u) s.one =
+        piece-among (PieceFacts u.number (info_of v u)) s.front s.rest s.one (subst (EachPiece (PieceFacts u.number (info_of v u))) s.split x.facts) in
+        let absent : start_number 0 places (spelled v.order (info_of v u) s.one.state.place (length s.one.cells)) ≡ None =
+        subst (λ (y : PathField). start_number 0 places (spelled v.order (info_of v u) y.at y.size) ≡ None) s.is none in
+        refused-at (StartsFail (debug_data v)) s.one.state.section u.number s.one.state.place g.at facts.own (sym (ap (λ (y : PathField). y.at) s.is))
+        (stray (all f) (record { units = f.reads; lines = t.are; macros = ms.are })
+        (unit_row s.one (record { before = x.before; behind = x.behind; section = x.reading; sections = x.sections; front = s.front; rest = s.rest; pieces = s.split }) s.value
+        (no-unit-there v (all f) places (info_of v u) s.one u.number ms.named facts absent)))
+
+    by_row : (f : FoundReadings (debug_data v) 0 (debug_data v).units us) (x : ReadingOf v f.readings u) (q : Refusal) → SectionStrays v.order (info_of v u) starts places u q
         → StartsFail (debug_data v) q
     by_row f x q (other_form place some) =
         let s : StrayPiece x.reading.pieces place = stray-found x.reading.pieces place (ap (λ (y : UnitPaths). y.stray) x.says ∙ some) in
         let facts : PieceFacts u.number (info_of v u) s.one =
         piece-among (PieceFacts u.number (info_of v u)) s.front s.rest s.one (subst (EachPiece (PieceFacts u.number (info_of v u))) s.split x.facts) in
         refused-at (StartsFail (debug_data v)) s.one.state.section u.number s.one.state.place place facts.own s.there
-        (stray (all f) (record { units = f.reads; lines = t.are })
+        (stray (all f) (record { units = f.reads; lines = t.are; macros = ms.are })
         (form_row s.one (record { before = x.before; behind = x.behind; section = x.reading; sections = x.sections; front = s.front; rest = s.rest; pieces = s.split }) s.form))
     by_row f x q (no_table (field k g lt_k is_k none)) =
         let same : start_fields x.reading.pieces ≡ u.starts = ap (λ (y : UnitPaths). y.starts) x.says in
@@ -406,10 +469,16 @@ section-row v starts us i u r taken t lt is row =
         subst (StartPiece x.reading.pieces) (sym is_k)
         (each-get (StartPiece x.reading.pieces) u.starts k g lt_k (subst (EachOf (StartPiece x.reading.pieces)) same (start-pieces x.reading.pieces [] x.reading.pieces refl))) in
         by_field f x g piece none
+    by_row f x q (no_unit (field k g lt_k is_k none)) =
+        let same : macro_fields x.reading.pieces ≡ u.macros = ap (λ (y : UnitPaths). y.macros) x.says in
+        let piece : UnitPiece x.reading.pieces g =
+        subst (UnitPiece x.reading.pieces) (sym is_k)
+        (each-get (UnitPiece x.reading.pieces) u.macros k g lt_k (subst (EachOf (UnitPiece x.reading.pieces)) same (unit-pieces x.reading.pieces [] x.reading.pieces refl))) in
+        by_unit f x g piece none
 
 -- the same of sections: what was tested holds of all
-abbrev pub StartsIn : View → List ℕ → UnitPaths → Type 0
-StartsIn v starts u = SectionStarts v.order (info_of v u) starts u
+abbrev pub StartsIn : View → List ℕ → List ℕ → UnitPaths → Type 0
+StartsIn v starts places u = SectionStarts v.order (info_of v u) starts places u
 
 named-fields : (v : View) (z : UnitSection) (starts : List ℕ) (fs : List PathField) → IsPlain z.contents → EachOf (IsStartField (bytes_of z.contents)) fs
     → StartsHere v.order (bytes_of z.contents) starts fs → StartsNamed (debug_data v) starts z.contents fs
@@ -422,17 +491,33 @@ named-fields v z starts (f ∷ fs) plain each h =
       named-fields v z starts fs plain each.1 h.1,
     )
 
+unit-named : (v : View) (z : UnitSection) (places : List ℕ) (fs : List PathField) → IsPlain z.contents → EachOf (IsStartField (bytes_of z.contents)) fs
+    → StartsHere v.order (bytes_of z.contents) places fs → UnitsNamed (debug_data v) places z.contents fs
+unfolding debug_data
+unit-named v z places [] plain each h = tt
+unit-named v z places (f ∷ fs) plain each h =
+    let first = each.0 in
+    let cells : List Cell = cells_at z.contents f.at f.size in
+    let own : IsPlain (cells_at z.contents f.at f.size) = plain-at z.contents f.at f.size plain in (
+      ap (names_place places) (field-plain v.order (cells_at z.contents f.at f.size) own)
+          ∙ ap (λ (n : ℕ). is_there (start_number 0 places n))
+          (sym (offset_of-plain v.order (located_cells (debug_data v).lines) (cells_at z.contents f.at f.size) own)
+          ∙ offset-number v.order (located_cells (debug_data v).lines) z.contents f.at f.size plain first.inside)
+          ∙ h.0,
+      unit-named v z places fs plain each.1 h.1,
+    )
+
 each-of-fields : (info : List ℕ) (fs : List PathField) → AreStartFields info fs → EachOf (IsStartField info) fs
 each-of-fields info [] are = tt
 each-of-fields info (f ∷ fs) are =
     (are.each 0 f (omega arith), each-of-fields info fs (record { each = λ (k : ℕ) (d : PathField) (lt : k < length fs). are.each (suc k) d (omega arith) }))
 
-all-starts : (v : View) (starts : List ℕ) (before zs : List UnitSection) (us : List UnitPaths) → (debug_data v).units ≡ before ++ zs → AllPlaced (debug_data v) zs us
-    → EachOf (StartsIn v starts) us → AllStarts (debug_data v) starts zs us
-all-starts v starts before [] us split all each = tt
-all-starts v starts before (z ∷ zs) [] split all each = tt
-all-starts v starts before (z ∷ zs) (u ∷ us) split all each =
-    let here : StartsIn v starts u = each.0 in
+all-starts : (v : View) (starts places : List ℕ) (before zs : List UnitSection) (us : List UnitPaths) → (debug_data v).units ≡ before ++ zs → AllPlaced (debug_data v) zs us
+    → EachOf (StartsIn v starts places) us → AllStarts (debug_data v) starts places zs us
+all-starts v starts places before [] us split all each = tt
+all-starts v starts places before (z ∷ zs) [] split all each = tt
+all-starts v starts places before (z ∷ zs) (u ∷ us) split all each =
+    let here : StartsIn v starts places u = each.0 in
     let bytes : bytes_of z.contents ≡ info_of v u = says-bytes v before zs z u split all.0 in
     let has : HasPaths v u = has-paths v u (record { section = z; before = before; behind = zs; split = split; says = all.0 }) in (
       record {
@@ -440,8 +525,11 @@ all-starts v starts before (z ∷ zs) (u ∷ us) split all each =
         named = named-fields v z starts u.starts (own-plain v z (own-section v before zs z split))
             (each-of-fields (bytes_of z.contents) u.starts (subst (λ (bs : List ℕ). AreStartFields bs u.starts) (sym bytes) has.starts))
             (subst (λ (bs : List ℕ). StartsHere v.order bs starts u.starts) (sym bytes) here.there);
+        units = unit-named v z places u.macros (own-plain v z (own-section v before zs z split))
+            (each-of-fields (bytes_of z.contents) u.macros (subst (λ (bs : List ℕ). AreStartFields bs u.macros) (sym bytes) has.macros))
+            (subst (λ (bs : List ℕ). StartsHere v.order bs places u.macros) (sym bytes) here.units);
       },
-      all-starts v starts (before ++ z ∷ []) zs us (split ∙ sym (append_assoc before (z ∷ []) zs)) all.1 each.1,
+      all-starts v starts places (before ++ z ∷ []) zs us (split ∙ sym (append_assoc before (z ∷ []) zs)) all.1 each.1,
     )
 
 sections-front : (us : List UnitPaths) (u : UnitPaths) (i : ℕ) → i < length us → u ≡ get_or us i u → drop i us ≡ u ∷ drop (i + 1) us
@@ -449,21 +537,21 @@ sections-front us u i lt is =
     let next : suc i ≡ i + 1 = omega arith in
     drop-cons us i u lt ∙ ap (λ (n : ℕ). get_or us i u ∷ drop n us) next ∙ ap (λ (y : UnitPaths). y ∷ drop (i + 1) us) (sym is)
 
-pub record AllPassed (v : View) (starts : List ℕ) (us : List UnitPaths) (i : ℕ) : Type 0 where
-  pub here : EachOf (StartsIn v starts) (drop i us) → EachOf (StartsIn v starts) us
+pub record AllPassed (v : View) (starts places : List ℕ) (us : List UnitPaths) (i : ℕ) : Type 0 where
+  pub here : EachOf (StartsIn v starts places) (drop i us) → EachOf (StartsIn v starts places) us
 
-pub all-none : (v : View) (starts : List ℕ) (us : List UnitPaths) → AllPassed v starts us 0
-all-none v starts us = record { here = λ h. h }
+pub all-none : (v : View) (starts places : List ℕ) (us : List UnitPaths) → AllPassed v starts places us 0
+all-none v starts places us = record { here = λ h. h }
 
-pub all-more : (v : View) (starts : List ℕ) (us : List UnitPaths) (i : ℕ) (u : UnitPaths) → i < length us → u ≡ get_or us i u → AllPassed v starts us i
-    → SectionStarts v.order (info_of v u) starts u → AllPassed v starts us (i + 1)
-all-more v starts us i u lt is passed here = record { here = λ h. passed.here (subst (EachOf (StartsIn v starts)) (sym (sections-front us u i lt is)) (here, h)) }
+pub all-more : (v : View) (starts places : List ℕ) (us : List UnitPaths) (i : ℕ) (u : UnitPaths) → i < length us → u ≡ get_or us i u → AllPassed v starts places us i
+    → SectionStarts v.order (info_of v u) starts places u → AllPassed v starts places us (i + 1)
+all-more v starts places us i u lt is passed here = record { here = λ h. passed.here (subst (EachOf (StartsIn v starts places)) (sym (sections-front us u i lt is)) (here, h)) }
 
-pub all-end : (v : View) (starts : List ℕ) (us : List UnitPaths) (i : ℕ) → AllTaken (debug_data v) (debug_data v).units us → length us ≤ i → AllPassed v starts us i
-    → AllStarts (debug_data v) starts (debug_data v).units us
-all-end v starts us i taken end passed =
-    all-starts v starts [] (debug_data v).units us refl (taken-placed (debug_data v) (debug_data v).units us taken)
-    (passed.here (subst (EachOf (StartsIn v starts)) (sym (drop_all i us end)) tt))
+pub all-end : (v : View) (starts places : List ℕ) (us : List UnitPaths) (i : ℕ) → AllTaken (debug_data v) (debug_data v).units us → length us ≤ i → AllPassed v starts places us i
+    → AllStarts (debug_data v) starts places (debug_data v).units us
+all-end v starts places us i taken end passed =
+    all-starts v starts places [] (debug_data v).units us refl (taken-placed (debug_data v) (debug_data v).units us taken)
+    (passed.here (subst (EachOf (StartsIn v starts places)) (sym (drop_all i us end)) tt))
 
 pub taken-paths : (v : View) (us : List UnitPaths) (i : ℕ) (u : UnitPaths) → AllTaken (debug_data v) (debug_data v).units us → i < length us → u ≡ get_or us i u → HasPaths v u
 taken-paths v us i u taken lt is = paths-at v us i u (taken-placed (debug_data v) (debug_data v).units us taken) lt is

@@ -8,7 +8,7 @@ use Rattle.dw_base.specs.Lebs.{uleb_at}
 use Rattle.dw_base.specs.Numbers.{number_at, spelled}
 use Rattle.dw_base.specs.Pieces.{Piece, joined, EachPiece, Leads}
 use Rattle.dw_base.specs.Roles.{role_of, role_of_kind, role_of_mode, use_of, is_path}
-use Rattle.dw_base.specs.TableStarts.{start_form_by}
+use Rattle.dw_base.specs.TableStarts.{macro_value_by, start_form_by}
 use Rattle.dw_base.specs.declared.dwarf_numbers.TheConstants.{DW_AT_stmt_list}
 use Rattle.dw_base.specs.TextIndexes.{is_base}
 use Rattle.dw_base.specs.UnitHeaders.{UnitBase}
@@ -27,7 +27,7 @@ use Rattle.dw_meaning.proofs.PieceLaws.{leads-more, joined-append}
 use Rattle.dw_meaning.proofs.ScanPieceLaws.{part-bytes, before-end, part-length, inside-same, unit_bytes, NumberPiece, number-piece}
 use Rattle.dw_meaning.proofs.TextEditLaws.{chosen-fits}
 use Rattle.dw_meaning.proofs.ValueCutLaws.{IsCut, value_of-own}
-use Rattle.dw_find.specs.TextPlaces.{TextPlace, place_of, indexed_kind, indexed_in, places_in, class_places, value_places, is_start_form, line_at, line_places, own_form, own_place, stray_at, stray_places}
+use Rattle.dw_find.specs.TextPlaces.{TextPlace, place_of, indexed_kind, indexed_in, places_in, class_places, value_places, is_start_form, line_at, line_places, is_macros, is_start, own_form, own_place, said_places, said_start, said_value}
 use Rattle.dw_find.proofs.StartFormLaws.{chosen-form, chosen-place, form-starts, plain-form, plain-place}
 use Rattle.dw_find.proofs.ValuePlaceLaws.{SpellsNumber, kind_plain, value-placed}
 
@@ -203,13 +203,13 @@ value-spells s unlisted cells place implicit v is inside_ = tt
 -- the places of a value by its own form
 value-own : (n tag : ℕ) (x : Spec) (bytes : List ℕ) (place form own : ℕ) (v : Value) → own_form x bytes place ≡ form → own_place x bytes place ≡ own
     → line_places (x.name == DW_AT_stmt_list) form v
-    ++ (class_places v.class (is_path n tag x.name) (is_base n x.name) place v ++ stray_places (x.name == DW_AT_stmt_list) form own)
+    ++ (class_places v.class (is_path n tag x.name) (is_base n x.name) place v ++ said_places (is_start x.name) (is_macros x.name) form own v)
     ≡ value_places n tag x bytes place v
 value-own n tag x bytes place form own v f o =
     ap (λ (k : ℕ). line_places (x.name == DW_AT_stmt_list) k v
-    ++ (class_places v.class (is_path n tag x.name) (is_base n x.name) place v ++ stray_places (x.name == DW_AT_stmt_list) k own)) (sym f)
+    ++ (class_places v.class (is_path n tag x.name) (is_base n x.name) place v ++ said_places (is_start x.name) (is_macros x.name) k own v)) (sym f)
     ∙ ap (λ (k : ℕ). line_places (x.name == DW_AT_stmt_list) (own_form x bytes place) v
-    ++ (class_places v.class (is_path n tag x.name) (is_base n x.name) place v ++ stray_places (x.name == DW_AT_stmt_list) (own_form x bytes place) k)) (sym o)
+    ++ (class_places v.class (is_path n tag x.name) (is_base n x.name) place v ++ said_places (is_start x.name) (is_macros x.name) (own_form x bytes place) k v)) (sym o)
 
 -- so a value of an attribute that isn't behind a form is one
 own-run : (base : UnitBase) (cells : List Cell) (s : UnitState) (place e d n tag : ℕ) (x : Spec) (xs : List Spec) (v : Value)
@@ -233,7 +233,7 @@ own-run base cells s place e d n tag x xs v order other is =
     ∙ ap (λ (m : ℕ). inside s (place + m) e d n tag xs) size)
     (ap (λ (m : ℕ). place_of (role_of_kind (kind_in s.header.params x.form) (use_of n tag x.name)) place m
     ++ (indexed_kind (kind_in s.header.params x.form) (is_path n tag x.name) (is_base n x.name) s.header.params.order place (take v.size (drop place cells))
-    ++ stray_at (start_form_by (kind_in s.header.params x.form) (use_of n tag x.name)) place)) size
+    ++ said_start (start_form_by (kind_in s.header.params x.form) (use_of n tag x.name)) (macro_value_by (kind_in s.header.params x.form) (use_of n tag x.name)) place m)) size
     ∙ value-placed (kind_in s.header.params x.form) s.header.params.order (unit_bytes s cells) place x.implicit n tag x.name x.form (is_base n x.name) place
     (take v.size (drop place cells)) v (kind_plain s.header.params x.form) other (form-starts s.header.params x.form) is
     (value-spells s (kind_in s.header.params x.form) cells place x.implicit v is inside_)
@@ -337,7 +337,7 @@ front-run base cells s place e d n tag form size x xs order front is other own =
     ∙ ap (λ (f : ℕ). in_unit s (place + size) e d (at_chosen n tag place (of_chosen x f) xs)) c.value)
     (ap (λ (k : ValueKind). place_of (role_of_kind k (use_of n tag x.name)) place (length (take size (drop place cells)))
     ++ (indexed_kind k (is_path n tag x.name) (is_base n x.name) s.header.params.order place (take size (drop place cells))
-    ++ stray_at (start_form_by k (use_of n tag x.name)) place)) front)
+    ++ said_start (start_form_by k (use_of n tag x.name)) (macro_value_by k (use_of n tag x.name)) place (length (take size (drop place cells))))) front)
     order
 
 -- and the value behind it
@@ -356,7 +356,7 @@ chosen-run base cells s place e d n tag start form x xs v order other own here i
     ∙ ap (λ (m : ℕ). inside s (place + m) e d n tag xs) size)
     (ap (λ (m : ℕ). place_of (role_of_kind (kind_in s.header.params form) (use_of n tag x.name)) place m
     ++ (indexed_kind (kind_in s.header.params form) (is_path n tag x.name) (is_base n x.name) s.header.params.order start (take v.size (drop place cells))
-    ++ stray_at (start_form_by (kind_in s.header.params form) (use_of n tag x.name)) place)) size
+    ++ said_start (start_form_by (kind_in s.header.params form) (use_of n tag x.name)) (macro_value_by (kind_in s.header.params form) (use_of n tag x.name)) place m)) size
     ∙ value-placed (kind_in s.header.params form) s.header.params.order (unit_bytes s cells) place x.implicit n tag x.name form (is_base n x.name) start
     (take v.size (drop place cells)) v (kind_plain s.header.params form) other (form-starts s.header.params form) is
     (value-spells s (kind_in s.header.params form) cells place x.implicit v is inside_)
@@ -385,18 +385,28 @@ line_places-same : (line : Bool) (form : ℕ) (v w : Value) → v.at ≡ w.at �
 line_places-same true form v w at len = line_at-same (is_start_form form) v w at len
 line_places-same false form v w at len = refl
 
+said_value-same : (b macro : Bool) (place : ℕ) (v w : Value) → v.at ≡ w.at → v.len ≡ w.len → said_value b macro place w ≡ said_value b macro place v
+said_value-same true true place v w at len = rw (at, len) refl
+said_value-same true false place v w at len = refl
+said_value-same false macro place v w at len = refl
+
+said_places-same : (start macro : Bool) (form place : ℕ) (v w : Value) → v.at ≡ w.at → v.len ≡ w.len → said_places start macro form place w ≡ said_places start macro form place v
+said_places-same true macro form place v w at len = said_value-same (is_start_form form) macro place v w at len
+said_places-same false macro form place v w at len = refl
+
 places-same : (n tag : ℕ) (x : Spec) (bytes : List ℕ) (place : ℕ) (v w : Value) → v.class ≡ w.class → v.at ≡ w.at → v.len ≡ w.len → v.number ≡ w.number
     → value_places n tag x bytes place w ≡ value_places n tag x bytes place v
 places-same n tag x bytes place v w class at len number =
-    let line : Bool = x.name == DW_AT_stmt_list in
-    let stray : List TextPlace = stray_places (x.name == DW_AT_stmt_list) (own_form x bytes place) (own_place x bytes place) in
     ap (λ (ts : List TextPlace). ts ++ (class_places w.class (is_path n tag x.name) (is_base n x.name) place w
-    ++ stray_places (x.name == DW_AT_stmt_list) (own_form x bytes place) (own_place x bytes place)))
+    ++ said_places (is_start x.name) (is_macros x.name) (own_form x bytes place) (own_place x bytes place) w))
     (line_places-same (x.name == DW_AT_stmt_list) (own_form x bytes place) v w at len)
     ∙ ap (λ (ts : List TextPlace). line_places (x.name == DW_AT_stmt_list) (own_form x bytes place) v
-    ++ (ts ++ stray_places (x.name == DW_AT_stmt_list) (own_form x bytes place) (own_place x bytes place)))
+    ++ (ts ++ said_places (is_start x.name) (is_macros x.name) (own_form x bytes place) (own_place x bytes place) w))
     (class_places-same w.class (is_path n tag x.name) (is_base n x.name) place v w at len number
     ∙ ap (λ (c : ValueClass). class_places c (is_path n tag x.name) (is_base n x.name) place v) (sym class))
+    ∙ ap (λ (ts : List TextPlace). line_places (x.name == DW_AT_stmt_list) (own_form x bytes place) v
+    ++ (class_places v.class (is_path n tag x.name) (is_base n x.name) place v ++ ts))
+    (said_places-same (is_start x.name) (is_macros x.name) (own_form x bytes place) (own_place x bytes place) v w at len)
 
 -- a value of an attribute is one piece or two
 pub placed-value : (base : UnitBase) (cells : List Cell) (s : UnitState) (place e d n tag : ℕ) (x : Spec) (xs : List Spec) (v : Value)

@@ -24,7 +24,7 @@ pub record IsPathField (table : OffsetTable) (info : List ℕ) (f : PathField) :
 pub record ArePathFields (table : OffsetTable) (info : List ℕ) (fields : List PathField) : Type 0 where
   pub each : (k : ℕ) (d : PathField) → k < length fields → IsPathField table info (get_or fields k d)
 
--- a field that can say where a line table starts lies in the section
+-- a field that can say where a line table or a macro unit starts lies in the section
 pub record IsStartField (info : List ℕ) (f : PathField) : Type 0 where
   pub sized : (f.size ≡ 4) ⊎ (f.size ≡ 8)
   pub inside : f.at + f.size ≤ length info

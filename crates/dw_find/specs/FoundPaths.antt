@@ -24,16 +24,16 @@ use Rattle.dw_find.specs.ViewFields.{AllHaveFields, AllHavePaths, AllRoomsFit}
 use Rattle.dw_find.specs.SlotPaths.{as_fields, lines_count, slots_of_view, slots_read}
 use Rattle.dw_find.specs.TextPlaces.{AllPlaced, AllFitRooms, AllStarts}
 use Rattle.dw_find.specs.UnitPaths.{UnitPaths, paths_of}
-use Rattle.dw_find.specs.UnitTexts.{HasUnbuilt, UnitsRefuse}
+use Rattle.dw_find.specs.MacroSections.{macros_read}
+use Rattle.dw_find.specs.UnitTexts.{UnitsRefuse}
 use Rattle.dw_find.specs.ViewLines.{lines_of_view}
 
--- the unit sections of debug data can be read and say this of paths, each path that stands in its value fits its room, each value that is
--- to say where a line table starts names one of these starts, and no value is of a kind that isn't taken yet
-pub record UnitsFound (m : PathMap) (d : DebugData) (starts : List ℕ) (us : List UnitPaths) : Type 0 where
+-- the unit sections of debug data can be read and say this of paths, each path that stands in its value fits its room, and each value that
+-- is to say where a line table or a macro unit starts names one of these starts or places
+pub record UnitsFound (m : PathMap) (d : DebugData) (starts places : List ℕ) (us : List UnitPaths) : Type 0 where
   pub placed : AllPlaced d d.units us
   pub fits : AllFitRooms m d.units us
-  pub named : AllStarts d starts d.units us
-  pub built : HasUnbuilt d → ⊥
+  pub named : AllStarts d starts places d.units us
 
 -- why they can't be taken: a unit can't be, a value by index names no slot, or a path that stands in its value would grow
 pub data UnitPathsRefuse (m : PathMap) (d : DebugData) (list : List Contribution) : Refusal → Type 0 where
@@ -50,19 +50,18 @@ pub record SlotsFound (m : PathMap) (v : View) (list : List Contribution) (marks
 abbrev pub without_lines : View → List UnitPaths → List UnitPaths
 without_lines v us = take (length us - lines_count v) us
 
--- the debug data of a view can be read, its line tables are these, its paths fit the rooms in which they stand, its slots can be mapped,
--- and no value is of a kind that isn't taken yet; its unit sections say this of paths, behind them its slots, and behind these its line
--- tables. All of these are fields of the view.
+-- the debug data of a view can be read, its line tables are these, its paths fit the rooms in which they stand, and its slots can be mapped;
+-- its unit sections say this of paths, behind them its slots, behind these its macro units, and behind these its line tables. All of these
+-- are fields of the view.
 pub record PathsFound (m : PathMap) (v : View) (us : List UnitPaths) (ts : List LineTable) : Type 0 where
   pub readings : DataReadings
   pub reads : DataReads (debug_data v) readings
   pub inline : EachReading (InlineFits m) readings.units
   pub slots : EachPiece (SlotFits m (around_of (debug_data v) readings)) readings.offsets
-  pub built : HasUnbuilt (debug_data v) → ⊥
   pub fields : AllHaveFields v us
   pub have : AllHavePaths v (without_lines v us)
   pub rooms : AllRoomsFit m v (without_lines v us)
-  pub is : us ≡ (paths_of readings.units ++ slots_read v readings) ++ lines_of_view v ts
+  pub is : us ≡ ((paths_of readings.units ++ slots_read v readings) ++ macros_read readings.macros) ++ lines_of_view v ts
   pub tables : ts ≡ tables_read (line_source (debug_data v)) readings.lines
 
 -- why it can't be

@@ -1,16 +1,19 @@
--- What the units of debug data say of texts by index and of line tables: each such value names a slot, and which slots are named; and why
+-- What the units of debug data say of texts by index, of line tables and of macro units: each such value names a slot, and which slots are named; and why
 -- they can't be taken (DWARF 5, 7.26, 7.5.5, class string, and 3.1.1).
 use Rattle.std.specs.Prelude.{◌≡◌, ℕ, List}
 use Rattle.dw_base.specs.Cells.{located_cells}
-use Rattle.dw_base.specs.DebugData.{DebugData, ReadsAll, line_source}
+use Rattle.dw_base.specs.DebugData.{DebugData, ReadsAll, line_source, start_number, started_unit}
 use Rattle.dw_base.specs.IndexFails.{IndexFails}
 use Rattle.dw_base.specs.LineReadings.{LineReading, AreTables, table_starts}
+use Rattle.dw_base.specs.LineMeanings.{is_there}
+use Rattle.dw_base.specs.MacroReadings.{MacroReading, ReadsAllMacros, first_macros, macro_starts}
 use Rattle.dw_base.specs.Readings.{Readings}
 use Rattle.dw_base.specs.TextIndexes.{Indexing, EachUse, NamesSlot, all_bases, index_uses}
 use Rattle.dw_base.specs.declared.fault.Refusal.{Refusal}
 use Rattle.dw_base.specs.declared.string_offsets.Contribution.{Contribution}
 use Rattle.dw_meaning.specs.DataFails.{StartsFail}
 use Rattle.dw_offsets.specs.SlotMarks.{AreMarks}
+use Rattle.dw_find.specs.LineStarts.{Rises}
 use Rattle.dw_find.specs.UnitTexts.{UnitsRefuse}
 
 -- what values by index go by: the units that were read, and the contributions of the section of string offsets
@@ -36,8 +39,16 @@ pub record TablesStart (d : DebugData) (starts : List ℕ) : Type 0 where
   pub are : AreTables (line_source d) tables
   pub is : starts ≡ table_starts tables
 
+-- the macro units of debug data can be read; these places rise, and an offset names a unit of the first section exactly where it is one of
+-- them
+pub record UnitsStart (d : DebugData) (places : List ℕ) : Type 0 where
+  pub readings : List MacroReading
+  pub are : ReadsAllMacros d.base.order d.macros readings
+  pub rises : Rises places
+  pub named : (n : ℕ) → is_there (started_unit 0 (macro_starts readings) (first_macros d.macros) n) ≡ is_there (start_number 0 places n)
+
 -- why the units of debug data can't be taken: a unit can't be, a value by index names no slot, or one that is to say where a line table
--- starts says none
+-- or a macro unit starts says none
 pub data TextsRefuse (d : DebugData) (list : List Contribution) : Refusal → Type 0 where
   units : {f : Refusal} → UnitsRefuse d f → TextsRefuse d list f
   starts : {f : Refusal} → StartsFail d f → TextsRefuse d list f

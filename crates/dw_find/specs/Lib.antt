@@ -11,5 +11,7 @@ pub mod ViewFields
 pub mod LineStarts
 pub mod ViewLines
 pub mod SlotPaths
+pub mod MacroSections
+pub mod MacroNames
 pub mod FoundPaths
 pub mod ReadData

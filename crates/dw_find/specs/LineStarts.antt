@@ -1,5 +1,5 @@
--- Where line tables start, by their numbers: which value says one of these starts, where they start anew, and why a value says none
--- (DWARF 5, 3.1.1).
+-- Where line tables and macro units start, by their numbers: which value says one of these starts, where they start anew, and why a value
+-- says none (DWARF 5, 3.1.1).
 use Rattle.std.specs.Prelude.{◌≡◌, ℕ, ◌≤◌, ◌<◌, List, length, get_or, Some, None}
 use Rattle.dw_base.specs.DebugData.{start_number}
 use Rattle.dw_base.specs.Numbers.{spelled}
@@ -25,12 +25,13 @@ pub record IsStartGap (starts : List ℕ) (start i : ℕ) : Type 0 where
   pub before : (k : ℕ) → k < i → get_or starts k 0 < start
   pub behind : (k : ℕ) → i ≤ k → k < length starts → start < get_or starts k 0
 
--- a field of a section says where no line table starts
+-- a field of a section says none of these starts
 pub data StartsStray (order : Order) (section : ℕ) (info starts : List ℕ) (fields : List PathField) : Refusal → Type 0 where
   field : (k : ℕ) (f : PathField) → k < length fields → f ≡ get_or fields k f → start_number 0 starts (spelled order info f.at f.size) ≡ None
       → StartsStray order section info starts fields (at Stray section f.at)
 
--- so does a value of a section that is to say that, or its form can't
-pub data SectionStrays (order : Order) (info starts : List ℕ) (u : UnitPaths) : Refusal → Type 0 where
-  other_form : (place : ℕ) → u.stray ≡ Some place → SectionStrays order info starts u (at Stray u.number place)
-  no_table : {r : Refusal} → StartsStray order u.number info starts u.starts r → SectionStrays order info starts u r
+-- so does a value of a section that is to say where a line table or a macro unit starts, or its form can't
+pub data SectionStrays (order : Order) (info starts places : List ℕ) (u : UnitPaths) : Refusal → Type 0 where
+  other_form : (place : ℕ) → u.stray ≡ Some place → SectionStrays order info starts places u (at Stray u.number place)
+  no_table : {r : Refusal} → StartsStray order u.number info starts u.starts r → SectionStrays order info starts places u r
+  no_unit : {r : Refusal} → StartsStray order u.number info places u.macros r → SectionStrays order info starts places u r

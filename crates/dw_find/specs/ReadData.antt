@@ -1,4 +1,5 @@
--- Debug data of a view that can be read, with their line tables; and why they can't be (DWARF 5, 3.1.1, 6.1.1, 6.2.4, 7.5 and 7.26).
+-- Debug data of a view that can be read, with their line tables and macro units; and why they can't be (DWARF 5, 3.1.1, 6.1.1, 6.2.4, 6.3,
+-- 7.5 and 7.26).
 use Rattle.std.specs.Prelude.{◌≡◌, List}
 use Rattle.dw_base.specs.DebugData.{DataReadings, line_source}
 use Rattle.dw_base.specs.FileViews.{View}
@@ -10,17 +11,18 @@ use Rattle.dw_base.specs.declared.fault.Refusal.{Refusal}
 use Rattle.dw_lines.specs.ViewTables.{tables_read}
 use Rattle.dw_meaning.specs.DataFails.{LinesFail, SlotTextFails, StartsFail}
 use Rattle.dw_meaning.specs.DataOutput.{DataReads}
-use Rattle.dw_find.specs.UnitTexts.{HasUnbuilt, UnitsRefuse}
+use Rattle.dw_find.specs.MacroSections.{SectionUnits, UnitsFailIn, UnitsFoundIn}
+use Rattle.dw_find.specs.UnitTexts.{UnitsRefuse}
 
--- the debug data of a view can be read, no value is of a kind that isn't taken yet, and these are the line tables
-pub record DataRead (v : View) (ts : List LineTable) : Type 0 where
+-- the debug data of a view can be read, and these are the line tables and the macro units
+pub record DataRead (v : View) (ts : List LineTable) (ss : List SectionUnits) : Type 0 where
   pub readings : DataReadings
   pub reads : DataReads (debug_data v) readings
-  pub built : HasUnbuilt (debug_data v) → ⊥
   pub tables : ts ≡ tables_read (line_source (debug_data v)) readings.lines
+  pub units : UnitsFoundIn v ss
 
--- why they can't be: a unit, an entry or an offset of a text in one can't be read, or isn't taken yet; a value that is to say where a line
--- table starts names none; string offsets, slots, name tables or line tables can't be read
+-- why they can't be: a unit, an entry or an offset of a text in one can't be read; what is to say where a line table or a macro unit starts
+-- names none; string offsets, slots, name tables, line tables or macro units can't be read
 pub data DataRefuses (v : View) : Refusal → Type 0 where
   units : {r : Refusal} → UnitsRefuse (debug_data v) r → DataRefuses v r
   starts : {r : Refusal} → StartsFail (debug_data v) r → DataRefuses v r
@@ -28,3 +30,4 @@ pub data DataRefuses (v : View) : Refusal → Type 0 where
   slots : {r : Refusal} → SlotTextFails (debug_data v) r → DataRefuses v r
   name_tables : {r : Refusal} → NameTablesFail v r → DataRefuses v r
   lines : {r : Refusal} → LinesFail (debug_data v) r → DataRefuses v r
+  macros : {r : Refusal} → UnitsFailIn v r → DataRefuses v r

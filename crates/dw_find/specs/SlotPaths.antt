@@ -25,7 +25,7 @@ offset_fields table paths (x ∷ xs) = field_by table (slot_role paths x.state) 
 
 -- what a section of string offsets says of paths, by its number and these fields
 abbrev pub slots_with : ℕ → List PathField → UnitPaths
-slots_with number fields = record { number = number; str = fields; line_str = []; inline = []; starts = []; stray = None }
+slots_with number fields = record { number = number; str = fields; line_str = []; inline = []; starts = []; macros = []; stray = None }
 
 -- the same of the section of a view, where there is one
 abbrev pub slots_by : Option ℕ → List PathField → List UnitPaths

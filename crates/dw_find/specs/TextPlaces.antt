@@ -1,8 +1,8 @@
 -- What a pass over the entries of units meets of texts: where they stand, each place with its role, and the values that name them by
--- index (DWARF 5, 7.5.5, class string), or say where line tables start (DWARF 5, 3.1.1); and what these places say of source paths.
+-- index (DWARF 5, 7.5.5, class string), or say where line tables and macro units start (DWARF 5, 3.1.1); and what these places say of source paths.
 use Rattle.std.specs.Prelude.{Bool, true, false, ◌≡◌, ℕ, ◌+◌, ◌-◌, ◌==◌, ◌||◌, if◌then◌else◌, List, [], ◌∷◌, ◌++◌, IsTrue, ⊤, Option, Some, None, length}
 use Rattle.dw_base.specs.AbbreviationTables.{Abbreviation, abbreviation_of, IsTable}
-use Rattle.dw_base.specs.Cells.{Cell, bytes_of, cells_at, located_cells, offset_of}
+use Rattle.dw_base.specs.Cells.{Cell, bytes_of, cells_at, field_of, located_cells, offset_of}
 use Rattle.dw_base.specs.DebugData.{DebugData, start_number}
 use Rattle.dw_base.specs.EntryScans.{AreEntries}
 use Rattle.dw_base.specs.EntryValues.{bytes_up_to}
@@ -14,13 +14,13 @@ use Rattle.dw_base.specs.Numbers.{spelled}
 use Rattle.dw_base.specs.Paths.{PathMap}
 use Rattle.dw_base.specs.Pieces.{Piece}
 use Rattle.dw_base.specs.Roles.{Role, fixed, offset, inline_path, line_start, role_of, is_path, use_of}
-use Rattle.dw_base.specs.TableStarts.{start_form_by}
+use Rattle.dw_base.specs.TableStarts.{macro_value_by, start_form_by}
 use Rattle.dw_base.specs.TextIndexes.{SaidBase, IndexUse, is_base}
 use Rattle.dw_base.specs.Texts.{ends_in}
 use Rattle.dw_base.specs.UnitHeaders.{UnitBase, UnitSection, IsUnit}
 use Rattle.dw_base.specs.UnitStates.{Mode, at_values, at_chosen, UnitState, code_value, read_value}
 use Rattle.dw_base.specs.Values.{value_at}
-use Rattle.dw_base.specs.declared.dwarf_numbers.TheConstants.{DW_AT_stmt_list, DW_FORM_data4, DW_FORM_data8, DW_FORM_indirect, DW_FORM_sec_offset}
+use Rattle.dw_base.specs.declared.dwarf_numbers.TheConstants.{DW_AT_GNU_macros, DW_AT_macros, DW_AT_stmt_list, DW_FORM_data4, DW_FORM_data8, DW_FORM_indirect, DW_FORM_sec_offset}
 use Rattle.dw_base.specs.declared.shared.Order.{Order}
 use Rattle.dw_base.specs.declared.shared.Params.{Params}
 use Rattle.dw_base.specs.declared.units.Scanned.{Scanned}
@@ -29,17 +29,20 @@ use Rattle.dw_base.specs.declared.values.Spec.{Spec}
 use Rattle.dw_base.specs.declared.values.Value.{Value}
 use Rattle.dw_base.specs.declared.values.ValueClass.{ValueClass}
 use Rattle.dw_base.specs.declared.values.ValueClass.TheVariants.{InlineText, Number, StrOffset, LineStrOffset, StrIndex, SecOffset}
+use Rattle.dw_base.specs.declared.view_fields.Field.{Field}
+use Rattle.dw_base.specs.declared.view_fields.Field.TheVariants.{Num}
 use Rattle.dw_find.specs.UnitPaths.{UnitPaths, field_by, inline_text}
 use Rattle.dw_find.specs.declared.fields.InlinePath.{InlinePath}
 use Rattle.dw_find.specs.declared.fields.PathField.{PathField}
 use Rattle.dw_find.specs.declared.fields.TextIndex.{TextIndex}
 
--- what a value that stays says: nothing; of texts by index the base of its unit, or the index of a text, of a path or not; or that it is to
--- say where a line table starts, and has a form that can't
+-- what a value that stays says: nothing; of texts by index the base of its unit, or the index of a text, of a path or not; that it says where a
+-- macro unit starts; or that it is to say where that or a line table starts, and has a form that can't
 pub data Indexed : Type 0 where
   no_index : Indexed
   unit_base : ℕ → Indexed
   text_index : Bool → ℕ → Indexed
+  unit_start : Indexed
   no_start : Indexed
 
 -- bytes that an edit may change: their role, where they stand in the section, and how many they are; or the place of a value that
@@ -68,19 +71,23 @@ indexed_kind (number_of SecOffset n) path true order at p = indexed_at at (unit_
 indexed_kind (leb_number Number) path true order at p = indexed_at at (unit_base (code_value p))
 indexed_kind k path base order at p = []
 
--- a value at a place that is to say where a line table starts, by whether its form can
-abbrev pub stray_at : Bool → ℕ → List TextPlace
-stray_at true at = []
-stray_at false at = indexed_at at no_start
+-- what a value at a place, of so many bytes, says of starts: where it is to say one and its form can't, that; else the field of the start
+-- of a macro unit, where it says one
+abbrev pub said_start : Bool → Bool → ℕ → ℕ → List TextPlace
+said_start false macro at len = indexed_at at no_start
+said_start true true at len = record { role = fixed; at = at; len = len; says = unit_start } ∷ []
+said_start true false at len = []
 
 -- what a piece says so
 abbrev pub indexed_in : Mode → UnitState → List Cell → List TextPlace
 indexed_in (at_values number tag (x ∷ xs)) s p =
     indexed_kind (kind_in s.header.params x.form) (is_path number tag x.name) (is_base number x.name) s.header.params.order s.place p
-    ++ stray_at (start_form_by (kind_in s.header.params x.form) (use_of number tag x.name)) s.place
+    ++ said_start (start_form_by (kind_in s.header.params x.form) (use_of number tag x.name)) (macro_value_by (kind_in s.header.params x.form) (use_of number tag x.name))
+    s.place (length p)
 indexed_in (at_chosen number tag start x xs) s p =
     indexed_kind (kind_in s.header.params x.form) (is_path number tag x.name) (is_base number x.name) s.header.params.order start p
-    ++ stray_at (start_form_by (kind_in s.header.params x.form) (use_of number tag x.name)) s.place
+    ++ said_start (start_form_by (kind_in s.header.params x.form) (use_of number tag x.name)) (macro_value_by (kind_in s.header.params x.form) (use_of number tag x.name))
+    s.place (length p)
 indexed_in m s p = []
 
 -- the places of pieces, in order
@@ -112,7 +119,7 @@ read_size (Some n) = n.1
 abbrev pub own_place : Spec → List ℕ → ℕ → ℕ
 own_place x bytes place = if x.form == DW_FORM_indirect then place + read_size (uleb_at bytes place) else place
 
--- a form that can say where a line table starts (DWARF 5, 3.1.1; before version 4 a number of 4 or 8 bytes)
+-- a form that can say where a line table or a macro unit starts (DWARF 5, 3.1.1; before version 4 a number of 4 or 8 bytes)
 abbrev pub is_start_form : ℕ → Bool
 is_start_form form = form == DW_FORM_sec_offset || form == DW_FORM_data4 || form == DW_FORM_data8
 
@@ -125,17 +132,29 @@ abbrev pub line_places : Bool → ℕ → Value → List TextPlace
 line_places true form v = line_at (is_start_form form) v
 line_places false form v = []
 
--- and where it stands, where its form can't
-abbrev pub stray_places : Bool → ℕ → ℕ → List TextPlace
-stray_places true form place = stray_at (is_start_form form) place
-stray_places false form place = []
+-- an attribute of a name that says where a macro unit starts, and one that says where that or a line table does
+abbrev pub is_macros : ℕ → Bool
+is_macros name = name == DW_AT_macros || name == DW_AT_GNU_macros
+
+abbrev pub is_start : ℕ → Bool
+is_start name = name == DW_AT_stmt_list || is_macros name
+
+-- where a value stands that is to say a start, and its form can't; else the field of the start of a macro unit
+abbrev pub said_value : Bool → Bool → ℕ → Value → List TextPlace
+said_value false macro place v = indexed_at place no_start
+said_value true true place v = record { role = fixed; at = v.at; len = v.len; says = unit_start } ∷ []
+said_value true false place v = []
+
+abbrev pub said_places : Bool → Bool → ℕ → ℕ → Value → List TextPlace
+said_places true macro form place v = said_value (is_start_form form) macro place v
+said_places false macro form place v = []
 
 -- those of a value at a place of some bytes, of an attribute of entry `number`, whose tag is `tag`
 abbrev pub value_places : ℕ → ℕ → Spec → List ℕ → ℕ → Value → List TextPlace
 value_places number tag x bytes place v =
     line_places (x.name == DW_AT_stmt_list) (own_form x bytes place) v
     ++ (class_places v.class (is_path number tag x.name) (is_base number x.name) place v
-    ++ stray_places (x.name == DW_AT_stmt_list) (own_form x bytes place) (own_place x bytes place))
+    ++ said_places (is_start x.name) (is_macros x.name) (own_form x bytes place) (own_place x bytes place) v)
 
 -- those of the values of attributes that stand one after another from a place on
 abbrev pub value_places_behind : (ℕ → List TextPlace) → ℕ → ℕ → Spec → List ℕ → ℕ → Option Value → List TextPlace
@@ -218,6 +237,15 @@ abbrev pub starts_in : List TextPlace → List PathField
 starts_in [] = []
 starts_in (t ∷ ts) = start_at t.role t.at t.len ++ starts_in ts
 
+-- those that say where macro units start
+abbrev pub unit_start_at : ℕ → ℕ → Indexed → List PathField
+unit_start_at at len unit_start = record { at = at; size = len } ∷ []
+unit_start_at at len i = []
+
+abbrev pub macros_in : List TextPlace → List PathField
+macros_in [] = []
+macros_in (t ∷ ts) = unit_start_at t.at t.len t.says ++ macros_in ts
+
 -- and where the first value stands that can't
 abbrev pub stray_or : ℕ → Indexed → Option ℕ → Option ℕ
 stray_or at no_start o = Some at
@@ -280,6 +308,7 @@ paths_by number ts = record {
   line_str = fields_in in_line_str ts;
   inline = inline_in ts;
   starts = starts_in ts;
+  macros = macros_in ts;
   stray = stray_in ts;
 }
 
@@ -314,15 +343,16 @@ AllFitRooms m [] us = ⊤
 AllFitRooms m (z ∷ zs) [] = ⊤
 AllFitRooms m (z ∷ zs) (u ∷ us) = InlinesFit m (bytes_of z.contents) u.inline × AllFitRooms m zs us
 
--- at each of these starts begins a line table: it is one of those
+-- each of these fields holds one of these starts
 abbrev pub StartsHere : Order → List ℕ → List ℕ → List PathField → Type 0
 StartsHere order info starts [] = ⊤
 StartsHere order info starts (f ∷ fs) = IsTrue (is_there (start_number 0 starts (spelled order info f.at f.size))) × StartsHere order info starts fs
 
--- each value of a section that is to say where a line table starts says it
-pub record SectionStarts (order : Order) (info starts : List ℕ) (u : UnitPaths) : Type 0 where
+-- each value of a section that is to say where a line table starts says one of these starts, and so does one of a macro unit
+pub record SectionStarts (order : Order) (info starts places : List ℕ) (u : UnitPaths) : Type 0 where
   pub all_say : u.stray ≡ None
   pub there : StartsHere order info starts u.starts
+  pub units : StartsHere order info places u.macros
 
 -- the same of the cells of a section of debug data
 abbrev pub StartsNamed : DebugData → List ℕ → List Cell → List PathField → Type 0
@@ -330,12 +360,23 @@ StartsNamed d starts cells [] = ⊤
 StartsNamed d starts cells (f ∷ fs) =
     IsTrue (is_there (start_number 0 starts (offset_of d.base.order (located_cells d.lines) (cells_at cells f.at f.size)))) × StartsNamed d starts cells fs
 
-pub record SectionNamed (d : DebugData) (starts : List ℕ) (z : UnitSection) (u : UnitPaths) : Type 0 where
+-- a number names one of these places
+abbrev pub names_place : List ℕ → Field → Bool
+names_place places (Num n) = is_there (start_number 0 places n)
+names_place places f = false
+
+abbrev pub UnitsNamed : DebugData → List ℕ → List Cell → List PathField → Type 0
+UnitsNamed d places cells [] = ⊤
+UnitsNamed d places cells (f ∷ fs) =
+    IsTrue (names_place places (field_of d.base.order (cells_at cells f.at f.size))) × UnitsNamed d places cells fs
+
+pub record SectionNamed (d : DebugData) (starts places : List ℕ) (z : UnitSection) (u : UnitPaths) : Type 0 where
   pub all_say : u.stray ≡ None
   pub named : StartsNamed d starts z.contents u.starts
+  pub units : UnitsNamed d places z.contents u.macros
 
 -- in all sections
-abbrev pub AllStarts : DebugData → List ℕ → List UnitSection → List UnitPaths → Type 0
-AllStarts d starts [] us = ⊤
-AllStarts d starts (z ∷ zs) [] = ⊤
-AllStarts d starts (z ∷ zs) (u ∷ us) = SectionNamed d starts z u × AllStarts d starts zs us
+abbrev pub AllStarts : DebugData → List ℕ → List ℕ → List UnitSection → List UnitPaths → Type 0
+AllStarts d starts places [] us = ⊤
+AllStarts d starts places (z ∷ zs) [] = ⊤
+AllStarts d starts places (z ∷ zs) (u ∷ us) = SectionNamed d starts places z u × AllStarts d starts places zs us

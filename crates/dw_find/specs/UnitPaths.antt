@@ -1,12 +1,12 @@
 -- What a unit section says of source paths, by its pieces: the fields that hold offsets of their texts, table by table, and
 -- the paths that stand in their values (DWARF 5, 7.5.5, class string); and the section with new ones.
-use Rattle.std.specs.Prelude.{true, ℕ, List, [], ◌∷◌, ◌++◌, length, take, drop, if◌then◌else◌, Option, Some, None}
+use Rattle.std.specs.Prelude.{Bool, true, false, ℕ, List, [], ◌∷◌, ◌++◌, length, take, drop, if◌then◌else◌, Option, Some, None}
 use Rattle.dw_base.specs.Cells.{Cell, bytes_of}
 use Rattle.dw_base.specs.Readings.{Reading, Readings}
 use Rattle.dw_base.specs.Forms.{TextSection, in_str, in_line_str}
 use Rattle.dw_base.specs.Pieces.{Piece}
 use Rattle.dw_base.specs.Roles.{Role, offset, inline_path, line_start, role_of}
-use Rattle.dw_base.specs.TableStarts.{has_start_form}
+use Rattle.dw_base.specs.TableStarts.{has_start_form, is_macro_value}
 use Rattle.dw_base.specs.Texts.{text}
 use Rattle.dw_base.specs.UnitStates.{UnitState}
 use Rattle.dw_find.specs.declared.fields.InlinePath.{InlinePath}
@@ -43,19 +43,30 @@ abbrev pub start_fields : List (Piece UnitState) → List PathField
 start_fields [] = []
 start_fields (x ∷ xs) = start_by (role_of x) x.state.place (length x.cells) ++ start_fields xs
 
--- where the first value stands that is to say where a line table starts, and has a form that can't
+-- the field that says where a macro unit starts
+abbrev pub macro_by : Bool → ℕ → ℕ → List PathField
+macro_by true at size = record { at = at; size = size } ∷ []
+macro_by false at size = []
+
+-- those of pieces, in order
+abbrev pub macro_fields : List (Piece UnitState) → List PathField
+macro_fields [] = []
+macro_fields (x ∷ xs) = macro_by (is_macro_value x) x.state.place (length x.cells) ++ macro_fields xs
+
+-- where the first value stands that is to say where a line table or a macro unit starts, and has a form that can't
 abbrev pub stray_among : List (Piece UnitState) → Option ℕ
 stray_among [] = None
 stray_among (x ∷ xs) = if has_start_form x then stray_among xs else Some x.state.place
 
--- what a section says of paths: its number, the fields of each table, and the paths that stand in their values; and of line tables: the
--- fields that say where they start, and the first value that can't
+-- what a section says of paths: its number, the fields of each table, and the paths that stand in their values; and of line tables and macro
+-- units: the fields that say where they start, and the first value that can't
 pub record UnitPaths : Type 0 where
   pub number : ℕ
   pub str : List PathField
   pub line_str : List PathField
   pub inline : List InlinePath
   pub starts : List PathField
+  pub macros : List PathField
   pub stray : Option ℕ
 
 abbrev pub paths_in : Reading → UnitPaths
@@ -65,6 +76,7 @@ paths_in r = record {
   line_str = path_fields in_line_str r.pieces;
   inline = inline_paths r.pieces;
   starts = start_fields r.pieces;
+  macros = macro_fields r.pieces;
   stray = stray_among r.pieces;
 }
 

@@ -1,21 +1,17 @@
 -- What a pass over the entries of a unit, and over the units of a section, finds of texts and paths; and what it refuses.
-use Rattle.std.specs.Prelude.{◌≡◌, ℕ, ◌+◌, List, [], ◌∷◌, ◌++◌, ⊤, Option, Some, None, IsTrue}
+use Rattle.std.specs.Prelude.{◌≡◌, ℕ, ◌+◌, List, [], ◌∷◌, ◌++◌, ⊤, Option, Some, None}
 use Rattle.dw_base.specs.AbbreviationTables.{Abbreviation, abbreviation_of, IsTable}
 use Rattle.dw_meaning.specs.DataFails.{DataFails, TextFails}
 use Rattle.dw_base.specs.DebugData.{DebugData}
 use Rattle.dw_base.specs.EntryScans.{IsEntry, Scans, AreEntries, EntryFails}
-use Rattle.dw_base.specs.EntryValues.{HasTable, HasValue, bytes_up_to}
-use Rattle.dw_meaning.specs.FileFails.{is_unbuilt_value}
+use Rattle.dw_base.specs.EntryValues.{bytes_up_to}
 use Rattle.dw_base.specs.Lebs.{uleb_at}
-use Rattle.dw_base.specs.Refusals.{at}
 use Rattle.dw_base.specs.UnitHeaders.{UnitSection, AreUnits}
-use Rattle.dw_base.specs.declared.fault.Kind.TheVariants.{Unbuilt}
 use Rattle.dw_base.specs.declared.fault.Refusal.{Refusal}
 use Rattle.dw_base.specs.declared.shared.Params.{Params}
 use Rattle.dw_base.specs.declared.units.Scanned.{Scanned}
 use Rattle.dw_base.specs.declared.units.UnitHeader.{UnitHeader}
 use Rattle.dw_base.specs.declared.values.Spec.{Spec}
-use Rattle.dw_base.specs.declared.values.Value.{Value}
 use Rattle.dw_find.specs.EntryTexts.{Tables, AreTaken, Found, ValuesRefuse, with_places, none_found}
 use Rattle.dw_find.specs.NamedSlots.{Slots, TakesIndexes, TakesUnits}
 use Rattle.dw_find.specs.TextPlaces.{UnitSays, entries_places, SectionSays}
@@ -63,25 +59,10 @@ UnitTaken t z h table old new = ScanTaken t h table (bytes_up_to z h) old new
 abbrev pub tables_of : DebugData → Tables
 tables_of d = record { str = d.str.bytes; line_str = d.line_str.bytes }
 
--- a value that isn't taken yet stands in a unit of debug data
-pub record HasUnbuilt (d : DebugData) : Type 0 where
-  pub section : UnitSection
-  pub header : UnitHeader
-  pub table : List Abbreviation
-  pub number : ℕ
-  pub abbreviation : Abbreviation
-  pub spec : Spec
-  pub place : ℕ
-  pub value : Value
-  pub there : HasTable d section header table
-  pub stands : HasValue header table (bytes_up_to section header) number abbreviation spec place value
-  pub unbuilt : IsTrue (is_unbuilt_value spec)
-
 -- why the units of debug data can't be taken
 pub data UnitsRefuse (d : DebugData) : Refusal → Type 0 where
   data_fails : {r : Refusal} → DataFails d r → UnitsRefuse d r
   text_fails : {r : Refusal} → TextFails d r → UnitsRefuse d r
-  unbuilt : HasUnbuilt d → UnitsRefuse d (at Unbuilt 0 0)
 
 -- why a unit can't be: its entries can't be read, or an entry's values not be taken, behind entries that were
 pub data UnitRefuses (t : Tables) (h : UnitHeader) (table : List Abbreviation) (bytes : List ℕ) : Refusal → Type 0 where

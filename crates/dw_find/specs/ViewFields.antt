@@ -46,13 +46,14 @@ fields_of in_line_str u = u.line_str
 abbrev pub info_of : View → UnitPaths → List ℕ
 info_of v u = section_bytes v u.number
 
--- a section of a view: it is there, its fields of paths and of line tables are fields of which no two have a byte in common, and its paths
--- that stand in their values have rooms
+-- a section of a view: it is there, its fields of paths and of line tables are fields of which no two have a byte in common, those of macro
+-- units are fields, and its paths that stand in their values have rooms
 pub record HasPaths (v : View) (u : UnitPaths) : Type 0 where
   pub there : u.number < length v.sections
   pub str : ArePathFields (offsets_in v in_str) (info_of v u) u.str
   pub line_str : ArePathFields (offsets_in v in_line_str) (info_of v u) u.line_str
   pub starts : AreStartFields (info_of v u) u.starts
+  pub macros : AreStartFields (info_of v u) u.macros
   pub apart : AllApart (u.str ++ (u.line_str ++ u.starts))
   pub rooms : AreRooms (info_of v u) u.inline
 

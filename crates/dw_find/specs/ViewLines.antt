@@ -47,6 +47,7 @@ lines_with g ts = record {
   line_str = table_fields g.number g.str.number in_line_str ts;
   inline = [];
   starts = [];
+  macros = [];
   stray = None;
 }
 

@@ -4,7 +4,7 @@ ghost use Rattle.std.specs.Prelude.{◌≡◌, IfErr, IfOk, OnOk, length};
 ghost use Rattle.dw_base.specs.Refusals.{Blames};
 ghost use Rattle.dw_base.specs.ViewData.{debug_data};
 ghost use Rattle.dw_entries.specs.SectionOrder.{AreSections};
-ghost use Rattle.dw_find.specs.IndexedTexts.{TablesStart, TextsIndexed, TextsRefuse};
+ghost use Rattle.dw_find.specs.IndexedTexts.{TablesStart, TextsIndexed, TextsRefuse, UnitsStart};
 ghost use Rattle.dw_find.specs.NamedSlots.{no_slots};
 ghost use Rattle.dw_find.specs.TextPlaces.{AllStarts};
 ghost use Rattle.dw_find.specs.UnitTexts.{AllIndexed, AllTaken, UnitsRefuse, tables_of};
@@ -20,30 +20,33 @@ use std::alloc::Global;
 use std::collections::HashMap;
 
 /// What the unit sections of the view say of paths; exactly the slots that their values name by index are
-/// marked, and each value that is to say where a line table starts names one of these starts. Refused where a unit of
-/// one can't be read, names no text, or isn't taken yet, and behind the last unit as `StringTable`, at the first value by
-/// index that names no slot, or as `Stray`, at a value that names no line table.
+/// marked, each value that is to say where a line table starts names one of these starts, and each that is to say where a
+/// macro unit starts one of these places. Refused where a unit of one can't be read or names no text, and behind the last
+/// unit as `StringTable`, at the first value by index that names no slot, or as `Stray`, at a value that names no line table
+/// or macro unit.
 #[tactic(auto, using(crate::proofs::IndexedLaws::whole_rules))]
 pub(crate) fn all_texts(
     alloc: Global,
     view: &View,
     tables: &TextTables,
     starts: &[u64],
+    places: &[u64],
     slots: &mut NamedSlots,
 ) -> Result<Vec<UnitPaths>, Fault>
     requires tables { tables.now ≡ tables_of (debug_data view.now) }
     requires none { slots.old ≡ no_slots slots.old.list (length slots.old.marks) }
     requires starts { TablesStart (debug_data view.now) starts.now }
+    requires units { UnitsStart (debug_data view.now) places.now }
     ensures taken { IfOk result (λ us. AllTaken (debug_data view.now) (debug_data view.now).units us.items) }
     ensures indexed { OnOk result (TextsIndexed (debug_data view.now) slots.old.list slots.new.marks) }
-    ensures starts { IfOk result (λ us. AllStarts (debug_data view.now) starts.now (debug_data view.now).units us.items) }
+    ensures starts { IfOk result (λ us. AllStarts (debug_data view.now) starts.now places.now (debug_data view.now).units us.items) }
     ensures refused { IfErr result (Blames (TextsRefuse (debug_data view.now) slots.old.list)) }
 {
     let found = read_all(alloc, view, tables, slots)?;
     if let Some(refusal) = slots.missing() {
         return Err(refusal.into());
     }
-    all_start(view, starts, found.as_slice())?;
+    all_start(view, starts, places, found.as_slice())?;
     Ok(found)
 }
 

@@ -1,8 +1,8 @@
-//! What a unit section says of texts and line tables: the fields that hold offsets of source paths, or say where line
-//! tables start, the paths that stand in their values, and the values that name texts by index (DWARF 5, 7.5.5,
+//! What a section says of texts, line tables and macro units: the fields that hold offsets of source paths, or say where line
+//! tables or macro units start, the paths that stand in their values, and the values that name texts by index (DWARF 5, 7.5.5,
 //! class string, and 3.1.1).
 
-/// A field that holds the offset of a path's text, or that says where a line table starts.
+/// A field that holds the offset of a path's text, or that says where a line table or a macro unit starts.
 #[derive(Clone, Copy)]
 pub struct PathField {
     /// Where it stands, in bytes from the section's start.

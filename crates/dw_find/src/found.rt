@@ -22,14 +22,16 @@ pub struct UnitPaths {
     pub inline: Vec<InlinePath>,
     /// The fields that say where line tables start.
     pub starts: Vec<PathField>,
-    /// Where the first value stands that is to say so, and has a form that can't.
+    /// Those that say where macro units start.
+    pub macros: Vec<PathField>,
+    /// Where the first value stands that is to say either, and has a form that can't.
     pub stray: Option<u64>,
 }
 
 impl Model for UnitPaths {
     ghost Value = { PathsOf };
 
-    ghost view = { λ u. record { number = u.section; str = u.str.items; line_str = u.line_str.items; inline = u.inline.items; starts = u.starts.items; stray = u.stray } };
+    ghost view = { λ u. record { number = u.section; str = u.str.items; line_str = u.line_str.items; inline = u.inline.items; starts = u.starts.items; macros = u.macros.items; stray = u.stray } };
 }
 
 impl UnitPaths {
@@ -43,6 +45,7 @@ impl UnitPaths {
             line_str: Vec::new(alloc),
             inline: Vec::new(alloc),
             starts: Vec::new(alloc),
+            macros: Vec::new(alloc),
             stray: None,
         }
     }

@@ -1,8 +1,8 @@
 //! What the debug data of a view say of source paths: read whole, in one pass.
 //!
-//! This layer promises: where debug data are read, they can be read (each unit, entry, string offset, name table and line
-//! table, each offset of a text names one, each value by index a slot, and each value that is to say where a line table
-//! starts says it), no value is of a kind that isn't taken yet, and what was found of paths is what they say; they are
+//! This layer promises: where debug data are read, they can be read (each unit, entry, string offset, name table, line
+//! table and macro unit, each offset of a text names one, each value by index a slot, and what is to say where a line table
+//! or a macro unit starts says it), and what was found of paths is what they say; they are
 //! refused only by a condition that holds in them, at its place.
 //! It does not promise: anything of what the paths are mapped to; rows of line tables.
 //! Read first: `specs/ReadData.antt`, then `specs/FoundPaths.antt`, `specs/UnitPaths.antt` and `specs/TextPlaces.antt`.
@@ -20,9 +20,9 @@ mod all_sections;
 mod fields;
 mod found;
 mod lines;
+mod macros;
 mod paths;
 mod reading;
-mod refusal;
 mod rooms;
 mod scan_table;
 mod sections;
@@ -35,7 +35,8 @@ mod units;
 pub use fields::{InlinePath, PathField};
 pub use found::UnitPaths;
 pub use lines::starts_of;
+pub use macros::{MacroSection, macro_sections};
 pub use paths::found_paths;
-pub use reading::read_data;
+pub use reading::{ReadTables, read_data};
 pub use starts::{start_in, start_number};
 pub use tables::{TextsOf, table_number, table_texts};

@@ -93,6 +93,7 @@ fn lines_with(
         line_str,
         inline: Vec::new(alloc),
         starts: Vec::new(alloc),
+        macros: Vec::new(alloc),
         stray: None,
     })
 }
@@ -203,7 +204,7 @@ fn lies_in(section: u32, str: u32, texts: TextsOf, text: TextPlace) -> bool
 }
 
 /// How many bytes an offset has.
-fn width_size(width: Width) -> u8
+pub(crate) fn width_size(width: Width) -> u8
     ensures { result ≡ width_size width }
 {
     match width {

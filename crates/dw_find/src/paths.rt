@@ -1,4 +1,4 @@
-//! What the debug data of a view say of paths: its units, string offsets and line tables.
+//! What the debug data of a view say of paths: its units, string offsets, macro units and line tables.
 //!
 //! Read first: `specs/FoundPaths.antt`.
 
@@ -10,7 +10,8 @@ ghost use Rattle.dw_base.specs.ViewData.{debug_data, string_offsets};
 ghost use Rattle.dw_offsets.specs.PathSlots.{SlotsRefuse, slots_in};
 ghost use Rattle.dw_lines.specs.ViewTables.{TablesFound};
 ghost use Rattle.dw_find.specs.FoundPaths.{PathsFound, PathsRefuse, SlotsFound, UnitPathsRefuse, UnitsFound};
-ghost use Rattle.dw_find.specs.IndexedTexts.{TablesStart, TextsIndexed};
+ghost use Rattle.dw_find.specs.IndexedTexts.{TablesStart, TextsIndexed, UnitsStart};
+ghost use Rattle.dw_find.specs.MacroSections.{UnitsFoundIn};
 ghost use Rattle.dw_find.specs.NamedSlots.{no_slots};
 ghost use Rattle.dw_find.specs.SlotPaths.{as_fields, slots_with};
 
@@ -18,6 +19,7 @@ use crate::all_sections::all_texts;
 use crate::fields::PathField;
 use crate::found::{TextTables, UnitPaths};
 use crate::lines::{push_lines, starts_of};
+use crate::macros::{MacroSection, first_places, macros_name, push_macros};
 use crate::rooms::all_rooms_fit;
 use crate::slots::NamedSlots;
 use crate::tables::{TextsOf, table_texts};
@@ -29,17 +31,19 @@ use dw_view::View;
 use std::alloc::{AllocError, Global};
 
 /// What the unit sections of the view say of paths, in the order of their numbers, behind them what its string
-/// offsets say, and behind these its line tables. Refused where one of these sections or a name table can't be read,
-/// names no text or isn't taken yet, where a value that is to say where a line table starts names none, where a path
-/// that stands in its value would grow, and where a slot is shared.
+/// offsets say, behind these its macro units, and behind these its line tables. Refused where one of these sections or a
+/// name table can't be read or names no text, where what is to say where a line table or a macro unit starts names none,
+/// where a path that stands in its value would grow, and where a slot is shared.
 #[tactic(auto, using(crate::proofs::FoundPathLaws::found_rules))]
 pub fn found_paths(
     alloc: Global,
     view: &View,
     maps: &Maps,
     tables: &[LineTable],
+    macros: &[MacroSection],
 ) -> Result<Vec<UnitPaths>, Fault>
     requires tables { TablesFound view.now tables.now }
+    requires macros { UnitsFoundIn view.now macros.now }
     ensures found { IfOk result (λ paths. PathsFound maps.now view.now paths.items tables.now) }
     ensures refused { IfErr result (Blames (PathsRefuse maps.now view.now)) }
 {
@@ -49,8 +53,18 @@ pub fn found_paths(
     let marks = no_marks(alloc, view)?;
     let mut slots = NamedSlots::new(&list, marks);
     let starts = starts_of(alloc, tables)?;
-    let mut paths = unit_paths(alloc, view, maps, starts.as_slice(), &mut slots)?;
+    let places = first_places(alloc, macros)?;
+    let mut paths = unit_paths(
+        alloc,
+        view,
+        maps,
+        starts.as_slice(),
+        places.as_slice(),
+        &mut slots,
+    )?;
+    macros_name(view, starts.as_slice(), places.as_slice(), macros)?;
     push_slots(alloc, view, maps, &list, &slots.marks, &mut paths)?;
+    push_macros(alloc, macros, &mut paths)?;
     push_lines(alloc, view, tables, &mut paths)?;
     Ok(paths)
 }
@@ -81,18 +95,20 @@ fn unit_paths(
     view: &View,
     maps: &Maps,
     starts: &[u64],
+    places: &[u64],
     slots: &mut NamedSlots,
 ) -> Result<Vec<UnitPaths>, Fault>
     requires none { slots.old ≡ no_slots slots.old.list (length slots.old.marks) }
     requires starts { TablesStart (debug_data view.now) starts.now }
-    ensures found { IfOk result (λ us. UnitsFound maps.now (debug_data view.now) starts.now us.items) }
+    requires units { UnitsStart (debug_data view.now) places.now }
+    ensures found { IfOk result (λ us. UnitsFound maps.now (debug_data view.now) starts.now places.now us.items) }
     ensures indexed { OnOk result (TextsIndexed (debug_data view.now) slots.old.list slots.new.marks) }
     ensures refused { IfErr result (Blames (UnitPathsRefuse maps.now (debug_data view.now) slots.old.list)) }
 {
     let str = table_texts(view, TextsOf::Str);
     let line_str = table_texts(view, TextsOf::LineStr);
     let tables = TextTables::new(str, line_str);
-    let paths = all_texts(alloc, view, &tables, starts, slots)?;
+    let paths = all_texts(alloc, view, &tables, starts, places, slots)?;
     all_rooms_fit(view, maps, paths.as_slice())?;
     Ok(paths)
 }
@@ -130,6 +146,7 @@ fn slots_with(alloc: Global, section: u32, slots: &[PathSlot]) -> Result<UnitPat
         line_str: Vec::new(alloc),
         inline: Vec::new(alloc),
         starts: Vec::new(alloc),
+        macros: Vec::new(alloc),
         stray: None,
     })
 }

@@ -5,7 +5,8 @@
 
 ghost use Rattle.std.specs.Prelude.{◌≡◌, ◌≤◌, List, None, length, drop, take, IfNone, IfOk, IfSome};
 ghost use Rattle.dw_base.specs.AbbreviationTables.{Abbreviation, abbreviation_of};
-ghost use Rattle.dw_find.specs.QuietValues.{AllQuiet, AreCounts, AreLooked, IsCount, is_place, is_quiet, is_text_form};
+ghost use Rattle.dw_find.specs.QuietValues.{AllQuiet, AreCounts, AreLooked, IsCount, is_quiet, is_text_form};
+ghost use Rattle.dw_find.specs.TextPlaces.{is_start};
 
 use dw_abbrev::{Abbrev, AbbrevTable};
 use dw_base::Spec;
@@ -128,14 +129,14 @@ fn quiet_from(specs: &[Spec]) -> usize
 fn is_quiet(spec: &Spec) -> bool
     ensures value { result ≡ is_quiet spec.now }
 {
-    !is_text_form(spec.form) && !is_place(spec)
+    !is_text_form(spec.form) && !is_start(spec.name)
 }
 
-/// An attribute that says where a line table or macros stand.
-fn is_place(spec: &Spec) -> bool
-    ensures value { result ≡ is_place spec.now }
+/// An attribute that says where a line table or a macro unit starts.
+fn is_start(name: u64) -> bool
+    ensures value { result ≡ is_start name }
 {
-    spec.name == DW_AT_stmt_list || spec.name == DW_AT_macros || spec.name == DW_AT_GNU_macros
+    name == DW_AT_stmt_list || name == DW_AT_macros || name == DW_AT_GNU_macros
 }
 
 /// A form whose values name texts, or stand behind their own form.

@@ -1,4 +1,4 @@
-//! The values that say where line tables start (DWARF 5, 3.1.1): that each names a table. A table is found in a time that grows with the logarithm of their number.
+//! The values that say where line tables and macro units start (DWARF 5, 3.1.1): that each names one. It is found in a time that grows with the logarithm of their number.
 //!
 //! Read first: `specs/LineStarts.antt`.
 
@@ -10,7 +10,7 @@ ghost use Rattle.dw_base.specs.Refusals.{at};
 ghost use Rattle.dw_base.specs.ViewData.{debug_data};
 ghost use Rattle.dw_meaning.specs.DataFails.{StartsFail};
 ghost use Rattle.dw_find.specs.Fields.{AreStartFields, IsStartField};
-ghost use Rattle.dw_find.specs.IndexedTexts.{TablesStart};
+ghost use Rattle.dw_find.specs.IndexedTexts.{TablesStart, UnitsStart};
 ghost use Rattle.dw_find.specs.LineStarts.{HasStart, IsStartGap, Rises, SectionStrays, StartsStray};
 ghost use Rattle.dw_find.specs.ViewFields.{HasPaths, info_of};
 ghost use Rattle.dw_find.specs.TextPlaces.{AllStarts, SectionStarts, StartsHere};
@@ -21,28 +21,41 @@ use crate::found::UnitPaths;
 use dw_base::{Kind, Order, Refusal, number_in};
 use dw_view::View;
 
-/// Tests that each value of all unit sections that is to say where a line table starts names one of these starts. Refused
-/// as `Stray`, at a value that has another form or names none.
+/// Tests that each value of all unit sections that is to say where a line table starts names one of these starts, and that
+/// each that is to say where a macro unit starts names one of these places. Refused as `Stray`, at a value that has another
+/// form or names none.
 #[tactic(auto, using(crate::proofs::StartLaws::all_rules))]
-pub(crate) fn all_start(view: &View, starts: &[u64], paths: &[UnitPaths]) -> Result<(), Refusal>
+pub(crate) fn all_start(
+    view: &View,
+    starts: &[u64],
+    places: &[u64],
+    paths: &[UnitPaths],
+) -> Result<(), Refusal>
     requires taken { AllTaken (debug_data view.now) (debug_data view.now).units paths.now }
     requires tables { TablesStart (debug_data view.now) starts.now }
-    ensures starts { OnOk result (AllStarts (debug_data view.now) starts.now (debug_data view.now).units paths.now) }
+    requires units { UnitsStart (debug_data view.now) places.now }
+    ensures starts { OnOk result (AllStarts (debug_data view.now) starts.now places.now (debug_data view.now).units paths.now) }
     ensures refused { IfErr result (StartsFail (debug_data view.now)) }
 {
     for found in paths {
-        section_starts(view, starts, found)?;
+        section_starts(view, starts, places, found)?;
     }
     Ok(())
 }
 
 /// The same of one section.
 #[tactic(auto, using(crate::proofs::StartLaws::section_rules))]
-fn section_starts(view: &View, starts: &[u64], found: &UnitPaths) -> Result<(), Refusal>
+fn section_starts(
+    view: &View,
+    starts: &[u64],
+    places: &[u64],
+    found: &UnitPaths,
+) -> Result<(), Refusal>
     requires paths { HasPaths view.now found.now }
     requires rises { Rises starts.now }
-    ensures starts { OnOk result (SectionStarts view.now.order (info_of view.now found.now) starts.now found.now) }
-    ensures refused { IfErr result (SectionStrays view.now.order (info_of view.now found.now) starts.now found.now) }
+    requires units { Rises places.now }
+    ensures starts { OnOk result (SectionStarts view.now.order (info_of view.now found.now) starts.now places.now found.now) }
+    ensures refused { IfErr result (SectionStrays view.now.order (info_of view.now found.now) starts.now places.now found.now) }
 {
     if let Some(place) = found.stray {
         return Err(stray(found.section, place));
@@ -54,6 +67,13 @@ fn section_starts(view: &View, starts: &[u64], found: &UnitPaths) -> Result<(), 
         info,
         starts,
         found.starts.as_slice(),
+    )?;
+    fields_start(
+        view.order(),
+        found.section,
+        info,
+        places,
+        found.macros.as_slice(),
     )?;
     Ok(())
 }
@@ -91,7 +111,7 @@ pub fn start_in(order: Order, info: &[u8], field: PathField) -> u64
     number_in(order, info, field.at, field.size)
 }
 
-/// The number of the line table that starts at a place. `None` exactly where none does.
+/// The number of the line table or macro unit that starts at a place. `None` exactly where none does.
 #[tactic(auto, using(crate::proofs::StartLaws::number_rules))]
 pub fn start_number(starts: &[u64], start: u64) -> Option<usize>
     requires rises { Rises starts.now }
@@ -113,8 +133,8 @@ fn with_start(starts: &[u64], start: u64) -> Result<usize, usize>
     starts.binary_search(&start)
 }
 
-/// A value that says where no line table starts.
-fn stray(section: u32, place: u64) -> Refusal
+/// What says where no line table or macro unit starts.
+pub(crate) fn stray(section: u32, place: u64) -> Refusal
     ensures { result ≡ at Kind.Stray section place }
 {
     Refusal::at(Kind::Stray, section, place)

@@ -1,24 +1,22 @@
 //! The texts that the values of an entry name, the paths among them, and what they say by index (DWARF 5,
-//! 7.5.4 to 7.5.6), and where they say that line tables start (3.1.1).
+//! 7.5.4 to 7.5.6), and where they say that line tables and macro units start (3.1.1).
 //!
 //! Read first: `specs/TextPlaces.antt`, then `specs/EntryTexts.antt`.
 
-ghost use Rattle.std.specs.Prelude.{◌≡◌, ◌⊎◌, ◌+◌, ◌^◌, ◌≤◌, ◌<◌, ◌==◌, ◌&&◌, not, true, false, length, IsTrue, IfErr, IfOk, IfSome, OnOk, Some};
+ghost use Rattle.std.specs.Prelude.{◌≡◌, ◌⊎◌, ◌+◌, ◌^◌, ◌≤◌, ◌<◌, ◌==◌, ◌&&◌, true, false, length, IsTrue, IfErr, IfOk, OnOk, Some, not, IfSome};
 ghost use Rattle.dw_base.specs.FormFails.{FormFails};
 ghost use Rattle.dw_base.specs.Forms.{width_size};
 ghost use Rattle.dw_base.specs.Values.{value_at};
-ghost use Rattle.dw_meaning.specs.FileFails.{is_unbuilt_value};
 ghost use Rattle.dw_base.specs.Refusals.{Blames, at};
 ghost use Rattle.dw_base.specs.Roles.{is_path};
 ghost use Rattle.dw_base.specs.TextIndexes.{is_base};
 ghost use Rattle.dw_base.specs.UnitHeaders.{is_address_size};
 ghost use Rattle.dw_base.specs.declared.dwarf_numbers.TheConstants.{DW_AT_stmt_list};
-ghost use Rattle.dw_find.specs.EntryTexts.{AreTaken, IsStrValue, OffsetNames, OffsetSized, OneRefuses, StartSized, ValueRefuses, ValuesRefuse, ValueTaken, with_places};
-ghost use Rattle.dw_find.specs.TextPlaces.{class_places, is_start_form, line_at, own_form, own_place, stray_at, values_places};
+ghost use Rattle.dw_find.specs.EntryTexts.{AreTaken, OffsetNames, OffsetSized, OneRefuses, StartSized, ValueRefuses, ValuesRefuse, ValueTaken, with_places, IsStrValue};
+ghost use Rattle.dw_find.specs.TextPlaces.{class_places, indexed_at, is_macros, is_start, is_start_form, line_at, no_start, own_form, own_place, said_places, said_value, values_places};
 
 use crate::fields::{InlinePath, PathField, TextIndex};
 use crate::found::{Found, TextTables};
-use crate::refusal::unbuilt;
 use dw_base::dwarf_numbers::{
     DW_AT_GNU_macros, DW_AT_comp_dir, DW_AT_macros, DW_AT_name, DW_AT_stmt_list,
     DW_AT_str_offsets_base, DW_FORM_data4, DW_FORM_data8, DW_FORM_indirect, DW_FORM_sec_offset,
@@ -31,7 +29,7 @@ use dw_forms::value_at;
 use std::alloc::AllocError;
 
 /// Takes the values of entry `number`, of a tag and with these attributes, which begin at a place of the
-/// bytes up to the unit's end: the paths among them are noted. Refused where one can't be read, names no text, or isn't taken yet.
+/// bytes up to the unit's end: the paths among them are noted. Refused where one can't be read or names no text.
 #[tactic(auto, using(crate::proofs::EntryTextLaws::entry_rules))]
 pub(crate) fn entry_texts(
     tables: &TextTables,
@@ -76,14 +74,11 @@ fn value_text(
     ensures refused { IfErr result (Blames (OneRefuses tables.now unit.now.params bytes.now unit.now.section place spec.now)) }
 {
     let value = value_in(unit, bytes, spec, place)?;
-    if is_unbuilt_value(spec) {
-        return Err(unbuilt().into());
-    }
     let path = is_path(number, tag, spec.name);
     let base = is_base(number, spec.name);
     note_start(says_start(spec, bytes, place), &value, found)?;
-    note_value(tables, unit.section, spec, place, &value, path, base, found)?;
-    note_stray(is_stray(spec, bytes, place), spec, bytes, place, found);
+    note_value(tables, unit.section, place, &value, path, base, found)?;
+    note_said(spec, bytes, place, &value, found)?;
     Ok(value.size)
 }
 
@@ -155,11 +150,18 @@ fn any_value(unit: &UnitHeader, bytes: &[u8], spec: &Spec, place: u64) -> Result
     )
 }
 
-/// An attribute whose values aren't taken yet: the place of macros.
-fn is_unbuilt_value(spec: &Spec) -> bool
-    ensures { result ≡ is_unbuilt_value spec.now }
+/// An attribute of a name that says where a macro unit starts (DWARF 5, 3.1.1).
+fn is_macros(name: u64) -> bool
+    ensures { result ≡ is_macros name }
 {
-    spec.name == DW_AT_macros || spec.name == DW_AT_GNU_macros
+    name == DW_AT_macros || name == DW_AT_GNU_macros
+}
+
+/// One that says where a line table or a macro unit starts.
+fn is_start(name: u64) -> bool
+    ensures { result ≡ is_start name }
+{
+    name == DW_AT_stmt_list || is_macros(name)
 }
 
 /// An attribute that says where a line table starts (DWARF 5, 3.1.1).
@@ -215,17 +217,6 @@ fn says_start(spec: &Spec, bytes: &[u8], place: u64) -> bool
     is_start_form(own_form(spec, bytes, place))
 }
 
-/// A value at a place is to say that, and has a form that can't.
-#[tactic(auto, using(crate::proofs::EntryTextLaws::says_rules))]
-fn is_stray(spec: &Spec, bytes: &[u8], place: u64) -> bool
-    ensures { result ≡ ((spec.now.name == DW_AT_stmt_list) && not (is_start_form (own_form spec.now bytes.now place))) }
-{
-    if !is_line(spec) {
-        return false;
-    }
-    !is_start_form(own_form(spec, bytes, place))
-}
-
 /// Notes the field of a value that says where a line table starts.
 #[tactic(auto, using(crate::proofs::EntryTextLaws::note_rules), unfolding(crate::specs::EntryTexts::with_places, crate::specs::EntryTexts::with_paths))]
 fn note_start(says: bool, value: &Value, found: &mut Found) -> Result<(), AllocError>
@@ -238,16 +229,52 @@ fn note_start(says: bool, value: &Value, found: &mut Found) -> Result<(), AllocE
     Ok(())
 }
 
-/// Notes where the first value stands that is to say so, and has a form that can't.
-#[tactic(auto, using(crate::proofs::EntryTextLaws::note_rules), unfolding(crate::specs::EntryTexts::with_places, crate::specs::EntryTexts::with_paths))]
-fn note_stray(stray: bool, spec: &Spec, bytes: &[u8], place: u64, found: &mut Found)
+/// Notes what a value at a place says of starts, where it is to say one: where it stands, where it has a form that can't, and
+/// else its field, where it says where a macro unit starts.
+#[tactic(auto, using(crate::proofs::EntryTextLaws::said_rules))]
+fn note_said(
+    spec: &Spec,
+    bytes: &[u8],
+    place: u64,
+    value: &Value,
+    found: &mut Found,
+) -> Result<(), AllocError>
     requires small { length bytes.now ≤ 2 ^ 31 }
     requires inside { place ≤ length bytes.now }
-    ensures found { found.new ≡ with_places found.old (stray_at (not stray) (own_place spec.now bytes.now place)) }
+    requires sized { StartSized (own_form spec.now bytes.now place) value.now.len }
+    ensures found { OnOk result (found.new ≡ with_places found.old (said_places (is_start spec.now.name) (is_macros spec.now.name) (own_form spec.now bytes.now place) (own_place spec.now bytes.now place) value.now)) }
 {
-    if stray && found.paths.stray.is_none() {
-        found.paths.stray = Some(own_place(spec, bytes, place));
+    if !is_start(spec.name) {
+        return Ok(());
     }
+    if !is_start_form(own_form(spec, bytes, place)) {
+        note_stray(own_place(spec, bytes, place), found);
+        return Ok(());
+    }
+    if is_macros(spec.name) {
+        note_unit(value, found)?;
+    }
+    Ok(())
+}
+
+/// Notes where the first value stands that is to say a start, and has a form that can't.
+#[tactic(auto, using(crate::proofs::EntryTextLaws::note_rules), unfolding(crate::specs::EntryTexts::with_places, crate::specs::EntryTexts::with_paths))]
+fn note_stray(place: u64, found: &mut Found)
+    ensures found { found.new ≡ with_places found.old (indexed_at place no_start) }
+{
+    if found.paths.stray.is_none() {
+        found.paths.stray = Some(place);
+    }
+}
+
+/// Notes the field of a value that says where a macro unit starts.
+#[tactic(auto, using(crate::proofs::EntryTextLaws::note_rules), unfolding(crate::specs::EntryTexts::with_places, crate::specs::EntryTexts::with_paths))]
+fn note_unit(value: &Value, found: &mut Found) -> Result<(), AllocError>
+    requires sized { (value.now.len ≡ 4) ⊎ (value.now.len ≡ 8) }
+    ensures found { OnOk result (found.new ≡ with_places found.old (said_value true true 0 value.now)) }
+{
+    found.paths.macros.push(field_of(value))?;
+    Ok(())
 }
 
 /// An attribute that holds a path: name or comp_dir of the first entry of a unit whose tag is a unit's
@@ -273,7 +300,6 @@ fn is_base(number: u64, name: u64) -> bool
 fn note_value(
     tables: &TextTables,
     section: u32,
-    spec: &Spec,
     place: u64,
     value: &Value,
     path: bool,
@@ -283,7 +309,7 @@ fn note_value(
     requires sized { OffsetSized value.now.class value.now.len }
     ensures found { OnOk result (found.new ≡ with_places found.old (class_places value.now.class path base place value.now)) }
     ensures names { OnOk result (OffsetNames tables.now value.now.class value.now.number) }
-    ensures refused { IfErr result (Blames (ValueRefuses tables.now section spec.now value.now)) }
+    ensures refused { IfErr result (Blames (ValueRefuses tables.now section value.now)) }
 {
     match value.class {
         ValueClass::StrOffset => {

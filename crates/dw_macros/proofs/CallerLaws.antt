@@ -4,8 +4,8 @@ use Rattle.std.proofs.lemmas.Bool.{cases_lt}
 use Rattle.std.proofs.lemmas.List.{get_or_append_left, get_or-append-add, length-append}
 use Rattle.dw_base.specs.FileViews.{View, section_bytes}
 use Rattle.dw_macros.specs.MacroEvents.{IsUnitIn}
-use Rattle.dw_macros.specs.MacroUnits.{AreMacroUnits, IsMacroUnit, MacroUnitsUpTo, no_units, more_units, unit_with}
-use Rattle.dw_macros.specs.declared.units.MacroUnit.{MacroUnit}
+use Rattle.dw_base.specs.MacroUnits.{AreMacroUnits, IsMacroUnit, MacroUnitsUpTo, no_units, more_units, unit_with}
+use Rattle.dw_base.specs.declared.macro_units.MacroUnit.{MacroUnit}
 
 -- a unit that was read
 pub read-unit : (v : View) (section start : ℕ) (u : MacroUnit) → section < length v.sections → IsMacroUnit v section start u → IsUnitIn v u

@@ -17,14 +17,14 @@ use Rattle.dw_base.specs.declared.shared.Width.{Width}
 use Rattle.dw_base.specs.declared.view_fields.Field.{Field}
 use Rattle.dw_base.specs.declared.view_fields.Field.TheVariants.{Num, Into, Sym}
 use Rattle.dw_macros.specs.MacroEvents.{EventsFit, EventsState, IsUnitIn, SpellsEvents, over, one_event, event_by, event_if, event_in, events_behind, events_from, events_start, import_at, import_of, inline_place, named_place, text_event, text_if, unit_events, with_those}
-use Rattle.dw_macros.specs.MacroUnits.{IsMacroUnit, OperationsUpTo, no_operations, more_operations, is_end, names_text, offset_at, taken, taken_if, unit_operation}
+use Rattle.dw_base.specs.MacroUnits.{IsMacroUnit, OperationsUpTo, no_operations, more_operations, is_end, names_text, offset_at, taken, taken_if, unit_operation}
 use Rattle.dw_macros.proofs.OperationLaws.{operation-behind}
-use Rattle.dw_macros.specs.Operations.{operation_at, operation_of}
-use Rattle.dw_macros.specs.declared.operation.MacroEvent.{MacroEvent}
-use Rattle.dw_macros.specs.declared.operation.MacroEvent.TheVariants.{StartFile, EndFile, Import}
-use Rattle.dw_macros.specs.declared.operation.Operation.{Operation}
-use Rattle.dw_macros.specs.declared.operation.Operation.TheVariants.{End, Inline, Named, Enter, Leave, Bring, Foreign}
-use Rattle.dw_macros.specs.declared.units.MacroUnit.{MacroUnit}
+use Rattle.dw_base.specs.MacroOperations.{operation_at, operation_of}
+use Rattle.dw_base.specs.declared.macro_units.MacroEvent.{MacroEvent}
+use Rattle.dw_base.specs.declared.macro_units.MacroEvent.TheVariants.{StartFile, EndFile, Import}
+use Rattle.dw_base.specs.declared.macro_units.MacroOperation.{MacroOperation}
+use Rattle.dw_base.specs.declared.macro_units.MacroOperation.TheVariants.{End, Inline, Named, Enter, Leave, Bring, Foreign}
+use Rattle.dw_base.specs.declared.macro_units.MacroUnit.{MacroUnit}
 use Rattle.dw_base.specs.declared.line_tables.TextPlace.{TextPlace}
 
 -- the text that an offset names
@@ -83,7 +83,7 @@ pub ruleset import_laws = (import-num, import-into)
 pub ruleset by_laws = (named-some)
 
 -- the event at a place, by the operation there
-read-event : (v : View) (section place : ℕ) (width : Width) (bytes : List ℕ) (x : Option (Operation × ℕ)) → bytes ≡ section_bytes v section
+read-event : (v : View) (section place : ℕ) (width : Width) (bytes : List ℕ) (x : Option (MacroOperation × ℕ)) → bytes ≡ section_bytes v section
     → x ≡ operation_at bytes width place → event_in v section width place ≡ event_if v section width x
 unfolding event_in
 read-event v section place width bytes x b e = ap (event_if v section width) (sym (e ∙ ap (λ (bs : List ℕ). operation_at bs width place) b))
@@ -92,7 +92,7 @@ pub event-none : (v : View) (section place : ℕ) (width : Width) (bytes : List 
     → None ≡ operation_at bytes width place → None ≡ event_in v section width place
 event-none v section place width bytes b e = sym (read-event v section place width bytes None b e)
 
-pub event-some : (v : View) (section place next : ℕ) (width : Width) (bytes : List ℕ) (o : Operation) (x : Option (MacroEvent × ℕ)) → bytes ≡ section_bytes v section
+pub event-some : (v : View) (section place next : ℕ) (width : Width) (bytes : List ℕ) (o : MacroOperation) (x : Option (MacroEvent × ℕ)) → bytes ≡ section_bytes v section
     → Some (o, next) ≡ operation_at bytes width place → x ≡ event_by v section width o next → x ≡ event_in v section width place
 event-some v section place next width bytes o x b e is = is ∙ sym (read-event v section place width bytes (Some (o, next)) b e)
 
@@ -116,7 +116,7 @@ below : (m n : ℕ) → nat_lt m n ≡ true → m < n
 below m n e = grind (arith, nat_tests)
 
 -- an event stands before the section's end
-operation-inside : (bytes : List ℕ) (width : Width) (place : ℕ) (o : Operation × ℕ) → operation_at bytes width place ≡ Some o → place < length bytes
+operation-inside : (bytes : List ℕ) (width : Width) (place : ℕ) (o : MacroOperation × ℕ) → operation_at bytes width place ≡ Some o → place < length bytes
 unfolding operation_at
 operation-inside bytes width place o e = by_test (nat_lt place (length bytes)) refl e
   where
@@ -129,7 +129,7 @@ event-inside : (v : View) (section place : ℕ) (width : Width) (e : MacroEvent 
 unfolding event_in
 event-inside v section place width e is = by_operation (operation_at (section_bytes v section) width place) refl is
   where
-    by_operation : (x : Option (Operation × ℕ)) → operation_at (section_bytes v section) width place ≡ x → event_if v section width x ≡ Some e
+    by_operation : (x : Option (MacroOperation × ℕ)) → operation_at (section_bytes v section) width place ≡ x → event_if v section width x ≡ Some e
         → place < length (section_bytes v section)
     by_operation None o f = absurd (none-some e f)
     by_operation (Some y) o f = operation-inside (section_bytes v section) width place y o
@@ -178,7 +178,7 @@ record IsEvent (v : View) (section : ℕ) (width : Width) (place next : ℕ) : T
   is : event_in v section width place ≡ Some (event, next)
 
 -- the place behind an event is that behind its operation
-next-same : (v : View) (section : ℕ) (width : Width) (o : Operation) (next : ℕ) (e : MacroEvent × ℕ) → event_by v section width o next ≡ Some e → next ≡ e.1
+next-same : (v : View) (section : ℕ) (width : Width) (o : MacroOperation) (next : ℕ) (e : MacroEvent × ℕ) → event_by v section width o next ≡ Some e → next ≡ e.1
 unfolding event_by
 next-same v section width End next e f = absurd (none-some e f)
 next-same v section width (Inline d l a k) next e f = some-next (text_event d l (inline_place section a k)) next e f
@@ -193,7 +193,7 @@ next-same v section width (Bring g) next e f = some-next (import_at v section wi
 next-same v section width Foreign next e f = absurd (none-some e f)
 
 -- the same of the operation
-record HasEvent (v : View) (section : ℕ) (width : Width) (o : Operation) (n next : ℕ) : Type 0 where
+record HasEvent (v : View) (section : ℕ) (width : Width) (o : MacroOperation) (n next : ℕ) : Type 0 where
   event : MacroEvent
   is : event_by v section width o n ≡ Some (event, next)
 
@@ -203,19 +203,19 @@ false-true e = cc
 true-false : true ≡ false → ⊥
 true-false e = cc
 
-place-same : (o p : Operation) (n next : ℕ) → ◌≡◌ {A = Result (Operation × ℕ) Refusal} (Ok (o, n)) (Ok (p, next)) → n ≡ next
-place-same o p n next e = ap (λ (x : Operation × ℕ). x.1) (by_kind e)
+place-same : (o p : MacroOperation) (n next : ℕ) → ◌≡◌ {A = Result (MacroOperation × ℕ) Refusal} (Ok (o, n)) (Ok (p, next)) → n ≡ next
+place-same o p n next e = ap (λ (x : MacroOperation × ℕ). x.1) (by_kind e)
   where
-    by_kind : ◌≡◌ {A = Result (Operation × ℕ) Refusal} (Ok (o, n)) (Ok (p, next)) → ◌≡◌ {A = Operation × ℕ} (o, n) (p, next)
+    by_kind : ◌≡◌ {A = Result (MacroOperation × ℕ) Refusal} (Ok (o, n)) (Ok (p, next)) → ◌≡◌ {A = MacroOperation × ℕ} (o, n) (p, next)
     by_kind f = cc
 
-kind-same : (o p : Operation) (n next : ℕ) → ◌≡◌ {A = Result (Operation × ℕ) Refusal} (Ok (o, n)) (Ok (p, next)) → o ≡ p
-kind-same o p n next e = ap (λ (x : Operation × ℕ). x.0) (by_kind e)
+kind-same : (o p : MacroOperation) (n next : ℕ) → ◌≡◌ {A = Result (MacroOperation × ℕ) Refusal} (Ok (o, n)) (Ok (p, next)) → o ≡ p
+kind-same o p n next e = ap (λ (x : MacroOperation × ℕ). x.0) (by_kind e)
   where
-    by_kind : ◌≡◌ {A = Result (Operation × ℕ) Refusal} (Ok (o, n)) (Ok (p, next)) → ◌≡◌ {A = Operation × ℕ} (o, n) (p, next)
+    by_kind : ◌≡◌ {A = Result (MacroOperation × ℕ) Refusal} (Ok (o, n)) (Ok (p, next)) → ◌≡◌ {A = MacroOperation × ℕ} (o, n) (p, next)
     by_kind f = cc
 
-err-ok : (r : Refusal) (p : Operation × ℕ) → Err r ≡ Ok p → ⊥
+err-ok : (r : Refusal) (p : MacroOperation × ℕ) → Err r ≡ Ok p → ⊥
 err-ok r p e = cc
 
 -- a text that was looked at is there
@@ -232,7 +232,7 @@ text-there v section field width defines line n e = record {
   is = rw e refl;
 }
 
-has-event : (v : View) (section place n next : ℕ) (width : Width) (x o : Operation) → taken v section width place x n ≡ Ok (o, next) → is_end o ≡ false
+has-event : (v : View) (section place n next : ℕ) (width : Width) (x o : MacroOperation) → taken v section width place x n ≡ Ok (o, next) → is_end o ≡ false
     → HasEvent v section width x n next
 unfolding event_by
 has-event v section place n next width End o e more = absurd (true-false (ap is_end (kind-same End o n next e) ∙ more))
@@ -243,7 +243,7 @@ has-event v section place n next width (Inline d l a k) o e more = record {
 has-event v section place n next width (Named d l f) o e more = by_test (names_text v section width f) refl e
   where
     by_test : (b : Bool) → names_text v section width f ≡ b
-        → ◌≡◌ {A = Result (Operation × ℕ) Refusal} (if b then Ok (Named d l f, n) else Err (at StringOffset section f)) (Ok (o, next)) → HasEvent v section width (Named d l f) n next
+        → ◌≡◌ {A = Result (MacroOperation × ℕ) Refusal} (if b then Ok (Named d l f, n) else Err (at StringOffset section f)) (Ok (o, next)) → HasEvent v section width (Named d l f) n next
     by_test true t g =
         subst (λ (m : ℕ). HasEvent v section width (Named d l f) n m) (place-same (Named d l f) o n next g) (text-there v section f width d l n t)
     by_test false t g = absurd (err-ok (at StringOffset section f) (o, next) g)
@@ -261,12 +261,12 @@ has-event v section place n next width (Bring f) o e more = record {
 }
 has-event v section place n next width Foreign o e more = absurd (err-ok (at Supplementary section place) (o, next) e)
 
-is-event : (v : View) (section start place next : ℕ) (width : Width) (o : Operation) → unit_operation v section start width place ≡ Ok (o, next) → is_end o ≡ false
+is-event : (v : View) (section start place next : ℕ) (width : Width) (o : MacroOperation) → unit_operation v section start width place ≡ Ok (o, next) → is_end o ≡ false
     → IsEvent v section width place next
 unfolding unit_operation event_in
 is-event v section start place next width o e more = by_operation (operation_at (section_bytes v section) width place) refl e
   where
-    by_operation : (x : Option (Operation × ℕ)) → operation_at (section_bytes v section) width place ≡ x → taken_if v section start width place x ≡ Ok (o, next)
+    by_operation : (x : Option (MacroOperation × ℕ)) → operation_at (section_bytes v section) width place ≡ x → taken_if v section start width place x ≡ Ok (o, next)
         → IsEvent v section width place next
     by_operation None is f = absurd (err-ok (at Macro section start) (o, next) f)
     by_operation (Some y) is f =
@@ -292,12 +292,12 @@ end-there : (v : View) (section start place end : ℕ) (width : Width) → unit_
 unfolding unit_operation
 end-there v section start place end width e = by_operation (operation_at (section_bytes v section) width place) refl e
   where
-    by_kind : (x : Operation) (n : ℕ) → taken v section width place x n ≡ Ok (End, end) → ◌≡◌ {A = Option (Operation × ℕ)} (Some (x, n)) (Some (End, end))
+    by_kind : (x : MacroOperation) (n : ℕ) → taken v section width place x n ≡ Ok (End, end) → ◌≡◌ {A = Option (MacroOperation × ℕ)} (Some (x, n)) (Some (End, end))
     by_kind End n f = ap (λ (m : ℕ). Some (End, m)) (place-same End End n end f)
     by_kind (Inline d l a k) n f = absurd (false-true (ap is_end (kind-same (Inline d l a k) End n end f)))
     by_kind (Named d l g) n f = by_test (names_text v section width g) f
       where
-        by_test : (b : Bool) → ◌≡◌ {A = Result (Operation × ℕ) Refusal} (if b then Ok (Named d l g, n) else Err (at StringOffset section g)) (Ok (End, end)) → ◌≡◌ {A = Option (Operation × ℕ)} (Some (Named d l g, n)) (Some (End, end))
+        by_test : (b : Bool) → ◌≡◌ {A = Result (MacroOperation × ℕ) Refusal} (if b then Ok (Named d l g, n) else Err (at StringOffset section g)) (Ok (End, end)) → ◌≡◌ {A = Option (MacroOperation × ℕ)} (Some (Named d l g, n)) (Some (End, end))
         by_test true h = absurd (false-true (ap is_end (kind-same (Named d l g) End n end h)))
         by_test false h = absurd (err-ok (at StringOffset section g) (End, end) h)
     by_kind (Enter l g) n f = absurd (false-true (ap is_end (kind-same (Enter l g) End n end f)))
@@ -305,7 +305,7 @@ end-there v section start place end width e = by_operation (operation_at (sectio
     by_kind (Bring g) n f = absurd (false-true (ap is_end (kind-same (Bring g) End n end f)))
     by_kind Foreign n f = absurd (err-ok (at Supplementary section place) (End, end) f)
 
-    by_operation : (x : Option (Operation × ℕ)) → operation_at (section_bytes v section) width place ≡ x → taken_if v section start width place x ≡ Ok (End, end)
+    by_operation : (x : Option (MacroOperation × ℕ)) → operation_at (section_bytes v section) width place ≡ x → taken_if v section start width place x ≡ Ok (End, end)
         → operation_at (section_bytes v section) width place ≡ Some (End, end)
     by_operation None is f = absurd (err-ok (at Macro section start) (End, end) f)
     by_operation (Some y) is f = is ∙ by_kind y.0 y.1 f
@@ -315,7 +315,7 @@ event-behind : (v : View) (section place : ℕ) (width : Width) (e : MacroEvent 
 unfolding event_in
 event-behind v section place width e is = by_operation (operation_at (section_bytes v section) width place) refl is
   where
-    by_operation : (x : Option (Operation × ℕ)) → operation_at (section_bytes v section) width place ≡ x → event_if v section width x ≡ Some e → place < e.1
+    by_operation : (x : Option (MacroOperation × ℕ)) → operation_at (section_bytes v section) width place ≡ x → event_if v section width x ≡ Some e → place < e.1
     by_operation None o f = absurd (none-some e f)
     by_operation (Some y) o f =
         let same = next-same v section width y.0 y.1 e f in

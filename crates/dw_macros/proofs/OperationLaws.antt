@@ -7,22 +7,22 @@ use Rattle.dw_base.specs.Lebs.{uleb_at}
 use Rattle.dw_base.specs.Texts.{ends_in, text_in}
 use Rattle.dw_base.specs.declared.shared.Width.{Width}
 use Rattle.dw_macros.specs.OperationRooms.{HasRoom}
-use Rattle.dw_macros.specs.Operations.{bring_operation, enter_behind, enter_operation, inline_behind, inline_operation, is_foreign, named_behind, named_operation, operation_at, operation_of, plain_operation}
-use Rattle.dw_macros.specs.declared.macro_numbers.TheConstants.{MACRO_END, DW_MACRO_define, DW_MACRO_undef, DW_MACRO_start_file, DW_MACRO_end_file, DW_MACRO_define_strp, DW_MACRO_undef_strp, DW_MACRO_import}
-use Rattle.dw_macros.specs.declared.operation.Operation.{Operation}
-use Rattle.dw_macros.specs.declared.operation.Operation.TheVariants.{End, Inline, Named, Enter, Leave, Bring, Foreign}
+use Rattle.dw_base.specs.MacroOperations.{bring_operation, enter_behind, enter_operation, inline_behind, inline_operation, is_foreign, named_behind, named_operation, operation_at, operation_of, plain_operation}
+use Rattle.dw_base.specs.declared.macro_numbers.TheConstants.{MACRO_END, DW_MACRO_define, DW_MACRO_undef, DW_MACRO_start_file, DW_MACRO_end_file, DW_MACRO_define_strp, DW_MACRO_undef_strp, DW_MACRO_import}
+use Rattle.dw_base.specs.declared.macro_units.MacroOperation.{MacroOperation}
+use Rattle.dw_base.specs.declared.macro_units.MacroOperation.TheVariants.{End, Inline, Named, Enter, Leave, Bring, Foreign}
 
 -- the same of what was read, if anything
-abbrev RoomIn : List ℕ → Width → Option (Operation × ℕ) → Type 0
+abbrev RoomIn : List ℕ → Width → Option (MacroOperation × ℕ) → Type 0
 RoomIn bytes width None = ⊤
 RoomIn bytes width (Some o) = HasRoom bytes width o.0
 
-room-if : (bytes : List ℕ) (width : Width) (b : Bool) (x y : Option (Operation × ℕ)) → RoomIn bytes width x → RoomIn bytes width y
+room-if : (bytes : List ℕ) (width : Width) (b : Bool) (x y : Option (MacroOperation × ℕ)) → RoomIn bytes width x → RoomIn bytes width y
     → RoomIn bytes width (if b then x else y)
 room-if bytes width true x y f g = f
 room-if bytes width false x y f g = g
 
-room-then : {A : Type 0} (bytes : List ℕ) (width : Width) (f : A → Option (Operation × ℕ)) (x : Option A) → ((a : A) → RoomIn bytes width (f a))
+room-then : {A : Type 0} (bytes : List ℕ) (width : Width) (f : A → Option (MacroOperation × ℕ)) (x : Option A) → ((a : A) → RoomIn bytes width (f a))
     → RoomIn bytes width (option_and_then f x)
 room-then bytes width f None each = tt
 room-then bytes width f (Some a) each = each a
@@ -97,28 +97,28 @@ of-room bytes width opcode place =
     (room-if bytes width (opcode == DW_MACRO_define_strp) _ _ (nameds-room bytes width true place)
     (room-if bytes width (opcode == DW_MACRO_undef_strp) _ _ (nameds-room bytes width false place) (plain-room bytes width opcode place))))
 
-room-given : (bytes : List ℕ) (width : Width) (x : Option (Operation × ℕ)) → RoomIn bytes width x → IfSome x (λ o. HasRoom bytes width o.0)
+room-given : (bytes : List ℕ) (width : Width) (x : Option (MacroOperation × ℕ)) → RoomIn bytes width x → IfSome x (λ o. HasRoom bytes width o.0)
 room-given bytes width None f = tt
 room-given bytes width (Some o) f = f
 
-pub operation-room : (bytes : List ℕ) (width : Width) (opcode place : ℕ) (x : Option (Operation × ℕ)) → x ≡ operation_of bytes width opcode place
+pub operation-room : (bytes : List ℕ) (width : Width) (opcode place : ℕ) (x : Option (MacroOperation × ℕ)) → x ≡ operation_of bytes width opcode place
     → IfSome x (λ o. HasRoom bytes width o.0)
 operation-room bytes width opcode place x e = room-given bytes width x (subst (RoomIn bytes width) (sym e) (of-room bytes width opcode place))
 
 -- the place behind, if anything was read, is no earlier
-abbrev BehindIn : ℕ → Option (Operation × ℕ) → Type 0
+abbrev BehindIn : ℕ → Option (MacroOperation × ℕ) → Type 0
 BehindIn place None = ⊤
 BehindIn place (Some o) = place ≤ o.1
 
-behind-if : (place : ℕ) (b : Bool) (x y : Option (Operation × ℕ)) → BehindIn place x → BehindIn place y → BehindIn place (if b then x else y)
+behind-if : (place : ℕ) (b : Bool) (x y : Option (MacroOperation × ℕ)) → BehindIn place x → BehindIn place y → BehindIn place (if b then x else y)
 behind-if place true x y f g = f
 behind-if place false x y f g = g
 
-behind-weak : (place later : ℕ) (x : Option (Operation × ℕ)) → place ≤ later → BehindIn later x → BehindIn place x
+behind-weak : (place later : ℕ) (x : Option (MacroOperation × ℕ)) → place ≤ later → BehindIn later x → BehindIn place x
 behind-weak place later None le f = tt
 behind-weak place later (Some o) le f = omega (arith, le, f)
 
-behind-then : (place : ℕ) (f : ℕ × ℕ → Option (Operation × ℕ)) (x : Option (ℕ × ℕ)) → ((a : ℕ × ℕ) → BehindIn (place + a.1) (f a))
+behind-then : (place : ℕ) (f : ℕ × ℕ → Option (MacroOperation × ℕ)) (x : Option (ℕ × ℕ)) → ((a : ℕ × ℕ) → BehindIn (place + a.1) (f a))
     → BehindIn place (option_and_then f x)
 behind-then place f None each = tt
 behind-then place f (Some a) each = behind-weak place (place + a.1) (f a) (omega arith) (each a)
@@ -187,7 +187,7 @@ at-behind bytes width place =
     behind-if (place + 1) (nat_lt place (length bytes)) (operation_of bytes width (slice_index bytes place) (place + 1)) None
     (of-behind bytes width (slice_index bytes place) (place + 1)) tt
 
-pub operation-behind : (bytes : List ℕ) (width : Width) (place : ℕ) (o : Operation × ℕ) → operation_at bytes width place ≡ Some o → place < o.1
+pub operation-behind : (bytes : List ℕ) (width : Width) (place : ℕ) (o : MacroOperation × ℕ) → operation_at bytes width place ≡ Some o → place < o.1
 operation-behind bytes width place o e =
     let after : place + 1 ≤ o.1 = subst (BehindIn (place + 1)) e (at-behind bytes width place) in
     omega (arith, after)

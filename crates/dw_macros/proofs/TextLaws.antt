@@ -13,7 +13,7 @@ use Rattle.dw_base.specs.declared.debug_sections.DebugSection.TheVariants.{Str}
 use Rattle.dw_base.specs.declared.shared.Width.{Width}
 use Rattle.dw_base.specs.declared.view_fields.Field.{Field}
 use Rattle.dw_base.specs.declared.view_fields.Field.TheVariants.{Num, Into, Sym}
-use Rattle.dw_macros.specs.MacroUnits.{names_text, offset_at}
+use Rattle.dw_base.specs.MacroUnits.{names_text, offset_at}
 use Rattle.dw_macros.specs.TextEnds.{IsTexts}
 use Rattle.dw_macros.specs.declared.texts.Texts.{Texts}
 

@@ -9,18 +9,18 @@ use Rattle.dw_base.specs.declared.fault.Kind.TheVariants.{Macro, StringOffset, S
 use Rattle.dw_base.specs.declared.fault.Refusal.{Refusal}
 use Rattle.dw_base.specs.declared.shared.Order.{Order}
 use Rattle.dw_base.specs.declared.shared.Width.{Width}
-use Rattle.dw_macros.specs.MacroFails.{MacroFails, no_header, operation}
-use Rattle.dw_macros.specs.MacroHeaders.{macro_header}
-use Rattle.dw_macros.specs.MacroUnits.{IsMacroUnit, OperationsUpTo, no_operations, more_operations, is_end, line_of, names_text, offset_at, taken_if, unit_operation, unit_with}
-use Rattle.dw_macros.specs.Operations.{operation_at}
+use Rattle.dw_base.specs.MacroFails.{MacroFails, no_header, operation}
+use Rattle.dw_base.specs.MacroHeaders.{macro_header}
+use Rattle.dw_base.specs.MacroUnits.{IsMacroUnit, OperationsUpTo, no_operations, more_operations, is_end, line_of, names_text, offset_at, taken_if, unit_operation, unit_with}
+use Rattle.dw_base.specs.MacroOperations.{operation_at}
 use Rattle.dw_macros.specs.UnitEnds.{EndsAt, UnitBreaks}
-use Rattle.dw_macros.specs.declared.header.MacroHeader.{MacroHeader}
-use Rattle.dw_macros.specs.declared.operation.Operation.{Operation}
-use Rattle.dw_macros.specs.declared.operation.Operation.TheVariants.{End, Inline, Named, Enter, Leave, Bring, Foreign}
-use Rattle.dw_macros.specs.declared.units.MacroUnit.{MacroUnit}
+use Rattle.dw_base.specs.declared.macro_units.MacroHeader.{MacroHeader}
+use Rattle.dw_base.specs.declared.macro_units.MacroOperation.{MacroOperation}
+use Rattle.dw_base.specs.declared.macro_units.MacroOperation.TheVariants.{End, Inline, Named, Enter, Leave, Bring, Foreign}
+use Rattle.dw_base.specs.declared.macro_units.MacroUnit.{MacroUnit}
 
 -- the operation at a place, by what was read there
-read-operation : (v : View) (section start place : ℕ) (width : Width) (bytes : List ℕ) (x : Option (Operation × ℕ)) → bytes ≡ section_bytes v section
+read-operation : (v : View) (section start place : ℕ) (width : Width) (bytes : List ℕ) (x : Option (MacroOperation × ℕ)) → bytes ≡ section_bytes v section
     → x ≡ operation_at bytes width place → unit_operation v section start width place ≡ taken_if v section start width place x
 unfolding unit_operation
 read-operation v section start place width bytes x b e =
@@ -30,18 +30,18 @@ pub operation-none : (v : View) (section start place : ℕ) (width : Width) (byt
     → None ≡ operation_at bytes width place → r ≡ at Macro section start → Err r ≡ unit_operation v section start width place
 operation-none v section start place width bytes r b e is = sym (read-operation v section start place width bytes None b e ∙ rw is refl)
 
-pub operation-foreign : (v : View) (section start place next : ℕ) (width : Width) (bytes : List ℕ) (o : Operation) (r : Refusal) → bytes ≡ section_bytes v section
+pub operation-foreign : (v : View) (section start place next : ℕ) (width : Width) (bytes : List ℕ) (o : MacroOperation) (r : Refusal) → bytes ≡ section_bytes v section
     → Some (o, next) ≡ operation_at bytes width place → o ≡ Foreign → r ≡ at Supplementary section place → Err r ≡ unit_operation v section start width place
 operation-foreign v section start place next width bytes o r b e kind is =
     sym (read-operation v section start place width bytes (Some (o, next)) b e ∙ rw (kind, is) refl)
 
-pub operation-unnamed : (v : View) (section start place next line field : ℕ) (width : Width) (bytes : List ℕ) (o : Operation) (defines : Bool) (r : Refusal)
+pub operation-unnamed : (v : View) (section start place next line field : ℕ) (width : Width) (bytes : List ℕ) (o : MacroOperation) (defines : Bool) (r : Refusal)
     → bytes ≡ section_bytes v section → Some (o, next) ≡ operation_at bytes width place → o ≡ Named defines line field
     → names_text v section width field ≡ false → r ≡ at StringOffset section field → Err r ≡ unit_operation v section start width place
 operation-unnamed v section start place next line field width bytes o defines r b e kind none is =
     sym (read-operation v section start place width bytes (Some (o, next)) b e ∙ rw (kind, none, is) refl)
 
-pub operation-named : (v : View) (section start place next line field : ℕ) (width : Width) (bytes : List ℕ) (o : Operation) (defines : Bool)
+pub operation-named : (v : View) (section start place next line field : ℕ) (width : Width) (bytes : List ℕ) (o : MacroOperation) (defines : Bool)
     → bytes ≡ section_bytes v section → Some (o, next) ≡ operation_at bytes width place → o ≡ Named defines line field
     → names_text v section width field ≡ true → Ok (o, next) ≡ unit_operation v section start width place
 operation-named v section start place next line field width bytes o defines b e kind some =
@@ -56,14 +56,14 @@ pub record OperationsTo (v : View) (section start : ℕ) (width : Width) (first 
 pub operations-start : (v : View) (section start : ℕ) (width : Width) (first : ℕ) → OperationsTo v section start width first first
 operations-start v section start width first = record { operations = no_operations }
 
-pub operations-more : (v : View) (section start : ℕ) (width : Width) (first place next : ℕ) (o : Operation) → OperationsTo v section start width first place
+pub operations-more : (v : View) (section start : ℕ) (width : Width) (first place next : ℕ) (o : MacroOperation) → OperationsTo v section start width first place
     → Ok (o, next) ≡ unit_operation v section start width place → false ≡ is_end o → OperationsTo v section start width first next
 operations-more v section start width first place next o so e more = record { operations = more_operations o place next so.operations (sym e) (sym more) }
 
 false-true : false ≡ true → ⊥
 false-true e = cc
 
-end-is : (o : Operation) → is_end o ≡ true → o ≡ End
+end-is : (o : MacroOperation) → is_end o ≡ true → o ≡ End
 end-is End e = refl
 end-is (Inline d l a n) e = absurd (false-true e)
 end-is (Named d l f) e = absurd (false-true e)
@@ -72,12 +72,12 @@ end-is Leave e = absurd (false-true e)
 end-is (Bring f) e = absurd (false-true e)
 end-is Foreign e = absurd (false-true e)
 
-pub operations-end : (v : View) (section start : ℕ) (width : Width) (first place next : ℕ) (o : Operation) → OperationsTo v section start width first place
+pub operations-end : (v : View) (section start : ℕ) (width : Width) (first place next : ℕ) (o : MacroOperation) → OperationsTo v section start width first place
     → Ok (o, next) ≡ unit_operation v section start width place → true ≡ is_end o → EndsAt v section start width first next
 operations-end v section start width first place next o so e over = record {
   last = place;
   operations = so.operations;
-  ends = sym e ∙ ap (λ (x : Operation). Ok (x, next)) (end-is o (sym over));
+  ends = sym e ∙ ap (λ (x : MacroOperation). Ok (x, next)) (end-is o (sym over));
 }
 
 pub operations-break : (v : View) (section start : ℕ) (width : Width) (first place : ℕ) (r : Refusal) → OperationsTo v section start width first place

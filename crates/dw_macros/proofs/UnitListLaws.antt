@@ -2,9 +2,9 @@
 use Rattle.std.proofs.Common.{◌≡◌, ℕ, ◌<◌, ◌≤◌, List, [], ◌∷◌, ◌++◌, length, ap, subst, arith}
 use Rattle.dw_base.specs.FileViews.{View, section_bytes}
 use Rattle.dw_base.specs.declared.fault.Refusal.{Refusal}
-use Rattle.dw_macros.specs.MacroFails.{MacroFails, MacroUnitsFail, one}
-use Rattle.dw_macros.specs.MacroUnits.{AreMacroUnits, IsMacroUnit, MacroUnitsUpTo, no_units, more_units}
-use Rattle.dw_macros.specs.declared.units.MacroUnit.{MacroUnit}
+use Rattle.dw_base.specs.MacroFails.{MacroFails, MacroUnitsFail, one}
+use Rattle.dw_base.specs.MacroUnits.{AreMacroUnits, IsMacroUnit, MacroUnitsUpTo, no_units, more_units}
+use Rattle.dw_base.specs.declared.macro_units.MacroUnit.{MacroUnit}
 
 -- some unit can't be read
 pub section-fails : (v : View) (section : ℕ) (found : List ℕ) (start : ℕ) (list : List MacroUnit) (r : Refusal) → MacroUnitsUpTo v section list start

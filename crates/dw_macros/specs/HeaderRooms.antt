@@ -1,7 +1,7 @@
 -- That the offset of a line table lies in the section.
 use Rattle.std.specs.Prelude.{true, ◌≡◌, ℕ, ◌+◌, ◌≤◌, List, length}
 use Rattle.dw_base.specs.Forms.{width_size}
-use Rattle.dw_macros.specs.declared.header.MacroHeader.{MacroHeader}
+use Rattle.dw_base.specs.declared.macro_units.MacroHeader.{MacroHeader}
 
 -- the offset of a line table of a header, where it has one, lies in the bytes
 abbrev pub HasLineRoom : List ℕ → MacroHeader → Type 0

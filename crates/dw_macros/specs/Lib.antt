@@ -1,11 +1,6 @@
-pub mod Operations
 pub mod OperationRooms
-pub mod MacroHeaders
 pub mod HeaderRooms
-pub mod MacroUnits
-pub mod MacroFails
 pub mod TextEnds
 pub mod UnitEnds
 pub mod MacroEvents
-pub mod MacroPieces
-pub mod MacroMeanings
+pub mod EventMeanings

@@ -9,13 +9,13 @@ use Rattle.dw_base.specs.declared.debug_sections.DebugSection.TheVariants.{Macro
 use Rattle.dw_base.specs.declared.shared.Width.{Width}
 use Rattle.dw_base.specs.declared.view_fields.Field.{Field}
 use Rattle.dw_base.specs.declared.view_fields.Field.TheVariants.{Num, Into, Sym}
-use Rattle.dw_macros.specs.MacroUnits.{IsMacroUnit, offset_at}
-use Rattle.dw_macros.specs.Operations.{operation_at}
-use Rattle.dw_macros.specs.declared.operation.MacroEvent.{MacroEvent}
-use Rattle.dw_macros.specs.declared.operation.MacroEvent.TheVariants.{Define, Undef, StartFile, EndFile, Import}
-use Rattle.dw_macros.specs.declared.operation.Operation.{Operation}
-use Rattle.dw_macros.specs.declared.operation.Operation.TheVariants.{End, Inline, Named, Enter, Leave, Bring, Foreign}
-use Rattle.dw_macros.specs.declared.units.MacroUnit.{MacroUnit}
+use Rattle.dw_base.specs.MacroUnits.{IsMacroUnit, offset_at}
+use Rattle.dw_base.specs.MacroOperations.{operation_at}
+use Rattle.dw_base.specs.declared.macro_units.MacroEvent.{MacroEvent}
+use Rattle.dw_base.specs.declared.macro_units.MacroEvent.TheVariants.{Define, Undef, StartFile, EndFile, Import}
+use Rattle.dw_base.specs.declared.macro_units.MacroOperation.{MacroOperation}
+use Rattle.dw_base.specs.declared.macro_units.MacroOperation.TheVariants.{End, Inline, Named, Enter, Leave, Bring, Foreign}
+use Rattle.dw_base.specs.declared.macro_units.MacroUnit.{MacroUnit}
 use Rattle.dw_base.specs.declared.line_tables.TextPlace.{TextPlace}
 
 -- a definition, or its end
@@ -47,7 +47,7 @@ unfoldable pub import_at : View → ℕ → Width → ℕ → MacroEvent
 import_at v section width field = import_of (located v Macro) field (field_at v section field (width_size width))
 
 -- what an operation is as an event, and the place behind it; none where it ends its unit
-unfoldable pub event_by : View → ℕ → Width → Operation → ℕ → Option (MacroEvent × ℕ)
+unfoldable pub event_by : View → ℕ → Width → MacroOperation → ℕ → Option (MacroEvent × ℕ)
 event_by v section width End next = None
 event_by v section width (Inline defines line at len) next = Some (text_event defines line (inline_place section at len), next)
 event_by v section width (Named defines line field) next =
@@ -57,7 +57,7 @@ event_by v section width Leave next = Some (EndFile, next)
 event_by v section width (Bring field) next = Some (import_at v section width field, next)
 event_by v section width Foreign next = None
 
-abbrev pub event_if : View → ℕ → Width → Option (Operation × ℕ) → Option (MacroEvent × ℕ)
+abbrev pub event_if : View → ℕ → Width → Option (MacroOperation × ℕ) → Option (MacroEvent × ℕ)
 event_if v section width None = None
 event_if v section width (Some o) = event_by v section width o.0 o.1
 

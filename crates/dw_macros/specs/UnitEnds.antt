@@ -3,8 +3,8 @@ use Rattle.std.specs.Prelude.{◌≡◌, ℕ, Ok, Err}
 use Rattle.dw_base.specs.FileViews.{View}
 use Rattle.dw_base.specs.declared.fault.Refusal.{Refusal}
 use Rattle.dw_base.specs.declared.shared.Width.{Width}
-use Rattle.dw_macros.specs.MacroUnits.{OperationsUpTo, unit_operation}
-use Rattle.dw_macros.specs.declared.operation.Operation.TheVariants.{End}
+use Rattle.dw_base.specs.MacroUnits.{OperationsUpTo, unit_operation}
+use Rattle.dw_base.specs.declared.macro_units.MacroOperation.TheVariants.{End}
 
 -- operations lead from the first of a unit to the one that ends it, and that ends at a place
 pub record EndsAt (v : View) (section start : ℕ) (width : Width) (first end : ℕ) : Type 0 where

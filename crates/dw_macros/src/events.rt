@@ -10,12 +10,10 @@ ghost use Rattle.dw_base.specs.Forms.{width_size};
 ghost use Rattle.dw_macros.specs.MacroEvents.{EventsFit, EventsState, IsUnitIn, SpellsEvents, event_by, event_in, events_from, events_left, events_start, import_at, inline_place, named_place, text_event, unit_events};
 ghost use Rattle.dw_macros.specs.OperationRooms.{HasRoom};
 
-use crate::operation::{MacroEvent, Operation};
 use crate::reading::operation_at;
 use crate::texts::{offset_at, section_of};
-use crate::units::MacroUnit;
 use crate::widths::width_size;
-use dw_base::{DebugSection, Field, TextPlace, Width};
+use dw_base::{DebugSection, Field, MacroEvent, MacroOperation, MacroUnit, TextPlace, Width};
 use dw_strings::text_at;
 use dw_view::View;
 use std::marker::Model;
@@ -123,7 +121,7 @@ fn event_by(
     view: &View,
     section: u32,
     width: Width,
-    operation: Operation,
+    operation: MacroOperation,
     next: u64,
 ) -> Option<(MacroEvent, u64)>
     requires there { section < length view.now.sections }
@@ -132,8 +130,8 @@ fn event_by(
     ensures behind { IfSome result (λ e. e.1 ≡ next) }
 {
     match operation {
-        Operation::End => None,
-        Operation::Inline {
+        MacroOperation::End => None,
+        MacroOperation::Inline {
             defines,
             line,
             at,
@@ -142,7 +140,7 @@ fn event_by(
             let text = inline_place(section, at, len);
             Some((text_event(defines, line, text), next))
         }
-        Operation::Named {
+        MacroOperation::Named {
             defines,
             line,
             field,
@@ -150,10 +148,10 @@ fn event_by(
             Some(text) => Some((text_event(defines, line, text), next)),
             None => None,
         },
-        Operation::Enter { line, file } => Some((MacroEvent::StartFile { line, file }, next)),
-        Operation::Leave => Some((MacroEvent::EndFile, next)),
-        Operation::Bring { field } => Some((import_at(view, section, width, field), next)),
-        Operation::Foreign => None,
+        MacroOperation::Enter { line, file } => Some((MacroEvent::StartFile { line, file }, next)),
+        MacroOperation::Leave => Some((MacroEvent::EndFile, next)),
+        MacroOperation::Bring { field } => Some((import_at(view, section, width, field), next)),
+        MacroOperation::Foreign => None,
     }
 }
 

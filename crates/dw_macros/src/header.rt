@@ -4,27 +4,14 @@
 //! unit may have stands there.
 
 ghost use Rattle.std.specs.Prelude.{◌≡◌, ◌+◌, ◌≤◌, ◌<◌, ◌^◌, length, IfSome};
-ghost use Rattle.dw_macros.specs.MacroHeaders.{has_flag, header_by, header_of, is_macro_version, macro_header, width_by};
+ghost use Rattle.dw_base.specs.MacroHeaders.{has_flag, header_by, header_of, is_macro_version, macro_header, width_by};
 ghost use Rattle.dw_macros.specs.HeaderRooms.{HasLineRoom};
 
-use crate::macro_numbers::{DEBUG_LINE_OFFSET_FLAG, OFFSET_SIZE_FLAG, OPCODE_OPERANDS_TABLE_FLAG};
 use crate::widths::width_size;
-use dw_base::{Order, Width, number_in};
-
-/// The header of a macro unit.
-#[derive(Clone, Copy)]
-pub(crate) struct MacroHeader {
-    /// Its version, 4 or 5.
-    pub version: u16,
-    /// How wide its offsets are.
-    pub width: Width,
-    /// Whether it has the offset of a line table.
-    pub has_line: bool,
-    /// Where that stands; 0 where it has none.
-    pub line_field: u64,
-    /// Where the unit's first operation stands.
-    pub first: u64,
-}
+use dw_base::macro_numbers::{
+    DEBUG_LINE_OFFSET_FLAG, OFFSET_SIZE_FLAG, OPCODE_OPERANDS_TABLE_FLAG,
+};
+use dw_base::{MacroHeader, Order, Width, number_in};
 
 /// The flags have a flag.
 fn has_flag(flags: u8, flag: u8) -> bool
@@ -48,7 +35,7 @@ fn is_macro_version(version: u16) -> bool
 }
 
 /// A header whose version and flags end at a place.
-#[tactic(auto, unfolding(crate::specs::MacroHeaders::header_by))]
+#[tactic(auto, unfolding(dw_base::specs::MacroHeaders::header_by))]
 fn header_by(
     bytes: &[u8],
     version: u16,
@@ -86,7 +73,7 @@ fn header_by(
 }
 
 /// A header of a version and flags that end at a place.
-#[tactic(auto, unfolding(crate::specs::MacroHeaders::header_of))]
+#[tactic(auto, unfolding(dw_base::specs::MacroHeaders::header_of))]
 fn header_of(bytes: &[u8], version: u16, flags: u8, place: u64) -> Option<MacroHeader>
     requires inside { place ≤ length bytes.now }
     requires small { length bytes.now ≤ 2 ^ 31 }
@@ -112,7 +99,7 @@ fn header_of(bytes: &[u8], version: u16, flags: u8, place: u64) -> Option<MacroH
 }
 
 /// The header at a place of a section. `None` exactly where none that a unit may have stands there.
-#[tactic(auto, unfolding(crate::specs::MacroHeaders::macro_header))]
+#[tactic(auto, unfolding(dw_base::specs::MacroHeaders::macro_header))]
 pub(crate) fn macro_header(order: Order, bytes: &[u8], start: u64) -> Option<MacroHeader>
     requires inside { start ≤ length bytes.now }
     requires small { length bytes.now ≤ 2 ^ 31 }

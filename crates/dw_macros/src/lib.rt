@@ -5,7 +5,7 @@
 //! the offset of a text that names none. The events of a unit that was read are an iterator that takes no
 //! memory.
 //! It does not promise: that a line table or a macro unit starts where one is named.
-//! Read first: `specs/Operations.antt`, then `specs/MacroUnits.antt`.
+//! Read first: `MacroOperations`, then `MacroUnits` in `dw_base/specs`, then `specs/MacroEvents.antt`.
 //!
 //! # Example
 //!
@@ -20,14 +20,11 @@
 
 mod events;
 mod header;
-mod macro_numbers;
-mod operation;
 mod reading;
 mod texts;
 mod units;
 mod widths;
 
-pub use dw_base::{Fault, Kind, Refusal, TextPlace, Width};
+pub use dw_base::{Fault, Kind, MacroEvent, MacroUnit, Refusal, TextPlace, Width};
 pub use events::MacroEvents;
-pub use operation::MacroEvent;
-pub use units::{MacroUnit, macro_units};
+pub use units::macro_units;

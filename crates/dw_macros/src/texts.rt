@@ -9,7 +9,7 @@ ghost use Rattle.dw_base.specs.FileViews.{section_bytes};
 ghost use Rattle.dw_base.specs.Forms.{width_size};
 ghost use Rattle.dw_base.specs.Texts.{ends_in};
 ghost use Rattle.dw_base.specs.ViewData.{located};
-ghost use Rattle.dw_macros.specs.MacroUnits.{names_text, offset_at};
+ghost use Rattle.dw_base.specs.MacroUnits.{names_text, offset_at};
 ghost use Rattle.dw_macros.specs.TextEnds.{IsTexts};
 
 use crate::widths::width_size;

@@ -8,46 +8,24 @@ ghost use Rattle.dw_base.specs.FileViews.{section_bytes};
 ghost use Rattle.dw_base.specs.Refusals.{Blames};
 ghost use Rattle.dw_base.specs.ViewData.{located};
 ghost use Rattle.dw_base.specs.declared.fault.Refusal.{Refusal as RefusalOf};
-ghost use Rattle.dw_macros.specs.MacroFails.{MacroFails, MacroUnitsFail};
-ghost use Rattle.dw_macros.specs.MacroHeaders.{macro_header};
+ghost use Rattle.dw_base.specs.MacroFails.{MacroFails, MacroUnitsFail};
+ghost use Rattle.dw_base.specs.MacroHeaders.{macro_header};
 ghost use Rattle.dw_macros.specs.HeaderRooms.{HasLineRoom};
-ghost use Rattle.dw_macros.specs.MacroUnits.{AreMacroUnits, IsMacroUnit, is_end, line_of, unit_operation, unit_with};
+ghost use Rattle.dw_base.specs.MacroUnits.{AreMacroUnits, IsMacroUnit, is_end, line_of, unit_operation, unit_with};
 ghost use Rattle.dw_macros.specs.TextEnds.{IsTexts};
 ghost use Rattle.dw_macros.specs.UnitEnds.{EndsAt, UnitBreaks};
 
-use crate::header::{MacroHeader, macro_header};
-use crate::operation::Operation;
+use crate::header::macro_header;
 use crate::reading::operation_at;
 use crate::texts::{Texts, names_text, offset_at, texts_of};
-use dw_base::{DebugSection, Fault, Kind, Refusal, Width};
+use dw_base::{DebugSection, Fault, Kind, MacroHeader, MacroOperation, MacroUnit, Refusal, Width};
 use dw_view::View;
 use std::alloc::Global;
-
-/// A macro unit, with all places in bytes from its section's start.
-#[derive(Clone, Copy, Debug, PartialEq, Eq, Drop)]
-pub struct MacroUnit {
-    /// The number of its section.
-    pub section: u32,
-    /// Where it starts.
-    pub start: u64,
-    /// Where it ends.
-    pub end: u64,
-    /// Its version, 4 or 5.
-    pub version: u16,
-    /// How wide its offsets are.
-    pub width: Width,
-    /// What it names as the start of its line table, in bytes from that section's start.
-    pub line: Option<u64>,
-    /// Where that offset stands; 0 where there is none.
-    pub line_field: u64,
-    /// Where its first operation stands.
-    pub first: u64,
-}
 
 /// The operation at a place of the unit that starts at a place, and the place behind it. Refused exactly
 /// where there is none: as `Macro` at the unit, as `Supplementary` at the operation, as `StringOffset` at its
 /// offset.
-#[tactic(auto, using(crate::proofs::UnitLaws::operation_laws), unfolding(crate::specs::MacroUnits::unit_operation))]
+#[tactic(auto, using(crate::proofs::UnitLaws::operation_laws), unfolding(dw_base::specs::MacroUnits::unit_operation))]
 fn unit_operation(
     view: &View,
     texts: &Texts,
@@ -55,7 +33,7 @@ fn unit_operation(
     start: u64,
     width: Width,
     place: u64,
-) -> Result<(Operation, u64), Refusal>
+) -> Result<(MacroOperation, u64), Refusal>
     requires there { section < length view.now.sections }
     requires texts { IsTexts (located view.now DebugSection.Str) texts.now }
     ensures operation { result ≡ unit_operation view.now section start width place }
@@ -66,8 +44,8 @@ fn unit_operation(
         return Err(Refusal::at(Kind::Macro, section, start));
     };
     match operation {
-        Operation::Foreign => Err(Refusal::at(Kind::Supplementary, section, place)),
-        Operation::Named { field, .. } => {
+        MacroOperation::Foreign => Err(Refusal::at(Kind::Supplementary, section, place)),
+        MacroOperation::Named { field, .. } => {
             if !names_text(view, texts, section, width, field)? {
                 return Err(Refusal::at(Kind::StringOffset, section, field));
             }
@@ -78,11 +56,11 @@ fn unit_operation(
 }
 
 /// The operation ends its unit.
-fn is_end(operation: Operation) -> bool
+fn is_end(operation: MacroOperation) -> bool
     ensures { result ≡ is_end operation }
 {
     match operation {
-        Operation::End => true,
+        MacroOperation::End => true,
         _ => false,
     }
 }

@@ -3,11 +3,13 @@ use Rattle.std.proofs.Common.{true, ◌≡◌, ◌≢◌, ℕ, ◌+◌, ◌≤�
 use Rattle.std.specs.Bool.{⊤}
 use Rattle.std.proofs.lemmas.List.{length-append, append-nil}
 use Rattle.dw_base.specs.Cells.{Cell, Located, bytes_of, plain_cells, located_cells}
-use Rattle.dw_base.specs.DebugData.{DebugData, DataReadings, begins_by, units_in, ReadsAll, EntryPlace, place_by, entry_places, all_places, info_number, info_numbers, Around, around_of, indexing_of, line_source, path_slots, table_of}
-use Rattle.dw_base.specs.Forms.{TextSection, in_str, in_line_str}
+use Rattle.dw_base.specs.DebugData.{DebugData, DataReadings, begins_by, units_in, ReadsAll, EntryPlace, place_by, entry_places, all_places, info_number, info_numbers, Lasting, Around, around_of, indexing_of, line_source, path_slots, table_of}
+use Rattle.dw_base.specs.Forms.{TextSection, in_str, in_line_str, ValueKind, number_of, leb_number, signed_leb, block_of, counted, counted_leb, inline_text, text_offset, present, in_abbreviation, form_in_front, supplementary, unlisted, kind_in}
 use Rattle.dw_base.specs.LineChanges.{line_mentions}
 use Rattle.dw_base.specs.LineReadings.{LineReading, TablesTo, table_starts, starts_from, all_lines}
-use Rattle.dw_base.specs.TableStarts.{HasStartForm}
+use Rattle.dw_base.specs.MacroMeanings.{macro_meanings}
+use Rattle.dw_base.specs.MacroReadings.{MacroReading, EachMacro, MacroStart, MacroPlaces, macro_starts, first_macros}
+use Rattle.dw_base.specs.TableStarts.{HasStartForm, macro_value_by, macro_value_in, NamesUnitIf, NamesMacro, NamesImport}
 use Rattle.dw_base.specs.Texts.{ends_in, laid_texts}
 use Rattle.dw_base.specs.MappedSlots.{unit_slots, mapped_slots}
 use Rattle.dw_base.specs.MappedUnits.{mapped_unit, mapped_units}
@@ -16,17 +18,18 @@ use Rattle.dw_base.specs.OffsetPieces.{OffsetState, at_contribution, offsets_at}
 use Rattle.dw_base.specs.Paths.{PathMap, IsPathMap}
 use Rattle.dw_base.specs.Pieces.{Piece, joined, Chain, EachPiece}
 use Rattle.dw_base.specs.Readings.{Readings, EachReading}
-use Rattle.dw_base.specs.Roles.{role_of, role_of_mode}
-use Rattle.dw_base.specs.SectionTexts.{slot_role, name_role, mentions_with, file_mentions, NameTexts}
+use Rattle.dw_base.specs.Roles.{Use, names_path, names_line_table, names_macro_unit, names_other, use_of, role_of_kind, role_of, role_of_mode}
+use Rattle.dw_base.specs.SectionTexts.{slot_role, name_role, macro_role, mentions_with, macro_mentions, file_mentions, NameTexts}
 use Rattle.dw_base.specs.SlotTexts.{contributions_in, slot_texts, name_parts}
 use Rattle.dw_base.specs.StringTables.{Mention, texts_after, new_table}
-use Rattle.dw_base.specs.TextChanges.{TableChanges, change_of, mentions_of, all_mentions, edited_all, NamesTextBy, NamesText, InlineFits}
+use Rattle.dw_base.specs.TextChanges.{TableChanges, change_of, mentions_of, all_mentions, edited_by, edited_all, NamesTextBy, NamesText, InlineFits}
 use Rattle.dw_base.specs.TextIndexes.{Indexing, IndexUse, SaidBase, bases_in, all_bases, uses_in, index_uses, EachUse, NamesSlot}
 use Rattle.dw_base.specs.UnitHeaders.{UnitBase, UnitSection}
 use Rattle.dw_base.specs.UnitMeanings.{UnitMeaning, unit_meanings, units_read, units_of}
 use Rattle.dw_base.specs.UnitPieces.{ReadsUnits, unit_grammar}
 use Rattle.dw_base.specs.UnitStates.{Mode, at_header, at_code, at_values, at_chosen, stuck, UnitState, before_unit}
 use Rattle.dw_base.specs.declared.shared.Order.{Order}
+use Rattle.dw_base.specs.declared.shared.Params.{Params}
 use Rattle.dw_base.specs.declared.string_offsets.Contribution.{Contribution}
 use Rattle.dw_base.proofs.IndexKeptLaws.{bases-kept, bases-same, uses-kept, contributions-kept}
 use Rattle.dw_base.proofs.OffsetChangeLaws.{slots-mapped, names-kept}
@@ -34,11 +37,12 @@ use Rattle.dw_base.proofs.PathLaws.{mapped_path-none}
 use Rattle.dw_base.proofs.PieceFrameLaws.{chain-changed}
 use Rattle.dw_base.proofs.PlainCellLaws.{IsPlain, plain-parts, bytes_of-plain}
 use Rattle.dw_base.proofs.UnitEditLaws.{Shift, Becomes, UnitChange, UnitsChanged, length-becomes, length-bytes_of, units_preserve}
-use Rattle.dw_meaning.specs.DataOutput.{DataReads, DataFits, EachWritable, table_change, new_lines, changes_of, offsets_after, names_after}
+use Rattle.dw_meaning.specs.DataOutput.{DataReads, DataFits, EachWritable, table_change, new_lines, changes_of, offsets_after, macros_after, names_after}
 use Rattle.dw_meaning.proofs.IndexTextLaws.{IsApart, texts-apart, slots-move}
 use Rattle.dw_meaning.proofs.LineColumnLaws.{edited_source, Grows}
 use Rattle.dw_meaning.proofs.LinePathLaws.{BothMove}
 use Rattle.dw_meaning.proofs.LineSectionLaws.{EachCan, LinesMoved, TablesApart, section-moved}
+use Rattle.dw_meaning.proofs.MacroEditLaws.{AllMacrosChanged, edited_macro_sections, all-macros-read, all-starts, same-first, all-macros-kept, all-macros-named, all-imports, AllPlain, macros-edited}
 use Rattle.dw_meaning.proofs.OffsetMoveLaws.{RolesChanged, cells-plain, offsets-can, names-can, roles-length, names-becomes, roles-named, offsets-reads, names-reads}
 use Rattle.dw_meaning.proofs.SlotMeaningLaws.{units-slots}
 use Rattle.dw_meaning.proofs.TextEditLaws.{appending-keeps, LinesMove, TablesMove, TextsAre, behind_piece, PlainPiece, SlotMoves, edited-changed, roles-changed, shift_of, moved_table}
@@ -223,6 +227,7 @@ edited_reads c d r ls = record {
   units = edited_readings c (around_of d r) r.units;
   offsets = offsets_after c (around_of d r) r;
   lines = ls;
+  macros = macros_after c (around_of d r) r;
   names = names_after c (around_of d r) r;
 }
 
@@ -235,6 +240,7 @@ edited_data c d r = record {
   line_str = moved_table d.line_str c.line_str;
   offsets = record { number = d.offsets.number; contents = joined (offsets_after c (around_of d r) r) };
   lines = record { number = d.lines.number; contents = plain_cells (all_lines c.lines) };
+  macros = edited_macro_sections d.macros (macros_after c (around_of d r) r);
   names = record { number = d.names.number; contents = joined (names_after c (around_of d r) r) };
 }
 
@@ -245,6 +251,7 @@ pub record DataMoves (m : PathMap) (d : DebugData) (r : DataReadings) : Type 0 w
   pub fits : DataFits m d r
   pub plain : EachPlain d.units
   pub offsets_plain : IsPlain d.offsets.contents
+  pub macros_plain : AllPlain d.macros
   pub names_plain : IsPlain d.names.contents
   pub str : length (new_table (table_change m in_str (around_of d r) r).plan (table_change m in_str (around_of d r) r).texts) ≤ 2 ^ 32
   pub line_str : length (new_table (table_change m in_line_str (around_of d r) r).plan (table_change m in_line_str (around_of d r) r).texts) ≤ 2 ^ 32
@@ -252,20 +259,30 @@ pub record DataMoves (m : PathMap) (d : DebugData) (r : DataReadings) : Type 0 w
   pub apart : TablesApart (line_source d) r.lines
   pub tables : (at : ℕ) → ends_in d.line_str.bytes at ≡ true → d.line_str.number ≢ d.str.number
 
--- the mentions behind those of units, and behind those of slots
+-- the mentions of slots, of line tables, of macro units and of name tables
 abbrev slots_in : TextSection → DebugData → DataReadings → List Mention
 slots_in table d r = mentions_with (slot_role (path_slots (around_of d r))) table (around_of d r) r.offsets
 
 abbrev lines_in : TextSection → DebugData → DataReadings → List Mention
 lines_in table d r = line_mentions (line_source d) table r.lines
 
+abbrev macros_in : TextSection → DebugData → DataReadings → List Mention
+macros_in table d r = macro_mentions table (around_of d r) r.macros
+
 abbrev names_in : TextSection → DebugData → DataReadings → List Mention
 names_in table d r = mentions_with name_role table (around_of d r) r.names
 
-abbrev behind_units_in : TextSection → DebugData → DataReadings → List Mention
-behind_units_in table d r = slots_in table d r ++ (lines_in table d r ++ names_in table d r)
+-- those behind line tables, behind slots, and behind units
+abbrev behind_lines_in : TextSection → DebugData → DataReadings → List Mention
+behind_lines_in table d r = macros_in table d r ++ names_in table d r
 
--- the new texts after the mentions of units, of slots, and of line tables
+abbrev behind_slots_in : TextSection → DebugData → DataReadings → List Mention
+behind_slots_in table d r = lines_in table d r ++ behind_lines_in table d r
+
+abbrev behind_units_in : TextSection → DebugData → DataReadings → List Mention
+behind_units_in table d r = slots_in table d r ++ behind_slots_in table d r
+
+-- the new texts after the mentions of units, of slots, of line tables, and of macro units
 abbrev units_texts : PathMap → TextSection → DebugData → DataReadings → List (List ℕ)
 units_texts m table d r = texts_after (change_of (changes_of m (around_of d r) r) table).plan m [] (all_mentions table (around_of d r) r.units)
 
@@ -274,6 +291,9 @@ slots_texts m table d r = texts_after (change_of (changes_of m (around_of d r) r
 
 abbrev lines_texts : PathMap → TextSection → DebugData → DataReadings → List (List ℕ)
 lines_texts m table d r = texts_after (change_of (changes_of m (around_of d r) r) table).plan m (slots_texts m table d r) (lines_in table d r)
+
+abbrev macros_texts : PathMap → TextSection → DebugData → DataReadings → List (List ℕ)
+macros_texts m table d r = texts_after (change_of (changes_of m (around_of d r) r) table).plan m (lines_texts m table d r) (macros_in table d r)
 
 texts-are : (m : PathMap) (d : DebugData) (r : DataReadings)
     → TextsAre (changes_of m (around_of d r) r) [] [] (file_mentions in_str (around_of d r) r) (file_mentions in_line_str (around_of d r) r)
@@ -286,17 +306,23 @@ behind-units m d r =
     behind_units (changes_of m (around_of d r) r) (around_of d r) [] [] r.units (behind_units_in in_str d r) (behind_units_in in_line_str d r) (texts-are m d r)
 
 behind-slots : (m : PathMap) (d : DebugData) (r : DataReadings)
-    → TextsAre (changes_of m (around_of d r) r) (slots_texts m in_str d r) (slots_texts m in_line_str d r) (lines_in in_str d r ++ names_in in_str d r)
-    (lines_in in_line_str d r ++ names_in in_line_str d r)
+    → TextsAre (changes_of m (around_of d r) r) (slots_texts m in_str d r) (slots_texts m in_line_str d r) (behind_slots_in in_str d r)
+    (behind_slots_in in_line_str d r)
 behind-slots m d r =
     behind_piece (changes_of m (around_of d r) r) (units_texts m in_str d r) (units_texts m in_line_str d r) (slots_in in_str d r) (slots_in in_line_str d r)
-    (lines_in in_str d r ++ names_in in_str d r) (lines_in in_line_str d r ++ names_in in_line_str d r) (behind-units m d r)
+    (behind_slots_in in_str d r) (behind_slots_in in_line_str d r) (behind-units m d r)
 
 behind-lines : (m : PathMap) (d : DebugData) (r : DataReadings)
-    → TextsAre (changes_of m (around_of d r) r) (lines_texts m in_str d r) (lines_texts m in_line_str d r) (names_in in_str d r) (names_in in_line_str d r)
+    → TextsAre (changes_of m (around_of d r) r) (lines_texts m in_str d r) (lines_texts m in_line_str d r) (behind_lines_in in_str d r) (behind_lines_in in_line_str d r)
 behind-lines m d r =
     behind_piece (changes_of m (around_of d r) r) (slots_texts m in_str d r) (slots_texts m in_line_str d r) (lines_in in_str d r) (lines_in in_line_str d r)
-    (names_in in_str d r) (names_in in_line_str d r) (behind-slots m d r)
+    (behind_lines_in in_str d r) (behind_lines_in in_line_str d r) (behind-slots m d r)
+
+behind-macros : (m : PathMap) (d : DebugData) (r : DataReadings)
+    → TextsAre (changes_of m (around_of d r) r) (macros_texts m in_str d r) (macros_texts m in_line_str d r) (names_in in_str d r) (names_in in_line_str d r)
+behind-macros m d r =
+    behind_piece (changes_of m (around_of d r) r) (lines_texts m in_str d r) (lines_texts m in_line_str d r) (macros_in in_str d r) (macros_in in_line_str d r)
+    (names_in in_str d r) (names_in in_line_str d r) (behind-lines m d r)
 
 -- line tables, changed
 both-move : (m : PathMap) (d : DebugData) (r : DataReadings) → DataMoves m d r → BothMove (changes_of m (around_of d r) r) (line_source d)
@@ -328,7 +354,7 @@ lines-data m d r w =
     let l : List ℕ = new_table c.line_str.plan c.line_str.texts in
     subst (λ (bs : List ℕ). LinesMoved (line_source d) (edited_source (line_source d) bs s l) m 0 (length (all_lines (new_lines m (around_of d r) r))) (new_lines m (around_of d r) r) r.lines)
     (sym (bytes_of-plain (all_lines (new_lines m (around_of d r) r))))
-    (section-moved (changes_of m (around_of d r) r) (line_source d) (slots_texts m in_str d r) (slots_texts m in_line_str d r) (names_in in_str d r) (names_in in_line_str d r) r.lines
+    (section-moved (changes_of m (around_of d r) r) (line_source d) (slots_texts m in_str d r) (slots_texts m in_line_str d r) (behind_lines_in in_str d r) (behind_lines_in in_line_str d r) r.lines
     (both-move m d r w) (table-grows m in_str d r) (table-grows m in_line_str d r) w.apart w.tables w.reads.lines
     (each-can m (changes_of m (around_of d r) r) d r r.lines w.fits.lines) (behind-slots m d r))
 
@@ -375,7 +401,7 @@ offsets-changed : (m : PathMap) (d : DebugData) (r : DataReadings) → DataMoves
     → RolesChanged (slot_role (path_slots (around_of d r))) (data_shift m d r) r.offsets (offsets_after (changes_of m (around_of d r) r) (around_of d r) r)
 offsets-changed m d r w =
     roles-changed (slot_role (path_slots (around_of d r))) (changes_of m (around_of d r) r) (around_of d r)
-    (units_texts m in_str d r) (units_texts m in_line_str d r) r.offsets (lines_in in_str d r ++ names_in in_str d r) (lines_in in_line_str d r ++ names_in in_line_str d r)
+    (units_texts m in_str d r) (units_texts m in_line_str d r) r.offsets (behind_slots_in in_str d r) (behind_slots_in in_line_str d r)
     (tables-move m d r w) (behind-units m d r)
     (offsets-can (path_slots (around_of d r)) (around_of d r) d.base.order (offsets_at (length d.offsets.contents) 0 0 at_contribution) r.offsets w.reads.offsets.chain
     (cells-plain r.offsets (subst IsPlain (sym w.reads.offsets.cells) w.offsets_plain)))
@@ -384,16 +410,23 @@ offsets-changed m d r w =
 names-changed-all : (m : PathMap) (d : DebugData) (r : DataReadings) → DataMoves m d r
     → RolesChanged name_role (data_shift m d r) r.names (names_after (changes_of m (around_of d r) r) (around_of d r) r)
 names-changed-all m d r w =
-    let all = behind-lines m d r in
-    roles-changed name_role (changes_of m (around_of d r) r) (around_of d r) (lines_texts m in_str d r) (lines_texts m in_line_str d r)
+    let all = behind-macros m d r in
+    roles-changed name_role (changes_of m (around_of d r) r) (around_of d r) (macros_texts m in_str d r) (macros_texts m in_line_str d r)
     r.names [] [] (tables-move m d r w)
     (record {
-      str = all.str ∙ ap (texts_after (changes_of m (around_of d r) r).str.plan m (lines_texts m in_str d r)) (sym (append-nil (names_in in_str d r)));
-      line_str = all.line_str ∙ ap (texts_after (changes_of m (around_of d r) r).line_str.plan m (lines_texts m in_line_str d r)) (sym (append-nil (names_in in_line_str d r)));
+      str = all.str ∙ ap (texts_after (changes_of m (around_of d r) r).str.plan m (macros_texts m in_str d r)) (sym (append-nil (names_in in_str d r)));
+      line_str = all.line_str ∙ ap (texts_after (changes_of m (around_of d r) r).line_str.plan m (macros_texts m in_line_str d r)) (sym (append-nil (names_in in_line_str d r)));
     })
     (names-can (around_of d r) d.base.order (names_at (length d.names.contents) 0 at_table) r.names w.reads.names.chain
     (cells-plain r.names (subst IsPlain (sym w.reads.names.cells) w.names_plain)))
     w.reads.name_texts
+
+-- macro units, changed
+pub macros-changed-all : (m : PathMap) (d : DebugData) (r : DataReadings) → DataMoves m d r
+    → AllMacrosChanged (data_shift m d r) r.macros (macros_after (changes_of m (around_of d r) r) (around_of d r) r)
+macros-changed-all m d r w =
+    macros-edited d.base.order (changes_of m (around_of d r) r) (around_of d r) (lines_texts m in_str d r) (lines_texts m in_line_str d r) d.macros r.macros
+    (names_in in_str d r) (names_in in_line_str d r) (tables-move m d r w) (behind-lines m d r) w.reads.macros w.macros_plain w.reads.macro_texts
 
 -- which slots values by index name is as it was
 all-bases : (c : Shift) (order : Order) (z w : Located) (rs qs : Readings) → z.number ≡ w.number → length z.bytes ≡ length w.bytes → AllReadingsChanged c rs qs
@@ -439,9 +472,9 @@ indexing-edited m d r w =
     (all-uses (data_shift m d r) d.base.order r.units qs (units-changed-all m d r w))
 
 -- what stands around the new units is what the change says
-abbrev around_with : UnitBase → Located → Located → ℕ → List EntryPlace → List ℕ → Indexing → List (List ℕ) → List ℕ → List ℕ → Around
-around_with base str line n es is_ g ts bs ns = record {
-  lasting = record { base = base; entries = es; infos = is_; indexing = g };
+abbrev around_with : UnitBase → Located → Located → ℕ → List EntryPlace → List ℕ → Indexing → MacroPlaces → List (List ℕ) → List ℕ → List ℕ → Around
+around_with base str line n es is_ g mp ts bs ns = record {
+  lasting = record { base = base; entries = es; infos = is_; indexing = g; macros = mp };
   str = str;
   line_str = line;
   slots = ts;
@@ -449,12 +482,13 @@ around_with base str line n es is_ g ts bs ns = record {
   starts = ns;
 }
 
-around-parts : (base : UnitBase) (str line : Located) (n : ℕ) (es fs : List EntryPlace) (is_ js : List ℕ) (g h : Indexing) (ts us : List (List ℕ)) (bs cs ns ks : List ℕ)
-    → es ≡ fs → is_ ≡ js → g ≡ h → ts ≡ us → bs ≡ cs → ns ≡ ks → around_with base str line n es is_ g ts bs ns ≡ around_with base str line n fs js h us cs ks
-around-parts base str line n es fs is_ js g h ts us bs cs ns ks e i x t b k =
-    ap (λ (y : List EntryPlace). around_with base str line n y is_ g ts bs ns) e ∙ ap (λ (y : List ℕ). around_with base str line n fs y g ts bs ns) i
-    ∙ ap (λ (y : Indexing). around_with base str line n fs js y ts bs ns) x ∙ ap (λ (y : List (List ℕ)). around_with base str line n fs js h y bs ns) t
-    ∙ ap (λ (y : List ℕ). around_with base str line n fs js h us y ns) b ∙ ap (around_with base str line n fs js h us cs) k
+around-parts : (base : UnitBase) (str line : Located) (n : ℕ) (es fs : List EntryPlace) (is_ js : List ℕ) (g h : Indexing) (mp np : MacroPlaces) (ts us : List (List ℕ)) (bs cs ns ks : List ℕ)
+    → es ≡ fs → is_ ≡ js → g ≡ h → mp ≡ np → ts ≡ us → bs ≡ cs → ns ≡ ks → around_with base str line n es is_ g mp ts bs ns ≡ around_with base str line n fs js h np us cs ks
+around-parts base str line n es fs is_ js g h mp np ts us bs cs ns ks e i x p t b k =
+    ap (λ (y : List EntryPlace). around_with base str line n y is_ g mp ts bs ns) e ∙ ap (λ (y : List ℕ). around_with base str line n fs y g mp ts bs ns) i
+    ∙ ap (λ (y : Indexing). around_with base str line n fs js y mp ts bs ns) x ∙ ap (λ (y : MacroPlaces). around_with base str line n fs js h y ts bs ns) p
+    ∙ ap (λ (y : List (List ℕ)). around_with base str line n fs js h np y bs ns) t
+    ∙ ap (λ (y : List ℕ). around_with base str line n fs js h np us y ns) b ∙ ap (around_with base str line n fs js h np us cs) k
 
 slots-edited : (m : PathMap) (d : DebugData) (r : DataReadings) → DataMoves m d r
     → slot_texts d.base.order (moved_table d.str (changes_of m (around_of d r) r).str) (offsets_after (changes_of m (around_of d r) r) (around_of d r) r)
@@ -463,6 +497,21 @@ slots-edited m d r w =
     slots-mapped (path_slots (around_of d r)) (data_shift m d r) d.base.order (offsets_at (length d.offsets.contents) 0 0 at_contribution) r.offsets
     (offsets_after (changes_of m (around_of d r) r) (around_of d r) r) (offsets-changed m d r w) w.reads.offsets.chain
 
+-- macro units start where they did
+abbrev macro_places_with : ℕ → List MacroStart → MacroPlaces
+macro_places_with first starts = record { first = first; starts = starts }
+
+places-edited : (m : PathMap) (d : DebugData) (r : DataReadings) (w : DataMoves m d r)
+    → ◌≡◌ {A = MacroPlaces} (record {
+      first = first_macros (edited_macro_sections d.macros (macros_after (changes_of m (around_of d r) r) (around_of d r) r));
+      starts = macro_starts (macros_after (changes_of m (around_of d r) r) (around_of d r) r);
+    })
+    (record { first = first_macros d.macros; starts = macro_starts r.macros })
+places-edited m d r w =
+    let qs : List MacroReading = macros_after (changes_of m (around_of d r) r) (around_of d r) r in
+    ap (λ (n : ℕ). macro_places_with n (macro_starts qs)) (same-first d.macros qs)
+    ∙ ap (macro_places_with (first_macros d.macros)) (all-starts (data_shift m d r) r.macros qs (macros-changed-all m d r w))
+
 around-edited : (m : PathMap) (d : DebugData) (r : DataReadings) (w : DataMoves m d r)
     → around_of (edited_data (changes_of m (around_of d r) r) d r) (after_reads m d r w) ≡ (data_shift m d r).new
 around-edited m d r w =
@@ -470,9 +519,11 @@ around-edited m d r w =
     let qs : Readings = edited_readings (changes_of m (around_of d r) r) (around_of d r) r.units in
     around-parts d.base (moved_table d.str c.str) (moved_table d.line_str c.line_str) d.lines.number (all_places qs) (all_places r.units)
     (info_numbers (edited_sections d.units qs)) (info_numbers d.units) (indexing_of (edited_data c d r) (after_reads m d r w)) (indexing_of d r)
+    (record { first = first_macros (edited_macro_sections d.macros (macros_after c (around_of d r) r)); starts = macro_starts (macros_after c (around_of d r) r) })
+    (record { first = first_macros d.macros; starts = macro_starts r.macros })
     (slot_texts d.base.order (moved_table d.str c.str) (offsets_after c (around_of d r) r)) (mapped_slots m (path_slots (around_of d r)) 0 (slot_texts d.base.order d.str r.offsets))
     (bytes_of (plain_cells (all_lines c.lines))) (all_lines c.lines) (table_starts (lines-data m d r w).readings) (starts_from 0 c.lines)
-    (all-places (data_shift m d r) r.units qs (units-changed-all m d r w)) (same-infos d.units qs) (indexing-edited m d r w) (slots-edited m d r w)
+    (all-places (data_shift m d r) r.units qs (units-changed-all m d r w)) (same-infos d.units qs) (indexing-edited m d r w) (places-edited m d r w) (slots-edited m d r w)
     (bytes_of-plain (all_lines c.lines)) (lines-data m d r w).starts
 
 -- the forms of values stay
@@ -484,6 +535,44 @@ all-forms : (c : TableChanges) (around : Around) (rs : Readings) → EachReading
 all-forms c around [] h = tt
 all-forms c around (r ∷ rs) h = (forms-kept c around r.pieces h.0, all-forms c around rs h.1)
 
+-- and values that say where macro units start stay
+kind-value : (k : ValueKind) (u : Use) (c : TableChanges) (around : Around) (g : Lasting) (p : List Cell) → NamesUnitIf (macro_value_by k u) g p
+    → NamesUnitIf (macro_value_by k u) g (edited_by (role_of_kind k u) c around p)
+kind-value (number_of class n) names_macro_unit c around g p h = h
+kind-value (number_of class n) names_path c around g p h = tt
+kind-value (number_of class n) names_line_table c around g p h = tt
+kind-value (number_of class n) names_other c around g p h = tt
+kind-value (leb_number class) u c around g p h = tt
+kind-value signed_leb u c around g p h = tt
+kind-value (block_of n) u c around g p h = tt
+kind-value (counted n) u c around g p h = tt
+kind-value counted_leb u c around g p h = tt
+kind-value inline_text u c around g p h = tt
+kind-value (text_offset table n) u c around g p h = tt
+kind-value present u c around g p h = tt
+kind-value in_abbreviation u c around g p h = tt
+kind-value form_in_front u c around g p h = tt
+kind-value supplementary u c around g p h = tt
+kind-value unlisted u c around g p h = tt
+
+mode-value : (m : Mode) (params : Params) (c : TableChanges) (around : Around) (g : Lasting) (p : List Cell) → NamesUnitIf (macro_value_in m params) g p
+    → NamesUnitIf (macro_value_in m params) g (edited_by (role_of_mode m params) c around p)
+mode-value at_header params c around g p h = tt
+mode-value at_code params c around g p h = tt
+mode-value (at_values n tag []) params c around g p h = tt
+mode-value (at_values n tag (x ∷ xs)) params c around g p h = kind-value (kind_in params x.form) (use_of n tag x.name) c around g p h
+mode-value (at_chosen n tag start x xs) params c around g p h = kind-value (kind_in params x.form) (use_of n tag x.name) c around g p h
+mode-value stuck params c around g p h = tt
+
+values-kept : (c : TableChanges) (around : Around) (g : Lasting) (xs : List (Piece UnitState)) → EachPiece (NamesMacro g) xs → EachPiece (NamesMacro g) (edited_all c around xs)
+unfolding role_of
+values-kept c around g [] h = tt
+values-kept c around g (x ∷ xs) h = (mode-value x.state.mode x.state.header.params c around g x.cells h.0, values-kept c around g xs h.1)
+
+all-values : (c : TableChanges) (around : Around) (g : Lasting) (rs : Readings) → EachReading (NamesMacro g) rs → EachReading (NamesMacro g) (edited_readings c around rs)
+all-values c around g [] h = tt
+all-values c around g (r ∷ rs) h = (values-kept c around g r.pieces h.0, all-values c around g rs h.1)
+
 -- they can be read
 pub data-reads : (m : PathMap) (d : DebugData) (r : DataReadings) (w : DataMoves m d r)
     → DataReads (edited_data (changes_of m (around_of d r) r) d r) (after_reads m d r w)
@@ -492,19 +581,27 @@ data-reads m d r w =
     let qs : Readings = edited_readings (changes_of m (around_of d r) r) (around_of d r) r.units in
     let ys : List (Piece OffsetState) = offsets_after (changes_of m (around_of d r) r) (around_of d r) r in
     let ns : List (Piece NameState) = names_after (changes_of m (around_of d r) r) (around_of d r) r in
+    let ms : List MacroReading = macros_after (changes_of m (around_of d r) r) (around_of d r) r in
     record {
       units = all-changed d.base (data_shift m d r) 0 d.units r.units qs (units-changed-all m d r w) w.reads.units;
       offsets = offsets-reads (data_shift m d r) (path_slots (around_of d r)) d.base.order d.offsets.contents r.offsets ys (offsets-changed m d r w) w.reads.offsets;
       lines = subst (TablesTo (line_source (edited_data (changes_of m (around_of d r) r) d r)) 0 (lines-data m d r w).readings)
           (ap length (sym (bytes_of-plain (all_lines (new_lines m (around_of d r) r))))) (lines-data m d r w).are;
+      macros = all-macros-read d.base.order (data_shift m d r) d.macros r.macros ms (macros-changed-all m d r w) w.reads.macros;
       names = names-reads (data_shift m d r) d.base.order d.names.contents r.names ns (names-changed-all m d r w) w.reads.names;
       texts = subst (λ (a : Around). EachReading (NamesText a) qs) (sym (around-edited m d r w)) (all-names (data_shift m d r) r.units qs (units-changed-all m d r w));
       slot_texts = subst (λ (a : Around). NameTexts (slot_role (path_slots a)) a ys) (sym (around-edited m d r w))
           (roles-named (slot_role (path_slots (around_of d r))) (data_shift m d r) r.offsets ys (offsets-changed m d r w));
+      macro_texts = subst (λ (a : Around). EachMacro (λ x. NamesTextBy (macro_role x.state) a x.cells) ms) (sym (around-edited m d r w))
+          (all-macros-named (data_shift m d r) r.macros ms (macros-changed-all m d r w));
       name_texts = subst (λ (a : Around). NameTexts name_role a ns) (sym (around-edited m d r w))
           (roles-named name_role (data_shift m d r) r.names ns (names-changed-all m d r w));
       indexes = subst (λ (g : Indexing). EachUse (NamesSlot g) g.uses) (sym (indexing-edited m d r w)) w.reads.indexes;
       forms = all-forms (changes_of m (around_of d r) r) (around_of d r) r.units w.reads.forms;
+      macro_values = subst (λ (a : Around). EachReading (NamesMacro a.lasting) qs) (sym (around-edited m d r w))
+          (all-values (changes_of m (around_of d r) r) (around_of d r) (around_of d r).lasting r.units w.reads.macro_values);
+      imports = subst (λ (a : Around). EachMacro (NamesImport a.lasting) ms) (sym (around-edited m d r w))
+          (all-imports (data_shift m d r) (around_of d r).lasting r.macros ms (macros-changed-all m d r w) w.reads.imports);
     }
 
 -- and mean the mapped units
@@ -523,6 +620,14 @@ unfolding units_of
 slots-data m d r w =
     slots-edited m d r w
     ∙ ap (λ (ns : List ℕ). mapped_slots m ns 0 (slot_texts d.base.order d.str r.offsets)) (sym (units-slots d.base (around_of d r) 0 d.units r.units refl w.reads.units))
+
+-- macro units mean what they meant
+pub macros-data : (m : PathMap) (d : DebugData) (r : DataReadings) (w : DataMoves m d r)
+    → macro_meanings (around_of (edited_data (changes_of m (around_of d r) r) d r) (after_reads m d r w)) (after_reads m d r w).macros
+    ≡ macro_meanings (around_of d r) r.macros
+macros-data m d r w =
+    let ms : List MacroReading = macros_after (changes_of m (around_of d r) r) (around_of d r) r in
+    ap (λ (a : Around). macro_meanings a ms) (around-edited m d r w) ∙ all-macros-kept (data_shift m d r) r.macros ms (macros-changed-all m d r w)
 
 -- and name tables mean what they meant
 pub names-data : (m : PathMap) (d : DebugData) (r : DataReadings) → DataMoves m d r

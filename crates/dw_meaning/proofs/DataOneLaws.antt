@@ -16,7 +16,9 @@ use Rattle.dw_base.specs.UnitHeaders.{UnitBase, UnitSection}
 use Rattle.dw_base.specs.UnitPieces.{ReadsUnits, unit_grammar}
 use Rattle.dw_base.specs.UnitStates.{UnitState, before_unit}
 use Rattle.dw_base.specs.ViewData.{Meaning, meaning_of}
+use Rattle.dw_base.specs.MacroReadings.{MacroReading}
 use Rattle.dw_meaning.proofs.LineOneLaws.{tables-one}
+use Rattle.dw_meaning.proofs.MacroReadLaws.{all-macros-one}
 use Rattle.dw_meaning.proofs.PieceLaws.{ReadsOneWay, chain-unique}
 use Rattle.dw_meaning.proofs.UnitOneLaws.{units_one_way}
 
@@ -64,15 +66,20 @@ pub names-one : (order : Order) (contents : List Cell) (xs ys : List (Piece Name
 names-one order contents xs ys r t =
     chain-unique (name_grammar order) (names_one_way order) (names_at (length contents) 0 at_table) xs ys r.chain t.chain (r.cells ∙ sym t.cells)
 
+-- all readings by their parts
+abbrev pub readings_with : Readings → List (Piece OffsetState) → List LineReading → List MacroReading → List (Piece NameState) → DataReadings
+readings_with units offsets lines macros names = record { units = units; offsets = offsets; lines = lines; macros = macros; names = names }
+
 -- and so are all sections of debug data
 pub data-one : (d : DebugData) (r q : DataReadings) → DataReads d r → DataReads d q → r ≡ q
 data-one d r q a b =
-    ap (λ (x : Readings). record { units = x; offsets = r.offsets; lines = r.lines; names = r.names }) (readings-one d.base 0 d.units r.units q.units a.units b.units)
-    ∙ ap (λ (x : List (Piece OffsetState)). record { units = q.units; offsets = x; lines = r.lines; names = r.names })
+    ap (λ (x : Readings). readings_with x r.offsets r.lines r.macros r.names) (readings-one d.base 0 d.units r.units q.units a.units b.units)
+    ∙ ap (λ (x : List (Piece OffsetState)). readings_with q.units x r.lines r.macros r.names)
     (offsets-one d.base.order d.offsets.contents r.offsets q.offsets a.offsets b.offsets)
-    ∙ ap (λ (x : List LineReading). record { units = q.units; offsets = q.offsets; lines = x; names = r.names })
+    ∙ ap (λ (x : List LineReading). readings_with q.units q.offsets x r.macros r.names)
     (tables-one (line_source d) 0 (length (line_source d).bytes) r.lines q.lines a.lines b.lines)
-    ∙ ap (λ (x : List (Piece NameState)). record { units = q.units; offsets = q.offsets; lines = q.lines; names = x }) (names-one d.base.order d.names.contents r.names q.names a.names b.names)
+    ∙ ap (λ (x : List MacroReading). readings_with q.units q.offsets q.lines x r.names) (all-macros-one d.base.order d.macros r.macros q.macros a.macros b.macros)
+    ∙ ap (readings_with q.units q.offsets q.lines q.macros) (names-one d.base.order d.names.contents r.names q.names a.names b.names)
 
 -- whatever is read in a file says the same
 pub means-one : (b : List ℕ) (x y : Meaning) → Means b x → Means b y → x ≡ y

@@ -5,7 +5,9 @@ use Rattle.dw_base.specs.LineReadings.{LineReading, TablesTo, table_read}
 use Rattle.dw_base.specs.LineWriteFails.{WriteFails}
 use Rattle.dw_base.specs.TextChanges.{TableChanges}
 use Rattle.dw_meaning.proofs.DataKeptLaws.{each-can}
-use Rattle.dw_meaning.proofs.LineRowLaws.{lines-exclude, starts-exclude, write-excludes, TableAmong, table-among, can-among}
+use Rattle.dw_meaning.proofs.StartRowLaws.{starts-exclude}
+use Rattle.dw_meaning.proofs.MacroRowLaws.{macros-exclude}
+use Rattle.dw_meaning.proofs.LineRowLaws.{lines-exclude, write-excludes, TableAmong, table-among, can-among}
 use Rattle.dw_meaning.proofs.LineSectionLaws.{EachCan}
 use Rattle.dw_base.specs.Cells.{CellSection}
 use Rattle.dw_base.specs.DebugData.{DataReadings, around_of, line_source}
@@ -16,7 +18,7 @@ use Rattle.dw_meaning.specs.DataOutput.{DataReads, DataFits, changes_of}
 use Rattle.dw_meaning.proofs.FileKeptLaws.{offsets-are}
 use Rattle.dw_meaning.proofs.SlotRowLaws.{slot_texts-exclude, shared-row, string_tables-exclude, name_tables-exclude}
 use Rattle.dw_meaning.specs.EditRows.{EditFails, file as file_row, inline as inline_row, shared as shared_row, line_table as line_table_row, output as output_row, IsAccepted}
-use Rattle.dw_meaning.specs.FileFails.{FileFails, elf as elf_row, sections as sections_row, loaded as loaded_row, units as units_row, texts as texts_row, unbuilt as unbuilt_row, string_tables as string_tables_row, slots as slots_row, lines as lines_row, starts as starts_row, name_tables as name_tables_row}
+use Rattle.dw_meaning.specs.FileFails.{FileFails, elf as elf_row, sections as sections_row, loaded as loaded_row, units as units_row, texts as texts_row, unbuilt as unbuilt_row, string_tables as string_tables_row, slots as slots_row, lines as lines_row, macros as macros_row, starts as starts_row, name_tables as name_tables_row}
 use Rattle.dw_meaning.specs.FileMeanings.{file_data, new_body}
 use Rattle.dw_base.specs.LayoutFails.{LayoutFails}
 use Rattle.dw_base.specs.Paths.{PathMap}
@@ -44,6 +46,7 @@ file-excludes m b r a (string_tables_row e f) =
     (subst (λ (z : CellSection). ReadsOffsets (view_of b).order z.contents a.readings.offsets) (offsets-are b) (file-offsets b a.readings a.reads.data_reads)) f
 file-excludes m b r a (slots_row e f) = slot_texts-exclude (file_data b) a.readings r a.reads.data_reads f
 file-excludes m b r a (lines_row e f) = lines-exclude (file_data b) a.readings.lines r a.reads.data_reads.lines f
+file-excludes m b r a (macros_row z before behind e split f) = macros-exclude (view_of b) a.readings before behind z r a.reads.data_reads split f
 file-excludes m b r a (starts_row e f) = starts-exclude (file_data b) a.readings r a.reads.data_reads f
 file-excludes m b r a (name_tables_row e f) = name_tables-exclude (view_of b) a.readings r a.reads.data_reads f
 file-excludes m b r a (unbuilt_row u) = a.built u

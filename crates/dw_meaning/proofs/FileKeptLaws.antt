@@ -1,11 +1,12 @@
 -- The file law: the output of a file means what the file means, with each source path mapped.
-use Rattle.std.proofs.Common.{true, false, ◌≡◌, ◌≢◌, ◌⊎◌, inl, inr, ℕ, ◌<◌, List, [], drop, Option, Some, None, Bool, ◌∷◌, length, true≢false, sym, ap, ◌∙◌, refl, subst, arith, if◌then◌else◌, take}
+use Rattle.std.proofs.Common.{true, false, ◌≡◌, ◌≢◌, ◌⊎◌, inl, inr, ℕ, ◌<◌, List, [], drop, Option, Some, None, Bool, ◌∷◌, ◌++◌, length, true≢false, sym, ap, ◌∙◌, refl, subst, arith, if◌then◌else◌, take}
 use Rattle.std.proofs.lemmas.Bool.{ne_eqb, eq-eqb, cases_eq}
 use Rattle.dw_base.specs.Cells.{Cell, Located, CellSection, bytes_of, plain_cells}
-use Rattle.dw_meaning.specs.DataOutput.{DataFits, table_change, new_lines, changes_of, offsets_after, names_after, Body, unit_bodies, body_in, new_bodies}
+use Rattle.dw_meaning.specs.DataOutput.{DataFits, table_change, new_lines, changes_of, offsets_after, macros_after, names_after, Body, unit_bodies, macro_bodies, body_in, new_bodies}
 use Rattle.dw_base.specs.DebugData.{Around, DataReadings, around_of, line_source, path_slots}
 use Rattle.dw_base.specs.LineChanges.{line_mentions, lines_after}
 use Rattle.dw_base.specs.LineReadings.{LineReading, TablesTo, all_lines}
+use Rattle.dw_base.specs.MacroReadings.{MacroReading}
 use Rattle.dw_base.specs.Texts.{ends_in}
 use Rattle.dw_base.specs.DebugSections.{debug_section, name_of}
 use Rattle.dw_base.specs.Elf.{e_shoff, nth_section, section_count, section_name, contents_of, contents_at, is_empty_kind}
@@ -19,15 +20,17 @@ use Rattle.dw_base.specs.TextChanges.{TableChanges, edited_by}
 use Rattle.dw_base.specs.Pieces.{Piece, joined}
 use Rattle.dw_base.specs.Roles.{Role}
 use Rattle.dw_base.specs.SectionTexts.{slot_role, name_role, edited_with}
-use Rattle.dw_base.specs.ViewData.{unit_kind, unit_sections, located, located_at, cell_section, debug_data, is_read}
+use Rattle.dw_base.specs.ViewData.{unit_kind, unit_sections, is_macro, macro_sections, located, located_at, cell_section, debug_data, is_read}
 use Rattle.dw_base.specs.declared.debug_sections.DebugSection.{DebugSection}
 use Rattle.dw_base.specs.declared.debug_sections.DebugSection.TheVariants.{Info, Types, Abbrev, Str, LineStr, StrOffsets, Line, Macro, Names}
 use Rattle.dw_base.proofs.DebugSectionLaws.{debug_section-name}
 use Rattle.dw_meaning.proofs.FileBackLaws.{Back, SectionBack, is_read_name, sections-back}
 use Rattle.dw_base.proofs.FileViewLaws.{section_bytes-view_of}
-use Rattle.dw_meaning.proofs.SectionKeptLaws.{edited-plain, edited-size, units-skip}
+use Rattle.dw_meaning.proofs.MacroEditLaws.{edited_macro_sections}
+use Rattle.dw_meaning.proofs.MacroKeptLaws.{edited-cells, macros-plain, macros-skip, macros-sections}
+use Rattle.dw_meaning.proofs.SectionKeptLaws.{edited-size, units-skip}
 use Rattle.dw_meaning.proofs.OffsetMoveLaws.{EachCells, cells-plain}
-use Rattle.dw_base.proofs.PlainCellLaws.{IsPlain, plain-append, bytes_of-plain, plain_cells-plain}
+use Rattle.dw_base.proofs.PlainCellLaws.{IsPlain, bytes_of-plain, plain_cells-plain}
 use Rattle.dw_base.proofs.TextLaws.{ends_in-inside}
 use Rattle.dw_meaning.proofs.LineColumnLaws.{texts_in}
 use Rattle.dw_meaning.proofs.LinePathLaws.{lines-none}
@@ -81,12 +84,22 @@ tables_new m b r = record { number = (file_data b).lines.number; bytes = new_lin
 abbrev pub names_new : PathMap → List ℕ → DataReadings → Body
 names_new m b r = record { number = (file_data b).names.number; bytes = bytes_of (new_names m b r) }
 
+-- macro units with moved fields, and their sections
+abbrev pub new_macros : PathMap → List ℕ → DataReadings → List MacroReading
+new_macros m b r = macros_after (changes_file m b r) (around_file b r) r
+
+abbrev pub macros_new : PathMap → List ℕ → DataReadings → List Body
+macros_new m b r = macro_bodies (new_macros m b r)
+
 abbrev pub units_new : PathMap → List ℕ → DataReadings → List Body
 units_new m b r = unit_bodies (changes_file m b r) (around_file b r) r.units
 
 -- what stands behind each in the list of new bodies
+abbrev behind_names : PathMap → List ℕ → DataReadings → List Body
+behind_names m b r = macros_new m b r ++ units_new m b r
+
 abbrev behind_lines : PathMap → List ℕ → DataReadings → List Body
-behind_lines m b r = names_new m b r ∷ units_new m b r
+behind_lines m b r = names_new m b r ∷ behind_names m b r
 
 abbrev behind_offsets : PathMap → List ℕ → DataReadings → List Body
 behind_offsets m b r = tables_new m b r ∷ behind_lines m b r
@@ -99,7 +112,7 @@ behind_str m b r = line_new m b r ∷ behind_line m b r
 
 -- the body of a section of a number
 body-open : (m : PathMap) (b : List ℕ) (r : DataReadings) (i : ℕ)
-    → new_body m b r i ≡ body_in (str_new m b r ∷ line_new m b r ∷ offsets_new m b r ∷ tables_new m b r ∷ names_new m b r ∷ units_new m b r) (contents_of b) i
+    → new_body m b r i ≡ body_in (str_new m b r ∷ line_new m b r ∷ offsets_new m b r ∷ tables_new m b r ∷ names_new m b r ∷ behind_names m b r) (contents_of b) i
 unfolding new_body new_bodies
 body-open m b r i = refl
 
@@ -165,10 +178,12 @@ lines_no m table b r w none =
 -- a table that isn't there has no new bytes
 pub str-none : (m : PathMap) (b : List ℕ) (r : DataReadings) → CanMap m b r → (file_data b).str.bytes ≡ [] → new_str m b r ≡ []
 str-none m b r w none = new_table-none m in_str (around_of (file_data b) r) r none w.reads.data_reads.texts w.reads.data_reads.slot_texts w.reads.data_reads.name_texts
+    w.reads.data_reads.macro_texts
     (lines_no m in_str b r w none)
 
 pub line-none : (m : PathMap) (b : List ℕ) (r : DataReadings) → CanMap m b r → (file_data b).line_str.bytes ≡ [] → new_line_str m b r ≡ []
 line-none m b r w none = new_table-none m in_line_str (around_of (file_data b) r) r none w.reads.data_reads.texts w.reads.data_reads.slot_texts w.reads.data_reads.name_texts
+    w.reads.data_reads.macro_texts
     (lines_no m in_line_str b r w none)
 
 -- nor have string offsets and name tables: their pieces are as long as they were
@@ -256,7 +271,7 @@ pub body-names : (m : PathMap) (b : List ℕ) (r : DataReadings) (i : ℕ) → i
 body-names m b r i same str line offsets tables =
     body-open m b r i ∙ next-body (str_new m b r) (behind_str m b r) (contents_of b) i str ∙ next-body (line_new m b r) (behind_line m b r) (contents_of b) i line
     ∙ next-body (offsets_new m b r) (behind_offsets m b r) (contents_of b) i offsets ∙ next-body (tables_new m b r) (behind_lines m b r) (contents_of b) i tables
-    ∙ here-body (names_new m b r) (units_new m b r) (contents_of b) i same
+    ∙ here-body (names_new m b r) (behind_names m b r) (contents_of b) i same
 
 -- the number is that of none of them
 pub record IsApart (b : List ℕ) (i : ℕ) : Type 0 where
@@ -267,11 +282,11 @@ pub record IsApart (b : List ℕ) (i : ℕ) : Type 0 where
   pub names : i ≢ (file_data b).names.number
 
 -- the new body of every other section
-pub body-other : (m : PathMap) (b : List ℕ) (r : DataReadings) (i : ℕ) → IsApart b i → new_body m b r i ≡ body_in (units_new m b r) (contents_of b) i
+pub body-other : (m : PathMap) (b : List ℕ) (r : DataReadings) (i : ℕ) → IsApart b i → new_body m b r i ≡ body_in (behind_names m b r) (contents_of b) i
 body-other m b r i a =
     body-open m b r i ∙ next-body (str_new m b r) (behind_str m b r) (contents_of b) i a.str ∙ next-body (line_new m b r) (behind_line m b r) (contents_of b) i a.line
     ∙ next-body (offsets_new m b r) (behind_offsets m b r) (contents_of b) i a.offsets ∙ next-body (tables_new m b r) (behind_lines m b r) (contents_of b) i a.lines
-    ∙ next-body (names_new m b r) (units_new m b r) (contents_of b) i a.names
+    ∙ next-body (names_new m b r) (behind_names m b r) (contents_of b) i a.names
 
 -- a section that has none of the five names is none of them
 pub named-apart : (b : List ℕ) (i : ℕ) → 0 < i → section_name b i ≢ name_of Str → section_name b i ≢ name_of LineStr → section_name b i ≢ name_of StrOffsets
@@ -283,6 +298,18 @@ named-apart b i some str line offsets tables names = record {
   lines = subst (λ (z : CellSection). i ≢ z.number) (sym (lines-are b)) (name-apart b (name_of Line) (located (view_of b) Line) i (tables-place b) some tables);
   names = subst (λ (z : CellSection). i ≢ z.number) (sym (names-are b)) (name-apart b (name_of Names) (located (view_of b) Names) i (names-place b) some names);
 }
+
+-- that of one that holds no macro units stands behind those
+pub macros-none : (m : PathMap) (b : List ℕ) (r : DataReadings) (i : ℕ) → CanMap m b r → is_macro (debug_section (section_name b i)) ≡ false
+    → body_in (behind_names m b r) (contents_of b) i ≡ body_in (units_new m b r) (contents_of b) i
+unfolding debug_data macro_sections
+macros-none m b r i w none =
+    macros-skip b (contents_of b) (file_data b).base.order (changes_file m b r) (around_file b r) (units_new m b r) i none 1 (drop 1 (view_of b).sections) (drop 1 (view_of b).sections) r.macros
+    (drop-at (SectionBack b (contents_of b)) (view_of b).sections (view_of b).sections (sections-self b)) w.reads.data_reads.macros
+
+pub body-units : (m : PathMap) (b : List ℕ) (r : DataReadings) (i : ℕ) → CanMap m b r → IsApart b i → is_macro (debug_section (section_name b i)) ≡ false
+    → new_body m b r i ≡ body_in (units_new m b r) (contents_of b) i
+body-units m b r i w a none = body-other m b r i a ∙ macros-none m b r i w none
 
 -- a section that holds no units and has neither name keeps its bytes
 units-none : (m : PathMap) (b : List ℕ) (r : DataReadings) (i : ℕ) → CanMap m b r → unit_kind (debug_section (section_name b i)) ≡ None
@@ -302,8 +329,21 @@ unread-units (Some Str) e = absurd cc
 unread-units (Some LineStr) e = absurd cc
 unread-units (Some StrOffsets) e = absurd cc
 unread-units (Some Line) e = absurd cc
-unread-units (Some Macro) e = refl
+unread-units (Some Macro) e = absurd cc
 unread-units (Some Names) e = absurd cc
+
+-- nor of macro units
+unread-macros : (o : Option DebugSection) → is_read o ≡ false → is_macro o ≡ false
+unread-macros None e = refl
+unread-macros (Some Info) e = refl
+unread-macros (Some Types) e = refl
+unread-macros (Some Abbrev) e = refl
+unread-macros (Some Str) e = refl
+unread-macros (Some LineStr) e = refl
+unread-macros (Some StrOffsets) e = refl
+unread-macros (Some Line) e = refl
+unread-macros (Some Macro) e = absurd cc
+unread-macros (Some Names) e = refl
 
 -- nor that of a table
 unread-other : (b : List ℕ) (i : ℕ) (s : DebugSection) → is_read (Some s) ≡ true → is_read_name (section_name b i) ≡ false → section_name b i ≢ name_of s
@@ -341,10 +381,11 @@ unread-kept m b r i w lt unread =
     (keep-body (tables_new m b r) (behind_lines m b r) (contents_of b) i
     (λ same. unread-same m b r i Line (located (view_of b) Line) (new_line_tables m b r) w lt refl unread
     (tables-none m b r w) (tables-place b) (same ∙ ap (λ (z : CellSection). z.number) (lines-are b)))
-    (keep-body (names_new m b r) (units_new m b r) (contents_of b) i
+    (keep-body (names_new m b r) (behind_names m b r) (contents_of b) i
     (λ same. unread-same m b r i Names (located (view_of b) Names) (bytes_of (new_names m b r)) w lt refl unread
     (λ none. ap bytes_of (names-none m b r w none)) (names-place b) (same ∙ ap (λ (z : CellSection). z.number) (names-are b)))
-    (units-none m b r i w (unread-units (debug_section (section_name b i)) unread))))))
+    (macros-none m b r i w (unread-macros (debug_section (section_name b i)) unread)
+    ∙ units-none m b r i w (unread-units (debug_section (section_name b i)) unread))))))
 
 -- so the output is a file that was written with new bodies for what is read
 pub file-back : (m : PathMap) (b : List ℕ) (r : DataReadings) (out : List ℕ) → CanMap m b r → ReadsBack b (new_body m b r) out → Back b (new_body m b r) out
@@ -430,8 +471,10 @@ abbrev-back m b r out w back = by_place (located-back m b r out Abbrev w back)
         (λ e. other StrOffsets refl (sym named ∙ e)) (λ e. other Line refl (sym named ∙ e)) (λ e. other Names refl (sym named ∙ e)) in
         let none : unit_kind (debug_section (section_name b (located (view_of b) Abbrev).number)) ≡ None =
         ap (λ (n : List ℕ). unit_kind (debug_section n)) named ∙ ap unit_kind (debug_section-name Abbrev) in
+        let no_macro : is_macro (debug_section (section_name b (located (view_of b) Abbrev).number)) ≡ false =
+        ap (λ (n : List ℕ). is_macro (debug_section n)) named ∙ ap is_macro (debug_section-name Abbrev) in
         is ∙ ap (λ (bs : List ℕ). record { number = (located (view_of b) Abbrev).number; bytes = bs })
-        (body-other m b r (located (view_of b) Abbrev).number apart ∙ units-none m b r (located (view_of b) Abbrev).number w none ∙ sym bytes)
+        (body-units m b r (located (view_of b) Abbrev).number w apart no_macro ∙ units-none m b r (located (view_of b) Abbrev).number w none ∙ sym bytes)
       where
         is_abbrev : Option DebugSection → Bool
         is_abbrev (Some Abbrev) = true
@@ -447,12 +490,6 @@ abbrev-back m b r out w back = by_place (located-back m b r out Abbrev w back)
 -- string offsets, and name tables, have their moved fields
 differ : (s t : DebugSection) → name_of s ≡ name_of t → Some s ≡ Some t
 differ s t e = sym (debug_section-name s) ∙ ap debug_section e ∙ debug_section-name t
-
-edited-cells : {S : Type 0} (role : S → Role) (c : TableChanges) (around : Around) (xs : List (Piece S)) → EachCells xs → IsPlain (joined (edited_with role c around xs))
-edited-cells role c around [] plain = record { plain = refl }
-edited-cells role c around (x ∷ xs) plain =
-    plain-append (edited_by (role x.state) c around x.cells) (joined (edited_with role c around xs))
-    (edited-plain (role x.state) c around x.cells plain.0) (edited-cells role c around xs plain.1)
 
 offsets-cells : (m : PathMap) (b : List ℕ) (r : DataReadings) → CanMap m b r → IsPlain (new_offsets m b r)
 offsets-cells m b r w =
@@ -591,3 +628,22 @@ names-section m b r out w back = by_place (located-back m b r out Names w back)
         ∙ ap (λ (bs : List ℕ). record { number = (located (view_of b) Names).number; contents = plain_cells bs })
         (body-names m b r (located (view_of b) Names).number refl str line offsets tables)
         ∙ ap (λ (p : List Cell). record { number = (located (view_of b) Names).number; contents = p }) (sym (names-cells m b r w).plain)
+
+-- the sections of macro units have their moved fields
+macro-apart : (b : List ℕ) (i : ℕ) (s : DebugSection) → is_macro (Some s) ≡ false → is_macro (debug_section (section_name b i)) ≡ true → section_name b i ≢ name_of s
+macro-apart b i s none some same =
+    let other : is_macro (debug_section (section_name b i)) ≡ false =
+    ap (λ (n : List ℕ). is_macro (debug_section n)) same ∙ ap is_macro (debug_section-name s) ∙ none in
+    true≢false (sym some ∙ other)
+
+pub macros-back : (m : PathMap) (b : List ℕ) (r : DataReadings) (out : List ℕ) → CanMap m b r → ReadsBack b (new_body m b r) out
+    → (file_data out).macros ≡ edited_macro_sections (file_data b).macros (new_macros m b r)
+unfolding debug_data macro_sections
+macros-back m b r out w back =
+    macros-sections b (new_body m b r) (file_data b).base.order (changes_file m b r) (around_file b r) (units_new m b r) 1 (drop 1 (view_of b).sections) (drop 1 (view_of out).sections) r.macros
+    (drop-at (SectionBack b (new_body m b r)) (view_of b).sections (view_of out).sections (sections-back b (new_body m b r) out (file-back m b r out w back)))
+    w.reads.data_reads.macros (macros-plain 1 (drop 1 (view_of b).sections))
+    (λ i le lt some.
+    body-other m b r i
+    (named-apart b i (omega arith) (macro-apart b i Str refl some) (macro-apart b i LineStr refl some) (macro-apart b i StrOffsets refl some)
+    (macro-apart b i Line refl some) (macro-apart b i Names refl some)))

@@ -2,7 +2,8 @@
 use Rattle.std.proofs.Common.{Bool, true, false, ◌≡◌, ◌≢◌, ℕ, suc, ◌^◌, ◌≤◌, List, [], ◌∷◌, ◌++◌, length, drop, Option, Some, None, sym, ap, ◌∙◌, refl, subst, arith, if◌then◌else◌}
 use Rattle.dw_base.specs.Cells.{Located, CellSection, plain_cells}
 use Rattle.dw_meaning.specs.DataOutput.{DataReads}
-use Rattle.dw_base.specs.DebugData.{DebugData, DataReadings, line_source}
+use Rattle.dw_base.specs.DebugData.{DebugData, DataReadings, around_of, line_source}
+use Rattle.dw_base.specs.MacroMeanings.{MacroMeaning, macro_meanings}
 use Rattle.dw_base.specs.LineMeanings.{LineMeaning, line_meanings, mapped_lines}
 use Rattle.dw_base.specs.Readings.{Readings, EachReading}
 use Rattle.dw_base.specs.SlotTexts.{slot_texts, NamePart, name_parts}
@@ -17,15 +18,17 @@ use Rattle.dw_base.specs.MappedUnits.{mapped_units}
 use Rattle.dw_base.specs.Paths.{PathMap}
 use Rattle.dw_base.specs.UnitHeaders.{UnitSection, SectionKind}
 use Rattle.dw_base.specs.UnitMeanings.{UnitMeaning, units_of}
-use Rattle.dw_base.specs.ViewData.{unit_kind, unit_section, unit_sections_from, unit_sections, located, debug_data, NamedBytes, other_sections, bytes_named, without_id, Meaning, meaning_of, mapped}
+use Rattle.dw_base.specs.ViewData.{unit_kind, unit_section, unit_sections_from, unit_sections, is_macro, macro_sections, located, debug_data, NamedBytes, other_sections, bytes_named, without_id, Meaning, meaning_of, mapped}
 use Rattle.dw_base.specs.declared.debug_sections.DebugSection.{DebugSection}
-use Rattle.dw_base.specs.declared.debug_sections.DebugSection.TheVariants.{Abbrev, Str, LineStr, StrOffsets, Line, Names}
+use Rattle.dw_base.specs.declared.debug_sections.DebugSection.TheVariants.{Info, Types, Abbrev, Str, LineStr, StrOffsets, Line, Macro, Names}
 use Rattle.dw_base.specs.declared.shared.Order.{Order}
-use Rattle.dw_meaning.proofs.DataKeptLaws.{DataMoves, EachPlain, edited_data, edited_readings, after_reads, lines-data, edited_sections, readings-plain, data-reads, data-mapped, slots-data, names-data}
+use Rattle.dw_meaning.proofs.DataKeptLaws.{DataMoves, EachPlain, edited_data, edited_readings, after_reads, lines-data, edited_sections, readings-plain, data-reads, data-mapped, slots-data, macros-data, names-data}
 use Rattle.dw_meaning.proofs.DataOneLaws.{means-one}
 use Rattle.dw_base.proofs.DebugSectionLaws.{debug_section-name}
 use Rattle.dw_meaning.proofs.FileBackLaws.{SectionBack, sections-back, elf-back, kind-back, names-back, others-back}
-use Rattle.dw_meaning.proofs.FileKeptLaws.{CanMap, around_file, changes_file, new_str, new_line_str, new_line_tables, tables-back, tables-none, tables-place, lines-apart, texts-apart, body-lines, file-back, str-back, line-back, abbrev-back, offsets-back, names-section, new_offsets, new_names, offsets-are, names-are, named-apart, body-str, body-line, body-other, tables-apart, str-place, line-place, str-none, line-none}
+use Rattle.dw_meaning.proofs.MacroEditLaws.{edited_macro_sections, AllPlain}
+use Rattle.dw_meaning.proofs.MacroKeptLaws.{macros-plain}
+use Rattle.dw_meaning.proofs.FileKeptLaws.{CanMap, around_file, changes_file, new_str, new_line_str, new_line_tables, tables-back, tables-none, tables-place, lines-apart, texts-apart, body-lines, file-back, str-back, line-back, abbrev-back, offsets-back, names-section, macros-back, new_macros, new_offsets, new_names, offsets-are, names-are, named-apart, body-str, body-line, body-units, tables-apart, str-place, line-place, str-none, line-none}
 use Rattle.dw_base.proofs.FileViewLaws.{order-view_of}
 use Rattle.dw_base.proofs.PlainCellLaws.{IsPlain, plain_cells-plain}
 use Rattle.dw_meaning.proofs.SectionKeptLaws.{units-edited}
@@ -66,6 +69,22 @@ units-apart b i kind s none some same =
     clash : Some kind ≡ None → ⊥
     clash e = cc
 
+-- nor one of macro units
+units-no-macros : (b : List ℕ) (i : ℕ) (kind : SectionKind) → unit_kind (debug_section (section_name b i)) ≡ Some kind → is_macro (debug_section (section_name b i)) ≡ false
+units-no-macros b i kind some = by_section (debug_section (section_name b i)) some
+  where
+    by_section : (o : Option DebugSection) → unit_kind o ≡ Some kind → is_macro o ≡ false
+    by_section None e = absurd cc
+    by_section (Some Info) e = refl
+    by_section (Some Types) e = refl
+    by_section (Some Abbrev) e = refl
+    by_section (Some Str) e = refl
+    by_section (Some LineStr) e = refl
+    by_section (Some StrOffsets) e = refl
+    by_section (Some Line) e = refl
+    by_section (Some Macro) e = absurd cc
+    by_section (Some Names) e = refl
+
 -- its unit sections are those of the file, edited
 units-back : (m : PathMap) (b : List ℕ) (r : DataReadings) (out : List ℕ) → CanMap m b r → ReadsBack b (new_body m b r) out
     → (file_data out).units ≡ edited_sections (file_data b).units (new_units m b r)
@@ -75,35 +94,35 @@ units-back m b r out w back =
     (drop-at (SectionBack b (new_body m b r)) (view_of b).sections (view_of out).sections (sections-back b (new_body m b r) out (file-back m b r out w back)))
     w.reads.data_reads.units (pieces-plain m b r w)
     (λ i kind le lt some.
-    body-other m b r i
+    body-units m b r i w
     (named-apart b i (omega arith) (units-apart b i kind Str refl some) (units-apart b i kind LineStr refl some) (units-apart b i kind StrOffsets refl some)
-    (units-apart b i kind Line refl some) (units-apart b i kind Names refl some)))
+    (units-apart b i kind Line refl some) (units-apart b i kind Names refl some)) (units-no-macros b i kind some))
 
 -- so its debug data are the file's, edited
 order-back : (m : PathMap) (b : List ℕ) (r : DataReadings) (out : List ℕ) → ReadsBack b (new_body m b r) out → (view_of out).order ≡ (view_of b).order
 order-back m b r out back = order-view_of out ∙ back.order ∙ sym (order-view_of b)
 
 -- debug data by their parts
-abbrev data_with : Order → Located → List UnitSection → Located → Located → CellSection → CellSection → CellSection → DebugData
-data_with order abbrevs units str line offsets lines names =
-    record { base = record { order = order; abbrevs = abbrevs }; units = units; str = str; line_str = line; offsets = offsets; lines = lines; names = names }
+abbrev data_with : Order → Located → List UnitSection → Located → Located → CellSection → CellSection → List CellSection → CellSection → DebugData
+data_with order abbrevs units str line offsets lines macros names =
+    record { base = record { order = order; abbrevs = abbrevs }; units = units; str = str; line_str = line; offsets = offsets; lines = lines; macros = macros; names = names }
 
 data-parts : (b : List ℕ) → file_data b ≡ data_with (view_of b).order (located (view_of b) Abbrev) (file_data b).units (file_data b).str (file_data b).line_str
-    (file_data b).offsets (file_data b).lines (file_data b).names
+    (file_data b).offsets (file_data b).lines (file_data b).macros (file_data b).names
 unfolding debug_data
 data-parts b = refl
 
-same-parts : (o p : Order) (a c : Located) (us vs : List UnitSection) (s t l k : Located) (x y i j n q : CellSection) → o ≡ p → a ≡ c → us ≡ vs → s ≡ t → l ≡ k → x ≡ y → i ≡ j → n ≡ q
-    → data_with o a us s l x i n ≡ data_with p c vs t k y j q
-same-parts o p a c us vs s t l k x y i j n q e1 e2 e3 e4 e5 e6 e7 e8 =
-    ap (λ (z : Order). data_with z a us s l x i n) e1 ∙ ap (λ (z : Located). data_with p z us s l x i n) e2 ∙ ap (λ (z : List UnitSection). data_with p c z s l x i n) e3
-    ∙ ap (λ (z : Located). data_with p c vs z l x i n) e4 ∙ ap (λ (z : Located). data_with p c vs t z x i n) e5 ∙ ap (λ (z : CellSection). data_with p c vs t k z i n) e6
-    ∙ ap (λ (z : CellSection). data_with p c vs t k y z n) e7 ∙ ap (data_with p c vs t k y j) e8
+same-parts : (o p : Order) (a c : Located) (us vs : List UnitSection) (s t l k : Located) (x y i j : CellSection) (ms ks : List CellSection) (n q : CellSection) → o ≡ p → a ≡ c → us ≡ vs → s ≡ t → l ≡ k → x ≡ y → i ≡ j → ms ≡ ks → n ≡ q
+    → data_with o a us s l x i ms n ≡ data_with p c vs t k y j ks q
+same-parts o p a c us vs s t l k x y i j ms ks n q e1 e2 e3 e4 e5 e6 e7 e8 e9 =
+    ap (λ (z : Order). data_with z a us s l x i ms n) e1 ∙ ap (λ (z : Located). data_with p z us s l x i ms n) e2 ∙ ap (λ (z : List UnitSection). data_with p c z s l x i ms n) e3
+    ∙ ap (λ (z : Located). data_with p c vs z l x i ms n) e4 ∙ ap (λ (z : Located). data_with p c vs t z x i ms n) e5 ∙ ap (λ (z : CellSection). data_with p c vs t k z i ms n) e6
+    ∙ ap (λ (z : CellSection). data_with p c vs t k y z ms n) e7 ∙ ap (λ (z : List CellSection). data_with p c vs t k y j z n) e8 ∙ ap (data_with p c vs t k y j ks) e9
 
 edited-parts : (m : PathMap) (b : List ℕ) (r : DataReadings) → data_with (view_of b).order (located (view_of b) Abbrev)
     (edited_sections (file_data b).units (new_units m b r)) (record { number = (file_data b).str.number; bytes = new_str m b r })
     (record { number = (file_data b).line_str.number; bytes = new_line_str m b r }) (record { number = (file_data b).offsets.number; contents = new_offsets m b r })
-    (record { number = (file_data b).lines.number; contents = plain_cells (new_line_tables m b r) })
+    (record { number = (file_data b).lines.number; contents = plain_cells (new_line_tables m b r) }) (edited_macro_sections (file_data b).macros (new_macros m b r))
     (record { number = (file_data b).names.number; contents = new_names m b r }) ≡ edited_data (changes_file m b r) (file_data b) r
 unfolding debug_data
 edited-parts m b r = refl
@@ -117,9 +136,10 @@ data-back m b r out w back =
     (file_data out).line_str (record { number = (file_data b).line_str.number; bytes = new_line_str m b r })
     (file_data out).offsets (record { number = (file_data b).offsets.number; contents = new_offsets m b r })
     (file_data out).lines (record { number = (file_data b).lines.number; contents = plain_cells (new_line_tables m b r) })
+    (file_data out).macros (edited_macro_sections (file_data b).macros (new_macros m b r))
     (file_data out).names (record { number = (file_data b).names.number; contents = new_names m b r })
     (order-back m b r out back) (abbrev-back m b r out w back) (units-back m b r out w back) (str-back m b r out w back) (line-back m b r out w back)
-    (offsets-back m b r out w back) (tables-back m b r out w back) (names-section m b r out w back)
+    (offsets-back m b r out w back) (tables-back m b r out w back) (macros-back m b r out w back) (names-section m b r out w back)
     ∙ edited-parts m b r
 
 -- the tables stay small where the output does
@@ -164,6 +184,10 @@ lines-small m b r out w back small = by_place (tables-place b)
         let size : length (contents_of out (located (view_of b) Line).number) ≡ length (new_line_tables m b r) = ap length here in
         omega (arith, size, length-contents out (located (view_of b) Line).number, small)
 
+file-macros : (b : List ℕ) → AllPlain (file_data b).macros
+unfolding debug_data macro_sections
+file-macros b = macros-plain 1 (drop 1 (view_of b).sections)
+
 -- what the data law asks for
 data-moves : (m : PathMap) (b : List ℕ) (r : DataReadings) (out : List ℕ) → CanMap m b r → ReadsBack b (new_body m b r) out → length out ≤ output_limit
     → DataMoves m (file_data b) r
@@ -173,6 +197,7 @@ data-moves m b r out w back small = record {
   fits = w.fits;
   plain = file-plain b;
   offsets_plain = subst (λ (z : CellSection). IsPlain z.contents) (sym (offsets-are b)) (plain_cells-plain (located (view_of b) StrOffsets).bytes);
+  macros_plain = file-macros b;
   names_plain = subst (λ (z : CellSection). IsPlain z.contents) (sym (names-are b)) (plain_cells-plain (located (view_of b) Names).bytes);
   str = str-small m b r out w back small;
   line_str = line-small m b r out w back small;
@@ -198,15 +223,16 @@ reads-back m b r out w back small =
     }
 
 -- and means the mapped meaning
-abbrev pub means_with : List UnitMeaning → List (List ℕ) → List LineMeaning → List NamePart → List NamedBytes → Meaning
-means_with units slots lines names others = record { units = units; slots = slots; lines = lines; names = names; others = bytes_named others }
+abbrev pub means_with : List UnitMeaning → List (List ℕ) → List LineMeaning → List MacroMeaning → List NamePart → List NamedBytes → Meaning
+means_with units slots lines macros names others =
+    record { units = units; slots = slots; lines = lines; macros = macros; names = names; others = bytes_named others }
 
-same-meaning : (us vs : List UnitMeaning) (ss ts : List (List ℕ)) (ls ks : List LineMeaning) (ns ps : List NamePart) (os qs : List NamedBytes) → us ≡ vs → ss ≡ ts → ls ≡ ks → ns ≡ ps → os ≡ qs
-    → means_with us ss ls ns os ≡ means_with vs ts ks ps qs
-same-meaning us vs ss ts ls ks ns ps os qs e f l g h =
-    ap (λ (z : List UnitMeaning). means_with z ss ls ns os) e ∙ ap (λ (z : List (List ℕ)). means_with vs z ls ns os) f
-    ∙ ap (λ (z : List LineMeaning). means_with vs ts z ns os) l
-    ∙ ap (λ (z : List NamePart). means_with vs ts ks z os) g ∙ ap (λ (z : List NamedBytes). means_with vs ts ks ps z) h
+same-meaning : (us vs : List UnitMeaning) (ss ts : List (List ℕ)) (ls ks : List LineMeaning) (as_ bs : List MacroMeaning) (ns ps : List NamePart) (os qs : List NamedBytes) → us ≡ vs → ss ≡ ts → ls ≡ ks → as_ ≡ bs → ns ≡ ps → os ≡ qs
+    → means_with us ss ls as_ ns os ≡ means_with vs ts ks bs ps qs
+same-meaning us vs ss ts ls ks as_ bs ns ps os qs e f l a g h =
+    ap (λ (z : List UnitMeaning). means_with z ss ls as_ ns os) e ∙ ap (λ (z : List (List ℕ)). means_with vs z ls as_ ns os) f
+    ∙ ap (λ (z : List LineMeaning). means_with vs ts z as_ ns os) l ∙ ap (λ (z : List MacroMeaning). means_with vs ts ks z ns os) a
+    ∙ ap (λ (z : List NamePart). means_with vs ts ks bs z os) g ∙ ap (λ (z : List NamedBytes). means_with vs ts ks bs ps z) h
 
 meaning-back : (m : PathMap) (b : List ℕ) (r : DataReadings) (out : List ℕ) (w : CanMap m b r) (back : ReadsBack b (new_body m b r) out) (small : length out ≤ output_limit)
     → meaning_of (view_of out) (file_moves m b r out w back small) ≡ mapped m (meaning_of (view_of b) r)
@@ -217,12 +243,14 @@ meaning-back m b r out w back small =
     (slot_texts (view_of out).order (located (view_of out) Str) (file_moves m b r out w back small).offsets)
     (mapped_slots m (unit_slots (units_of (file_data b) r)) 0 (slot_texts (view_of b).order (located (view_of b) Str) r.offsets))
     (line_meanings (line_source (file_data out)) (file_moves m b r out w back small).lines) (mapped_lines m (line_meanings (line_source (file_data b)) r.lines))
+    (macro_meanings (around_of (file_data out) (file_moves m b r out w back small)) (file_moves m b r out w back small).macros) (macro_meanings (around_of (file_data b) r) r.macros)
     (name_parts (view_of out).order (located (view_of out) Str) (file_moves m b r out w back small).names) (name_parts (view_of b).order (located (view_of b) Str) r.names)
     (other_sections (without_id (view_of out).id (view_of out).sections)) (other_sections (without_id (view_of b).id (view_of b).sections))
     (ap (λ (d : DebugData). units_of d (file_moves m b r out w back small)) (data-back m b r out w back) ∙ data-mapped m (file_data b) r moves)
     (ap (λ (o : Order). slot_texts o (located (view_of out) Str) (file_moves m b r out w back small).offsets) (order-back m b r out back)
     ∙ ap (λ (z : Located). slot_texts (view_of b).order z (file_moves m b r out w back small).offsets) (str-back m b r out w back) ∙ slots-data m (file_data b) r moves)
     (ap (λ (d : DebugData). line_meanings (line_source d) (file_moves m b r out w back small).lines) (data-back m b r out w back) ∙ (lines-data m (file_data b) r moves).says)
+    (ap (λ (d : DebugData). macro_meanings (around_of d (file_moves m b r out w back small)) (file_moves m b r out w back small).macros) (data-back m b r out w back) ∙ macros-data m (file_data b) r moves)
     (ap (λ (o : Order). name_parts o (located (view_of out) Str) (file_moves m b r out w back small).names) (order-back m b r out back)
     ∙ ap (λ (z : Located). name_parts (view_of b).order z (file_moves m b r out w back small).names) (str-back m b r out w back) ∙ names-data m (file_data b) r moves)
     (others-back b (new_body m b r) out (file-back m b r out w back))

@@ -46,6 +46,7 @@ pub mod OffsetMoveLaws
 pub mod SlotRowLaws
 pub mod WorkedSlots
 pub mod WorkedLines
+pub mod WorkedMacros
 pub mod LineReadLaws
 pub mod LineWalkLaws
 pub mod LineChangeLaws
@@ -65,3 +66,13 @@ pub mod LineSectionLaws
 pub mod LineOneLaws
 pub mod LineRowLaws
 pub mod LineStartLaws
+pub mod MacroEditLaws
+pub mod MacroKeptLaws
+pub mod MacroReadLaws
+pub mod StartRowLaws
+pub mod MacroBackLaws
+pub mod MacroCutLaws
+pub mod MacroPieceLaws
+pub mod MacroMeantLaws
+pub mod MacroFirstLaws
+pub mod MacroRowLaws

@@ -1,24 +1,17 @@
 -- Line tables that can be read and written exclude the refusals of line tables, and of values that say where they start.
-use Rattle.std.proofs.Common.{true, false, ◌≡◌, ℕ, ◌<◌, List, [], ◌∷◌, ◌++◌, length, take, Option, Some, None, IsTrue, sym, ap, ◌∙◌, subst, arith}
+use Rattle.std.proofs.Common.{true, false, ◌≡◌, ℕ, ◌<◌, List, [], ◌∷◌, ◌++◌, length, take, Option, Some, None, sym, ap, ◌∙◌, subst, arith}
 use Rattle.std.specs.Prelude.{Result, Ok, Err}
-use Rattle.dw_base.specs.Cells.{offset_of}
-use Rattle.dw_base.specs.DebugData.{DebugData, DataReadings, around_of, line_source, line_table, start_number}
+use Rattle.dw_base.specs.DebugData.{DebugData, DataReadings, line_source}
 use Rattle.dw_base.specs.LineEntries.{entries_at}
 use Rattle.dw_base.specs.LineFails.{ListsFail, old_dirs, old_files, new_dirs, new_files, LineFails, no_header, lists, passes, program}
-use Rattle.dw_base.specs.LineMeanings.{is_there}
 use Rattle.dw_base.specs.LinePrograms.{opcode_at, next_opcode}
-use Rattle.dw_base.specs.LineReadings.{AreTables, LineReading, ReadsTable, TablesTo, table_read, table_starts}
+use Rattle.dw_base.specs.LineReadings.{AreTables, LineReading, ReadsTable, TablesTo, table_read}
 use Rattle.dw_base.specs.LineSources.{LineSource}
 use Rattle.dw_base.specs.LineTables.{table_bytes, HasLists, old_lists, new_lists}
 use Rattle.dw_base.specs.LineWriteFails.{changes_path, changes_file, ProgramFails, defined, wide, WriteFails, wide_table, wide_header, wide_offset, program as defines, DefinedStay, CanWrite}
 use Rattle.dw_base.specs.OldLineLists.{next_dir, next_file}
 use Rattle.dw_base.specs.Paths.{PathMap}
-use Rattle.dw_base.specs.Pieces.{Piece, EachPiece}
-use Rattle.dw_base.specs.Readings.{Reading, Readings, EachReading}
-use Rattle.dw_base.specs.Roles.{Role, role_of}
-use Rattle.dw_base.specs.TableStarts.{HasStartForm, HasUnitPiece, StrayFails, other_form, no_table}
-use Rattle.dw_base.specs.TextChanges.{TableChanges, NamesTextBy, NamesText}
-use Rattle.dw_base.specs.UnitStates.{UnitState}
+use Rattle.dw_base.specs.TextChanges.{TableChanges}
 use Rattle.dw_base.specs.Walks.{Step, goes, ends, Walks, no_step, one_more, ComesTo, Breaks}
 use Rattle.dw_base.specs.WrittenLines.{bytes_at}
 use Rattle.dw_base.specs.declared.fault.Refusal.{Refusal}
@@ -26,16 +19,14 @@ use Rattle.dw_base.specs.declared.line_tables.FilePlace.{FilePlace}
 use Rattle.dw_base.specs.declared.line_tables.LineHeader.{LineHeader}
 use Rattle.dw_base.specs.declared.line_tables.Opcode.{Opcode}
 use Rattle.dw_base.specs.declared.line_tables.TextPlace.{TextPlace}
-use Rattle.dw_meaning.specs.DataFails.{LinesFail, line_table as line_table_row, StartsFail, stray}
+use Rattle.dw_meaning.specs.DataFails.{LinesFail, line_table as line_table_row}
 use Rattle.dw_meaning.specs.DataOutput.{DataReads}
-use Rattle.dw_meaning.proofs.DataOneLaws.{readings-one}
 use Rattle.dw_meaning.proofs.LineHeaderLaws.{header-is}
-use Rattle.dw_meaning.proofs.LineOneLaws.{comes-one, lists-one, table-one, tables-one, tables-behind}
+use Rattle.dw_meaning.proofs.LineOneLaws.{comes-one, lists-one, table-one, tables-behind}
 use Rattle.dw_meaning.proofs.LineReadLaws.{some-same}
 use Rattle.dw_meaning.proofs.LineSectionLaws.{EachCan}
 use Rattle.dw_meaning.proofs.LineTableLaws.{header-places}
 use Rattle.dw_meaning.proofs.LineWalkLaws.{Runs, at_end, further, runs-of, file_first, Opcodes, program_over, one_opcode, opcodes-read}
-use Rattle.dw_meaning.proofs.SlotRowLaws.{piece-among}
 use Rattle.std.proofs.lemmas.Bool.{lt-ltb}
 
 -- a walk that breaks comes to nothing
@@ -132,43 +123,6 @@ begins-behind g p e start (x ∷ xs) (y ∷ ys) r a b lt f =
 pub lines-exclude : (d : DebugData) (tables : List LineReading) (r : Refusal) → AreTables (line_source d) tables → LinesFail d r → ⊥
 lines-exclude d tables r a (line_table_row before start reads lt f) =
     begins-behind (line_source d) 0 (length (line_source d).bytes) start tables before r a reads lt f
-
--- one of all pieces of units
-reading-among : (P : Piece UnitState → Type 0) (before behind : Readings) (x : Reading) → EachReading P (before ++ x ∷ behind) → EachPiece P x.pieces
-reading-among P [] behind x h = h.0
-reading-among P (y ∷ ys) behind x h = reading-among P ys behind x h.1
-
-unit-piece : (P : Piece UnitState → Type 0) (rs : Readings) (x : Piece UnitState) → EachReading P rs → HasUnitPiece rs x → P x
-unit-piece P rs x all here =
-    piece-among P here.front here.rest x
-    (subst (EachPiece P) here.pieces (reading-among P here.before here.behind here.section (subst (EachReading P) here.sections all)))
-
--- each value that is to say where a line table starts does
-pub starts-exclude : (d : DebugData) (q : DataReadings) (r : Refusal) → DataReads d q → StartsFail d r → ⊥
-starts-exclude d q r a (stray readings reads f) = by_row f
-  where
-    units : readings.units ≡ q.units
-    units = readings-one d.base 0 d.units readings.units q.units reads.units a.units
-
-    tables : readings.lines ≡ q.lines
-    tables = tables-one (line_source d) 0 (length (line_source d).bytes) readings.lines q.lines reads.lines a.lines
-
-    by_row : {s : Refusal} → StrayFails (around_of d readings) readings.units s → ⊥
-    by_row (other_form x here none) =
-        let own : IsTrue (Rattle.dw_base.specs.TableStarts.has_start_form x) = unit-piece HasStartForm readings.units x (subst (EachReading HasStartForm) (sym units) a.forms) here in
-        clash (sym own ∙ none)
-      where
-        clash : true ≡ false → ⊥
-        clash e = cc
-    by_row (no_table x here role none) =
-        let own : NamesTextBy (role_of x) (around_of d q) x.cells = unit-piece (NamesText (around_of d q)) readings.units x (subst (EachReading (NamesText (around_of d q))) (sym units) a.texts) here in
-        let there : IsTrue (is_there (line_table (around_of d q) x.cells)) = subst (λ (k : Role). NamesTextBy k (around_of d q) x.cells) role own in
-        let same : is_there (line_table (around_of d readings) x.cells) ≡ is_there (line_table (around_of d q) x.cells) =
-        ap (λ (ts : List LineReading). is_there (start_number 0 (table_starts ts) (offset_of d.base.order (around_of d q).lines x.cells))) tables in
-        clash (sym there ∙ sym same ∙ none)
-      where
-        clash : true ≡ false → ⊥
-        clash e = cc
 
 -- a defined file that stays
 stays-among : (m : PathMap) (table : List ℕ) (before behind : List FilePlace) (f : FilePlace) → DefinedStay m table (before ++ f ∷ behind)

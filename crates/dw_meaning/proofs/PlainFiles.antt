@@ -14,7 +14,9 @@ use Rattle.dw_base.specs.declared.elf_numbers.TheConstants.{EI_CLASS, EI_DATA, E
 use Rattle.dw_base.specs.DebugSectionFails.{is_active, is_debug_name, is_zdebug_name, is_supplementary_name, is_split_name, NameReads, IsSecond, DebugSectionsRead}
 use Rattle.dw_base.specs.DebugSections.{is_listed}
 use Rattle.dw_base.specs.Layout.{is_loaded_kind, with_bodies}
-use Rattle.dw_base.specs.DebugData.{DebugData, line_source}
+use Rattle.dw_base.specs.DebugData.{DebugData, around_of, line_source}
+use Rattle.dw_base.specs.MacroMeanings.{MacroMeaning, macro_meanings}
+use Rattle.dw_base.specs.MacroReadings.{MacroReading}
 use Rattle.dw_base.specs.LineMeanings.{LineMeaning, line_meanings}
 use Rattle.dw_base.specs.LineReadings.{LineReading}
 use Rattle.dw_base.specs.DebugData.{DataReadings}
@@ -229,25 +231,29 @@ output-is m b d r bodies same is =
 
 -- it means these units, and these bytes by name, where nothing else is read
 pub meaning-is : (b : List ℕ) (d : DebugData) (r : DataReadings) (units : List UnitMeaning) (others : List NamedBytes) → file_data b ≡ d → units_of d r ≡ units
-    → other_sections (without_id (view_of b).id (view_of b).sections) ≡ others → r.offsets ≡ [] → r.lines ≡ [] → r.names ≡ []
-    → meaning_of (view_of b) r ≡ record { units = units; slots = []; lines = []; names = []; others = bytes_named others }
+    → other_sections (without_id (view_of b).id (view_of b).sections) ≡ others → r.offsets ≡ [] → r.lines ≡ [] → r.macros ≡ []
+    → r.names ≡ [] → meaning_of (view_of b) r ≡ record { units = units; slots = []; lines = []; macros = []; names = []; others = bytes_named others }
 unfolding meaning_of
-meaning-is b d r units others same us os offsets lines names =
-    ap (λ (x : DebugData). means_with (units_of x r) (slots_of r) (lines_of r) (names_of r) (sections_of b)) same
-    ∙ ap (λ (x : List UnitMeaning). means_with x (slots_of r) (lines_of r) (names_of r) (sections_of b)) us
-    ∙ ap (λ (x : List (Piece OffsetState)). means_with units (slot_texts (view_of b).order (located (view_of b) Str) x) (lines_of r) (names_of r) (sections_of b)) offsets
-    ∙ ap (λ (x : List LineReading). means_with units [] (line_meanings (line_source (file_data b)) x) (names_of r) (sections_of b)) lines
-    ∙ ap (λ (x : List (Piece NameState)). means_with units [] [] (name_parts (view_of b).order (located (view_of b) Str) x) (sections_of b)) names
-    ∙ ap (λ (x : List NamedBytes). means_with units [] [] [] x) os
+meaning-is b d r units others same us os offsets lines macros names =
+    ap (λ (x : DebugData). means_with (units_of x r) (slots_of r) (lines_of r) (macros_of r) (names_of r) (sections_of b)) same
+    ∙ ap (λ (x : List UnitMeaning). means_with x (slots_of r) (lines_of r) (macros_of r) (names_of r) (sections_of b)) us
+    ∙ ap (λ (x : List (Piece OffsetState)). means_with units (slot_texts (view_of b).order (located (view_of b) Str) x) (lines_of r) (macros_of r) (names_of r) (sections_of b)) offsets
+    ∙ ap (λ (x : List LineReading). means_with units [] (line_meanings (line_source (file_data b)) x) (macros_of r) (names_of r) (sections_of b)) lines
+    ∙ ap (λ (x : List MacroReading). means_with units [] [] (macro_meanings (around_of (file_data b) r) x) (names_of r) (sections_of b)) macros
+    ∙ ap (λ (x : List (Piece NameState)). means_with units [] [] [] (name_parts (view_of b).order (located (view_of b) Str) x) (sections_of b)) names
+    ∙ ap (λ (x : List NamedBytes). means_with units [] [] [] [] x) os
   where
-    means_with : List UnitMeaning → List (List ℕ) → List LineMeaning → List NamePart → List NamedBytes → Meaning
-    means_with a s l n o = record { units = a; slots = s; lines = l; names = n; others = bytes_named o }
+    means_with : List UnitMeaning → List (List ℕ) → List LineMeaning → List MacroMeaning → List NamePart → List NamedBytes → Meaning
+    means_with a s l k n o = record { units = a; slots = s; lines = l; macros = k; names = n; others = bytes_named o }
 
     slots_of : DataReadings → List (List ℕ)
     slots_of x = slot_texts (view_of b).order (located (view_of b) Str) x.offsets
 
     lines_of : DataReadings → List LineMeaning
     lines_of x = line_meanings (line_source (file_data b)) x.lines
+
+    macros_of : DataReadings → List MacroMeaning
+    macros_of x = macro_meanings (around_of (file_data b) r) x.macros
 
     names_of : DataReadings → List NamePart
     names_of x = name_parts (view_of b).order (located (view_of b) Str) x.names

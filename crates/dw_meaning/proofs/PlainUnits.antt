@@ -205,7 +205,7 @@ abbrev pub no_section : CellSection
 no_section = record { number = 0; contents = [] }
 
 abbrev pub units_alone : Readings → DataReadings
-units_alone rs = record { units = rs; offsets = []; lines = []; names = [] }
+units_alone rs = record { units = rs; offsets = []; lines = []; macros = []; names = [] }
 
 pub none-offsets : (order : Order) → ReadsOffsets order [] []
 none-offsets order = record { chain = record { mode = refl; place = refl }; cells = refl }

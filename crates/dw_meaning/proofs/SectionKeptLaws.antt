@@ -84,7 +84,7 @@ all-plain c around (x ∷ xs) h =
 is_units : List ℕ → ℕ → Option SectionKind
 is_units b i = unit_kind (debug_section (section_name b i))
 
-skip-other : (x : Body) (xs : List Body) (old : ℕ → List ℕ) (i : ℕ) → i ≢ x.number → body_in (x ∷ xs) old i ≡ body_in xs old i
+pub skip-other : (x : Body) (xs : List Body) (old : ℕ → List ℕ) (i : ℕ) → i ≢ x.number → body_in (x ∷ xs) old i ≡ body_in xs old i
 skip-other x xs old i other = rw (ne_eqb i x.number other) refl
 
 pub units-skip : (b : List ℕ) (bodies : ℕ → List ℕ) (base : UnitBase) (c : TableChanges) (around : Around) (i : ℕ) → unit_kind (debug_section (section_name b i)) ≡ None

@@ -2,23 +2,24 @@
 use Rattle.std.proofs.Common.{Bool, true, false, ◌≡◌, ℕ, ◌+◌, ◌==◌, ◌&&◌, if◌then◌else◌, List, [], ◌∷◌, ◌++◌, length, Option, Some, None, refl, sym, ap, ◌∙◌, append_assoc}
 use Rattle.dw_base.specs.AbbreviationTables.{Abbreviation, abbreviation_of}
 use Rattle.dw_base.specs.Cells.{Cell, bytes_of, field_of, offset_of}
-use Rattle.dw_base.specs.DebugData.{Lasting, Around, EntryPlace, line_table, units_in, ReadsAll}
+use Rattle.dw_base.specs.DebugData.{Lasting, Around, EntryPlace, line_table, macro_unit, units_in, ReadsAll}
 use Rattle.dw_base.specs.Forests.{Mark, null}
 use Rattle.dw_base.specs.Forms.{ValueKind, number_of, leb_number, inline_text, text_offset, form_in_front, kind_in}
 use Rattle.dw_base.specs.MappedSlots.{path_slot, forest_slots, unit_slots}
 use Rattle.dw_base.specs.Numbers.{spelled}
 use Rattle.dw_base.specs.Pieces.{Piece}
 use Rattle.dw_base.specs.Readings.{Readings}
-use Rattle.dw_base.specs.Roles.{Use, is_line_start, is_path, is_path_use, use_of}
+use Rattle.dw_base.specs.Roles.{Use, names_macro_unit, is_line_start, is_macro_start, is_path, is_path_use, use_of}
 use Rattle.dw_base.specs.TextIndexes.{Indexing, IndexUse, index_value, use_by, uses_by, uses_in, index_uses, slot_of, listed_slot, slots_named, holds_number}
 use Rattle.dw_base.specs.UnitHeaders.{UnitBase, UnitSection}
 use Rattle.dw_base.specs.UnitMeanings.{UnitMeaning, head_mark, entry_mark, code_mark, value_mark, mark_by, mark_of, unit_meanings, units_read}
 use Rattle.dw_base.specs.UnitStates.{Mode, at_header, at_code, at_values, at_chosen, stuck, UnitState, code_value, piece_header}
-use Rattle.dw_base.specs.ValueMeanings.{inline, by_offset, string, entry_of, stray, found_entry, first_of, global_entry, local_entry, indexed, number_meaning, leb_meaning, meaning_of_value, line_meaning, table_named}
+use Rattle.dw_base.specs.ValueMeanings.{inline, by_offset, string, entry_of, stray, found_entry, first_of, global_entry, local_entry, indexed, number_meaning, leb_meaning, meaning_of_value, line_meaning, table_named, unit_meant, macro_meaning, plain_meaning}
+use Rattle.dw_base.specs.declared.shared.Order.{Order}
 use Rattle.dw_base.specs.declared.units.UnitHeader.{UnitHeader}
 use Rattle.dw_base.specs.declared.values.Spec.{Spec}
 use Rattle.dw_base.specs.declared.values.ValueClass.{ValueClass}
-use Rattle.dw_base.specs.declared.values.ValueClass.TheVariants.{Address, LocalRef, GlobalRef, StrIndex}
+use Rattle.dw_base.specs.declared.values.ValueClass.TheVariants.{Address, LocalRef, GlobalRef, Number, SecOffset, StrIndex}
 use Rattle.dw_base.specs.declared.view_fields.Field.{Field}
 use Rattle.dw_base.specs.declared.view_fields.Field.TheVariants.{Num, Into, Sym}
 use Rattle.dw_base.proofs.IndexKeptLaws.{start-no-index}
@@ -94,17 +95,38 @@ table-none : (o : Option ℕ) (n : ℕ) → path_slot (table_named o n) ≡ []
 table-none None n = refl
 table-none (Some k) n = refl
 
+-- nor has a macro unit
+unit-none : (o : Option ℕ) (f : Field) → path_slot (unit_meant o f) ≡ []
+unit-none None f = refl
+unit-none (Some k) f = refl
+
+unit-no-index : (u : Use) (class : ValueClass) (n : ℕ) (order : Order) (p : List Cell) → is_macro_start u class n ≡ true → index_value order (number_of class n) p ≡ None
+unit-no-index names_macro_unit SecOffset n order p e = refl
+unit-no-index names_macro_unit Number n order p e = refl
+unit-no-index u class n order p e = absurd cc
+
+plain-slot : (class : ValueClass) (n : ℕ) (around : Around) (s : UnitState) (u : Use) (path : Bool) (place : ℕ) (p : List Cell) → path ≡ is_path_use u
+    → path_slot (plain_meaning around s u class n p) ≡ named_by around s place path (index_value around.lasting.base.order (number_of class n) p)
+plain-slot class n around s u path place p e = by_unit (is_macro_start u class n) refl
+  where
+    by_unit : (b : Bool) → is_macro_start u class n ≡ b
+        → path_slot (if b then macro_meaning around.lasting p else number_meaning around s u class p) ≡ named_by around s place path (index_value around.lasting.base.order (number_of class n) p)
+    by_unit true is =
+        unit-none (macro_unit around.lasting p) (field_of around.lasting.base.order p)
+        ∙ sym (ap (named_by around s place path) (unit-no-index u class n around.lasting.base.order p is))
+    by_unit false is = number-slot class n around s u path place p e
+
 -- what a value names: a further form is a clause here
 value-slot : (k : ValueKind) (around : Around) (s : UnitState) (u : Use) (x : Spec) (path : Bool) (place : ℕ) (p : List Cell) → path ≡ is_path_use u
     → path_slot (meaning_of_value around s u x k p) ≡ named_by around s place path (index_value around.lasting.base.order k p)
 value-slot (number_of class n) around s u x path place p e = by_start (is_line_start u class n) refl
   where
     by_start : (b : Bool) → is_line_start u class n ≡ b
-        → path_slot (if b then line_meaning around p else number_meaning around s u class p) ≡ named_by around s place path (index_value around.lasting.base.order (number_of class n) p)
+        → path_slot (if b then line_meaning around p else plain_meaning around s u class n p) ≡ named_by around s place path (index_value around.lasting.base.order (number_of class n) p)
     by_start true is =
         table-none (line_table around p) (offset_of around.lasting.base.order around.lines p)
         ∙ sym (ap (named_by around s place path) (start-no-index u class n around.lasting.base.order p is))
-    by_start false is = number-slot class n around s u path place p e
+    by_start false is = plain-slot class n around s u path place p e
 value-slot (leb_number class) around s u x path place p e = leb-slot class around s u path place p e
 value-slot inline_text around s u x path place p e = inline-none (is_path_use u) _
 value-slot (text_offset table n) around s u x path place p e = text-none (is_path_use u) _

@@ -14,7 +14,8 @@ use Rattle.dw_base.proofs.PlainCellLaws.{IsPlain, plain_cells-plain}
 use Rattle.dw_meaning.proofs.OffsetMoveLaws.{EachCells, cells-plain}
 use Rattle.std.proofs.Common.{true, false, ◌≡◌, ℕ, List, [], ◌∷◌, ◌++◌, Option, Some, None, IsTrue, refl, sym, ap, ◌∙◌, subst}
 use Rattle.dw_base.specs.Cells.{Cell, Located, bytes_of, plain_cells}
-use Rattle.dw_base.specs.DebugData.{DebugData, DataReadings, Around, around_of, indexing_of, path_slots}
+use Rattle.dw_base.specs.DebugData.{DebugData, DataReadings, Around, around_of, indexing_of, macro_places, path_slots}
+use Rattle.dw_base.specs.MacroReadings.{MacroPlaces}
 use Rattle.dw_base.specs.Forms.{in_str}
 use Rattle.dw_base.specs.IndexFails.{IndexFails, no_slot, SlotFails, no_text, SlotFitsBy, SlotFits, SharedFails, shared}
 use Rattle.dw_base.specs.OffsetPieces.{OffsetMode, at_contribution, at_slot, no_offsets, OffsetState, ReadsOffsets}
@@ -35,7 +36,7 @@ use Rattle.dw_base.proofs.ContributionRowLaws.{contributions-exclude}
 use Rattle.dw_base.proofs.PlainCellLaws.{bytes_of-plain}
 use Rattle.dw_meaning.specs.DataFails.{IndexesRead, SlotTextFails, index as index_row, slot as slot_row}
 use Rattle.dw_meaning.specs.DataOutput.{DataReads, DataFits}
-use Rattle.dw_meaning.proofs.DataOneLaws.{readings-one, offsets-one}
+use Rattle.dw_meaning.proofs.DataOneLaws.{readings-one, offsets-one, readings_with}
 
 -- one of uses, one of pieces
 use-among : (P : IndexUse → Type 0) (before behind : List IndexUse) (u : IndexUse) → EachUse P (before ++ u ∷ behind) → P u
@@ -77,37 +78,52 @@ shared-excludes m section around xs r all (shared x here path other changes) =
     let own : SlotFits m around x = piece-among (SlotFits m around) here.before here.behind x (subst (EachPiece (SlotFits m around)) here.pieces all) in
     changes (subst (λ (k : OffsetMode). SlotFitsBy k m around x.state.slot x.cells) here.mode own path other)
 
--- slots don't ask where line tables start
-abbrev with_starts : Around → List ℕ → Around
-with_starts around ns = record around { starts = ns }
+-- slots don't ask where line tables and macro units start
+abbrev pub with_starts : Around → List ℕ → MacroPlaces → Around
+with_starts around ns ms = record {
+  lasting = record {
+    base = around.lasting.base;
+    entries = around.lasting.entries;
+    infos = around.lasting.infos;
+    indexing = around.lasting.indexing;
+    macros = ms;
+  };
+  str = around.str;
+  line_str = around.line_str;
+  slots = around.slots;
+  lines = around.lines;
+  starts = ns;
+}
 
-starts-names : (around : Around) (ns : List ℕ) (xs : List (Piece OffsetState)) → NameTexts (slot_role (path_slots around)) around xs
-    → NameTexts (slot_role (path_slots around)) (with_starts around ns) xs
-starts-names around ns [] h = tt
-starts-names around ns (x ∷ xs) h = (by_mode x.state.mode h.0, starts-names around ns xs h.1)
+starts-names : (around : Around) (ns : List ℕ) (ms : MacroPlaces) (xs : List (Piece OffsetState)) → NameTexts (slot_role (path_slots around)) around xs
+    → NameTexts (slot_role (path_slots around)) (with_starts around ns ms) xs
+starts-names around ns ms [] h = tt
+starts-names around ns ms (x ∷ xs) h = (by_mode x.state.mode h.0, starts-names around ns ms xs h.1)
   where
     by_mode : (k : OffsetMode) → NamesTextBy (offset_role (path_slots around) k x.state.slot) around x.cells
-        → NamesTextBy (offset_role (path_slots around) k x.state.slot) (with_starts around ns) x.cells
+        → NamesTextBy (offset_role (path_slots around) k x.state.slot) (with_starts around ns ms) x.cells
     by_mode at_contribution own = own
     by_mode (at_slot width end) own = own
     by_mode no_offsets own = own
 
-starts-fits : (m : PathMap) (around : Around) (ns : List ℕ) (xs : List (Piece OffsetState)) → EachPiece (SlotFits m around) xs → EachPiece (SlotFits m (with_starts around ns)) xs
-starts-fits m around ns [] h = tt
-starts-fits m around ns (x ∷ xs) h = (by_mode x.state.mode h.0, starts-fits m around ns xs h.1)
+starts-fits : (m : PathMap) (around : Around) (ns : List ℕ) (ms : MacroPlaces) (xs : List (Piece OffsetState)) → EachPiece (SlotFits m around) xs
+    → EachPiece (SlotFits m (with_starts around ns ms)) xs
+starts-fits m around ns ms [] h = tt
+starts-fits m around ns ms (x ∷ xs) h = (by_mode x.state.mode h.0, starts-fits m around ns ms xs h.1)
   where
-    by_mode : (k : OffsetMode) → SlotFitsBy k m around x.state.slot x.cells → SlotFitsBy k m (with_starts around ns) x.state.slot x.cells
+    by_mode : (k : OffsetMode) → SlotFitsBy k m around x.state.slot x.cells → SlotFitsBy k m (with_starts around ns ms) x.state.slot x.cells
     by_mode at_contribution own = own
     by_mode (at_slot width end) own = own
     by_mode no_offsets own = own
 
--- units and string offsets are read in one way, and so is what stands around them but for line tables
-around-one : (d : DebugData) (r q : DataReadings) → IndexesRead d r → DataReads d q → (around_of d r ≡ with_starts (around_of d q) (table_starts r.lines)) × (r.offsets ≡ q.offsets)
+-- units and string offsets are read in one way, and so is what stands around them but for line tables and macro units
+around-one : (d : DebugData) (r q : DataReadings) → IndexesRead d r → DataReads d q
+    → (around_of d r ≡ with_starts (around_of d q) (table_starts r.lines) (macro_places d r)) × (r.offsets ≡ q.offsets)
 around-one d r q i a =
     let units : r.units ≡ q.units = readings-one d.base 0 d.units r.units q.units i.units a.units in
     let offsets : r.offsets ≡ q.offsets = offsets-one d.base.order d.offsets.contents r.offsets q.offsets i.offsets a.offsets in (
-      ap (λ (us : Readings). around_of d (record { units = us; offsets = r.offsets; lines = r.lines; names = [] })) units
-          ∙ ap (λ (xs : List (Piece OffsetState)). around_of d (record { units = q.units; offsets = xs; lines = r.lines; names = [] })) offsets,
+      ap (λ (us : Readings). around_of d (readings_with us r.offsets r.lines r.macros [])) units
+          ∙ ap (λ (xs : List (Piece OffsetState)). around_of d (readings_with q.units xs r.lines r.macros [])) offsets,
       offsets,
     )
 
@@ -117,18 +133,18 @@ slot_texts-exclude d q r a (index_row readings i f) =
     indexes-exclude (indexing_of d q) r a.indexes (subst (λ (x : Around). IndexFails x.lasting.indexing r) same.0 f)
 slot_texts-exclude d q r a (slot_row readings i f) =
     let same = around-one d readings q i a in
-    slots-exclude d.offsets.number (with_starts (around_of d q) (table_starts readings.lines)) q.offsets r
-    (starts-names (around_of d q) (table_starts readings.lines) q.offsets a.slot_texts)
-    (subst (λ (xs : List (Piece OffsetState)). SlotFails d.offsets.number (with_starts (around_of d q) (table_starts readings.lines)) xs r) same.1
+    slots-exclude d.offsets.number (with_starts (around_of d q) (table_starts readings.lines) (macro_places d readings)) q.offsets r
+    (starts-names (around_of d q) (table_starts readings.lines) (macro_places d readings) q.offsets a.slot_texts)
+    (subst (λ (xs : List (Piece OffsetState)). SlotFails d.offsets.number (with_starts (around_of d q) (table_starts readings.lines) (macro_places d readings)) xs r) same.1
     (subst (λ (x : Around). SlotFails d.offsets.number x readings.offsets r) same.0 f))
 
 pub shared-row : (m : PathMap) (d : DebugData) (q readings : DataReadings) (r : Refusal) → DataReads d q → DataFits m d q → IndexesRead d readings
     → SharedFails m d.offsets.number (around_of d readings) readings.offsets r → ⊥
 shared-row m d q readings r a fits i f =
     let same = around-one d readings q i a in
-    shared-excludes m d.offsets.number (with_starts (around_of d q) (table_starts readings.lines)) q.offsets r
-    (starts-fits m (around_of d q) (table_starts readings.lines) q.offsets fits.slots)
-    (subst (λ (xs : List (Piece OffsetState)). SharedFails m d.offsets.number (with_starts (around_of d q) (table_starts readings.lines)) xs r) same.1
+    shared-excludes m d.offsets.number (with_starts (around_of d q) (table_starts readings.lines) (macro_places d readings)) q.offsets r
+    (starts-fits m (around_of d q) (table_starts readings.lines) (macro_places d readings) q.offsets fits.slots)
+    (subst (λ (xs : List (Piece OffsetState)). SharedFails m d.offsets.number (with_starts (around_of d q) (table_starts readings.lines) (macro_places d readings)) xs r) same.1
     (subst (λ (x : Around). SharedFails m d.offsets.number x readings.offsets r) same.0 f))
 
 -- string offsets that can be read exclude the refusals of contributions

@@ -6,6 +6,7 @@ use Rattle.dw_base.specs.Cells.{Cell, Located}
 use Rattle.dw_meaning.specs.DataOutput.{table_change}
 use Rattle.dw_base.specs.DebugData.{Around, DataReadings, path_slots, source_around, table_of}
 use Rattle.dw_base.specs.LineChanges.{line_mentions}
+use Rattle.dw_base.specs.MacroReadings.{MacroReading, EachMacro}
 use Rattle.dw_base.specs.Readings.{Readings, EachReading}
 use Rattle.dw_base.specs.DebugSections.{name_of}
 use Rattle.dw_base.specs.Elf.{section_count, section_name, contents_of}
@@ -14,7 +15,7 @@ use Rattle.dw_base.specs.Forms.{TextSection, in_str, in_line_str}
 use Rattle.dw_base.specs.Paths.{PathMap}
 use Rattle.dw_base.specs.Pieces.{Piece, EachPiece}
 use Rattle.dw_base.specs.Roles.{Role, fixed, offset, inline_path, line_start, role_of}
-use Rattle.dw_base.specs.SectionTexts.{slot_role, name_role, mentions_with, file_mentions, NameTexts}
+use Rattle.dw_base.specs.SectionTexts.{slot_role, name_role, macro_role, mentions_with, macro_mentions, file_mentions, NameTexts}
 use Rattle.dw_base.specs.StringTables.{Mention, new_table, new_texts, appending}
 use Rattle.dw_base.specs.TextChanges.{offset_in, mentions_by, mentions_of, all_mentions, NamesText, NamesTextBy}
 use Rattle.dw_base.specs.Texts.{same_text, ends_in}
@@ -136,18 +137,25 @@ with-none role table around (x ∷ xs) none names =
     ap (λ (ms : List Mention). mentions_by (role x.state) table around x.cells ++ ms) (with-none role table around xs none names.1)
     ∙ append-nil (mentions_by (role x.state) table around x.cells) ∙ role-none (role x.state) table around x.cells none names.0
 
+macros-none : (table : TextSection) (around : Around) (rs : List MacroReading) → (table_of around table).bytes ≡ [] → EachMacro (λ x. NamesTextBy (macro_role x.state) around x.cells) rs
+    → macro_mentions table around rs ≡ []
+macros-none table around [] none names = refl
+macros-none table around (r ∷ rs) none names =
+    ap (λ (ms : List Mention). ms ++ macro_mentions table around rs) (with-none macro_role table around r.pieces none names.0) ∙ macros-none table around rs none names.1
+
 pub new_table-none : (m : PathMap) (table : TextSection) (around : Around) (r : DataReadings) → (table_of around table).bytes ≡ []
     → EachReading (NamesText around) r.units → NameTexts (slot_role (path_slots around)) around r.offsets → NameTexts name_role around r.names
-    → line_mentions (source_around around) table r.lines ≡ []
+    → EachMacro (λ x. NamesTextBy (macro_role x.state) around x.cells) r.macros → line_mentions (source_around around) table r.lines ≡ []
     → new_table (table_change m table around r).plan (table_change m table around r).texts ≡ []
 unfolding table_change
-new_table-none m table around r none texts slots names lines_none =
+new_table-none m table around r none texts slots names macros lines_none =
     let slots_none : mentions_with (slot_role (path_slots around)) table around r.offsets ≡ [] = with-none (slot_role (path_slots around)) table around r.offsets none slots in
     let names_none : mentions_with name_role table around r.names ≡ [] = with-none name_role table around r.names none names in
     let all : file_mentions table around r ≡ [] =
-    ap (λ (ms : List Mention). ms ++ (mentions_with (slot_role (path_slots around)) table around r.offsets ++ (line_mentions (source_around around) table r.lines ++ mentions_with name_role table around r.names)))
+    ap (λ (ms : List Mention). ms ++ (mentions_with (slot_role (path_slots around)) table around r.offsets ++ (line_mentions (source_around around) table r.lines ++ (macro_mentions table around r.macros ++ mentions_with name_role table around r.names))))
     (all-none table around r.units none texts)
-    ∙ ap (λ (ms : List Mention). ms ++ (line_mentions (source_around around) table r.lines ++ mentions_with name_role table around r.names)) slots_none
-    ∙ ap (λ (ms : List Mention). ms ++ mentions_with name_role table around r.names) lines_none ∙ names_none in
+    ∙ ap (λ (ms : List Mention). ms ++ (line_mentions (source_around around) table r.lines ++ (macro_mentions table around r.macros ++ mentions_with name_role table around r.names))) slots_none
+    ∙ ap (λ (ms : List Mention). ms ++ (macro_mentions table around r.macros ++ mentions_with name_role table around r.names)) lines_none
+    ∙ ap (λ (ms : List Mention). ms ++ mentions_with name_role table around r.names) (macros-none table around r.macros none macros) ∙ names_none in
     ap (λ (ms : List Mention). new_table (appending m (table_of around table).bytes) (new_texts (appending m (table_of around table).bytes) m ms)) all
     ∙ append-nil (table_of around table).bytes ∙ none

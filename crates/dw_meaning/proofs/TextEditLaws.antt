@@ -434,18 +434,23 @@ pub record OffsetField (table : TextSection) (around : Around) (p : List Cell) :
   pub width : Width
   pub size : length p ≡ width_size width
 
+-- or a field of the start of a line table
+pub record StartField (p : List Cell) : Type 0 where
+  pub plain : IsPlain p
+  pub sized : (length p == 4 || length p == 8) ≡ true
+
 abbrev pub CanMove : Role → Around → List Cell → Type 0
 CanMove fixed around p = ⊤
 CanMove (offset table path) around p = OffsetField table around p
 CanMove inline_path around p = ⊥
-CanMove line_start around p = ⊥
+CanMove line_start around p = StartField p
 
 role-moves : (r : Role) (c : TableChanges) (around : Around) (p : List Cell) → TablesMove c around → CanMove r around p → NamesTextBy r around p
     → Provided r c around p → Becomes r (shift_of c around) p (edited_by r c around p)
 role-moves fixed c around p t can names there = refl
 role-moves (offset table path) c around p t can names there = offset-moves table path c around p can.width t can.plain can.size names there
 role-moves inline_path c around p t can names there = absurd can
-role-moves line_start c around p t can names there = absurd can
+role-moves line_start c around p t can names there = start-moves c around p t can.plain can.sized names
 
 -- the text law, for pieces of roles
 pub roles-changed : {S : Type 0} (role : S → Role) (c : TableChanges) (around : Around) (ts us : List (List ℕ)) (xs : List (Piece S)) (ms ns : List Mention)

@@ -4,13 +4,13 @@ use Rattle.std.specs.Prelude.{◌==◌, ◌&&◌, ◌+◌, if◌then◌else◌, 
 use Rattle.dw_base.specs.AbbreviationTables.{Abbreviation, abbreviation_of}
 use Rattle.dw_base.specs.Cells.{Cell, bytes_of, field_of, offset_of}
 use Rattle.dw_base.specs.LineMeanings.{is_there}
-use Rattle.dw_base.specs.DebugData.{Lasting, EntryPlace, line_table, table_of}
+use Rattle.dw_base.specs.DebugData.{Lasting, EntryPlace, line_table, macro_unit, table_of}
 use Rattle.dw_base.specs.Forests.{AttributeMeaning, Forest, no_entries, entry, Mark, begins, opens, attribute, null, no_mark, followed_by, all_entries, innermost, outer, with_entry}
 use Rattle.dw_base.specs.Forms.{ValueKind, number_of, leb_number, inline_text, text_offset, form_in_front, kind_in}
 use Rattle.dw_base.specs.MappedUnits.{mapped_value, mapped_attribute, mapped_attributes, mapped_forest, mapped_units}
 use Rattle.dw_base.specs.Paths.{PathMap}
 use Rattle.dw_base.specs.Pieces.{Piece}
-use Rattle.dw_base.specs.Roles.{fixed, inline_path, line_start, is_line_start, role_of_kind, role_of_mode, Use, is_path_use, use_of}
+use Rattle.dw_base.specs.Roles.{fixed, inline_path, line_start, is_line_start, is_macro_start, role_of_kind, role_of_mode, Use, is_path_use, use_of}
 use Rattle.dw_base.specs.StringTables.{new_text}
 use Rattle.dw_base.specs.TextChanges.{offset_in}
 use Rattle.dw_base.specs.Numbers.{spelled}
@@ -18,7 +18,7 @@ use Rattle.dw_base.specs.TextIndexes.{slot_of}
 use Rattle.dw_base.specs.Texts.{text, text_in}
 use Rattle.dw_base.specs.UnitMeanings.{head_mark, entry_mark, code_mark, value_mark, mark_by, mark_of, Following, with_mark, following, unit_meanings}
 use Rattle.dw_base.specs.UnitStates.{Mode, at_header, at_code, at_values, at_chosen, stuck, UnitState, code_value, piece_header}
-use Rattle.dw_base.specs.ValueMeanings.{ValueMeaning, string, entry_of, stray, inline, by_offset, found_entry, first_of, global_entry, local_entry, meaning_of_number, meaning_of_leb, by_slot, indexed, number_meaning, leb_meaning, meaning_of_value, line_meaning, table_named}
+use Rattle.dw_base.specs.ValueMeanings.{ValueMeaning, string, entry_of, stray, inline, by_offset, found_entry, first_of, global_entry, local_entry, meaning_of_number, meaning_of_leb, by_slot, indexed, number_meaning, leb_meaning, meaning_of_value, line_meaning, table_named, unit_meant, macro_meaning, plain_meaning}
 use Rattle.dw_base.specs.TextIndexes.{holds_number}
 use Rattle.dw_base.specs.declared.units.UnitHeader.{UnitHeader}
 use Rattle.dw_base.specs.declared.values.Spec.{Spec}
@@ -124,6 +124,22 @@ line-means c p q h = by_table (line_table c.new q) refl h.names
         ap (λ (o : Option ℕ). table_named o (offset_of c.new.lasting.base.order c.new.lines q)) e
         ∙ sym (ap (λ (o : Option ℕ). mapped_value c.map (table_named o (offset_of c.old.lasting.base.order c.old.lines p))) (sym h.says ∙ e))
 
+-- and so is a macro unit: its start stays
+unit-mapped : (m : PathMap) (o : Option ℕ) (f : Field) → unit_meant o f ≡ mapped_value m (unit_meant o f)
+unit-mapped m None f = refl
+unit-mapped m (Some k) f = refl
+
+plain-means : (class : ValueClass) (n : ℕ) (u : Use) (c : Shift) (s : UnitState) (p q : List Cell) → q ≡ p → ValueSlot (number_of class n) (is_path_use u) c s.unit p
+    → plain_meaning c.new s u class n q ≡ mapped_value c.map (plain_meaning c.old s u class n p)
+plain-means class n u c s p q h i = by_unit (is_macro_start u class n)
+  where
+    by_unit : (b : Bool) → (if b then macro_meaning c.new.lasting q else number_meaning c.new s u class q)
+        ≡ mapped_value c.map (if b then macro_meaning c.old.lasting p else number_meaning c.old s u class p)
+    by_unit true =
+        ap (λ (g : Lasting). macro_meaning g q) c.lasting ∙ ap (macro_meaning c.old.lasting) h
+        ∙ unit-mapped c.map (macro_unit c.old.lasting p) (field_of c.old.lasting.base.order p)
+    by_unit false = number-means class n u c s p q h i
+
 -- what a value means after the change: a further form is a clause here
 value-changed : (k : ValueKind) (u : Use) (x : Spec) (c : Shift) (s : UnitState) (p q : List Cell) → Becomes (role_of_kind k u) c p q
     → ValueSlot k (is_path_use u) c s.unit p → meaning_of_value c.new s u x k q ≡ mapped_value c.map (meaning_of_value c.old s u x k p)
@@ -134,9 +150,9 @@ value-changed inline_text u x c s p q h i = inline-changed (is_path_use u) c p q
 value-changed (number_of class n) u x c s p q h i = by_start (is_line_start u class n) h
   where
     by_start : (b : Bool) → Becomes (if b then line_start else fixed) c p q
-        → (if b then line_meaning c.new q else number_meaning c.new s u class q) ≡ mapped_value c.map (if b then line_meaning c.old p else number_meaning c.old s u class p)
+        → (if b then line_meaning c.new q else plain_meaning c.new s u class n q) ≡ mapped_value c.map (if b then line_meaning c.old p else plain_meaning c.old s u class n p)
     by_start true h = line-means c p q h
-    by_start false h = number-means class n u c s p q h i
+    by_start false h = plain-means class n u c s p q h i
 value-changed (leb_number class) u x c s p q h i = leb-means class u c s p q h i
 value-changed k u x c s p q h i = ap (λ (z : List Cell). meaning_of_value c.old s u x k z) h
 

@@ -46,6 +46,7 @@ worked_data pieces abbrevs str line_str = record {
   line_str = record { number = 4; bytes = line_str };
   offsets = no_section;
   lines = no_section;
+  macros = [];
   names = no_section;
 }
 

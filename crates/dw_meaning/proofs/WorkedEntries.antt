@@ -35,6 +35,7 @@ lone_data order info abbrevs str = record {
   line_str = record { number = 0; bytes = [] };
   offsets = no_section;
   lines = no_section;
+  macros = [];
   names = no_section;
 }
 

@@ -29,7 +29,7 @@ use Rattle.dw_base.specs.UnitMeanings.{UnitMeaning, units_of}
 use Rattle.dw_base.specs.UnitStates.{after_code, between}
 use Rattle.dw_base.specs.ValueMeanings.{string, by_offset}
 use Rattle.dw_base.specs.Values.{value_of}
-use Rattle.dw_base.specs.ViewData.{Meaning, NamedBytes, bytes_named, debug_data, located, mapped, other_sections, unit_sections, without_id}
+use Rattle.dw_base.specs.ViewData.{Meaning, NamedBytes, bytes_named, debug_data, located, mapped, other_sections, macro_sections, unit_sections, without_id}
 use Rattle.dw_base.specs.declared.shared.Order.{Order}
 use Rattle.dw_base.specs.declared.shared.Order.TheVariants.{Little, Big}
 use Rattle.dw_base.specs.declared.shared.Width.TheVariants.{W32}
@@ -124,7 +124,7 @@ abbrev pub unnamed : List NamedBytes
 unnamed = record { name = []; bytes = [] } ∷ []
 
 abbrev pub paths_meaning : ℕ → Meaning
-paths_meaning address = record { units = paths_units address paths; slots = []; lines = []; names = []; others = bytes_named unnamed }
+paths_meaning address = record { units = paths_units address paths; slots = []; lines = []; macros = []; names = []; others = bytes_named unnamed }
 
 -- the debug data are read so
 pub one-old_reads : DataReads (old_data Little 8) (old_readings Little 8)
@@ -134,11 +134,15 @@ one-old_reads = record {
   units = (refl, record { chain = chain-sound _ _ (paths_pieces Little 8 0 13) paths-table refl; cells = refl }, tt);
   offsets = none-offsets Little;
   lines = refl;
+  macros = tt;
   names = none-names Little;
   texts = ((tt, (tt, (refl, (refl, tt)))), tt);
   slot_texts = tt;
   name_texts = tt;
   indexes = tt;
+  macro_values = ((tt, (tt, (tt, (tt, tt)))), tt);
+  imports = tt;
+  macro_texts = tt;
   forms = ((refl, (refl, (refl, (refl, tt)))), tt);
 }
 
@@ -149,11 +153,15 @@ one-new_reads = record {
   units = (refl, record { chain = chain-sound _ _ (paths_pieces Little 8 22 43) paths-table refl; cells = refl }, tt);
   offsets = none-offsets Little;
   lines = refl;
+  macros = tt;
   names = none-names Little;
   texts = ((tt, (tt, (refl, (refl, tt)))), tt);
   slot_texts = tt;
   name_texts = tt;
   indexes = tt;
+  macro_values = ((tt, (tt, (tt, (tt, tt)))), tt);
+  imports = tt;
+  macro_texts = tt;
   forms = ((refl, (refl, (refl, (refl, tt)))), tt);
 }
 
@@ -164,11 +172,15 @@ big-old_reads = record {
   units = (refl, record { chain = chain-sound _ _ (paths_pieces Big 4 0 13) paths-table refl; cells = refl }, tt);
   offsets = none-offsets Big;
   lines = refl;
+  macros = tt;
   names = none-names Big;
   texts = ((tt, (tt, (refl, (refl, tt)))), tt);
   slot_texts = tt;
   name_texts = tt;
   indexes = tt;
+  macro_values = ((tt, (tt, (tt, (tt, tt)))), tt);
+  imports = tt;
+  macro_texts = tt;
   forms = ((refl, (refl, (refl, (refl, tt)))), tt);
 }
 
@@ -179,11 +191,15 @@ big-new_reads = record {
   units = (refl, record { chain = chain-sound _ _ (paths_pieces Big 4 22 43) paths-table refl; cells = refl }, tt);
   offsets = none-offsets Big;
   lines = refl;
+  macros = tt;
   names = none-names Big;
   texts = ((tt, (tt, (refl, (refl, tt)))), tt);
   slot_texts = tt;
   name_texts = tt;
   indexes = tt;
+  macro_values = ((tt, (tt, (tt, (tt, tt)))), tt);
+  imports = tt;
+  macro_texts = tt;
   forms = ((refl, (refl, (refl, (refl, tt)))), tt);
 }
 
@@ -207,13 +223,13 @@ one_unit_out =
 pub one_unit-data : file_data one_unit ≡ old_data Little 8
 unfolding spelled e_type e_phnum e_phoff e_phentsize e_shoff e_shentsize e_shnum e_shstrndx class_of order_of nth_section section_at section_count
     name_index name_table section_name contents_of contents_at text_in ends_in debug_section is_listed view_of view_section section_after
-    section_named section_bytes debug_data located unit_sections
+    section_named section_bytes debug_data located unit_sections macro_sections
 one_unit-data = refl
 
 pub one_unit_out-data : file_data one_unit_out ≡ new_data Little 8
 unfolding spelled e_type e_phnum e_phoff e_phentsize e_shoff e_shentsize e_shnum e_shstrndx class_of order_of nth_section section_at section_count
     name_index name_table section_name contents_of contents_at text_in ends_in debug_section is_listed view_of view_section section_after
-    section_named section_bytes debug_data located unit_sections
+    section_named section_bytes debug_data located unit_sections macro_sections
 one_unit_out-data = refl
 
 pub one_unit-reads : FileReads one_unit (old_readings Little 8)
@@ -272,7 +288,7 @@ pub one_unit-means : Means one_unit (paths_meaning 8)
 one_unit-means = record {
   readings = old_readings Little 8;
   reads = one_unit-reads;
-  says = meaning-is one_unit (old_data Little 8) (old_readings Little 8) (paths_units 8 paths) unnamed one_unit-data one_unit-units one_unit-others refl refl refl;
+  says = meaning-is one_unit (old_data Little 8) (old_readings Little 8) (paths_units 8 paths) unnamed one_unit-data one_unit-units one_unit-others refl refl refl refl;
 }
 
 pub one_unit_out-means : Means one_unit_out (mapped worked_map (paths_meaning 8))
@@ -280,7 +296,7 @@ unfolding lies_under mapped_path
 one_unit_out-means = record {
   readings = new_readings Little 8;
   reads = one_unit_out-reads;
-  says = meaning-is one_unit_out (new_data Little 8) (new_readings Little 8) (paths_units 8 mapped_paths) unnamed one_unit_out-data one_unit_out-units one_unit_out-others refl refl refl;
+  says = meaning-is one_unit_out (new_data Little 8) (new_readings Little 8) (paths_units 8 mapped_paths) unnamed one_unit_out-data one_unit_out-units one_unit_out-others refl refl refl refl;
 }
 
 pub one_unit-kept : MeaningKept worked_map one_unit one_unit_out
@@ -312,13 +328,13 @@ of_32_bits_out =
 pub of_32_bits-data : file_data of_32_bits ≡ old_data Big 4
 unfolding spelled e_type e_phnum e_phoff e_phentsize e_shoff e_shentsize e_shnum e_shstrndx class_of order_of nth_section section_at section_count
     name_index name_table section_name contents_of contents_at text_in ends_in debug_section is_listed view_of view_section section_after
-    section_named section_bytes debug_data located unit_sections
+    section_named section_bytes debug_data located unit_sections macro_sections
 of_32_bits-data = refl
 
 pub of_32_bits_out-data : file_data of_32_bits_out ≡ new_data Big 4
 unfolding spelled e_type e_phnum e_phoff e_phentsize e_shoff e_shentsize e_shnum e_shstrndx class_of order_of nth_section section_at section_count
     name_index name_table section_name contents_of contents_at text_in ends_in debug_section is_listed view_of view_section section_after
-    section_named section_bytes debug_data located unit_sections
+    section_named section_bytes debug_data located unit_sections macro_sections
 of_32_bits_out-data = refl
 
 pub of_32_bits-reads : FileReads of_32_bits (old_readings Big 4)
@@ -377,7 +393,7 @@ pub of_32_bits-means : Means of_32_bits (paths_meaning 4)
 of_32_bits-means = record {
   readings = old_readings Big 4;
   reads = of_32_bits-reads;
-  says = meaning-is of_32_bits (old_data Big 4) (old_readings Big 4) (paths_units 4 paths) unnamed of_32_bits-data of_32_bits-units of_32_bits-others refl refl refl;
+  says = meaning-is of_32_bits (old_data Big 4) (old_readings Big 4) (paths_units 4 paths) unnamed of_32_bits-data of_32_bits-units of_32_bits-others refl refl refl refl;
 }
 
 pub of_32_bits_out-means : Means of_32_bits_out (mapped worked_map (paths_meaning 4))
@@ -385,7 +401,7 @@ unfolding lies_under mapped_path
 of_32_bits_out-means = record {
   readings = new_readings Big 4;
   reads = of_32_bits_out-reads;
-  says = meaning-is of_32_bits_out (new_data Big 4) (new_readings Big 4) (paths_units 4 mapped_paths) unnamed of_32_bits_out-data of_32_bits_out-units of_32_bits_out-others refl refl refl;
+  says = meaning-is of_32_bits_out (new_data Big 4) (new_readings Big 4) (paths_units 4 mapped_paths) unnamed of_32_bits_out-data of_32_bits_out-units of_32_bits_out-others refl refl refl refl;
 }
 
 pub of_32_bits-kept : MeaningKept worked_map of_32_bits of_32_bits_out

@@ -37,29 +37,29 @@ abbrev address_set : List ℕ
 address_set = 0 ∷ 9 ∷ 2 ∷ 0 ∷ 16 ∷ 0 ∷ 0 ∷ 0 ∷ 0 ∷ 0 ∷ 0 ∷ []
 
 -- a table of version 4, whose directory stands in it
-abbrev old_table : ℕ → ℕ → List ℕ → List ℕ
+abbrev pub old_table : ℕ → ℕ → List ℕ → List ℕ
 old_table size front dir =
     word size ++ half 4 ++ word front ++ line_front ++ dir ++ (0 ∷ 0 ∷ []) ++ codes "u0.c\0" ++ (0 ∷ 0 ∷ 0 ∷ 0 ∷ [])
     ++ address_set ++ (33 ∷ 33 ∷ 0 ∷ 1 ∷ 1 ∷ [])
 
 -- and one of version 5, whose paths stand in `.debug_line_str`
-abbrev new_table5 : ℕ → List ℕ
+abbrev pub new_table5 : ℕ → List ℕ
 new_table5 dir =
     word 60 ++ half 5 ++ (8 ∷ 0 ∷ []) ++ word 37 ++ line_front ++ (1 ∷ 1 ∷ 31 ∷ 1 ∷ []) ++ word dir ++ (2 ∷ 1 ∷ 31 ∷ 2 ∷ 11 ∷ 1 ∷ []) ++ word 9
     ++ (0 ∷ []) ++ address_set ++ (33 ∷ 0 ∷ 1 ∷ 1 ∷ [])
 
-abbrev two_tables : List ℕ
+abbrev pub two_tables : List ℕ
 two_tables = old_table 63 41 (codes "/build/p/inc") ++ new_table5 0
 
 -- a unit that names the second of them
-abbrev line_pieces : ℕ → ℕ → List (List ℕ)
+abbrev pub line_pieces : ℕ → ℕ → List (List ℕ)
 line_pieces dir start =
     (word 21 ++ half 5 ++ (1 ∷ 8 ∷ []) ++ word 0) ∷ (1 ∷ []) ∷ word 9 ∷ word dir ∷ word start ∷ []
 
 abbrev line_abbrevs : List ℕ
 line_abbrevs = 1 ∷ 17 ∷ 0 ∷ 3 ∷ 31 ∷ 27 ∷ 31 ∷ 16 ∷ 23 ∷ 0 ∷ 0 ∷ 0 ∷ []
 
-abbrev lines_data : DebugData
+abbrev pub lines_data : DebugData
 lines_data = record {
   base = record { order = Little; abbrevs = record { number = 2; bytes = line_abbrevs } };
   units = record { number = 1; kind = in_info; contents = plain_cells (all_bytes (line_pieces 0 67)) } ∷ [];
@@ -67,6 +67,7 @@ lines_data = record {
   line_str = record { number = 3; bytes = codes "/build/p\0u0.c\0" };
   offsets = no_section;
   lines = record { number = 4; contents = plain_cells two_tables };
+  macros = [];
   names = no_section;
 }
 
@@ -90,7 +91,7 @@ header_or None = record {
   lists = 0;
 }
 
-abbrev lines_readings : DataReadings
+abbrev pub lines_readings : DataReadings
 lines_readings = record {
   units = record { number = 1; pieces = pieces_from lines_data.base (before_unit 1 in_info 25 0 0) (line_pieces 0 67) } ∷ [];
   offsets = [];
@@ -108,10 +109,11 @@ lines_readings = record {
         defined = [];
         behind = 116;
       } ∷ [];
+  macros = [];
   names = [];
 }
 
-abbrev lines_map : PathMap
+abbrev pub lines_map : PathMap
 lines_map = record { base = codes "/build/p"; dest = codes "/usr/src/debug/p" }
 
 -- the unit names table 1

@@ -22,7 +22,7 @@ use Rattle.dw_base.specs.UnitMeanings.{UnitMeaning, units_of}
 use Rattle.dw_base.specs.UnitStates.{after_code, between}
 use Rattle.dw_base.specs.ValueMeanings.{ValueMeaning, string}
 use Rattle.dw_base.specs.Values.{value_of}
-use Rattle.dw_base.specs.ViewData.{Meaning, NamedBytes, bytes_named, debug_data, located, mapped, other_sections, unit_sections, without_id}
+use Rattle.dw_base.specs.ViewData.{Meaning, NamedBytes, bytes_named, debug_data, located, mapped, other_sections, macro_sections, unit_sections, without_id}
 use Rattle.dw_base.specs.declared.shared.Order.TheVariants.{Little}
 use Rattle.dw_meaning.specs.DataOutput.{DataReads}
 use Rattle.dw_meaning.specs.FileMeanings.{MeaningKept, Means, file_data}
@@ -76,7 +76,7 @@ unmapped_directory = changed 80 (13 ∷ []) one_unit_out
 unmapped_directory-data : file_data unmapped_directory ≡ data_in 1 22 13 all_texts
 unfolding spelled e_type e_phnum e_phoff e_phentsize e_shoff e_shentsize e_shnum e_shstrndx class_of order_of nth_section section_at section_count
     name_index name_table section_name contents_of contents_at text_in ends_in debug_section is_listed view_of view_section section_after
-    section_named section_bytes debug_data located unit_sections padding
+    section_named section_bytes debug_data located unit_sections macro_sections padding
 unmapped_directory-data = refl
 
 unmapped_directory-reads : DataReads (data_in 1 22 13 all_texts) (readings_in 1 22 13 all_texts)
@@ -86,11 +86,15 @@ unmapped_directory-reads = record {
   units = (refl, record { chain = chain-sound _ _ (paths_pieces Little 8 22 13) paths-table refl; cells = refl }, tt);
   offsets = none-offsets Little;
   lines = refl;
+  macros = tt;
   names = none-names Little;
   texts = ((tt, (tt, (refl, (refl, tt)))), tt);
   slot_texts = tt;
   name_texts = tt;
   indexes = tt;
+  macro_values = ((tt, (tt, (tt, (tt, tt)))), tt);
+  imports = tt;
+  macro_texts = tt;
   forms = ((refl, (refl, (refl, (refl, tt)))), tt);
 }
 
@@ -107,13 +111,13 @@ unfolding spelled e_type e_phnum e_phoff e_phentsize e_shoff e_shentsize e_shnum
     is_id_note descriptor_at padding
 unmapped_directory-others = refl
 
-unmapped_directory-means : Means unmapped_directory (record { units = units_in 1 unmapped_directory_attributes; slots = []; lines = []; names = []; others = bytes_named unnamed })
+unmapped_directory-means : Means unmapped_directory (record { units = units_in 1 unmapped_directory_attributes; slots = []; lines = []; macros = []; names = []; others = bytes_named unnamed })
 unfolding spelled e_type e_phnum e_phoff e_phentsize e_shoff e_shentsize e_shnum e_shstrndx class_of order_of nth_section section_at section_count
     name_index name_table section_name contents_of contents_at text_in ends_in debug_section is_listed elf_test names_test segments_of nth_segment segment_at sections_of padding
 unmapped_directory-means = record {
   readings = (readings_in 1 22 13 all_texts);
   reads = file-reads unmapped_directory (data_in 1 22 13 all_texts) (readings_in 1 22 13 all_texts) unmapped_directory-data refl refl refl unmapped_directory-reads;
-  says = meaning-is unmapped_directory (data_in 1 22 13 all_texts) (readings_in 1 22 13 all_texts) (units_in 1 unmapped_directory_attributes) unnamed unmapped_directory-data unmapped_directory-units unmapped_directory-others refl refl refl;
+  says = meaning-is unmapped_directory (data_in 1 22 13 all_texts) (readings_in 1 22 13 all_texts) (units_in 1 unmapped_directory_attributes) unnamed unmapped_directory-data unmapped_directory-units unmapped_directory-others refl refl refl refl;
 }
 
 pub unmapped_directory-not_kept : MeaningKept worked_map one_unit unmapped_directory → ⊥
@@ -130,7 +134,7 @@ other_name = changed 133 (98 ∷ []) one_unit_out
 other_name-data : file_data other_name ≡ data_in 1 22 43 other_texts
 unfolding spelled e_type e_phnum e_phoff e_phentsize e_shoff e_shentsize e_shnum e_shstrndx class_of order_of nth_section section_at section_count
     name_index name_table section_name contents_of contents_at text_in ends_in debug_section is_listed view_of view_section section_after
-    section_named section_bytes debug_data located unit_sections padding
+    section_named section_bytes debug_data located unit_sections macro_sections padding
 other_name-data = refl
 
 other_name-reads : DataReads (data_in 1 22 43 other_texts) (readings_in 1 22 43 other_texts)
@@ -140,11 +144,15 @@ other_name-reads = record {
   units = (refl, record { chain = chain-sound _ _ (paths_pieces Little 8 22 43) paths-table refl; cells = refl }, tt);
   offsets = none-offsets Little;
   lines = refl;
+  macros = tt;
   names = none-names Little;
   texts = ((tt, (tt, (refl, (refl, tt)))), tt);
   slot_texts = tt;
   name_texts = tt;
   indexes = tt;
+  macro_values = ((tt, (tt, (tt, (tt, tt)))), tt);
+  imports = tt;
+  macro_texts = tt;
   forms = ((refl, (refl, (refl, (refl, tt)))), tt);
 }
 
@@ -161,13 +169,13 @@ unfolding spelled e_type e_phnum e_phoff e_phentsize e_shoff e_shentsize e_shnum
     is_id_note descriptor_at padding
 other_name-others = refl
 
-other_name-means : Means other_name (record { units = units_in 1 other_name_attributes; slots = []; lines = []; names = []; others = bytes_named unnamed })
+other_name-means : Means other_name (record { units = units_in 1 other_name_attributes; slots = []; lines = []; macros = []; names = []; others = bytes_named unnamed })
 unfolding spelled e_type e_phnum e_phoff e_phentsize e_shoff e_shentsize e_shnum e_shstrndx class_of order_of nth_section section_at section_count
     name_index name_table section_name contents_of contents_at text_in ends_in debug_section is_listed elf_test names_test segments_of nth_segment segment_at sections_of padding
 other_name-means = record {
   readings = (readings_in 1 22 43 other_texts);
   reads = file-reads other_name (data_in 1 22 43 other_texts) (readings_in 1 22 43 other_texts) other_name-data refl refl refl other_name-reads;
-  says = meaning-is other_name (data_in 1 22 43 other_texts) (readings_in 1 22 43 other_texts) (units_in 1 other_name_attributes) unnamed other_name-data other_name-units other_name-others refl refl refl;
+  says = meaning-is other_name (data_in 1 22 43 other_texts) (readings_in 1 22 43 other_texts) (units_in 1 other_name_attributes) unnamed other_name-data other_name-units other_name-others refl refl refl refl;
 }
 
 pub other_name-not_kept : MeaningKept worked_map one_unit other_name → ⊥
@@ -186,7 +194,7 @@ other_named =
 other_comment-data : file_data other_comment ≡ data_in 2 22 43 all_texts
 unfolding spelled e_type e_phnum e_phoff e_phentsize e_shoff e_shentsize e_shnum e_shstrndx class_of order_of nth_section section_at section_count
     name_index name_table section_name contents_of contents_at text_in ends_in debug_section is_listed view_of view_section section_after
-    section_named section_bytes debug_data located unit_sections padding
+    section_named section_bytes debug_data located unit_sections macro_sections padding
 other_comment-data = refl
 
 other_comment-others : other_sections (without_id (view_of other_comment).id (view_of other_comment).sections) ≡ other_named
@@ -195,13 +203,13 @@ unfolding spelled e_type e_phnum e_phoff e_phentsize e_shoff e_shentsize e_shnum
     is_id_note descriptor_at padding
 other_comment-others = refl
 
-other_comment-means : Means other_comment (record { units = units_in 2 mapped_paths; slots = []; lines = []; names = []; others = bytes_named other_named })
+other_comment-means : Means other_comment (record { units = units_in 2 mapped_paths; slots = []; lines = []; macros = []; names = []; others = bytes_named other_named })
 unfolding spelled e_type e_phnum e_phoff e_phentsize e_shoff e_shentsize e_shnum e_shstrndx class_of order_of nth_section section_at section_count
     name_index name_table section_name contents_of contents_at text_in ends_in debug_section is_listed elf_test names_test segments_of nth_segment segment_at sections_of padding
 other_comment-means = record {
   readings = readings_in 2 22 43 all_texts;
   reads = file-reads other_comment (data_in 2 22 43 all_texts) (readings_in 2 22 43 all_texts) other_comment-data refl refl refl with_id-new_reads;
-  says = meaning-is other_comment (data_in 2 22 43 all_texts) (readings_in 2 22 43 all_texts) (units_in 2 mapped_paths) other_named other_comment-data with_id-units.1 other_comment-others refl refl refl;
+  says = meaning-is other_comment (data_in 2 22 43 all_texts) (readings_in 2 22 43 all_texts) (units_in 2 mapped_paths) other_named other_comment-data with_id-units.1 other_comment-others refl refl refl refl;
 }
 
 pub other_comment-not_kept : MeaningKept worked_map with_id other_comment → ⊥

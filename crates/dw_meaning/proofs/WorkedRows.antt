@@ -29,7 +29,7 @@ use Rattle.dw_base.specs.UnitFails.{unit as unit_fails, no_header, past as unit_
 use Rattle.dw_base.specs.UnitHeaders.{UnitSection, unit_header, in_info, no_units, more_units}
 use Rattle.dw_base.specs.UnitStates.{after_code, between}
 use Rattle.dw_base.specs.Values.{value_of, value_at}
-use Rattle.dw_base.specs.ViewData.{Meaning, debug_data, located, unit_sections}
+use Rattle.dw_base.specs.ViewData.{Meaning, debug_data, located, macro_sections, unit_sections}
 use Rattle.dw_base.specs.declared.fault.Kind.TheVariants.{Header, Range, Fixed, FileType, Unbuilt, Supplementary, UnknownDebug, Twice, Compressed, Unit as UnitKind, Entry, StringOffset}
 use Rattle.dw_base.specs.declared.fault.Refusal.{Refusal}
 use Rattle.dw_base.specs.declared.shared.Order.{Order}
@@ -295,7 +295,7 @@ data-of :
     × (file_data unended_text ≡ with_info Little (info_of 16 4 1 22))
 unfolding spelled e_type e_phnum e_phoff e_phentsize e_shoff e_shentsize e_shnum e_shstrndx class_of order_of nth_section section_at section_count
     name_index name_table section_name contents_of contents_at text_in ends_in debug_section is_listed view_of view_section section_after
-    section_named section_bytes debug_data located unit_sections
+    section_named section_bytes debug_data located unit_sections macro_sections
 data-of = (refl, refl, refl, refl, refl, refl, refl)
 
 data_fails : (b : List ℕ) (d : DebugData) (r : Refusal) → file_data b ≡ d → DataFails d r → DataFails (file_data b) r
@@ -332,7 +332,7 @@ all_stays = changed 432 (2 ∷ []) one_unit
 all_stays-data : file_data all_stays ≡ old_data Little 8
 unfolding spelled e_type e_phnum e_phoff e_phentsize e_shoff e_shentsize e_shnum e_shstrndx class_of order_of nth_section section_at section_count
     name_index name_table section_name contents_of contents_at text_in ends_in debug_section is_listed view_of view_section section_after
-    section_named section_bytes debug_data located unit_sections
+    section_named section_bytes debug_data located unit_sections macro_sections
 all_stays-data = refl
 
 all_stays-reads : FileReads all_stays (old_readings Little 8)
@@ -374,7 +374,7 @@ cut_by_segment = changed 96 (150 ∷ []) with_a_segment
 places-data : (file_data in_front ≡ data_in 3 0 13 path_texts) × (file_data cut_by_segment ≡ data_in 3 0 13 path_texts)
 unfolding spelled e_type e_phnum e_phoff e_phentsize e_shoff e_shentsize e_shnum e_shstrndx class_of order_of nth_section section_at section_count
     name_index name_table section_name contents_of contents_at text_in ends_in debug_section is_listed view_of view_section section_after
-    section_named section_bytes debug_data located unit_sections padding
+    section_named section_bytes debug_data located unit_sections macro_sections padding
 places-data = (refl, refl)
 
 places-reads : FileReads in_front (readings_in 3 0 13 path_texts) × FileReads cut_by_segment (readings_in 3 0 13 path_texts)

@@ -25,7 +25,7 @@ use Rattle.dw_base.specs.UnitHeaders.{unit_header, in_info}
 use Rattle.dw_base.specs.UnitMeanings.{UnitMeaning, units_of}
 use Rattle.dw_base.specs.UnitStates.{after_code, before_unit, between}
 use Rattle.dw_base.specs.Values.{value_of}
-use Rattle.dw_base.specs.ViewData.{Meaning, NamedBytes, bytes_named, debug_data, located, mapped, other_sections, unit_sections, without_id}
+use Rattle.dw_base.specs.ViewData.{Meaning, NamedBytes, bytes_named, debug_data, located, mapped, other_sections, macro_sections, unit_sections, without_id}
 use Rattle.dw_base.specs.declared.shared.Order.TheVariants.{Little}
 use Rattle.dw_meaning.specs.DataOutput.{Body, DataReads, body_in, new_bodies, table_change}
 use Rattle.dw_meaning.specs.FileMeanings.{FileReads, IsOutput, MeaningKept, Means, file_data}
@@ -45,6 +45,7 @@ data_in n name directory str = record {
   line_str = record { number = 0; bytes = [] };
   offsets = no_section;
   lines = no_section;
+  macros = [];
   names = no_section;
 }
 
@@ -64,7 +65,7 @@ units_in n attributes = record (unit_of 8 (entry 17 attributes no_entries no_ent
 pub with_id-data : (file_data with_id ≡ data_in 2 0 13 path_texts) × (file_data with_id_out ≡ data_in 2 22 43 all_texts)
 unfolding spelled e_type e_phnum e_phoff e_phentsize e_shoff e_shentsize e_shnum e_shstrndx class_of order_of nth_section section_at section_count
     name_index name_table section_name contents_of contents_at text_in ends_in debug_section is_listed view_of view_section section_after
-    section_named section_bytes debug_data located unit_sections padding
+    section_named section_bytes debug_data located unit_sections macro_sections padding
 with_id-data = (refl, refl)
 
 with_id-old_reads : DataReads (data_in 2 0 13 path_texts) (readings_in 2 0 13 path_texts)
@@ -74,11 +75,15 @@ with_id-old_reads = record {
   units = (refl, record { chain = chain-sound _ _ (paths_pieces Little 8 0 13) paths-table refl; cells = refl }, tt);
   offsets = none-offsets Little;
   lines = refl;
+  macros = tt;
   names = none-names Little;
   texts = ((tt, (tt, (refl, (refl, tt)))), tt);
   slot_texts = tt;
   name_texts = tt;
   indexes = tt;
+  macro_values = ((tt, (tt, (tt, (tt, tt)))), tt);
+  imports = tt;
+  macro_texts = tt;
   forms = ((refl, (refl, (refl, (refl, tt)))), tt);
 }
 
@@ -89,11 +94,15 @@ with_id-new_reads = record {
   units = (refl, record { chain = chain-sound _ _ (paths_pieces Little 8 22 43) paths-table refl; cells = refl }, tt);
   offsets = none-offsets Little;
   lines = refl;
+  macros = tt;
   names = none-names Little;
   texts = ((tt, (tt, (refl, (refl, tt)))), tt);
   slot_texts = tt;
   name_texts = tt;
   indexes = tt;
+  macro_values = ((tt, (tt, (tt, (tt, tt)))), tt);
+  imports = tt;
+  macro_texts = tt;
   forms = ((refl, (refl, (refl, (refl, tt)))), tt);
 }
 
@@ -153,13 +162,13 @@ unfolding spelled e_type e_phnum e_phoff e_phentsize e_shoff e_shentsize e_shnum
 with_id-others = (refl, refl)
 
 abbrev pub with_id_meaning : Meaning
-with_id_meaning = record { units = units_in 2 paths; slots = []; lines = []; names = []; others = bytes_named with_id_named }
+with_id_meaning = record { units = units_in 2 paths; slots = []; lines = []; macros = []; names = []; others = bytes_named with_id_named }
 
 pub with_id-means : Means with_id with_id_meaning
 with_id-means = record {
   readings = (readings_in 2 0 13 path_texts);
   reads = with_id-reads;
-  says = meaning-is with_id (data_in 2 0 13 path_texts) (readings_in 2 0 13 path_texts) (units_in 2 paths) with_id_named with_id-data.0 with_id-units.0 with_id-others.0 refl refl refl;
+  says = meaning-is with_id (data_in 2 0 13 path_texts) (readings_in 2 0 13 path_texts) (units_in 2 paths) with_id_named with_id-data.0 with_id-units.0 with_id-others.0 refl refl refl refl;
 }
 
 pub with_id_out-means : Means with_id_out (mapped worked_map with_id_meaning)
@@ -167,7 +176,7 @@ unfolding lies_under mapped_path
 with_id_out-means = record {
   readings = (readings_in 2 22 43 all_texts);
   reads = with_id_out-reads;
-  says = meaning-is with_id_out (data_in 2 22 43 all_texts) (readings_in 2 22 43 all_texts) (units_in 2 mapped_paths) with_id_named with_id-data.1 with_id-units.1 with_id-others.1 refl refl refl;
+  says = meaning-is with_id_out (data_in 2 22 43 all_texts) (readings_in 2 22 43 all_texts) (units_in 2 mapped_paths) with_id_named with_id-data.1 with_id-units.1 with_id-others.1 refl refl refl refl;
 }
 
 pub with_id-kept : MeaningKept worked_map with_id with_id_out
@@ -222,7 +231,7 @@ with_a_segment_out =
 pub with_a_segment-data : (file_data with_a_segment ≡ data_in 3 0 13 path_texts) × (file_data with_a_segment_out ≡ data_in 3 22 43 all_texts)
 unfolding spelled e_type e_phnum e_phoff e_phentsize e_shoff e_shentsize e_shnum e_shstrndx class_of order_of nth_section section_at section_count
     name_index name_table section_name contents_of contents_at text_in ends_in debug_section is_listed view_of view_section section_after
-    section_named section_bytes debug_data located unit_sections padding
+    section_named section_bytes debug_data located unit_sections macro_sections padding
 with_a_segment-data = (refl, refl)
 
 pub with_a_segment-old_reads : DataReads (data_in 3 0 13 path_texts) (readings_in 3 0 13 path_texts)
@@ -232,11 +241,15 @@ with_a_segment-old_reads = record {
   units = (refl, record { chain = chain-sound _ _ (paths_pieces Little 8 0 13) paths-table refl; cells = refl }, tt);
   offsets = none-offsets Little;
   lines = refl;
+  macros = tt;
   names = none-names Little;
   texts = ((tt, (tt, (refl, (refl, tt)))), tt);
   slot_texts = tt;
   name_texts = tt;
   indexes = tt;
+  macro_values = ((tt, (tt, (tt, (tt, tt)))), tt);
+  imports = tt;
+  macro_texts = tt;
   forms = ((refl, (refl, (refl, (refl, tt)))), tt);
 }
 
@@ -247,11 +260,15 @@ with_a_segment-new_reads = record {
   units = (refl, record { chain = chain-sound _ _ (paths_pieces Little 8 22 43) paths-table refl; cells = refl }, tt);
   offsets = none-offsets Little;
   lines = refl;
+  macros = tt;
   names = none-names Little;
   texts = ((tt, (tt, (refl, (refl, tt)))), tt);
   slot_texts = tt;
   name_texts = tt;
   indexes = tt;
+  macro_values = ((tt, (tt, (tt, (tt, tt)))), tt);
+  imports = tt;
+  macro_texts = tt;
   forms = ((refl, (refl, (refl, (refl, tt)))), tt);
 }
 
@@ -299,13 +316,13 @@ unfolding spelled e_type e_phnum e_phoff e_phentsize e_shoff e_shentsize e_shnum
 with_a_segment-others = (refl, refl)
 
 abbrev pub with_a_segment_meaning : Meaning
-with_a_segment_meaning = record { units = units_in 3 paths; slots = []; lines = []; names = []; others = bytes_named unnamed }
+with_a_segment_meaning = record { units = units_in 3 paths; slots = []; lines = []; macros = []; names = []; others = bytes_named unnamed }
 
 pub with_a_segment-means : Means with_a_segment with_a_segment_meaning
 with_a_segment-means = record {
   readings = (readings_in 3 0 13 path_texts);
   reads = with_a_segment-reads;
-  says = meaning-is with_a_segment (data_in 3 0 13 path_texts) (readings_in 3 0 13 path_texts) (units_in 3 paths) unnamed with_a_segment-data.0 with_a_segment-units.0 with_a_segment-others.0 refl refl refl;
+  says = meaning-is with_a_segment (data_in 3 0 13 path_texts) (readings_in 3 0 13 path_texts) (units_in 3 paths) unnamed with_a_segment-data.0 with_a_segment-units.0 with_a_segment-others.0 refl refl refl refl;
 }
 
 pub with_a_segment_out-means : Means with_a_segment_out (mapped worked_map with_a_segment_meaning)
@@ -313,7 +330,7 @@ unfolding lies_under mapped_path
 with_a_segment_out-means = record {
   readings = (readings_in 3 22 43 all_texts);
   reads = with_a_segment_out-reads;
-  says = meaning-is with_a_segment_out (data_in 3 22 43 all_texts) (readings_in 3 22 43 all_texts) (units_in 3 mapped_paths) unnamed with_a_segment-data.1 with_a_segment-units.1 with_a_segment-others.1 refl refl refl;
+  says = meaning-is with_a_segment_out (data_in 3 22 43 all_texts) (readings_in 3 22 43 all_texts) (units_in 3 mapped_paths) unnamed with_a_segment-data.1 with_a_segment-units.1 with_a_segment-others.1 refl refl refl refl;
 }
 
 pub with_a_segment-kept : MeaningKept worked_map with_a_segment with_a_segment_out

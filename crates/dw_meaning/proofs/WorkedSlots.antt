@@ -68,6 +68,7 @@ slot_data units offsets names = record {
   line_str = record { number = 0; bytes = [] };
   offsets = record { number = 4; contents = plain_cells (all_bytes offsets) };
   lines = no_section;
+  macros = [];
   names = record { number = 5; contents = plain_cells (all_bytes names) };
 }
 
@@ -76,6 +77,7 @@ slot_readings d units offsets names = record {
   units = record { number = 1; pieces = pieces_from d.base (before_unit 1 in_info 21 0 0) units } ∷ [];
   offsets = offsets_from Little (offsets_at (length (all_bytes offsets)) 0 0 at_contribution) offsets;
   lines = [];
+  macros = [];
   names = names_from Little (names_at (length (all_bytes names)) 0 at_table) names;
 }
 
@@ -185,6 +187,7 @@ wide_data = record {
   line_str = record { number = 0; bytes = [] };
   offsets = record { number = 4; contents = plain_cells (all_bytes (wide_slots 0)) };
   lines = no_section;
+  macros = [];
   names = no_section;
 }
 
@@ -193,6 +196,7 @@ wide_readings = record {
   units = record { number = 1; pieces = pieces_from wide_data.base (before_unit 1 in_info 20 0 0) wide_units } ∷ [];
   offsets = offsets_from Little (offsets_at 36 0 0 at_contribution) (wide_slots 0);
   lines = [];
+  macros = [];
   names = [];
 }
 

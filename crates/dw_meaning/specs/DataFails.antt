@@ -11,11 +11,12 @@ use Rattle.dw_base.specs.IndexFails.{IndexFails, SlotFails}
 use Rattle.dw_base.specs.InlinePaths.{inline_fits}
 use Rattle.dw_base.specs.LineFails.{LineFails}
 use Rattle.dw_base.specs.LineReadings.{LineReading, TablesTo, AreTables}
+use Rattle.dw_base.specs.MacroReadings.{ReadsAllMacros}
 use Rattle.dw_base.specs.OffsetPieces.{ReadsOffsets}
 use Rattle.dw_base.specs.Paths.{PathMap}
 use Rattle.dw_base.specs.Refusals.{at}
 use Rattle.dw_base.specs.Roles.{is_path}
-use Rattle.dw_base.specs.TableStarts.{StrayFails}
+use Rattle.dw_base.specs.TableStarts.{StrayFails, MacroStrayFails}
 use Rattle.dw_base.specs.Texts.{text_in, ends_in}
 use Rattle.dw_base.specs.UnitFails.{UnitFails}
 use Rattle.dw_base.specs.UnitHeaders.{UnitSection}
@@ -69,14 +70,17 @@ pub data LinesFail (d : DebugData) : Refusal → Type 0 where
   line_table : (before : List LineReading) (start : ℕ) {r : Refusal} → TablesTo (line_source d) 0 before start → start < length (line_source d).bytes
       → LineFails (line_source d) start r → LinesFail d r
 
--- the units and the line tables can be read: they are these
+-- the units, the line tables and the macro units can be read: they are these
 pub record StartsRead (d : DebugData) (r : DataReadings) : Type 0 where
   pub units : ReadsAll d.base 0 d.units r.units
   pub lines : AreTables (line_source d) r.lines
+  pub macros : ReadsAllMacros d.base.order d.macros r.macros
 
--- the row of values that say where line tables start
+-- the rows of what says where line tables and macro units start
 pub data StartsFail (d : DebugData) : Refusal → Type 0 where
   stray : (readings : DataReadings) {r : Refusal} → StartsRead d readings → StrayFails (around_of d readings) readings.units r → StartsFail d r
+  macro_stray : (readings : DataReadings) {r : Refusal} → StartsRead d readings → MacroStrayFails (around_of d readings) readings.macros r
+      → StartsFail d r
 
 -- the row of paths that stand in their values, at the text
 pub data InlineFails (m : PathMap) (d : DebugData) : Refusal → Type 0 where

@@ -1,6 +1,6 @@
 -- The debug data that an edit writes: each field of a path's text names the mapped text, that of a slot too, each path that stands in
 -- its value is mapped there, and all else stays; and when debug data can be read and mapped.
-use Rattle.std.specs.Prelude.{ℕ, ◌==◌, if◌then◌else◌, List, [], ◌∷◌, ⊤}
+use Rattle.std.specs.Prelude.{ℕ, ◌==◌, if◌then◌else◌, List, [], ◌∷◌, ◌++◌, ⊤}
 use Rattle.dw_base.specs.Cells.{Cell, Located, bytes_of}
 use Rattle.dw_base.specs.DebugData.{DebugData, DataReadings, Around, around_of, indexing_of, line_source, path_slots, source_around, table_of, ReadsAll}
 use Rattle.dw_base.specs.Forms.{TextSection, in_str, in_line_str}
@@ -8,29 +8,35 @@ use Rattle.dw_base.specs.IndexFails.{SlotFits}
 use Rattle.dw_base.specs.LineChanges.{line_place, lines_after}
 use Rattle.dw_base.specs.LineReadings.{LineReading, AreTables, all_lines, table_read}
 use Rattle.dw_base.specs.LineWriteFails.{CanWrite}
+use Rattle.dw_base.specs.MacroReadings.{MacroReading, ReadsAllMacros, EachMacro}
 use Rattle.dw_base.specs.NamePieces.{NameState, ReadsNames}
 use Rattle.dw_base.specs.OffsetPieces.{OffsetState, ReadsOffsets}
 use Rattle.dw_base.specs.Paths.{PathMap}
 use Rattle.dw_base.specs.Pieces.{Piece, EachPiece, joined}
 use Rattle.dw_base.specs.Readings.{Reading, Readings, EachReading}
-use Rattle.dw_base.specs.SectionTexts.{slot_role, name_role, file_mentions, edited_with, NameTexts}
+use Rattle.dw_base.specs.SectionTexts.{slot_role, name_role, macro_role, file_mentions, edited_with, edited_macros, NameTexts}
 use Rattle.dw_base.specs.StringTables.{Plan, appending, new_texts, new_table}
-use Rattle.dw_base.specs.TableStarts.{HasStartForm}
-use Rattle.dw_base.specs.TextChanges.{TableChange, TableChanges, edited_all, NamesText, InlineFits}
+use Rattle.dw_base.specs.TableStarts.{HasStartForm, NamesMacro, NamesImport}
+use Rattle.dw_base.specs.TextChanges.{TableChange, TableChanges, edited_all, NamesTextBy, NamesText, InlineFits}
 use Rattle.dw_base.specs.TextIndexes.{EachUse, NamesSlot, index_uses}
 
--- debug data can be read: units, string offsets and name tables are these pieces, line tables fill their section, each offset names a
--- text that ends, each value by index a slot, and each value that is to say where a line table starts says it
+-- debug data can be read: units, string offsets, macro units and name tables are these pieces, line tables fill their section, each offset
+-- names a text that ends, each value by index a slot, each value that is to say where a line table or a macro unit starts says it, and so
+-- do the offsets of line tables and of imports in macro units
 pub record DataReads (d : DebugData) (r : DataReadings) : Type 0 where
   pub units : ReadsAll d.base 0 d.units r.units
   pub offsets : ReadsOffsets d.base.order d.offsets.contents r.offsets
   pub lines : AreTables (line_source d) r.lines
+  pub macros : ReadsAllMacros d.base.order d.macros r.macros
   pub names : ReadsNames d.base.order d.names.contents r.names
   pub texts : EachReading (NamesText (around_of d r)) r.units
   pub slot_texts : NameTexts (slot_role (path_slots (around_of d r))) (around_of d r) r.offsets
+  pub macro_texts : EachMacro (λ x. NamesTextBy (macro_role x.state) (around_of d r) x.cells) r.macros
   pub name_texts : NameTexts name_role (around_of d r) r.names
   pub indexes : EachUse (NamesSlot (indexing_of d r)) (index_uses d.base.order r.units)
   pub forms : EachReading HasStartForm r.units
+  pub macro_values : EachReading (NamesMacro (around_of d r).lasting) r.units
+  pub imports : EachMacro (NamesImport (around_of d r).lasting) r.macros
 
 -- what becomes of a table: old bytes are kept, and mapped texts that differ get a place behind them
 unfoldable pub table_change : PathMap → TextSection → Around → DataReadings → TableChange
@@ -86,8 +92,16 @@ offsets_after changes around r = edited_with (slot_role (path_slots around)) cha
 abbrev pub names_after : TableChanges → Around → DataReadings → List (Piece NameState)
 names_after changes around r = edited_with name_role changes around r.names
 
+-- macro units with the offsets of texts and line tables moved
+abbrev pub macros_after : TableChanges → Around → DataReadings → List MacroReading
+macros_after changes around r = edited_macros changes around r.macros
+
 abbrev pub cells_body : ℕ → List Cell → Body
 cells_body i p = record { number = i; bytes = bytes_of p }
+
+abbrev pub macro_bodies : List MacroReading → List Body
+macro_bodies [] = []
+macro_bodies (r ∷ rs) = cells_body r.number (joined r.pieces) ∷ macro_bodies rs
 
 abbrev pub lines_body : TableChanges → DebugData → Body
 lines_body changes d = record { number = d.lines.number; bytes = all_lines changes.lines }
@@ -97,7 +111,7 @@ abbrev pub bodies_by : TableChanges → DebugData → Around → DataReadings �
 bodies_by changes d around r =
     table_body around.str changes.str ∷ table_body around.line_str changes.line_str
     ∷ cells_body d.offsets.number (joined (offsets_after changes around r)) ∷ lines_body changes d ∷ cells_body d.names.number (joined (names_after changes around r))
-    ∷ unit_bodies changes around r.units
+    ∷ (macro_bodies (macros_after changes around r) ++ unit_bodies changes around r.units)
 
 unfoldable pub new_bodies : PathMap → DebugData → DataReadings → List Body
 new_bodies m d r = bodies_by (changes_of m (around_of d r) r) d (around_of d r) r

@@ -1,6 +1,6 @@
 -- All units were read, so nothing refuses them.
 use Rattle.dw_macros.proofs.UnitListLaws.{units-fill}
-use Rattle.dw_macros.proofs.UnitRowLaws.{units-exclude}
+use Rattle.dw_base.proofs.MacroRowLaws.{units-exclude}
 use Rattle.dw_macros.proofs.units.macro_units.Goals as goal
 
 pub returns-clause-none : goal.returns-clause-none

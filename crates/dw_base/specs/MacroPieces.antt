@@ -1,26 +1,23 @@
 -- A section of macro units as pieces (DWARF 5, 6.3): a unit's version and flags, the offset of its line table, and of each
 -- operation what stands in front of its offset, and the offset. So each offset that may change is a piece of its own.
-use Rattle.std.specs.Prelude.{Bool, true, false, ◌≡◌, ℕ, ◌+◌, ◌-◌, ◌==◌, ◌||◌, ◌&&◌, nat_lt, if◌then◌else◌, List, [], ◌∷◌, length, slice_index, Option, Some, None, option_and_then}
-use Rattle.dw_base.specs.Cells.{Cell, Located, bytes_of, field_of, offset_of}
+use Rattle.std.specs.Prelude.{Bool, true, false, ◌≡◌, ℕ, ◌+◌, ◌==◌, nat_lt, if◌then◌else◌, List, length, slice_index, Option, Some, None}
+use Rattle.dw_base.specs.Cells.{Cell, bytes_of}
 use Rattle.dw_base.specs.Forms.{width_size}
 use Rattle.dw_base.specs.Lebs.{uleb_at}
 use Rattle.dw_base.specs.Numbers.{spelled}
 use Rattle.dw_base.specs.Pieces.{Grammar, Piece, Chain, joined}
-use Rattle.dw_base.specs.Texts.{text_in}
 use Rattle.dw_base.specs.declared.shared.Order.{Order}
 use Rattle.dw_base.specs.declared.shared.Width.{Width}
 use Rattle.dw_base.specs.declared.shared.Width.TheVariants.{W32}
-use Rattle.dw_base.specs.declared.view_fields.Field.{Field}
-use Rattle.dw_base.specs.declared.view_fields.Field.TheVariants.{Num, Into, Sym}
-use Rattle.dw_macros.specs.MacroHeaders.{has_flag, is_macro_version, width_by}
-use Rattle.dw_macros.specs.Operations.{operation_of}
-use Rattle.dw_macros.specs.declared.macro_numbers.TheConstants.{DW_MACRO_define_strp, DW_MACRO_undef_strp, DW_MACRO_import, OFFSET_SIZE_FLAG, DEBUG_LINE_OFFSET_FLAG, OPCODE_OPERANDS_TABLE_FLAG}
-use Rattle.dw_macros.specs.declared.operation.Operation.{Operation}
-use Rattle.dw_macros.specs.declared.operation.Operation.TheVariants.{End, Inline, Named, Enter, Leave, Bring, Foreign}
+use Rattle.dw_base.specs.MacroHeaders.{has_flag, is_macro_version, width_by}
+use Rattle.dw_base.specs.MacroOperations.{operation_of}
+use Rattle.dw_base.specs.declared.macro_numbers.TheConstants.{DW_MACRO_define_strp, DW_MACRO_undef_strp, DW_MACRO_import, OFFSET_SIZE_FLAG, DEBUG_LINE_OFFSET_FLAG, OPCODE_OPERANDS_TABLE_FLAG}
+use Rattle.dw_base.specs.declared.macro_units.MacroOperation.{MacroOperation}
+use Rattle.dw_base.specs.declared.macro_units.MacroOperation.TheVariants.{End, Inline, Named, Enter, Leave, Bring, Foreign}
 
--- what the offset of an operation names: a text, or a unit
+-- what the offset of an operation names: the text of a definition, or of its end, at a line; or a unit
 pub data OffsetUse : Type 0 where
-  of_text : OffsetUse
+  of_text : Bool → ℕ → OffsetUse
   of_unit : OffsetUse
 
 -- what stands in front of an operation's offset: an operation without one, the one that ends its unit, or one that an offset follows
@@ -46,7 +43,7 @@ abbrev pub macros_at : ℕ → MacroMode → MacroState
 macros_at place mode = record { place = place; mode = mode }
 
 -- an operation that has no offset, with nothing behind it
-abbrev pub whole_by : Operation → Option OperationFront
+abbrev pub whole_by : MacroOperation → Option OperationFront
 whole_by End = Some last
 whole_by (Inline defines line at len) = Some whole
 whole_by (Named defines line field) = None
@@ -55,20 +52,21 @@ whole_by Leave = Some whole
 whole_by (Bring field) = None
 whole_by Foreign = None
 
-abbrev pub whole_if : ℕ → Option (Operation × ℕ) → Option OperationFront
+abbrev pub whole_if : ℕ → Option (MacroOperation × ℕ) → Option OperationFront
 whole_if size None = None
 whole_if size (Some o) = if o.1 == size then whole_by o.0 else None
 
 -- a line number, with nothing behind it
-abbrev pub line_if : ℕ → Option (ℕ × ℕ) → Option OperationFront
-line_if size None = None
-line_if size (Some line) = if 1 + line.1 == size then Some (before_offset of_text) else None
+abbrev pub line_if : Bool → ℕ → Option (ℕ × ℕ) → Option OperationFront
+line_if defines size None = None
+line_if defines size (Some line) = if 1 + line.1 == size then Some (before_offset (of_text defines line.0)) else None
 
 unfoldable pub front_by : List ℕ → ℕ → Option OperationFront
 front_by bytes opcode =
-    if opcode == DW_MACRO_define_strp || opcode == DW_MACRO_undef_strp then line_if (length bytes) (uleb_at bytes 1)
+    if opcode == DW_MACRO_define_strp then line_if true (length bytes) (uleb_at bytes 1)
+    else (if opcode == DW_MACRO_undef_strp then line_if false (length bytes) (uleb_at bytes 1)
     else (if opcode == DW_MACRO_import then (if length bytes == 1 then Some (before_offset of_unit) else None)
-    else whole_if (length bytes) (operation_of bytes W32 opcode 1))
+    else whole_if (length bytes) (operation_of bytes W32 opcode 1)))
 
 -- what all these bytes are of an operation; none where they are nothing of one
 unfoldable pub front_of : List ℕ → Option OperationFront
@@ -125,45 +123,3 @@ macro_grammar order = record {
 pub record ReadsMacros (order : Order) (contents : List Cell) (xs : List (Piece MacroState)) : Type 0 where
   pub chain : Chain (macro_grammar order) (macros_at 0 at_unit) xs
   pub cells : joined xs ≡ contents
-
--- the number of the first table that starts at a place; as many as there are where none does
-abbrev pub table_number : List ℕ → ℕ → ℕ
-table_number [] start = 0
-table_number (t ∷ ts) start = if t == start then 0 else 1 + table_number ts start
-
--- the number of the first unit that starts at a place of a section; as many as there are where none does
-abbrev pub unit_number : List (ℕ × ℕ) → ℕ → ℕ → ℕ
-unit_number [] section start = 0
-unit_number (u ∷ us) section start = if u.0 == section && u.1 == start then 0 else 1 + unit_number us section start
-
--- what macro units mean, in order: the text that an offset names, the number of the table or of the unit that it does, and the
--- bytes around offsets
-pub data MacroPart : Type 0 where
-  raw_part : List Cell → MacroPart
-  text_part : List ℕ → MacroPart
-  line_part : ℕ → MacroPart
-  unit_part : ℕ → MacroPart
-
--- the sections that offsets are of: texts, line tables with their starts, macro units with the section and the start of each
-pub record MacroAround : Type 0 where
-  pub str : Located
-  pub lines : Located
-  pub tables : List ℕ
-  pub macros : Located
-  pub units : List (ℕ × ℕ)
-
--- the number of the unit that a field names: by a number one of the section of macro units
-abbrev pub unit_named : MacroAround → Field → ℕ
-unit_named z (Num n) = unit_number z.units z.macros.number n
-unit_named z (Into s n) = unit_number z.units s n
-unit_named z (Sym s k a) = unit_number z.units z.macros.number (length z.macros.bytes)
-
-abbrev pub macro_part : MacroMode → Order → MacroAround → List Cell → MacroPart
-macro_part (at_line width) order z p = line_part (table_number z.tables (offset_of order z.lines p))
-macro_part (at_offset width of_text) order z p = text_part (text_in z.str.bytes (offset_of order z.str p))
-macro_part (at_offset width of_unit) order z p = unit_part (unit_named z (field_of order p))
-macro_part m order z p = raw_part p
-
-abbrev pub macro_parts : Order → MacroAround → List (Piece MacroState) → List MacroPart
-macro_parts order z [] = []
-macro_parts order z (x ∷ xs) = macro_part x.state.mode order z x.cells ∷ macro_parts order z xs

@@ -6,8 +6,8 @@ use Rattle.dw_base.specs.Numbers.{spelled}
 use Rattle.dw_base.specs.declared.shared.Order.{Order}
 use Rattle.dw_base.specs.declared.shared.Width.{Width}
 use Rattle.dw_base.specs.declared.shared.Width.TheVariants.{W32, W64}
-use Rattle.dw_macros.specs.declared.header.MacroHeader.{MacroHeader}
-use Rattle.dw_macros.specs.declared.macro_numbers.TheConstants.{OFFSET_SIZE_FLAG, DEBUG_LINE_OFFSET_FLAG, OPCODE_OPERANDS_TABLE_FLAG}
+use Rattle.dw_base.specs.declared.macro_units.MacroHeader.{MacroHeader}
+use Rattle.dw_base.specs.declared.macro_numbers.TheConstants.{OFFSET_SIZE_FLAG, DEBUG_LINE_OFFSET_FLAG, OPCODE_OPERANDS_TABLE_FLAG}
 
 -- version 4 is the one that GNU tools wrote before DWARF had such units
 abbrev pub is_macro_version : ℕ → Bool

@@ -1,5 +1,5 @@
 -- Macro units are read in one way, and what refuses one excludes that all are read.
-use Rattle.std.proofs.Common.{Bool, true, false, ◌≡◌, ℕ, ◌+◌, ◌<◌, ◌≤◌, nat_le, if◌then◌else◌, List, [], ◌∷◌, ◌++◌, length, Option, Some, None, refl, sym, ap, ◌∙◌, subst, arith}
+use Rattle.std.proofs.Common.{Bool, true, false, ◌≡◌, ℕ, ◌+◌, ◌≤◌, nat_le, if◌then◌else◌, List, [], ◌∷◌, ◌++◌, length, Option, Some, None, refl, sym, ap, ◌∙◌, subst, arith}
 use Rattle.std.specs.Prelude.{Result, Ok, Err, slice_index}
 use Rattle.std.proofs.lemmas.Bool.Decides.{nat_tests}
 use Rattle.dw_base.proofs.ReachLaws.{Reaches, here, reach-more, Determined, Stops, stops-one}
@@ -8,13 +8,13 @@ use Rattle.dw_base.specs.Numbers.{spelled}
 use Rattle.dw_base.specs.declared.fault.Refusal.{Refusal}
 use Rattle.dw_base.specs.declared.shared.Order.{Order}
 use Rattle.dw_base.specs.declared.shared.Width.{Width}
-use Rattle.dw_macros.specs.MacroFails.{MacroFails, no_header, operation, MacroUnitsFail, one}
-use Rattle.dw_macros.specs.MacroHeaders.{header_of, macro_header}
-use Rattle.dw_macros.specs.MacroUnits.{AreMacroUnits, IsMacroUnit, MacroUnitsUpTo, no_units, more_units, OperationsUpTo, no_operations, more_operations, is_end, unit_operation, unit_with}
-use Rattle.dw_macros.specs.declared.header.MacroHeader.{MacroHeader}
-use Rattle.dw_macros.specs.declared.operation.Operation.{Operation}
-use Rattle.dw_macros.specs.declared.operation.Operation.TheVariants.{End}
-use Rattle.dw_macros.specs.declared.units.MacroUnit.{MacroUnit}
+use Rattle.dw_base.specs.MacroFails.{MacroFails, no_header, operation, MacroUnitsFail, one}
+use Rattle.dw_base.specs.MacroHeaders.{header_of, macro_header}
+use Rattle.dw_base.specs.MacroUnits.{AreMacroUnits, IsMacroUnit, MacroUnitsUpTo, no_units, more_units, OperationsUpTo, no_operations, more_operations, is_end, unit_operation, unit_with}
+use Rattle.dw_base.specs.declared.macro_units.MacroHeader.{MacroHeader}
+use Rattle.dw_base.specs.declared.macro_units.MacroOperation.{MacroOperation}
+use Rattle.dw_base.specs.declared.macro_units.MacroOperation.TheVariants.{End}
+use Rattle.dw_base.specs.declared.macro_units.MacroUnit.{MacroUnit}
 
 ok-once : {Y E : Type 0} (x y : Y) (r : Result Y E) → r ≡ Ok x → r ≡ Ok y → x ≡ y
 ok-once {Y = Y} {E = E} x y r e f = by_kind (sym e ∙ f)
@@ -45,13 +45,13 @@ true-false e = cc
 
 -- operations, one after another
 record NextPlace (v : View) (section start : ℕ) (width : Width) (p q : ℕ) : Type 0 where
-  o : Operation
+  o : MacroOperation
   is : unit_operation v section start width p ≡ Ok (o, q)
   more : is_end o ≡ false
 
 place-determined : (v : View) (section start : ℕ) (width : Width) → Determined (NextPlace v section start width)
 place-determined v section start width s t u m n =
-    ap (λ (x : Operation × ℕ). x.1) (ok-once (m.o, t) (n.o, u) (unit_operation v section start width s) m.is n.is)
+    ap (λ (x : MacroOperation × ℕ). x.1) (ok-once (m.o, t) (n.o, u) (unit_operation v section start width s) m.is n.is)
 
 operations-reach : (v : View) (section start : ℕ) (width : Width) (first place : ℕ) → OperationsUpTo v section start width first place
     → Reaches (NextPlace v section start width) first place
@@ -62,7 +62,7 @@ operations-reach v section start width first place (more_operations o before nex
 over-stops : (v : View) (section start : ℕ) (width : Width) (last end : ℕ) → unit_operation v section start width last ≡ Ok (End, end)
     → Stops (NextPlace v section start width) last
 over-stops v section start width last end e t n =
-    let same : End ≡ n.o = ap (λ (x : Operation × ℕ). x.0) (ok-once (End, end) (n.o, t) (unit_operation v section start width last) e n.is) in
+    let same : End ≡ n.o = ap (λ (x : MacroOperation × ℕ). x.0) (ok-once (End, end) (n.o, t) (unit_operation v section start width last) e n.is) in
     true-false (ap is_end same ∙ n.more)
 
 break-stops : (v : View) (section start : ℕ) (width : Width) (place : ℕ) (r : Refusal) → unit_operation v section start width place ≡ Err r
@@ -78,7 +78,7 @@ end-same v section start width first last other end far a e b f =
     stops-one (NextPlace v section start width) (place-determined v section start width) first last other
     (operations-reach v section start width first last a) (operations-reach v section start width first other b)
     (over-stops v section start width last end e) (over-stops v section start width other far f) in
-    ap (λ (x : Operation × ℕ). x.1)
+    ap (λ (x : MacroOperation × ℕ). x.1)
     (ok-once (End, end) (End, far) (unit_operation v section start width other) (ap (unit_operation v section start width) (sym same) ∙ e) f)
 
 unit-same : (v : View) (section start : ℕ) (u w : MacroUnit) → IsMacroUnit v section start u → IsMacroUnit v section start w → u ≡ w

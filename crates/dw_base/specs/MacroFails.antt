@@ -5,10 +5,10 @@ use Rattle.dw_base.specs.FileViews.{View, section_bytes}
 use Rattle.dw_base.specs.Refusals.{at}
 use Rattle.dw_base.specs.declared.fault.Kind.TheVariants.{Macro}
 use Rattle.dw_base.specs.declared.fault.Refusal.{Refusal}
-use Rattle.dw_macros.specs.MacroHeaders.{macro_header}
-use Rattle.dw_macros.specs.MacroUnits.{OperationsUpTo, MacroUnitsUpTo, unit_operation}
-use Rattle.dw_macros.specs.declared.header.MacroHeader.{MacroHeader}
-use Rattle.dw_macros.specs.declared.units.MacroUnit.{MacroUnit}
+use Rattle.dw_base.specs.MacroHeaders.{macro_header}
+use Rattle.dw_base.specs.MacroUnits.{OperationsUpTo, MacroUnitsUpTo, unit_operation}
+use Rattle.dw_base.specs.declared.macro_units.MacroHeader.{MacroHeader}
+use Rattle.dw_base.specs.declared.macro_units.MacroUnit.{MacroUnit}
 
 -- what is wrong with the unit at a place: no header that it may have stands there, or one of its operations is refused
 pub data MacroFails (v : View) (section start : ℕ) : Refusal → Type 0 where

@@ -10,12 +10,12 @@ use Rattle.dw_base.specs.declared.debug_sections.DebugSection.TheVariants.{Str, 
 use Rattle.dw_base.specs.declared.fault.Kind.TheVariants.{Macro, StringOffset, Supplementary}
 use Rattle.dw_base.specs.declared.fault.Refusal.{Refusal}
 use Rattle.dw_base.specs.declared.shared.Width.{Width}
-use Rattle.dw_macros.specs.MacroHeaders.{macro_header}
-use Rattle.dw_macros.specs.Operations.{operation_at}
-use Rattle.dw_macros.specs.declared.header.MacroHeader.{MacroHeader}
-use Rattle.dw_macros.specs.declared.operation.Operation.{Operation}
-use Rattle.dw_macros.specs.declared.operation.Operation.TheVariants.{End, Named, Foreign}
-use Rattle.dw_macros.specs.declared.units.MacroUnit.{MacroUnit}
+use Rattle.dw_base.specs.MacroHeaders.{macro_header}
+use Rattle.dw_base.specs.MacroOperations.{operation_at}
+use Rattle.dw_base.specs.declared.macro_units.MacroHeader.{MacroHeader}
+use Rattle.dw_base.specs.declared.macro_units.MacroOperation.{MacroOperation}
+use Rattle.dw_base.specs.declared.macro_units.MacroOperation.TheVariants.{End, Named, Foreign}
+use Rattle.dw_base.specs.declared.macro_units.MacroUnit.{MacroUnit}
 
 -- the offset that a field of a macro section holds into another section
 abbrev pub offset_at : View → Located → ℕ → ℕ → Width → ℕ
@@ -27,30 +27,30 @@ names_text v section width field = ends_in (located v Str).bytes (offset_at v (l
 
 -- an operation that was read, with the place behind it: refused at itself where it refers to a supplementary file, and at its
 -- offset where that names no text
-abbrev pub taken : View → ℕ → Width → ℕ → Operation → ℕ → Result (Operation × ℕ) Refusal
+abbrev pub taken : View → ℕ → Width → ℕ → MacroOperation → ℕ → Result (MacroOperation × ℕ) Refusal
 taken v section width place Foreign next = Err (at Supplementary section place)
 taken v section width place (Named defines line field) next =
     if names_text v section width field then Ok (Named defines line field, next) else Err (at StringOffset section field)
 taken v section width place o next = Ok (o, next)
 
 -- the same of what was read; where nothing was, the unit is refused
-abbrev pub taken_if : View → ℕ → ℕ → Width → ℕ → Option (Operation × ℕ) → Result (Operation × ℕ) Refusal
+abbrev pub taken_if : View → ℕ → ℕ → Width → ℕ → Option (MacroOperation × ℕ) → Result (MacroOperation × ℕ) Refusal
 taken_if v section start width place None = Err (at Macro section start)
 taken_if v section start width place (Some o) = taken v section width place o.0 o.1
 
 -- the operation at a place of a unit, and the place behind it, or why there is none
-unfoldable pub unit_operation : View → ℕ → ℕ → Width → ℕ → Result (Operation × ℕ) Refusal
+unfoldable pub unit_operation : View → ℕ → ℕ → Width → ℕ → Result (MacroOperation × ℕ) Refusal
 unit_operation v section start width place = taken_if v section start width place (operation_at (section_bytes v section) width place)
 
 -- it ends its unit
-abbrev pub is_end : Operation → Bool
+abbrev pub is_end : MacroOperation → Bool
 is_end End = true
 is_end o = false
 
 -- operations stand one after another from the first of a unit up to a place, and none of them ends it
 pub data OperationsUpTo (v : View) (section start : ℕ) (width : Width) (first : ℕ) : ℕ → Type 0 where
   no_operations : OperationsUpTo v section start width first first
-  more_operations : (o : Operation) (place next : ℕ) → OperationsUpTo v section start width first place
+  more_operations : (o : MacroOperation) (place next : ℕ) → OperationsUpTo v section start width first place
       → unit_operation v section start width place ≡ Ok (o, next) → is_end o ≡ false → OperationsUpTo v section start width first next
 
 -- the offset of a line table of a header, where it has one

@@ -1,0 +1,140 @@
+-- Sections of macro units whose units were read, and name what they are to name by starts and places, are pieces that do; and these say
+-- of line tables what the units say.
+use Rattle.std.proofs.Common.{Bool, true, false, ◌≡◌, ℕ, arith, List, [], ◌∷◌, ◌++◌, length, IsTrue, Option, Some, None, refl, sym, ap, ◌∙◌, subst, append_assoc}
+use Rattle.std.specs.Bool.{⊤}
+use Rattle.dw_base.specs.Cells.{Cell, CellSection, field_of, located_cells, offset_of}
+use Rattle.dw_base.specs.DebugData.{DebugData, Around, Lasting, start_number}
+use Rattle.dw_base.specs.FileViews.{View}
+use Rattle.dw_base.specs.Forms.{in_str, width_size}
+use Rattle.dw_base.specs.LineMeanings.{is_there}
+use Rattle.dw_base.specs.MacroPieces.{OffsetUse, of_text, of_unit, MacroMode, at_unit, at_line, at_operation, at_offset, no_macros, MacroState, FitsMacros, macros_at, macro_grammar}
+use Rattle.dw_base.specs.MacroReadings.{MacroReading, MacroStart, ReadsAllMacros, EachMacro, macro_starts as units_begun}
+use Rattle.dw_base.specs.MacroUnits.{AreMacroUnits}
+use Rattle.dw_base.specs.Pieces.{Piece, Chain, EachPiece}
+use Rattle.dw_base.specs.Roles.{Role}
+use Rattle.dw_base.specs.SectionTexts.{macro_role, macro_role_by}
+use Rattle.dw_base.specs.TableStarts.{NamesImport, NamesUnitIf, is_import}
+use Rattle.dw_base.specs.TextChanges.{NamesTextBy}
+use Rattle.dw_base.specs.Texts.{ends_in}
+use Rattle.dw_base.specs.declared.macro_units.MacroUnit.{MacroUnit}
+use Rattle.dw_base.specs.declared.shared.Order.{Order}
+use Rattle.dw_base.specs.declared.shared.Width.{Width}
+use Rattle.dw_meaning.proofs.MacroPieceLaws.{Asked, CellsOf, EachUnit, FieldPlace, HoldsElse, PiecesRead, all_unit_starts, has_offset, line_field_by, line_fields as fields_begun, unit_line, unit_lines, unit_starts, units-read}
+use Rattle.dw_find.specs.MacroSections.{SectionUnits, line_field, line_fields, macro_starts, macros_of, macros_read, macros_with}
+use Rattle.dw_find.specs.TextPlaces.{names_place}
+use Rattle.dw_find.specs.UnitPaths.{UnitPaths, start_by}
+use Rattle.dw_find.specs.declared.fields.PathField.{PathField}
+use Rattle.dw_find.proofs.FoundLaws.{PlacesStart, names-if}
+use Rattle.dw_find.proofs.MacroPlaceLaws.{units_of}
+
+-- places of fields as fields
+abbrev as_fields : List FieldPlace → List PathField
+as_fields [] = []
+as_fields (f ∷ fs) = record { at = f.place; size = f.size } ∷ as_fields fs
+
+as-append : (fs gs : List FieldPlace) → as_fields (fs ++ gs) ≡ as_fields fs ++ as_fields gs
+as-append [] gs = refl
+as-append (f ∷ fs) gs = ap (λ (xs : List PathField). record { at = f.place; size = f.size } ∷ xs) (as-append fs gs)
+
+-- the fields of units are those
+line-is : (line : Option ℕ) (u : MacroUnit) → u.line ≡ line → line_field u.line u.line_field u.width ≡ as_fields (unit_line u)
+line-is None u e = rw e refl
+line-is (Some n) u e = rw e refl
+
+lines-are : (us : List MacroUnit) → line_fields us ≡ as_fields (unit_lines us)
+lines-are [] = refl
+lines-are (u ∷ us) =
+    ap (λ (fs : List PathField). fs ++ line_fields us) (line-is u.line u refl) ∙ ap (λ (fs : List PathField). as_fields (unit_line u) ++ fs) (lines-are us)
+    ∙ sym (as-append (unit_line u) (unit_lines us))
+
+-- those of pieces too, of which each has its size
+mode-field : (m : MacroMode) (order : Order) (p : List Cell) (place : ℕ) → FitsMacros m order p → start_by (macro_role_by m) place (length p) ≡ as_fields (line_field_by m place)
+mode-field at_unit order p place f = refl
+mode-field (at_line width) order p place f = ap (λ (n : ℕ). record { at = place; size = n } ∷ []) f
+mode-field (at_operation width) order p place f = refl
+mode-field (at_offset width (of_text defines line)) order p place f = refl
+mode-field (at_offset width of_unit) order p place f = refl
+mode-field no_macros order p place f = refl
+
+pieces-fields : (order : Order) (s : MacroState) (xs : List (Piece MacroState)) → Chain (macro_grammar order) s xs → macro_starts xs ≡ as_fields (fields_begun xs)
+pieces-fields order s [] c = refl
+pieces-fields order s (x ∷ xs) c =
+    ap (λ (fs : List PathField). fs ++ macro_starts xs) (mode-field x.state.mode order x.cells x.state.place c.1)
+    ∙ ap (λ (fs : List PathField). as_fields (line_field_by x.state.mode x.state.place) ++ fs) (pieces-fields order ((macro_grammar order).next x.state x.cells) xs c.2)
+    ∙ sym (as-append (line_field_by x.state.mode x.state.place) (fields_begun xs))
+
+-- what a piece is to name, by starts and places
+abbrev pub NamesBy : MacroMode → DebugData → List ℕ → List ℕ → List Cell → Type 0
+NamesBy (at_line width) d starts places p = IsTrue (is_there (start_number 0 starts (offset_of d.base.order (located_cells d.lines) p)))
+NamesBy (at_offset width (of_text defines line)) d starts places p = IsTrue (ends_in d.str.bytes (offset_of d.base.order d.str p))
+NamesBy (at_offset width of_unit) d starts places p = IsTrue (names_place places (field_of d.base.order p))
+NamesBy m d starts places p = ⊤
+
+abbrev pub PieceNames : DebugData → List ℕ → List ℕ → Piece MacroState → Type 0
+PieceNames d starts places x = NamesBy x.state.mode d starts places x.cells
+
+holds-else : (d : DebugData) (starts places : List ℕ) → HoldsElse (PieceNames d starts places)
+holds-else d starts places = record { holds = λ x none. by_mode x.state.mode x.cells none }
+  where
+    by_mode : (m : MacroMode) (p : List Cell) → has_offset m ≡ false → NamesBy m d starts places p
+    by_mode at_unit p none = tt
+    by_mode (at_line width) p none = absurd cc
+    by_mode (at_operation width) p none = tt
+    by_mode (at_offset width names) p none = absurd cc
+    by_mode no_macros p none = tt
+
+-- so it names a text or a line table that stands around, and an import a unit
+pub text-of : (m : MacroMode) (d : DebugData) (around : Around) (starts places : List ℕ) (p : List Cell) → around.str ≡ d.str → around.lines ≡ located_cells d.lines
+    → around.lasting.base.order ≡ d.base.order → around.starts ≡ starts → NamesBy m d starts places p → NamesTextBy (macro_role_by m) around p
+text-of at_unit d around starts places p str lines order same h = tt
+text-of (at_line width) d around starts places p str lines order same h = rw (lines, order, same) h
+text-of (at_operation width) d around starts places p str lines order same h = tt
+text-of (at_offset width (of_text defines line)) d around starts places p str lines order same h = rw (str, order) h
+text-of (at_offset width of_unit) d around starts places p str lines order same h = tt
+text-of no_macros d around starts places p str lines order same h = tt
+
+pub import-of : (m : MacroMode) (d : DebugData) (g : Lasting) (starts places : List ℕ) (p : List Cell) → g.base.order ≡ d.base.order → PlacesStart places g.macros
+    → NamesBy m d starts places p → NamesUnitIf (is_import m) g p
+import-of (at_offset width of_unit) d g starts places p order s h =
+    names-if true places g p s (λ e. ap (λ (o : Order). names_place places (field_of o p)) order ∙ h)
+import-of at_unit d g starts places p order s h = tt
+import-of (at_line width) d g starts places p order s h = tt
+import-of (at_operation width) d g starts places p order s h = tt
+import-of (at_offset width (of_text defines line)) d g starts places p order s h = tt
+import-of no_macros d g starts places p order s h = tt
+
+-- the units of sections, of which each offset is one of a piece that names so
+abbrev pub AllAsked : View → (Piece MacroState → Type 0) → List CellSection → List SectionUnits → Type 0
+AllAsked v P [] [] = ⊤
+AllAsked v P [] (s ∷ ss) = ⊥
+AllAsked v P (z ∷ zs) [] = ⊥
+AllAsked v P (z ∷ zs) (s ∷ ss) =
+    CellsOf v z.number z.contents × (s.number ≡ z.number) × AreMacroUnits v z.number s.units
+    × EachUnit (Asked v z.number z.contents P) s.units × AllAsked v P zs ss
+
+-- they are pieces
+pub record SectionsRead (v : View) (P : Piece MacroState → Type 0) (zs : List CellSection) (ss : List SectionUnits) : Type 0 where
+  pub readings : List MacroReading
+  pub reads : ReadsAllMacros v.order zs readings
+  pub each : EachMacro P readings
+  pub starts : units_begun readings ≡ all_unit_starts zs (units_of ss)
+  pub says : macros_read readings ≡ macros_of ss
+
+pub sections-read : (v : View) (P : Piece MacroState → Type 0) (zs : List CellSection) (ss : List SectionUnits) → HoldsElse P → AllAsked v P zs ss → SectionsRead v P zs ss
+sections-read v P [] [] q all = record { readings = []; reads = tt; each = tt; starts = refl; says = refl }
+sections-read v P [] (s ∷ ss) q all = absurd all
+sections-read v P (z ∷ zs) [] q all = absurd all
+sections-read v P (z ∷ zs) (s ∷ ss) q all =
+    let here : PiecesRead v z.number z.contents P s.units = units-read v z.number z.contents P s.units all.0 q all.3 all.2 in
+    let rest : SectionsRead v P zs ss = sections-read v P zs ss q all.4 in
+    let fields : macro_starts here.pieces ≡ line_fields s.units =
+    pieces-fields v.order (macros_at 0 at_unit) here.pieces here.reads.chain ∙ ap as_fields here.lines ∙ sym (lines-are s.units) in
+    record {
+      readings = record { number = z.number; pieces = here.pieces } ∷ rest.readings;
+      reads = (refl, here.reads, rest.reads);
+      each = (here.each, rest.each);
+      starts = ap (λ (l : List MacroStart). l ++ units_begun rest.readings) here.starts ∙ ap (λ (l : List MacroStart). unit_starts z.number s.units ++ l) rest.starts;
+      says = ap (λ (fs : List PathField). macros_with z.number fs ∷ macros_read rest.readings) fields
+          ∙ ap (λ (n : ℕ). macros_with n (line_fields s.units) ∷ macros_read rest.readings) (sym all.1)
+          ∙ ap (λ (us : List UnitPaths). macros_with s.number (line_fields s.units) ∷ us) rest.says;
+    }

@@ -1,0 +1,80 @@
+-- The macro units of a view, section by section: where they start, and the fields of the offsets of their line tables.
+use Rattle.std.proofs.Common.{◌≡◌, ℕ, suc, ◌+◌, ◌<◌, ◌≤◌, List, [], ◌∷◌, ◌++◌, length, get_or, drop, Option, Some, None, refl, sym, ap, ◌∙◌, arith, append_assoc, append-nil}
+use Rattle.std.proofs.Math.Seq.{drop-cons}
+use Rattle.std.proofs.lemmas.List.{drop_all}
+use Rattle.dw_base.specs.declared.macro_units.MacroUnit.{MacroUnit}
+use Rattle.dw_find.specs.MacroSections.{SectionUnits, first_places, line_field, line_fields, macros_of, macros_with, places_of}
+use Rattle.dw_find.specs.UnitPaths.{UnitPaths}
+use Rattle.dw_find.specs.declared.fields.PathField.{PathField}
+
+-- one unit more
+unit-front : (us : List MacroUnit) (u : MacroUnit) (i : ℕ) → i < length us → u ≡ get_or us i u → drop i us ≡ u ∷ drop (i + 1) us
+unit-front us u i lt is =
+    let next : suc i ≡ i + 1 = omega arith in
+    drop-cons us i u lt ∙ ap (λ (n : ℕ). get_or us i u ∷ drop n us) next ∙ ap (λ (y : MacroUnit). y ∷ drop (i + 1) us) (sym is)
+
+pub places-pushed : (us : List MacroUnit) (u : MacroUnit) (i : ℕ) (old new : List ℕ) → i < length us → u ≡ get_or us i u
+    → old ++ places_of (drop i us) ≡ places_of us → new ≡ old ++ u.start ∷ [] → new ++ places_of (drop (i + 1) us) ≡ places_of us
+places-pushed us u i old new lt is before more =
+    ap (λ (ns : List ℕ). ns ++ places_of (drop (i + 1) us)) more ∙ append_assoc old (u.start ∷ []) (places_of (drop (i + 1) us))
+    ∙ ap (λ (xs : List MacroUnit). old ++ places_of xs) (sym (unit-front us u i lt is)) ∙ before
+
+pub places-all : (us : List MacroUnit) (i : ℕ) (places : List ℕ) → length us ≤ i → places ++ places_of (drop i us) ≡ places_of us → places ≡ places_of us
+places-all us i places end is = sym (append-nil places) ∙ ap (λ (xs : List MacroUnit). places ++ places_of xs) (sym (drop_all i us end)) ∙ is
+
+pub ruleset places_rules = (places-pushed, places-all)
+
+-- and the field of its line table, where it has one
+fields-pushed : (us : List MacroUnit) (u : MacroUnit) (i : ℕ) (old new : List PathField) → i < length us → u ≡ get_or us i u
+    → old ++ line_fields (drop i us) ≡ line_fields us → new ≡ old ++ line_field u.line u.line_field u.width → new ++ line_fields (drop (i + 1) us) ≡ line_fields us
+fields-pushed us u i old new lt is before more =
+    ap (λ (fs : List PathField). fs ++ line_fields (drop (i + 1) us)) more
+    ∙ append_assoc old (line_field u.line u.line_field u.width) (line_fields (drop (i + 1) us))
+    ∙ ap (λ (xs : List MacroUnit). old ++ line_fields xs) (sym (unit-front us u i lt is)) ∙ before
+
+pub field-some : (us : List MacroUnit) (u : MacroUnit) (i n size : ℕ) (old new : List PathField) → i < length us → u ≡ get_or us i u
+    → old ++ line_fields (drop i us) ≡ line_fields us → u.line ≡ Some n → new ≡ old ++ line_field (Some n) u.line_field u.width
+    → new ++ line_fields (drop (i + 1) us) ≡ line_fields us
+field-some us u i n size old new lt is before some more =
+    fields-pushed us u i old new lt is before (more ∙ ap (λ (o : Option ℕ). old ++ line_field o u.line_field u.width) (sym some))
+
+pub field-none : (us : List MacroUnit) (u : MacroUnit) (i : ℕ) (old : List PathField) → i < length us → u ≡ get_or us i u
+    → old ++ line_fields (drop i us) ≡ line_fields us → u.line ≡ None → old ++ line_fields (drop (i + 1) us) ≡ line_fields us
+field-none us u i old lt is before none =
+    fields-pushed us u i old old lt is before (sym (append-nil old) ∙ ap (λ (o : Option ℕ). old ++ line_field o u.line_field u.width) (sym none))
+
+pub fields-all : (us : List MacroUnit) (i : ℕ) (fields : List PathField) → length us ≤ i → fields ++ line_fields (drop i us) ≡ line_fields us → fields ≡ line_fields us
+fields-all us i fields end is = sym (append-nil fields) ∙ ap (λ (xs : List MacroUnit). fields ++ line_fields xs) (sym (drop_all i us end)) ∙ is
+
+pub ruleset fields_rules = (fields-all)
+
+-- a section more
+section-front : (ss : List SectionUnits) (s : SectionUnits) (i : ℕ) → i < length ss → s ≡ get_or ss i s → drop i ss ≡ s ∷ drop (i + 1) ss
+section-front ss s i lt is =
+    let next : suc i ≡ i + 1 = omega arith in
+    drop-cons ss i s lt ∙ ap (λ (n : ℕ). get_or ss i s ∷ drop n ss) next ∙ ap (λ (y : SectionUnits). y ∷ drop (i + 1) ss) (sym is)
+
+pub macros-pushed : (ss : List SectionUnits) (s : SectionUnits) (i : ℕ) (first old new : List UnitPaths) (u : UnitPaths) → i < length ss → s ≡ get_or ss i s
+    → u ≡ macros_with s.number (line_fields s.units) → old ++ macros_of (drop i ss) ≡ first ++ macros_of ss → new ≡ old ++ u ∷ []
+    → new ++ macros_of (drop (i + 1) ss) ≡ first ++ macros_of ss
+macros-pushed ss s i first old new u lt is one before more =
+    ap (λ (us : List UnitPaths). us ++ macros_of (drop (i + 1) ss)) more ∙ append_assoc old (u ∷ []) (macros_of (drop (i + 1) ss))
+    ∙ ap (λ (x : UnitPaths). old ++ x ∷ macros_of (drop (i + 1) ss)) one
+    ∙ ap (λ (xs : List SectionUnits). old ++ macros_of xs) (sym (section-front ss s i lt is)) ∙ before
+
+pub macros-all : (ss : List SectionUnits) (i : ℕ) (first paths : List UnitPaths) → length ss ≤ i → paths ++ macros_of (drop i ss) ≡ first ++ macros_of ss
+    → paths ≡ first ++ macros_of ss
+macros-all ss i first paths end is = sym (append-nil paths) ∙ ap (λ (xs : List SectionUnits). paths ++ macros_of xs) (sym (drop_all i ss end)) ∙ is
+
+pub ruleset push_rules = (macros-pushed, macros-all)
+
+-- the first section
+pub first-none : (ss : List SectionUnits) → length ss ≡ 0 → [] ≡ first_places ss
+first-none [] e = refl
+first-none (s ∷ ss) e = absurd (omega (arith, e))
+
+pub first-some : (ss : List SectionUnits) (s : SectionUnits) (places : List ℕ) → 0 < length ss → s ≡ get_or ss 0 s → places ≡ places_of s.units → places ≡ first_places ss
+first-some [] s places lt is e = absurd (omega (arith, lt))
+first-some (x ∷ xs) s places lt is e = e ∙ ap (λ (y : SectionUnits). places_of y.units) is
+
+pub ruleset first_rules = (first-none, first-some)

@@ -1,0 +1,75 @@
+-- The macro units of the sections of a view, as they were read: where those of the first section start, and the fields of the offsets of
+-- their line tables (DWARF 5, 6.3).
+use Rattle.std.specs.Prelude.{◌≡◌, ℕ, List, [], ◌∷◌, ◌++◌, length, ⊤, Option, Some, None}
+use Rattle.dw_base.specs.Cells.{CellSection}
+use Rattle.dw_base.specs.FileViews.{View}
+use Rattle.dw_base.specs.Forms.{width_size}
+use Rattle.dw_base.specs.MacroFails.{MacroUnitsFail}
+use Rattle.dw_base.specs.MacroPieces.{MacroState}
+use Rattle.dw_base.specs.MacroReadings.{MacroReading}
+use Rattle.dw_base.specs.MacroUnits.{AreMacroUnits}
+use Rattle.dw_base.specs.Pieces.{Piece}
+use Rattle.dw_base.specs.SectionTexts.{macro_role}
+use Rattle.dw_base.specs.ViewData.{debug_data}
+use Rattle.dw_base.specs.declared.fault.Refusal.{Refusal}
+use Rattle.dw_base.specs.declared.macro_units.MacroUnit.{MacroUnit}
+use Rattle.dw_base.specs.declared.shared.Width.{Width}
+use Rattle.dw_find.specs.UnitPaths.{UnitPaths, start_by}
+use Rattle.dw_find.specs.declared.fields.PathField.{PathField}
+
+-- a section of macro units: its number, and its units
+pub record SectionUnits : Type 0 where
+  pub number : ℕ
+  pub units : List MacroUnit
+
+-- the sections of a list have these units
+abbrev pub HaveUnits : View → List CellSection → List SectionUnits → Type 0
+HaveUnits v [] [] = ⊤
+HaveUnits v [] (s ∷ ss) = ⊥
+HaveUnits v (z ∷ zs) [] = ⊥
+HaveUnits v (z ∷ zs) (s ∷ ss) = (s.number ≡ z.number) × AreMacroUnits v z.number s.units × HaveUnits v zs ss
+
+-- those of a view do
+pub record UnitsFoundIn (v : View) (ss : List SectionUnits) : Type 0 where
+  pub units : HaveUnits v (debug_data v).macros ss
+
+-- where units start
+abbrev pub places_of : List MacroUnit → List ℕ
+places_of [] = []
+places_of (u ∷ us) = u.start ∷ places_of us
+
+-- where those of the first section start
+abbrev pub first_places : List SectionUnits → List ℕ
+first_places [] = []
+first_places (s ∷ ss) = places_of s.units
+
+-- the field of the offset of a unit's line table, where it has one
+abbrev pub line_field : Option ℕ → ℕ → Width → List PathField
+line_field None at w = []
+line_field (Some line) at w = record { at = at; size = width_size w } ∷ []
+
+abbrev pub line_fields : List MacroUnit → List PathField
+line_fields [] = []
+line_fields (u ∷ us) = line_field u.line u.line_field u.width ++ line_fields us
+
+-- what a section of macro units says of paths and line tables: where these start
+abbrev pub macros_with : ℕ → List PathField → UnitPaths
+macros_with number starts = record { number = number; str = []; line_str = []; inline = []; starts = starts; macros = []; stray = None }
+
+abbrev pub macros_of : List SectionUnits → List UnitPaths
+macros_of [] = []
+macros_of (s ∷ ss) = macros_with s.number (line_fields s.units) ∷ macros_of ss
+
+-- the same by what was read
+abbrev pub macro_starts : List (Piece MacroState) → List PathField
+macro_starts [] = []
+macro_starts (x ∷ xs) = start_by (macro_role x.state) x.state.place (length x.cells) ++ macro_starts xs
+
+abbrev pub macros_read : List MacroReading → List UnitPaths
+macros_read [] = []
+macros_read (r ∷ rs) = macros_with r.number (macro_starts r.pieces) ∷ macros_read rs
+
+-- why there are none: those of one section can't be read
+pub data UnitsFailIn (v : View) : Refusal → Type 0 where
+  units : (z : CellSection) (before behind : List CellSection) {r : Refusal} → (debug_data v).macros ≡ before ++ z ∷ behind → MacroUnitsFail v z.number r
+      → UnitsFailIn v r

@@ -1,0 +1,237 @@
+//! The macro units of a view, read whole: where they start, the fields of the offsets of their line tables, and that each such
+//! offset and each of another unit names one (DWARF 5, 6.3).
+//!
+//! Read first: `specs/MacroSections.antt`.
+
+ghost use Rattle.std.specs.Prelude.{◌≡◌, ◌++◌, ◌<◌, length, IfErr, IfOk, OnOk};
+ghost use Rattle.dw_base.specs.MacroFails.{MacroUnitsFail};
+ghost use Rattle.dw_base.specs.MacroUnits.{AreMacroUnits};
+ghost use Rattle.dw_base.specs.Refusals.{Blames};
+ghost use Rattle.dw_base.specs.declared.fault.Refusal.{Refusal as RefusalOf};
+ghost use Rattle.dw_macros.specs.MacroEvents.{IsUnitIn, unit_events};
+ghost use Rattle.dw_find.specs.LineStarts.{Rises};
+ghost use Rattle.dw_find.specs.MacroNames.{AllUnitsIn, AreUnitsIn, EventNames, EventStray, EventStrays, EventsName, LineNames, LineStrays, MacrosName, MacrosStray, UnitsName, UnitsStray};
+ghost use Rattle.dw_find.specs.MacroSections.{SectionUnits, UnitsFailIn, UnitsFoundIn, first_places, line_fields, macros_of, macros_with, places_of};
+
+use crate::fields::PathField;
+use crate::found::UnitPaths;
+use crate::lines::width_size;
+use crate::starts::{start_number, stray};
+use dw_base::{DebugSection, Fault, MacroEvent, MacroUnit, Refusal};
+use dw_macros::{MacroEvents, macro_units};
+use dw_view::View;
+use std::alloc::{AllocError, Global};
+use std::marker::Model;
+
+/// The macro units of a section.
+#[derive(Drop)]
+pub struct MacroSection {
+    /// The section's number.
+    pub section: u32,
+    /// Its units, in the order of their places.
+    pub units: Vec<MacroUnit>,
+}
+
+impl Model for MacroSection {
+    ghost Value = { SectionUnits };
+
+    ghost view = { λ s. record { number = s.section; units = s.units.items } };
+}
+
+/// The macro units of all sections of a view, in the order of their numbers. Refused only where those of one can't be read, at
+/// the unit or the operation.
+#[tactic(auto, using(crate::proofs::MacroListLaws::sections_rules))]
+pub fn macro_sections(alloc: Global, view: &View) -> Result<Vec<MacroSection>, Fault>
+    ensures units { IfOk result (λ ss. UnitsFoundIn view.now ss.items) }
+    ensures none { OnOk result ((r : RefusalOf) → UnitsFailIn view.now r → ⊥) }
+    ensures refused { IfErr result (Blames (UnitsFailIn view.now)) }
+{
+    let mut found = Vec::new(alloc);
+    let mut next = view.first(DebugSection::Macro);
+    while let Some(section) = next {
+        found.push(section_units(alloc, view, section)?)?;
+        next = view.section(DebugSection::Macro.name(), section);
+    }
+    Ok(found)
+}
+
+/// Those of the section of a number.
+fn section_units(alloc: Global, view: &View, section: u32) -> Result<MacroSection, Fault>
+    requires there { section < length view.now.sections }
+    ensures number { IfOk result (λ s. s.number ≡ section) }
+    ensures units { IfOk result (λ s. AreMacroUnits view.now section s.units) }
+    ensures refused { IfErr result (Blames (MacroUnitsFail view.now section)) }
+{
+    let units = macro_units(alloc, view, section)?;
+    Ok(MacroSection { section, units })
+}
+
+/// Where the units of the first section start.
+#[tactic(auto, using(crate::proofs::MacroSectionLaws::first_rules))]
+pub(crate) fn first_places(alloc: Global, macros: &[MacroSection]) -> Result<Vec<u64>, AllocError>
+    ensures { IfOk result (λ places. places.items ≡ first_places macros.now) }
+{
+    if macros.is_empty() {
+        return Ok(Vec::new(alloc));
+    }
+    places_of(alloc, units_of(&macros[0]))
+}
+
+/// The units of a section.
+fn units_of(section: &MacroSection) -> &[MacroUnit]
+    ensures { result.now ≡ section.now.units }
+{
+    section.units.as_slice()
+}
+
+/// The number of a section.
+fn number_of(section: &MacroSection) -> u32
+    ensures { result ≡ section.now.number }
+{
+    section.section
+}
+
+/// Where units start.
+#[tactic(auto, using(crate::proofs::MacroSectionLaws::places_rules))]
+fn places_of(alloc: Global, units: &[MacroUnit]) -> Result<Vec<u64>, AllocError>
+    ensures { IfOk result (λ places. places.items ≡ places_of units.now) }
+{
+    let mut places = Vec::with_capacity(alloc, units.len())?;
+    for unit in units {
+        places.push(unit.start)?;
+    }
+    Ok(places)
+}
+
+/// Puts what the sections of macro units say of line tables behind what was found.
+#[tactic(auto, using(crate::proofs::MacroSectionLaws::push_rules))]
+pub(crate) fn push_macros(
+    alloc: Global,
+    macros: &[MacroSection],
+    paths: &mut Vec<UnitPaths>,
+) -> Result<(), AllocError>
+    ensures { OnOk result (paths.new.items ≡ paths.old.items ++ macros_of macros.now) }
+{
+    for section in macros {
+        paths.push(macros_with(alloc, section)?)?;
+    }
+    Ok(())
+}
+
+/// What a section of macro units says of line tables: where they start.
+fn macros_with(alloc: Global, section: &MacroSection) -> Result<UnitPaths, AllocError>
+    ensures { IfOk result (λ u. u ≡ macros_with section.now.number (line_fields section.now.units)) }
+{
+    let starts = line_fields(alloc, units_of(section))?;
+    Ok(UnitPaths {
+        section: number_of(section),
+        str: Vec::new(alloc),
+        line_str: Vec::new(alloc),
+        inline: Vec::new(alloc),
+        starts,
+        macros: Vec::new(alloc),
+        stray: None,
+    })
+}
+
+/// The fields of the offsets of the line tables of units.
+#[tactic(auto, using(crate::proofs::MacroSectionLaws::fields_rules))]
+fn line_fields(alloc: Global, units: &[MacroUnit]) -> Result<Vec<PathField>, AllocError>
+    ensures { IfOk result (λ fields. fields.items ≡ line_fields units.now) }
+{
+    let mut fields = Vec::new(alloc);
+    for unit in units {
+        if let Some(_) = unit.line {
+            fields.push(PathField {
+                at: unit.line_field,
+                size: width_size(unit.width),
+            })?;
+        }
+    }
+    Ok(fields)
+}
+
+/// Tests that each offset of a line table of all these units names one of these starts, and each of another unit one of these
+/// places. Refused as `Stray`, at an offset that names none.
+pub(crate) fn macros_name(
+    view: &View,
+    starts: &[u64],
+    places: &[u64],
+    macros: &[MacroSection],
+) -> Result<(), Refusal>
+    requires macros { AllUnitsIn view.now macros.now }
+    requires starts { Rises starts.now }
+    requires places { Rises places.now }
+    ensures named { OnOk result (MacrosName view.now starts.now places.now macros.now) }
+    ensures refused { IfErr result (MacrosStray view.now starts.now places.now macros.now) }
+{
+    for section in macros {
+        units_name(view, starts, places, units_of(section))?;
+    }
+    Ok(())
+}
+
+/// The same of the units of one section.
+fn units_name(
+    view: &View,
+    starts: &[u64],
+    places: &[u64],
+    units: &[MacroUnit],
+) -> Result<(), Refusal>
+    requires units { AreUnitsIn view.now units.now }
+    requires starts { Rises starts.now }
+    requires places { Rises places.now }
+    ensures named { OnOk result (UnitsName view.now starts.now places.now units.now) }
+    ensures refused { IfErr result (UnitsStray view.now starts.now places.now units.now) }
+{
+    for unit in units {
+        line_names(starts, unit)?;
+        events_name(view, places, unit)?;
+    }
+    Ok(())
+}
+
+/// The same of the line table of one unit.
+#[tactic(auto, using(crate::proofs::MacroNameLaws::line_rules))]
+fn line_names(starts: &[u64], unit: &MacroUnit) -> Result<(), Refusal>
+    requires starts { Rises starts.now }
+    ensures named { OnOk result (LineNames starts.now unit.now.line) }
+    ensures refused { IfErr result (LineStrays starts.now unit.now) }
+{
+    let Some(line) = unit.line else {
+        return Ok(());
+    };
+    match start_number(starts, line) {
+        Some(_) => Ok(()),
+        None => Err(stray(unit.section, unit.line_field)),
+    }
+}
+
+/// The same of the events of one unit.
+fn events_name(view: &View, places: &[u64], unit: &MacroUnit) -> Result<(), Refusal>
+    requires unit { IsUnitIn view.now unit.now }
+    requires places { Rises places.now }
+    ensures named { OnOk result (EventsName places.now (unit_events view.now unit.now)) }
+    ensures refused { IfErr result (EventStrays unit.now.section places.now (unit_events view.now unit.now)) }
+{
+    for event in MacroEvents::new(view, unit) {
+        event_names(unit.section, places, event)?;
+    }
+    Ok(())
+}
+
+/// The same of one event.
+#[tactic(auto, using(crate::proofs::MacroNameLaws::event_rules))]
+fn event_names(section: u32, places: &[u64], event: MacroEvent) -> Result<(), Refusal>
+    requires places { Rises places.now }
+    ensures named { OnOk result (EventNames places.now event) }
+    ensures refused { IfErr result (EventStray section places.now event) }
+{
+    match event {
+        MacroEvent::Import { offset, field, .. } => match start_number(places, offset) {
+            Some(_) => Ok(()),
+            None => Err(stray(section, field)),
+        },
+        _ => Ok(()),
+    }
+}

@@ -1,0 +1,315 @@
+-- Units that were read mean what the pieces of their section mean.
+use Rattle.std.specs.Prelude.{option_and_then, option_map}
+use Rattle.std.proofs.Common.{Bool, true, false, ◌≡◌, ℕ, zero, suc, ◌+◌, ◌<◌, ◌≤◌, nat_le, List, [], ◌∷◌, ◌++◌, length, map, take, drop, slice_index, Option, Some, None, refl, sym, ap, ◌∙◌, subst, arith, append_assoc, if◌then◌else◌}
+use Rattle.std.proofs.lemmas.Bool.{leb-true}
+use Rattle.std.proofs.lemmas.List.{append-nil}
+use Rattle.dw_base.specs.Cells.{Located, offset_into}
+use Rattle.dw_base.specs.DebugData.{Around, DataReadings, around_of, start_number, started_unit}
+use Rattle.dw_base.specs.FileViews.{View, field_at, section_bytes, section_named}
+use Rattle.dw_base.specs.DebugSections.{name_of}
+use Rattle.dw_base.specs.Forms.{width_size}
+use Rattle.dw_base.specs.MacroHeaders.{header_of, macro_header}
+use Rattle.dw_base.specs.MacroMeanings.{EventMeaning, defined, undefined, begun, ended, brought, MacroMeaning, text_event as event_of_text}
+use Rattle.dw_base.specs.MacroOperations.{operation_at}
+use Rattle.dw_base.specs.MacroUnits.{AreMacroUnits, IsMacroUnit, MacroUnitsUpTo, no_units, more_units, is_end, line_of, offset_at, unit_with}
+use Rattle.dw_base.specs.Numbers.{spelled}
+use Rattle.dw_base.specs.Texts.{has_nul, text, ends_in, text_in}
+use Rattle.dw_base.specs.ViewData.{debug_data, located, located_at}
+use Rattle.dw_base.specs.declared.debug_sections.DebugSection.TheVariants.{Line, Macro as MacroSection, Str}
+use Rattle.dw_base.specs.declared.line_tables.TextPlace.{TextPlace}
+use Rattle.dw_base.specs.declared.macro_units.MacroEvent.{MacroEvent}
+use Rattle.dw_base.specs.declared.macro_units.MacroEvent.TheVariants.{Define, Undef, StartFile, EndFile, Import}
+use Rattle.dw_base.specs.declared.macro_units.MacroHeader.{MacroHeader}
+use Rattle.dw_base.specs.declared.macro_units.MacroOperation.{MacroOperation}
+use Rattle.dw_base.specs.declared.macro_units.MacroOperation.TheVariants.{End, Inline, Named, Enter, Leave, Bring, Foreign}
+use Rattle.dw_base.specs.declared.macro_units.MacroUnit.{MacroUnit}
+use Rattle.dw_base.specs.declared.shared.Width.{Width}
+use Rattle.dw_base.specs.declared.view_fields.Field.{Field}
+use Rattle.dw_base.specs.declared.view_fields.Field.TheVariants.{Num}
+use Rattle.dw_base.proofs.PlainCellLaws.{bytes_of-plain}
+use Rattle.dw_base.proofs.TextLaws.{take-text}
+use Rattle.dw_macros.proofs.CallerLaws.{read-unit}
+use Rattle.dw_macros.proofs.EventLaws.{unit-whole}
+use Rattle.dw_macros.specs.EventMeanings.{text_bytes, event_meaning, unit_meaning}
+use Rattle.dw_macros.specs.MacroEvents.{SpellsEvents, over, one_event, event_by, event_if, event_in, import_at, inline_place, named_place, text_event, text_if, unit_events}
+use Rattle.dw_meaning.proofs.LineReadLaws.{if-some, some-same}
+use Rattle.dw_meaning.proofs.MacroFirstLaws.{first-macros}
+use Rattle.dw_meaning.proofs.MacroMeantLaws.{operation_meaning, EventsFrom, events_over, events_more, line_meant, UnitsFrom, units_over, units_more}
+
+-- what stands around macro units is that of the view
+pub record Seen (v : View) (g : Around) : Type 0 where
+  pub str : g.str ≡ located v Str
+  pub lines : g.lines ≡ located v Line
+  pub macros : g.lasting.macros.first ≡ (located v MacroSection).number
+
+-- an event that was read is an operation that means the same
+record OperationOf (v : View) (g : Around) (section : ℕ) (width : Width) (place next : ℕ) (e : MacroEvent) : Type 0 where
+  operation : MacroOperation
+  is : operation_at (section_bytes v section) width place ≡ Some (operation, next)
+  more : is_end operation ≡ false
+  says : operation_meaning v g section width operation ≡ event_meaning v g e
+
+abbrev pair_of : MacroEvent → ℕ → MacroEvent × ℕ
+pair_of e n = (e, n)
+
+abbrev event_read : MacroEvent → ℕ → Option (MacroEvent × ℕ)
+event_read e n = Some (e, n)
+
+-- a text that stands there, and one that an offset names
+inline-says : (v : View) (g : Around) (section : ℕ) (defines : Bool) (line at len : ℕ)
+    → event_of_text defines line (take len (drop at (section_bytes v section))) ≡ event_meaning v g (text_event defines line (inline_place section at len))
+inline-says v g section true line at len = refl
+inline-says v g section false line at len = refl
+
+place-says : (v : View) (g : Around) (defines : Bool) (line : ℕ) (t : TextPlace) (bs : List ℕ) → text_bytes v t ≡ bs
+    → event_of_text defines line bs ≡ event_meaning v g (text_event defines line t)
+place-says v g true line t bs e = ap (defined line) (sym e)
+place-says v g false line t bs e = ap (undefined line) (sym e)
+
+named-bytes : (v : View) (field offset : ℕ) → ends_in (located v Str).bytes offset ≡ true
+    → text_bytes v (record { section = (located v Str).number; at = offset; len = length (text_in (located v Str).bytes offset); field = field }) ≡ text_in (located v Str).bytes offset
+unfolding located ends_in text_in
+named-bytes v field offset e = by_section (section_named v (name_of Str)) e
+  where
+    by_section : (o : Option ℕ) → has_nul (drop offset (located_at v o).bytes) ≡ true
+        → take (length (text (drop offset (located_at v o).bytes))) (drop offset (section_bytes v (located_at v o).number)) ≡ text (drop offset (located_at v o).bytes)
+    by_section (Some i) e = take-text (drop offset (section_bytes v i)) e
+    by_section None e = absurd (none_ends offset e)
+      where
+        none_ends : (n : ℕ) → has_nul (drop n []) ≡ true → ⊥
+        none_ends zero f = cc
+        none_ends (suc n) f = cc
+
+event-same : (e f : MacroEvent) (n m : ℕ) → event_read e n ≡ event_read f m → (e ≡ f) × (n ≡ m)
+event-same e f n m h =
+    let both = some-same (e, n) (f, m) h in
+    (ap (λ (x : MacroEvent × ℕ). x.0) both, ap (λ (x : MacroEvent × ℕ). x.1) both)
+
+none-event : (e : MacroEvent) (n : ℕ) → None ≡ event_read e n → ⊥
+none-event e n h = cc
+
+-- an operation as an event
+event-of : (v : View) (g : Around) (section : ℕ) (width : Width) (place m next : ℕ) (o : MacroOperation) (e : MacroEvent) → Seen v g
+    → operation_at (section_bytes v section) width place ≡ Some (o, m) → event_by v section width o m ≡ Some (e, next) → OperationOf v g section width place next e
+unfolding event_by named_place import_at field_at
+event-of v g section width place m next End e seen is f = absurd (none-event e next f)
+event-of v g section width place m next (Inline d l a n) e seen is f =
+    let both = event-same (text_event d l (inline_place section a n)) e m next f in
+    record {
+      operation = Inline d l a n;
+      is = is ∙ ap (λ (k : ℕ). Some (Inline d l a n, k)) both.1;
+      more = refl;
+      says = inline-says v g section d l a n ∙ ap (event_meaning v g) both.0;
+    }
+event-of v g section width place m next (Named d l field) e seen is f = by_text (ends_in (located v Str).bytes (spelled v.order (section_bytes v section) field (width_size width))) refl f
+  where
+    offset : ℕ
+    offset = spelled v.order (section_bytes v section) field (width_size width)
+
+    found : TextPlace
+    found = record {
+      section = (located v Str).number;
+      at = spelled v.order (section_bytes v section) field (width_size width);
+      len = length (text_in (located v Str).bytes (spelled v.order (section_bytes v section) field (width_size width)));
+      field = field;
+    }
+
+    by_text : (b : Bool) → ends_in (located v Str).bytes (spelled v.order (section_bytes v section) field (width_size width)) ≡ b
+        → option_map (λ (t : TextPlace). pair_of (text_event d l t) m) (if b then Some (record {
+          section = (located v Str).number;
+          at = spelled v.order (section_bytes v section) field (width_size width);
+          len = length (text_in (located v Str).bytes (spelled v.order (section_bytes v section) field (width_size width)));
+          field = field;
+        }) else None) ≡ event_read e next → OperationOf v g section width place next e
+    by_text false ends h = absurd (none-event e next h)
+    by_text true ends h =
+        let t : TextPlace = record {
+          section = (located v Str).number;
+          at = spelled v.order (section_bytes v section) field (width_size width);
+          len = length (text_in (located v Str).bytes (spelled v.order (section_bytes v section) field (width_size width)));
+          field = field;
+        } in
+        let both = event-same (text_event d l (record {
+          section = (located v Str).number;
+          at = spelled v.order (section_bytes v section) field (width_size width);
+          len = length (text_in (located v Str).bytes (spelled v.order (section_bytes v section) field (width_size width)));
+          field = field;
+        })) e m next h in
+        record {
+          operation = Named d l field;
+          is = is ∙ ap (λ (k : ℕ). Some (Named d l field, k)) both.1;
+          more = refl;
+          says = ap (λ (z : Located). event_of_text d l (text_in z.bytes (spelled v.order (section_bytes v section) field (width_size width)))) seen.str
+              ∙ place-says v g d l (record {
+                section = (located v Str).number;
+                at = spelled v.order (section_bytes v section) field (width_size width);
+                len = length (text_in (located v Str).bytes (spelled v.order (section_bytes v section) field (width_size width)));
+                field = field;
+              }) (text_in (located v Str).bytes (spelled v.order (section_bytes v section) field (width_size width)))
+              (named-bytes v field (spelled v.order (section_bytes v section) field (width_size width)) ends)
+              ∙ ap (event_meaning v g) both.0;
+        }
+event-of v g section width place m next (Enter l a) e seen is f =
+    let both = event-same (StartFile l a) e m next f in
+    record { operation = Enter l a; is = is ∙ ap (λ (k : ℕ). Some (Enter l a, k)) both.1; more = refl; says = ap (event_meaning v g) both.0 }
+event-of v g section width place m next Leave e seen is f =
+    let both = event-same EndFile e m next f in
+    record { operation = Leave; is = is ∙ ap (λ (k : ℕ). Some (Leave, k)) both.1; more = refl; says = ap (event_meaning v g) both.0 }
+event-of v g section width place m next (Bring field) e seen is f =
+    let n : ℕ = spelled v.order (section_bytes v section) field (width_size width) in
+    let both = event-same (Import (located v MacroSection).number (spelled v.order (section_bytes v section) field (width_size width)) field) e m next f in
+    record {
+      operation = Bring field;
+      is = is ∙ ap (λ (k : ℕ). Some (Bring field, k)) both.1;
+      more = refl;
+      says = ap (λ (i : ℕ). brought (started_unit 0 g.lasting.macros.starts i (spelled v.order (section_bytes v section) field (width_size width)))) seen.macros ∙ ap (event_meaning v g) both.0;
+    }
+event-of v g section width place m next Foreign e seen is f = absurd (none-event e next f)
+
+event-in : (v : View) (g : Around) (section : ℕ) (width : Width) (place next : ℕ) (e : MacroEvent) → Seen v g → event_in v section width place ≡ Some (e, next)
+    → OperationOf v g section width place next e
+unfolding event_in
+event-in v g section width place next e seen f = by_read (operation_at (section_bytes v section) width place) refl f
+  where
+    by_read : (x : Option (MacroOperation × ℕ)) → operation_at (section_bytes v section) width place ≡ x → event_if v section width x ≡ Some (e, next) → OperationOf v g section width place next e
+    by_read None is h = absurd (none-event e next h)
+    by_read (Some o) is h = event-of v g section width place o.1 next o.0 e seen is h
+
+-- events that were read are the events from their place on
+events-read : (v : View) (g : Around) (section : ℕ) (width : Width) (place end : ℕ) (es : List MacroEvent) → Seen v g → SpellsEvents v section width place es end
+    → EventsFrom v g section width place (map (event_meaning v g) es) end
+events-read v g section width place end es seen (over p q is) = events_over p q is
+events-read v g section width place end es seen (one_event p next q e rest is s) =
+    let o : OperationOf v g section width p next e = event-in v g section width p next e seen is in
+    subst (λ (m : EventMeaning). EventsFrom v g section width p (m ∷ map (event_meaning v g) rest) q) o.says
+    (events_more p next q o.operation (map (event_meaning v g) rest) o.is o.more (events-read v g section width next q rest seen s))
+
+-- and there is one way
+read-same : (o r : MacroOperation) (n m : ℕ) (x : Option (MacroOperation × ℕ)) → x ≡ Some (o, n) → x ≡ Some (r, m) → (o ≡ r) × (n ≡ m)
+read-same o r n m x e f =
+    let both = some-same (o, n) (r, m) (sym e ∙ f) in
+    (ap (λ (y : MacroOperation × ℕ). y.0) both, ap (λ (y : MacroOperation × ℕ). y.1) both)
+
+true-false : true ≡ false → ⊥
+true-false e = cc
+
+events-one : (v : View) (g : Around) (section : ℕ) (width : Width) (place end other : ℕ) (es fs : List EventMeaning) → EventsFrom v g section width place es end
+    → EventsFrom v g section width place fs other → (es ≡ fs) × (end ≡ other)
+events-one v g section width place end other es fs (events_over p q is) (events_over p2 q2 f) =
+    (refl, (read-same End End q q2 (operation_at (section_bytes v section) width p) is f).1)
+events-one v g section width place end other es fs (events_over p q is) (events_more p2 n q2 o rest f more s) =
+    let same = read-same End o q n (operation_at (section_bytes v section) width p) is f in
+    absurd (true-false (ap is_end same.0 ∙ more))
+events-one v g section width place end other es fs (events_more p n q o rest is more s) (events_over p2 q2 f) =
+    let same = read-same End o q2 n (operation_at (section_bytes v section) width p) f is in
+    absurd (true-false (ap is_end same.0 ∙ more))
+events-one v g section width place end other es fs (events_more p n q o rest is more s) (events_more p2 n2 q2 o2 rest2 f more2 s2) =
+    let same = read-same o o2 n n2 (operation_at (section_bytes v section) width p) is f in
+    let others = events-one v g section width n q q2 rest rest2 s (subst (λ (k : ℕ). EventsFrom v g section width k rest2 q2) (sym same.1) s2) in (
+      ap (λ (x : MacroOperation). operation_meaning v g section width x ∷ rest) same.0 ∙ ap (λ (xs : List EventMeaning). operation_meaning v g section width o2 ∷ xs) others.0,
+      others.1,
+    )
+
+-- a header has bytes
+header-inside : (v : View) (section start : ℕ) (h : MacroHeader) → macro_header v.order (section_bytes v section) start ≡ Some h → start + 3 ≤ length (section_bytes v section)
+unfolding macro_header
+header-inside v section start h e =
+    leb-true (start + 3) (length (section_bytes v section))
+    (if-some (nat_le (start + 3) (length (section_bytes v section)))
+    (header_of (section_bytes v section) (spelled v.order (section_bytes v section) start 2) (slice_index (section_bytes v section) (start + 2)) (start + 3)) h e).0
+
+-- the line table of a unit
+line-same : (v : View) (g : Around) (section start end : ℕ) (h : MacroHeader) → Seen v g
+    → line_meant v g section h ≡ option_and_then (start_number 0 g.starts) (unit_with v section start h end).line
+line-same v g section start end h seen = by_line h.has_line
+  where
+    by_line : (b : Bool) → (if b then start_number 0 g.starts (offset_into g.lines (field_at v section h.line_field (width_size h.width))) else None)
+        ≡ option_and_then (start_number 0 g.starts) (if b then Some (offset_at v (located v Line) section h.line_field h.width) else None)
+    by_line true = ap (λ (z : Located). start_number 0 g.starts (offset_into z (field_at v section h.line_field (width_size h.width)))) seen.lines
+    by_line false = refl
+
+-- of the units of a section, what those behind some that were read mean
+record Behind (v : View) (g : Around) (section : ℕ) (list : List MacroUnit) (place : ℕ) (ms : List MacroMeaning) : Type 0 where
+  rest : List MacroMeaning
+  is : ms ≡ map (unit_meaning v g) list ++ rest
+  units : UnitsFrom v g section place rest
+
+map-last : (v : View) (g : Around) (xs : List MacroUnit) (u : MacroUnit) (rest : List MacroMeaning)
+    → map (unit_meaning v g) xs ++ (unit_meaning v g u ∷ rest) ≡ map (unit_meaning v g) (xs ++ u ∷ []) ++ rest
+map-last v g [] u rest = refl
+map-last v g (x ∷ xs) u rest = ap (λ (l : List MacroMeaning). unit_meaning v g x ∷ l) (map-last v g xs u rest)
+
+-- one more
+record OneMore (v : View) (g : Around) (section : ℕ) (u : MacroUnit) (ms : List MacroMeaning) : Type 0 where
+  rest : List MacroMeaning
+  is : ms ≡ unit_meaning v g u ∷ rest
+  units : UnitsFrom v g section u.end rest
+
+one-more : (v : View) (g : Around) (section start : ℕ) (u : MacroUnit) (ms : List MacroMeaning) → Seen v g → section < length v.sections → IsMacroUnit v section start u
+    → UnitsFrom v g section start ms → OneMore v g section u ms
+one-more v g section start u ms seen there is (units_over p at_end) =
+    let inside = header-inside v section start is.header is.header_is in
+    absurd (omega (arith, inside, at_end))
+one-more v g section start u all seen there is (units_more p end h es ms head events units) =
+    let same : h ≡ is.header = some-same h is.header (sym head ∙ is.header_is) in
+    let own : section ≡ u.section = sym (ap (λ (x : MacroUnit). x.section) is.is) in
+    let width : is.header.width ≡ u.width = sym (ap (λ (x : MacroUnit). x.width) is.is) in
+    let first : is.header.first ≡ u.first = sym (ap (λ (x : MacroUnit). x.first) is.is) in
+    let version : is.header.version ≡ u.version = sym (ap (λ (x : MacroUnit). x.version) is.is) in
+    let read : EventsFrom v g u.section u.width u.first (map (event_meaning v g) (unit_events v u)) u.end =
+    events-read v g u.section u.width u.first u.end (unit_events v u) seen (unit-whole v u (read-unit v section start u there is)) in
+    let here : EventsFrom v g section u.width u.first (map (event_meaning v g) (unit_events v u)) u.end =
+    subst (λ (i : ℕ). EventsFrom v g i u.width u.first (map (event_meaning v g) (unit_events v u)) u.end) (sym own) read in
+    let theirs : EventsFrom v g section u.width u.first es end =
+    subst (λ (n : ℕ). EventsFrom v g section u.width n es end) first
+    (subst (λ (w : Width). EventsFrom v g section w is.header.first es end) width
+    (subst (λ (x : MacroHeader). EventsFrom v g section x.width x.first es end) same events)) in
+    let one = events-one v g section u.width u.first end u.end es (map (event_meaning v g) (unit_events v u)) theirs here in
+    let line : line_meant v g section is.header ≡ option_and_then (start_number 0 g.starts) u.line =
+    line-same v g section start is.end is.header seen ∙ ap (λ (x : MacroUnit). option_and_then (start_number 0 g.starts) x.line) (sym is.is) in
+    record {
+      rest = ms;
+      is = ap (λ (x : MacroHeader). meaning_with x.version (line_meant v g section x) es ∷ ms) same
+          ∙ ap (λ (n : ℕ). meaning_with n (line_meant v g section is.header) es ∷ ms) version
+          ∙ ap (λ (l : Option ℕ). meaning_with u.version l es ∷ ms) line
+          ∙ ap (λ (xs : List EventMeaning). meaning_with u.version (option_and_then (start_number 0 g.starts) u.line) xs ∷ ms) one.0;
+      units = subst (λ (n : ℕ). UnitsFrom v g section n ms) one.1 units;
+    }
+  where
+    meaning_with : ℕ → Option ℕ → List EventMeaning → MacroMeaning
+    meaning_with n l xs = record { version = n; line = l; events = xs }
+
+units-behind : (v : View) (g : Around) (section place : ℕ) (list : List MacroUnit) (ms : List MacroMeaning) → Seen v g → section < length v.sections → MacroUnitsUpTo v section list place
+    → UnitsFrom v g section 0 ms → Behind v g section list place ms
+units-behind v g section place list ms seen there no_units u = record { rest = ms; is = refl; units = u }
+units-behind v g section place all ms seen there (more_units list x start so is) u =
+    let b : Behind v g section list start ms = units-behind v g section start list ms seen there so u in
+    let more : OneMore v g section x b.rest = one-more v g section start x b.rest seen there is b.units in
+    record {
+      rest = more.rest;
+      is = b.is ∙ ap (λ (l : List MacroMeaning). map (unit_meaning v g) list ++ l) more.is ∙ map-last v g list x more.rest;
+      units = more.units;
+    }
+
+nothing-behind : (v : View) (g : Around) (section place : ℕ) (ms : List MacroMeaning) → place ≡ length (section_bytes v section) → UnitsFrom v g section place ms → ms ≡ []
+nothing-behind v g section place ms e (units_over p at_end) = refl
+nothing-behind v g section place all e (units_more p end h es ms head events units) =
+    let inside = header-inside v section place h head in
+    absurd (omega (arith, inside, e))
+
+-- all units of a section
+pub units-mean : (v : View) (g : Around) (section : ℕ) (list : List MacroUnit) (ms : List MacroMeaning) → Seen v g → section < length v.sections → AreMacroUnits v section list
+    → UnitsFrom v g section 0 ms → ms ≡ map (unit_meaning v g) list
+units-mean v g section list ms seen there are u =
+    let b : Behind v g section list (length (section_bytes v section)) ms = units-behind v g section (length (section_bytes v section)) list ms seen there are u in
+    b.is ∙ ap (λ (l : List MacroMeaning). map (unit_meaning v g) list ++ l) (nothing-behind v g section (length (section_bytes v section)) b.rest refl b.units)
+    ∙ append-nil (map (unit_meaning v g) list)
+
+-- what stands around the units of a view is that
+pub seen-view : (v : View) (r : DataReadings) → Seen v (around_of (debug_data v) r)
+unfolding debug_data
+seen-view v r = record {
+  str = refl;
+  lines = ap (λ (bs : List ℕ). record { number = (located v Line).number; bytes = bs }) (bytes_of-plain (located v Line).bytes);
+  macros = first-macros v;
+}
