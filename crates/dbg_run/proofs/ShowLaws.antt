@@ -1,29 +1,22 @@
 -- Laws on the showing of a file: what refuses it, test by test, and what an end says.
 use Rattle.std.proofs.Common.{◌≡◌, ◌≢◌, ℕ, ◌+◌, ◌<◌, ◌≤◌, ◌==◌, Bool, true, false, ◌||◌, List, length, Option, Some, refl, sym, ap, ◌∙◌, subst, arith, ◌⊎◌, inl, inr}
 use Rattle.std.specs.Option.{ForSome}
-use Rattle.std.proofs.lemmas.Bool.{cases_lt, true≢false}
+use Rattle.std.proofs.lemmas.Bool.{true≢false}
 use Rattle.std.proofs.lemmas.Bool.Decides.{nat_tests}
-use Rattle.dw_base.specs.DebugSectionFails.{DebugSectionsFail, DebugSectionsRead, is_active}
-use Rattle.dw_base.specs.DebugSections.{debug_section}
-use Rattle.dw_base.specs.Elf.{e_type, nth_section, section_count, section_name}
+use Rattle.dw_base.specs.DebugSectionFails.{DebugSectionsFail, DebugSectionsRead}
+use Rattle.dw_base.specs.Elf.{e_type}
 use Rattle.dw_base.specs.ElfFails.{ElfFails, ElfReads}
 use Rattle.dw_base.specs.FileViews.{View, view_of}
 use Rattle.dw_base.specs.Layout.{is_loaded_kind}
 use Rattle.dw_base.specs.Refusals.{at, Blames}
-use Rattle.dw_base.specs.declared.debug_sections.DebugSection.{DebugSection}
 use Rattle.dw_base.specs.declared.elf_numbers.TheConstants.{ET_REL}
 use Rattle.dw_base.specs.declared.fault.Fault.{Fault}
 use Rattle.dw_base.specs.declared.fault.Fault.TheVariants.{NoMemory, Refused}
 use Rattle.dw_base.specs.declared.fault.Kind.TheVariants.{Unbuilt}
 use Rattle.dw_base.specs.declared.fault.Refusal.{Refusal}
-use Rattle.dw_base.specs.declared.records.Section.{Section}
 use Rattle.dw_base.proofs.DebugSectionFailsLaws.{debug_sections_exclude}
 use Rattle.dw_base.proofs.ElfLaws.{elf_excludes}
-use Rattle.dw_base.proofs.FileViewLaws.{length-view_of}
-use Rattle.dw_meaning.specs.FileFails.{is_unbuilt_section}
 use Rattle.dw_meaning.specs.FileMeanings.{file_data}
-use Rattle.dw_view.specs.SectionKinds.{kind_at}
-use Rattle.dw_view.proofs.ViewLaws.{kind_at-view_of}
 use Rattle.dbg_show.specs.Shows.{IsShown, ShowReads, view_text}
 use Rattle.dbg_show.specs.Shows.{ShowEnds as ViewEnds}
 use Rattle.dbg_show.specs.Printing.{Cut}
@@ -46,7 +39,7 @@ use Rattle.dbg_ends.specs.Steps.{InputEnds}
 use Rattle.dbg_ends.specs.Steps.{InputEnds as inputs}
 use Rattle.dbg_run.proofs.EditLaws.{input_completes, same_bytes}
 use Rattle.dbg_show.proofs.ExcludeLaws.{show-excludes}
-use Rattle.dbg_run.specs.Shows.{AllShown, HasBegun, IsSeen, IsShowable, SectionShown, ShowDone, ShowDue, ShowEnds, ShowFails, ShowUnopposed, TextBegins, TextEnds, TextErrs, TextShown}
+use Rattle.dbg_run.specs.Shows.{HasBegun, IsSeen, IsShowable, ShowDone, ShowDue, ShowEnds, ShowFails, ShowUnopposed, TextBegins, TextEnds, TextErrs, TextShown}
 use Rattle.dbg_run.specs.Shows.{HasBegun as begun, ShowEnds as shows, ShowFails as fails, TextErrs as errs, TextEnds as ends}
 
 -- ### The shape of the file
@@ -67,60 +60,6 @@ loaded_is b t t_is is = sym t_is ∙ is
 
 pub ruleset kind_laws = (refused_rel, loaded_is)
 
--- which section a number is
-kind_is : (b : List ℕ) (v : View) (i : ℕ) (o : Option DebugSection) → v ≡ view_of b → i < section_count b → o ≡ kind_at v i → o ≡ debug_section (section_name b i)
-kind_is b v i o v_is lt is = is ∙ ap (λ (w : View). kind_at w i) v_is ∙ kind_at-view_of b i lt
-
-pub refused_section : (b : List ℕ) (v : View) (i : ℕ) (o : Option DebugSection) (s : Section) (t u : Bool) (r : Refusal) → ElfReads b → v ≡ view_of b
-    → i < section_count b → o ≡ kind_at v i → s ≡ nth_section b i → t ≡ is_unbuilt_section o → t ≡ true → u ≡ is_active s → u ≡ true
-    → r ≡ at Unbuilt 0 0 → ShowFails b r
-refused_section b v i o s t u r reads v_is lt o_is s_is t_is new u_is active r_is =
-    subst (ShowFails b) (sym r_is) (fails.macros i reads (record {
-      there = lt;
-      active = ap (λ (x : Section). is_active x) (sym s_is) ∙ sym u_is ∙ active;
-      is = ap is_unbuilt_section (sym (kind_is b v i o v_is lt o_is)) ∙ sym t_is ∙ new;
-    }))
-
-pub shown_kind : (b : List ℕ) (v : View) (i : ℕ) (o : Option DebugSection) (t : Bool) → v ≡ view_of b → i < section_count b → o ≡ kind_at v i
-    → t ≡ is_unbuilt_section o → t ≡ false → SectionShown b i
-shown_kind b v i o t v_is lt o_is t_is other = record {
-  none = λ new. true≢false (sym new.is ∙ ap is_unbuilt_section (sym (kind_is b v i o v_is lt o_is)) ∙ sym t_is ∙ other);
-}
-
-pub shown_inactive : (b : List ℕ) (i : ℕ) (s : Section) (u : Bool) → s ≡ nth_section b i → u ≡ is_active s → u ≡ false → SectionShown b i
-shown_inactive b i s u s_is u_is other = record {
-  none = λ new. true≢false (sym new.active ∙ ap (λ (x : Section). is_active x) (sym s_is) ∙ sym u_is ∙ other);
-}
-
-pub within_view : (b : List ℕ) (v : View) (i : ℕ) → v ≡ view_of b → i < section_count b → i < length v.sections
-within_view b v i v_is lt =
-    let same : length v.sections ≡ section_count b = ap (λ (w : View). length w.sections) v_is ∙ length-view_of b in
-    omega (arith, same)
-
-pub ruleset section_laws = (within_view, refused_section, shown_kind, shown_inactive)
-
--- the sections below a number are shown
-pub record ShownBelow (b : List ℕ) (n : ℕ) : Type 0 where
-  pub each : (i : ℕ) → i < n → SectionShown b i
-
-pub below_start : (b : List ℕ) → ShownBelow b 0
-below_start b = record { each = λ i lt. absurd (omega arith) }
-
-pub below_more : (b : List ℕ) (n : ℕ) → ShownBelow b n → SectionShown b n → ShownBelow b (n + 1)
-below_more b n below this = record {
-  each = λ i lt. elim (cases_lt i n) [
-    | inl less ↦ below.each i less
-    | inr past ↦
-        let same : n ≡ i = omega arith in
-        subst (SectionShown b) same this
-  ];
-}
-
-pub below_end : (b : List ℕ) (n : ℕ) → section_count b ≤ n → ShownBelow b n → AllShown b
-below_end b n end below = record { each = λ i lt. below.each i (omega arith) }
-
-pub ruleset sections_laws = (below_start, below_more, below_end)
-
 pub blames_sections : (b : List ℕ) (f : Fault) → ElfReads b → Blames (DebugSectionsFail b) f → Blames (ShowFails b) f
 blames_sections b NoMemory reads blames = blames
 blames_sections b (Refused r) reads blames = fails.sections reads blames
@@ -128,8 +67,8 @@ blames_sections b (Refused r) reads blames = fails.sections reads blames
 pub blames_this : (b : List ℕ) (r : Refusal) (f : Fault) → f ≡ Refused r → ShowFails b r → Blames (ShowFails b) f
 blames_this b r f is row = subst (Blames (ShowFails b)) (sym is) row
 
-pub seen_all : (b : List ℕ) → ElfReads b → DebugSectionsRead b → is_loaded_kind b ≡ true → AllShown b → IsSeen b
-seen_all b reads names kind shown = record { records = reads; names = names; kind = kind; shown = shown }
+pub seen_all : (b : List ℕ) → ElfReads b → DebugSectionsRead b → is_loaded_kind b ≡ true → IsSeen b
+seen_all b reads names kind = record { records = reads; names = names; kind = kind }
 
 pub ruleset view_laws = (blames_sections, blames_this, seen_all)
 
@@ -207,7 +146,6 @@ pub not_showable : (b : List ℕ) (r : Refusal) → ShowFails b r → IsShowable
 not_showable b r (fails.elf row) is = elf_excludes b r is.seen.records row
 not_showable b r (fails.sections reads row) is = debug_sections_exclude b r is.seen.names row
 not_showable b r (fails.relocatable reads rel) is = not_loaded b rel is.seen.kind
-not_showable b r (fails.macros i reads new) is = (is.seen.shown.each i new.there).none new
 not_showable b r (fails.unreadable reads row) is = show-excludes (file_data b) r is.reads row
 
 -- ### The whole

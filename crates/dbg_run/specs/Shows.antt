@@ -1,8 +1,7 @@
 -- The command `show` of one file: what refuses a file, what goes to the output, how it may end, and which status is due.
-use Rattle.std.specs.Prelude.{◌≡◌, ◌<◌, true, ℕ, List, IsTrue}
-use Rattle.dw_base.specs.DebugSectionFails.{is_active, DebugSectionsFail, DebugSectionsRead}
-use Rattle.dw_base.specs.DebugSections.{debug_section}
-use Rattle.dw_base.specs.Elf.{e_type, nth_section, section_count, section_name}
+use Rattle.std.specs.Prelude.{◌≡◌, true, ℕ, List}
+use Rattle.dw_base.specs.DebugSectionFails.{DebugSectionsFail, DebugSectionsRead}
+use Rattle.dw_base.specs.Elf.{e_type}
 use Rattle.dw_base.specs.ElfFails.{ElfFails, ElfReads}
 use Rattle.dw_base.specs.FileViews.{view_of}
 use Rattle.dw_base.specs.Layout.{is_loaded_kind}
@@ -11,7 +10,6 @@ use Rattle.dw_base.specs.declared.elf_numbers.TheConstants.{ET_REL}
 use Rattle.dw_base.specs.declared.fault.Fault.TheVariants.{NoMemory, Refused}
 use Rattle.dw_base.specs.declared.fault.Kind.TheVariants.{Unbuilt}
 use Rattle.dw_base.specs.declared.fault.Refusal.{Refusal}
-use Rattle.dw_meaning.specs.FileFails.{is_unbuilt_section}
 use Rattle.dw_meaning.specs.FileMeanings.{file_data}
 use Rattle.dbg_show.specs.Printing.{Begun}
 use Rattle.dbg_show.specs.Shows.{IsShown, ShowReads, ShowRefuses, view_text}
@@ -28,35 +26,18 @@ use Rattle.dbg_ends.specs.declared.end.End.TheVariants as end
 use Rattle.dbg_ends.specs.Due.{Where, InputDue}
 use Rattle.dbg_ends.specs.Steps.{InputEnds}
 
--- the section of a number is one of debug data that isn't shown yet
-pub record IsUnshown (b : List ℕ) (i : ℕ) : Type 0 where
-  pub there : i < section_count b
-  pub active : IsTrue (is_active (nth_section b i))
-  pub is : IsTrue (is_unbuilt_section (debug_section (section_name b i)))
-
--- that of a number is none
-pub record SectionShown (b : List ℕ) (i : ℕ) : Type 0 where
-  pub none : IsUnshown b i → ⊥
-
--- there is none
-pub record AllShown (b : List ℕ) : Type 0 where
-  pub each : (i : ℕ) → i < section_count b → SectionShown b i
-
--- why a file isn't shown: its records, its type, its sections, or its debug data; a relocatable file and one with macros aren't
--- taken yet
+-- why a file isn't shown: its records, its type, its sections, or its debug data; a relocatable file isn't taken yet
 pub data ShowFails (b : List ℕ) : Refusal → Type 0 where
   elf : {r : Refusal} → ElfFails b r → ShowFails b r
   sections : {r : Refusal} → ElfReads b → DebugSectionsFail b r → ShowFails b r
   relocatable : ElfReads b → e_type b ≡ ET_REL → ShowFails b (at Unbuilt 0 0)
-  macros : (i : ℕ) → ElfReads b → IsUnshown b i → ShowFails b (at Unbuilt 0 0)
   unreadable : {r : Refusal} → ElfReads b → ShowRefuses (file_data b) r → ShowFails b r
 
--- the records, the type and the sections of a file can be read, and are of a shape that is taken
+-- the records, the type and the sections of a file can be read, and its type is taken
 pub record IsSeen (b : List ℕ) : Type 0 where
   pub records : ElfReads b
   pub names : DebugSectionsRead b
   pub kind : is_loaded_kind b ≡ true
-  pub shown : AllShown b
 
 -- the file can be shown: its debug data can be read too
 pub record IsShowable (b : List ℕ) : Type 0 where

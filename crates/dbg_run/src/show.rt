@@ -1,85 +1,27 @@
 //! The command `show`: the text of what the debug data of a file mean.
 ghost use Rattle.std.specs.Prelude.{true, ◌≡◌, ◌≢◌, ◌≤◌, ◌<◌, ◌⊎◌, length, IfErr, IfOk, OnOk};
 ghost use Rattle.std.specs.Option.{ForSome};
-ghost use Rattle.dw_base.specs.DebugSectionFails.{DebugSectionsRead, is_active};
-ghost use Rattle.dw_base.specs.Elf.{section_count};
+ghost use Rattle.dw_base.specs.DebugSectionFails.{DebugSectionsRead};
 ghost use Rattle.dw_base.specs.ElfFails.{ElfReads};
 ghost use Rattle.dw_base.specs.FileViews.{view_of};
 ghost use Rattle.dw_base.specs.Layout.{is_loaded_kind, output_limit};
 ghost use Rattle.dw_base.specs.Refusals.{at, Blames};
-ghost use Rattle.dw_meaning.specs.FileFails.{is_unbuilt_section};
 ghost use Rattle.dbg_job.specs.Settings.{most_file};
 ghost use Rattle.file_tree.specs.Causes.{Rose, Calm};
 ghost use Rattle.file_tree.specs.Seen.{now_of};
 ghost use Rattle.file_tree.specs.Trees.{stands_at};
 ghost use Rattle.dbg_ends.specs.Due.{IsCut};
 ghost use Rattle.dbg_ends.specs.Ends.{status_of};
-ghost use Rattle.dbg_run.specs.Shows.{AllShown, HasBegun, IsSeen, SectionShown, ShowDone, ShowDue, ShowEnds, ShowFails, TextEnds, TextErrs, TextShown};
+ghost use Rattle.dbg_run.specs.Shows.{HasBegun, IsSeen, ShowDone, ShowDue, ShowEnds, ShowFails, TextEnds, TextErrs, TextShown};
 
 use dbg_ends::{End, read_input};
 use dbg_job::MOST_FILE;
 use dbg_show::{ShowErr, show as show_view};
-use dw_base::elf_numbers::SHT_NULL;
-use dw_base::{DebugSection, Fault, Kind, Refusal, Section};
+use dw_base::{Fault, Kind, Refusal};
 use dw_view::View;
 use elf_file::ElfFile;
 use file_tree::{Sink, Text, Tree};
 use std::alloc::Global;
-
-/// The file has not the shape that is shown.
-fn unbuilt() -> Refusal
-    ensures { result ≡ at Kind.Unbuilt 0 0 }
-{
-    Refusal::of_file(Kind::Unbuilt)
-}
-
-/// A section of debug data that isn't shown yet.
-fn is_unbuilt(kind: Option<DebugSection>) -> bool
-    ensures { result ≡ is_unbuilt_section kind }
-{
-    match kind {
-        Some(DebugSection::Macro) => true,
-        _ => false,
-    }
-}
-
-/// The section's header isn't inactive.
-fn is_active(section: &Section) -> bool
-    ensures { result ≡ is_active section.now }
-{
-    section.kind != SHT_NULL
-}
-
-/// The section of a number is of a kind that is shown, or inactive.
-#[tactic(auto, using(crate::proofs::ShowLaws::section_laws))]
-fn section_fits(elf: &ElfFile, view: &View, index: u32) -> Result<(), Refusal>
-    requires reads { ElfReads elf.now.bytes.now }
-    requires view { view.now ≡ view_of elf.now.bytes.now }
-    requires there { index < section_count elf.now.bytes.now }
-    ensures fits { OnOk result (SectionShown elf.now.bytes.now index) }
-    ensures refused { IfErr result (ShowFails elf.now.bytes.now) }
-{
-    let kind = view.kind(index);
-    let section = elf.section(index);
-    if is_unbuilt(kind) && is_active(&section) {
-        return Err(unbuilt());
-    }
-    Ok(())
-}
-
-/// Each section is of a kind that is shown, or inactive.
-#[tactic(auto, using(crate::proofs::ShowLaws::sections_laws))]
-fn sections_fit(elf: &ElfFile, view: &View) -> Result<(), Refusal>
-    requires reads { ElfReads elf.now.bytes.now }
-    requires view { view.now ≡ view_of elf.now.bytes.now }
-    ensures fit { OnOk result (AllShown elf.now.bytes.now) }
-    ensures refused { IfErr result (ShowFails elf.now.bytes.now) }
-{
-    for index in 0..elf.section_count() {
-        section_fits(elf, view, index)?;
-    }
-    Ok(())
-}
 
 /// The file is of type EXEC or DYN (gABI ch. 4 "ELF Header").
 #[tactic(auto, using(crate::proofs::ShowLaws::kind_laws))]
@@ -90,12 +32,12 @@ fn kind_fits(elf: &ElfFile) -> Result<(), Refusal>
     ensures refused { IfErr result (ShowFails elf.now.bytes.now) }
 {
     if !elf.is_loaded_kind() {
-        return Err(unbuilt());
+        return Err(Refusal::of_file(Kind::Unbuilt));
     }
     Ok(())
 }
 
-/// The view of a file whose type and sections are shown.
+/// The view of a file whose type is shown.
 #[tactic(auto, using(crate::proofs::ShowLaws::view_laws))]
 fn shown_view<'a>(elf: &'a ElfFile<'a>) -> Result<View<'a>, Fault>
     requires reads { ElfReads elf.now.bytes.now }
@@ -105,7 +47,6 @@ fn shown_view<'a>(elf: &'a ElfFile<'a>) -> Result<View<'a>, Fault>
 {
     let view = View::one(elf)?;
     kind_fits(elf)?;
-    sections_fit(elf, &view)?;
     Ok(view)
 }
 

@@ -2,21 +2,22 @@
 use Rattle.std.proofs.Common.{◌≡◌, ◌≢◌, ℕ, zero, suc, ◌+◌, ◌<◌, ◌&&◌, ◌||◌, not, Bool, true, false, List, [], ◌∷◌, ◌++◌, drop, get_or, if◌then◌else◌, refl, sym, ap, ◌∙◌, arith, inl, inr, subst}
 use Rattle.std.proofs.lemmas.Bool.{cases_Bool}
 use Rattle.std.specs.Prelude.{Option, Some, None}
-use Rattle.dw_base.specs.Cells.{Located}
-use Rattle.dw_base.specs.DebugData.{DebugData, DataReadings, line_source}
+use Rattle.dw_base.specs.Cells.{CellSection, Located}
+use Rattle.dw_base.specs.DebugData.{DebugData, DataReadings, around_of, line_source}
 use Rattle.dw_base.specs.DebugSections.{debug_section, name_of, read_sections, section_in}
 use Rattle.dw_base.specs.Elf.{is_empty_kind, nth_section, order_of, section_count, section_name}
 use Rattle.dw_base.specs.FileViews.{View, ViewSection, bytes_in, contents_in, first_filled, is_filled, plain_contents, section_after, section_bytes, section_named, view_of, view_section}
 use Rattle.dw_base.specs.Layout.{is_alloc}
 use Rattle.dw_base.specs.LineMeanings.{line_meanings}
 use Rattle.dw_base.specs.Lists.{tabulate}
+use Rattle.dw_base.specs.MacroMeanings.{macro_meanings}
 use Rattle.dw_base.specs.Notes.{BuildId, build_id_of, zeroed}
 use Rattle.dw_base.specs.SectionNames.{debug_link}
 use Rattle.dw_base.specs.SlotTexts.{name_parts, slot_texts}
 use Rattle.dw_base.specs.Texts.{same_text}
 use Rattle.dw_base.specs.UnitHeaders.{UnitSection}
 use Rattle.dw_base.specs.UnitMeanings.{units_of}
-use Rattle.dw_base.specs.ViewData.{Meaning, NamedBytes, bytes_named, cell_section, debug_data, is_other, is_read, located, located_at, meaning_of, other_sections, unit_kind, unit_section, unit_sections, unit_sections_from, without_id, zeroed_at}
+use Rattle.dw_base.specs.ViewData.{Meaning, NamedBytes, bytes_named, cell_section, debug_data, is_macro, is_other, is_read, located, located_at, macro_section, macro_sections, macro_sections_from, meaning_of, other_sections, unit_kind, unit_section, unit_sections, unit_sections_from, without_id, zeroed_at}
 use Rattle.dw_base.specs.declared.debug_sections.DebugSection.{DebugSection}
 use Rattle.dw_base.specs.declared.debug_sections.DebugSection.TheVariants.{Abbrev, Str, LineStr, StrOffsets, Line, Names}
 use Rattle.dw_base.specs.declared.shared.Order.{Order}
@@ -132,6 +133,29 @@ units-alike k (s ∷ ss) (t ∷ ts) all =
     ap (λ (us : List UnitSection). us ++ unit_sections_from (suc k) ss) (own_units-alike k s t all.0)
     ∙ ap (λ (us : List UnitSection). own_units k t ++ us) (units-alike (suc k) ss ts all.1)
 
+-- sections of macro units
+abbrev own_macros : ℕ → ViewSection → List CellSection
+own_macros k s = macro_section k s (s.has_bytes && is_macro (debug_section s.name))
+
+no-macros : (k : ℕ) (s : ViewSection) → debug_section s.name ≡ None → own_macros k s ≡ []
+no-macros k s none = ap (λ (o : Option DebugSection). macro_section k s (s.has_bytes && is_macro o)) none ∙ either s.has_bytes
+  where
+    either : (t : Bool) → macro_section k s (t && false) ≡ []
+    either true = refl
+    either false = refl
+
+own_macros-alike : (k : ℕ) (s t : ViewSection) → Alike s t → own_macros k s ≡ own_macros k t
+own_macros-alike k s t (equal e) = ap (own_macros k) e
+own_macros-alike k s t (apart same alloc none) = no-macros k s (ap debug_section same.name ∙ none) ∙ sym (no-macros k t none)
+
+macros-alike : (k : ℕ) (ss ts : List ViewSection) → AllAlike k ss ts → macro_sections_from k ss ≡ macro_sections_from k ts
+macros-alike k [] [] all = refl
+macros-alike k [] (t ∷ ts) all = absurd all
+macros-alike k (s ∷ ss) [] all = absurd all
+macros-alike k (s ∷ ss) (t ∷ ts) all =
+    ap (λ (zs : List CellSection). zs ++ macro_sections_from (suc k) ss) (own_macros-alike k s t all.0)
+    ∙ ap (λ (zs : List CellSection). own_macros k t ++ zs) (macros-alike (suc k) ss ts all.1)
+
 -- sections by name
 and-false : (x y : Bool) → y ≡ false → (x && y) ≡ false
 and-false true y e = e
@@ -223,19 +247,20 @@ located-alike v w x all =
         (section_bytes-is v i ∙ ap bytes_in (same i refl) ∙ sym (section_bytes-is w i))
 
 -- so the debug data are the same
-abbrev data_with : Order → Located → List UnitSection → Located → Located → Located → Located → Located → DebugData
-data_with order abbrevs units str line_str offsets lines names = record {
+abbrev data_with : Order → Located → List UnitSection → Located → Located → Located → Located → List CellSection → Located → DebugData
+data_with order abbrevs units str line_str offsets lines macros names = record {
   base = record { order = order; abbrevs = abbrevs };
   units = units;
   str = str;
   line_str = line_str;
   offsets = cell_section offsets;
   lines = cell_section lines;
+  macros = macros;
   names = cell_section names;
 }
 
 data-is : (v : View) → debug_data v
-    ≡ data_with v.order (located v Abbrev) (unit_sections v) (located v Str) (located v LineStr) (located v StrOffsets) (located v Line) (located v Names)
+    ≡ data_with v.order (located v Abbrev) (unit_sections v) (located v Str) (located v LineStr) (located v StrOffsets) (located v Line) (macro_sections v) (located v Names)
 unfolding debug_data
 data-is v = refl
 
@@ -243,30 +268,39 @@ unit_sections-is : (v : View) → unit_sections v ≡ unit_sections_from 1 (drop
 unfolding unit_sections
 unit_sections-is v = refl
 
+macro_sections-is : (v : View) → macro_sections v ≡ macro_sections_from 1 (drop 1 v.sections)
+unfolding macro_sections
+macro_sections-is v = refl
+
 data-alike : (v w : View) → v.order ≡ w.order → AllAlike 0 v.sections w.sections → debug_data v ≡ debug_data w
 data-alike v w order all =
     let units : unit_sections v ≡ unit_sections w =
     unit_sections-is v
     ∙ units-alike 1 (drop 1 v.sections) (drop 1 w.sections) (drop-at (λ (i : ℕ) (s t : ViewSection). Alike s t) v.sections w.sections all)
     ∙ sym (unit_sections-is w) in
+    let macros : macro_sections v ≡ macro_sections w =
+    macro_sections-is v
+    ∙ macros-alike 1 (drop 1 v.sections) (drop 1 w.sections) (drop-at (λ (i : ℕ) (s t : ViewSection). Alike s t) v.sections w.sections all)
+    ∙ sym (macro_sections-is w) in
     data-is v
     ∙ parts v.order w.order (located v Abbrev) (located w Abbrev) (unit_sections v) (unit_sections w) (located v Str) (located w Str) (located v LineStr) (located w LineStr)
-    (located v StrOffsets) (located w StrOffsets) (located v Line) (located w Line) (located v Names) (located w Names) order
+    (located v StrOffsets) (located w StrOffsets) (located v Line) (located w Line) (macro_sections v) (macro_sections w) (located v Names) (located w Names) order
     (located-alike v w Abbrev all) units (located-alike v w Str all) (located-alike v w LineStr all) (located-alike v w StrOffsets all) (located-alike v w Line all)
-    (located-alike v w Names all)
+    macros (located-alike v w Names all)
     ∙ sym (data-is w)
   where
-    parts : (o p : Order) (a b : Located) (u x : List UnitSection) (s t l m f g i j n k : Located) → o ≡ p → a ≡ b → u ≡ x → s ≡ t → l ≡ m → f ≡ g → i ≡ j → n ≡ k
-        → data_with o a u s l f i n ≡ data_with p b x t m g j k
-    parts o p a b u x s t l m f g i j n k e1 e2 e3 e4 e5 e6 e7 e8 =
-        ap (λ (z : Order). data_with z a u s l f i n) e1
-        ∙ ap (λ (z : Located). data_with p z u s l f i n) e2
-        ∙ ap (λ (z : List UnitSection). data_with p b z s l f i n) e3
-        ∙ ap (λ (z : Located). data_with p b x z l f i n) e4
-        ∙ ap (λ (z : Located). data_with p b x t z f i n) e5
-        ∙ ap (λ (z : Located). data_with p b x t m z i n) e6
-        ∙ ap (λ (z : Located). data_with p b x t m g z n) e7
-        ∙ ap (λ (z : Located). data_with p b x t m g j z) e8
+    parts : (o p : Order) (a b : Located) (u x : List UnitSection) (s t l m f g i j : Located) (y z : List CellSection) (n k : Located) → o ≡ p → a ≡ b → u ≡ x → s ≡ t
+        → l ≡ m → f ≡ g → i ≡ j → y ≡ z → n ≡ k → data_with o a u s l f i y n ≡ data_with p b x t m g j z k
+    parts o p a b u x s t l m f g i j y z n k e1 e2 e3 e4 e5 e6 e7 e8 e9 =
+        ap (λ (q : Order). data_with q a u s l f i y n) e1
+        ∙ ap (λ (q : Located). data_with p q u s l f i y n) e2
+        ∙ ap (λ (q : List UnitSection). data_with p b q s l f i y n) e3
+        ∙ ap (λ (q : Located). data_with p b x q l f i y n) e4
+        ∙ ap (λ (q : Located). data_with p b x t q f i y n) e5
+        ∙ ap (λ (q : Located). data_with p b x t m q i y n) e6
+        ∙ ap (λ (q : Located). data_with p b x t m g q y n) e7
+        ∙ ap (λ (q : List CellSection). data_with p b x t m g j q n) e8
+        ∙ ap (λ (q : Located). data_with p b x t m g j z q) e9
 
 -- the sections that are meant as they stand
 record Meant (new old : ViewSection) : Type 0 where
@@ -389,6 +423,7 @@ meaning_with order g str others r = record {
   units = units_of g r;
   slots = slot_texts order str r.offsets;
   lines = line_meanings (line_source g) r.lines;
+  macros = macro_meanings (around_of g r) r.macros;
   names = name_parts order str r.names;
   others = bytes_named others;
 }

@@ -18,7 +18,7 @@ use Rattle.dw_base.specs.declared.values.Spec.{Spec}
 use Rattle.dw_base.specs.declared.values.Value.{Value}
 use Rattle.dw_find.specs.EntryTexts.{Tables, Found, OffsetSized, StartSized, with_base, with_paths, with_places, with_stray, TakenBehind, AreTaken, ValueRefuses, OneRefuses, none, some, ValuesRefuse, fails, value, ValueTaken}
 use Rattle.dw_find.specs.EntryTexts.ValueRefuses.{str, line_str}
-use Rattle.dw_find.specs.TextPlaces.{TextPlace, Indexed, no_index, no_start, unit_start, unit_base, text_index, base_in, base_or, fields_in, index_at, indexes_in, indexed_at, inline_in, is_macros, is_start, is_start_form, line_at, macros_in, own_form, own_place, said_places, said_value, start_at, starts_in, stray_in, stray_or, line_places, class_places, unit_start_at, value_places, value_places_behind, values_places}
+use Rattle.dw_find.specs.TextPlaces.{TextPlace, Indexed, no_index, no_start, unit_start, unit_base, text_index, base_in, base_or, fields_in, index_at, indexes_in, indexed_at, inline_in, is_macros, is_start, is_start_form, line_at, macros_in, own_form, said_places, said_value, start_at, starts_in, stray_in, stray_or, line_places, class_places, unit_start_at, value_places, value_places_behind, values_places}
 use Rattle.dw_find.specs.UnitPaths.{UnitPaths}
 use Rattle.dw_find.specs.declared.fields.InlinePath.{InlinePath}
 use Rattle.dw_find.specs.declared.fields.PathField.{PathField}
@@ -203,16 +203,16 @@ line-says false form v = refl
 
 -- what a value says: the start of a line table, a text or an index, and what it says of other starts
 pub value-found : (number tag : ℕ) (x : Spec) (bytes : List ℕ) (place : ℕ) (v : Value) (f0 f1 f2 f3 : Found) (path base says : Bool)
-    → f3 ≡ with_places f2 (said_places (is_start x.name) (is_macros x.name) (own_form x bytes place) (own_place x bytes place) v)
+    → f3 ≡ with_places f2 (said_places (is_start x.name) (is_macros x.name) (own_form x bytes place) place v)
     → f2 ≡ with_places f1 (class_places v.class path base place v) → f1 ≡ with_places f0 (line_at says v)
     → path ≡ is_path number tag x.name → base ≡ is_base number x.name
     → says ≡ ((x.name == DW_AT_stmt_list) && is_start_form (own_form x bytes place)) → f3 ≡ with_places f0 (value_places number tag x bytes place v)
 value-found number tag x bytes place v f0 f1 f2 f3 path base says third second first path_is base_is says_is =
     let ls : List TextPlace = line_places (x.name == DW_AT_stmt_list) (own_form x bytes place) v in
     let cs : List TextPlace = class_places v.class (is_path number tag x.name) (is_base number x.name) place v in
-    let ss : List TextPlace = said_places (is_start x.name) (is_macros x.name) (own_form x bytes place) (own_place x bytes place) v in
+    let ss : List TextPlace = said_places (is_start x.name) (is_macros x.name) (own_form x bytes place) place v in
     third
-    ∙ ap (λ (f : Found). with_places f (said_places (is_start x.name) (is_macros x.name) (own_form x bytes place) (own_place x bytes place) v))
+    ∙ ap (λ (f : Found). with_places f (said_places (is_start x.name) (is_macros x.name) (own_form x bytes place) place v))
     (second ∙ ap (λ (b : Bool). with_places f1 (class_places v.class b base place v)) path_is
     ∙ ap (λ (b : Bool). with_places f1 (class_places v.class (is_path number tag x.name) b place v)) base_is)
     ∙ with_places-more f1 cs ss
@@ -236,9 +236,9 @@ pub said-none : (start macro : Bool) (form place : ℕ) (v : Value) (f : Found) 
 said-none start macro form place v f e =
     sym (with_places-none f) ∙ sym (ap (λ (b : Bool). with_places f (said_places b macro form place v)) e)
 
-pub said-stray : (start macro can : Bool) (form own place : ℕ) (v : Value) (f g : Found) → start ≡ true → can ≡ is_start_form form → can ≡ false
+pub said-stray : (start macro can : Bool) (form place : ℕ) (v : Value) (f g : Found) → start ≡ true → can ≡ is_start_form form → can ≡ false
     → g ≡ with_places f (indexed_at place no_start) → g ≡ with_places f (said_places start macro form place v)
-said-stray start macro can form own place v f g e is no_ h =
+said-stray start macro can form place v f g e is no_ h =
     h ∙ sym (ap (λ (b : Bool). with_places f (said_value b macro place v)) (sym is ∙ no_)) ∙ sym (ap (λ (b : Bool). with_places f (said_places b macro form place v)) e)
 
 pub said-unit : (start macro can : Bool) (form place : ℕ) (v : Value) (f g : Found) → start ≡ true → macro ≡ true → can ≡ is_start_form form → can ≡ true

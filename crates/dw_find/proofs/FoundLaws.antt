@@ -12,7 +12,7 @@ use Rattle.dw_base.specs.Numbers.{spelled}
 use Rattle.dw_base.specs.Paths.{PathMap}
 use Rattle.dw_base.specs.Pieces.{Piece, joined, Chain, EachPiece}
 use Rattle.dw_base.specs.Roles.{Role, fixed, offset, inline_path, line_start, role_of, role_of_kind, role_of_mode, Use, use_of, is_line_start, is_path, is_path_use}
-use Rattle.dw_base.specs.TableStarts.{has_start_form, HasStartForm, NamesMacro, NamesUnitIf, is_macro_value, macro_value_by, macro_value_in, start_form_by, start_form_in}
+use Rattle.dw_base.specs.TableStarts.{has_start_form, HasStartForm, NamesMacro, NamesUnitIf, begin_in, is_macro_value, macro_value_by, macro_value_in, start_form_by, start_form_in, value_begin}
 use Rattle.dw_base.specs.LineMeanings.{is_there}
 use Rattle.dw_base.specs.MacroReadings.{MacroPlaces}
 use Rattle.dw_base.specs.LineReadings.{table_starts}
@@ -112,10 +112,10 @@ kind-indexed (leb_number class) path base order at p = by_class class base
     by_class c b = none_indexed
 kind-indexed k path base order at p = none_indexed
 
-said-indexed : (b macro : Bool) (at len : ℕ) → IsIndexed (said_start b macro at len)
-said-indexed true true at len = more_indexed at len unit_start [] none_indexed
-said-indexed true false at len = none_indexed
-said-indexed false macro at len = one_indexed at no_start
+said-indexed : (b macro : Bool) (begin at len : ℕ) → IsIndexed (said_start b macro begin at len)
+said-indexed true true begin at len = more_indexed at len unit_start [] none_indexed
+said-indexed true false begin at len = none_indexed
+said-indexed false macro begin at len = one_indexed begin no_start
 
 piece-indexed : (m : Mode) (s : UnitState) (p : List Cell) → IsIndexed (indexed_in m s p)
 piece-indexed at_header s p = none_indexed
@@ -123,14 +123,14 @@ piece-indexed at_code s p = none_indexed
 piece-indexed (at_values n tag []) s p = none_indexed
 piece-indexed (at_values n tag (x ∷ xs)) s p =
     both-indexed (indexed_kind (kind_in s.header.params x.form) (is_path n tag x.name) (is_base n x.name) s.header.params.order s.place p)
-    (said_start (start_form_by (kind_in s.header.params x.form) (use_of n tag x.name)) (macro_value_by (kind_in s.header.params x.form) (use_of n tag x.name)) s.place (length p))
+    (said_start (start_form_by (kind_in s.header.params x.form) (use_of n tag x.name)) (macro_value_by (kind_in s.header.params x.form) (use_of n tag x.name)) s.place s.place (length p))
     (kind-indexed (kind_in s.header.params x.form) (is_path n tag x.name) (is_base n x.name) s.header.params.order s.place p)
-    (said-indexed (start_form_by (kind_in s.header.params x.form) (use_of n tag x.name)) (macro_value_by (kind_in s.header.params x.form) (use_of n tag x.name)) s.place (length p))
+    (said-indexed (start_form_by (kind_in s.header.params x.form) (use_of n tag x.name)) (macro_value_by (kind_in s.header.params x.form) (use_of n tag x.name)) s.place s.place (length p))
 piece-indexed (at_chosen n tag start x xs) s p =
     both-indexed (indexed_kind (kind_in s.header.params x.form) (is_path n tag x.name) (is_base n x.name) s.header.params.order start p)
-    (said_start (start_form_by (kind_in s.header.params x.form) (use_of n tag x.name)) (macro_value_by (kind_in s.header.params x.form) (use_of n tag x.name)) s.place (length p))
+    (said_start (start_form_by (kind_in s.header.params x.form) (use_of n tag x.name)) (macro_value_by (kind_in s.header.params x.form) (use_of n tag x.name)) start s.place (length p))
     (kind-indexed (kind_in s.header.params x.form) (is_path n tag x.name) (is_base n x.name) s.header.params.order start p)
-    (said-indexed (start_form_by (kind_in s.header.params x.form) (use_of n tag x.name)) (macro_value_by (kind_in s.header.params x.form) (use_of n tag x.name)) s.place (length p))
+    (said-indexed (start_form_by (kind_in s.header.params x.form) (use_of n tag x.name)) (macro_value_by (kind_in s.header.params x.form) (use_of n tag x.name)) start s.place (length p))
 piece-indexed stuck s p = none_indexed
 
 fields-skip : (table : TextSection) (ts us : List TextPlace) → IsIndexed ts → fields_in table (ts ++ us) ≡ fields_in table us
@@ -190,19 +190,19 @@ stray-kind (leb_number class) path base order at p us = by_class class base
     by_class c b = refl
 stray-kind k path base order at p us = refl
 
-stray-form : (b macro : Bool) (at len : ℕ) (us : List TextPlace) → stray_in (said_start b macro at len ++ us) ≡ cond b (stray_in us) (Some at)
-stray-form true true at len us = refl
-stray-form true false at len us = refl
-stray-form false macro at len us = refl
+stray-form : (b macro : Bool) (begin at len : ℕ) (us : List TextPlace) → stray_in (said_start b macro begin at len ++ us) ≡ cond b (stray_in us) (Some begin)
+stray-form true true begin at len us = refl
+stray-form true false begin at len us = refl
+stray-form false macro begin at len us = refl
 
 stray-both : (k : ValueKind) (path base : Bool) (order : Order) (start : ℕ) (p : List Cell) (b macro : Bool) (at len : ℕ) (us : List TextPlace)
-    → stray_in ((indexed_kind k path base order start p ++ said_start b macro at len) ++ us) ≡ cond b (stray_in us) (Some at)
+    → stray_in ((indexed_kind k path base order start p ++ said_start b macro start at len) ++ us) ≡ cond b (stray_in us) (Some start)
 stray-both k path base order start p b macro at len us =
-    ap stray_in (append_assoc (indexed_kind k path base order start p) (said_start b macro at len) us)
-    ∙ stray-kind k path base order start p (said_start b macro at len ++ us) ∙ stray-form b macro at len us
+    ap stray_in (append_assoc (indexed_kind k path base order start p) (said_start b macro start at len) us)
+    ∙ stray-kind k path base order start p (said_start b macro start at len ++ us) ∙ stray-form b macro start at len us
 
 stray-piece : (m : Mode) (s : UnitState) (p : List Cell) (us : List TextPlace)
-    → stray_in (indexed_in m s p ++ us) ≡ cond (start_form_in m s.header.params) (stray_in us) (Some s.place)
+    → stray_in (indexed_in m s p ++ us) ≡ cond (start_form_in m s.header.params) (stray_in us) (Some (begin_in m s.place))
 stray-piece at_header s p us = refl
 stray-piece at_code s p us = refl
 stray-piece (at_values n tag []) s p us = refl
@@ -219,7 +219,7 @@ stray-are [] = refl
 stray-are (x ∷ xs) =
     stray-role (role_of x) x.state.place (length x.cells) (indexed_in x.state.mode x.state x.cells ++ places_in xs)
     ∙ stray-piece x.state.mode x.state x.cells (places_in xs)
-    ∙ ap (λ (o : Option ℕ). cond (has_start_form x) o (Some x.state.place)) (stray-are xs)
+    ∙ ap (λ (o : Option ℕ). cond (has_start_form x) o (Some (value_begin x.state))) (stray-are xs)
 
 -- the fields of the starts of macro units too
 macro-role : (r : Role) (at len : ℕ) (us : List TextPlace) → macros_in (place_of r at len ++ us) ≡ macros_in us
@@ -247,21 +247,22 @@ macro-kind (leb_number class) path base order at p us = by_class class base
     by_class c b = refl
 macro-kind k path base order at p us = refl
 
-macro-said : (b macro : Bool) (at len : ℕ) (us : List TextPlace) → (macro ≡ true → b ≡ true) → macros_in (said_start b macro at len ++ us) ≡ macro_by macro at len ++ macros_in us
-macro-said true true at len us form = refl
-macro-said true false at len us form = refl
-macro-said false false at len us form = refl
-macro-said false true at len us form =
+macro-said : (b macro : Bool) (begin at len : ℕ) (us : List TextPlace) → (macro ≡ true → b ≡ true)
+    → macros_in (said_start b macro begin at len ++ us) ≡ macro_by macro at len ++ macros_in us
+macro-said true true begin at len us form = refl
+macro-said true false begin at len us form = refl
+macro-said false false begin at len us form = refl
+macro-said false true begin at len us form =
     let is : false ≡ true = form refl in
     absurd cc
 
 macro-both : (k : ValueKind) (path base : Bool) (order : Order) (start : ℕ) (p : List Cell) (u : Use) (at len : ℕ) (us : List TextPlace)
-    → macros_in ((indexed_kind k path base order start p ++ said_start (start_form_by k u) (macro_value_by k u) at len) ++ us)
+    → macros_in ((indexed_kind k path base order start p ++ said_start (start_form_by k u) (macro_value_by k u) start at len) ++ us)
     ≡ macro_by (macro_value_by k u) at len ++ macros_in us
 macro-both k path base order start p u at len us =
-    ap macros_in (append_assoc (indexed_kind k path base order start p) (said_start (start_form_by k u) (macro_value_by k u) at len) us)
-    ∙ macro-kind k path base order start p (said_start (start_form_by k u) (macro_value_by k u) at len ++ us)
-    ∙ macro-said (start_form_by k u) (macro_value_by k u) at len us (macro-form k u)
+    ap macros_in (append_assoc (indexed_kind k path base order start p) (said_start (start_form_by k u) (macro_value_by k u) start at len) us)
+    ∙ macro-kind k path base order start p (said_start (start_form_by k u) (macro_value_by k u) start at len ++ us)
+    ∙ macro-said (start_form_by k u) (macro_value_by k u) start at len us (macro-form k u)
 
 macro-piece : (m : Mode) (s : UnitState) (p : List Cell) (us : List TextPlace)
     → macros_in (indexed_in m s p ++ us) ≡ macro_by (macro_value_in m s.header.params) s.place (length p) ++ macros_in us
@@ -431,7 +432,7 @@ pub forms-are : (xs : List (Piece UnitState)) → stray_among xs ≡ None → Ea
 forms-are [] none = tt
 forms-are (x ∷ xs) none = by_form (has_start_form x) refl none (forms-are xs)
   where
-    by_form : (b : Bool) → has_start_form x ≡ b → cond {A = Option ℕ} b (stray_among xs) (Some x.state.place) ≡ None → (stray_among xs ≡ None → EachPiece HasStartForm xs)
+    by_form : (b : Bool) → has_start_form x ≡ b → cond {A = Option ℕ} b (stray_among xs) (Some (value_begin x.state)) ≡ None → (stray_among xs ≡ None → EachPiece HasStartForm xs)
         → EachPiece HasStartForm (x ∷ xs)
     by_form true is e rest = (is, rest e)
     by_form false is e rest = absurd cc

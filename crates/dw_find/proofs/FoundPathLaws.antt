@@ -2,7 +2,7 @@
 use Rattle.std.proofs.Common.{true, false, ◌≡◌, ◌⊎◌, inl, inr, ℕ, ◌+◌, ◌<◌, ◌≤◌, if◌then◌else◌, Bool, List, [], ◌∷◌, ◌++◌, length, drop, replicate, Option, Some, None, refl, sym, ap, ◌∙◌, subst, arith, append_assoc}
 use Rattle.std.proofs.lemmas.List.{length-append, length-drop, length-replicate}
 use Rattle.dw_base.specs.Cells.{Cell, bytes_of, plain_cells}
-use Rattle.dw_base.specs.DebugData.{Around, DataReadings, ReadsAll, around_of, indexing_of, line_source, path_slots}
+use Rattle.dw_base.specs.DebugData.{Around, DataReadings, ReadsAll, around_of, indexing_of, line_source, macro_places, path_slots}
 use Rattle.dw_base.specs.DebugSections.{name_of}
 use Rattle.dw_base.specs.FileViews.{View, section_bytes, section_named}
 use Rattle.dw_base.specs.Forms.{in_str, width_size}
@@ -57,7 +57,9 @@ use Rattle.dw_find.specs.FoundPaths.{PathsFound, PathsRefuse, SlotsFound, UnitPa
 use Rattle.dw_find.specs.FoundPaths.PathsRefuse.{units, starts, inline, string_tables, name_tables, slots, shared}
 use Rattle.dw_find.specs.FoundPaths.UnitPathsRefuse.{texts as refused_texts, inline as refused_inline}
 use Rattle.dw_find.specs.Fields.{ArePathFields, IsPathField, OffsetTable, offset_at}
-use Rattle.dw_find.specs.IndexedTexts.{SlotsMarked, TablesStart, TextsIndexed, indexing_with}
+use Rattle.dw_find.specs.IndexedTexts.{SlotsMarked, TablesStart, TextsIndexed, UnitsStart, indexing_with}
+use Rattle.dw_find.specs.MacroNames.{MacrosName, MacrosStray}
+use Rattle.dw_find.specs.MacroSections.{SectionUnits, UnitsFoundIn, first_places, macros_of, macros_read}
 use Rattle.dw_find.specs.IndexedTexts.TextsRefuse.{units as texts_units, starts as texts_starts, index as texts_index}
 use Rattle.dw_find.specs.NamedSlots.{LieWithin}
 use Rattle.dw_find.proofs.SlotRunLaws.{contributions-lie}
@@ -69,7 +71,13 @@ use Rattle.dw_find.specs.ViewLines.{lines_of_view, starts_of}
 use Rattle.dw_find.specs.declared.fields.PathField.{PathField}
 use Rattle.dw_find.proofs.ApartLaws.{slots-apart}
 use Rattle.dw_find.proofs.PieceFieldLaws.{piece_number}
-use Rattle.dw_find.proofs.FoundLaws.{FoundReadings, found-readings, found-fits}
+use Rattle.dw_find.proofs.FoundLaws.{FoundReadings, PlacesStart, found-readings, found-fits}
+use Rattle.dw_find.proofs.MacroAskedLaws.{asked-of}
+use Rattle.dw_find.proofs.MacroFoundLaws.{PieceNames, SectionsRead, holds-else, sections-read}
+use Rattle.dw_find.proofs.MacroNameLaws.{units-in}
+use Rattle.dw_find.proofs.MacroPathLaws.{have-macros, macro-imports, macro-texts, macros-order, places-start, rooms-macros}
+use Rattle.dw_find.proofs.MacroStartLaws.{units-start}
+use Rattle.dw_find.proofs.MacroStrayLaws.{macros-fail}
 use Rattle.dw_find.proofs.TableStartLaws.{read-starts}
 use Rattle.dw_find.proofs.FoundUnitLaws.{lines-have, without-is}
 use Rattle.dw_find.proofs.OffsetPlaceLaws.{offsets-placed, offsets-plain, offsets-of}
@@ -293,58 +301,73 @@ tables-start v ts first found is = record {
 pub slice-start : (v : View) (ts : List LineTable) (first slice : List ℕ) → TablesFound v ts → first ≡ starts_of ts → slice ≡ first → TablesStart (debug_data v) slice
 slice-start v ts first slice found is same = tables-start v ts slice found (same ∙ is)
 
-pub paths-found : (m : PathMap) (v : View) (list : List Contribution) (marks first slice : List ℕ) (tables : List NameTable) (ts : List LineTable) (us with_slots all : List UnitPaths)
-    → AreContributions v.order (string_offsets v) list → AreNameTables v tables → TablesFound v ts → first ≡ starts_of ts → slice ≡ first
-    → UnitsFound m (debug_data v) slice us → TextsIndexed (debug_data v) list marks
-    → SlotsFound m v list marks us with_slots → all ≡ with_slots ++ lines_of_view v ts → PathsFound m v all ts
+-- where its macro units start
+pub slice-units : (v : View) (ss : List SectionUnits) (places slice : List ℕ) → UnitsFoundIn v ss → places ≡ first_places ss → slice ≡ places → UnitsStart (debug_data v) slice
+slice-units v ss places slice found is same = units-start v ss slice found (same ∙ is)
+
+pub paths-found : (m : PathMap) (v : View) (list : List Contribution) (marks first slice again places inside also : List ℕ) (tables : List NameTable) (ts : List LineTable) (ss : List SectionUnits)
+    (us with_slots with_macros all : List UnitPaths) → AreContributions v.order (string_offsets v) list → AreNameTables v tables → TablesFound v ts → first ≡ starts_of ts → slice ≡ first
+    → again ≡ first → UnitsFoundIn v ss → places ≡ first_places ss → inside ≡ places → also ≡ places → UnitsFound m (debug_data v) slice inside us → TextsIndexed (debug_data v) list marks
+    → MacrosName v again also ss → SlotsFound m v list marks us with_slots → with_macros ≡ with_slots ++ macros_of ss → all ≡ with_macros ++ lines_of_view v ts → PathsFound m v all ts
 unfolding slice-start tables-start
-paths-found m v list marks first slice tables ts us with_slots all are named lines starts_are same found indexed slots_found all_is =
-    let p : Parts m v list marks slice us tables = parts-of m v list marks slice places us tables are named found indexed in
-    let rs : DataReadings = readings_with p.found.readings p.offsets.pieces lines.readings macros.readings p.names.pieces in
+paths-found m v list marks first slice again places inside also tables ts ss us with_slots with_macros all are named lines starts_are same once units_are places_are within twice found indexed names
+    slots_found macros_is all_is =
+    let p : Parts m v list marks slice us tables = parts-of m v list marks slice inside us tables are named found indexed in
+    let here : MacrosName v slice inside ss =
+    subst (λ (l : List ℕ). MacrosName v l inside ss) (once ∙ sym same) (subst (λ (l : List ℕ). MacrosName v again l ss) (twice ∙ sym within) names) in
+    let macros : SectionsRead v (PieceNames (debug_data v) slice inside) (debug_data v).macros ss =
+    sections-read v (PieceNames (debug_data v) slice inside) (debug_data v).macros ss (holds-else (debug_data v) slice inside) (asked-of v slice inside ss units_are here) in
     let i = indexes-read v list p.found.readings p.offsets lines.readings macros.readings p.names.pieces p.found.reads in
     let around = slots-around v list marks p.found.readings p.offsets lines.readings macros.readings p.names.pieces p.marked in
     let same_list = contributions-around v list p.found.readings p.offsets lines.readings macros.readings p.names.pieces in
     let start_is : slice ≡ table_starts lines.readings = (slice-start v ts first slice lines starts_are same).is in
+    let units_start : PlacesStart inside (macro_places (debug_data v) (readings_with p.found.readings p.offsets.pieces lines.readings macros.readings p.names.pieces)) =
+    places-start v ss inside (readings_with p.found.readings p.offsets.pieces lines.readings macros.readings p.names.pieces) units_are (within ∙ places_are) macros.starts in
     let say : SlotsSay m (around_of (debug_data v) (readings_with p.found.readings p.offsets.pieces lines.readings macros.readings p.names.pieces)) p.offsets.pieces slots_found.fields =
     slots-say m (around_of (debug_data v) (readings_with p.found.readings p.offsets.pieces lines.readings macros.readings p.names.pieces)) (slots_in v) (plain_cells (string_offsets v).bytes) p.offsets.pieces marks
     slots_found.fields around (subst (λ (cs_ : List Contribution). SlotsTaken m (slots_in v) marks (slots_of cs_) [] slots_found.fields) (sym same_list) slots_found.taken) in
     let fields : as_fields slots_found.fields ≡ read_fields (debug_data v) (readings_with p.found.readings p.offsets.pieces lines.readings macros.readings p.names.pieces) =
     ap as_fields say.fields_are ∙ fields-are (path_slots (around_of (debug_data v) (readings_with p.found.readings p.offsets.pieces lines.readings macros.readings p.names.pieces))) p.offsets.pieces in
-    let is : with_slots ≡ us ++ slots_read v (readings_with p.found.readings p.offsets.pieces lines.readings macros.readings p.names.pieces) =
+    let slots_is : with_slots ≡ us ++ slots_read v (readings_with p.found.readings p.offsets.pieces lines.readings macros.readings p.names.pieces) =
     slots_found.is ∙ ap (λ (fs : List PathField). us ++ slots_of_view v fs) fields in
-    let without : without_lines v all ≡ with_slots = without-is v all with_slots ts all_is in
-    let have : AllHavePaths v with_slots =
+    let is : with_macros ≡ (us ++ slots_read v (readings_with p.found.readings p.offsets.pieces lines.readings macros.readings p.names.pieces)) ++ macros_read macros.readings =
+    macros_is ∙ ap (λ (ws : List UnitPaths). ws ++ macros_of ss) slots_is
+    ∙ ap (λ (ws : List UnitPaths). (us ++ slots_read v (readings_with p.found.readings p.offsets.pieces lines.readings macros.readings p.names.pieces)) ++ ws) (sym macros.says) in
+    let without : without_lines v all ≡ with_macros = without-is v all with_macros ts all_is in
+    let have : AllHavePaths v with_macros =
     subst (AllHavePaths v) (sym is)
-    (have-append v us (slots_read v (readings_with p.found.readings p.offsets.pieces lines.readings macros.readings p.names.pieces))
-    (has-each v us (all-facts v [] (debug_data v).units us refl found.placed))
-    (slots-have v (readings_with p.found.readings p.offsets.pieces lines.readings macros.readings p.names.pieces) i.offsets say.texts)) in
-    let rooms : AllRoomsFit m v with_slots =
+    (have-macros v (us ++ slots_read v (readings_with p.found.readings p.offsets.pieces lines.readings macros.readings p.names.pieces)) macros.readings
+    (have-append v us (slots_read v (readings_with p.found.readings p.offsets.pieces lines.readings macros.readings p.names.pieces)) (has-each v us (all-facts v [] (debug_data v).units us refl found.placed)) (slots-have v (readings_with p.found.readings p.offsets.pieces lines.readings macros.readings p.names.pieces) i.offsets say.texts)) macros.reads) in
+    let rooms : AllRoomsFit m v with_macros =
     subst (AllRoomsFit m v) (sym is)
-    (rooms-each m v [] (debug_data v).units us (slots_read v (readings_with p.found.readings p.offsets.pieces lines.readings macros.readings p.names.pieces)) refl found.placed found.fits
-    (slots-rooms m v (section_named v (name_of StrOffsets)) (read_fields (debug_data v) (readings_with p.found.readings p.offsets.pieces lines.readings macros.readings p.names.pieces)))) in
+    (rooms-macros m v (us ++ slots_read v (readings_with p.found.readings p.offsets.pieces lines.readings macros.readings p.names.pieces)) macros.readings
+    (rooms-each m v [] (debug_data v).units us (slots_read v (readings_with p.found.readings p.offsets.pieces lines.readings macros.readings p.names.pieces)) refl found.placed found.fits (slots-rooms m v (section_named v (name_of StrOffsets)) (read_fields (debug_data v) (readings_with p.found.readings p.offsets.pieces lines.readings macros.readings p.names.pieces))))) in
     record {
       readings = readings_with p.found.readings p.offsets.pieces lines.readings macros.readings p.names.pieces;
       reads = record {
         units = p.found.reads;
         offsets = i.offsets;
         lines = lines.reads;
+        macros = macros-order v macros.readings macros.reads;
         names = names-cells v p.names.pieces p.names.reads;
-        texts = p.found.names (readings_with p.found.readings p.offsets.pieces lines.readings macros.readings p.names.pieces) slice start_is found.named;
+        texts = p.found.names (readings_with p.found.readings p.offsets.pieces lines.readings macros.readings p.names.pieces) slice inside start_is found.named;
         slot_texts = say.texts;
+        macro_texts = macro-texts v (readings_with p.found.readings p.offsets.pieces lines.readings macros.readings p.names.pieces) slice inside macros.readings start_is macros.each;
         name_texts = all-names v (readings_with p.found.readings p.offsets.pieces lines.readings macros.readings p.names.pieces) p.names.pieces p.names.texts;
         indexes = subst (λ (g : Indexing). EachUse (NamesSlot g) g.uses)
             (indexing-is v list p.found.readings p.offsets.pieces lines.readings macros.readings p.names.pieces p.offsets.list_is) p.marked.named;
-        forms = p.found.forms slice found.named;
+        forms = p.found.forms slice inside found.named;
+        macro_values = p.found.units (around_of (debug_data v) (readings_with p.found.readings p.offsets.pieces lines.readings macros.readings p.names.pieces)).lasting slice inside refl units_start found.named;
+        imports = macro-imports v (readings_with p.found.readings p.offsets.pieces lines.readings macros.readings p.names.pieces) slice inside macros.readings units_start macros.each;
       };
       inline = found-fits (debug_data v).base m 0 (debug_data v).units p.found.readings p.found.reads
           (subst (AllFitRooms m (debug_data v).units) (sym p.found.says) found.fits);
       slots = say.fits;
-      built = found.built;
-      fields = subst (AllHaveFields v) (sym all_is) (have-fields v with_slots (lines_of_view v ts) have (lines-have v lines.readings ts lines.reads lines.is));
+      fields = subst (AllHaveFields v) (sym all_is) (have-fields v with_macros (lines_of_view v ts) have (lines-have v lines.readings ts lines.reads lines.is));
       have = subst (AllHavePaths v) (sym without) have;
       rooms = subst (AllRoomsFit m v) (sym without) rooms;
       is = all_is ∙ ap (λ (ws : List UnitPaths). ws ++ lines_of_view v ts)
-          (is ∙ ap (λ (ws : List UnitPaths). ws ++ slots_read v (readings_with p.found.readings p.offsets.pieces lines.readings macros.readings p.names.pieces)) (sym p.found.says));
+          (is ∙ ap (λ (ws : List UnitPaths). (ws ++ slots_read v (readings_with p.found.readings p.offsets.pieces lines.readings macros.readings p.names.pieces)) ++ macros_read macros.readings) (sym p.found.says));
       tables = lines.is;
     }
 
@@ -394,6 +417,13 @@ slots-fault m v list marks first places tables us (Refused r) are named found in
     (slots-around v list marks p.found.readings p.offsets [] [] p.names.pieces p.marked)
     (subst (λ (cs_ : List Contribution). SlotsRefuse m (slots_in v) marks (slots_of cs_) r) (sym same) h)))
 
+pub macros-row : (m : PathMap) (v : View) (first slice again places inside also : List ℕ) (ts : List LineTable) (ss : List SectionUnits) (us : List UnitPaths) (r : Refusal) → TablesFound v ts
+    → first ≡ starts_of ts → again ≡ first → UnitsFoundIn v ss → places ≡ first_places ss → also ≡ places → UnitsFound m (debug_data v) slice inside us → MacrosStray v again also ss r
+    → PathsRefuse m v r
+macros-row m v first slice again places inside also ts ss us r lines starts_are once units_are places_are twice found stray =
+    let f : FoundReadings (debug_data v) 0 (debug_data v).units us = found-readings (debug_data v) 0 (debug_data v).units us found.placed in
+    starts (macros-fail v f.readings again also ss r f.reads (slice-start v ts first again lines starts_are once) (slice-units v ss places also units_are places_are twice) units_are stray)
+
 -- the contributions lie in as many bytes as are marked
 pub lie-marks : (v : View) (list : List Contribution) (marks : List ℕ) → AreContributions v.order (string_offsets v) list
     → marks ≡ replicate (length (string_offsets v).bytes) 0 → LieWithin list (length marks)
@@ -402,4 +432,4 @@ lie-marks v list marks are is =
     let size : length marks ≡ length (string_offsets v).bytes = ap (λ (l : List ℕ). length l) is ∙ length-replicate (length (string_offsets v).bytes) none in
     contributions-lie v.order (string_offsets v) list (length marks) are size
 
-pub ruleset found_rules = (paths-found, slice-start, contributions-fault, names-fault, units-fault, slots-fault, lie-marks)
+pub ruleset found_rules = (slice-units, units-in, contributions-fault, names-fault, units-fault, slots-fault, lie-marks)

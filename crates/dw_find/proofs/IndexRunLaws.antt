@@ -77,15 +77,15 @@ place-bases inline_path unit at len = refl
 place-bases line_start unit at len = refl
 
 -- and neither does what a value says of starts
-said-uses : (b macro : Bool) (section unit at len : ℕ) (ts : List TextPlace) → uses_among section unit (ts ++ said_start b macro at len) ≡ uses_among section unit ts
-said-uses true true section unit at len ts = uses_among-append section unit ts (said_start true true at len) ∙ append-nil (uses_among section unit ts)
-said-uses true false section unit at len ts = ap (uses_among section unit) (append-nil ts)
-said-uses false macro section unit at len ts = uses_among-append section unit ts (said_start false macro at len) ∙ append-nil (uses_among section unit ts)
+said-uses : (b macro : Bool) (section unit begin at len : ℕ) (ts : List TextPlace) → uses_among section unit (ts ++ said_start b macro begin at len) ≡ uses_among section unit ts
+said-uses true true section unit begin at len ts = uses_among-append section unit ts (said_start true true begin at len) ∙ append-nil (uses_among section unit ts)
+said-uses true false section unit begin at len ts = ap (uses_among section unit) (append-nil ts)
+said-uses false macro section unit begin at len ts = uses_among-append section unit ts (said_start false macro begin at len) ∙ append-nil (uses_among section unit ts)
 
-said-bases : (b macro : Bool) (unit at len : ℕ) (ts : List TextPlace) → bases_among unit (ts ++ said_start b macro at len) ≡ bases_among unit ts
-said-bases true true unit at len ts = bases_among-append unit ts (said_start true true at len) ∙ append-nil (bases_among unit ts)
-said-bases true false unit at len ts = ap (bases_among unit) (append-nil ts)
-said-bases false macro unit at len ts = bases_among-append unit ts (said_start false macro at len) ∙ append-nil (bases_among unit ts)
+said-bases : (b macro : Bool) (unit begin at len : ℕ) (ts : List TextPlace) → bases_among unit (ts ++ said_start b macro begin at len) ≡ bases_among unit ts
+said-bases true true unit begin at len ts = bases_among-append unit ts (said_start true true begin at len) ∙ append-nil (bases_among unit ts)
+said-bases true false unit begin at len ts = ap (bases_among unit) (append-nil ts)
+said-bases false macro unit begin at len ts = bases_among-append unit ts (said_start false macro begin at len) ∙ append-nil (bases_among unit ts)
 
 -- a value that names a text by index
 kind-uses : (k : ValueKind) (path base : Bool) (order : Order) (s : UnitState) (at : ℕ) (p : List Cell)
@@ -116,12 +116,12 @@ piece-uses (at_values n tag []) order s p same = refl
 piece-uses (at_values n tag (x ∷ xs)) order s p same =
     kind-uses (kind_in s.header.params x.form) (is_path n tag x.name) (is_base n x.name) order s s.place p
     ∙ ap (λ (o : Order). uses_among s.section s.unit (indexed_kind (kind_in s.header.params x.form) (is_path n tag x.name) (is_base n x.name) o s.place p)) (sym same)
-    ∙ sym (said-uses (start_form_by (kind_in s.header.params x.form) (use_of n tag x.name)) (macro_value_by (kind_in s.header.params x.form) (use_of n tag x.name)) s.section s.unit s.place (length p)
+    ∙ sym (said-uses (start_form_by (kind_in s.header.params x.form) (use_of n tag x.name)) (macro_value_by (kind_in s.header.params x.form) (use_of n tag x.name)) s.section s.unit s.place s.place (length p)
     (indexed_kind (kind_in s.header.params x.form) (is_path n tag x.name) (is_base n x.name) s.header.params.order s.place p))
 piece-uses (at_chosen n tag start x xs) order s p same =
     kind-uses (kind_in s.header.params x.form) (is_path n tag x.name) (is_base n x.name) order s start p
     ∙ ap (λ (o : Order). uses_among s.section s.unit (indexed_kind (kind_in s.header.params x.form) (is_path n tag x.name) (is_base n x.name) o start p)) (sym same)
-    ∙ sym (said-uses (start_form_by (kind_in s.header.params x.form) (use_of n tag x.name)) (macro_value_by (kind_in s.header.params x.form) (use_of n tag x.name)) s.section s.unit s.place (length p)
+    ∙ sym (said-uses (start_form_by (kind_in s.header.params x.form) (use_of n tag x.name)) (macro_value_by (kind_in s.header.params x.form) (use_of n tag x.name)) s.section s.unit start s.place (length p)
     (indexed_kind (kind_in s.header.params x.form) (is_path n tag x.name) (is_base n x.name) s.header.params.order start p))
 piece-uses stuck order s p same = refl
 
@@ -183,12 +183,12 @@ piece-bases (at_values n tag []) order y s p same plain = refl
 piece-bases (at_values n tag (x ∷ xs)) order y s p same plain =
     kind-bases (kind_in s.header.params x.form) (is_path n tag x.name) (is_base n x.name) order y s s.place p plain
     ∙ ap (λ (o : Order). bases_among s.unit (indexed_kind (kind_in s.header.params x.form) (is_path n tag x.name) (is_base n x.name) o s.place p)) (sym same)
-    ∙ sym (said-bases (start_form_by (kind_in s.header.params x.form) (use_of n tag x.name)) (macro_value_by (kind_in s.header.params x.form) (use_of n tag x.name)) s.unit s.place (length p)
+    ∙ sym (said-bases (start_form_by (kind_in s.header.params x.form) (use_of n tag x.name)) (macro_value_by (kind_in s.header.params x.form) (use_of n tag x.name)) s.unit s.place s.place (length p)
     (indexed_kind (kind_in s.header.params x.form) (is_path n tag x.name) (is_base n x.name) s.header.params.order s.place p))
 piece-bases (at_chosen n tag start x xs) order y s p same plain =
     kind-bases (kind_in s.header.params x.form) (is_path n tag x.name) (is_base n x.name) order y s start p plain
     ∙ ap (λ (o : Order). bases_among s.unit (indexed_kind (kind_in s.header.params x.form) (is_path n tag x.name) (is_base n x.name) o start p)) (sym same)
-    ∙ sym (said-bases (start_form_by (kind_in s.header.params x.form) (use_of n tag x.name)) (macro_value_by (kind_in s.header.params x.form) (use_of n tag x.name)) s.unit s.place (length p)
+    ∙ sym (said-bases (start_form_by (kind_in s.header.params x.form) (use_of n tag x.name)) (macro_value_by (kind_in s.header.params x.form) (use_of n tag x.name)) s.unit start s.place (length p)
     (indexed_kind (kind_in s.header.params x.form) (is_path n tag x.name) (is_base n x.name) s.header.params.order start p))
 piece-bases stuck order y s p same plain = refl
 

@@ -33,8 +33,11 @@ pub mod MacroPlaceLaws
 pub mod MacroFoundLaws
 pub mod MacroHaveLaws
 pub mod MacroStartLaws
+pub mod MacroAskedLaws
+pub mod MacroStrayLaws
 pub mod MacroListLaws
 pub mod MacroNameLaws
+pub mod MacroLoopLaws
 pub mod MacroSectionLaws
 pub mod SlotPlaceLaws
 pub mod TableStartLaws
@@ -44,6 +47,7 @@ pub mod LineTextLaws
 pub mod SlotPathLaws
 pub mod OffsetPlaceLaws
 pub mod FoundUnitLaws
+pub mod MacroPathLaws
 pub mod FoundPathLaws
 pub mod SharedLaws
 pub mod ReadDataLaws

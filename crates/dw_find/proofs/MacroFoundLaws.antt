@@ -1,24 +1,21 @@
 -- Sections of macro units whose units were read, and name what they are to name by starts and places, are pieces that do; and these say
 -- of line tables what the units say.
-use Rattle.std.proofs.Common.{Bool, true, false, ◌≡◌, ℕ, arith, List, [], ◌∷◌, ◌++◌, length, IsTrue, Option, Some, None, refl, sym, ap, ◌∙◌, subst, append_assoc}
+use Rattle.std.proofs.Common.{true, false, ◌≡◌, ℕ, List, [], ◌∷◌, ◌++◌, length, IsTrue, Option, Some, None, refl, sym, ap, ◌∙◌}
 use Rattle.std.specs.Bool.{⊤}
 use Rattle.dw_base.specs.Cells.{Cell, CellSection, field_of, located_cells, offset_of}
 use Rattle.dw_base.specs.DebugData.{DebugData, Around, Lasting, start_number}
 use Rattle.dw_base.specs.FileViews.{View}
-use Rattle.dw_base.specs.Forms.{in_str, width_size}
 use Rattle.dw_base.specs.LineMeanings.{is_there}
-use Rattle.dw_base.specs.MacroPieces.{OffsetUse, of_text, of_unit, MacroMode, at_unit, at_line, at_operation, at_offset, no_macros, MacroState, FitsMacros, macros_at, macro_grammar}
+use Rattle.dw_base.specs.MacroPieces.{of_text, of_unit, MacroMode, at_unit, at_line, at_operation, at_offset, no_macros, MacroState, FitsMacros, macros_at, macro_grammar}
 use Rattle.dw_base.specs.MacroReadings.{MacroReading, MacroStart, ReadsAllMacros, EachMacro, macro_starts as units_begun}
 use Rattle.dw_base.specs.MacroUnits.{AreMacroUnits}
-use Rattle.dw_base.specs.Pieces.{Piece, Chain, EachPiece}
-use Rattle.dw_base.specs.Roles.{Role}
-use Rattle.dw_base.specs.SectionTexts.{macro_role, macro_role_by}
-use Rattle.dw_base.specs.TableStarts.{NamesImport, NamesUnitIf, is_import}
+use Rattle.dw_base.specs.Pieces.{Piece, Chain}
+use Rattle.dw_base.specs.SectionTexts.{macro_role_by}
+use Rattle.dw_base.specs.TableStarts.{NamesUnitIf, is_import}
 use Rattle.dw_base.specs.TextChanges.{NamesTextBy}
 use Rattle.dw_base.specs.Texts.{ends_in}
 use Rattle.dw_base.specs.declared.macro_units.MacroUnit.{MacroUnit}
 use Rattle.dw_base.specs.declared.shared.Order.{Order}
-use Rattle.dw_base.specs.declared.shared.Width.{Width}
 use Rattle.dw_meaning.proofs.MacroPieceLaws.{Asked, CellsOf, EachUnit, FieldPlace, HoldsElse, PiecesRead, all_unit_starts, has_offset, line_field_by, line_fields as fields_begun, unit_line, unit_lines, unit_starts, units-read}
 use Rattle.dw_find.specs.MacroSections.{SectionUnits, line_field, line_fields, macro_starts, macros_of, macros_read, macros_with}
 use Rattle.dw_find.specs.TextPlaces.{names_place}
@@ -73,7 +70,7 @@ NamesBy m d starts places p = ⊤
 abbrev pub PieceNames : DebugData → List ℕ → List ℕ → Piece MacroState → Type 0
 PieceNames d starts places x = NamesBy x.state.mode d starts places x.cells
 
-holds-else : (d : DebugData) (starts places : List ℕ) → HoldsElse (PieceNames d starts places)
+pub holds-else : (d : DebugData) (starts places : List ℕ) → HoldsElse (PieceNames d starts places)
 holds-else d starts places = record { holds = λ x none. by_mode x.state.mode x.cells none }
   where
     by_mode : (m : MacroMode) (p : List Cell) → has_offset m ≡ false → NamesBy m d starts places p

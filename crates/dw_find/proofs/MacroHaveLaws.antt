@@ -1,13 +1,13 @@
 -- What sections of macro units that were read say of line tables: fields of the view of which no two have a byte in common; and how these
 -- sections are numbered.
-use Rattle.std.proofs.Common.{Bool, true, false, ◌≡◌, ◌⊎◌, inl, inr, ℕ, suc, ◌+◌, ◌-◌, ◌<◌, ◌≤◌, ◌&&◌, arith, List, [], ◌∷◌, ◌++◌, length, drop, refl, sym, ap, ◌∙◌, subst}
+use Rattle.std.proofs.Common.{Bool, true, false, ◌≡◌, ◌⊎◌, inl, inr, ℕ, suc, ◌+◌, ◌<◌, ◌≤◌, ◌&&◌, arith, List, [], ◌∷◌, ◌++◌, length, drop, refl, sym, ap, ◌∙◌, subst}
 use Rattle.std.specs.Bool.{⊤}
 use Rattle.std.proofs.lemmas.List.{drop-drop, length-append, length-drop}
 use Rattle.dw_base.specs.Cells.{Cell, CellSection, bytes_of}
 use Rattle.dw_base.specs.DebugSections.{debug_section}
 use Rattle.dw_base.specs.FileViews.{View, ViewSection, section_bytes}
 use Rattle.dw_base.specs.Forms.{width_size}
-use Rattle.dw_base.specs.MacroPieces.{OffsetUse, of_text, of_unit, MacroMode, at_unit, at_line, at_operation, at_offset, no_macros, MacroState, FitsMacros, ReadsMacros, macros_at, macro_grammar}
+use Rattle.dw_base.specs.MacroPieces.{of_text, of_unit, MacroMode, at_unit, at_line, at_operation, at_offset, no_macros, MacroState, FitsMacros, ReadsMacros, macros_at, macro_grammar}
 use Rattle.dw_base.specs.MacroReadings.{MacroReading, ReadsAllMacros}
 use Rattle.dw_base.specs.Pieces.{Piece, Chain, joined}
 use Rattle.dw_base.specs.SectionTexts.{macro_role, macro_role_by}
@@ -18,7 +18,7 @@ use Rattle.dw_base.specs.declared.shared.Width.TheVariants.{W32, W64}
 use Rattle.dw_base.proofs.UnitEditLaws.{length-bytes_of}
 use Rattle.dw_base.proofs.UnitHeaderLaws.{bytes_of-append}
 use Rattle.dw_meaning.proofs.MacroPieceLaws.{CellsOf}
-use Rattle.dw_find.specs.Fields.{AllApart, AreStartFields, IsStartField}
+use Rattle.dw_find.specs.Fields.{AllApart, IsStartField}
 use Rattle.dw_find.specs.MacroSections.{macro_starts, macros_read, macros_with}
 use Rattle.dw_find.specs.UnitPaths.{start_by}
 use Rattle.dw_find.specs.ViewFields.{AllHavePaths, HasPaths}

@@ -1,13 +1,12 @@
 -- The sections of macro units of a view, found one after another.
-use Rattle.std.proofs.Common.{◌≡◌, ℕ, suc, ◌-◌, ◌<◌, arith, List, [], ◌∷◌, ◌++◌, length, Option, Some, None, refl, sym, ap, ◌∙◌, subst, append_assoc, append-nil}
-use Rattle.std.specs.Bool.{⊤}
+use Rattle.std.proofs.Common.{◌≡◌, ℕ, suc, ◌-◌, ◌<◌, arith, List, [], ◌∷◌, ◌++◌, length, Option, Some, None, sym, ap, ◌∙◌, subst, append_assoc, append-nil}
 use Rattle.dw_base.specs.Cells.{CellSection}
 use Rattle.dw_base.specs.DebugSections.{name_of}
 use Rattle.dw_base.specs.FileViews.{View, section_after, section_named}
 use Rattle.dw_base.specs.MacroFails.{MacroUnitsFail}
 use Rattle.dw_base.specs.MacroUnits.{AreMacroUnits}
 use Rattle.dw_base.specs.Refusals.{Blames}
-use Rattle.dw_base.specs.ViewData.{debug_data, macro_sections}
+use Rattle.dw_base.specs.ViewData.{debug_data}
 use Rattle.dw_base.specs.declared.debug_sections.DebugSection.TheVariants.{Macro}
 use Rattle.dw_base.specs.declared.fault.Fault.{Fault}
 use Rattle.dw_base.specs.declared.fault.Fault.TheVariants.{NoMemory, Refused}

@@ -1,10 +1,9 @@
 -- Units that were read are units of the view, and the offsets of all of them name what they are to name where those of each do.
 use Rattle.std.proofs.Common.{◌≡◌, ℕ, ◌<◌, List, [], ◌∷◌, ◌++◌, length, Option, Some, None, sym, ◌∙◌, subst}
-use Rattle.std.specs.Bool.{⊤}
 use Rattle.dw_base.specs.Cells.{CellSection}
 use Rattle.dw_base.specs.DebugData.{start_number}
 use Rattle.dw_base.specs.FileViews.{View}
-use Rattle.dw_base.specs.MacroUnits.{MacroUnitsUpTo, no_units, more_units, AreMacroUnits}
+use Rattle.dw_base.specs.MacroUnits.{MacroUnitsUpTo, no_units, more_units}
 use Rattle.dw_base.specs.Refusals.{at}
 use Rattle.dw_base.specs.ViewData.{debug_data}
 use Rattle.dw_base.specs.declared.fault.Kind.TheVariants.{Stray}

@@ -7,7 +7,7 @@ use Rattle.dw_base.specs.DebugData.{start_number, started_unit}
 use Rattle.dw_base.specs.FileViews.{View}
 use Rattle.dw_base.specs.Forms.{width_size}
 use Rattle.dw_base.specs.LineMeanings.{is_there}
-use Rattle.dw_base.specs.MacroPieces.{OffsetUse, OperationFront, FitsMacros, front_of, MacroMode, at_unit, at_line, at_operation, at_offset, no_macros, MacroState, macros_at, macro_grammar}
+use Rattle.dw_base.specs.MacroPieces.{OperationFront, FitsMacros, front_of, MacroMode, at_unit, at_line, at_operation, at_offset, no_macros, MacroState, macros_at, macro_grammar}
 use Rattle.dw_base.specs.MacroReadings.{MacroStart, first_macros, started_by, starts_in}
 use Rattle.dw_base.specs.Pieces.{Piece, Chain}
 use Rattle.dw_base.specs.declared.shared.Order.{Order}

@@ -10,7 +10,7 @@ use Rattle.dw_base.specs.MacroReadings.{MacroStart, first_macros}
 use Rattle.dw_base.specs.Pieces.{Piece}
 use Rattle.dw_base.specs.ViewData.{debug_data, macro_sections}
 use Rattle.dw_base.specs.declared.macro_units.MacroUnit.{MacroUnit}
-use Rattle.dw_meaning.proofs.MacroPieceLaws.{Asked, CellsOf, EachUnit, HoldsElse, PiecesRead, units-read}
+use Rattle.dw_meaning.proofs.MacroPieceLaws.{Asked, EachUnit, PiecesRead, units-read}
 use Rattle.dw_meaning.proofs.MacroRowLaws.{cells-of}
 use Rattle.dw_find.specs.IndexedTexts.{UnitsStart}
 use Rattle.dw_find.specs.LineStarts.{Rises}

@@ -36,7 +36,7 @@ use Rattle.dw_base.proofs.UnitEditLaws.{length-bytes_of}
 use Rattle.dw_find.specs.Fields.{IsPathField, ArePathFields, IsStartField, AreStartFields}
 use Rattle.dw_find.specs.InlineRooms.{AreRooms, grows, Grows, one}
 use Rattle.dw_find.specs.ViewFields.{offsets_of}
-use Rattle.dw_find.specs.TextPlaces.{TextPlace, no_index, no_start, unit_base, text_index, UnitSays, indexed_at, Indexed, is_macros, is_start, is_start_form, line_at, line_places, macros_in, own_form, own_place, said_places, said_value, start_at, starts_in, unit_start, unit_start_at, class_places, value_places, value_places_behind, values_places, entry_places, entries_places, UnitsPlaced, none_placed, more_placed, PlaceNames, PlacesName, fields_in, inline_at, inline_in}
+use Rattle.dw_find.specs.TextPlaces.{TextPlace, no_index, no_start, unit_base, text_index, UnitSays, indexed_at, Indexed, is_macros, is_start, is_start_form, line_at, line_places, macros_in, own_form, said_places, said_value, start_at, starts_in, unit_start, unit_start_at, class_places, value_places, value_places_behind, values_places, entry_places, entries_places, UnitsPlaced, none_placed, more_placed, PlaceNames, PlacesName, fields_in, inline_at, inline_in}
 use Rattle.dw_find.specs.UnitPaths.{field_by, inline_text}
 use Rattle.dw_find.specs.declared.fields.InlinePath.{InlinePath}
 use Rattle.dw_find.specs.declared.fields.PathField.{PathField}
@@ -71,7 +71,7 @@ pub data SaysPlace (number tag : ℕ) (x : Spec) (bytes : List ℕ) (place : ℕ
   by_class : class_places v.class (is_path number tag x.name) (is_base number x.name) place v ≡ t ∷ [] → SaysPlace number tag x bytes place v t
   by_start : is_start_form (own_form x bytes place) ≡ true → line_at true v ≡ t ∷ [] → SaysPlace number tag x bytes place v t
   by_unit : is_start_form (own_form x bytes place) ≡ true → said_value true true 0 v ≡ t ∷ [] → SaysPlace number tag x bytes place v t
-  by_stray : (at : ℕ) → indexed_at at no_start ≡ t ∷ [] → SaysPlace number tag x bytes place v t
+  by_stray : indexed_at place no_start ≡ t ∷ [] → SaysPlace number tag x bytes place v t
 
 -- the value in a unit that says a place
 pub record ValueBehind (h : UnitHeader) (table : List Abbreviation) (bytes : List ℕ) (t : TextPlace) : Type 0 where
@@ -121,15 +121,15 @@ value-each h table bytes number a x place v has =
     let line : Bool = x.name == DW_AT_stmt_list in
     let texts : List TextPlace = class_places v.class (is_path number a.tag x.name) (is_base number x.name) place v in
     each-append (ValueBehind h table bytes) (line_places (x.name == DW_AT_stmt_list) (own_form x bytes place) v)
-    (texts ++ said_places (is_start x.name) (is_macros x.name) (own_form x bytes place) (own_place x bytes place) v)
+    (texts ++ said_places (is_start x.name) (is_macros x.name) (own_form x bytes place) place v)
     (line-each (ValueBehind h table bytes) (x.name == DW_AT_stmt_list) (own_form x bytes place) v
     (λ (t : TextPlace) f e. record { number = number; abbreviation = a; spec = x; place = place; value = v; stands = has; is = by_start f e }))
-    (each-append (ValueBehind h table bytes) texts (said_places (is_start x.name) (is_macros x.name) (own_form x bytes place) (own_place x bytes place) v)
+    (each-append (ValueBehind h table bytes) texts (said_places (is_start x.name) (is_macros x.name) (own_form x bytes place) place v)
     (class-each (ValueBehind h table bytes) v.class (is_path number a.tag x.name) (is_base number x.name) place v
     (λ (t : TextPlace) e. record { number = number; abbreviation = a; spec = x; place = place; value = v; stands = has; is = by_class e }))
-    (said-each (ValueBehind h table bytes) (is_start x.name) (is_macros x.name) (own_form x bytes place) (own_place x bytes place) v
+    (said-each (ValueBehind h table bytes) (is_start x.name) (is_macros x.name) (own_form x bytes place) place v
     (λ (t : TextPlace) f e. record { number = number; abbreviation = a; spec = x; place = place; value = v; stands = has; is = by_unit f e })
-    (λ (t : TextPlace) e. record { number = number; abbreviation = a; spec = x; place = place; value = v; stands = has; is = by_stray (own_place x bytes place) e })))
+    (λ (t : TextPlace) e. record { number = number; abbreviation = a; spec = x; place = place; value = v; stands = has; is = by_stray e })))
 
 -- an entry whose values are met
 record EntryStands (h : UnitHeader) (table : List Abbreviation) (bytes : List ℕ) (items : List Scanned) (start depth code size : ℕ) (a : Abbreviation) : Type 0 where
@@ -308,8 +308,9 @@ place-facts d z t p =
     by_place (by_unit f e) =
         let b = p.behind in
         subst (λ (s : TextPlace). RoleFacts s.role d z s) (once (record { role = fixed; at = b.value.at; len = b.value.len; says = unit_start }) t e) tt
-    by_place (by_stray at e) =
-        subst (λ (s : TextPlace). RoleFacts s.role d z s) (once (record { role = fixed; at = at; len = 0; says = no_start }) t e) tt
+    by_place (by_stray e) =
+        let b = p.behind in
+        subst (λ (s : TextPlace). RoleFacts s.role d z s) (once (record { role = fixed; at = b.place; len = 0; says = no_start }) t e) tt
 
 -- what is known of a place that says where a macro unit starts
 abbrev pub SaidFacts : Indexed → UnitSection → TextPlace → Type 0
@@ -348,8 +349,9 @@ said-facts d z t p = by_place p.behind.is
         let b = p.behind in
         subst (λ (s : TextPlace). SaidFacts s.says z s) (once (record { role = fixed; at = b.value.at; len = b.value.len; says = unit_start }) t e)
         (field-place z p.header b.value _ (start-read p.header.params b.spec (bytes_up_to z p.header) b.place b.value b.stands.is f) refl refl)
-    by_place (by_stray at e) =
-        subst (λ (s : TextPlace). SaidFacts s.says z s) (once (record { role = fixed; at = at; len = 0; says = no_start }) t e) tt
+    by_place (by_stray e) =
+        let b = p.behind in
+        subst (λ (s : TextPlace). SaidFacts s.says z s) (once (record { role = fixed; at = b.place; len = 0; says = no_start }) t e) tt
 
 -- the offset in a field of plain cells
 pub offset-number : (o : Order) (z : Located) (cells : List Cell) (a n : ℕ) → IsPlain cells → a + n ≤ length (bytes_of cells)

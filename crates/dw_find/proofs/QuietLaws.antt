@@ -23,7 +23,7 @@ use Rattle.dw_base.proofs.ClassLaws.{class_of_kind, value-class}
 use Rattle.dw_base.proofs.FormLaws.{value_by-own}
 use Rattle.dw_find.specs.EntryTexts.{Tables, AreTaken, OffsetNames, TakenBehind, ValuesRefuse, fails, value}
 use Rattle.dw_find.specs.QuietValues.{AllQuiet, AreCounts, AreLooked, IsCount, SaysNothing, none_left, quiet_left, is_quiet, is_text_form}
-use Rattle.dw_find.specs.TextPlaces.{TextPlace, class_places, is_macros, is_start, line_places, own_form, own_place, said_places, value_places, value_places_behind, values_places}
+use Rattle.dw_find.specs.TextPlaces.{TextPlace, class_places, is_macros, is_start, line_places, own_form, said_places, value_places, value_places_behind, values_places}
 
 -- the class of a text, or of what names one
 abbrev is_text_class : ValueClass → Bool
@@ -175,9 +175,9 @@ places-none : (number tag : ℕ) (x : Spec) (bytes : List ℕ) (place : ℕ) (v 
     → value_places number tag x bytes place v ≡ []
 places-none number tag x bytes place v other q class =
     ap (λ (b : Bool). line_places b (own_form x bytes place) v ++ (class_places v.class (is_path number tag x.name) (is_base number x.name) place v
-    ++ said_places (is_start x.name) (is_macros x.name) (own_form x bytes place) (own_place x bytes place) v)) q.line
+    ++ said_places (is_start x.name) (is_macros x.name) (own_form x bytes place) place v)) q.line
     ∙ ap (λ (b : Bool). class_places v.class (is_path number tag x.name) (is_base number x.name) place v
-    ++ said_places b (is_macros x.name) (own_form x bytes place) (own_place x bytes place) v) q.start
+    ++ said_places b (is_macros x.name) (own_form x bytes place) place v) q.start
     ∙ ap (λ (ts : List TextPlace). ts ++ [])
     (ap (λ (b : Bool). class_places v.class b (is_base number x.name) place v) (path-none number tag x.name other)
     ∙ ap (λ (b : Bool). class_places v.class false b place v) (base-none number x.name other) ∙ class-none v.class place v class)

@@ -1,6 +1,6 @@
 -- Forms of values that are to say where a line table or a macro unit starts (DWARF 5, 3.1.1 and table 7.6), and the form that stands in
 -- front of a value.
-use Rattle.std.proofs.Common.{Bool, true, false, ◌≡◌, ◌≢◌, ◌⊎◌, inl, inr, ℕ, ◌+◌, ◌==◌, ◌&&◌, ◌||◌, not, List, [], ◌∷◌, cond, Option, Some, refl, sym, ap, ◌∙◌, subst}
+use Rattle.std.proofs.Common.{Bool, true, false, ◌≡◌, ◌≢◌, ◌⊎◌, inl, inr, ℕ, ◌==◌, ◌&&◌, ◌||◌, not, List, [], ◌∷◌, cond, Some, refl, sym, ap, ◌∙◌, subst}
 use Rattle.std.proofs.lemmas.Bool.{and_parts, eqb-true, ne_eqb}
 use Rattle.dw_base.specs.Forms.{ValueKind, number_of, form_in_front, FormRow, form_rows, kind_by, kind_in, width_size}
 use Rattle.dw_base.specs.Lebs.{uleb_at}
@@ -14,7 +14,7 @@ use Rattle.dw_base.specs.declared.shared.Width.TheVariants.{W32, W64}
 use Rattle.dw_base.specs.declared.values.Spec.{Spec}
 use Rattle.dw_base.specs.declared.values.ValueClass.{ValueClass}
 use Rattle.dw_base.specs.declared.values.ValueClass.TheVariants.{Number, SecOffset}
-use Rattle.dw_find.specs.TextPlaces.{is_macros, is_start_form, own_form, own_place, read_size}
+use Rattle.dw_find.specs.TextPlaces.{is_macros, is_start_form, own_form}
 
 -- in the table of forms the kinds that can say a start are those of these forms, and one form stands in front of values
 abbrev is_front : ValueKind → Bool
@@ -138,18 +138,10 @@ other-form params form other =
 pub plain-form : (params : Params) (x : Spec) (bytes : List ℕ) (place : ℕ) → kind_in params x.form ≢ form_in_front → own_form x bytes place ≡ x.form
 plain-form params x bytes place other = ap (λ (b : Bool). cond b (read_value (uleb_at bytes place)) x.form) (other-form params x.form other)
 
-pub plain-place : (params : Params) (x : Spec) (bytes : List ℕ) (place : ℕ) → kind_in params x.form ≢ form_in_front → own_place x bytes place ≡ place
-plain-place params x bytes place other = ap (λ (b : Bool). cond b (place + read_size (uleb_at bytes place)) place) (other-form params x.form other)
-
 pub chosen-form : (params : Params) (x : Spec) (bytes : List ℕ) (place form size : ℕ) → kind_in params x.form ≡ form_in_front → uleb_at bytes place ≡ Some (form, size)
     → own_form x bytes place ≡ form
 chosen-form params x bytes place form size front is =
     ap (λ (b : Bool). cond b (read_value (uleb_at bytes place)) x.form) (front-form params x.form front) ∙ ap read_value is
-
-pub chosen-place : (params : Params) (x : Spec) (bytes : List ℕ) (place form size : ℕ) → kind_in params x.form ≡ form_in_front → uleb_at bytes place ≡ Some (form, size)
-    → own_place x bytes place ≡ place + size
-chosen-place params x bytes place form size front is =
-    ap (λ (b : Bool). cond b (place + read_size (uleb_at bytes place)) place) (front-form params x.form front) ∙ ap (λ (o : Option (ℕ × ℕ)). place + read_size o) is
 
 -- an attribute that says where a line table starts is no path
 and-false : (b : Bool) → (b && false) ≡ false

@@ -24,7 +24,7 @@ use Rattle.dw_base.proofs.UnitEditLaws.{length-bytes_of}
 use Rattle.dw_base.specs.Readings.{Reading, Readings}
 use Rattle.dw_base.specs.Refusals.{at}
 use Rattle.dw_base.specs.Roles.{Role, fixed, offset, inline_path, line_start, role_of}
-use Rattle.dw_base.specs.TableStarts.{other_form as form_row, no_table as table_row, no_unit as unit_row, has_start_form, is_macro_value}
+use Rattle.dw_base.specs.TableStarts.{other_form as form_row, no_table as table_row, no_unit as unit_row, has_start_form, is_macro_value, value_begin}
 use Rattle.dw_base.specs.UnitHeaders.{UnitBase, UnitSection}
 use Rattle.dw_base.specs.UnitPieces.{ReadsUnits, unit_grammar}
 use Rattle.dw_base.specs.UnitStates.{Mode, at_header, at_code, at_values, at_chosen, stuck, UnitState, before_unit, in_unit, between, inside, headed, after_header, after_entry, after_code, after_value, code_value, piece_header, past}
@@ -281,7 +281,7 @@ record StrayPiece (xs : List (Piece UnitState)) (place : ℕ) : Type 0 where
   rest : List (Piece UnitState)
   split : xs ≡ front ++ one ∷ rest
   form : has_start_form one ≡ false
-  there : one.state.place ≡ place
+  there : value_begin one.state ≡ place
 
 stray-found : (xs : List (Piece UnitState)) (place : ℕ) → stray_among xs ≡ Some place → StrayPiece xs place
 stray-found [] place e = absurd cc
@@ -290,13 +290,13 @@ stray-found (x ∷ xs) place e = by_form (has_start_form x) refl e (stray-found 
     some-once : (a b : ℕ) → Some a ≡ Some b → a ≡ b
     some-once a b f = cc
 
-    by_form : (b : Bool) → has_start_form x ≡ b → cond b (stray_among xs) (Some x.state.place) ≡ Some place → (stray_among xs ≡ Some place → StrayPiece xs place)
+    by_form : (b : Bool) → has_start_form x ≡ b → cond b (stray_among xs) (Some (value_begin x.state)) ≡ Some place → (stray_among xs ≡ Some place → StrayPiece xs place)
         → StrayPiece (x ∷ xs) place
     by_form true is f next =
         let s : StrayPiece xs place = next f in
         record { one = s.one; front = x ∷ s.front; rest = s.rest; split = ap (λ (ys : List (Piece UnitState)). x ∷ ys) s.split; form = s.form; there = s.there }
     by_form false is f next =
-        record { one = x; front = []; rest = xs; split = refl; form = is; there = some-once x.state.place place f }
+        record { one = x; front = []; rest = xs; split = refl; form = is; there = some-once (value_begin x.state) place f }
 
 -- the piece of a field that says where a line table starts
 record StartPiece (xs : List (Piece UnitState)) (f : PathField) : Type 0 where
@@ -460,7 +460,7 @@ section-row v starts places us i u r taken t ms lt is row =
         let s : StrayPiece x.reading.pieces place = stray-found x.reading.pieces place (ap (λ (y : UnitPaths). y.stray) x.says ∙ some) in
         let facts : PieceFacts u.number (info_of v u) s.one =
         piece-among (PieceFacts u.number (info_of v u)) s.front s.rest s.one (subst (EachPiece (PieceFacts u.number (info_of v u))) s.split x.facts) in
-        refused-at (StartsFail (debug_data v)) s.one.state.section u.number s.one.state.place place facts.own s.there
+        refused-at (StartsFail (debug_data v)) s.one.state.section u.number (value_begin s.one.state) place facts.own s.there
         (stray (all f) (record { units = f.reads; lines = t.are; macros = ms.are })
         (form_row s.one (record { before = x.before; behind = x.behind; section = x.reading; sections = x.sections; front = s.front; rest = s.rest; pieces = s.split }) s.form))
     by_row f x q (no_table (field k g lt_k is_k none)) =

@@ -21,7 +21,7 @@ use Rattle.dw_base.proofs.PlainCellLaws.{IsPlain, offset_of-plain, plain-parts}
 use Rattle.dw_meaning.proofs.ScanPieceLaws.{part-bytes, part-length, before-end}
 use Rattle.dw_find.specs.EntryTexts.{OffsetNames, IsTaken, TakenBehind, AreTaken}
 use Rattle.dw_base.specs.declared.dwarf_numbers.TheConstants.{DW_AT_stmt_list}
-use Rattle.dw_find.specs.TextPlaces.{TextPlace, PlacesName, class_places, is_macros, is_start, is_start_form, line_at, line_places, own_form, own_place, said_places, said_value, value_places, value_places_behind, values_places, places_behind, places_by, entry_places, entries_places}
+use Rattle.dw_find.specs.TextPlaces.{TextPlace, PlacesName, class_places, is_macros, is_start, is_start_form, line_at, line_places, own_form, said_places, said_value, value_places, value_places_behind, values_places, places_behind, places_by, entry_places, entries_places}
 use Rattle.dw_find.specs.UnitTexts.{tables_of, TakenOf, TakenBy, EntryTaken, EntriesTaken}
 use Rattle.dw_find.proofs.ValueFactLaws.{OffsetRead, OffsetFacts, value-facts}
 use Rattle.dw_find.proofs.ValueRunLaws.{number-at_place}
@@ -80,11 +80,11 @@ line-names true form d cells v = by_form (is_start_form form)
     by_form true = (tt, tt)
     by_form false = tt
 
-said-names : (start macro : Bool) (form own : ℕ) (v : Value) (d : DebugData) (cells : List Cell) → PlacesName d cells (said_places start macro form own v)
-said-names false macro form own v d cells = tt
-said-names true macro form own v d cells = by_form (is_start_form form) macro
+said-names : (start macro : Bool) (form place : ℕ) (v : Value) (d : DebugData) (cells : List Cell) → PlacesName d cells (said_places start macro form place v)
+said-names false macro form place v d cells = tt
+said-names true macro form place v d cells = by_form (is_start_form form) macro
   where
-    by_form : (b m : Bool) → PlacesName d cells (said_value b m own v)
+    by_form : (b m : Bool) → PlacesName d cells (said_value b m place v)
     by_form true true = (tt, tt)
     by_form true false = tt
     by_form false m = (tt, tt)
@@ -93,13 +93,12 @@ value-names : (d : DebugData) (cells : List Cell) (params : Params) (end n tag :
     → value_at params x (take end (bytes_of cells)) place ≡ Some v → IsTaken (tables_of d) v → PlacesName d cells (value_places n tag x (take end (bytes_of cells)) place v)
 value-names d cells params end n tag x place v u is taken =
     let form : ℕ = own_form x (take end (bytes_of cells)) place in
-    let own : ℕ = own_place x (take end (bytes_of cells)) place in
     let texts : List TextPlace = class_places v.class (is_path n tag x.name) (is_base n x.name) place v in
-    names-append d cells (line_places (x.name == DW_AT_stmt_list) form v) (texts ++ said_places (is_start x.name) (is_macros x.name) form own v)
+    names-append d cells (line_places (x.name == DW_AT_stmt_list) form v) (texts ++ said_places (is_start x.name) (is_macros x.name) form place v)
     (line-names (x.name == DW_AT_stmt_list) form d cells v)
-    (names-append d cells texts (said_places (is_start x.name) (is_macros x.name) form own v)
+    (names-append d cells texts (said_places (is_start x.name) (is_macros x.name) form place v)
     (class-names v.class (is_path n tag x.name) (is_base n x.name) place d cells params end v u (value-facts params x (take end (bytes_of cells)) place v is).offset taken.names)
-    (said-names (is_start x.name) (is_macros x.name) form own v d cells))
+    (said-names (is_start x.name) (is_macros x.name) form place v d cells))
 
 -- so do the values of an entry
 values-names : (d : DebugData) (cells : List Cell) (params : Params) (end n tag : ℕ) (xs : List Spec) (place : ℕ) → UnitCells d cells params end

@@ -255,14 +255,14 @@ start-placed (number_of class n) order bytes at i base place p v plain says e sa
 start-placed k order bytes at i base place p v plain says e same = absurd cc
 
 -- a number that says where a macro unit starts
-unit-placed : (k : ValueKind) (order : Order) (bytes : List ℕ) (at : ℕ) (implicit : ℤ) (v : Value) → can_start k ≡ true → value_of k order bytes at implicit ≡ Some v
-    → said_start true true at v.size ≡ said_value true true at v
+unit-placed : (k : ValueKind) (order : Order) (bytes : List ℕ) (at place : ℕ) (implicit : ℤ) (v : Value) → can_start k ≡ true → value_of k order bytes at implicit ≡ Some v
+    → said_start true true place at v.size ≡ said_value true true place v
 unfolding value_of
-unit-placed (number_of class n) order bytes at i v says e =
+unit-placed (number_of class n) order bytes at place i v says e =
     let f : Fields v class at n n = number-fields class at n (number_at order bytes at n) v e in
     ap (λ (m : ℕ). record { role = fixed; at = m; len = v.size; says = unit_start } ∷ []) (sym f.at_is)
     ∙ ap (λ (m : ℕ). record { role = fixed; at = v.at; len = m; says = unit_start } ∷ []) (f.size_is ∙ sym f.len_is)
-unit-placed k order bytes at i v says e = absurd cc
+unit-placed k order bytes at place i v says e = absurd cc
 
 -- a value of a kind has its text where its class says, says by index what its class says, and where it is to say where a line table or a
 -- macro unit starts, says that or can't
@@ -270,60 +270,60 @@ pub value-placed : (k : ValueKind) (order : Order) (bytes : List ℕ) (at : ℕ)
     → is_plain_kind k ≡ true → k ≢ form_in_front → can_start k ≡ is_start_form form → value_of k order bytes at implicit ≡ Some v → SpellsNumber k order p v.number
     → place_of (role_of_kind k (use_of number tag name)) at v.size
     ++ (indexed_kind k (is_path number tag name) base order place p
-    ++ said_start (start_form_by k (use_of number tag name)) (macro_value_by k (use_of number tag name)) at v.size)
+    ++ said_start (start_form_by k (use_of number tag name)) (macro_value_by k (use_of number tag name)) place at v.size)
     ≡ line_places (name == DW_AT_stmt_list) form v
-    ++ (class_places v.class (is_path number tag name) base place v ++ said_places (is_start name) (is_macros name) form at v)
+    ++ (class_places v.class (is_path number tag name) base place v ++ said_places (is_start name) (is_macros name) form place v)
 value-placed k order bytes at i number tag name form base place p v plain own starts e same = by_line (name == DW_AT_stmt_list) refl
   where
     by_start : (b : Bool) → can_start k ≡ b → is_start_form form ≡ b
-        → place_of (role_of_kind k names_line_table) at v.size ++ (indexed_kind k false base order place p ++ said_start b false at v.size)
-        ≡ line_at (is_start_form form) v ++ (class_places v.class false base place v ++ said_value (is_start_form form) false at v)
+        → place_of (role_of_kind k names_line_table) at v.size ++ (indexed_kind k false base order place p ++ said_start b false place at v.size)
+        ≡ line_at (is_start_form form) v ++ (class_places v.class false base place v ++ said_value (is_start_form form) false place v)
     by_start true can is =
         start-placed k order bytes at i base place p v plain can e same
-        ∙ ap (λ (x : Bool). line_at x v ++ (class_places v.class false base place v ++ said_value x false at v)) (sym is)
+        ∙ ap (λ (x : Bool). line_at x v ++ (class_places v.class false base place v ++ said_value x false place v)) (sym is)
     by_start false can is =
-        ap (λ (r : Role). place_of r at v.size ++ (indexed_kind k false base order place p ++ indexed_at at no_start)) (role-stray k can)
-        ∙ sym (append_assoc (place_of (text_role k false) at v.size) (indexed_kind k false base order place p) (indexed_at at no_start))
-        ∙ ap (λ (ts : List TextPlace). ts ++ indexed_at at no_start) (text-placed k order bytes at i false base place p v plain e same)
-        ∙ ap (λ (x : Bool). line_at x v ++ (class_places v.class false base place v ++ said_value x false at v)) (sym is)
+        ap (λ (r : Role). place_of r at v.size ++ (indexed_kind k false base order place p ++ indexed_at place no_start)) (role-stray k can)
+        ∙ sym (append_assoc (place_of (text_role k false) at v.size) (indexed_kind k false base order place p) (indexed_at place no_start))
+        ∙ ap (λ (ts : List TextPlace). ts ++ indexed_at place no_start) (text-placed k order bytes at i false base place p v plain e same)
+        ∙ ap (λ (x : Bool). line_at x v ++ (class_places v.class false base place v ++ said_value x false place v)) (sym is)
 
     by_unit : (b : Bool) → can_start k ≡ b → is_start_form form ≡ b
-        → place_of (text_role k false) at v.size ++ (indexed_kind k false base order place p ++ said_start b b at v.size)
-        ≡ class_places v.class false base place v ++ said_value (is_start_form form) true at v
+        → place_of (text_role k false) at v.size ++ (indexed_kind k false base order place p ++ said_start b b place at v.size)
+        ≡ class_places v.class false base place v ++ said_value (is_start_form form) true place v
     by_unit true can is =
-        sym (append_assoc (place_of (text_role k false) at v.size) (indexed_kind k false base order place p) (said_start true true at v.size))
-        ∙ ap (λ (ts : List TextPlace). ts ++ said_start true true at v.size) (text-placed k order bytes at i false base place p v plain e same)
-        ∙ ap (λ (ts : List TextPlace). class_places v.class false base place v ++ ts) (unit-placed k order bytes at i v can e)
-        ∙ ap (λ (x : Bool). class_places v.class false base place v ++ said_value x true at v) (sym is)
+        sym (append_assoc (place_of (text_role k false) at v.size) (indexed_kind k false base order place p) (said_start true true place at v.size))
+        ∙ ap (λ (ts : List TextPlace). ts ++ said_start true true place at v.size) (text-placed k order bytes at i false base place p v plain e same)
+        ∙ ap (λ (ts : List TextPlace). class_places v.class false base place v ++ ts) (unit-placed k order bytes at place i v can e)
+        ∙ ap (λ (x : Bool). class_places v.class false base place v ++ said_value x true place v) (sym is)
     by_unit false can is =
-        sym (append_assoc (place_of (text_role k false) at v.size) (indexed_kind k false base order place p) (indexed_at at no_start))
-        ∙ ap (λ (ts : List TextPlace). ts ++ indexed_at at no_start) (text-placed k order bytes at i false base place p v plain e same)
-        ∙ ap (λ (x : Bool). class_places v.class false base place v ++ said_value x true at v) (sym is)
+        sym (append_assoc (place_of (text_role k false) at v.size) (indexed_kind k false base order place p) (indexed_at place no_start))
+        ∙ ap (λ (ts : List TextPlace). ts ++ indexed_at place no_start) (text-placed k order bytes at i false base place p v plain e same)
+        ∙ ap (λ (x : Bool). class_places v.class false base place v ++ said_value x true place v) (sym is)
 
     by_macro : (b : Bool) → (name == DW_AT_stmt_list) ≡ false → is_macros name ≡ b
         → place_of (role_of_kind k (use_of number tag name)) at v.size
         ++ (indexed_kind k (is_path number tag name) base order place p
-        ++ said_start (start_form_by k (use_of number tag name)) (macro_value_by k (use_of number tag name)) at v.size)
-        ≡ class_places v.class (is_path number tag name) base place v ++ said_places b b form at v
+        ++ said_start (start_form_by k (use_of number tag name)) (macro_value_by k (use_of number tag name)) place at v.size)
+        ≡ class_places v.class (is_path number tag name) base place v ++ said_places b b form place v
     by_macro true line macro =
         ap (λ (u : Use). place_of (role_of_kind k u) at v.size
-        ++ (indexed_kind k (is_path number tag name) base order place p ++ said_start (start_form_by k u) (macro_value_by k u) at v.size)) (macro-use number tag name line macro)
+        ++ (indexed_kind k (is_path number tag name) base order place p ++ said_start (start_form_by k u) (macro_value_by k u) place at v.size)) (macro-use number tag name line macro)
         ∙ ap (λ (r : Role). place_of r at v.size
-        ++ (indexed_kind k (is_path number tag name) base order place p ++ said_start (start_form_by k names_macro_unit) (macro_value_by k names_macro_unit) at v.size))
+        ++ (indexed_kind k (is_path number tag name) base order place p ++ said_start (start_form_by k names_macro_unit) (macro_value_by k names_macro_unit) place at v.size))
         (role-other k names_macro_unit refl)
         ∙ ap (λ (x : Bool). place_of (text_role k false) at v.size
-        ++ (indexed_kind k x base order place p ++ said_start (start_form_by k names_macro_unit) (macro_value_by k names_macro_unit) at v.size)) (macro-path number tag name macro)
-        ∙ ap (λ (x : Bool). place_of (text_role k false) at v.size ++ (indexed_kind k false base order place p ++ said_start x (macro_value_by k names_macro_unit) at v.size))
+        ++ (indexed_kind k x base order place p ++ said_start (start_form_by k names_macro_unit) (macro_value_by k names_macro_unit) place at v.size)) (macro-path number tag name macro)
+        ∙ ap (λ (x : Bool). place_of (text_role k false) at v.size ++ (indexed_kind k false base order place p ++ said_start x (macro_value_by k names_macro_unit) place at v.size))
         (macro-starts k own)
-        ∙ ap (λ (x : Bool). place_of (text_role k false) at v.size ++ (indexed_kind k false base order place p ++ said_start (can_start k) x at v.size)) (macro-value k)
+        ∙ ap (λ (x : Bool). place_of (text_role k false) at v.size ++ (indexed_kind k false base order place p ++ said_start (can_start k) x place at v.size)) (macro-value k)
         ∙ by_unit (can_start k) refl (sym starts)
-        ∙ ap (λ (x : Bool). class_places v.class x base place v ++ said_value (is_start_form form) true at v) (sym (macro-path number tag name macro))
+        ∙ ap (λ (x : Bool). class_places v.class x base place v ++ said_value (is_start_form form) true place v) (sym (macro-path number tag name macro))
     by_macro false line macro =
         let plain_use = plain-use number tag name line macro in
         ap (λ (x : Bool). place_of (role_of_kind k (use_of number tag name)) at v.size
-        ++ (indexed_kind k (is_path number tag name) base order place p ++ said_start x (macro_value_by k (use_of number tag name)) at v.size))
+        ++ (indexed_kind k (is_path number tag name) base order place p ++ said_start x (macro_value_by k (use_of number tag name)) place at v.size))
         (plain-starts k (use_of number tag name) plain_use)
-        ∙ ap (λ (x : Bool). place_of (role_of_kind k (use_of number tag name)) at v.size ++ (indexed_kind k (is_path number tag name) base order place p ++ said_start true x at v.size))
+        ∙ ap (λ (x : Bool). place_of (role_of_kind k (use_of number tag name)) at v.size ++ (indexed_kind k (is_path number tag name) base order place p ++ said_start true x place at v.size))
         (plain-macro k (use_of number tag name) plain_use)
         ∙ ap (λ (r : Role). place_of r at v.size ++ (indexed_kind k (is_path number tag name) base order place p ++ []))
         (role-other k (use_of number tag name) (plain-other (use_of number tag name) plain_use) ∙ ap (text_role k) (path_use number tag name))
@@ -334,18 +334,18 @@ value-placed k order bytes at i number tag name form base place p v plain own st
     by_line : (b : Bool) → (name == DW_AT_stmt_list) ≡ b
         → place_of (role_of_kind k (use_of number tag name)) at v.size
         ++ (indexed_kind k (is_path number tag name) base order place p
-        ++ said_start (start_form_by k (use_of number tag name)) (macro_value_by k (use_of number tag name)) at v.size)
-        ≡ line_places b form v ++ (class_places v.class (is_path number tag name) base place v ++ said_places (b || is_macros name) (is_macros name) form at v)
+        ++ said_start (start_form_by k (use_of number tag name)) (macro_value_by k (use_of number tag name)) place at v.size)
+        ≡ line_places b form v ++ (class_places v.class (is_path number tag name) base place v ++ said_places (b || is_macros name) (is_macros name) form place v)
     by_line true line =
         ap (λ (u : Use). place_of (role_of_kind k u) at v.size
-        ++ (indexed_kind k (is_path number tag name) base order place p ++ said_start (start_form_by k u) (macro_value_by k u) at v.size)) (line-use number tag name line)
+        ++ (indexed_kind k (is_path number tag name) base order place p ++ said_start (start_form_by k u) (macro_value_by k u) place at v.size)) (line-use number tag name line)
         ∙ ap (λ (x : Bool). place_of (role_of_kind k names_line_table) at v.size
-        ++ (indexed_kind k x base order place p ++ said_start (start_form_by k names_line_table) (macro_value_by k names_line_table) at v.size)) (line-path number tag name line)
-        ∙ ap (λ (x : Bool). place_of (role_of_kind k names_line_table) at v.size ++ (indexed_kind k false base order place p ++ said_start x (macro_value_by k names_line_table) at v.size))
+        ++ (indexed_kind k x base order place p ++ said_start (start_form_by k names_line_table) (macro_value_by k names_line_table) place at v.size)) (line-path number tag name line)
+        ∙ ap (λ (x : Bool). place_of (role_of_kind k names_line_table) at v.size ++ (indexed_kind k false base order place p ++ said_start x (macro_value_by k names_line_table) place at v.size))
         (line-starts k own)
-        ∙ ap (λ (x : Bool). place_of (role_of_kind k names_line_table) at v.size ++ (indexed_kind k false base order place p ++ said_start (can_start k) x at v.size)) (line-macro k)
+        ∙ ap (λ (x : Bool). place_of (role_of_kind k names_line_table) at v.size ++ (indexed_kind k false base order place p ++ said_start (can_start k) x place at v.size)) (line-macro k)
         ∙ by_start (can_start k) refl (sym starts)
-        ∙ ap (λ (x : Bool). line_at (is_start_form form) v ++ (class_places v.class x base place v ++ said_value (is_start_form form) false at v)) (sym (line-path number tag name line))
-        ∙ ap (λ (x : Bool). line_at (is_start_form form) v ++ (class_places v.class (is_path number tag name) base place v ++ said_value (is_start_form form) x at v))
+        ∙ ap (λ (x : Bool). line_at (is_start_form form) v ++ (class_places v.class x base place v ++ said_value (is_start_form form) false place v)) (sym (line-path number tag name line))
+        ∙ ap (λ (x : Bool). line_at (is_start_form form) v ++ (class_places v.class (is_path number tag name) base place v ++ said_value (is_start_form form) x place v))
         (sym (line-macros name line))
     by_line false line = by_macro (is_macros name) line refl

@@ -27,8 +27,8 @@ use Rattle.dw_meaning.proofs.PieceLaws.{leads-more, joined-append}
 use Rattle.dw_meaning.proofs.ScanPieceLaws.{part-bytes, before-end, part-length, inside-same, unit_bytes, NumberPiece, number-piece}
 use Rattle.dw_meaning.proofs.TextEditLaws.{chosen-fits}
 use Rattle.dw_meaning.proofs.ValueCutLaws.{IsCut, value_of-own}
-use Rattle.dw_find.specs.TextPlaces.{TextPlace, place_of, indexed_kind, indexed_in, places_in, class_places, value_places, is_start_form, line_at, line_places, is_macros, is_start, own_form, own_place, said_places, said_start, said_value}
-use Rattle.dw_find.proofs.StartFormLaws.{chosen-form, chosen-place, form-starts, plain-form, plain-place}
+use Rattle.dw_find.specs.TextPlaces.{TextPlace, place_of, indexed_kind, indexed_in, places_in, class_places, value_places, is_start_form, line_at, line_places, is_macros, is_start, own_form, said_places, said_start, said_value}
+use Rattle.dw_find.proofs.StartFormLaws.{chosen-form, form-starts, plain-form}
 use Rattle.dw_find.proofs.ValuePlaceLaws.{SpellsNumber, kind_plain, value-placed}
 
 -- a piece of a unit: its section and its unit, and the byte order of its values
@@ -201,15 +201,13 @@ value-spells s supplementary cells place implicit v is inside_ = tt
 value-spells s unlisted cells place implicit v is inside_ = tt
 
 -- the places of a value by its own form
-value-own : (n tag : ℕ) (x : Spec) (bytes : List ℕ) (place form own : ℕ) (v : Value) → own_form x bytes place ≡ form → own_place x bytes place ≡ own
+value-own : (n tag : ℕ) (x : Spec) (bytes : List ℕ) (place form : ℕ) (v : Value) → own_form x bytes place ≡ form
     → line_places (x.name == DW_AT_stmt_list) form v
-    ++ (class_places v.class (is_path n tag x.name) (is_base n x.name) place v ++ said_places (is_start x.name) (is_macros x.name) form own v)
+    ++ (class_places v.class (is_path n tag x.name) (is_base n x.name) place v ++ said_places (is_start x.name) (is_macros x.name) form place v)
     ≡ value_places n tag x bytes place v
-value-own n tag x bytes place form own v f o =
+value-own n tag x bytes place form v f =
     ap (λ (k : ℕ). line_places (x.name == DW_AT_stmt_list) k v
-    ++ (class_places v.class (is_path n tag x.name) (is_base n x.name) place v ++ said_places (is_start x.name) (is_macros x.name) k own v)) (sym f)
-    ∙ ap (λ (k : ℕ). line_places (x.name == DW_AT_stmt_list) (own_form x bytes place) v
-    ++ (class_places v.class (is_path n tag x.name) (is_base n x.name) place v ++ said_places (is_start x.name) (is_macros x.name) (own_form x bytes place) k v)) (sym o)
+    ++ (class_places v.class (is_path n tag x.name) (is_base n x.name) place v ++ said_places (is_start x.name) (is_macros x.name) k place v)) (sym f)
 
 -- so a value of an attribute that isn't behind a form is one
 own-run : (base : UnitBase) (cells : List Cell) (s : UnitState) (place e d n tag : ℕ) (x : Spec) (xs : List Spec) (v : Value)
@@ -233,12 +231,11 @@ own-run base cells s place e d n tag x xs v order other is =
     ∙ ap (λ (m : ℕ). inside s (place + m) e d n tag xs) size)
     (ap (λ (m : ℕ). place_of (role_of_kind (kind_in s.header.params x.form) (use_of n tag x.name)) place m
     ++ (indexed_kind (kind_in s.header.params x.form) (is_path n tag x.name) (is_base n x.name) s.header.params.order place (take v.size (drop place cells))
-    ++ said_start (start_form_by (kind_in s.header.params x.form) (use_of n tag x.name)) (macro_value_by (kind_in s.header.params x.form) (use_of n tag x.name)) place m)) size
+    ++ said_start (start_form_by (kind_in s.header.params x.form) (use_of n tag x.name)) (macro_value_by (kind_in s.header.params x.form) (use_of n tag x.name)) place place m)) size
     ∙ value-placed (kind_in s.header.params x.form) s.header.params.order (unit_bytes s cells) place x.implicit n tag x.name x.form (is_base n x.name) place
     (take v.size (drop place cells)) v (kind_plain s.header.params x.form) other (form-starts s.header.params x.form) is
     (value-spells s (kind_in s.header.params x.form) cells place x.implicit v is inside_)
-    ∙ value-own n tag x (unit_bytes s cells) place x.form place v (plain-form s.header.params x (unit_bytes s cells) place other)
-    (plain-place s.header.params x (unit_bytes s cells) place other))
+    ∙ value-own n tag x (unit_bytes s cells) place x.form v (plain-form s.header.params x (unit_bytes s cells) place other))
     order
 
 -- a value behind a form: the form's number, and the value that was read behind it
@@ -337,16 +334,16 @@ front-run base cells s place e d n tag form size x xs order front is other own =
     ∙ ap (λ (f : ℕ). in_unit s (place + size) e d (at_chosen n tag place (of_chosen x f) xs)) c.value)
     (ap (λ (k : ValueKind). place_of (role_of_kind k (use_of n tag x.name)) place (length (take size (drop place cells)))
     ++ (indexed_kind k (is_path n tag x.name) (is_base n x.name) s.header.params.order place (take size (drop place cells))
-    ++ said_start (start_form_by k (use_of n tag x.name)) (macro_value_by k (use_of n tag x.name)) place (length (take size (drop place cells))))) front)
+    ++ said_start (start_form_by k (use_of n tag x.name)) (macro_value_by k (use_of n tag x.name)) place place (length (take size (drop place cells))))) front)
     order
 
 -- and the value behind it
 chosen-run : (base : UnitBase) (cells : List Cell) (s : UnitState) (place e d n tag start form : ℕ) (x : Spec) (xs : List Spec) (v : Value)
-    → s.header.params.order ≡ base.order → kind_in s.header.params form ≢ form_in_front → own_form x (unit_bytes s cells) start ≡ form → own_place x (unit_bytes s cells) start ≡ place
+    → s.header.params.order ≡ base.order → kind_in s.header.params form ≢ form_in_front → own_form x (unit_bytes s cells) start ≡ form
     → value_of (kind_in s.header.params form) s.header.params.order (unit_bytes s cells) place x.implicit ≡ Some v
     → PlacedRun base cells s.section s.unit (in_unit s place e d (at_chosen n tag start (of_chosen x form) xs)) (inside s (place + v.size) e d n tag xs) place (place + v.size)
     (value_places n tag x (unit_bytes s cells) start v)
-chosen-run base cells s place e d n tag start form x xs v order other own here is =
+chosen-run base cells s place e d n tag start form x xs v order other own is =
     let inside_ : place + v.size ≤ length (unit_bytes s cells) =
     (value_of-own (kind_in s.header.params form) s.header.params.order (unit_bytes s cells) place x.implicit v is).inside in
     let size : length (take v.size (drop place cells)) ≡ v.size = part-length v.size place s.header.end cells inside_ in
@@ -356,11 +353,11 @@ chosen-run base cells s place e d n tag start form x xs v order other own here i
     ∙ ap (λ (m : ℕ). inside s (place + m) e d n tag xs) size)
     (ap (λ (m : ℕ). place_of (role_of_kind (kind_in s.header.params form) (use_of n tag x.name)) place m
     ++ (indexed_kind (kind_in s.header.params form) (is_path n tag x.name) (is_base n x.name) s.header.params.order start (take v.size (drop place cells))
-    ++ said_start (start_form_by (kind_in s.header.params form) (use_of n tag x.name)) (macro_value_by (kind_in s.header.params form) (use_of n tag x.name)) place m)) size
+    ++ said_start (start_form_by (kind_in s.header.params form) (use_of n tag x.name)) (macro_value_by (kind_in s.header.params form) (use_of n tag x.name)) start place m)) size
     ∙ value-placed (kind_in s.header.params form) s.header.params.order (unit_bytes s cells) place x.implicit n tag x.name form (is_base n x.name) start
     (take v.size (drop place cells)) v (kind_plain s.header.params form) other (form-starts s.header.params form) is
     (value-spells s (kind_in s.header.params form) cells place x.implicit v is inside_)
-    ∙ value-own n tag x (unit_bytes s cells) start form place v own here)
+    ∙ value-own n tag x (unit_bytes s cells) start form v own)
     order
 
 -- values that are the same but for their sizes
@@ -398,15 +395,15 @@ places-same : (n tag : ℕ) (x : Spec) (bytes : List ℕ) (place : ℕ) (v w : V
     → value_places n tag x bytes place w ≡ value_places n tag x bytes place v
 places-same n tag x bytes place v w class at len number =
     ap (λ (ts : List TextPlace). ts ++ (class_places w.class (is_path n tag x.name) (is_base n x.name) place w
-    ++ said_places (is_start x.name) (is_macros x.name) (own_form x bytes place) (own_place x bytes place) w))
+    ++ said_places (is_start x.name) (is_macros x.name) (own_form x bytes place) place w))
     (line_places-same (x.name == DW_AT_stmt_list) (own_form x bytes place) v w at len)
     ∙ ap (λ (ts : List TextPlace). line_places (x.name == DW_AT_stmt_list) (own_form x bytes place) v
-    ++ (ts ++ said_places (is_start x.name) (is_macros x.name) (own_form x bytes place) (own_place x bytes place) w))
+    ++ (ts ++ said_places (is_start x.name) (is_macros x.name) (own_form x bytes place) place w))
     (class_places-same w.class (is_path n tag x.name) (is_base n x.name) place v w at len number
     ∙ ap (λ (c : ValueClass). class_places c (is_path n tag x.name) (is_base n x.name) place v) (sym class))
     ∙ ap (λ (ts : List TextPlace). line_places (x.name == DW_AT_stmt_list) (own_form x bytes place) v
     ++ (class_places v.class (is_path n tag x.name) (is_base n x.name) place v ++ ts))
-    (said_places-same (is_start x.name) (is_macros x.name) (own_form x bytes place) (own_place x bytes place) v w at len)
+    (said_places-same (is_start x.name) (is_macros x.name) (own_form x bytes place) place v w at len)
 
 -- a value of an attribute is one piece or two
 pub placed-value : (base : UnitBase) (cells : List Cell) (s : UnitState) (place e d n tag : ℕ) (x : Spec) (xs : List Spec) (v : Value)
@@ -423,8 +420,7 @@ placed-value base cells s place e d n tag x xs v order is = by_front (is_front (
         (inside s (place + c.size + c.value.size) e d n tag xs) place (place + c.size) (place + c.size + c.value.size) [] (value_places n tag x (unit_bytes s cells) place c.value)
         (front-run base cells s place e d n tag c.form c.size x xs order front c.spells c.other c.own)
         (chosen-run base cells s (place + c.size) e d n tag place c.form x xs c.value order c.other
-        (chosen-form s.header.params x (unit_bytes s cells) place c.form c.size front c.spells)
-        (chosen-place s.header.params x (unit_bytes s cells) place c.form c.size front c.spells) c.is) in
+        (chosen-form s.header.params x (unit_bytes s cells) place c.form c.size front c.spells) c.is) in
         let whole : place + c.size + c.value.size ≡ place + v.size = omega (arith, c.whole) in
         let at_end : PlacedRun base cells s.section s.unit (in_unit s place e d (at_values n tag (x ∷ xs))) (inside s (place + v.size) e d n tag xs) place (place + v.size) (value_places n tag x (unit_bytes s cells) place c.value) =
         subst (λ (m : ℕ). PlacedRun base cells s.section s.unit (in_unit s place e d (at_values n tag (x ∷ xs))) (inside s m e d n tag xs) place m (value_places n tag x (unit_bytes s cells) place c.value)) whole both in

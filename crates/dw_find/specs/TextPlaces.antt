@@ -71,23 +71,23 @@ indexed_kind (number_of SecOffset n) path true order at p = indexed_at at (unit_
 indexed_kind (leb_number Number) path true order at p = indexed_at at (unit_base (code_value p))
 indexed_kind k path base order at p = []
 
--- what a value at a place, of so many bytes, says of starts: where it is to say one and its form can't, that; else the field of the start
--- of a macro unit, where it says one
-abbrev pub said_start : Bool → Bool → ℕ → ℕ → List TextPlace
-said_start false macro at len = indexed_at at no_start
-said_start true true at len = record { role = fixed; at = at; len = len; says = unit_start } ∷ []
-said_start true false at len = []
+-- what a value that begins at a place, and whose bytes stand at another, so many, says of starts: where it is to say one and its form
+-- can't, that, where it begins; else the field of the start of a macro unit, where it says one
+abbrev pub said_start : Bool → Bool → ℕ → ℕ → ℕ → List TextPlace
+said_start false macro begin at len = indexed_at begin no_start
+said_start true true begin at len = record { role = fixed; at = at; len = len; says = unit_start } ∷ []
+said_start true false begin at len = []
 
 -- what a piece says so
 abbrev pub indexed_in : Mode → UnitState → List Cell → List TextPlace
 indexed_in (at_values number tag (x ∷ xs)) s p =
     indexed_kind (kind_in s.header.params x.form) (is_path number tag x.name) (is_base number x.name) s.header.params.order s.place p
     ++ said_start (start_form_by (kind_in s.header.params x.form) (use_of number tag x.name)) (macro_value_by (kind_in s.header.params x.form) (use_of number tag x.name))
-    s.place (length p)
+    s.place s.place (length p)
 indexed_in (at_chosen number tag start x xs) s p =
     indexed_kind (kind_in s.header.params x.form) (is_path number tag x.name) (is_base number x.name) s.header.params.order start p
     ++ said_start (start_form_by (kind_in s.header.params x.form) (use_of number tag x.name)) (macro_value_by (kind_in s.header.params x.form) (use_of number tag x.name))
-    s.place (length p)
+    start s.place (length p)
 indexed_in m s p = []
 
 -- the places of pieces, in order
@@ -111,14 +111,6 @@ class_places class path base place v = []
 abbrev pub own_form : Spec → List ℕ → ℕ → ℕ
 own_form x bytes place = if x.form == DW_FORM_indirect then read_value (uleb_at bytes place) else x.form
 
--- and where it stands behind that
-abbrev pub read_size : Option (ℕ × ℕ) → ℕ
-read_size None = 0
-read_size (Some n) = n.1
-
-abbrev pub own_place : Spec → List ℕ → ℕ → ℕ
-own_place x bytes place = if x.form == DW_FORM_indirect then place + read_size (uleb_at bytes place) else place
-
 -- a form that can say where a line table or a macro unit starts (DWARF 5, 3.1.1; before version 4 a number of 4 or 8 bytes)
 abbrev pub is_start_form : ℕ → Bool
 is_start_form form = form == DW_FORM_sec_offset || form == DW_FORM_data4 || form == DW_FORM_data8
@@ -139,7 +131,7 @@ is_macros name = name == DW_AT_macros || name == DW_AT_GNU_macros
 abbrev pub is_start : ℕ → Bool
 is_start name = name == DW_AT_stmt_list || is_macros name
 
--- where a value stands that is to say a start, and its form can't; else the field of the start of a macro unit
+-- where a value begins that is to say a start, and its form can't; else the field of the start of a macro unit
 abbrev pub said_value : Bool → Bool → ℕ → Value → List TextPlace
 said_value false macro place v = indexed_at place no_start
 said_value true true place v = record { role = fixed; at = v.at; len = v.len; says = unit_start } ∷ []
@@ -154,7 +146,7 @@ abbrev pub value_places : ℕ → ℕ → Spec → List ℕ → ℕ → Value �
 value_places number tag x bytes place v =
     line_places (x.name == DW_AT_stmt_list) (own_form x bytes place) v
     ++ (class_places v.class (is_path number tag x.name) (is_base number x.name) place v
-    ++ said_places (is_start x.name) (is_macros x.name) (own_form x bytes place) (own_place x bytes place) v)
+    ++ said_places (is_start x.name) (is_macros x.name) (own_form x bytes place) place v)
 
 -- those of the values of attributes that stand one after another from a place on
 abbrev pub value_places_behind : (ℕ → List TextPlace) → ℕ → ℕ → Spec → List ℕ → ℕ → Option Value → List TextPlace
@@ -246,7 +238,7 @@ abbrev pub macros_in : List TextPlace → List PathField
 macros_in [] = []
 macros_in (t ∷ ts) = unit_start_at t.at t.len t.says ++ macros_in ts
 
--- and where the first value stands that can't
+-- and where the first value begins that can't
 abbrev pub stray_or : ℕ → Indexed → Option ℕ → Option ℕ
 stray_or at no_start o = Some at
 stray_or at i o = o

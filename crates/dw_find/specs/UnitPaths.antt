@@ -6,7 +6,7 @@ use Rattle.dw_base.specs.Readings.{Reading, Readings}
 use Rattle.dw_base.specs.Forms.{TextSection, in_str, in_line_str}
 use Rattle.dw_base.specs.Pieces.{Piece}
 use Rattle.dw_base.specs.Roles.{Role, offset, inline_path, line_start, role_of}
-use Rattle.dw_base.specs.TableStarts.{has_start_form, is_macro_value}
+use Rattle.dw_base.specs.TableStarts.{has_start_form, is_macro_value, value_begin}
 use Rattle.dw_base.specs.Texts.{text}
 use Rattle.dw_base.specs.UnitStates.{UnitState}
 use Rattle.dw_find.specs.declared.fields.InlinePath.{InlinePath}
@@ -53,10 +53,10 @@ abbrev pub macro_fields : List (Piece UnitState) → List PathField
 macro_fields [] = []
 macro_fields (x ∷ xs) = macro_by (is_macro_value x) x.state.place (length x.cells) ++ macro_fields xs
 
--- where the first value stands that is to say where a line table or a macro unit starts, and has a form that can't
+-- where the first value begins that is to say where a line table or a macro unit starts, and has a form that can't
 abbrev pub stray_among : List (Piece UnitState) → Option ℕ
 stray_among [] = None
-stray_among (x ∷ xs) = if has_start_form x then stray_among xs else Some x.state.place
+stray_among (x ∷ xs) = if has_start_form x then stray_among xs else Some (value_begin x.state)
 
 -- what a section says of paths: its number, the fields of each table, and the paths that stand in their values; and of line tables and macro
 -- units: the fields that say where they start, and the first value that can't

@@ -11,7 +11,6 @@ use Rattle.dw_base.specs.declared.fault.Refusal.{Refusal}
 use Rattle.dw_base.specs.declared.shared.Params.{Params}
 use Rattle.dw_base.specs.declared.units.Scanned.{Scanned}
 use Rattle.dw_base.specs.declared.units.UnitHeader.{UnitHeader}
-use Rattle.dw_base.specs.declared.values.Spec.{Spec}
 use Rattle.dw_find.specs.EntryTexts.{Tables, AreTaken, Found, ValuesRefuse, with_places, none_found}
 use Rattle.dw_find.specs.NamedSlots.{Slots, TakesIndexes, TakesUnits}
 use Rattle.dw_find.specs.TextPlaces.{UnitSays, entries_places, SectionSays}

@@ -24,7 +24,7 @@ pub struct UnitPaths {
     pub starts: Vec<PathField>,
     /// Those that say where macro units start.
     pub macros: Vec<PathField>,
-    /// Where the first value stands that is to say either, and has a form that can't.
+    /// Where the first value begins that is to say either, and has a form that can't.
     pub stray: Option<u64>,
 }
 

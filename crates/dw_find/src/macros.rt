@@ -8,7 +8,7 @@ ghost use Rattle.dw_base.specs.MacroFails.{MacroUnitsFail};
 ghost use Rattle.dw_base.specs.MacroUnits.{AreMacroUnits};
 ghost use Rattle.dw_base.specs.Refusals.{Blames};
 ghost use Rattle.dw_base.specs.declared.fault.Refusal.{Refusal as RefusalOf};
-ghost use Rattle.dw_macros.specs.MacroEvents.{IsUnitIn, unit_events};
+ghost use Rattle.dw_macros.specs.MacroEvents.{IsUnitIn, events_left, unit_events};
 ghost use Rattle.dw_find.specs.LineStarts.{Rises};
 ghost use Rattle.dw_find.specs.MacroNames.{AllUnitsIn, AreUnitsIn, EventNames, EventStray, EventStrays, EventsName, LineNames, LineStrays, MacrosName, MacrosStray, UnitsName, UnitsStray};
 ghost use Rattle.dw_find.specs.MacroSections.{SectionUnits, UnitsFailIn, UnitsFoundIn, first_places, line_fields, macros_of, macros_with, places_of};
@@ -153,6 +153,7 @@ fn line_fields(alloc: Global, units: &[MacroUnit]) -> Result<Vec<PathField>, All
 
 /// Tests that each offset of a line table of all these units names one of these starts, and each of another unit one of these
 /// places. Refused as `Stray`, at an offset that names none.
+#[tactic(auto, using(crate::proofs::MacroLoopLaws::section_loop_rules))]
 pub(crate) fn macros_name(
     view: &View,
     starts: &[u64],
@@ -172,6 +173,7 @@ pub(crate) fn macros_name(
 }
 
 /// The same of the units of one section.
+#[tactic(auto, using(crate::proofs::MacroLoopLaws::unit_loop_rules))]
 fn units_name(
     view: &View,
     starts: &[u64],
@@ -214,8 +216,18 @@ fn events_name(view: &View, places: &[u64], unit: &MacroUnit) -> Result<(), Refu
     ensures named { OnOk result (EventsName places.now (unit_events view.now unit.now)) }
     ensures refused { IfErr result (EventStrays unit.now.section places.now (unit_events view.now unit.now)) }
 {
-    for event in MacroEvents::new(view, unit) {
-        event_names(unit.section, places, event)?;
+    left_name(unit.section, places, MacroEvents::new(view, unit))
+}
+
+/// The same of events that are left.
+#[tactic(auto, using(crate::proofs::MacroLoopLaws::event_loop_rules))]
+fn left_name(section: u32, places: &[u64], events: MacroEvents) -> Result<(), Refusal>
+    requires places { Rises places.now }
+    ensures named { OnOk result (EventsName places.now (events_left events.entry)) }
+    ensures refused { IfErr result (EventStrays section places.now (events_left events.entry)) }
+{
+    for event in events {
+        event_names(section, places, event)?;
     }
     Ok(())
 }

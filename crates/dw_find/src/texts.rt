@@ -13,7 +13,7 @@ ghost use Rattle.dw_base.specs.TextIndexes.{is_base};
 ghost use Rattle.dw_base.specs.UnitHeaders.{is_address_size};
 ghost use Rattle.dw_base.specs.declared.dwarf_numbers.TheConstants.{DW_AT_stmt_list};
 ghost use Rattle.dw_find.specs.EntryTexts.{AreTaken, OffsetNames, OffsetSized, OneRefuses, StartSized, ValueRefuses, ValuesRefuse, ValueTaken, with_places, IsStrValue};
-ghost use Rattle.dw_find.specs.TextPlaces.{class_places, indexed_at, is_macros, is_start, is_start_form, line_at, no_start, own_form, own_place, said_places, said_value, values_places};
+ghost use Rattle.dw_find.specs.TextPlaces.{class_places, indexed_at, is_macros, is_start, is_start_form, line_at, no_start, own_form, said_places, said_value, values_places};
 
 use crate::fields::{InlinePath, PathField, TextIndex};
 use crate::found::{Found, TextTables};
@@ -191,21 +191,6 @@ fn own_form(spec: &Spec, bytes: &[u8], place: u64) -> u64
     }
 }
 
-/// Where the value stands behind that.
-fn own_place(spec: &Spec, bytes: &[u8], place: u64) -> u64
-    requires small { length bytes.now ≤ 2 ^ 31 }
-    requires inside { place ≤ length bytes.now }
-    ensures { result ≡ own_place spec.now bytes.now place }
-{
-    if spec.form != DW_FORM_indirect {
-        return place;
-    }
-    match uleb_at(bytes, place) {
-        Some((_, size)) => place + size,
-        None => place,
-    }
-}
-
 /// A value at a place says where a line table starts.
 #[tactic(auto, using(crate::proofs::EntryTextLaws::says_rules))]
 fn says_start(spec: &Spec, bytes: &[u8], place: u64) -> bool
@@ -229,7 +214,7 @@ fn note_start(says: bool, value: &Value, found: &mut Found) -> Result<(), AllocE
     Ok(())
 }
 
-/// Notes what a value at a place says of starts, where it is to say one: where it stands, where it has a form that can't, and
+/// Notes what a value at a place says of starts, where it is to say one: where it begins, where it has a form that can't, and
 /// else its field, where it says where a macro unit starts.
 #[tactic(auto, using(crate::proofs::EntryTextLaws::said_rules))]
 fn note_said(
@@ -239,16 +224,14 @@ fn note_said(
     value: &Value,
     found: &mut Found,
 ) -> Result<(), AllocError>
-    requires small { length bytes.now ≤ 2 ^ 31 }
-    requires inside { place ≤ length bytes.now }
     requires sized { StartSized (own_form spec.now bytes.now place) value.now.len }
-    ensures found { OnOk result (found.new ≡ with_places found.old (said_places (is_start spec.now.name) (is_macros spec.now.name) (own_form spec.now bytes.now place) (own_place spec.now bytes.now place) value.now)) }
+    ensures found { OnOk result (found.new ≡ with_places found.old (said_places (is_start spec.now.name) (is_macros spec.now.name) (own_form spec.now bytes.now place) place value.now)) }
 {
     if !is_start(spec.name) {
         return Ok(());
     }
     if !is_start_form(own_form(spec, bytes, place)) {
-        note_stray(own_place(spec, bytes, place), found);
+        note_stray(place, found);
         return Ok(());
     }
     if is_macros(spec.name) {
@@ -257,7 +240,7 @@ fn note_said(
     Ok(())
 }
 
-/// Notes where the first value stands that is to say a start, and has a form that can't.
+/// Notes where the first value begins that is to say a start, and has a form that can't.
 #[tactic(auto, using(crate::proofs::EntryTextLaws::note_rules), unfolding(crate::specs::EntryTexts::with_places, crate::specs::EntryTexts::with_paths))]
 fn note_stray(place: u64, found: &mut Found)
     ensures found { found.new ≡ with_places found.old (indexed_at place no_start) }

@@ -2,7 +2,7 @@
 use Rattle.std.proofs.Common.{Bool, true, false, ◌≡◌, ◌≢◌, ◌⊎◌, inl, inr, ℕ, suc, ◌+◌, ◌<◌, ◌==◌, ◌&&◌, not, List, [], ◌∷◌, ◌++◌, drop, if◌then◌else◌, Option, Some, None, refl, sym, ap, ◌∙◌, subst, arith}
 use Rattle.std.proofs.lemmas.Bool.{and_parts, cases_eq, eq-eqb, ne_eqb}
 use Rattle.dw_base.specs.Cells.{Cell, bytes_of}
-use Rattle.dw_meaning.specs.DataOutput.{Body, DataReads, body_in, cells_body, new_bodies, table_body, unit_bodies}
+use Rattle.dw_meaning.specs.DataOutput.{Body, DataReads, body_in, cells_body, macro_bodies, new_bodies, table_body, unit_bodies}
 use Rattle.dw_base.specs.DebugData.{Around, DataReadings, ReadsAll, units_in}
 use Rattle.dw_base.specs.Readings.{Readings}
 use Rattle.dw_base.specs.DebugSections.{debug_section, name_of}
@@ -11,14 +11,17 @@ use Rattle.dw_base.specs.ElfFails.{ElfReads}
 use Rattle.dw_meaning.specs.FileMeanings.{file_data, new_body}
 use Rattle.dw_base.specs.FileViews.{ViewSection, first_filled, is_filled, section_after, section_named, view_of, view_section}
 use Rattle.dw_base.specs.LineReadings.{all_lines}
+use Rattle.dw_base.specs.MacroReadings.{MacroReading, ReadsAllMacros}
 use Rattle.dw_base.specs.Paths.{PathMap}
+use Rattle.dw_base.specs.SectionTexts.{edited_macros}
 use Rattle.dw_base.specs.TextChanges.{TableChange, TableChanges}
 use Rattle.dw_base.specs.UnitHeaders.{SectionKind, UnitBase}
-use Rattle.dw_base.specs.ViewData.{debug_data, located, located_at, unit_kind, unit_section, unit_sections, unit_sections_from}
+use Rattle.dw_base.specs.ViewData.{debug_data, is_macro, located, located_at, macro_section, macro_sections, macro_sections_from, unit_kind, unit_section, unit_sections, unit_sections_from}
 use Rattle.dw_base.specs.declared.debug_sections.DebugSection.{DebugSection}
 use Rattle.dw_base.specs.declared.debug_sections.DebugSection.TheVariants.{Line, Str, LineStr, StrOffsets, Names}
+use Rattle.dw_base.specs.declared.shared.Order.{Order}
 use Rattle.dw_meaning.proofs.FileBackLaws.{AllAt, tabulate-at}
-use Rattle.dw_meaning.proofs.FileKeptLaws.{CanMap, around_file, body-line, body-names, body-offsets, body-other, body-str, body-tables, changes_file, line-none, line-place, names-none, names-place, new_names, new_offsets, offsets-none, offsets-place, str-none, str-place, tables-none, tables-place}
+use Rattle.dw_meaning.proofs.FileKeptLaws.{CanMap, around_file, body-line, body-names, body-offsets, body-other, body-str, body-tables, changes_file, line-none, line-place, names-none, names-place, new_names, new_offsets, units_new, offsets-none, offsets-place, str-none, str-place, tables-none, tables-place}
 use Rattle.dw_meaning.proofs.TableKeptLaws.{TablePlace, nowhere, lies_at, drop-at}
 use Rattle.dw_rewrite.specs.Rewritten.{AllStand, Stands, body_with, bytes_given, bytes_or, is_of}
 
@@ -92,6 +95,26 @@ units-stand b base c around first k (s ∷ ss) (t ∷ ts) rs all reads =
         let here : IsFull b q.number = subst (IsFull b) (sym f.0) (full_at b k s all.0.within all.0.is is) in
         (record { within = λ some. here.within; full = λ some. here.full }, rest (first + units_in q.pieces) qs f.2)
 
+-- so are macro units, and the bodies behind them
+macros-stand : (b : List ℕ) (order : Order) (c : TableChanges) (around : Around) (xs : List Body) (k : ℕ) (ss ts : List ViewSection) (rs : List MacroReading) → AllAt (IsSection b) k ss ts
+    → ReadsAllMacros order (macro_sections_from k ss) rs → AllStand b xs → AllStand b (macro_bodies (edited_macros c around rs) ++ xs)
+macros-stand b order c around xs k [] ts [] all reads behind = behind
+macros-stand b order c around xs k [] ts (r ∷ rs) all reads behind = absurd reads
+macros-stand b order c around xs k (s ∷ ss) [] rs all reads behind = absurd all
+macros-stand b order c around xs k (s ∷ ss) (t ∷ ts) rs all reads behind =
+    by_section (s.has_bytes && is_macro (debug_section s.name)) refl rs reads (λ qs f. macros-stand b order c around xs (suc k) ss ts qs all.1 f behind)
+  where
+    by_section : (some : Bool) → (s.has_bytes && is_macro (debug_section s.name)) ≡ some → (qs : List MacroReading)
+        → ReadsAllMacros order (macro_section k s some ++ macro_sections_from (suc k) ss) qs
+        → ((ps : List MacroReading) → ReadsAllMacros order (macro_sections_from (suc k) ss) ps → AllStand b (macro_bodies (edited_macros c around ps) ++ xs))
+        → AllStand b (macro_bodies (edited_macros c around qs) ++ xs)
+    by_section false is qs f rest = rest qs f
+    by_section true is [] f rest = absurd f
+    by_section true is (q ∷ qs) f rest =
+        let has : s.has_bytes ≡ true = (and_parts s.has_bytes (is_macro (debug_section s.name)) is).0 in
+        let here : IsFull b q.number = subst (IsFull b) (sym f.0) (full_at b k s all.0.within all.0.is has) in
+        (record { within = λ some. here.within; full = λ some. here.full }, rest qs f.2)
+
 -- sections that are read as pieces are in one each, or nowhere
 cells-stand : (b : List ℕ) (s : DebugSection) (p : List Cell) → Stands b (cells_body (located (view_of b) s).number p)
 unfolding located section_named section_after
@@ -115,7 +138,7 @@ lines-stand b bytes = by_found (section_named (view_of b) (name_of Line)) refl
         record { within = λ some. f.within; full = λ some. f.full }
 
 pub bodies-stand : (m : PathMap) (b : List ℕ) (r : DataReadings) → DataReads (file_data b) r → AllStand b (new_bodies m (file_data b) r)
-unfolding new_bodies debug_data unit_sections
+unfolding new_bodies debug_data unit_sections macro_sections
 bodies-stand m b r reads = (
   table-stands b Str (changes_file m b r).str,
   (
@@ -126,7 +149,9 @@ bodies-stand m b r reads = (
         lines-stand b (all_lines (changes_file m b r).lines),
         (
           cells-stand b Names (new_names m b r),
-          units-stand b (file_data b).base (changes_file m b r) (around_file b r) 0 1 (drop 1 (view_of b).sections) (drop 1 (view_of b).sections) r.units (all_sections b) reads.units,
+          macros-stand b (file_data b).base.order (changes_file m b r) (around_file b r) (units_new m b r) 1 (drop 1 (view_of b).sections) (drop 1 (view_of b).sections) r.macros (all_sections b)
+              reads.macros
+              (units-stand b (file_data b).base (changes_file m b r) (around_file b r) 0 1 (drop 1 (view_of b).sections) (drop 1 (view_of b).sections) r.units (all_sections b) reads.units),
         ),
       ),
     ),
@@ -157,6 +182,23 @@ units-above base c around old i first k (s ∷ ss) rs reads lt =
         let other : i ≢ q.number = λ e. omega (arith, e, number) in
         rw (ne_eqb i q.number other) (rest (first + units_in q.pieces) qs f.2)
 
+macros-above : (order : Order) (c : TableChanges) (around : Around) (xs : List Body) (old : ℕ → List ℕ) (i k : ℕ) (ss : List ViewSection) (rs : List MacroReading)
+    → ReadsAllMacros order (macro_sections_from k ss) rs → i < k → body_in (macro_bodies (edited_macros c around rs) ++ xs) old i ≡ body_in xs old i
+macros-above order c around xs old i k [] [] reads lt = refl
+macros-above order c around xs old i k [] (r ∷ rs) reads lt = absurd reads
+macros-above order c around xs old i k (s ∷ ss) rs reads lt =
+    by_section (s.has_bytes && is_macro (debug_section s.name)) rs reads (λ qs f. macros-above order c around xs old i (suc k) ss qs f (omega (arith, lt)))
+  where
+    by_section : (some : Bool) (qs : List MacroReading) → ReadsAllMacros order (macro_section k s some ++ macro_sections_from (suc k) ss) qs
+        → ((ps : List MacroReading) → ReadsAllMacros order (macro_sections_from (suc k) ss) ps → body_in (macro_bodies (edited_macros c around ps) ++ xs) old i ≡ body_in xs old i)
+        → body_in (macro_bodies (edited_macros c around qs) ++ xs) old i ≡ body_in xs old i
+    by_section false qs f rest = rest qs f
+    by_section true [] f rest = absurd f
+    by_section true (q ∷ qs) f rest =
+        let number : q.number ≡ k = f.0 in
+        let other : i ≢ q.number = λ e. omega (arith, e, number, lt) in
+        rw (ne_eqb i q.number other) (rest qs f.2)
+
 section_0 : (b : List ℕ) → ElfReads b → 0 < section_count b → contents_of b 0 ≡ []
 unfolding contents_of contents_at section_count
 section_0 b elf some = by_table (cases_eq (e_shoff b) 0)
@@ -168,7 +210,7 @@ section_0 b elf some = by_table (cases_eq (e_shoff b) 0)
     by_table (inr there) = rw (elf.debug.index.null there) refl
 
 body-first : (m : PathMap) (b : List ℕ) (r : DataReadings) → CanMap m b r → 0 < section_count b → new_body m b r 0 ≡ contents_of b 0
-unfolding debug_data unit_sections
+unfolding debug_data unit_sections macro_sections
 body-first m b r w some = by_str (cases_eq 0 (file_data b).str.number) (str-place b)
   where
     own : contents_of b 0 ≡ []
@@ -179,6 +221,7 @@ body-first m b r w some = by_str (cases_eq 0 (file_data b).str.number) (str-plac
         → new_body m b r 0 ≡ contents_of b 0
     by_names str line offsets lines (inr names) place =
         body-other m b r 0 (record { str = str; line = line; offsets = offsets; lines = lines; names = names })
+        ∙ macros-above (file_data b).base.order (changes_file m b r) (around_file b r) (units_new m b r) (contents_of b) 0 1 (drop 1 (view_of b).sections) r.macros w.reads.data_reads.macros (omega arith)
         ∙ units-above (file_data b).base (changes_file m b r) (around_file b r) (contents_of b) 0 0 1 (drop 1 (view_of b).sections) r.units w.reads.data_reads.units (omega arith)
     by_names str line offsets lines (inl same) (nowhere zero none) =
         body-names m b r 0 same str line offsets lines ∙ ap bytes_of (names-none m b r w none) ∙ sym own

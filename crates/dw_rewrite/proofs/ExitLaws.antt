@@ -13,8 +13,8 @@ use Rattle.dw_meaning.specs.EditRows.EditFails.{file, inline, line_table as line
 use Rattle.dw_base.specs.Elf.{contents_of, is_empty_kind, nth_section, section_count}
 use Rattle.dw_base.specs.ElfFails.{ElfFails, ElfReads}
 use Rattle.dw_meaning.specs.FileFails.{FileFails, UnbuiltFile}
-use Rattle.dw_meaning.specs.FileFails.FileFails.{elf, lines as lines_row, starts as starts_row, sections, units as units_row, texts as texts_row, string_tables as string_tables_row, slots as slots_row, name_tables as name_tables_row, unbuilt as unbuilt_row}
-use Rattle.dw_meaning.specs.FileFails.UnbuiltFile.{relocatable, section as section_row, value as value_row}
+use Rattle.dw_meaning.specs.FileFails.FileFails.{elf, lines as lines_row, macros as macros_row, starts as starts_row, sections, units as units_row, texts as texts_row, string_tables as string_tables_row, slots as slots_row, name_tables as name_tables_row}
+use Rattle.dw_meaning.specs.FileFails.UnbuiltFile.{relocatable}
 use Rattle.dw_meaning.specs.FileMeanings.{FileReads, IsOutput, MeaningKept, file_data, new_body, output_of}
 use Rattle.dw_base.specs.FileViews.{View, view_of}
 use Rattle.dw_base.specs.Forms.{TextSection, in_str, in_line_str}
@@ -55,9 +55,10 @@ use Rattle.dw_rewrite.specs.Bodies.BodiesRefuse.{line_table_of, long_lines_of, l
 use Rattle.dw_find.specs.FoundPaths.PathsRefuse.{units as paths_units, starts as paths_starts, inline as paths_inline, string_tables as paths_string_tables, name_tables as paths_name_tables, slots as paths_slots, shared as paths_shared}
 use Rattle.dw_rewrite.specs.Judged.{IsJudged}
 use Rattle.dw_rewrite.specs.Rewritten.{AllStand, IsInFile, body_with, long_fault, long_or, long_refusal, told_refusal}
+use Rattle.dw_find.specs.MacroSections.{SectionUnits, UnitsFailIn, UnitsFoundIn}
+use Rattle.dw_find.specs.MacroSections.UnitsFailIn.{units as units_fail}
 use Rattle.dw_find.specs.UnitPaths.{UnitPaths}
-use Rattle.dw_find.specs.UnitTexts.{HasUnbuilt}
-use Rattle.dw_find.specs.UnitTexts.UnitsRefuse.{data_fails, text_fails, unbuilt as value_unbuilt}
+use Rattle.dw_find.specs.UnitTexts.UnitsRefuse.{data_fails, text_fails}
 use Rattle.dw_rewrite.proofs.BodyLaws.{bodies-same, bodies-stand, made-stand}
 use Rattle.dw_meaning.proofs.LoadedLaws.{loaded-kept}
 use Rattle.dw_rewrite.proofs.WrittenLaws.{fits_same, layout_same, length-moved}
@@ -84,8 +85,6 @@ pub ruleset elf_rules = (refused_view, refused_file)
 data_fail : (m : PathMap) (b : List ℕ) (r : Refusal) → ElfReads b → PathsRefuse m (view_of b) r → EditFails m b r
 data_fail m b r reads (paths_units (data_fails h)) = file (units_row reads h)
 data_fail m b r reads (paths_units (text_fails h)) = file (texts_row reads h)
-data_fail m b _ reads (paths_units (value_unbuilt u)) =
-    file (unbuilt_row (value_row u.section u.header u.table u.number u.abbreviation u.spec u.place u.value reads u.there u.stands u.unbuilt))
 data_fail m b r reads (paths_starts h) = file (starts_row reads h)
 data_fail m b r reads (paths_inline h) = inline reads h
 data_fail m b r reads (paths_string_tables h) = file (string_tables_row reads h)
@@ -103,7 +102,10 @@ found_paths m b v us ts is h = subst (λ (w : View). PathsFound m w us ts) is h
 pub seen_tables : (b : List ℕ) (v : View) (ts : List LineTable) → v ≡ view_of b → TablesFound (view_of b) ts → TablesFound v ts
 seen_tables b v ts is h = subst (λ (w : View). TablesFound w ts) (sym is) h
 
-pub ruleset paths_rules = (refused_paths, found_paths, seen_tables)
+pub seen_macros : (b : List ℕ) (v : View) (ss : List SectionUnits) → v ≡ view_of b → UnitsFoundIn (view_of b) ss → UnitsFoundIn v ss
+seen_macros b v ss is h = subst (λ (w : View). UnitsFoundIn w ss) (sym is) h
+
+pub ruleset paths_rules = (refused_paths, found_paths, seen_tables, seen_macros)
 
 -- so are line tables that can't be read.
 pub refused_tables : (m : PathMap) (b : List ℕ) (v : View) (f : Fault) → IsJudged b → v ≡ view_of b → Blames (LinesFail (debug_data v)) f → Blames (EditFails m b) f
@@ -114,6 +116,19 @@ pub found_tables : (b : List ℕ) (v : View) (ts : List LineTable) → v ≡ vie
 found_tables b v ts is h = subst (λ (w : View). TablesFound w ts) is h
 
 pub ruleset tables_rules = (refused_tables, found_tables)
+
+-- and macro units.
+macro_fail : (m : PathMap) (b : List ℕ) (r : Refusal) → ElfReads b → UnitsFailIn (view_of b) r → EditFails m b r
+macro_fail m b r reads (units_fail z before behind split h) = file (macros_row z before behind reads split h)
+
+pub refused_macros : (m : PathMap) (b : List ℕ) (v : View) (f : Fault) → IsJudged b → v ≡ view_of b → Blames (UnitsFailIn v) f → Blames (EditFails m b) f
+refused_macros m b v NoMemory j is h = tt
+refused_macros m b v (Refused r) j is h = macro_fail m b r j.elf (subst (λ (w : View). UnitsFailIn w r) is h)
+
+pub found_macros : (b : List ℕ) (v : View) (ss : List SectionUnits) → v ≡ view_of b → UnitsFoundIn v ss → UnitsFoundIn (view_of b) ss
+found_macros b v ss is h = subst (λ (w : View). UnitsFoundIn w ss) is h
+
+pub ruleset macros_rules = (refused_macros, found_macros)
 
 -- A file whose debug data can be read reads as a whole.
 reads_judged : (b : List ℕ) (r : DataReadings) → IsJudged b → DataReads (file_data b) r → FileReads b r
@@ -242,17 +257,14 @@ in_file m b (Refused x) (line_table_of r before behind t reads split fails) =
 pub told_in_file : (m : PathMap) (b : List ℕ) (v : View) (f : Fault) → v ≡ view_of b → Blames (BodiesRefuse m (debug_data v)) f → Blames (IsInFile b) f
 told_in_file m b v f v_is h = in_file m b f (subst (λ (w : View). Blames (BodiesRefuse m (debug_data w)) f) v_is h)
 
-pub ruleset bodies_rules = (seen_paths, made_bodies, refused_bodies, told_in_file)
+pub ruleset bodies_rules = (seen_paths, seen_macros, made_bodies, refused_bodies, told_in_file)
 
 -- What was written is the output of a file that is taken.
-unbuilt_none : (b : List ℕ) → IsJudged b → (HasUnbuilt (file_data b) → ⊥) → UnbuiltFile b → ⊥
-unbuilt_none b j none (relocatable h is) = true≢false (sym j.kind ∙ other)
+unbuilt_none : (b : List ℕ) → IsJudged b → UnbuiltFile b → ⊥
+unbuilt_none b j (relocatable h is) = true≢false (sym j.kind ∙ other)
   where
     other : is_loaded_kind b ≡ false
     other = rw is refl
-unbuilt_none b j none (section_row i reads lt active new) = true≢false (sym new ∙ (j.fits.each i lt).built active)
-unbuilt_none b j none (value_row z h list number a x place v reads there stands new) =
-    none (record { section = z; header = h; table = list; number = number; abbreviation = a; spec = x; place = place; value = v; there = there; stands = stands; unbuilt = new })
 
 can_map : (m : PathMap) (b : List ℕ) (bodies : List Body) → IsPathMap m → IsJudged b → (d : BodiesMade m (file_data b) bodies) → CanMap m b d.readings
 can_map m b bodies map j d = record { map = map; reads = reads_judged b d.readings j d.reads; fits = d.fits }
@@ -268,7 +280,7 @@ made_accepted m b bodies map j d fits = record {
   reads = reads_judged b d.readings j d.reads;
   fits = d.fits;
   unloaded = λ i lt. (j.fits.each i lt).unloaded;
-  built = unbuilt_none b j d.built;
+  built = unbuilt_none b j;
   written = fits_same b (body_with b bodies) (new_body m b d.readings) (made_same m b bodies map j d) fits;
 }
 

@@ -2,13 +2,13 @@
 use Rattle.std.proofs.Common.{◌≡◌, ℕ, ◌+◌, ◌<◌, ◌≤◌, ◌==◌, Bool, true, false, ◌&&◌, ◌||◌, not, List, length, Option, sym, ap, ◌∙◌, refl, arith, inl, inr, subst}
 use Rattle.std.proofs.lemmas.Bool.{cases_lt, true≢false}
 use Rattle.std.proofs.lemmas.Bool.Decides.{nat_tests}
-use Rattle.dw_base.specs.DebugSectionFails.{DebugSectionsRead, is_active}
+use Rattle.dw_base.specs.DebugSectionFails.{DebugSectionsRead}
 use Rattle.dw_base.specs.DebugSections.{debug_section}
 use Rattle.dw_base.specs.Elf.{e_type, is_empty_kind, nth_section, section_count, section_name}
 use Rattle.dw_base.specs.ElfFails.{ElfReads}
-use Rattle.dw_meaning.specs.FileFails.{FileFails, ReadIsLoaded, is_unbuilt_section}
+use Rattle.dw_meaning.specs.FileFails.{FileFails}
 use Rattle.dw_meaning.specs.FileFails.FileFails.{loaded, unbuilt}
-use Rattle.dw_meaning.specs.FileFails.UnbuiltFile.{relocatable, section as unbuilt_section}
+use Rattle.dw_meaning.specs.FileFails.UnbuiltFile.{relocatable}
 use Rattle.dw_base.specs.FileViews.{View, view_of}
 use Rattle.dw_base.specs.Layout.{is_alloc, is_loaded_kind}
 use Rattle.dw_base.specs.Refusals.{at}
@@ -63,28 +63,16 @@ refused_loaded b v i o s t u r reads v_is lt o_is s_is t_is read u_is both r_is 
       alloc = ap (λ (x : Section). is_alloc x) (sym s_is) ∙ parts.0;
     }))
 
--- a section that isn't taken yet
-pub refused_section : (b : List ℕ) (v : View) (i : ℕ) (o : Option DebugSection) (s : Section) (t u : Bool) (r : Refusal) → ElfReads b → v ≡ view_of b
-    → i < section_count b → o ≡ kind_at v i → s ≡ nth_section b i → t ≡ is_unbuilt_section o → t ≡ true → u ≡ is_active s → u ≡ true
-    → r ≡ at Unbuilt 0 0 → FileFails b r
-refused_section b v i o s t u r reads v_is lt o_is s_is t_is new u_is active r_is =
-    subst (FileFails b) (sym r_is) (unbuilt (unbuilt_section i reads lt
-    (ap (λ (x : Section). is_active x) (sym s_is) ∙ sym u_is ∙ active)
-    (ap is_unbuilt_section (sym (kind_is b v i o v_is lt o_is)) ∙ sym t_is ∙ new)))
-
--- one that passes both tests, each of them made in two steps
-pub record Unloaded (b : List ℕ) (i : ℕ) : Type 0 where
-  pub none : ReadIsLoaded b i → ⊥
-
-unread : (b : List ℕ) (v : View) (i : ℕ) (o : Option DebugSection) (t : Bool) → v ≡ view_of b → i < section_count b → o ≡ kind_at v i
-    → t ≡ is_read o → t ≡ false → Unloaded b i
-unread b v i o t v_is lt o_is t_is other = record {
-  none = λ l. true≢false (sym l.read ∙ ap is_read (sym (kind_is b v i o v_is lt o_is)) ∙ sym t_is ∙ other);
+-- one that isn't read, and one that isn't loaded
+pub fits_unread : (b : List ℕ) (v : View) (i : ℕ) (o : Option DebugSection) (t : Bool) → v ≡ view_of b → i < section_count b → o ≡ kind_at v i
+    → t ≡ is_read o → t ≡ false → SectionFits b i
+fits_unread b v i o t v_is lt o_is t_is other = record {
+  unloaded = λ l. true≢false (sym l.read ∙ ap is_read (sym (kind_is b v i o v_is lt o_is)) ∙ sym t_is ∙ other);
 }
 
-not_loaded : (b : List ℕ) (i : ℕ) (s : Section) (u : Bool) → s ≡ nth_section b i → u ≡ (is_alloc s && not (is_empty_kind s)) → u ≡ false → Unloaded b i
-not_loaded b i s u s_is u_is other = record {
-  none = λ l. true≢false (sym (both (is_alloc s) (is_empty_kind s) (ap (λ (x : Section). is_alloc x) s_is ∙ l.alloc)
+pub fits_kept : (b : List ℕ) (i : ℕ) (s : Section) (u : Bool) → s ≡ nth_section b i → u ≡ (is_alloc s && not (is_empty_kind s)) → u ≡ false → SectionFits b i
+fits_kept b i s u s_is u_is other = record {
+  unloaded = λ l. true≢false (sym (both (is_alloc s) (is_empty_kind s) (ap (λ (x : Section). is_alloc x) s_is ∙ l.alloc)
       (ap (λ (x : Section). is_empty_kind x) s_is ∙ l.bytes)) ∙ sym u_is ∙ other);
 }
   where
@@ -93,47 +81,12 @@ not_loaded b i s u s_is u_is other = record {
     both true false a e = refl
     both false y a e = absurd cc
 
-built_kind : (b : List ℕ) (v : View) (i : ℕ) (o : Option DebugSection) (t : Bool) → v ≡ view_of b → i < section_count b → o ≡ kind_at v i
-    → t ≡ is_unbuilt_section o → t ≡ false → is_unbuilt_section (debug_section (section_name b i)) ≡ false
-built_kind b v i o t v_is lt o_is t_is other = ap is_unbuilt_section (sym (kind_is b v i o v_is lt o_is)) ∙ sym t_is ∙ other
-
-inactive : (b : List ℕ) (i : ℕ) (s : Section) (u : Bool) → s ≡ nth_section b i → u ≡ is_active s → u ≡ false → is_active (nth_section b i) ≡ true → ⊥
-inactive b i s u s_is u_is other active = true≢false (sym active ∙ ap (λ (x : Section). is_active x) (sym s_is) ∙ sym u_is ∙ other)
-
-pub fits_unread_built : (b : List ℕ) (v : View) (i : ℕ) (o : Option DebugSection) (t x : Bool) → v ≡ view_of b → i < section_count b → o ≡ kind_at v i
-    → t ≡ is_read o → t ≡ false → x ≡ is_unbuilt_section o → x ≡ false → SectionFits b i
-fits_unread_built b v i o t x v_is lt o_is t_is other x_is taken = record {
-  unloaded = (unread b v i o t v_is lt o_is t_is other).none;
-  built = λ active. built_kind b v i o x v_is lt o_is x_is taken;
-}
-
-pub fits_unread_inactive : (b : List ℕ) (v : View) (i : ℕ) (o : Option DebugSection) (s : Section) (t u : Bool) → v ≡ view_of b → i < section_count b
-    → o ≡ kind_at v i → s ≡ nth_section b i → t ≡ is_read o → t ≡ false → u ≡ is_active s → u ≡ false → SectionFits b i
-fits_unread_inactive b v i o s t u v_is lt o_is s_is t_is other u_is none = record {
-  unloaded = (unread b v i o t v_is lt o_is t_is other).none;
-  built = λ active. absurd (inactive b i s u s_is u_is none active);
-}
-
-pub fits_kept_built : (b : List ℕ) (v : View) (i : ℕ) (o : Option DebugSection) (s : Section) (t x : Bool) → v ≡ view_of b → i < section_count b
-    → o ≡ kind_at v i → s ≡ nth_section b i → t ≡ (is_alloc s && not (is_empty_kind s)) → t ≡ false → x ≡ is_unbuilt_section o → x ≡ false → SectionFits b i
-fits_kept_built b v i o s t x v_is lt o_is s_is t_is other x_is taken = record {
-  unloaded = (not_loaded b i s t s_is t_is other).none;
-  built = λ active. built_kind b v i o x v_is lt o_is x_is taken;
-}
-
-pub fits_kept_inactive : (b : List ℕ) (v : View) (i : ℕ) (o : Option DebugSection) (s : Section) (t u : Bool) → v ≡ view_of b → i < section_count b
-    → o ≡ kind_at v i → s ≡ nth_section b i → t ≡ (is_alloc s && not (is_empty_kind s)) → t ≡ false → u ≡ is_active s → u ≡ false → SectionFits b i
-fits_kept_inactive b v i o s t u v_is lt o_is s_is t_is other u_is none = record {
-  unloaded = (not_loaded b i s t s_is t_is other).none;
-  built = λ active. absurd (inactive b i s u s_is u_is none active);
-}
-
 pub within_view : (b : List ℕ) (v : View) (i : ℕ) → v ≡ view_of b → i < section_count b → i < length v.sections
 within_view b v i v_is lt =
     let same : length v.sections ≡ section_count b = ap (λ (w : View). length w.sections) v_is ∙ length-view_of b in
     omega (arith, same)
 
-pub ruleset section_laws = (within_view, refused_loaded, refused_section, fits_unread_built, fits_unread_inactive, fits_kept_built, fits_kept_inactive)
+pub ruleset section_laws = (within_view, refused_loaded, fits_unread, fits_kept)
 
 -- the sections below a number fit
 pub record FitBelow (b : List ℕ) (n : ℕ) : Type 0 where

@@ -15,6 +15,7 @@ pub mod NewStartLaws
 pub mod GrowthLaws
 pub mod SectionBytesLaws
 pub mod SlotWrittenLaws
+pub mod MacroWrittenLaws
 pub mod LineReadLaws
 pub mod LineWriteLaws
 pub mod LineMentionLaws

@@ -2,6 +2,7 @@
 use Rattle.std.proofs.Common.{◌≡◌, ◌≢◌, ℕ, zero, suc, ◌+◌, ◌-◌, ◌^◌, ◌<◌, ◌≤◌, List, [], ◌∷◌, ◌++◌, length, take, drop, get_or, Option, Some, None, refl, sym, ap, ◌∙◌, subst, arith, append_assoc}
 use Rattle.std.proofs.Math.Seq.{drop-append_seam}
 use Rattle.std.proofs.lemmas.List.{length-append}
+use Rattle.dw_base.specs.Cells.{CellSection}
 use Rattle.dw_base.specs.DebugData.{DebugData, DataReadings, around_of, line_source, path_slots, ReadsAll}
 use Rattle.dw_base.specs.DebugSections.{name_of}
 use Rattle.dw_base.specs.FileViews.{View, section_bytes, section_named}
@@ -11,11 +12,12 @@ use Rattle.dw_base.specs.LineChanges.{line_mentions, line_place}
 use Rattle.dw_base.specs.LineReadings.{LineReading, AreTables, all_lines, starts_from, table_starts}
 use Rattle.dw_base.specs.LineSources.{LineSource}
 use Rattle.dw_base.specs.LineTables.{LineTable}
+use Rattle.dw_base.specs.MacroReadings.{ReadsAllMacros}
 use Rattle.dw_base.specs.OffsetPieces.{ReadsOffsets}
 use Rattle.dw_base.specs.Paths.{PathMap}
 use Rattle.dw_base.specs.Pieces.{joined}
 use Rattle.dw_base.specs.Refusals.{Blames, at}
-use Rattle.dw_base.specs.SectionTexts.{file_mentions, mentions_with, name_role, slot_role}
+use Rattle.dw_base.specs.SectionTexts.{file_mentions, macro_mentions, mentions_with, name_role, slot_role}
 use Rattle.dw_base.specs.StringTables.{Mention, Plan, TextTable, texts_after, table_bytes}
 use Rattle.dw_base.specs.TextChanges.{TableChange, all_mentions}
 use Rattle.dw_base.specs.Texts.{laid_texts}
@@ -30,10 +32,11 @@ use Rattle.dw_base.proofs.FileViewLaws.{section_after-within}
 use Rattle.dw_lines.specs.ViewTables.{TablesFound, tables_read}
 use Rattle.dw_lines.proofs.ViewTableLaws.{source-none}
 use Rattle.dw_lines.proofs.ReadingLaws.{source-is}
-use Rattle.dw_meaning.specs.DataOutput.{Body, DataFits, PathsFit, EachWritable, cells_body, changes_of, lines_body, names_after, new_bodies, new_lines, offsets_after, table_change, unit_bodies}
+use Rattle.dw_meaning.specs.DataOutput.{Body, DataFits, PathsFit, EachWritable, cells_body, changes_of, lines_body, macro_bodies, macros_after, names_after, new_bodies, new_lines, offsets_after, table_change, unit_bodies}
 use Rattle.dw_meaning.proofs.DataKeptLaws.{readings-plain}
 use Rattle.dw_meaning.proofs.LineSectionLaws.{no-tables}
 use Rattle.dw_find.specs.FoundPaths.{PathsFound, without_lines}
+use Rattle.dw_find.specs.MacroSections.{HaveUnits, SectionUnits, UnitsFoundIn, macros_read}
 use Rattle.dw_rewrite.specs.Bodies.{BodiesMade, BodiesRefuse, long_table_of, long_lines_of, line_table_of}
 use Rattle.dw_find.specs.Fields.{OffsetTable}
 use Rattle.dw_rewrite.specs.Changes.{AllFit, Knows, start_known, texts_at}
@@ -41,7 +44,7 @@ use Rattle.dw_rewrite.specs.NewStarts.{StartChange, StartsFit, known_starts}
 use Rattle.dw_find.specs.ViewFields.{AllHaveFields, AllHavePaths, AllRoomsFit, fields_of, info_of, offsets_in, table_number}
 use Rattle.dw_rewrite.specs.NewTables.{IsSectionNoted, LongTable, TableMade, all_texts_at, bodies_after, bodies_known, long_table, plan_in, table_body_of}
 use Rattle.dw_find.specs.SlotPaths.{count_of, lines_count, read_fields, slots_by, slots_of_view, slots_read}
-use Rattle.dw_rewrite.specs.PushedBodies.{names_body, one_body, pushed_bodies, slots_count}
+use Rattle.dw_rewrite.specs.PushedBodies.{macros_count, names_body, one_body, pushed_bodies, slots_count, some_sections, without_slots, slots_among as slots_in}
 use Rattle.dw_find.specs.UnitPaths.{UnitPaths, paths_of}
 use Rattle.dw_rewrite.specs.NewLines.{AllCanWrite, LinesRefuse, LinesWritten, lines_known, table_fails}
 use Rattle.dw_find.specs.ViewLines.{lines_by, lines_of_view, lines_with, starts_of, table_fields}
@@ -49,6 +52,7 @@ use Rattle.dw_find.specs.declared.fields.PathField.{PathField}
 use Rattle.dw_rewrite.proofs.ChangedLaws.{known_fit}
 use Rattle.dw_rewrite.proofs.LineKnownLaws.{EachCanWrite, NotedIn, TableRefused, TablesAgree, all-can, lines-same, table-refused, tables-agree}
 use Rattle.dw_rewrite.proofs.LineMentionLaws.{lines-texts}
+use Rattle.dw_rewrite.proofs.MacroWrittenLaws.{macros-bodies, macros-number, macros-say, macros-texts}
 use Rattle.dw_find.proofs.LineTextLaws.{texts_table}
 use Rattle.dw_find.proofs.TableStartLaws.{read-starts}
 use Rattle.dw_rewrite.proofs.NewBodyLaws.{all_texts-append, known-bodies, made-noted, names-body, readings-bodies, readings-texts, same-plan, sections-plain, slots-body, slots-texts, starts_after, texts_after-append}
@@ -85,34 +89,48 @@ lines-texts-by m v table ts rs (Some i) e are =
     ∙ ap (texts_at (plan_in m v table) m (offsets_in v table) (section_bytes v (line_source (debug_data v)).number) ts)
     (same-lines (line_source (debug_data v)) table (tables_read (line_source (debug_data v)) rs))
 
+-- those of all sections, of which macro units say none
+parts-texts : (m : PathMap) (v : View) (table : TextSection) (rs : DataReadings) (ls : List UnitPaths)
+    → all_texts_at m v table [] (((paths_of rs.units ++ slots_read v rs) ++ macros_read rs.macros) ++ ls)
+    ≡ all_texts_at m v table (all_texts_at m v table (all_texts_at m v table [] (paths_of rs.units)) (slots_read v rs)) ls
+parts-texts m v table rs ls =
+    let front : List UnitPaths = paths_of rs.units ++ slots_read v rs in
+    all_texts-append m v table [] (front ++ macros_read rs.macros) ls
+    ∙ ap (λ (xs : List (List ℕ)). all_texts_at m v table xs ls)
+    (all_texts-append m v table [] front (macros_read rs.macros) ∙ macros-say m v table (all_texts_at m v table [] front) rs.macros
+    ∙ all_texts-append m v table [] (paths_of rs.units) (slots_read v rs))
+
 -- what becomes of a table is told by the fields of all sections
 table-texts : (m : PathMap) (v : View) (rs : DataReadings) (ts : List LineTable) (table : TextSection) → ReadsAll (debug_data v).base 0 (debug_data v).units rs.units
     → ReadsOffsets (debug_data v).base.order (debug_data v).offsets.contents rs.offsets → AreTables (line_source (debug_data v)) rs.lines
     → ts ≡ tables_read (line_source (debug_data v)) rs.lines
-    → (table_change m table (around_of (debug_data v) rs) rs).texts ≡ all_texts_at m v table [] ((paths_of rs.units ++ slots_read v rs) ++ lines_of_view v ts)
+    → (table_change m table (around_of (debug_data v) rs) rs).texts
+    ≡ all_texts_at m v table [] (((paths_of rs.units ++ slots_read v rs) ++ macros_read rs.macros) ++ lines_of_view v ts)
 unfolding table_change
 table-texts m v rs ts table reads offsets lines is =
     let us : List Mention = all_mentions table (around_of (debug_data v) rs) rs.units in
     let ss : List Mention = mentions_with (slot_role (path_slots (around_of (debug_data v) rs))) table (around_of (debug_data v) rs) rs.offsets in
     let ls : List Mention = line_mentions (line_source (debug_data v)) table rs.lines in
+    let ms : List Mention = macro_mentions table (around_of (debug_data v) rs) rs.macros in
     let ns : List Mention = mentions_with name_role table (around_of (debug_data v) rs) rs.names in
     let units : List (List ℕ) = all_texts_at m v table [] (paths_of rs.units) in
     let slots : List (List ℕ) = all_texts_at m v table (all_texts_at m v table [] (paths_of rs.units)) (slots_read v rs) in
+    let lined : List (List ℕ) = all_texts_at m v table slots (lines_of_view v (tables_read (line_source (debug_data v)) rs.lines)) in
     ap (λ (p : Plan). texts_after p m [] (file_mentions table (around_of (debug_data v) rs) rs)) (sym (same-plan m (debug_data v) rs table))
-    ∙ texts_after-append (plan_in m v table) m [] us (ss ++ (ls ++ ns))
-    ∙ ap (λ (xs : List (List ℕ)). texts_after (plan_in m v table) m xs (ss ++ (ls ++ ns)))
+    ∙ texts_after-append (plan_in m v table) m [] us (ss ++ (ls ++ (ms ++ ns)))
+    ∙ ap (λ (xs : List (List ℕ)). texts_after (plan_in m v table) m xs (ss ++ (ls ++ (ms ++ ns))))
     (readings-texts m v rs table [] [] (debug_data v).units 0 rs.units refl reads
     (readings-plain (debug_data v).base 0 (debug_data v).units rs.units reads (sections-plain v [] (debug_data v).units refl)))
-    ∙ texts_after-append (plan_in m v table) m units ss (ls ++ ns)
-    ∙ ap (λ (xs : List (List ℕ)). texts_after (plan_in m v table) m xs (ls ++ ns)) (slots-texts m v rs table units offsets)
-    ∙ texts_after-append (plan_in m v table) m slots ls ns
-    ∙ ap (λ (xs : List (List ℕ)). texts_after (plan_in m v table) m xs ns) (lines-texts-by m v table slots rs.lines (section_named v (name_of Line)) refl lines)
-    ∙ names-texts table (plan_in m v table) m (around_of (debug_data v) rs)
-    (all_texts_at m v table slots (lines_of_view v (tables_read (line_source (debug_data v)) rs.lines))) rs.names (same-plan m (debug_data v) rs table)
-    ∙ sym (all_texts-append m v table units (slots_read v rs) (lines_of_view v (tables_read (line_source (debug_data v)) rs.lines)))
-    ∙ sym (all_texts-append m v table [] (paths_of rs.units) (slots_read v rs ++ lines_of_view v (tables_read (line_source (debug_data v)) rs.lines)))
-    ∙ ap (all_texts_at m v table []) (sym (append_assoc (paths_of rs.units) (slots_read v rs) (lines_of_view v (tables_read (line_source (debug_data v)) rs.lines))))
-    ∙ ap (λ (ts_ : List LineTable). all_texts_at m v table [] ((paths_of rs.units ++ slots_read v rs) ++ lines_of_view v ts_)) (sym is)
+    ∙ texts_after-append (plan_in m v table) m units ss (ls ++ (ms ++ ns))
+    ∙ ap (λ (xs : List (List ℕ)). texts_after (plan_in m v table) m xs (ls ++ (ms ++ ns))) (slots-texts m v rs table units offsets)
+    ∙ texts_after-append (plan_in m v table) m slots ls (ms ++ ns)
+    ∙ ap (λ (xs : List (List ℕ)). texts_after (plan_in m v table) m xs (ms ++ ns)) (lines-texts-by m v table slots rs.lines (section_named v (name_of Line)) refl lines)
+    ∙ texts_after-append (plan_in m v table) m lined ms ns
+    ∙ ap (λ (xs : List (List ℕ)). texts_after (plan_in m v table) m xs ns)
+    (macros-texts table (plan_in m v table) m (around_of (debug_data v) rs) lined rs.macros (same-plan m (debug_data v) rs table))
+    ∙ names-texts table (plan_in m v table) m (around_of (debug_data v) rs) lined rs.names (same-plan m (debug_data v) rs table)
+    ∙ sym (parts-texts m v table rs (lines_of_view v (tables_read (line_source (debug_data v)) rs.lines)))
+    ∙ ap (λ (ts_ : List LineTable). all_texts_at m v table [] (((paths_of rs.units ++ slots_read v rs) ++ macros_read rs.macros) ++ lines_of_view v ts_)) (sym is)
 
 -- the table after the paths of all sections
 made-table : (m : PathMap) (v : View) (table : TextSection) (us : List UnitPaths) (ts : List LineTable) (pool : TextTable) (known : ℕ → Option ℕ) (f : PathsFound m v us ts)
@@ -136,19 +154,30 @@ slots-number : (o : Option ℕ) (fields : List PathField) → length (slots_by o
 slots-number None fields = refl
 slots-number (Some i) fields = refl
 
-found-without : (m : PathMap) (v : View) (us : List UnitPaths) (ts : List LineTable) (f : PathsFound m v us ts) → without_lines v us ≡ paths_of f.readings.units ++ slots_read v f.readings
-found-without m v us ts f = without-is v us (paths_of f.readings.units ++ slots_read v f.readings) ts f.is
+found-without : (m : PathMap) (v : View) (us : List UnitPaths) (ts : List LineTable) (f : PathsFound m v us ts)
+    → without_lines v us ≡ (paths_of f.readings.units ++ slots_read v f.readings) ++ macros_read f.readings.macros
+found-without m v us ts f = without-is v us ((paths_of f.readings.units ++ slots_read v f.readings) ++ macros_read f.readings.macros) ts f.is
 
-pushed-is : (m : PathMap) (v : View) (ks kl kt : ℕ → Option ℕ) (lines : Body) (us xs : List UnitPaths) (fields : List PathField) → us ≡ xs ++ slots_of_view v fields
-    → pushed_bodies m v ks kl kt lines us ≡ one_body (bodies_known m v ks kl kt (slots_of_view v fields)) ++ lines ∷ names_body v ∷ bodies_known m v ks kl kt xs
-pushed-is m v ks kl kt lines us xs fields is =
+macros-many : (m : PathMap) (v : View) (us : List UnitPaths) (ts : List LineTable) (f : PathsFound m v us ts) → length (macros_read f.readings.macros) ≡ macros_count v
+macros-many m v us ts f = macros-number (debug_data v).base.order (debug_data v).macros f.readings.macros f.reads.macros
+
+-- the bodies of parts that are these
+abbrev bodies_of_parts : PathMap → View → (ℕ → Option ℕ) → (ℕ → Option ℕ) → (ℕ → Option ℕ) → Body → List UnitPaths → List UnitPaths → List UnitPaths → List Body
+bodies_of_parts m v ks kl kt lines units slots macros =
+    one_body (bodies_known m v ks kl kt slots) ++ lines ∷ names_body v ∷ (bodies_known m v ks kl kt macros ++ bodies_known m v ks kl kt units)
+
+pushed-is : (m : PathMap) (v : View) (ks kl kt : ℕ → Option ℕ) (lines : Body) (us xs ms : List UnitPaths) (fields : List PathField) → us ≡ (xs ++ slots_of_view v fields) ++ ms
+    → length ms ≡ macros_count v → pushed_bodies m v ks kl kt lines us ≡ bodies_of_parts m v ks kl kt lines xs (slots_of_view v fields) ms
+pushed-is m v ks kl kt lines us xs ms fields is many =
     let number : length (slots_of_view v fields) ≡ slots_count v = slots-number (section_named v (name_of StrOffsets)) fields in
+    let front : List UnitPaths = xs ++ slots_of_view v fields in
+    let parts : List UnitPaths → List UnitPaths → List Body =
+    λ ys zs. bodies_of_parts m v ks kl kt lines (without_slots v ys) (slots_in v ys) zs in
     ap (pushed_bodies m v ks kl kt lines) is
-    ∙ ap (λ (ys : List UnitPaths). one_body (bodies_known m v ks kl kt ys)
-    ++ lines ∷ names_body v ∷ bodies_known m v ks kl kt (take (length (xs ++ slots_of_view v fields) - slots_count v) (xs ++ slots_of_view v fields)))
-    (back-is xs (slots_of_view v fields) (slots_count v) number)
-    ∙ ap (λ (ys : List UnitPaths). one_body (bodies_known m v ks kl kt (slots_of_view v fields)) ++ lines ∷ names_body v ∷ bodies_known m v ks kl kt ys)
-    (front-is xs (slots_of_view v fields) (slots_count v) number)
+    ∙ ap (λ (ys : List UnitPaths). parts ys (drop (length (front ++ ms) - macros_count v) (front ++ ms))) (front-is front ms (macros_count v) many)
+    ∙ ap (parts front) (back-is front ms (macros_count v) many)
+    ∙ ap (λ (ys : List UnitPaths). bodies_of_parts m v ks kl kt lines ys (slots_in v front) ms) (front-is xs (slots_of_view v fields) (slots_count v) number)
+    ∙ ap (λ (ys : List UnitPaths). bodies_of_parts m v ks kl kt lines xs ys ms) (back-is xs (slots_of_view v fields) (slots_count v) number)
 
 each-parts : {X : Type 0} (P : X → Type 0) (xs ys : List X) → EachOf P (xs ++ ys) → EachOf P xs × EachOf P ys
 each-parts P [] ys h = (tt, h)
@@ -212,15 +241,17 @@ lines-agree-by m v us ts ps pl ks kl f s l (Some i) e ns nl =
 record NotedParts (m : PathMap) (v : View) (table : TextSection) (rs : DataReadings) (ts : List LineTable) (known : ℕ → Option ℕ) : Type 0 where
   units : EachOf (λ u. IsSectionNoted m v table u known) (paths_of rs.units)
   slots : EachOf (λ u. IsSectionNoted m v table u known) (slots_read v rs)
+  macros : EachOf (λ u. IsSectionNoted m v table u known) (macros_read rs.macros)
   lines : EachOf (λ u. IsSectionNoted m v table u known) (lines_of_view v ts)
 
 noted-parts : (m : PathMap) (v : View) (table : TextSection) (us : List UnitPaths) (ts : List LineTable) (pool : TextTable) (known : ℕ → Option ℕ) (f : PathsFound m v us ts)
     → TableMade m v table us pool known → NotedParts m v table f.readings ts known
 noted-parts m v table us ts pool known f t =
-    let all = each-parts (λ u. IsSectionNoted m v table u known) (paths_of f.readings.units ++ slots_read v f.readings) (lines_of_view v ts)
+    let all = each-parts (λ u. IsSectionNoted m v table u known) ((paths_of f.readings.units ++ slots_read v f.readings) ++ macros_read f.readings.macros) (lines_of_view v ts)
     (subst (EachOf (λ u. IsSectionNoted m v table u known)) f.is (made-noted m v table us pool known t)) in
-    let first = each-parts (λ u. IsSectionNoted m v table u known) (paths_of f.readings.units) (slots_read v f.readings) all.0 in
-    record { units = first.0; slots = first.1; lines = all.1 }
+    let front = each-parts (λ u. IsSectionNoted m v table u known) (paths_of f.readings.units ++ slots_read v f.readings) (macros_read f.readings.macros) all.0 in
+    let first = each-parts (λ u. IsSectionNoted m v table u known) (paths_of f.readings.units) (slots_read v f.readings) front.0 in
+    record { units = first.0; slots = first.1; macros = front.1; lines = all.1 }
 
 lines-agree : (m : PathMap) (v : View) (us : List UnitPaths) (ts : List LineTable) (ps pl : TextTable) (ks kl : ℕ → Option ℕ) (f : PathsFound m v us ts) → TableMade m v in_str us ps ks
     → TableMade m v in_line_str us pl kl
@@ -262,6 +293,11 @@ known-starts m v us ts ps pl ks kl bs ns f s l w =
     ap (λ (xs : List ℕ). start_known xs ns) (ap starts_of f.tables ∙ read-starts (line_source (debug_data v)) f.readings.lines)
     ∙ ap (start_known (table_starts f.readings.lines)) (w.starts ∙ ap (starts_from 0) (known-lines m v us ts ps pl ks kl f s l))
 
+-- bodies behind the tables of texts, part by part
+parts-are : {slots macros units ms us : List Body} {lines names first ls ns : Body} → slots ≡ first ∷ [] → lines ≡ ls → names ≡ ns → macros ≡ ms → units ≡ us
+    → slots ++ lines ∷ names ∷ (macros ++ units) ≡ first ∷ ls ∷ ns ∷ (ms ++ us)
+parts-are a b c d e = rw (a, b, c, d, e) refl
+
 -- all new bodies
 made-is : (m : PathMap) (v : View) (us : List UnitPaths) (ts : List LineTable) (ps pl : TextTable) (ks kl : ℕ → Option ℕ) (bs ns : List ℕ) (f : PathsFound m v us ts)
     → TableMade m v in_str us ps ks → TableMade m v in_line_str us pl kl → LinesWritten m (line_source (debug_data v)) ks kl ts bs ns
@@ -291,21 +327,21 @@ made-is m v us ts ps pl ks kl bs ns f s l w =
     ap one_body (known-parts m v us (slots_read v f.readings) ts ps pl ks kl (start_known (starts_of ts) ns) f s l a.slots b.slots)
     ∙ slots-body m v f.readings (start_known (starts_of ts) ns) f.reads.offsets in
     let names = names-body m v f.readings f.reads.names.cells in
+    let macros : bodies_known m v ks kl (start_known (starts_of ts) ns) (macros_read f.readings.macros)
+    ≡ macro_bodies (macros_after (changes_of m (around_of (debug_data v) f.readings) f.readings) (around_of (debug_data v) f.readings) f.readings) =
+    known-parts m v us (macros_read f.readings.macros) ts ps pl ks kl (start_known (starts_of ts) ns) f s l a.macros b.macros
+    ∙ ap (λ (k : ℕ → Option ℕ). bodies_after m v (table_change m in_str (around_of (debug_data v) f.readings) f.readings).texts
+    (table_change m in_line_str (around_of (debug_data v) f.readings) f.readings).texts k (macros_read f.readings.macros)) starts
+    ∙ macros-bodies m v f.readings f.reads.macros in
     let rest : pushed_bodies m v ks kl (start_known (starts_of ts) ns) (record { number = (debug_data v).lines.number; bytes = bs }) (without_lines v us)
     ≡ cells_body (debug_data v).offsets.number (joined (offsets_after (changes_of m (around_of (debug_data v) f.readings) f.readings) (around_of (debug_data v) f.readings) f.readings))
     ∷ lines_body (changes_of m (around_of (debug_data v) f.readings) f.readings) (debug_data v)
     ∷ cells_body (debug_data v).names.number (joined (names_after (changes_of m (around_of (debug_data v) f.readings) f.readings) (around_of (debug_data v) f.readings) f.readings))
-    ∷ unit_bodies (changes_of m (around_of (debug_data v) f.readings) f.readings) (around_of (debug_data v) f.readings) f.readings.units =
+    ∷ (macro_bodies (macros_after (changes_of m (around_of (debug_data v) f.readings) f.readings) (around_of (debug_data v) f.readings) f.readings)
+    ++ unit_bodies (changes_of m (around_of (debug_data v) f.readings) f.readings) (around_of (debug_data v) f.readings) f.readings.units) =
     pushed-is m v ks kl (start_known (starts_of ts) ns) (record { number = (debug_data v).lines.number; bytes = bs }) (without_lines v us) (paths_of f.readings.units)
-    (read_fields (debug_data v) f.readings) (found-without m v us ts f)
-    ∙ ap (λ (xs : List Body). xs ++ lines ∷ names_body v ∷ bodies_known m v ks kl kt (paths_of f.readings.units)) slots
-    ∙ ap (λ (x : Body). cells_body (debug_data v).offsets.number (joined (offsets_after (changes_of m (around_of (debug_data v) f.readings) f.readings) (around_of (debug_data v) f.readings) f.readings))
-    ∷ x ∷ names_body v ∷ bodies_known m v ks kl kt (paths_of f.readings.units)) line_is
-    ∙ ap (λ (x : Body). cells_body (debug_data v).offsets.number (joined (offsets_after (changes_of m (around_of (debug_data v) f.readings) f.readings) (around_of (debug_data v) f.readings) f.readings))
-    ∷ lines_body (changes_of m (around_of (debug_data v) f.readings) f.readings) (debug_data v) ∷ x ∷ bodies_known m v ks kl kt (paths_of f.readings.units)) names
-    ∙ ap (λ (xs : List Body). cells_body (debug_data v).offsets.number (joined (offsets_after (changes_of m (around_of (debug_data v) f.readings) f.readings) (around_of (debug_data v) f.readings) f.readings))
-    ∷ lines_body (changes_of m (around_of (debug_data v) f.readings) f.readings) (debug_data v)
-    ∷ cells_body (debug_data v).names.number (joined (names_after (changes_of m (around_of (debug_data v) f.readings) f.readings) (around_of (debug_data v) f.readings) f.readings)) ∷ xs) units in
+    (macros_read f.readings.macros) (read_fields (debug_data v) f.readings) (found-without m v us ts f) (macros-many m v us ts f)
+    ∙ parts-are slots line_is names macros units in
     ap (λ (x : List ℕ). record { number = (debug_data v).str.number; bytes = x } ∷ table_body_of v in_line_str pl ∷ pushed_bodies m v ks kl kt lines (without_lines v us))
     (table-bytes m v in_str us ts ps ks f s)
     ∙ ap (λ (x : List ℕ). record { number = (debug_data v).str.number; bytes = (debug_data v).str.bytes ++ laid_texts text_s }
@@ -324,7 +360,6 @@ made m v us part ts ps pl ks kl bs ns old starts lines bodies found s l w old_is
       readings = found.readings;
       reads = found.reads;
       fits = made-fits m v us ts ps pl ks kl bs ns found s l w;
-      built = found.built;
       is = is ∙ ap (λ (x : StartChange). table_body_of v in_str ps ∷ table_body_of v in_line_str pl ∷ pushed_bodies m v ks kl (λ o. known_starts x o) lines part) same
           ∙ ap (λ (x : Body). table_body_of v in_str ps ∷ table_body_of v in_line_str pl ∷ pushed_bodies m v ks kl (start_known (starts_of ts) ns) x part) lines_are
           ∙ ap (λ (x : List UnitPaths). table_body_of v in_str ps ∷ table_body_of v in_line_str pl
@@ -332,18 +367,38 @@ made m v us part ts ps pl ks kl bs ns old starts lines bodies found s l w old_is
           ∙ made-is m v us ts ps pl ks kl bs ns found s l w;
     }
 
--- the section of string offsets is among them, and that of line tables
-pub slots-among : (m : PathMap) (v : View) (us part : List UnitPaths) (ts : List LineTable) → PathsFound m v us ts → part ≡ without_lines v us → slots_count v ≤ length part
-slots-among m v us part ts f is =
+-- the section of string offsets and those of macro units are among them, and that of line tables
+pub some-among : (m : PathMap) (v : View) (us part : List UnitPaths) (ts : List LineTable) → PathsFound m v us ts → part ≡ without_lines v us → some_sections v ≤ length part
+some-among m v us part ts f is =
     let number : length (slots_read v f.readings) ≡ slots_count v = slots-number (section_named v (name_of StrOffsets)) (read_fields (debug_data v) f.readings) in
-    let size : length part ≡ length (paths_of f.readings.units ++ slots_read v f.readings) = ap (λ (l : List UnitPaths). length l) (is ∙ found-without m v us ts f) in
-    omega (arith, number, size, length-append (paths_of f.readings.units) (slots_read v f.readings))
+    let many : length (macros_read f.readings.macros) ≡ macros_count v = macros-many m v us ts f in
+    let size : length part ≡ length ((paths_of f.readings.units ++ slots_read v f.readings) ++ macros_read f.readings.macros) =
+    ap (λ (l : List UnitPaths). length l) (is ∙ found-without m v us ts f) in
+    let all : slots_count v + macros_count v ≤ length part =
+    omega (
+      arith,
+      number,
+      many,
+      size,
+      length-append (paths_of f.readings.units ++ slots_read v f.readings) (macros_read f.readings.macros),
+      length-append (paths_of f.readings.units) (slots_read v f.readings),
+    ) in
+    all
+
+units-many : (v : View) (zs : List CellSection) (ss : List SectionUnits) → HaveUnits v zs ss → length ss ≡ length zs
+units-many v [] [] have = refl
+units-many v [] (s ∷ ss) have = absurd have
+units-many v (z ∷ zs) [] have = absurd have
+units-many v (z ∷ zs) (s ∷ ss) have = ap suc (units-many v zs ss have.2)
+
+pub macros-among : (v : View) (ss : List SectionUnits) (n : ℕ) → UnitsFoundIn v ss → n ≡ length ss → n ≡ macros_count v
+macros-among v ss n found is = is ∙ units-many v (debug_data v).macros ss found.units
 
 pub lines-among : (m : PathMap) (v : View) (us : List UnitPaths) (ts : List LineTable) → PathsFound m v us ts → lines_count v ≤ length us
 lines-among m v us ts f =
     let number : length (lines_of_view v ts) ≡ lines_count v = lines-number (section_named v (name_of Line)) (line_source (debug_data v)) ts in
-    let size : length us ≡ length ((paths_of f.readings.units ++ slots_read v f.readings) ++ lines_of_view v ts) = ap (λ (l : List UnitPaths). length l) f.is in
-    omega (arith, number, size, length-append (paths_of f.readings.units ++ slots_read v f.readings) (lines_of_view v ts))
+    let size : length us ≡ length (((paths_of f.readings.units ++ slots_read v f.readings) ++ macros_read f.readings.macros) ++ lines_of_view v ts) = ap (λ (l : List UnitPaths). length l) f.is in
+    omega (arith, number, size, length-append ((paths_of f.readings.units ++ slots_read v f.readings) ++ macros_read f.readings.macros) (lines_of_view v ts))
 
 -- the places that are known fit
 pub made-fit : (m : PathMap) (v : View) (table : TextSection) (us : List UnitPaths) (pool : TextTable) (known : ℕ → Option ℕ) → TableMade m v table us pool known → AllFit known
@@ -472,4 +527,4 @@ rooms-fit m v us part ts f is = subst (AllRoomsFit m v) (sym is) f.rooms
 pub found-tables : (m : PathMap) (v : View) (us : List UnitPaths) (ts : List LineTable) → PathsFound m v us ts → TablesFound v ts
 found-tables m v us ts f = record { readings = f.readings.lines; reads = f.reads.lines; is = f.tables }
 
-pub ruleset body_rules = (all-fields, made-fit, slots-among, lines-among, have-paths, rooms-fit, found-tables)
+pub ruleset body_rules = (all-fields, made-fit, some-among, macros-among, lines-among, have-paths, rooms-fit, found-tables)

@@ -1,6 +1,6 @@
--- The bodies behind the tables of texts: string offsets, name tables, and units.
-use Rattle.std.proofs.Common.{◌≡◌, ℕ, ◌-◌, ◌<◌, List, [], ◌∷◌, ◌++◌, length, take, drop, Option, Some, None, sym, ap, ◌∙◌, subst, arith, append_assoc}
-use Rattle.std.proofs.lemmas.List.{take-append-drop}
+-- The bodies behind the tables of texts: string offsets, line tables, name tables, macro units, and units.
+use Rattle.std.proofs.Common.{◌≡◌, ℕ, ◌+◌, ◌-◌, ◌<◌, ◌≤◌, List, [], ◌∷◌, ◌++◌, length, take, drop, Option, Some, None, sym, ap, ◌∙◌, subst, arith, append_assoc}
+use Rattle.std.proofs.lemmas.List.{length-take, take-append-drop}
 use Rattle.dw_meaning.specs.DataOutput.{Body}
 use Rattle.dw_base.specs.DebugSections.{name_of}
 use Rattle.dw_base.specs.FileViews.{View, section_bytes, section_named}
@@ -11,7 +11,7 @@ use Rattle.dw_base.specs.declared.fault.Fault.TheVariants.{NoMemory}
 use Rattle.dw_find.specs.ViewFields.{AllHavePaths, AllRoomsFit}
 use Rattle.dw_rewrite.specs.NewTables.{bodies_known}
 use Rattle.dw_find.specs.SlotPaths.{count_of, lines_count}
-use Rattle.dw_rewrite.specs.PushedBodies.{kept_body, names_body, one_body, pushed_bodies, slots_count}
+use Rattle.dw_rewrite.specs.PushedBodies.{kept_body, macros_among, macros_count, names_body, one_body, pushed_bodies, slots_among, slots_count, some_sections, without_macros, without_slots}
 use Rattle.dw_find.specs.FoundPaths.{without_lines}
 use Rattle.dw_find.specs.UnitPaths.{UnitPaths}
 
@@ -86,28 +86,48 @@ pub rooms-back : (m : PathMap) (v : View) (n : ℕ) (us part : List UnitPaths) �
 rooms-back m v n us part e h =
     subst (AllRoomsFit m v) (sym e) (rooms-parts m v (take n us) (drop n us) (subst (AllRoomsFit m v) (sym (take-append-drop n us)) h)).1
 
-three-pushed : (old slots units first with_lines second third : List Body) (lines names : Body) (front : List Body) → first ≡ old ++ slots → with_lines ≡ first ++ lines ∷ []
-    → second ≡ with_lines ++ names ∷ [] → third ≡ second ++ front → front ≡ units → third ≡ old ++ (slots ++ lines ∷ names ∷ units)
-three-pushed old slots units first with_lines second third lines names front x w y z u =
-    z ∙ ap (λ (bs : List Body). bs ++ front) y ∙ append_assoc with_lines (names ∷ []) front ∙ ap (λ (bs : List Body). bs ++ names ∷ front) w
-    ∙ append_assoc first (lines ∷ []) (names ∷ front) ∙ ap (λ (bs : List Body). bs ++ lines ∷ names ∷ front) x ∙ append_assoc old slots (lines ∷ names ∷ front)
-    ∙ ap (λ (bs : List Body). old ++ (slots ++ lines ∷ names ∷ bs)) u
+all-joined : (old slots macros units first with_lines second third fourth back front : List Body) (lines names : Body) → first ≡ old ++ slots → with_lines ≡ first ++ lines ∷ []
+    → second ≡ with_lines ++ names ∷ [] → third ≡ second ++ back → fourth ≡ third ++ front → back ≡ macros → front ≡ units
+    → fourth ≡ old ++ (slots ++ lines ∷ names ∷ (macros ++ units))
+all-joined old slots macros units first with_lines second third fourth back front lines names x w y z u b f =
+    u ∙ ap (λ (bs : List Body). bs ++ front) z ∙ append_assoc second back front ∙ ap (λ (bs : List Body). bs ++ (back ++ front)) y
+    ∙ append_assoc with_lines (names ∷ []) (back ++ front) ∙ ap (λ (bs : List Body). bs ++ names ∷ (back ++ front)) w
+    ∙ append_assoc first (lines ∷ []) (names ∷ (back ++ front)) ∙ ap (λ (bs : List Body). bs ++ lines ∷ names ∷ (back ++ front)) x
+    ∙ append_assoc old slots (lines ∷ names ∷ (back ++ front)) ∙ ap (λ (bs : List Body). old ++ (slots ++ lines ∷ names ∷ (bs ++ front))) b
+    ∙ ap (λ (bs : List Body). old ++ (slots ++ lines ∷ names ∷ (macros ++ bs))) f
 
 -- one after another
-pub all-pushed : (m : PathMap) (v : View) (ks kl kt : ℕ → Option ℕ) (us front back : List UnitPaths) (n : ℕ) (lines : Body) (old first with_lines second third : List Body) → n ≡ slots_count v
-    → front ≡ take (length us - n) us → back ≡ drop (length us - n) us → first ≡ old ++ one_body (bodies_known m v ks kl kt back)
-    → with_lines ≡ first ++ lines ∷ [] → second ≡ with_lines ++ names_body v ∷ [] → third ≡ second ++ bodies_known m v ks kl kt front
-    → third ≡ old ++ pushed_bodies m v ks kl kt lines us
-all-pushed m v ks kl kt us front back n lines old first with_lines second third count f b x w y z =
-    let slots : List Body = one_body (bodies_known m v ks kl kt (drop (length us - slots_count v) us)) in
-    let units : List Body = bodies_known m v ks kl kt (take (length us - slots_count v) us) in
-    let back_is : back ≡ drop (length us - slots_count v) us = b ∙ ap (λ (k : ℕ). drop (length us - k) us) count in
-    let front_is : front ≡ take (length us - slots_count v) us = f ∙ ap (λ (k : ℕ). take (length us - k) us) count in
-    let first_is : first ≡ old ++ slots = x ∙ ap (λ (xs : List UnitPaths). old ++ one_body (bodies_known m v ks kl kt xs)) back_is in
-    let units_are : bodies_known m v ks kl kt front ≡ units = ap (bodies_known m v ks kl kt) front_is in
-    three-pushed old slots units first with_lines second third lines (names_body v) (bodies_known m v ks kl kt front) first_is w y z units_are
+pub all-pushed : (m : PathMap) (v : View) (ks kl kt : ℕ → Option ℕ) (us front macros units slots : List UnitPaths) (k n : ℕ) (lines : Body) (old first with_lines second third fourth : List Body)
+    → k ≡ macros_count v → n ≡ slots_count v → front ≡ take (length us - k) us → macros ≡ drop (length us - k) us → units ≡ take (length front - n) front
+    → slots ≡ drop (length front - n) front → first ≡ old ++ one_body (bodies_known m v ks kl kt slots)
+    → with_lines ≡ first ++ lines ∷ [] → second ≡ with_lines ++ names_body v ∷ [] → third ≡ second ++ bodies_known m v ks kl kt macros
+    → fourth ≡ third ++ bodies_known m v ks kl kt units → fourth ≡ old ++ pushed_bodies m v ks kl kt lines us
+all-pushed m v ks kl kt us front macros units slots k n lines old first with_lines second third fourth many some f b u s x w y z last =
+    let front_is : front ≡ without_macros v us = f ∙ ap (λ (i : ℕ). take (length us - i) us) many in
+    let macros_are : macros ≡ macros_among v us = b ∙ ap (λ (i : ℕ). drop (length us - i) us) many in
+    let units_are : units ≡ without_slots v (without_macros v us) =
+    u ∙ ap (λ (i : ℕ). take (length front - i) front) some ∙ ap (without_slots v) front_is in
+    let slots_are : slots ≡ slots_among v (without_macros v us) =
+    s ∙ ap (λ (i : ℕ). drop (length front - i) front) some ∙ ap (slots_among v) front_is in
+    all-joined old (one_body (bodies_known m v ks kl kt (slots_among v (without_macros v us)))) (bodies_known m v ks kl kt (macros_among v us))
+    (bodies_known m v ks kl kt (without_slots v (without_macros v us))) first with_lines second third fourth (bodies_known m v ks kl kt macros) (bodies_known m v ks kl kt units) lines (names_body v)
+    (x ∙ ap (λ (xs : List UnitPaths). old ++ one_body (bodies_known m v ks kl kt xs)) slots_are) w y z last
+    (ap (bodies_known m v ks kl kt) macros_are) (ap (bodies_known m v ks kl kt) units_are)
+
+-- there are as many
+pub macros-within : (v : View) (us : List UnitPaths) (k : ℕ) → k ≡ macros_count v → some_sections v ≤ length us → k ≤ length us
+macros-within v us k many among =
+    let all : slots_count v + macros_count v ≤ length us = among in
+    omega (arith, many, all)
+
+pub slots-within : (v : View) (us front : List UnitPaths) (k n : ℕ) → front ≡ take (length us - k) us → k ≡ macros_count v → n ≡ slots_count v → some_sections v ≤ length us
+    → n ≤ length front
+slots-within v us front k n f many some among =
+    let size : length front ≡ length (take (length us - k) us) = ap (λ (l : List UnitPaths). length l) f in
+    let all : slots_count v + macros_count v ≤ length us = among in
+    omega (arith, size, many, some, all, length-take (length us - k) us)
 
 pub memory-only : (f g : Fault) → f ≡ NoMemory → g ≡ f → g ≡ NoMemory
 memory-only f g a b = b ∙ a
 
-pub ruleset all_rules = (have-front, have-back, rooms-front, rooms-back, all-pushed)
+pub ruleset all_rules = (have-front, have-back, rooms-front, rooms-back, all-pushed, macros-within, slots-within)

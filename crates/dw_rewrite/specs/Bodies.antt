@@ -13,15 +13,13 @@ use Rattle.dw_base.specs.StringTables.{new_table}
 use Rattle.dw_base.specs.TextChanges.{TableChange}
 use Rattle.dw_base.specs.declared.fault.Kind.TheVariants.{TooLarge}
 use Rattle.dw_base.specs.declared.fault.Refusal.{Refusal}
-use Rattle.dw_find.specs.UnitTexts.{HasUnbuilt}
 
 -- the sections with new bytes: the two tables of texts, string offsets, line tables and name tables, of which one that isn't there has
--- number 0 and no bytes, and the unit sections
+-- number 0 and no bytes, the sections of macro units, and the unit sections
 pub record BodiesMade (m : PathMap) (d : DebugData) (bodies : List Body) : Type 0 where
   pub readings : DataReadings
   pub reads : DataReads d readings
   pub fits : DataFits m d readings
-  pub built : HasUnbuilt d → ⊥
   pub is : bodies ≡ new_bodies m d readings
 
 -- the new bytes of a table of texts

@@ -1,8 +1,9 @@
--- The bodies behind the tables of texts: string offsets, line tables, name tables and units.
-use Rattle.std.specs.Prelude.{ℕ, ◌-◌, List, [], ◌∷◌, ◌++◌, length, take, drop, Option, Some, None}
+-- The bodies behind the tables of texts: string offsets, line tables, name tables, macro units and units.
+use Rattle.std.specs.Prelude.{ℕ, ◌+◌, ◌-◌, List, [], ◌∷◌, ◌++◌, length, take, drop, Option, Some, None}
 use Rattle.dw_base.specs.DebugSections.{name_of}
 use Rattle.dw_base.specs.FileViews.{View, section_bytes, section_named}
 use Rattle.dw_base.specs.Paths.{PathMap}
+use Rattle.dw_base.specs.ViewData.{debug_data}
 use Rattle.dw_base.specs.declared.debug_sections.DebugSection.TheVariants.{Names, StrOffsets}
 use Rattle.dw_meaning.specs.DataOutput.{Body}
 use Rattle.dw_rewrite.specs.NewTables.{bodies_known}
@@ -25,9 +26,31 @@ one_body (x ∷ xs) = x ∷ xs
 abbrev pub slots_count : View → ℕ
 slots_count v = count_of (section_named v (name_of StrOffsets))
 
--- the bodies behind the tables of texts, by what all sections say of paths, of which the last is that of string offsets, if there is
--- one: string offsets, line tables, name tables, and units
+-- how many sections of macro units there are, and how many of these and of string offsets
+abbrev pub macros_count : View → ℕ
+macros_count v = length (debug_data v).macros
+
+abbrev pub some_sections : View → ℕ
+some_sections v = slots_count v + macros_count v
+
+-- what sections say of paths without those of macro units, which are the last, and what these say
+abbrev pub without_macros : View → List UnitPaths → List UnitPaths
+without_macros v us = take (length us - macros_count v) us
+
+abbrev pub macros_among : View → List UnitPaths → List UnitPaths
+macros_among v us = drop (length us - macros_count v) us
+
+-- the same without that of string offsets, which is then the last, if there is one
+abbrev pub without_slots : View → List UnitPaths → List UnitPaths
+without_slots v us = take (length us - slots_count v) us
+
+abbrev pub slots_among : View → List UnitPaths → List UnitPaths
+slots_among v us = drop (length us - slots_count v) us
+
+-- the bodies behind the tables of texts, by what all sections but that of line tables say of paths: string offsets, line tables, name tables,
+-- macro units, and units
 abbrev pub pushed_bodies : PathMap → View → (ℕ → Option ℕ) → (ℕ → Option ℕ) → (ℕ → Option ℕ) → Body → List UnitPaths → List Body
 pushed_bodies m v ks kl kt lines us =
-    one_body (bodies_known m v ks kl kt (drop (length us - slots_count v) us))
-    ++ lines ∷ names_body v ∷ bodies_known m v ks kl kt (take (length us - slots_count v) us)
+    one_body (bodies_known m v ks kl kt (slots_among v (without_macros v us)))
+    ++ lines ∷ names_body v
+    ∷ (bodies_known m v ks kl kt (macros_among v us) ++ bodies_known m v ks kl kt (without_slots v (without_macros v us)))

@@ -1,5 +1,5 @@
-//! The new bytes of the sections that an edit changes: the tables of texts, string
-//! offsets, line tables, and the unit sections.
+//! The new bytes of the sections that an edit changes: the tables of texts, string offsets, line tables, macro units, and
+//! the unit sections.
 //!
 //! Read first: `specs/Bodies.antt`.
 
@@ -15,22 +15,23 @@ ghost use Rattle.dw_rewrite.specs.Bodies.{BodiesMade, BodiesRefuse};
 ghost use Rattle.dw_find.specs.FoundPaths.{PathsFound, without_lines};
 ghost use Rattle.dw_rewrite.specs.NewStarts.{known_starts};
 ghost use Rattle.dw_find.specs.SlotPaths.{lines_count};
-ghost use Rattle.dw_rewrite.specs.PushedBodies.{names_body, one_body, pushed_bodies, slots_count};
+ghost use Rattle.dw_find.specs.MacroSections.{UnitsFoundIn};
+ghost use Rattle.dw_rewrite.specs.PushedBodies.{macros_count, names_body, one_body, pushed_bodies, slots_count, some_sections};
 
 use crate::lines::{NewLines, new_lines};
 use crate::new_sections::{Body, new_sections};
 use crate::starts::NewStarts;
 use crate::tables::{NewTable, new_table};
 use dw_base::{DebugSection, Fault, Kind, OUTPUT_LIMIT, Refusal};
-use dw_find::{TextsOf, UnitPaths, starts_of, table_number};
+use dw_find::{MacroSection, TextsOf, UnitPaths, starts_of, table_number};
 use dw_lines::LineTable;
 use dw_paths::Maps;
 use dw_view::View;
 use std::alloc::{AllocError, Global};
 use std::collections::HashMap;
 
-/// The sections with new bytes: the tables of texts, string offsets, line tables and name tables, then the unit
-/// sections in the order of their numbers. Refused as `TooLarge`, at the section, where a table of texts or the line
+/// The sections with new bytes: the tables of texts, string offsets, line tables and name tables, then the sections of macro
+/// units and the unit sections, each in the order of their numbers. Refused as `TooLarge`, at the section, where a table of texts or the line
 /// tables would be longer than a file that is written, and where a line table can't be written.
 #[tactic(auto, using(crate::proofs::MadeBodyLaws::body_rules))]
 pub(crate) fn new_bodies(
@@ -38,9 +39,11 @@ pub(crate) fn new_bodies(
     view: &View,
     maps: &Maps,
     tables: &[LineTable],
+    macros: &[MacroSection],
     paths: &[UnitPaths],
 ) -> Result<Vec<Body>, Fault>
     requires found { PathsFound maps.now view.now paths.now tables.now }
+    requires macros { UnitsFoundIn view.now macros.now }
     ensures made { IfOk result (λ bodies. BodiesMade maps.now (debug_data view.now) bodies.items) }
     ensures refused { IfErr result (Blames (BodiesRefuse maps.now (debug_data view.now))) }
 {
@@ -78,6 +81,7 @@ pub(crate) fn new_bodies(
         &line_known,
         &starts,
         lines,
+        macros.len(),
         sections,
         &mut bodies,
     )?;
@@ -122,8 +126,8 @@ fn lines_count(view: &View) -> usize
     }
 }
 
-/// Appends string offsets, line tables, name tables and the unit sections with their new bytes, from the new places of
-/// paths that are known of each table, and the starts of line tables.
+/// Appends string offsets, line tables, name tables, as many sections of macro units and the unit sections with their new
+/// bytes, from the new places of paths that are known of each table, and the starts of line tables.
 #[tactic(auto, using(crate::proofs::PushLaws::all_rules))]
 fn push_bodies(
     alloc: Global,
@@ -133,21 +137,25 @@ fn push_bodies(
     line_str: &HashMap<u64, u64>,
     starts: &NewStarts,
     lines: Body,
+    macro_count: usize,
     paths: &[UnitPaths],
     bodies: &mut Vec<Body>,
 ) -> Result<(), Fault>
     requires have { AllHavePaths view.now paths.now }
     requires rooms { AllRoomsFit maps.now view.now paths.now }
-    requires slots { slots_count view.now ≤ length paths.now }
+    requires macros { macro_count ≡ macros_count view.now }
+    requires among { some_sections view.now ≤ length paths.now }
     requires str { AllFit (λ o. get nat_eq str.now o) }
     requires line_str { AllFit (λ o. get nat_eq line_str.now o) }
     ensures bodies { OnOk result (bodies.new.items ≡ bodies.old.items ++ pushed_bodies maps.now view.now (λ o. get nat_eq str.now o) (λ o. get nat_eq line_str.now o) (λ o. known_starts starts.now o) lines paths.now) }
     ensures only { IfErr result (λ f. f ≡ NoMemory) }
 {
-    let (units, slots) = paths.split_at(paths.len() - slots_count(view));
+    let (front, macros) = paths.split_at(paths.len() - macro_count);
+    let (units, slots) = front.split_at(front.len() - slots_count(view));
     push_slots_body(alloc, view, maps, str, line_str, starts, slots, bodies)?;
     bodies.push(lines)?;
     push_names(alloc, view, bodies)?;
+    new_sections(alloc, view, maps, str, line_str, starts, macros, bodies)?;
     new_sections(alloc, view, maps, str, line_str, starts, units, bodies)?;
     Ok(())
 }

@@ -16,6 +16,7 @@ ghost use Rattle.dw_meaning.specs.Loaded.{LoadedKept};
 ghost use Rattle.dw_base.specs.Refusals.{Blames};
 ghost use Rattle.dw_rewrite.specs.Bodies.{BodiesMade};
 ghost use Rattle.dw_find.specs.FoundPaths.{PathsFound};
+ghost use Rattle.dw_find.specs.MacroSections.{UnitsFoundIn};
 ghost use Rattle.dw_rewrite.specs.Judged.{IsJudged};
 ghost use Rattle.dw_rewrite.specs.Rewritten.{AllStand, AreGiven, IsGiven, IsInFile, body_with, long_fault, long_refusal, told_refusal};
 
@@ -24,7 +25,7 @@ use crate::judge::judge;
 use crate::new_sections::Body;
 use crate::refusal::{fixed, too_large};
 use dw_base::{Fault, Kind, Refusal};
-use dw_find::{UnitPaths, found_paths};
+use dw_find::{MacroSection, UnitPaths, found_paths, macro_sections};
 use dw_lines::{LineTable, line_tables};
 use dw_paths::Maps;
 use dw_view::View;
@@ -98,8 +99,9 @@ fn made_bodies(alloc: Global, elf: &ElfFile, view: &View, maps: &Maps) -> Result
     ensures refused { IfErr result (Blames (EditFails maps.now elf.now.bytes.now)) }
 {
     let tables = tables_in(alloc, elf, view, maps)?;
-    let paths = paths_in(alloc, elf, view, maps, &tables)?;
-    bodies_in(alloc, elf, view, maps, &tables, &paths)
+    let macros = macros_in(alloc, elf, view, maps)?;
+    let paths = paths_in(alloc, elf, view, maps, &tables, &macros)?;
+    bodies_in(alloc, elf, view, maps, &tables, &macros, &paths)
 }
 
 /// The line tables of the file.
@@ -119,7 +121,24 @@ fn tables_in(
     Ok(tables)
 }
 
-/// What the units, the string offsets and the line tables of the file say of paths.
+/// The macro units of the file.
+#[tactic(auto, using(crate::proofs::ExitLaws::macros_rules))]
+fn macros_in(
+    alloc: Global,
+    elf: &ElfFile,
+    view: &View,
+    maps: &Maps,
+) -> Result<Vec<MacroSection>, Fault>
+    requires judged { IsJudged elf.now.bytes.now }
+    requires view { view.now ≡ view_of elf.now.bytes.now }
+    ensures macros { IfOk result (λ macros. UnitsFoundIn (view_of elf.now.bytes.now) macros.items) }
+    ensures refused { IfErr result (Blames (EditFails maps.now elf.now.bytes.now)) }
+{
+    let macros = macro_sections(alloc, view)?;
+    Ok(macros)
+}
+
+/// What the units, the string offsets, the macro units and the line tables of the file say of paths.
 #[tactic(auto, using(crate::proofs::ExitLaws::paths_rules))]
 fn paths_in(
     alloc: Global,
@@ -127,14 +146,16 @@ fn paths_in(
     view: &View,
     maps: &Maps,
     tables: &[LineTable],
+    macros: &[MacroSection],
 ) -> Result<Vec<UnitPaths>, Fault>
     requires judged { IsJudged elf.now.bytes.now }
     requires view { view.now ≡ view_of elf.now.bytes.now }
     requires tables { TablesFound (view_of elf.now.bytes.now) tables.now }
+    requires macros { UnitsFoundIn (view_of elf.now.bytes.now) macros.now }
     ensures found { IfOk result (λ paths. PathsFound maps.now (view_of elf.now.bytes.now) paths.items tables.now) }
     ensures refused { IfErr result (Blames (EditFails maps.now elf.now.bytes.now)) }
 {
-    let paths = found_paths(alloc, view, maps, tables)?;
+    let paths = found_paths(alloc, view, maps, tables, macros)?;
     Ok(paths)
 }
 
@@ -146,16 +167,18 @@ fn bodies_in(
     view: &View,
     maps: &Maps,
     tables: &[LineTable],
+    macros: &[MacroSection],
     paths: &[UnitPaths],
 ) -> Result<Vec<Body>, Fault>
     requires small { length elf.now.bytes.now ≤ output_limit }
     requires judged { IsJudged elf.now.bytes.now }
     requires view { view.now ≡ view_of elf.now.bytes.now }
+    requires macros { UnitsFoundIn (view_of elf.now.bytes.now) macros.now }
     requires found { PathsFound maps.now (view_of elf.now.bytes.now) paths.now tables.now }
     ensures made { IfOk result (λ bodies. BodiesMade maps.now (file_data elf.now.bytes.now) bodies.items) }
     ensures refused { IfErr result (Blames (EditFails maps.now elf.now.bytes.now)) }
 {
-    match new_bodies(alloc, view, maps, tables, paths) {
+    match new_bodies(alloc, view, maps, tables, macros, paths) {
         Ok(bodies) => Ok(bodies),
         Err(fault) => Err(long_fault(elf, fault)),
     }

@@ -1,29 +1,27 @@
 //! Whether a file may be edited, as far as its type and its sections go (gABI ch. 4 "ELF Header", "Sections").
 //!
-//! This layer promises: a file that is judged is of type EXEC or DYN, no section that is read is loaded, and
-//! each section of debug data is of a kind that is taken; a file is refused only by a condition that holds in
-//! it, at its place. The cost is linear in the number of sections.
+//! This layer promises: a file that is judged is of type EXEC or DYN, and no section that is read is loaded; a file is
+//! refused only by a condition that holds in it, at its place. The cost is linear in the number of sections.
 //! It does not promise: anything of what the sections hold.
 //! Read first: `dw_meaning/specs/FileFails.antt`, then `specs/Judged.antt`.
 
 ghost use Rattle.std.specs.Prelude.{true, ◌≡◌, ◌<◌, ◌&&◌, not, IfErr, OnOk};
-ghost use Rattle.dw_base.specs.DebugSectionFails.{DebugSectionsRead, is_active};
+ghost use Rattle.dw_base.specs.DebugSectionFails.{DebugSectionsRead};
 ghost use Rattle.dw_base.specs.Elf.{is_empty_kind, section_count};
 ghost use Rattle.dw_base.specs.ElfFails.{ElfReads};
-ghost use Rattle.dw_meaning.specs.FileFails.{FileFails, is_unbuilt_section};
+ghost use Rattle.dw_meaning.specs.FileFails.{FileFails};
 ghost use Rattle.dw_base.specs.FileViews.{view_of};
 ghost use Rattle.dw_base.specs.Layout.{is_alloc, is_loaded_kind};
 ghost use Rattle.dw_base.specs.ViewData.{is_read};
 ghost use Rattle.dw_rewrite.specs.Judged.{AllFit, IsJudged, SectionFits};
 
 use crate::refusal::{fixed, unbuilt};
-use dw_base::elf_numbers::SHT_NULL;
 use dw_base::{DebugSection, Refusal, Section};
 use dw_view::View;
 use elf_file::ElfFile;
 
-/// The file and its sections are of a type that is taken, and stand where they may. Refused by the type of the
-/// file, or by a section.
+/// The file is of a type that is taken, and its sections stand where they may. Refused by the type of the file, or by a
+/// section.
 #[tactic(auto, using(crate::proofs::JudgeLaws::judge_laws))]
 pub(crate) fn judge(elf: &ElfFile, view: &View) -> Result<(), Refusal>
     requires reads { ElfReads elf.now.bytes.now }
@@ -51,7 +49,7 @@ fn kind_fits(elf: &ElfFile) -> Result<(), Refusal>
     Ok(())
 }
 
-/// Each section stands where it may, and is of a kind that is taken.
+/// Each section stands where it may.
 #[tactic(auto, using(crate::proofs::JudgeLaws::fit_laws))]
 fn all_fit(elf: &ElfFile, view: &View) -> Result<(), Refusal>
     requires reads { ElfReads elf.now.bytes.now }
@@ -65,8 +63,7 @@ fn all_fit(elf: &ElfFile, view: &View) -> Result<(), Refusal>
     Ok(())
 }
 
-/// The section of a number isn't loaded where it is read, and is of a kind that is taken. One that is loaded is
-/// refused as `Fixed` at its number, one of another kind as `Unbuilt`.
+/// The section of a number isn't loaded where it is read. One that is loaded is refused as `Fixed` at its number.
 #[tactic(auto, using(crate::proofs::JudgeLaws::section_laws))]
 fn section_fits(elf: &ElfFile, view: &View, index: u32) -> Result<(), Refusal>
     requires reads { ElfReads elf.now.bytes.now }
@@ -79,9 +76,6 @@ fn section_fits(elf: &ElfFile, view: &View, index: u32) -> Result<(), Refusal>
     let section = elf.section(index);
     if is_read(kind) && is_loaded(&section) {
         return Err(fixed(index));
-    }
-    if is_unbuilt(kind) && is_active(&section) {
-        return Err(unbuilt());
     }
     Ok(())
 }
@@ -98,26 +92,10 @@ fn is_read(kind: Option<DebugSection>) -> bool
         Some(DebugSection::LineStr) => true,
         Some(DebugSection::StrOffsets) => true,
         Some(DebugSection::Line) => true,
+        Some(DebugSection::Macro) => true,
         Some(DebugSection::Names) => true,
         _ => false,
     }
-}
-
-/// A section of debug data that isn't taken yet.
-fn is_unbuilt(kind: Option<DebugSection>) -> bool
-    ensures { result ≡ is_unbuilt_section kind }
-{
-    match kind {
-        Some(DebugSection::Macro) => true,
-        _ => false,
-    }
-}
-
-/// The section's header isn't inactive.
-fn is_active(section: &Section) -> bool
-    ensures { result ≡ is_active section.now }
-{
-    section.kind != SHT_NULL
 }
 
 /// The section is loaded, and has room in the file.

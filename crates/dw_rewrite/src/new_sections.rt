@@ -1,5 +1,5 @@
-//! The unit sections with new bytes: new offsets in the fields of paths, new starts of line tables, and paths that stand
-//! in their values mapped in their rooms.
+//! The sections of units and of macro units with new bytes: new offsets in the fields of paths, new starts of line tables,
+//! and paths that stand in their values mapped in their rooms.
 //!
 //! Read first: `specs/NewTables.antt`.
 
@@ -42,7 +42,7 @@ impl Model for Body {
     ghost view = { λ b. record { number = b.section; bytes = b.bytes.items } };
 }
 
-/// Appends the unit sections with their new bytes, from the new places of paths that are known of each table, and the new
+/// Appends sections with their new bytes, from the new places of paths that are known of each table, and the new
 /// starts of line tables.
 #[tactic(auto, using(crate::proofs::SectionBytesLaws::all_rules))]
 pub(crate) fn new_sections(
@@ -69,7 +69,7 @@ pub(crate) fn new_sections(
     Ok(())
 }
 
-/// A unit section with its new bytes.
+/// A section with its new bytes.
 #[tactic(auto, using(crate::proofs::SectionBytesLaws::one_rules))]
 fn new_section(
     alloc: Global,
@@ -94,7 +94,7 @@ fn new_section(
     })
 }
 
-/// Writes what is new into the bytes of a unit section.
+/// Writes what is new into the bytes of a section.
 #[tactic(auto, using(crate::proofs::SectionBytesLaws::one_rules))]
 fn write_section(
     alloc: Global,

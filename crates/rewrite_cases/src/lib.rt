@@ -23,6 +23,8 @@ mod index_cases;
 #[cfg(test)]
 mod line_cases;
 #[cfg(test)]
+mod macro_cases;
+#[cfg(test)]
 mod patch_tests;
 #[cfg(test)]
 mod tests;

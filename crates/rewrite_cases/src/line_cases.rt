@@ -8,36 +8,37 @@ use crate::fixtures::Row;
 use dw_base::Kind;
 use dw_base::elf_numbers::SHF_ALLOC;
 
-const LINE: &[u8] = b".debug_line";
+pub(crate) const LINE: &[u8] = b".debug_line";
 
 const LINE_STR: &[u8] = b".debug_line_str";
 
 /// A unit of version 2 in the other byte order, its entry's code, and where its line table starts.
-const BIG_UNIT: &[u8] = b"\0\0\0\x0c\0\x02\0\0\0\0\x04\x01";
+pub(crate) const BIG_UNIT: &[u8] = b"\0\0\0\x0c\0\x02\0\0\0\0\x04\x01";
 
 /// A line table of version 2 in the other byte order, in parts: up to its header length, the numbers of its header, and its
 /// lists and program; and another one.
-const BIG_TABLE: &[u8] = b"\0\0\07\0\x02\0\0\0 ";
+pub(crate) const BIG_TABLE: &[u8] = b"\0\0\07\0\x02\0\0\0 ";
 
-const NUMBERS: &[u8] = b"\x01\x01\xfb\x0e\x0a\0\x01\x01\x01\x01\0\0\0\x01";
+pub(crate) const NUMBERS: &[u8] = b"\x01\x01\xfb\x0e\x0a\0\x01\x01\x01\x01\0\0\0\x01";
 
-const BIG_REST: &[u8] =
+pub(crate) const BIG_REST: &[u8] =
     b"\0\0a.c\0\x01\0\0\0\0\x05\x02\0\0\x10\0\x01\x02\x04\x03\x01\x01\x01\0\x01\x01";
 
-const SECOND: &[u8] = b"\0\0\0-\0\x02\0\0\0\x17";
+pub(crate) const SECOND: &[u8] = b"\0\0\0-\0\x02\0\0\0\x17";
 
-const SECOND_REST: &[u8] = b"\0b.c\0\0\0\0\0\0\x05\x02\0\0\x10\0\x01\x02\x04\x03\x01\x01\0\x01\x01";
+pub(crate) const SECOND_REST: &[u8] =
+    b"\0b.c\0\0\0\0\0\0\x05\x02\0\0\x10\0\x01\x02\x04\x03\x01\x01\0\x01\x01";
 
 /// A line table of version 2 of 45 bytes, and one of 36 bytes without a path that is mapped.
 const TABLE_45: &[u8] = b")\0\0\0\x02\0 \0\0\0";
 
-const REST_45: &[u8] = b"\0\0a.c\0\x01\0\0\0\0\x01\x01";
+pub(crate) const REST_45: &[u8] = b"\0\0a.c\0\x01\0\0\0\0\x01\x01";
 
-const TABLE_36: &[u8] = b" \0\0\0\x02\0\x17\0\0\0";
+pub(crate) const TABLE_36: &[u8] = b" \0\0\0\x02\0\x17\0\0\0";
 
-const REST_36: &[u8] = b"\0b.c\0\0\0\0\0\0\x01\x01";
+pub(crate) const REST_36: &[u8] = b"\0b.c\0\0\0\0\0\0\x01\x01";
 
-const TWO_LINES: Row = (
+pub(crate) const TWO_LINES: Row = (
     LINE,
     0,
     &[
@@ -52,10 +53,10 @@ const TWO_LINES: Row = (
 );
 
 /// A unit of version 4 with one entry, whose one value says where a line table starts.
-const UNIT_12: &[u8] = b"\x0c\0\0\0\x04\0\0\0\0\0\x08\x01";
+pub(crate) const UNIT_12: &[u8] = b"\x0c\0\0\0\x04\0\0\0\0\0\x08\x01";
 
 /// A unit of version 5, and the numbers of a header of version 5 before its lists.
-const UNIT_17: &[u8] = b"\x11\0\0\0\x05\0\x01\x08\0\0\0\0\x01";
+pub(crate) const UNIT_17: &[u8] = b"\x11\0\0\0\x05\0\x01\x08\0\0\0\0\x01";
 
 const NUMBERS_5: &[u8] = b"\x01\x01\x01\xfb\x0e\x0a\0\x01\x01\x01\x01\0\0\0\x01";
 

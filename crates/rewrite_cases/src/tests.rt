@@ -6,6 +6,7 @@ use crate::cases::{CASES, Case};
 use crate::fixtures::file_of;
 use crate::index_cases::INDEX_CASES;
 use crate::line_cases::LINE_CASES;
+use crate::macro_cases::MACRO_CASES;
 use crate::rewritten;
 use dw_abbrev::AbbrevTable;
 use dw_base::{DebugSection, Fault, Refusal};
@@ -61,6 +62,11 @@ fn so_is_each_file_with_texts_by_index(rt: HostRuntime) -> Result<(), Fail> {
 #[test]
 fn so_is_each_file_with_line_tables(rt: HostRuntime) -> Result<(), Fail> {
     each_ends_as_it_says(&rt, rt.alloc(), &LINE_CASES)
+}
+
+#[test]
+fn so_is_each_file_with_macro_units(rt: HostRuntime) -> Result<(), Fail> {
+    each_ends_as_it_says(&rt, rt.alloc(), &MACRO_CASES)
 }
 
 /// Appends place, depth and code of each entry of the units of a section.

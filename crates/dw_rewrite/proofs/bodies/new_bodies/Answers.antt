@@ -3,7 +3,7 @@ use Rattle.std.proofs.Common.{ℕ, List, ap, ◌∙◌, ◌<◌, ◌≤◌, leng
 use Rattle.std.proofs.lemmas.Result.{err_from_is_err_and}
 use Rattle.dw_base.specs.Forms.{in_str, in_line_str}
 use Rattle.dw_base.specs.Layout.{output_limit}
-use Rattle.dw_rewrite.proofs.MadeBodyLaws.{lines-among, lines-fault, long-fault, long-lines, made, made-fit, slices-fit, slots-among, table-body, two-pushed}
+use Rattle.dw_rewrite.proofs.MadeBodyLaws.{lines-among, lines-fault, long-fault, long-lines, made, made-fit, slices-fit, some-among, table-body, two-pushed}
 use Rattle.dw_rewrite.proofs.bodies.new_bodies.Goals as goal
 
 pub returns-in_err-pool-clause-refused : goal.returns-in_err-pool-clause-refused
@@ -40,9 +40,9 @@ new-starts-requires c =
 pub without_lines-sections-requires : goal.without_lines-sections-requires
 without_lines-sections-requires c = record { lines = lines-among c.args.maps.now c.args.view.now c.args.paths.now c.args.tables.now c.requires.found }
 
-pub push_bodies-requires-clause-slots : goal.push_bodies-requires-clause-slots
-push_bodies-requires-clause-slots c =
-    slots-among c.args.maps.now c.args.view.now c.args.paths.now c.without_lines-sections.result.now c.args.tables.now c.requires.found c.without_lines-sections.ensures
+pub push_bodies-requires-clause-among : goal.push_bodies-requires-clause-among
+push_bodies-requires-clause-among c =
+    some-among c.args.maps.now c.args.view.now c.args.paths.now c.without_lines-sections.result.now c.args.tables.now c.requires.found c.without_lines-sections.ensures
 
 pub push_bodies-requires-clause-str : goal.push_bodies-requires-clause-str
 push_bodies-requires-clause-str c = made-fit _ _ _ _ _ _ c.in_ok-pool.ensures.made

@@ -1,0 +1,331 @@
+-- Macro units whose offsets name what they are to name, as they were read: so do the offsets among the pieces of their sections.
+use Rattle.std.specs.Prelude.{Result, Ok, Err, option_map}
+use Rattle.std.proofs.Common.{Bool, true, false, ◌≡◌, ℕ, ◌+◌, ◌≤◌, ◌<◌, nat_le, List, [], ◌∷◌, length, take, drop, slice_index, IsTrue, Option, Some, None, refl, sym, ap, ◌∙◌, subst, arith, if◌then◌else◌}
+use Rattle.std.proofs.lemmas.Bool.{leb-true}
+use Rattle.std.proofs.lemmas.List.{take-append-drop}
+use Rattle.dw_base.specs.Cells.{Cell, CellSection, Located, bytes_of, field_of, located_cells, offset_into, offset_of}
+use Rattle.dw_base.specs.DebugData.{start_number}
+use Rattle.dw_base.specs.FileViews.{View, field_at, section_bytes}
+use Rattle.dw_base.specs.Forms.{width_size}
+use Rattle.dw_base.specs.LineMeanings.{is_there}
+use Rattle.dw_base.specs.MacroHeaders.{is_macro_version, has_flag, width_by, header_by, header_of, macro_header}
+use Rattle.dw_base.specs.MacroOperations.{operation_at}
+use Rattle.dw_base.specs.MacroPieces.{OffsetUse, of_text, of_unit, at_line, at_offset}
+use Rattle.dw_base.specs.MacroUnits.{offset_at, names_text, taken, taken_if, unit_operation, is_end, OperationsUpTo, no_operations, more_operations, IsMacroUnit}
+use Rattle.dw_base.specs.Numbers.{spelled}
+use Rattle.dw_base.specs.Refusals.{at}
+use Rattle.dw_base.specs.ViewData.{debug_data, located}
+use Rattle.dw_base.specs.declared.debug_sections.DebugSection.TheVariants.{Line}
+use Rattle.dw_base.specs.declared.fault.Kind.TheVariants.{Macro, StringOffset, Supplementary}
+use Rattle.dw_base.specs.declared.fault.Refusal.{Refusal}
+use Rattle.dw_base.specs.declared.line_tables.TextPlace.{TextPlace}
+use Rattle.dw_base.specs.declared.macro_numbers.TheConstants.{OFFSET_SIZE_FLAG, DEBUG_LINE_OFFSET_FLAG, OPCODE_OPERANDS_TABLE_FLAG}
+use Rattle.dw_base.specs.declared.macro_units.MacroEvent.{MacroEvent}
+use Rattle.dw_base.specs.declared.macro_units.MacroEvent.TheVariants.{StartFile, EndFile}
+use Rattle.dw_base.specs.declared.macro_units.MacroHeader.{MacroHeader}
+use Rattle.dw_base.specs.declared.macro_units.MacroOperation.{MacroOperation}
+use Rattle.dw_base.specs.declared.macro_units.MacroOperation.TheVariants.{End, Inline, Named, Enter, Leave, Bring, Foreign}
+use Rattle.dw_base.specs.declared.macro_units.MacroUnit.{MacroUnit}
+use Rattle.dw_base.specs.declared.shared.Order.{Order}
+use Rattle.dw_base.specs.declared.shared.Width.{Width}
+use Rattle.dw_base.specs.declared.view_fields.Field.TheVariants.{Num}
+use Rattle.dw_base.proofs.ContributionBackLaws.{StandsAt}
+use Rattle.dw_base.proofs.PlainCellLaws.{IsPlain, bytes_of-plain, first-plain, plain-parts}
+use Rattle.dw_base.proofs.RunLaws.{part-bytes, part-length}
+use Rattle.dw_base.proofs.UnitEditLaws.{length-bytes_of}
+use Rattle.dw_macros.proofs.CallerLaws.{read-unit}
+use Rattle.dw_macros.proofs.EventLaws.{unit-whole}
+use Rattle.dw_macros.specs.MacroEvents.{SpellsEvents, over, one_event, event_by, event_if, event_in, import_at, inline_place, named_place, text_event, unit_events}
+use Rattle.dw_meaning.proofs.LineReadLaws.{if-some, some-same}
+use Rattle.dw_meaning.proofs.MacroBackLaws.{spelled-at}
+use Rattle.dw_meaning.proofs.MacroCutLaws.{cut-stands, FrontCut, operation-cut}
+use Rattle.dw_meaning.proofs.MacroPieceLaws.{Asked, CellsOf, EachUnit, offset_piece, offset_use, text-named}
+use Rattle.dw_meaning.proofs.MacroReadLaws.{read_as}
+use Rattle.dw_find.specs.MacroNames.{EventNames, EventsName, LineNames, MacrosName, UnitsName}
+use Rattle.dw_find.specs.MacroSections.{HaveUnits, SectionUnits, UnitsFoundIn}
+use Rattle.dw_find.specs.TextPlaces.{names_place}
+use Rattle.dw_find.proofs.MacroFoundLaws.{AllAsked, PieceNames}
+use Rattle.dw_find.proofs.MacroHaveLaws.{AllBelow, AllCells, numbers-below}
+use Rattle.dw_find.proofs.MacroStartLaws.{all-cells}
+
+-- so many cells of a section of plain cells
+record OffsetCells (v : View) (section : ℕ) (cells : List Cell) (width : Width) (field : ℕ) : Type 0 where
+  size : length (take (width_size width) (drop field cells)) ≡ width_size width
+  plain : IsPlain (take (width_size width) (drop field cells))
+  stands : StandsAt (section_bytes v section) (bytes_of (take (width_size width) (drop field cells))) field
+
+offset-cells : (v : View) (section : ℕ) (cells : List Cell) (width : Width) (field : ℕ) → CellsOf v section cells → field + width_size width ≤ length (section_bytes v section)
+    → OffsetCells v section cells width field
+offset-cells v section cells width field c inside =
+    let same : length cells ≡ length (section_bytes v section) = sym (length-bytes_of cells) ∙ ap length c.bytes in
+    let back : IsPlain (drop field cells) = (plain-parts (take field cells) (drop field cells) (subst IsPlain (sym (take-append-drop field cells)) c.plain)).1 in
+    let bytes : take (width_size width) (drop field (section_bytes v section)) ≡ bytes_of (take (width_size width) (drop field cells)) =
+    sym (part-bytes (width_size width) field cells ∙ ap (λ (bs : List ℕ). take (width_size width) (drop field bs)) c.bytes) in
+    record {
+      size = part-length (width_size width) field cells (omega (arith, inside, same));
+      plain = (plain-parts (take (width_size width) (drop field cells)) (drop (width_size width) (drop field cells))
+          (subst IsPlain (sym (take-append-drop (width_size width) (drop field cells))) back)).0;
+      stands = subst (λ (bs : List ℕ). StandsAt (section_bytes v section) bs field) bytes (cut-stands (section_bytes v section) field (width_size width) inside);
+    }
+
+-- what they hold is what stands in the view
+pub field-there : (v : View) (section : ℕ) (cells : List Cell) (width : Width) (field : ℕ) → CellsOf v section cells → field + width_size width ≤ length (section_bytes v section)
+    → field_of v.order (take (width_size width) (drop field cells)) ≡ field_at v section field (width_size width)
+unfolding field_of field_at
+field-there v section cells width field c inside =
+    let o : OffsetCells v section cells width field = offset-cells v section cells width field c inside in
+    let size = o.size in
+    let bytes = length-bytes_of (take (width_size width) (drop field cells)) in
+    rw (first-plain (take (width_size width) (drop field cells)) o.plain)
+    (ap (λ (n : ℕ). Num n) (sym (ap (spelled v.order (section_bytes v section) field) (sym size)
+    ∙ spelled-at v.order (section_bytes v section) (bytes_of (take (width_size width) (drop field cells))) field (length (take (width_size width) (drop field cells))) o.stands (omega (arith, bytes)))))
+
+pub lines-same : (v : View) → located_cells (debug_data v).lines ≡ located v Line
+unfolding debug_data
+lines-same v = ap (λ (bs : List ℕ). record { number = (located v Line).number; bytes = bs }) (bytes_of-plain (located v Line).bytes)
+
+pub line-there : (v : View) (section : ℕ) (cells : List Cell) (width : Width) (field : ℕ) → CellsOf v section cells → field + width_size width ≤ length (section_bytes v section)
+    → offset_of v.order (located_cells (debug_data v).lines) (take (width_size width) (drop field cells)) ≡ offset_at v (located v Line) section field width
+unfolding offset_of
+line-there v section cells width field c inside =
+    ap (λ (z : Located). offset_into z (field_of v.order (take (width_size width) (drop field cells)))) (lines-same v)
+    ∙ ap (offset_into (located v Line)) (field-there v section cells width field c inside)
+
+-- a header without the offset of a line table, and one with it
+abbrev pub plain_header : ℕ → Width → ℕ → MacroHeader
+plain_header version w place = record { version = version; width = w; has_line = false; line_field = 0; first = place }
+
+abbrev pub lined_header : ℕ → Width → ℕ → MacroHeader
+lined_header version w place = record { version = version; width = w; has_line = true; line_field = place; first = place + width_size w }
+
+-- the offset lies in the section
+pub line-room : (order : Order) (bytes : List ℕ) (start : ℕ) (h : MacroHeader) → macro_header order bytes start ≡ Some h → h.has_line ≡ true → h.line_field + width_size h.width ≤ length bytes
+unfolding macro_header header_of header_by
+line-room order bytes start h e has =
+    let room = if-some (nat_le (start + 3) (length bytes)) (header_of bytes (spelled order bytes start 2) (slice_index bytes (start + 2)) (start + 3)) h e in
+    let version = if-some (is_macro_version (spelled order bytes start 2))
+    (if has_flag (slice_index bytes (start + 2)) OPCODE_OPERANDS_TABLE_FLAG then None
+    else header_by bytes (spelled order bytes start 2) (width_by (has_flag (slice_index bytes (start + 2)) OFFSET_SIZE_FLAG)) (has_flag (slice_index bytes (start + 2)) DEBUG_LINE_OFFSET_FLAG) (start + 3))
+    h room.1 in
+    by_operands (has_flag (slice_index bytes (start + 2)) OPCODE_OPERANDS_TABLE_FLAG) version.1
+  where
+    clash : (n p : ℕ) (w : Width) → plain_header n w p ≡ h → ⊥
+    clash n p w same =
+        let none : false ≡ true = ap (λ (x : MacroHeader). x.has_line) same ∙ has in
+        absurd cc
+
+    by_line : (b : Bool) (n p : ℕ) (w : Width) → header_by bytes n w b p ≡ Some h → h.line_field + width_size h.width ≤ length bytes
+    by_line false n p w g = absurd (clash n p w (some-same (plain_header n w p) h g))
+    by_line true n p w g =
+        let both = if-some (nat_le (p + width_size w) (length bytes)) (Some (lined_header n w p)) h g in
+        subst (λ (x : MacroHeader). x.line_field + width_size x.width ≤ length bytes) (some-same (lined_header n w p) h both.1)
+        (leb-true (p + width_size w) (length bytes) both.0)
+
+    by_operands : (b : Bool) → (if b then None else header_by bytes (spelled order bytes start 2) (width_by (has_flag (slice_index bytes (start + 2)) OFFSET_SIZE_FLAG))
+        (has_flag (slice_index bytes (start + 2)) DEBUG_LINE_OFFSET_FLAG) (start + 3)) ≡ Some h → h.line_field + width_size h.width ≤ length bytes
+    by_operands true g = absurd cc
+    by_operands false g =
+        by_line (has_flag (slice_index bytes (start + 2)) DEBUG_LINE_OFFSET_FLAG) (spelled order bytes start 2) (start + 3)
+        (width_by (has_flag (slice_index bytes (start + 2)) OFFSET_SIZE_FLAG)) g
+
+-- the line table of a unit
+abbrev line_if : View → ℕ → MacroHeader → Bool → Option ℕ
+line_if v section h has = if has then Some (offset_at v (located v Line) section h.line_field h.width) else None
+
+line-named : (v : View) (starts places : List ℕ) (section start : ℕ) (cells : List Cell) (u : MacroUnit) → CellsOf v section cells → (is : IsMacroUnit v section start u) → LineNames starts u.line
+    → is.header.has_line ≡ true → PieceNames (debug_data v) starts places (offset_piece cells (at_line is.header.width) is.header.width is.header.line_field)
+unfolding debug_data
+line-named v starts places section start cells u c is names has =
+    let room = line-room v.order (section_bytes v section) start is.header is.header_is has in
+    let line : u.line ≡ Some (offset_at v (located v Line) section is.header.line_field is.header.width) =
+    ap (λ (x : MacroUnit). x.line) is.is ∙ ap (line_if v section is.header) has in
+    ap (λ (n : ℕ). is_there (start_number 0 starts n)) (line-there v section cells is.header.width is.header.line_field c room) ∙ subst (LineNames starts) line names
+
+-- an operation that isn't refused was read
+abbrev ok_read : MacroOperation → ℕ → Result (MacroOperation × ℕ) Refusal
+ok_read o next = Ok (o, next)
+
+ok-same : (x y : MacroOperation × ℕ) → ◌≡◌ {A = Result (MacroOperation × ℕ) Refusal} (Ok x) (Ok y) → x ≡ y
+ok-same x y e = cc
+
+err-ok : (r : Refusal) (y : MacroOperation × ℕ) → ◌≡◌ {A = Result (MacroOperation × ℕ) Refusal} (Err r) (Ok y) → ⊥
+err-ok r y e = cc
+
+taken-same : (v : View) (section : ℕ) (width : Width) (place : ℕ) (r o : MacroOperation) (m next : ℕ) → taken v section width place r m ≡ ok_read o next
+    → ◌≡◌ {A = MacroOperation × ℕ} (r, m) (o, next)
+taken-same v section width place End o m next e = ok-same (End, m) (o, next) e
+taken-same v section width place (Inline d l a n) o m next e = ok-same (Inline d l a n, m) (o, next) e
+taken-same v section width place (Named d l field) o m next e = by_text (names_text v section width field) e
+  where
+    by_text : (b : Bool) → (if b then ok_read (Named d l field) m else Err (at StringOffset section field)) ≡ ok_read o next → ◌≡◌ {A = MacroOperation × ℕ} (Named d l field, m) (o, next)
+    by_text true g = ok-same (Named d l field, m) (o, next) g
+    by_text false g = absurd (err-ok (at StringOffset section field) (o, next) g)
+taken-same v section width place (Enter l f) o m next e = ok-same (Enter l f, m) (o, next) e
+taken-same v section width place Leave o m next e = ok-same (Leave, m) (o, next) e
+taken-same v section width place (Bring f) o m next e = ok-same (Bring f, m) (o, next) e
+taken-same v section width place Foreign o m next e = absurd (err-ok (at Supplementary section place) (o, next) e)
+
+operation-read : (v : View) (section start place : ℕ) (width : Width) (o : MacroOperation) (next : ℕ) → unit_operation v section start width place ≡ ok_read o next
+    → operation_at (section_bytes v section) width place ≡ read_as o next
+unfolding unit_operation
+operation-read v section start place width o next e = by_read (operation_at (section_bytes v section) width place) refl e
+  where
+    by_read : (x : Option (MacroOperation × ℕ)) → operation_at (section_bytes v section) width place ≡ x → taken_if v section start width place x ≡ ok_read o next
+        → operation_at (section_bytes v section) width place ≡ read_as o next
+    by_read None is g = absurd (err-ok (at Macro section start) (o, next) g)
+    by_read (Some r) is g = is ∙ ap (λ (x : MacroOperation × ℕ). Some x) (taken-same v section width place r.0 o r.1 next g)
+
+-- an event that was read ends where its operation does
+abbrev pub event_read : MacroEvent → ℕ → Option (MacroEvent × ℕ)
+event_read e n = Some (e, n)
+
+pub event-same : (e f : MacroEvent) (n m : ℕ) → event_read e n ≡ event_read f m → (e ≡ f) × (n ≡ m)
+event-same e f n m h =
+    let both = some-same (e, n) (f, m) h in
+    (ap (λ (x : MacroEvent × ℕ). x.0) both, ap (λ (x : MacroEvent × ℕ). x.1) both)
+
+pub none-event : (e : MacroEvent) (n : ℕ) → None ≡ event_read e n → ⊥
+none-event e n h = cc
+
+abbrev text_pair : Bool → ℕ → ℕ → TextPlace → MacroEvent × ℕ
+text_pair d l n t = (text_event d l t, n)
+
+text-ends : (d : Bool) (l n m : ℕ) (e : MacroEvent) (x : Option TextPlace) → option_map (text_pair d l n) x ≡ event_read e m → n ≡ m
+text-ends d l n m e None h = absurd (none-event e m h)
+text-ends d l n m e (Some t) h = (event-same (text_event d l t) e n m h).1
+
+pub event-ends : (v : View) (section : ℕ) (width : Width) (o : MacroOperation) (n m : ℕ) (e : MacroEvent) → event_by v section width o n ≡ event_read e m → n ≡ m
+unfolding event_by
+event-ends v section width End n m e h = absurd (none-event e m h)
+event-ends v section width (Inline d l a k) n m e h = (event-same (text_event d l (inline_place section a k)) e n m h).1
+event-ends v section width (Named d l field) n m e h = text-ends d l n m e (named_place v section width field) h
+event-ends v section width (Enter l f) n m e h = (event-same (StartFile l f) e n m h).1
+event-ends v section width Leave n m e h = (event-same EndFile e n m h).1
+event-ends v section width (Bring field) n m e h = (event-same (import_at v section width field) e n m h).1
+event-ends v section width Foreign n m e h = absurd (none-event e m h)
+
+event-next : (v : View) (section : ℕ) (width : Width) (place : ℕ) (o : MacroOperation) (n m : ℕ) (e : MacroEvent) → operation_at (section_bytes v section) width place ≡ read_as o n
+    → event_in v section width place ≡ event_read e m → n ≡ m
+unfolding event_in
+event-next v section width place o n m e is h = event-ends v section width o n m e (sym (ap (event_if v section width) is) ∙ h)
+
+-- one that brings a unit is that operation's
+import-is : (v : View) (section : ℕ) (width : Width) (place n m field : ℕ) (e : MacroEvent) → operation_at (section_bytes v section) width place ≡ read_as (Bring field) n
+    → event_in v section width place ≡ event_read e m → import_at v section width field ≡ e
+unfolding event_in event_by
+import-is v section width place n m field e is h = (event-same (import_at v section width field) e n m (sym (ap (event_if v section width) is) ∙ h)).0
+
+-- the events that are left at a place
+record EventsLeft (v : View) (places : List ℕ) (section : ℕ) (width : Width) (place : ℕ) : Type 0 where
+  end : ℕ
+  events : List MacroEvent
+  spells : SpellsEvents v section width place events end
+  names : EventsName places events
+
+end-not : (o : MacroOperation) (n m : ℕ) (x : Option (MacroOperation × ℕ)) → x ≡ read_as o n → x ≡ read_as End m → is_end o ≡ false → ⊥
+end-not o n m x a b more =
+    let same : o ≡ End = ap (λ (y : MacroOperation × ℕ). y.0) (some-same (o, n) (End, m) (sym a ∙ b)) in
+    let ends : false ≡ true = sym more ∙ ap is_end same in
+    absurd cc
+
+left-behind : (v : View) (places : List ℕ) (section : ℕ) (width : Width) (place next end : ℕ) (o : MacroOperation) (es : List MacroEvent)
+    → operation_at (section_bytes v section) width place ≡ read_as o next → is_end o ≡ false → EventsName places es → SpellsEvents v section width place es end
+    → EventsLeft v places section width next
+left-behind v places section width place next end o es is more names (over p q ends) =
+    absurd (end-not o next q (operation_at (section_bytes v section) width p) is ends more)
+left-behind v places section width place next end o es is more names (one_event p n q e rest own s) =
+    let same : next ≡ n = event-next v section width p o next n e is own in
+    record { end = q; events = rest; spells = subst (λ (k : ℕ). SpellsEvents v section width k rest q) (sym same) s; names = names.1 }
+
+left-after : (v : View) (places : List ℕ) (section start : ℕ) (width : Width) (first place : ℕ) → EventsLeft v places section width first → OperationsUpTo v section start width first place
+    → EventsLeft v places section width place
+left-after v places section start width first place l no_operations = l
+left-after v places section start width first next l (more_operations o place n so e more) =
+    let before : EventsLeft v places section width place = left-after v places section start width first place l so in
+    left-behind v places section width place n before.end o before.events (operation-read v section start place width o n e) more before.names before.spells
+
+-- so the next one that brings a unit names it
+import-names : (v : View) (places : List ℕ) (section : ℕ) (width : Width) (place next end field : ℕ) (es : List MacroEvent)
+    → operation_at (section_bytes v section) width place ≡ read_as (Bring field) next → EventsName places es → SpellsEvents v section width place es end
+    → IsTrue (names_place places (field_at v section field (width_size width)))
+unfolding import_at field_at
+import-names v places section width place next end field es is names (over p q ends) =
+    absurd (end-not (Bring field) next q (operation_at (section_bytes v section) width p) is ends refl)
+import-names v places section width place next end field es is names (one_event p n q e rest own s) =
+    subst (EventNames places) (sym (import-is v section width p next n field e is own)) names.0
+
+-- it lies in the section
+pub bring-room : (bs : List ℕ) (width : Width) (place next field : ℕ) → operation_at bs width place ≡ read_as (Bring field) next → field + width_size width ≤ length bs
+bring-room bs width place next field is =
+    let cut : FrontCut bs width place (Bring field) next = operation-cut bs width place (Bring field) next (λ g. cc) is in
+    let end = cut.offset.0 in
+    let within = cut.offset.1 in
+    omega (arith, end, within)
+
+-- the events of a unit by its header
+pub header-events : (v : View) (section start : ℕ) (u : MacroUnit) → section < length v.sections → (is : IsMacroUnit v section start u)
+    → SpellsEvents v section is.header.width is.header.first (unit_events v u) u.end
+header-events v section start u there is =
+    let own : u.section ≡ section = ap (λ (x : MacroUnit). x.section) is.is in
+    let width : u.width ≡ is.header.width = ap (λ (x : MacroUnit). x.width) is.is in
+    let first : u.first ≡ is.header.first = ap (λ (x : MacroUnit). x.first) is.is in
+    subst (λ (n : ℕ). SpellsEvents v section is.header.width n (unit_events v u) u.end) first
+    (subst (λ (w : Width). SpellsEvents v section w u.first (unit_events v u) u.end) width
+    (subst (λ (n : ℕ). SpellsEvents v n u.width u.first (unit_events v u) u.end) own (unit-whole v u (read-unit v section start u there is))))
+
+-- the offset of an operation
+abbrev use_at : OffsetUse → ℕ → Option (OffsetUse × ℕ)
+use_at names field = Some (names, field)
+
+offset-named : (v : View) (starts places : List ℕ) (section start : ℕ) (cells : List Cell) (u : MacroUnit) (place next : ℕ) (o : MacroOperation) (names : OffsetUse) (field : ℕ) → CellsOf v section cells
+    → section < length v.sections → (is : IsMacroUnit v section start u) → EventsName places (unit_events v u) → OperationsUpTo v section start is.header.width is.header.first place
+    → unit_operation v section start is.header.width place ≡ ok_read o next → offset_use o ≡ use_at names field
+    → PieceNames (debug_data v) starts places (offset_piece cells (at_offset is.header.width names) is.header.width field)
+unfolding debug_data
+offset-named v starts places section start cells u place next End names field c there is events up e same = absurd cc
+offset-named v starts places section start cells u place next (Inline d l a n) names field c there is events up e same = absurd cc
+offset-named v starts places section start cells u place next (Named d l f) names field c there is events up e same =
+    subst (λ (x : OffsetUse × ℕ). PieceNames (debug_data v) starts places (offset_piece cells (at_offset is.header.width x.0) is.header.width x.1))
+    (some-same (of_text d l, f) (names, field) same)
+    (text-named v section start cells is.header.width place next d l f c e)
+offset-named v starts places section start cells u place next (Enter l f) names field c there is events up e same = absurd cc
+offset-named v starts places section start cells u place next Leave names field c there is events up e same = absurd cc
+offset-named v starts places section start cells u place next (Bring f) names field c there is events up e same =
+    let read : operation_at (section_bytes v section) is.header.width place ≡ read_as (Bring f) next = operation-read v section start place is.header.width (Bring f) next e in
+    let left : EventsLeft v places section is.header.width place =
+    left-after v places section start is.header.width is.header.first place
+    (record { end = u.end; events = unit_events v u; spells = header-events v section start u there is; names = events }) up in
+    subst (λ (x : OffsetUse × ℕ). PieceNames (debug_data v) starts places (offset_piece cells (at_offset is.header.width x.0) is.header.width x.1))
+    (some-same (of_unit, f) (names, field) same)
+    (ap (names_place places) (field-there v section cells is.header.width f c (bring-room (section_bytes v section) is.header.width place next f read))
+    ∙ import-names v places section is.header.width place next left.end f left.events read left.names left.spells)
+offset-named v starts places section start cells u place next Foreign names field c there is events up e same = absurd cc
+
+-- all of a unit, of a section, and of all sections
+asked-units : (v : View) (starts places : List ℕ) (section : ℕ) (cells : List Cell) (us : List MacroUnit) → CellsOf v section cells → section < length v.sections
+    → UnitsName v starts places us → EachUnit (Asked v section cells (PieceNames (debug_data v) starts places)) us
+asked-units v starts places section cells [] c there names = tt
+asked-units v starts places section cells (u ∷ us) c there names = (
+  λ start is. record {
+    line = λ has. line-named v starts places section start cells u c is names.0 has;
+    offset = λ place o next use_ field up e is_use. offset-named v starts places section start cells u place next o use_ field c there is names.1 up e is_use;
+  },
+  asked-units v starts places section cells us c there names.2,
+)
+
+asked-all : (v : View) (starts places : List ℕ) (zs : List CellSection) (ss : List SectionUnits) → AllCells v zs → AllBelow (length v.sections) zs → HaveUnits v zs ss
+    → MacrosName v starts places ss → AllAsked v (PieceNames (debug_data v) starts places) zs ss
+asked-all v starts places [] [] c b have names = tt
+asked-all v starts places [] (s ∷ ss) c b have names = absurd have
+asked-all v starts places (z ∷ zs) [] c b have names = absurd have
+asked-all v starts places (z ∷ zs) (s ∷ ss) c b have names = (
+  c.0,
+  have.0,
+  have.1,
+  asked-units v starts places z.number z.contents s.units c.0 b.0 names.0,
+  asked-all v starts places zs ss c.1 b.1 have.2 names.1,
+)
+
+pub asked-of : (v : View) (starts places : List ℕ) (ss : List SectionUnits) → UnitsFoundIn v ss → MacrosName v starts places ss
+    → AllAsked v (PieceNames (debug_data v) starts places) (debug_data v).macros ss
+asked-of v starts places ss found names = asked-all v starts places (debug_data v).macros ss (all-cells v) (numbers-below v) found.units names
