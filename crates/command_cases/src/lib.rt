@@ -27,6 +27,10 @@ mod show_texts;
 #[cfg(test)]
 mod shown_file;
 #[cfg(test)]
+mod shown_macros;
+#[cfg(test)]
+mod shown_units;
+#[cfg(test)]
 mod shows;
 #[cfg(test)]
 mod split_counts;

@@ -132,7 +132,7 @@ pub const SHOWN: [(Order, &[u8], &str); 5] = [
 /// A compile unit's abbreviation, with a language.
 const PLAIN_UNIT: &[u8] = &[0x01, 0x11, 0x00, 0x13, 0x06, 0x00, 0x00, 0x00];
 
-/// One that says where macros stand, by `DW_AT_macros`.
+/// One that says where a macro unit starts, by `DW_AT_macros`.
 const WITH_MACROS: &[u8] = &[0x01, 0x11, 0x00, 0x79, 0x17, 0x00, 0x00, 0x00];
 
 /// The same, by `DW_AT_GNU_macros`.
@@ -177,17 +177,29 @@ const SHORT_UNIT: &[u8] = &[
     0x0a, 0x00, 0x00, 0x00, 0x04, 0x00, 0x00, 0x00, 0x00, 0x00, 0x08, 0x01, 0x00, 0x00,
 ];
 
-/// Abbreviations and units, and the refusal of their file, where they are the sections 1 and 2.
-pub const UNITS: [(&[u8], &[u8], Option<(Kind, u32, u64)>); 11] = [
-    (PLAIN_UNIT, ONE_UNIT, None),
-    (WITH_MACROS, ONE_UNIT, Some((Kind::Unbuilt, 0, 0))),
-    (WITH_GNU_MACROS, ONE_UNIT, Some((Kind::Unbuilt, 0, 0))),
-    (PLAIN_UNIT, OTHER_CODE, Some((Kind::Entry, 2, 11))),
-    (PLAIN_UNIT, LONG_UNIT, Some((Kind::Unit, 2, 0))),
-    (PLAIN_UNIT, NO_TABLE, Some((Kind::Abbreviation, 1, 9))),
-    (PLAIN_UNIT, SHORT_UNIT, Some((Kind::Entry, 2, 12))),
-    (WITH_LINES, ONE_UNIT, None),
-    (WITH_LINES, NEXT_UNIT, Some((Kind::Stray, 2, 12))),
-    (WITH_NAME, ONE_UNIT, Some((Kind::StringOffset, 2, 12))),
-    (WITH_INDEX, ONE_UNIT, Some((Kind::StringTable, 2, 12))),
+/// The text of `ONE_UNIT` with `PLAIN_UNIT`.
+const PLAIN_UNIT_TEXT: &str = "unit 0 .debug_info version 4 bits 32 address 8
+entry 0 depth 0 tag 0x11
+attr 0x13 number 0
+";
+
+/// The same with `WITH_LINES`.
+const WITH_LINES_TEXT: &str = "unit 0 .debug_info version 4 bits 32 address 8
+entry 0 depth 0 tag 0x11
+attr 0x10 lines 0
+";
+
+/// Abbreviations and units, and their text, or the refusal of their file, where they are the sections 1 and 2.
+pub const UNITS: [(&[u8], &[u8], Result<&str, (Kind, u32, u64)>); 11] = [
+    (PLAIN_UNIT, ONE_UNIT, Ok(PLAIN_UNIT_TEXT)),
+    (WITH_MACROS, ONE_UNIT, Err((Kind::Stray, 2, 12))),
+    (WITH_GNU_MACROS, ONE_UNIT, Err((Kind::Stray, 2, 12))),
+    (PLAIN_UNIT, OTHER_CODE, Err((Kind::Entry, 2, 11))),
+    (PLAIN_UNIT, LONG_UNIT, Err((Kind::Unit, 2, 0))),
+    (PLAIN_UNIT, NO_TABLE, Err((Kind::Abbreviation, 1, 9))),
+    (PLAIN_UNIT, SHORT_UNIT, Err((Kind::Entry, 2, 12))),
+    (WITH_LINES, ONE_UNIT, Ok(WITH_LINES_TEXT)),
+    (WITH_LINES, NEXT_UNIT, Err((Kind::Stray, 2, 12))),
+    (WITH_NAME, ONE_UNIT, Err((Kind::StringOffset, 2, 12))),
+    (WITH_INDEX, ONE_UNIT, Err((Kind::StringTable, 2, 12))),
 ];

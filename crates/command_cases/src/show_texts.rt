@@ -1,7 +1,9 @@
-//! What is shown of files with line tables, and which files aren't shown.
+//! What is shown of files with units, line tables and macro units, and which files aren't shown.
 
 use crate::show_files::{Named, file_of};
 use crate::show_samples::{BOTH, BOTH_TEXT, SHOWN, UNITS};
+use crate::shown_macros::MACROS_SHOWN;
+use crate::shown_units::UNITS_SHOWN;
 use dbg_show::{ShowErr, show};
 use dw_base::{Fault, Kind, OUTPUT_LIMIT, Order, Refusal};
 use dw_view::View;
@@ -39,9 +41,29 @@ fn each_table_is_shown_with_its_lists_and_rows(rt: HostRuntime) -> Result<(), Fa
 }
 
 #[test]
-fn nothing_is_shown_behind_a_unit_that_cannot_be_read_or_is_not_taken(
-    rt: HostRuntime,
-) -> Result<(), Fail> {
+fn each_unit_is_shown_with_its_entries_and_their_attributes(rt: HostRuntime) -> Result<(), Fail> {
+    for (order, sections, text) in UNITS_SHOWN {
+        let mut out = MemSink::new(rt.alloc(), 0x1000, None)?;
+        let result = shown(&rt, rt.alloc(), order, sections, &mut out)?;
+        assert_eq!(rt; result, Ok(()));
+        assert_eq!(rt; out.bytes(), text.as_bytes());
+    }
+    Ok(())
+}
+
+#[test]
+fn each_macro_unit_is_shown_with_its_events(rt: HostRuntime) -> Result<(), Fail> {
+    for (order, sections, text) in MACROS_SHOWN {
+        let mut out = MemSink::new(rt.alloc(), 0x1000, None)?;
+        let result = shown(&rt, rt.alloc(), order, sections, &mut out)?;
+        assert_eq!(rt; result, Ok(()));
+        assert_eq!(rt; out.bytes(), text.as_bytes());
+    }
+    Ok(())
+}
+
+#[test]
+fn nothing_is_shown_behind_a_unit_that_cannot_be_read(rt: HostRuntime) -> Result<(), Fail> {
     for (abbrevs, units, expected) in UNITS {
         let mut out = MemSink::new(rt.alloc(), 0x1000, None)?;
         let sections = [
@@ -51,14 +73,18 @@ fn nothing_is_shown_behind_a_unit_that_cannot_be_read_or_is_not_taken(
         ];
         let result = shown(&rt, rt.alloc(), Order::Little, &sections, &mut out)?;
         match expected {
-            Some((kind, section, at)) => {
+            Err((kind, section, at)) => {
                 let refusal = Refusal::at(kind, section, at);
                 assert_eq!(rt; result, Err(ShowErr::Fault(Fault::Refused(refusal))));
                 assert_eq!(rt; out.bytes().len(), 0);
             }
-            None => {
+            Ok(text) => {
                 assert_eq!(rt; result, Ok(()));
-                assert_eq!(rt; out.bytes(), BOTH_TEXT.as_bytes());
+                let units = text.as_bytes();
+                assert!(rt; out.bytes().len() >= units.len());
+                let (front, behind) = out.bytes().split_at(units.len());
+                assert_eq!(rt; front, units);
+                assert_eq!(rt; behind, BOTH_TEXT.as_bytes());
             }
         }
     }

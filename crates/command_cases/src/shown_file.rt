@@ -18,8 +18,17 @@ pub const WITH_LINES: &[&[u8]] = &[
     b"2\0\0\0\x03\0\0\0\0\0\0\0\0\0\0\0\0\0\0\0\0\0\0\0\xd6\0\0\0\0\0\0\0<\0\0\0\0\0\0\0\0\0\0\0\0\0\0\0\x01\0\0\0\0\0\0\0\0\0\0\0\0\0\0\0",
 ];
 
-/// Its text: the table, its directory, its file and its rows.
-pub const SHOWN_LINES: &str = "lines 0 version 4
+/// Its text: the unit and its entries, the table, its directory, its file and its rows.
+pub const SHOWN_LINES: &str = "unit 0 .debug_info version 4 bits 32 address 8
+entry 0 depth 0 tag 0x11
+attr 0x3 text \"/build/p/u0.c\"
+attr 0x1b text \"/build/p\"
+attr 0x10 lines 0
+entry 1 depth 1 tag 0x34
+attr 0x3 text \"v0\"
+entry 2 depth 1 tag 0x34
+attr 0x3 text \"v1\"
+lines 0 version 4
 dir 1 \"/build/p/inc\"
 file 1 dir 0 \"u0.c\"
 row 0x1001 op 0 file \"\" \"u0.c\" line 2 column 0 flags s isa 0 disc 0

@@ -1,7 +1,8 @@
--- Line tables that are read one after another, and their text.
+-- Line tables that are read one after another, and their text; and what is written of a view.
 use Rattle.std.proofs.Common.{◌≡◌, ℕ, zero, suc, ◌+◌, ◌<◌, ◌≤◌, List, [], ◌∷◌, ◌++◌, length, map, take, drop, drop-cons, get_or, Option, Some, None, refl, sym, ap, ◌∙◌, subst, arith, append-nil}
 use Rattle.std.specs.Prelude.{OnOk, Result, Ok, Err}
 use Rattle.std.proofs.lemmas.List.{drop_all, take-append-drop}
+use Rattle.dw_base.specs.AbbreviationTables.{Abbreviation}
 use Rattle.dw_base.specs.Cells.{Located}
 use Rattle.dw_base.specs.DebugData.{line_source}
 use Rattle.dw_base.specs.DebugSections.{name_of}
@@ -11,12 +12,16 @@ use Rattle.dw_base.specs.LineReadings.{LineReading, ReadsTable, AreTables, Table
 use Rattle.dw_base.specs.LineSources.{LineSource}
 use Rattle.dw_base.specs.LineTables.{LineTable}
 use Rattle.dw_base.specs.Refusals.{Blames}
-use Rattle.dw_base.specs.ViewData.{debug_data, located, located_at}
+use Rattle.dw_base.specs.StringOffsets.{AreContributions}
+use Rattle.dw_base.specs.UnitMeanings.{units_of}
+use Rattle.dw_base.specs.ViewData.{debug_data, located, located_at, string_offsets}
+use Rattle.dw_base.specs.declared.string_offsets.Contribution.{Contribution}
 use Rattle.dw_base.specs.declared.debug_sections.DebugSection.TheVariants.{Str, LineStr, Line}
 use Rattle.dw_base.specs.declared.fault.Fault.{Fault}
 use Rattle.dw_base.specs.declared.fault.Fault.TheVariants.{NoMemory, Refused}
 use Rattle.dw_base.specs.declared.fault.Refusal.{Refusal}
 use Rattle.dw_base.specs.declared.line_rows.Row.{Row}
+use Rattle.dw_base.specs.declared.macro_units.MacroUnit.{MacroUnit}
 use Rattle.dw_base.specs.declared.shared.Order.{Order}
 use Rattle.dw_base.proofs.PlainCellLaws.{bytes_of-plain}
 use Rattle.dw_lines.specs.ViewSources.{view_source}
@@ -24,19 +29,34 @@ use Rattle.dw_lines.specs.ViewTables.{tables_read, TablesUpTo, TablesFound}
 use Rattle.dw_base.proofs.FileViewLaws.{section_after-within}
 use Rattle.dw_meaning.proofs.LineOneLaws.{tables-one}
 use Rattle.dw_lines.proofs.ReadingLaws.{source-is}
-use Rattle.dw_find.specs.ReadData.{DataRead, DataRefuses}
+use Rattle.dw_find.specs.MacroNames.{AllUnitsIn}
+use Rattle.dw_find.specs.MacroSections.{SectionUnits, first_places}
+use Rattle.dw_find.specs.ReadData.{DataRead, DataRefuses, string_tables}
+use Rattle.dw_find.specs.ViewLines.{starts_of}
+use Rattle.dw_find.proofs.MacroNameLaws.{units-in}
+use Rattle.dw_base.specs.StringOffsetFails.{ContributionsFail}
 use Rattle.dw_rows.specs.TableRows.{IsTableIn, table_rows}
 use Rattle.dw_rows.proofs.TableLaws.{rows-meant}
 use Rattle.file_tree.specs.Heard.{Heard, grown}
+use Rattle.dbg_show.specs.EntryIndexes.{IsIndexed}
 use Rattle.dbg_show.specs.LineTexts.{entry_file, entry_path, dirs_text, files_text, first_number, lines_text, table_line, table_text, tables_text}
 use Rattle.dbg_show.specs.Printing.{Printed, Cut, Goes}
 use Rattle.dbg_show.specs.ReadTables.{AllIn, read_text, all_read, TablesMeant, ViewTables}
 use Rattle.dbg_show.specs.Rows.{rows_text}
-use Rattle.dbg_show.specs.Shows.{ShowReads, IsShown, ShowRefuses, of_view, ShowEnds, refused, unread, cut}
+use Rattle.dbg_show.specs.ShownMacros.{AreMacros, MacroSource, MacrosFit, units_shown}
+use Rattle.dbg_show.specs.ShownUnits.{EntryIndex, UnitSource}
+use Rattle.dbg_show.specs.UnitLists.{ListsAll}
+use Rattle.dbg_show.specs.UnitReads.{AllCanRead, SourceFits}
+use Rattle.dbg_show.specs.UnitTexts.{units_text}
+use Rattle.dbg_show.specs.ViewSources.{AreSources, all_printed}
+use Rattle.dbg_show.specs.declared.listed_unit.ListedUnit.{ListedUnit}
+use Rattle.dbg_show.specs.Shows.{ShowReads, IsShown, ShowRefuses, of_view, ShowEnds, refused, unread, cut, view_text}
 use Rattle.dbg_show.specs.declared.show_err.ShowErr.{ShowErr}
 use Rattle.dbg_show.specs.declared.show_err.ShowErr.TheVariants as err
 use Rattle.dbg_show.proofs.ExcludeLaws.{show-excludes}
+use Rattle.dbg_show.proofs.MacroShownLaws.{macros-fit, macros-shown}
 use Rattle.dbg_show.proofs.MeaningLaws.{dirs-meant, files-meant}
+use Rattle.dbg_show.proofs.SourceReadLaws.{source-fits, source-text, units-read}
 use Rattle.dbg_show.proofs.PrintingLaws.{goes-start, goes-more, goes-over, goes-cut, printed-then, cut-then}
 
 -- what the texts stand in
@@ -135,8 +155,8 @@ view-found v ts f = by_section (section_named v (name_of Line)) refl
         view-by v section ts (section-within v section e) source (subst (λ (g : LineSource). TablesUpTo g ts (length g.bytes)) source f)
 
 -- the debug data of a view were read
-pub view-read : (v : View) (ts : List LineTable) → DataRead v ts → ViewTables v ts
-view-read v ts d =
+pub view-read : (v : View) (ts : List LineTable) (ss : List SectionUnits) → DataRead v ts ss → ViewTables v ts ss
+view-read v ts ss d =
     let t : TablesMeant v ts = view-found v ts (record { readings = d.readings.lines; reads = d.reads.lines; is = d.tables }) in
     let same : t.readings ≡ d.readings.lines =
     tables-one (line_source (debug_data v)) 0 (length (line_source (debug_data v)).bytes) t.readings d.readings.lines t.tables d.reads.lines in
@@ -203,29 +223,99 @@ heard-whole t old new p =
     p.begun.bytes ∙ ap (grown old.bytes) whole
 
 -- what was read of a view
-abbrev reads-of : (v : View) (ts : List LineTable) → ViewTables v ts → ShowReads (debug_data v)
-reads-of v ts t = record { readings = t.read.readings; reads = t.read.reads; built = t.read.built }
+abbrev reads-of : (v : View) (ts : List LineTable) (ss : List SectionUnits) → ViewTables v ts ss → ShowReads (debug_data v)
+reads-of v ts ss t = record { readings = t.read.readings; reads = t.read.reads }
 
-pub is-shown : (v : View) (ts : List LineTable) (old new : Heard) → ViewTables v ts
-    → Printed (all_read v (line_source (debug_data v)) 0 ts) [] old new [] → IsShown v old new
-is-shown v ts old new r p = record {
-  reads = reads-of v ts r;
-  bytes = heard-whole (all_read v (line_source (debug_data v)) 0 ts) old new p ∙ ap (grown old.bytes) r.text;
+-- what is printed from it is the text of the view
+whole-text : (v : View) (ts : List LineTable) (g : UnitSource) (m : MacroSource) (s : AreSources v ts g m)
+    → all_printed v g ts m ≡ view_text (debug_data v) (reads-of v ts s.sections s.tables)
+whole-text v ts g m s =
+    ap (λ (x : List ℕ). x ++ (all_read v (line_source (debug_data v)) 0 ts ++ units_shown m 0 m.units)) s.units
+    ∙ ap (λ (x : List ℕ). units_text (debug_data v).units 0 (units_of (debug_data v) s.tables.read.readings) ++ (x ++ units_shown m 0 m.units)) s.tables.text
+    ∙ ap (λ (x : List ℕ). units_text (debug_data v).units 0 (units_of (debug_data v) s.tables.read.readings)
+    ++ (lines_text (line_meanings (line_source (debug_data v)) s.tables.read.readings.lines) ++ x)) s.macros
+
+pub is-shown : (v : View) (ts : List LineTable) (g : UnitSource) (m : MacroSource) (old new : Heard) → AreSources v ts g m → Printed (all_printed v g ts m) [] old new [] → IsShown v old new
+is-shown v ts g m old new s p = record {
+  reads = reads-of v ts s.sections s.tables;
+  bytes = heard-whole (all_printed v g ts m) old new p ∙ ap (grown old.bytes) (whole-text v ts g m s);
   later = p.begun.later;
 }
 
-pub ends-cut : (v : View) (ts : List LineTable) (old new : Heard) (e : ShowErr) → ViewTables v ts
-    → Cut (all_read v (line_source (debug_data v)) 0 ts) old new e → ShowEnds v old new e
-ends-cut v ts old new e r c = cut (reads-of v ts r) (subst (λ (t : List ℕ). Cut t old new e) r.text c)
+pub ends-cut : (v : View) (ts : List LineTable) (g : UnitSource) (m : MacroSource) (old new : Heard) (e : ShowErr) → AreSources v ts g m → Cut (all_printed v g ts m) old new e
+    → ShowEnds v old new e
+ends-cut v ts g m old new e s c = cut (reads-of v ts s.sections s.tables) (subst (λ (t : List ℕ). Cut t old new e) (whole-text v ts g m s) c)
+
+pub sources-fit : (v : View) (ts : List LineTable) (g : UnitSource) (m : MacroSource) → AreSources v ts g m → SourceFits g
+sources-fit v ts g m s = s.fits
+
+pub sources-in : (v : View) (ts : List LineTable) (g : UnitSource) (m : MacroSource) → AreSources v ts g m → AllIn v ts
+sources-in v ts g m s = s.tables.each
+
+pub sources-macros : (v : View) (ts : List LineTable) (g : UnitSource) (m : MacroSource) → AreSources v ts g m → MacrosFit m
+sources-macros v ts g m s = s.macros_fit
+
+pub ruleset shown_laws = (is-shown, ends-cut, sources-fit, sources-in, sources-macros)
+
+-- what is printed from, made of what was read
+abbrev pub source_of : View → List ListedUnit → List (List Abbreviation) → EntryIndex → List Contribution → List ℕ → List ℕ → UnitSource
+source_of v us tables index cs_ starts places =
+    record { view = v; units = us; tables = tables; index = index; contributions = cs_; starts = starts; macros = places }
+
+abbrev pub macros_of : View → List ℕ → List MacroUnit → List ℕ → MacroSource
+macros_of v lines us keys = record { view = v; lines = lines; units = us; keys = keys }
+
+pub sources-are : (v : View) (us : List ListedUnit) (tables : List (List Abbreviation)) (index : EntryIndex) (cs_ : List Contribution) (starts places lines : List ℕ) (macros : List MacroUnit)
+    (keys : List ℕ) (ts : List LineTable) (ss : List SectionUnits) → ViewTables v ts ss → ListsAll (debug_data v) tables (debug_data v).units us → IsIndexed v tables us index
+    → AreContributions v.order (string_offsets v) cs_ → starts ≡ starts_of ts → places ≡ first_places ss → lines ≡ starts_of ts → AreMacros v ss macros keys
+    → AreSources v ts (source_of v us tables index cs_ starts places) (macros_of v lines macros keys)
+sources-are v us tables index cs_ starts places lines macros keys ts ss t listed indexed are is first same list = record {
+  sections = ss;
+  tables = t;
+  fits = source-fits (source_of v us tables index cs_ starts places) ts ss t.read listed is indexed first;
+  macros_fit = macros-fit (macros_of v lines macros keys) ts ss t.read same list;
+  units = source-text (source_of v us tables index cs_ starts places) ts ss t.read listed are is first;
+  macros = macros-shown (macros_of v lines macros keys) ts ss t.read same list;
+}
+
+-- the units are those of a list that was read
+pub units-listed : (v : View) (us vs : List ListedUnit) (tables abbrevs : List (List Abbreviation)) → us ≡ vs → tables ≡ abbrevs → ListsAll (debug_data v) abbrevs (debug_data v).units vs
+    → ListsAll (debug_data v) tables (debug_data v).units us
+units-listed v us vs tables abbrevs is are listed =
+    subst (λ (xs : List ListedUnit). ListsAll (debug_data v) tables (debug_data v).units xs) (sym is)
+    (subst (λ (xs : List (List Abbreviation)). ListsAll (debug_data v) xs (debug_data v).units vs) (sym are) listed)
+
+pub macros-listed : (v : View) (ss : List SectionUnits) (us ws : List MacroUnit) (keys numbers : List ℕ) → us ≡ ws → keys ≡ numbers → AreMacros v ss ws numbers → AreMacros v ss us keys
+macros-listed v ss us ws keys numbers is are list =
+    subst (λ (xs : List MacroUnit). AreMacros v ss xs keys) (sym is) (subst (AreMacros v ss ws) (sym are) list)
+
+-- and each of them can be read
+pub units-can : (v : View) (ts : List LineTable) (ss : List SectionUnits) (us : List ListedUnit) (tables : List (List Abbreviation)) → ViewTables v ts ss
+    → ListsAll (debug_data v) tables (debug_data v).units us → AllCanRead v tables us
+units-can v ts ss us tables t listed = units-read v ts ss us tables t.read listed
+
+-- the macro units of sections that were read are of the view
+pub tables-units : (v : View) (ts : List LineTable) (ss : List SectionUnits) → ViewTables v ts ss → AllUnitsIn v ss
+tables-units v ts ss t = units-in v ss t.read.units
 
 pub ends-unread : (v : View) (h : Heard) (x : Fault) (e : ShowErr) → Blames (DataRefuses v) x → e ≡ err.Fault x → ShowEnds v h h e
 ends-unread v h NoMemory e b is = subst (λ (y : ShowErr). ShowEnds v h h y) (sym is) (unread refl)
 ends-unread v h (Refused r) e b is = subst (λ (y : ShowErr). ShowEnds v h h y) (sym is) (refused r (of_view v refl b) refl)
 
--- a view that was read is refused by no row
-pub none-refuses : {X E : Type 0} (x : Result X E) (v : View) (ts : List LineTable) → ViewTables v ts
-    → OnOk x ((r : Refusal) → ShowRefuses (debug_data v) r → ⊥)
-none-refuses (Ok y) v ts t = λ r row. show-excludes (debug_data v) r (reads-of v ts t) row
-none-refuses (Err e) v ts t = tt
+pub ends-strings : (v : View) (h : Heard) (x : Fault) (e : ShowErr) → Blames (ContributionsFail v.order (string_offsets v)) x → e ≡ err.Fault x → ShowEnds v h h e
+ends-strings v h x e b is = ends-unread v h x e (row x b) is
+  where
+    row : (f : Fault) → Blames (ContributionsFail v.order (string_offsets v)) f → Blames (DataRefuses v) f
+    row NoMemory b = tt
+    row (Refused r) b = string_tables b
 
-pub ruleset show_laws = (is-shown, ends-cut, ends-unread)
+pub ends-memory : (v : View) (h : Heard) (e : ShowErr) → e ≡ err.Fault NoMemory → ShowEnds v h h e
+ends-memory v h e is = subst (λ (y : ShowErr). ShowEnds v h h y) (sym is) (unread refl)
+
+-- a view that was read is refused by no row
+pub none-refuses : {X E : Type 0} (x : Result X E) (v : View) (ts : List LineTable) (ss : List SectionUnits) → ViewTables v ts ss
+    → OnOk x ((r : Refusal) → ShowRefuses (debug_data v) r → ⊥)
+none-refuses (Ok y) v ts ss t = λ r row. show-excludes (debug_data v) r (reads-of v ts ss t) row
+none-refuses (Err e) v ts ss t = tt
+
+pub ruleset show_laws = (ends-unread, ends-strings, ends-memory)

@@ -2,6 +2,16 @@ pub mod Quoting
 pub mod Rows
 pub mod LineTexts
 pub mod TableLists
+pub mod UnitTexts
+pub mod PieceTexts
+pub mod PieceRuns
+pub mod ShownUnits
+pub mod EntryIndexes
+pub mod UnitReads
+pub mod UnitLists
+pub mod MacroTexts
+pub mod ShownMacros
 pub mod Printing
 pub mod ReadTables
+pub mod ViewSources
 pub mod Shows

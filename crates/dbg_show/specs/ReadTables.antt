@@ -9,6 +9,7 @@ use Rattle.dw_base.specs.LineTables.{LineTable}
 use Rattle.dw_base.specs.ViewData.{debug_data}
 use Rattle.dw_base.specs.declared.line_rows.Row.{Row}
 use Rattle.dw_rows.specs.TableRows.{IsTableIn, table_rows}
+use Rattle.dw_find.specs.MacroSections.{SectionUnits}
 use Rattle.dw_find.specs.ReadData.{DataRead}
 use Rattle.dbg_show.specs.LineTexts.{dirs_text, files_text, first_number, lines_text, table_line}
 use Rattle.dbg_show.specs.Rows.{rows_text}
@@ -41,8 +42,8 @@ pub record TablesMeant (v : View) (ts : List LineTable) : Type 0 where
   pub each : AllIn v ts
   pub text : all_read v (line_source (debug_data v)) 0 ts ≡ lines_text (line_meanings (line_source (debug_data v)) readings)
 
--- the debug data of a view were read, and the text of their line tables is that of what they mean
-pub record ViewTables (v : View) (ts : List LineTable) : Type 0 where
-  pub read : DataRead v ts
+-- the debug data of a view were read, with its line tables and its macro units, and the text of the tables is that of what they mean
+pub record ViewTables (v : View) (ts : List LineTable) (ss : List SectionUnits) : Type 0 where
+  pub read : DataRead v ts ss
   pub each : AllIn v ts
   pub text : all_read v (line_source (debug_data v)) 0 ts ≡ lines_text (line_meanings (line_source (debug_data v)) read.readings.lines)

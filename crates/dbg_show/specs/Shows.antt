@@ -1,33 +1,37 @@
 -- What `show` writes of a view, and why it doesn't.
-use Rattle.std.specs.Prelude.{◌≡◌, ◌≤◌, ℕ, List}
-use Rattle.dw_base.specs.DebugData.{DebugData, DataReadings, line_source}
+use Rattle.std.specs.Prelude.{◌≡◌, ◌≤◌, ℕ, List, ◌++◌}
+use Rattle.dw_base.specs.DebugData.{DebugData, DataReadings, around_of, line_source}
 use Rattle.dw_base.specs.FileViews.{View}
 use Rattle.dw_base.specs.LineMeanings.{line_meanings}
+use Rattle.dw_base.specs.MacroMeanings.{macro_meanings}
+use Rattle.dw_base.specs.UnitMeanings.{units_of}
 use Rattle.dw_base.specs.ViewData.{debug_data}
 use Rattle.dw_base.specs.declared.fault.Fault.TheVariants.{NoMemory, Refused}
 use Rattle.dw_base.specs.declared.fault.Refusal.{Refusal}
 use Rattle.dw_find.specs.ReadData.{DataRefuses}
-use Rattle.dw_find.specs.UnitTexts.{HasUnbuilt}
 use Rattle.dw_meaning.specs.DataOutput.{DataReads}
 use Rattle.file_tree.specs.Heard.{Heard, grown}
 use Rattle.dbg_show.specs.LineTexts.{lines_text}
+use Rattle.dbg_show.specs.MacroTexts.{macros_text}
 use Rattle.dbg_show.specs.Printing.{Cut}
+use Rattle.dbg_show.specs.UnitTexts.{units_text}
 use Rattle.dbg_show.specs.declared.show_err.ShowErr.{ShowErr}
 use Rattle.dbg_show.specs.declared.show_err.ShowErr.TheVariants as err
 
--- debug data can be shown: they can be read, and no entry says where macros stand
+-- debug data can be shown: they can be read
 pub record ShowReads (d : DebugData) : Type 0 where
   pub readings : DataReadings
   pub reads : DataReads d readings
-  pub built : HasUnbuilt d → ⊥
 
--- why debug data, those of a view, can't be shown: they can't be read, or an entry says where macros stand
+-- why debug data, those of a view, can't be shown: they can't be read
 pub data ShowRefuses (d : DebugData) (r : Refusal) : Type 0 where
   of_view : (v : View) → d ≡ debug_data v → DataRefuses v r → ShowRefuses d r
 
--- the text of debug data that can be shown
+-- the text of debug data that can be shown: that of the units, that of the line tables, and that of the macro units
 abbrev pub view_text : (d : DebugData) → ShowReads d → List ℕ
-view_text d reads = lines_text (line_meanings (line_source d) reads.readings.lines)
+view_text d reads =
+    units_text d.units 0 (units_of d reads.readings) ++ (lines_text (line_meanings (line_source d) reads.readings.lines)
+    ++ macros_text 0 (macro_meanings (around_of d reads.readings) reads.readings.macros))
 
 -- the view can be shown, and the sink heard its text
 pub record IsShown (v : View) (old new : Heard) : Type 0 where

@@ -1,11 +1,12 @@
 //! The text of `show`: what the debug data of a file say, line by line (this project's profile).
 //!
-//! This layer promises: what is written of a view is the text of its line tables, each with its directories, its files and
-//! its rows, byte for byte; before the first byte all debug data are read, and a view is refused exactly where they can't be,
-//! at the place, or as `Unbuilt` where an entry says where macros stand, with nothing written; the text goes out in pieces of a few thousand bytes and is never held whole; a
-//! first part of it went out where the sink fails or memory is wanting.
-//! It does not promise: units and macro units, which aren't printed yet.
-//! Read first: `specs/Shows.antt`, then `specs/LineTexts.antt`, `specs/Rows.antt` and `specs/Quoting.antt`.
+//! This layer promises: what is written of a view is the text of its units, each with its entries and their attributes, of its line tables,
+//! each with its directories, its files and its rows, and of its macro units, each with its events, byte for byte; before the first byte all
+//! debug data are read, and a view is refused exactly where they can't be, at the place, with nothing written; the text goes out in pieces of a
+//! few thousand bytes and is never held whole; a first part of it went out where the sink fails or memory is wanting.
+//! It does not promise: relocatable files, which aren't read yet.
+//! Read first: `specs/Shows.antt`, then `specs/UnitTexts.antt`, `specs/LineTexts.antt`, `specs/Rows.antt`, `specs/MacroTexts.antt` and
+//! `specs/Quoting.antt`.
 //!
 //! # Example
 //!
@@ -16,7 +17,12 @@
 //! ```
 #![tactic(auto)]
 
+mod entry_index;
+mod listed_unit;
 mod lists;
+mod macro_lines;
+mod macro_source;
+mod macro_texts;
 mod printing;
 mod quoting;
 mod reading;
@@ -25,6 +31,11 @@ mod show_err;
 mod source;
 mod table_lines;
 mod table_texts;
+mod unit_lines;
+mod unit_source;
+mod unit_texts;
+mod units;
+mod value_texts;
 mod view_text;
 
 pub use show_err::ShowErr;

@@ -6,14 +6,14 @@ ghost use Rattle.dw_find.specs.ReadData.{DataRefuses};
 ghost use Rattle.dbg_show.specs.ReadTables.{ViewTables};
 
 use dw_base::Fault;
-use dw_rows::LineTable;
+use dw_find::ReadTables;
 use dw_view::View;
 use std::alloc::Global;
 
-/// The line tables of a view, all of whose debug data are read. Refused where they can't be, at the place.
+/// The line tables and the macro units of a view, all of whose debug data are read. Refused where they can't be, at the place.
 #[tactic(auto, using(crate::proofs::ReadLaws::view_laws))]
-pub(crate) fn line_tables(alloc: Global, view: &View) -> Result<Vec<LineTable>, Fault>
-    ensures read { IfOk result (λ ts. ViewTables view.now ts.items) }
+pub(crate) fn read_tables(alloc: Global, view: &View) -> Result<ReadTables, Fault>
+    ensures read { IfOk result (λ tables. ViewTables view.now tables.lines.items tables.macros.items) }
     ensures refused { IfErr result (Blames (DataRefuses view.now)) }
 {
     match dw_find::read_data(alloc, view) {

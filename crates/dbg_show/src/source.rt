@@ -44,7 +44,7 @@ impl<'v> Model for LineSource<'v> {
 
 /// So many bytes at a place, as far as they are there.
 #[tactic(auto, using(crate::proofs::ListLaws::part_laws))]
-fn part(bytes: &[u8], at: u64, len: u64) -> &[u8]
+pub(crate) fn part(bytes: &[u8], at: u64, len: u64) -> &[u8]
     ensures bytes { result.now ≡ take len (drop at bytes.now) }
 {
     let from = at.min(bytes.len() as u64);

@@ -13,14 +13,26 @@ ghost use Rattle.dbg_show.specs.Printing.{Begun, Cut, Printed};
 ghost use Rattle.dbg_show.specs.ReadTables.{AllIn, ViewTables, all_read, lists_of, read_text};
 ghost use Rattle.dbg_show.specs.Rows.{rows_text};
 ghost use Rattle.dbg_show.specs.Shows.{IsShown, ShowEnds, ShowRefuses};
+ghost use Rattle.dbg_show.specs.ShownMacros.{MacrosFit, units_shown};
+ghost use Rattle.dbg_show.specs.ShownUnits.{all_shown};
 ghost use Rattle.dbg_show.specs.TableLists.{listed_rows};
+ghost use Rattle.dbg_show.specs.UnitReads.{SourceFits};
+ghost use Rattle.dbg_show.specs.ViewSources.{AreSources, all_printed};
 
+use crate::entry_index::EntryIndex;
 use crate::lists::TableLists;
+use crate::macro_lines::print_macros;
+use crate::macro_source::{MacroSource, macro_list};
 use crate::printing::write_all;
-use crate::reading::line_tables;
+use crate::reading::read_tables;
 use crate::show_err::ShowErr;
 use crate::source::{LineSource, line_source};
 use crate::table_lines::{print_dirs, print_files, print_row, print_start};
+use crate::unit_lines::print_units;
+use crate::unit_source::UnitSource;
+use crate::units::read_units;
+use dw_find::{MacroSection, first_places, starts_of};
+use dw_offsets::contributions;
 use dw_rows::{LineTable, Rows};
 use dw_view::View;
 use file_tree::Sink;
@@ -137,35 +149,142 @@ fn print_tables<O: Sink>(
     Ok(())
 }
 
-/// Writes the text of tables.
-#[tactic(auto, using(crate::proofs::ReadLaws::write_laws))]
-fn write_tables<O: Sink>(
-    alloc: Global,
+/// Prints tables, and macro units behind them.
+#[tactic(auto, using(crate::proofs::PrintingLaws::then_laws))]
+fn print_rest<O: Sink>(
+    text: &mut String,
+    out: &mut O,
     view: &View,
     tables: &[LineTable],
-    out: &mut O,
+    macros: &MacroSource,
 ) -> Result<(), ShowErr>
     requires tables { AllIn view.now tables.now }
-    ensures done { OnOk result (Printed (all_read view.now (line_source (debug_data view.now)) 0 tables.now) [] (O.heard out.old) (O.heard out.new) []) }
-    ensures cut { IfErr result (Cut (all_read view.now (line_source (debug_data view.now)) 0 tables.now) (O.heard out.old) (O.heard out.new)) }
+    requires macros { MacrosFit macros.now }
+    ensures done { OnOk result (Printed (all_read view.now (line_source (debug_data view.now)) 0 tables.now ++ units_shown macros.now 0 macros.now.units) (string_bytes text.old) (O.heard out.old) (O.heard out.new) (string_bytes text.new)) }
+    ensures cut { IfErr result (Cut (string_bytes text.old ++ (all_read view.now (line_source (debug_data view.now)) 0 tables.now ++ units_shown macros.now 0 macros.now.units)) (O.heard out.old) (O.heard out.new)) }
 {
-    let source = line_source(view);
+    let lines = line_source(view);
+    print_tables(text, out, view, &lines, tables)?;
+    print_macros(text, out, macros)
+}
+
+/// Prints units, tables and macro units, one behind another.
+#[tactic(auto, using(crate::proofs::PrintingLaws::then_laws))]
+fn print_view<O: Sink>(
+    text: &mut String,
+    out: &mut O,
+    view: &View,
+    units: &UnitSource,
+    tables: &[LineTable],
+    macros: &MacroSource,
+) -> Result<(), ShowErr>
+    requires fits { SourceFits units.now }
+    requires tables { AllIn view.now tables.now }
+    requires macros { MacrosFit macros.now }
+    ensures done { OnOk result (Printed (all_printed view.now units.now tables.now macros.now) (string_bytes text.old) (O.heard out.old) (O.heard out.new) (string_bytes text.new)) }
+    ensures cut { IfErr result (Cut (string_bytes text.old ++ all_printed view.now units.now tables.now macros.now) (O.heard out.old) (O.heard out.new)) }
+{
+    print_units(text, out, units)?;
+    print_rest(text, out, view, tables, macros)
+}
+
+/// Writes the text of units, of tables and of macro units.
+#[tactic(auto, using(crate::proofs::ReadLaws::write_laws))]
+fn write_view<O: Sink>(
+    alloc: Global,
+    view: &View,
+    units: &UnitSource,
+    tables: &[LineTable],
+    macros: &MacroSource,
+    out: &mut O,
+) -> Result<(), ShowErr>
+    requires fits { SourceFits units.now }
+    requires tables { AllIn view.now tables.now }
+    requires macros { MacrosFit macros.now }
+    ensures done { OnOk result (Printed (all_printed view.now units.now tables.now macros.now) [] (O.heard out.old) (O.heard out.new) []) }
+    ensures cut { IfErr result (Cut (all_printed view.now units.now tables.now macros.now) (O.heard out.old) (O.heard out.new)) }
+{
     let mut text = String::new(alloc);
-    print_tables(&mut text, out, view, &source, tables)?;
+    print_view(&mut text, out, view, units, tables, macros)?;
     write_all(&mut text, out)
 }
 
-/// Writes the text of a view: its line tables, each with its directories, its files and its rows. Before the first byte
-/// is written all debug data are read: units and their entries, string offsets, name tables and line tables. Refused where
-/// they can't be, at the place: also where an offset or an index names no text, or a value no line table; and as `Unbuilt`
-/// where an entry says where macros stand. Nothing was written then. The text goes out in pieces of a few thousand bytes and is never held whole;
-/// where the sink fails or memory is wanting, a first part of it went out.
+/// Writes the text of a view from what was read of it.
+#[tactic(auto, using(crate::proofs::ReadLaws::shown_laws))]
+fn write_shown<O: Sink>(
+    alloc: Global,
+    view: &View,
+    units: &UnitSource,
+    tables: &[LineTable],
+    macros: &MacroSource,
+    out: &mut O,
+) -> Result<(), ShowErr>
+    requires sources { AreSources view.now tables.now units.now macros.now }
+    ensures shown { OnOk result (IsShown view.now (O.heard out.old) (O.heard out.new)) }
+    ensures ends { IfErr result (ShowEnds view.now (O.heard out.old) (O.heard out.new)) }
+{
+    match write_view(alloc, view, units, tables, macros, out) {
+        Ok(()) => Ok(()),
+        Err(e) => Err(e),
+    }
+}
+
+/// Writes the text of a view whose line tables and macro units were read.
+#[tactic(auto, using(crate::proofs::ReadLaws::show_laws))]
+fn show_tables<O: Sink>(
+    alloc: Global,
+    view: &View,
+    tables: &[LineTable],
+    macros: &[MacroSection],
+    out: &mut O,
+) -> Result<(), ShowErr>
+    requires read { ViewTables view.now tables.now macros.now }
+    ensures shown { OnOk result (IsShown view.now (O.heard out.old) (O.heard out.new)) }
+    ensures ends { IfErr result (ShowEnds view.now (O.heard out.old) (O.heard out.new)) }
+{
+    let list = read_units(alloc, view)?;
+    let units = list.units.as_slice();
+    let abbrevs = list.tables.as_slice();
+    let index = EntryIndex::read(alloc, view, abbrevs, units)?;
+    let contributions = contributions(alloc, view)?;
+    let starts = starts_of(alloc, tables)?;
+    let places = first_places(alloc, macros)?;
+    let found = macro_list(alloc, view, macros)?;
+    let source = UnitSource {
+        view,
+        units,
+        tables: abbrevs,
+        index: &index,
+        contributions: &contributions,
+        starts: starts.as_slice(),
+        macros: places.as_slice(),
+    };
+    let macro_source = MacroSource {
+        view,
+        lines: starts.as_slice(),
+        units: found.units.as_slice(),
+        keys: found.keys.as_slice(),
+    };
+    write_shown(alloc, view, &source, tables, &macro_source, out)
+}
+
+/// Writes the text of a view: its units, each with its entries and their attributes; its line tables, each with its directories, its files
+/// and its rows; and its macro units, each with its events. Before the first byte is written all debug data are read: units and their
+/// entries, string offsets, name tables, line tables and macro units. Refused where they can't be, at the place: also where an offset or an
+/// index names no text, or a value no line table or no macro unit. Nothing was written then. The text goes out in pieces of a few thousand
+/// bytes and is never held whole; where the sink fails or memory is wanting, a first part of it went out.
 #[tactic(auto, using(crate::proofs::ReadLaws::show_laws))]
 pub fn show<O: Sink>(alloc: Global, view: &View, out: &mut O) -> Result<(), ShowErr>
     ensures shown { OnOk result (IsShown view.now (O.heard out.old) (O.heard out.new)) }
     ensures none { OnOk result ((r : RefusalOf) → ShowRefuses (debug_data view.now) r → ⊥) }
     ensures ends { IfErr result (ShowEnds view.now (O.heard out.old) (O.heard out.new)) }
 {
-    let tables = line_tables(alloc, view)?;
-    write_tables(alloc, view, tables.as_slice(), out)
+    let tables = read_tables(alloc, view)?;
+    show_tables(
+        alloc,
+        view,
+        tables.lines.as_slice(),
+        tables.macros.as_slice(),
+        out,
+    )
 }

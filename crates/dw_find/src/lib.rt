@@ -35,7 +35,7 @@ mod units;
 pub use fields::{InlinePath, PathField};
 pub use found::UnitPaths;
 pub use lines::starts_of;
-pub use macros::{MacroSection, macro_sections};
+pub use macros::{MacroSection, first_places, macro_sections};
 pub use paths::found_paths;
 pub use reading::{ReadTables, read_data};
 pub use starts::{start_in, start_number};

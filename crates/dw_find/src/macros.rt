@@ -66,9 +66,9 @@ fn section_units(alloc: Global, view: &View, section: u32) -> Result<MacroSectio
     Ok(MacroSection { section, units })
 }
 
-/// Where the units of the first section start.
+/// Where the units of the first section start, in bytes: the numbers that a value or an import can say (DWARF 5, 3.1.1 and 6.3.2).
 #[tactic(auto, using(crate::proofs::MacroSectionLaws::first_rules))]
-pub(crate) fn first_places(alloc: Global, macros: &[MacroSection]) -> Result<Vec<u64>, AllocError>
+pub fn first_places(alloc: Global, macros: &[MacroSection]) -> Result<Vec<u64>, AllocError>
     ensures { IfOk result (λ places. places.items ≡ first_places macros.now) }
 {
     if macros.is_empty() {

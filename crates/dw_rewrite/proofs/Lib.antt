@@ -22,4 +22,6 @@ pub mod LineMentionLaws
 pub mod LineKnownLaws
 pub mod PushLaws
 pub mod NewBodyLaws
+pub mod TableTextLaws
 pub mod MadeBodyLaws
+pub mod BodyRowLaws

@@ -24,14 +24,14 @@ use Rattle.dw_meaning.specs.DataOutput.{Body, changes_of, macro_bodies, table_ch
 use Rattle.dw_meaning.proofs.MacroPieceLaws.{CellsOf}
 use Rattle.dw_meaning.proofs.OffsetMoveLaws.{EachCells, cells-plain}
 use Rattle.dw_find.specs.MacroSections.{macro_starts, macros_read, macros_with}
-use Rattle.dw_find.specs.UnitPaths.{UnitPaths, field_by, inline_by, start_by}
+use Rattle.dw_find.specs.UnitPaths.{field_by, inline_by, start_by}
 use Rattle.dw_find.specs.declared.fields.InlinePath.{InlinePath}
 use Rattle.dw_find.specs.declared.fields.PathField.{PathField}
 use Rattle.dw_find.proofs.MacroHaveLaws.{AllCells}
 use Rattle.dw_find.proofs.MacroStartLaws.{all-cells}
 use Rattle.dw_find.proofs.PieceFieldLaws.{FieldsFrom, from-less, from-start}
 use Rattle.dw_rewrite.specs.Changes.{start_table, with_all_known}
-use Rattle.dw_rewrite.specs.NewTables.{all_texts_at, bodies_after, plan_in, section_after}
+use Rattle.dw_rewrite.specs.NewTables.{all_texts_at, bodies_after, section_after}
 use Rattle.dw_rewrite.proofs.NewBodyLaws.{data-order, starts_after}
 use Rattle.dw_rewrite.proofs.UnitWrittenLaws.{length-edited, piece_written, unit_by}
 

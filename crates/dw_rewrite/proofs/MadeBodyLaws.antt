@@ -1,149 +1,50 @@
 -- The new bodies, as the code makes them, are those of the readings of debug data; and why there are none.
-use Rattle.std.proofs.Common.{◌≡◌, ◌≢◌, ℕ, zero, suc, ◌+◌, ◌-◌, ◌^◌, ◌<◌, ◌≤◌, List, [], ◌∷◌, ◌++◌, length, take, drop, get_or, Option, Some, None, refl, sym, ap, ◌∙◌, subst, arith, append_assoc}
+use Rattle.std.proofs.Common.{◌≡◌, ℕ, zero, suc, ◌+◌, ◌-◌, ◌^◌, ◌<◌, ◌≤◌, List, [], ◌∷◌, ◌++◌, length, drop, get_or, Option, Some, None, refl, sym, ap, ◌∙◌, subst, arith}
 use Rattle.std.proofs.Math.Seq.{drop-append_seam}
 use Rattle.std.proofs.lemmas.List.{length-append}
 use Rattle.dw_base.specs.Cells.{CellSection}
-use Rattle.dw_base.specs.DebugData.{DebugData, DataReadings, around_of, line_source, path_slots, ReadsAll}
+use Rattle.dw_base.specs.DebugData.{DebugData, DataReadings, around_of, line_source}
 use Rattle.dw_base.specs.DebugSections.{name_of}
 use Rattle.dw_base.specs.FileViews.{View, section_bytes, section_named}
 use Rattle.dw_base.specs.Forms.{TextSection, in_str, in_line_str}
 use Rattle.dw_base.specs.Layout.{output_limit}
-use Rattle.dw_base.specs.LineChanges.{line_mentions, line_place}
-use Rattle.dw_base.specs.LineReadings.{LineReading, AreTables, all_lines, starts_from, table_starts}
+use Rattle.dw_base.specs.LineChanges.{line_place}
+use Rattle.dw_base.specs.LineReadings.{LineReading, all_lines, starts_from, table_starts}
 use Rattle.dw_base.specs.LineSources.{LineSource}
 use Rattle.dw_base.specs.LineTables.{LineTable}
-use Rattle.dw_base.specs.MacroReadings.{ReadsAllMacros}
-use Rattle.dw_base.specs.OffsetPieces.{ReadsOffsets}
 use Rattle.dw_base.specs.Paths.{PathMap}
 use Rattle.dw_base.specs.Pieces.{joined}
-use Rattle.dw_base.specs.Refusals.{Blames, at}
-use Rattle.dw_base.specs.SectionTexts.{file_mentions, macro_mentions, mentions_with, name_role, slot_role}
-use Rattle.dw_base.specs.StringTables.{Mention, Plan, TextTable, texts_after, table_bytes}
-use Rattle.dw_base.specs.TextChanges.{TableChange, all_mentions}
+use Rattle.dw_base.specs.StringTables.{TextTable, table_bytes}
+use Rattle.dw_base.specs.TextChanges.{TableChange}
 use Rattle.dw_base.specs.Texts.{laid_texts}
 use Rattle.dw_base.specs.ViewData.{debug_data}
 use Rattle.dw_base.specs.WrittenLines.{new_place, written_table}
 use Rattle.dw_base.specs.declared.debug_sections.DebugSection.TheVariants.{Line, StrOffsets}
-use Rattle.dw_base.specs.declared.fault.Fault.{Fault}
-use Rattle.dw_base.specs.declared.fault.Fault.TheVariants.{NoMemory, Refused}
-use Rattle.dw_base.specs.declared.fault.Kind.TheVariants.{TooLarge}
-use Rattle.dw_base.specs.declared.fault.Refusal.{Refusal}
-use Rattle.dw_base.proofs.FileViewLaws.{section_after-within}
-use Rattle.dw_lines.specs.ViewTables.{TablesFound, tables_read}
-use Rattle.dw_lines.proofs.ViewTableLaws.{source-none}
-use Rattle.dw_lines.proofs.ReadingLaws.{source-is}
-use Rattle.dw_meaning.specs.DataOutput.{Body, DataFits, PathsFit, EachWritable, cells_body, changes_of, lines_body, macro_bodies, macros_after, names_after, new_bodies, new_lines, offsets_after, table_change, unit_bodies}
+use Rattle.dw_lines.specs.ViewTables.{TablesFound}
+use Rattle.dw_meaning.specs.DataOutput.{Body, DataFits, EachWritable, cells_body, changes_of, lines_body, macro_bodies, macros_after, names_after, new_bodies, new_lines, offsets_after, table_change, unit_bodies}
 use Rattle.dw_meaning.proofs.DataKeptLaws.{readings-plain}
-use Rattle.dw_meaning.proofs.LineSectionLaws.{no-tables}
 use Rattle.dw_find.specs.FoundPaths.{PathsFound, without_lines}
 use Rattle.dw_find.specs.MacroSections.{HaveUnits, SectionUnits, UnitsFoundIn, macros_read}
-use Rattle.dw_rewrite.specs.Bodies.{BodiesMade, BodiesRefuse, long_table_of, long_lines_of, line_table_of}
-use Rattle.dw_find.specs.Fields.{OffsetTable}
-use Rattle.dw_rewrite.specs.Changes.{AllFit, Knows, start_known, texts_at}
+use Rattle.dw_rewrite.specs.Bodies.{BodiesMade}
+use Rattle.dw_rewrite.specs.Changes.{AllFit, Knows, start_known}
 use Rattle.dw_rewrite.specs.NewStarts.{StartChange, StartsFit, known_starts}
 use Rattle.dw_find.specs.ViewFields.{AllHaveFields, AllHavePaths, AllRoomsFit, fields_of, info_of, offsets_in, table_number}
-use Rattle.dw_rewrite.specs.NewTables.{IsSectionNoted, LongTable, TableMade, all_texts_at, bodies_after, bodies_known, long_table, plan_in, table_body_of}
+use Rattle.dw_rewrite.specs.NewTables.{IsSectionNoted, TableMade, bodies_after, bodies_known, plan_in, table_body_of}
 use Rattle.dw_find.specs.SlotPaths.{count_of, lines_count, read_fields, slots_by, slots_of_view, slots_read}
 use Rattle.dw_rewrite.specs.PushedBodies.{macros_count, names_body, one_body, pushed_bodies, slots_count, some_sections, without_slots, slots_among as slots_in}
 use Rattle.dw_find.specs.UnitPaths.{UnitPaths, paths_of}
-use Rattle.dw_rewrite.specs.NewLines.{AllCanWrite, LinesRefuse, LinesWritten, lines_known, table_fails}
+use Rattle.dw_rewrite.specs.NewLines.{AllCanWrite, LinesWritten, lines_known}
 use Rattle.dw_find.specs.ViewLines.{lines_by, lines_of_view, lines_with, starts_of, table_fields}
 use Rattle.dw_find.specs.declared.fields.PathField.{PathField}
 use Rattle.dw_rewrite.proofs.ChangedLaws.{known_fit}
-use Rattle.dw_rewrite.proofs.LineKnownLaws.{EachCanWrite, NotedIn, TableRefused, TablesAgree, all-can, lines-same, table-refused, tables-agree}
-use Rattle.dw_rewrite.proofs.LineMentionLaws.{lines-texts}
-use Rattle.dw_rewrite.proofs.MacroWrittenLaws.{macros-bodies, macros-number, macros-say, macros-texts}
-use Rattle.dw_find.proofs.LineTextLaws.{texts_table}
+use Rattle.dw_rewrite.proofs.LineKnownLaws.{EachCanWrite, NotedIn, TablesAgree, all-can, lines-same, tables-agree}
+use Rattle.dw_rewrite.proofs.MacroWrittenLaws.{macros-bodies, macros-number}
 use Rattle.dw_find.proofs.TableStartLaws.{read-starts}
-use Rattle.dw_rewrite.proofs.NewBodyLaws.{all_texts-append, known-bodies, made-noted, names-body, readings-bodies, readings-texts, same-plan, sections-plain, slots-body, slots-texts, starts_after, texts_after-append}
+use Rattle.dw_rewrite.proofs.NewBodyLaws.{known-bodies, made-noted, names-body, readings-bodies, sections-plain, slots-body, starts_after}
 use Rattle.dw_find.proofs.PlaceValueLaws.{EachOf}
-use Rattle.dw_rewrite.proofs.SlotWrittenLaws.{names-texts}
 use Rattle.dw_find.proofs.StartLaws.{starts-rise}
 use Rattle.dw_find.proofs.FoundUnitLaws.{bytes-some, front-is, lines-number, without-is}
-
-lines-none : (v : View) (rs : List LineReading) → None ≡ section_named v (name_of Line) → AreTables (line_source (debug_data v)) rs → rs ≡ []
-lines-none v rs e are = no-tables (line_source (debug_data v)) rs (source-none v e) are
-
-same-texts : (v : View) (table : TextSection) → texts_table (line_source (debug_data v)) table ≡ offsets_in v table
-same-texts v in_str = refl
-same-texts v in_line_str = refl
-
-same-lines : (g : LineSource) (table : TextSection) (ts : List LineTable) → table_fields g.number g.str.number table ts ≡ fields_of table (lines_with g ts)
-same-lines g in_str ts = refl
-same-lines g in_line_str ts = refl
-
--- their texts
-lines-texts-by : (m : PathMap) (v : View) (table : TextSection) (ts : List (List ℕ)) (rs : List LineReading) (o : Option ℕ) → o ≡ section_named v (name_of Line)
-    → AreTables (line_source (debug_data v)) rs
-    → texts_after (plan_in m v table) m ts (line_mentions (line_source (debug_data v)) table rs)
-    ≡ all_texts_at m v table ts (lines_by o (line_source (debug_data v)) (tables_read (line_source (debug_data v)) rs))
-lines-texts-by m v table ts rs None e are =
-    ap (λ (xs : List LineReading). texts_after (plan_in m v table) m ts (line_mentions (line_source (debug_data v)) table xs)) (lines-none v rs e are)
-lines-texts-by m v table ts rs (Some i) e are =
-    let us : List LineTable = tables_read (line_source (debug_data v)) rs in
-    lines-texts (line_source (debug_data v)) table (plan_in m v table) m ts 0 (length (line_source (debug_data v)).bytes) rs are
-    ∙ ap (λ (t : OffsetTable). texts_at (plan_in m v table) m t (line_source (debug_data v)).bytes ts
-    (table_fields (line_source (debug_data v)).number (line_source (debug_data v)).str.number table (tables_read (line_source (debug_data v)) rs))) (same-texts v table)
-    ∙ ap (λ (bs : List ℕ). texts_at (plan_in m v table) m (offsets_in v table) bs ts
-    (table_fields (line_source (debug_data v)).number (line_source (debug_data v)).str.number table (tables_read (line_source (debug_data v)) rs))) (bytes-some v i e)
-    ∙ ap (texts_at (plan_in m v table) m (offsets_in v table) (section_bytes v (line_source (debug_data v)).number) ts)
-    (same-lines (line_source (debug_data v)) table (tables_read (line_source (debug_data v)) rs))
-
--- those of all sections, of which macro units say none
-parts-texts : (m : PathMap) (v : View) (table : TextSection) (rs : DataReadings) (ls : List UnitPaths)
-    → all_texts_at m v table [] (((paths_of rs.units ++ slots_read v rs) ++ macros_read rs.macros) ++ ls)
-    ≡ all_texts_at m v table (all_texts_at m v table (all_texts_at m v table [] (paths_of rs.units)) (slots_read v rs)) ls
-parts-texts m v table rs ls =
-    let front : List UnitPaths = paths_of rs.units ++ slots_read v rs in
-    all_texts-append m v table [] (front ++ macros_read rs.macros) ls
-    ∙ ap (λ (xs : List (List ℕ)). all_texts_at m v table xs ls)
-    (all_texts-append m v table [] front (macros_read rs.macros) ∙ macros-say m v table (all_texts_at m v table [] front) rs.macros
-    ∙ all_texts-append m v table [] (paths_of rs.units) (slots_read v rs))
-
--- what becomes of a table is told by the fields of all sections
-table-texts : (m : PathMap) (v : View) (rs : DataReadings) (ts : List LineTable) (table : TextSection) → ReadsAll (debug_data v).base 0 (debug_data v).units rs.units
-    → ReadsOffsets (debug_data v).base.order (debug_data v).offsets.contents rs.offsets → AreTables (line_source (debug_data v)) rs.lines
-    → ts ≡ tables_read (line_source (debug_data v)) rs.lines
-    → (table_change m table (around_of (debug_data v) rs) rs).texts
-    ≡ all_texts_at m v table [] (((paths_of rs.units ++ slots_read v rs) ++ macros_read rs.macros) ++ lines_of_view v ts)
-unfolding table_change
-table-texts m v rs ts table reads offsets lines is =
-    let us : List Mention = all_mentions table (around_of (debug_data v) rs) rs.units in
-    let ss : List Mention = mentions_with (slot_role (path_slots (around_of (debug_data v) rs))) table (around_of (debug_data v) rs) rs.offsets in
-    let ls : List Mention = line_mentions (line_source (debug_data v)) table rs.lines in
-    let ms : List Mention = macro_mentions table (around_of (debug_data v) rs) rs.macros in
-    let ns : List Mention = mentions_with name_role table (around_of (debug_data v) rs) rs.names in
-    let units : List (List ℕ) = all_texts_at m v table [] (paths_of rs.units) in
-    let slots : List (List ℕ) = all_texts_at m v table (all_texts_at m v table [] (paths_of rs.units)) (slots_read v rs) in
-    let lined : List (List ℕ) = all_texts_at m v table slots (lines_of_view v (tables_read (line_source (debug_data v)) rs.lines)) in
-    ap (λ (p : Plan). texts_after p m [] (file_mentions table (around_of (debug_data v) rs) rs)) (sym (same-plan m (debug_data v) rs table))
-    ∙ texts_after-append (plan_in m v table) m [] us (ss ++ (ls ++ (ms ++ ns)))
-    ∙ ap (λ (xs : List (List ℕ)). texts_after (plan_in m v table) m xs (ss ++ (ls ++ (ms ++ ns))))
-    (readings-texts m v rs table [] [] (debug_data v).units 0 rs.units refl reads
-    (readings-plain (debug_data v).base 0 (debug_data v).units rs.units reads (sections-plain v [] (debug_data v).units refl)))
-    ∙ texts_after-append (plan_in m v table) m units ss (ls ++ (ms ++ ns))
-    ∙ ap (λ (xs : List (List ℕ)). texts_after (plan_in m v table) m xs (ls ++ (ms ++ ns))) (slots-texts m v rs table units offsets)
-    ∙ texts_after-append (plan_in m v table) m slots ls (ms ++ ns)
-    ∙ ap (λ (xs : List (List ℕ)). texts_after (plan_in m v table) m xs (ms ++ ns)) (lines-texts-by m v table slots rs.lines (section_named v (name_of Line)) refl lines)
-    ∙ texts_after-append (plan_in m v table) m lined ms ns
-    ∙ ap (λ (xs : List (List ℕ)). texts_after (plan_in m v table) m xs ns)
-    (macros-texts table (plan_in m v table) m (around_of (debug_data v) rs) lined rs.macros (same-plan m (debug_data v) rs table))
-    ∙ names-texts table (plan_in m v table) m (around_of (debug_data v) rs) lined rs.names (same-plan m (debug_data v) rs table)
-    ∙ sym (parts-texts m v table rs (lines_of_view v (tables_read (line_source (debug_data v)) rs.lines)))
-    ∙ ap (λ (ts_ : List LineTable). all_texts_at m v table [] (((paths_of rs.units ++ slots_read v rs) ++ macros_read rs.macros) ++ lines_of_view v ts_)) (sym is)
-
--- the table after the paths of all sections
-made-table : (m : PathMap) (v : View) (table : TextSection) (us : List UnitPaths) (ts : List LineTable) (pool : TextTable) (known : ℕ → Option ℕ) (f : PathsFound m v us ts)
-    → TableMade m v table us pool known → pool.texts ≡ (table_change m table (around_of (debug_data v) f.readings) f.readings).texts
-made-table m v table us ts pool known f t =
-    t.texts ∙ ap (all_texts_at m v table []) f.is ∙ sym (table-texts m v f.readings ts table f.reads.units f.reads.offsets f.reads.lines f.tables)
-
-table-bytes : (m : PathMap) (v : View) (table : TextSection) (us : List UnitPaths) (ts : List LineTable) (pool : TextTable) (known : ℕ → Option ℕ) (f : PathsFound m v us ts)
-    → TableMade m v table us pool known
-    → table_bytes pool ≡ (offsets_in v table).bytes ++ laid_texts (table_change m table (around_of (debug_data v) f.readings) f.readings).texts
-table-bytes m v table us ts pool known f t =
-    ap (λ (k : List ℕ). k ++ laid_texts pool.texts) t.grown.kept
-    ∙ ap (λ (xs : List (List ℕ)). (offsets_in v table).bytes ++ laid_texts xs) (made-table m v table us ts pool known f t)
+use Rattle.dw_rewrite.proofs.TableTextLaws.{lines-none, made-table, same-lines, table-bytes}
 
 back-is : {X : Type 0} (xs ys : List X) (n : ℕ) → length ys ≡ n → drop (length (xs ++ ys) - n) (xs ++ ys) ≡ ys
 back-is xs ys n e =
@@ -194,7 +95,7 @@ known-parts m v us part ts ps pl ks kl kt f s l ns nl =
     ∙ ap (λ (x : List (List ℕ)). bodies_after m v (table_change m in_str (around_of (debug_data v) f.readings) f.readings).texts x kt part) (made-table m v in_line_str us ts pl kl f l)
 
 -- the places of paths of line tables are known
-abbrev change_of_table : PathMap → View → DataReadings → TextSection → TableChange
+abbrev pub change_of_table : PathMap → View → DataReadings → TextSection → TableChange
 change_of_table m v rs table = table_change m table (around_of (debug_data v) rs) rs
 
 each-from : {X : Type 0} (P : X → Type 0) (xs : List X) → ((k : ℕ) (d : X) → k < length xs → P (get_or xs k d)) → EachOf P xs
@@ -253,7 +154,7 @@ noted-parts m v table us ts pool known f t =
     let first = each-parts (λ u. IsSectionNoted m v table u known) (paths_of f.readings.units) (slots_read v f.readings) front.0 in
     record { units = first.0; slots = first.1; macros = front.1; lines = all.1 }
 
-lines-agree : (m : PathMap) (v : View) (us : List UnitPaths) (ts : List LineTable) (ps pl : TextTable) (ks kl : ℕ → Option ℕ) (f : PathsFound m v us ts) → TableMade m v in_str us ps ks
+pub lines-agree : (m : PathMap) (v : View) (us : List UnitPaths) (ts : List LineTable) (ps pl : TextTable) (ks kl : ℕ → Option ℕ) (f : PathsFound m v us ts) → TableMade m v in_str us ps ks
     → TableMade m v in_line_str us pl kl
     → TablesAgree (line_source (debug_data v)) (new_place (line_source (debug_data v)) ks kl)
     (line_place m (change_of_table m v f.readings in_str) (change_of_table m v f.readings in_line_str) (line_source (debug_data v))) f.readings.lines
@@ -261,7 +162,7 @@ lines-agree m v us ts ps pl ks kl f s l =
     lines-agree-by m v us ts ps pl ks kl f s l (section_named v (name_of Line)) refl (noted-parts m v in_str us ts ps ks f s).lines (noted-parts m v in_line_str us ts pl kl f l).lines
 
 -- so the new line tables are these
-known-lines : (m : PathMap) (v : View) (us : List UnitPaths) (ts : List LineTable) (ps pl : TextTable) (ks kl : ℕ → Option ℕ) (f : PathsFound m v us ts) → TableMade m v in_str us ps ks
+pub known-lines : (m : PathMap) (v : View) (us : List UnitPaths) (ts : List LineTable) (ps pl : TextTable) (ks kl : ℕ → Option ℕ) (f : PathsFound m v us ts) → TableMade m v in_str us ps ks
     → TableMade m v in_line_str us pl kl → lines_known m (line_source (debug_data v)) ks kl ts ≡ new_lines m (around_of (debug_data v) f.readings) f.readings
 known-lines m v us ts ps pl ks kl f s l =
     ap (lines_known m (line_source (debug_data v)) ks kl) f.tables
@@ -406,69 +307,8 @@ made-fit m v table us pool known t =
     known_fit (plan_in m v table) m (offsets_in v table) pool.texts known
     (subst (λ (k : List ℕ). length (k ++ laid_texts pool.texts) ≤ output_limit) t.grown.kept t.grown.small) t.grown.knows
 
--- a table that would be too long is a row
-paths-fit : (m : PathMap) (v : View) (us : List UnitPaths) (ts : List LineTable) (f : PathsFound m v us ts) → PathsFit m (debug_data v) f.readings
-paths-fit m v us ts f = record { inline = f.inline; slots = f.slots }
-
-long-row : (m : PathMap) (v : View) (table : TextSection) (us : List UnitPaths) (ts : List LineTable) (r : Refusal) → PathsFound m v us ts → LongTable m v table us r
-    → BodiesRefuse m (debug_data v) r
-unfolding table_change
-long-row m v in_str us ts r f (long_table there over) =
-    let texts_are : (table_change m in_str (around_of (debug_data v) f.readings) f.readings).texts ≡ all_texts_at m v in_str [] us =
-    table-texts m v f.readings ts in_str f.reads.units f.reads.offsets f.reads.lines f.tables ∙ ap (all_texts_at m v in_str []) (sym f.is) in
-    long_table_of in_str f.readings f.reads (paths-fit m v us ts f) there
-    (subst (λ (xs : List (List ℕ)). output_limit < length ((debug_data v).str.bytes ++ laid_texts xs)) (sym texts_are) over)
-long-row m v in_line_str us ts r f (long_table there over) =
-    let texts_are : (table_change m in_line_str (around_of (debug_data v) f.readings) f.readings).texts ≡ all_texts_at m v in_line_str [] us =
-    table-texts m v f.readings ts in_line_str f.reads.units f.reads.offsets f.reads.lines f.tables ∙ ap (all_texts_at m v in_line_str []) (sym f.is) in
-    long_table_of in_line_str f.readings f.reads (paths-fit m v us ts f) there
-    (subst (λ (xs : List (List ℕ)). output_limit < length ((debug_data v).line_str.bytes ++ laid_texts xs)) (sym texts_are) over)
-
-pub long-fault : (m : PathMap) (v : View) (table : TextSection) (us : List UnitPaths) (ts : List LineTable) (f : Fault) → PathsFound m v us ts → Blames (LongTable m v table us) f
-    → Blames (BodiesRefuse m (debug_data v)) f
-long-fault m v table us ts NoMemory found b = tt
-long-fault m v table us ts (Refused r) found b = long-row m v table us ts r found b
-
 pub all-fields : (m : PathMap) (v : View) (us : List UnitPaths) (ts : List LineTable) → PathsFound m v us ts → AllHaveFields v us
 all-fields m v us ts f = f.fields
-
--- so is a line table that can't be written,
-lines-row : (m : PathMap) (v : View) (us : List UnitPaths) (ts : List LineTable) (ps pl : TextTable) (ks kl : ℕ → Option ℕ) (r : Refusal) → (f : PathsFound m v us ts)
-    → TableMade m v in_str us ps ks → TableMade m v in_line_str us pl kl → LinesRefuse m (line_source (debug_data v)) ks kl ts r → BodiesRefuse m (debug_data v) r
-lines-row m v us ts ps pl ks kl r f s l (table_fails before behind t split fails) =
-    let x : TableRefused (line_source (debug_data v)) m (change_of_table m v f.readings in_str) (change_of_table m v f.readings in_line_str) f.readings.lines r =
-    table-refused (line_source (debug_data v)) m (change_of_table m v f.readings in_str) (change_of_table m v f.readings in_line_str) ks kl f.readings.lines before behind t r
-    (lines-agree m v us ts ps pl ks kl f s l) (sym f.tables ∙ split) fails in
-    line_table_of f.readings x.before x.behind x.table f.reads x.split x.fails
-
-pub lines-fault : (m : PathMap) (v : View) (us : List UnitPaths) (ts : List LineTable) (ps pl : TextTable) (ks kl : ℕ → Option ℕ) (f : Fault) → PathsFound m v us ts
-    → TableMade m v in_str us ps ks → TableMade m v in_line_str us pl kl → Blames (LinesRefuse m (line_source (debug_data v)) ks kl ts) f → Blames (BodiesRefuse m (debug_data v)) f
-lines-fault m v us ts ps pl ks kl NoMemory found s l b = tt
-lines-fault m v us ts ps pl ks kl (Refused r) found s l b = lines-row m v us ts ps pl ks kl r found s l b
-
--- and line tables that would be too long
-some-number : (m : PathMap) (v : View) (ks kl : ℕ → Option ℕ) (us : List UnitPaths) (ts : List LineTable) (bs : List ℕ) → PathsFound m v us ts → bs ≡ all_lines (lines_known m (line_source (debug_data v)) ks kl ts)
-    → 0 < length bs → (debug_data v).lines.number ≢ 0
-unfolding section_named
-some-number m v ks kl us ts bs f is some zero_ = by (section_named v (name_of Line)) refl
-  where
-    by : (o : Option ℕ) → o ≡ section_named v (name_of Line) → ⊥
-    by None e =
-        let none : ts ≡ [] = f.tables ∙ ap (tables_read (line_source (debug_data v))) (lines-none v f.readings.lines e f.reads.lines) in
-        let empty : length bs ≡ 0 = ap (λ (x : List ℕ). length x) (is ∙ ap (λ (us_ : List LineTable). all_lines (lines_known m (line_source (debug_data v)) ks kl us_)) none) in
-        omega (arith, empty, some)
-    by (Some i) e =
-        let above = (section_after-within v (name_of Line) 0 i (sym e)).0 in
-        let number : i ≡ (line_source (debug_data v)).number = ap (λ (g : LineSource). g.number) (sym (source-is v i e)) in
-        omega (arith, above, number, zero_)
-
-pub long-lines : (m : PathMap) (v : View) (us : List UnitPaths) (ts : List LineTable) (ps pl : TextTable) (ks kl : ℕ → Option ℕ) (bs ns : List ℕ) (r : Refusal) → PathsFound m v us ts
-    → TableMade m v in_str us ps ks → TableMade m v in_line_str us pl kl → LinesWritten m (line_source (debug_data v)) ks kl ts bs ns → output_limit < length bs
-    → r ≡ at TooLarge (debug_data v).lines.number 0 → BodiesRefuse m (debug_data v) r
-long-lines m v us ts ps pl ks kl bs ns r f s l w over is =
-    subst (BodiesRefuse m (debug_data v)) (sym is)
-    (long_lines_of f.readings f.reads (paths-fit m v us ts f) (some-number m v ks kl us ts bs f w.bytes (omega (arith, over)))
-    (subst (λ (x : List ℕ). output_limit < length x) (w.bytes ∙ ap all_lines (known-lines m v us ts ps pl ks kl f s l)) over))
 
 -- the new starts fit
 start-within : (n k : ℕ) (ts : List (List ℕ)) → k < length (starts_from n ts) → get_or (starts_from n ts) k 0 ≤ n + length (all_lines ts)
@@ -501,9 +341,6 @@ pub slices-fit : (m : PathMap) (v : View) (us : List UnitPaths) (ts : List LineT
     → StartsFit (record { old = first; new = second })
 slices-fit m v us ts ks kl bs ns old first second f w is a b small =
     subst (λ (xs : List ℕ). StartsFit (record { old = first; new = xs })) (sym b) (starts-fit m v us ts ks kl bs ns first f w (a ∙ is) small)
-
-pub memory-fault : (m : PathMap) (d : DebugData) (f : Fault) → f ≡ NoMemory → Blames (BodiesRefuse m d) f
-memory-fault m d f e = subst (Blames (BodiesRefuse m d)) (sym e) tt
 
 pub table-body : (v : View) (table : TextSection) (pool : TextTable) (n : ℕ) (bytes : List ℕ) → n ≡ table_number (debug_data v) table → bytes ≡ table_bytes pool
     → record { number = n; bytes = bytes } ≡ table_body_of v table pool

@@ -257,7 +257,7 @@ pub(crate) const LINE_CASES: [Case; 13] = [
         result: Err((Kind::Stray, 1, 12)),
     },
     Case {
-        shows: "a start of another form behind its form",
+        shows: "a start of another form, at the form that stands in front of it",
         shape: EXEC,
         sections: &[
             (INFO, 0, &[b"\x0a\0\0\0\x04\0\0\0\0\0\x08\x01", b"\x0f\0"]),
@@ -265,7 +265,7 @@ pub(crate) const LINE_CASES: [Case; 13] = [
             TWO_LINES,
         ],
         maps: MAPS,
-        result: Err((Kind::Stray, 1, 13)),
+        result: Err((Kind::Stray, 1, 12)),
     },
     Case {
         shows: "a table that can't be read, behind one that can",

@@ -3,7 +3,8 @@ use Rattle.std.proofs.Common.{ℕ, List, ap, ◌∙◌, ◌<◌, ◌≤◌, leng
 use Rattle.std.proofs.lemmas.Result.{err_from_is_err_and}
 use Rattle.dw_base.specs.Forms.{in_str, in_line_str}
 use Rattle.dw_base.specs.Layout.{output_limit}
-use Rattle.dw_rewrite.proofs.MadeBodyLaws.{lines-among, lines-fault, long-fault, long-lines, made, made-fit, slices-fit, some-among, table-body, two-pushed}
+use Rattle.dw_rewrite.proofs.BodyRowLaws.{lines-fault, long-fault, long-lines}
+use Rattle.dw_rewrite.proofs.MadeBodyLaws.{lines-among, made, made-fit, slices-fit, some-among, table-body, two-pushed}
 use Rattle.dw_rewrite.proofs.bodies.new_bodies.Goals as goal
 
 pub returns-in_err-pool-clause-refused : goal.returns-in_err-pool-clause-refused

@@ -1,0 +1,494 @@
+-- What a value says by its place is what its cells mean.
+use Rattle.std.proofs.Common.{ℤ, Bool, true, false, ◌≡◌, ℕ, suc, ◌+◌, ◌==◌, ◌≤◌, List, [], ◌∷◌, ◌++◌, length, take, drop, cond, nat_le, Option, Some, None, refl, sym, ap, ◌∙◌, subst, arith}
+use Rattle.std.specs.Prelude.{◌&&◌, ◌||◌, pos, negsuc}
+use Rattle.std.proofs.lemmas.Bool.{and_parts, leb-true}
+use Rattle.std.proofs.lemmas.List.{length-drop, take-append-drop, drop-drop, drop-take, take-take}
+use Rattle.dw_base.specs.Cells.{Cell, bytes_of, field_of, offset_of}
+use Rattle.dw_base.specs.DebugData.{Around, start_number, started_unit, table_of, unit_named}
+use Rattle.dw_base.specs.Forms.{TextSection, in_str, in_line_str, ValueKind, number_of, leb_number, FormRow, form_rows, kind_by, kind_in}
+use Rattle.dw_base.specs.Lebs.{uleb_at, sleb, sleb_within, sleb_at, fits_i64}
+use Rattle.dw_base.specs.Numbers.{number_at, spelled}
+use Rattle.dw_base.specs.Roles.{Use, is_path_use}
+use Rattle.dw_base.specs.TextIndexes.{slot_of}
+use Rattle.dw_base.specs.Texts.{text, has_nul, text_in, ends_in}
+use Rattle.dw_base.specs.UnitStates.{UnitState, code_value}
+use Rattle.dw_base.specs.ValueMeanings.{found_entry, first_of, indexed, number_meaning, leb_meaning, table_named, line_meaning, local_entry, global_entry, macro_meaning, unit_meant, address_of, read_size, read_signed}
+use Rattle.dw_base.specs.Values.{number_value, leb_value_at, signed_value_at, signed_bits, block_value, counted_value, counted_leb_value, text_value, offset_class}
+use Rattle.dw_base.specs.ViewData.{located}
+use Rattle.dw_base.specs.declared.debug_sections.DebugSection.TheVariants.{Str, LineStr}
+use Rattle.dw_base.specs.declared.shared.Order.{Order}
+use Rattle.dw_base.specs.declared.shared.Params.{Params}
+use Rattle.dw_base.specs.declared.values.Value.{Value}
+use Rattle.dw_base.specs.declared.values.ValueClass.{ValueClass}
+use Rattle.dw_base.specs.declared.values.ValueClass.TheVariants.{Address, Number, Signed, Bytes, Flag, InlineText, StrOffset, LineStrOffset, StrIndex, AddrIndex, ListIndex, LocalRef, GlobalRef, Signature, SecOffset}
+use Rattle.dw_base.specs.declared.view_fields.Field.{Field}
+use Rattle.dw_base.specs.declared.view_fields.Field.TheVariants.{Num}
+use Rattle.dw_base.proofs.LebLaws.{uleb_at-append}
+use Rattle.dw_base.proofs.NumberBytes.{signed-cut, number-cut}
+use Rattle.dw_base.proofs.PlainCellLaws.{IsPlain, plain-parts, first-plain, offset_of-plain}
+use Rattle.dw_meaning.proofs.ScanPieceLaws.{part-bytes, before-end, part-length, unit_bytes, NumberPiece, number-piece, bytes_of-drop}
+use Rattle.dw_find.proofs.InlineTextLaws.{text-front}
+use Rattle.dw_find.proofs.ValueRunLaws.{number-at_place}
+use Rattle.dbg_show.specs.ShownUnits.{ShownUnit, class_shown, entry_shown, index_shown, info_section, signed_of, table_said, unit_said, value_bytes}
+use Rattle.dbg_show.specs.UnitTexts.{bytes_said, class_said, field_said, signed_said, text_said, value_said}
+
+-- what stands around the units of a file, by which their values mean what they say, and a unit that is printed
+pub record IsAround (around : Around) (u : ShownUnit) : Type 0 where
+  pub order_is : u.header.params.order ≡ around.lasting.base.order
+  pub str_is : around.str.bytes ≡ (located u.source.view Str).bytes
+  pub line_str_is : around.line_str.bytes ≡ (located u.source.view LineStr).bytes
+  pub starts_are : around.starts ≡ u.source.starts
+  pub macros_are : (n : ℕ) → started_unit 0 around.lasting.macros.starts around.lasting.macros.first n ≡ start_number 0 u.source.macros n
+  pub info_is : first_of around.lasting.infos ≡ info_section u.source.view
+  pub entries_are : (section place offset : ℕ) → value_said (found_entry around.lasting.entries section place offset) ≡ entry_shown u.source section place offset
+  pub slots_are : (path : Bool) (index : ℕ) (p : List Cell) → value_said (indexed around.slots path (slot_of around.lasting.indexing u.number index) p)
+      ≡ index_shown u.source.view u.source.contributions u.base index (bytes_of p)
+
+-- a state in that unit
+pub record IsIn (cells : List Cell) (s : UnitState) (u : ShownUnit) : Type 0 where
+  pub section_is : s.section ≡ u.header.section
+  pub unit_is : s.unit ≡ u.number
+  pub header_is : s.header ≡ u.header
+  pub bytes_are : unit_bytes s cells ≡ u.bytes
+  pub plain : IsPlain cells
+
+-- cells of a part of plain cells
+plain-part : (n a : ℕ) (cells : List Cell) → IsPlain cells → IsPlain (take n (drop a cells))
+plain-part n a cells h =
+    let behind : IsPlain (drop a cells) = (plain-parts (take a cells) (drop a cells) (subst IsPlain (sym (take-append-drop a cells)) h)).1 in
+    (plain-parts (take n (drop a cells)) (drop n (drop a cells)) (subst IsPlain (sym (take-append-drop n (drop a cells))) behind)).0
+
+field-plain : (order : Order) (p : List Cell) → IsPlain p → field_of order p ≡ Num (spelled order (bytes_of p) 0 (length p))
+unfolding field_of
+field-plain order p h = rw (first-plain p h) refl
+
+address-plain : (order : Order) (p : List Cell) → IsPlain p → address_of order p ≡ Num (spelled order (bytes_of p) 0 (length p))
+unfolding address_of
+address-plain order p h = rw (first-plain p h) refl
+
+-- the classes of numbers, and of those in LEB128, that forms have
+abbrev pub is_number_class : ValueClass → Bool
+is_number_class Signed = false
+is_number_class Bytes = false
+is_number_class InlineText = false
+is_number_class StrOffset = false
+is_number_class LineStrOffset = false
+is_number_class class = true
+
+abbrev pub is_leb_class : ValueClass → Bool
+is_leb_class GlobalRef = false
+is_leb_class SecOffset = false
+is_leb_class class = is_number_class class
+
+abbrev pub is_own_kind : ValueKind → Bool
+is_own_kind (number_of class n) = is_number_class class
+is_own_kind (leb_number class) = is_leb_class class
+is_own_kind k = true
+
+abbrev row_own : FormRow → Bool
+row_own r = is_own_kind r.kind
+
+abbrev all_rows : (FormRow → Bool) → List FormRow → Bool
+all_rows P [] = true
+all_rows P (r ∷ rs) = P r && all_rows P rs
+
+rows_own : (params : Params) → all_rows row_own (form_rows params) ≡ true
+unfolding form_rows
+rows_own params = refl
+
+rows-own : (rows : List FormRow) (form : ℕ) → all_rows row_own rows ≡ true → is_own_kind (kind_by rows form) ≡ true
+rows-own [] form all = refl
+rows-own (r ∷ rs) form all =
+    let parts = and_parts (row_own r) (all_rows row_own rs) all in
+    by_form (r.form == form) parts.0 (rows-own rs form parts.1)
+  where
+    by_form : (b : Bool) → row_own r ≡ true → is_own_kind (kind_by rs form) ≡ true → is_own_kind (cond b r.kind (kind_by rs form)) ≡ true
+    by_form true one rest = one
+    by_form false one rest = rest
+
+pub kind-own : (params : Params) (form : ℕ) → is_own_kind (kind_in params form) ≡ true
+unfolding kind_in
+kind-own params form = rows-own (form_rows params) form (rows_own params)
+
+-- what a number of a class says
+number-class : (around : Around) (u : ShownUnit) (cells : List Cell) (s : UnitState) (says : Use) (class : ValueClass) (p : List Cell) (v : Value) → IsAround around u → IsIn cells s u
+    → IsPlain p → is_number_class class ≡ true → spelled around.lasting.base.order (bytes_of p) 0 (length p) ≡ v.number → bytes_of p ≡ value_bytes u v
+    → value_said (number_meaning around s says class p) ≡ class_shown u class v
+unfolding class_shown
+number-class around u cells s says StrIndex p v a i plain ok number bytes =
+    ap (λ (k : ℕ). value_said (indexed around.slots (is_path_use says) (slot_of around.lasting.indexing s.unit k) p)) number
+    ∙ ap (λ (k : ℕ). value_said (indexed around.slots (is_path_use says) (slot_of around.lasting.indexing k v.number) p)) i.unit_is
+    ∙ a.slots_are (is_path_use says) v.number p
+    ∙ ap (index_shown u.source.view u.source.contributions u.base v.number) bytes
+number-class around u cells s says Address p v a i plain ok number bytes =
+    ap (field_said Address) (address-plain around.lasting.base.order p plain) ∙ ap (class_said Address) number
+number-class around u cells s says LocalRef p v a i plain ok number bytes =
+    ap (λ (f : Field). value_said (local_entry around.lasting s f)) (field-plain around.lasting.base.order p plain)
+    ∙ ap (λ (n : ℕ). value_said (found_entry around.lasting.entries s.section (s.header.start + n) n)) number
+    ∙ ap (λ (k : ℕ). value_said (found_entry around.lasting.entries k (s.header.start + v.number) v.number)) i.section_is
+    ∙ ap (λ (k : ℕ). value_said (found_entry around.lasting.entries u.header.section (k + v.number) v.number)) (ap (λ h. h.start) i.header_is)
+    ∙ a.entries_are u.header.section (u.header.start + v.number) v.number
+number-class around u cells s says GlobalRef p v a i plain ok number bytes =
+    ap (λ (f : Field). value_said (global_entry around.lasting f)) (field-plain around.lasting.base.order p plain)
+    ∙ ap (λ (n : ℕ). value_said (found_entry around.lasting.entries (first_of around.lasting.infos) n n)) number
+    ∙ ap (λ (k : ℕ). value_said (found_entry around.lasting.entries k v.number v.number)) a.info_is
+    ∙ a.entries_are (info_section u.source.view) v.number v.number
+number-class around u cells s says Number p v a i plain ok number bytes = ap (field_said Number) (field-plain around.lasting.base.order p plain) ∙ ap (class_said Number) number
+number-class around u cells s says Flag p v a i plain ok number bytes = ap (field_said Flag) (field-plain around.lasting.base.order p plain) ∙ ap (class_said Flag) number
+number-class around u cells s says AddrIndex p v a i plain ok number bytes = ap (field_said AddrIndex) (field-plain around.lasting.base.order p plain) ∙ ap (class_said AddrIndex) number
+number-class around u cells s says ListIndex p v a i plain ok number bytes = ap (field_said ListIndex) (field-plain around.lasting.base.order p plain) ∙ ap (class_said ListIndex) number
+number-class around u cells s says Signature p v a i plain ok number bytes = ap (field_said Signature) (field-plain around.lasting.base.order p plain) ∙ ap (class_said Signature) number
+number-class around u cells s says SecOffset p v a i plain ok number bytes = ap (field_said SecOffset) (field-plain around.lasting.base.order p plain) ∙ ap (class_said SecOffset) number
+number-class around u cells s says Signed p v a i plain ok number bytes = absurd cc
+number-class around u cells s says Bytes p v a i plain ok number bytes = absurd cc
+number-class around u cells s says InlineText p v a i plain ok number bytes = absurd cc
+number-class around u cells s says StrOffset p v a i plain ok number bytes = absurd cc
+number-class around u cells s says LineStrOffset p v a i plain ok number bytes = absurd cc
+
+-- and of one in LEB128
+leb-class : (around : Around) (u : ShownUnit) (cells : List Cell) (s : UnitState) (says : Use) (class : ValueClass) (p : List Cell) (v : Value) → IsAround around u → IsIn cells s u
+    → is_leb_class class ≡ true → code_value p ≡ v.number → bytes_of p ≡ value_bytes u v → value_said (leb_meaning around s says class p) ≡ class_shown u class v
+unfolding class_shown
+leb-class around u cells s says StrIndex p v a i ok number bytes =
+    ap (λ (k : ℕ). value_said (indexed around.slots (is_path_use says) (slot_of around.lasting.indexing s.unit k) p)) number
+    ∙ ap (λ (k : ℕ). value_said (indexed around.slots (is_path_use says) (slot_of around.lasting.indexing k v.number) p)) i.unit_is
+    ∙ a.slots_are (is_path_use says) v.number p
+    ∙ ap (index_shown u.source.view u.source.contributions u.base v.number) bytes
+leb-class around u cells s says LocalRef p v a i ok number bytes =
+    ap (λ (n : ℕ). value_said (found_entry around.lasting.entries s.section (s.header.start + n) n)) number
+    ∙ ap (λ (k : ℕ). value_said (found_entry around.lasting.entries k (s.header.start + v.number) v.number)) i.section_is
+    ∙ ap (λ (k : ℕ). value_said (found_entry around.lasting.entries u.header.section (k + v.number) v.number)) (ap (λ h. h.start) i.header_is)
+    ∙ a.entries_are u.header.section (u.header.start + v.number) v.number
+leb-class around u cells s says Address p v a i ok number bytes = ap (class_said Address) number
+leb-class around u cells s says Number p v a i ok number bytes = ap (class_said Number) number
+leb-class around u cells s says Flag p v a i ok number bytes = ap (class_said Flag) number
+leb-class around u cells s says AddrIndex p v a i ok number bytes = ap (class_said AddrIndex) number
+leb-class around u cells s says ListIndex p v a i ok number bytes = ap (class_said ListIndex) number
+leb-class around u cells s says Signature p v a i ok number bytes = ap (class_said Signature) number
+leb-class around u cells s says SecOffset p v a i ok number bytes = absurd cc
+leb-class around u cells s says GlobalRef p v a i ok number bytes = absurd cc
+leb-class around u cells s says Signed p v a i ok number bytes = absurd cc
+leb-class around u cells s says Bytes p v a i ok number bytes = absurd cc
+leb-class around u cells s says InlineText p v a i ok number bytes = absurd cc
+leb-class around u cells s says StrOffset p v a i ok number bytes = absurd cc
+leb-class around u cells s says LineStrOffset p v a i ok number bytes = absurd cc
+
+-- a signed number of 64 bits
+signed-back : (z : ℤ) → fits_i64 z ≡ true → signed_of (signed_bits z) ≡ z
+signed-back (pos n) h = grind arith
+signed-back (negsuc n) h = grind arith
+
+-- what was read of a number of so many bytes
+pub record NumberRead (class : ValueClass) (order : Order) (bytes : List ℕ) (place n : ℕ) (v : Value) : Type 0 where
+  pub size_is : v.size ≡ n
+  pub number_is : v.number ≡ spelled order bytes place n
+  pub at_is : v.at ≡ place
+  pub len_is : v.len ≡ n
+  pub class_is : v.class ≡ class
+  pub inside : place + n ≤ length bytes
+
+pub number-read : (class : ValueClass) (order : Order) (bytes : List ℕ) (place n : ℕ) (v : Value) → number_value class place n (number_at order bytes place n) ≡ Some v
+    → NumberRead class order bytes place n v
+unfolding number_at
+number-read class order bytes place n v e = by_room (nat_le (place + n) (length bytes)) refl e
+  where
+    by_room : (b : Bool) → nat_le (place + n) (length bytes) ≡ b → number_value class place n (cond b (Some (spelled order bytes place n)) None) ≡ Some v
+        → NumberRead class order bytes place n v
+    by_room true is e = record { size_is = cc; number_is = cc; at_is = cc; len_is = cc; class_is = cc; inside = leb-true _ _ is }
+    by_room false is e = absurd cc
+
+pub record LebRead (class : ValueClass) (bytes : List ℕ) (place : ℕ) (v : Value) : Type 0 where
+  pub number : ℕ
+  pub size : ℕ
+  pub read : uleb_at bytes place ≡ Some (number, size)
+  pub size_is : v.size ≡ size
+  pub number_is : v.number ≡ number
+  pub at_is : v.at ≡ place
+  pub len_is : v.len ≡ size
+  pub class_is : v.class ≡ class
+
+pub leb-read : (class : ValueClass) (bytes : List ℕ) (place : ℕ) (v : Value) → leb_value_at class place (uleb_at bytes place) ≡ Some v → LebRead class bytes place v
+leb-read class bytes place v e = by_read (uleb_at bytes place) refl e
+  where
+    by_read : (o : Option (ℕ × ℕ)) → uleb_at bytes place ≡ o → leb_value_at class place o ≡ Some v → LebRead class bytes place v
+    by_read None is e = absurd cc
+    by_read (Some (x, n)) is e = record { number = x; size = n; read = is; size_is = cc; number_is = cc; at_is = cc; len_is = cc; class_is = cc }
+
+pub record SignedRead (bytes : List ℕ) (place : ℕ) (v : Value) : Type 0 where
+  pub number : ℤ
+  pub size : ℕ
+  pub read : sleb_at bytes place ≡ Some (number, size)
+  pub size_is : v.size ≡ size
+  pub number_is : v.number ≡ signed_bits number
+  pub class_is : v.class ≡ Signed
+
+pub signed-read : (bytes : List ℕ) (place : ℕ) (v : Value) → signed_value_at place (sleb_at bytes place) ≡ Some v → SignedRead bytes place v
+signed-read bytes place v e = by_read (sleb_at bytes place) refl e
+  where
+    by_read : (o : Option (ℤ × ℕ)) → sleb_at bytes place ≡ o → signed_value_at place o ≡ Some v → SignedRead bytes place v
+    by_read None is e = absurd cc
+    by_read (Some (x, n)) is e = record { number = x; size = n; read = is; size_is = cc; number_is = cc; class_is = cc }
+
+-- so many bytes behind a count
+pub record BlockRead (bytes : List ℕ) (place front n : ℕ) (v : Value) : Type 0 where
+  pub size_is : v.size ≡ front + n
+  pub at_is : v.at ≡ place + front
+  pub len_is : v.len ≡ n
+  pub class_is : v.class ≡ Bytes
+  pub inside : place + front + n ≤ length bytes
+
+pub block-read : (bytes : List ℕ) (place front n : ℕ) (v : Value) → block_value bytes place front n ≡ Some v → BlockRead bytes place front n v
+block-read bytes place front n v e = by_room (nat_le (place + front + n) (length bytes)) refl e
+  where
+    by_room : (b : Bool) → nat_le (place + front + n) (length bytes) ≡ b
+        → cond b (Some (record { class = Bytes; number = 0; at = place + front; len = n; size = front + n })) None ≡ Some v → BlockRead bytes place front n v
+    by_room true is e = record { size_is = cc; at_is = cc; len_is = cc; class_is = cc; inside = leb-true _ _ is }
+    by_room false is e = absurd cc
+
+-- the bytes behind the count among those of the whole value
+behind-count : (bs : List ℕ) (place front n : ℕ) → drop front (take (front + n) (drop place bs)) ≡ take n (drop (place + front) bs)
+behind-count bs place front n = drop-take front n (drop place bs) ∙ ap (take n) (drop-drop front place bs)
+
+-- the cells of a value that lies in the unit
+pub record Own (cells : List Cell) (s : UnitState) (u : ShownUnit) (place size : ℕ) : Type 0 where
+  pub plain : IsPlain (take size (drop place cells))
+  pub length_is : length (take size (drop place cells)) ≡ size
+  pub bytes_are : bytes_of (take size (drop place cells)) ≡ take size (drop place u.bytes)
+
+pub own-cells : (cells : List Cell) (s : UnitState) (u : ShownUnit) (place size : ℕ) → IsIn cells s u → place + size ≤ length (unit_bytes s cells) → Own cells s u place size
+own-cells cells s u place size i inside = record {
+  plain = plain-part size place cells i.plain;
+  length_is = part-length size place s.header.end cells inside;
+  bytes_are = sym (part-bytes size place s.header.end cells (before-end (place + size) s.header.end (bytes_of cells) inside)) ∙ ap (λ (bs : List ℕ). take size (drop place bs)) i.bytes_are;
+}
+
+order-same : (around : Around) (u : ShownUnit) (cells : List Cell) (s : UnitState) → IsAround around u → IsIn cells s u → around.lasting.base.order ≡ s.header.params.order
+order-same around u cells s a i = sym (ap (λ h. h.params.order) i.header_is ∙ a.order_is)
+
+-- its number
+pub spelled-own : (u : ShownUnit) (cells : List Cell) (s : UnitState) (place n : ℕ) → IsIn cells s u → place + n ≤ length (unit_bytes s cells)
+    → spelled s.header.params.order (bytes_of (take n (drop place cells))) 0 (length (take n (drop place cells))) ≡ spelled s.header.params.order (unit_bytes s cells) place n
+spelled-own u cells s place n i inside =
+    let o : Own cells s u place n = own-cells cells s u place n i inside in
+    ap (λ (m : ℕ). spelled s.header.params.order (bytes_of (take n (drop place cells))) 0 m) o.length_is
+    ∙ ap (λ (bs : List ℕ). spelled s.header.params.order bs 0 n) (o.bytes_are ∙ ap (λ (bs : List ℕ). take n (drop place bs)) (sym i.bytes_are))
+    ∙ number-at_place s.header.params.order (unit_bytes s cells) place n inside
+
+number-spelled : (around : Around) (u : ShownUnit) (cells : List Cell) (s : UnitState) (place n : ℕ) → IsAround around u → IsIn cells s u → place + n ≤ length (unit_bytes s cells)
+    → spelled around.lasting.base.order (bytes_of (take n (drop place cells))) 0 (length (take n (drop place cells))) ≡ spelled s.header.params.order (unit_bytes s cells) place n
+number-spelled around u cells s place n a i inside =
+    ap (λ (order : Order). spelled order (bytes_of (take n (drop place cells))) 0 (length (take n (drop place cells)))) (order-same around u cells s a i)
+    ∙ spelled-own u cells s place n i inside
+
+-- a number of so many bytes says what it is
+pub sized-said : (around : Around) (u : ShownUnit) (cells : List Cell) (s : UnitState) (says : Use) (class : ValueClass) (place n : ℕ) (v : Value) → IsAround around u → IsIn cells s u
+    → is_number_class class ≡ true → NumberRead class s.header.params.order (unit_bytes s cells) place n v
+    → value_said (number_meaning around s says class (take v.size (drop place cells))) ≡ class_shown u v.class v
+sized-said around u cells s says class place n v a i ok r =
+    let inside : place + v.size ≤ length (unit_bytes s cells) = (let e = r.size_is in let le = r.inside in omega (arith, e, le)) in
+    let o : Own cells s u place v.size = own-cells cells s u place v.size i inside in
+    let size : v.size ≡ v.len = r.size_is ∙ sym r.len_is in
+    let number : spelled around.lasting.base.order (bytes_of (take v.size (drop place cells))) 0 (length (take v.size (drop place cells))) ≡ v.number =
+    number-spelled around u cells s place v.size a i inside ∙ ap (spelled s.header.params.order (unit_bytes s cells) place) r.size_is ∙ sym r.number_is in
+    number-class around u cells s says class (take v.size (drop place cells)) v a i o.plain ok number
+    (o.bytes_are ∙ ap (λ (m : ℕ). take m (drop place u.bytes)) size ∙ ap (λ (m : ℕ). take v.len (drop m u.bytes)) (sym r.at_is))
+    ∙ ap (λ (c : ValueClass). class_shown u c v) (sym r.class_is)
+
+-- where a line table starts
+pub start-said : (around : Around) (u : ShownUnit) (cells : List Cell) (s : UnitState) (class : ValueClass) (place n : ℕ) (v : Value) → IsAround around u → IsIn cells s u
+    → NumberRead class s.header.params.order (unit_bytes s cells) place n v
+    → value_said (line_meaning around (take v.size (drop place cells))) ≡ table_said (start_number 0 u.source.starts v.number) v.number
+start-said around u cells s class place n v a i r =
+    let inside : place + v.size ≤ length (unit_bytes s cells) = (let e = r.size_is in let le = r.inside in omega (arith, e, le)) in
+    let o : Own cells s u place v.size = own-cells cells s u place v.size i inside in
+    let number : offset_of around.lasting.base.order around.lines (take v.size (drop place cells)) ≡ v.number =
+    offset_of-plain around.lasting.base.order around.lines (take v.size (drop place cells)) o.plain
+    ∙ number-spelled around u cells s place v.size a i inside ∙ ap (spelled s.header.params.order (unit_bytes s cells) place) r.size_is ∙ sym r.number_is in
+    ap (λ (k : ℕ). value_said (table_named (start_number 0 around.starts k) k)) number
+    ∙ ap (λ (starts : List ℕ). value_said (table_named (start_number 0 starts v.number) v.number)) a.starts_are
+    ∙ by_table (start_number 0 u.source.starts v.number)
+  where
+    by_table : (t : Option ℕ) → value_said (table_named t v.number) ≡ table_said t v.number
+    by_table None = refl
+    by_table (Some k) = refl
+
+-- where a macro unit starts
+pub macro-said : (around : Around) (u : ShownUnit) (cells : List Cell) (s : UnitState) (class : ValueClass) (place n : ℕ) (v : Value) → IsAround around u → IsIn cells s u
+    → NumberRead class s.header.params.order (unit_bytes s cells) place n v
+    → value_said (macro_meaning around.lasting (take v.size (drop place cells))) ≡ unit_said (start_number 0 u.source.macros v.number) v.number
+macro-said around u cells s class place n v a i r =
+    let inside : place + v.size ≤ length (unit_bytes s cells) = (let e = r.size_is in let le = r.inside in omega (arith, e, le)) in
+    let o : Own cells s u place v.size = own-cells cells s u place v.size i inside in
+    let number : spelled around.lasting.base.order (bytes_of (take v.size (drop place cells))) 0 (length (take v.size (drop place cells))) ≡ v.number =
+    number-spelled around u cells s place v.size a i inside ∙ ap (spelled s.header.params.order (unit_bytes s cells) place) r.size_is ∙ sym r.number_is in
+    ap (λ (f : Field). value_said (unit_meant (unit_named around.lasting.macros f) f)) (field-plain around.lasting.base.order (take v.size (drop place cells)) o.plain)
+    ∙ ap (λ (k : ℕ). value_said (unit_meant (started_unit 0 around.lasting.macros.starts around.lasting.macros.first k) (Num k))) number
+    ∙ ap (λ (x : Option ℕ). value_said (unit_meant x (Num v.number))) (a.macros_are v.number)
+    ∙ by_unit (start_number 0 u.source.macros v.number)
+  where
+    by_unit : (x : Option ℕ) → value_said (unit_meant x (Num v.number)) ≡ unit_said x v.number
+    by_unit None = refl
+    by_unit (Some k) = refl
+
+-- a number in LEB128
+pub leb-said : (around : Around) (u : ShownUnit) (cells : List Cell) (s : UnitState) (says : Use) (class : ValueClass) (place : ℕ) (v : Value) → IsAround around u → IsIn cells s u
+    → is_leb_class class ≡ true → place + v.size ≤ length (unit_bytes s cells) → LebRead class (unit_bytes s cells) place v
+    → value_said (leb_meaning around s says class (take v.size (drop place cells))) ≡ class_shown u v.class v
+leb-said around u cells s says class place v a i ok inside r =
+    let o : Own cells s u place v.size = own-cells cells s u place v.size i inside in
+    let c : NumberPiece s cells place r.number r.size = number-piece s cells place r.number r.size r.read in
+    let size : v.size ≡ v.len = r.size_is ∙ sym r.len_is in
+    leb-class around u cells s says class (take v.size (drop place cells)) v a i ok
+    (ap (λ (m : ℕ). code_value (take m (drop place cells))) r.size_is ∙ c.value ∙ sym r.number_is)
+    (o.bytes_are ∙ ap (λ (m : ℕ). take m (drop place u.bytes)) size ∙ ap (λ (m : ℕ). take v.len (drop m u.bytes)) (sym r.at_is))
+    ∙ ap (λ (c : ValueClass). class_shown u c v) (sym r.class_is)
+
+-- a signed number
+fits-read : (bytes : List ℕ) (place : ℕ) (z : ℤ) (n : ℕ) → sleb_at bytes place ≡ Some (z, n) → fits_i64 z ≡ true
+unfolding sleb_at
+fits-read bytes place z n e = by_read (sleb (drop place bytes)) e
+  where
+    by_fits : (y : ℤ) (m : ℕ) (b : Bool) → fits_i64 y ≡ b → cond {A = Option (ℤ × ℕ)} b (Some (y, m)) None ≡ Some (z, n) → fits_i64 z ≡ true
+    by_fits y m true fits e =
+        let pairs : (y, m) ≡ (z, n) = some-once (y, m) (z, n) e in
+        subst (λ (k : ℤ). fits_i64 k ≡ true) (ap (λ (q : ℤ × ℕ). q.0) pairs) fits
+      where
+        some-once : (p q : ℤ × ℕ) → Some p ≡ Some q → p ≡ q
+        some-once p q e = cc
+    by_fits y m false fits e = absurd cc
+
+    by_read : (o : Option (ℤ × ℕ)) → sleb_within o ≡ Some (z, n) → fits_i64 z ≡ true
+    by_read None e = absurd cc
+    by_read (Some (y, m)) e = by_fits y m (fits_i64 y) refl e
+
+pub sleb-said : (u : ShownUnit) (cells : List Cell) (s : UnitState) (place : ℕ) (v : Value) → IsIn cells s u → place + v.size ≤ length (unit_bytes s cells)
+    → SignedRead (unit_bytes s cells) place v
+    → signed_said (read_signed (sleb_at (bytes_of (take v.size (drop place cells))) 0)) ≡ class_shown u v.class v
+unfolding class_shown
+sleb-said u cells s place v i inside r =
+    let o : Own cells s u place v.size = own-cells cells s u place v.size i inside in
+    let cut = signed-cut (unit_bytes s cells) place r.number r.size r.read in
+    let own : bytes_of (take v.size (drop place cells)) ≡ take r.size (drop place (unit_bytes s cells)) =
+    o.bytes_are ∙ ap (λ (bs : List ℕ). take v.size (drop place bs)) (sym i.bytes_are) ∙ ap (λ (m : ℕ). take m (drop place (unit_bytes s cells))) r.size_is in
+    let fits : fits_i64 r.number ≡ true = fits-read (unit_bytes s cells) place r.number r.size r.read in
+    ap (λ (bs : List ℕ). signed_said (read_signed (sleb_at bs 0))) own
+    ∙ ap (λ (q : Option (ℤ × ℕ)). signed_said (read_signed q)) cut.0
+    ∙ ap signed_said (sym (ap signed_of r.number_is ∙ signed-back r.number fits))
+    ∙ ap (λ (c : ValueClass). class_shown u c v) (sym r.class_is)
+
+-- bytes behind a count
+pub block-said : (u : ShownUnit) (cells : List Cell) (s : UnitState) (place front n : ℕ) (v : Value) → IsIn cells s u → BlockRead (unit_bytes s cells) place front n v
+    → bytes_said (bytes_of (drop front (take v.size (drop place cells)))) ≡ class_shown u v.class v
+unfolding class_shown
+block-said u cells s place front n v i r =
+    let inside : place + v.size ≤ length (unit_bytes s cells) = (let e = r.size_is in let le = r.inside in omega (arith, e, le)) in
+    let o : Own cells s u place v.size = own-cells cells s u place v.size i inside in
+    ap bytes_said (bytes_of-drop front (take v.size (drop place cells)) ∙ ap (drop front) o.bytes_are
+    ∙ ap (λ (m : ℕ). drop front (take m (drop place u.bytes))) r.size_is ∙ behind-count u.bytes place front n
+    ∙ ap (λ (m : ℕ). take n (drop m u.bytes)) (sym r.at_is) ∙ ap (λ (m : ℕ). take m (drop v.at u.bytes)) (sym r.len_is))
+    ∙ ap (λ (c : ValueClass). class_shown u c v) (sym r.class_is)
+
+-- a text that stands in the value
+pub record TextRead (bytes : List ℕ) (place : ℕ) (v : Value) : Type 0 where
+  pub at_is : v.at ≡ place
+  pub len_is : v.len ≡ length (text_in bytes place)
+  pub size_is : v.size ≡ length (text_in bytes place) + 1
+  pub class_is : v.class ≡ InlineText
+  pub ends : ends_in bytes place ≡ true
+
+pub text-read : (bytes : List ℕ) (place : ℕ) (v : Value) → text_value bytes place ≡ Some v → TextRead bytes place v
+text-read bytes place v e = by_end (ends_in bytes place) refl e
+  where
+    by_end : (b : Bool) → ends_in bytes place ≡ b
+        → cond b (Some (record { class = InlineText; number = 0; at = place; len = length (text_in bytes place); size = length (text_in bytes place) + 1 })) None ≡ Some v → TextRead bytes place v
+    by_end true is e = record { at_is = cc; len_is = cc; size_is = cc; class_is = cc; ends = is }
+    by_end false is e = absurd cc
+
+-- a text with its NUL is that text
+text-own : (bs : List ℕ) → has_nul bs ≡ true → text (take (length (text bs) + 1) bs) ≡ text bs
+text-own [] e = absurd cc
+text-own (b ∷ bs) e = by_nul (b == 0) refl (λ f. text-own bs f) e
+  where
+    by_nul : (z : Bool) → (b == 0) ≡ z → (has_nul bs ≡ true → text (take (length (text bs) + 1) bs) ≡ text bs) → (z || has_nul bs) ≡ true
+        → text (take (length (cond z [] (b ∷ text bs)) + 1) (b ∷ bs)) ≡ cond z [] (b ∷ text bs)
+    by_nul true is step f = ap (λ (z : Bool). cond z [] (b ∷ text [])) is
+    by_nul false is step f =
+        let next : suc (length (text bs)) + 1 ≡ suc (length (text bs) + 1) = omega arith in
+        ap (λ (n : ℕ). text (take n (b ∷ bs))) next
+        ∙ ap (λ (z : Bool). cond z [] (b ∷ text (take (length (text bs) + 1) bs))) is
+        ∙ ap (λ (xs : List ℕ). b ∷ xs) (step f)
+
+pub inline-said : (u : ShownUnit) (cells : List Cell) (s : UnitState) (place : ℕ) (v : Value) → IsIn cells s u → place + v.size ≤ length (unit_bytes s cells) → TextRead (unit_bytes s cells) place v
+    → text_said (text (bytes_of (take v.size (drop place cells)))) ≡ class_shown u v.class v
+unfolding class_shown text_in ends_in
+inline-said u cells s place v i inside r =
+    let o : Own cells s u place v.size = own-cells cells s u place v.size i inside in
+    let bs : List ℕ = drop place (unit_bytes s cells) in
+    let own : bytes_of (take v.size (drop place cells)) ≡ take v.size (drop place (unit_bytes s cells)) =
+    o.bytes_are ∙ ap (λ (xs : List ℕ). take v.size (drop place xs)) (sym i.bytes_are) in
+    ap text_said (ap text own ∙ ap (λ (m : ℕ). text (take m (drop place (unit_bytes s cells)))) r.size_is ∙ text-own (drop place (unit_bytes s cells)) r.ends
+    ∙ text-front (drop place (unit_bytes s cells))
+    ∙ ap (λ (m : ℕ). take m (drop place (unit_bytes s cells))) (sym r.len_is)
+    ∙ ap (λ (xs : List ℕ). take v.len (drop place xs)) i.bytes_are ∙ ap (λ (m : ℕ). take v.len (drop m u.bytes)) (sym r.at_is))
+    ∙ ap (λ (c : ValueClass). class_shown u c v) (sym r.class_is)
+
+-- a text by an offset
+pub offset-said : (around : Around) (u : ShownUnit) (cells : List Cell) (s : UnitState) (table : TextSection) (place n : ℕ) (v : Value) → IsAround around u → IsIn cells s u
+    → NumberRead (offset_class table) s.header.params.order (unit_bytes s cells) place n v
+    → text_said (text_in (table_of around table).bytes (offset_of around.lasting.base.order (table_of around table) (take v.size (drop place cells)))) ≡ class_shown u v.class v
+unfolding class_shown
+offset-said around u cells s table place n v a i r =
+    let inside : place + v.size ≤ length (unit_bytes s cells) = (let e = r.size_is in let le = r.inside in omega (arith, e, le)) in
+    let o : Own cells s u place v.size = own-cells cells s u place v.size i inside in
+    let number : offset_of around.lasting.base.order (table_of around table) (take v.size (drop place cells)) ≡ v.number =
+    offset_of-plain around.lasting.base.order (table_of around table) (take v.size (drop place cells)) o.plain
+    ∙ number-spelled around u cells s place v.size a i inside ∙ ap (spelled s.header.params.order (unit_bytes s cells) place) r.size_is ∙ sym r.number_is in
+    ap (λ (k : ℕ). text_said (text_in (table_of around table).bytes k)) number
+    ∙ by_table table
+    ∙ ap (λ (c : ValueClass). class_shown u c v) (sym r.class_is)
+  where
+    by_table : (t : TextSection) → text_said (text_in (table_of around t).bytes v.number) ≡ class_shown u (offset_class t) v
+    by_table in_str = ap (λ (bs : List ℕ). text_said (text_in bs v.number)) a.str_is
+    by_table in_line_str = ap (λ (bs : List ℕ). text_said (text_in bs v.number)) a.line_str_is
+
+-- what stands behind a count
+pub counted-said : (u : ShownUnit) (cells : List Cell) (s : UnitState) (place n : ℕ) (v : Value) → IsIn cells s u
+    → counted_value (unit_bytes s cells) place n (number_at s.header.params.order (unit_bytes s cells) place n) ≡ Some v
+    → bytes_said (bytes_of (drop n (take v.size (drop place cells)))) ≡ class_shown u v.class v
+counted-said u cells s place n v i e = by_count (number_at s.header.params.order (unit_bytes s cells) place n) e
+  where
+    by_count : (o : Option ℕ) → counted_value (unit_bytes s cells) place n o ≡ Some v → bytes_said (bytes_of (drop n (take v.size (drop place cells)))) ≡ class_shown u v.class v
+    by_count None e = absurd cc
+    by_count (Some k) e = block-said u cells s place n k v i (block-read (unit_bytes s cells) place n k v e)
+
+-- a number of LEB128 at the front of more bytes
+front-number : (bytes : List ℕ) (place k m size : ℕ) → uleb_at bytes place ≡ Some (k, m) → m ≤ size → size ≤ length (drop place bytes)
+    → uleb_at (take size (drop place bytes)) 0 ≡ Some (k, m)
+front-number bytes place k m size e le room =
+    let cut = number-cut bytes place k m e in
+    let split : take size (drop place bytes) ≡ take m (drop place bytes) ++ drop m (take size (drop place bytes)) =
+    sym (take-append-drop m (take size (drop place bytes))) ∙ ap (λ (xs : List ℕ). xs ++ drop m (take size (drop place bytes))) (take-take m size (drop place bytes) le) in
+    ap (λ (xs : List ℕ). uleb_at xs 0) split
+    ∙ uleb_at-append (take m (drop place bytes)) (drop m (take size (drop place bytes))) 0 (k, m) (omega arith) cut.0
+
+pub counted-leb-said : (u : ShownUnit) (cells : List Cell) (s : UnitState) (place : ℕ) (v : Value) → IsIn cells s u
+    → counted_leb_value (unit_bytes s cells) place (uleb_at (unit_bytes s cells) place) ≡ Some v
+    → bytes_said (bytes_of (drop (read_size (uleb_at (bytes_of (take v.size (drop place cells))) 0)) (take v.size (drop place cells)))) ≡ class_shown u v.class v
+counted-leb-said u cells s place v i e = by_count (uleb_at (unit_bytes s cells) place) refl e
+  where
+    by_count : (o : Option (ℕ × ℕ)) → uleb_at (unit_bytes s cells) place ≡ o → counted_leb_value (unit_bytes s cells) place o ≡ Some v
+        → bytes_said (bytes_of (drop (read_size (uleb_at (bytes_of (take v.size (drop place cells))) 0)) (take v.size (drop place cells)))) ≡ class_shown u v.class v
+    by_count None is e = absurd cc
+    by_count (Some (k, m)) is e =
+        let r : BlockRead (unit_bytes s cells) place m k v = block-read (unit_bytes s cells) place m k v e in
+        let inside : place + v.size ≤ length (unit_bytes s cells) = (let f = r.size_is in let le = r.inside in omega (arith, f, le)) in
+        let o : Own cells s u place v.size = own-cells cells s u place v.size i inside in
+        let own : bytes_of (take v.size (drop place cells)) ≡ take v.size (drop place (unit_bytes s cells)) =
+        o.bytes_are ∙ ap (λ (xs : List ℕ). take v.size (drop place xs)) (sym i.bytes_are) in
+        let front : uleb_at (bytes_of (take v.size (drop place cells))) 0 ≡ Some (k, m) =
+        ap (λ (xs : List ℕ). uleb_at xs 0) own
+        ∙ front-number (unit_bytes s cells) place k m v.size is (let f = r.size_is in omega (arith, f)) (omega (arith, inside, length-drop place (unit_bytes s cells))) in
+        ap (λ (q : Option (ℕ × ℕ)). bytes_said (bytes_of (drop (read_size q) (take v.size (drop place cells))))) front
+        ∙ block-said u cells s place m k v i r
+
+pub ruleset value_text_laws = (kind-own)

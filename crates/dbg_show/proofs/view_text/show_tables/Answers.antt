@@ -1,0 +1,26 @@
+-- The units, the line tables and the macro units that were read are what is printed from.
+use Rattle.std.proofs.Common.{◌∙◌}
+use Rattle.dbg_show.proofs.ReadLaws.{macros-listed, sources-are, tables-units, units-can, units-listed}
+use Rattle.dbg_show.proofs.view_text.show_tables.Goals as goal
+
+pub read-requires : goal.read-requires
+read-requires g c = record {
+  units = units-can c.args.view.now c.args.tables.now c.args.macros.now c.as_slice-units.result.now c.as_slice-abbrevs.result.now c.requires.read
+      (units-listed c.args.view.now c.as_slice-units.result.now c.in_ok-list.list.units.items c.as_slice-abbrevs.result.now c.in_ok-list.list.tables.items c.as_slice-units.ensures.value
+      c.as_slice-abbrevs.ensures.value c.in_ok-list.ensures.read);
+}
+
+pub macro_list-requires : goal.macro_list-requires
+macro_list-requires g c = record { macros = tables-units c.args.view.now c.args.tables.now c.args.macros.now c.requires.read }
+
+pub write_shown-requires : goal.write_shown-requires
+write_shown-requires g c = record {
+  sources = sources-are c.args.view.now c.as_slice-units.result.now c.as_slice-abbrevs.result.now c.in_ok-index.index c.in_ok-contributions.contributions c.as_slice.result.now c.as_slice-2.result.now
+      c.as_slice-3.result.now c.as_slice-4.result.now c.as_slice-5.result.now c.args.tables.now c.args.macros.now c.requires.read
+      (units-listed c.args.view.now c.as_slice-units.result.now c.in_ok-list.list.units.items c.as_slice-abbrevs.result.now c.in_ok-list.list.tables.items c.as_slice-units.ensures.value
+      c.as_slice-abbrevs.ensures.value c.in_ok-list.ensures.read)
+      c.in_ok-index.ensures.index c.in_ok-contributions.ensures.read (c.as_slice.ensures.value ∙ c.in_ok-starts.ensures) (c.as_slice-2.ensures.value ∙ c.in_ok-places.ensures)
+      (c.as_slice-3.ensures.value ∙ c.in_ok-starts.ensures)
+      (macros-listed c.args.view.now c.args.macros.now c.as_slice-4.result.now c.in_ok-found.found.units.items c.as_slice-5.result.now c.in_ok-found.found.keys.items c.as_slice-4.ensures.value
+      c.as_slice-5.ensures.value c.in_ok-found.ensures.list);
+}

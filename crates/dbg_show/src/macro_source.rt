@@ -1,0 +1,178 @@
+//! The macro units of a view, where they start, and the texts and numbers that their events name (DWARF 5, 6.3).
+//!
+//! Read first: `specs/ShownMacros.antt`.
+
+ghost use Rattle.std.specs.Prelude.{◌≡◌, ◌+◌, ◌*◌, ◌<◌, ◌++◌, length, IfOk, OnOk};
+ghost use Rattle.dw_base.specs.DebugData.{start_number};
+ghost use Rattle.dw_find.specs.LineStarts.{Rises};
+ghost use Rattle.dw_find.specs.MacroNames.{AllUnitsIn, AreUnitsIn};
+ghost use Rattle.dw_macros.specs.EventMeanings.{text_bytes};
+ghost use Rattle.dw_macros.specs.MacroEvents.{IsUnitIn};
+ghost use Rattle.dbg_show.specs.EntryIndexes.{place_key};
+ghost use Rattle.dbg_show.specs.ShownMacros.{AllBelow, AreMacros, MacroSource as MacroSourceOf, all_units, line_number, place_limit, unit_keys, unit_number};
+
+use crate::entry_index::place_key;
+use crate::source::part;
+use dw_base::TextPlace;
+use dw_find::{MacroSection, start_number};
+use dw_macros::MacroUnit;
+use dw_view::View;
+use std::alloc::{AllocError, Global};
+use std::marker::Model;
+
+/// No section has as many bytes.
+const PLACE_LIMIT: u64 = 0x1_0000_0000;
+
+/// All macro units of a view, and for each where it starts, as one number.
+#[derive(Drop)]
+pub(crate) struct MacroList {
+    pub units: Vec<MacroUnit>,
+    pub keys: Vec<u64>,
+}
+
+/// What macro units are printed from: the view, where its line tables start, and its macro units.
+#[derive(Drop)]
+pub(crate) struct MacroSource<'v, 'f, 'u> {
+    pub view: &'v View<'f>,
+    pub lines: &'u [u64],
+    pub units: &'u [MacroUnit],
+    pub keys: &'u [u64],
+}
+
+impl<'v, 'f, 'u> Model for MacroSource<'v, 'f, 'u> {
+    ghost Value = { MacroSourceOf };
+
+    ghost view = { λ s. record { view = s.view.now; lines = s.lines.now; units = s.units.now; keys = s.keys.now } };
+}
+
+/// The units of a section.
+fn units_of(section: &MacroSection) -> &[MacroUnit]
+    ensures { result.now ≡ section.now.units }
+{
+    section.units.as_slice()
+}
+
+/// The units of all sections.
+#[tactic(auto, using(crate::proofs::MacroListLaws::unit_laws))]
+fn all_units(alloc: Global, macros: &[MacroSection]) -> Result<Vec<MacroUnit>, AllocError>
+    ensures { IfOk result (λ units. units.items ≡ all_units macros.now) }
+{
+    let mut units = Vec::new(alloc);
+    for section in macros {
+        units.extend_from_slice(units_of(section))?;
+    }
+    Ok(units)
+}
+
+/// Where a unit starts, as one number.
+#[tactic(auto, using(crate::proofs::MacroListLaws::start_laws))]
+fn start_key(view: &View, unit: &MacroUnit) -> u64
+    requires unit { IsUnitIn view.now unit.now }
+    ensures key { result ≡ place_key unit.now.section unit.now.start }
+    ensures below { unit.now.start < place_limit }
+{
+    let _ = view.bytes(unit.section);
+    place_key(unit.section, unit.start)
+}
+
+/// Where units start, each as one number.
+#[tactic(auto, using(crate::proofs::MacroListLaws::key_laws))]
+fn unit_keys(alloc: Global, view: &View, units: &[MacroUnit]) -> Result<Vec<u64>, AllocError>
+    requires units { AreUnitsIn view.now units.now }
+    ensures keys { IfOk result (λ keys. keys.items ≡ unit_keys units.now) }
+    ensures below { OnOk result (AllBelow units.now) }
+{
+    let mut keys = Vec::with_capacity(alloc, units.len())?;
+    for unit in units {
+        keys.push(start_key(view, unit))?;
+    }
+    Ok(keys)
+}
+
+/// The macro units of the sections of a view.
+#[tactic(auto, using(crate::proofs::MacroListLaws::list_laws))]
+pub(crate) fn macro_list(
+    alloc: Global,
+    view: &View,
+    macros: &[MacroSection],
+) -> Result<MacroList, AllocError>
+    requires macros { AllUnitsIn view.now macros.now }
+    ensures list { IfOk result (λ list. AreMacros view.now macros.now list.units.items list.keys.items) }
+{
+    let units = all_units(alloc, macros)?;
+    let keys = unit_keys(alloc, view, units.as_slice())?;
+    Ok(MacroList { units, keys })
+}
+
+/// The number of a line table that starts at a place.
+fn started(starts: &[u64], start: u64) -> Option<u64>
+    requires rises { Rises starts.now }
+    ensures { result ≡ start_number 0 starts.now start }
+{
+    match start_number(starts, start) {
+        Some(number) => Some(number as u64),
+        None => None,
+    }
+}
+
+/// The number of the line table of a unit.
+fn line_number(starts: &[u64], line: Option<u64>) -> Option<u64>
+    requires rises { Rises starts.now }
+    ensures { result ≡ line_number starts.now line }
+{
+    match line {
+        Some(start) => started(starts, start),
+        None => None,
+    }
+}
+
+/// The number of the unit that starts at a place of a section.
+fn unit_number(keys: &[u64], section: u32, place: u64) -> Option<u64>
+    requires rises { Rises keys.now }
+    ensures { result ≡ unit_number keys.now section place }
+{
+    if place < PLACE_LIMIT {
+        return started(keys, place_key(section, place));
+    }
+    None
+}
+
+impl<'v, 'f, 'u> MacroSource<'v, 'f, 'u> {
+    /// The units.
+    pub(crate) fn units(&self) -> &'u [MacroUnit]
+        ensures { result.now ≡ self.now.units }
+    {
+        self.units
+    }
+
+    /// The view.
+    pub(crate) fn view(&self) -> &'v View<'f>
+        ensures { result.now ≡ self.now.view }
+    {
+        self.view
+    }
+
+    /// The text at a place.
+    pub(crate) fn text(&self, place: &TextPlace) -> &'v [u8]
+        requires there { place.now.section < length self.now.view.sections }
+        ensures { result.now ≡ text_bytes self.now.view place.now }
+    {
+        part(self.view.bytes(place.section), place.at, place.len)
+    }
+
+    /// The number of the line table of a unit.
+    pub(crate) fn line(&self, line: Option<u64>) -> Option<u64>
+        requires rises { Rises self.now.lines }
+        ensures { result ≡ line_number self.now.lines line }
+    {
+        line_number(self.lines, line)
+    }
+
+    /// The number of the unit that starts at a place of a section.
+    pub(crate) fn unit(&self, section: u32, place: u64) -> Option<u64>
+        requires rises { Rises self.now.keys }
+        ensures { result ≡ unit_number self.now.keys section place }
+    {
+        unit_number(self.keys, section, place)
+    }
+}

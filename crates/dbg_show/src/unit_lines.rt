@@ -1,0 +1,638 @@
+//! The lines of units, printed one after another: each unit with its entries, each entry with its attributes.
+//!
+//! Read first: `specs/ShownUnits.antt`.
+
+ghost use Rattle.std.specs.Prelude.{◌≡◌, ◌++◌, ◌+◌, ◌<◌, ◌≤◌, ◌^◌, drop, length, take, IfErr, IfSome, IsTrue, OnOk};
+ghost use Rattle.std.specs.String.{string_bytes};
+ghost use Rattle.dw_base.specs.LineMeanings.{item_at};
+ghost use Rattle.dw_base.specs.Texts.{text_in};
+ghost use Rattle.dw_base.specs.UnitHeaders.{is_address_size};
+ghost use Rattle.dw_base.specs.ViewData.{located};
+ghost use Rattle.dw_base.specs.Values.{value_at};
+ghost use Rattle.dbg_show.specs.Printing.{Cut, Printed};
+ghost use Rattle.dbg_show.specs.ShownUnits.{ShownUnit as ShownUnitOf, all_shown, class_shown, entries_text, entry_base, entry_shown, entry_text, first_base, header_line, index_shown, info_section, is_base_class, one_shown, other_shown, plain_shown, says_base, says_start, says_unit, shown_unit, table_said, tabled_text, unit_bytes, unit_entries, unit_said, value_bytes, value_shown, values_base, values_shown};
+ghost use Rattle.dbg_show.specs.UnitReads.{AllCanRead, CanRead, EachReads, ShownFits, SourceFits};
+ghost use Rattle.dbg_show.specs.UnitTexts.{attribute_line, entry_line, kind_name, text_said};
+ghost use Rattle.dw_base.specs.DebugData.{start_number};
+ghost use Rattle.dw_entries.specs.ScanStates.{scan_start};
+ghost use Rattle.dw_entries.specs.ViewUnits.{IsUnitSection, unit_section_at};
+ghost use Rattle.dw_find.specs.LineStarts.{Rises};
+ghost use Rattle.dw_find.specs.TextPlaces.{is_start_form, own_form};
+
+use crate::listed_unit::ListedUnit;
+use crate::printing::write_full;
+use crate::show_err::ShowErr;
+use crate::unit_source::{UnitSource, info_section, text_of};
+use crate::unit_texts::{push_attribute_front, push_end, push_entry, push_unit};
+use crate::value_texts::{
+    push_address, push_bytes, push_flag, push_index, push_lines, push_macros, push_number,
+    push_offset, push_reference, push_signature, push_signed, push_stray, push_text,
+};
+use dw_abbrev::AbbrevTable;
+use dw_base::dwarf_numbers::{
+    DW_AT_GNU_macros, DW_AT_macros, DW_AT_stmt_list, DW_AT_str_offsets_base, DW_FORM_data4,
+    DW_FORM_data8, DW_FORM_implicit_const, DW_FORM_indirect, DW_FORM_sec_offset,
+};
+use dw_base::{DebugSection, Scanned, Spec, UnitHeader, Value, ValueClass, uleb_at};
+use dw_entries::EntryScan;
+use dw_find::start_number;
+use dw_forms::value_at;
+use dw_view::View;
+use file_tree::Sink;
+use std::alloc::AllocError;
+use std::marker::Model;
+
+/// A unit that is printed: its number, header, abbreviations and bytes, and the base of its texts by index.
+#[derive(Drop)]
+struct ShownUnit<'v, 'f, 'u, 's> {
+    source: &'s UnitSource<'v, 'f, 'u>,
+    number: u64,
+    header: &'s UnitHeader,
+    table: &'s AbbrevTable,
+    bytes: &'v [u8],
+    base: Option<u64>,
+}
+
+impl<'v, 'f, 'u, 's> Model for ShownUnit<'v, 'f, 'u, 's> {
+    ghost Value = { ShownUnitOf };
+
+    ghost view = { λ u. record { source = u.source.now; number = u.number; header = u.header.now; table = u.table.now; bytes = u.bytes.now; base = u.base } };
+}
+
+/// So many bytes at a place, as far as they are there.
+#[tactic(auto, using(crate::proofs::ListLaws::part_laws))]
+fn part(bytes: &[u8], at: u64, len: u64) -> &[u8]
+    ensures bytes { result.now ≡ take len (drop at bytes.now) }
+{
+    let from = at.min(bytes.len() as u64);
+    let (_, rest) = bytes.split_at(from as usize);
+    let to = len.min(rest.len() as u64);
+    let (text, _) = rest.split_at(to as usize);
+    text
+}
+
+/// A form that can say where a line table starts (DWARF 5, 3.1.1); before version 4 it is a number of 4 or 8 bytes.
+fn is_start_form(form: u64) -> bool
+    ensures { result ≡ is_start_form form }
+{
+    form == DW_FORM_sec_offset || form == DW_FORM_data4 || form == DW_FORM_data8
+}
+
+/// The form of a value at a place: its attribute's, or the one in front of it (DWARF 5, 7.5.3).
+fn own_form(spec: &Spec, bytes: &[u8], place: u64) -> u64
+    ensures { result ≡ own_form spec.now bytes.now place }
+{
+    if spec.form != DW_FORM_indirect {
+        return spec.form;
+    }
+    match uleb_at(bytes, place) {
+        Some((form, _)) => form,
+        None => 0,
+    }
+}
+
+/// A value at a place says where a line table starts.
+fn says_start(spec: &Spec, bytes: &[u8], place: u64) -> bool
+    ensures { result ≡ says_start spec.now bytes.now place }
+{
+    if spec.name != DW_AT_stmt_list {
+        return false;
+    }
+    is_start_form(own_form(spec, bytes, place))
+}
+
+/// A value at a place says where a macro unit starts.
+fn says_unit(spec: &Spec, bytes: &[u8], place: u64) -> bool
+    ensures { result ≡ says_unit spec.now bytes.now place }
+{
+    if spec.name != DW_AT_macros && spec.name != DW_AT_GNU_macros {
+        return false;
+    }
+    is_start_form(own_form(spec, bytes, place))
+}
+
+/// Appends what a value says that says where a line table starts.
+#[tactic(auto, using(crate::proofs::ShownLaws::table_laws))]
+fn push_table(text: &mut String, starts: &[u64], start: u64) -> Result<(), AllocError>
+    requires rises { Rises starts.now }
+    ensures text { OnOk result (string_bytes text.new ≡ string_bytes text.old ++ table_said (start_number 0 starts.now start) start) }
+{
+    match start_number(starts, start) {
+        Some(number) => push_lines(text, number as u64),
+        None => push_stray(text, start),
+    }
+}
+
+/// The same, of the starts of a source.
+fn push_source_table(text: &mut String, source: &UnitSource, start: u64) -> Result<(), AllocError>
+    requires fits { SourceFits source.now }
+    ensures text { OnOk result (string_bytes text.new ≡ string_bytes text.old ++ table_said (start_number 0 source.now.starts start) start) }
+{
+    push_table(text, source.starts(), start)
+}
+
+/// Appends what a value says that says where a macro unit starts.
+#[tactic(auto, using(crate::proofs::ShownLaws::unit_laws))]
+fn push_start(text: &mut String, starts: &[u64], start: u64) -> Result<(), AllocError>
+    requires rises { Rises starts.now }
+    ensures text { OnOk result (string_bytes text.new ≡ string_bytes text.old ++ unit_said (start_number 0 starts.now start) start) }
+{
+    match start_number(starts, start) {
+        Some(number) => push_macros(text, number as u64),
+        None => push_offset(text, start),
+    }
+}
+
+/// The same, of the starts of a source.
+fn push_source_start(text: &mut String, source: &UnitSource, start: u64) -> Result<(), AllocError>
+    requires fits { SourceFits source.now }
+    ensures text { OnOk result (string_bytes text.new ≡ string_bytes text.old ++ unit_said (start_number 0 source.now.macros start) start) }
+{
+    push_start(text, source.macros(), start)
+}
+
+/// Appends the text of an index, or the bytes of the value where it names none.
+#[tactic(auto, using(crate::proofs::ShownLaws::index_laws))]
+fn push_indexed(text: &mut String, unit: &ShownUnit, value: &Value) -> Result<(), AllocError>
+    ensures text { OnOk result (string_bytes text.new ≡ string_bytes text.old ++ index_shown unit.now.source.view unit.now.source.contributions unit.now.base value.now.number (value_bytes unit.now value.now)) }
+{
+    let source = unit.source;
+    match source.indexed(unit.base, value.number) {
+        Some(named) => push_text(text, named),
+        None => push_bytes(text, part(unit.bytes, value.at, value.len)),
+    }
+}
+
+/// Appends a reference to an entry of the unit.
+#[tactic(auto, using(crate::proofs::ShownLaws::reference_laws))]
+fn push_local(text: &mut String, unit: &ShownUnit, offset: u64) -> Result<(), AllocError>
+    requires fits { ShownFits unit.now }
+    ensures text { OnOk result (string_bytes text.new ≡ string_bytes text.old ++ entry_shown unit.now.source unit.now.header.section (unit.now.header.start + offset) offset) }
+{
+    let Some(place) = unit.header.start.checked_add(offset) else {
+        return push_stray(text, offset);
+    };
+    push_reference(text, unit.source.entry(unit.header.section, place), offset)
+}
+
+/// Appends a reference to an entry of the first section `.debug_info`.
+#[tactic(auto, using(crate::proofs::ShownLaws::reference_laws))]
+fn push_global(text: &mut String, source: &UnitSource, offset: u64) -> Result<(), AllocError>
+    requires fits { SourceFits source.now }
+    ensures text { OnOk result (string_bytes text.new ≡ string_bytes text.old ++ entry_shown source.now (info_section source.now.view) offset offset) }
+{
+    let section = info_section(source.view);
+    push_reference(text, source.entry(section, offset), offset)
+}
+
+/// Appends the text at a place of a table of texts.
+#[tactic(auto, using(crate::proofs::RowTextLaws::piece_laws))]
+fn push_named(
+    text: &mut String,
+    source: &UnitSource,
+    table: DebugSection,
+    at: u64,
+) -> Result<(), AllocError>
+    ensures text { OnOk result (string_bytes text.new ≡ string_bytes text.old ++ text_said (text_in (located source.now.view table).bytes at)) }
+{
+    push_text(text, text_of(source.view, table, at))
+}
+
+/// Appends what a value says, by its class.
+#[tactic(auto, unfolding(crate::specs::ShownUnits::class_shown))]
+fn push_class(text: &mut String, unit: &ShownUnit, value: &Value) -> Result<(), AllocError>
+    requires fits { ShownFits unit.now }
+    ensures text { OnOk result (string_bytes text.new ≡ string_bytes text.old ++ class_shown unit.now value.now.class value.now) }
+{
+    match value.class {
+        ValueClass::Address => push_address(text, value.number),
+        ValueClass::Number => push_number(text, value.number),
+        ValueClass::Signed => push_signed(text, value.number.cast_signed()),
+        ValueClass::Bytes => push_bytes(text, part(unit.bytes, value.at, value.len)),
+        ValueClass::Flag => push_flag(text, value.number),
+        ValueClass::InlineText => push_text(text, part(unit.bytes, value.at, value.len)),
+        ValueClass::StrOffset => push_named(text, unit.source, DebugSection::Str, value.number),
+        ValueClass::LineStrOffset => {
+            push_named(text, unit.source, DebugSection::LineStr, value.number)
+        }
+        ValueClass::StrIndex => push_indexed(text, unit, value),
+        ValueClass::AddrIndex | ValueClass::ListIndex => push_index(text, value.number),
+        ValueClass::LocalRef => push_local(text, unit, value.number),
+        ValueClass::GlobalRef => push_global(text, unit.source, value.number),
+        ValueClass::Signature => push_signature(text, value.number),
+        ValueClass::SecOffset => push_offset(text, value.number),
+    }
+}
+
+/// Appends what a value says that stands in its abbreviation, or by its class.
+fn push_plain(
+    text: &mut String,
+    unit: &ShownUnit,
+    spec: &Spec,
+    value: &Value,
+) -> Result<(), AllocError>
+    requires fits { ShownFits unit.now }
+    ensures text { OnOk result (string_bytes text.new ≡ string_bytes text.old ++ plain_shown unit.now spec.now value.now) }
+{
+    if spec.form == DW_FORM_implicit_const {
+        return push_signed(text, spec.implicit);
+    }
+    push_class(text, unit, value)
+}
+
+/// Appends what a value at a place says that says no start of a line table.
+fn push_other(
+    text: &mut String,
+    unit: &ShownUnit,
+    spec: &Spec,
+    place: u64,
+    value: &Value,
+) -> Result<(), AllocError>
+    requires fits { ShownFits unit.now }
+    ensures text { OnOk result (string_bytes text.new ≡ string_bytes text.old ++ other_shown unit.now spec.now place value.now) }
+{
+    if says_unit(spec, unit.bytes, place) {
+        return push_source_start(text, unit.source, value.number);
+    }
+    push_plain(text, unit, spec, value)
+}
+
+/// Appends what a value at a place says.
+#[tactic(auto, unfolding(crate::specs::ShownUnits::value_shown))]
+fn push_value(
+    text: &mut String,
+    unit: &ShownUnit,
+    spec: &Spec,
+    place: u64,
+    value: &Value,
+) -> Result<(), AllocError>
+    requires fits { ShownFits unit.now }
+    ensures text { OnOk result (string_bytes text.new ≡ string_bytes text.old ++ value_shown unit.now spec.now place value.now) }
+{
+    if says_start(spec, unit.bytes, place) {
+        return push_source_table(text, unit.source, value.number);
+    }
+    push_other(text, unit, spec, place, value)
+}
+
+/// Appends an attribute with its value.
+#[tactic(auto, using(crate::proofs::RowTextLaws::piece_laws))]
+fn push_attribute(
+    text: &mut String,
+    unit: &ShownUnit,
+    spec: &Spec,
+    place: u64,
+    value: &Value,
+) -> Result<(), AllocError>
+    requires fits { ShownFits unit.now }
+    ensures text { OnOk result (string_bytes text.new ≡ string_bytes text.old ++ attribute_line spec.now.name (value_shown unit.now spec.now place value.now)) }
+{
+    push_attribute_front(text, spec.name)?;
+    push_value(text, unit, spec, place, value)?;
+    push_end(text)
+}
+
+/// Prints an attribute with its value.
+#[tactic(auto, using(crate::proofs::PrintingLaws::line_laws))]
+fn print_attribute<O: Sink>(
+    text: &mut String,
+    out: &mut O,
+    unit: &ShownUnit,
+    spec: &Spec,
+    place: u64,
+    value: &Value,
+) -> Result<(), ShowErr>
+    requires fits { ShownFits unit.now }
+    ensures done { OnOk result (Printed (attribute_line spec.now.name (value_shown unit.now spec.now place value.now)) (string_bytes text.old) (O.heard out.old) (O.heard out.new) (string_bytes text.new)) }
+    ensures cut { IfErr result (Cut (string_bytes text.old ++ (attribute_line spec.now.name (value_shown unit.now spec.now place value.now))) (O.heard out.old) (O.heard out.new)) }
+{
+    push_attribute(text, unit, spec, place, value)?;
+    write_full(text, out)
+}
+
+/// The value of an attribute at a place. `None` exactly where none can be read there.
+#[tactic(auto, using(crate::proofs::ShownLaws::read_laws))]
+fn value_in(unit: &UnitHeader, bytes: &[u8], spec: &Spec, place: u64) -> Option<Value>
+    requires address { IsTrue (is_address_size unit.now.params.address) }
+    ensures value { result ≡ value_at unit.now.params spec.now bytes.now place }
+    ensures within { IfSome result (λ v. place + v.size ≤ length bytes.now) }
+{
+    match value_at(
+        spec,
+        &unit.params,
+        unit.section,
+        bytes,
+        place,
+        bytes.len() as u64,
+    ) {
+        Ok(value) => Some(value),
+        Err(_) => None,
+    }
+}
+
+/// Prints the attributes of an entry whose values stand from a place on.
+#[tactic(auto, using(crate::proofs::ShownLaws::values_loop))]
+fn print_values<O: Sink>(
+    text: &mut String,
+    out: &mut O,
+    unit: &ShownUnit,
+    specs: &[Spec],
+    from: u64,
+) -> Result<(), ShowErr>
+    requires fits { ShownFits unit.now }
+    requires inside { from ≤ length unit.now.bytes }
+    ensures done { OnOk result (Printed (values_shown unit.now specs.now from) (string_bytes text.old) (O.heard out.old) (O.heard out.new) (string_bytes text.new)) }
+    ensures cut { IfErr result (Cut (string_bytes text.old ++ (values_shown unit.now specs.now from)) (O.heard out.old) (O.heard out.new)) }
+{
+    let mut place = from;
+    for spec in specs {
+        match value_in(unit.header, unit.bytes, spec, place) {
+            Some(value) => {
+                match print_attribute(text, out, unit, spec, place, &value) {
+                    Ok(()) => {}
+                    Err(e) => return Err(e),
+                }
+                place += value.size;
+            }
+            None => return Ok(()),
+        }
+    }
+    Ok(())
+}
+
+/// Prints the line of an entry.
+#[tactic(auto, using(crate::proofs::PrintingLaws::line_laws))]
+fn print_line<O: Sink>(
+    text: &mut String,
+    out: &mut O,
+    number: u64,
+    depth: u32,
+    tag: u64,
+) -> Result<(), ShowErr>
+    ensures done { OnOk result (Printed (entry_line number depth tag) (string_bytes text.old) (O.heard out.old) (O.heard out.new) (string_bytes text.new)) }
+    ensures cut { IfErr result (Cut (string_bytes text.old ++ (entry_line number depth tag)) (O.heard out.old) (O.heard out.new)) }
+{
+    push_entry(text, number, depth, tag)?;
+    write_full(text, out)
+}
+
+/// Prints an entry of a number with its attributes.
+#[tactic(auto, using(crate::proofs::PrintingLaws::then_laws, crate::proofs::EntryPrintLaws::entry_laws))]
+fn print_entry<O: Sink>(
+    text: &mut String,
+    out: &mut O,
+    unit: &ShownUnit,
+    number: u64,
+    entry: &Scanned,
+) -> Result<(), ShowErr>
+    requires fits { ShownFits unit.now }
+    ensures done { OnOk result (Printed (entry_text unit.now number entry.now) (string_bytes text.old) (O.heard out.old) (O.heard out.new) (string_bytes text.new)) }
+    ensures cut { IfErr result (Cut (string_bytes text.old ++ (entry_text unit.now number entry.now)) (O.heard out.old) (O.heard out.new)) }
+{
+    let Some((code, size)) = uleb_at(unit.bytes, entry.offset) else {
+        return Ok(());
+    };
+    let Some(abbrev) = unit.table.get(code) else {
+        return Ok(());
+    };
+    print_line(text, out, number, entry.depth, abbrev.tag)?;
+    print_values(
+        text,
+        out,
+        unit,
+        abbrev.specs.as_slice(),
+        entry.offset + size,
+    )
+}
+
+/// Prints the entries of a unit.
+#[tactic(auto, using(crate::proofs::ShownLaws::entries_loop))]
+fn print_entries<O: Sink>(
+    text: &mut String,
+    out: &mut O,
+    unit: &ShownUnit,
+    scan: EntryScan,
+) -> Result<(), ShowErr>
+    requires fits { ShownFits unit.now }
+    requires reads { CanRead unit.now.source.view unit.now.header unit.now.table }
+    requires bytes { unit.now.bytes ≡ unit_bytes unit.now.source.view unit.now.header }
+    requires start { scan ≡ scan_start unit.now.header unit.now.table unit.now.bytes }
+    ensures done { OnOk result (Printed (entries_text unit.now 0 (unit_entries unit.now.header unit.now.table unit.now.bytes)) (string_bytes text.old) (O.heard out.old) (O.heard out.new) (string_bytes text.new)) }
+    ensures cut { IfErr result (Cut (string_bytes text.old ++ (entries_text unit.now 0 (unit_entries unit.now.header unit.now.table unit.now.bytes))) (O.heard out.old) (O.heard out.new)) }
+{
+    let mut number = 0;
+    for entry in scan {
+        match entry {
+            Ok(entry) => match print_entry(text, out, unit, number, &entry) {
+                Ok(()) => {}
+                Err(e) => return Err(e),
+            },
+            Err(_) => unreachable!(),
+        }
+        number += 1;
+    }
+    Ok(())
+}
+
+/// A class of values that can say a base.
+fn is_base_class(class: ValueClass) -> bool
+    ensures { result ≡ is_base_class class }
+{
+    matches!(class, ValueClass::Number | ValueClass::SecOffset)
+}
+
+/// A value of an attribute says the base of the texts by index of its unit (DWARF 5, 3.1.1).
+fn says_base(spec: &Spec, class: ValueClass) -> bool
+    ensures { result ≡ says_base spec.now class }
+{
+    if spec.name != DW_AT_str_offsets_base {
+        return false;
+    }
+    is_base_class(class)
+}
+
+/// The base of texts by index that values say from a place on.
+#[tactic(auto, using(crate::proofs::BaseLaws::base_laws))]
+fn values_base(unit: &UnitHeader, bytes: &[u8], specs: &[Spec], from: u64) -> Option<u64>
+    requires address { IsTrue (is_address_size unit.now.params.address) }
+    requires small { length bytes.now ≤ 2 ^ 31 }
+    requires inside { from ≤ length bytes.now }
+    ensures base { result ≡ values_base unit.now.params bytes.now specs.now from }
+{
+    let mut place = from;
+    for spec in specs {
+        let value = match value_in(unit, bytes, spec, place) {
+            Some(value) => value,
+            None => return None,
+        };
+        if says_base(spec, value.class) {
+            return Some(value.number);
+        }
+        place += value.size;
+    }
+    None
+}
+
+/// The base that an entry says.
+#[tactic(auto, unfolding(crate::specs::ShownUnits::entry_base))]
+fn entry_base(unit: &UnitHeader, table: &AbbrevTable, bytes: &[u8], entry: &Scanned) -> Option<u64>
+    requires address { IsTrue (is_address_size unit.now.params.address) }
+    requires small { length bytes.now ≤ 2 ^ 31 }
+    ensures base { result ≡ entry_base unit.now.params table.now bytes.now entry.now }
+{
+    let (code, size) = uleb_at(bytes, entry.offset)?;
+    let abbrev = table.get(code)?;
+    values_base(unit, bytes, abbrev.specs.as_slice(), entry.offset + size)
+}
+
+/// The base of the texts by index of a unit: that of its first entry.
+#[tactic(auto, using(crate::proofs::BaseLaws::unit_laws))]
+fn unit_base(view: &View, unit: &UnitHeader, table: &AbbrevTable, bytes: &[u8]) -> Option<u64>
+    requires reads { CanRead view.now unit.now table.now }
+    requires address { IsTrue (is_address_size unit.now.params.address) }
+    requires small { length bytes.now ≤ 2 ^ 31 }
+    requires bytes { bytes.now ≡ unit_bytes view.now unit.now }
+    ensures base { result ≡ first_base unit.now.params table.now bytes.now (unit_entries unit.now table.now bytes.now) }
+{
+    for entry in EntryScan::new(view, unit, table) {
+        match entry {
+            Ok(entry) => return entry_base(unit, table, bytes, &entry),
+            Err(_) => unreachable!(),
+        }
+    }
+    None
+}
+
+/// The name of the section of a unit.
+fn section_name(view: &View, section: u32) -> &'static str
+    requires there { IsUnitSection view.now section }
+    requires above { 1 ≤ section }
+    ensures name { result.now ≡ kind_name (unit_section_at view.now section).kind }
+{
+    let Some(types) = view.section(DebugSection::Types.name(), section - 1) else {
+        return ".debug_info";
+    };
+    if types == section {
+        return ".debug_types";
+    }
+    ".debug_info"
+}
+
+/// Prints the first line of a unit.
+#[tactic(auto, using(crate::proofs::PrintingLaws::line_laws))]
+fn print_head<O: Sink>(
+    text: &mut String,
+    out: &mut O,
+    view: &View,
+    number: u64,
+    unit: &UnitHeader,
+) -> Result<(), ShowErr>
+    requires there { IsUnitSection view.now unit.now.section }
+    requires above { 1 ≤ unit.now.section }
+    ensures done { OnOk result (Printed (header_line view.now number unit.now) (string_bytes text.old) (O.heard out.old) (O.heard out.new) (string_bytes text.new)) }
+    ensures cut { IfErr result (Cut (string_bytes text.old ++ (header_line view.now number unit.now)) (O.heard out.old) (O.heard out.new)) }
+{
+    push_unit(text, number, section_name(view, unit.section), unit)?;
+    write_full(text, out)
+}
+
+/// Prints the entries of a unit with a table of abbreviations.
+#[tactic(auto, using(crate::proofs::EntryPrintLaws::with_laws))]
+fn print_with<O: Sink>(
+    text: &mut String,
+    out: &mut O,
+    source: &UnitSource,
+    number: u64,
+    unit: &UnitHeader,
+    table: &AbbrevTable,
+) -> Result<(), ShowErr>
+    requires fits { SourceFits source.now }
+    requires reads { CanRead source.now.view unit.now table.now }
+    ensures done { OnOk result (Printed (entries_text (shown_unit source.now number unit.now table.now) 0 (unit_entries unit.now table.now (unit_bytes source.now.view unit.now))) (string_bytes text.old) (O.heard out.old) (O.heard out.new) (string_bytes text.new)) }
+    ensures cut { IfErr result (Cut (string_bytes text.old ++ entries_text (shown_unit source.now number unit.now table.now) 0 (unit_entries unit.now table.now (unit_bytes source.now.view unit.now))) (O.heard out.old) (O.heard out.new)) }
+{
+    let bytes = &source.view.bytes(unit.section)[..unit.end as usize];
+    let shown = ShownUnit {
+        source,
+        number,
+        header: unit,
+        table,
+        bytes,
+        base: unit_base(source.view, unit, table, bytes),
+    };
+    print_entries(text, out, &shown, EntryScan::new(source.view, unit, table))
+}
+
+/// Prints the entries of a unit.
+#[tactic(auto, using(crate::proofs::EntryPrintLaws::tabled_laws))]
+fn print_tabled<O: Sink>(
+    text: &mut String,
+    out: &mut O,
+    source: &UnitSource,
+    number: u64,
+    unit: &ListedUnit,
+) -> Result<(), ShowErr>
+    requires fits { SourceFits source.now }
+    requires unit { EachReads source.now.view source.now.tables unit.now }
+    ensures done { OnOk result (Printed (tabled_text source.now number unit.now.header (item_at source.now.tables unit.now.table)) (string_bytes text.old) (O.heard out.old) (O.heard out.new) (string_bytes text.new)) }
+    ensures cut { IfErr result (Cut (string_bytes text.old ++ tabled_text source.now number unit.now.header (item_at source.now.tables unit.now.table)) (O.heard out.old) (O.heard out.new)) }
+{
+    match source.table(unit.table) {
+        Some(table) => print_with(text, out, source, number, &unit.header, table),
+        None => Ok(()),
+    }
+}
+
+/// Prints a unit of a number.
+#[tactic(auto, using(crate::proofs::EntryPrintLaws::unit_laws))]
+fn print_unit<O: Sink>(
+    text: &mut String,
+    out: &mut O,
+    source: &UnitSource,
+    number: u64,
+    unit: &ListedUnit,
+) -> Result<(), ShowErr>
+    requires fits { SourceFits source.now }
+    requires unit { EachReads source.now.view source.now.tables unit.now }
+    ensures done { OnOk result (Printed (one_shown source.now number unit.now) (string_bytes text.old) (O.heard out.old) (O.heard out.new) (string_bytes text.new)) }
+    ensures cut { IfErr result (Cut (string_bytes text.old ++ one_shown source.now number unit.now) (O.heard out.old) (O.heard out.new)) }
+{
+    print_head(text, out, source.view, number, &unit.header)?;
+    print_tabled(text, out, source, number, unit)
+}
+
+/// Prints units, numbered from 0.
+#[tactic(auto, using(crate::proofs::ShownLaws::units_loop))]
+fn print_all<O: Sink>(
+    text: &mut String,
+    out: &mut O,
+    source: &UnitSource,
+    units: &[ListedUnit],
+) -> Result<(), ShowErr>
+    requires fits { SourceFits source.now }
+    requires units { AllCanRead source.now.view source.now.tables units.now }
+    ensures done { OnOk result (Printed (all_shown source.now 0 units.now) (string_bytes text.old) (O.heard out.old) (O.heard out.new) (string_bytes text.new)) }
+    ensures cut { IfErr result (Cut (string_bytes text.old ++ all_shown source.now 0 units.now) (O.heard out.old) (O.heard out.new)) }
+{
+    for (number, unit) in units.iter().enumerate() {
+        match print_unit(text, out, source, number as u64, unit) {
+            Ok(()) => {}
+            Err(e) => return Err(e),
+        }
+    }
+    Ok(())
+}
+
+/// Prints the units of a source.
+#[tactic(auto, using(crate::proofs::ShownLaws::source_laws))]
+pub(crate) fn print_units<O: Sink>(
+    text: &mut String,
+    out: &mut O,
+    source: &UnitSource,
+) -> Result<(), ShowErr>
+    requires fits { SourceFits source.now }
+    ensures done { OnOk result (Printed (all_shown source.now 0 source.now.units) (string_bytes text.old) (O.heard out.old) (O.heard out.new) (string_bytes text.new)) }
+    ensures cut { IfErr result (Cut (string_bytes text.old ++ all_shown source.now 0 source.now.units) (O.heard out.old) (O.heard out.new)) }
+{
+    print_all(text, out, source, source.units())
+}

@@ -1,0 +1,261 @@
+//! What units are read by again when they are printed, and the entries and texts that their values name.
+//!
+//! Read first: `specs/ShownUnits.antt`.
+
+ghost use Rattle.std.specs.Prelude.{◌≡◌, ◌<◌, ◌≤◌, ◌^◌, drop, length, option_map, IfErr, IfOk};
+ghost use Rattle.dw_base.specs.EntryValues.{HasUnit};
+ghost use Rattle.dw_base.specs.Texts.{text_in};
+ghost use Rattle.dw_base.specs.ViewData.{debug_data, located};
+ghost use Rattle.dw_base.specs.DebugSections.{name_of};
+ghost use Rattle.dw_base.specs.Forms.{width_size};
+ghost use Rattle.dw_base.specs.DebugData.{start_number};
+ghost use Rattle.dw_entries.specs.ViewUnits.{unit_section_at};
+ghost use Rattle.dw_offsets.specs.SlotSearch.{BasesRise, HasBase, IsBaseGap};
+ghost use Rattle.dbg_show.specs.EntryIndexes.{AreBefore, place_key, unit_number, unit_starts};
+ghost use Rattle.dbg_show.specs.ShownUnits.{UnitSource as UnitSourceOf, index_text, info_section, lies_in, named_in, slot_size, slot_text};
+ghost use Rattle.dbg_show.specs.UnitReads.{SourceFits};
+ghost use Rattle.dw_base.specs.LineMeanings.{item_at};
+ghost use Rattle.dw_base.specs.StringOffsets.{slot_place};
+
+use crate::entry_index::{EntryIndex, place_key, table_at};
+use crate::listed_unit::ListedUnit;
+use dw_abbrev::AbbrevTable;
+use dw_base::{Contribution, DebugSection, Order, UnitHeader, Width, number_at};
+use dw_offsets::{ContributionList, slot_place};
+use dw_strings::text_at;
+use dw_view::View;
+use std::marker::Model;
+
+/// No unit ends behind this place of its section.
+const MOST_PLACE: u64 = 0x1_0000_0000;
+
+/// The view, all its units in order, their tables of abbreviations by their numbers, where they and their entries start, the contributions of
+/// string offsets, and where line tables and the macro units of the first section of them start.
+#[derive(Drop)]
+pub(crate) struct UnitSource<'v, 'f, 'u> {
+    pub view: &'v View<'f>,
+    pub units: &'u [ListedUnit],
+    pub tables: &'u [AbbrevTable],
+    pub index: &'u EntryIndex,
+    pub contributions: &'u ContributionList,
+    pub starts: &'u [u64],
+    pub macros: &'u [u64],
+}
+
+impl<'v, 'f, 'u> Model for UnitSource<'v, 'f, 'u> {
+    ghost Value = { UnitSourceOf };
+
+    ghost view = { λ s. record { view = s.view.now; units = s.units.now; tables = s.tables.now; index = s.index.now; contributions = s.contributions.now; starts = s.starts.now; macros = s.macros.now } };
+}
+
+/// A place of a section lies in a unit.
+#[tactic(auto)]
+fn lies_in(unit: &UnitHeader, section: u32, place: u64) -> bool
+    ensures { result ≡ lies_in unit.now section place }
+{
+    unit.section == section && unit.start <= place && place < unit.end
+}
+
+impl<'v, 'f, 'u> UnitSource<'v, 'f, 'u> {
+    /// How many units start at a place of a section or in front of it.
+    #[tactic(auto, using(crate::proofs::SourceLaws::before_laws))]
+    fn units_before(&self, section: u32, place: u64) -> usize
+        requires source { SourceFits self.now }
+        requires small { place < 2 ^ 32 }
+        ensures before { AreBefore (unit_starts self.now.units) (place_key section place) result }
+        ensures inside { result ≤ length self.now.units }
+    {
+        let index = self.index;
+        index.units_before(place_key(section, place))
+    }
+
+    /// The number of the entry of a unit that starts at a place.
+    #[tactic(auto, using(crate::proofs::SourceLaws::number_laws))]
+    fn number_in(&self, unit: usize, place: u64) -> Option<u64>
+        requires source { SourceFits self.now }
+        requires inside { unit < length self.now.units }
+        requires small { place < 2 ^ 32 }
+        ensures number { result ≡ unit_number self.now.view self.now.tables self.now.units unit place }
+    {
+        let index = self.index;
+        index.number_in(unit, place)
+    }
+
+    /// The entry that starts at a place of a section: the number of its unit, and its number there.
+    #[tactic(auto, using(crate::proofs::SourceLaws::named_laws))]
+    pub(crate) fn entry(&self, section: u32, place: u64) -> Option<(u64, u64)>
+        requires source { SourceFits self.now }
+        ensures entry { result ≡ named_in self.now.view self.now.tables 0 self.now.units section place }
+    {
+        if place >= MOST_PLACE {
+            return None;
+        }
+        let before = self.units_before(section, place);
+        if before == 0 {
+            return None;
+        }
+        let unit = before - 1;
+        let units = self.units();
+        if !lies_in(&units[unit].header, section, place) {
+            return None;
+        }
+        match self.number_in(unit, place) {
+            Some(number) => Some((unit as u64, number)),
+            None => None,
+        }
+    }
+
+    /// A table of a number.
+    pub(crate) fn table(&self, number: u64) -> Option<&'u AbbrevTable>
+        ensures table { option_map (λ t. t.now) result ≡ item_at self.now.tables number }
+    {
+        table_at(self.tables, number)
+    }
+
+    /// The units.
+    pub(crate) fn units(&self) -> &'u [ListedUnit]
+        ensures { result.now ≡ self.now.units }
+    {
+        self.units
+    }
+
+    /// Where line tables start.
+    pub(crate) fn starts(&self) -> &'u [u64]
+        ensures { result.now ≡ self.now.starts }
+    {
+        self.starts
+    }
+
+    /// Where the macro units of the first section of them start.
+    pub(crate) fn macros(&self) -> &'u [u64]
+        ensures { result.now ≡ self.now.macros }
+    {
+        self.macros
+    }
+
+    /// The text of an index in the contribution of a base.
+    pub(crate) fn indexed(&self, base: Option<u64>, index: u64) -> Option<&'v [u8]>
+        ensures text { option_map (λ t. t.now) result ≡ index_text self.now.view self.now.contributions base index }
+    {
+        match base {
+            Some(base) => based_text(self.view, self.contributions, base, index),
+            None => None,
+        }
+    }
+}
+
+/// The text of an index in the contribution of a base.
+fn based_text<'v>(
+    view: &'v View,
+    contributions: &ContributionList,
+    base: u64,
+    index: u64,
+) -> Option<&'v [u8]>
+    ensures text { option_map (λ t. t.now) result ≡ option_map (λ place. slot_text view.now place (slot_size contributions.now base)) (slot_place contributions.now base index) }
+{
+    match slot_place(contributions, base, index) {
+        Some(place) => {
+            let size = slot_size(contributions.as_slice(), base);
+            Some(slot_text(view, place, size))
+        }
+        None => None,
+    }
+}
+
+/// The number of the first section of the name `.debug_info`, or 0.
+pub(crate) fn info_section(view: &View) -> u32
+    ensures { result ≡ info_section view.now }
+{
+    match view.first(DebugSection::Info) {
+        Some(section) => section,
+        None => 0,
+    }
+}
+
+/// The bytes of the first section of a name; none where there is no such section.
+#[tactic(auto, unfolding(dw_base::specs::ViewData::located))]
+fn bytes_of<'v>(view: &'v View, name: DebugSection) -> &'v [u8]
+    ensures { result.now ≡ (located view.now name).bytes }
+{
+    match view.first(name) {
+        Some(section) => view.bytes(section),
+        None => &[],
+    }
+}
+
+/// The bytes from a place on, as far as they are there.
+#[tactic(auto, using(crate::proofs::ListLaws::part_laws))]
+fn bytes_from(bytes: &[u8], at: u64) -> &[u8]
+    ensures { result.now ≡ drop at bytes.now }
+{
+    let from = at.min(bytes.len() as u64);
+    let (_, rest) = bytes.split_at(from as usize);
+    rest
+}
+
+/// The bytes from a place on up to the first NUL, or all of them.
+#[tactic(auto, using(crate::proofs::SourceLaws::text_laws))]
+fn text_from(bytes: &[u8], at: u64) -> &[u8]
+    ensures { result.now ≡ text_in bytes.now at }
+{
+    match text_at(0, bytes, at) {
+        Ok(text) => text,
+        Err(_) => bytes_from(bytes, at),
+    }
+}
+
+/// The text at a place of a table of texts.
+pub(crate) fn text_of<'v>(view: &'v View, table: DebugSection, at: u64) -> &'v [u8]
+    ensures { result.now ≡ text_in (located view.now table).bytes at }
+{
+    text_from(bytes_of(view, table), at)
+}
+
+/// How many bytes an offset has (DWARF 5, 7.4).
+fn width_size(width: Width) -> u8
+    ensures size { result ≡ width_size width }
+    ensures some { 0 < result }
+    ensures wide { result ≤ 8 }
+{
+    match width {
+        Width::W32 => 4,
+        Width::W64 => 8,
+    }
+}
+
+/// Which contribution has a base, or where it would stand. Their bases rise.
+fn with_base(list: &[Contribution], base: u64) -> Result<usize, usize>
+    requires rising { BasesRise list.now }
+    ensures found { IfOk result (HasBase list.now base) }
+    ensures absent { IfErr result (IsBaseGap list.now base) }
+{
+    list.binary_search_by_key(&base, |contribution| contribution.base)
+}
+
+/// How many bytes the slots of the contribution of a base have.
+#[tactic(auto, using(crate::proofs::SourceLaws::size_laws))]
+fn slot_size(list: &[Contribution], base: u64) -> u8
+    requires rising { BasesRise list.now }
+    ensures size { result ≡ slot_size list.now base }
+    ensures some { 0 < result }
+    ensures wide { result ≤ 8 }
+{
+    match with_base(list, base) {
+        Ok(at) => width_size(list[at].width),
+        Err(_) => 4,
+    }
+}
+
+/// The text of the slot that stands at a place, of so many bytes.
+#[tactic(auto, unfolding(crate::specs::ShownUnits::slot_text))]
+fn slot_text<'v>(view: &'v View, place: u64, size: u8) -> &'v [u8]
+    requires some { 0 < size }
+    requires wide { size ≤ 8 }
+    ensures { result.now ≡ slot_text view.now place size }
+{
+    let offsets = bytes_of(view, DebugSection::StrOffsets);
+    match number_at(view.order(), offsets, place, size) {
+        Some(at) => text_of(view, DebugSection::Str, at),
+        None => text_of(view, DebugSection::Str, 0),
+    }
+}

@@ -1,0 +1,154 @@
+//! What values say.
+
+ghost use Rattle.std.specs.Prelude.{◌≡◌, ◌++◌, OnOk, codes};
+ghost use Rattle.std.specs.String.{string_bytes};
+ghost use Rattle.dbg_show.specs.UnitTexts.{address_said, byte_digits, bytes_digits, bytes_said, entry_said, flag_said, index_said, lines_said, macros_said, number_said, offset_said, signature_said, signed_said, stray_said, text_said};
+ghost use Rattle.dbg_show.specs.ShownUnits.{reference_said};
+
+use crate::quoting::push_quoted;
+use std::alloc::AllocError;
+
+/// Appends a text.
+#[tactic(auto, using(crate::proofs::RowTextLaws::piece_laws))]
+pub(crate) fn push_text(text: &mut String, bytes: &[u8]) -> Result<(), AllocError>
+    ensures text { OnOk result (string_bytes text.new ≡ string_bytes text.old ++ text_said bytes.now) }
+{
+    text.push_str("text ")?;
+    push_quoted(text, bytes)
+}
+
+/// Appends a byte by two digits.
+#[tactic(auto, unfolding(crate::specs::UnitTexts::byte_digits))]
+fn push_byte(text: &mut String, byte: u8) -> Result<(), AllocError>
+    ensures text { OnOk result (string_bytes text.new ≡ string_bytes text.old ++ byte_digits byte) }
+{
+    if byte < 0x10 {
+        return write!(text, "0{byte:x}");
+    }
+    write!(text, "{byte:x}")
+}
+
+/// Appends the digits of bytes.
+#[tactic(auto, using(crate::proofs::DigitLaws::digits_laws))]
+fn push_digits(text: &mut String, bytes: &[u8]) -> Result<(), AllocError>
+    ensures text { OnOk result (string_bytes text.new ≡ string_bytes text.old ++ bytes_digits bytes.now) }
+{
+    for &byte in bytes {
+        push_byte(text, byte)?;
+    }
+    Ok(())
+}
+
+/// Appends bytes.
+#[tactic(auto, using(crate::proofs::RowTextLaws::piece_laws))]
+pub(crate) fn push_bytes(text: &mut String, bytes: &[u8]) -> Result<(), AllocError>
+    ensures text { OnOk result (string_bytes text.new ≡ string_bytes text.old ++ bytes_said bytes.now) }
+{
+    text.push_str("bytes ")?;
+    push_digits(text, bytes)
+}
+
+/// Appends a reference to an entry.
+#[tactic(auto, unfolding(crate::specs::UnitTexts::entry_said))]
+fn push_entry(text: &mut String, unit: u64, number: u64) -> Result<(), AllocError>
+    ensures text { OnOk result (string_bytes text.new ≡ string_bytes text.old ++ entry_said unit number) }
+{
+    write!(text, "entry {unit}:{number}")
+}
+
+/// Appends an offset that names nothing.
+#[tactic(auto, unfolding(crate::specs::UnitTexts::stray_said))]
+pub(crate) fn push_stray(text: &mut String, offset: u64) -> Result<(), AllocError>
+    ensures text { OnOk result (string_bytes text.new ≡ string_bytes text.old ++ stray_said offset) }
+{
+    write!(text, "stray {offset}")
+}
+
+/// Appends the entry that an offset names, or the offset where it names none.
+pub(crate) fn push_reference(
+    text: &mut String,
+    entry: Option<(u64, u64)>,
+    offset: u64,
+) -> Result<(), AllocError>
+    ensures text { OnOk result (string_bytes text.new ≡ string_bytes text.old ++ reference_said entry offset) }
+{
+    match entry {
+        Some((unit, number)) => push_entry(text, unit, number),
+        None => push_stray(text, offset),
+    }
+}
+
+/// Appends the number of a line table.
+#[tactic(auto, unfolding(crate::specs::UnitTexts::lines_said))]
+pub(crate) fn push_lines(text: &mut String, number: u64) -> Result<(), AllocError>
+    ensures text { OnOk result (string_bytes text.new ≡ string_bytes text.old ++ lines_said number) }
+{
+    write!(text, "lines {number}")
+}
+
+/// Appends the number of a macro unit.
+#[tactic(auto, unfolding(crate::specs::UnitTexts::macros_said))]
+pub(crate) fn push_macros(text: &mut String, number: u64) -> Result<(), AllocError>
+    ensures text { OnOk result (string_bytes text.new ≡ string_bytes text.old ++ macros_said number) }
+{
+    write!(text, "macros {number}")
+}
+
+/// Appends a signed number.
+#[tactic(auto, unfolding(crate::specs::UnitTexts::signed_said))]
+pub(crate) fn push_signed(text: &mut String, number: i64) -> Result<(), AllocError>
+    ensures text { OnOk result (string_bytes text.new ≡ string_bytes text.old ++ signed_said number) }
+{
+    write!(text, "signed {number}")
+}
+
+/// Appends a number.
+#[tactic(auto, unfolding(crate::specs::UnitTexts::number_said))]
+pub(crate) fn push_number(text: &mut String, number: u64) -> Result<(), AllocError>
+    ensures text { OnOk result (string_bytes text.new ≡ string_bytes text.old ++ number_said number) }
+{
+    write!(text, "number {number}")
+}
+
+/// Appends a flag.
+#[tactic(auto, unfolding(crate::specs::UnitTexts::flag_said))]
+pub(crate) fn push_flag(text: &mut String, number: u64) -> Result<(), AllocError>
+    ensures text { OnOk result (string_bytes text.new ≡ string_bytes text.old ++ flag_said number) }
+{
+    if number == 0 {
+        return text.push_str("flag 0");
+    }
+    text.push_str("flag 1")
+}
+
+/// Appends an address.
+#[tactic(auto, unfolding(crate::specs::UnitTexts::address_said))]
+pub(crate) fn push_address(text: &mut String, number: u64) -> Result<(), AllocError>
+    ensures text { OnOk result (string_bytes text.new ≡ string_bytes text.old ++ address_said number) }
+{
+    write!(text, "address 0x{number:x}")
+}
+
+/// Appends an index.
+#[tactic(auto, unfolding(crate::specs::UnitTexts::index_said))]
+pub(crate) fn push_index(text: &mut String, number: u64) -> Result<(), AllocError>
+    ensures text { OnOk result (string_bytes text.new ≡ string_bytes text.old ++ index_said number) }
+{
+    write!(text, "index {number}")
+}
+
+/// Appends a signature.
+#[tactic(auto, unfolding(crate::specs::UnitTexts::signature_said))]
+pub(crate) fn push_signature(text: &mut String, number: u64) -> Result<(), AllocError>
+    ensures text { OnOk result (string_bytes text.new ≡ string_bytes text.old ++ signature_said number) }
+{
+    write!(text, "signature 0x{number:x}")
+}
+
+/// Appends an offset into another section.
+#[tactic(auto, unfolding(crate::specs::UnitTexts::offset_said))]
+pub(crate) fn push_offset(text: &mut String, number: u64) -> Result<(), AllocError>
+    ensures text { OnOk result (string_bytes text.new ≡ string_bytes text.old ++ offset_said number) }
+{
+    write!(text, "offset {number}")
+}
