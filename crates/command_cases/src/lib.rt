@@ -15,6 +15,8 @@ use std::alloc::Global;
 #[cfg(test)]
 mod ends;
 #[cfg(test)]
+mod pairs;
+#[cfg(test)]
 mod runs;
 #[cfg(test)]
 mod settings;

@@ -12,7 +12,7 @@ const EDIT: &str = "edit in out --base-dir /build/p --dest-dir /usr/src/debug/p"
 const MIXED_EDIT: &str = "edit --dest-dir=/usr/src/debug/p/ ./in --base-dir /build/p -- out//";
 
 /// Words that are no command, and words of commands that aren't carried out.
-const USAGE: [&str; 12] = [
+const USAGE: [&str; 11] = [
     "edit",
     "edit in ./in --base-dir /build/p --dest-dir /usr/src/debug/p",
     "edit in out --base-dir /build/p --dest-dir /usr/src/debug/p --max-file 01",
@@ -22,7 +22,6 @@ const USAGE: [&str; 12] = [
     "split in out out.debug",
     "run /r --base-dir /build/p --dest-dir /usr/src/debug/p",
     "run /r --base-dir /build/p --dest-dir /usr/src/debug/p --jobs 2",
-    "show in out",
     "exercise 0 1",
     "check in out out.debug",
 ];

@@ -11,7 +11,7 @@ const LISTED_EDIT: &str =
     "edit in out --list-file ./l --base-dir /build/p --dest-dir /usr/src/debug/p";
 
 /// The bytes of the file with a line table.
-fn file_with_lines(alloc: Global) -> Result<Vec<u8>, AllocError> {
+pub(crate) fn file_with_lines(alloc: Global) -> Result<Vec<u8>, AllocError> {
     let mut bytes = Vec::new(alloc);
     for piece in WITH_LINES {
         bytes.extend_from_slice(piece)?;
@@ -25,7 +25,7 @@ fn tree_with_lines(alloc: Global) -> Result<MemTree, TreeErr> {
 }
 
 /// Asserts what a run answered, and what went to its sinks.
-fn assert_ran(rt: &impl Abort, ran: &Ran, status: u8, output: &str, line: &str) {
+pub(crate) fn assert_ran(rt: &impl Abort, ran: &Ran, status: u8, output: &str, line: &str) {
     assert_eq!(rt; ran.status, status, "where {line} is due");
     assert_eq!(rt; ran.output.bytes(), output.as_bytes());
     assert_eq!(rt; ran.errors.bytes(), line.as_bytes());

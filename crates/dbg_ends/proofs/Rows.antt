@@ -1,8 +1,10 @@
 -- The rows of the steps' relations, for the functions that end by them.
-use Rattle.dbg_ends.specs.Steps.{InputEnds as input, OutputTaken as taken, OutputEnds as output, OutputsEnd as outputs}
+use Rattle.dbg_ends.specs.Steps.{FaultEnds as fault, InputEnds as input, OutputTaken as taken, OutputEnds as output, OutputsEnd as outputs}
 use Rattle.dbg_ends.specs.Told.{Told as told, LineGoes as goes}
 use Rattle.dbg_ends.proofs.StepLaws.{output_free, first_alone, one_then_other}
 use Rattle.dbg_ends.specs.Due.IsCut.{tree_fault, no_memory}
+
+pub ruleset fault_rows = (fault.refused, fault.memory)
 
 pub ruleset input_rows = (input.absent, input.folder, input.link, input.large, input.failed, input.memory, tree_fault, no_memory)
 

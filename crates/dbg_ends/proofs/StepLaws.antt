@@ -2,14 +2,22 @@
 use Rattle.std.proofs.Common.{◌≡◌, ◌≤◌, ℕ, true, false, List, Some, None, arith, refl, sym, ap, ◌∙◌, subst}
 use Rattle.std.specs.Prelude.{Option, is_some}
 use Rattle.std.specs.FinMap as fin
+use Rattle.dw_base.specs.Refusals.{Blames}
+use Rattle.dw_base.specs.declared.fault.Fault.{Fault}
+use Rattle.dw_base.specs.declared.fault.Refusal.{Refusal}
 use Rattle.file_tree.specs.declared.node.Found.{Found}
 use Rattle.file_tree.specs.Trees.{TreeMap}
 use Rattle.file_tree.specs.Causes.{Stood, OnlyAt}
 use Rattle.dbg_ends.specs.Due.{IsFree}
 use Rattle.file_tree.specs.Seen.{Seen, now_of}
 use Rattle.dbg_ends.specs.declared.end.End.{End}
-use Rattle.dbg_ends.specs.Steps.{OutputFree, OutputEnds, OutputsEnd, OnlyAtBoth}
-use Rattle.dbg_ends.specs.Steps.{OutputEnds as output, OutputsEnd as outputs}
+use Rattle.dbg_ends.specs.Steps.{BlamesAt, FaultEnds, OutputFree, OutputEnds, OutputsEnd, OnlyAtBoth}
+use Rattle.dbg_ends.specs.Steps.{BlamesAt as blames, FaultEnds as fault, OutputEnds as output, OutputsEnd as outputs}
+
+-- what a fault is blamed for, its end is
+pub blames_at : (fails : Refusal → Type 0) (path : List ℕ) (f : Fault) (e : End) → Blames fails f → FaultEnds path f e → BlamesAt fails path e
+blames_at fails path f e row fault.refused = blames.refused row
+blames_at fails path f e row fault.memory = blames.memory
 
 -- where this stood at the path, and a file may be put in its place, the path is free
 pub output_free : (old : Option TreeMap) (path : List ℕ) (what : Found) → Stood old path 0 what → IsFree what → OutputFree old path

@@ -45,6 +45,7 @@ pub data IsRefusal (n : ℕ) : Type 0 where
   no_file : n ≡ 4 → IsRefusal n
   taken : n ≡ 5 → IsRefusal n
   limit : n ≡ 8 → IsRefusal n
+  no_pair : n ≡ 12 → IsRefusal n
 
 -- the status is this one only where it is due, and is it wherever it is due, those aside that may come in its place
 pub record Exactly (cut : ℕ → Type 0) (answer status : ℕ) (due : Type 0) : Type 0 where

@@ -4,6 +4,8 @@ use Rattle.std.specs.Fmt.{decimal}
 use Rattle.dbg_job.specs.Kinds.{kind_text}
 use Rattle.file_tree.specs.declared.node.TreeErr.{TreeErr}
 use Rattle.file_tree.specs.declared.node.TreeErr.TheVariants as tree
+use Rattle.dw_view.specs.declared.mismatch.Mismatch.{Mismatch}
+use Rattle.dw_view.specs.declared.mismatch.Mismatch.TheVariants.{NoLink, Name, Sum}
 use Rattle.dbg_ends.specs.declared.end.End.{End}
 use Rattle.dbg_ends.specs.declared.end.End.TheVariants as end
 
@@ -19,12 +21,19 @@ status_of (end.Taken path) = 5
 status_of end.TreeFault = 6
 status_of end.OutputFault = 7
 status_of (end.Limit path size) = 8
+status_of (end.NotAPair mismatch) = 12
 status_of end.NoMemory = 13
 
 -- how a command ends where a call of the tree fails
 abbrev pub end_of_tree : TreeErr → End
 end_of_tree tree.Failed = end.TreeFault
 end_of_tree tree.NoMemory = end.NoMemory
+
+-- how two files aren't a pair, as it is printed
+unfoldable pub mismatch_text : Mismatch → List ℕ
+mismatch_text NoLink = codes "no link"
+mismatch_text (Name named found) = codes "name"
+mismatch_text (Sum named found) = codes "sum"
 
 -- the line, with its line end; none where the command is done
 unfoldable pub line_of : End → List ℕ
@@ -36,6 +45,7 @@ line_of (end.Folder path) = codes "folder: " ++ (path ++ codes "\n")
 line_of (end.Link path) = codes "link: " ++ (path ++ codes "\n")
 line_of (end.Taken path) = codes "taken: " ++ (path ++ codes "\n")
 line_of (end.Limit path size) = codes "limit: file " ++ (path ++ (codes " " ++ (decimal size ++ codes "\n")))
+line_of (end.NotAPair mismatch) = codes "not a pair: " ++ (mismatch_text mismatch ++ codes "\n")
 line_of end.TreeFault = codes "tree fault\n"
 line_of end.OutputFault = codes "output fault\n"
 line_of end.NoMemory = codes "no memory\n"

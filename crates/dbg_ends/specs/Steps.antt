@@ -1,6 +1,9 @@
 -- The steps that commands share: how each may end, and what became of the tree.
 use Rattle.std.specs.Prelude.{◌≡◌, ◌≢◌, ◌<◌, ℕ, List, Option, Some, is_some}
 use Rattle.std.specs.FinMap as fin
+use Rattle.dw_base.specs.declared.fault.Fault.{Fault}
+use Rattle.dw_base.specs.declared.fault.Fault.TheVariants.{Refused}
+use Rattle.dw_base.specs.declared.fault.Refusal.{Refusal}
 use Rattle.file_tree.specs.declared.node.Found.TheVariants as found
 use Rattle.file_tree.specs.declared.call.Call.TheVariants as call
 use Rattle.file_tree.specs.declared.call.Effect.TheVariants as effect
@@ -19,6 +22,16 @@ pub data InputEnds (path : List ℕ) (limit : ℕ) (old new : Seen) : End → Ty
   large : {size : ℕ} → limit < size → Stood (now_of old) path limit (found.TooLarge size) → InputEnds path limit old new (end.Limit path size)
   failed : Rose old.faults new.faults → InputEnds path limit old new end.TreeFault
   memory : InputEnds path limit old new end.NoMemory
+
+-- the end of a fault of the file at a path: its refusal, or want of memory
+pub data FaultEnds (path : List ℕ) : Fault → End → Type 0 where
+  refused : {r : Refusal} → FaultEnds path (Refused r) (end.Refused path r)
+  memory : {f : Fault} → FaultEnds path f end.NoMemory
+
+-- the file at a path is refused, and this holds of the refusal; or memory is wanting
+pub data BlamesAt (fails : Refusal → Type 0) (path : List ℕ) : End → Type 0 where
+  refused : {r : Refusal} → fails r → BlamesAt fails path (end.Refused path r)
+  memory : BlamesAt fails path end.NoMemory
 
 -- how the look at an output's path ends where no file may be put there; the tree is as it was. It is read with limit 0,
 -- so that of a file that is there no bytes are taken

@@ -3,6 +3,7 @@ ghost use Rattle.std.specs.Prelude.{◌≡◌};
 ghost use Rattle.dbg_ends.specs.Ends.{status_of};
 
 use dw_base::Refusal;
+use dw_view::Mismatch;
 use file_tree::{Text, TreeErr};
 use std::alloc::AllocError;
 
@@ -29,6 +30,8 @@ pub enum End {
     TreeFault,
     /// A write to the output failed.
     OutputFault,
+    /// A stripped file and a debug file aren't a pair, for this reason.
+    NotAPair(Mismatch),
     /// There was not enough memory.
     NoMemory,
 }
@@ -71,6 +74,7 @@ pub fn status(end: &End) -> u8
         End::TreeFault => 6,
         End::OutputFault => 7,
         End::Limit { .. } => 8,
+        End::NotAPair(_) => 12,
         End::NoMemory => 13,
     }
 }

@@ -9,12 +9,14 @@
 #![tactic(auto)]
 
 pub mod end;
+pub mod fault;
 pub mod input;
 pub mod line;
 pub mod output;
 pub mod telling;
 
 pub use end::End;
+pub use fault::fault_end;
 pub use input::read_input;
 pub use output::{free_output, write_output, write_with_list};
 pub use telling::tell;

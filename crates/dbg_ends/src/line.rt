@@ -2,11 +2,12 @@
 ghost use Rattle.std.specs.Prelude.{◌≡◌, IfOk};
 ghost use Rattle.std.specs.String.{string_bytes};
 ghost use Rattle.dbg_ends.specs.declared.end.End.TheVariants as end;
-ghost use Rattle.dbg_ends.specs.Ends.{line_of};
+ghost use Rattle.dbg_ends.specs.Ends.{line_of, mismatch_text};
 
 use crate::end::End;
 use dbg_job::kind_name;
 use dw_base::Refusal;
+use dw_view::Mismatch;
 use std::alloc::{AllocError, Global};
 
 /// The line of a refusal of the file at the path.
@@ -26,6 +27,18 @@ fn limit_line(alloc: Global, path: &str, size: u64) -> Result<String, AllocError
     ensures text { IfOk result (λ s. string_bytes s ≡ line_of (end.Limit path.now size)) }
 {
     format!(in alloc; "limit: file {path} {size}\n")
+}
+
+/// How two files aren't a pair, as it is printed.
+#[tactic(auto, unfolding(crate::specs::Ends::mismatch_text))]
+fn mismatch_name(mismatch: &Mismatch) -> &'static str
+    ensures text { result.now ≡ mismatch_text mismatch.now }
+{
+    match mismatch {
+        Mismatch::NoLink => "no link",
+        Mismatch::Name { .. } => "name",
+        Mismatch::Sum { .. } => "sum",
+    }
 }
 
 /// The line of an end; nothing where the command is done.
@@ -54,6 +67,10 @@ pub fn line(alloc: Global, end: &End) -> Result<String, AllocError>
             format!(in alloc; "taken: {path}\n")
         }
         End::Limit { path, size } => limit_line(alloc, path.as_str(), *size),
+        End::NotAPair(mismatch) => {
+            let why = mismatch_name(mismatch);
+            format!(in alloc; "not a pair: {why}\n")
+        }
         End::TreeFault => String::from_str(alloc, "tree fault\n"),
         End::OutputFault => String::from_str(alloc, "output fault\n"),
         End::NoMemory => String::from_str(alloc, "no memory\n"),

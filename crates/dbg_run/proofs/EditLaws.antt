@@ -1,21 +1,25 @@
 -- Laws on the steps of an edit.
-use Rattle.std.proofs.Common.{◌≡◌, ◌⊎◌, inl, inr, ℕ, List, Some, refl, sym, ◌∙◌, subst}
+use Rattle.std.proofs.Common.{◌≡◌, ◌⊎◌, inl, inr, ℕ, true, List, Some, refl, sym, ap, ◌∙◌, subst}
+use Rattle.std.specs.Prelude.{Option, option_map}
 use Rattle.dw_meaning.specs.EditRows.{IsAccepted, EditFails}
+use Rattle.dw_meaning.specs.FileMeanings.{IsOutput}
 use Rattle.dw_base.specs.Paths.{PathMap}
 use Rattle.dw_meaning.proofs.EditRowLaws.{edit-excludes}
 use Rattle.dw_base.specs.declared.fault.Refusal.{Refusal}
 use Rattle.file_tree.specs.declared.node.Found.{Found}
 use Rattle.file_tree.specs.declared.node.Found.TheVariants as found
+use Rattle.file_tree.specs.declared.node.Node.TheVariants as node
+use Rattle.file_tree.specs.Causes.{Calm, Stood}
 use Rattle.file_tree.specs.Seen.{Seen, now_of}
-use Rattle.file_tree.specs.Trees.{TreeMap, stands_at}
+use Rattle.file_tree.specs.Trees.{TreeMap, stands_at, with_node}
 use Rattle.dbg_ends.specs.declared.end.End.{End}
 use Rattle.dbg_ends.specs.declared.end.End.TheVariants as end
 use Rattle.dbg_ends.specs.Due.{InputDue, IsCut, IsFree, OutputDue}
 use Rattle.dbg_ends.specs.Due.IsCut.{tree_fault, no_memory}
 use Rattle.dbg_ends.specs.Ends.{status_of}
-use Rattle.dbg_ends.specs.Steps.{InputEnds, OutputTaken, OutputEnds, OutputsEnd}
+use Rattle.dbg_ends.specs.Steps.{InputEnds, IsSettled, OutputFree, OutputTaken, OutputEnds, OutputsEnd, list_mode}
 use Rattle.dbg_ends.specs.Steps.{InputEnds as inputs, OutputTaken as outputs, OutputEnds as written, OutputsEnd as both_written}
-use Rattle.dbg_run.specs.Edits.{EditEnds, EditUnopposed, ListedEnds, ListedUnopposed, RewriteEnds}
+use Rattle.dbg_run.specs.Edits.{EditDone, EditEnds, EditUnopposed, IsListText, Keeps, ListedDone, ListedEnds, ListedUnopposed, RewriteEnds}
 use Rattle.dbg_run.specs.Edits.{EditEnds as edits, ListedEnds as listed, RewriteEnds as rewrites}
 
 -- what is due where no file is there is due whatever files are due
@@ -49,6 +53,54 @@ not_accepted m b r fails ok = edit-excludes m b r ok fails
 -- want of memory ends a rewriting, too
 pub rewrite_wants : (path : List ℕ) (m : PathMap) (b : List ℕ) (e : End) → e ≡ end.NoMemory → RewriteEnds path m b e
 rewrite_wants path m b e is = subst (RewriteEnds path m b) (sym is) rewrites.memory
+
+-- what was free in a tree that is as it was is free in it
+free_before : (old mid : Seen) (path : List ℕ) → Calm old mid → OutputFree (now_of mid) path → OutputFree (now_of old) path
+free_before old mid path calm free = record { is = λ t tells. free.is t (calm.now ∙ tells) }
+
+-- an edit is done where each of its steps is
+pub edit_done : (input output : List ℕ) (m : PathMap) (limit : ℕ) (old mid far new : Seen) (b out : List ℕ) (mode : ℕ)
+    → Stood (now_of old) input limit (found.File b mode) → Calm old mid → mid.tells ≡ old.tells → OutputFree (now_of mid) output → Calm mid far
+    → far.tells ≡ mid.tells → IsAccepted m b → IsOutput m b out → ((o : List ℕ) → IsOutput m b o → o ≡ out) → Keeps m b out
+    → now_of new ≡ option_map (with_node output (node.File out mode)) (now_of far) → (far.tells ≡ true → IsSettled new.past) → EditDone input output m limit old new
+edit_done input output m limit old mid far new b out mode read calm tells free still tell accepted is only keeps written settled = record {
+  b = b;
+  mode = mode;
+  out = out;
+  read = read;
+  free = free_before old mid output calm free;
+  accepted = accepted;
+  is = is;
+  only = only;
+  keeps = keeps;
+  written = written ∙ ap (option_map (with_node output (node.File out mode))) (still.now ∙ calm.now);
+  settled = λ told. settled (tell ∙ tells ∙ told);
+}
+
+-- and so is one with a list
+pub listed_done : (input output list : List ℕ) (m : PathMap) (limit : ℕ) (old mid far last new : Seen) (b out text : List ℕ) (mode : ℕ)
+    → Stood (now_of old) input limit (found.File b mode) → Calm old mid → mid.tells ≡ old.tells → OutputFree (now_of mid) output → Calm mid far
+    → far.tells ≡ mid.tells → OutputFree (now_of far) list → Calm far last → last.tells ≡ far.tells → IsAccepted m b → IsOutput m b out
+    → ((o : List ℕ) → IsOutput m b o → o ≡ out) → Keeps m b out → IsListText m b text
+    → now_of new ≡ option_map (with_node list (node.File text list_mode)) (option_map (with_node output (node.File out mode)) (now_of last))
+    → (last.tells ≡ true → IsSettled new.past) → ListedDone input output list m limit old new
+listed_done input output list m limit old mid far last new b out text mode read calm tells free still tell also rest told accepted is only keeps listed written settled = record {
+  b = b;
+  mode = mode;
+  out = out;
+  text = text;
+  read = read;
+  free = free_before old mid output calm free;
+  list_free = free_before old mid list calm (free_before mid far list still also);
+  accepted = accepted;
+  is = is;
+  only = only;
+  keeps = keeps;
+  listed = listed;
+  written = written
+      ∙ ap (λ (x : Option TreeMap). option_map (with_node list (node.File text list_mode)) (option_map (with_node output (node.File out mode)) x)) (rest.now ∙ still.now ∙ calm.now);
+  settled = λ known. settled (told ∙ tell ∙ tells ∙ known);
+}
 
 -- where nothing is against an edit, it ends with no refusal
 pub input_completes : (input : List ℕ) (limit : ℕ) (old new : Seen) (e : End) (t : TreeMap) (b : List ℕ) (mode : ℕ) → now_of old ≡ Some t

@@ -1,6 +1,7 @@
 pub mod BuiltLaws
 pub mod EditLaws
 pub mod SourceLaws
+pub mod ViewLaws
 pub mod ShowLaws
 pub mod RunLaws
 pub mod RunRows

@@ -11,7 +11,7 @@ use Rattle.file_tree.specs.Causes.{Rose, Calm, OnlyAt}
 use Rattle.file_tree.specs.Heard.{Heard}
 use Rattle.dbg_ends.specs.declared.end.End.{End}
 use Rattle.dbg_ends.specs.declared.end.End.TheVariants as end
-use Rattle.dbg_ends.specs.Due.{Where, OutputDue, IsCut, Exactly}
+use Rattle.dbg_ends.specs.Due.{Where, InputDue, OutputDue, IsCut, Exactly}
 use Rattle.dbg_ends.specs.Due.{IsCut as cut}
 use Rattle.dbg_ends.specs.Due.Where.{here, elsewhere}
 use Rattle.dbg_ends.specs.Steps.{OnlyAtBoth}
@@ -26,7 +26,7 @@ use Rattle.dbg_run.specs.Built.{built}
 use Rattle.dbg_run.specs.Edits.{EditEnds, EditDue, ListedEnds, ListedDue}
 use Rattle.dbg_run.proofs.EditLaws.{edit_completes, listed_completes}
 use Rattle.dbg_run.proofs.ShowLaws.{show_completes, show_memory}
-use Rattle.dbg_run.specs.Shows.{HasBegun, IsShowable, ShowDue, ShowEnds}
+use Rattle.dbg_run.specs.Shows.{AreElf, AreLinked, HasBegun, IsShowable, ShowDue, ShowEnds, Subject, SubjectDue, of_file, of_pair}
 use Rattle.dbg_run.specs.Shows.{HasBegun as begun_}
 use Rattle.dbg_run.specs.Edits.{EditEnds as edit, ListedEnds as listed}
 use Rattle.dbg_run.specs.Runs.{Cuts, EditWays, Ends, Due, MayWrite, Unopposed}
@@ -42,11 +42,22 @@ cuts_memory (Some (Show file debug)) n is = inl (cut.no_memory is)
 cuts_memory (Some (Exercise seed units)) n is = cut.no_memory is
 
 -- of two numbers, one where P holds and one elsewhere, only one can be
+where_two : (P : Type 0) {A B X Y : Type 0} (n m : ℕ) → (A → X → n ≡ m) → (B → Y → n ≡ m) → Where P A B → Where P X Y → n ≡ m
+where_two P n m both neither (here p is) (here q also) = both is also
+where_two P n m both neither (here p is) (elsewhere un also) = absurd (un p)
+where_two P n m both neither (elsewhere un is) (here q also) = absurd (un q)
+where_two P n m both neither (elsewhere un is) (elsewhere vn also) = neither is also
+
 where-one : (P : Type 0) (a b n m : ℕ) → Where P (n ≡ a) (n ≡ b) → Where P (m ≡ a) (m ≡ b) → n ≡ m
-where-one P a b n m (here p is) (here q also) = is ∙ sym also
-where-one P a b n m (here p is) (elsewhere un also) = absurd (un p)
-where-one P a b n m (elsewhere un is) (here q also) = absurd (un q)
-where-one P a b n m (elsewhere un is) (elsewhere vn also) = is ∙ sym also
+where-one P a b n m = where_two P n m (λ is also. is ∙ sym also) (λ is also. is ∙ sym also)
+
+-- of an input as of what its bytes are due
+input-one : (what : Found) (n k : ℕ) (P Q : List ℕ → Type 0) → ((b : List ℕ) → P b → Q b → n ≡ k) → InputDue what n P → InputDue what k Q → n ≡ k
+input-one found.Absent n k P Q of_bytes is also = is ∙ sym also
+input-one found.Folder n k P Q of_bytes is also = is ∙ sym also
+input-one (found.Link target) n k P Q of_bytes is also = is ∙ sym also
+input-one (found.TooLarge size) n k P Q of_bytes is also = is ∙ sym also
+input-one (found.File b mode) n k P Q of_bytes is also = of_bytes b is also
 
 -- of an output as of what comes after
 output-one : (there : Found) (n k : ℕ) (P Q : Type 0) → (P → Q → n ≡ k) → OutputDue there n P → OutputDue there k Q → n ≡ k
@@ -57,33 +68,28 @@ output-one (found.TooLarge size) n k P Q after is also = after is also
 output-one (found.File b mode) n k P Q after is also = after is also
 
 edit-one : (m : PathMap) (what there : Found) (n k : ℕ) → EditDue m what there n → EditDue m what there k → n ≡ k
-edit-one m found.Absent there n k is also = is ∙ sym also
-edit-one m found.Folder there n k is also = is ∙ sym also
-edit-one m (found.Link target) there n k is also = is ∙ sym also
-edit-one m (found.TooLarge size) there n k is also = is ∙ sym also
-edit-one m (found.File b mode) there n k is also = output-one there n k _ _ (where-one (IsAccepted m b) 0 3 n k) is also
+edit-one m what there n k = input-one what n k _ _ (λ b. output-one there n k _ _ (where-one (IsAccepted m b) 0 3 n k))
 
 listed-one : (m : PathMap) (what there beside : Found) (n k : ℕ) → ListedDue m what there beside n → ListedDue m what there beside k → n ≡ k
-listed-one m found.Absent there beside n k is also = is ∙ sym also
-listed-one m found.Folder there beside n k is also = is ∙ sym also
-listed-one m (found.Link target) there beside n k is also = is ∙ sym also
-listed-one m (found.TooLarge size) there beside n k is also = is ∙ sym also
-listed-one m (found.File b mode) there beside n k is also =
-    output-one there n k _ _ (output-one beside n k _ _ (where-one (IsAccepted m b) 0 3 n k)) is also
+listed-one m what there beside n k =
+    input-one what n k _ _ (λ b. output-one there n k _ _ (output-one beside n k _ _ (where-one (IsAccepted m b) 0 3 n k)))
 
-show-one : (what : Found) (n k : ℕ) → ShowDue what n → ShowDue what k → n ≡ k
-show-one found.Absent n k is also = is ∙ sym also
-show-one found.Folder n k is also = is ∙ sym also
-show-one (found.Link target) n k is also = is ∙ sym also
-show-one (found.TooLarge size) n k is also = is ∙ sym also
-show-one (found.File b mode) n k is also = where-one (IsShowable b) 0 3 n k is also
+subject-one : (q : Subject) (n k : ℕ) → SubjectDue q n → SubjectDue q k → n ≡ k
+subject-one q n k =
+    where_two (AreElf q) n k
+    (where_two (AreLinked q) n k (where-one (IsShowable q) 0 3 n k) (λ is also. is ∙ sym also)) (λ is also. is ∙ sym also)
+
+show-one : (file : List ℕ) (debug : Option (List ℕ)) (t : TreeMap) (n k : ℕ) → ShowDue file debug t n → ShowDue file debug t k → n ≡ k
+show-one file None t n k = input-one (stands_at t file most_file) n k _ _ (λ b. subject-one (of_file file b) n k)
+show-one file (Some debug) t n k =
+    input-one (stands_at t file most_file) n k _ _ (λ s. input-one (stands_at t debug most_file) n k _ _ (λ d. subject-one (of_pair file s debug d) n k))
 
 -- one status is due
 due-one : (c : Option Command) (t : TreeMap) (n k : ℕ) → Due c t n → Due c t k → n ≡ k
 due-one (Some (Edit input output o None)) t n k is also = edit-one o.maps (stands_at t input o.max_file) (stands_at t output 0) n k is also
 due-one (Some (Edit input output o (Some list))) t n k is also =
     listed-one o.maps (stands_at t input o.max_file) (stands_at t output 0) (stands_at t list 0) n k is also
-due-one (Some (Show file debug)) t n k is also = show-one (stands_at t file most_file) n k is also
+due-one (Some (Show file debug)) t n k is also = show-one file debug t n k is also
 due-one c t n k is also = is ∙ sym also
 
 -- where nothing is against a command, it is done, or cut
@@ -99,9 +105,9 @@ all-complete words old new heard said e t tells is (ends.memory same silent) = i
 all-complete words old new heard said e t tells is (ends.edit {input = input} {output = output} {o = o} {list = list} command row silent) =
     subst (λ (c : Option Command). (status_of e ≡ 0) ⊎ Cuts c (status_of e)) (sym command)
     (way_completes input output o list old new e t tells (subst (λ c. Unopposed c t) command is) row)
-all-complete words old new heard said e t tells is (ends.show {file = file} command row) =
+all-complete words old new heard said e t tells is (ends.show {file = file} {debug = debug} command row) =
     subst (λ (c : Option Command). (status_of e ≡ 0) ⊎ Cuts c (status_of e)) (sym command)
-    (show_completes file old new heard said e t tells (subst (λ c. Unopposed c t) command is) row)
+    (show_completes file debug old new heard said e t tells (subst (λ c. Unopposed c t) command is) row)
 
 cuts_open : (c : Option Command) (n : ℕ) → Cuts c n → IsCut n ⊎ (n ≡ 7)
 cuts_open (Some (Show file debug)) n cut = cut
@@ -184,15 +190,15 @@ edit_ends words old new heard e input output read written o list is of_input of_
 
 -- a showing of these words ends as the showing of their path
 pub show_ends : (words : List (List ℕ)) (old new : Seen) (heard said : Heard) (e : End) (file read : List ℕ) (debug : Option (List ℕ))
-    → built words ≡ Some (Show file debug) → read ≡ file → ShowEnds read old new heard said e → Ends words old new heard said e
-show_ends words old new heard said e file read debug is of_file row = ends.show is (subst (λ (x : List ℕ). ShowEnds x old new heard said e) of_file row)
+    → built words ≡ Some (Show file debug) → read ≡ file → ShowEnds read debug old new heard said e → Ends words old new heard said e
+show_ends words old new heard said e file read debug is of_path row = ends.show is (subst (λ (x : List ℕ). ShowEnds x debug old new heard said e) of_path row)
 
 -- where a command isn't done, it may as well want memory
 ends-memory : (words : List (List ℕ)) (old new : Seen) (heard said : Heard) (e : End) → Ends words old new heard said e → e ≢ end.Done → Ends words old new heard said end.NoMemory
 ends-memory words old new heard said e (ends.usage none same silent) undone = ends.memory same silent
 ends-memory words old new heard said e (ends.memory same silent) undone = ends.memory same silent
 ends-memory words old new heard said e (ends.edit is row silent) undone = ends.edit is (way-memory _ _ _ _ _ old new e row undone) silent
-ends-memory words old new heard said e (ends.show is row) undone = ends.show is (show_memory _ old new heard said e row undone)
+ends-memory words old new heard said e (ends.show is row) undone = ends.show is (show_memory _ _ old new heard said e row undone)
 
 -- what went to the output sink is said by the status that is told
 pub silent_told : (c : Option Command) (answer status : ℕ) → (answer ≡ status) ⊎ (answer ≡ 13) → (MayWrite c answer → ⊥) → MayWrite c status → ⊥

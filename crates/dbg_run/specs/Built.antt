@@ -5,10 +5,10 @@ use Rattle.dbg_words.specs.declared.command.Command.{Command}
 use Rattle.dbg_words.specs.declared.command.Command.TheVariants.{Edit, Show}
 use Rattle.dbg_words.specs.Words.{command}
 
--- what is carried out: an edit that makes no build-id, and the showing of one file
+-- what is carried out: an edit that makes no build-id, and a showing
 abbrev pub is_built : Command → Bool
 is_built (Edit input output o list) = not o.build_id && length o.seed == 0
-is_built (Show file None) = true
+is_built (Show file debug) = true
 is_built c = false
 
 abbrev pub if_built : Command → Option Command

@@ -3,7 +3,7 @@ use Rattle.std.specs.Prelude.{◌≡◌, ◌⊎◌, ℕ, List, Option, Some, Non
 use Rattle.dw_meaning.specs.Loaded.{LoadedKept}
 use Rattle.dw_meaning.specs.FileMeanings.{MeaningKept}
 use Rattle.dw_base.specs.Paths.{PathMap}
-use Rattle.dbg_job.specs.Settings.{Settings, most_file}
+use Rattle.dbg_job.specs.Settings.{Settings}
 use Rattle.file_tree.specs.Trees.{TreeMap, stands_at}
 use Rattle.file_tree.specs.Seen.{Seen, now_of}
 use Rattle.file_tree.specs.Causes.{Rose, OnlyAt}
@@ -29,14 +29,14 @@ pub data Ends (words : List (List ℕ)) (old new : Seen) (heard said : Heard) : 
   memory : new ≡ old → said ≡ heard → Ends words old new heard said end.NoMemory
   edit : {input output : List ℕ} {o : Settings} {list : Option (List ℕ)} {e : End} → built words ≡ Some (Edit input output o list)
       → EditWays input output list o.maps o.max_file old new e → said ≡ heard → Ends words old new heard said e
-  show : {file : List ℕ} {debug : Option (List ℕ)} {e : End} → built words ≡ Some (Show file debug) → ShowEnds file old new heard said e
-      → Ends words old new heard said e
+  show : {file : List ℕ} {debug : Option (List ℕ)} {e : End} → built words ≡ Some (Show file debug)
+      → ShowEnds file debug old new heard said e → Ends words old new heard said e
 
 -- the command is done
 abbrev pub Done : Option Command → Seen → Seen → Heard → Heard → Type 0
 Done (Some (Edit input output o None)) old new heard said = EditDone input output o.maps o.max_file old new × (said ≡ heard)
 Done (Some (Edit input output o (Some list))) old new heard said = ListedDone input output list o.maps o.max_file old new × (said ≡ heard)
-Done (Some (Show file debug)) old new heard said = ShowDone file old new heard said
+Done (Some (Show file debug)) old new heard said = ShowDone file debug old new heard said
 Done c old new heard said = ⊥
 
 -- what the output means is what the input meant, with each source path mapped
@@ -55,14 +55,14 @@ KeepsLoaded c old new = ⊥
 abbrev pub Due : Option Command → TreeMap → ℕ → Type 0
 Due (Some (Edit input output o None)) t n = EditDue o.maps (stands_at t input o.max_file) (stands_at t output 0) n
 Due (Some (Edit input output o (Some list))) t n = ListedDue o.maps (stands_at t input o.max_file) (stands_at t output 0) (stands_at t list 0) n
-Due (Some (Show file debug)) t n = ShowDue (stands_at t file most_file) n
+Due (Some (Show file debug)) t n = ShowDue file debug t n
 Due c t n = n ≡ 2
 
 -- nothing is against the command, where the tree tells that it holds this map
 abbrev pub Unopposed : Option Command → TreeMap → Type 0
 Unopposed (Some (Edit input output o None)) t = EditUnopposed o.maps (stands_at t input o.max_file) (stands_at t output 0)
 Unopposed (Some (Edit input output o (Some list))) t = ListedUnopposed o.maps (stands_at t input o.max_file) (stands_at t output 0) (stands_at t list 0)
-Unopposed (Some (Show file debug)) t = ShowUnopposed (stands_at t file most_file)
+Unopposed (Some (Show file debug)) t = ShowUnopposed file debug t
 Unopposed c t = ⊥
 
 -- the command's outputs hold anything or nothing, and all else stays

@@ -12,5 +12,6 @@ pub mod edit;
 pub mod run;
 pub mod show;
 mod sources;
+mod views;
 
 pub use run::run_words;

@@ -81,7 +81,7 @@ fn run_command<T: Tree, O: Sink>(alloc: Global, words: &[String], tree: &mut T, 
             &list,
             tree,
         ),
-        Command::Show { file, .. } => show(alloc, file.as_str(), tree, out),
+        Command::Show { file, debug } => show(alloc, file.as_str(), &debug, tree, out),
         _ => End::Usage,
     }
 }

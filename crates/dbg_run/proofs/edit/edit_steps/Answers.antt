@@ -1,7 +1,16 @@
 -- The steps of an edit, one after another.
 use Rattle.std.proofs.Common.{arith}
 use Rattle.std.proofs.lemmas.Result.{err_from_is_err_and}
+use Rattle.dbg_run.proofs.EditLaws.{edit_done}
 use Rattle.dbg_run.proofs.edit.edit_steps.Goals as goal
+
+pub returns-clause-done : goal.returns-clause-done
+returns-clause-done g c =
+    edit_done c.args.input.now c.args.output.now c.args.maps.now c.args.limit (g.T.Tree.seen c.args.tree.now) (g.T.Tree.seen c.read_input.new.tree)
+    (g.T.Tree.seen c.free_output.new.tree) (g.T.Tree.seen c.write_output.new.tree) c.in_ok-bytes.bytes.items c.in_ok-out.out.items c.in_ok-bytes.mode
+    c.in_ok-bytes.ensures.done c.in_ok-bytes.ensures.kept c.in_ok-bytes.ensures.tells c.in_ok-free_output.ensures.done c.in_ok-free_output.ensures.kept
+    c.in_ok-free_output.ensures.tells c.in_ok-out.ensures.accepted c.in_ok-out.ensures.output c.in_ok-out.ensures.only c.in_ok-out.ensures.keeps
+    c.in_ok-write_output.ensures.done c.in_ok-write_output.ensures.settled
 
 -- a fault of the writing is one of the edit, since the count of faults falls in no step
 pub returns-in_err-write_output-clause-fault : goal.returns-in_err-write_output-clause-fault
