@@ -1,6 +1,9 @@
 //! Runs that show a file, or list its sources. The text and the list are another program's.
 use crate::runs::{Ran, built_file, file_of, run, run_to, tree_with, tree_with_input};
+use crate::show_files::file_of as file_of_sections;
 use crate::shown_file::{SHOWN_LINES, WITH_LINES};
+use crate::shown_units::{WIDE, WIDE_EDITED};
+use dw_base::Order;
 use file_tree::{MemSink, MemTree, Node, Text, TreeErr};
 use std::alloc::{AllocError, Global};
 use std::process::Abort;
@@ -38,6 +41,19 @@ fn the_text_of_a_file_is_shown(rt: HostRuntime) -> Result<(), Fail> {
     let ran = run(alloc, "show ./in", &mut tree)?;
     assert_ran(&rt, &ran, 0, SHOWN_LINES, "");
     assert_eq!(rt; tree.nodes().len(), 1);
+    Ok(())
+}
+
+#[test]
+fn an_entry_that_is_referred_to_keeps_its_number(rt: HostRuntime) -> Result<(), Fail> {
+    let alloc = rt.alloc();
+    let file = file_of_sections(&rt, alloc, Order::Little, WIDE)?;
+    let mut tree = tree_with(alloc, "in", file_of(file))?;
+    let edit = "edit in out --base-dir /build/p --dest-dir /usr/src/debug/p";
+    let ran = run(alloc, edit, &mut tree)?;
+    assert_ran(&rt, &ran, 0, "", "");
+    let ran = run(alloc, "show out", &mut tree)?;
+    assert_ran(&rt, &ran, 0, WIDE_EDITED, "");
     Ok(())
 }
 
