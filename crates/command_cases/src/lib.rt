@@ -8,12 +8,17 @@
 ghost use Rattle.std.specs.Prelude.{◌≤◌, length, OnOk};
 ghost use Rattle.dw_base.specs.Layout.{output_limit};
 
+use dbg_job::{Options, Outcome, outcome};
 use dbg_split::{Pair, split};
 use dw_base::{Fault, OUTPUT_LIMIT};
 use std::alloc::Global;
 
 #[cfg(test)]
+mod build_ids;
+#[cfg(test)]
 mod ends;
+#[cfg(test)]
+mod outcomes;
 #[cfg(test)]
 mod pairs;
 #[cfg(test)]
@@ -39,6 +44,8 @@ mod split_counts;
 #[cfg(test)]
 mod split_files;
 #[cfg(test)]
+mod split_runs;
+#[cfg(test)]
 mod split_shapes;
 #[cfg(test)]
 mod splits;
@@ -53,4 +60,19 @@ pub fn parted(alloc: Global, bytes: &[u8], name: &[u8]) -> Result<Pair, Fault>
         return Err(Fault::NoMemory);
     }
     split(alloc, bytes, name)
+}
+
+/// What becomes of a file, of which the debug file has this name; no memory where the file is longer than any that is written.
+pub fn become_of(
+    alloc: Global,
+    bytes: &[u8],
+    options: &Options,
+    name: &[u8],
+) -> Result<Outcome, Fault>
+    ensures small { OnOk result (length bytes.now ≤ output_limit) }
+{
+    if OUTPUT_LIMIT < bytes.len() as u64 {
+        return Err(Fault::NoMemory);
+    }
+    outcome(alloc, bytes, options, name)
 }

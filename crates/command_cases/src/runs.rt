@@ -6,20 +6,17 @@ use std::process::Abort;
 use std::test::Fail;
 
 /// The words of an edit of `in`, with a space between each two.
-const EDIT: &str = "edit in out --base-dir /build/p --dest-dir /usr/src/debug/p";
+pub(crate) const EDIT: &str = "edit in out --base-dir /build/p --dest-dir /usr/src/debug/p";
 
 /// The words of the same edit in another order, with paths that aren't in their cleaned forms.
 const MIXED_EDIT: &str = "edit --dest-dir=/usr/src/debug/p/ ./in --base-dir /build/p -- out//";
 
 /// Words that are no command, and words of commands that aren't carried out.
-const USAGE: [&str; 11] = [
+const USAGE: [&str; 8] = [
     "edit",
     "edit in ./in --base-dir /build/p --dest-dir /usr/src/debug/p",
     "edit in out --base-dir /build/p --dest-dir /usr/src/debug/p --max-file 01",
     "edit in out --base-dir /build/p --dest-dir /usr/src/debug/p --list-file ./out",
-    "edit in out --base-dir /build/p --dest-dir /usr/src/debug/p --build-id",
-    "edit in out --base-dir /build/p --dest-dir /usr/src/debug/p --seed s",
-    "split in out out.debug",
     "run /r --base-dir /build/p --dest-dir /usr/src/debug/p",
     "run /r --base-dir /build/p --dest-dir /usr/src/debug/p --jobs 2",
     "exercise 0 1",
@@ -98,7 +95,7 @@ pub(crate) fn built_file(alloc: Global) -> Result<Vec<u8>, AllocError> {
 }
 
 /// The same file with its paths mapped, of 528 bytes: the texts are added, and what follows them is moved.
-fn installed_file(alloc: Global) -> Result<Vec<u8>, AllocError> {
+pub(crate) fn installed_file(alloc: Global) -> Result<Vec<u8>, AllocError> {
     let mut file = Vec::from_slice(alloc, &file_header(208))?;
     file.extend_from_slice(&unit(22, 43))?;
     file.extend_from_slice(&ABBREVIATIONS)?;
@@ -312,7 +309,7 @@ fn a_file_that_is_cut_is_refused(rt: HostRuntime) -> Result<(), Fail> {
 }
 
 /// Asserts that an edit of a file of these bytes, which all may run, is done, and puts a file of the wanted bytes.
-fn assert_edited(
+pub(crate) fn assert_edited(
     rt: &impl Abort,
     alloc: Global,
     words: &str,

@@ -1,7 +1,7 @@
 //! The settings of a command hold what they are made of.
-use dbg_job::{MOST_FILE, Options, Sources};
 use dw_paths::Maps;
 use file_tree::Blob;
+use job_types::{MOST_FILE, Options, Sources};
 use std::test::Fail;
 
 #[test]

@@ -9,7 +9,7 @@ use std::alloc::{AllocError, Global};
 use std::test::Fail;
 
 /// The bytes of pieces.
-fn joined(alloc: Global, pieces: &[&[u8]]) -> Result<Vec<u8>, AllocError> {
+pub(crate) fn joined(alloc: Global, pieces: &[&[u8]]) -> Result<Vec<u8>, AllocError> {
     let mut bytes = Vec::new(alloc);
     for piece in pieces {
         bytes.extend_from_slice(piece)?;
@@ -76,7 +76,7 @@ fn files_with_extended_numbering_are_split(rt: HostRuntime) -> Result<(), Fail> 
 }
 
 /// The bytes, with one replaced where it is there.
-fn put(bytes: &mut [u8], at: usize, byte: u8) {
+pub(crate) fn put(bytes: &mut [u8], at: usize, byte: u8) {
     if at < bytes.len() {
         bytes[at] = byte;
     }

@@ -1,8 +1,8 @@
 //! Command lines, and the commands that they are.
-use dbg_job::Options;
 use dbg_words::Command;
 use dw_base::NoMemory;
 use file_tree::Text;
+use job_types::Options;
 use std::alloc::{AllocError, Global};
 use std::process::Abort;
 use std::test::Fail;

@@ -39,9 +39,9 @@ one_then_other path beside old mid new one other = record {
       (λ m is. other.others m u q is is_new away ∙ one.others t m q is_old is apart);
 }
 
--- the writing of a list behind an output that was put
-pub then_list : (path beside : List ℕ) (old mid new : Seen) (e : End) → OnlyAt path (now_of old) (now_of mid) → old.faults ≤ mid.faults → OutputEnds beside mid new e
+-- the writing of an output behind one that was put
+pub then_second : (path beside : List ℕ) (old mid new : Seen) (e : End) → OnlyAt path (now_of old) (now_of mid) → old.faults ≤ mid.faults → OutputEnds beside mid new e
     → OutputsEnd path beside old new e
-then_list path beside old mid new e one later (output.failed rose other) =
+then_second path beside old mid new e one later (output.failed rose other) =
     outputs.failed (omega (arith, later, rose)) (one_then_other path beside (now_of old) (now_of mid) (now_of new) one other)
-then_list path beside old mid new e one later (output.memory other) = outputs.memory (one_then_other path beside (now_of old) (now_of mid) (now_of new) one other)
+then_second path beside old mid new e one later (output.memory other) = outputs.memory (one_then_other path beside (now_of old) (now_of mid) (now_of new) one other)

@@ -1,7 +1,7 @@
 -- The ends of commands: the status of each, and its line on the error sink.
 use Rattle.std.specs.Prelude.{ℕ, List, [], ◌++◌, codes}
 use Rattle.std.specs.Fmt.{decimal}
-use Rattle.dbg_job.specs.Kinds.{kind_text}
+use Rattle.job_types.specs.Kinds.{kind_text}
 use Rattle.file_tree.specs.declared.node.TreeErr.{TreeErr}
 use Rattle.file_tree.specs.declared.node.TreeErr.TheVariants as tree
 use Rattle.dw_view.specs.declared.mismatch.Mismatch.{Mismatch}

@@ -55,12 +55,7 @@ pub record OnlyAtBoth (path beside : List ℕ) (old new : Option TreeMap) : Type
   pub tells : is_some new ≡ is_some old
   pub others : (t u : TreeMap) (q : List ℕ) → old ≡ Some t → new ≡ Some u → q ≢ path → q ≢ beside → fin.get u q ≡ fin.get t q
 
--- the mode of a list: its owner may write it, and all may read it
-abbrev pub list_mode : ℕ
-list_mode = 420
-
--- how the writing of an output and of a list ends where it isn't done; their paths hold anything or nothing, and all else is as
--- it was
+-- how the writing of two outputs ends where it isn't done; their paths hold anything or nothing, and all else is as it was
 pub data OutputsEnd (path beside : List ℕ) (old new : Seen) : End → Type 0 where
   failed : Rose old.faults new.faults → OnlyAtBoth path beside (now_of old) (now_of new) → OutputsEnd path beside old new end.TreeFault
   memory : OnlyAtBoth path beside (now_of old) (now_of new) → OutputsEnd path beside old new end.NoMemory

@@ -5,9 +5,9 @@ ghost use Rattle.dbg_ends.specs.declared.end.End.TheVariants as end;
 ghost use Rattle.dbg_ends.specs.Ends.{line_of, mismatch_text};
 
 use crate::end::End;
-use dbg_job::kind_name;
 use dw_base::Refusal;
 use dw_view::Mismatch;
+use job_types::kind_name;
 use std::alloc::{AllocError, Global};
 
 /// The line of a refusal of the file at the path.

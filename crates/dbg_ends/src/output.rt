@@ -7,14 +7,11 @@ ghost use Rattle.file_tree.specs.Trees.{stands_at, with_node};
 ghost use Rattle.file_tree.specs.Causes.{Rose, Calm, OnlyAt};
 ghost use Rattle.dbg_ends.specs.Ends.{status_of};
 ghost use Rattle.dbg_ends.specs.Due.{OutputDue, IsCut};
-ghost use Rattle.dbg_ends.specs.Steps.{OutputTaken, OutputFree, OutputEnds, OutputsEnd, OnlyAtBoth, IsSettled, list_mode};
+ghost use Rattle.dbg_ends.specs.Steps.{OutputTaken, OutputFree, OutputEnds, OutputsEnd, OnlyAtBoth, IsSettled};
 
 use crate::end::End;
 use file_tree::{Blob, Found, Node, Text, Tree};
 use std::alloc::Global;
-
-/// The mode of a list: its owner may write it, and all may read it.
-const LIST_MODE: u32 = 0o644;
 
 /// Looks whether a file may be put at the path: nothing is there, or a file. A folder or a symbolic link
 /// there ends as `Taken`. The tree stays as it was, and no bytes of a file that is there are read.
@@ -85,29 +82,30 @@ fn put_output<T: Tree>(path: &str, bytes: Vec<u8>, mode: u32, tree: &mut T) -> R
     Ok(())
 }
 
-/// Sets the path to a file of these bytes and this mode, then the path of a list to a file of its bytes, which all
-/// may read, and then settles the tree.
+/// Sets the path to a file of these bytes and this mode, then a second path to a file of its bytes and its mode, and then
+/// settles the tree.
 #[tactic(auto, using(crate::proofs::Rows::outputs_rows))]
-pub fn write_with_list<T: Tree>(
+pub fn write_outputs<T: Tree>(
     path: &str,
     bytes: Vec<u8>,
     mode: u32,
-    list: &str,
-    names: Vec<u8>,
+    beside: &str,
+    more: Vec<u8>,
+    more_mode: u32,
     tree: &mut T,
 ) -> Result<(), End>
-    ensures done { OnOk result (now_of (T.seen tree.new) ≡ option_map (with_node list.now (node.File names.items list_mode)) (option_map (with_node path.now (node.File bytes.items mode)) (now_of (T.seen tree.old)))) }
-    ensures ends { IfErr result (OutputsEnd path.now list.now (T.seen tree.old) (T.seen tree.new)) }
+    ensures done { OnOk result (now_of (T.seen tree.new) ≡ option_map (with_node beside.now (node.File more.items more_mode)) (option_map (with_node path.now (node.File bytes.items mode)) (now_of (T.seen tree.old)))) }
+    ensures ends { IfErr result (OutputsEnd path.now beside.now (T.seen tree.old) (T.seen tree.new)) }
     ensures due { IfErr result (λ e. IsCut (status_of e)) }
     ensures settled { (T.seen tree.old).tells ≡ true → OnOk result (IsSettled (T.seen tree.new).past) }
     ensures not_done { IfErr result (λ e. 0 ≢ status_of e) }
     ensures not_usage { IfErr result (λ e. 2 ≢ status_of e) }
     ensures not_output { IfErr result (λ e. 7 ≢ status_of e) }
     ensures fault { IfErr result (λ e. status_of e ≡ 6 → Rose (T.seen tree.old).faults (T.seen tree.new).faults) }
-    ensures others { OnlyAtBoth path.now list.now (now_of (T.seen tree.old)) (now_of (T.seen tree.new)) }
+    ensures others { OnlyAtBoth path.now beside.now (now_of (T.seen tree.old)) (now_of (T.seen tree.new)) }
     ensures tells { (T.seen tree.new).tells ≡ (T.seen tree.old).tells }
 {
     put_output(path, bytes, mode, tree)?;
-    write_output(list, names, LIST_MODE, tree)?;
+    write_output(beside, more, more_mode, tree)?;
     Ok(())
 }

@@ -1,2 +1,5 @@
-pub mod Settings
-pub mod Kinds
+pub mod NewIds
+pub mod EditedFiles
+pub mod SameSections
+pub mod Leaving
+pub mod Outcomes

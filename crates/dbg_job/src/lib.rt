@@ -1,27 +1,29 @@
-//! What is to be done with one file, and what becomes of it.
+//! One file's job: the edited file by all options, and what becomes of a file of a build root.
 //!
-//! This layer has the types that the commands over one file and over a build root share: the options
-//! that a user gives, why a file is left, what a job makes of one, and how a kind of refusal is printed.
-//! It promises of options that their map is one, and that their limit on files is within the most
-//! that may be asked for. It makes no output; the crates above do.
-//! Read first: `specs/Settings.antt`.
+//! This layer promises: the edited file is the defined one, with mapped paths and, where it is asked for, a new
+//! build-id; a file is left exactly where a rule says so, and else edited, and split where it is one that is
+//! loaded; it is refused only by a row that holds, at its place, and never where none does, want of memory
+//! aside. The outputs mean what the file means, with each source path mapped once, and what is loaded is kept.
+//! It does not promise: that an id tells two files apart.
+//! Read first: `specs/EditedFiles.antt`, `specs/NewIds.antt`, then `specs/Leaving.antt`, `specs/Outcomes.antt`.
 //!
 //! ```
-//! let maps = Maps::new(alloc, b"/build/p", b"/usr/src/debug/p")?.ok_or("no map")?;
-//! let options = Options {
-//!     maps,
-//!     build_id: false,
-//!     seed: Blob::new(Vec::new(alloc)),
-//!     skip: false,
-//!     max_file: MOST_FILE,
-//! };
+//! // bytes.len() as u64 <= OUTPUT_LIMIT
+//! match outcome(alloc, &bytes, &options, b"prog.debug")? {
+//!     Outcome::Left(why) => skip(why),
+//!     Outcome::Edited { bytes, .. } => put(bytes),
+//!     Outcome::Split { stripped, debug, .. } => put_both(stripped, debug),
+//! }
 //! ```
 #![tactic(auto)]
 
-mod kinds;
-mod options;
-mod outcome;
+mod editing;
+mod judging;
+mod leaving;
+mod naming;
+mod new_ids;
 
-pub use kinds::kind_name;
-pub use options::{MOST_FILE, Options};
-pub use outcome::{LeftWhy, Outcome, Sources};
+pub use editing::edited;
+pub use job_types::{LeftWhy, Options, Outcome, Sources};
+pub use judging::outcome;
+pub use naming::source_names;

@@ -5,7 +5,7 @@ use Rattle.std.specs.List.{list_any}
 use Rattle.std.proofs.lemmas.Bool.{true≢false}
 use Rattle.dw_base.proofs.TextLaws.{same_text-from}
 use Rattle.dw_base.specs.Texts.{has_nul, same_text}
-use Rattle.dbg_job.specs.Settings.{Settings}
+use Rattle.job_types.specs.Settings.{Settings}
 use Rattle.dbg_words.specs.CommandLines.{CommandLine, command_line}
 use Rattle.dbg_words.specs.declared.command.Command.{Command}
 use Rattle.dbg_words.specs.declared.command.Command.TheVariants.{Edit, Split, Run, Show, Exercise}
@@ -14,30 +14,33 @@ use Rattle.dbg_words.specs.PathWords.{path_named}
 use Rattle.dbg_words.specs.Words.{command, command_named, edit_listed, edit_named, edit_of, edit_paths, exercise_named, exercise_of, exercise_seeded, list_path, number_or, one_of, other_path, run_below, run_named, run_of, run_settled, settings_of, show_named, show_of, show_one, split_named, split_of, split_paths, two_of, two_paths, unless_among, three_of, is_bare}
 use Rattle.dbg_run.specs.Built.{built, if_built, is_built}
 
--- a command that is neither an edit nor a showing isn't carried out
+-- a command that is none of these isn't carried out
 abbrev NoEdit : Command → Type 0
 NoEdit k = (input output : List ℕ) (o : Settings) (list : Option (List ℕ)) → k ≡ Edit input output o list → ⊥
+
+abbrev NoSplit : Command → Type 0
+NoSplit k = (input stripped debug : List ℕ) → k ≡ Split input stripped debug → ⊥
 
 abbrev NoShow : Command → Type 0
 NoShow k = (file : List ℕ) (debug : Option (List ℕ)) → k ≡ Show file debug → ⊥
 
-only_these : (c k : Command) (t : Bool) → is_built c ≡ t → Some k ≡ (if t then Some c else None) → NoEdit k → NoShow k → ⊥
-only_these c k false e is edit show = cc
-only_these (Edit input output o list) k true e is edit show = let same : k ≡ Edit input output o list = cc in edit input output o list same
-only_these (Split input stripped debug) k true e is edit show = cc
-only_these (Run root o jobs) k true e is edit show = cc
-only_these (Show file debug) k true e is edit show = let same : k ≡ Show file debug = cc in show file debug same
-only_these (Exercise seed units) k true e is edit show = cc
+only_these : (c k : Command) (t : Bool) → is_built c ≡ t → Some k ≡ (if t then Some c else None) → NoEdit k → NoSplit k → NoShow k → ⊥
+only_these c k false e is edit split show = cc
+only_these (Edit input output o list) k true e is edit split show = let same : k ≡ Edit input output o list = cc in edit input output o list same
+only_these (Split input stripped debug) k true e is edit split show = let same : k ≡ Split input stripped debug = cc in split input stripped debug same
+only_these (Run root o jobs) k true e is edit split show = cc
+only_these (Show file debug) k true e is edit split show = let same : k ≡ Show file debug = cc in show file debug same
+only_these (Exercise seed units) k true e is edit split show = cc
 
-built_from : (o : Option Command) (k : Command) → Some k ≡ option_and_then if_built o → NoEdit k → NoShow k → ⊥
-built_from None k is edit show = cc
-built_from (Some c) k is edit show = only_these c k (is_built c) refl is edit show
+built_from : (o : Option Command) (k : Command) → Some k ≡ option_and_then if_built o → NoEdit k → NoSplit k → NoShow k → ⊥
+built_from None k is edit split show = cc
+built_from (Some c) k is edit split show = only_these c k (is_built c) refl is edit split show
 
-pub built_these : (words : List (List ℕ)) (k : Command) → Some k ≡ built words → NoEdit k → NoShow k → ⊥
+pub built_these : (words : List (List ℕ)) (k : Command) → Some k ≡ built words → NoEdit k → NoSplit k → NoShow k → ⊥
 unfolding built
-built_these words k is edit show = built_from (command words) k is edit show
+built_these words k is edit split show = built_from (command words) k is edit split show
 
--- ### The list's path is another one than the output's
+-- ### The second output's path is another one than the first's
 
 -- this holds of what is there
 abbrev All : {A : Type 0} → (A → Type 0) → Option A → Type 0
@@ -60,9 +63,10 @@ all_if : {A : Type 0} (P : A → Type 0) (t : Bool) (x y : Option A) → All P x
 all_if P true x y one other = one
 all_if P false x y one other = other
 
--- the path of a list isn't that of the output
+-- the path of a list isn't that of the output, nor a debug file's that of the stripped file
 abbrev IsApart : Command → Type 0
 IsApart (Edit input output o (Some list)) = list ≢ output
+IsApart (Split input stripped debug) = debug ≢ stripped
 IsApart c = ⊤
 
 unless_apart : (p q path : List ℕ) → All (λ w. w ≢ q) (unless_among p q path)
@@ -98,7 +102,7 @@ split_apart l =
     all_if IsApart (is_bare l) (option_and_then split_named (three_of l.paths)) None
     (all_then (λ a. ⊤) IsApart split_named (three_of l.paths) (any (three_of l.paths)) (λ w _.
     all_then (λ a. ⊤) IsApart (split_paths w.2) (two_paths (w.0, w.1)) (any (two_paths (w.0, w.1))) (λ p _.
-    all_map (λ a. ⊤) IsApart (λ debug. Split p.0 p.1 debug) (other_path p.0 p.1 w.2) (any (other_path p.0 p.1 w.2)) (λ debug _. tt)))) tt
+    all_map (λ x. x ≢ p.1) IsApart (λ debug. Split p.0 p.1 debug) (other_path p.0 p.1 w.2) (other_apart p.0 p.1 w.2) (λ debug apart. apart)))) tt
 
 run_apart : (l : CommandLine) → All IsApart (run_of l)
 unfolding run_of
@@ -149,3 +153,6 @@ built_apart words =
 
 pub listed_apart : (words : List (List ℕ)) (input output list : List ℕ) (o : Settings) → built words ≡ Some (Edit input output o (Some list)) → list ≢ output
 listed_apart words input output list o is = subst (All IsApart) is (built_apart words)
+
+pub parts_apart : (words : List (List ℕ)) (input stripped debug : List ℕ) → built words ≡ Some (Split input stripped debug) → debug ≢ stripped
+parts_apart words input stripped debug is = subst (All IsApart) is (built_apart words)

@@ -1,10 +1,9 @@
 -- Laws on the steps of an edit.
 use Rattle.std.proofs.Common.{◌≡◌, ◌⊎◌, inl, inr, ℕ, true, List, Some, refl, sym, ap, ◌∙◌, subst}
-use Rattle.std.specs.Prelude.{Option, option_map}
-use Rattle.dw_meaning.specs.EditRows.{IsAccepted, EditFails}
-use Rattle.dw_meaning.specs.FileMeanings.{IsOutput}
-use Rattle.dw_base.specs.Paths.{PathMap}
-use Rattle.dw_meaning.proofs.EditRowLaws.{edit-excludes}
+use Rattle.std.specs.Prelude.{Option, is_some, option_map}
+use Rattle.job_types.specs.Settings.{Settings}
+use Rattle.dbg_job.specs.EditedFiles.{EditedFails, IsEditable, IsEdited}
+use Rattle.dbg_job.proofs.EditedLaws.{editable-excludes}
 use Rattle.dw_base.specs.declared.fault.Refusal.{Refusal}
 use Rattle.file_tree.specs.declared.node.Found.{Found}
 use Rattle.file_tree.specs.declared.node.Found.TheVariants as found
@@ -17,9 +16,9 @@ use Rattle.dbg_ends.specs.declared.end.End.TheVariants as end
 use Rattle.dbg_ends.specs.Due.{InputDue, IsCut, IsFree, OutputDue}
 use Rattle.dbg_ends.specs.Due.IsCut.{tree_fault, no_memory}
 use Rattle.dbg_ends.specs.Ends.{status_of}
-use Rattle.dbg_ends.specs.Steps.{InputEnds, IsSettled, OutputFree, OutputTaken, OutputEnds, OutputsEnd, list_mode}
+use Rattle.dbg_ends.specs.Steps.{InputEnds, IsSettled, OutputFree, OutputTaken, OutputEnds, OutputsEnd, OnlyAtBoth}
 use Rattle.dbg_ends.specs.Steps.{InputEnds as inputs, OutputTaken as outputs, OutputEnds as written, OutputsEnd as both_written}
-use Rattle.dbg_run.specs.Edits.{EditDone, EditEnds, EditUnopposed, IsListText, Keeps, ListedDone, ListedEnds, ListedUnopposed, RewriteEnds}
+use Rattle.dbg_run.specs.Edits.{EditDone, EditEnds, EditUnopposed, IsListText, Keeps, ListedDone, ListedEnds, ListedUnopposed, RewriteEnds, list_mode}
 use Rattle.dbg_run.specs.Edits.{EditEnds as edits, ListedEnds as listed, RewriteEnds as rewrites}
 
 -- what is due where no file is there is due whatever files are due
@@ -47,23 +46,23 @@ free_due (found.Link target) n P free due = absurd free
 free_due (found.TooLarge size) n P free due = due
 
 -- a file that is refused isn't taken
-pub not_accepted : (m : PathMap) (b : List ℕ) (r : Refusal) → EditFails m b r → IsAccepted m b → ⊥
-not_accepted m b r fails ok = edit-excludes m b r ok fails
+pub not_accepted : (s : Settings) (b : List ℕ) (r : Refusal) → EditedFails s b r → IsEditable s b → ⊥
+not_accepted s b r fails ok = editable-excludes s b r ok fails
 
 -- want of memory ends a rewriting, too
-pub rewrite_wants : (path : List ℕ) (m : PathMap) (b : List ℕ) (e : End) → e ≡ end.NoMemory → RewriteEnds path m b e
-rewrite_wants path m b e is = subst (RewriteEnds path m b) (sym is) rewrites.memory
+pub rewrite_wants : (path : List ℕ) (s : Settings) (b : List ℕ) (e : End) → e ≡ end.NoMemory → RewriteEnds path s b e
+rewrite_wants path s b e is = subst (RewriteEnds path s b) (sym is) rewrites.memory
 
 -- what was free in a tree that is as it was is free in it
-free_before : (old mid : Seen) (path : List ℕ) → Calm old mid → OutputFree (now_of mid) path → OutputFree (now_of old) path
+pub free_before : (old mid : Seen) (path : List ℕ) → Calm old mid → OutputFree (now_of mid) path → OutputFree (now_of old) path
 free_before old mid path calm free = record { is = λ t tells. free.is t (calm.now ∙ tells) }
 
 -- an edit is done where each of its steps is
-pub edit_done : (input output : List ℕ) (m : PathMap) (limit : ℕ) (old mid far new : Seen) (b out : List ℕ) (mode : ℕ)
+pub edit_done : (input output : List ℕ) (s : Settings) (limit : ℕ) (old mid far new : Seen) (b out : List ℕ) (mode : ℕ)
     → Stood (now_of old) input limit (found.File b mode) → Calm old mid → mid.tells ≡ old.tells → OutputFree (now_of mid) output → Calm mid far
-    → far.tells ≡ mid.tells → IsAccepted m b → IsOutput m b out → ((o : List ℕ) → IsOutput m b o → o ≡ out) → Keeps m b out
-    → now_of new ≡ option_map (with_node output (node.File out mode)) (now_of far) → (far.tells ≡ true → IsSettled new.past) → EditDone input output m limit old new
-edit_done input output m limit old mid far new b out mode read calm tells free still tell accepted is only keeps written settled = record {
+    → far.tells ≡ mid.tells → IsEditable s b → IsEdited s b out → ((o : List ℕ) → IsEdited s b o → o ≡ out) → Keeps s.maps b out
+    → now_of new ≡ option_map (with_node output (node.File out mode)) (now_of far) → (far.tells ≡ true → IsSettled new.past) → EditDone input output s limit old new
+edit_done input output s limit old mid far new b out mode read calm tells free still tell accepted is only keeps written settled = record {
   b = b;
   mode = mode;
   out = out;
@@ -78,13 +77,13 @@ edit_done input output m limit old mid far new b out mode read calm tells free s
 }
 
 -- and so is one with a list
-pub listed_done : (input output list : List ℕ) (m : PathMap) (limit : ℕ) (old mid far last new : Seen) (b out text : List ℕ) (mode : ℕ)
+pub listed_done : (input output list : List ℕ) (s : Settings) (limit : ℕ) (old mid far last new : Seen) (b out text : List ℕ) (mode : ℕ)
     → Stood (now_of old) input limit (found.File b mode) → Calm old mid → mid.tells ≡ old.tells → OutputFree (now_of mid) output → Calm mid far
-    → far.tells ≡ mid.tells → OutputFree (now_of far) list → Calm far last → last.tells ≡ far.tells → IsAccepted m b → IsOutput m b out
-    → ((o : List ℕ) → IsOutput m b o → o ≡ out) → Keeps m b out → IsListText m b text
+    → far.tells ≡ mid.tells → OutputFree (now_of far) list → Calm far last → last.tells ≡ far.tells → IsEditable s b → IsEdited s b out
+    → ((o : List ℕ) → IsEdited s b o → o ≡ out) → Keeps s.maps b out → IsListText s.maps b text
     → now_of new ≡ option_map (with_node list (node.File text list_mode)) (option_map (with_node output (node.File out mode)) (now_of last))
-    → (last.tells ≡ true → IsSettled new.past) → ListedDone input output list m limit old new
-listed_done input output list m limit old mid far last new b out text mode read calm tells free still tell also rest told accepted is only keeps listed written settled = record {
+    → (last.tells ≡ true → IsSettled new.past) → ListedDone input output list s limit old new
+listed_done input output list s limit old mid far last new b out text mode read calm tells free still tell also rest told accepted is only keeps listed written settled = record {
   b = b;
   mode = mode;
   out = out;
@@ -114,7 +113,7 @@ input_completes input limit old new e t b mode tells file (inputs.large {size = 
 input_completes input limit old new e t b mode tells file (inputs.failed rose) = tree_fault refl
 input_completes input limit old new e t b mode tells file inputs.memory = no_memory refl
 
-output_completes : (output : List ℕ) (old new : Seen) (e : End) (t : TreeMap) → now_of old ≡ Some t → IsFree (stands_at t output 0) → OutputTaken output old new e
+pub output_completes : (output : List ℕ) (old new : Seen) (e : End) (t : TreeMap) → now_of old ≡ Some t → IsFree (stands_at t output 0) → OutputTaken output old new e
     → IsCut (status_of e)
 output_completes output old new e t tells free (outputs.folder stood) = absurd (subst IsFree (stood.is t tells) free)
 output_completes output old new e t tells free (outputs.link stood) = absurd (subst IsFree (stood.is t tells) free)
@@ -125,44 +124,54 @@ output_completes output old new e t tells free outputs.memory = no_memory refl
 pub same_bytes : (b c : List ℕ) (n k : ℕ) → found.File b n ≡ found.File c k → b ≡ c
 same_bytes b c n k e = cc
 
-rewrite_completes : (path : List ℕ) (m : PathMap) (b : List ℕ) (e : End) → ((r : Refusal) → EditFails m b r → ⊥) → RewriteEnds path m b e → IsCut (status_of e)
-rewrite_completes path m b e none (rewrites.refused fails) = absurd (none _ fails)
-rewrite_completes path m b e none rewrites.memory = no_memory refl
+rewrite_completes : (path : List ℕ) (s : Settings) (b : List ℕ) (e : End) → ((r : Refusal) → EditedFails s b r → ⊥) → RewriteEnds path s b e → IsCut (status_of e)
+rewrite_completes path s b e none (rewrites.refused fails) = absurd (none _ fails)
+rewrite_completes path s b e none rewrites.memory = no_memory refl
 
 written_completes : (path : List ℕ) (old new : Seen) (e : End) → OutputEnds path old new e → IsCut (status_of e)
 written_completes path old new e (written.failed rose at) = tree_fault refl
 written_completes path old new e (written.memory at) = no_memory refl
 
-pub edit_completes : (input output : List ℕ) (m : PathMap) (limit : ℕ) (old new : Seen) (e : End) (t : TreeMap) → now_of old ≡ Some t
-    → EditUnopposed m (stands_at t input limit) (stands_at t output 0) → EditEnds input output m limit old new e
+pub edit_completes : (input output : List ℕ) (s : Settings) (limit : ℕ) (old new : Seen) (e : End) (t : TreeMap) → now_of old ≡ Some t
+    → EditUnopposed s (stands_at t input limit) (stands_at t output 0) → EditEnds input output s limit old new e
     → (status_of e ≡ 0) ⊎ IsCut (status_of e)
-edit_completes input output m limit old new e t tells is (edits.reading row calm) = inr (input_completes input limit old new e t is.b is.mode tells is.file row)
-edit_completes input output m limit old new e t tells is (edits.taking {mid = mid} stood calm row still) =
+edit_completes input output s limit old new e t tells is (edits.reading row calm) = inr (input_completes input limit old new e t is.b is.mode tells is.file row)
+edit_completes input output s limit old new e t tells is (edits.taking {mid = mid} stood calm row still) =
     inr (output_completes output mid new e t (calm.now ∙ tells) is.free row)
-edit_completes input output m limit old new e t tells is (edits.rewriting {b = b} {mode = mode} stood free row calm) =
+edit_completes input output s limit old new e t tells is (edits.rewriting {b = b} {mode = mode} stood free row calm) =
     let same : is.b ≡ b = same_bytes is.b b is.mode mode (sym is.file ∙ stood.is t tells) in
-    inr (rewrite_completes input m b e (subst (λ (x : List ℕ). (r : Refusal) → EditFails m x r → ⊥) same is.unrefused) row)
-edit_completes input output m limit old new e t tells is (edits.writing {mid = mid} stood free ok calm row) = inr (written_completes output mid new e row)
-edit_completes input output m limit old new e t tells is (edits.memory at) = inr (no_memory refl)
-edit_completes input output m limit old new e t tells is (edits.done d) = inl refl
+    inr (rewrite_completes input s b e (subst (λ (x : List ℕ). (r : Refusal) → EditedFails s x r → ⊥) same is.unrefused) row)
+edit_completes input output s limit old new e t tells is (edits.writing {mid = mid} stood free ok calm row) = inr (written_completes output mid new e row)
+edit_completes input output s limit old new e t tells is (edits.memory at) = inr (no_memory refl)
+edit_completes input output s limit old new e t tells is (edits.done d) = inl refl
 
-both_completes : (path beside : List ℕ) (old new : Seen) (e : End) → OutputsEnd path beside old new e → IsCut (status_of e)
+pub both_completes : (path beside : List ℕ) (old new : Seen) (e : End) → OutputsEnd path beside old new e → IsCut (status_of e)
 both_completes path beside old new e (both_written.failed rose at) = tree_fault refl
 both_completes path beside old new e (both_written.memory at) = no_memory refl
 
-pub listed_completes : (input output list : List ℕ) (m : PathMap) (limit : ℕ) (old new : Seen) (e : End) (t : TreeMap) → now_of old ≡ Some t
-    → ListedUnopposed m (stands_at t input limit) (stands_at t output 0) (stands_at t list 0) → ListedEnds input output list m limit old new e
+pub listed_completes : (input output list : List ℕ) (s : Settings) (limit : ℕ) (old new : Seen) (e : End) (t : TreeMap) → now_of old ≡ Some t
+    → ListedUnopposed s (stands_at t input limit) (stands_at t output 0) (stands_at t list 0) → ListedEnds input output list s limit old new e
     → (status_of e ≡ 0) ⊎ IsCut (status_of e)
-listed_completes input output list m limit old new e t tells is (listed.reading row calm) =
+listed_completes input output list s limit old new e t tells is (listed.reading row calm) =
     inr (input_completes input limit old new e t is.edit.b is.edit.mode tells is.edit.file row)
-listed_completes input output list m limit old new e t tells is (listed.taking {mid = mid} stood calm row still) =
+listed_completes input output list s limit old new e t tells is (listed.taking {mid = mid} stood calm row still) =
     inr (output_completes output mid new e t (calm.now ∙ tells) is.edit.free row)
-listed_completes input output list m limit old new e t tells is (listed.list_taking {mid = mid} stood free calm row still) =
+listed_completes input output list s limit old new e t tells is (listed.list_taking {mid = mid} stood free calm row still) =
     inr (output_completes list mid new e t (calm.now ∙ tells) is.free row)
-listed_completes input output list m limit old new e t tells is (listed.rewriting {b = b} {mode = mode} stood free list_free row calm) =
+listed_completes input output list s limit old new e t tells is (listed.rewriting {b = b} {mode = mode} stood free list_free row calm) =
     let same : is.edit.b ≡ b = same_bytes is.edit.b b is.edit.mode mode (sym is.edit.file ∙ stood.is t tells) in
-    inr (rewrite_completes input m b e (subst (λ (x : List ℕ). (r : Refusal) → EditFails m x r → ⊥) same is.edit.unrefused) row)
-listed_completes input output list m limit old new e t tells is (listed.writing {mid = mid} stood free list_free ok calm row) =
+    inr (rewrite_completes input s b e (subst (λ (x : List ℕ). (r : Refusal) → EditedFails s x r → ⊥) same is.edit.unrefused) row)
+listed_completes input output list s limit old new e t tells is (listed.writing {mid = mid} stood free list_free ok calm row) =
     inr (both_completes output list mid new e row)
-listed_completes input output list m limit old new e t tells is (listed.memory at) = inr (no_memory refl)
-listed_completes input output list m limit old new e t tells is (listed.done d) = inl refl
+listed_completes input output list s limit old new e t tells is (listed.memory at) = inr (no_memory refl)
+listed_completes input output list s limit old new e t tells is (listed.done d) = inl refl
+
+-- a map that is as it was differs at no path beside two
+pub same_both : (path beside : List ℕ) (old new : Option TreeMap) → new ≡ old → OnlyAtBoth path beside old new
+same_both path beside old new e = record {
+  tells = ap is_some e;
+  others = λ t u q of_old of_new other away. let same : Some u ≡ Some t = sym of_new ∙ (e ∙ of_old) in cc;
+}
+
+pub calm_both : (path beside : List ℕ) (old mid : Seen) (new : Option TreeMap) → Calm old mid → OnlyAtBoth path beside (now_of mid) new → OnlyAtBoth path beside (now_of old) new
+calm_both path beside old mid new calm at = let P : Option TreeMap → Type 0 = λ x. OnlyAtBoth path beside x new in subst P calm.now at

@@ -1,4 +1,4 @@
--- What a finished edit keeps, in words of the two files.
+-- What a finished edit or split keeps, in words of the files.
 use Rattle.std.proofs.Common.{◌≡◌, ◌≢◌, ℕ, List, length, refl, sym, ap, ◌∙◌, cond, true, false, Bool, subst}
 use Rattle.std.specs.Prelude.{if◌then◌else◌, Option, Some, None, option_map, nat_le, unwrap_or, ⊤}
 use Rattle.std.specs.List.{list_any}
@@ -12,6 +12,10 @@ use Rattle.std.proofs.lemmas.Cmp.{eq_by_cmp_equiv}
 use Rattle.dw_meaning.specs.Loaded.{LoadedKept}
 use Rattle.dw_meaning.specs.FileMeanings.{MeaningKept}
 use Rattle.dw_base.specs.Paths.{PathMap}
+use Rattle.job_types.specs.Settings.{Settings, most_file}
+use Rattle.dbg_split.specs.DebugFile.{debug_file}
+use Rattle.dbg_split.specs.PairMeanings.{MeansAsOne}
+use Rattle.dbg_split.specs.StrippedFile.{stripped_file}
 use Rattle.file_tree.specs.declared.node.Found.{Found}
 use Rattle.file_tree.specs.declared.node.Found.TheVariants as found
 use Rattle.file_tree.specs.declared.node.Node.{Node}
@@ -20,12 +24,14 @@ use Rattle.file_tree.specs.Heard.{Heard}
 use Rattle.file_tree.specs.Seen.{Seen, now_of}
 use Rattle.file_tree.specs.Trees.{TreeMap, found_of, is_below, stands_at, with_node}
 use Rattle.dbg_words.specs.declared.command.Command.{Command}
-use Rattle.dbg_words.specs.declared.command.Command.TheVariants.{Edit, Show}
-use Rattle.dbg_ends.specs.Steps.{list_mode}
-use Rattle.dbg_run.proofs.BuiltLaws.{listed_apart}
+use Rattle.dbg_words.specs.declared.command.Command.TheVariants.{Edit, Split, Show}
+use Rattle.dbg_run.proofs.BuiltLaws.{listed_apart, parts_apart}
 use Rattle.dbg_run.specs.Built.{built}
-use Rattle.dbg_run.specs.Edits.{EditDone, ListedDone, OfFiles, Keeps}
+use Rattle.dbg_run.specs.Edits.{EditDone, ListedDone, OfFiles, Keeps, list_mode}
 use Rattle.dbg_run.specs.Edits.Keeps.{both}
+use Rattle.dbg_run.specs.Shows.{base_name}
+use Rattle.dbg_run.specs.Splits.{OfParts, Parts, SplitDone, not_executable}
+use Rattle.dbg_run.specs.Splits.Parts.{all}
 use Rattle.dbg_run.specs.Runs.{Done, KeepsMeaning, KeepsLoaded}
 
 -- a path that was put holds what was put there
@@ -66,9 +72,9 @@ written-file t u path out other mode out_mode is there =
     ap (node_bytes out) (sym (get_put t path (node.File out mode)) ∙ ap (λ (v : TreeMap). fin.get v path) (sym map) ∙ there)
 
 -- so what holds of the two files that an edit speaks of holds of what the input and the output hold
-of_files : (P : List ℕ → List ℕ → Type 0) (input output : List ℕ) (m : PathMap) (limit : ℕ) (old new : Seen) → (d : EditDone input output m limit old new) → P d.b d.out
+of_files : (P : List ℕ → List ℕ → Type 0) (input output : List ℕ) (s : Settings) (limit : ℕ) (old new : Seen) → (d : EditDone input output s limit old new) → P d.b d.out
     → OfFiles P input output (now_of old) (now_of new)
-of_files P input output m limit old new d holds = record {
+of_files P input output s limit old new d holds = record {
   is = λ t u b out mode out_mode old_is new_is there put.
       let input_is : b ≡ d.b = read-file t input b d.b mode d.mode limit there (d.read.is t old_is) in
       let map : Some u ≡ Some (with_node output (node.File d.out d.mode) t) =
@@ -102,10 +108,10 @@ get_put_other t path other n apart =
     by_test false e = e
 
 -- where a list was put behind the output, the output holds what it would have without one
-of_listed : (P : List ℕ → List ℕ → Type 0) (input output list : List ℕ) (m : PathMap) (limit : ℕ) (old new : Seen) → list ≢ output
-    → (d : ListedDone input output list m limit old new) → P d.b d.out → OfFiles P input output (now_of old) (now_of new)
+of_listed : (P : List ℕ → List ℕ → Type 0) (input output list : List ℕ) (s : Settings) (limit : ℕ) (old new : Seen) → list ≢ output
+    → (d : ListedDone input output list s limit old new) → P d.b d.out → OfFiles P input output (now_of old) (now_of new)
 unfolding node_bytes
-of_listed P input output list m limit old new apart d holds = record {
+of_listed P input output list s limit old new apart d holds = record {
   is = λ t u b out mode out_mode old_is new_is there put.
       let input_is : b ≡ d.b = read-file t input b d.b mode d.mode limit there (d.read.is t old_is) in
       let mid = with_node output (node.File d.out d.mode) t in
@@ -119,33 +125,83 @@ of_listed P input output list m limit old new apart d holds = record {
       subst (λ (o : List ℕ). P b o) output_is (subst (λ (i : List ℕ). P i d.out) (sym input_is) holds);
 }
 
--- a list's path is another one than the output's
-abbrev ListApart : Option Command → Type 0
-ListApart (Some (Edit input output o (Some list))) = list ≢ output
-ListApart c = ⊤
+-- where both files were put, each path holds its file
+of_parts : (P : List ℕ → List ℕ → List ℕ → Type 0) (input stripped debug : List ℕ) (old new : Seen) → debug ≢ stripped → (d : SplitDone input stripped debug old new)
+    → P d.b (stripped_file d.b (base_name debug)) (debug_file d.b) → OfParts P input stripped debug (now_of old) (now_of new)
+unfolding node_bytes
+of_parts P input stripped debug old new apart done holds = record {
+  is = λ t u b s d mode one two old_is new_is there put beside.
+      let whole_s : List ℕ = stripped_file done.b (base_name debug) in
+      let whole_d : List ℕ = debug_file done.b in
+      let input_is : b ≡ done.b = read-file t input b done.b mode done.mode most_file there (done.read.is t old_is) in
+      let mid = with_node debug (node.File whole_d (not_executable done.mode)) t in
+      let map : Some u ≡ Some (with_node stripped (node.File whole_s done.mode) mid) =
+      sym new_is ∙ done.written
+      ∙ ap (λ (x : Option TreeMap). option_map (with_node stripped (node.File whole_s done.mode)) (option_map (with_node debug (node.File whole_d (not_executable done.mode))) x)) old_is in
+      let stripped_is : whole_s ≡ s = written-file mid u stripped whole_s s done.mode one map put in
+      let whole : u ≡ with_node stripped (node.File whole_s done.mode) mid = ap (λ (o : Option TreeMap). unwrap_or o u) map in
+      let held : fin.get mid debug ≡ Some (node.File d two) =
+      sym (get_put_other mid stripped debug (node.File whole_s done.mode) apart) ∙ ap (λ (v : TreeMap). fin.get v debug) (sym whole) ∙ beside in
+      let debug_is : whole_d ≡ d = ap (node_bytes d) (sym (get_put t debug (node.File whole_d (not_executable done.mode))) ∙ held) in
+      subst (λ (x : List ℕ). P b s x) debug_is (subst (λ (x : List ℕ). P b x whole_d) stripped_is (subst (λ (x : List ℕ). P x whole_s whole_d) (sym input_is) holds));
+}
 
-list_apart : (words : List (List ℕ)) (c : Option Command) → built words ≡ c → ListApart c
-list_apart words (Some (Edit input output o (Some list))) is = listed_apart words input output list o is
-list_apart words c is = tt
+-- the stripped file's path holds the stripped file, which was put last
+of_stripped : (P : List ℕ → List ℕ → Type 0) (input stripped debug : List ℕ) (old new : Seen) → (d : SplitDone input stripped debug old new)
+    → P d.b (stripped_file d.b (base_name debug)) → OfFiles P input stripped (now_of old) (now_of new)
+of_stripped P input stripped debug old new done holds = record {
+  is = λ t u b s mode one old_is new_is there put.
+      let whole_s : List ℕ = stripped_file done.b (base_name debug) in
+      let input_is : b ≡ done.b = read-file t input b done.b mode done.mode most_file there (done.read.is t old_is) in
+      let mid = with_node debug (node.File (debug_file done.b) (not_executable done.mode)) t in
+      let map : Some u ≡ Some (with_node stripped (node.File whole_s done.mode) mid) =
+      sym new_is ∙ done.written
+      ∙ ap (λ (x : Option TreeMap). option_map (with_node stripped (node.File whole_s done.mode)) (option_map (with_node debug (node.File (debug_file done.b) (not_executable done.mode))) x)) old_is in
+      let stripped_is : whole_s ≡ s = written-file mid u stripped whole_s s done.mode one map put in
+      subst (λ (x : List ℕ). P b x) stripped_is (subst (λ (x : List ℕ). P x whole_s) (sym input_is) holds);
+}
 
-meaning_by : (c : Option Command) (old new : Seen) (heard said : Heard) → ListApart c → Done c old new heard said → KeepsMeaning c (now_of old) (now_of new)
+parts_mean : (b name s d : List ℕ) → Parts b name s d → MeansAsOne b d s
+parts_mean b name s d (all joins means read loaded) = means
+
+parts_loaded : (b name s d : List ℕ) → Parts b name s d → LoadedKept b s
+parts_loaded b name s d (all joins means read loaded) = loaded
+
+-- a list's path is another one than the output's, and a debug file's another one than the stripped file's
+abbrev OutputsApart : Option Command → Type 0
+OutputsApart (Some (Edit input output o (Some list))) = list ≢ output
+OutputsApart (Some (Split input stripped debug)) = debug ≢ stripped
+OutputsApart c = ⊤
+
+outputs_apart : (words : List (List ℕ)) (c : Option Command) → built words ≡ c → OutputsApart c
+outputs_apart words (Some (Edit input output o (Some list))) is = listed_apart words input output list o is
+outputs_apart words (Some (Split input stripped debug)) is = parts_apart words input stripped debug is
+outputs_apart words c is = tt
+
+meaning_by : (c : Option Command) (old new : Seen) (heard said : Heard) → OutputsApart c → Done c old new heard said → KeepsMeaning c (now_of old) (now_of new)
 meaning_by (Some (Edit input output o None)) old new heard said apart d =
-    of_files (MeaningKept o.maps) input output o.maps o.max_file old new d.0 (meaning_kept o.maps d.0.b d.0.out d.0.keeps)
+    of_files (MeaningKept o.maps) input output o o.max_file old new d.0 (meaning_kept o.maps d.0.b d.0.out d.0.keeps)
 meaning_by (Some (Edit input output o (Some list))) old new heard said apart d =
-    of_listed (MeaningKept o.maps) input output list o.maps o.max_file old new apart d.0 (meaning_kept o.maps d.0.b d.0.out d.0.keeps)
+    of_listed (MeaningKept o.maps) input output list o o.max_file old new apart d.0 (meaning_kept o.maps d.0.b d.0.out d.0.keeps)
+meaning_by (Some (Split input stripped debug)) old new heard said apart d =
+    of_parts (λ b s x. MeansAsOne b x s) input stripped debug old new apart d.0
+    (parts_mean d.0.b (base_name debug) (stripped_file d.0.b (base_name debug)) (debug_file d.0.b) d.0.parts)
 meaning_by (Some (Show file debug)) old new heard said apart d = tt
 meaning_by c old new heard said apart d = d
 
-loaded_by : (c : Option Command) (old new : Seen) (heard said : Heard) → ListApart c → Done c old new heard said → KeepsLoaded c (now_of old) (now_of new)
+loaded_by : (c : Option Command) (old new : Seen) (heard said : Heard) → OutputsApart c → Done c old new heard said → KeepsLoaded c (now_of old) (now_of new)
 loaded_by (Some (Edit input output o None)) old new heard said apart d =
-    of_files LoadedKept input output o.maps o.max_file old new d.0 (loaded_kept o.maps d.0.b d.0.out d.0.keeps)
+    of_files LoadedKept input output o o.max_file old new d.0 (loaded_kept o.maps d.0.b d.0.out d.0.keeps)
 loaded_by (Some (Edit input output o (Some list))) old new heard said apart d =
-    of_listed LoadedKept input output list o.maps o.max_file old new apart d.0 (loaded_kept o.maps d.0.b d.0.out d.0.keeps)
+    of_listed LoadedKept input output list o o.max_file old new apart d.0 (loaded_kept o.maps d.0.b d.0.out d.0.keeps)
+loaded_by (Some (Split input stripped debug)) old new heard said apart d =
+    of_stripped LoadedKept input stripped debug old new d.0
+    (parts_loaded d.0.b (base_name debug) (stripped_file d.0.b (base_name debug)) (debug_file d.0.b) d.0.parts)
 loaded_by (Some (Show file debug)) old new heard said apart d = tt
 loaded_by c old new heard said apart d = d
 
 pub keeps_meaning : (words : List (List ℕ)) (old new : Seen) (heard said : Heard) → Done (built words) old new heard said → KeepsMeaning (built words) (now_of old) (now_of new)
-keeps_meaning words old new heard said d = meaning_by (built words) old new heard said (list_apart words (built words) refl) d
+keeps_meaning words old new heard said d = meaning_by (built words) old new heard said (outputs_apart words (built words) refl) d
 
 pub keeps_loaded : (words : List (List ℕ)) (old new : Seen) (heard said : Heard) → Done (built words) old new heard said → KeepsLoaded (built words) (now_of old) (now_of new)
-keeps_loaded words old new heard said d = loaded_by (built words) old new heard said (list_apart words (built words) refl) d
+keeps_loaded words old new heard said d = loaded_by (built words) old new heard said (outputs_apart words (built words) refl) d

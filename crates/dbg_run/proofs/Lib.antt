@@ -3,6 +3,7 @@ pub mod EditLaws
 pub mod SourceLaws
 pub mod ViewLaws
 pub mod ShowLaws
+pub mod SplitLaws
 pub mod RunLaws
 pub mod RunRows
 pub mod Rows

@@ -1,8 +1,7 @@
 -- Laws on runs: one status is due, and an end may give way to want of memory.
 use Rattle.std.proofs.Common.{◌≡◌, ◌≢◌, ℕ, List, refl, sym, ap, subst, ◌∙◌, ◌⊎◌, inl, inr}
 use Rattle.std.specs.Prelude.{Option, Some, None, is_some}
-use Rattle.dw_meaning.specs.EditRows.{IsAccepted}
-use Rattle.dw_base.specs.Paths.{PathMap}
+use Rattle.dbg_job.specs.EditedFiles.{IsEditable}
 use Rattle.file_tree.specs.declared.node.Found.{Found}
 use Rattle.file_tree.specs.declared.node.Found.TheVariants as found
 use Rattle.file_tree.specs.Trees.{TreeMap, stands_at}
@@ -14,20 +13,21 @@ use Rattle.dbg_ends.specs.declared.end.End.TheVariants as end
 use Rattle.dbg_ends.specs.Due.{Where, InputDue, OutputDue, IsCut, Exactly}
 use Rattle.dbg_ends.specs.Due.{IsCut as cut}
 use Rattle.dbg_ends.specs.Due.Where.{here, elsewhere}
-use Rattle.dbg_ends.specs.Steps.{OnlyAtBoth}
 use Rattle.dbg_ends.specs.Steps.{OutputEnds as output_, OutputsEnd as both_}
 use Rattle.dbg_ends.specs.Ends.{status_of}
 use Rattle.dbg_ends.specs.Told.{Told, Ended}
 use Rattle.dbg_ends.specs.Told.{Told as told}
 use Rattle.dbg_words.specs.declared.command.Command.{Command}
 use Rattle.dbg_words.specs.declared.command.Command.TheVariants.{Edit, Split, Run, Show, Exercise}
-use Rattle.dbg_job.specs.Settings.{Settings, most_file}
+use Rattle.job_types.specs.Settings.{Settings, most_file}
 use Rattle.dbg_run.specs.Built.{built}
 use Rattle.dbg_run.specs.Edits.{EditEnds, EditDue, ListedEnds, ListedDue}
-use Rattle.dbg_run.proofs.EditLaws.{edit_completes, listed_completes}
+use Rattle.dbg_run.proofs.EditLaws.{calm_both, edit_completes, listed_completes, same_both}
 use Rattle.dbg_run.proofs.ShowLaws.{show_completes, show_memory}
-use Rattle.dbg_run.specs.Shows.{AreElf, AreLinked, HasBegun, IsShowable, ShowDue, ShowEnds, Subject, SubjectDue, of_file, of_pair}
+use Rattle.dbg_run.proofs.SplitLaws.{split_completes, split_memory}
+use Rattle.dbg_run.specs.Shows.{AreElf, AreLinked, HasBegun, IsShowable, ShowDue, ShowEnds, Subject, SubjectDue, base_name, of_file, of_pair}
 use Rattle.dbg_run.specs.Shows.{HasBegun as begun_}
+use Rattle.dbg_run.specs.Splits.{IsSplittable, SplitDue, SplitEnds}
 use Rattle.dbg_run.specs.Edits.{EditEnds as edit, ListedEnds as listed}
 use Rattle.dbg_run.specs.Runs.{Cuts, EditWays, Ends, Due, MayWrite, Unopposed}
 use Rattle.dbg_run.specs.Runs.{Ends as ends}
@@ -67,12 +67,16 @@ output-one (found.Link target) n k P Q after is also = is ∙ sym also
 output-one (found.TooLarge size) n k P Q after is also = after is also
 output-one (found.File b mode) n k P Q after is also = after is also
 
-edit-one : (m : PathMap) (what there : Found) (n k : ℕ) → EditDue m what there n → EditDue m what there k → n ≡ k
-edit-one m what there n k = input-one what n k _ _ (λ b. output-one there n k _ _ (where-one (IsAccepted m b) 0 3 n k))
+edit-one : (s : Settings) (what there : Found) (n k : ℕ) → EditDue s what there n → EditDue s what there k → n ≡ k
+edit-one s what there n k = input-one what n k _ _ (λ b. output-one there n k _ _ (where-one (IsEditable s b) 0 3 n k))
 
-listed-one : (m : PathMap) (what there beside : Found) (n k : ℕ) → ListedDue m what there beside n → ListedDue m what there beside k → n ≡ k
-listed-one m what there beside n k =
-    input-one what n k _ _ (λ b. output-one there n k _ _ (output-one beside n k _ _ (where-one (IsAccepted m b) 0 3 n k)))
+listed-one : (s : Settings) (what there beside : Found) (n k : ℕ) → ListedDue s what there beside n → ListedDue s what there beside k → n ≡ k
+listed-one s what there beside n k =
+    input-one what n k _ _ (λ b. output-one there n k _ _ (output-one beside n k _ _ (where-one (IsEditable s b) 0 3 n k)))
+
+split-one : (name : List ℕ) (what there beside : Found) (n k : ℕ) → SplitDue name what there beside n → SplitDue name what there beside k → n ≡ k
+split-one name what there beside n k =
+    input-one what n k _ _ (λ b. output-one there n k _ _ (output-one beside n k _ _ (where-one (IsSplittable b name) 0 3 n k)))
 
 subject-one : (q : Subject) (n k : ℕ) → SubjectDue q n → SubjectDue q k → n ≡ k
 subject-one q n k =
@@ -86,17 +90,19 @@ show-one file (Some debug) t n k =
 
 -- one status is due
 due-one : (c : Option Command) (t : TreeMap) (n k : ℕ) → Due c t n → Due c t k → n ≡ k
-due-one (Some (Edit input output o None)) t n k is also = edit-one o.maps (stands_at t input o.max_file) (stands_at t output 0) n k is also
+due-one (Some (Edit input output o None)) t n k is also = edit-one o (stands_at t input o.max_file) (stands_at t output 0) n k is also
 due-one (Some (Edit input output o (Some list))) t n k is also =
-    listed-one o.maps (stands_at t input o.max_file) (stands_at t output 0) (stands_at t list 0) n k is also
+    listed-one o (stands_at t input o.max_file) (stands_at t output 0) (stands_at t list 0) n k is also
+due-one (Some (Split input stripped debug)) t n k is also =
+    split-one (base_name debug) (stands_at t input most_file) (stands_at t stripped 0) (stands_at t debug 0) n k is also
 due-one (Some (Show file debug)) t n k is also = show-one file debug t n k is also
 due-one c t n k is also = is ∙ sym also
 
 -- where nothing is against a command, it is done, or cut
 way_completes : (input output : List ℕ) (o : Settings) (list : Option (List ℕ)) (old new : Seen) (e : End) (t : TreeMap) → now_of old ≡ Some t
-    → Unopposed (Some (Edit input output o list)) t → EditWays input output list o.maps o.max_file old new e → (status_of e ≡ 0) ⊎ IsCut (status_of e)
-way_completes input output o None old new e t tells is row = edit_completes input output o.maps o.max_file old new e t tells is row
-way_completes input output o (Some list) old new e t tells is row = listed_completes input output list o.maps o.max_file old new e t tells is row
+    → Unopposed (Some (Edit input output o list)) t → EditWays input output list o o.max_file old new e → (status_of e ≡ 0) ⊎ IsCut (status_of e)
+way_completes input output o None old new e t tells is row = edit_completes input output o o.max_file old new e t tells is row
+way_completes input output o (Some list) old new e t tells is row = listed_completes input output list o o.max_file old new e t tells is row
 
 all-complete : (words : List (List ℕ)) (old new : Seen) (heard said : Heard) (e : End) (t : TreeMap) → now_of old ≡ Some t → Unopposed (built words) t
     → Ends words old new heard said e → (status_of e ≡ 0) ⊎ Cuts (built words) (status_of e)
@@ -105,6 +111,9 @@ all-complete words old new heard said e t tells is (ends.memory same silent) = i
 all-complete words old new heard said e t tells is (ends.edit {input = input} {output = output} {o = o} {list = list} command row silent) =
     subst (λ (c : Option Command). (status_of e ≡ 0) ⊎ Cuts c (status_of e)) (sym command)
     (way_completes input output o list old new e t tells (subst (λ c. Unopposed c t) command is) row)
+all-complete words old new heard said e t tells is (ends.split {input = input} {stripped = stripped} {debug = debug} command row silent) =
+    subst (λ (c : Option Command). (status_of e ≡ 0) ⊎ Cuts c (status_of e)) (sym command)
+    (split_completes input stripped debug old new e t tells (subst (λ c. Unopposed c t) command is) row)
 all-complete words old new heard said e t tells is (ends.show {file = file} {debug = debug} command row) =
     subst (λ (c : Option Command). (status_of e ≡ 0) ⊎ Cuts c (status_of e)) (sym command)
     (show_completes file debug old new heard said e t tells (subst (λ c. Unopposed c t) command is) row)
@@ -144,49 +153,48 @@ same-at path old new e = record { tells = ap is_some e; others = λ t u q of_old
 calm-at : (path : List ℕ) (old mid : Seen) (new : Option TreeMap) → Calm old mid → OnlyAt path (now_of mid) new → OnlyAt path (now_of old) new
 calm-at path old mid new calm at = let P : Option TreeMap → Type 0 = λ x. OnlyAt path x new in subst P calm.now at
 
-edit-memory : (input output : List ℕ) (m : PathMap) (limit : ℕ) (old new : Seen) (e : End) → EditEnds input output m limit old new e → e ≢ end.Done → EditEnds input output m limit old new end.NoMemory
-edit-memory input output m limit old new e (edit.reading ends calm) undone = edit.memory (same-at output _ _ calm.now)
-edit-memory input output m limit old new e (edit.taking stood calm ends still) undone = edit.memory (same-at output _ _ (still.now ∙ calm.now))
-edit-memory input output m limit old new e (edit.rewriting stood free ends calm) undone = edit.memory (same-at output _ _ calm.now)
-edit-memory input output m limit old new e (edit.writing {mid = mid} stood free ok calm (output_.failed rose at)) undone = edit.memory (calm-at output old mid _ calm at)
-edit-memory input output m limit old new e (edit.writing {mid = mid} stood free ok calm (output_.memory at)) undone = edit.memory (calm-at output old mid _ calm at)
-edit-memory input output m limit old new e (edit.memory at) undone = edit.memory at
-edit-memory input output m limit old new e (edit.done is) undone = absurd (undone refl)
+edit-memory : (input output : List ℕ) (s : Settings) (limit : ℕ) (old new : Seen) (e : End) → EditEnds input output s limit old new e → e ≢ end.Done → EditEnds input output s limit old new end.NoMemory
+edit-memory input output s limit old new e (edit.reading ends calm) undone = edit.memory (same-at output _ _ calm.now)
+edit-memory input output s limit old new e (edit.taking stood calm ends still) undone = edit.memory (same-at output _ _ (still.now ∙ calm.now))
+edit-memory input output s limit old new e (edit.rewriting stood free ends calm) undone = edit.memory (same-at output _ _ calm.now)
+edit-memory input output s limit old new e (edit.writing {mid = mid} stood free ok calm (output_.failed rose at)) undone = edit.memory (calm-at output old mid _ calm at)
+edit-memory input output s limit old new e (edit.writing {mid = mid} stood free ok calm (output_.memory at)) undone = edit.memory (calm-at output old mid _ calm at)
+edit-memory input output s limit old new e (edit.memory at) undone = edit.memory at
+edit-memory input output s limit old new e (edit.done is) undone = absurd (undone refl)
 
--- the same of two paths
-same-both : (path beside : List ℕ) (old new : Option TreeMap) → new ≡ old → OnlyAtBoth path beside old new
-same-both path beside old new e = record {
-  tells = ap is_some e;
-  others = λ t u q of_old of_new other away. let same : Some u ≡ Some t = sym of_new ∙ (e ∙ of_old) in cc;
-}
+listed-memory : (input output list : List ℕ) (s : Settings) (limit : ℕ) (old new : Seen) (e : End) → ListedEnds input output list s limit old new e → e ≢ end.Done
+    → ListedEnds input output list s limit old new end.NoMemory
+listed-memory input output list s limit old new e (listed.reading row calm) undone = listed.memory (same_both output list _ _ calm.now)
+listed-memory input output list s limit old new e (listed.taking stood calm row still) undone = listed.memory (same_both output list _ _ (still.now ∙ calm.now))
+listed-memory input output list s limit old new e (listed.list_taking stood free calm row still) undone = listed.memory (same_both output list _ _ (still.now ∙ calm.now))
+listed-memory input output list s limit old new e (listed.rewriting stood free list_free row calm) undone = listed.memory (same_both output list _ _ calm.now)
+listed-memory input output list s limit old new e (listed.writing {mid = mid} stood free list_free ok calm (both_.failed rose at)) undone = listed.memory (calm_both output list old mid _ calm at)
+listed-memory input output list s limit old new e (listed.writing {mid = mid} stood free list_free ok calm (both_.memory at)) undone = listed.memory (calm_both output list old mid _ calm at)
+listed-memory input output list s limit old new e (listed.memory at) undone = listed.memory at
+listed-memory input output list s limit old new e (listed.done d) undone = absurd (undone refl)
 
-calm-both : (path beside : List ℕ) (old mid : Seen) (new : Option TreeMap) → Calm old mid → OnlyAtBoth path beside (now_of mid) new → OnlyAtBoth path beside (now_of old) new
-calm-both path beside old mid new calm at = let P : Option TreeMap → Type 0 = λ x. OnlyAtBoth path beside x new in subst P calm.now at
-
-listed-memory : (input output list : List ℕ) (m : PathMap) (limit : ℕ) (old new : Seen) (e : End) → ListedEnds input output list m limit old new e → e ≢ end.Done
-    → ListedEnds input output list m limit old new end.NoMemory
-listed-memory input output list m limit old new e (listed.reading row calm) undone = listed.memory (same-both output list _ _ calm.now)
-listed-memory input output list m limit old new e (listed.taking stood calm row still) undone = listed.memory (same-both output list _ _ (still.now ∙ calm.now))
-listed-memory input output list m limit old new e (listed.list_taking stood free calm row still) undone = listed.memory (same-both output list _ _ (still.now ∙ calm.now))
-listed-memory input output list m limit old new e (listed.rewriting stood free list_free row calm) undone = listed.memory (same-both output list _ _ calm.now)
-listed-memory input output list m limit old new e (listed.writing {mid = mid} stood free list_free ok calm (both_.failed rose at)) undone = listed.memory (calm-both output list old mid _ calm at)
-listed-memory input output list m limit old new e (listed.writing {mid = mid} stood free list_free ok calm (both_.memory at)) undone = listed.memory (calm-both output list old mid _ calm at)
-listed-memory input output list m limit old new e (listed.memory at) undone = listed.memory at
-listed-memory input output list m limit old new e (listed.done d) undone = absurd (undone refl)
-
-way-memory : (input output : List ℕ) (list : Option (List ℕ)) (m : PathMap) (limit : ℕ) (old new : Seen) (e : End) → EditWays input output list m limit old new e → e ≢ end.Done
-    → EditWays input output list m limit old new end.NoMemory
-way-memory input output None m limit old new e row undone = edit-memory input output m limit old new e row undone
-way-memory input output (Some list) m limit old new e row undone = listed-memory input output list m limit old new e row undone
+way-memory : (input output : List ℕ) (list : Option (List ℕ)) (s : Settings) (limit : ℕ) (old new : Seen) (e : End) → EditWays input output list s limit old new e → e ≢ end.Done
+    → EditWays input output list s limit old new end.NoMemory
+way-memory input output None s limit old new e row undone = edit-memory input output s limit old new e row undone
+way-memory input output (Some list) s limit old new e row undone = listed-memory input output list s limit old new e row undone
 
 -- an edit of these words ends as the edit of their paths
 pub edit_ends : (words : List (List ℕ)) (old new : Seen) (heard : Heard) (e : End) (input output read written : List ℕ) (o : Settings) (list : Option (List ℕ))
-    → built words ≡ Some (Edit input output o list) → read ≡ input → written ≡ output → EditWays read written list o.maps o.max_file old new e
+    → built words ≡ Some (Edit input output o list) → read ≡ input → written ≡ output → EditWays read written list o o.max_file old new e
     → Ends words old new heard heard e
 edit_ends words old new heard e input output read written o list is of_input of_output row =
-    let P : List ℕ → Type 0 = λ x. EditWays x output list o.maps o.max_file old new e in
-    let Q : List ℕ → Type 0 = λ x. EditWays read x list o.maps o.max_file old new e in
+    let P : List ℕ → Type 0 = λ x. EditWays x output list o o.max_file old new e in
+    let Q : List ℕ → Type 0 = λ x. EditWays read x list o o.max_file old new e in
     ends.edit is (subst P of_input (subst Q of_output row)) refl
+
+-- a split of these words ends as the split of their paths
+pub split_ends : (words : List (List ℕ)) (old new : Seen) (heard : Heard) (e : End) (input stripped debug read first second : List ℕ)
+    → built words ≡ Some (Split input stripped debug) → read ≡ input → first ≡ stripped → second ≡ debug → SplitEnds read first second old new e
+    → Ends words old new heard heard e
+split_ends words old new heard e input stripped debug read first second is of_input of_stripped of_debug row =
+    ends.split is
+    (subst (λ (x : List ℕ). SplitEnds x stripped debug old new e) of_input
+    (subst (λ (x : List ℕ). SplitEnds read x debug old new e) of_stripped (subst (λ (x : List ℕ). SplitEnds read first x old new e) of_debug row))) refl
 
 -- a showing of these words ends as the showing of their path
 pub show_ends : (words : List (List ℕ)) (old new : Seen) (heard said : Heard) (e : End) (file read : List ℕ) (debug : Option (List ℕ))
@@ -198,6 +206,7 @@ ends-memory : (words : List (List ℕ)) (old new : Seen) (heard said : Heard) (e
 ends-memory words old new heard said e (ends.usage none same silent) undone = ends.memory same silent
 ends-memory words old new heard said e (ends.memory same silent) undone = ends.memory same silent
 ends-memory words old new heard said e (ends.edit is row silent) undone = ends.edit is (way-memory _ _ _ _ _ old new e row undone) silent
+ends-memory words old new heard said e (ends.split is row silent) undone = ends.split is (split_memory _ _ _ old new e row undone) silent
 ends-memory words old new heard said e (ends.show is row) undone = ends.show is (show_memory _ _ old new heard said e row undone)
 
 -- what went to the output sink is said by the status that is told

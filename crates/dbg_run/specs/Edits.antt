@@ -2,10 +2,11 @@
 -- is due.
 use Rattle.std.specs.Prelude.{◌≡◌, ℕ, true, List, Option, Some, option_map}
 use Rattle.dw_base.specs.declared.fault.Refusal.{Refusal}
-use Rattle.dw_meaning.specs.EditRows.{IsAccepted, EditFails}
-use Rattle.dw_meaning.specs.FileMeanings.{file_data, IsOutput, MeaningKept}
+use Rattle.dw_meaning.specs.FileMeanings.{file_data, MeaningKept}
 use Rattle.dw_meaning.specs.Loaded.{LoadedKept}
 use Rattle.dw_base.specs.Paths.{PathMap}
+use Rattle.job_types.specs.Settings.{Settings}
+use Rattle.dbg_job.specs.EditedFiles.{EditedFails, IsEditable, IsEdited}
 use Rattle.file_tree.specs.declared.node.Found.{Found}
 use Rattle.file_tree.specs.declared.node.Found.TheVariants as found
 use Rattle.file_tree.specs.declared.node.Node.TheVariants as node
@@ -16,31 +17,31 @@ use Rattle.file_tree.specs.Causes.{Stood, Calm, OnlyAt}
 use Rattle.dbg_ends.specs.declared.end.End.{End}
 use Rattle.dbg_ends.specs.declared.end.End.TheVariants as end
 use Rattle.dbg_ends.specs.Due.{Where, InputDue, IsFree, OutputDue}
-use Rattle.dbg_ends.specs.Steps.{InputEnds, OutputTaken, OutputFree, OutputEnds, OutputsEnd, OnlyAtBoth, IsSettled, list_mode}
+use Rattle.dbg_ends.specs.Steps.{InputEnds, OutputTaken, OutputFree, OutputEnds, OutputsEnd, OnlyAtBoth, IsSettled}
 use Rattle.dw_base.specs.Texts.{laid_texts}
 use Rattle.dw_sources.specs.Sources.{AreSources}
 
--- how the rewriting of the bytes of a path ends where it gives no output
-pub data RewriteEnds (path : List ℕ) (m : PathMap) (b : List ℕ) : End → Type 0 where
-  refused : {r : Refusal} → EditFails m b r → RewriteEnds path m b (end.Refused path r)
-  memory : RewriteEnds path m b end.NoMemory
+-- how the editing of the bytes of a path ends where it gives no output
+pub data RewriteEnds (path : List ℕ) (s : Settings) (b : List ℕ) : End → Type 0 where
+  refused : {r : Refusal} → EditedFails s b r → RewriteEnds path s b (end.Refused path r)
+  memory : RewriteEnds path s b end.NoMemory
 
 -- the output keeps what the input means, with the map applied once to each source path, and what is loaded of it
 pub data Keeps (m : PathMap) (b out : List ℕ) : Type 0 where
   both : MeaningKept m b out → LoadedKept b out → Keeps m b out
 
 -- the edit is done: the input held a file that is taken, and a file might be put at the output; the output holds the
--- input's output file with its mode, and nothing else changed
-pub record EditDone (input output : List ℕ) (m : PathMap) (limit : ℕ) (old new : Seen) : Type 0 where
+-- input's edited file with its mode, and nothing else changed
+pub record EditDone (input output : List ℕ) (s : Settings) (limit : ℕ) (old new : Seen) : Type 0 where
   pub b : List ℕ
   pub mode : ℕ
   pub out : List ℕ
   pub read : Stood (now_of old) input limit (found.File b mode)
   pub free : OutputFree (now_of old) output
-  pub accepted : IsAccepted m b
-  pub is : IsOutput m b out
-  pub only : (o : List ℕ) → IsOutput m b o → o ≡ out
-  pub keeps : Keeps m b out
+  pub accepted : IsEditable s b
+  pub is : IsEdited s b out
+  pub only : (o : List ℕ) → IsEdited s b o → o ≡ out
+  pub keeps : Keeps s.maps b out
   pub written : now_of new ≡ option_map (with_node output (node.File out mode)) (now_of old)
   pub settled : old.tells ≡ true → IsSettled new.past
 
@@ -50,28 +51,28 @@ pub record OfFiles (P : List ℕ → List ℕ → Type 0) (input output : List �
       → fin.get t input ≡ Some (node.File b mode) → fin.get u output ≡ Some (node.File out out_mode) → P b out
 
 -- how an edit ends, by the step at which it does
-pub data EditEnds (input output : List ℕ) (m : PathMap) (limit : ℕ) (old new : Seen) : End → Type 0 where
-  reading : {e : End} → InputEnds input limit old new e → Calm old new → EditEnds input output m limit old new e
+pub data EditEnds (input output : List ℕ) (s : Settings) (limit : ℕ) (old new : Seen) : End → Type 0 where
+  reading : {e : End} → InputEnds input limit old new e → Calm old new → EditEnds input output s limit old new e
   taking : {b : List ℕ} {mode : ℕ} {mid : Seen} {e : End} → Stood (now_of old) input limit (found.File b mode) → Calm old mid
-      → OutputTaken output mid new e → Calm mid new → EditEnds input output m limit old new e
+      → OutputTaken output mid new e → Calm mid new → EditEnds input output s limit old new e
   rewriting : {b : List ℕ} {mode : ℕ} {e : End} → Stood (now_of old) input limit (found.File b mode) → OutputFree (now_of old) output
-      → RewriteEnds input m b e → Calm old new → EditEnds input output m limit old new e
+      → RewriteEnds input s b e → Calm old new → EditEnds input output s limit old new e
   writing : {b : List ℕ} {mode : ℕ} {mid : Seen} {e : End} → Stood (now_of old) input limit (found.File b mode)
-      → OutputFree (now_of old) output → IsAccepted m b → Calm old mid → OutputEnds output mid new e → EditEnds input output m limit old new e
-  memory : OnlyAt output (now_of old) (now_of new) → EditEnds input output m limit old new end.NoMemory
-  done : EditDone input output m limit old new → EditEnds input output m limit old new end.Done
+      → OutputFree (now_of old) output → IsEditable s b → Calm old mid → OutputEnds output mid new e → EditEnds input output s limit old new e
+  memory : OnlyAt output (now_of old) (now_of new) → EditEnds input output s limit old new end.NoMemory
+  done : EditDone input output s limit old new → EditEnds input output s limit old new end.Done
 
 -- the status that is due of an edit, by what is found at its input, and then at its output
-abbrev pub EditDue : PathMap → Found → Found → ℕ → Type 0
-EditDue m what there n = InputDue what n (λ b. OutputDue there n (Where (IsAccepted m b) (n ≡ 0) (n ≡ 3)))
+abbrev pub EditDue : Settings → Found → Found → ℕ → Type 0
+EditDue s what there n = InputDue what n (λ b. OutputDue there n (Where (IsEditable s b) (n ≡ 0) (n ≡ 3)))
 
 -- nothing is against the edit, by what is found at its input and at its output: the one is a file within the limit that no
 -- condition refuses, and a file may be put in place of the other
-pub record EditUnopposed (m : PathMap) (what there : Found) : Type 0 where
+pub record EditUnopposed (s : Settings) (what there : Found) : Type 0 where
   pub b : List ℕ
   pub mode : ℕ
   pub file : what ≡ found.File b mode
-  pub unrefused : (r : Refusal) → EditFails m b r → ⊥
+  pub unrefused : (r : Refusal) → EditedFails s b r → ⊥
   pub free : IsFree there
 
 -- ### With a list of sources
@@ -83,8 +84,12 @@ pub record IsListText (m : PathMap) (b text : List ℕ) : Type 0 where
   pub sources : AreSources (file_data b) m.base names
   pub is : text ≡ laid_texts names
 
+-- the mode of a list: its owner may write it, and all may read it
+abbrev pub list_mode : ℕ
+list_mode = 420
+
 -- the edit is done, as without a list, and the list's path holds the list, which all may read
-pub record ListedDone (input output list : List ℕ) (m : PathMap) (limit : ℕ) (old new : Seen) : Type 0 where
+pub record ListedDone (input output list : List ℕ) (s : Settings) (limit : ℕ) (old new : Seen) : Type 0 where
   pub b : List ℕ
   pub mode : ℕ
   pub out : List ℕ
@@ -92,34 +97,34 @@ pub record ListedDone (input output list : List ℕ) (m : PathMap) (limit : ℕ)
   pub read : Stood (now_of old) input limit (found.File b mode)
   pub free : OutputFree (now_of old) output
   pub list_free : OutputFree (now_of old) list
-  pub accepted : IsAccepted m b
-  pub is : IsOutput m b out
-  pub only : (o : List ℕ) → IsOutput m b o → o ≡ out
-  pub keeps : Keeps m b out
-  pub listed : IsListText m b text
+  pub accepted : IsEditable s b
+  pub is : IsEdited s b out
+  pub only : (o : List ℕ) → IsEdited s b o → o ≡ out
+  pub keeps : Keeps s.maps b out
+  pub listed : IsListText s.maps b text
   pub written : now_of new ≡ option_map (with_node list (node.File text list_mode)) (option_map (with_node output (node.File out mode)) (now_of old))
   pub settled : old.tells ≡ true → IsSettled new.past
 
 -- how an edit with a list ends, by the step at which it does
-pub data ListedEnds (input output list : List ℕ) (m : PathMap) (limit : ℕ) (old new : Seen) : End → Type 0 where
-  reading : {e : End} → InputEnds input limit old new e → Calm old new → ListedEnds input output list m limit old new e
+pub data ListedEnds (input output list : List ℕ) (s : Settings) (limit : ℕ) (old new : Seen) : End → Type 0 where
+  reading : {e : End} → InputEnds input limit old new e → Calm old new → ListedEnds input output list s limit old new e
   taking : {b : List ℕ} {mode : ℕ} {mid : Seen} {e : End} → Stood (now_of old) input limit (found.File b mode) → Calm old mid
-      → OutputTaken output mid new e → Calm mid new → ListedEnds input output list m limit old new e
+      → OutputTaken output mid new e → Calm mid new → ListedEnds input output list s limit old new e
   list_taking : {b : List ℕ} {mode : ℕ} {mid : Seen} {e : End} → Stood (now_of old) input limit (found.File b mode) → OutputFree (now_of old) output
-      → Calm old mid → OutputTaken list mid new e → Calm mid new → ListedEnds input output list m limit old new e
+      → Calm old mid → OutputTaken list mid new e → Calm mid new → ListedEnds input output list s limit old new e
   rewriting : {b : List ℕ} {mode : ℕ} {e : End} → Stood (now_of old) input limit (found.File b mode) → OutputFree (now_of old) output
-      → OutputFree (now_of old) list → RewriteEnds input m b e → Calm old new → ListedEnds input output list m limit old new e
+      → OutputFree (now_of old) list → RewriteEnds input s b e → Calm old new → ListedEnds input output list s limit old new e
   writing : {b : List ℕ} {mode : ℕ} {mid : Seen} {e : End} → Stood (now_of old) input limit (found.File b mode)
-      → OutputFree (now_of old) output → OutputFree (now_of old) list → IsAccepted m b → Calm old mid → OutputsEnd output list mid new e
-      → ListedEnds input output list m limit old new e
-  memory : OnlyAtBoth output list (now_of old) (now_of new) → ListedEnds input output list m limit old new end.NoMemory
-  done : ListedDone input output list m limit old new → ListedEnds input output list m limit old new end.Done
+      → OutputFree (now_of old) output → OutputFree (now_of old) list → IsEditable s b → Calm old mid → OutputsEnd output list mid new e
+      → ListedEnds input output list s limit old new e
+  memory : OnlyAtBoth output list (now_of old) (now_of new) → ListedEnds input output list s limit old new end.NoMemory
+  done : ListedDone input output list s limit old new → ListedEnds input output list s limit old new end.Done
 
 -- the status that is due of an edit with a list, by what is found at its input, then at its output, and then at the list's path
-abbrev pub ListedDue : PathMap → Found → Found → Found → ℕ → Type 0
-ListedDue m what there beside n = InputDue what n (λ b. OutputDue there n (OutputDue beside n (Where (IsAccepted m b) (n ≡ 0) (n ≡ 3))))
+abbrev pub ListedDue : Settings → Found → Found → Found → ℕ → Type 0
+ListedDue s what there beside n = InputDue what n (λ b. OutputDue there n (OutputDue beside n (Where (IsEditable s b) (n ≡ 0) (n ≡ 3))))
 
 -- nothing is against the edit, and a file may be put at the list's path
-pub record ListedUnopposed (m : PathMap) (what there beside : Found) : Type 0 where
-  pub edit : EditUnopposed m what there
+pub record ListedUnopposed (s : Settings) (what there beside : Found) : Type 0 where
+  pub edit : EditUnopposed s what there
   pub free : IsFree beside

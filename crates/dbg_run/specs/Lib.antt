@@ -1,4 +1,5 @@
 pub mod Built
 pub mod Edits
 pub mod Shows
+pub mod Splits
 pub mod Runs

@@ -29,7 +29,7 @@ use Rattle.file_tree.specs.declared.node.Found.TheVariants as found
 use Rattle.file_tree.specs.Causes.{Rose, Stood, Calm}
 use Rattle.file_tree.specs.Heard.{Heard}
 use Rattle.file_tree.specs.Seen.{Seen, now_of}
-use Rattle.dbg_job.specs.Settings.{most_file}
+use Rattle.job_types.specs.Settings.{most_file}
 use Rattle.dbg_ends.specs.declared.end.End.{End}
 use Rattle.dbg_ends.specs.declared.end.End.TheVariants as end
 use Rattle.dbg_ends.specs.Due.{Where, InputDue}

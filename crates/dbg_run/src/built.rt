@@ -7,12 +7,13 @@ use dbg_words::Command;
 use dw_base::NoMemory;
 use std::alloc::Global;
 
-/// Whether the command is carried out: an edit that makes no build-id, or a showing.
+/// Whether the command is carried out: an edit, a split, or a showing.
 fn is_built(command: &Command) -> bool
     ensures value { result ≡ is_built command.now }
 {
     match command {
-        Command::Edit { options, .. } => !options.build_id && options.seed.len() == 0,
+        Command::Edit { .. } => true,
+        Command::Split { .. } => true,
         Command::Show { .. } => true,
         _ => false,
     }

@@ -1,9 +1,8 @@
 //! The command `edit`: a file with each source path in its debug data mapped, and the list of its sources where one is asked for.
 ghost use Rattle.std.specs.Prelude.{◌≡◌, ◌≢◌, ◌⊎◌, ◌≤◌, ℕ, List, length, IfOk, IfErr, OnOk};
 ghost use Rattle.std.specs.Option.{ForSome};
-ghost use Rattle.dw_meaning.specs.EditRows.{IsAccepted};
 ghost use Rattle.dw_base.specs.Layout.{output_limit};
-ghost use Rattle.dw_meaning.specs.FileMeanings.{IsOutput};
+ghost use Rattle.dbg_job.specs.EditedFiles.{IsEditable, IsEdited};
 ghost use Rattle.file_tree.specs.Seen.{now_of};
 ghost use Rattle.file_tree.specs.Trees.{stands_at};
 ghost use Rattle.file_tree.specs.Causes.{Rose, OnlyAt};
@@ -13,31 +12,38 @@ ghost use Rattle.dbg_ends.specs.Steps.{OnlyAtBoth};
 ghost use Rattle.dbg_run.specs.Edits.{Keeps, RewriteEnds, EditDone, EditEnds, EditDue, ListedDone, ListedEnds, ListedDue};
 
 use crate::sources::list_text;
-use dbg_ends::{End, free_output, read_input, write_output, write_with_list};
-use dbg_job::Options;
+use dbg_ends::{End, free_output, read_input, write_output, write_outputs};
+use dbg_job::edited;
 use dw_base::Fault;
-use dw_paths::Maps;
-use dw_rewrite::rewrite;
 use file_tree::{Text, Tree};
+use job_types::Options;
 use std::alloc::Global;
 
-/// The bytes of the file at the path with each source path mapped. Refused only where a
+/// The mode of a list: its owner may write it, and all may read it.
+const LIST_MODE: u32 = 0o644;
+
+/// The bytes of the file at the path with each source path mapped, and with a new build-id where one is asked for. Refused only where a
 /// condition holds of the file, or of its output, of that kind and at that place.
 #[tactic(auto, using(crate::proofs::Rows::rewrite_rows))]
-fn rewrite_bytes(alloc: Global, path: &str, bytes: &Vec<u8>, maps: &Maps) -> Result<Vec<u8>, End>
+fn edited_bytes(
+    alloc: Global,
+    path: &str,
+    bytes: &Vec<u8>,
+    options: &Options,
+) -> Result<Vec<u8>, End>
     requires small { length bytes.now.items ≤ output_limit }
-    ensures accepted { OnOk result (IsAccepted maps.now bytes.now.items) }
-    ensures output { IfOk result (λ out. IsOutput maps.now bytes.now.items out.items) }
-    ensures only { IfOk result (λ out. (o : List ℕ) → IsOutput maps.now bytes.now.items o → o ≡ out.items) }
-    ensures keeps { IfOk result (λ out. Keeps maps.now bytes.now.items out.items) }
-    ensures ends { IfErr result (RewriteEnds path.now maps.now bytes.now.items) }
-    ensures due { IfErr result (λ e. Where (IsAccepted maps.now bytes.now.items) (status_of e ≡ 0) (status_of e ≡ 3) ⊎ IsCut (status_of e)) }
+    ensures accepted { OnOk result (IsEditable options.now bytes.now.items) }
+    ensures output { IfOk result (λ out. IsEdited options.now bytes.now.items out.items) }
+    ensures only { IfOk result (λ out. (o : List ℕ) → IsEdited options.now bytes.now.items o → o ≡ out.items) }
+    ensures keeps { IfOk result (λ out. Keeps options.now.maps bytes.now.items out.items) }
+    ensures ends { IfErr result (RewriteEnds path.now options.now bytes.now.items) }
+    ensures due { IfErr result (λ e. Where (IsEditable options.now bytes.now.items) (status_of e ≡ 0) (status_of e ≡ 3) ⊎ IsCut (status_of e)) }
     ensures not_done { IfErr result (λ e. 0 ≢ status_of e) }
     ensures not_usage { IfErr result (λ e. 2 ≢ status_of e) }
     ensures not_output { IfErr result (λ e. 7 ≢ status_of e) }
     ensures no_fault { IfErr result (λ e. 6 ≢ status_of e) }
 {
-    match rewrite(alloc, bytes.as_slice(), maps) {
+    match edited(alloc, bytes.as_slice(), options) {
         Ok(out) => Ok(out),
         Err(Fault::Refused(refusal)) => Err(End::Refused {
             path: Text::copy_of(alloc, path)?,
@@ -53,15 +59,15 @@ fn edit_steps<T: Tree>(
     alloc: Global,
     input: &str,
     output: &str,
-    maps: &Maps,
+    options: &Options,
     limit: u64,
     tree: &mut T,
 ) -> Result<(), End>
     requires limit { limit ≤ output_limit }
-    ensures done { OnOk result (EditDone input.now output.now maps.now limit (T.seen tree.old) (T.seen tree.new)) }
-    ensures ends { IfErr result (EditEnds input.now output.now maps.now limit (T.seen tree.old) (T.seen tree.new)) }
-    ensures due { IfErr result (λ e. ForSome (now_of (T.seen tree.old)) (λ t. EditDue maps.now (stands_at t input.now limit) (stands_at t output.now 0) (status_of e) ⊎ IsCut (status_of e))) }
-    ensures due_done { OnOk result (ForSome (now_of (T.seen tree.old)) (λ t. EditDue maps.now (stands_at t input.now limit) (stands_at t output.now 0) 0)) }
+    ensures done { OnOk result (EditDone input.now output.now options.now limit (T.seen tree.old) (T.seen tree.new)) }
+    ensures ends { IfErr result (EditEnds input.now output.now options.now limit (T.seen tree.old) (T.seen tree.new)) }
+    ensures due { IfErr result (λ e. ForSome (now_of (T.seen tree.old)) (λ t. EditDue options.now (stands_at t input.now limit) (stands_at t output.now 0) (status_of e) ⊎ IsCut (status_of e))) }
+    ensures due_done { OnOk result (ForSome (now_of (T.seen tree.old)) (λ t. EditDue options.now (stands_at t input.now limit) (stands_at t output.now 0) 0)) }
     ensures not_done { IfErr result (λ e. 0 ≢ status_of e) }
     ensures not_usage { IfErr result (λ e. 2 ≢ status_of e) }
     ensures not_output { IfErr result (λ e. 7 ≢ status_of e) }
@@ -72,7 +78,7 @@ fn edit_steps<T: Tree>(
 {
     let (bytes, mode) = read_input(alloc, input, limit, tree)?;
     free_output(alloc, output, tree)?;
-    let out = rewrite_bytes(alloc, input, &bytes, maps)?;
+    let out = edited_bytes(alloc, input, &bytes, options)?;
     write_output(output, out, mode, tree)?;
     Ok(())
 }
@@ -86,9 +92,9 @@ pub fn edit<T: Tree>(
     options: &Options,
     tree: &mut T,
 ) -> End
-    ensures ends { EditEnds input.now output.now options.now.maps options.now.max_file (T.seen tree.old) (T.seen tree.new) result }
-    ensures done { 0 ≡ status_of result → EditDone input.now output.now options.now.maps options.now.max_file (T.seen tree.old) (T.seen tree.new) }
-    ensures due { ForSome (now_of (T.seen tree.old)) (λ t. EditDue options.now.maps (stands_at t input.now options.now.max_file) (stands_at t output.now 0) (status_of result) ⊎ IsCut (status_of result)) }
+    ensures ends { EditEnds input.now output.now options.now options.now.max_file (T.seen tree.old) (T.seen tree.new) result }
+    ensures done { 0 ≡ status_of result → EditDone input.now output.now options.now options.now.max_file (T.seen tree.old) (T.seen tree.new) }
+    ensures due { ForSome (now_of (T.seen tree.old)) (λ t. EditDue options.now (stands_at t input.now options.now.max_file) (stands_at t output.now 0) (status_of result) ⊎ IsCut (status_of result)) }
     ensures not_usage { 2 ≢ status_of result }
     ensures not_output { 7 ≢ status_of result }
     ensures fault { status_of result ≡ 6 → Rose (T.seen tree.old).faults (T.seen tree.new).faults }
@@ -96,7 +102,7 @@ pub fn edit<T: Tree>(
     ensures others { OnlyAt output.now (now_of (T.seen tree.old)) (now_of (T.seen tree.new)) }
     ensures tells { (T.seen tree.new).tells ≡ (T.seen tree.old).tells }
 {
-    match edit_steps(alloc, input, output, &options.maps, options.max_file, tree) {
+    match edit_steps(alloc, input, output, options, options.max_file, tree) {
         Ok(()) => End::Done,
         Err(end) => end,
     }
@@ -109,15 +115,15 @@ fn listed_steps<T: Tree>(
     input: &str,
     output: &str,
     list: &str,
-    maps: &Maps,
+    options: &Options,
     limit: u64,
     tree: &mut T,
 ) -> Result<(), End>
     requires limit { limit ≤ output_limit }
-    ensures done { OnOk result (ListedDone input.now output.now list.now maps.now limit (T.seen tree.old) (T.seen tree.new)) }
-    ensures ends { IfErr result (ListedEnds input.now output.now list.now maps.now limit (T.seen tree.old) (T.seen tree.new)) }
-    ensures due { IfErr result (λ e. ForSome (now_of (T.seen tree.old)) (λ t. ListedDue maps.now (stands_at t input.now limit) (stands_at t output.now 0) (stands_at t list.now 0) (status_of e) ⊎ IsCut (status_of e))) }
-    ensures due_done { OnOk result (ForSome (now_of (T.seen tree.old)) (λ t. ListedDue maps.now (stands_at t input.now limit) (stands_at t output.now 0) (stands_at t list.now 0) 0)) }
+    ensures done { OnOk result (ListedDone input.now output.now list.now options.now limit (T.seen tree.old) (T.seen tree.new)) }
+    ensures ends { IfErr result (ListedEnds input.now output.now list.now options.now limit (T.seen tree.old) (T.seen tree.new)) }
+    ensures due { IfErr result (λ e. ForSome (now_of (T.seen tree.old)) (λ t. ListedDue options.now (stands_at t input.now limit) (stands_at t output.now 0) (stands_at t list.now 0) (status_of e) ⊎ IsCut (status_of e))) }
+    ensures due_done { OnOk result (ForSome (now_of (T.seen tree.old)) (λ t. ListedDue options.now (stands_at t input.now limit) (stands_at t output.now 0) (stands_at t list.now 0) 0)) }
     ensures not_done { IfErr result (λ e. 0 ≢ status_of e) }
     ensures not_usage { IfErr result (λ e. 2 ≢ status_of e) }
     ensures not_output { IfErr result (λ e. 7 ≢ status_of e) }
@@ -129,9 +135,9 @@ fn listed_steps<T: Tree>(
     let (file, mode) = read_input(alloc, input, limit, tree)?;
     free_output(alloc, output, tree)?;
     free_output(alloc, list, tree)?;
-    let rewritten = rewrite_bytes(alloc, input, &file, maps)?;
-    let names = list_text(alloc, &file, maps)?;
-    write_with_list(output, rewritten, mode, list, names, tree)?;
+    let rewritten = edited_bytes(alloc, input, &file, options)?;
+    let names = list_text(alloc, &file, options)?;
+    write_outputs(output, rewritten, mode, list, names, LIST_MODE, tree)?;
     Ok(())
 }
 
@@ -146,9 +152,9 @@ pub fn edit_listed<T: Tree>(
     options: &Options,
     tree: &mut T,
 ) -> End
-    ensures ends { ListedEnds input.now output.now list.now options.now.maps options.now.max_file (T.seen tree.old) (T.seen tree.new) result }
-    ensures done { 0 ≡ status_of result → ListedDone input.now output.now list.now options.now.maps options.now.max_file (T.seen tree.old) (T.seen tree.new) }
-    ensures due { ForSome (now_of (T.seen tree.old)) (λ t. ListedDue options.now.maps (stands_at t input.now options.now.max_file) (stands_at t output.now 0) (stands_at t list.now 0) (status_of result) ⊎ IsCut (status_of result)) }
+    ensures ends { ListedEnds input.now output.now list.now options.now options.now.max_file (T.seen tree.old) (T.seen tree.new) result }
+    ensures done { 0 ≡ status_of result → ListedDone input.now output.now list.now options.now options.now.max_file (T.seen tree.old) (T.seen tree.new) }
+    ensures due { ForSome (now_of (T.seen tree.old)) (λ t. ListedDue options.now (stands_at t input.now options.now.max_file) (stands_at t output.now 0) (stands_at t list.now 0) (status_of result) ⊎ IsCut (status_of result)) }
     ensures not_usage { 2 ≢ status_of result }
     ensures not_output { 7 ≢ status_of result }
     ensures fault { status_of result ≡ 6 → Rose (T.seen tree.old).faults (T.seen tree.new).faults }
@@ -156,15 +162,7 @@ pub fn edit_listed<T: Tree>(
     ensures others { OnlyAtBoth output.now list.now (now_of (T.seen tree.old)) (now_of (T.seen tree.new)) }
     ensures tells { (T.seen tree.new).tells ≡ (T.seen tree.old).tells }
 {
-    match listed_steps(
-        alloc,
-        input,
-        output,
-        list,
-        &options.maps,
-        options.max_file,
-        tree,
-    ) {
+    match listed_steps(alloc, input, output, list, options, options.max_file, tree) {
         Ok(()) => End::Done,
         Err(end) => end,
     }

@@ -4,7 +4,7 @@
 //! it is due, with its one line; at status 0 the command is done, and at every other status what was
 //! written is said.
 //! It does not promise: what a real file system or terminal does (`file_tree`).
-//! Read first: `specs/Built.antt`, `specs/Edits.antt`, `specs/Shows.antt`, `specs/Runs.antt`.
+//! Read first: `specs/Built.antt`, `specs/Edits.antt`, `specs/Splits.antt`, `specs/Shows.antt`, `specs/Runs.antt`.
 #![tactic(auto)]
 
 pub mod built;
@@ -12,6 +12,7 @@ pub mod edit;
 pub mod run;
 pub mod show;
 mod sources;
+pub mod split;
 mod views;
 
 pub use run::run_words;

@@ -15,10 +15,11 @@ ghost use Rattle.dbg_run.specs.Runs.{Cuts, EditWays, Ends, Done, Due, MayWrite, 
 use crate::built::built;
 use crate::edit::{edit, edit_listed};
 use crate::show::show;
+use crate::split::split;
 use dbg_ends::{End, tell};
-use dbg_job::Options;
 use dbg_words::Command;
 use file_tree::{Sink, Text, Tree};
+use job_types::Options;
 use std::alloc::Global;
 
 /// How the edit of the input ends, which lists its sources where a path for the list is given.
@@ -30,7 +31,7 @@ fn edit_command<T: Tree>(
     list: &Option<Text>,
     tree: &mut T,
 ) -> End
-    ensures ends { EditWays input.now output.now list.now options.now.maps options.now.max_file (T.seen tree.old) (T.seen tree.new) result }
+    ensures ends { EditWays input.now output.now list.now options.now options.now.max_file (T.seen tree.old) (T.seen tree.new) result }
     ensures done { 0 ≡ status_of result → (h : Heard) → Done (Some (Edit input.now output.now options.now list.now)) (T.seen tree.old) (T.seen tree.new) h h }
     ensures due { ForSome (now_of (T.seen tree.old)) (λ t. Due (Some (Edit input.now output.now options.now list.now)) t (status_of result) ⊎ IsCut (status_of result)) }
     ensures not_usage { 2 ≢ status_of result }
@@ -79,6 +80,17 @@ fn run_command<T: Tree, O: Sink>(alloc: Global, words: &[String], tree: &mut T, 
             output.as_str(),
             &options,
             &list,
+            tree,
+        ),
+        Command::Split {
+            input,
+            stripped,
+            debug,
+        } => split(
+            alloc,
+            input.as_str(),
+            stripped.as_str(),
+            debug.as_str(),
             tree,
         ),
         Command::Show { file, debug } => show(alloc, file.as_str(), &debug, tree, out),
@@ -140,8 +152,8 @@ pub fn run_words<T: Tree, O: Sink, E: Sink>(
     ensures quiet { result ≡ 0 → E.heard err.new ≡ E.heard err.old }
     ensures kept { IsRefusal result → now_of (T.seen tree.new) ≡ now_of (T.seen tree.old) }
 
-    // The debug data of the output mean what those of the input meant, with the map applied once to each source path,
-    // and what is loaded is as it was.
+    // The debug data of the output mean what those of the input meant, with the map applied once to each source path; those of
+    // a stripped file and its debug file together mean what those of the input meant; and what is loaded is as it was.
     ensures meaning { result ≡ 0 → KeepsMeaning (built (texts words.now)) (now_of (T.seen tree.old)) (now_of (T.seen tree.new)) }
     ensures loaded { result ≡ 0 → KeepsLoaded (built (texts words.now)) (now_of (T.seen tree.old)) (now_of (T.seen tree.new)) }
 

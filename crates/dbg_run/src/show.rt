@@ -14,11 +14,11 @@ ghost use Rattle.dbg_run.specs.Shows.Subject.{of_file, of_pair};
 
 use crate::views::{file_view, pair_view};
 use dbg_ends::{End, fault_end, read_input};
-use dbg_job::MOST_FILE;
 use dbg_show::{ShowErr, show as show_view};
 use dw_view::View;
 use elf_file::ElfFile;
 use file_tree::{Sink, Text, Tree};
+use job_types::MOST_FILE;
 use std::alloc::Global;
 
 /// The records of the file at the path.

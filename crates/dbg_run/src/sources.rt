@@ -2,35 +2,15 @@
 ghost use Rattle.std.specs.Prelude.{◌≡◌, ◌≤◌, ◌++◌, ◌∷◌, [], length, map, IfErr, IfOk, OnOk};
 ghost use Rattle.dw_base.specs.Layout.{output_limit};
 ghost use Rattle.dw_base.specs.Texts.{laid_texts};
-ghost use Rattle.dw_base.specs.declared.fault.Fault.TheVariants as fault;
-ghost use Rattle.dw_meaning.specs.EditRows.{IsAccepted};
-ghost use Rattle.dw_meaning.specs.FileMeanings.{file_data};
 ghost use Rattle.dw_sources.specs.KeptNames.{bytes_of};
-ghost use Rattle.dw_sources.specs.Sources.{AreSources};
+ghost use Rattle.dbg_job.specs.EditedFiles.{IsEditable};
 ghost use Rattle.dbg_ends.specs.declared.end.End.TheVariants as end;
 ghost use Rattle.dbg_run.specs.Edits.{IsListText};
 
 use dbg_ends::End;
-use dw_base::Fault;
-use dw_paths::Maps;
-use dw_sources::sources;
-use dw_view::View;
-use elf_file::ElfFile;
+use dbg_job::source_names;
+use job_types::Options;
 use std::alloc::{AllocError, Global};
-
-/// The names of the sources of a file that is edited, below the map's base. Want of memory alone is in the way.
-#[tactic(auto, using(crate::proofs::SourceLaws::name_rules))]
-fn source_names(alloc: Global, bytes: &[u8], maps: &Maps) -> Result<Vec<Vec<u8>>, Fault>
-    requires small { length bytes.now ≤ output_limit }
-    requires accepted { IsAccepted maps.now bytes.now }
-    ensures sources { IfOk result (λ names. AreSources (file_data bytes.now) maps.now.base (map bytes_of names.items)) }
-    ensures memory { IfErr result (λ f. f ≡ fault.NoMemory) }
-{
-    let elf = ElfFile::read(alloc, bytes)?;
-    let view = View::one(&elf)?;
-    let names = sources(alloc, &view, maps.base.as_slice())?;
-    Ok(names)
-}
 
 /// Adds a name and its NUL.
 fn push_name(text: &mut Vec<u8>, name: &[u8]) -> Result<(), AllocError>
@@ -56,13 +36,13 @@ fn names_text(alloc: Global, names: &[Vec<u8>]) -> Result<Vec<u8>, AllocError>
 /// The list of the sources of a file that is edited: their names below the map's base, each ended by a NUL. Want of memory alone is in
 /// the way.
 #[tactic(auto, using(crate::proofs::SourceLaws::list_rules))]
-pub(crate) fn list_text(alloc: Global, bytes: &Vec<u8>, maps: &Maps) -> Result<Vec<u8>, End>
+pub(crate) fn list_text(alloc: Global, bytes: &Vec<u8>, options: &Options) -> Result<Vec<u8>, End>
     requires small { length bytes.now.items ≤ output_limit }
-    requires accepted { IsAccepted maps.now bytes.now.items }
-    ensures text { IfOk result (λ text. IsListText maps.now bytes.now.items text.items) }
+    requires editable { IsEditable options.now bytes.now.items }
+    ensures text { IfOk result (λ text. IsListText options.now.maps bytes.now.items text.items) }
     ensures memory { IfErr result (λ e. e ≡ end.NoMemory) }
 {
-    match source_names(alloc, bytes.as_slice(), maps) {
+    match source_names(alloc, bytes.as_slice(), &options.maps) {
         Ok(names) => Ok(names_text(alloc, names.as_slice())?),
         Err(_) => Err(End::NoMemory),
     }

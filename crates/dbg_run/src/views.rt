@@ -19,7 +19,7 @@ use std::path::Path;
 
 /// The name of the file at a path.
 #[tactic(auto, unfolding(crate::specs::Shows::base_name))]
-fn base_name(path: &str) -> &str
+pub(crate) fn base_name(path: &str) -> &str
     ensures value { result.now ≡ base_name path.now }
 {
     match Path::new(path).file_name() {

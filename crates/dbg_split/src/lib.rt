@@ -26,4 +26,5 @@ mod stripping;
 
 pub use dropping::droppable;
 pub use marking::droppables;
+pub use names::{is_named, is_named_from};
 pub use splitting::{Pair, split};

@@ -5,7 +5,7 @@ use Rattle.std.specs.List.{list_any}
 use Rattle.std.specs.String.{string_bytes}
 use Rattle.dw_base.specs.Paths.{PathMap, is_prefix, path_map}
 use Rattle.dw_base.specs.Texts.{has_nul, same_text}
-use Rattle.dbg_job.specs.Settings.{Settings, most_file}
+use Rattle.job_types.specs.Settings.{Settings, most_file}
 use Rattle.dbg_words.specs.CommandLines.{CommandLine, command_line}
 use Rattle.dbg_words.specs.Decimals.{number_within}
 use Rattle.dbg_words.specs.PathWords.{path_named}

@@ -6,9 +6,9 @@ ghost use Rattle.dbg_words.specs.Words.{command, command_named, texts};
 
 use crate::line::{Line, read_line};
 use crate::named::{edit_of, exercise_of, run_of, show_of, split_of};
-use dbg_job::Options;
 use dw_base::NoMemory;
 use file_tree::Text;
+use job_types::Options;
 use std::alloc::Global;
 
 /// A command, with what its words say.

@@ -1,14 +1,14 @@
 //! What is wanted of files, as the options say it.
 ghost use Rattle.std.specs.Prelude.{◌≡◌, ◌≤◌, IfOk, IfSome, option_map};
-ghost use Rattle.dbg_job.specs.Settings.{most_file};
+ghost use Rattle.job_types.specs.Settings.{most_file};
 ghost use Rattle.dbg_words.specs.Words.{maps_named, number_or, settings_mapped, settings_of};
 
 use crate::decimals::number_within;
 use crate::line::Line;
-use dbg_job::{MOST_FILE, Options};
 use dw_base::NoMemory;
 use dw_paths::Maps;
 use file_tree::Blob;
+use job_types::{MOST_FILE, Options};
 use std::alloc::Global;
 
 /// The map of a base and a destination, where both are given and may be ones.

@@ -3,7 +3,7 @@ use Rattle.std.proofs.Common.{◌≡◌, ◌<◌, ℕ, zero, suc, Bool, true, fa
 use Rattle.std.specs.Prelude.{◌==◌, if◌then◌else◌, Option, Some, None, IsTrue}
 use Rattle.hex.specs.Hex.{IsBytes}
 use Rattle.work_texts.specs.Rules.{may_have_id}
-use Rattle.dbg_job.specs.declared.outcome.LeftWhy.TheVariants.{NoElf}
+use Rattle.job_types.specs.declared.outcome.LeftWhy.TheVariants.{NoElf}
 use Rattle.root_plan.specs.Verdicts.{Verdict, left, edited, split, JudgeView, IsJudge, Made, AreSources}
 use Rattle.root_plan.specs.Verdicts.{Made as made}
 

@@ -1,8 +1,8 @@
 //! Walks and plans of small build roots, or why they are refused, and what is made of their jobs.
 use crate::toy::Toy;
-use dbg_job::Options;
 use dw_paths::Maps;
 use file_tree::{Blob, MemTree, Node, Text};
+use job_types::Options;
 use root_plan::{PlanErr, RootMaker, make_plan, walk};
 use std::alloc::{AllocError, Global};
 use std::test::Fail;

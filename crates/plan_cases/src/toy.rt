@@ -7,9 +7,9 @@ ghost use Rattle.dw_base.specs.Refusals.{Blames};
 ghost use Rattle.root_plan.specs.Verdicts.{Verdict, verdict_of, id_of};
 ghost use Rattle.plan_cases.specs.Toys.{toy_names, toy_id, toy_verdict};
 
-use dbg_job::{LeftWhy, Outcome, Sources};
 use dw_base::{Fault, Kind, Refusal};
 use file_tree::Blob;
+use job_types::{LeftWhy, Outcome, Sources};
 use root_plan::{Judge, Parts};
 use std::alloc::{AllocError, Global};
 

@@ -14,7 +14,7 @@ use Rattle.file_tree.specs.declared.node.Found.{Found}
 use Rattle.file_tree.specs.declared.node.Found.TheVariants as found
 use Rattle.file_tree.specs.Trees.{TreeMap, is_below}
 use Rattle.file_tree.specs.Causes.{AreInOrder, Stood}
-use Rattle.dbg_job.specs.Settings.{Settings}
+use Rattle.job_types.specs.Settings.{Settings}
 use Rattle.work_texts.specs.declared.plan.JobLine.{JobLine}
 use Rattle.work_texts.specs.Rules.{comes_after, rise_after, path_of}
 use Rattle.root_plan.specs.Roots.{in_root, below_root, is_outside, may_be_candidate, debug_folder}

@@ -5,7 +5,7 @@ use Rattle.std.specs.String.{string_bytes}
 use Rattle.dw_base.specs.declared.fault.Refusal.{Refusal}
 use Rattle.file_tree.specs.Trees.{TreeMap}
 use Rattle.file_tree.specs.Seen.{Seen, now_of}
-use Rattle.dbg_job.specs.Settings.{Settings}
+use Rattle.job_types.specs.Settings.{Settings}
 use Rattle.work_texts.specs.declared.plan.JobLine.{JobLine}
 use Rattle.work_texts.specs.declared.plan.PlanData.{PlanData}
 use Rattle.work_texts.specs.Rules.{text_limit}

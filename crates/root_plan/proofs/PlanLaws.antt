@@ -8,7 +8,7 @@ use Rattle.work_texts.specs.declared.key.RunKey.{RunKey}
 use Rattle.work_texts.specs.Lists.{bytes_of}
 use Rattle.work_texts.specs.Fields.{text_of, plan_fields}
 use Rattle.work_texts.specs.Rules.{text_limit}
-use Rattle.dbg_job.specs.Settings.{Settings}
+use Rattle.job_types.specs.Settings.{Settings}
 use Rattle.root_plan.specs.declared.plan_err.PlanErr.TheVariants as err
 use Rattle.root_plan.specs.declared.refused.Skipped.{Skipped}
 use Rattle.root_plan.specs.Reports.{report_text}

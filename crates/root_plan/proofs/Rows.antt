@@ -8,7 +8,7 @@ use Rattle.file_tree.specs.declared.node.Found.{Found}
 use Rattle.file_tree.specs.Trees.{TreeMap}
 use Rattle.file_tree.specs.Seen.{Seen, now_of}
 use Rattle.file_tree.specs.Causes.{Stood}
-use Rattle.dbg_job.specs.Settings.{Settings}
+use Rattle.job_types.specs.Settings.{Settings}
 use Rattle.root_plan.specs.declared.plan_err.PlanErr.{PlanErr}
 use Rattle.root_plan.specs.Roots.{may_be_candidate, below_root, longest_path}
 use Rattle.root_plan.specs.Targets.{debug_name}

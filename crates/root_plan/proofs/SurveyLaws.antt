@@ -12,7 +12,7 @@ use Rattle.file_tree.specs.declared.node.Found.TheVariants as found
 use Rattle.file_tree.specs.Trees.{TreeMap, is_below}
 use Rattle.file_tree.specs.Seen.{Seen, now_of}
 use Rattle.file_tree.specs.Causes.{Stood, Rose}
-use Rattle.dbg_job.specs.Settings.{Settings}
+use Rattle.job_types.specs.Settings.{Settings}
 use Rattle.root_plan.specs.declared.plan_err.PlanErr.{PlanErr}
 use Rattle.root_plan.specs.Roots.{is_outside, count_outside, may_be_candidate, debug_folder, most_outside}
 use Rattle.root_plan.specs.Looks.{Looked}

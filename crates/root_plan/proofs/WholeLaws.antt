@@ -20,8 +20,8 @@ use Rattle.dw_base.proofs.TextLaws.{has_nul-append_false}
 use Rattle.file_tree.specs.declared.node.Found.{Found}
 use Rattle.file_tree.specs.declared.node.Found.TheVariants as found
 use Rattle.file_tree.specs.Trees.{TreeMap}
-use Rattle.dbg_job.specs.Kinds.{kind_text}
-use Rattle.dbg_job.specs.Settings.{Settings}
+use Rattle.job_types.specs.Kinds.{kind_text}
+use Rattle.job_types.specs.Settings.{Settings}
 use Rattle.work_texts.specs.declared.plan.JobLine.{JobLine}
 use Rattle.work_texts.specs.declared.plan.PlanData.{PlanData}
 use Rattle.work_texts.specs.Fields.{Field, plan_fields, job_fields, key_fields}

@@ -7,7 +7,7 @@ use Rattle.file_tree.specs.Trees.{TreeMap}
 use Rattle.dw_base.specs.Paths.{IsPathMap}
 use Rattle.dw_base.specs.Texts.{has_nul}
 use Rattle.file_tree.specs.Causes.{Stood, AreInOrder}
-use Rattle.dbg_job.specs.Settings.{Settings, IsWithin}
+use Rattle.job_types.specs.Settings.{Settings, IsWithin}
 use Rattle.work_texts.specs.declared.plan.JobLine.{JobLine}
 use Rattle.work_texts.specs.declared.plan.PlanData.{PlanData}
 use Rattle.work_texts.specs.Rules.{is_job_path, IsPlan}

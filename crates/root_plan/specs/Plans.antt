@@ -5,7 +5,7 @@ use Rattle.dw_base.specs.Texts.{same_text}
 use Rattle.file_tree.specs.Trees.{TreeMap, is_below}
 use Rattle.file_tree.specs.Seen.{Seen, now_of}
 use Rattle.file_tree.specs.Causes.{AreInOrder}
-use Rattle.dbg_job.specs.Settings.{Settings}
+use Rattle.job_types.specs.Settings.{Settings}
 use Rattle.work_texts.specs.declared.key.RunKey.{RunKey}
 use Rattle.work_texts.specs.declared.plan.PlanData.{PlanData}
 use Rattle.work_texts.specs.Fields.{text_of, plan_fields}

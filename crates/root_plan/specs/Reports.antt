@@ -2,7 +2,7 @@
 use Rattle.std.specs.Prelude.{ℕ, ◌*◌, not, List, ◌++◌, codes, count_by, length}
 use Rattle.std.specs.Fmt.{decimal}
 use Rattle.std.specs.List.{flat_map}
-use Rattle.dbg_job.specs.Kinds.{kind_text}
+use Rattle.job_types.specs.Kinds.{kind_text}
 use Rattle.work_texts.specs.declared.plan.JobLine.{JobLine}
 use Rattle.root_plan.specs.declared.refused.Skipped.{Skipped}
 use Rattle.root_plan.specs.Targets.{has_links}

@@ -3,9 +3,9 @@ use Rattle.std.specs.Prelude.{◌≡◌, ℕ, true, false, List, [], Option, Som
 use Rattle.std.specs.List.{AllByRecursion}
 use Rattle.hex.specs.Hex.{IsBytes}
 use Rattle.dw_base.specs.Texts.{has_nul}
-use Rattle.dbg_job.specs.declared.outcome.LeftWhy.{LeftWhy}
-use Rattle.dbg_job.specs.declared.outcome.Outcome.{Outcome}
-use Rattle.dbg_job.specs.declared.outcome.Outcome.TheVariants as outcome
+use Rattle.job_types.specs.declared.outcome.LeftWhy.{LeftWhy}
+use Rattle.job_types.specs.declared.outcome.Outcome.{Outcome}
+use Rattle.job_types.specs.declared.outcome.Outcome.TheVariants as outcome
 use Rattle.work_texts.specs.Rules.{may_have_id, rise_after}
 
 -- what becomes of a file; an edited one and a split one with the names of its sources, a split one with its build-id,

@@ -9,8 +9,8 @@ ghost use Rattle.dw_base.specs.declared.fault.Fault.TheVariants.{NoMemory};
 ghost use Rattle.dw_base.specs.Refusals.{Blames};
 ghost use Rattle.root_plan.specs.Verdicts.{JudgeView, IsJudge, Verdict, Pair, verdict_of};
 
-use dbg_job::Outcome;
 use dw_base::Fault;
+use job_types::Outcome;
 use std::alloc::Global;
 
 /// A stripped file and its debug file.

@@ -12,9 +12,9 @@ use crate::looking::read;
 use crate::names::{Root, debug_name};
 use crate::plan_err::PlanErr;
 use crate::survey::Survey;
-use dbg_job::Options;
 use dw_base::{Fault, Refusal};
 use file_tree::{Found, Text, Tree};
+use job_types::Options;
 use std::alloc::Global;
 
 /// The longest path, in bytes.

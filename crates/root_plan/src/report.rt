@@ -8,7 +8,7 @@ ghost use Rattle.root_plan.specs.Reports.{split_count, edited_count, link_count,
 
 use crate::refused::Skipped;
 use crate::targets::has_links;
-use dbg_job::kind_name;
+use job_types::kind_name;
 use std::alloc::{AllocError, Global};
 use work_texts::JobLine;
 

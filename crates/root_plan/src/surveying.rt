@@ -14,8 +14,8 @@ use crate::names::Root;
 use crate::noting::note_path;
 use crate::plan_err::PlanErr;
 use crate::survey::Survey;
-use dbg_job::Options;
 use file_tree::Tree;
+use job_types::Options;
 use std::alloc::Global;
 
 /// The most paths outside the work folder.

@@ -1,7 +1,7 @@
 -- What was found was read within the limit of the options.
 use Rattle.std.proofs.Common.{ap}
 use Rattle.std.proofs.lemmas.Result.{err_from_is_err_and}
-use Rattle.dbg_job.specs.Settings.{Settings}
+use Rattle.job_types.specs.Settings.{Settings}
 use Rattle.root_plan.proofs.Rows.{noted_found, ends_found, stood_by}
 use Rattle.root_plan.proofs.noting.note_path.Goals as goal
 

@@ -1,6 +1,6 @@
 //! The kinds of refusals as they are printed (this project's profile).
 ghost use Rattle.std.specs.Prelude.{◌≡◌};
-ghost use Rattle.dbg_job.specs.Kinds.{kind_text};
+ghost use Rattle.job_types.specs.Kinds.{kind_text};
 
 use dw_base::Kind;
 

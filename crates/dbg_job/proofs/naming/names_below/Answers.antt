@@ -1,7 +1,7 @@
 -- A file that is edited can be read, so that want of memory alone is in the way.
 use Rattle.std.proofs.lemmas.Result.{err_from_is_err_and}
-use Rattle.dbg_run.proofs.SourceLaws.{elf_wants, sections_want, sources_want}
-use Rattle.dbg_run.proofs.sources.source_names.Goals as goal
+use Rattle.dbg_job.proofs.SourceLaws.{elf_wants, sections_want, sources_want}
+use Rattle.dbg_job.proofs.naming.names_below.Goals as goal
 
 pub returns-in_err-elf-clause-memory : goal.returns-in_err-elf-clause-memory
 returns-in_err-elf-clause-memory c =

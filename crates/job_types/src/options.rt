@@ -1,5 +1,5 @@
 //! The options of a command that rewrites files.
-ghost use Rattle.dbg_job.specs.Settings.{Settings, IsWithin};
+ghost use Rattle.job_types.specs.Settings.{Settings, IsWithin};
 
 use dw_base::FILE_LIMIT;
 use dw_paths::Maps;

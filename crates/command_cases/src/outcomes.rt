@@ -1,0 +1,109 @@
+//! What becomes of files of a build root. The expected reasons, refusals, ids and sums are another program's.
+use crate::become_of;
+use crate::split_files::{STRIPPED, WHOLE};
+use crate::splits::{joined, put};
+use dbg_job::{LeftWhy, Options, Outcome};
+use debug_link::crc32;
+use dw_base::{Fault, Kind, Refusal};
+use dw_paths::Maps;
+use file_tree::Blob;
+use job_types::MOST_FILE;
+use std::alloc::Global;
+use std::process::Abort;
+use std::test::Fail;
+
+/// The options of a run, with or without new build-ids.
+fn options_with(alloc: Global, build_id: bool) -> Result<Options, Fail> {
+    let maps = Maps::new(alloc, b"/build/p", b"/usr/src/debug/p")?.ok_or("no map")?;
+    Ok(Options {
+        maps,
+        build_id,
+        seed: Blob::new(Vec::new(alloc)),
+        skip: false,
+        max_file: MOST_FILE,
+    })
+}
+
+/// Pieces of a file, how many of its bytes are taken, a place, the byte that is put there, and why it is left.
+const LEFT: [(&[&[u8]], usize, usize, u8, LeftWhy); 5] = [
+    (WHOLE, 0, 0, 0, LeftWhy::NoElf),
+    (WHOLE, 3, 0, 0x7f, LeftWhy::NoElf),
+    // its type
+    (WHOLE, 936, 16, 4, LeftWhy::OtherType),
+    (STRIPPED, 664, 0, 0x7f, LeftWhy::AlreadyLinked),
+    // the last letter of the name of its link
+    (STRIPPED, 664, 259, b'q', LeftWhy::NothingToStrip),
+];
+
+#[test]
+fn a_file_is_left_by_the_first_rule_that_applies(rt: HostRuntime) -> Result<(), Fail> {
+    let alloc = rt.alloc();
+    let options = options_with(alloc, true)?;
+    for (pieces, len, at, byte, why) in LEFT.iter() {
+        let mut bytes = joined(alloc, pieces)?;
+        put(&mut bytes, *at, *byte);
+        bytes.truncate(*len);
+        match become_of(alloc, &bytes, &options, b"a.debug") {
+            Ok(Outcome::Left(found)) => assert_eq!(rt; found, *why),
+            _ => assert!(rt; false, "it is left"),
+        }
+    }
+    Ok(())
+}
+
+#[test]
+fn a_file_that_is_not_left_is_refused_as_by_an_edit(rt: HostRuntime) -> Result<(), Fail> {
+    let alloc = rt.alloc();
+    let options = options_with(alloc, false)?;
+    let bytes = joined(alloc, WHOLE)?;
+    assert_eq!(rt;
+        become_of(alloc, &bytes, &options, b"a.debug").err(),
+        Some(Fault::Refused(Refusal::at(Kind::Unit, 4, 0)))
+    );
+    Ok(())
+}
+
+/// Whether build-ids are made anew, the build-id of the edited file, and the sums of the stripped file and the debug file.
+const SPLITS: [(bool, &[u8], u32, u32); 2] = [
+    (false, &[0xab, 0xcd, 0xef, 0x01], 568_160_261, 764_567_391),
+    (
+        true,
+        &[0x0d, 0xe6, 0x4c, 0x2d],
+        4_182_281_937,
+        2_629_062_108,
+    ),
+];
+
+/// Asserts that a file was split into files of these sums, with this build-id and no sources.
+fn assert_split(rt: &impl Abort, outcome: &Outcome, wanted: &[u8], sums: (u32, u32)) {
+    match outcome {
+        Outcome::Split {
+            stripped,
+            debug,
+            id: Some(id),
+            sources,
+        } => {
+            assert_eq!(rt; crc32(stripped.as_slice()), sums.0);
+            assert_eq!(rt; crc32(debug.as_slice()), sums.1);
+            assert_eq!(rt; id.as_slice(), wanted);
+            assert!(rt; sources.as_slice().is_empty());
+        }
+        _ => assert!(rt; false, "it is split"),
+    }
+}
+
+#[test]
+fn a_file_that_is_loaded_is_edited_and_split(rt: HostRuntime) -> Result<(), Fail> {
+    let alloc = rt.alloc();
+    for (build_id, wanted, stripped_sum, debug_sum) in SPLITS.iter() {
+        let options = options_with(alloc, *build_id)?;
+        let mut bytes = joined(alloc, WHOLE)?;
+        // the names of its debug data become others, so that symbols alone are dropped
+        put(&mut bytes, 229, b'h');
+        put(&mut bytes, 241, b'h');
+        put(&mut bytes, 255, b'h');
+        let outcome = become_of(alloc, &bytes, &options, b"a.debug")?;
+        assert_split(&rt, &outcome, wanted, (*stripped_sum, *debug_sum));
+    }
+    Ok(())
+}

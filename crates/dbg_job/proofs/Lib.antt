@@ -1,0 +1,17 @@
+pub mod EditedLaws
+pub mod FixedEndLaws
+pub mod IdKeptLaws
+pub mod IdPlaceLaws
+pub mod LeavingLaws
+pub mod NewIdLaws
+pub mod NoteKeptLaws
+pub mod OtherIdLaws
+pub mod OtherIdLoadedLaws
+pub mod OtherIdMeaningLaws
+pub mod OutcomeLaws
+pub mod OutcomeOneLaws
+pub mod OutputLaws
+pub mod PlaceLaws
+pub mod ShapeLaws
+pub mod SourceLaws
+pub mod SplitRowLaws

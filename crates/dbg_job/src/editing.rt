@@ -1,0 +1,131 @@
+//! The edited file: with mapped source paths and, where it is asked for, a new build-id.
+//!
+//! Read first: `specs/EditedFiles.antt`.
+
+ghost use Rattle.std.specs.Prelude.{◌≡◌, ◌≤◌, ◌<◌, ℕ, List, length, slice_index, true, false, IfErr, IfOk, OnOk};
+ghost use Rattle.dw_base.specs.ElfFails.{ElfReads};
+ghost use Rattle.dw_base.specs.Layout.{output_limit};
+ghost use Rattle.dw_base.specs.Refusals.{Blames};
+ghost use Rattle.dw_meaning.specs.EditRows.{EditFails};
+ghost use Rattle.dw_meaning.specs.FileMeanings.{IsOutput, MeaningKept};
+ghost use Rattle.dw_meaning.specs.Loaded.{LoadedKept};
+ghost use Rattle.dbg_job.specs.EditedFiles.{EditedFails, IdRefuses, IsAnew, IsEditable, IsEdited, IsMapped};
+ghost use Rattle.dbg_job.specs.SameSections.{SameSections};
+ghost use Rattle.dbg_job.specs.NewIds.{IdFits, with_new_id};
+
+use crate::new_ids::{id_fits, with_new_id};
+use dw_base::Fault;
+use dw_paths::Maps;
+use dw_rewrite::rewrite;
+use elf_file::ElfFile;
+use job_types::Options;
+use std::alloc::Global;
+
+/// The file with each source path mapped, and what is known of it.
+#[tactic(auto, using(crate::proofs::EditedLaws::mapped_rules))]
+fn mapped_file(alloc: Global, bytes: &[u8], maps: &Maps) -> Result<Vec<u8>, Fault>
+    requires small { length bytes.now ≤ output_limit }
+    ensures mapped { IfOk result (λ out. IsMapped maps.now bytes.now out.items) }
+    ensures only { IfOk result (λ out. (o : List ℕ) → IsOutput maps.now bytes.now o → o ≡ out.items) }
+    ensures meaning { IfOk result (λ out. MeaningKept maps.now bytes.now out.items) }
+    ensures loaded { IfOk result (λ out. LoadedKept bytes.now out.items) }
+    ensures refused { IfErr result (Blames (EditFails maps.now bytes.now)) }
+{
+    // What a map obeys is known where one of its fields is used.
+    let _ = &maps.base;
+    let out = rewrite(alloc, bytes, maps)?;
+    Ok(out)
+}
+
+/// Nothing is wrong with the build-id of the file.
+#[tactic(auto, using(crate::proofs::EditedLaws::id_rules))]
+fn id_fits_in(alloc: Global, bytes: &[u8]) -> Result<(), Fault>
+    requires small { length bytes.now ≤ output_limit }
+    ensures fits { OnOk result (IdFits bytes.now) }
+    ensures refused { IfErr result (Blames (IdRefuses bytes.now)) }
+{
+    let elf = ElfFile::read(alloc, bytes)?;
+    id_fits(&elf)?;
+    Ok(())
+}
+
+/// The file with each source path mapped, and a new build-id made of a seed.
+#[tactic(auto, using(crate::proofs::EditedLaws::anew_rules))]
+fn mapped_anew(alloc: Global, bytes: &[u8], maps: &Maps, seed: &[u8]) -> Result<Vec<u8>, Fault>
+    requires small { length bytes.now ≤ output_limit }
+    requires fits { IdFits bytes.now }
+    ensures edited { IfOk result (λ new. IsAnew maps.now seed.now bytes.now new.items) }
+    ensures meaning { IfOk result (λ new. MeaningKept maps.now bytes.now new.items) }
+    ensures loaded { IfOk result (λ new. LoadedKept bytes.now new.items) }
+    ensures fits { IfOk result (λ new. IdFits new.items) }
+    ensures sections { IfOk result (λ new. SameSections bytes.now new.items) }
+    ensures refused { IfErr result (Blames (EditFails maps.now bytes.now)) }
+{
+    let out = mapped_file(alloc, bytes, maps)?;
+    let new = with_new_id(alloc, out, seed)?;
+    Ok(new)
+}
+
+/// The edited file where build-ids stay.
+#[tactic(auto, using(crate::proofs::EditedLaws::plain_rules))]
+fn edited_plain(alloc: Global, bytes: &[u8], options: &Options) -> Result<Vec<u8>, Fault>
+    requires small { length bytes.now ≤ output_limit }
+    requires plain { options.now.build_id ≡ false }
+    ensures accepted { OnOk result (IsEditable options.now bytes.now) }
+    ensures edited { IfOk result (λ file. IsEdited options.now bytes.now file.items) }
+    ensures only { IfOk result (λ file. (o : List ℕ) → IsEdited options.now bytes.now o → o ≡ file.items) }
+    ensures meaning { IfOk result (λ file. MeaningKept options.now.maps bytes.now file.items) }
+    ensures loaded { IfOk result (λ file. LoadedKept bytes.now file.items) }
+    ensures small { IfOk result (λ file. length file.items ≤ output_limit) }
+    ensures fits { IfOk result (λ file. IdFits bytes.now → IdFits file.items) }
+    ensures sections { IfOk result (λ file. SameSections bytes.now file.items) }
+    ensures refused { IfErr result (Blames (EditedFails options.now bytes.now)) }
+{
+    let file = mapped_file(alloc, bytes, &options.maps)?;
+    Ok(file)
+}
+
+/// The edited file where they are made anew.
+#[tactic(auto, using(crate::proofs::EditedLaws::edited_rules))]
+fn edited_anew(alloc: Global, bytes: &[u8], options: &Options) -> Result<Vec<u8>, Fault>
+    requires small { length bytes.now ≤ output_limit }
+    requires anew { options.now.build_id ≡ true }
+    ensures accepted { OnOk result (IsEditable options.now bytes.now) }
+    ensures edited { IfOk result (λ file. IsEdited options.now bytes.now file.items) }
+    ensures only { IfOk result (λ file. (o : List ℕ) → IsEdited options.now bytes.now o → o ≡ file.items) }
+    ensures meaning { IfOk result (λ file. MeaningKept options.now.maps bytes.now file.items) }
+    ensures loaded { IfOk result (λ file. LoadedKept bytes.now file.items) }
+    ensures small { IfOk result (λ file. length file.items ≤ output_limit) }
+    ensures fits { IfOk result (λ file. IdFits bytes.now → IdFits file.items) }
+    ensures sections { IfOk result (λ file. SameSections bytes.now file.items) }
+    ensures refused { IfErr result (Blames (EditedFails options.now bytes.now)) }
+{
+    id_fits_in(alloc, bytes)?;
+    let file = mapped_anew(alloc, bytes, &options.maps, options.seed.as_slice())?;
+    Ok(file)
+}
+
+/// The edited file: each source path is mapped, and where build-ids are made anew, its build-id is the first bytes of the
+/// SHA-1 of the seed and of the whole file with the bytes of the id as zeros; a file without the note of a build-id gets
+/// none. Refused only by a condition that holds in the file, at its place: by those of a rewriting, and, where build-ids are
+/// made anew, as `BuildId` at (the section of the note, 0) where the note doesn't fit, its id has not 2 to 20 bytes, or these
+/// bytes belong to something else too. Where none holds, it is edited, or there was not enough memory. What it means is what the
+/// file means, with each source path mapped, and what is loaded of it is as it was. It isn't too long to be read, nothing is wrong
+/// with its build-id where nothing is wrong with that of the file, and it has the file's sections, but for place, size and contents.
+pub fn edited(alloc: Global, bytes: &[u8], options: &Options) -> Result<Vec<u8>, Fault>
+    requires small { length bytes.now ≤ output_limit }
+    ensures accepted { OnOk result (IsEditable options.now bytes.now) }
+    ensures edited { IfOk result (λ file. IsEdited options.now bytes.now file.items) }
+    ensures only { IfOk result (λ file. (o : List ℕ) → IsEdited options.now bytes.now o → o ≡ file.items) }
+    ensures meaning { IfOk result (λ file. MeaningKept options.now.maps bytes.now file.items) }
+    ensures loaded { IfOk result (λ file. LoadedKept bytes.now file.items) }
+    ensures small { IfOk result (λ file. length file.items ≤ output_limit) }
+    ensures fits { IfOk result (λ file. IdFits bytes.now → IdFits file.items) }
+    ensures sections { IfOk result (λ file. SameSections bytes.now file.items) }
+    ensures refused { IfErr result (Blames (EditedFails options.now bytes.now)) }
+{
+    if options.build_id {
+        return edited_anew(alloc, bytes, options);
+    }
+    edited_plain(alloc, bytes, options)
+}

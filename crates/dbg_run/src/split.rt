@@ -1,0 +1,112 @@
+//! The command `split`: a file in two, one without debug data and symbols that still runs, and a debug file to which it links.
+ghost use Rattle.std.specs.Prelude.{◌≡◌, ◌≢◌, ◌⊎◌, ◌≤◌, length, IfOk, IfErr, OnOk};
+ghost use Rattle.std.specs.Option.{ForSome};
+ghost use Rattle.dw_base.specs.Layout.{output_limit};
+ghost use Rattle.dbg_split.specs.DebugFile.{debug_file};
+ghost use Rattle.dbg_split.specs.SplitFails.{SplitFails};
+ghost use Rattle.dbg_split.specs.StrippedFile.{stripped_file};
+ghost use Rattle.job_types.specs.Settings.{most_file};
+ghost use Rattle.file_tree.specs.Seen.{now_of};
+ghost use Rattle.file_tree.specs.Trees.{stands_at};
+ghost use Rattle.file_tree.specs.Causes.{Rose};
+ghost use Rattle.dbg_ends.specs.Ends.{status_of};
+ghost use Rattle.dbg_ends.specs.Due.{Where, IsCut, IsRefusal};
+ghost use Rattle.dbg_ends.specs.Steps.{BlamesAt, OnlyAtBoth};
+ghost use Rattle.dbg_run.specs.Shows.{base_name};
+ghost use Rattle.dbg_run.specs.Splits.{IsSplittable, Parts, SplitDone, SplitDue, SplitEnds, not_executable};
+
+use crate::views::base_name;
+use dbg_ends::{End, fault_end, free_output, read_input, write_outputs};
+use dbg_split::{Pair, split as split_bytes};
+use file_tree::Tree;
+use job_types::MOST_FILE;
+use std::alloc::Global;
+
+/// The bits of a mode by which a file may be executed.
+const EXECUTABLE: u32 = 0o111;
+
+/// A mode, of which no one may execute the file.
+fn not_executable(mode: u32) -> u32
+    ensures value { result ≡ not_executable mode }
+{
+    mode & !EXECUTABLE
+}
+
+/// The two files into which the file at the path is split, of which the second is to be put at this path. Refused only where a
+/// condition holds of the file, of that kind and at that place.
+#[tactic(auto, using(crate::proofs::Rows::parting_rows))]
+fn split_file(alloc: Global, path: &str, bytes: &Vec<u8>, debug: &str) -> Result<Pair, End>
+    requires small { length bytes.now.items ≤ output_limit }
+    ensures splittable { OnOk result (IsSplittable bytes.now.items (base_name debug.now)) }
+    ensures stripped { IfOk result (λ pair. pair.stripped.items ≡ stripped_file bytes.now.items (base_name debug.now)) }
+    ensures debug { IfOk result (λ pair. pair.debug.items ≡ debug_file bytes.now.items) }
+    ensures parts { IfOk result (λ pair. Parts bytes.now.items (base_name debug.now) pair.stripped.items pair.debug.items) }
+    ensures ends { IfErr result (BlamesAt (SplitFails bytes.now.items (base_name debug.now)) path.now) }
+    ensures due { IfErr result (λ e. Where (IsSplittable bytes.now.items (base_name debug.now)) (status_of e ≡ 0) (status_of e ≡ 3) ⊎ IsCut (status_of e)) }
+    ensures not_done { IfErr result (λ e. 0 ≢ status_of e) }
+    ensures not_usage { IfErr result (λ e. 2 ≢ status_of e) }
+    ensures not_output { IfErr result (λ e. 7 ≢ status_of e) }
+    ensures no_fault { IfErr result (λ e. 6 ≢ status_of e) }
+{
+    match split_bytes(alloc, bytes.as_slice(), base_name(debug).as_bytes()) {
+        Ok(pair) => Ok(pair),
+        Err(fault) => Err(fault_end(alloc, path, fault)),
+    }
+}
+
+/// Reads the input, looks whether the two files may be put, splits the input, and writes the debug file and then the stripped file.
+#[tactic(auto, using(crate::proofs::Rows::split_rows))]
+fn split_steps<T: Tree>(
+    alloc: Global,
+    input: &str,
+    stripped: &str,
+    debug: &str,
+    tree: &mut T,
+) -> Result<(), End>
+    ensures done { OnOk result (SplitDone input.now stripped.now debug.now (T.seen tree.old) (T.seen tree.new)) }
+    ensures ends { IfErr result (SplitEnds input.now stripped.now debug.now (T.seen tree.old) (T.seen tree.new)) }
+    ensures due { IfErr result (λ e. ForSome (now_of (T.seen tree.old)) (λ t. SplitDue (base_name debug.now) (stands_at t input.now most_file) (stands_at t stripped.now 0) (stands_at t debug.now 0) (status_of e) ⊎ IsCut (status_of e))) }
+    ensures due_done { OnOk result (ForSome (now_of (T.seen tree.old)) (λ t. SplitDue (base_name debug.now) (stands_at t input.now most_file) (stands_at t stripped.now 0) (stands_at t debug.now 0) 0)) }
+    ensures not_done { IfErr result (λ e. 0 ≢ status_of e) }
+    ensures not_usage { IfErr result (λ e. 2 ≢ status_of e) }
+    ensures not_output { IfErr result (λ e. 7 ≢ status_of e) }
+    ensures fault { IfErr result (λ e. status_of e ≡ 6 → Rose (T.seen tree.old).faults (T.seen tree.new).faults) }
+    ensures kept { IfErr result (λ e. IsRefusal (status_of e) → now_of (T.seen tree.new) ≡ now_of (T.seen tree.old)) }
+    ensures others { OnlyAtBoth debug.now stripped.now (now_of (T.seen tree.old)) (now_of (T.seen tree.new)) }
+    ensures tells { (T.seen tree.new).tells ≡ (T.seen tree.old).tells }
+{
+    let (bytes, mode) = read_input(alloc, input, MOST_FILE, tree)?;
+    free_output(alloc, stripped, tree)?;
+    free_output(alloc, debug, tree)?;
+    let pair = split_file(alloc, input, &bytes, debug)?;
+    write_outputs(
+        debug,
+        pair.debug,
+        not_executable(mode),
+        stripped,
+        pair.stripped,
+        mode,
+        tree,
+    )?;
+    Ok(())
+}
+
+/// How the split ends. The debug file's path is set to the debug file, with the input's mode but for the bits by which a file may be
+/// executed, and then the stripped file's to the stripped file, with the input's mode.
+#[tactic(auto, using(crate::proofs::Rows::split_rows))]
+pub fn split<T: Tree>(alloc: Global, input: &str, stripped: &str, debug: &str, tree: &mut T) -> End
+    ensures ends { SplitEnds input.now stripped.now debug.now (T.seen tree.old) (T.seen tree.new) result }
+    ensures done { 0 ≡ status_of result → SplitDone input.now stripped.now debug.now (T.seen tree.old) (T.seen tree.new) }
+    ensures due { ForSome (now_of (T.seen tree.old)) (λ t. SplitDue (base_name debug.now) (stands_at t input.now most_file) (stands_at t stripped.now 0) (stands_at t debug.now 0) (status_of result) ⊎ IsCut (status_of result)) }
+    ensures not_usage { 2 ≢ status_of result }
+    ensures not_output { 7 ≢ status_of result }
+    ensures fault { status_of result ≡ 6 → Rose (T.seen tree.old).faults (T.seen tree.new).faults }
+    ensures kept { IsRefusal (status_of result) → now_of (T.seen tree.new) ≡ now_of (T.seen tree.old) }
+    ensures others { OnlyAtBoth debug.now stripped.now (now_of (T.seen tree.old)) (now_of (T.seen tree.new)) }
+    ensures tells { (T.seen tree.new).tells ≡ (T.seen tree.old).tells }
+{
+    match split_steps(alloc, input, stripped, debug, tree) {
+        Ok(()) => End::Done,
+        Err(end) => end,
+    }
+}
