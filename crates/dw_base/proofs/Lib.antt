@@ -50,5 +50,7 @@ pub mod ContributionRowLaws
 pub mod NameRowLaws
 pub mod ContributionBackLaws
 pub mod NameBackLaws
+pub mod RelocLaws
+pub mod RelocationFacts
 pub mod MacroRowLaws
 pub mod WorkedMacroUnits

@@ -72,6 +72,11 @@ pub mod LineReadings
 pub mod LineMeanings
 pub mod LineChanges
 pub mod TableStarts
+pub mod TableRecords
+pub mod Symbols
+pub mod Relocs
+pub mod RelocChanges
+pub mod AbsoluteTypes
 pub mod MacroOperations
 pub mod MacroHeaders
 pub mod MacroPieces

@@ -1,27 +1,19 @@
 //! Absolute relocations: the symbol's value and the addend, in a field of 4 or 8 bytes.
 
 ghost use Rattle.std.specs.Prelude.{◌≡◌, Some, None};
-ghost use Rattle.elf_relocs.specs.AbsoluteTypes.{absolute_types, size_by, absolute_size};
+ghost use Rattle.dw_base.specs.AbsoluteTypes.{absolute_types, size_by, absolute_size};
 
-use crate::relocation_numbers::{
+use dw_base::AbsoluteTypes;
+use dw_base::relocation_numbers::{
     EM_386, EM_AARCH64, EM_ARM, EM_PPC, EM_PPC64, EM_S390, EM_X86_64, R_386_32, R_390_32, R_390_64,
     R_AARCH64_ABS32, R_AARCH64_ABS64, R_ARM_ABS32, R_PPC_ADDR32, R_PPC64_ADDR32, R_PPC64_ADDR64,
     R_X86_64_32, R_X86_64_64,
 };
 
-/// The absolute types of a machine.
-#[derive(Clone, Copy, Debug, PartialEq, Eq)]
-pub struct AbsoluteTypes {
-    /// The type for a field of 4 bytes.
-    pub four: u32,
-    /// The type for a field of 8 bytes, where there is one.
-    pub eight: Option<u32>,
-}
-
 /// The size of the field of an absolute type, in bytes: 4 or 8. `None` exactly where the type isn't an
 /// absolute one of the machine, as 0 ("none") never is, or the machine isn't listed. The machine is
 /// `e_machine`.
-#[tactic(auto, unfolding(crate::specs::AbsoluteTypes::absolute_size))]
+#[tactic(auto, unfolding(dw_base::specs::AbsoluteTypes::absolute_size))]
 pub fn absolute_size(machine: u16, kind: u32) -> Option<u8>
     ensures value { result ≡ absolute_size machine kind }
 {
@@ -45,7 +37,7 @@ fn size_by(types: AbsoluteTypes, kind: u32) -> Option<u8>
 }
 
 /// The row of a machine.
-#[tactic(auto, unfolding(crate::specs::AbsoluteTypes::absolute_types))]
+#[tactic(auto, unfolding(dw_base::specs::AbsoluteTypes::absolute_types))]
 fn absolute_types(machine: u16) -> Option<AbsoluteTypes>
     ensures value { result ≡ absolute_types machine }
 {

@@ -5,7 +5,7 @@
 //! there; a record that is written has the new place and addend, reads back, and no other byte
 //! changes. No call takes memory, and each index is taken.
 //! It does not promise: that a relocation's symbol is there, or that its place lies in a section.
-//! Read first: `specs/Symbols.antt`, then `specs/Relocs.antt` and `specs/AbsoluteTypes.antt`.
+//! Read first: in `dw_base`, `specs/Symbols.antt`, then `specs/Relocs.antt` and `specs/AbsoluteTypes.antt`.
 //!
 //! ```rust
 //! use elf_relocs::relocation_numbers::EM_X86_64;
@@ -23,11 +23,10 @@
 
 mod absolute_types;
 mod records;
-pub mod relocation_numbers;
 mod relocs;
 mod symbols;
 
 pub use absolute_types::absolute_size;
-pub use dw_base::{Class, Order};
-pub use relocs::{Reloc, reloc_at, set_reloc};
-pub use symbols::{Symbol, symbol_at};
+pub use dw_base::{Class, Order, Reloc, Symbol, relocation_numbers};
+pub use relocs::{reloc_at, set_reloc};
+pub use symbols::symbol_at;

@@ -3,7 +3,7 @@
 ghost use Rattle.std.specs.Prelude.{◌≡◌, ◌+◌, ◌*◌, ◌≤◌, ◌<◌, ◌^◌, false, true, length, MatchOption};
 ghost use Rattle.dw_base.specs.Elf.{word_size};
 ghost use Rattle.dw_base.specs.Numbers.{spelled, with_number};
-ghost use Rattle.elf_relocs.specs.Records.{has_record};
+ghost use Rattle.dw_base.specs.TableRecords.{has_record};
 
 use dw_base::{Class, Order, number_in, put_number};
 

@@ -6,28 +6,15 @@ ghost use Rattle.std.specs.Int.{cast_signed, cast_unsigned};
 ghost use Rattle.std.specs.Int.RustNames.{FitsSigned};
 ghost use Rattle.dw_base.specs.Elf.{word_size};
 ghost use Rattle.dw_base.specs.Numbers.{spelled};
-ghost use Rattle.elf_relocs.specs.Relocs.{reloc_size, info_place, addend_place, word_width, r_addend, r_sym, r_type, reloc_in, reloc_at};
-ghost use Rattle.elf_relocs.specs.RelocChanges.{RelocFits, written, with_word, with_reloc, moved};
+ghost use Rattle.dw_base.specs.Relocs.{reloc_size, info_place, addend_place, word_width, r_addend, r_sym, r_type, reloc_in, reloc_at};
+ghost use Rattle.dw_base.specs.RelocChanges.{RelocFits, written, with_word, with_reloc, moved};
 
 use crate::records::{class_word, put_class_word, record_place};
-use dw_base::{Class, Order};
-
-/// A relocation.
-#[derive(Clone, Copy, Debug, PartialEq, Eq)]
-pub struct Reloc {
-    /// `r_offset`: in a relocatable file, in bytes from the start of the section that it changes.
-    pub offset: u64,
-    /// The number of the symbol, in `r_info`.
-    pub symbol: u32,
-    /// The type, in `r_info`.
-    pub kind: u32,
-    /// `r_addend`. `None` where the section is one without addends (`SHT_REL`).
-    pub addend: Option<i64>,
-}
+use dw_base::{Class, Order, Reloc};
 
 /// Relocation `index`, counted from 0, of a section with addends (`rela`; `SHT_RELA`) or without
 /// (`SHT_REL`). `None` exactly where the record doesn't fit.
-#[tactic(auto, unfolding(crate::specs::Relocs::reloc_at))]
+#[tactic(auto, unfolding(dw_base::specs::Relocs::reloc_at))]
 pub fn reloc_at(class: Class, order: Order, rela: bool, table: &[u8], index: u64) -> Option<Reloc>
     ensures value { result ≡ reloc_at class order rela table.now index }
 {
@@ -126,7 +113,7 @@ fn addend_in(class: Class, order: Order, table: &[u8], at: u64) -> i64
 /// Writes place and addend of relocation `index`; the addend only in a section with addends, and only
 /// where one is given. `false` exactly where the record doesn't fit, or a number that is written
 /// doesn't fit its word; then nothing changes.
-#[tactic(auto, using(crate::proofs::RelocLaws::set_rules))]
+#[tactic(auto, using(dw_base::proofs::RelocLaws::set_rules))]
 pub fn set_reloc(
     class: Class,
     order: Order,
@@ -177,7 +164,7 @@ fn written(rela: bool, addend: Option<i64>) -> Option<i64>
 }
 
 /// Writes place and addend of a relocation.
-#[tactic(auto, unfolding(crate::specs::RelocChanges::with_reloc))]
+#[tactic(auto, unfolding(dw_base::specs::RelocChanges::with_reloc))]
 fn put_reloc(
     class: Class,
     order: Order,

@@ -2,27 +2,16 @@
 
 ghost use Rattle.std.specs.Prelude.{◌≡◌, ◌+◌, ◌≤◌, ◌<◌, ◌^◌, ◌&&◌, nat_lt, length, IfSome};
 ghost use Rattle.dw_base.specs.declared.elf_numbers.TheConstants.{SHN_LORESERVE};
-ghost use Rattle.elf_relocs.specs.Symbols.{sym_size, symbol_in, symbol_by, plain_symbol, symbol_at};
+ghost use Rattle.dw_base.specs.Symbols.{sym_size, symbol_in, symbol_by, plain_symbol, symbol_at};
 
 use crate::records::record_place;
 use dw_base::elf_numbers::{SHN_LORESERVE, SHN_XINDEX};
-use dw_base::{Class, Order, number_at, number_in};
-
-/// A symbol, by what relocations ask of it.
-#[derive(Clone, Copy, Debug, PartialEq, Eq)]
-pub struct Symbol {
-    /// `st_value`.
-    pub value: u64,
-    /// `st_shndx`, or the number in the table of section numbers where `st_shndx` is `SHN_XINDEX`.
-    pub section: u32,
-    /// Whether the symbol is defined in the section of that number.
-    pub defined: bool,
-}
+use dw_base::{Class, Order, Symbol, number_at, number_in};
 
 /// Symbol `index`, counted from 0, of a symbol table; `extended` are the bytes of the table of section
 /// numbers that goes with it (`SHT_SYMTAB_SHNDX`), or none. `None` exactly where the record doesn't
 /// fit, or its number in the other table, where `st_shndx` asks for it, doesn't.
-#[tactic(auto, unfolding(crate::specs::Symbols::symbol_at))]
+#[tactic(auto, unfolding(dw_base::specs::Symbols::symbol_at))]
 pub fn symbol_at(
     class: Class,
     order: Order,
@@ -78,7 +67,7 @@ fn symbol_in(
 }
 
 /// The symbol of this value and section number, with the number in the table of section numbers.
-#[tactic(auto, unfolding(crate::specs::Symbols::symbol_by))]
+#[tactic(auto, unfolding(dw_base::specs::Symbols::symbol_by))]
 fn symbol_by(value: u64, shndx: u16, word: Option<u64>) -> Option<Symbol>
     requires word { IfSome word (λ n. n < 256 ^ 4) }
     ensures value { result ≡ symbol_by value shndx word }

@@ -11,9 +11,9 @@ use Rattle.dw_base.specs.declared.shared.Class.TheVariants.{C32, C64}
 use Rattle.dw_base.specs.Elf.{word_size}
 use Rattle.dw_base.specs.Numbers.{spelled, with_number}
 use Rattle.dw_base.proofs.NumberLaws.{length-with_number, spelled-with_number, spelled-other}
-use Rattle.elf_relocs.specs.declared.relocs.Reloc.{Reloc}
-use Rattle.elf_relocs.specs.Relocs.{reloc_size, word_width, reloc_of, reloc_in, reloc_at}
-use Rattle.elf_relocs.specs.RelocChanges.{written, RelocFits, with_both, with_reloc, moved}
+use Rattle.dw_base.specs.declared.relocations.Reloc.{Reloc}
+use Rattle.dw_base.specs.Relocs.{reloc_size, word_width, reloc_of, reloc_in, reloc_at}
+use Rattle.dw_base.specs.RelocChanges.{written, RelocFits, with_both, with_reloc, moved}
 
 -- a signed number of 4 or 8 bytes, in two's complement, is one of as many bytes
 word-lt : (z : ℤ) → FitsSigned w32 z → cast_unsigned w32 z < 256 ^ 4
@@ -47,6 +47,13 @@ length-with_both C32 o true b place offset (Some a) inside =
 length-with_both C64 o true b place offset (Some a) inside =
     let first = length-with_number o b place 8 offset (omega arith) in
     length-with_number o (with_number o b place 8 offset) (place + 16) 8 (cast_unsigned w64 a) (omega arith) ∙ first
+
+-- and so it does where one of a number is
+pub length-with_reloc : (c : Class) (o : Order) (rela : Bool) (b : List ℕ) (index offset : ℕ) (addend : Option ℤ) → RelocFits c rela b index offset addend
+    → length (with_reloc c o rela b index offset addend) ≡ length b
+unfolding with_reloc
+length-with_reloc c o rela b index offset addend fits =
+    length-with_both c o rela b (index * reloc_size c rela) offset addend (leb-true _ _ fits.inside)
 
 -- a number outside of the relocation that is written stays
 spelled-with_both : (c : Class) (o : Order) (rela : Bool) (b : List ℕ) (place offset : ℕ) (addend : Option ℤ) (k m : ℕ)

@@ -5,8 +5,8 @@ use Rattle.dw_base.specs.declared.shared.Order.{Order}
 use Rattle.dw_base.specs.declared.shared.Class.{Class}
 use Rattle.dw_base.specs.declared.shared.Class.TheVariants.{C32, C64}
 use Rattle.dw_base.specs.declared.elf_numbers.TheConstants.{SHN_LORESERVE, SHN_XINDEX}
-use Rattle.elf_relocs.specs.declared.symbols.Symbol.{Symbol}
-use Rattle.elf_relocs.specs.Records.{has_record}
+use Rattle.dw_base.specs.declared.relocations.Symbol.{Symbol}
+use Rattle.dw_base.specs.TableRecords.{has_record}
 
 -- the size of a symbol, in bytes
 abbrev pub sym_size : Class → ℕ

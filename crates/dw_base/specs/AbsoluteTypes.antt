@@ -1,8 +1,8 @@
 -- Absolute relocations, whose field is the symbol's value and the addend (processor supplements of the gABI, "Relocation Types"). The
 -- machines that are listed are this project's profile.
 use Rattle.std.specs.Prelude.{ℕ, ◌==◌, if◌then◌else◌, List, [], ◌∷◌, Option, Some, None}
-use Rattle.elf_relocs.specs.declared.absolute_types.AbsoluteTypes.{AbsoluteTypes}
-use Rattle.elf_relocs.specs.declared.relocation_numbers.TheConstants.{EM_386, EM_PPC, EM_PPC64, EM_S390, EM_ARM, EM_X86_64, EM_AARCH64, R_386_32, R_PPC_ADDR32, R_PPC64_ADDR32, R_PPC64_ADDR64, R_390_32, R_390_64, R_ARM_ABS32, R_X86_64_32, R_X86_64_64, R_AARCH64_ABS32, R_AARCH64_ABS64}
+use Rattle.dw_base.specs.declared.relocations.AbsoluteTypes.{AbsoluteTypes}
+use Rattle.dw_base.specs.declared.relocation_numbers.TheConstants.{EM_386, EM_PPC, EM_PPC64, EM_S390, EM_ARM, EM_X86_64, EM_AARCH64, R_386_32, R_PPC_ADDR32, R_PPC64_ADDR32, R_PPC64_ADDR64, R_390_32, R_390_64, R_ARM_ABS32, R_X86_64_32, R_X86_64_64, R_AARCH64_ABS32, R_AARCH64_ABS64}
 
 -- a row of the table of machines
 pub record MachineRow : Type 0 where

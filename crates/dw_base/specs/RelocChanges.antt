@@ -6,9 +6,9 @@ use Rattle.dw_base.specs.Elf.{word_size}
 use Rattle.dw_base.specs.Numbers.{with_number}
 use Rattle.dw_base.specs.declared.shared.Order.{Order}
 use Rattle.dw_base.specs.declared.shared.Class.{Class}
-use Rattle.elf_relocs.specs.declared.relocs.Reloc.{Reloc}
-use Rattle.elf_relocs.specs.Records.{has_record}
-use Rattle.elf_relocs.specs.Relocs.{reloc_size, addend_place, word_width}
+use Rattle.dw_base.specs.declared.relocations.Reloc.{Reloc}
+use Rattle.dw_base.specs.TableRecords.{has_record}
+use Rattle.dw_base.specs.Relocs.{reloc_size, addend_place, word_width}
 
 -- the addend that is written: none where the record has none, or none is given
 abbrev pub written : Bool → Option ℤ → Option ℤ

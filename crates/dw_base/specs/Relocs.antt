@@ -7,8 +7,8 @@ use Rattle.dw_base.specs.Numbers.{spelled}
 use Rattle.dw_base.specs.declared.shared.Order.{Order}
 use Rattle.dw_base.specs.declared.shared.Class.{Class}
 use Rattle.dw_base.specs.declared.shared.Class.TheVariants.{C32, C64}
-use Rattle.elf_relocs.specs.declared.relocs.Reloc.{Reloc}
-use Rattle.elf_relocs.specs.Records.{has_record}
+use Rattle.dw_base.specs.declared.relocations.Reloc.{Reloc}
+use Rattle.dw_base.specs.TableRecords.{has_record}
 
 -- the size of a relocation, without an addend and with one, in bytes
 abbrev pub reloc_size : Class → Bool → ℕ

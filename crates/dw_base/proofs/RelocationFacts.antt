@@ -1,6 +1,6 @@
 -- The definitions give the values that the processor supplements print, and none elsewhere.
 use Rattle.std.proofs.Common.{◌≡◌, Some, None, refl}
-use Rattle.elf_relocs.specs.AbsoluteTypes.{absolute_types, absolute_size}
+use Rattle.dw_base.specs.AbsoluteTypes.{absolute_types, absolute_size}
 
 -- System V ABI, Intel386, "Relocation Types": R_386_32 is 1 and takes a word of 4 bytes; R_386_PC32, 2, is relative
 i386_32_is_1 : absolute_size 3 1 ≡ Some 4

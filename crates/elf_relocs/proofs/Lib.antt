@@ -1,2 +1,0 @@
-pub mod StandardFacts
-pub mod RelocLaws
