@@ -12,7 +12,7 @@ use Rattle.dw_base.specs.Roles.{Use, is_path_use}
 use Rattle.dw_base.specs.TextIndexes.{slot_of}
 use Rattle.dw_base.specs.Texts.{text, has_nul, text_in, ends_in}
 use Rattle.dw_base.specs.UnitStates.{UnitState, code_value}
-use Rattle.dw_base.specs.ValueMeanings.{found_entry, first_of, indexed, number_meaning, leb_meaning, table_named, line_meaning, local_entry, global_entry, macro_meaning, unit_meant, address_of, read_size, read_signed}
+use Rattle.dw_base.specs.ValueMeanings.{found_entry, first_of, indexed, number_meaning, leb_meaning, table_named, line_meaning, global_entry, macro_meaning, unit_meant, address_of, read_size, read_signed}
 use Rattle.dw_base.specs.Values.{number_value, leb_value_at, signed_value_at, signed_bits, block_value, counted_value, counted_leb_value, text_value, offset_class}
 use Rattle.dw_base.specs.ViewData.{located}
 use Rattle.dw_base.specs.declared.debug_sections.DebugSection.TheVariants.{Str, LineStr}
@@ -123,8 +123,7 @@ number-class around u cells s says StrIndex p v a i plain ok number bytes =
 number-class around u cells s says Address p v a i plain ok number bytes =
     ap (field_said Address) (address-plain around.lasting.base.order p plain) ∙ ap (class_said Address) number
 number-class around u cells s says LocalRef p v a i plain ok number bytes =
-    ap (λ (f : Field). value_said (local_entry around.lasting s f)) (field-plain around.lasting.base.order p plain)
-    ∙ ap (λ (n : ℕ). value_said (found_entry around.lasting.entries s.section (s.header.start + n) n)) number
+    ap (λ (n : ℕ). value_said (found_entry around.lasting.entries s.section (s.header.start + n) n)) number
     ∙ ap (λ (k : ℕ). value_said (found_entry around.lasting.entries k (s.header.start + v.number) v.number)) i.section_is
     ∙ ap (λ (k : ℕ). value_said (found_entry around.lasting.entries u.header.section (k + v.number) v.number)) (ap (λ h. h.start) i.header_is)
     ∙ a.entries_are u.header.section (u.header.start + v.number) v.number

@@ -52,5 +52,14 @@ pub mod ContributionBackLaws
 pub mod NameBackLaws
 pub mod RelocLaws
 pub mod RelocationFacts
+pub mod WorkedRelocations
+pub mod SectionRelocationLaws
+pub mod RelocationFieldLaws
+pub mod RelocationSectionLaws
+pub mod RelocationTieLaws
+pub mod OffsetPutLaws
+pub mod RelocationRowLaws
+pub mod CellLineLaws
+pub mod RelocationBodyLaws
 pub mod MacroRowLaws
 pub mod WorkedMacroUnits

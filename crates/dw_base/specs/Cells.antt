@@ -1,13 +1,16 @@
 -- The contents of a section as cells: a byte, and the relocation that begins there (gABI ch. 4 "Relocation").
-use Rattle.std.specs.Prelude.{negsuc, ℕ, ◌^◌, ◌%◌, ◌==◌, if◌then◌else◌, List, [], ◌∷◌, length, take, drop, Option, Some, None, pos, ℤ, ◌+ℤ◌, ◌-◌}
+use Rattle.std.specs.Prelude.{Bool, true, false, negsuc, ℕ, ◌^◌, ◌%◌, ◌==◌, if◌then◌else◌, List, [], ◌∷◌, length, take, drop, Option, Some, None, pos, ℤ, ◌+ℤ◌, ◌-◌}
+use Rattle.std.specs.Int.{w64, cast_signed}
 use Rattle.dw_base.specs.Numbers.{spelled}
+use Rattle.dw_base.specs.declared.shared.Class.{Class}
 use Rattle.dw_base.specs.declared.shared.Order.{Order}
 use Rattle.dw_base.specs.declared.view_fields.Field.{Field}
 use Rattle.dw_base.specs.declared.view_fields.Field.TheVariants.{Num, Into, Sym}
 
--- a relocation: its symbol and type, the size of the field where the type is absolute, the addend of its record where that
--- has one, and section and value of the symbol where it is defined
+-- a relocation: the class of its file, its symbol and type, the size of the field where the type is absolute, the addend of its record
+-- where that has one, and section and value of the symbol where it is defined
 pub record Relocation : Type 0 where
+  pub class : Class
   pub symbol : ℕ
   pub kind : ℕ
   pub size : Option ℕ
@@ -48,9 +51,14 @@ abbrev pub wrapped : ℤ → ℕ → ℕ
 wrapped (pos n) size = n % 256 ^ size
 wrapped (negsuc n) size = 256 ^ size - 1 - n % 256 ^ size
 
+-- the same as a number of 64 bits
+abbrev pub shown_addend : Option ℤ → ℕ → ℤ
+shown_addend None n = cast_signed w64 n
+shown_addend (Some a) n = a
+
 -- the field of a symbol
 abbrev pub symbol_field : Relocation → ℕ → Field
-symbol_field r n = Sym r.symbol r.kind (addend_of r.addend n)
+symbol_field r n = Sym r.symbol r.kind (shown_addend r.addend n)
 
 abbrev pub targeted : Option (ℕ × ℕ) → Relocation → ℕ → ℕ → Field
 targeted None r size n = symbol_field r n
@@ -63,6 +71,17 @@ relocated (Some k) r size n = if k == size then targeted r.target r size n else 
 abbrev pub field_by : Option Relocation → ℕ → ℕ → Field
 field_by None size n = Num n
 field_by (Some r) size n = relocated r.size r size n
+
+-- an address: the number, or where a relocation begins at it, whatever its type, its symbol, type and addend
+abbrev pub address_by : Option Relocation → ℕ → Field
+address_by None n = Num n
+address_by (Some r) n = symbol_field r n
+
+-- a field is a number or a place, and not a symbol that is none
+abbrev pub is_placed : Field → Bool
+is_placed (Num n) = true
+is_placed (Into s n) = true
+is_placed (Sym s k a) = false
 
 -- the field of all these cells
 unfoldable pub field_of : Order → List Cell → Field

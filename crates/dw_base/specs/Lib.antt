@@ -77,6 +77,13 @@ pub mod Symbols
 pub mod Relocs
 pub mod RelocChanges
 pub mod AbsoluteTypes
+pub mod SectionRelocations
+pub mod RelocationFields
+pub mod RelocationSectionFails
+pub mod RelocationRows
+pub mod CellLines
+pub mod RelocationBodies
+pub mod LineFields
 pub mod MacroOperations
 pub mod MacroHeaders
 pub mod MacroPieces

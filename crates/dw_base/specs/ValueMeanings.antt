@@ -1,7 +1,7 @@
 -- What a value of an attribute means (DWARF 5, 7.5.5). It is said in names, numbers and texts: where a text stands in its
 -- table, which form holds it and where a section lies are not in it.
 use Rattle.std.specs.Prelude.{Bool, ◌+◌, ℕ, ℤ, pos, ◌==◌, ◌&&◌, if◌then◌else◌, List, [], ◌∷◌, drop, length, get_or, Option, Some, None}
-use Rattle.dw_base.specs.Cells.{Cell, Relocation, bytes_of, field_of, offset_of, first_relocation, symbol_field}
+use Rattle.dw_base.specs.Cells.{Cell, address_by, bytes_of, field_of, first_relocation, offset_of}
 use Rattle.dw_base.specs.DebugData.{Lasting, Around, EntryPlace, line_table, macro_unit, table_of}
 use Rattle.dw_base.specs.Forms.{ValueKind, number_of, leb_number, signed_leb, block_of, counted, counted_leb, inline_text, text_offset, present, in_abbreviation, form_in_front, supplementary, unlisted}
 use Rattle.dw_base.specs.Lebs.{uleb_at, sleb_at}
@@ -53,29 +53,24 @@ global_entry g (Num n) = found_entry g.entries (first_of g.infos) n n
 global_entry g (Into z n) = if holds_number g.infos z then found_entry g.entries z n n else stray n
 global_entry g (Sym s k a) = of_class GlobalRef (Sym s k a)
 
--- what a field refers to in its unit, from whose start it counts
-abbrev pub local_entry : Lasting → UnitState → Field → ValueMeaning
-local_entry g s (Num n) = found_entry g.entries s.section (s.header.start + n) n
-local_entry g s f = of_class LocalRef f
+-- what a number refers to in its unit, from whose start it counts
+abbrev pub local_entry : Lasting → UnitState → ℕ → ValueMeaning
+local_entry g s n = found_entry g.entries s.section (s.header.start + n) n
 
--- an address: the number, or where a relocation begins at it, its symbol, type and addend
-abbrev pub address_by : Option Relocation → ℕ → Field
-address_by None n = Num n
-address_by (Some r) n = symbol_field r n
-
+-- the address that cells hold
 unfoldable pub address_of : Order → List Cell → Field
 address_of order p = address_by (first_relocation p) (spelled order (bytes_of p) 0 (length p))
 
 -- what the cells of a number of a class mean
 abbrev pub meaning_of_number : Lasting → UnitState → ValueClass → List Cell → ValueMeaning
 meaning_of_number g s Address p = of_class Address (address_of g.base.order p)
-meaning_of_number g s LocalRef p = local_entry g s (field_of g.base.order p)
+meaning_of_number g s LocalRef p = local_entry g s (spelled g.base.order (bytes_of p) 0 (length p))
 meaning_of_number g s GlobalRef p = global_entry g (field_of g.base.order p)
 meaning_of_number g s class p = of_class class (field_of g.base.order p)
 
 -- and those of one in LEB128
 abbrev pub meaning_of_leb : Lasting → UnitState → ValueClass → ℕ → ValueMeaning
-meaning_of_leb g s LocalRef n = local_entry g s (Num n)
+meaning_of_leb g s LocalRef n = local_entry g s n
 meaning_of_leb g s class n = of_class class (Num n)
 
 -- how many bytes a count in front of a block has

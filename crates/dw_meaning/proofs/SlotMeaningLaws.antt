@@ -46,9 +46,8 @@ global-none g (Into z n) = by_info (holds_number g.infos z)
     by_info true = found-none g.entries z n n
     by_info false = refl
 
-local-none : (g : Lasting) (s : UnitState) (f : Field) → path_slot (local_entry g s f) ≡ []
-local-none g s (Num n) = found-none g.entries s.section (s.header.start + n) n
-local-none g s f = refl
+local-none : (g : Lasting) (s : UnitState) (n : ℕ) → path_slot (local_entry g s n) ≡ []
+local-none g s n = found-none g.entries s.section (s.header.start + n) n
 
 -- a text that has no slot
 text-none : (path : Bool) (t : List ℕ) → path_slot (string path by_offset t) ≡ []
@@ -79,7 +78,7 @@ number-slot : (class : ValueClass) (n : ℕ) (around : Around) (s : UnitState) (
 number-slot StrIndex n around s u path place p e =
     indexed-slot around.slots (slot_of around.lasting.indexing s.unit (spelled around.lasting.base.order (bytes_of p) 0 (length p))) (is_path_use u) path p e
 number-slot Address n around s u path place p e = refl
-number-slot LocalRef n around s u path place p e = local-none around.lasting s (field_of around.lasting.base.order p)
+number-slot LocalRef n around s u path place p e = local-none around.lasting s (spelled around.lasting.base.order (bytes_of p) 0 (length p))
 number-slot GlobalRef n around s u path place p e = global-none around.lasting (field_of around.lasting.base.order p)
 number-slot class n around s u path place p e = refl
 
@@ -87,7 +86,7 @@ leb-slot : (class : ValueClass) (around : Around) (s : UnitState) (u : Use) (pat
     → path_slot (leb_meaning around s u class p) ≡ named_by around s place path (index_value around.lasting.base.order (leb_number class) p)
 leb-slot StrIndex around s u path place p e =
     indexed-slot around.slots (slot_of around.lasting.indexing s.unit (code_value p)) (is_path_use u) path p e
-leb-slot LocalRef around s u path place p e = local-none around.lasting s (Num (code_value p))
+leb-slot LocalRef around s u path place p e = local-none around.lasting s (code_value p)
 leb-slot class around s u path place p e = refl
 
 -- a line table has no slot

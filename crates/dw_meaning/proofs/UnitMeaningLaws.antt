@@ -57,19 +57,18 @@ global-mapped m g (Into z n) = by_info (holds_number g.infos z)
     by_info true = found-mapped m g.entries z n n
     by_info false = refl
 
-local-mapped : (m : PathMap) (g : Lasting) (s : UnitState) (f : Field) → local_entry g s f ≡ mapped_value m (local_entry g s f)
-local-mapped m g s (Num n) = found-mapped m g.entries s.section (s.header.start + n) n
-local-mapped m g s f = refl
+local-mapped : (m : PathMap) (g : Lasting) (s : UnitState) (n : ℕ) → local_entry g s n ≡ mapped_value m (local_entry g s n)
+local-mapped m g s n = found-mapped m g.entries s.section (s.header.start + n) n
 
 number-mapped : (m : PathMap) (g : Lasting) (s : UnitState) (class : ValueClass) (p : List Cell)
     → meaning_of_number g s class p ≡ mapped_value m (meaning_of_number g s class p)
 number-mapped m g s Address p = refl
-number-mapped m g s LocalRef p = local-mapped m g s (field_of g.base.order p)
+number-mapped m g s LocalRef p = local-mapped m g s (spelled g.base.order (bytes_of p) 0 (length p))
 number-mapped m g s GlobalRef p = global-mapped m g (field_of g.base.order p)
 number-mapped m g s class p = refl
 
 leb-mapped : (m : PathMap) (g : Lasting) (s : UnitState) (class : ValueClass) (n : ℕ) → meaning_of_leb g s class n ≡ mapped_value m (meaning_of_leb g s class n)
-leb-mapped m g s LocalRef n = local-mapped m g s (Num n)
+leb-mapped m g s LocalRef n = local-mapped m g s n
 leb-mapped m g s class n = refl
 
 inline-changed : (b : Bool) (c : Shift) (p q : List Cell) → Becomes (if b then inline_path else fixed) c p q
