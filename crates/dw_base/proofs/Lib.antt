@@ -56,6 +56,7 @@ pub mod WorkedRelocations
 pub mod SectionRelocationLaws
 pub mod RelocationFieldLaws
 pub mod RelocationSectionLaws
+pub mod ViewCellLaws
 pub mod RelocationTieLaws
 pub mod OffsetPutLaws
 pub mod RelocationRowLaws

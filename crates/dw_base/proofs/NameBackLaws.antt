@@ -1,9 +1,9 @@
 -- From the pieces of name tables to the tables that a reader meets, each of whose string offsets names a text.
 use Rattle.std.specs.Bool.{⊤}
-use Rattle.std.proofs.Common.{inl, inr, true, ◌≡◌, ℕ, zero, suc, ◌+◌, ◌*◌, ◌≤◌, List, [], ◌∷◌, ◌++◌, length, drop, IsTrue, Option, refl, sym, ap, ◌∙◌, subst, arith}
+use Rattle.std.proofs.Common.{inl, inr, true, ◌≡◌, ℕ, zero, suc, ◌+◌, ◌*◌, ◌<◌, ◌≤◌, List, [], ◌∷◌, ◌++◌, length, drop, IsTrue, Option, refl, sym, ap, ◌∙◌, subst, arith}
 use Rattle.std.proofs.lemmas.Bool.{cases_lt}
-use Rattle.dw_base.specs.Cells.{Cell, bytes_of, offset_of}
-use Rattle.dw_base.specs.FileViews.{View, field_at, section_bytes}
+use Rattle.dw_base.specs.Cells.{Cell, bytes_of, cells_at, offset_into, offset_of}
+use Rattle.dw_base.specs.FileViews.{View, field_at, section_bytes, view_cells}
 use Rattle.dw_base.specs.Forms.{width_size}
 use Rattle.dw_base.specs.NameHeaders.{name_counts, before_strings, from_strings}
 use Rattle.dw_base.specs.NamePieces.{NameMode, at_table, at_string, at_rest, no_names, NameState, names_at, before_strings_of, IsTableFront, FitsNames, after_front, past_names, name_grammar, ReadsNames}
@@ -17,8 +17,8 @@ use Rattle.dw_base.specs.declared.shared.Order.{Order}
 use Rattle.dw_base.specs.declared.shared.Width.{Width}
 use Rattle.dw_base.specs.declared.shared.Width.TheVariants.{W32, W64}
 use Rattle.dw_base.proofs.ContributionBackLaws.{StandsAt, spelled-there, initial-there, piece-stands, behind-piece, piece-inside}
-use Rattle.dw_base.proofs.PlainCellLaws.{IsPlain, offset_of-plain}
 use Rattle.dw_base.proofs.UnitEditLaws.{length-bytes_of}
+use Rattle.dw_base.proofs.ViewCellLaws.{length-view_cells, offset_at-piece, piece-cells}
 
 -- the counts at the front of a table stand in the section
 field-there : (o : Order) (bs q : List ℕ) (a at k : ℕ) → StandsAt bs q a → at + k + 4 ≤ length q → spelled o bs (a + at + k) 4 ≡ spelled o q (at + k) 4
@@ -133,35 +133,37 @@ front-is v section cells s p rest list whole inside is before f =
     }
 
 -- a string offset of a table names a text
-string-names : (v : View) (section : ℕ) (cells p rest : List Cell) (place : ℕ) (t : NameTable) (i : ℕ) → section_bytes v section ≡ bytes_of cells → place ≤ length cells
-    → drop place cells ≡ p ++ rest → IsPlain p → length p ≡ width_size t.width → place ≡ string_place t i → IsTrue (ends_in (texts_in v).bytes (offset_of v.order (texts_in v) p))
-    → names_text v section t i ≡ true
-unfolding field_at
-string-names v section cells p rest place t i bytes inside is plain size here ends =
-    let stands : StandsAt (bytes_of cells) (bytes_of p) place = piece-stands cells p rest place inside is in
-    let long = length-bytes_of p in
-    let number : place ≡ place + 0 = omega arith in
-    let value : spelled v.order (section_bytes v section) (string_place t i) (width_size t.width) ≡ offset_of v.order (texts_in v) p =
-    ap (λ (bs : List ℕ). spelled v.order bs (string_place t i) (width_size t.width)) bytes
-    ∙ ap (λ (k : ℕ). spelled v.order (bytes_of cells) k (width_size t.width)) (sym here ∙ number)
-    ∙ ap (spelled v.order (bytes_of cells) (place + 0)) (sym size)
-    ∙ spelled-there v.order (bytes_of cells) (bytes_of p) place 0 (length p) stands (omega (arith, long))
-    ∙ sym (offset_of-plain v.order (texts_in v) p plain) in
-    ap (ends_in (texts_in v).bytes) value ∙ ends
+width-some : (w : Width) → 0 < width_size w
+width-some W32 = omega arith
+width-some W64 = omega arith
 
--- what holds of each piece: it is plain, and where it is a string offset it names a text
+string-names : (v : View) (section : ℕ) (cells p rest : List Cell) (place : ℕ) (t : NameTable) (i : ℕ) → cells ≡ view_cells v section → place ≤ length cells
+    → drop place cells ≡ p ++ rest → length p ≡ width_size t.width → place ≡ string_place t i → IsTrue (ends_in (texts_in v).bytes (offset_of v.order (texts_in v) p))
+    → names_text v section t i ≡ true
+string-names v section cells p rest place t i own inside is size here ends =
+    let part : cells_at (view_cells v section) place (length p) ≡ p =
+    ap (λ (cs : List Cell). cells_at cs place (length p)) (sym own) ∙ piece-cells cells p rest place is in
+    let some : 0 < length p = omega (arith, size, width-some t.width) in
+    let whole : length cells ≡ length (section_bytes v section) = ap length own ∙ length-view_cells v section in
+    let room : place + length p ≤ length (section_bytes v section) = omega (arith, whole, piece-inside cells p rest place inside is) in
+    let value : offset_of v.order (texts_in v) p ≡ offset_into (texts_in v) (field_at v section (string_place t i) (width_size t.width)) =
+    offset_at-piece v (texts_in v) section place p part some room
+    ∙ ap (λ (k : ℕ). offset_into (texts_in v) (field_at v section place k)) size
+    ∙ ap (λ (k : ℕ). offset_into (texts_in v) (field_at v section k (width_size t.width))) here in
+    ap (ends_in (texts_in v).bytes) (sym value) ∙ ends
+
+-- what holds of each piece: where it is a string offset it names a text
 abbrev pub StringNamesBy : NameMode → View → List Cell → Type 0
 StringNamesBy (at_string width left end) v p = IsTrue (ends_in (texts_in v).bytes (offset_of v.order (texts_in v) p))
 StringNamesBy m v p = ⊤
 
-pub record StringNames (v : View) (x : Piece NameState) : Type 0 where
-  pub plain : IsPlain x.cells
-  pub names : StringNamesBy x.state.mode v x.cells
+abbrev pub StringNames : View → Piece NameState → Type 0
+StringNames v x = StringNamesBy x.state.mode v x.cells
 
-back-step : (m : NameMode) (v : View) (section : ℕ) (cells : List Cell) (s : NameState) (p rest : List Cell) (list : List NameTable) → section_bytes v section ≡ bytes_of cells
-    → s.mode ≡ m → FitsNames m v.order s p → IsPlain p → StringNamesBy m v p → BackAt v section cells s list (p ++ rest)
+back-step : (m : NameMode) (v : View) (section : ℕ) (cells : List Cell) (s : NameState) (p rest : List Cell) (list : List NameTable) → cells ≡ view_cells v section
+    → s.mode ≡ m → FitsNames m v.order s p → StringNamesBy m v p → BackAt v section cells s list (p ++ rest)
     → record { more : List NameTable; back : BackAt v section cells (past_names m v.order s p) more rest }
-back-step at_table v section cells s p rest list bytes mode f plain names b =
+back-step at_table v section cells s p rest list own mode f names b =
     let known : TablesUpTo v section (bytes_of cells) list s.place = subst (λ (m : NameMode). KnownBy m v section cells s.place list) mode b.known in
     record {
       more = list;
@@ -171,14 +173,14 @@ back-step at_table v section cells s p rest list bytes mode f plain names b =
           b.whole (piece-inside cells p rest s.place b.inside b.is) (behind-piece cells p rest s.place b.is)
           (front-is v section cells s p rest list b.whole b.inside b.is known f));
     }
-back-step (at_string width left end) v section cells s p rest list bytes mode f plain names b =
+back-step (at_string width left end) v section cells s p rest list own mode f names b =
     let k : StringsAt v section cells list width (suc left) end s.place = subst (λ (m : NameMode). KnownBy m v section cells s.place list) mode b.known in
     let t : NameTable = k.table.table in
     let wide : width_size k.table.table.width ≡ width_size width = ap width_size k.table.wide in
     let here : s.place ≡ string_place k.table.table k.count =
     k.place_is ∙ ap (λ (n : ℕ). n + k.count * width_size width) (sym k.table.first) ∙ ap (λ (n : ℕ). k.table.table.strings + k.count * n) (sym wide) in
     let one : names_text v section k.table.table k.count ≡ true =
-    string-names v section cells p rest s.place k.table.table k.count bytes b.inside b.is plain (f.size ∙ sym wide) here names in
+    string-names v section cells p rest s.place k.table.table k.count own b.inside b.is (f.size ∙ sym wide) here names in
     let texts : NamesTexts v section k.table.table (k.count + 1) = record {
       all = λ i lt. elim (cases_lt i k.count) [
         | inl front ↦ k.table.texts.all i front
@@ -212,7 +214,7 @@ back-step (at_string width left end) v section cells s p rest list bytes mode f 
     next-place : (w : Width) (place size strings count : ℕ) → size ≡ width_size w → place ≡ strings + count * width_size w → place + size ≡ strings + (count + 1) * width_size w
     next-place W32 place size strings count e h = omega (arith, e, h)
     next-place W64 place size strings count e h = omega (arith, e, h)
-back-step (at_rest end) v section cells s p rest list bytes mode f plain names b =
+back-step (at_rest end) v section cells s p rest list own mode f names b =
     let k : RestAt v section cells list end = subst (λ (m : NameMode). KnownBy m v section cells s.place list) mode b.known in
     record {
       more = list ++ k.table.table ∷ [];
@@ -225,25 +227,25 @@ back-step (at_rest end) v section cells s p rest list bytes mode f plain names b
             (record { table = k.table.is; texts = subst (NamesTexts v section k.table.table) (sym k.table.many) k.table.texts }));
       };
     }
-back-step no_names v section cells s p rest list bytes mode f plain names b = absurd f
+back-step no_names v section cells s p rest list own mode f names b = absurd f
 
 pub record TablesBack (v : View) (section : ℕ) (cells : List Cell) : Type 0 where
   pub all : List NameTable
   pub up : TablesUpTo v section (bytes_of cells) all (length (bytes_of cells))
 
-back-from : (v : View) (section : ℕ) (cells : List Cell) (s : NameState) (xs : List (Piece NameState)) (list : List NameTable) → section_bytes v section ≡ bytes_of cells
+back-from : (v : View) (section : ℕ) (cells : List Cell) (s : NameState) (xs : List (Piece NameState)) (list : List NameTable) → cells ≡ view_cells v section
     → Chain (name_grammar v.order) s xs → EachPiece (StringNames v) xs → BackAt v section cells s list (joined xs) → TablesBack v section cells
-back-from v section cells s [] list bytes chain each b =
+back-from v section cells s [] list same chain each b =
     let known : TablesUpTo v section (bytes_of cells) list s.place = subst (λ (m : NameMode). KnownBy m v section cells s.place list) chain.mode b.known in
     record { all = list; up = subst (λ (k : ℕ). TablesUpTo v section (bytes_of cells) list k) (chain.place ∙ b.whole ∙ sym (length-bytes_of cells)) known }
-back-from v section cells s (x ∷ xs) list bytes chain each b =
+back-from v section cells s (x ∷ xs) list same chain each b =
     let own : BackAt v section cells x.state list (x.cells ++ joined xs) = subst (λ (z : NameState). BackAt v section cells z list (x.cells ++ joined xs)) (sym chain.0) b in
-    let step = back-step x.state.mode v section cells x.state x.cells (joined xs) list bytes refl chain.1 each.0.plain each.0.names own in
-    back-from v section cells (past_names x.state.mode v.order x.state x.cells) xs step.more bytes chain.2 each.1 step.back
+    let step = back-step x.state.mode v section cells x.state x.cells (joined xs) list same refl chain.1 each.0 own in
+    back-from v section cells (past_names x.state.mode v.order x.state x.cells) xs step.more same chain.2 each.1 step.back
 
 -- name tables that are pieces, whose string offsets name texts, are tables that fill the section
-pub tables-back : (v : View) (section : ℕ) (cells : List Cell) (xs : List (Piece NameState)) → section_bytes v section ≡ bytes_of cells → ReadsNames v.order cells xs
+pub tables-back : (v : View) (section : ℕ) (cells : List Cell) (xs : List (Piece NameState)) → cells ≡ view_cells v section → ReadsNames v.order cells xs
     → EachPiece (StringNames v) xs → TablesBack v section cells
-tables-back v section cells xs bytes r each =
-    back-from v section cells (names_at (length cells) 0 at_table) xs [] bytes r.chain each
+tables-back v section cells xs same r each =
+    back-from v section cells (names_at (length cells) 0 at_table) xs [] same r.chain each
     (record { whole = refl; inside = omega arith; is = sym r.cells; known = no_tables })

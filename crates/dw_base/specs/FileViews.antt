@@ -1,12 +1,17 @@
 -- The view of a file: the sections from which its debug data are read, by number, each with its name and its contents
 -- (gABI ch. 4 "Sections"), and what a field of one reads as.
-use Rattle.std.specs.Prelude.{Bool, ℕ, zero, suc, ◌==◌, ◌&&◌, not, if◌then◌else◌, List, [], ◌∷◌, drop, Option, Some, None}
+use Rattle.std.specs.Prelude.{Bool, ℕ, zero, suc, ◌==◌, ◌&&◌, not, if◌then◌else◌, List, [], ◌∷◌, drop, Option, Some, None, is_some, Result}
+use Rattle.dw_base.specs.Cells.{Cell, address_by, plain_cells}
+use Rattle.dw_base.specs.DebugSections.{debug_section}
 use Rattle.dw_base.specs.Elf.{order_of, nth_section, section_count, section_name, name_index, contents_of, is_empty_kind}
 use Rattle.dw_base.specs.Layout.{is_alloc}
 use Rattle.dw_base.specs.Lists.{tabulate}
 use Rattle.dw_base.specs.Notes.{BuildId, build_id_of}
 use Rattle.dw_base.specs.Numbers.{spelled}
+use Rattle.dw_base.specs.RelocationFields.{field_unless, partly_at, relocation_at}
 use Rattle.dw_base.specs.Texts.{same_text}
+use Rattle.dw_base.specs.declared.debug_sections.DebugSection.{DebugSection}
+use Rattle.dw_base.specs.declared.fault.Refusal.{Refusal}
 use Rattle.dw_base.specs.declared.shared.Order.{Order}
 use Rattle.dw_base.specs.declared.view_fields.Field.{Field}
 use Rattle.dw_base.specs.declared.view_fields.Field.TheVariants.{Num}
@@ -88,3 +93,33 @@ section_named v name = section_after v name 0
 -- spell; relocations are not in the view yet.
 unfoldable pub field_at : View → ℕ → ℕ → ℕ → Field
 field_at v section place n = Num (spelled v.order (section_bytes v section) place n)
+
+-- the contents of a section, and of the section of a number, as cells; relocations are not in the view yet
+abbrev pub cells_of : ViewSection → List Cell
+cells_of s = plain_cells (bytes_in s.contents)
+
+abbrev pub view_cells : View → ℕ → List Cell
+view_cells v i = plain_cells (section_bytes v i)
+
+-- the name of the section of a number of a list: no bytes where it has no such section
+abbrev pub name_in : List ViewSection → ℕ → List ℕ
+name_in [] i = []
+name_in (s ∷ ss) zero = s.name
+name_in (s ∷ ss) (suc i) = name_in ss i
+
+-- which section that is read the one of a number is, by its name (DWARF 5, Appendix B): none where its name is that of no such section
+unfoldable pub kind_at : View → ℕ → Option DebugSection
+kind_at v i = debug_section (name_in v.sections i)
+
+-- the first relocation that lies only in part on the field of n bytes at a place, in a section that is read
+unfoldable pub partly_in : View → ℕ → ℕ → ℕ → Option ℕ
+partly_in v section place n = if is_some (kind_at v section) then partly_at (view_cells v section) place n else None
+
+-- what a field reads as, refused at such a relocation
+unfoldable pub field_read : View → ℕ → ℕ → ℕ → Result Field Refusal
+field_read v section place n = field_unless (partly_in v section place n) section (field_at v section place n)
+
+-- what an address reads as: the number, or where a relocation begins at it, whatever its type, its symbol, type and addend
+unfoldable pub address_at : View → ℕ → ℕ → ℕ → Field
+address_at v section place n =
+    address_by (relocation_at (view_cells v section) place) (spelled v.order (section_bytes v section) place n)

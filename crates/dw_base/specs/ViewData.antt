@@ -4,7 +4,7 @@ use Rattle.std.specs.Prelude.{Bool, ℕ, zero, suc, ◌||◌, ◌&&◌, not, if�
 use Rattle.dw_base.specs.Cells.{Cell, Located, CellSection, plain_cells}
 use Rattle.dw_base.specs.DebugData.{DebugData, DataReadings, around_of, line_source}
 use Rattle.dw_base.specs.DebugSections.{debug_section, name_of}
-use Rattle.dw_base.specs.FileViews.{Contents, plain_contents, bytes_in, ViewSection, View, section_bytes, section_named}
+use Rattle.dw_base.specs.FileViews.{Contents, plain_contents, bytes_in, cells_of, ViewSection, View, section_bytes, section_named}
 use Rattle.dw_base.specs.LineMeanings.{LineMeaning, line_meanings, mapped_lines}
 use Rattle.dw_base.specs.MacroMeanings.{MacroMeaning, macro_meanings}
 use Rattle.dw_base.specs.MappedSlots.{unit_slots, mapped_slots}
@@ -32,7 +32,7 @@ unit_kind s = None
 -- the units of a section of a number
 abbrev pub unit_section : ℕ → ViewSection → Option SectionKind → List UnitSection
 unit_section i s None = []
-unit_section i s (Some kind) = record { number = i; kind = kind; contents = cells_in s.contents } ∷ []
+unit_section i s (Some kind) = record { number = i; kind = kind; contents = cells_of s } ∷ []
 
 -- the unit sections of a list whose first section has this number: those with bytes in the file
 abbrev pub unit_sections_from : ℕ → List ViewSection → List UnitSection
@@ -52,7 +52,7 @@ is_macro s = false
 -- such a section of a number, where it is one
 abbrev pub macro_section : ℕ → ViewSection → Bool → List CellSection
 macro_section i s false = []
-macro_section i s true = record { number = i; contents = cells_in s.contents } ∷ []
+macro_section i s true = record { number = i; contents = cells_of s } ∷ []
 
 -- the sections of macro units of a list whose first section has this number: those with bytes in the file
 abbrev pub macro_sections_from : ℕ → List ViewSection → List CellSection

@@ -1,17 +1,16 @@
 -- Debug data that can be read excludes the refusals of string offsets, of values by index and of slots.
 use Rattle.dw_base.specs.Cells.{offset_of}
 use Rattle.dw_base.specs.DebugSections.{name_of}
-use Rattle.dw_base.specs.FileViews.{View, section_bytes, section_named}
+use Rattle.dw_base.specs.FileViews.{View, section_bytes, section_named, view_cells}
 use Rattle.dw_base.specs.NamePieces.{NameMode, at_table, at_string, at_rest, no_names, NameState, ReadsNames}
 use Rattle.dw_base.specs.NameTableFails.{TablesFail, NameTablesFail}
-use Rattle.dw_base.specs.NameTables.{names_of, texts_in, no_tables}
+use Rattle.dw_base.specs.NameTables.{texts_in, no_tables}
 use Rattle.dw_base.specs.SectionTexts.{name_role_by, name_role}
 use Rattle.dw_base.specs.ViewData.{debug_data, located, located_at}
 use Rattle.dw_base.specs.declared.debug_sections.DebugSection.TheVariants.{Names}
 use Rattle.dw_base.proofs.NameBackLaws.{StringNamesBy, StringNames, tables-back}
 use Rattle.dw_base.proofs.NameRowLaws.{tables-exclude}
-use Rattle.dw_base.proofs.PlainCellLaws.{IsPlain, plain_cells-plain}
-use Rattle.dw_meaning.proofs.OffsetMoveLaws.{EachCells, cells-plain}
+use Rattle.dw_base.proofs.ViewCellLaws.{bytes_of-view_cells}
 use Rattle.std.proofs.Common.{true, false, ◌≡◌, ℕ, List, [], ◌∷◌, ◌++◌, Option, Some, None, IsTrue, refl, sym, ap, ◌∙◌, subst}
 use Rattle.dw_base.specs.Cells.{Cell, Located, bytes_of, plain_cells}
 use Rattle.dw_base.specs.DebugData.{DebugData, DataReadings, Around, around_of, indexing_of, macro_places, path_slots}
@@ -166,23 +165,21 @@ string-names (at_string width left end) v around p str order h =
 string-names (at_rest end) v around p str order h = tt
 string-names no_names v around p str order h = tt
 
-all-names : (v : View) (around : Around) (xs : List (Piece NameState)) → around.str ≡ texts_in v → around.lasting.base.order ≡ v.order → EachCells xs
+all-names : (v : View) (around : Around) (xs : List (Piece NameState)) → around.str ≡ texts_in v → around.lasting.base.order ≡ v.order
     → NameTexts name_role around xs → EachPiece (StringNames v) xs
-all-names v around [] str order plain h = tt
-all-names v around (x ∷ xs) str order plain h =
-    (record { plain = plain.0; names = string-names x.state.mode v around x.cells str order h.0 }, all-names v around xs str order plain.1 h.1)
+all-names v around [] str order h = tt
+all-names v around (x ∷ xs) str order h = (string-names x.state.mode v around x.cells str order h.0, all-names v around xs str order h.1)
 
 tables-of : (v : View) (o : Option ℕ) (xs : List (Piece NameState)) (r : Refusal) → ReadsNames v.order (plain_cells (located_at v o).bytes) xs → EachPiece (StringNames v) xs
     → TablesFail v (located_at v o).number (located_at v o).bytes r → ⊥
 tables-of v None xs r reads each f = tables-exclude v 0 [] [] r no_tables f
 tables-of v (Some i) xs r reads each f =
-    let bytes : bytes_of (plain_cells (section_bytes v i)) ≡ section_bytes v i = bytes_of-plain (section_bytes v i) in
-    let back = tables-back v i (plain_cells (section_bytes v i)) xs (sym bytes) reads each in
-    tables-exclude v i (bytes_of (plain_cells (section_bytes v i))) back.all r back.up (subst (λ (bs : List ℕ). TablesFail v i bs r) (sym bytes) f)
+    let bytes : bytes_of (view_cells v i) ≡ section_bytes v i = bytes_of-view_cells v i in
+    let back = tables-back v i (view_cells v i) xs refl reads each in
+    tables-exclude v i (bytes_of (view_cells v i)) back.all r back.up (subst (λ (bs : List ℕ). TablesFail v i bs r) (sym bytes) f)
 
 pub name_tables-exclude : (v : View) (q : DataReadings) (r : Refusal) → DataReads (debug_data v) q → NameTablesFail v r → ⊥
 unfolding debug_data located
 name_tables-exclude v q r a f =
     tables-of v (section_named v (name_of Names)) q.names r a.names
-    (all-names v (around_of (debug_data v) q) q.names refl refl
-    (cells-plain q.names (subst IsPlain (sym a.names.cells) (plain_cells-plain (names_of v).bytes))) a.name_texts) f
+    (all-names v (around_of (debug_data v) q) q.names refl refl a.name_texts) f
