@@ -19,7 +19,7 @@ use Rattle.dw_base.specs.declared.fault.Kind.TheVariants.{Fixed, Unbuilt}
 use Rattle.dw_base.specs.declared.fault.Refusal.{Refusal}
 use Rattle.dw_base.specs.declared.records.Section.{Section}
 use Rattle.dw_base.proofs.FileViewLaws.{length-view_of}
-use Rattle.dw_view.specs.SectionKinds.{kind_at}
+use Rattle.dw_base.specs.FileViews.{kind_at}
 use Rattle.dw_view.proofs.ViewLaws.{kind_at-view_of}
 use Rattle.dw_rewrite.specs.Judged.{AllFit, IsJudged, SectionFits}
 

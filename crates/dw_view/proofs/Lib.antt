@@ -8,3 +8,4 @@ pub mod CountLaws
 pub mod StandLaws
 pub mod PartLaws
 pub mod PairingLaws
+pub mod FieldLaws

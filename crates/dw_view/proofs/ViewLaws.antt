@@ -3,7 +3,7 @@ use Rattle.std.proofs.Common.{◌≡◌, ℕ, zero, suc, ◌<◌, true, ◌==◌
 use Rattle.dw_base.specs.DebugSections.{debug_section, name_of}
 use Rattle.dw_base.specs.DebugSectionFails.{DebugSectionsRead}
 use Rattle.dw_base.specs.Elf.{e_type, section_count, section_name}
-use Rattle.dw_base.specs.FileViews.{View, ViewSection, section_after, section_named, view_of, view_section}
+use Rattle.dw_base.specs.FileViews.{View, ViewSection, kind_at, name_in, section_after, section_named, view_of, view_section}
 use Rattle.dw_base.specs.Layout.{is_loaded_kind}
 use Rattle.dw_base.specs.declared.elf_numbers.TheConstants.{ET_REL}
 use Rattle.dw_base.specs.declared.debug_sections.DebugSection.{DebugSection}
@@ -11,7 +11,6 @@ use Rattle.dw_base.proofs.DebugSectionFailsLaws.{debug_sections_exclude}
 use Rattle.dw_base.proofs.DebugSectionLaws.{debug_section-named}
 use Rattle.dw_base.proofs.FileViewLaws.{order-view_of, length-view_of, get_or-view_of, section_bytes-view_of, section_after-within}
 use Rattle.dw_view.specs.NamesFit.{NamesApart, NamesFit, NamesOnce}
-use Rattle.dw_view.specs.SectionKinds.{kind_at, name_in}
 use Rattle.dw_view.specs.SectionParts.{no_section, section_at}
 use Rattle.dw_view.proofs.NameLaws.{debug_section-take}
 use Rattle.dw_view.proofs.PartLaws.{contents-small, length-pair, section_at-is}

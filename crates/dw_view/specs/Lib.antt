@@ -1,6 +1,5 @@
 pub mod NamesFit
 pub mod Kept
-pub mod SectionKinds
 pub mod PairViews
 pub mod SectionParts
 pub mod Pairs

@@ -3,13 +3,12 @@
 ghost use Rattle.std.specs.Prelude.{◌≡◌, ◌+◌, ◌<◌, ◌≤◌, ◌^◌, Ok, length, IfErr, IfOk, IfSome, OnOk};
 ghost use Rattle.dw_base.specs.DebugSections.{name_of};
 ghost use Rattle.dw_base.specs.DebugSectionFails.{DebugSectionsFail, DebugSectionsRead};
-ghost use Rattle.dw_base.specs.FileViews.{View as FileView, field_at, section_after, section_bytes, section_named, view_of};
+ghost use Rattle.dw_base.specs.FileViews.{View as FileView, address_at, field_at, field_read, kind_at, section_after, section_bytes, section_named, view_of};
 ghost use Rattle.dw_base.specs.Refusals.{Blames};
 ghost use Rattle.dw_base.specs.declared.fault.Refusal.{Refusal};
 ghost use Rattle.dw_view.specs.Kept.{FieldFits, FirstsAre};
 ghost use Rattle.dw_view.specs.PairViews.{pair_view};
 ghost use Rattle.dw_view.specs.Pairs.{IsPaired, PairBlames, PairRefused};
-ghost use Rattle.dw_view.specs.SectionKinds.{kind_at};
 ghost use Rattle.dw_view.specs.declared.mismatch.PairErr.{PairErr};
 
 use crate::found::{firsts_of, next_filled};
@@ -183,16 +182,45 @@ impl<'a> View<'a> {
     }
 
     /// What a field reads as: the `size` bytes from `at`, in bytes from the start of the section of a
-    /// number.
-    #[tactic(auto, unfolding(dw_base::specs::FileViews::field_at))]
+    /// number. Refused as `Relocation` exactly where, in a section that is read, a relocation lies on the field
+    /// only in part, at that relocation.
+    #[tactic(auto, using(crate::proofs::FieldLaws::field_laws))]
     pub fn field(&self, section: u32, at: u64, size: u8) -> Result<Field, Refusal>
         requires there { section < length self.now.sections }
         requires some { 0 < size }
         requires wide { size ≤ 8 }
         requires inside { at + size ≤ length (section_bytes self.now section) }
+        ensures read { result ≡ field_read self.now section at size }
         ensures value { result ≡ Ok (field_at self.now section at size) }
         ensures fits { IfOk result (FieldFits size) }
     {
-        Ok(Field::Num(number_in(self.order(), self.bytes(section), at, size)))
+        let field = self.number(section, at, size);
+        Ok(field)
+    }
+
+    /// What an address reads as: the `size` bytes from `at`, in bytes from the start of the section of a
+    /// number, or where a relocation begins at it, whatever its type, its symbol, type and addend.
+    #[tactic(auto, using(crate::proofs::FieldLaws::address_laws))]
+    pub fn address(&self, section: u32, at: u64, size: u8) -> Field
+        requires there { section < length self.now.sections }
+        requires some { 0 < size }
+        requires wide { size ≤ 8 }
+        requires inside { at + size ≤ length (section_bytes self.now section) }
+        ensures { result ≡ address_at self.now section at size }
+    {
+        self.number(section, at, size)
+    }
+
+    /// The number of a field.
+    #[tactic(auto, unfolding(dw_base::specs::FileViews::field_at))]
+    fn number(&self, section: u32, at: u64, size: u8) -> Field
+        requires there { section < length self.now.sections }
+        requires some { 0 < size }
+        requires wide { size ≤ 8 }
+        requires inside { at + size ≤ length (section_bytes self.now section) }
+        ensures value { result ≡ field_at self.now section at size }
+        ensures fits { FieldFits size result }
+    {
+        Field::Num(number_in(self.order(), self.bytes(section), at, size))
     }
 }
