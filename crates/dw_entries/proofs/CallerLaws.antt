@@ -1,13 +1,13 @@
 -- What a caller needs: a section that was found by its name is a unit section, and the units that were given are units of the view.
-use Rattle.std.proofs.Common.{Bool, true, false, ◌≡◌, ℕ, zero, suc, ◌+◌, ◌≤◌, ◌<◌, ◌==◌, ◌&&◌, ◌⊎◌, inl, inr, if◌then◌else◌, List, [], ◌∷◌, ◌++◌, length, drop, get_or, Option, Some, None, refl, sym, ap, ◌∙◌, subst, arith}
+use Rattle.std.proofs.Common.{Bool, true, false, ◌≡◌, ℕ, zero, suc, ◌+◌, ◌≤◌, ◌<◌, ◌==◌, ◌⊎◌, inl, inr, if◌then◌else◌, List, [], ◌∷◌, ◌++◌, length, drop, get_or, Option, Some, None, refl, sym, ap, ◌∙◌, subst, arith}
 use Rattle.std.proofs.lemmas.Bool.{eq-eqb, ne_eqb, and_parts, cases_lt}
 use Rattle.std.proofs.lemmas.List.{drop-drop, get_or_append_left, get_or-append-add, length-append}
 use Rattle.dw_base.specs.DebugSections.{debug_section, name_of}
 use Rattle.dw_base.specs.EntryValues.{HasUnit}
-use Rattle.dw_base.specs.FileViews.{View, ViewSection, is_filled, first_filled, section_after, section_named}
+use Rattle.dw_base.specs.FileViews.{View, ViewSection, is_filled, first_filled, section_after, section_named, cells_of}
 use Rattle.dw_base.specs.Texts.{same_text}
 use Rattle.dw_base.specs.UnitHeaders.{UnitBase, UnitSection, SectionKind, IsUnit, UnitsUpTo, no_units, more_units, AreUnits}
-use Rattle.dw_base.specs.ViewData.{cells_in, unit_kind, unit_section, unit_sections_from, unit_sections, debug_data}
+use Rattle.dw_base.specs.ViewData.{unit_kind, unit_section, unit_sections_from, unit_sections, debug_data}
 use Rattle.dw_base.specs.declared.debug_sections.DebugSection.{DebugSection}
 use Rattle.dw_base.specs.declared.debug_sections.DebugSection.TheVariants.{Info, Types}
 use Rattle.dw_base.specs.declared.units.UnitHeader.{UnitHeader}
@@ -25,7 +25,7 @@ skip-one : (i n : ℕ) (s : ViewSection) (ss : List ViewSection) (has : Bool) (k
 skip-one i n s ss false kind lt = refl
 skip-one i n s ss true None lt = refl
 skip-one i n s ss true (Some kind) lt =
-    ap (λ (b : Bool). if b then Some (record { number = i; kind = kind; contents = cells_in s.contents }) else numbered (unit_sections_from (suc i) ss) n)
+    ap (λ (b : Bool). if b then Some (record { number = i; kind = kind; contents = cells_of s }) else numbered (unit_sections_from (suc i) ss) n)
     (ne_eqb i n (λ same. omega (arith, lt, same)))
 
 skip-some : (k i n : ℕ) (ss : List ViewSection) → i + k ≤ n → numbered (unit_sections_from i ss) n ≡ numbered (unit_sections_from (k + i) (drop k ss)) n
@@ -46,8 +46,8 @@ filled-here : (i : ℕ) (s : ViewSection) (ss : List ViewSection) (x : DebugSect
 filled-here i s ss x kind false found h e = absurd cc
 filled-here i s ss x kind true None h e = absurd cc
 filled-here i s ss x kind true (Some k) h e = record {
-  section = record { number = i; kind = k; contents = cells_in s.contents };
-  is = ap (λ (b : Bool). if b then Some (record { number = i; kind = k; contents = cells_in s.contents }) else numbered (unit_sections_from (suc i) ss) i)
+  section = record { number = i; kind = k; contents = cells_of s };
+  is = ap (λ (b : Bool). if b then Some (record { number = i; kind = k; contents = cells_of s }) else numbered (unit_sections_from (suc i) ss) i)
       (eq-eqb i i refl);
 }
 

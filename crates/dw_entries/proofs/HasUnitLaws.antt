@@ -8,14 +8,14 @@ use Rattle.dw_base.specs.Cells.{Cell, bytes_of}
 use Rattle.dw_base.specs.DebugSections.{debug_section}
 use Rattle.dw_base.specs.EntryScans.{starts}
 use Rattle.dw_base.specs.EntryValues.{HasUnit, bytes_up_to}
-use Rattle.dw_base.specs.FileViews.{View, ViewSection, section_bytes}
+use Rattle.dw_base.specs.FileViews.{View, ViewSection, cells_of, section_bytes}
 use Rattle.dw_base.specs.Lebs.{initial_length_at}
 use Rattle.dw_base.specs.Numbers.{spelled}
 use Rattle.dw_base.specs.UnitHeaders.{UnitBase, UnitSection, SectionKind, is_version, is_unit_type, is_address_size, is_header, header_of_version, header_of_length, unit_header, header_at}
-use Rattle.dw_base.specs.ViewData.{cells_in, unit_kind, unit_section, unit_sections_from, unit_sections, debug_data}
+use Rattle.dw_base.specs.ViewData.{unit_kind, unit_section, unit_sections_from, unit_sections, debug_data}
 use Rattle.dw_base.specs.declared.shared.Width.{Width}
 use Rattle.dw_base.specs.declared.units.UnitHeader.{UnitHeader}
-use Rattle.dw_base.proofs.PlainCellLaws.{bytes_of-plain}
+use Rattle.dw_base.proofs.ViewCellLaws.{bytes_of-view_cells}
 use Rattle.dw_base.proofs.UnitHeaderLaws.{if-inside}
 use Rattle.dw_base.proofs.UnitRowLaws.{header_if-same}
 use Rattle.dw_entries.specs.Fronts.{IsOfView}
@@ -38,14 +38,14 @@ one-numbered : (i : ℕ) (s : ViewSection) (ss : List ViewSection) (before behin
 one-numbered i s ss before behind z false kind further e = further before e
 one-numbered i s ss before behind z true None further e = further before e
 one-numbered i s ss [] behind z true (Some kind) further e =
-    let same = head-of (record { number = i; kind = kind; contents = cells_in s.contents }) z (unit_sections_from (suc i) ss) behind e in
+    let same = head-of (record { number = i; kind = kind; contents = cells_of s }) z (unit_sections_from (suc i) ss) behind e in
     let number : i ≡ z.number = ap (λ (y : UnitSection). y.number) same in
-    ap (λ (b : Bool). if b then Some (record { number = i; kind = kind; contents = cells_in s.contents }) else numbered (unit_sections_from (suc i) ss) z.number)
+    ap (λ (b : Bool). if b then Some (record { number = i; kind = kind; contents = cells_of s }) else numbered (unit_sections_from (suc i) ss) z.number)
     (eq-eqb i z.number number) ∙ ap Some same
 one-numbered i s ss (y ∷ ys) behind z true (Some kind) further e =
-    let rest = further ys (tail-of (record { number = i; kind = kind; contents = cells_in s.contents }) y (unit_sections_from (suc i) ss) (ys ++ z ∷ behind) e) in
+    let rest = further ys (tail-of (record { number = i; kind = kind; contents = cells_of s }) y (unit_sections_from (suc i) ss) (ys ++ z ∷ behind) e) in
     let above : suc i ≤ z.number = numbered-above (suc i) ss z.number z rest in
-    ap (λ (b : Bool). if b then Some (record { number = i; kind = kind; contents = cells_in s.contents }) else numbered (unit_sections_from (suc i) ss) z.number)
+    ap (λ (b : Bool). if b then Some (record { number = i; kind = kind; contents = cells_of s }) else numbered (unit_sections_from (suc i) ss) z.number)
     (ne_eqb i z.number (λ same. omega (arith, above, same))) ∙ rest
 
 numbered-in : (i : ℕ) (ss : List ViewSection) (before behind : List UnitSection) (z : UnitSection) → unit_sections_from i ss ≡ before ++ z ∷ behind
@@ -128,7 +128,7 @@ unit-of-view v h u =
       ends = facts.ends;
       within = omega (arith, within, length-contents v h.section (unit_section_at v h.section) of);
       address = facts.address;
-      bytes = ap (take h.end) (sym (ap bytes_of of.contents ∙ bytes_of-plain (section_bytes v h.section)));
+      bytes = ap (take h.end) (sym (ap bytes_of of.contents ∙ bytes_of-view_cells v h.section));
     }
 
 -- no entry was given before the first

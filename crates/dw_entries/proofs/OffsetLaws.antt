@@ -1,9 +1,8 @@
 -- What the code reads of a header, in the words of its section.
-use Rattle.std.proofs.Common.{◌≡◌, ℕ, zero, suc, ◌+◌, ◌≤◌, ◌==◌, if◌then◌else◌, List, [], ◌∷◌, length, take, drop, Option, None, refl, sym, ap, ◌∙◌, arith}
-use Rattle.std.proofs.lemmas.List.{length-take, length-drop}
-use Rattle.dw_base.specs.Cells.{Cell, bytes_of, plain_cells, cells_at, offset_into, offset_of}
+use Rattle.std.proofs.Common.{◌≡◌, ℕ, ◌+◌, ◌<◌, ◌≤◌, ◌==◌, if◌then◌else◌, List, length, drop, Option, refl, sym, ap, ◌∙◌, arith}
+use Rattle.dw_base.specs.Cells.{Cell, bytes_of, cells_at, field_of, offset_into, offset_of}
 use Rattle.dw_base.specs.DebugSections.{name_of}
-use Rattle.dw_base.specs.FileViews.{View, section_bytes, section_named, field_at}
+use Rattle.dw_base.specs.FileViews.{View, section_bytes, section_named, field_at, view_cells}
 use Rattle.dw_base.specs.Forms.{width_size}
 use Rattle.dw_base.specs.Numbers.{spelled}
 use Rattle.dw_base.specs.UnitFails.{bytes_from}
@@ -14,64 +13,30 @@ use Rattle.dw_base.specs.declared.dwarf_numbers.TheConstants.{DW_UT_type}
 use Rattle.dw_base.specs.declared.shared.Order.{Order}
 use Rattle.dw_base.specs.declared.shared.Width.{Width}
 use Rattle.dw_base.specs.declared.view_fields.Field.{Field}
-use Rattle.dw_base.proofs.NumberLaws.{spelled-take, spelled-drop}
-use Rattle.dw_base.proofs.PlainCellLaws.{bytes_of-plain, plain_cells-plain, length-plain_cells, offset_of-plain}
+use Rattle.dw_base.proofs.RelocationFieldLaws.{bytes_of-drop}
+use Rattle.dw_base.proofs.ViewCellLaws.{bytes_of-view_cells, field_at-behind, length-view_cells}
 use Rattle.dw_entries.specs.Fronts.{IsOfView}
 use Rattle.dw_entries.specs.ViewUnits.{unit_base}
 use Rattle.dw_entries.proofs.FrontLaws.{number-read}
 
--- parts of plain cells are those of the bytes
-pub drop-plain_cells : (n : ℕ) (bs : List ℕ) → drop n (plain_cells bs) ≡ plain_cells (drop n bs)
-drop-plain_cells zero bs = refl
-drop-plain_cells (suc n) [] = refl
-drop-plain_cells (suc n) (b ∷ bs) = drop-plain_cells n bs
-
-pub take-plain_cells : (n : ℕ) (bs : List ℕ) → take n (plain_cells bs) ≡ plain_cells (take n bs)
-take-plain_cells zero bs = refl
-take-plain_cells (suc n) [] = refl
-take-plain_cells (suc n) (b ∷ bs) = ap (λ (cs : List Cell). record { byte = b; relocation = None } ∷ cs) (take-plain_cells n bs)
-
 -- the bytes of a unit section from a place on are the section's
 pub bytes-from : (v : View) (i start : ℕ) (z : UnitSection) → IsOfView v i z → bytes_from z start ≡ drop start (section_bytes v i)
 bytes-from v i start z is =
-    ap (λ (cs : List Cell). bytes_of (drop start cs)) is.contents ∙ ap bytes_of (drop-plain_cells start (section_bytes v i)) ∙ bytes_of-plain (drop start (section_bytes v i))
+    ap (λ (cs : List Cell). bytes_of (drop start cs)) is.contents ∙ bytes_of-drop start (view_cells v i) ∙ ap (drop start) (bytes_of-view_cells v i)
 
 pub length-contents : (v : View) (i : ℕ) (z : UnitSection) → IsOfView v i z → length z.contents ≡ length (section_bytes v i)
-length-contents v i z is = ap length is.contents ∙ length-plain_cells (section_bytes v i)
+length-contents v i z is = ap length is.contents ∙ length-view_cells v i
 
-cells-there : (v : View) (i start place n : ℕ) (z : UnitSection) → IsOfView v i z
-    → cells_at (drop start z.contents) place n ≡ plain_cells (take n (drop place (drop start (section_bytes v i))))
-cells-there v i start place n z is =
-    ap (λ (cs : List Cell). cells_at (drop start cs) place n) is.contents
-    ∙ ap (λ (cs : List Cell). cells_at cs place n) (drop-plain_cells start (section_bytes v i))
-    ∙ ap (take n) (drop-plain_cells place (drop start (section_bytes v i)))
-    ∙ take-plain_cells n (drop place (drop start (section_bytes v i)))
-
--- the offset in a field is the number that the view reads there
-number-there : (order : Order) (bytes : List ℕ) (start place n : ℕ) → start + place + n ≤ length bytes
-    → spelled order (take n (drop place (drop start bytes))) 0 (length (take n (drop place (drop start bytes)))) ≡ spelled order bytes (start + place) n
-number-there order bytes start place n inside =
-    let whole : length (take n (drop place (drop start bytes))) ≡ n =
-    omega (arith, inside, length-take n (drop place (drop start bytes)), length-drop place (drop start bytes), length-drop start bytes) in
-    ap (spelled order (take n (drop place (drop start bytes))) 0) whole
-    ∙ spelled-take order (drop place (drop start bytes)) n 0 n (omega arith)
-    ∙ spelled-drop order (drop start bytes) place 0 n ∙ spelled-drop order bytes start (place + 0) n
-    ∙ ap (λ (k : ℕ). spelled order bytes k n) (omega arith)
-
+-- the offset in a field is the one that the view reads there
 pub offset-read : (v : View) (i start place n at x : ℕ) (z : UnitSection) (f : Field) → f ≡ field_at v i at n → x ≡ offset_into (unit_base v).abbrevs f → IsOfView v i z
-    → at ≡ start + place → start + place + n ≤ length (section_bytes v i)
+    → at ≡ start + place → 0 < n → start + place + n ≤ length (section_bytes v i)
     → x ≡ offset_of (unit_base v).order (unit_base v).abbrevs (cells_at (drop start z.contents) place n)
-unfolding field_at debug_data
-offset-read v i start place n at x z f f_is x_is is at_is inside =
-    let p : List Cell = plain_cells (take n (drop place (drop start (section_bytes v i)))) in
-    x_is ∙ ap (offset_into (located v Abbrev)) f_is ∙ ap (λ (k : ℕ). spelled v.order (section_bytes v i) k n) at_is
-    ∙ sym (offset_of-plain v.order (located v Abbrev) (plain_cells (take n (drop place (drop start (section_bytes v i)))))
-    (plain_cells-plain (take n (drop place (drop start (section_bytes v i)))))
-    ∙ ap (λ (bs : List ℕ). spelled v.order bs 0 (length (plain_cells (take n (drop place (drop start (section_bytes v i)))))))
-    (bytes_of-plain (take n (drop place (drop start (section_bytes v i)))))
-    ∙ ap (spelled v.order (take n (drop place (drop start (section_bytes v i)))) 0) (length-plain_cells (take n (drop place (drop start (section_bytes v i)))))
-    ∙ number-there v.order (section_bytes v i) start place n inside)
-    ∙ ap (offset_of v.order (located v Abbrev)) (sym (cells-there v i start place n z is))
+unfolding debug_data offset_of
+offset-read v i start place n at x z f f_is x_is is at_is some inside =
+    x_is
+    ∙ ap (offset_into (located v Abbrev))
+    (f_is ∙ ap (λ (k : ℕ). field_at v i k n) at_is ∙ sym (field_at-behind v i start place n some inside)
+    ∙ ap (λ (cs : List Cell). field_of v.order (cells_at (drop start cs) place n)) (sym is.contents))
 
 pub ruleset offset_rules = (offset-read)
 

@@ -5,12 +5,11 @@ use Rattle.std.specs.Bool.{⊤}
 use Rattle.std.proofs.lemmas.Bool.{and_parts, leb-true, cases_eq}
 use Rattle.std.proofs.lemmas.Bool.Decides.{nat_tests}
 use Rattle.std.proofs.lemmas.List.{drop-drop, map-append}
-use Rattle.dw_base.specs.DebugData.{DebugData}
 use Rattle.dw_base.specs.DebugSections.{debug_section, name_of}
-use Rattle.dw_base.specs.FileViews.{View, ViewSection, is_filled, first_filled, section_after, section_named}
+use Rattle.dw_base.specs.FileViews.{View, ViewSection, is_filled, first_filled, section_after, section_named, cells_of}
 use Rattle.dw_base.specs.Texts.{same_text}
 use Rattle.dw_base.specs.UnitHeaders.{UnitSection, SectionKind, in_info, in_types}
-use Rattle.dw_base.specs.ViewData.{cells_in, unit_kind, unit_section, unit_sections_from, unit_sections, debug_data}
+use Rattle.dw_base.specs.ViewData.{unit_kind, unit_section, unit_sections_from, unit_sections, debug_data}
 use Rattle.dw_base.specs.declared.debug_sections.DebugSection.{DebugSection}
 use Rattle.dw_base.specs.declared.debug_sections.DebugSection.TheVariants.{Info, Types, Abbrev, Str, LineStr, StrOffsets, Line, Macro, Names}
 use Rattle.dw_base.proofs.DebugSectionLaws.{debug_section-name, debug_section-named}
@@ -23,11 +22,11 @@ use Rattle.dw_entries.specs.SectionOrder.{first_of, known_after, EachSection, Ar
 
 -- a section of one of the two names is a unit section
 one-unit : (i : ℕ) (s : ViewSection) (kind : SectionKind) (has : Bool) (found : Option SectionKind) → has ≡ true → found ≡ Some kind
-    → (if has then unit_section i s found else []) ≡ record { number = i; kind = kind; contents = cells_in s.contents } ∷ []
+    → (if has then unit_section i s found else []) ≡ record { number = i; kind = kind; contents = cells_of s } ∷ []
 one-unit i s kind has found h e = rw (h, e) refl
 
 filled-unit : (i : ℕ) (s : ViewSection) (x : DebugSection) (kind : SectionKind) → unit_kind (Some x) ≡ Some kind → is_filled (name_of x) s ≡ true
-    → (if s.has_bytes then unit_section i s (unit_kind (debug_section s.name)) else []) ≡ record { number = i; kind = kind; contents = cells_in s.contents } ∷ []
+    → (if s.has_bytes then unit_section i s (unit_kind (debug_section s.name)) else []) ≡ record { number = i; kind = kind; contents = cells_of s } ∷ []
 filled-unit i s x kind k is =
     let parts = and_parts s.has_bytes (same_text s.name (name_of x)) is in
     one-unit i s kind s.has_bytes (unit_kind (debug_section s.name)) parts.0
@@ -108,9 +107,9 @@ Nexts secs i ss (Some n) = NextSection secs i ss n
 next-here : (secs : List ViewSection) (i : ℕ) (s : ViewSection) (ss : List ViewSection) (x : DebugSection) (kind : SectionKind) → unit_kind (Some x) ≡ Some kind
     → is_filled (name_of x) s ≡ true → ss ≡ drop (suc i) secs → NextSection secs i (s ∷ ss) i
 next-here secs i s ss x kind k is rest = record {
-  section = record { number = i; kind = kind; contents = cells_in s.contents };
+  section = record { number = i; kind = kind; contents = cells_of s };
   is = ap (λ (zs : List UnitSection). zs ++ unit_sections_from (suc i) ss) (filled-unit i s x kind k is)
-      ∙ ap (λ (ts : List ViewSection). record { number = i; kind = kind; contents = cells_in s.contents } ∷ unit_sections_from (suc i) ts) rest;
+      ∙ ap (λ (ts : List ViewSection). record { number = i; kind = kind; contents = cells_of s } ∷ unit_sections_from (suc i) ts) rest;
   number = refl;
   above = omega arith;
 }

@@ -2,17 +2,17 @@
 use Rattle.std.proofs.Common.{Bool, true, false, ◌≡◌, ℕ, zero, suc, ◌+◌, ◌-◌, ◌≤◌, ◌<◌, ◌==◌, ◌&&◌, if◌then◌else◌, List, [], ◌∷◌, ◌++◌, length, drop, Option, Some, None, refl, sym, ap, ◌∙◌, arith}
 use Rattle.std.proofs.lemmas.Bool.{eqb-true}
 use Rattle.std.proofs.lemmas.List.{drop-drop}
-use Rattle.dw_base.specs.Cells.{plain_cells}
 use Rattle.dw_base.specs.DebugSections.{debug_section, name_of}
-use Rattle.dw_base.specs.FileViews.{View, ViewSection, contents_in, section_bytes, first_filled, section_after}
+use Rattle.dw_base.specs.FileViews.{View, ViewSection, cells_of, first_filled, section_after}
 use Rattle.dw_base.specs.Texts.{same_text}
 use Rattle.dw_base.specs.UnitHeaders.{UnitSection, SectionKind, in_info, in_types}
-use Rattle.dw_base.specs.ViewData.{cells_in, unit_kind, unit_section, unit_sections_from, unit_sections}
+use Rattle.dw_base.specs.ViewData.{unit_kind, unit_section, unit_sections_from, unit_sections}
 use Rattle.dw_base.specs.declared.debug_sections.DebugSection.{DebugSection}
 use Rattle.dw_base.specs.declared.debug_sections.DebugSection.TheVariants.{Info, Types, Abbrev, Str, LineStr, StrOffsets, Line, Macro, Names}
 use Rattle.dw_base.proofs.DebugSectionLaws.{debug_section-name, debug_section-named}
 use Rattle.dw_base.proofs.FileViewLaws.{section_after-within}
 use Rattle.dw_base.proofs.TextLaws.{same_text-true, same_text-refl}
+use Rattle.dw_base.proofs.ViewCellLaws.{view_cells-there}
 use Rattle.dw_entries.specs.Fronts.{IsOfView}
 use Rattle.dw_entries.specs.ViewUnits.{numbered, unit_section_at, IsUnitSection}
 
@@ -24,7 +24,7 @@ record Placed (ss : List ViewSection) (k n : ℕ) (z : UnitSection) : Type 0 whe
   has : section.has_bytes ≡ true
   kind : unit_kind (debug_section section.name) ≡ Some z.kind
   number : z.number ≡ n
-  contents : z.contents ≡ cells_in section.contents
+  contents : z.contents ≡ cells_of section
 
 -- and how many behind the first it is
 record PlacedFrom (i : ℕ) (ss : List ViewSection) (n : ℕ) (z : UnitSection) : Type 0 where
@@ -50,10 +50,10 @@ one-placed i s ss n z true None h k further e = further e
 one-placed i s ss n z true (Some kind) h k further e = by_number (i == n) refl e
   where
     by_number : (b : Bool) → (i == n) ≡ b
-        → (if b then Some (record { number = i; kind = kind; contents = cells_in s.contents }) else numbered (unit_sections_from (suc i) ss) n) ≡ Some z
+        → (if b then Some (record { number = i; kind = kind; contents = cells_of s }) else numbered (unit_sections_from (suc i) ss) n) ≡ Some z
         → PlacedFrom i (s ∷ ss) n z
     by_number true same e =
-        let z_is : record { number = i; kind = kind; contents = cells_in s.contents } ≡ z = cc in
+        let z_is : record { number = i; kind = kind; contents = cells_of s } ≡ z = cc in
         let at : i ≡ n = eqb-true i n same in
         record {
           index = 0;
@@ -82,13 +82,7 @@ numbered-above i ss n z e =
     let at : n ≡ i + p.index = p.at in
     omega (arith, at)
 
--- the contents of a section, and that it is there
-contents-there : (ss : List ViewSection) (n : ℕ) (s : ViewSection) (rest : List ViewSection) → drop n ss ≡ s ∷ rest → contents_in ss n ≡ s.contents
-contents-there [] zero s rest e = absurd cc
-contents-there [] (suc n) s rest e = absurd cc
-contents-there (x ∷ xs) zero s rest e = ap (λ (ys : List ViewSection). contents_in ys 0) e
-contents-there (x ∷ xs) (suc n) s rest e = contents-there xs n s rest e
-
+-- a section that stands at a place is one of the list
 drop-below : (ss : List ViewSection) (n : ℕ) (s : ViewSection) (rest : List ViewSection) → drop n ss ≡ s ∷ rest → n < length ss
 drop-below [] zero s rest e = absurd cc
 drop-below [] (suc n) s rest e = absurd cc
@@ -104,7 +98,7 @@ pub record FoundSection (v : View) (n : ℕ) (z : UnitSection) : Type 0 where
   pub has : section.has_bytes ≡ true
   pub kind : unit_kind (debug_section section.name) ≡ Some z.kind
   pub number : z.number ≡ n
-  pub contents : z.contents ≡ cells_in section.contents
+  pub contents : z.contents ≡ cells_of section
 
 pub found-section : (v : View) (n : ℕ) (z : UnitSection) → numbered (unit_sections v) n ≡ Some z → FoundSection v n z
 unfolding unit_sections
@@ -123,13 +117,12 @@ found-section v n z e =
     }
 
 pub of-view : (v : View) (n : ℕ) (z : UnitSection) → numbered (unit_sections v) n ≡ Some z → IsOfView v n z
-unfolding section_bytes
 of-view v n z e =
     let f = found-section v n z e in
     record {
       there = drop-below v.sections n f.section f.rest f.there;
       number = f.number;
-      contents = f.contents ∙ ap plain_cells (sym (contents-there v.sections n f.section f.rest f.there));
+      contents = f.contents ∙ sym (view_cells-there v n f.section f.rest f.there);
     }
 
 pub is-of-view : (v : View) (n : ℕ) → IsUnitSection v n → IsOfView v n (unit_section_at v n)

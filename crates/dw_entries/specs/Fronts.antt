@@ -1,7 +1,6 @@
 -- What a view says of a unit section, and what stands at the front of a unit (DWARF 5, 7.5.1).
 use Rattle.std.specs.Prelude.{true, false, ◌≡◌, ℕ, ◌+◌, ◌<◌, ◌≤◌, length, Some}
-use Rattle.dw_base.specs.Cells.{plain_cells}
-use Rattle.dw_base.specs.FileViews.{View, section_bytes}
+use Rattle.dw_base.specs.FileViews.{View, view_cells}
 use Rattle.dw_base.specs.Lebs.{initial_length_at}
 use Rattle.dw_base.specs.Numbers.{spelled}
 use Rattle.dw_base.specs.UnitFails.{bytes_from}
@@ -12,7 +11,7 @@ use Rattle.dw_base.specs.declared.shared.Width.{Width}
 pub record IsOfView (v : View) (i : ℕ) (z : UnitSection) : Type 0 where
   pub there : i < length v.sections
   pub number : z.number ≡ i
-  pub contents : z.contents ≡ plain_cells (section_bytes v i)
+  pub contents : z.contents ≡ view_cells v i
 
 -- the first fields of a unit that starts at a place, from its length on; they and what follows them up to its first entry are
 -- in the unit, and it is in the section
