@@ -1,9 +1,9 @@
 -- From name tables that were read one after another to the pieces of the section.
 use Rattle.std.proofs.Common.{true, ◌≡◌, ◌<◌, ◌∷◌, Option, None, ℕ, zero, suc, ◌+◌, ◌-◌, ◌*◌, ◌≤◌, List, [], ◌++◌, length, take, drop, Some, refl, sym, ap, ◌∙◌, subst, arith, append_assoc}
 use Rattle.std.proofs.lemmas.List.{append-nil, drop_all, drop-drop, take-append-drop}
-use Rattle.dw_base.specs.Cells.{Cell, bytes_of, plain_cells, offset_of, offset_into}
+use Rattle.dw_base.specs.Cells.{Cell, bytes_of, cells_at, plain_cells, offset_of, offset_into}
 use Rattle.dw_base.specs.DebugSections.{name_of}
-use Rattle.dw_base.specs.FileViews.{View, field_at, section_bytes, section_named}
+use Rattle.dw_base.specs.FileViews.{View, field_at, section_bytes, section_named, view_cells}
 use Rattle.dw_base.specs.Forms.{width_size}
 use Rattle.dw_base.specs.Lebs.{initial_length_at}
 use Rattle.dw_base.specs.Numbers.{spelled}
@@ -22,7 +22,7 @@ use Rattle.dw_base.specs.Texts.{ends_in}
 use Rattle.dw_base.specs.ViewData.{located, located_at}
 use Rattle.dw_base.specs.declared.debug_sections.DebugSection.TheVariants.{Names}
 use Rattle.dw_base.proofs.NameBackLaws.{StringNamesBy}
-use Rattle.dw_base.proofs.PlainCellLaws.{IsPlain, plain-parts, plain_cells-plain, bytes_of-plain, offset_of-plain}
+use Rattle.dw_base.proofs.ViewCellLaws.{bytes_of-view_cells, length-view_cells, offset_at-cells}
 use Rattle.dw_offsets.proofs.OffsetPieceLaws.{header-length}
 use Rattle.dw_base.proofs.RunLaws.{leads-chain, part-bytes, part-length}
 
@@ -166,27 +166,21 @@ text-one v cells s t a n fits next names = record {
   each = (names, tt);
 }
 
--- plain cells, with the bytes of a section of a view
+-- the contents of a section of a view
 record IsSection (v : View) (section : ℕ) (cells : List Cell) : Type 0 where
-  plain : IsPlain cells
-  bytes : bytes_of cells ≡ section_bytes v section
-
-part-plain : (n a : ℕ) (cells : List Cell) → IsPlain cells → IsPlain (take n (drop a cells))
-part-plain n a cells plain =
-    let behind : IsPlain (drop a cells) = (plain-parts (take a cells) (drop a cells) (subst IsPlain (sym (take-append-drop a cells)) plain)).1 in
-    (plain-parts (take n (drop a cells)) (drop n (drop a cells)) (subst IsPlain (sym (take-append-drop n (drop a cells))) behind)).0
+  same : cells ≡ view_cells v section
 
 -- the offset in a part is that of the field at its place
-part-offset : (v : View) (section : ℕ) (cells : List Cell) (n a : ℕ) → IsSection v section cells → a + n ≤ length cells
+part-offset : (v : View) (section : ℕ) (cells : List Cell) (n a : ℕ) → IsSection v section cells → 0 < n → a + n ≤ length cells
     → offset_of v.order (texts_in v) (take n (drop a cells)) ≡ offset_into (texts_in v) (field_at v section a n)
-unfolding field_at
-part-offset v section cells n a is inside =
-    let place : a + 0 ≡ a = omega arith in
-    offset_of-plain v.order (texts_in v) (take n (drop a cells)) (part-plain n a cells is.plain)
-    ∙ ap (spelled v.order (bytes_of (take n (drop a cells))) 0) (part-length n a cells inside)
-    ∙ ap (λ (bs : List ℕ). spelled v.order bs 0 n) (part-bytes n a cells) ∙ spelled-take v.order (drop a (bytes_of cells)) n 0 n (omega arith)
-    ∙ spelled-drop v.order (bytes_of cells) a 0 n ∙ ap (λ (i : ℕ). spelled v.order (bytes_of cells) i n) place
-    ∙ ap (λ (bs : List ℕ). spelled v.order bs a n) is.bytes
+part-offset v section cells n a is some inside =
+    let whole : length cells ≡ length (section_bytes v section) = ap length is.same ∙ length-view_cells v section in
+    ap (λ (cs : List Cell). offset_of v.order (texts_in v) (cells_at cs a n)) is.same
+    ∙ offset_at-cells v (texts_in v) section a n some (omega (arith, inside, whole))
+
+width-some : (w : Width) → 0 < width_size w
+width-some W32 = omega arith
+width-some W64 = omega arith
 
 -- string offsets from a place on name texts
 abbrev NameFrom : View → ℕ → Width → ℕ → ℕ → Type 0
@@ -221,7 +215,7 @@ strings-run v section cells w (suc k) place end is names fits inside =
     ap (λ (b : ℕ). before_strings_of (length cells) (place + b) w k end) size in
     let first : place + 0 * width_size w ≡ place = omega arith in
     let ends : ends_in (texts_in v).bytes (offset_of v.order (texts_in v) (take (width_size w) (drop place cells))) ≡ true =
-    ap (ends_in (texts_in v).bytes) (part-offset v section cells (width_size w) place is whole)
+    ap (ends_in (texts_in v).bytes) (part-offset v section cells (width_size w) place is (width-some w) whole)
     ∙ ap (λ (p : ℕ). ends_in (texts_in v).bytes (offset_into (texts_in v) (field_at v section p (width_size w)))) (sym first) ∙ names 0 (omega arith) in
     let one = text-one v cells (names_at (length cells) place (at_string w k end)) (before_strings_of (length cells) (place + width_size w) w k end) place (width_size w)
     (record { size = size; before = omega (arith, size, room) }) next ends in
@@ -298,8 +292,8 @@ names-by : (v : View) (o : Option ℕ) (list : List NameTable) → TablesUpTo v 
     → NamesRead v (plain_cells (located_at v o).bytes)
 names-by v None list u = record { pieces = []; reads = record { chain = record { mode = refl; place = refl }; cells = refl }; texts = tt }
 names-by v (Some i) list u =
-    let bytes : bytes_of (plain_cells (section_bytes v i)) ≡ section_bytes v i = bytes_of-plain (section_bytes v i) in
-    tables-read v i (plain_cells (section_bytes v i)) list (record { plain = plain_cells-plain (section_bytes v i); bytes = bytes })
+    let bytes : bytes_of (view_cells v i) ≡ section_bytes v i = bytes_of-view_cells v i in
+    tables-read v i (view_cells v i) list (record { same = refl })
     (subst (λ (bs : List ℕ). TablesUpTo v i bs list (length bs)) (sym bytes) u)
 
 pub names-read : (v : View) (list : List NameTable) → AreNameTables v list → NamesRead v (plain_cells (names_of v).bytes)
