@@ -13,7 +13,7 @@ use Rattle.dw_base.specs.TableStarts.{HasStartForm, macro_value_by, macro_value_
 use Rattle.dw_base.specs.Texts.{ends_in, laid_texts}
 use Rattle.dw_base.specs.MappedSlots.{unit_slots, mapped_slots}
 use Rattle.dw_base.specs.MappedUnits.{mapped_unit, mapped_units}
-use Rattle.dw_base.specs.NamePieces.{NameState, at_table, names_at}
+use Rattle.dw_base.specs.NamePieces.{NameState}
 use Rattle.dw_base.specs.OffsetPieces.{OffsetState, at_contribution, offsets_at}
 use Rattle.dw_base.specs.Paths.{PathMap, IsPathMap}
 use Rattle.dw_base.specs.Pieces.{Piece, joined, Chain, EachPiece}
@@ -42,10 +42,10 @@ use Rattle.dw_meaning.proofs.IndexTextLaws.{IsApart, texts-apart, slots-move}
 use Rattle.dw_meaning.proofs.LineColumnLaws.{edited_source, Grows}
 use Rattle.dw_meaning.proofs.LinePathLaws.{BothMove}
 use Rattle.dw_meaning.proofs.LineSectionLaws.{EachCan, LinesMoved, TablesApart, section-moved}
-use Rattle.dw_meaning.proofs.MacroEditLaws.{AllMacrosChanged, edited_macro_sections, all-macros-read, all-starts, same-first, all-macros-kept, all-macros-named, all-imports, AllPlain, macros-edited}
-use Rattle.dw_meaning.proofs.OffsetMoveLaws.{RolesChanged, cells-plain, offsets-can, names-can, roles-length, names-becomes, roles-named, offsets-reads, names-reads}
+use Rattle.dw_meaning.proofs.MacroEditLaws.{AllMacrosChanged, edited_macro_sections, all-macros-read, all-starts, same-first, all-macros-kept, all-macros-named, all-imports, macros-edited}
+use Rattle.dw_meaning.proofs.OffsetMoveLaws.{RolesChanged, roles-length, names-becomes, roles-named, offsets-reads, names-reads}
 use Rattle.dw_meaning.proofs.SlotMeaningLaws.{units-slots}
-use Rattle.dw_meaning.proofs.TextEditLaws.{appending-keeps, LinesMove, TablesMove, TextsAre, behind_piece, PlainPiece, SlotMoves, edited-changed, roles-changed, shift_of, moved_table}
+use Rattle.dw_meaning.proofs.TextEditLaws.{CanMove, appending-keeps, LinesMove, TablesMove, TextsAre, behind_piece, Moves, PlainPiece, pieces-move, SlotMoves, edited-changed, roles-changed, shift_of, moved_table}
 use Rattle.dw_meaning.proofs.UnitMeaningLaws.{units-changed}
 
 -- pieces after a change are as long
@@ -127,11 +127,11 @@ AllReadingsChanged c (x ∷ xs) (y ∷ ys) = (y.number ≡ x.number) × UnitsCha
 -- the text law, for all sections
 readings-edited : (base : UnitBase) (c : TableChanges) (around : Around) (ts us : List (List ℕ)) (first : ℕ) (zs : List UnitSection) (rs : Readings) (ms ns : List Mention)
     → TablesMove c around → TextsAre c ts us (all_mentions in_str around rs ++ ms) (all_mentions in_line_str around rs ++ ns) → ReadsAll base first zs rs
-    → EachReading PlainPiece rs → EachReading (NamesText around) rs → EachReading (InlineFits c.map) rs → EachReading (SlotMoves (shift_of c around)) rs
+    → EachReading (Moves around) rs → EachReading (NamesText around) rs → EachReading (InlineFits c.map) rs → EachReading (SlotMoves (shift_of c around)) rs
     → AllReadingsChanged (shift_of c around) rs (edited_readings c around rs)
-readings-edited base c around ts us first zs [] ms ns t all reads plain names fits slots = tt
-readings-edited base c around ts us first [] (r ∷ rs) ms ns t all reads plain names fits slots = absurd reads
-readings-edited base c around ts us first (z ∷ zs) (r ∷ rs) ms ns t all reads plain names fits slots =
+readings-edited base c around ts us first zs [] ms ns t all reads moves names fits slots = tt
+readings-edited base c around ts us first [] (r ∷ rs) ms ns t all reads moves names fits slots = absurd reads
+readings-edited base c around ts us first (z ∷ zs) (r ∷ rs) ms ns t all reads moves names fits slots =
     let heres : List Mention = mentions_of in_str around r.pieces in
     let lines : List Mention = mentions_of in_line_str around r.pieces in
     let rest : TextsAre c ts us (heres ++ (all_mentions in_str around rs ++ ms)) (lines ++ (all_mentions in_line_str around rs ++ ns)) =
@@ -141,10 +141,10 @@ readings-edited base c around ts us first (z ∷ zs) (r ∷ rs) ms ns t all read
     } in (
       refl,
       edited-changed base c around ts us (before_unit z.number z.kind (length z.contents) 0 first) r.pieces (all_mentions in_str around rs ++ ms)
-          (all_mentions in_line_str around rs ++ ns) t rest reads.1.chain plain.0 names.0 fits.0 slots.0,
+          (all_mentions in_line_str around rs ++ ns) t rest reads.1.chain moves.0 names.0 fits.0 slots.0,
       readings-edited base c around (texts_after c.str.plan c.map ts heres) (texts_after c.line_str.plan c.map us lines) (first + units_in r.pieces) zs rs ms ns t
           (behind_piece c ts us heres lines (all_mentions in_str around rs ++ ms) (all_mentions in_line_str around rs ++ ns) rest)
-          reads.2 plain.1 names.1 fits.1 slots.1,
+          reads.2 moves.1 names.1 fits.1 slots.1,
     )
 
 -- the texts behind the mentions of all unit sections
@@ -221,6 +221,10 @@ readings-plain base first (z ∷ zs) (r ∷ rs) reads plain = (
   readings-plain base (first + units_in r.pieces) zs rs reads.2 plain.1,
 )
 
+pub readings-move : (around : Around) (rs : Readings) → EachReading PlainPiece rs → EachReading (Moves around) rs
+readings-move around [] h = tt
+readings-move around (r ∷ rs) h = (pieces-move around r.pieces h.0, readings-move around rs h.1)
+
 -- the readings with these changes, and with new readings of line tables
 abbrev pub edited_reads : TableChanges → DebugData → DataReadings → List LineReading → DataReadings
 edited_reads c d r ls = record {
@@ -244,15 +248,16 @@ edited_data c d r = record {
   names = record { number = d.names.number; contents = joined (names_after c (around_of d r) r) };
 }
 
--- debug data that can be read, of plain cells, whose paths and slots can be mapped, and tables that stay small
+-- debug data that can be read, whose fields can have each offset that fits them, whose paths and slots can be mapped, and tables that stay
+-- small
 pub record DataMoves (m : PathMap) (d : DebugData) (r : DataReadings) : Type 0 where
   pub map : IsPathMap m
   pub reads : DataReads d r
   pub fits : DataFits m d r
-  pub plain : EachPlain d.units
-  pub offsets_plain : IsPlain d.offsets.contents
-  pub macros_plain : AllPlain d.macros
-  pub names_plain : IsPlain d.names.contents
+  pub units_move : EachReading (Moves (around_of d r)) r.units
+  pub slots_move : EachPiece (λ x. CanMove (slot_role (path_slots (around_of d r)) x.state) (around_of d r) x.cells) r.offsets
+  pub macros_move : EachMacro (λ x. CanMove (macro_role x.state) (around_of d r) x.cells) r.macros
+  pub names_move : EachPiece (λ x. CanMove (name_role x.state) (around_of d r) x.cells) r.names
   pub str : length (new_table (table_change m in_str (around_of d r) r).plan (table_change m in_str (around_of d r) r).texts) ≤ 2 ^ 32
   pub line_str : length (new_table (table_change m in_line_str (around_of d r) r).plan (table_change m in_line_str (around_of d r) r).texts) ≤ 2 ^ 32
   pub lines : length (all_lines (new_lines m (around_of d r) r)) ≤ 2 ^ 32
@@ -393,7 +398,7 @@ units-changed-all m d r w =
     readings-edited d.base (changes_of m (around_of d r) r) (around_of d r) [] [] 0 d.units r.units
     (behind_units_in in_str d r)
     (behind_units_in in_line_str d r)
-    (tables-move m d r w) (texts-are m d r) w.reads.units (readings-plain d.base 0 d.units r.units w.reads.units w.plain) w.reads.texts w.fits.inline
+    (tables-move m d r w) (texts-are m d r) w.reads.units w.units_move w.reads.texts w.fits.inline
     (slots-move (changes_of m (around_of d r) r) (around_of d r) r.units (mapped_path-none m w.map) (data-apart m d r w) refl)
 
 -- string offsets and name tables, changed
@@ -402,10 +407,7 @@ offsets-changed : (m : PathMap) (d : DebugData) (r : DataReadings) → DataMoves
 offsets-changed m d r w =
     roles-changed (slot_role (path_slots (around_of d r))) (changes_of m (around_of d r) r) (around_of d r)
     (units_texts m in_str d r) (units_texts m in_line_str d r) r.offsets (behind_slots_in in_str d r) (behind_slots_in in_line_str d r)
-    (tables-move m d r w) (behind-units m d r)
-    (offsets-can (path_slots (around_of d r)) (around_of d r) d.base.order (offsets_at (length d.offsets.contents) 0 0 at_contribution) r.offsets w.reads.offsets.chain
-    (cells-plain r.offsets (subst IsPlain (sym w.reads.offsets.cells) w.offsets_plain)))
-    w.reads.slot_texts
+    (tables-move m d r w) (behind-units m d r) w.slots_move w.reads.slot_texts
 
 names-changed-all : (m : PathMap) (d : DebugData) (r : DataReadings) → DataMoves m d r
     → RolesChanged name_role (data_shift m d r) r.names (names_after (changes_of m (around_of d r) r) (around_of d r) r)
@@ -417,16 +419,14 @@ names-changed-all m d r w =
       str = all.str ∙ ap (texts_after (changes_of m (around_of d r) r).str.plan m (macros_texts m in_str d r)) (sym (append-nil (names_in in_str d r)));
       line_str = all.line_str ∙ ap (texts_after (changes_of m (around_of d r) r).line_str.plan m (macros_texts m in_line_str d r)) (sym (append-nil (names_in in_line_str d r)));
     })
-    (names-can (around_of d r) d.base.order (names_at (length d.names.contents) 0 at_table) r.names w.reads.names.chain
-    (cells-plain r.names (subst IsPlain (sym w.reads.names.cells) w.names_plain)))
-    w.reads.name_texts
+    w.names_move w.reads.name_texts
 
 -- macro units, changed
 pub macros-changed-all : (m : PathMap) (d : DebugData) (r : DataReadings) → DataMoves m d r
     → AllMacrosChanged (data_shift m d r) r.macros (macros_after (changes_of m (around_of d r) r) (around_of d r) r)
 macros-changed-all m d r w =
     macros-edited d.base.order (changes_of m (around_of d r) r) (around_of d r) (lines_texts m in_str d r) (lines_texts m in_line_str d r) d.macros r.macros
-    (names_in in_str d r) (names_in in_line_str d r) (tables-move m d r w) (behind-lines m d r) w.reads.macros w.macros_plain w.reads.macro_texts
+    (names_in in_str d r) (names_in in_line_str d r) (tables-move m d r w) (behind-lines m d r) w.reads.macros w.macros_move w.reads.macro_texts
 
 -- which slots values by index name is as it was
 all-bases : (c : Shift) (order : Order) (z w : Located) (rs qs : Readings) → z.number ≡ w.number → length z.bytes ≡ length w.bytes → AllReadingsChanged c rs qs

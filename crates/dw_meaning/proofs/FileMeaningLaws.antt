@@ -2,7 +2,7 @@
 use Rattle.std.proofs.Common.{Bool, true, false, ◌≡◌, ◌≢◌, ℕ, suc, ◌^◌, ◌≤◌, List, [], ◌∷◌, ◌++◌, length, drop, Option, Some, None, sym, ap, ◌∙◌, refl, subst, arith, if◌then◌else◌}
 use Rattle.dw_base.specs.Cells.{Located, CellSection, plain_cells}
 use Rattle.dw_meaning.specs.DataOutput.{DataReads}
-use Rattle.dw_base.specs.DebugData.{DebugData, DataReadings, around_of, line_source}
+use Rattle.dw_base.specs.DebugData.{DebugData, DataReadings, around_of, line_source, path_slots}
 use Rattle.dw_base.specs.MacroMeanings.{MacroMeaning, macro_meanings}
 use Rattle.dw_base.specs.LineMeanings.{LineMeaning, line_meanings, mapped_lines}
 use Rattle.dw_base.specs.Readings.{Readings, EachReading}
@@ -15,26 +15,31 @@ use Rattle.dw_base.specs.FileViews.{ViewSection, view_of, bytes_in}
 use Rattle.dw_base.specs.Layout.{output_limit}
 use Rattle.dw_base.specs.LayoutReads.{ReadsBack}
 use Rattle.dw_base.specs.MappedUnits.{mapped_units}
+use Rattle.dw_base.specs.NamePieces.{at_table, names_at}
+use Rattle.dw_base.specs.OffsetPieces.{at_contribution, offsets_at}
 use Rattle.dw_base.specs.Paths.{PathMap}
+use Rattle.dw_base.specs.Pieces.{EachPiece}
+use Rattle.dw_base.specs.SectionTexts.{name_role, slot_role}
 use Rattle.dw_base.specs.UnitHeaders.{UnitSection, SectionKind}
 use Rattle.dw_base.specs.UnitMeanings.{UnitMeaning, units_of}
 use Rattle.dw_base.specs.ViewData.{unit_kind, unit_section, unit_sections_from, unit_sections, is_macro, macro_sections, located, debug_data, NamedBytes, other_sections, bytes_named, without_id, Meaning, meaning_of, mapped}
 use Rattle.dw_base.specs.declared.debug_sections.DebugSection.{DebugSection}
 use Rattle.dw_base.specs.declared.debug_sections.DebugSection.TheVariants.{Info, Types, Abbrev, Str, LineStr, StrOffsets, Line, Macro, Names}
 use Rattle.dw_base.specs.declared.shared.Order.{Order}
-use Rattle.dw_meaning.proofs.DataKeptLaws.{DataMoves, EachPlain, edited_data, edited_readings, after_reads, lines-data, edited_sections, readings-plain, data-reads, data-mapped, slots-data, macros-data, names-data}
+use Rattle.dw_meaning.proofs.DataKeptLaws.{DataMoves, EachPlain, edited_data, edited_readings, after_reads, lines-data, edited_sections, readings-move, readings-plain, data-reads, data-mapped, slots-data, macros-data, names-data}
 use Rattle.dw_meaning.proofs.DataOneLaws.{means-one}
 use Rattle.dw_base.proofs.DebugSectionLaws.{debug_section-name}
 use Rattle.dw_meaning.proofs.FileBackLaws.{SectionBack, sections-back, elf-back, kind-back, names-back, others-back}
-use Rattle.dw_meaning.proofs.MacroEditLaws.{edited_macro_sections, AllPlain}
+use Rattle.dw_meaning.proofs.MacroEditLaws.{edited_macro_sections, AllPlain, all-macros-can}
 use Rattle.dw_meaning.proofs.MacroKeptLaws.{macros-plain}
 use Rattle.dw_meaning.proofs.FileKeptLaws.{CanMap, around_file, changes_file, new_str, new_line_str, new_line_tables, tables-back, tables-none, tables-place, lines-apart, texts-apart, body-lines, file-back, str-back, line-back, abbrev-back, offsets-back, names-section, macros-back, new_macros, new_offsets, new_names, offsets-are, names-are, named-apart, body-str, body-line, body-units, tables-apart, str-place, line-place, str-none, line-none}
 use Rattle.dw_base.proofs.FileViewLaws.{order-view_of}
 use Rattle.dw_base.proofs.PlainCellLaws.{IsPlain, plain_cells-plain}
+use Rattle.dw_meaning.proofs.OffsetMoveLaws.{cells-plain, names-can, offsets-can}
 use Rattle.dw_meaning.proofs.SectionKeptLaws.{units-edited}
 use Rattle.dw_base.proofs.SectionLaws.{length-contents}
 use Rattle.dw_meaning.proofs.TableKeptLaws.{TablePlace, nowhere, lies_at, drop-at}
-use Rattle.dw_meaning.proofs.TextEditLaws.{PlainPiece}
+use Rattle.dw_meaning.proofs.TextEditLaws.{CanMove, PlainPiece}
 
 -- the unit sections of a view are plain cells
 units-plain : (k : ℕ) (ss : List ViewSection) → EachPlain (unit_sections_from k ss)
@@ -188,6 +193,25 @@ file-macros : (b : List ℕ) → AllPlain (file_data b).macros
 unfolding debug_data macro_sections
 file-macros b = macros-plain 1 (drop 1 (view_of b).sections)
 
+-- no relocation begins in string offsets and name tables, so their fields can be moved
+offsets-plain : (b : List ℕ) → IsPlain (file_data b).offsets.contents
+offsets-plain b = subst (λ (z : CellSection). IsPlain z.contents) (sym (offsets-are b)) (plain_cells-plain (located (view_of b) StrOffsets).bytes)
+
+names-plain : (b : List ℕ) → IsPlain (file_data b).names.contents
+names-plain b = subst (λ (z : CellSection). IsPlain z.contents) (sym (names-are b)) (plain_cells-plain (located (view_of b) Names).bytes)
+
+file-slots : (m : PathMap) (b : List ℕ) (r : DataReadings) → CanMap m b r
+    → EachPiece (λ x. CanMove (slot_role (path_slots (around_of (file_data b) r)) x.state) (around_of (file_data b) r) x.cells) r.offsets
+file-slots m b r w =
+    offsets-can (path_slots (around_of (file_data b) r)) (around_of (file_data b) r) (file_data b).base.order
+    (offsets_at (length (file_data b).offsets.contents) 0 0 at_contribution) r.offsets w.reads.data_reads.offsets.chain
+    (cells-plain r.offsets (subst IsPlain (sym w.reads.data_reads.offsets.cells) (offsets-plain b)))
+
+file-names : (m : PathMap) (b : List ℕ) (r : DataReadings) → CanMap m b r → EachPiece (λ x. CanMove (name_role x.state) (around_of (file_data b) r) x.cells) r.names
+file-names m b r w =
+    names-can (around_of (file_data b) r) (file_data b).base.order (names_at (length (file_data b).names.contents) 0 at_table) r.names
+    w.reads.data_reads.names.chain (cells-plain r.names (subst IsPlain (sym w.reads.data_reads.names.cells) (names-plain b)))
+
 -- what the data law asks for
 data-moves : (m : PathMap) (b : List ℕ) (r : DataReadings) (out : List ℕ) → CanMap m b r → ReadsBack b (new_body m b r) out → length out ≤ output_limit
     → DataMoves m (file_data b) r
@@ -195,10 +219,10 @@ data-moves m b r out w back small = record {
   map = w.map;
   reads = w.reads.data_reads;
   fits = w.fits;
-  plain = file-plain b;
-  offsets_plain = subst (λ (z : CellSection). IsPlain z.contents) (sym (offsets-are b)) (plain_cells-plain (located (view_of b) StrOffsets).bytes);
-  macros_plain = file-macros b;
-  names_plain = subst (λ (z : CellSection). IsPlain z.contents) (sym (names-are b)) (plain_cells-plain (located (view_of b) Names).bytes);
+  units_move = readings-move (around_of (file_data b) r) r.units (pieces-plain m b r w);
+  slots_move = file-slots m b r w;
+  macros_move = all-macros-can (around_of (file_data b) r) (file_data b).base.order (file_data b).macros r.macros w.reads.data_reads.macros (file-macros b);
+  names_move = file-names m b r w;
   str = str-small m b r out w back small;
   line_str = line-small m b r out w back small;
   lines = lines-small m b r out w back small;

@@ -9,6 +9,7 @@ pub mod PieceLaws
 pub mod UnitMeaningLaws
 pub mod EntryRowLaws
 pub mod UnitOneLaws
+pub mod FieldPutLaws
 pub mod TextEditLaws
 pub mod DataKeptLaws
 pub mod DataOneLaws

@@ -20,6 +20,7 @@ use Rattle.dw_base.specs.declared.shared.Width.TheVariants.{W32, W64}
 use Rattle.dw_base.proofs.PieceFrameLaws.{Preserves, chain-changed}
 use Rattle.dw_base.proofs.PlainCellLaws.{IsPlain}
 use Rattle.dw_base.proofs.UnitEditLaws.{Shift, Becomes, length-becomes}
+use Rattle.dw_meaning.proofs.FieldPutLaws.{plain-place}
 use Rattle.dw_meaning.proofs.OffsetMoveLaws.{EachCells, cells-plain, RolesChanged, roles-named}
 use Rattle.dw_meaning.proofs.TextEditLaws.{CanMove, TablesMove, TextsAre, behind_piece, roles-changed, shift_of}
 
@@ -176,9 +177,9 @@ sized W64 = refl
 
 macro-can : (m : MacroMode) (around : Around) (order : Order) (p : List Cell) → FitsMacros m order p → IsPlain p → CanMove (macro_role_by m) around p
 macro-can at_unit around order p f plain = tt
-macro-can (at_line width) around order p f plain = record { plain = plain; sized = ap (λ (n : ℕ). n == 4 || n == 8) f ∙ sized width }
+macro-can (at_line width) around order p f plain = record { place = plain-place around.lines.number p plain; sized = ap (λ (n : ℕ). n == 4 || n == 8) f ∙ sized width }
 macro-can (at_operation width) around order p f plain = tt
-macro-can (at_offset width (of_text defines line)) around order p f plain = record { plain = plain; width = width; size = f }
+macro-can (at_offset width (of_text defines line)) around order p f plain = record { place = plain-place around.str.number p plain; width = width; size = f }
 macro-can (at_offset width of_unit) around order p f plain = tt
 macro-can no_macros around order p f plain = tt
 
@@ -195,14 +196,24 @@ abbrev pub AllPlain : List CellSection → Type 0
 AllPlain [] = ⊤
 AllPlain (z ∷ zs) = IsPlain z.contents × AllPlain zs
 
+-- then each field can be moved
+pub all-macros-can : (around : Around) (order : Order) (zs : List CellSection) (rs : List MacroReading) → ReadsAllMacros order zs rs → AllPlain zs
+    → EachMacro (λ x. CanMove (macro_role x.state) around x.cells) rs
+all-macros-can around order zs [] reads plain = tt
+all-macros-can around order [] (r ∷ rs) reads plain = absurd reads
+all-macros-can around order (z ∷ zs) (r ∷ rs) reads plain = (
+  macros-can around order (macros_at 0 at_unit) r.pieces reads.1.chain (cells-plain r.pieces (subst IsPlain (sym reads.1.cells) plain.0)),
+  all-macros-can around order zs rs reads.2 plain.1,
+)
+
 -- the text law, for all sections
 pub macros-edited : (order : Order) (c : TableChanges) (around : Around) (ts us : List (List ℕ)) (zs : List CellSection) (rs : List MacroReading) (ms ns : List Mention)
     → TablesMove c around → TextsAre c ts us (macro_mentions in_str around rs ++ ms) (macro_mentions in_line_str around rs ++ ns) → ReadsAllMacros order zs rs
-    → AllPlain zs → EachMacro (λ x. NamesTextBy (macro_role x.state) around x.cells) rs
+    → EachMacro (λ x. CanMove (macro_role x.state) around x.cells) rs → EachMacro (λ x. NamesTextBy (macro_role x.state) around x.cells) rs
     → AllMacrosChanged (shift_of c around) rs (edited_macros c around rs)
-macros-edited order c around ts us zs [] ms ns t all reads plain names = tt
-macros-edited order c around ts us [] (r ∷ rs) ms ns t all reads plain names = absurd reads
-macros-edited order c around ts us (z ∷ zs) (r ∷ rs) ms ns t all reads plain names =
+macros-edited order c around ts us zs [] ms ns t all reads moves names = tt
+macros-edited order c around ts us [] (r ∷ rs) ms ns t all reads moves names = absurd reads
+macros-edited order c around ts us (z ∷ zs) (r ∷ rs) ms ns t all reads moves names =
     let heres : List Mention = mentions_with macro_role in_str around r.pieces in
     let lines : List Mention = mentions_with macro_role in_line_str around r.pieces in
     let rest : TextsAre c ts us (heres ++ (macro_mentions in_str around rs ++ ms)) (lines ++ (macro_mentions in_line_str around rs ++ ns)) =
@@ -212,8 +223,8 @@ macros-edited order c around ts us (z ∷ zs) (r ∷ rs) ms ns t all reads plain
     } in (
       refl,
       roles-changed macro_role c around ts us r.pieces (macro_mentions in_str around rs ++ ms) (macro_mentions in_line_str around rs ++ ns) t rest
-          (macros-can around order (macros_at 0 at_unit) r.pieces reads.1.chain (cells-plain r.pieces (subst IsPlain (sym reads.1.cells) plain.0))) names.0,
+          moves.0 names.0,
       macros-edited order c around (texts_after c.str.plan c.map ts heres) (texts_after c.line_str.plan c.map us lines) zs rs ms ns t
           (behind_piece c ts us heres lines (macro_mentions in_str around rs ++ ms) (macro_mentions in_line_str around rs ++ ns) rest)
-          reads.2 plain.1 names.1,
+          reads.2 moves.1 names.1,
     )

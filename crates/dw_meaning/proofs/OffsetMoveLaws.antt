@@ -14,6 +14,7 @@ use Rattle.dw_base.proofs.OffsetChangeLaws.{OffsetChange, offsets_preserve, Name
 use Rattle.dw_base.proofs.PieceFrameLaws.{AllChanged, chain-changed}
 use Rattle.dw_base.proofs.PlainCellLaws.{IsPlain, plain-parts}
 use Rattle.dw_base.proofs.UnitEditLaws.{Shift, Becomes, length-becomes}
+use Rattle.dw_meaning.proofs.FieldPutLaws.{plain-place}
 use Rattle.dw_meaning.proofs.TextEditLaws.{CanMove}
 
 -- pieces of plain cells
@@ -30,7 +31,7 @@ cells-plain (x ∷ xs) h =
 offset-can : (m : OffsetMode) (paths : List ℕ) (n : ℕ) (around : Around) (order : Order) (s : OffsetState) (p : List Cell) → FitsOffsets m order s p → IsPlain p
     → CanMove (offset_role paths m n) around p
 offset-can at_contribution paths n around order s p f plain = tt
-offset-can (at_slot width end) paths n around order s p f plain = record { plain = plain; width = width; size = f.size }
+offset-can (at_slot width end) paths n around order s p f plain = record { place = plain-place around.str.number p plain; width = width; size = f.size }
 offset-can no_offsets paths n around order s p f plain = tt
 
 pub offsets-can : (paths : List ℕ) (around : Around) (order : Order) (s : OffsetState) (xs : List (Piece OffsetState)) → Chain (offset_grammar order) s xs → EachCells xs
@@ -43,7 +44,7 @@ offsets-can paths around order s (x ∷ xs) chain plain = (
 
 name-can : (m : NameMode) (around : Around) (order : Order) (s : NameState) (p : List Cell) → FitsNames m order s p → IsPlain p → CanMove (name_role_by m) around p
 name-can at_table around order s p f plain = tt
-name-can (at_string width left end) around order s p f plain = record { plain = plain; width = width; size = f.size }
+name-can (at_string width left end) around order s p f plain = record { place = plain-place around.str.number p plain; width = width; size = f.size }
 name-can (at_rest end) around order s p f plain = tt
 name-can no_names around order s p f plain = tt
 

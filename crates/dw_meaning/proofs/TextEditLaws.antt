@@ -1,10 +1,10 @@
 -- The text law, for both plans of tables of texts: where the tables change, each field of an offset names the new text of
--- its mention, and each path that stands in its value is mapped there. Of files that aren't relocatable.
+-- its mention, and each path that stands in its value is mapped there.
 use Rattle.std.proofs.Common.{Bool, true, false, ◌≡◌, ℕ, ◌+◌, ◌^◌, ◌<◌, ◌≤◌, List, [], ◌∷◌, ◌++◌, length, drop, get_or, ◌==◌, ◌||◌, Option, IsTrue, not, sym, ap, ◌∙◌, refl, subst, arith, if◌then◌else◌, None, Some, append_assoc}
 use Rattle.std.specs.Bool.{⊤}
 use Rattle.std.proofs.lemmas.List.{length-append, drop_all}
-use Rattle.dw_base.specs.Cells.{Cell, Located, bytes_of, with_bytes, plain_cells, offset_of}
-use Rattle.dw_base.specs.DebugData.{Around, line_table, path_slots, start_number}
+use Rattle.dw_base.specs.Cells.{Cell, Located, bytes_of, with_bytes, offset_of}
+use Rattle.dw_base.specs.DebugData.{Around, line_table, path_slots, start_number, table_of}
 use Rattle.dw_base.specs.Forms.{TextSection, in_str, in_line_str, ValueKind, number_of, leb_number, signed_leb, block_of, counted, counted_leb, inline_text, text_offset, present, in_abbreviation, form_in_front, supplementary, unlisted, kind_in, width_size}
 use Rattle.dw_base.specs.InlinePaths.{mapped_inline}
 use Rattle.dw_base.specs.MappedSlots.{mapped_slots}
@@ -29,12 +29,13 @@ use Rattle.dw_base.specs.LineMeanings.{is_there}
 use Rattle.dw_base.specs.LineReadings.{starts_from, all_lines}
 use Rattle.std.proofs.lemmas.Bool.{eqb-true}
 use Rattle.dw_base.specs.declared.values.ValueClass.{ValueClass}
+use Rattle.dw_meaning.proofs.FieldPutLaws.{IsPlace, front-bytes, length-put, place-put, place-same, plain-place, sized-some, width-some}
 use Rattle.dw_meaning.proofs.LineStartLaws.{EachSome, start-end, start-found, number-below}
 use Rattle.dw_base.proofs.FormSizeLaws.{is_sized, offset_sized, offset-size, is_offset_sized, section_offset-sized}
 use Rattle.dw_base.proofs.InlineLaws.{has_nul-mapped_inline, length-mapped_inline}
 use Rattle.dw_base.proofs.PathLaws.{has_nul-mapped_path}
 use Rattle.dw_base.proofs.PieceFrameLaws.{AllChanged}
-use Rattle.dw_base.proofs.PlainCellLaws.{IsPlain, bytes_of-plain, with_bytes-is, length-with_offset, length-plain_cells, offset-put, offset_of-plain}
+use Rattle.dw_base.proofs.PlainCellLaws.{IsPlain}
 use Rattle.dw_base.proofs.TableLaws.{is_in-texts_after, is_in-with_mention}
 use Rattle.dw_base.proofs.TextLaws.{has_nul-append, text-append_nul, has_nul-text, drop-text, has_nul-text_in, same_text-true, text_in-append, ends_in-append, ends_in-inside, text_in-place_in, ends_in-place_in, place_in-lt}
 use Rattle.dw_base.proofs.UnitEditLaws.{Shift, Restarted, Rewritten, Becomes, PieceSlot, UnitsChanged, length-bytes_of, number-there}
@@ -100,7 +101,7 @@ mention_in order z path p = record { path = path; text = text_in z.bytes (offset
 record FieldMoves (m : PathMap) (order : Order) (c : TableChange) (z : Located) (path : Bool) (p : List Cell) : Type 0 where
   map : IsPathMap m
   moves : TableMoves m c z
-  plain : IsPlain p
+  place : IsPlace z.number p
   width : Width
   size : length p ≡ width_size width
   names : IsTrue (ends_in z.bytes (offset_of order z p))
@@ -124,16 +125,13 @@ moved-asked m order c z path p f asks =
     let within = place_in-lt c.texts t here in
     let below : n < length (new_table c.plan c.texts) = omega arith in
     let back : offset_of order (moved_table z c) (with_offset order p n) ≡ n =
-    offset-put order (moved_table z c) p n f.plain (offset-fits f.width (length p) n (length (new_table c.plan c.texts)) f.size below f.moves.small) in
+    place-put order (moved_table z c) p n f.place (omega (arith, f.size, width-some f.width))
+    (offset-fits f.width (length p) n (length (new_table c.plan c.texts)) f.size below f.moves.small) in
     record {
-      size = length-with_offset order p n f.plain;
+      size = length-put order p n;
       says = ap (text_in (new_table c.plan c.texts)) back ∙ text_in-place_in c.plan.kept c.texts t here bare;
       ends = ap (ends_in (new_table c.plan c.texts)) back ∙ ends_in-place_in c.plan.kept c.texts t here;
     }
-
--- of plain cells the offset is the same in each table
-offset-same : (order : Order) (z w : Located) (p : List Cell) → IsPlain p → offset_of order z p ≡ offset_of order w p
-offset-same order z w p h = offset_of-plain order z p h ∙ sym (offset_of-plain order w p h)
 
 moved-stays : (m : PathMap) (order : Order) (c : TableChange) (z : Located) (path : Bool) (p : List Cell) → FieldMoves m order c z path p
     → c.plan.asks (mention_in order z path p) ≡ false → FieldRenamed m order c z path p p
@@ -142,7 +140,7 @@ moved-stays m order c z path p f none =
     let same : new_table c.plan c.texts ≡ z.bytes ++ laid_texts c.texts =
     ap (λ (k : List ℕ). k ++ laid_texts c.texts) (f.moves.keeps.kept (mention_in order z path p) none) in
     let inside : at < length z.bytes = ends_in-inside z.bytes at f.names in
-    let moved : offset_of order (moved_table z c) p ≡ at = offset-same order (moved_table z c) z p f.plain in
+    let moved : offset_of order (moved_table z c) p ≡ at = place-same order z (moved_table z c) p f.place refl in
     record {
       size = refl;
       says = ap (text_in (new_table c.plan c.texts)) moved ∙ ap (λ (t : List ℕ). text_in t at) same
@@ -183,17 +181,23 @@ Provided (offset table path) c around p =
     → is_in (change_of c table).texts (new_text c.map (mention_at around table path p)) ≡ true
 Provided r c around p = ⊤
 
+-- a field that an edit may move can have each offset that fits it
+abbrev pub MovesBy : Role → Around → List Cell → Type 0
+MovesBy (offset table path) around p = IsPlace (table_of around table).number p
+MovesBy line_start around p = IsPlace around.lines.number p
+MovesBy r around p = ⊤
+
 -- a field of an offset
-offset-moves : (table : TextSection) (path : Bool) (c : TableChanges) (around : Around) (p : List Cell) (w : Width) → TablesMove c around → IsPlain p
-    → length p ≡ width_size w → NamesTextBy (offset table path) around p → Provided (offset table path) c around p
+offset-moves : (table : TextSection) (path : Bool) (c : TableChanges) (around : Around) (p : List Cell) (w : Width) → TablesMove c around
+    → MovesBy (offset table path) around p → length p ≡ width_size w → NamesTextBy (offset table path) around p → Provided (offset table path) c around p
     → Becomes (offset table path) (shift_of c around) p (edited_by (offset table path) c around p)
-offset-moves in_str path c around p w t plain size names there =
+offset-moves in_str path c around p w t place size names there =
     let f = field-moves c.map around.lasting.base.order c.str around.str path p
-    (record { map = t.map; moves = t.str; plain = plain; width = w; size = size; names = names; there = there }) in
+    (record { map = t.map; moves = t.str; place = place; width = w; size = size; names = names; there = there }) in
     record { size = f.size; says = f.says; ends = f.ends }
-offset-moves in_line_str path c around p w t plain size names there =
+offset-moves in_line_str path c around p w t place size names there =
     let f = field-moves c.map around.lasting.base.order c.line_str around.line_str path p
-    (record { map = t.map; moves = t.line_str; plain = plain; width = w; size = size; names = names; there = there }) in
+    (record { map = t.map; moves = t.line_str; place = place; width = w; size = size; names = names; there = there }) in
     record { size = f.size; says = f.says; ends = f.ends }
 
 -- a text that stands in its value
@@ -220,10 +224,10 @@ nul-behind : (u : List ℕ) → has_nul u ≡ false → has_nul (u ++ 0 ∷ []) 
 nul-behind u bare = has_nul-append u (0 ∷ []) ∙ rw bare refl
 
 -- a path that stands in its value, mapped in its room
-inline-moves : (c : TableChanges) (around : Around) (s : UnitState) (x : Spec) (p : List Cell) → IsPathMap c.map → IsPlain p → IsValue s x inline_text p
+inline-moves : (c : TableChanges) (around : Around) (s : UnitState) (x : Spec) (p : List Cell) → IsPathMap c.map → IsValue s x inline_text p
     → InlineFitsBy inline_path c.map p → Rewritten (shift_of c around) p (edited_by inline_path c around p)
 unfolding value_of
-inline-moves c around s x p is_map plain f fits =
+inline-moves c around s x p is_map f fits =
     let bs : List ℕ = bytes_of p in
     let t : List ℕ = text (bytes_of p) in
     let u : List ℕ = mapped_inline c.map (text (bytes_of p)) in
@@ -234,16 +238,15 @@ inline-moves c around s x p is_map plain f fits =
     let whole : length (text (bytes_of p)) + 1 ≡ length (bytes_of p) = size ∙ sym (length-bytes_of p) in
     let room : length (mapped_inline c.map (text (bytes_of p))) ≡ length (text (bytes_of p)) = length-mapped_inline c.map (text (bytes_of p)) fits in
     let bare : has_nul (mapped_inline c.map (text (bytes_of p))) ≡ false = has_nul-mapped_inline c.map (text (bytes_of p)) is_map (has_nul-text (bytes_of p)) in
-    let new : with_bytes p (mapped_inline c.map (text (bytes_of p))) ≡ plain_cells (mapped_inline c.map (text (bytes_of p)) ++ 0 ∷ []) =
-    with_bytes-is p (mapped_inline c.map (text (bytes_of p))) plain (omega (arith, room, size))
-    ∙ ap (λ (n : ℕ). plain_cells (mapped_inline c.map (text (bytes_of p)) ++ drop n (bytes_of p))) room
-    ∙ ap (λ (rest : List ℕ). plain_cells (mapped_inline c.map (text (bytes_of p)) ++ rest)) (text-bytes (bytes_of p) nul whole) in
     let bytes : bytes_of (with_bytes p (mapped_inline c.map (text (bytes_of p)))) ≡ mapped_inline c.map (text (bytes_of p)) ++ 0 ∷ [] =
-    ap bytes_of new ∙ bytes_of-plain (mapped_inline c.map (text (bytes_of p)) ++ 0 ∷ []) in
+    front-bytes p (mapped_inline c.map (text (bytes_of p))) (omega (arith, room, size))
+    ∙ ap (λ (n : ℕ). mapped_inline c.map (text (bytes_of p)) ++ drop n (bytes_of p)) room
+    ∙ ap (λ (rest : List ℕ). mapped_inline c.map (text (bytes_of p)) ++ rest) (text-bytes (bytes_of p) nul whole) in
     let says : text (bytes_of (with_bytes p (mapped_inline c.map (text (bytes_of p))))) ≡ mapped_inline c.map (text (bytes_of p)) =
     ap text bytes ∙ text-append_nul (mapped_inline c.map (text (bytes_of p))) [] bare in
     let length_new : length (with_bytes p (mapped_inline c.map (text (bytes_of p)))) ≡ length (mapped_inline c.map (text (bytes_of p))) + 1 =
-    ap length new ∙ length-plain_cells (mapped_inline c.map (text (bytes_of p)) ++ 0 ∷ []) ∙ length-append (mapped_inline c.map (text (bytes_of p))) (0 ∷ []) in
+    sym (length-bytes_of (with_bytes p (mapped_inline c.map (text (bytes_of p))))) ∙ ap length bytes
+    ∙ length-append (mapped_inline c.map (text (bytes_of p))) (0 ∷ []) in
     let front_new = text-in-front (bytes_of (with_bytes p (mapped_inline c.map (text (bytes_of p))))) in
     record {
       size = omega (arith, length_new, room, size);
@@ -261,9 +264,9 @@ start-fits n v size lt = by_size (n == 4) (n == 8) refl refl size
     by_size false true x y e = subst (λ (k : ℕ). v < 256 ^ k) (sym (eqb-true n 8 y)) (omega (arith, lt))
     by_size false false x y e = absurd cc
 
-start-moves : (c : TableChanges) (around : Around) (p : List Cell) → TablesMove c around → IsPlain p → (length p == 4 || length p == 8) ≡ true → NamesTextBy line_start around p
+start-moves : (c : TableChanges) (around : Around) (p : List Cell) → TablesMove c around → IsPlace around.lines.number p → (length p == 4 || length p == 8) ≡ true → NamesTextBy line_start around p
     → Restarted (shift_of c around) p (edited_by line_start c around p)
-start-moves c around p t plain size names = by_table (line_table around p) refl names
+start-moves c around p t place size names = by_table (line_table around p) refl names
   where
     by_table : (o : Option ℕ) → line_table around p ≡ o → IsTrue (is_there o)
         → Restarted (shift_of c around) p (moved_start (starts_from 0 c.lines) around.lasting.base.order o p)
@@ -277,14 +280,14 @@ start-moves c around p t plain size names = by_table (line_table around p) refl 
         let last = start-end 0 k c.lines t.lines.some here in
         let reads : offset_of around.lasting.base.order (record { number = around.lines.number; bytes = all_lines c.lines })
         (with_offset around.lasting.base.order p (get_or (starts_from 0 c.lines) k 0)) ≡ get_or (starts_from 0 c.lines) k 0 =
-        offset-put around.lasting.base.order (record { number = around.lines.number; bytes = all_lines c.lines }) p (get_or (starts_from 0 c.lines) k 0) plain
-        (start-fits (length p) (get_or (starts_from 0 c.lines) k 0) size (omega (arith, last, small))) in
+        place-put around.lasting.base.order (record { number = around.lines.number; bytes = all_lines c.lines }) p (get_or (starts_from 0 c.lines) k 0) place
+        (sized-some (length p) size) (start-fits (length p) (get_or (starts_from 0 c.lines) k 0) size (omega (arith, last, small))) in
         let zero_ : 0 + k ≡ k = omega arith in
         let found : start_number 0 (starts_from 0 c.lines) (offset_of around.lasting.base.order (record { number = around.lines.number; bytes = all_lines c.lines })
         (with_offset around.lasting.base.order p (get_or (starts_from 0 c.lines) k 0))) ≡ Some k =
         ap (start_number 0 (starts_from 0 c.lines)) reads ∙ start-found 0 0 k c.lines t.lines.some here ∙ ap (λ (i : ℕ). Some i) zero_ in
         record {
-          size = length-with_offset around.lasting.base.order p (get_or (starts_from 0 c.lines) k 0) plain;
+          size = length-put around.lasting.base.order p (get_or (starts_from 0 c.lines) k 0);
           says = found ∙ sym e;
           names = ap is_there found;
         }
@@ -296,13 +299,13 @@ start-size names_line_table Number n e sized = e
 start-size u class n e sized = absurd cc
 
 number-moves : (b : Bool) (u : Use) (class : ValueClass) (n : ℕ) (c : TableChanges) (around : Around) (s : UnitState) (x : Spec) (p : List Cell) → is_line_start u class n ≡ b
-    → TablesMove c around → IsPlain p → is_offset_sized (number_of class n) ≡ true → IsValue s x (number_of class n) p → NamesTextBy (if b then line_start else fixed) around p
+    → TablesMove c around → MovesBy (if b then line_start else fixed) around p → is_offset_sized (number_of class n) ≡ true → IsValue s x (number_of class n) p → NamesTextBy (if b then line_start else fixed) around p
     → Becomes (if b then line_start else fixed) (shift_of c around) p (edited_by (if b then line_start else fixed) c around p)
 unfolding value_of
-number-moves false u class n c around s x p e t plain sized f names = refl
-number-moves true u class n c around s x p e t plain sized f names =
+number-moves false u class n c around s x p e t place sized f names = refl
+number-moves true u class n c around s x p e t place sized f names =
     let size : length p ≡ n = sym f.size ∙ (number-there s.header.params.order (bytes_of p) class n f.value f.is).1 in
-    start-moves c around p t plain (ap (λ (k : ℕ). k == 4 || k == 8) size ∙ start-size u class n e sized) names
+    start-moves c around p t place (ap (λ (k : ℕ). k == 4 || k == 8) size ∙ start-size u class n e sized) names
 
 -- an offset's size in its unit
 offset-length : (s : UnitState) (x : Spec) (table : TextSection) (n : ℕ) (p : List Cell) → IsValue s x (text_offset table n) p → length p ≡ n
@@ -310,23 +313,23 @@ unfolding value_of
 offset-length s x table n p f =
     sym f.size ∙ (number-there s.header.params.order (bytes_of p) (offset_class table) n f.value f.is).1
 
-inline-role : (b : Bool) (c : TableChanges) (around : Around) (s : UnitState) (x : Spec) (p : List Cell) → IsPathMap c.map → IsPlain p → IsValue s x inline_text p
+inline-role : (b : Bool) (c : TableChanges) (around : Around) (s : UnitState) (x : Spec) (p : List Cell) → IsPathMap c.map → IsValue s x inline_text p
     → InlineFitsBy (if b then inline_path else fixed) c.map p
     → Becomes (if b then inline_path else fixed) (shift_of c around) p (edited_by (if b then inline_path else fixed) c around p)
-inline-role true c around s x p is_map plain f fits = inline-moves c around s x p is_map plain f fits
-inline-role false c around s x p is_map plain f fits = refl
+inline-role true c around s x p is_map f fits = inline-moves c around s x p is_map f fits
+inline-role false c around s x p is_map f fits = refl
 
 -- cells of a value
-value-moves : (k : ValueKind) (u : Use) (c : TableChanges) (around : Around) (s : UnitState) (x : Spec) (p : List Cell) → TablesMove c around → IsPlain p
+value-moves : (k : ValueKind) (u : Use) (c : TableChanges) (around : Around) (s : UnitState) (x : Spec) (p : List Cell) → TablesMove c around → MovesBy (role_of_kind k u) around p
     → is_sized s.header.params.width k ≡ true → is_offset_sized k ≡ true → FitsKind k s x p → NamesTextBy (role_of_kind k u) around p → InlineFitsBy (role_of_kind k u) c.map p
     → Provided (role_of_kind k u) c around p → Becomes (role_of_kind k u) (shift_of c around) p (edited_by (role_of_kind k u) c around p)
-value-moves (number_of class n) u c around s x p t plain sized offsets f names fits there =
-    number-moves (is_line_start u class n) u class n c around s x p refl t plain offsets f names
-value-moves (text_offset table n) u c around s x p t plain sized offsets f names fits there =
-    offset-moves table (is_path_use u) c around p s.header.params.width t plain
+value-moves (number_of class n) u c around s x p t place sized offsets f names fits there =
+    number-moves (is_line_start u class n) u class n c around s x p refl t place offsets f names
+value-moves (text_offset table n) u c around s x p t place sized offsets f names fits there =
+    offset-moves table (is_path_use u) c around p s.header.params.width t place
     (offset-length s x table n p f ∙ offset-size s.header.params (text_offset table n) table n sized refl) names there
-value-moves inline_text u c around s x p t plain sized offsets f names fits there = inline-role (is_path_use u) c around s x p t.map plain f fits
-value-moves k u c around s x p t plain sized offsets f names fits there = refl
+value-moves inline_text u c around s x p t place sized offsets f names fits there = inline-role (is_path_use u) c around s x p t.map f fits
+value-moves k u c around s x p t place sized offsets f names fits there = refl
 
 -- a value whose form was read fits as a value of its kind
 pub chosen-fits : (k : ValueKind) (s : UnitState) (x : Spec) (p : List Cell) → IsValue s x k p → FitsKind k s x p
@@ -349,19 +352,19 @@ chosen-fits supplementary s x p f = f
 chosen-fits unlisted s x p f = f
 
 -- cells of a mode
-mode-moves : (m : Mode) (base : UnitBase) (s : UnitState) (c : TableChanges) (around : Around) (p : List Cell) → TablesMove c around → IsPlain p
+mode-moves : (m : Mode) (base : UnitBase) (s : UnitState) (c : TableChanges) (around : Around) (p : List Cell) → TablesMove c around → MovesBy (role_of_mode m s.header.params) around p
     → FitsMode m base s p → NamesTextBy (role_of_mode m s.header.params) around p → InlineFitsBy (role_of_mode m s.header.params) c.map p
     → Provided (role_of_mode m s.header.params) c around p
     → Becomes (role_of_mode m s.header.params) (shift_of c around) p (edited_by (role_of_mode m s.header.params) c around p)
-mode-moves at_header base s c around p t plain f names fits there = refl
-mode-moves at_code base s c around p t plain f names fits there = refl
-mode-moves (at_values n tag []) base s c around p t plain f names fits there = refl
-mode-moves (at_values n tag (x ∷ xs)) base s c around p t plain f names fits there =
-    value-moves (kind_in s.header.params x.form) (use_of n tag x.name) c around s x p t plain (offset_sized s.header.params x.form) (section_offset-sized s.header.params x.form) f names fits there
-mode-moves (at_chosen n tag start x xs) base s c around p t plain f names fits there =
-    value-moves (kind_in s.header.params x.form) (use_of n tag x.name) c around s x p t plain (offset_sized s.header.params x.form) (section_offset-sized s.header.params x.form)
+mode-moves at_header base s c around p t place f names fits there = refl
+mode-moves at_code base s c around p t place f names fits there = refl
+mode-moves (at_values n tag []) base s c around p t place f names fits there = refl
+mode-moves (at_values n tag (x ∷ xs)) base s c around p t place f names fits there =
+    value-moves (kind_in s.header.params x.form) (use_of n tag x.name) c around s x p t place (offset_sized s.header.params x.form) (section_offset-sized s.header.params x.form) f names fits there
+mode-moves (at_chosen n tag start x xs) base s c around p t place f names fits there =
+    value-moves (kind_in s.header.params x.form) (use_of n tag x.name) c around s x p t place (offset_sized s.header.params x.form) (section_offset-sized s.header.params x.form)
     (chosen-fits (kind_in s.header.params x.form) s x p f) names fits there
-mode-moves stuck base s c around p t plain f names fits there = refl
+mode-moves stuck base s c around p t place f names fits there = refl
 
 -- texts after mentions, and after more of them
 texts_after-append : (plan : Plan) (m : PathMap) (ts : List (List ℕ)) (xs ys : List Mention)
@@ -397,9 +400,23 @@ behind_piece c ts us heres lines ms ns all = record {
   line_str = all.line_str ∙ texts_after-append c.line_str.plan c.map us lines ns;
 }
 
--- no relocation begins in a piece
+-- a piece that an edit may move can have each offset that fits it
+abbrev pub Moves : Around → Piece UnitState → Type 0
+Moves around x = MovesBy (role_of x) around x.cells
+
+-- no relocation begins in a piece: then it can
 pub record PlainPiece (x : Piece UnitState) : Type 0 where
   pub plain : IsPlain x.cells
+
+plain-moves : (r : Role) (around : Around) (p : List Cell) → IsPlain p → MovesBy r around p
+plain-moves fixed around p h = tt
+plain-moves (offset table path) around p h = plain-place (table_of around table).number p h
+plain-moves inline_path around p h = tt
+plain-moves line_start around p h = plain-place around.lines.number p h
+
+pub pieces-move : (around : Around) (xs : List (Piece UnitState)) → EachPiece PlainPiece xs → EachPiece (Moves around) xs
+pieces-move around [] h = tt
+pieces-move around (x ∷ xs) h = (plain-moves (role_of x) around x.cells h.0.plain, pieces-move around xs h.1)
 
 -- where the piece is a value by index, its slot has the new text
 abbrev pub SlotMoves : Shift → Piece UnitState → Type 0
@@ -408,11 +425,11 @@ SlotMoves c x = PieceSlot x.state.mode c x.state x.cells
 -- the text law, for the pieces of a section
 pub edited-changed : (base : UnitBase) (c : TableChanges) (around : Around) (ts us : List (List ℕ)) (s : UnitState) (xs : List (Piece UnitState))
     (ms ns : List Mention) → TablesMove c around → TextsAre c ts us (mentions_of in_str around xs ++ ms) (mentions_of in_line_str around xs ++ ns)
-    → Chain (unit_grammar base) s xs → EachPiece PlainPiece xs → EachPiece (NamesText around) xs → EachPiece (InlineFits c.map) xs
+    → Chain (unit_grammar base) s xs → EachPiece (Moves around) xs → EachPiece (NamesText around) xs → EachPiece (InlineFits c.map) xs
     → EachPiece (SlotMoves (shift_of c around)) xs → UnitsChanged (shift_of c around) xs (edited_all c around xs)
 unfolding role_of
-edited-changed base c around ts us s [] ms ns t all chain plain names fits slots = tt
-edited-changed base c around ts us s (x ∷ xs) ms ns t all chain plain names fits slots =
+edited-changed base c around ts us s [] ms ns t all chain moves names fits slots = tt
+edited-changed base c around ts us s (x ∷ xs) ms ns t all chain moves names fits slots =
     let heres : List Mention = mentions_by (role_of x) in_str around x.cells in
     let lines : List Mention = mentions_by (role_of x) in_line_str around x.cells in
     let rest : TextsAre c ts us (heres ++ (mentions_of in_str around xs ++ ms)) (lines ++ (mentions_of in_line_str around xs ++ ns)) =
@@ -421,36 +438,36 @@ edited-changed base c around ts us s (x ∷ xs) ms ns t all chain plain names fi
       line_str = all.line_str ∙ ap (texts_after c.line_str.plan c.map us) (append_assoc lines (mentions_of in_line_str around xs) ns);
     } in
     let there = provided (role_of x) c around ts us x.cells (mentions_of in_str around xs ++ ms) (mentions_of in_line_str around xs ++ ns) rest in (
-      record { state = refl; cells = (mode-moves x.state.mode base x.state c around x.cells t plain.0.plain chain.1 names.0 fits.0 there, slots.0) },
+      record { state = refl; cells = (mode-moves x.state.mode base x.state c around x.cells t moves.0 chain.1 names.0 fits.0 there, slots.0) },
       edited-changed base c around (texts_after c.str.plan c.map ts heres) (texts_after c.line_str.plan c.map us lines)
           ((unit_grammar base).next x.state x.cells) xs ms ns t
           (behind_piece c ts us heres lines (mentions_of in_str around xs ++ ms) (mentions_of in_line_str around xs ++ ns) rest)
-          chain.2 plain.1 names.1 fits.1 slots.1,
+          chain.2 moves.1 names.1 fits.1 slots.1,
     )
 
 -- cells of a role that an edit may move, outside of units: a field of an offset that names a text, of the size of an offset
 pub record OffsetField (table : TextSection) (around : Around) (p : List Cell) : Type 0 where
-  pub plain : IsPlain p
+  pub place : IsPlace (table_of around table).number p
   pub width : Width
   pub size : length p ≡ width_size width
 
 -- or a field of the start of a line table
-pub record StartField (p : List Cell) : Type 0 where
-  pub plain : IsPlain p
+pub record StartField (around : Around) (p : List Cell) : Type 0 where
+  pub place : IsPlace around.lines.number p
   pub sized : (length p == 4 || length p == 8) ≡ true
 
 abbrev pub CanMove : Role → Around → List Cell → Type 0
 CanMove fixed around p = ⊤
 CanMove (offset table path) around p = OffsetField table around p
 CanMove inline_path around p = ⊥
-CanMove line_start around p = StartField p
+CanMove line_start around p = StartField around p
 
 role-moves : (r : Role) (c : TableChanges) (around : Around) (p : List Cell) → TablesMove c around → CanMove r around p → NamesTextBy r around p
     → Provided r c around p → Becomes r (shift_of c around) p (edited_by r c around p)
 role-moves fixed c around p t can names there = refl
-role-moves (offset table path) c around p t can names there = offset-moves table path c around p can.width t can.plain can.size names there
+role-moves (offset table path) c around p t can names there = offset-moves table path c around p can.width t can.place can.size names there
 role-moves inline_path c around p t can names there = absurd can
-role-moves line_start c around p t can names there = start-moves c around p t can.plain can.sized names
+role-moves line_start c around p t can names there = start-moves c around p t can.place can.sized names
 
 -- the text law, for pieces of roles
 pub roles-changed : {S : Type 0} (role : S → Role) (c : TableChanges) (around : Around) (ts us : List (List ℕ)) (xs : List (Piece S)) (ms ns : List Mention)

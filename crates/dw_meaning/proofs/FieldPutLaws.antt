@@ -1,0 +1,149 @@
+-- What cells need so that an offset into a section can be put into them: where a relocation begins at them, it is of their size, its symbol
+-- is defined in that section, and its addend can make each offset that fits them. What reads has such fields.
+use Rattle.std.proofs.Common.{Bool, true, false, ◌≡◌, ℕ, zero, suc, ◌^◌, ◌<◌, ◌≤◌, ◌==◌, ◌||◌, if◌then◌else◌, List, [], ◌∷◌, ◌++◌, length, drop, Option, None, Some, refl, sym, ap, ◌∙◌, subst, arith}
+use Rattle.std.specs.Bool.{⊤}
+use Rattle.std.specs.Prelude.{pos, ℤ, ◌+ℤ◌}
+use Rattle.std.proofs.lemmas.Bool.{eq-eqb, eqb-true}
+use Rattle.dw_base.specs.Cells.{Cell, Located, Relocation, addend_of, bytes_of, field_by, field_of, first_relocation, is_placed, offset_into, offset_of, relocated, symbol_field, targeted, with_bytes, wrapped}
+use Rattle.dw_base.specs.Forms.{width_size}
+use Rattle.dw_base.specs.Numbers.{number_bytes, spelled}
+use Rattle.dw_base.specs.TextChanges.{by_addend, moved_relocation, symbol_value, with_offset, with_offset_by, with_relocation}
+use Rattle.dw_base.specs.declared.shared.Order.{Order}
+use Rattle.dw_base.specs.declared.shared.Width.{Width}
+use Rattle.dw_base.specs.declared.shared.Width.TheVariants.{W32, W64}
+use Rattle.dw_base.specs.declared.view_fields.Field.TheVariants.{Into}
+use Rattle.dw_base.proofs.OffsetPutLaws.{PutsBy, addend-fits, length-with_bytes, offset-put-any, reaches_all}
+use Rattle.dw_base.proofs.PlainCellLaws.{IsPlain, first-plain}
+use Rattle.dw_base.proofs.RelocationFieldLaws.{field_by-into}
+
+pub record PlacesIn (r : Relocation) (section size : ℕ) : Type 0 where
+  pub value : ℕ
+  pub own : r.size ≡ Some size
+  pub target : r.target ≡ Some (section, value)
+  pub reaches : reaches_all r.class size ≡ true
+
+abbrev pub PlacesBy : Option Relocation → ℕ → ℕ → Type 0
+PlacesBy None section size = ⊤
+PlacesBy (Some r) section size = PlacesIn r section size
+
+pub record IsPlace (section : ℕ) (p : List Cell) : Type 0 where
+  pub by_relocation : PlacesBy (first_relocation p) section (length p)
+
+-- cells without a relocation hold an offset into any section
+pub plain-place : (section : ℕ) (p : List Cell) → IsPlain p → IsPlace section p
+plain-place section p h = record { by_relocation = subst (λ (o : Option Relocation). PlacesBy o section (length p)) (sym (first-plain p h)) tt }
+
+-- an offset that was put is read back
+pub place-put : (order : Order) (z : Located) (p : List Cell) (n : ℕ) → IsPlace z.number p → 0 < length p → n < 256 ^ length p
+    → offset_of order z (with_offset order p n) ≡ n
+place-put order z p n h some fits =
+    offset-put-any order z p n (record { some = some; fits = fits; by_relocation = puts (first_relocation p) h.by_relocation })
+  where
+    puts : (o : Option Relocation) → PlacesBy o z.number (length p) → PutsBy o z (length p) n
+    puts None t = tt
+    puts (Some r) t = record { value = t.value; own = t.own; target = t.target; addend = addend-fits r.addend r t.value (length p) n z.number t.target t.reaches fits }
+
+-- the offset is the same whatever the section's bytes are
+into-own : (z : Located) (section n : ℕ) → section ≡ z.number → offset_into z (Into section n) ≡ n
+into-own z section n same = by_test (section == z.number) (eq-eqb section z.number same)
+  where
+    by_test : (b : Bool) → b ≡ true → (if b then n else length z.bytes) ≡ n
+    by_test true e = refl
+    by_test false e = absurd cc
+
+pub place-same : (order : Order) (z w : Located) (p : List Cell) → IsPlace z.number p → w.number ≡ z.number → offset_of order w p ≡ offset_of order z p
+unfolding offset_of field_of
+place-same order z w p h same = by_first (first_relocation p) h.by_relocation
+  where
+    number : ℕ
+    number = spelled order (bytes_of p) 0 (length p)
+
+    by_first : (o : Option Relocation) → PlacesBy o z.number (length p)
+        → offset_into w (field_by o (length p) (spelled order (bytes_of p) 0 (length p))) ≡ offset_into z (field_by o (length p) (spelled order (bytes_of p) 0 (length p)))
+    by_first None t = refl
+    by_first (Some r) t =
+        let n : ℕ = wrapped (pos t.value +ℤ addend_of r.addend (spelled order (bytes_of p) 0 (length p))) (length p) in
+        let into = field_by-into r (z.number, t.value) (length p) (spelled order (bytes_of p) 0 (length p)) t.own t.target in
+        ap (offset_into w) into
+        ∙ into-own w z.number (wrapped (pos t.value +ℤ addend_of r.addend (spelled order (bytes_of p) 0 (length p))) (length p)) (sym same)
+        ∙ sym (ap (offset_into z) into ∙ into-own z z.number (wrapped (pos t.value +ℤ addend_of r.addend (spelled order (bytes_of p) 0 (length p))) (length p)) refl)
+
+-- A field that reads as an offset which lies in its section is such a place, where the addend of its relocation reaches all offsets of its size.
+abbrev pub ReachesBy : Option Relocation → ℕ → Type 0
+ReachesBy None size = ⊤
+ReachesBy (Some r) size = reaches_all r.class size ≡ true
+
+pub place-read : (order : Order) (z : Located) (p : List Cell) → is_placed (field_of order p) ≡ true → offset_of order z p < length z.bytes
+    → ReachesBy (first_relocation p) (length p) → IsPlace z.number p
+unfolding offset_of field_of
+place-read order z p placed below reaches =
+    record { by_relocation = by_first (first_relocation p) (spelled order (bytes_of p) 0 (length p)) placed below reaches }
+  where
+    by_section : (r : Relocation) (section value size n : ℕ) (b : Bool) → r.size ≡ Some size → r.target ≡ Some (section, value) → reaches_all r.class size ≡ true
+        → (section == z.number) ≡ b → (if b then n else length z.bytes) < length z.bytes → PlacesIn r z.number size
+    by_section r section value size n false own target all same below = absurd (omega (arith, below))
+    by_section r section value size n true own target all same below = record {
+      value = value;
+      own = own;
+      target = target ∙ ap (λ (k : ℕ). Some (k, value)) (eqb-true section z.number same);
+      reaches = all;
+    }
+
+    by_target : (r : Relocation) (t : Option (ℕ × ℕ)) (size n : ℕ) → r.size ≡ Some size → r.target ≡ t → reaches_all r.class size ≡ true
+        → is_placed (targeted t r size n) ≡ true → offset_into z (targeted t r size n) < length z.bytes → PlacesIn r z.number size
+    by_target r None size n own target all placed below = absurd cc
+    by_target r (Some (section, value)) size n own target all placed below =
+        by_section r section value size (wrapped (pos value +ℤ addend_of r.addend n) size) (section == z.number) own target all refl below
+
+    by_own : (r : Relocation) (k size n : ℕ) (b : Bool) → r.size ≡ Some k → reaches_all r.class size ≡ true → (k == size) ≡ b
+        → is_placed (if b then targeted r.target r size n else symbol_field r n) ≡ true
+        → offset_into z (if b then targeted r.target r size n else symbol_field r n) < length z.bytes → PlacesIn r z.number size
+    by_own r k size n false own all same placed below = absurd cc
+    by_own r k size n true own all same placed below = by_target r r.target size n (own ∙ ap (λ (m : ℕ). Some m) (eqb-true k size same)) refl all placed below
+
+    by_size : (r : Relocation) (s : Option ℕ) (size n : ℕ) → r.size ≡ s → reaches_all r.class size ≡ true → is_placed (relocated s r size n) ≡ true
+        → offset_into z (relocated s r size n) < length z.bytes → PlacesIn r z.number size
+    by_size r None size n own all placed below = absurd cc
+    by_size r (Some k) size n own all placed below = by_own r k size n (k == size) own all refl placed below
+
+    by_first : (o : Option Relocation) (n : ℕ) → is_placed (field_by o (length p) n) ≡ true → offset_into z (field_by o (length p) n) < length z.bytes
+        → ReachesBy o (length p) → PlacesBy o z.number (length p)
+    by_first None n placed below all = tt
+    by_first (Some r) n placed below all = by_size r r.size (length p) n refl all placed below
+
+-- a field keeps its size
+moved-length : (p : List Cell) (q : Relocation) → length (with_relocation p q) ≡ length p
+moved-length [] q = refl
+moved-length (c ∷ cs) q = refl
+
+pub length-put : (order : Order) (p : List Cell) (n : ℕ) → length (with_offset order p n) ≡ length p
+unfolding with_offset
+length-put order p n = by_first (first_relocation p)
+  where
+    by_same : (r : Relocation) (b : Bool) → length (if b then p else with_relocation p (moved_relocation r n)) ≡ length p
+    by_same r true = refl
+    by_same r false = moved-length p (moved_relocation r n)
+
+    by_record : (r : Relocation) (a : Option ℤ) → length (by_addend a order r p n) ≡ length p
+    by_record r None = length-with_bytes p _
+    by_record r (Some a) = by_same r (wrapped (pos (symbol_value r.target) +ℤ a) (length p) == n)
+
+    by_first : (o : Option Relocation) → length (with_offset_by o order p n) ≡ length p
+    by_first None = length-with_bytes p (number_bytes order (length p) n)
+    by_first (Some r) = by_record r r.addend
+
+-- other bytes at the front of cells
+pub front-bytes : (p : List Cell) (bs : List ℕ) → length bs ≤ length p → bytes_of (with_bytes p bs) ≡ bs ++ drop (length bs) (bytes_of p)
+front-bytes [] [] le = refl
+front-bytes [] (b ∷ bs) le = absurd (omega (arith, le))
+front-bytes (c ∷ cs) [] le = refl
+front-bytes (c ∷ cs) (b ∷ bs) le = ap (λ (l : List ℕ). b ∷ l) (front-bytes cs bs (omega (arith, le)))
+
+-- an offset has a byte
+pub width-some : (w : Width) → 0 < width_size w
+width-some W32 = omega arith
+width-some W64 = omega arith
+
+pub sized-some : (n : ℕ) → (n == 4 || n == 8) ≡ true → 0 < n
+sized-some zero e = absurd cc
+sized-some (suc n) e = omega arith
