@@ -18,7 +18,7 @@ use Rattle.dw_meaning.specs.DataOutput.{DataReads, DataFits, changes_of}
 use Rattle.dw_meaning.proofs.FileKeptLaws.{offsets-are}
 use Rattle.dw_meaning.proofs.SlotRowLaws.{slot_texts-exclude, shared-row, string_tables-exclude, name_tables-exclude}
 use Rattle.dw_meaning.specs.EditRows.{EditFails, file as file_row, inline as inline_row, shared as shared_row, line_table as line_table_row, output as output_row, IsAccepted}
-use Rattle.dw_meaning.specs.FileFails.{FileFails, elf as elf_row, sections as sections_row, loaded as loaded_row, units as units_row, texts as texts_row, unbuilt as unbuilt_row, string_tables as string_tables_row, slots as slots_row, lines as lines_row, macros as macros_row, starts as starts_row, name_tables as name_tables_row}
+use Rattle.dw_meaning.specs.FileFails.{FileFails, elf as elf_row, sections as sections_row, loaded as loaded_row, units as units_row, texts as texts_row, unbuilt as unbuilt_row, string_tables as string_tables_row, slots as slots_row, lines as lines_row, macros as macros_row, starts as starts_row, name_tables as name_tables_row, relocations as relocations_row, loaded_relocations as loaded_relocations_row}
 use Rattle.dw_meaning.specs.FileMeanings.{file_data, new_body}
 use Rattle.dw_base.specs.LayoutFails.{LayoutFails}
 use Rattle.dw_base.specs.Paths.{PathMap}
@@ -27,6 +27,7 @@ use Rattle.dw_meaning.proofs.DataOneLaws.{data-one}
 use Rattle.dw_meaning.proofs.DataRowLaws.{data-excludes}
 use Rattle.dw_base.proofs.DebugSectionFailsLaws.{debug_sections_exclude}
 use Rattle.dw_meaning.proofs.LayoutRowLaws.{layout_excludes}
+use Rattle.dw_meaning.proofs.PlainFileLaws.{relocations_fail-loaded, relocations_loaded-none}
 use Rattle.dw_base.proofs.ElfLaws.{elf_excludes}
 use Rattle.dw_meaning.proofs.ValueRowLaws.{texts-exclude, inline-excludes}
 
@@ -49,6 +50,8 @@ file-excludes m b r a (lines_row e f) = lines-exclude (file_data b) a.readings.l
 file-excludes m b r a (macros_row z before behind e split f) = macros-exclude (view_of b) a.readings before behind z r a.reads.data_reads split f
 file-excludes m b r a (starts_row e f) = starts-exclude (file_data b) a.readings r a.reads.data_reads f
 file-excludes m b r a (name_tables_row e f) = name_tables-exclude (view_of b) a.readings r a.reads.data_reads f
+file-excludes m b r a (relocations_row e f) = relocations_fail-loaded b r a.reads.kind f
+file-excludes m b r a (loaded_relocations_row i e lt l) = relocations_loaded-none b i a.reads.kind l
 file-excludes m b r a (unbuilt_row u) = a.built u
 
 -- a file is taken or refused, and never both

@@ -1,5 +1,5 @@
 -- The output of a file means what the file means, with each source path mapped: from what reads back of it.
-use Rattle.std.proofs.Common.{Bool, true, false, ◌≡◌, ◌≢◌, ℕ, suc, ◌^◌, ◌≤◌, List, [], ◌∷◌, ◌++◌, length, drop, Option, Some, None, sym, ap, ◌∙◌, refl, subst, arith, if◌then◌else◌}
+use Rattle.std.proofs.Common.{false, ◌≡◌, ◌≢◌, ℕ, ◌^◌, ◌≤◌, List, length, drop, Option, Some, None, sym, ap, ◌∙◌, refl, subst, arith}
 use Rattle.dw_base.specs.Cells.{Located, CellSection, plain_cells}
 use Rattle.dw_meaning.specs.DataOutput.{DataReads}
 use Rattle.dw_base.specs.DebugData.{DebugData, DataReadings, around_of, line_source, path_slots}
@@ -11,7 +11,7 @@ use Rattle.dw_base.specs.MappedSlots.{unit_slots, mapped_slots}
 use Rattle.dw_base.specs.DebugSections.{debug_section, name_of}
 use Rattle.dw_base.specs.Elf.{section_name, contents_of}
 use Rattle.dw_meaning.specs.FileMeanings.{file_data, FileReads, Means, MeaningKept, new_body}
-use Rattle.dw_base.specs.FileViews.{ViewSection, view_of, bytes_in}
+use Rattle.dw_base.specs.FileViews.{view_of}
 use Rattle.dw_base.specs.Layout.{output_limit}
 use Rattle.dw_base.specs.LayoutReads.{ReadsBack}
 use Rattle.dw_base.specs.MappedUnits.{mapped_units}
@@ -22,39 +22,24 @@ use Rattle.dw_base.specs.Pieces.{EachPiece}
 use Rattle.dw_base.specs.SectionTexts.{name_role, slot_role}
 use Rattle.dw_base.specs.UnitHeaders.{UnitSection, SectionKind}
 use Rattle.dw_base.specs.UnitMeanings.{UnitMeaning, units_of}
-use Rattle.dw_base.specs.ViewData.{unit_kind, unit_section, unit_sections_from, unit_sections, is_macro, macro_sections, located, debug_data, NamedBytes, other_sections, bytes_named, without_id, Meaning, meaning_of, mapped}
+use Rattle.dw_base.specs.ViewData.{unit_kind, unit_sections, is_macro, located, debug_data, NamedBytes, other_sections, bytes_named, without_id, Meaning, meaning_of, mapped}
 use Rattle.dw_base.specs.declared.debug_sections.DebugSection.{DebugSection}
 use Rattle.dw_base.specs.declared.debug_sections.DebugSection.TheVariants.{Info, Types, Abbrev, Str, LineStr, StrOffsets, Line, Macro, Names}
 use Rattle.dw_base.specs.declared.shared.Order.{Order}
-use Rattle.dw_meaning.proofs.DataKeptLaws.{DataMoves, EachPlain, edited_data, edited_readings, after_reads, lines-data, edited_sections, readings-move, readings-plain, data-reads, data-mapped, slots-data, macros-data, names-data}
+use Rattle.dw_meaning.proofs.DataKeptLaws.{DataMoves, edited_data, edited_readings, after_reads, lines-data, edited_sections, readings-move, readings-plain, data-reads, data-mapped, slots-data, macros-data, names-data}
 use Rattle.dw_meaning.proofs.DataOneLaws.{means-one}
 use Rattle.dw_base.proofs.DebugSectionLaws.{debug_section-name}
 use Rattle.dw_meaning.proofs.FileBackLaws.{SectionBack, sections-back, elf-back, kind-back, names-back, others-back}
-use Rattle.dw_meaning.proofs.MacroEditLaws.{edited_macro_sections, AllPlain, all-macros-can}
-use Rattle.dw_meaning.proofs.MacroKeptLaws.{macros-plain}
-use Rattle.dw_meaning.proofs.FileKeptLaws.{CanMap, around_file, changes_file, new_str, new_line_str, new_line_tables, tables-back, tables-none, tables-place, lines-apart, texts-apart, body-lines, file-back, str-back, line-back, abbrev-back, offsets-back, names-section, macros-back, new_macros, new_offsets, new_names, offsets-are, names-are, named-apart, body-str, body-line, body-units, tables-apart, str-place, line-place, str-none, line-none}
+use Rattle.dw_meaning.proofs.MacroEditLaws.{edited_macro_sections, all-macros-can}
+use Rattle.dw_meaning.proofs.FileKeptLaws.{CanMap, around_file, changes_file, new_str, new_line_str, new_line_tables, tables-back, tables-none, tables-place, lines-apart, texts-apart, body-lines, file-back, str-back, line-back, abbrev-back, offsets-back, names-section, macros-back, new_macros, new_offsets, new_names, named-apart, body-str, body-line, body-units, tables-apart, str-place, line-place, str-none, line-none}
 use Rattle.dw_base.proofs.FileViewLaws.{order-view_of}
-use Rattle.dw_base.proofs.PlainCellLaws.{IsPlain, plain_cells-plain}
+use Rattle.dw_base.proofs.PlainCellLaws.{IsPlain}
 use Rattle.dw_meaning.proofs.OffsetMoveLaws.{cells-plain, names-can, offsets-can}
+use Rattle.dw_meaning.proofs.PlainFileLaws.{file-macros, file-plain, names-plain, offsets-plain}
 use Rattle.dw_meaning.proofs.SectionKeptLaws.{units-edited}
 use Rattle.dw_base.proofs.SectionLaws.{length-contents}
 use Rattle.dw_meaning.proofs.TableKeptLaws.{TablePlace, nowhere, lies_at, drop-at}
 use Rattle.dw_meaning.proofs.TextEditLaws.{CanMove, PlainPiece}
-
--- the unit sections of a view are plain cells
-units-plain : (k : ℕ) (ss : List ViewSection) → EachPlain (unit_sections_from k ss)
-units-plain k [] = tt
-units-plain k (s ∷ ss) = by_section s.has_bytes (unit_kind (debug_section s.name)) (units-plain (suc k) ss)
-  where
-    by_section : (full : Bool) (o : Option SectionKind) → EachPlain (unit_sections_from (suc k) ss)
-        → EachPlain ((if full then unit_section k s o else []) ++ unit_sections_from (suc k) ss)
-    by_section false o rest = rest
-    by_section true None rest = rest
-    by_section true (Some kind) rest = (plain_cells-plain (bytes_in s.contents), rest)
-
-file-plain : (b : List ℕ) → EachPlain (file_data b).units
-unfolding debug_data unit_sections
-file-plain b = units-plain 1 (drop 1 (view_of b).sections)
 
 pieces-plain : (m : PathMap) (b : List ℕ) (r : DataReadings) → CanMap m b r → EachReading PlainPiece r.units
 pieces-plain m b r w = readings-plain (file_data b).base 0 (file_data b).units r.units w.reads.data_reads.units (file-plain b)
@@ -189,17 +174,7 @@ lines-small m b r out w back small = by_place (tables-place b)
         let size : length (contents_of out (located (view_of b) Line).number) ≡ length (new_line_tables m b r) = ap length here in
         omega (arith, size, length-contents out (located (view_of b) Line).number, small)
 
-file-macros : (b : List ℕ) → AllPlain (file_data b).macros
-unfolding debug_data macro_sections
-file-macros b = macros-plain 1 (drop 1 (view_of b).sections)
-
--- no relocation begins in string offsets and name tables, so their fields can be moved
-offsets-plain : (b : List ℕ) → IsPlain (file_data b).offsets.contents
-offsets-plain b = subst (λ (z : CellSection). IsPlain z.contents) (sym (offsets-are b)) (plain_cells-plain (located (view_of b) StrOffsets).bytes)
-
-names-plain : (b : List ℕ) → IsPlain (file_data b).names.contents
-names-plain b = subst (λ (z : CellSection). IsPlain z.contents) (sym (names-are b)) (plain_cells-plain (located (view_of b) Names).bytes)
-
+-- the fields of string offsets and name tables can be moved
 file-slots : (m : PathMap) (b : List ℕ) (r : DataReadings) → CanMap m b r
     → EachPiece (λ x. CanMove (slot_role (path_slots (around_of (file_data b) r)) x.state) (around_of (file_data b) r) x.cells) r.offsets
 file-slots m b r w =

@@ -77,3 +77,5 @@ pub mod MacroPieceLaws
 pub mod MacroMeantLaws
 pub mod MacroFirstLaws
 pub mod MacroRowLaws
+pub mod RelocationLaws
+pub mod PlainFileLaws

@@ -8,6 +8,7 @@ use Rattle.dw_base.specs.DebugSections.{debug_section}
 use Rattle.dw_base.specs.Elf.{e_type, nth_section, section_count, section_name, is_empty_kind}
 use Rattle.dw_base.specs.ElfFails.{HeaderReads, ElfFails, ElfReads}
 use Rattle.dw_meaning.specs.FileMeanings.{file_data}
+use Rattle.dw_meaning.specs.RelocationFails.{RelocationsAreLoaded, RelocationsFail}
 use Rattle.dw_base.specs.FileViews.{view_of}
 use Rattle.dw_base.specs.Layout.{is_alloc}
 use Rattle.dw_base.specs.MacroFails.{MacroUnitsFail}
@@ -43,4 +44,6 @@ pub data FileFails (b : List ℕ) : Refusal → Type 0 where
       → MacroUnitsFail (view_of b) z.number r → FileFails b r
   starts : {r : Refusal} → ElfReads b → StartsFail (file_data b) r → FileFails b r
   name_tables : {r : Refusal} → ElfReads b → NameTablesFail (view_of b) r → FileFails b r
+  relocations : {r : Refusal} → ElfReads b → RelocationsFail b r → FileFails b r
+  loaded_relocations : (i : ℕ) → ElfReads b → i < section_count b → RelocationsAreLoaded b i → FileFails b (at Fixed i 0)
   unbuilt : UnbuiltFile b → FileFails b (at Unbuilt 0 0)

@@ -6,3 +6,4 @@ pub mod FileFails
 pub mod EditRows
 pub mod UnitScans
 pub mod SpelledUnits
+pub mod RelocationFails

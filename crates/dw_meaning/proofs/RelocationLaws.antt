@@ -1,0 +1,70 @@
+-- What reads of the relocations on debug data excludes each row, and where no relocation begins there is no row.
+use Rattle.std.proofs.Common.{◌≡◌, ℕ, List, ◌∷◌, ◌++◌}
+use Rattle.dw_base.specs.Cells.{CellSection}
+use Rattle.dw_base.specs.DebugData.{DebugData, line_source}
+use Rattle.dw_base.specs.Elf.{contents_of}
+use Rattle.dw_base.specs.FileViews.{view_of}
+use Rattle.dw_base.specs.LineFields.{line_fields, table_fields}
+use Rattle.dw_base.specs.RelocationRows.{OffsetFails, OffsetReads, macro_fields, moving_sections, name_fields, slot_fields, unit_fields}
+use Rattle.dw_base.specs.RelocationRows.OffsetFails.{partly, no_place}
+use Rattle.dw_base.specs.UnitHeaders.{UnitSection}
+use Rattle.dw_base.specs.declared.fault.Refusal.{Refusal}
+use Rattle.dw_base.proofs.PlainCellLaws.{IsPlain}
+use Rattle.dw_base.proofs.RelocationRowLaws.{fields-plain, fields_exclude, header-plain, header_excludes, header_offsets_exclude}
+use Rattle.dw_base.proofs.RelocationSectionLaws.{relocations_exclude as sections-exclude}
+use Rattle.dw_meaning.specs.FileMeanings.{file_data}
+use Rattle.dw_meaning.specs.RelocationFails.{LeftRelocationsFail, LeftRelocationsRead, RelocationsFail, RelocationsRead, ValueRelocationFails, ValueRelocationsRead}
+use Rattle.dw_meaning.specs.RelocationFails.LeftRelocationsFail.{units, slots, names, macros, lines, line_header}
+use Rattle.dw_meaning.specs.RelocationFails.RelocationsFail.{sections, headers, values, left}
+use Rattle.dw_meaning.specs.RelocationFails.ValueRelocationFails.{value}
+
+pub left_exclude : (d : DebugData) (moving : List ℕ) (r : Refusal) → LeftRelocationsRead d moving → LeftRelocationsFail d moving r → ⊥
+left_exclude d moving r h (units before behind z first xs among reads f) =
+    fields_exclude d.base.order z.number z.contents moving (unit_fields d.base.order xs) r (h.units before behind z first xs among reads) f
+left_exclude d moving r h (slots xs reads f) =
+    fields_exclude d.base.order d.offsets.number d.offsets.contents moving (slot_fields xs) r (h.slots xs reads) f
+left_exclude d moving r h (names xs reads f) =
+    fields_exclude d.base.order d.names.number d.names.contents moving (name_fields xs) r (h.names xs reads) f
+left_exclude d moving r h (macros before behind z xs among reads f) =
+    fields_exclude d.base.order z.number z.contents moving (macro_fields xs) r (h.macros before behind z xs among reads) f
+left_exclude d moving r h (lines ts reads f) =
+    fields_exclude d.base.order d.lines.number d.lines.contents moving (line_fields (line_source d) ts) r (h.lines ts reads) f
+left_exclude d moving r h (line_header before start t tables reads f) =
+    header_excludes d.lines.number t.header.start t.behind d.lines.contents (table_fields (line_source d) t) r
+    (h.line_headers before start t tables reads) f
+
+value-excludes : (d : DebugData) (r : Refusal) → ValueRelocationsRead d → ValueRelocationFails d r → ⊥
+value-excludes d r h (value z u list number a x place v f table has kind is fails) = by_row fails
+  where
+    reads : OffsetReads d.base.order z.contents f
+    reads = h.all z u list number a x place v f table has kind is
+
+    by_row : {r : Refusal} → OffsetFails d.base.order z.number z.contents f r → ⊥
+    by_row (partly p lies) = reads.whole p lies
+    by_row (no_place e) = let placed = reads.placed in absurd cc
+
+pub relocations_exclude : (b : List ℕ) (r : Refusal) → RelocationsRead b → RelocationsFail b r → ⊥
+relocations_exclude b r h (sections f) = sections-exclude (contents_of b) b r h.sections f
+relocations_exclude b r h (headers before behind z split f) = header_offsets_exclude (file_data b).base z r (h.headers before behind z split) f
+relocations_exclude b r h (values f) = value-excludes (file_data b) r h.values f
+relocations_exclude b r h (left f) = left_exclude (file_data b) (moving_sections (view_of b)) r h.left f
+
+-- no relocation begins in the sections of units, of string offsets, line tables, macro units and name tables
+pub record NoRelocations (d : DebugData) : Type 0 where
+  pub units : (before behind : List UnitSection) (z : UnitSection) → d.units ≡ before ++ z ∷ behind → IsPlain z.contents
+  pub macros : (before behind : List CellSection) (z : CellSection) → d.macros ≡ before ++ z ∷ behind → IsPlain z.contents
+  pub offsets : IsPlain d.offsets.contents
+  pub lines : IsPlain d.lines.contents
+  pub names : IsPlain d.names.contents
+
+pub left-none : (d : DebugData) (moving : List ℕ) (r : Refusal) → NoRelocations d → LeftRelocationsFail d moving r → ⊥
+left-none d moving r h (units before behind z first xs among reads f) =
+    fields-plain d.base.order z.number z.contents moving (unit_fields d.base.order xs) r (h.units before behind z among) f
+left-none d moving r h (slots xs reads f) = fields-plain d.base.order d.offsets.number d.offsets.contents moving (slot_fields xs) r h.offsets f
+left-none d moving r h (names xs reads f) = fields-plain d.base.order d.names.number d.names.contents moving (name_fields xs) r h.names f
+left-none d moving r h (macros before behind z xs among reads f) =
+    fields-plain d.base.order z.number z.contents moving (macro_fields xs) r (h.macros before behind z among) f
+left-none d moving r h (lines ts reads f) =
+    fields-plain d.base.order d.lines.number d.lines.contents moving (line_fields (line_source d) ts) r h.lines f
+left-none d moving r h (line_header before start t tables reads f) =
+    header-plain d.lines.number t.header.start t.behind d.lines.contents (table_fields (line_source d) t) r h.lines f
