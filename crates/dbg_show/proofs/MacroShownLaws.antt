@@ -11,9 +11,7 @@ use Rattle.dw_base.specs.ViewData.{debug_data}
 use Rattle.dw_base.specs.declared.macro_units.MacroEvent.{MacroEvent}
 use Rattle.dw_base.specs.declared.macro_units.MacroEvent.TheVariants.{Define, Undef, StartFile, EndFile, Import}
 use Rattle.dw_base.specs.declared.macro_units.MacroUnit.{MacroUnit}
-use Rattle.dw_base.proofs.PlainCellLaws.{IsPlain}
 use Rattle.dw_meaning.proofs.MacroMeantLaws.{UnitsFrom, units-meant}
-use Rattle.dw_meaning.proofs.OffsetMoveLaws.{cells-plain}
 use Rattle.dw_macros.specs.EventMeanings.{event_meaning, unit_meaning}
 use Rattle.dw_macros.specs.MacroEvents.{unit_events}
 use Rattle.dw_macros.proofs.MeaningLaws.{Seen, seen-view, units-mean}
@@ -43,7 +41,7 @@ units-all v g (z ∷ zs) [] ss seen order cells under have reads = absurd reads
 units-all v g (z ∷ zs) (r ∷ rs) [] seen order cells under have reads = absurd have
 units-all v g (z ∷ zs) (r ∷ rs) (s ∷ ss) seen order cells under have reads =
     let meant : UnitsFrom v g z.number 0 (macros_behind g r.pieces).units =
-    units-meant v g z.number z.contents r.pieces order cells.0.bytes reads.1 (cells-plain r.pieces (subst IsPlain (sym reads.1.cells) cells.0.plain)) in
+    units-meant v g z.number z.contents r.pieces order cells.0.same reads.1 in
     ap (λ (ms : List MacroMeaning). ms ++ macro_meanings g rs) (units-mean v g z.number s.units (macros_behind g r.pieces).units seen under.0 have.1 meant)
     ∙ ap (λ (ms : List MacroMeaning). map (unit_meaning v g) s.units ++ ms) (units-all v g zs rs ss seen order cells.1 under.1 have.2 reads.2)
     ∙ sym (map-append (unit_meaning v g) s.units (all_units ss))

@@ -2,8 +2,7 @@
 use Rattle.std.specs.Prelude.{Result, Ok, Err, option_map}
 use Rattle.std.proofs.Common.{Bool, true, false, ◌≡◌, ℕ, ◌+◌, ◌≤◌, ◌<◌, nat_le, List, [], ◌∷◌, length, take, drop, slice_index, IsTrue, Option, Some, None, refl, sym, ap, ◌∙◌, subst, arith, if◌then◌else◌}
 use Rattle.std.proofs.lemmas.Bool.{leb-true}
-use Rattle.std.proofs.lemmas.List.{take-append-drop}
-use Rattle.dw_base.specs.Cells.{Cell, CellSection, Located, bytes_of, field_of, located_cells, offset_into, offset_of}
+use Rattle.dw_base.specs.Cells.{Cell, CellSection, Located, cells_at, field_of, located_cells, offset_into, offset_of}
 use Rattle.dw_base.specs.DebugData.{start_number}
 use Rattle.dw_base.specs.FileViews.{View, field_at, section_bytes}
 use Rattle.dw_base.specs.Forms.{width_size}
@@ -28,17 +27,14 @@ use Rattle.dw_base.specs.declared.macro_units.MacroOperation.TheVariants.{End, I
 use Rattle.dw_base.specs.declared.macro_units.MacroUnit.{MacroUnit}
 use Rattle.dw_base.specs.declared.shared.Order.{Order}
 use Rattle.dw_base.specs.declared.shared.Width.{Width}
-use Rattle.dw_base.specs.declared.view_fields.Field.TheVariants.{Num}
-use Rattle.dw_base.proofs.ContributionBackLaws.{StandsAt}
-use Rattle.dw_base.proofs.PlainCellLaws.{IsPlain, bytes_of-plain, first-plain, plain-parts}
-use Rattle.dw_base.proofs.RunLaws.{part-bytes, part-length}
-use Rattle.dw_base.proofs.UnitEditLaws.{length-bytes_of}
+use Rattle.dw_base.proofs.PlainCellLaws.{bytes_of-plain}
+use Rattle.dw_base.proofs.ViewCellLaws.{field_at-cells}
 use Rattle.dw_macros.proofs.CallerLaws.{read-unit}
 use Rattle.dw_macros.proofs.EventLaws.{unit-whole}
 use Rattle.dw_macros.specs.MacroEvents.{SpellsEvents, over, one_event, event_by, event_if, event_in, import_at, inline_place, named_place, text_event, unit_events}
 use Rattle.dw_meaning.proofs.LineReadLaws.{if-some, some-same}
-use Rattle.dw_meaning.proofs.MacroBackLaws.{spelled-at}
-use Rattle.dw_meaning.proofs.MacroCutLaws.{cut-stands, FrontCut, operation-cut}
+use Rattle.dw_meaning.proofs.FieldPutLaws.{width-some}
+use Rattle.dw_meaning.proofs.MacroCutLaws.{FrontCut, operation-cut}
 use Rattle.dw_meaning.proofs.MacroPieceLaws.{Asked, CellsOf, EachUnit, offset_piece, offset_use, text-named}
 use Rattle.dw_meaning.proofs.MacroReadLaws.{read_as}
 use Rattle.dw_find.specs.MacroNames.{EventNames, EventsName, LineNames, MacrosName, UnitsName}
@@ -48,37 +44,12 @@ use Rattle.dw_find.proofs.MacroFoundLaws.{AllAsked, PieceNames}
 use Rattle.dw_find.proofs.MacroHaveLaws.{AllBelow, AllCells, numbers-below}
 use Rattle.dw_find.proofs.MacroStartLaws.{all-cells}
 
--- so many cells of a section of plain cells
-record OffsetCells (v : View) (section : ℕ) (cells : List Cell) (width : Width) (field : ℕ) : Type 0 where
-  size : length (take (width_size width) (drop field cells)) ≡ width_size width
-  plain : IsPlain (take (width_size width) (drop field cells))
-  stands : StandsAt (section_bytes v section) (bytes_of (take (width_size width) (drop field cells))) field
-
-offset-cells : (v : View) (section : ℕ) (cells : List Cell) (width : Width) (field : ℕ) → CellsOf v section cells → field + width_size width ≤ length (section_bytes v section)
-    → OffsetCells v section cells width field
-offset-cells v section cells width field c inside =
-    let same : length cells ≡ length (section_bytes v section) = sym (length-bytes_of cells) ∙ ap length c.bytes in
-    let back : IsPlain (drop field cells) = (plain-parts (take field cells) (drop field cells) (subst IsPlain (sym (take-append-drop field cells)) c.plain)).1 in
-    let bytes : take (width_size width) (drop field (section_bytes v section)) ≡ bytes_of (take (width_size width) (drop field cells)) =
-    sym (part-bytes (width_size width) field cells ∙ ap (λ (bs : List ℕ). take (width_size width) (drop field bs)) c.bytes) in
-    record {
-      size = part-length (width_size width) field cells (omega (arith, inside, same));
-      plain = (plain-parts (take (width_size width) (drop field cells)) (drop (width_size width) (drop field cells))
-          (subst IsPlain (sym (take-append-drop (width_size width) (drop field cells))) back)).0;
-      stands = subst (λ (bs : List ℕ). StandsAt (section_bytes v section) bs field) bytes (cut-stands (section_bytes v section) field (width_size width) inside);
-    }
-
--- what they hold is what stands in the view
+-- what a field holds is what stands in the view
 pub field-there : (v : View) (section : ℕ) (cells : List Cell) (width : Width) (field : ℕ) → CellsOf v section cells → field + width_size width ≤ length (section_bytes v section)
     → field_of v.order (take (width_size width) (drop field cells)) ≡ field_at v section field (width_size width)
-unfolding field_of field_at
 field-there v section cells width field c inside =
-    let o : OffsetCells v section cells width field = offset-cells v section cells width field c inside in
-    let size = o.size in
-    let bytes = length-bytes_of (take (width_size width) (drop field cells)) in
-    rw (first-plain (take (width_size width) (drop field cells)) o.plain)
-    (ap (λ (n : ℕ). Num n) (sym (ap (spelled v.order (section_bytes v section) field) (sym size)
-    ∙ spelled-at v.order (section_bytes v section) (bytes_of (take (width_size width) (drop field cells))) field (length (take (width_size width) (drop field cells))) o.stands (omega (arith, bytes)))))
+    ap (λ (cs : List Cell). field_of v.order (cells_at cs field (width_size width))) c.same
+    ∙ field_at-cells v section field (width_size width) (width-some width) inside
 
 pub lines-same : (v : View) → located_cells (debug_data v).lines ≡ located v Line
 unfolding debug_data

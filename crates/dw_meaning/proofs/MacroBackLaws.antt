@@ -3,8 +3,8 @@ use Rattle.std.specs.Bool.{⊤}
 use Rattle.std.proofs.Common.{Bool, true, false, ◌≡◌, ℕ, ◌+◌, ◌<◌, ◌≤◌, List, [], ◌∷◌, ◌++◌, length, drop, get_or, slice_index, IsTrue, Option, Some, Ok, refl, sym, ap, ◌∙◌, subst, arith, if◌then◌else◌}
 use Rattle.std.proofs.lemmas.Bool.{le-leb}
 use Rattle.std.proofs.lemmas.List.{get_or-drop, get_or_append_left, length-drop}
-use Rattle.dw_base.specs.Cells.{Cell, bytes_of, offset_of}
-use Rattle.dw_base.specs.FileViews.{View, field_at, section_bytes}
+use Rattle.dw_base.specs.Cells.{Cell, bytes_of, cells_at, offset_into, offset_of}
+use Rattle.dw_base.specs.FileViews.{View, field_at, section_bytes, view_cells}
 use Rattle.dw_base.specs.Forms.{width_size}
 use Rattle.dw_base.specs.MacroHeaders.{is_macro_version, has_flag, width_by, header_by, header_of, macro_header}
 use Rattle.dw_base.specs.MacroOperations.{operation_at}
@@ -23,18 +23,22 @@ use Rattle.dw_base.specs.declared.macro_units.MacroUnit.{MacroUnit}
 use Rattle.dw_base.specs.declared.shared.Order.{Order}
 use Rattle.dw_base.specs.declared.shared.Width.{Width}
 use Rattle.dw_base.proofs.ContributionBackLaws.{StandsAt, spelled-there, piece-stands, behind-piece, piece-inside}
-use Rattle.dw_base.proofs.PlainCellLaws.{IsPlain, offset_of-plain}
+use Rattle.dw_base.proofs.ViewCellLaws.{bytes_of-view_cells, length-view_cells, offset_at-piece, piece-cells}
 use Rattle.dw_base.proofs.UnitEditLaws.{length-bytes_of}
+use Rattle.dw_meaning.proofs.FieldPutLaws.{width-some}
 use Rattle.dw_meaning.proofs.MacroReadLaws.{moved_operation, WholeAt, front-there}
 
--- plain cells whose offset of a text, if they are one, names one
+-- cells whose offset of a text, if they are one, names one
 abbrev pub MacroNamesBy : MacroMode → View → List Cell → Type 0
 MacroNamesBy (at_offset width (of_text defines line)) v p = IsTrue (ends_in (located v Str).bytes (offset_of v.order (located v Str) p))
 MacroNamesBy m v p = ⊤
 
-pub record MacroNames (v : View) (x : Piece MacroState) : Type 0 where
-  pub plain : IsPlain x.cells
-  pub names : MacroNamesBy x.state.mode v x.cells
+abbrev pub MacroNames : View → Piece MacroState → Type 0
+MacroNames v x = MacroNamesBy x.state.mode v x.cells
+
+-- the cells stand at a place of a section of the view
+abbrev pub StandsThere : View → ℕ → List Cell → ℕ → Type 0
+StandsThere v section p place = cells_at (view_cells v section) place (length p) ≡ p
 
 -- a byte behind the first
 pub byte-at : (bs xs : List ℕ) (p k : ℕ) → StandsAt bs xs p → k < length xs → slice_index bs (p + k) ≡ slice_index xs k
@@ -272,19 +276,19 @@ operation-step v section width list place p (before_offset names) h e k = record
 }
 
 -- the text that an offset names
-text-named : (v : View) (section : ℕ) (width : Width) (place : ℕ) (p : List Cell) → StandsAt (section_bytes v section) (bytes_of p) place → length p ≡ width_size width → IsPlain p
+text-named : (v : View) (section : ℕ) (width : Width) (place : ℕ) (p : List Cell) → StandsAt (section_bytes v section) (bytes_of p) place → length p ≡ width_size width → StandsThere v section p place
     → IsTrue (ends_in (located v Str).bytes (offset_of v.order (located v Str) p)) → names_text v section width place ≡ true
-unfolding field_at
-text-named v section width place p h size plain names =
+text-named v section width place p h size there names =
+    let inside = h.inside in
     let bytes = length-bytes_of p in
-    let same : spelled v.order (section_bytes v section) place (width_size width) ≡ offset_of v.order (located v Str) p =
-    ap (spelled v.order (section_bytes v section) place) (sym size)
-    ∙ spelled-at v.order (section_bytes v section) (bytes_of p) place (length p) h (omega (arith, bytes)) ∙ sym (offset_of-plain v.order (located v Str) p plain) in
-    ap (ends_in (located v Str).bytes) same ∙ names
+    let same : offset_of v.order (located v Str) p ≡ offset_into (located v Str) (field_at v section place (width_size width)) =
+    offset_at-piece v (located v Str) section place p there (omega (arith, size, width-some width)) (omega (arith, inside, bytes))
+    ∙ ap (λ (n : ℕ). offset_into (located v Str) (field_at v section place n)) size in
+    ap (ends_in (located v Str).bytes) (sym same) ∙ names
 
 offset-step : (v : View) (section : ℕ) (width : Width) (names : OffsetUse) (list : List MacroUnit) (place : ℕ) (p : List Cell) → StandsAt (section_bytes v section) (bytes_of p) place
-    → length p ≡ width_size width → IsPlain p → MacroNamesBy (at_offset width names) v p → OffsetAt v section width names list place → OperationsAt v section width list (place + length p)
-offset-step v section width (of_text defines line) list place p h size plain names k =
+    → length p ≡ width_size width → StandsThere v section p place → MacroNamesBy (at_offset width names) v p → OffsetAt v section width names list place → OperationsAt v section width list (place + length p)
+offset-step v section width (of_text defines line) list place p h size there names k =
     let inside = h.inside in
     let bytes = length-bytes_of p in
     let place_is = k.place_is in
@@ -292,10 +296,10 @@ offset-step v section width (of_text defines line) list place p h size plain nam
     front-there (section_bytes v section) k.front width k.from (before_offset (of_text defines line)) k.stands (record { room = omega (arith, inside, bytes, size, place_is) }) k.is in
     let here : operation_at (section_bytes v section) width k.from ≡ Some (Named defines line place, place + length p) =
     at ∙ ap (λ (n : ℕ). Some (Named defines line n, n + width_size width)) place_is ∙ ap (λ (n : ℕ). Some (Named defines line place, place + n)) (sym size) in
-    let named : names_text v section width place ≡ true = text-named v section width place p h size plain names in
+    let named : names_text v section width place ≡ true = text-named v section width place p h size there names in
     more-step v section width list k.from (place + length p) (Named defines line place) k.known
     (read-there v section k.known.start k.from width (Named defines line place) (place + length p) here ∙ rw named refl) refl
-offset-step v section width of_unit list place p h size plain names k =
+offset-step v section width of_unit list place p h size there names k =
     let inside = h.inside in
     let bytes = length-bytes_of p in
     let place_is = k.place_is in
@@ -306,39 +310,42 @@ offset-step v section width of_unit list place p h size plain names k =
     more-step v section width list k.from (place + length p) (Bring place) k.known (read-there v section k.known.start k.from width (Bring place) (place + length p) here) refl
 
 known-step : (m : MacroMode) (v : View) (section : ℕ) (list : List MacroUnit) (place : ℕ) (p : List Cell) → StandsAt (section_bytes v section) (bytes_of p) place → FitsMacros m v.order p
-    → IsPlain p → MacroNamesBy m v p → KnownBy m v section list place → KnownAt v section (mode_behind m (bytes_of p)) (place + length p)
-known-step at_unit v section list place p h f plain names k = unit-step v section list place p h f k
-known-step (at_line width) v section list place p h f plain names k = record { list = list; known = line-step v section width list place p h f k }
-known-step (at_operation width) v section list place p h f plain names k =
+    → StandsThere v section p place → MacroNamesBy m v p → KnownBy m v section list place → KnownAt v section (mode_behind m (bytes_of p)) (place + length p)
+known-step at_unit v section list place p h f there names k = unit-step v section list place p h f k
+known-step (at_line width) v section list place p h f there names k = record { list = list; known = line-step v section width list place p h f k }
+known-step (at_operation width) v section list place p h f there names k =
     subst (λ (o : Option OperationFront). KnownAt v section (after_operation width o) (place + length p)) (sym f.is) (operation-step v section width list place p f.front h f.is k)
-known-step (at_offset width use_) v section list place p h f plain names k = record { list = list; known = offset-step v section width use_ list place p h f plain names k }
-known-step no_macros v section list place p h f plain names k = absurd f
+known-step (at_offset width use_) v section list place p h f there names k = record { list = list; known = offset-step v section width use_ list place p h f there names k }
+known-step no_macros v section list place p h f there names k = absurd f
 
 -- the units of a section that is pieces
 pub record UnitsBack (v : View) (section : ℕ) : Type 0 where
   pub all : List MacroUnit
   pub are : AreMacroUnits v section all
 
-pieces-back : (v : View) (section : ℕ) (cells : List Cell) (s : MacroState) (xs : List (Piece MacroState)) (list : List MacroUnit) → bytes_of cells ≡ section_bytes v section
+pieces-back : (v : View) (section : ℕ) (cells : List Cell) (s : MacroState) (xs : List (Piece MacroState)) (list : List MacroUnit) → cells ≡ view_cells v section
     → s.place ≤ length cells → drop s.place cells ≡ joined xs → Chain (macro_grammar v.order) s xs → EachPiece (MacroNames v) xs → KnownBy s.mode v section list s.place → UnitsBack v section
 pieces-back v section cells s [] list same inside is chain names k =
     let size : length (drop s.place cells) ≡ 0 = ap length is in
-    let place : s.place ≡ length (section_bytes v section) = omega (arith, inside, size, length-drop s.place cells, length-bytes_of cells, ap length same) in
+    let place : s.place ≡ length (section_bytes v section) = omega (arith, inside, size, length-drop s.place cells, ap length same, length-view_cells v section) in
     let up : MacroUnitsUpTo v section list s.place = subst (λ (m : MacroMode). KnownBy m v section list s.place) chain k in
     record { all = list; are = subst (MacroUnitsUpTo v section list) place up }
 pieces-back v section cells s (x ∷ xs) list same inside is chain names k =
     let stands : StandsAt (section_bytes v section) (bytes_of x.cells) s.place =
-    subst (λ (bs : List ℕ). StandsAt bs (bytes_of x.cells) s.place) same (piece-stands cells x.cells (joined xs) s.place inside is) in
+    subst (λ (bs : List ℕ). StandsAt bs (bytes_of x.cells) s.place) (ap bytes_of same ∙ bytes_of-view_cells v section)
+    (piece-stands cells x.cells (joined xs) s.place inside is) in
+    let there : StandsThere v section x.cells s.place =
+    ap (λ (cs : List Cell). cells_at cs s.place (length x.cells)) (sym same) ∙ piece-cells cells x.cells (joined xs) s.place is in
     let known : KnownBy x.state.mode v section list s.place = subst (λ (z : MacroState). KnownBy z.mode v section list s.place) (sym chain.0) k in
     let next : KnownAt v section (mode_behind x.state.mode (bytes_of x.cells)) (s.place + length x.cells) =
-    known-step x.state.mode v section list s.place x.cells stands chain.1 names.0.plain names.0.names known in
+    known-step x.state.mode v section list s.place x.cells stands chain.1 there names.0 known in
     let place : x.state.place + length x.cells ≡ s.place + length x.cells = ap (λ (z : MacroState). z.place + length x.cells) chain.0 in
     pieces-back v section cells (macros_at (x.state.place + length x.cells) (mode_behind x.state.mode (bytes_of x.cells))) xs next.list same
     (subst (λ (n : ℕ). n ≤ length cells) (sym place) (piece-inside cells x.cells (joined xs) s.place inside is))
     (ap (λ (n : ℕ). drop n cells) place ∙ behind-piece cells x.cells (joined xs) s.place is)
     chain.2 names.1 (subst (KnownBy (mode_behind x.state.mode (bytes_of x.cells)) v section next.list) (sym place) next.known)
 
-pub units-back : (v : View) (section : ℕ) (cells : List Cell) (xs : List (Piece MacroState)) → bytes_of cells ≡ section_bytes v section → ReadsMacros v.order cells xs
+pub units-back : (v : View) (section : ℕ) (cells : List Cell) (xs : List (Piece MacroState)) → cells ≡ view_cells v section → ReadsMacros v.order cells xs
     → EachPiece (MacroNames v) xs → UnitsBack v section
 units-back v section cells xs same reads names =
     pieces-back v section cells (macros_at 0 at_unit) xs [] same (omega arith) (sym reads.cells) reads.chain names no_units

@@ -3,9 +3,9 @@ use Rattle.std.specs.Bool.{⊤}
 use Rattle.std.proofs.Common.{Bool, true, false, ◌≡◌, ℕ, ◌+◌, ◌≤◌, ◌==◌, nat_le, List, [], ◌∷◌, ◌++◌, length, take, drop, slice_index, Option, Some, None, refl, sym, ap, ◌∙◌, subst, arith, if◌then◌else◌}
 use Rattle.std.proofs.lemmas.Bool.{eqb-true, lt-leb}
 use Rattle.std.proofs.lemmas.List.{drop-drop, drop-append-le, length-drop, take-append-le}
-use Rattle.dw_base.specs.Cells.{Cell, Located, bytes_of, field_of, offset_into, offset_of}
+use Rattle.dw_base.specs.Cells.{Cell, Located, bytes_of, cells_at, field_of, offset_into, offset_of}
 use Rattle.dw_base.specs.DebugData.{Around, line_table, start_number, unit_named}
-use Rattle.dw_base.specs.FileViews.{View, field_at, section_bytes}
+use Rattle.dw_base.specs.FileViews.{View, field_at, section_bytes, view_cells}
 use Rattle.dw_base.specs.Forms.{width_size}
 use Rattle.dw_base.specs.Lebs.{uleb_at}
 use Rattle.dw_base.specs.MacroHeaders.{has_flag, width_by, macro_header}
@@ -24,15 +24,14 @@ use Rattle.dw_base.specs.declared.shared.Order.{Order}
 use Rattle.dw_base.specs.declared.shared.Width.{Width}
 use Rattle.dw_base.specs.declared.shared.Width.TheVariants.{W32}
 use Rattle.dw_base.specs.declared.view_fields.Field.{Field}
-use Rattle.dw_base.specs.declared.view_fields.Field.TheVariants.{Num}
 use Rattle.dw_base.proofs.ContributionBackLaws.{StandsAt, piece-stands, behind-piece, piece-inside}
-use Rattle.dw_base.proofs.PlainCellLaws.{IsPlain, first-plain}
+use Rattle.dw_base.proofs.ViewCellLaws.{bytes_of-view_cells, field_at-piece, length-view_cells, piece-cells}
 use Rattle.dw_base.proofs.UnitEditLaws.{length-bytes_of}
 use Rattle.dw_meaning.proofs.LineReadLaws.{bound, made, if-some, some-same}
-use Rattle.dw_meaning.proofs.MacroBackLaws.{byte-at, spelled-at, header-plain, header-lined}
+use Rattle.dw_meaning.proofs.FieldPutLaws.{width-some}
+use Rattle.dw_meaning.proofs.MacroBackLaws.{StandsThere, byte-at, header-lined, header-plain, spelled-at}
 use Rattle.dw_meaning.proofs.MacroCutLaws.{if-case}
 use Rattle.dw_meaning.proofs.MacroReadLaws.{moved_operation, read_as, front-some, WholeAt, front-there}
-use Rattle.dw_meaning.proofs.OffsetMoveLaws.{EachCells}
 
 -- an operation as an event
 abbrev pub operation_meaning : View → Around → ℕ → Width → MacroOperation → EventMeaning
@@ -104,20 +103,18 @@ MeantBy (at_operation width) v g section place b = EventsBehind v g section widt
 MeantBy (at_offset width names) v g section place b = OffsetBehind v g section width names place b
 MeantBy no_macros v g section place b = ⊤
 
--- a field of plain cells
-field-is : (v : View) (section place : ℕ) (width : Width) (p : List Cell) → StandsAt (section_bytes v section) (bytes_of p) place → length p ≡ width_size width → IsPlain p
-    → field_of v.order p ≡ field_at v section place (width_size width)
-unfolding field_of field_at
-field-is v section place width p h size plain =
+-- a field of cells that stand in the view
+field-is : (v : View) (section place : ℕ) (width : Width) (p : List Cell) → StandsAt (section_bytes v section) (bytes_of p) place → length p ≡ width_size width
+    → StandsThere v section p place → field_of v.order p ≡ field_at v section place (width_size width)
+field-is v section place width p h size there =
+    let inside = h.inside in
     let bytes = length-bytes_of p in
-    rw (first-plain p plain)
-    (ap (λ (n : ℕ). Num n) (sym (ap (spelled v.order (section_bytes v section) place) (sym size)
-    ∙ spelled-at v.order (section_bytes v section) (bytes_of p) place (length p) h (omega (arith, bytes)))))
+    field_at-piece v section place p there (omega (arith, size, width-some width)) (omega (arith, inside, bytes)) ∙ ap (field_at v section place) size
 
-offset-is : (v : View) (section place : ℕ) (width : Width) (p : List Cell) (z : Located) → StandsAt (section_bytes v section) (bytes_of p) place → length p ≡ width_size width → IsPlain p
-    → offset_of v.order z p ≡ offset_into z (field_at v section place (width_size width))
+offset-is : (v : View) (section place : ℕ) (width : Width) (p : List Cell) (z : Located) → StandsAt (section_bytes v section) (bytes_of p) place → length p ≡ width_size width
+    → StandsThere v section p place → offset_of v.order z p ≡ offset_into z (field_at v section place (width_size width))
 unfolding offset_of
-offset-is v section place width p z h size plain = ap (offset_into z) (field-is v section place width p h size plain)
+offset-is v section place width p z h size there = ap (offset_into z) (field-is v section place width p h size there)
 
 -- how long a text is that stands in its operation
 inline-size : (xs : List ℕ) (defines own : Bool) (line at len n : ℕ) → inline_operation xs own 1 ≡ read_as (Inline defines line at len) n → at + (len + 1) ≡ n
@@ -363,8 +360,8 @@ unit-meant v g section place p b order h f k = by_line (has_flag (slice_index (b
         }
 
 line-meant : (v : View) (g : Around) (section place : ℕ) (width : Width) (p : List Cell) (b : MacrosBehind) → g.lasting.base.order ≡ v.order → StandsAt (section_bytes v section) (bytes_of p) place
-    → length p ≡ width_size width → IsPlain p → EventsBehind v g section width (place + length p) b → LineBehind v g section width place (with_macro_mark (has_line (line_table g p)) b)
-line-meant v g section place width p b order h size plain k =
+    → length p ≡ width_size width → StandsThere v section p place → EventsBehind v g section width (place + length p) b → LineBehind v g section width place (with_macro_mark (has_line (line_table g p)) b)
+line-meant v g section place width p b order h size there k =
     let inside = h.inside in
     let bytes = length-bytes_of p in
     record {
@@ -372,7 +369,7 @@ line-meant v g section place width p b order h size plain k =
       room = omega (arith, inside, bytes, size);
       events = subst (λ (n : ℕ). EventsFrom v g section width n b.events k.end) (ap (λ (n : ℕ). place + n) size) k.events;
       units = k.units;
-      line = ap (λ (o : Order). start_number 0 g.starts (offset_of o g.lines p)) order ∙ ap (start_number 0 g.starts) (offset-is v section place width p g.lines h size plain);
+      line = ap (λ (o : Order). start_number 0 g.starts (offset_of o g.lines p)) order ∙ ap (start_number 0 g.starts) (offset-is v section place width p g.lines h size there);
     }
 
 front-meant : (v : View) (g : Around) (section place : ℕ) (width : Width) (p : List Cell) (f : OperationFront) (b : MacrosBehind) → StandsAt (section_bytes v section) (bytes_of p) place
@@ -439,9 +436,9 @@ front-meant v g section place width p (before_offset of_unit) b h e k =
     })
 
 offset-meant : (v : View) (g : Around) (section place : ℕ) (width : Width) (names : OffsetUse) (p : List Cell) (b : MacrosBehind) → g.lasting.base.order ≡ v.order
-    → StandsAt (section_bytes v section) (bytes_of p) place → length p ≡ width_size width → IsPlain p → EventsBehind v g section width (place + length p) b
+    → StandsAt (section_bytes v section) (bytes_of p) place → length p ≡ width_size width → StandsThere v section p place → EventsBehind v g section width (place + length p) b
     → OffsetBehind v g section width names place (with_macro_mark (offset_mark names g p) b)
-offset-meant v g section place width names p b order h size plain k =
+offset-meant v g section place width names p b order h size there k =
     let inside = h.inside in
     let bytes = length-bytes_of p in
     by_use names (omega (arith, inside, bytes, size))
@@ -452,7 +449,7 @@ offset-meant v g section place width names p b order h size plain k =
       more = b.events;
       room = room;
       is = ap (λ (n : ℕ). text_event defines line (text_in g.str.bytes n) ∷ b.events)
-          (ap (λ (o : Order). offset_of o g.str p) order ∙ offset-is v section place width p g.str h size plain);
+          (ap (λ (o : Order). offset_of o g.str p) order ∙ offset-is v section place width p g.str h size there);
       events = subst (λ (n : ℕ). EventsFrom v g section width n b.events k.end) (ap (λ (n : ℕ). place + n) size) k.events;
       units = k.units;
       line = k.line;
@@ -462,41 +459,44 @@ offset-meant v g section place width names p b order h size plain k =
       more = b.events;
       room = room;
       is = ap (λ (f : Field). brought (unit_named g.lasting.macros f) ∷ b.events)
-          (ap (λ (o : Order). field_of o p) order ∙ field-is v section place width p h size plain);
+          (ap (λ (o : Order). field_of o p) order ∙ field-is v section place width p h size there);
       events = subst (λ (n : ℕ). EventsFrom v g section width n b.events k.end) (ap (λ (n : ℕ). place + n) size) k.events;
       units = k.units;
       line = k.line;
     }
 
 piece-meant : (m : MacroMode) (v : View) (g : Around) (section place : ℕ) (p : List Cell) (b : MacrosBehind) → g.lasting.base.order ≡ v.order → StandsAt (section_bytes v section) (bytes_of p) place
-    → FitsMacros m v.order p → IsPlain p → MeantBy (mode_behind m (bytes_of p)) v g section (place + length p) b → MeantBy m v g section place (with_macro_mark (macro_mark_by m g p) b)
-piece-meant at_unit v g section place p b order h f plain k = unit-meant v g section place p b order h f k
-piece-meant (at_line width) v g section place p b order h f plain k = line-meant v g section place width p b order h f plain k
-piece-meant (at_operation width) v g section place p b order h f plain k =
+    → FitsMacros m v.order p → StandsThere v section p place → MeantBy (mode_behind m (bytes_of p)) v g section (place + length p) b → MeantBy m v g section place (with_macro_mark (macro_mark_by m g p) b)
+piece-meant at_unit v g section place p b order h f there k = unit-meant v g section place p b order h f k
+piece-meant (at_line width) v g section place p b order h f there k = line-meant v g section place width p b order h f there k
+piece-meant (at_operation width) v g section place p b order h f there k =
     front-meant v g section place width p f.front b h f.is (subst (λ (o : Option OperationFront). MeantBy (after_operation width o) v g section (place + length p) b) f.is k)
-piece-meant (at_offset width names) v g section place p b order h f plain k = offset-meant v g section place width names p b order h f plain k
-piece-meant no_macros v g section place p b order h f plain k = tt
+piece-meant (at_offset width names) v g section place p b order h f there k = offset-meant v g section place width names p b order h f there k
+piece-meant no_macros v g section place p b order h f there k = tt
 
-pieces-meant : (v : View) (g : Around) (section : ℕ) (cells : List Cell) (s : MacroState) (xs : List (Piece MacroState)) → g.lasting.base.order ≡ v.order → bytes_of cells ≡ section_bytes v section
-    → s.place ≤ length cells → drop s.place cells ≡ joined xs → Chain (macro_grammar v.order) s xs → EachCells xs → MeantBy s.mode v g section s.place (macros_behind g xs)
-pieces-meant v g section cells s [] order same inside is chain plain =
+pieces-meant : (v : View) (g : Around) (section : ℕ) (cells : List Cell) (s : MacroState) (xs : List (Piece MacroState)) → g.lasting.base.order ≡ v.order → cells ≡ view_cells v section
+    → s.place ≤ length cells → drop s.place cells ≡ joined xs → Chain (macro_grammar v.order) s xs → MeantBy s.mode v g section s.place (macros_behind g xs)
+pieces-meant v g section cells s [] order same inside is chain =
     let size : length (drop s.place cells) ≡ 0 = ap length is in
-    let place : s.place ≡ length (section_bytes v section) = omega (arith, inside, size, length-drop s.place cells, length-bytes_of cells, ap length same) in
+    let place : s.place ≡ length (section_bytes v section) = omega (arith, inside, size, length-drop s.place cells, ap length same, length-view_cells v section) in
     subst (λ (m : MacroMode). MeantBy m v g section s.place no_macros_behind) (sym chain) (record { units = units_over s.place place; events = refl; line = refl })
-pieces-meant v g section cells s (x ∷ xs) order same inside is chain plain =
+pieces-meant v g section cells s (x ∷ xs) order same inside is chain =
     let stands : StandsAt (section_bytes v section) (bytes_of x.cells) s.place =
-    subst (λ (bs : List ℕ). StandsAt bs (bytes_of x.cells) s.place) same (piece-stands cells x.cells (joined xs) s.place inside is) in
+    subst (λ (bs : List ℕ). StandsAt bs (bytes_of x.cells) s.place) (ap bytes_of same ∙ bytes_of-view_cells v section)
+    (piece-stands cells x.cells (joined xs) s.place inside is) in
+    let there : StandsThere v section x.cells s.place =
+    ap (λ (cs : List Cell). cells_at cs s.place (length x.cells)) (sym same) ∙ piece-cells cells x.cells (joined xs) s.place is in
     let place : x.state.place + length x.cells ≡ s.place + length x.cells = ap (λ (z : MacroState). z.place + length x.cells) chain.0 in
     let next = pieces-meant v g section cells (macros_at (x.state.place + length x.cells) (mode_behind x.state.mode (bytes_of x.cells))) xs order same
     (subst (λ (n : ℕ). n ≤ length cells) (sym place) (piece-inside cells x.cells (joined xs) s.place inside is))
-    (ap (λ (n : ℕ). drop n cells) place ∙ behind-piece cells x.cells (joined xs) s.place is) chain.2 plain.1 in
+    (ap (λ (n : ℕ). drop n cells) place ∙ behind-piece cells x.cells (joined xs) s.place is) chain.2 in
     let here : MeantBy x.state.mode v g section s.place (with_macro_mark (macro_mark_by x.state.mode g x.cells) (macros_behind g xs)) =
-    piece-meant x.state.mode v g section s.place x.cells (macros_behind g xs) order stands chain.1 plain.0
+    piece-meant x.state.mode v g section s.place x.cells (macros_behind g xs) order stands chain.1 there
     (subst (λ (n : ℕ). MeantBy (mode_behind x.state.mode (bytes_of x.cells)) v g section n (macros_behind g xs)) place next) in
     subst (λ (m : MacroMode). MeantBy m v g section s.place (with_macro_mark (macro_mark_by x.state.mode g x.cells) (macros_behind g xs))) (ap (λ (z : MacroState). z.mode) chain.0) here
 
 -- the units of a section that is pieces mean what stands at their places
-pub units-meant : (v : View) (g : Around) (section : ℕ) (cells : List Cell) (xs : List (Piece MacroState)) → g.lasting.base.order ≡ v.order → bytes_of cells ≡ section_bytes v section
-    → ReadsMacros v.order cells xs → EachCells xs → UnitsFrom v g section 0 (macros_behind g xs).units
-units-meant v g section cells xs order same reads plain =
-    (pieces-meant v g section cells (macros_at 0 at_unit) xs order same (omega arith) (sym reads.cells) reads.chain plain).units
+pub units-meant : (v : View) (g : Around) (section : ℕ) (cells : List Cell) (xs : List (Piece MacroState)) → g.lasting.base.order ≡ v.order → cells ≡ view_cells v section
+    → ReadsMacros v.order cells xs → UnitsFrom v g section 0 (macros_behind g xs).units
+units-meant v g section cells xs order same reads =
+    (pieces-meant v g section cells (macros_at 0 at_unit) xs order same (omega arith) (sym reads.cells) reads.chain).units

@@ -4,8 +4,8 @@ use Rattle.std.specs.Prelude.{Result, Ok, Err}
 use Rattle.std.proofs.Common.{Bool, true, false, ◌≡◌, ◌≢◌, ℕ, ◌+◌, ◌≤◌, nat_le, List, [], ◌∷◌, ◌++◌, length, take, drop, slice_index, IsTrue, Option, Some, None, refl, sym, ap, ◌∙◌, subst, arith, append_assoc, if◌then◌else◌}
 use Rattle.std.proofs.lemmas.Bool.{leb-true}
 use Rattle.std.proofs.lemmas.List.{append-nil, drop_all, drop-drop, take-append-drop}
-use Rattle.dw_base.specs.Cells.{Cell, CellSection, bytes_of, offset_of}
-use Rattle.dw_base.specs.FileViews.{View, field_at, section_bytes}
+use Rattle.dw_base.specs.Cells.{Cell, CellSection, bytes_of, cells_at, offset_into, offset_of}
+use Rattle.dw_base.specs.FileViews.{View, field_at, section_bytes, view_cells}
 use Rattle.dw_base.specs.Forms.{width_size}
 use Rattle.dw_base.specs.MacroHeaders.{is_macro_version, has_flag, width_by, header_by, header_of, macro_header}
 use Rattle.dw_base.specs.MacroOperations.{operation_at}
@@ -27,19 +27,20 @@ use Rattle.dw_base.specs.declared.macro_units.MacroOperation.TheVariants.{End, I
 use Rattle.dw_base.specs.declared.macro_units.MacroUnit.{MacroUnit}
 use Rattle.dw_base.specs.declared.shared.Width.{Width}
 use Rattle.dw_base.proofs.ContributionBackLaws.{StandsAt}
-use Rattle.dw_base.proofs.PlainCellLaws.{IsPlain, offset_of-plain, plain-parts}
+use Rattle.dw_base.proofs.ViewCellLaws.{offset_at-cells}
 use Rattle.dw_base.proofs.RunLaws.{part-bytes, part-length}
 use Rattle.dw_base.proofs.UnitEditLaws.{length-bytes_of}
 use Rattle.dw_meaning.proofs.LineReadLaws.{if-some, some-same}
+use Rattle.dw_meaning.proofs.FieldPutLaws.{width-some}
 use Rattle.dw_meaning.proofs.MacroBackLaws.{byte-at, spelled-at}
 use Rattle.dw_meaning.proofs.MacroCutLaws.{cut-stands, cut-length, FrontCut, operation-cut}
 use Rattle.dw_meaning.proofs.MacroReadLaws.{read_as}
 use Rattle.dw_meaning.proofs.PieceLaws.{leads-more, leads-chain, joined-append}
 
--- a section of the view as plain cells
+-- the contents of a section of the view, and their bytes
 pub record CellsOf (v : View) (section : ℕ) (cells : List Cell) : Type 0 where
   pub bytes : bytes_of cells ≡ section_bytes v section
-  pub plain : IsPlain cells
+  pub same : cells ≡ view_cells v section
 
 -- where the offset of a line table stands, and how many bytes it has
 pub record FieldPlace : Type 0 where
@@ -96,12 +97,6 @@ macro-more v section cells P ss us fs hs s t u a b c m n = record {
 
 macro-none : (v : View) (section : ℕ) (cells : List Cell) (P : Piece MacroState → Type 0) (s : MacroState) (a : ℕ) → MacroRun v section cells P [] [] s s a a
 macro-none v section cells P s a = record { pieces = []; leads = refl; covers = refl; each = tt; starts = refl; lines = refl }
-
--- a part of plain cells is plain
-part-plain : (cells : List Cell) (a n : ℕ) → IsPlain cells → IsPlain (take n (drop a cells))
-part-plain cells a n h =
-    let back : IsPlain (drop a cells) = (plain-parts (take a cells) (drop a cells) (subst IsPlain (sym (take-append-drop a cells)) h)).1 in
-    (plain-parts (take n (drop a cells)) (drop n (drop a cells)) (subst IsPlain (sym (take-append-drop n (drop a cells))) back)).0
 
 macro-one : (v : View) (section : ℕ) (cells : List Cell) (P : Piece MacroState → Type 0) (s t : MacroState) (a n : ℕ) → (macro_grammar v.order).Fits s (take n (drop a cells))
     → (macro_grammar v.order).next s (take n (drop a cells)) ≡ t → P (record { state = s; cells = take n (drop a cells) })
@@ -185,16 +180,10 @@ unit-ok v section start place width o next e = by_read (operation_at (section_by
 text-there : (v : View) (section : ℕ) (cells : List Cell) (width : Width) (place : ℕ) → CellsOf v section cells → place + width_size width ≤ length (section_bytes v section)
     → names_text v section width place ≡ true
     → IsTrue (ends_in (located v Str).bytes (offset_of v.order (located v Str) (take (width_size width) (drop place cells))))
-unfolding field_at
 text-there v section cells width place c h named =
-    let size : length (take (width_size width) (drop place cells)) ≡ width_size width = part-size v section cells place (width_size width) c h in
-    let bytes : bytes_of (take (width_size width) (drop place cells)) ≡ take (width_size width) (drop place (section_bytes v section)) = part-is v section cells place (width_size width) c in
-    let whole_size = cut-length (section_bytes v section) place (width_size width) h in
-    let same : offset_of v.order (located v Str) (take (width_size width) (drop place cells)) ≡ spelled v.order (section_bytes v section) place (width_size width) =
-    offset_of-plain v.order (located v Str) (take (width_size width) (drop place cells)) (part-plain cells place (width_size width) c.plain)
-    ∙ ap (spelled v.order (bytes_of (take (width_size width) (drop place cells))) 0) size ∙ ap (λ (bs : List ℕ). spelled v.order bs 0 (width_size width)) bytes
-    ∙ sym (spelled-at v.order (section_bytes v section) (take (width_size width) (drop place (section_bytes v section))) place (width_size width)
-    (cut-stands (section_bytes v section) place (width_size width) h) (omega (arith, whole_size))) in
+    let same : offset_of v.order (located v Str) (take (width_size width) (drop place cells)) ≡ offset_into (located v Str) (field_at v section place (width_size width)) =
+    ap (λ (cs : List Cell). offset_of v.order (located v Str) (cells_at cs place (width_size width))) c.same
+    ∙ offset_at-cells v (located v Str) section place (width_size width) (width-some width) h in
     ap (ends_in (located v Str).bytes) same ∙ named
 
 -- what an offset of an operation names, and where it stands

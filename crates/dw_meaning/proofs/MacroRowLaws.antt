@@ -1,10 +1,10 @@
 -- Debug data that can be read excludes the refusals of macro units.
 use Rattle.std.proofs.Common.{Bool, true, false, ◌≡◌, ℕ, suc, ◌+◌, ◌≤◌, List, [], ◌∷◌, ◌++◌, drop, IsTrue, refl, sym, ap, ◌∙◌, subst, arith}
 use Rattle.std.specs.Prelude.{◌&&◌, zero}
-use Rattle.dw_base.specs.Cells.{Cell, CellSection, Located, bytes_of, plain_cells, offset_of}
+use Rattle.dw_base.specs.Cells.{Cell, CellSection, Located, bytes_of, offset_of}
 use Rattle.dw_base.specs.DebugData.{DataReadings, Around, around_of}
 use Rattle.dw_base.specs.DebugSections.{debug_section}
-use Rattle.dw_base.specs.FileViews.{View, ViewSection, bytes_in, contents_in, section_bytes}
+use Rattle.dw_base.specs.FileViews.{View, ViewSection, cells_of, contents_in, section_bytes, view_cells}
 use Rattle.dw_base.specs.MacroFails.{MacroUnitsFail}
 use Rattle.dw_base.specs.MacroPieces.{of_text, of_unit, MacroMode, at_unit, at_line, at_operation, at_offset, no_macros, MacroState, ReadsMacros}
 use Rattle.dw_base.specs.MacroReadings.{MacroReading, ReadsAllMacros, EachMacro}
@@ -12,23 +12,20 @@ use Rattle.dw_base.specs.Pieces.{Piece, EachPiece}
 use Rattle.dw_base.specs.SectionTexts.{macro_role_by, macro_role}
 use Rattle.dw_base.specs.TextChanges.{NamesTextBy}
 use Rattle.dw_base.specs.Texts.{ends_in}
-use Rattle.dw_base.specs.ViewData.{is_macro, macro_section, macro_sections_from, macro_sections, debug_data, located}
+use Rattle.dw_base.specs.ViewData.{cells_in, is_macro, macro_section, macro_sections_from, macro_sections, debug_data, located}
 use Rattle.dw_base.specs.declared.debug_sections.DebugSection.TheVariants.{Str}
 use Rattle.dw_base.specs.declared.fault.Refusal.{Refusal}
 use Rattle.dw_base.specs.declared.shared.Order.{Order}
 use Rattle.dw_base.proofs.MacroRowLaws.{units-exclude}
-use Rattle.dw_base.proofs.PlainCellLaws.{IsPlain, bytes_of-plain}
+use Rattle.dw_base.proofs.ViewCellLaws.{bytes_of-view_cells}
 use Rattle.dw_meaning.specs.DataOutput.{DataReads}
 use Rattle.dw_meaning.proofs.MacroBackLaws.{MacroNamesBy, MacroNames, UnitsBack, units-back}
-use Rattle.dw_meaning.proofs.MacroEditLaws.{AllPlain}
-use Rattle.dw_meaning.proofs.MacroKeptLaws.{macros-plain}
 use Rattle.dw_meaning.proofs.MacroPieceLaws.{CellsOf}
-use Rattle.dw_meaning.proofs.OffsetMoveLaws.{EachCells, cells-plain}
 
 -- a section of macro units of a list, by its number
 record SectionAt (k : ℕ) (ss : List ViewSection) (z : CellSection) : Type 0 where
   from : k ≤ z.number
-  bytes : (i : ℕ) → z.number ≡ k + i → bytes_of z.contents ≡ bytes_in (contents_in ss i)
+  cells : (i : ℕ) → z.number ≡ k + i → z.contents ≡ cells_in (contents_in ss i)
 
 section-among : (k : ℕ) (ss : List ViewSection) (before behind : List CellSection) (z : CellSection) → macro_sections_from k ss ≡ before ++ z ∷ behind → SectionAt k ss z
 section-among k [] [] behind z e = absurd cc
@@ -39,18 +36,18 @@ section-among k (s ∷ ss) before behind z e =
     further : SectionAt (suc k) ss z → SectionAt k (s ∷ ss) z
     further h =
         let from = h.from in
-        record { from = omega (arith, from); bytes = by_index from h.bytes }
+        record { from = omega (arith, from); cells = by_index from h.cells }
       where
-        by_index : suc k ≤ z.number → ((i : ℕ) → z.number ≡ suc k + i → bytes_of z.contents ≡ bytes_in (contents_in ss i))
-            → (i : ℕ) → z.number ≡ k + i → bytes_of z.contents ≡ bytes_in (contents_in (s ∷ ss) i)
+        by_index : suc k ≤ z.number → ((i : ℕ) → z.number ≡ suc k + i → z.contents ≡ cells_in (contents_in ss i))
+            → (i : ℕ) → z.number ≡ k + i → z.contents ≡ cells_in (contents_in (s ∷ ss) i)
         by_index from h zero same = absurd (omega (arith, from, same))
         by_index from h (suc i) same = h i (omega (arith, same))
 
-    here : z ≡ record { number = k; contents = plain_cells (bytes_in s.contents) } → SectionAt k (s ∷ ss) z
-    here e = subst (SectionAt k (s ∷ ss)) (sym e) (record { from = omega arith; bytes = own })
+    here : z ≡ record { number = k; contents = cells_of s } → SectionAt k (s ∷ ss) z
+    here e = subst (SectionAt k (s ∷ ss)) (sym e) (record { from = omega arith; cells = own })
       where
-        own : (i : ℕ) → k ≡ k + i → bytes_of (plain_cells (bytes_in s.contents)) ≡ bytes_in (contents_in (s ∷ ss) i)
-        own zero same = bytes_of-plain (bytes_in s.contents)
+        own : (i : ℕ) → k ≡ k + i → cells_of s ≡ cells_in (contents_in (s ∷ ss) i)
+        own zero same = refl
         own (suc i) same = absurd (omega (arith, same))
 
     head-same : (x y : CellSection) (xs ys : List CellSection) → x ∷ xs ≡ y ∷ ys → x ≡ y
@@ -63,48 +60,44 @@ section-among k (s ∷ ss) before behind z e =
         → ((us : List CellSection) → macro_sections_from (suc k) ss ≡ us ++ z ∷ behind → SectionAt k (s ∷ ss) z) → SectionAt k (s ∷ ss) z
     by_section false ys e rest = rest ys e
     by_section true [] e rest =
-        here (sym (head-same (record { number = k; contents = plain_cells (bytes_in s.contents) }) z (macro_sections_from (suc k) ss) behind e))
+        here (sym (head-same (record { number = k; contents = cells_of s }) z (macro_sections_from (suc k) ss) behind e))
     by_section true (y ∷ ys) e rest =
-        rest ys (tail-same (record { number = k; contents = plain_cells (bytes_in s.contents) }) y (macro_sections_from (suc k) ss) (ys ++ z ∷ behind) e)
+        rest ys (tail-same (record { number = k; contents = cells_of s }) y (macro_sections_from (suc k) ss) (ys ++ z ∷ behind) e)
 
 contents-behind : (ss : List ViewSection) (i : ℕ) → contents_in (drop 1 ss) i ≡ contents_in ss (suc i)
 contents-behind [] i = refl
 contents-behind (s ∷ ss) i = refl
 
--- the bytes of a section of macro units of a view
-view-bytes : (v : View) (before behind : List CellSection) (z : CellSection) → macro_sections v ≡ before ++ z ∷ behind → bytes_of z.contents ≡ section_bytes v z.number
+-- the contents of a section of macro units of a view, and their bytes
+view-cells : (v : View) (before behind : List CellSection) (z : CellSection) → macro_sections v ≡ before ++ z ∷ behind → z.contents ≡ view_cells v z.number
 unfolding macro_sections section_bytes
-view-bytes v before behind z e = by_number z.number refl (section-among 1 (drop 1 v.sections) before behind z e)
+view-cells v before behind z e = by_number z.number refl (section-among 1 (drop 1 v.sections) before behind z e)
   where
-    by_number : (n : ℕ) → z.number ≡ n → SectionAt 1 (drop 1 v.sections) z → bytes_of z.contents ≡ bytes_in (contents_in v.sections n)
+    by_number : (n : ℕ) → z.number ≡ n → SectionAt 1 (drop 1 v.sections) z → z.contents ≡ cells_in (contents_in v.sections n)
     by_number zero same h =
         let from = h.from in
         absurd (omega (arith, from, same))
-    by_number (suc i) same h = h.bytes i (same ∙ omega arith) ∙ ap bytes_in (contents-behind v.sections i)
+    by_number (suc i) same h = h.cells i (same ∙ omega arith) ∙ ap cells_in (contents-behind v.sections i)
 
-plain-among : (before behind : List CellSection) (z : CellSection) → AllPlain (before ++ z ∷ behind) → IsPlain z.contents
-plain-among [] behind z h = h.0
-plain-among (y ∷ ys) behind z h = plain-among ys behind z h.1
+view-bytes : (v : View) (before behind : List CellSection) (z : CellSection) → macro_sections v ≡ before ++ z ∷ behind → bytes_of z.contents ≡ section_bytes v z.number
+view-bytes v before behind z e = ap bytes_of (view-cells v before behind z e) ∙ bytes_of-view_cells v z.number
 
--- such a section as one of the view, of plain cells
+-- such a section as one of the view
 pub cells-of : (v : View) (before behind : List CellSection) (z : CellSection) → macro_sections v ≡ before ++ z ∷ behind → CellsOf v z.number z.contents
-unfolding macro_sections
-cells-of v before behind z e =
-    record { bytes = view-bytes v before behind z e; plain = plain-among before behind z (subst AllPlain e (macros-plain 1 (drop 1 v.sections))) }
+cells-of v before behind z e = record { bytes = view-bytes v before behind z e; same = view-cells v before behind z e }
 
 -- its pieces
 record MacrosRead (order : Order) (around : Around) (z : CellSection) : Type 0 where
   pieces : List (Piece MacroState)
   reads : ReadsMacros order z.contents pieces
-  plain : IsPlain z.contents
   texts : EachPiece (λ x. NamesTextBy (macro_role x.state) around x.cells) pieces
 
 macros-of : (order : Order) (around : Around) (before behind : List CellSection) (z : CellSection) (rs : List MacroReading) → ReadsAllMacros order (before ++ z ∷ behind) rs
-    → AllPlain (before ++ z ∷ behind) → EachMacro (λ x. NamesTextBy (macro_role x.state) around x.cells) rs → MacrosRead order around z
-macros-of order around [] behind z [] reads plain texts = absurd reads
-macros-of order around [] behind z (r ∷ rs) reads plain texts = record { pieces = r.pieces; reads = reads.1; plain = plain.0; texts = texts.0 }
-macros-of order around (y ∷ ys) behind z [] reads plain texts = absurd reads
-macros-of order around (y ∷ ys) behind z (r ∷ rs) reads plain texts = macros-of order around ys behind z rs reads.2 plain.1 texts.1
+    → EachMacro (λ x. NamesTextBy (macro_role x.state) around x.cells) rs → MacrosRead order around z
+macros-of order around [] behind z [] reads texts = absurd reads
+macros-of order around [] behind z (r ∷ rs) reads texts = record { pieces = r.pieces; reads = reads.1; texts = texts.0 }
+macros-of order around (y ∷ ys) behind z [] reads texts = absurd reads
+macros-of order around (y ∷ ys) behind z (r ∷ rs) reads texts = macros-of order around ys behind z rs reads.2 texts.1
 
 macro-names : (m : MacroMode) (v : View) (around : Around) (p : List Cell) → around.str ≡ located v Str → around.lasting.base.order ≡ v.order → NamesTextBy (macro_role_by m) around p
     → MacroNamesBy m v p
@@ -117,11 +110,10 @@ macro-names (at_offset width (of_text defines line)) v around p str order h =
 macro-names (at_offset width of_unit) v around p str order h = tt
 macro-names no_macros v around p str order h = tt
 
-all-names : (v : View) (around : Around) (xs : List (Piece MacroState)) → around.str ≡ located v Str → around.lasting.base.order ≡ v.order → EachCells xs
+all-names : (v : View) (around : Around) (xs : List (Piece MacroState)) → around.str ≡ located v Str → around.lasting.base.order ≡ v.order
     → EachPiece (λ x. NamesTextBy (macro_role x.state) around x.cells) xs → EachPiece (MacroNames v) xs
-all-names v around [] str order plain h = tt
-all-names v around (x ∷ xs) str order plain h =
-    (record { plain = plain.0; names = macro-names x.state.mode v around x.cells str order h.0 }, all-names v around xs str order plain.1 h.1)
+all-names v around [] str order h = tt
+all-names v around (x ∷ xs) str order h = (macro-names x.state.mode v around x.cells str order h.0, all-names v around xs str order h.1)
 
 -- the units of a section of macro units of debug data that can be read
 pub macro-units : (v : View) (q : DataReadings) (before behind : List CellSection) (z : CellSection) → DataReads (debug_data v) q → (debug_data v).macros ≡ before ++ z ∷ behind
@@ -130,10 +122,9 @@ unfolding debug_data macro_sections
 macro-units v q before behind z a split =
     let own : MacrosRead v.order (around_of (debug_data v) q) z =
     macros-of v.order (around_of (debug_data v) q) before behind z q.macros
-    (subst (λ (zs : List CellSection). ReadsAllMacros v.order zs q.macros) split a.macros)
-    (subst AllPlain split (macros-plain 1 (drop 1 v.sections))) a.macro_texts in
-    units-back v z.number z.contents own.pieces (view-bytes v before behind z split) own.reads
-    (all-names v (around_of (debug_data v) q) own.pieces refl refl (cells-plain own.pieces (subst IsPlain (sym own.reads.cells) own.plain)) own.texts)
+    (subst (λ (zs : List CellSection). ReadsAllMacros v.order zs q.macros) split a.macros) a.macro_texts in
+    units-back v z.number z.contents own.pieces (view-cells v before behind z split) own.reads
+    (all-names v (around_of (debug_data v) q) own.pieces refl refl own.texts)
 
 pub macros-exclude : (v : View) (q : DataReadings) (before behind : List CellSection) (z : CellSection) (r : Refusal) → DataReads (debug_data v) q
     → (debug_data v).macros ≡ before ++ z ∷ behind → MacroUnitsFail v z.number r → ⊥

@@ -18,6 +18,7 @@ use Rattle.dw_base.specs.TextChanges.{TableChanges, edited_by, mention_at, menti
 use Rattle.dw_base.specs.ViewData.{debug_data}
 use Rattle.dw_base.specs.declared.shared.Order.{Order}
 use Rattle.dw_base.proofs.PlainCellLaws.{IsPlain}
+use Rattle.dw_base.proofs.ViewCellLaws.{view_cells-plain}
 use Rattle.dw_base.proofs.UnitEditLaws.{length-bytes_of}
 use Rattle.dw_base.proofs.UnitHeaderLaws.{bytes_of-append}
 use Rattle.dw_meaning.specs.DataOutput.{Body, changes_of, macro_bodies, table_change}
@@ -161,7 +162,7 @@ macro-body m v all z r cells number reads =
     ap (λ (out : List ℕ). with_all_known (start_table v.order) (section_bytes v r.number) (starts_after m v all) out (macro_starts r.pieces)) (sym start)
     ∙ ap (λ (o : Order). with_all_known (start_table o) (section_bytes v r.number) (starts_after m v all) (bytes_of (joined r.pieces)) (macro_starts r.pieces)) (sym (data-order v))
     ∙ macros_written (changes_of m (around_of (debug_data v) all) all) (around_of (debug_data v) all) (debug_data v).base.order (section_bytes v r.number) [] (macros_at 0 at_unit) 0 r.pieces
-    refl refl refl refl reads.chain start (cells-plain r.pieces (subst IsPlain (sym reads.cells) cells.plain))
+    refl refl refl refl reads.chain start (cells-plain r.pieces (subst IsPlain (sym reads.cells) (subst IsPlain (sym cells.same) (view_cells-plain v z.number))))
 
 all-bodies : (m : PathMap) (v : View) (all : DataReadings) (zs : List CellSection) (rs : List MacroReading) → AllCells v zs → ReadsAllMacros (debug_data v).base.order zs rs
     → bodies_after m v (table_change m in_str (around_of (debug_data v) all) all).texts (table_change m in_line_str (around_of (debug_data v) all) all).texts (starts_after m v all) (macros_read rs)
