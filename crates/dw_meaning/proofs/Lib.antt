@@ -79,3 +79,9 @@ pub mod MacroFirstLaws
 pub mod MacroRowLaws
 pub mod RelocationLaws
 pub mod PlainFileLaws
+pub mod LineCellLaws
+pub mod RelocatedBodyLaws
+pub mod RecordMoveLaws
+pub mod EditStayLaws
+pub mod TableMoveLaws
+pub mod RecordShiftLaws

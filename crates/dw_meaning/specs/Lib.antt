@@ -7,3 +7,5 @@ pub mod EditRows
 pub mod UnitScans
 pub mod SpelledUnits
 pub mod RelocationFails
+pub mod LineCells
+pub mod RelocatedBodies
