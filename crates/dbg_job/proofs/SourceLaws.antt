@@ -12,6 +12,8 @@ use Rattle.dw_base.proofs.DebugSectionFailsLaws.{debug_sections_exclude}
 use Rattle.dw_base.proofs.ElfLaws.{elf_excludes}
 use Rattle.dw_meaning.specs.EditRows.{IsAccepted}
 use Rattle.dw_meaning.specs.FileMeanings.{file_data}
+use Rattle.dw_meaning.specs.RelocationFails.RelocationsFail.{headers}
+use Rattle.dw_meaning.proofs.PlainFileLaws.{relocations_fail-loaded}
 use Rattle.dw_sources.specs.Sources.{AreSources, IsWant}
 
 -- of a file that is edited nothing but want of memory is in the way
@@ -28,6 +30,7 @@ sources_want m b c v f a same is want =
     let P : View → Type 0 = λ x. IsWant (debug_data x) f in
     let here : IsWant (file_data b) f = subst P (is ∙ ap view_of same) want in
     here.whole a.readings a.reads.data_reads
+    (λ before behind z r split fails. relocations_fail-loaded b r a.reads.kind (headers before behind z split fails))
 
 pub sources_of_file : (b c base : List ℕ) (v : View) (names : List (List ℕ)) → c ≡ b → v ≡ view_of c → AreSources (debug_data v) base names → AreSources (file_data b) base names
 sources_of_file b c base v names same is are = let P : View → Type 0 = λ x. AreSources (debug_data x) base names in subst P (is ∙ ap view_of same) are

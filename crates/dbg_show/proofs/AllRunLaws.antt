@@ -2,7 +2,7 @@
 use Rattle.std.proofs.Common.{◌≡◌, ℕ, suc, ◌+◌, List, [], ◌∷◌, ◌++◌, length, refl, sym, ap, ◌∙◌, subst, arith, append_assoc, append-nil, length-append}
 use Rattle.std.specs.Bool.{⊤}
 use Rattle.std.proofs.lemmas.List.{drop_all}
-use Rattle.dw_base.specs.AbbreviationTables.{Abbreviation, IsTable}
+use Rattle.dw_base.specs.AbbreviationTables.{Abbreviation}
 use Rattle.dw_base.specs.Cells.{Cell}
 use Rattle.dw_base.specs.DebugData.{DebugData, ReadsAll, units_in}
 use Rattle.dw_base.specs.EntryScans.{AreEntries}
@@ -12,6 +12,7 @@ use Rattle.dw_base.specs.Readings.{Readings}
 use Rattle.dw_base.specs.UnitHeaders.{UnitSection, IsUnit, UnitsUpTo, AreUnits}
 use Rattle.dw_base.specs.UnitPieces.{ReadsUnits, unit_grammar}
 use Rattle.dw_base.specs.UnitStates.{UnitState}
+use Rattle.dw_base.specs.UnitTables.{IsUnitTable}
 use Rattle.dw_base.specs.declared.units.Scanned.{Scanned}
 use Rattle.dw_base.specs.declared.units.UnitHeader.{UnitHeader}
 use Rattle.dw_base.proofs.UnitRowLaws.{units-one}
@@ -57,7 +58,7 @@ numbered-parts Q n (u ∷ us) vs each =
 -- a unit of a section says this
 abbrev pub UnitOut : {T : Type 0} → DebugData → List (List Abbreviation) → (ℕ → ListedUnit → Type 0) → (Piece UnitState → List T) → UnitSection → (ℕ → ListedUnit → List T) → Type 0
 UnitOut d tables Q F z out = (start unit : ℕ) (h : UnitHeader) (u : ListedUnit) (table : List Abbreviation) (items : List Scanned) → Q unit u → IsUnit d.base z start h
-    → IsTable d.base.abbrevs.bytes h.abbrevs table → AreEntries h table (bytes_up_to z h) items → IsListed d tables h u
+    → IsUnitTable d.base h table → AreEntries h table (bytes_up_to z h) items → IsListed d tables h u
     → SaidRun F d.base z.contents (before z start unit) (before z h.end (unit + 1)) start h.end (out unit u)
 
 -- the last of listed units
@@ -230,7 +231,7 @@ each-append P (u ∷ us) vs a b = (a.0, each-append P us vs a.1 b)
 
 abbrev pub UnitHolds : DebugData → List (List Abbreviation) → (ListedUnit → Type 0) → UnitSection → Type 0
 UnitHolds d tables P z = (start : ℕ) (list : List UnitHeader) (h : UnitHeader) (u : ListedUnit) (table : List Abbreviation) (items : List Scanned) → UnitsUpTo d.base z list start
-    → IsUnit d.base z start h → IsTable d.base.abbrevs.bytes h.abbrevs table → AreEntries h table (bytes_up_to z h) items → IsListed d tables h u → P u
+    → IsUnit d.base z start h → IsUnitTable d.base h table → AreEntries h table (bytes_up_to z h) items → IsListed d tables h u → P u
 
 section-holds : (d : DebugData) (tables : List (List Abbreviation)) (P : ListedUnit → Type 0) (z : UnitSection) (list : List UnitHeader) (place : ℕ) (own : List ListedUnit)
     → UnitHolds d tables P z → UnitsScanned d.base z list place → AreListed d tables list own → EachUnit P own

@@ -22,7 +22,7 @@ use Rattle.dw_find.proofs.ScanTextLaws.{unit-bytes}
 use Rattle.file_tree.specs.Heard.{Heard}
 use Rattle.dbg_show.specs.Printing.{Printed, Cut}
 use Rattle.dbg_show.specs.ShownUnits.{UnitSource, ShownUnit, entries_text, entry_coded, entry_listed, entry_text, first_base, shown_unit, tabled_text, unit_bytes, unit_entries, values_shown}
-use Rattle.dbg_show.specs.UnitReads.{CanRead, EachReads}
+use Rattle.dbg_show.specs.UnitReads.{BytesFit, CanRead, EachReads}
 use Rattle.dbg_show.specs.UnitTexts.{entry_line}
 use Rattle.dbg_show.specs.declared.listed_unit.ListedUnit.{ListedUnit}
 use Rattle.dbg_show.specs.declared.show_err.ShowErr.{ShowErr}
@@ -153,12 +153,24 @@ with-within v w h t e c = subst (λ (x : View). h.section < length x.sections) (
 pub with-length : (v w : View) (h : UnitHeader) (t : List Abbreviation) (bs : List ℕ) → w ≡ v → CanRead v h t → bs ≡ section_bytes w h.section → h.end ≡ length (take h.end bs)
 with-length v w h t bs e c is = sym (length-take-le h.end bs (unit-ends v h t bs c (is ∙ ap (λ (x : View). section_bytes x h.section) e)))
 
+pub with-fits : (v w : View) (h : UnitHeader) (t : List Abbreviation) (bs : List ℕ) → w ≡ v → CanRead v h t → bs ≡ section_bytes w h.section → BytesFit v h.section (take h.end bs)
+with-fits v w h t bs e c is =
+    let size : length bs ≡ length (section_bytes v h.section) = ap length (is ∙ ap (λ (x : View). section_bytes x h.section) e) in
+    record { there = unit-within v h t c; inside = omega (arith, size, length-take h.end bs) }
+
+pub own-fits : (v w : View) (h : UnitHeader) (t : List Abbreviation) (bs : List ℕ) → w ≡ v → CanRead v h t → bs ≡ section_bytes w h.section → BytesFit w h.section (take h.end bs)
+own-fits v w h t bs e c is = subst (λ (x : View). BytesFit x h.section (take h.end bs)) (sym e) (with-fits v w h t bs e c is)
+
+pub base-own : (v w : View) (h : UnitHeader) (t : List Abbreviation) (bs : List ℕ) (b : Option ℕ) → w ≡ v → b ≡ first_base w h t bs (unit_entries h t bs)
+    → b ≡ first_base v h t bs (unit_entries h t bs)
+base-own v w h t bs b e is = is ∙ ap (λ (x : View). first_base x h t bs (unit_entries h t bs)) e
+
 pub shown-is : (g : UnitSource) (number : ℕ) (h : UnitHeader) (t : List Abbreviation) (bs : List ℕ) (base : Option ℕ) → bs ≡ unit_bytes g.view h
-    → base ≡ first_base h.params t bs (unit_entries h t bs)
+    → base ≡ first_base g.view h t bs (unit_entries h t bs)
     → record { source = g; number = number; header = h; table = t; bytes = bs; base = base } ≡ shown_unit g number h t
 shown-is g number h t bs base own is =
     ap (λ (b : Option ℕ). record { source = g; number = number; header = h; table = t; bytes = bs; base = b }) is
-    ∙ ap (λ (xs : List ℕ). record { source = g; number = number; header = h; table = t; bytes = xs; base = first_base h.params t xs (unit_entries h t xs) }) own
+    ∙ ap (λ (xs : List ℕ). record { source = g; number = number; header = h; table = t; bytes = xs; base = first_base g.view h t xs (unit_entries h t xs) }) own
 
 pub ruleset with_laws = (unit-address, unit-within, unit-ends, unit-own, unit-small)
 

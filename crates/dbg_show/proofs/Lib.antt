@@ -3,6 +3,7 @@ pub mod QuotingLaws
 pub mod DigitLaws
 pub mod RowTextLaws
 pub mod ListLaws
+pub mod FieldPlaceLaws
 pub mod PrintingLaws
 pub mod LoopLaws
 pub mod MeaningLaws
@@ -15,6 +16,8 @@ pub mod UnitStartLaws
 pub mod IndexUnitLaws
 pub mod IndexEntryLaws
 pub mod IndexListLaws
+pub mod ViewPartLaws
+pub mod FormFactLaws
 pub mod ValueTextLaws
 pub mod TextSaysLaws
 pub mod AllRunLaws

@@ -12,8 +12,8 @@ use Rattle.dw_meaning.proofs.LineReadLaws.{if-some}
 use Rattle.dw_find.specs.MacroNames.{AllUnitsIn, AreUnitsIn}
 use Rattle.dw_find.specs.MacroSections.{SectionUnits}
 use Rattle.dw_macros.specs.MacroEvents.{IsUnitIn}
-use Rattle.dbg_show.specs.EntryIndexes.{place_key}
-use Rattle.dbg_show.specs.ShownMacros.{AllBelow, AreMacros, all_units, place_limit, unit_keys}
+use Rattle.dbg_show.specs.ShownMacros.{AllBelow, AreMacros, all_units, unit_keys}
+use Rattle.dbg_show.specs.PlaceKeys.{place_key, place_limit}
 
 -- the units of one section more
 section-front : (ss : List SectionUnits) (s : SectionUnits) (i : ℕ) → i < length ss → drop i ss ≡ get_or ss i s ∷ drop (i + 1) ss

@@ -6,7 +6,7 @@ use Rattle.dw_base.specs.DebugData.{Around, DataReadings, around_of, line_source
 use Rattle.dw_base.specs.FileViews.{View}
 use Rattle.dw_base.specs.LineTables.{LineTable}
 use Rattle.dw_base.specs.MacroMeanings.{brought, MacroMeaning, macro_meanings, macros_behind}
-use Rattle.dw_base.specs.MacroReadings.{MacroReading, ReadsAllMacros}
+use Rattle.dw_base.specs.MacroReadings.{MacroReading, ReadsAllMacros, macro_starts}
 use Rattle.dw_base.specs.ViewData.{debug_data}
 use Rattle.dw_base.specs.declared.macro_units.MacroEvent.{MacroEvent}
 use Rattle.dw_base.specs.declared.macro_units.MacroEvent.TheVariants.{Define, Undef, StartFile, EndFile, Import}
@@ -18,7 +18,7 @@ use Rattle.dw_macros.proofs.MeaningLaws.{Seen, seen-view, units-mean}
 use Rattle.dw_find.specs.IndexedTexts.{TablesStart}
 use Rattle.dw_find.specs.LineStarts.{Rises}
 use Rattle.dw_find.specs.MacroNames.{AreUnitsIn}
-use Rattle.dw_find.specs.MacroSections.{HaveUnits, SectionUnits}
+use Rattle.dw_find.specs.MacroSections.{HaveUnits, SectionUnits, UnitsFoundIn}
 use Rattle.dw_find.specs.ReadData.{DataRead}
 use Rattle.dw_find.specs.ViewLines.{starts_of}
 use Rattle.dw_find.proofs.MacroHaveLaws.{AllBelow as AllUnder, AllCells, numbers-below}
@@ -27,9 +27,10 @@ use Rattle.dw_find.proofs.MacroStartLaws.{all-cells}
 use Rattle.dw_find.proofs.StartLaws.{starts-rise}
 use Rattle.dw_find.proofs.TableStartLaws.{read-starts}
 use Rattle.dbg_show.specs.MacroTexts.{events_text, macros_line, macros_text}
-use Rattle.dbg_show.specs.ShownMacros.{AllBelow, AreMacros, MacroSource, MacrosFit, all_units, event_shown, events_shown, line_number, unit_keys, unit_number, units_shown}
+use Rattle.dbg_show.specs.ShownMacros.{AllBelow, AreMacros, MacroSource, MacrosFit, all_units, event_shown, events_shown, line_number, unit_keys, units_shown}
 use Rattle.dbg_show.proofs.MacroListLaws.{all-in}
 use Rattle.dbg_show.proofs.MacroStartLaws.{keys-rise, unit-numbered}
+use Rattle.dbg_show.specs.PlaceKeys.{unit_number}
 
 -- the units of all sections mean what their pieces mean
 units-all : (v : View) (g : Around) (zs : List CellSection) (rs : List MacroReading) (ss : List SectionUnits) → Seen v g → g.lasting.base.order ≡ v.order → AllCells v zs
@@ -81,14 +82,21 @@ reads-order : (v : View) (rs : List MacroReading) → ReadsAllMacros (debug_data
 unfolding debug_data
 reads-order v rs reads = reads
 
+pub units-numbered : (v : View) (ts : List LineTable) (ss : List SectionUnits) (d : DataRead v ts ss) (units : List MacroUnit) (keys : List ℕ) → AreMacros v ss units keys
+    → (section place : ℕ) → started_unit 0 (macro_starts d.readings.macros) section place ≡ unit_number keys section place
+units-numbered v ts ss d units keys are section place =
+    unit-numbered v ss d.readings.macros d.units d.reads.macros (subst AllBelow are.units_are are.below) section place
+    ∙ ap (λ (us : List MacroUnit). unit_number (unit_keys us) section place) (sym are.units_are)
+    ∙ ap (λ (ks : List ℕ). unit_number ks section place) (sym are.keys_are)
+
+pub keys-risen : (v : View) (ss : List SectionUnits) → UnitsFoundIn v ss → (units : List MacroUnit) (keys : List ℕ) → AreMacros v ss units keys → Rises keys
+keys-risen v ss found units keys are = subst Rises (sym (are.keys_are ∙ ap unit_keys are.units_are)) (keys-rise v ss found (subst AllBelow are.units_are are.below))
+
 pub macros-shown : (m : MacroSource) (ts : List LineTable) (ss : List SectionUnits) (d : DataRead m.view ts ss) → m.lines ≡ starts_of ts → AreMacros m.view ss m.units m.keys
     → units_shown m 0 m.units ≡ macros_text 0 (macro_meanings (around_of (debug_data m.view) d.readings) d.readings.macros)
 macros-shown m ts ss d lines are =
     units-same m (around_of (debug_data m.view) d.readings) 0 m.units
-    (λ s o.
-    unit-numbered m.view ss d.readings.macros d.units d.reads.macros (subst AllBelow are.units_are are.below) s o
-    ∙ ap (λ (us : List MacroUnit). unit_number (unit_keys us) s o) (sym are.units_are)
-    ∙ ap (λ (ks : List ℕ). unit_number ks s o) (sym are.keys_are))
+    (λ s o. units-numbered m.view ts ss d m.units m.keys are s o)
     (sym (read-starts (line_source (debug_data m.view)) d.readings.lines) ∙ ap starts_of (sym d.tables) ∙ sym lines)
     ∙ ap (λ (us : List MacroUnit). macros_text 0 (map (unit_meaning m.view (around_of (debug_data m.view) d.readings)) us)) are.units_are
     ∙ ap (macros_text 0) (sym (units-all m.view (around_of (debug_data m.view) d.readings) (debug_data m.view).macros d.readings.macros ss (seen-view m.view d.readings)
@@ -105,5 +113,5 @@ macros-fit m ts ss d lines are =
     record {
       units = subst (AreUnitsIn m.view) (sym are.units_are) (all-in m.view ss (units-in m.view ss d.units));
       lines_rise = starts-rise (debug_data m.view) m.lines t;
-      keys_rise = subst Rises (sym (are.keys_are ∙ ap unit_keys are.units_are)) (keys-rise m.view ss d.units (subst AllBelow are.units_are are.below));
+      keys_rise = keys-risen m.view ss d.units m.units m.keys are;
     }

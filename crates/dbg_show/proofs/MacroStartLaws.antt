@@ -4,22 +4,23 @@ use Rattle.std.specs.Bool.{⊤}
 use Rattle.std.proofs.lemmas.Bool.{eq-eqb, ne_eqb, eqb-true, eqb-false, ltb-true, ltb-false}
 use Rattle.dw_base.specs.Cells.{CellSection}
 use Rattle.dw_base.specs.DebugData.{start_number, started_unit}
-use Rattle.dw_base.specs.FileViews.{View}
+use Rattle.dw_base.specs.FileViews.{View, section_bytes}
 use Rattle.dw_base.specs.MacroPieces.{MacroState}
-use Rattle.dw_base.specs.MacroReadings.{MacroReading, MacroStart, ReadsAllMacros, first_macros, macro_starts}
+use Rattle.dw_base.specs.MacroReadings.{MacroReading, MacroStart, ReadsAllMacros, macro_starts}
 use Rattle.dw_base.specs.MacroUnits.{MacroUnitsUpTo, no_units, more_units}
 use Rattle.dw_base.specs.Pieces.{Piece}
 use Rattle.dw_base.specs.ViewData.{debug_data}
 use Rattle.dw_base.specs.declared.macro_units.MacroUnit.{MacroUnit}
 use Rattle.dw_meaning.proofs.MacroPieceLaws.{AllUnits, Asked, EachUnit, MacrosFound, PiecesRead, all-units-read, all_unit_starts, unit_starts, units-read}
 use Rattle.dw_meaning.proofs.MacroReadLaws.{all-macros-one}
+use Rattle.dw_macros.proofs.UnitListLaws.{read-units}
 use Rattle.dw_find.specs.LineStarts.{Rises}
-use Rattle.dw_find.specs.MacroSections.{HaveUnits, SectionUnits, UnitsFoundIn, first_places, places_of}
+use Rattle.dw_find.specs.MacroSections.{HaveUnits, SectionUnits, UnitsFoundIn, places_of}
 use Rattle.dw_find.proofs.MacroHaveLaws.{AllCells, numbers-rise}
 use Rattle.dw_find.proofs.MacroPlaceLaws.{AllAbove, NumbersRise, units_of, units-rise}
 use Rattle.dw_find.proofs.MacroStartLaws.{all-cells}
-use Rattle.dbg_show.specs.EntryIndexes.{place_key}
-use Rattle.dbg_show.specs.ShownMacros.{AllBelow, all_units, unit_keys, unit_number}
+use Rattle.dbg_show.specs.ShownMacros.{AllBelow, all_units, unit_keys}
+use Rattle.dbg_show.specs.PlaceKeys.{place_key, unit_number}
 
 -- nothing is asked of pieces
 abbrev Any : Piece MacroState → Type 0
@@ -33,7 +34,7 @@ any-asked : (v : View) (zs : List CellSection) (ss : List SectionUnits) → AllC
 any-asked v [] [] c h = tt
 any-asked v [] (s ∷ ss) c h = absurd h
 any-asked v (z ∷ zs) [] c h = absurd h
-any-asked v (z ∷ zs) (s ∷ ss) c h = (c.0, any-unit v z s.units, h.1, any-asked v zs ss c.1 h.2)
+any-asked v (z ∷ zs) (s ∷ ss) c h = (c.0, any-unit v z s.units, read-units v z.number s.units (length (section_bytes v z.number)) h.1, any-asked v zs ss c.1 h.2)
 
 -- where units start that were read is where the units of the pieces do
 starts-are : (v : View) (ss : List SectionUnits) (rs : List MacroReading) → UnitsFoundIn v ss → ReadsAllMacros (debug_data v).base.order (debug_data v).macros rs
@@ -43,62 +44,6 @@ starts-are v ss rs found reads =
     let r : MacrosFound v Any (debug_data v).macros (units_of ss) =
     all-units-read v Any (debug_data v).macros (units_of ss) (record { holds = λ x none. tt }) (any-asked v (debug_data v).macros ss (all-cells v) found.units) in
     ap macro_starts (all-macros-one v.order (debug_data v).macros rs r.readings reads r.reads) ∙ r.starts
-
--- the first section: no unit of another one is one of it
-abbrev Apart : ℕ → List MacroStart → Type 0
-Apart section [] = ⊤
-Apart section (s ∷ ss) = (s.section == section) ≡ false × Apart section ss
-
-none-of : (first section n : ℕ) (ss : List MacroStart) → Apart section ss → started_unit first ss section n ≡ None
-none-of first section n [] a = refl
-none-of first section n (s ∷ ss) a =
-    ap (λ (b : Bool). cond (b && s.place == n) (Some first) (started_unit (first + 1) ss section n)) a.0 ∙ none-of (first + 1) section n ss a.1
-
-apart-append : (section : ℕ) (ss ts : List MacroStart) → Apart section ss → Apart section ts → Apart section (ss ++ ts)
-apart-append section [] ts a b = b
-apart-append section (s ∷ ss) ts a b = (a.0, apart-append section ss ts a.1 b)
-
-apart-units : (section other : ℕ) (us : List MacroUnit) → section < other → Apart section (unit_starts other us)
-apart-units section other [] lt = tt
-apart-units section other (u ∷ us) lt = (ne_eqb other section (λ same. absurd (omega (arith, lt, same))), apart-units section other us lt)
-
-apart-all : (section : ℕ) (zs : List CellSection) (rest : List (List MacroUnit)) → AllAbove section zs → Apart section (all_unit_starts zs rest)
-apart-all section [] rest above = tt
-apart-all section (z ∷ zs) [] above = tt
-apart-all section (z ∷ zs) (us ∷ rest) above =
-    apart-append section (unit_starts z.number us) (all_unit_starts zs rest) (apart-units section z.number us above.0) (apart-all section zs rest above.1)
-
-units-then : (first section n : ℕ) (us : List MacroUnit) (ss : List MacroStart) → Apart section ss
-    → started_unit first (unit_starts section us ++ ss) section n ≡ start_number first (places_of us) n
-units-then first section n [] ss a = none-of first section n ss a
-units-then first section n (u ∷ us) ss a =
-    ap (λ (b : Bool). cond (b && u.start == n) (Some first) (started_unit (first + 1) (unit_starts section us ++ ss) section n)) (eq-eqb section section refl)
-    ∙ ap (λ (o : Option ℕ). cond (u.start == n) (Some first) o) (units-then (first + 1) section n us ss a)
-
-first-named : (v : View) (zs : List CellSection) (ss : List SectionUnits) (n : ℕ) → HaveUnits v zs ss → NumbersRise zs
-    → started_unit 0 (all_unit_starts zs (units_of ss)) (first_macros zs) n ≡ start_number 0 (first_places ss) n
-first-named v [] [] n have rise = refl
-first-named v [] (s ∷ ss) n have rise = absurd have
-first-named v (z ∷ zs) [] n have rise = absurd have
-first-named v (z ∷ zs) (s ∷ ss) n have rise =
-    units-then 0 z.number n s.units (all_unit_starts zs (units_of ss)) (apart-all z.number zs (units_of ss) rise.0)
-
-pub places-named : (v : View) (ss : List SectionUnits) (rs : List MacroReading) → UnitsFoundIn v ss → ReadsAllMacros (debug_data v).base.order (debug_data v).macros rs
-    → (n : ℕ) → started_unit 0 (macro_starts rs) (first_macros (debug_data v).macros) n ≡ start_number 0 (first_places ss) n
-places-named v ss rs found reads n =
-    ap (λ (l : List MacroStart). started_unit 0 l (first_macros (debug_data v).macros) n) (starts-are v ss rs found reads)
-    ∙ first-named v (debug_data v).macros ss n found.units (numbers-rise v)
-
-first-rises : (v : View) (zs : List CellSection) (ss : List SectionUnits) → AllCells v zs → HaveUnits v zs ss → Rises (first_places ss)
-first-rises v [] [] c h = record { rise = λ i j less lt. absurd (omega (arith, lt)) }
-first-rises v [] (s ∷ ss) c h = absurd h
-first-rises v (z ∷ zs) [] c h = absurd h
-first-rises v (z ∷ zs) (s ∷ ss) c h =
-    let here : PiecesRead v z.number z.contents Any s.units = units-read v z.number z.contents Any s.units c.0 (record { holds = λ x none. tt }) (any-unit v z s.units) h.1 in
-    units-rise v.order z.number s.units here.pieces here.reads.chain here.starts
-
-pub places-rise : (v : View) (ss : List SectionUnits) → UnitsFoundIn v ss → Rises (first_places ss)
-places-rise v ss found = first-rises v (debug_data v).macros ss (all-cells v) found.units
 
 -- all sections: where units start, in a row
 abbrev starts_of : List MacroUnit → List MacroStart
@@ -133,7 +78,7 @@ starts-all v [] [] h = refl
 starts-all v [] (s ∷ ss) h = absurd h
 starts-all v (z ∷ zs) [] h = absurd h
 starts-all v (z ∷ zs) (s ∷ ss) h =
-    ap (λ (l : List MacroStart). l ++ all_unit_starts zs (units_of ss)) (starts-own z.number s.units (in-run v z.number _ s.units h.1))
+    ap (λ (l : List MacroStart). l ++ all_unit_starts zs (units_of ss)) (starts-own z.number s.units (in-run v z.number _ s.units (read-units v z.number s.units (length (section_bytes v z.number)) h.1)))
     ∙ ap (λ (l : List MacroStart). starts_of s.units ++ l) (starts-all v zs ss h.2)
     ∙ sym (starts-append s.units (all_units ss))
 
@@ -263,10 +208,10 @@ all-rise v [] [] n c h rise below first = omega arith
 all-rise v [] (s ∷ ss) n c h rise below first = absurd h
 all-rise v (z ∷ zs) [] n c h rise below first = absurd h
 all-rise v (z ∷ zs) (s ∷ ss) n c h rise below first =
-    let here : PiecesRead v z.number z.contents Any s.units = units-read v z.number z.contents Any s.units c.0 (record { holds = λ x none. tt }) (any-unit v z s.units) h.1 in
+    let here : PiecesRead v z.number z.contents Any s.units = units-read v z.number z.contents Any s.units c.0 (record { holds = λ x none. tt }) (any-unit v z s.units) (read-units v z.number s.units (length (section_bytes v z.number)) h.1) in
     let parts = below-parts s.units (all_units ss) below in
     let own : RisesTo (place_key z.number 0) (unit_keys s.units) (place_key z.number 0x100000000) =
-    section-rises z.number 0 s.units (in-run v z.number _ s.units h.1) parts.0 (units-rise v.order z.number s.units here.pieces here.reads.chain here.starts) (omega arith) (λ u ws e. omega arith) in
+    section-rises z.number 0 s.units (in-run v z.number _ s.units (read-units v z.number s.units (length (section_bytes v z.number)) h.1)) parts.0 (units-rise v.order z.number s.units here.pieces here.reads.chain here.starts) (omega arith) (λ u ws e. omega arith) in
     subst (λ (ks : List ℕ). RisesTo n ks (end_key zs (place_key z.number 0x100000000))) (sym (keys-append s.units (all_units ss)))
     (to-append n (place_key z.number 0x100000000) (end_key zs (place_key z.number 0x100000000)) (unit_keys s.units) (unit_keys (all_units ss))
     (to-less n (place_key z.number 0) (place_key z.number 0x100000000) (unit_keys s.units) (first z zs refl) own)

@@ -137,8 +137,8 @@ column-form spec e name =
 number-said : (g : LineSource) (h : LineHeader) (table : List ℕ) (spec : Spec) (p : ℕ) (c : Column) (own : List ℕ) → IndexForm spec.form → ColumnIs g h table spec p c
     → number_of (column_value g spec.form c.text c.number own) ≡ c.number
 number-said g h table spec p c own x (inline_is form ends) = absurd (never-both (spec.form == DW_FORM_string) (eq-eqb spec.form DW_FORM_string form) x.string)
-number-said g h table spec p c own x (offset_is in_str form room ends) = absurd (never-both (spec.form == DW_FORM_strp) (eq-eqb spec.form DW_FORM_strp form) x.strp)
-number-said g h table spec p c own x (offset_is in_line_str form room ends) =
+number-said g h table spec p c own x (offset_is in_str n form room reads ends) = absurd (never-both (spec.form == DW_FORM_strp) (eq-eqb spec.form DW_FORM_strp form) x.strp)
+number-said g h table spec p c own x (offset_is in_line_str n form room reads ends) =
     absurd (never-both (spec.form == DW_FORM_line_strp) (eq-eqb spec.form DW_FORM_line_strp form) x.line_strp)
 number-said g h table spec p c own x (value_is a b d v is) = rw (x.data16, x.block) refl
 

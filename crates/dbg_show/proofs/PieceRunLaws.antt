@@ -3,7 +3,7 @@ use Rattle.std.proofs.Common.{true, false, ◌≡◌, ◌≢◌, ◌⊎◌, inl,
 use Rattle.std.proofs.lemmas.Bool.{ne_eqb, eq-eqb}
 use Rattle.std.proofs.lemmas.List.{length-append, length-take, length-take-le, take-append-drop, drop-drop}
 use Rattle.dw_base.specs.AbbreviationBytes.{abbreviations_at}
-use Rattle.dw_base.specs.AbbreviationTables.{Abbreviation, abbreviation_of, IsTable}
+use Rattle.dw_base.specs.AbbreviationTables.{Abbreviation, abbreviation_of}
 use Rattle.dw_base.specs.Cells.{Cell, bytes_of}
 use Rattle.dw_base.specs.EntryScans.{SpellsValues, no_values, more_values, is_split_root, IsEntry, depth_behind, scanned, Scans, starts, null, entry, AreEntries}
 use Rattle.dw_base.specs.EntryValues.{bytes_up_to}
@@ -13,6 +13,7 @@ use Rattle.dw_base.specs.Pieces.{Piece, joined, Leads}
 use Rattle.dw_base.specs.UnitHeaders.{UnitBase, UnitSection, unit_header, IsUnit}
 use Rattle.dw_base.specs.UnitPieces.{IsValue, IsFrontForm, FitsKind, FitsMode, IsCode, IsHeader, may_stand, unit_grammar}
 use Rattle.dw_base.specs.UnitStates.{Mode, at_code, at_values, at_chosen, UnitState, before_unit, in_unit, between, inside, headed, after_header, after_value, after_code, of_chosen, code_value, past}
+use Rattle.dw_base.specs.UnitTables.{IsUnitTable}
 use Rattle.dw_base.specs.Values.{value_of, value_at}
 use Rattle.dw_base.specs.declared.shared.Params.{Params}
 use Rattle.dw_base.specs.declared.units.Scanned.{Scanned}
@@ -344,7 +345,7 @@ in_headed base z start unit h = headed base (before z start unit) h
 
 -- the header is a piece
 header-run : {T : Type 0} (F : Piece UnitState → List T) (base : UnitBase) (z : UnitSection) (start unit : ℕ) (h : UnitHeader) (table : List Abbreviation) (out : List T) → IsUnit base z start h
-    → HeaderPlaced z start h → IsTable base.abbrevs.bytes h.abbrevs table
+    → HeaderPlaced z start h → IsUnitTable base h table
     → ((p : List Cell) → unit_header base z.kind z.number start p ≡ Some h → F (record { state = before z start unit; cells = p }) ≡ out)
     → SaidRun F base z.contents (before z start unit) (between (in_headed base z start unit h) h.first 0 0) start h.first out
 header-run F base z start unit h table out u placed t says =
@@ -361,7 +362,7 @@ header-run F base z start unit h table out u placed t says =
       size = whole;
       own = u.whole;
       within = u.within;
-      table = subst (λ (list : List Abbreviation). IsTable base.abbrevs.bytes h.abbrevs list) (sym (table-found base.abbrevs.bytes h.abbrevs table t)) t;
+      table = subst (λ (list : List Abbreviation). IsUnitTable base h list) (sym (table-found base.abbrevs.bytes h.abbrevs table t.is)) t;
     } in
     let next : after_header base (before z start unit) (start + length (take (h.first - start) (drop start z.contents)))
     (unit_header base z.kind z.number start (take (h.first - start) (drop start z.contents))) ≡ between (in_headed base z start unit h) h.first 0 0 =
@@ -379,13 +380,13 @@ unit-ends s e = rw (eq-eqb s.header.end s.header.end refl) refl
 
 -- a unit is pieces
 pub unit-run : {T : Type 0} (F : Piece UnitState → List T) (E : ℕ → ℕ → ℕ → Abbreviation → List T) (V : ℕ → ℕ → Spec → ℕ → Value → List T) (base : UnitBase) (z : UnitSection) (start unit : ℕ)
-    (h : UnitHeader) (table : List Abbreviation) (items : List Scanned) (out : List T) → IsUnit base z start h → IsTable base.abbrevs.bytes h.abbrevs table
+    (h : UnitHeader) (table : List Abbreviation) (items : List Scanned) (out : List T) → IsUnit base z start h → IsUnitTable base h table
     → AreEntries h table (bytes_up_to z h) items
     → ((p : List Cell) → unit_header base z.kind z.number start p ≡ Some h → F (record { state = before z start unit; cells = p }) ≡ out)
     → UnitSays F z.contents (in_headed base z start unit h) E V
     → SaidRun F base z.contents (before z start unit) (before z h.end (unit + 1)) start h.end (out ++ entries_out E V h.params table (bytes_up_to z h) 0 items)
 unit-run {T} F E V base z start unit h table items out u t entries head says =
-    let same : abbreviations_at base.abbrevs.bytes h.abbrevs ≡ table = table-found base.abbrevs.bytes h.abbrevs table t in
+    let same : abbreviations_at base.abbrevs.bytes h.abbrevs ≡ table = table-found base.abbrevs.bytes h.abbrevs table t.is in
     let own : AreEntries h (abbreviations_at base.abbrevs.bytes h.abbrevs) (bytes_up_to z h) items =
     subst (λ (list : List Abbreviation). AreEntries h list (bytes_up_to z h) items) (sym same) entries in
     let all : List T = entries_out E V h.params (abbreviations_at base.abbrevs.bytes h.abbrevs) (bytes_up_to z h) 0 items in

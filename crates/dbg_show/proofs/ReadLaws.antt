@@ -1,6 +1,6 @@
 -- Line tables that are read one after another, and their text; and what is written of a view.
 use Rattle.std.proofs.Common.{◌≡◌, ℕ, zero, suc, ◌+◌, ◌<◌, ◌≤◌, List, [], ◌∷◌, ◌++◌, length, map, take, drop, drop-cons, get_or, Option, Some, None, refl, sym, ap, ◌∙◌, subst, arith, append-nil}
-use Rattle.std.specs.Prelude.{OnOk, Result, Ok, Err}
+use Rattle.std.specs.Prelude.{true, OnOk, Result, Ok, Err}
 use Rattle.std.proofs.lemmas.List.{drop_all, take-append-drop}
 use Rattle.dw_base.specs.AbbreviationTables.{Abbreviation}
 use Rattle.dw_base.specs.Cells.{Located}
@@ -23,14 +23,13 @@ use Rattle.dw_base.specs.declared.fault.Refusal.{Refusal}
 use Rattle.dw_base.specs.declared.line_rows.Row.{Row}
 use Rattle.dw_base.specs.declared.macro_units.MacroUnit.{MacroUnit}
 use Rattle.dw_base.specs.declared.shared.Order.{Order}
-use Rattle.dw_base.proofs.PlainCellLaws.{bytes_of-plain}
 use Rattle.dw_lines.specs.ViewSources.{view_source}
 use Rattle.dw_lines.specs.ViewTables.{tables_read, TablesUpTo, TablesFound}
 use Rattle.dw_base.proofs.FileViewLaws.{section_after-within}
 use Rattle.dw_meaning.proofs.LineOneLaws.{tables-one}
 use Rattle.dw_lines.proofs.ReadingLaws.{source-is}
 use Rattle.dw_find.specs.MacroNames.{AllUnitsIn}
-use Rattle.dw_find.specs.MacroSections.{SectionUnits, first_places}
+use Rattle.dw_find.specs.MacroSections.{SectionUnits}
 use Rattle.dw_find.specs.ReadData.{DataRead, DataRefuses, string_tables}
 use Rattle.dw_find.specs.ViewLines.{starts_of}
 use Rattle.dw_find.proofs.MacroNameLaws.{units-in}
@@ -57,15 +56,17 @@ use Rattle.dbg_show.proofs.ExcludeLaws.{show-excludes}
 use Rattle.dbg_show.proofs.MacroShownLaws.{macros-fit, macros-shown}
 use Rattle.dbg_show.proofs.MeaningLaws.{dirs-meant, files-meant}
 use Rattle.dbg_show.proofs.SourceReadLaws.{source-fits, source-text, units-read}
+use Rattle.dw_base.proofs.ViewCellLaws.{lines-located}
 use Rattle.dbg_show.proofs.PrintingLaws.{goes-start, goes-more, goes-over, goes-cut, printed-then, cut-then}
 
 -- what the texts stand in
 pub source-made : (v : View) (order : Order) (lines str line_str : Located) → order ≡ v.order → lines ≡ located v Line → str ≡ located v Str → line_str ≡ located v LineStr
-    → ◌≡◌ {A = LineSource} (record { order = order; number = lines.number; bytes = lines.bytes; str = str; line_str = line_str }) (line_source (debug_data v))
+    → ◌≡◌ {A = LineSource} (record { order = order; number = lines.number; is_read = true; bytes = lines.bytes; cells = (debug_data v).lines.contents; str = str; line_str = line_str })
+    (line_source (debug_data v))
 unfolding debug_data
 source-made v order lines str line_str o l s t =
-    rw (o, l, s, t) (ap (λ (bs : List ℕ). record { order = v.order; number = (located v Line).number; bytes = bs; str = located v Str; line_str = located v LineStr })
-    (sym (bytes_of-plain (located v Line).bytes)))
+    rw (o, l, s, t) (ap (λ (z : Located). record { order = v.order; number = z.number; is_read = true; bytes = z.bytes; cells = (debug_data v).lines.contents; str = located v Str; line_str = located v LineStr })
+    (sym (lines-located v)))
 
 pub ruleset source_laws = (source-made)
 
@@ -131,8 +132,8 @@ view-by v section ts there source r = record {
 
 -- a view without a section of line tables
 no-bytes : (v : View) → None ≡ section_named v (name_of Line) → (line_source (debug_data v)).bytes ≡ []
-unfolding debug_data located
-no-bytes v none = bytes_of-plain (located_at v (section_named v (name_of Line))).bytes ∙ ap (λ (o : Option ℕ). (located_at v o).bytes) (sym none)
+unfolding located
+no-bytes v none = ap (λ (z : Located). z.bytes) (lines-located v) ∙ ap (λ (o : Option ℕ). (located_at v o).bytes) (sym none)
 
 view-none : (v : View) (ts : List LineTable) → None ≡ section_named v (name_of Line) → TablesFound v ts → TablesMeant v ts
 view-none v ts none f =
@@ -259,23 +260,23 @@ pub ruleset shown_laws = (is-shown, ends-cut, sources-fit, sources-in, sources-m
 
 -- what is printed from, made of what was read
 abbrev pub source_of : View → List ListedUnit → List (List Abbreviation) → EntryIndex → List Contribution → List ℕ → List ℕ → UnitSource
-source_of v us tables index cs_ starts places =
-    record { view = v; units = us; tables = tables; index = index; contributions = cs_; starts = starts; macros = places }
+source_of v us tables index cs_ starts keys =
+    record { view = v; units = us; tables = tables; index = index; contributions = cs_; starts = starts; keys = keys }
 
 abbrev pub macros_of : View → List ℕ → List MacroUnit → List ℕ → MacroSource
 macros_of v lines us keys = record { view = v; lines = lines; units = us; keys = keys }
 
-pub sources-are : (v : View) (us : List ListedUnit) (tables : List (List Abbreviation)) (index : EntryIndex) (cs_ : List Contribution) (starts places lines : List ℕ) (macros : List MacroUnit)
+pub sources-are : (v : View) (us : List ListedUnit) (tables : List (List Abbreviation)) (index : EntryIndex) (cs_ : List Contribution) (starts : List ℕ) (macros : List MacroUnit)
     (keys : List ℕ) (ts : List LineTable) (ss : List SectionUnits) → ViewTables v ts ss → ListsAll (debug_data v) tables (debug_data v).units us → IsIndexed v tables us index
-    → AreContributions v.order (string_offsets v) cs_ → starts ≡ starts_of ts → places ≡ first_places ss → lines ≡ starts_of ts → AreMacros v ss macros keys
-    → AreSources v ts (source_of v us tables index cs_ starts places) (macros_of v lines macros keys)
-sources-are v us tables index cs_ starts places lines macros keys ts ss t listed indexed are is first same list = record {
+    → AreContributions v.order (string_offsets v) cs_ → starts ≡ starts_of ts → AreMacros v ss macros keys
+    → AreSources v ts (source_of v us tables index cs_ starts keys) (macros_of v starts macros keys)
+sources-are v us tables index cs_ starts macros keys ts ss t listed indexed are is list = record {
   sections = ss;
   tables = t;
-  fits = source-fits (source_of v us tables index cs_ starts places) ts ss t.read listed is indexed first;
-  macros_fit = macros-fit (macros_of v lines macros keys) ts ss t.read same list;
-  units = source-text (source_of v us tables index cs_ starts places) ts ss t.read listed are is first;
-  macros = macros-shown (macros_of v lines macros keys) ts ss t.read same list;
+  fits = source-fits (source_of v us tables index cs_ starts keys) ts ss t.read macros listed is indexed list;
+  macros_fit = macros-fit (macros_of v starts macros keys) ts ss t.read is list;
+  units = source-text (source_of v us tables index cs_ starts keys) ts ss t.read macros listed are is list;
+  macros = macros-shown (macros_of v starts macros keys) ts ss t.read is list;
 }
 
 -- the units are those of a list that was read

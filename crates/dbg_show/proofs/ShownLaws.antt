@@ -10,9 +10,9 @@ use Rattle.dw_entries.specs.ScanStates.{ScanState, GivesEntry, GivesNothing}
 use Rattle.dw_forms.proofs.InsideLaws.{value_at-inside}
 use Rattle.file_tree.specs.Heard.{Heard}
 use Rattle.dbg_show.specs.Printing.{Printed, Cut, Goes}
-use Rattle.dbg_show.specs.ShownUnits.{UnitSource, ShownUnit, all_shown, entries_text, entry_shown, entry_text, indexed_said, named_in, one_shown, reference_said, table_said, unit_entries, unit_said, value_shown, values_behind, values_shown}
-use Rattle.dbg_show.specs.UnitReads.{AllCanRead, SourceFits}
-use Rattle.dbg_show.specs.UnitTexts.{attribute_line, bytes_said, lines_said, macros_said, offset_said, stray_said, text_said}
+use Rattle.dbg_show.specs.ShownUnits.{UnitSource, ShownUnit, all_shown, entries_text, entry_shown, entry_text, indexed_said, named_in, one_shown, reference_said, table_said, unit_entries, value_shown, values_behind, values_shown}
+use Rattle.dbg_show.specs.UnitReads.{AllCanRead, BytesFit, ShownFits, SourceFits}
+use Rattle.dbg_show.specs.UnitTexts.{attribute_line, bytes_said, lines_said, stray_said, text_said}
 use Rattle.dbg_show.specs.declared.listed_unit.ListedUnit.{ListedUnit}
 use Rattle.dbg_show.specs.declared.show_err.ShowErr.{ShowErr}
 use Rattle.dbg_show.proofs.EntryListLaws.{Fronts, PassAt, pass-front, pass-ends, pass-more}
@@ -28,14 +28,13 @@ table-none o start old new is n = n ∙ ap (λ (x : Option ℕ). old ++ table_sa
 
 pub ruleset table_laws = (table-some, table-none)
 
--- a macro unit, or the offset that names none
-pub start-some : (o : Option ℕ) (k start : ℕ) (old new : List ℕ) → Some k ≡ o → new ≡ old ++ macros_said k → new ≡ old ++ unit_said o start
-start-some o k start old new is n = n ∙ ap (λ (x : Option ℕ). old ++ unit_said x start) is
+-- what a field of a value reads as, in the unit's bytes
+pub unit-fits : (u w : ShownUnit) (g : UnitSource) → w ≡ u → g ≡ u.source → ShownFits u → BytesFit g.view w.header.section w.bytes
+unit-fits u w g same source fits =
+    subst (λ (x : UnitSource). BytesFit x.view w.header.section w.bytes) (sym source)
+    (subst (λ (x : ShownUnit). BytesFit u.source.view x.header.section x.bytes) (sym same) fits.bytes)
 
-pub start-none : (o : Option ℕ) (start : ℕ) (old new : List ℕ) → None ≡ o → new ≡ old ++ offset_said start → new ≡ old ++ unit_said o start
-start-none o start old new is n = n ∙ ap (λ (x : Option ℕ). old ++ unit_said x start) is
-
-pub ruleset unit_laws = (start-some, start-none)
+pub ruleset field_laws = (unit-fits)
 
 -- a text by index
 pub indexed-some : (o : Option (List ℕ)) (t own old new : List ℕ) → Some t ≡ o → new ≡ old ++ text_said t → new ≡ old ++ indexed_said o own

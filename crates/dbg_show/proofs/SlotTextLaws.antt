@@ -1,15 +1,15 @@
 -- The text that an index names, found by the place of its slot, is that of the slot's number (DWARF 5, 7.26).
 use Rattle.std.specs.Prelude.{option_map}
 use Rattle.std.specs.Bool.{⊤}
-use Rattle.std.proofs.Common.{leb-false, Bool, true, false, ◌≡◌, ℕ, zero, suc, ◌+◌, ◌-◌, ◌*◌, ◌/◌, ◌<◌, ◌≤◌, ◌==◌, if◌then◌else◌, List, [], ◌∷◌, ◌++◌, length, get_or, drop, nat_le, Option, Some, None, refl, sym, ap, ◌∙◌, subst, arith}
-use Rattle.std.proofs.lemmas.Bool.{leb-true}
+use Rattle.std.proofs.Common.{Bool, true, false, ◌≡◌, ℕ, zero, suc, ◌+◌, ◌-◌, ◌*◌, ◌/◌, ◌<◌, ◌≤◌, ◌==◌, if◌then◌else◌, List, [], ◌∷◌, ◌++◌, length, get_or, drop, Option, Some, None, refl, sym, ap, ◌∙◌, subst, arith}
+use Rattle.std.proofs.lemmas.Bool.{leb-true, le-leb}
 use Rattle.std.proofs.lemmas.List.{get_or_append_left, get_or-append_right}
-use Rattle.dw_base.specs.Cells.{Cell, Located, bytes_of}
-use Rattle.dw_base.specs.FileViews.{View}
+use Rattle.dw_base.specs.Cells.{Cell, Located, bytes_of, cells_at, offset_into, offset_of}
+use Rattle.dw_base.specs.FileViews.{View, field_at, section_bytes, section_named, view_cells}
+use Rattle.dw_base.specs.DebugSections.{name_of}
 use Rattle.dw_base.specs.Forms.{width_size}
 use Rattle.dw_base.specs.Lists.{tabulate}
-use Rattle.dw_base.specs.Numbers.{spelled, number_at}
-use Rattle.dw_base.specs.OffsetPieces.{OffsetMode, at_contribution, at_slot, no_offsets, OffsetState, offsets_at, offset_grammar, past_offsets, ReadsOffsets}
+use Rattle.dw_base.specs.OffsetPieces.{FitsOffsets, OffsetMode, at_contribution, at_slot, no_offsets, OffsetState, offsets_at, offset_grammar, past_offsets, ReadsOffsets}
 use Rattle.dw_base.specs.Pieces.{Piece, Chain, joined}
 use Rattle.dw_base.specs.SlotTexts.{contributions_in, slot_texts, field_text}
 use Rattle.dw_base.specs.Slots.{Slot, slot_at, slot_total, slots_of, slot_number}
@@ -22,61 +22,69 @@ use Rattle.dw_base.specs.declared.debug_sections.DebugSection.TheVariants.{Str, 
 use Rattle.dw_base.specs.declared.shared.Order.{Order}
 use Rattle.dw_base.specs.declared.shared.Width.{Width}
 use Rattle.dw_base.specs.declared.shared.Width.TheVariants.{W32, W64}
+use Rattle.dw_base.specs.declared.view_fields.Field.TheVariants.{Num}
 use Rattle.dw_base.specs.declared.string_offsets.Contribution.{Contribution}
-use Rattle.dw_base.proofs.ContributionBackLaws.{StandsAt, spelled-there, piece-stands, behind-piece, piece-inside}
+use Rattle.dw_base.proofs.ContributionBackLaws.{behind-piece, piece-inside}
 use Rattle.dw_base.proofs.ListLaws.{length-tabulate, get_or-tabulate}
-use Rattle.dw_base.proofs.PlainCellLaws.{IsPlain, plain-parts, offset_of-plain}
 use Rattle.dw_base.proofs.UnitEditLaws.{length-bytes_of}
+use Rattle.dw_base.proofs.ViewCellLaws.{bytes_of-view_cells, offset_at-cells, piece-cells}
 use Rattle.dw_offsets.proofs.SlotNumberLaws.{StandsAt as SlotStands, nth_slot, slot-stands, slot-absent}
 use Rattle.dw_offsets.proofs.SlotPieceLaws.{piece_slots, place-next, slots-are}
-use Rattle.dbg_show.specs.ShownUnits.{index_shown, indexed_said, or_zero, slot_size, slot_text}
+use Rattle.dbg_show.specs.ShownUnits.{index_shown, indexed_said, slot_field, slot_size, slot_text}
 use Rattle.dbg_show.specs.UnitTexts.{text_said, value_said}
 
--- the text of a slot of a section with these bytes
-abbrev pub said_slot : Order → Located → List ℕ → Slot → List ℕ
-said_slot order z bytes s = text_in z.bytes (spelled order bytes s.place s.size)
+-- the text of a slot of a section with these cells
+abbrev pub said_slot : Order → Located → List Cell → Slot → List ℕ
+said_slot order z cells s = field_text order z (cells_at cells s.place s.size)
 
 abbrev pub each_said : (Slot → List ℕ) → List Slot → List (List ℕ)
 each_said f [] = []
 each_said f (s ∷ ss) = f s ∷ each_said f ss
 
+-- cells are those of string offsets of the view
+pub record OffsetsAre (v : View) (cells : List Cell) : Type 0 where
+  pub there : (i : ℕ) → section_named v (name_of StrOffsets) ≡ Some i → cells ≡ view_cells v i
+  pub none : section_named v (name_of StrOffsets) ≡ None → cells ≡ []
+
+-- a slot has bytes
+slot-some : (w : Width) (p : List Cell) → length p ≡ width_size w → 0 < length p
+slot-some W32 p e = omega (arith, e)
+slot-some W64 p e = omega (arith, e)
+
 abbrev pub AllFit : ℕ → List Slot → Type 0
 AllFit n [] = ⊤
-AllFit n (s ∷ ss) = (s.place + s.size ≤ n) × AllFit n ss
+AllFit n (s ∷ ss) = (s.place + s.size ≤ n) × (0 < s.size) × AllFit n ss
 
 -- where pieces stand
 record Stand (cells : List Cell) (place : ℕ) (rest : List Cell) : Type 0 where
   inside : place ≤ length cells
   is : drop place cells ≡ rest
-  plain : IsPlain rest
 
 record TextsAre (order : Order) (z : Located) (cells : List Cell) (xs : List (Piece OffsetState)) : Type 0 where
-  texts : slot_texts order z xs ≡ each_said (said_slot order z (bytes_of cells)) (piece_slots xs)
+  texts : slot_texts order z xs ≡ each_said (said_slot order z cells) (piece_slots xs)
   fit : AllFit (length (bytes_of cells)) (piece_slots xs)
 
 texts-step : (m : OffsetMode) (order : Order) (z : Located) (cells : List Cell) (x : Piece OffsetState) (xs : List (Piece OffsetState)) → x.state.mode ≡ m
-    → Stand cells x.state.place (x.cells ++ joined xs) → slot_texts order z xs ≡ each_said (said_slot order z (bytes_of cells)) (piece_slots xs)
-    → slot_texts order z (x ∷ xs) ≡ each_said (said_slot order z (bytes_of cells)) (piece_slots (x ∷ xs))
+    → Stand cells x.state.place (x.cells ++ joined xs) → slot_texts order z xs ≡ each_said (said_slot order z cells) (piece_slots xs)
+    → slot_texts order z (x ∷ xs) ≡ each_said (said_slot order z cells) (piece_slots (x ∷ xs))
 texts-step at_contribution order z cells x xs e h rest = rw e rest
 texts-step (at_slot w end) order z cells x xs e h rest =
-    let stands : StandsAt (bytes_of cells) (bytes_of x.cells) x.state.place = piece-stands cells x.cells (joined xs) x.state.place h.inside h.is in
-    let says : spelled order (bytes_of x.cells) 0 (length x.cells) ≡ spelled order (bytes_of cells) x.state.place (length x.cells) =
-    sym (spelled-there order (bytes_of cells) (bytes_of x.cells) x.state.place 0 (length x.cells) stands (omega (arith, length-bytes_of x.cells)))
-    ∙ ap (λ (n : ℕ). spelled order (bytes_of cells) n (length x.cells)) (omega arith) in
-    let own : field_text order z x.cells ≡ text_in z.bytes (spelled order (bytes_of cells) x.state.place (length x.cells)) =
-    ap (λ (n : ℕ). text_in z.bytes n) (offset_of-plain order z x.cells (plain-parts x.cells (joined xs) h.plain).0 ∙ says) in
+    let own : field_text order z x.cells ≡ field_text order z (cells_at cells x.state.place (length x.cells)) =
+    ap (field_text order z) (sym (piece-cells cells x.cells (joined xs) x.state.place h.is)) in
     rw e (ap (λ (t : List ℕ). t ∷ slot_texts order z xs) own
-    ∙ ap (λ (ts : List (List ℕ)). text_in z.bytes (spelled order (bytes_of cells) x.state.place (length x.cells)) ∷ ts) rest)
+    ∙ ap (λ (ts : List (List ℕ)). field_text order z (cells_at cells x.state.place (length x.cells)) ∷ ts) rest)
 texts-step no_offsets order z cells x xs e h rest = rw e rest
 
 fit-step : (m : OffsetMode) (order : Order) (cells : List Cell) (x : Piece OffsetState) (xs : List (Piece OffsetState)) → x.state.mode ≡ m
+    → FitsOffsets x.state.mode order x.state x.cells
     → Stand cells x.state.place (x.cells ++ joined xs) → AllFit (length (bytes_of cells)) (piece_slots xs) → AllFit (length (bytes_of cells)) (piece_slots (x ∷ xs))
-fit-step at_contribution order cells x xs e h rest = rw e rest
-fit-step (at_slot w end) order cells x xs e h rest =
+fit-step at_contribution order cells x xs e f h rest = rw e rest
+fit-step (at_slot w end) order cells x xs e f h rest =
     let inside : x.state.place + length x.cells ≤ length cells = piece-inside cells x.cells (joined xs) x.state.place h.inside h.is in
     let within : x.state.place + length x.cells ≤ length (bytes_of cells) = omega (arith, inside, length-bytes_of cells) in
-    rw e (within, rest)
-fit-step no_offsets order cells x xs e h rest = rw e rest
+    let fits : FitsOffsets (at_slot w end) order x.state x.cells = subst (λ (n : OffsetMode). FitsOffsets n order x.state x.cells) e f in
+    rw e (within, slot-some w x.cells fits.size, rest)
+fit-step no_offsets order cells x xs e f h rest = rw e rest
 
 texts-from : (order : Order) (z : Located) (cells : List Cell) (s : OffsetState) (xs : List (Piece OffsetState)) → Chain (offset_grammar order) s xs
     → Stand cells s.place (joined xs) → TextsAre order z cells xs
@@ -84,24 +92,22 @@ texts-from order z cells s [] chain h = record { texts = refl; fit = tt }
 texts-from order z cells s (x ∷ xs) chain h =
     let place : x.state.place ≡ s.place = ap (λ (t : OffsetState). t.place) chain.0 in
     let here : Stand cells x.state.place (x.cells ++ joined xs) =
-    record { inside = omega (arith, place, h.inside); is = ap (λ (n : ℕ). drop n cells) place ∙ h.is; plain = h.plain } in
+    record { inside = omega (arith, place, h.inside); is = ap (λ (n : ℕ). drop n cells) place ∙ h.is } in
     let next : (past_offsets x.state.mode order x.state x.cells).place ≡ x.state.place + length x.cells = place-next x.state.mode order x.state x.cells chain.1 in
     let inside : x.state.place + length x.cells ≤ length cells = piece-inside cells x.cells (joined xs) x.state.place here.inside here.is in
     let rest : TextsAre order z cells xs =
     texts-from order z cells (past_offsets x.state.mode order x.state x.cells) xs chain.2 (record {
       inside = omega (arith, next, inside);
       is = ap (λ (n : ℕ). drop n cells) next ∙ behind-piece cells x.cells (joined xs) x.state.place here.is;
-      plain = (plain-parts x.cells (joined xs) h.plain).1;
     }) in
     record {
       texts = texts-step x.state.mode order z cells x xs refl here rest.texts;
-      fit = fit-step x.state.mode order cells x xs refl here rest.fit;
+      fit = fit-step x.state.mode order cells x xs refl chain.1 here rest.fit;
     }
 
-texts-are : (order : Order) (z : Located) (cells : List Cell) (xs : List (Piece OffsetState)) → ReadsOffsets order cells xs → IsPlain cells → TextsAre order z cells xs
-texts-are order z cells xs r plain =
-    texts-from order z cells (offsets_at (length cells) 0 0 at_contribution) xs r.chain
-    (record { inside = omega arith; is = sym r.cells; plain = subst IsPlain (sym r.cells) plain })
+texts-are : (order : Order) (z : Located) (cells : List Cell) (xs : List (Piece OffsetState)) → ReadsOffsets order cells xs → TextsAre order z cells xs
+texts-are order z cells xs r =
+    texts-from order z cells (offsets_at (length cells) 0 0 at_contribution) xs r.chain (record { inside = omega arith; is = sym r.cells })
 
 -- the slot of a number among them
 get-said : (f : Slot → List ℕ) (ss : List Slot) (n : ℕ) → n < length ss → get_or (each_said f ss) n [] ≡ f (get_or ss n (record { place = 0; size = 0 }))
@@ -110,10 +116,11 @@ get-said f (s ∷ ss) zero lt = refl
 get-said f (s ∷ ss) (suc n) lt = get-said f ss n (omega (arith, lt))
 
 get-fit : (size : ℕ) (ss : List Slot) (n : ℕ) → AllFit size ss → n < length ss
-    → (get_or ss n (record { place = 0; size = 0 })).place + (get_or ss n (record { place = 0; size = 0 })).size ≤ size
+    → ((get_or ss n (record { place = 0; size = 0 })).place + (get_or ss n (record { place = 0; size = 0 })).size ≤ size)
+    × (0 < (get_or ss n (record { place = 0; size = 0 })).size)
 get-fit size [] n fit lt = absurd (omega (arith, lt))
-get-fit size (s ∷ ss) zero fit lt = fit.0
-get-fit size (s ∷ ss) (suc n) fit lt = get-fit size ss n fit.1 (omega (arith, lt))
+get-fit size (s ∷ ss) zero fit lt = (fit.0, fit.1)
+get-fit size (s ∷ ss) (suc n) fit lt = get-fit size ss n fit.2 (omega (arith, lt))
 
 -- its size is that of the slots of its base
 below-total : (w : Width) (base end index : ℕ) → base + (index + 1) * width_size w ≤ end → index < (end - base) / width_size w
@@ -162,23 +169,32 @@ slot-sized (c ∷ cs) first base index n e = by_base (c.base == base) (λ f. slo
     by_base true rest e = by_slot (has_slot c index) refl e
     by_base false rest e = later e (rest e)
 
--- the number in a slot
-number-said : (order : Order) (bytes : List ℕ) (place size : ℕ) → place + size ≤ length bytes → or_zero (number_at order bytes place size) ≡ spelled order bytes place size
-unfolding number_at
-number-said order bytes place size le = by_room (nat_le (place + size) (length bytes)) refl
+-- what a slot reads as
+slot-said : (v : View) (cells : List Cell) (place size : ℕ) → OffsetsAre v cells → 0 < size → place + size ≤ length (bytes_of cells)
+    → offset_of v.order (located v Str) (cells_at cells place size) ≡ offset_into (located v Str) (slot_field v (section_named v (name_of StrOffsets)) place size)
+slot-said v cells place size are some inside = by_section (section_named v (name_of StrOffsets)) refl
   where
-    by_room : (b : Bool) → nat_le (place + size) (length bytes) ≡ b → or_zero (if b then Some (spelled order bytes place size) else None) ≡ spelled order bytes place size
-    by_room true e = refl
-    by_room false e = (let lt = leb-false (place + size) (length bytes) e in absurd (omega (arith, le, lt)))
+    by_section : (o : Option ℕ) → section_named v (name_of StrOffsets) ≡ o
+        → offset_of v.order (located v Str) (cells_at cells place size) ≡ offset_into (located v Str) (slot_field v o place size)
+    by_section None e =
+        let empty : length (bytes_of cells) ≡ 0 = ap (λ (cs : List Cell). length (bytes_of cs)) (are.none e) in
+        absurd (omega (arith, inside, some, empty))
+    by_section (Some i) e =
+        let same : cells ≡ view_cells v i = are.there i e in
+        let size_is : length (bytes_of cells) ≡ length (section_bytes v i) = ap (λ (cs : List Cell). length (bytes_of cs)) same ∙ ap length (bytes_of-view_cells v i) in
+        ap (λ (cs : List Cell). offset_of v.order (located v Str) (cells_at cs place size)) same
+        ∙ offset_at-cells v (located v Str) i place size some (omega (arith, inside, size_is))
+        ∙ ap (offset_into (located v Str))
+        (sym (ap (λ (b : Bool). if b then field_at v i place size else Num 0) (le-leb (place + size) (length (section_bytes v i)) (omega (arith, inside, size_is)))))
 
 -- the text of an index
 pub index-text : (v : View) (cells : List Cell) (xs : List (Piece OffsetState)) (base : Option ℕ) (index : ℕ) (path : Bool) (p : List Cell) → ReadsOffsets v.order cells xs
-    → IsPlain cells → bytes_of cells ≡ (located v StrOffsets).bytes
+    → OffsetsAre v cells
     → value_said (indexed (slot_texts v.order (located v Str) xs) path (slot_by base (contributions_in v.order xs) index) p)
     ≡ index_shown v (contributions_in v.order xs) base index (bytes_of p)
 unfolding slot_text
-index-text v cells xs None index path p reads plain bytes_are = refl
-index-text v cells xs (Some base) index path p reads plain bytes_are = by_slot (slot_number 0 (contributions_in v.order xs) base index) refl
+index-text v cells xs None index path p reads offsets = refl
+index-text v cells xs (Some base) index path p reads offsets = by_slot (slot_number 0 (contributions_in v.order xs) base index) refl
   where
     by_slot : (o : Option ℕ) → slot_number 0 (contributions_in v.order xs) base index ≡ o
         → value_said (indexed (slot_texts v.order (located v Str) xs) path (slot_number 0 (contributions_in v.order xs) base index) p)
@@ -188,7 +204,7 @@ index-text v cells xs (Some base) index path p reads plain bytes_are = by_slot (
         ∙ sym (ap (λ (o : Option ℕ). indexed_said (option_map (λ place. slot_text v place (slot_size (contributions_in v.order xs) base)) o) (bytes_of p))
         (slot-absent (contributions_in v.order xs) 0 base index e))
     by_slot (Some n) e =
-        let are : TextsAre v.order (located v Str) cells xs = texts-are v.order (located v Str) cells xs reads plain in
+        let are : TextsAre v.order (located v Str) cells xs = texts-are v.order (located v Str) cells xs reads in
         let same : piece_slots xs ≡ slots_of (contributions_in v.order xs) = slots-are v.order cells xs reads in
         let stands : SlotStands (slot_place (contributions_in v.order xs) base index) (slots_of (contributions_in v.order xs)) 0 n =
         slot-stands (contributions_in v.order xs) 0 base index n e in
@@ -200,14 +216,14 @@ index-text v cells xs (Some base) index path p reads plain bytes_are = by_slot (
         ap (λ (i : ℕ). get_or (slots_of (contributions_in v.order xs)) i (record { place = 0; size = 0 })) (sym whole) in
         let size : s.size ≡ slot_size (contributions_in v.order xs) base =
         ap (λ (t : Slot). t.size) (sym there) ∙ slot-sized (contributions_in v.order xs) 0 base index n e in
-        let text : get_or (slot_texts v.order (located v Str) xs) n [] ≡ said_slot v.order (located v Str) (bytes_of cells) s =
-        ap (λ (ts : List (List ℕ)). get_or ts n []) (are.texts ∙ ap (each_said (said_slot v.order (located v Str) (bytes_of cells))) same)
-        ∙ get-said (said_slot v.order (located v Str) (bytes_of cells)) (slots_of (contributions_in v.order xs)) n below in
-        let own : said_slot v.order (located v Str) (bytes_of cells) s ≡ slot_text v s.place (slot_size (contributions_in v.order xs) base) =
+        let text : get_or (slot_texts v.order (located v Str) xs) n [] ≡ said_slot v.order (located v Str) cells s =
+        ap (λ (ts : List (List ℕ)). get_or ts n []) (are.texts ∙ ap (each_said (said_slot v.order (located v Str) cells)) same)
+        ∙ get-said (said_slot v.order (located v Str) cells) (slots_of (contributions_in v.order xs)) n below in
+        let inside = get-fit (length (bytes_of cells)) (slots_of (contributions_in v.order xs)) n fit below in
+        let own : said_slot v.order (located v Str) cells s ≡ slot_text v s.place (slot_size (contributions_in v.order xs) base) =
         ap (λ (k : ℕ). text_in (located v Str).bytes k)
-        (sym (number-said v.order (bytes_of cells) s.place s.size (get-fit (length (bytes_of cells)) (slots_of (contributions_in v.order xs)) n fit below))
-        ∙ ap (λ (bs : List ℕ). or_zero (number_at v.order bs s.place s.size)) bytes_are
-        ∙ ap (λ (k : ℕ). or_zero (number_at v.order (located v StrOffsets).bytes s.place k)) size) in
+        (slot-said v cells s.place s.size offsets inside.1 inside.0
+        ∙ ap (λ (k : ℕ). offset_into (located v Str) (slot_field v (section_named v (name_of StrOffsets)) s.place k)) size) in
         ap (λ (o : Option ℕ). value_said (indexed (slot_texts v.order (located v Str) xs) path o p)) e
         ∙ ap text_said (text ∙ own)
         ∙ sym (ap (λ (o : Option ℕ). indexed_said (option_map (λ place. slot_text v place (slot_size (contributions_in v.order xs) base)) o) (bytes_of p)) (stands.place ∙ ap (λ (t : Slot). Some t.place) there))

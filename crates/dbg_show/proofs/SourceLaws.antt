@@ -1,22 +1,24 @@
 -- What units are read by again: texts, slots, tables and entries that values name.
 use Rattle.std.proofs.Common.{Bool, true, false, zero, suc, ◌≡◌, ◌≢◌, ◌⊎◌, inl, inr, ℕ, ◌+◌, ◌-◌, ◌<◌, ◌≤◌, ◌^◌, List, [], ◌∷◌, length, drop, get_or, nat_le, nat_lt, Option, Some, None, refl, sym, ap, ◌∙◌, subst, arith, if◌then◌else◌}
 use Rattle.std.specs.Prelude.{◌==◌, ◌&&◌, ◌||◌}
-use Rattle.std.proofs.lemmas.Bool.{ne_eqb, eq-eqb}
+use Rattle.std.proofs.lemmas.Bool.{ne_eqb, eq-eqb, leb-true}
 use Rattle.dw_base.specs.AbbreviationTables.{Abbreviation}
 use Rattle.dw_base.specs.DebugData.{start_number}
-use Rattle.dw_base.specs.FileViews.{View}
+use Rattle.dw_base.specs.FileViews.{View, field_at, section_bytes}
 use Rattle.dw_base.specs.Forms.{width_size}
 use Rattle.dw_base.specs.LineMeanings.{item_at}
 use Rattle.dw_base.specs.Texts.{text, has_nul, text_in, ends_in}
 use Rattle.dw_base.specs.declared.string_offsets.Contribution.{Contribution}
+use Rattle.dw_base.specs.declared.view_fields.Field.TheVariants.{Num}
 use Rattle.dw_find.specs.LineStarts.{Rises}
 use Rattle.dw_offsets.specs.SlotSearch.{BasesRise, HasBase, IsBaseGap, base_at}
-use Rattle.dbg_show.specs.EntryIndexes.{AreBefore, EachRises, entries_at, place_key, unit_number, unit_offsets, unit_starts}
-use Rattle.dbg_show.specs.ShownUnits.{UnitSource, lies_in, named_in, number_in, or_behind, slot_size}
+use Rattle.dbg_show.specs.EntryIndexes.{AreBefore, EachRises, entries_at, unit_number, unit_offsets, unit_starts}
+use Rattle.dbg_show.specs.ShownUnits.{UnitSource, lies_in, named_in, number_in, or_behind, slot_in, slot_size}
 use Rattle.dbg_show.specs.UnitReads.{EachReads, AllCanRead, SourceFits}
 use Rattle.dbg_show.specs.declared.listed_unit.ListedUnit.{ListedUnit}
 use Rattle.dbg_show.proofs.IndexEntryLaws.{each-rises, tabled-number}
 use Rattle.dbg_show.proofs.IndexUnitLaws.{here_at, named-first, named-last, starts-length, unit-starts-rise}
+use Rattle.dbg_show.specs.PlaceKeys.{place_key}
 
 -- bytes without a NUL are a text
 whole-text : (bs : List ℕ) → has_nul bs ≡ false → text bs ≡ bs
@@ -187,3 +189,22 @@ named-some g section place n k d fits b some le e is =
     named-by g section place n (Some k) fits b some (here-inside g.view g.tables g.units (n - 1) section place d (omega (arith, some, le)) e ∙ sym is)
 
 pub ruleset named_laws = (named-far, named-front, named-outside, named-none, named-some)
+
+-- what a slot reads as
+pub slot-none : (v : View) (section place size : ℕ) (bs : List ℕ) → bs ≡ section_bytes v section → false ≡ nat_le (place + size) (length bs) → Num 0 ≡ slot_in v section place size
+slot-none v section place size bs is past =
+    ap (λ (b : Bool). if b then field_at v section place size else Num 0) past ∙ ap (λ (xs : List ℕ). if nat_le (place + size) (length xs) then field_at v section place size else Num 0) is
+
+pub slot-some : (v : View) (section place size : ℕ) (bs : List ℕ) → bs ≡ section_bytes v section → true ≡ nat_le (place + size) (length bs)
+    → field_at v section place size ≡ slot_in v section place size
+slot-some v section place size bs is room =
+    ap (λ (b : Bool). if b then field_at v section place size else Num 0) room ∙ ap (λ (xs : List ℕ). if nat_le (place + size) (length xs) then field_at v section place size else Num 0) is
+
+pub slot-inside : (v : View) (section place size : ℕ) (bs : List ℕ) → bs ≡ section_bytes v section → true ≡ nat_le (place + size) (length bs)
+    → place + size ≤ length (section_bytes v section)
+slot-inside v section place size bs is room =
+    let inside = leb-true (place + size) (length bs) (sym room) in
+    let same : length bs ≡ length (section_bytes v section) = ap length is in
+    omega (arith, inside, same)
+
+pub ruleset slot_laws = (slot-none, slot-some, slot-inside)

@@ -1,24 +1,31 @@
 -- What `show` reads of a view is what its units are printed from.
-use Rattle.std.proofs.Common.{◌≡◌, ℕ, List, [], ◌∷◌, length, sym, ap, ◌∙◌, subst}
+use Rattle.std.proofs.Common.{◌≡◌, ℕ, List, [], ◌∷◌, length, refl, sym, ap, ◌∙◌, subst}
 use Rattle.dw_base.specs.AbbreviationTables.{Abbreviation}
-use Rattle.dw_base.specs.Cells.{bytes_of, plain_cells}
-use Rattle.dw_base.specs.DebugData.{line_source, start_number}
+use Rattle.dw_base.specs.Cells.{Located, bytes_of}
+use Rattle.dw_base.specs.DebugData.{line_source}
 use Rattle.dw_base.specs.FileViews.{View}
 use Rattle.dw_base.specs.LineTables.{LineTable}
 use Rattle.dw_base.specs.StringOffsets.{AreContributions, ContributionsUpTo}
 use Rattle.dw_base.specs.UnitMeanings.{units_of}
 use Rattle.dw_base.specs.ViewData.{debug_data, string_offsets}
 use Rattle.dw_base.proofs.ContributionBackLaws.{contributions-are}
-use Rattle.dw_base.proofs.PlainCellLaws.{bytes_of-plain}
+use Rattle.dw_base.specs.MacroReadings.{first_macros}
+use Rattle.dw_base.specs.OffsetPieces.{OffsetState, ReadsOffsets}
+use Rattle.dw_base.specs.Pieces.{Piece}
+use Rattle.dw_base.specs.SlotTexts.{contributions_in}
+use Rattle.dw_base.specs.declared.macro_units.MacroUnit.{MacroUnit}
+use Rattle.dw_base.specs.declared.shared.Order.{Order}
+use Rattle.dw_base.specs.declared.string_offsets.Contribution.{Contribution}
+use Rattle.dw_meaning.proofs.MacroFirstLaws.{first-macros}
 use Rattle.dw_find.specs.IndexedTexts.{TablesStart}
-use Rattle.dw_find.specs.LineStarts.{Rises}
-use Rattle.dw_find.specs.MacroSections.{SectionUnits, first_places}
+use Rattle.dw_find.specs.MacroSections.{SectionUnits}
 use Rattle.dw_find.specs.ReadData.{DataRead}
 use Rattle.dw_find.specs.ViewLines.{starts_of}
 use Rattle.dw_find.proofs.StartLaws.{starts-rise}
 use Rattle.dw_find.proofs.TableStartLaws.{read-starts}
 use Rattle.dbg_show.specs.EntryIndexes.{IsIndexed}
-use Rattle.dbg_show.specs.ShownUnits.{UnitSource, all_shown}
+use Rattle.dbg_show.specs.ShownMacros.{AreMacros}
+use Rattle.dbg_show.specs.ShownUnits.{UnitSource, all_shown, first_macro}
 use Rattle.dbg_show.specs.UnitLists.{ListsAll}
 use Rattle.dbg_show.specs.UnitReads.{AllCanRead, EachReads, SourceFits}
 use Rattle.dbg_show.specs.UnitTexts.{units_text}
@@ -26,27 +33,46 @@ use Rattle.dbg_show.specs.declared.listed_unit.ListedUnit.{ListedUnit}
 use Rattle.dbg_show.proofs.AllRunLaws.{EachUnit, all-hold}
 use Rattle.dbg_show.proofs.IndexListLaws.{stand-apart}
 use Rattle.dbg_show.proofs.InfoLaws.{info-is}
-use Rattle.dbg_show.proofs.MacroStartLaws.{places-named, places-rise}
+use Rattle.dbg_show.proofs.MacroShownLaws.{keys-risen, units-numbered}
 use Rattle.dbg_show.proofs.UnitFactLaws.{unit-reads}
 use Rattle.dbg_show.proofs.UnitTextLaws.{SourceIs, units-shown}
+use Rattle.dw_base.proofs.ViewCellLaws.{offsets-located}
+
+-- the bytes of string offsets
+offsets-bytes : (v : View) → bytes_of (debug_data v).offsets.contents ≡ (string_offsets v).bytes
+offsets-bytes v = ap (λ (z : Located). z.bytes) (offsets-located v)
+
+order-of : (v : View) → (debug_data v).base.order ≡ v.order
+unfolding debug_data
+order-of v = refl
+
+-- the first section of macro units
+first-is : (v : View) → first_macros (debug_data v).macros ≡ first_macro v
+unfolding debug_data
+first-is v = first-macros v
 
 -- the contributions that were read are those among the pieces
-pub source-is : (g : UnitSource) (ts : List LineTable) (ss : List SectionUnits) (d : DataRead g.view ts ss) → ListsAll (debug_data g.view) g.tables (debug_data g.view).units g.units
-    → AreContributions g.view.order (string_offsets g.view) g.contributions → g.starts ≡ starts_of ts → g.macros ≡ first_places ss → SourceIs g d.readings
-unfolding debug_data
-source-is g ts ss d listed are starts macros =
-    let bytes : bytes_of (plain_cells (string_offsets g.view).bytes) ≡ (string_offsets g.view).bytes = bytes_of-plain (string_offsets g.view).bytes in
-    let up : ContributionsUpTo g.view.order (bytes_of (plain_cells (string_offsets g.view).bytes)) g.contributions (length (bytes_of (plain_cells (string_offsets g.view).bytes))) =
-    subst (λ (bs : List ℕ). ContributionsUpTo g.view.order bs g.contributions (length bs)) (sym bytes) are in
-    record {
-      listed = listed;
-      units = d.reads.units;
-      offsets = d.reads.offsets;
-      contributions = contributions-are g.view.order (plain_cells (string_offsets g.view).bytes) d.readings.offsets g.contributions d.reads.offsets up;
-      starts = sym (read-starts (line_source (debug_data g.view)) d.readings.lines) ∙ ap starts_of (sym d.tables) ∙ sym starts;
-      macros = λ n. places-named g.view ss d.readings.macros d.units d.reads.macros n ∙ ap (λ (xs : List ℕ). start_number 0 xs n) (sym macros);
-      info = info-is g.view;
-    }
+contributions-read : (v : View) (xs : List (Piece OffsetState)) (list : List Contribution) → ReadsOffsets (debug_data v).base.order (debug_data v).offsets.contents xs
+    → AreContributions v.order (string_offsets v) list → contributions_in (debug_data v).base.order xs ≡ list
+contributions-read v xs list reads are =
+    let up : ContributionsUpTo (debug_data v).base.order (bytes_of (debug_data v).offsets.contents) list (length (bytes_of (debug_data v).offsets.contents)) =
+    subst (λ (o : Order). ContributionsUpTo o (bytes_of (debug_data v).offsets.contents) list (length (bytes_of (debug_data v).offsets.contents))) (sym (order-of v))
+    (subst (λ (bs : List ℕ). ContributionsUpTo v.order bs list (length bs)) (sym (offsets-bytes v)) are) in
+    contributions-are (debug_data v).base.order (debug_data v).offsets.contents xs list reads up
+
+pub source-is : (g : UnitSource) (ts : List LineTable) (ss : List SectionUnits) (d : DataRead g.view ts ss) (macros : List MacroUnit)
+    → ListsAll (debug_data g.view) g.tables (debug_data g.view).units g.units
+    → AreContributions g.view.order (string_offsets g.view) g.contributions → g.starts ≡ starts_of ts → AreMacros g.view ss macros g.keys → SourceIs g d.readings
+source-is g ts ss d macros listed are starts list = record {
+  listed = listed;
+  units = d.reads.units;
+  offsets = d.reads.offsets;
+  contributions = contributions-read g.view d.readings.offsets g.contributions d.reads.offsets are;
+  starts = sym (read-starts (line_source (debug_data g.view)) d.readings.lines) ∙ ap starts_of (sym d.tables) ∙ sym starts;
+  macros = λ section place. units-numbered g.view ts ss d macros g.keys list section place;
+  first = first-is g.view;
+  info = info-is g.view;
+}
 
 each-reads : (v : View) (tables : List (List Abbreviation)) (us : List ListedUnit) → EachUnit (EachReads v tables) us → AllCanRead v tables us
 each-reads v tables [] each = tt
@@ -59,9 +85,10 @@ units-read v ts ss us tables d listed =
     each-reads v tables us
     (all-hold (debug_data v) tables (EachReads v tables) us d.readings.units (λ z among start list h u table items. unit-reads v tables z start list h u table items among) listed d.reads.units)
 
-pub source-fits : (g : UnitSource) (ts : List LineTable) (ss : List SectionUnits) (d : DataRead g.view ts ss) → ListsAll (debug_data g.view) g.tables (debug_data g.view).units g.units
-    → g.starts ≡ starts_of ts → IsIndexed g.view g.tables g.units g.index → g.macros ≡ first_places ss → SourceFits g
-source-fits g ts ss d listed starts indexed macros =
+pub source-fits : (g : UnitSource) (ts : List LineTable) (ss : List SectionUnits) (d : DataRead g.view ts ss) (macros : List MacroUnit)
+    → ListsAll (debug_data g.view) g.tables (debug_data g.view).units g.units
+    → g.starts ≡ starts_of ts → IsIndexed g.view g.tables g.units g.index → AreMacros g.view ss macros g.keys → SourceFits g
+source-fits g ts ss d macros listed starts indexed list =
     let t : TablesStart (debug_data g.view) g.starts = record {
       tables = d.readings.lines;
       are = d.reads.lines;
@@ -72,13 +99,14 @@ source-fits g ts ss d listed starts indexed macros =
       index = indexed;
       apart = stand-apart g.view g.tables g.units listed;
       rises = starts-rise (debug_data g.view) g.starts t;
-      units_rise = subst Rises (sym macros) (places-rise g.view ss d.units);
+      keys_rise = keys-risen g.view ss d.units macros g.keys list;
     }
 
 -- so what is printed is the text of what units mean
-pub source-text : (g : UnitSource) (ts : List LineTable) (ss : List SectionUnits) (d : DataRead g.view ts ss) → ListsAll (debug_data g.view) g.tables (debug_data g.view).units g.units
-    → AreContributions g.view.order (string_offsets g.view) g.contributions → g.starts ≡ starts_of ts → g.macros ≡ first_places ss
+pub source-text : (g : UnitSource) (ts : List LineTable) (ss : List SectionUnits) (d : DataRead g.view ts ss) (macros : List MacroUnit)
+    → ListsAll (debug_data g.view) g.tables (debug_data g.view).units g.units
+    → AreContributions g.view.order (string_offsets g.view) g.contributions → g.starts ≡ starts_of ts → AreMacros g.view ss macros g.keys
     → all_shown g 0 g.units ≡ units_text (debug_data g.view).units 0 (units_of (debug_data g.view) d.readings)
-source-text g ts ss d listed are starts macros = units-shown g d.readings (source-is g ts ss d listed are starts macros)
+source-text g ts ss d macros listed are starts list = units-shown g d.readings (source-is g ts ss d macros listed are starts list)
 
 pub ruleset source_text_laws = (source-fits, source-text, units-read)

@@ -1,10 +1,11 @@
 -- The text of a unit's entries, found by their places, is what its pieces say.
 use Rattle.std.proofs.Common.{Bool, true, false, ◌≡◌, ◌≢◌, ◌⊎◌, inl, inr, ℕ, ◌+◌, ◌==◌, List, [], ◌∷◌, ◌++◌, length, take, drop, cond, nat_le, Option, Some, None, refl, sym, ap, ◌∙◌, subst, if◌then◌else◌}
-use Rattle.std.specs.Prelude.{◌&&◌, not}
+use Rattle.std.specs.Prelude.{◌&&◌, ◌||◌, IsTrue, nat_lt, not}
 use Rattle.std.proofs.lemmas.Bool.{and_parts, eqb-true, ne_eqb, eq-eqb}
 use Rattle.dw_base.specs.AbbreviationTables.{Abbreviation, abbreviation_of}
-use Rattle.dw_base.specs.Cells.{Cell}
-use Rattle.dw_base.specs.DebugData.{Around, start_number}
+use Rattle.dw_base.specs.Cells.{Cell, offset_into}
+use Rattle.dw_base.specs.DebugData.{Around}
+use Rattle.dw_base.specs.FileViews.{address_at, field_at}
 use Rattle.dw_base.specs.Forests.{attribute, null}
 use Rattle.dw_base.specs.Forms.{ValueKind, number_of, leb_number, signed_leb, block_of, counted, counted_leb, inline_text, text_offset, present, in_abbreviation, form_in_front, supplementary, unlisted, FormRow, form_rows, kind_by, kind_in}
 use Rattle.dw_base.specs.Lebs.{uleb_at}
@@ -13,8 +14,9 @@ use Rattle.dw_base.specs.Roles.{Use, names_path, names_line_table, names_macro_u
 use Rattle.dw_base.specs.TableStarts.{can_start}
 use Rattle.dw_base.specs.Texts.{text_in}
 use Rattle.dw_base.specs.ViewData.{located}
-use Rattle.dw_base.specs.declared.debug_sections.DebugSection.TheVariants.{Str, LineStr}
-use Rattle.dw_base.specs.UnitHeaders.{UnitSection}
+use Rattle.dw_base.specs.declared.debug_sections.DebugSection.{DebugSection}
+use Rattle.dw_base.specs.declared.debug_sections.DebugSection.TheVariants.{Str, LineStr, Line}
+use Rattle.dw_base.specs.UnitHeaders.{UnitSection, is_address_size}
 use Rattle.dw_base.specs.UnitMeanings.{entry_mark, value_mark, mark_of}
 use Rattle.dw_base.specs.UnitStates.{Mode, at_code, at_values, at_chosen, UnitState, in_unit, of_chosen, code_value}
 use Rattle.dw_base.specs.ValueMeanings.{line_meaning, macro_meaning, meaning_of_value, number_meaning, plain_meaning}
@@ -25,7 +27,9 @@ use Rattle.dw_base.specs.declared.units.Scanned.{Scanned}
 use Rattle.dw_base.specs.declared.values.Spec.{Spec}
 use Rattle.dw_base.specs.declared.values.Value.{Value}
 use Rattle.dw_base.specs.declared.values.ValueClass.{ValueClass}
-use Rattle.dw_base.specs.declared.values.ValueClass.TheVariants.{Signed, Bytes, Flag, InlineText, StrOffset, LineStrOffset, StrIndex, LocalRef, GlobalRef}
+use Rattle.dw_base.specs.declared.values.ValueClass.TheVariants.{Address, Number, Signed, Bytes, Flag, InlineText, StrOffset, LineStrOffset, StrIndex, AddrIndex, ListIndex, LocalRef, GlobalRef, Signature, SecOffset}
+use Rattle.dw_base.specs.declared.view_fields.Field.{Field}
+use Rattle.dw_base.specs.declared.view_fields.Field.TheVariants.{Num}
 use Rattle.dw_meaning.proofs.ScanPieceLaws.{unit_bytes}
 use Rattle.dw_meaning.proofs.ValueCutLaws.{value_of-own}
 use Rattle.dw_find.specs.TextPlaces.{is_macros, is_start_form, own_form}
@@ -33,10 +37,12 @@ use Rattle.dw_find.proofs.StartFormLaws.{form-starts, plain-form, chosen-form, l
 use Rattle.dw_find.proofs.ValueRunLaws.{Chosen}
 use Rattle.dbg_show.specs.PieceRuns.{all_of, value_out, values_out, entry_out, entries_out, coded_out, listed_out}
 use Rattle.dbg_show.specs.PieceTexts.{mark_said, pieces_said}
-use Rattle.dbg_show.specs.ShownUnits.{ShownUnit, class_shown, entry_shown, index_shown, info_section, signed_of, value_bytes, entries_text, entry_coded, entry_listed, entry_text, other_shown, plain_shown, says_start, says_unit, table_said, unit_said, value_shown, values_behind, values_shown}
-use Rattle.dbg_show.specs.UnitTexts.{attribute_line, bytes_said, class_said, entry_line, flag_said, signed_said, text_said, value_said}
+use Rattle.dbg_show.specs.ShownUnits.{ShownUnit, class_shown, entry_shown, has_field, index_shown, is_leb_form, macro_shown, reference_shown, signed_of, table_shown, value_address, value_bytes, value_field, value_offset, entries_text, entry_coded, entry_listed, entry_text, other_shown, plain_shown, says_start, says_unit, value_shown, values_behind, values_shown}
+use Rattle.dbg_show.specs.UnitTexts.{attribute_line, bytes_said, entry_line, field_said, flag_said, signed_said, text_said, value_said}
+use Rattle.dbg_show.proofs.FieldPlaceLaws.{field-none}
+use Rattle.dbg_show.proofs.FormFactLaws.{FormFacts, form-facts}
 use Rattle.dbg_show.proofs.PieceRunLaws.{UnitSays}
-use Rattle.dbg_show.proofs.ValueTextLaws.{IsAround, IsIn, is_own_kind, kind-own, number-read, leb-read, signed-read, block-read, text-read, sized-said, start-said, macro-said, leb-said, sleb-said, block-said, inline-said, offset-said, counted-said, counted-leb-said}
+use Rattle.dbg_show.proofs.ValueTextLaws.{IsAround, IsIn, number-read, leb-read, signed-read, block-read, text-read, sized-said, start-said, macro-said, leb-said, sleb-said, block-said, inline-said, offset-said, counted-said, counted-leb-said}
 
 abbrev all_rows : (FormRow → Bool) → List FormRow → Bool
 all_rows P [] = true
@@ -48,15 +54,23 @@ plain_or_const in_abbreviation b = b
 plain_or_const k b = true
 
 -- a flag without bytes
-bare-said : (u : ShownUnit) (bytes : List ℕ) (place : ℕ) (v : Value) → bare_value bytes place Flag 1 ≡ Some v → flag_said 1 ≡ class_shown u v.class v
+bare-said : (u : ShownUnit) (bytes : List ℕ) (place form : ℕ) (v : Value) → bare_value bytes place Flag 1 ≡ Some v → flag_said 1 ≡ class_shown u v.class form v
 unfolding class_shown
-bare-said u bytes place v e = by_room (nat_le place (length bytes)) e
+bare-said u bytes place form v e = by_room (nat_le place (length bytes)) e
   where
-    by_room : (b : Bool) → cond b (Some (record { class = Flag; number = 1; at = place; len = 0; size = 0 })) None ≡ Some v → flag_said 1 ≡ class_shown u v.class v
+    or-true : (b : Bool) → (b || true) ≡ true
+    or-true true = refl
+    or-true false = refl
+
+    by_room : (b : Bool) → cond b (Some (record { class = Flag; number = 1; at = place; len = 0; size = 0 })) None ≡ Some v → flag_said 1 ≡ class_shown u v.class form v
     by_room true e =
         let class_is : Flag ≡ v.class = cc in
         let number_is : 1 ≡ v.number = cc in
-        ap flag_said number_is ∙ ap (λ (c : ValueClass). class_shown u c v) class_is
+        let len_is : v.len ≡ 0 = cc in
+        ap flag_said number_is
+        ∙ sym (ap (field_said Flag) (ap (λ (b : Bool). if is_leb_form form || not b then Num v.number else field_at u.source.view u.header.section v.at v.len) (sym (field-none u.bytes v len_is))
+        ∙ ap (λ (b : Bool). if b then Num v.number else field_at u.source.view u.header.section v.at v.len) (or-true (is_leb_form form))))
+        ∙ ap (λ (c : ValueClass). class_shown u c form v) class_is
     by_room false e = absurd cc
 
 -- a value that doesn't stand in its abbreviation
@@ -74,77 +88,77 @@ not-true : (b : Bool) → not b ≡ true → b ≡ false
 not-true true e = absurd cc
 not-true false e = refl
 
-kind-said : (around : Around) (u : ShownUnit) (cells : List Cell) (s : UnitState) (says : Use) (x : Spec) (k : ValueKind) (place : ℕ) (v : Value) → IsAround around u → IsIn cells s u
-    → is_own_kind k ≡ true → plain_kind k ≡ true → starts_none k says ≡ true → value_of k s.header.params.order (unit_bytes s cells) place x.implicit ≡ Some v
-    → value_said (meaning_of_value around s says x k (take v.size (drop place cells))) ≡ class_shown u v.class v
+kind-said : (around : Around) (u : ShownUnit) (cells : List Cell) (s : UnitState) (says : Use) (x : Spec) (k : ValueKind) (place form : ℕ) (v : Value) → IsAround around u → IsIn cells s u
+    → FormFacts k form → plain_kind k ≡ true → starts_none k says ≡ true → value_of k s.header.params.order (unit_bytes s cells) place x.implicit ≡ Some v
+    → value_said (meaning_of_value around s says x k (take v.size (drop place cells))) ≡ class_shown u v.class form v
 unfolding value_of class_shown
-kind-said around u cells s says x (number_of class n) place v a i own plain none is =
+kind-said around u cells s says x (number_of class n) place form v a i own plain none is =
     let parts = and_parts (not (is_line_start says class n)) (not (is_macro_start says class n)) none in
     ap (λ (b : Bool). value_said (if b then line_meaning around (take v.size (drop place cells)) else plain_meaning around s says class n (take v.size (drop place cells))))
     (not-true (is_line_start says class n) parts.0)
     ∙ ap (λ (b : Bool). value_said (if b then macro_meaning around.lasting (take v.size (drop place cells)) else number_meaning around s says class (take v.size (drop place cells))))
     (not-true (is_macro_start says class n) parts.1)
-    ∙ sized-said around u cells s says class place n v a i own (number-read class s.header.params.order (unit_bytes s cells) place n v is)
-kind-said around u cells s says x (leb_number class) place v a i own plain none is =
-    leb-said around u cells s says class place v a i own
+    ∙ sized-said around u cells s says class place n form v a i own (number-read class s.header.params.order (unit_bytes s cells) place n v is)
+kind-said around u cells s says x (leb_number class) place form v a i own plain none is =
+    leb-said around u cells s says class place form v a i own
     (value_of-own (leb_number class) s.header.params.order (unit_bytes s cells) place x.implicit v is).inside (leb-read class (unit_bytes s cells) place v is)
-kind-said around u cells s says x signed_leb place v a i own plain none is =
-    sleb-said u cells s place v i (value_of-own signed_leb s.header.params.order (unit_bytes s cells) place x.implicit v is).inside (signed-read (unit_bytes s cells) place v is)
-kind-said around u cells s says x (block_of n) place v a i own plain none is =
-    block-said u cells s place 0 n v i (block-read (unit_bytes s cells) place 0 n v is)
-kind-said around u cells s says x (counted n) place v a i own plain none is = counted-said u cells s place n v i is
-kind-said around u cells s says x counted_leb place v a i own plain none is = counted-leb-said u cells s place v i is
-kind-said around u cells s says x inline_text place v a i own plain none is =
-    inline-said u cells s place v i (value_of-own inline_text s.header.params.order (unit_bytes s cells) place x.implicit v is).inside (text-read (unit_bytes s cells) place v is)
-kind-said around u cells s says x (text_offset table n) place v a i own plain none is =
-    offset-said around u cells s table place n v a i (number-read (offset_class table) s.header.params.order (unit_bytes s cells) place n v is)
-kind-said around u cells s says x present place v a i own plain none is = bare-said u (unit_bytes s cells) place v is
-kind-said around u cells s says x in_abbreviation place v a i own plain none is = absurd cc
-kind-said around u cells s says x form_in_front place v a i own plain none is = absurd cc
-kind-said around u cells s says x supplementary place v a i own plain none is = absurd cc
-kind-said around u cells s says x unlisted place v a i own plain none is = absurd cc
+kind-said around u cells s says x signed_leb place form v a i own plain none is =
+    sleb-said u cells s place form v i (value_of-own signed_leb s.header.params.order (unit_bytes s cells) place x.implicit v is).inside (signed-read (unit_bytes s cells) place v is)
+kind-said around u cells s says x (block_of n) place form v a i own plain none is =
+    block-said u cells s place 0 n form v i (block-read (unit_bytes s cells) place 0 n v is)
+kind-said around u cells s says x (counted n) place form v a i own plain none is = counted-said u cells s place n form v i is
+kind-said around u cells s says x counted_leb place form v a i own plain none is = counted-leb-said u cells s place form v i is
+kind-said around u cells s says x inline_text place form v a i own plain none is =
+    inline-said u cells s place form v i (value_of-own inline_text s.header.params.order (unit_bytes s cells) place x.implicit v is).inside (text-read (unit_bytes s cells) place v is)
+kind-said around u cells s says x (text_offset table n) place form v a i own plain none is =
+    offset-said around u cells s table place n form v a i own (number-read (offset_class table) s.header.params.order (unit_bytes s cells) place n v is)
+kind-said around u cells s says x present place form v a i own plain none is = bare-said u (unit_bytes s cells) place form v is
+kind-said around u cells s says x in_abbreviation place form v a i own plain none is = absurd cc
+kind-said around u cells s says x form_in_front place form v a i own plain none is = absurd cc
+kind-said around u cells s says x supplementary place form v a i own plain none is = absurd cc
+kind-said around u cells s says x unlisted place form v a i own plain none is = absurd cc
 
 -- where a value says a start
-line-said : (around : Around) (u : ShownUnit) (cells : List Cell) (s : UnitState) (x : Spec) (k : ValueKind) (place : ℕ) (v : Value) → IsAround around u → IsIn cells s u
+line-said : (around : Around) (u : ShownUnit) (cells : List Cell) (s : UnitState) (x : Spec) (k : ValueKind) (place form : ℕ) (v : Value) → IsAround around u → IsIn cells s u → FormFacts k form
     → can_start k ≡ true → value_of k s.header.params.order (unit_bytes s cells) place x.implicit ≡ Some v
-    → value_said (meaning_of_value around s names_line_table x k (take v.size (drop place cells))) ≡ table_said (start_number 0 u.source.starts v.number) v.number
+    → value_said (meaning_of_value around s names_line_table x k (take v.size (drop place cells))) ≡ table_shown u.source (value_offset u Line form v)
 unfolding value_of
-line-said around u cells s x (number_of class n) place v a i can is =
+line-said around u cells s x (number_of class n) place form v a i f can is =
     ap (λ (b : Bool). value_said (if b then line_meaning around (take v.size (drop place cells)) else plain_meaning around s names_line_table class n (take v.size (drop place cells)))) can
-    ∙ start-said around u cells s class place n v a i (number-read class s.header.params.order (unit_bytes s cells) place n v is)
-line-said around u cells s x (leb_number class) place v a i can is = absurd cc
-line-said around u cells s x signed_leb place v a i can is = absurd cc
-line-said around u cells s x (block_of n) place v a i can is = absurd cc
-line-said around u cells s x (counted n) place v a i can is = absurd cc
-line-said around u cells s x counted_leb place v a i can is = absurd cc
-line-said around u cells s x inline_text place v a i can is = absurd cc
-line-said around u cells s x (text_offset table n) place v a i can is = absurd cc
-line-said around u cells s x present place v a i can is = absurd cc
-line-said around u cells s x in_abbreviation place v a i can is = absurd cc
-line-said around u cells s x form_in_front place v a i can is = absurd cc
-line-said around u cells s x supplementary place v a i can is = absurd cc
-line-said around u cells s x unlisted place v a i can is = absurd cc
+    ∙ start-said around u cells s class place n form v a i f (number-read class s.header.params.order (unit_bytes s cells) place n v is)
+line-said around u cells s x (leb_number class) place form v a i f can is = absurd cc
+line-said around u cells s x signed_leb place form v a i f can is = absurd cc
+line-said around u cells s x (block_of n) place form v a i f can is = absurd cc
+line-said around u cells s x (counted n) place form v a i f can is = absurd cc
+line-said around u cells s x counted_leb place form v a i f can is = absurd cc
+line-said around u cells s x inline_text place form v a i f can is = absurd cc
+line-said around u cells s x (text_offset table n) place form v a i f can is = absurd cc
+line-said around u cells s x present place form v a i f can is = absurd cc
+line-said around u cells s x in_abbreviation place form v a i f can is = absurd cc
+line-said around u cells s x form_in_front place form v a i f can is = absurd cc
+line-said around u cells s x supplementary place form v a i f can is = absurd cc
+line-said around u cells s x unlisted place form v a i f can is = absurd cc
 
-unit-line : (around : Around) (u : ShownUnit) (cells : List Cell) (s : UnitState) (x : Spec) (k : ValueKind) (place : ℕ) (v : Value) → IsAround around u → IsIn cells s u
+unit-line : (around : Around) (u : ShownUnit) (cells : List Cell) (s : UnitState) (x : Spec) (k : ValueKind) (place form : ℕ) (v : Value) → IsAround around u → IsIn cells s u → FormFacts k form
     → can_start k ≡ true → value_of k s.header.params.order (unit_bytes s cells) place x.implicit ≡ Some v
-    → value_said (meaning_of_value around s names_macro_unit x k (take v.size (drop place cells))) ≡ unit_said (start_number 0 u.source.macros v.number) v.number
+    → value_said (meaning_of_value around s names_macro_unit x k (take v.size (drop place cells))) ≡ macro_shown u.source (value_field u form v)
 unfolding value_of
-unit-line around u cells s x (number_of class n) place v a i can is =
+unit-line around u cells s x (number_of class n) place form v a i f can is =
     ap (λ (b : Bool). value_said (if b then macro_meaning around.lasting (take v.size (drop place cells)) else number_meaning around s names_macro_unit class (take v.size (drop place cells))))
     (macro-value (number_of class n) ∙ can)
-    ∙ macro-said around u cells s class place n v a i (number-read class s.header.params.order (unit_bytes s cells) place n v is)
-unit-line around u cells s x (leb_number class) place v a i can is = absurd cc
-unit-line around u cells s x signed_leb place v a i can is = absurd cc
-unit-line around u cells s x (block_of n) place v a i can is = absurd cc
-unit-line around u cells s x (counted n) place v a i can is = absurd cc
-unit-line around u cells s x counted_leb place v a i can is = absurd cc
-unit-line around u cells s x inline_text place v a i can is = absurd cc
-unit-line around u cells s x (text_offset table n) place v a i can is = absurd cc
-unit-line around u cells s x present place v a i can is = absurd cc
-unit-line around u cells s x in_abbreviation place v a i can is = absurd cc
-unit-line around u cells s x form_in_front place v a i can is = absurd cc
-unit-line around u cells s x supplementary place v a i can is = absurd cc
-unit-line around u cells s x unlisted place v a i can is = absurd cc
+    ∙ macro-said around u cells s class place n form v a i f (number-read class s.header.params.order (unit_bytes s cells) place n v is)
+unit-line around u cells s x (leb_number class) place form v a i f can is = absurd cc
+unit-line around u cells s x signed_leb place form v a i f can is = absurd cc
+unit-line around u cells s x (block_of n) place form v a i f can is = absurd cc
+unit-line around u cells s x (counted n) place form v a i f can is = absurd cc
+unit-line around u cells s x counted_leb place form v a i f can is = absurd cc
+unit-line around u cells s x inline_text place form v a i f can is = absurd cc
+unit-line around u cells s x (text_offset table n) place form v a i f can is = absurd cc
+unit-line around u cells s x present place form v a i f can is = absurd cc
+unit-line around u cells s x in_abbreviation place form v a i f can is = absurd cc
+unit-line around u cells s x form_in_front place form v a i f can is = absurd cc
+unit-line around u cells s x supplementary place form v a i f can is = absurd cc
+unit-line around u cells s x unlisted place form v a i f can is = absurd cc
 
 -- whether it does
 other-none : (k : ValueKind) (says : Use) → is_plain_use says ≡ true → starts_none k says ≡ true
@@ -204,46 +218,78 @@ other-const params form other = ne_eqb form DW_FORM_implicit_const (λ e. other 
 own-same : (u : ShownUnit) (v w : Value) → w.at ≡ v.at → w.len ≡ v.len → value_bytes u w ≡ value_bytes u v
 own-same u v w at len = ap (λ (n : ℕ). take n (drop w.at u.bytes)) len ∙ ap (λ (n : ℕ). take v.len (drop n u.bytes)) at
 
-class-same : (u : ShownUnit) (c : ValueClass) (v w : Value) → w.at ≡ v.at → w.len ≡ v.len → w.number ≡ v.number → class_shown u c w ≡ class_shown u c v
+has-same : (u : ShownUnit) (v w : Value) → w.at ≡ v.at → w.len ≡ v.len → has_field u.bytes w ≡ has_field u.bytes v
+has-same u v w at len =
+    ap (λ (n : ℕ). nat_lt 0 n && nat_le n 8 && nat_le (w.at + n) (length u.bytes)) len ∙ ap (λ (n : ℕ). nat_lt 0 v.len && nat_le v.len 8 && nat_le (n + v.len) (length u.bytes)) at
+
+place-same : (u : ShownUnit) (v w : Value) → w.at ≡ v.at → w.len ≡ v.len → field_at u.source.view u.header.section w.at w.len ≡ field_at u.source.view u.header.section v.at v.len
+place-same u v w at len = ap (λ (n : ℕ). field_at u.source.view u.header.section n w.len) at ∙ ap (field_at u.source.view u.header.section v.at) len
+
+pub field-same : (u : ShownUnit) (form : ℕ) (v w : Value) → w.at ≡ v.at → w.len ≡ v.len → w.number ≡ v.number → value_field u form w ≡ value_field u form v
+field-same u form v w at len n =
+    ap (λ (b : Bool). if is_leb_form form || not b then Num w.number else field_at u.source.view u.header.section w.at w.len) (has-same u v w at len)
+    ∙ ap (λ (k : ℕ). if is_leb_form form || not (has_field u.bytes v) then Num k else field_at u.source.view u.header.section w.at w.len) n
+    ∙ ap (λ (f : Field). if is_leb_form form || not (has_field u.bytes v) then Num v.number else f) (place-same u v w at len)
+
+address-same : (u : ShownUnit) (v w : Value) → w.at ≡ v.at → w.len ≡ v.len → w.number ≡ v.number → value_address u w ≡ value_address u v
+address-same u v w at len n =
+    ap (λ (b : Bool). if b then address_at u.source.view u.header.section w.at w.len else Num w.number) (has-same u v w at len)
+    ∙ ap (λ (k : ℕ). if has_field u.bytes v then address_at u.source.view u.header.section w.at w.len else Num k) n
+    ∙ ap (λ (f : Field). if has_field u.bytes v then f else Num v.number)
+    (ap (λ (m : ℕ). address_at u.source.view u.header.section m w.len) at ∙ ap (address_at u.source.view u.header.section v.at) len)
+
+offset-same : (u : ShownUnit) (name : DebugSection) (form : ℕ) (v w : Value) → w.at ≡ v.at → w.len ≡ v.len → w.number ≡ v.number
+    → value_offset u name form w ≡ value_offset u name form v
+offset-same u name form v w at len n = ap (offset_into (located u.source.view name)) (field-same u form v w at len n)
+
+class-same : (u : ShownUnit) (c : ValueClass) (form : ℕ) (v w : Value) → w.at ≡ v.at → w.len ≡ v.len → w.number ≡ v.number → class_shown u c form w ≡ class_shown u c form v
 unfolding class_shown
-class-same u Signed v w at len n = ap (λ (k : ℕ). signed_said (signed_of k)) n
-class-same u Bytes v w at len n = ap bytes_said (own-same u v w at len)
-class-same u InlineText v w at len n = ap text_said (own-same u v w at len)
-class-same u StrOffset v w at len n = ap (λ (k : ℕ). text_said (text_in (located u.source.view Str).bytes k)) n
-class-same u LineStrOffset v w at len n = ap (λ (k : ℕ). text_said (text_in (located u.source.view LineStr).bytes k)) n
-class-same u StrIndex v w at len n =
+class-same u Address form v w at len n = ap (field_said Address) (address-same u v w at len n)
+class-same u Signed form v w at len n = ap (λ (k : ℕ). signed_said (signed_of k)) n
+class-same u Bytes form v w at len n = ap bytes_said (own-same u v w at len)
+class-same u InlineText form v w at len n = ap text_said (own-same u v w at len)
+class-same u StrOffset form v w at len n = ap (λ (k : ℕ). text_said (text_in (located u.source.view Str).bytes k)) (offset-same u Str form v w at len n)
+class-same u LineStrOffset form v w at len n = ap (λ (k : ℕ). text_said (text_in (located u.source.view LineStr).bytes k)) (offset-same u LineStr form v w at len n)
+class-same u StrIndex form v w at len n =
     ap (λ (k : ℕ). index_shown u.source.view u.source.contributions u.base k (value_bytes u w)) n
     ∙ ap (index_shown u.source.view u.source.contributions u.base v.number) (own-same u v w at len)
-class-same u LocalRef v w at len n = ap (λ (k : ℕ). entry_shown u.source u.header.section (u.header.start + k) k) n
-class-same u GlobalRef v w at len n = ap (λ (k : ℕ). entry_shown u.source (info_section u.source.view) k k) n
-class-same u c v w at len n = ap (class_said c) n
+class-same u LocalRef form v w at len n = ap (λ (k : ℕ). entry_shown u.source u.header.section (u.header.start + k) k) n
+class-same u GlobalRef form v w at len n = ap (reference_shown u.source) (field-same u form v w at len n)
+class-same u Number form v w at len n = ap (field_said Number) (field-same u form v w at len n)
+class-same u Flag form v w at len n = ap (field_said Flag) (field-same u form v w at len n)
+class-same u AddrIndex form v w at len n = ap (field_said AddrIndex) (field-same u form v w at len n)
+class-same u ListIndex form v w at len n = ap (field_said ListIndex) (field-same u form v w at len n)
+class-same u Signature form v w at len n = ap (field_said Signature) (field-same u form v w at len n)
+class-same u SecOffset form v w at len n = ap (field_said SecOffset) (field-same u form v w at len n)
 
 -- what a value of a kind says at its place is what its cells mean
 own-shown : (around : Around) (u : ShownUnit) (cells : List Cell) (s : UnitState) (number tag : ℕ) (x y : Spec) (k : ValueKind) (place own form : ℕ) (v w : Value) → IsAround around u
-    → IsIn cells s u → is_own_kind k ≡ true → plain_kind k ≡ true → can_start k ≡ is_start_form form → own_form x u.bytes place ≡ form → y.name ≡ x.name
+    → IsIn cells s u → FormFacts k form → plain_kind k ≡ true → own_form x u.bytes place ≡ form → y.name ≡ x.name
     → (x.form == DW_FORM_implicit_const) ≡ false → w.class ≡ v.class → w.at ≡ v.at → w.len ≡ v.len → w.number ≡ v.number
     → value_of k s.header.params.order (unit_bytes s cells) own y.implicit ≡ Some w
     → value_said (meaning_of_value around s (use_of number tag x.name) y k (take w.size (drop own cells))) ≡ value_shown u x place v
 unfolding value_shown class_shown
-own-shown around u cells s number tag x y k place own form v w a i owned plain starts form_is name const class_is at_is len_is number_is is = by_line (x.name == DW_AT_stmt_list) refl
+own-shown around u cells s number tag x y k place own form v w a i owned plain form_is name const class_is at_is len_is number_is is = by_line (x.name == DW_AT_stmt_list) refl
   where
-    classed : class_shown u w.class w ≡ class_shown u v.class v
-    classed = ap (λ (c : ValueClass). class_shown u c w) class_is ∙ class-same u v.class v w at_is len_is number_is
+    classed : class_shown u w.class form w ≡ class_shown u v.class (own_form x u.bytes place) v
+    classed =
+        ap (λ (c : ValueClass). class_shown u c form w) class_is ∙ class-same u v.class form v w at_is len_is number_is
+        ∙ ap (λ (f : ℕ). class_shown u v.class f v) (sym form_is)
 
-    shown-plain : says_start x u.bytes place ≡ false → says_unit x u.bytes place ≡ false → value_shown u x place v ≡ class_shown u v.class v
+    shown-plain : says_start x u.bytes place ≡ false → says_unit x u.bytes place ≡ false → value_shown u x place v ≡ class_shown u v.class (own_form x u.bytes place) v
     shown-plain starts_ units_ =
-        ap (λ (b : Bool). if b then table_said (start_number 0 u.source.starts v.number) v.number else other_shown u x place v) starts_
-        ∙ ap (λ (b : Bool). if b then unit_said (start_number 0 u.source.macros v.number) v.number else plain_shown u x v) units_
-        ∙ ap (λ (b : Bool). if b then signed_said x.implicit else class_shown u v.class v) const
+        ap (λ (b : Bool). if b then table_shown u.source (value_offset u Line (own_form x u.bytes place) v) else other_shown u x place v) starts_
+        ∙ ap (λ (b : Bool). if b then macro_shown u.source (value_field u (own_form x u.bytes place) v) else plain_shown u x (own_form x u.bytes place) v) units_
+        ∙ ap (λ (b : Bool). if b then signed_said x.implicit else class_shown u v.class (own_form x u.bytes place) v) const
 
     plainly : starts_none k (use_of number tag x.name) ≡ true → says_start x u.bytes place ≡ false → says_unit x u.bytes place ≡ false
         → value_said (meaning_of_value around s (use_of number tag x.name) y k (take w.size (drop own cells))) ≡ value_shown u x place v
     plainly none starts_ units_ =
-        kind-said around u cells s (use_of number tag x.name) y k own w a i owned plain none is ∙ classed ∙ sym (shown-plain starts_ units_)
+        kind-said around u cells s (use_of number tag x.name) y k own form w a i owned plain none is ∙ classed ∙ sym (shown-plain starts_ units_)
 
     -- a name of either kind says a start where the form can
     starts-form : (named : Bool) (b : Bool) → named ≡ true → can_start k ≡ b → (named && is_start_form (own_form x u.bytes place)) ≡ b
-    starts-form named b line can = ap (λ (c : Bool). c && is_start_form (own_form x u.bytes place)) line ∙ ap is_start_form form_is ∙ sym starts ∙ can
+    starts-form named b line can = ap (λ (c : Bool). c && is_start_form (own_form x u.bytes place)) line ∙ ap is_start_form form_is ∙ sym owned.starts ∙ can
 
     starts-other : (named : Bool) → named ≡ false → (named && is_start_form (own_form x u.bytes place)) ≡ false
     starts-other named other = ap (λ (c : Bool). c && is_start_form (own_form x u.bytes place)) other
@@ -252,9 +298,9 @@ own-shown around u cells s number tag x y k place own form v w a i owned plain s
         → value_said (meaning_of_value around s (use_of number tag x.name) y k (take w.size (drop own cells))) ≡ value_shown u x place v
     by_start line true can =
         ap (λ (t : Use). value_said (meaning_of_value around s t y k (take w.size (drop own cells)))) (line-use number tag x.name line)
-        ∙ line-said around u cells s y k own w a i can is
-        ∙ ap (λ (n : ℕ). table_said (start_number 0 u.source.starts n) n) number_is
-        ∙ sym (ap (λ (b : Bool). if b then table_said (start_number 0 u.source.starts v.number) v.number else other_shown u x place v)
+        ∙ line-said around u cells s y k own form w a i owned can is
+        ∙ ap (table_shown u.source) (offset-same u Line form v w at_is len_is number_is ∙ ap (λ (f : ℕ). value_offset u Line f v) (sym form_is))
+        ∙ sym (ap (λ (b : Bool). if b then table_shown u.source (value_offset u Line (own_form x u.bytes place) v) else other_shown u x place v)
         (starts-form (x.name == DW_AT_stmt_list) true line can))
     by_start line false can =
         plainly (ap (starts_none k) (line-use number tag x.name line) ∙ line-none k can) (starts-form (x.name == DW_AT_stmt_list) false line can)
@@ -264,11 +310,11 @@ own-shown around u cells s number tag x y k place own form v w a i owned plain s
         → value_said (meaning_of_value around s (use_of number tag x.name) y k (take w.size (drop own cells))) ≡ value_shown u x place v
     by_unit line macros true can =
         ap (λ (t : Use). value_said (meaning_of_value around s t y k (take w.size (drop own cells)))) (macro-use number tag x.name line macros)
-        ∙ unit-line around u cells s y k own w a i can is
-        ∙ ap (λ (n : ℕ). unit_said (start_number 0 u.source.macros n) n) number_is
-        ∙ sym (ap (λ (b : Bool). if b then table_said (start_number 0 u.source.starts v.number) v.number else other_shown u x place v)
+        ∙ unit-line around u cells s y k own form w a i owned can is
+        ∙ ap (macro_shown u.source) (field-same u form v w at_is len_is number_is ∙ ap (λ (f : ℕ). value_field u f v) (sym form_is))
+        ∙ sym (ap (λ (b : Bool). if b then table_shown u.source (value_offset u Line (own_form x u.bytes place) v) else other_shown u x place v)
         (starts-other (x.name == DW_AT_stmt_list) line)
-        ∙ ap (λ (b : Bool). if b then unit_said (start_number 0 u.source.macros v.number) v.number else plain_shown u x v) (starts-form (is_macros x.name) true macros can))
+        ∙ ap (λ (b : Bool). if b then macro_shown u.source (value_field u (own_form x u.bytes place) v) else plain_shown u x (own_form x u.bytes place) v) (starts-form (is_macros x.name) true macros can))
     by_unit line macros false can =
         plainly (ap (starts_none k) (macro-use number tag x.name line macros) ∙ macro-none k can) (starts-other (x.name == DW_AT_stmt_list) line)
         (starts-form (is_macros x.name) false macros can)
@@ -313,7 +359,18 @@ is_const unlisted = inr (λ e. cc)
 
 -- a state of the same unit is in it
 in-unit : (cells : List Cell) (s : UnitState) (u : ShownUnit) (place e d : ℕ) (m : Mode) → IsIn cells s u → IsIn cells (in_unit s place e d m) u
-in-unit cells s u place e d m i = record { section_is = i.section_is; unit_is = i.unit_is; header_is = i.header_is; bytes_are = i.bytes_are; plain = i.plain }
+in-unit cells s u place e d m i = record {
+  section_is = i.section_is;
+  unit_is = i.unit_is;
+  header_is = i.header_is;
+  bytes_are = i.bytes_are;
+  cells_are = i.cells_are;
+  order_is = i.order_is;
+  address = i.address;
+}
+
+pub unit-small : (cells : List Cell) (s : UnitState) (u : ShownUnit) → IsIn cells s u → IsTrue (is_address_size s.header.params.address)
+unit-small cells s u i = ap (λ h. is_address_size h.params.address) i.header_is ∙ i.address
 
 -- a number that stands in its abbreviation
 const-shown : (around : Around) (u : ShownUnit) (s : UnitState) (number tag : ℕ) (x : Spec) (place : ℕ) (v : Value) (p : List Cell) (params : Params) → own_form x u.bytes place ≡ x.form
@@ -322,9 +379,9 @@ unfolding value_shown
 const-shown around u s number tag x place v p params form_is const =
     let starts : is_start_form x.form ≡ false = sym (form-starts params x.form) ∙ ap can_start const in
     ap (λ (k : ValueKind). value_said (meaning_of_value around s (use_of number tag x.name) x k p)) const
-    ∙ sym (ap (λ (b : Bool). if b then table_said (start_number 0 u.source.starts v.number) v.number else other_shown u x place v) (says-none (x.name == DW_AT_stmt_list) starts)
-    ∙ ap (λ (b : Bool). if b then unit_said (start_number 0 u.source.macros v.number) v.number else plain_shown u x v) (says-none (is_macros x.name) starts)
-    ∙ ap (λ (b : Bool). if b then signed_said x.implicit else class_shown u v.class v) (const-form params x.form const))
+    ∙ sym (ap (λ (b : Bool). if b then table_shown u.source (value_offset u Line (own_form x u.bytes place) v) else other_shown u x place v) (says-none (x.name == DW_AT_stmt_list) starts)
+    ∙ ap (λ (b : Bool). if b then macro_shown u.source (value_field u (own_form x u.bytes place) v) else plain_shown u x (own_form x u.bytes place) v) (says-none (is_macros x.name) starts)
+    ∙ ap (λ (b : Bool). if b then signed_said x.implicit else class_shown u v.class (own_form x u.bytes place) v) (const-form params x.form const))
   where
     and-false : (b : Bool) → (b && false) ≡ false
     and-false true = refl
@@ -374,8 +431,8 @@ unit-says zs section around u cells s a i = record {
         (plain-form s.header.params x u.bytes place other) const
     own-said place e d n tag x xs v other is (inr own) =
         own-shown around u cells (in_unit s place e d (at_values n tag (x ∷ xs))) n tag x x (kind_in s.header.params x.form) place place x.form v v a
-        (in-unit cells s u place e d (at_values n tag (x ∷ xs)) i) (kind-own s.header.params x.form) (not-front (kind_in s.header.params x.form) other own)
-        (form-starts s.header.params x.form) (plain-form s.header.params x u.bytes place other) refl (other-const s.header.params x.form own) refl refl refl refl is
+        (in-unit cells s u place e d (at_values n tag (x ∷ xs)) i) (form-facts s.header.params x.form (unit-small cells s u i)) (not-front (kind_in s.header.params x.form) other own)
+        (plain-form s.header.params x u.bytes place other) refl (other-const s.header.params x.form own) refl refl refl refl is
 
     chosen-said : (place e d n tag : ℕ) (x : Spec) (xs : List Spec) (v : Value) → kind_in s.header.params x.form ≡ form_in_front
         → (c : Chosen s.header.params x (unit_bytes s cells) place v)
@@ -386,8 +443,8 @@ unit-says zs section around u cells s a i = record {
         let plainly : kind_in s.header.params x.form ≢ in_abbreviation = front-const (kind_in s.header.params x.form) front in
         own-shown around u cells (in_unit s (place + c.size) e d (at_chosen n tag place (of_chosen x c.form) xs)) n tag x (of_chosen x c.form) (kind_in s.header.params c.form)
         place (place + c.size) c.form v c.value a
-        (in-unit cells s u (place + c.size) e d (at_chosen n tag place (of_chosen x c.form) xs) i) (kind-own s.header.params c.form)
-        (not-front (kind_in s.header.params c.form) c.other c.own) (form-starts s.header.params c.form)
+        (in-unit cells s u (place + c.size) e d (at_chosen n tag place (of_chosen x c.form) xs) i) (form-facts s.header.params c.form (unit-small cells s u i))
+        (not-front (kind_in s.header.params c.form) c.other c.own)
         (ap (λ (bs : List ℕ). own_form x bs place) (sym i.bytes_are) ∙ chosen-form s.header.params x (unit_bytes s cells) place c.form c.size front c.spells) refl
         (other-const s.header.params x.form plainly) (sym c.class_is) (sym c.at_is) (sym c.len_is) (sym c.number_is) c.is
       where

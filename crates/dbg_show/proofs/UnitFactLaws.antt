@@ -1,23 +1,26 @@
 -- What is known of a unit of a view that is listed with its table.
-use Rattle.std.proofs.Common.{◌≡◌, ℕ, ◌≤◌, ◌^◌, List, Some, sym, ap, ◌∙◌, subst, arith}
+use Rattle.std.proofs.Common.{◌≡◌, ℕ, ◌+◌, ◌≤◌, ◌^◌, List, length, drop, nat_le, Some, sym, ap, ◌∙◌, subst, arith}
+use Rattle.std.specs.Prelude.{◌&&◌, IsTrue}
+use Rattle.std.proofs.lemmas.Bool.{and_parts}
 use Rattle.std.proofs.lemmas.List.{length-take}
-use Rattle.dw_base.specs.AbbreviationTables.{Abbreviation, IsTable}
+use Rattle.dw_base.specs.AbbreviationTables.{Abbreviation}
 use Rattle.dw_base.specs.Cells.{bytes_of}
 use Rattle.dw_base.specs.EntryScans.{AreEntries}
 use Rattle.dw_base.specs.EntryValues.{HasUnit, bytes_up_to}
-use Rattle.dw_base.specs.FileViews.{View, section_bytes}
+use Rattle.dw_base.specs.FileViews.{View, view_cells}
 use Rattle.dw_base.specs.LineMeanings.{item_at}
-use Rattle.dw_base.specs.UnitHeaders.{UnitSection, IsUnit, UnitsUpTo}
+use Rattle.dw_base.specs.UnitHeaders.{UnitBase, UnitSection, IsUnit, UnitsUpTo, header_at, is_address_size, is_unit_type, is_version}
+use Rattle.dw_base.specs.UnitTables.{IsUnitTable}
 use Rattle.dw_base.specs.ViewData.{debug_data}
 use Rattle.dw_base.specs.declared.units.Scanned.{Scanned}
 use Rattle.dw_base.specs.declared.units.UnitHeader.{UnitHeader}
 use Rattle.dw_base.proofs.AbbreviationLaws.{table-found}
-use Rattle.dw_base.proofs.PlainCellLaws.{IsPlain, plain_cells-plain}
 use Rattle.dw_entries.specs.ViewUnits.{unit_section_at}
 use Rattle.dw_entries.proofs.HasUnitLaws.{section-at, numbered-section}
 use Rattle.dw_entries.proofs.UnitSectionLaws.{of-view}
 use Rattle.dw_find.proofs.HeaderLaws.{header-of}
 use Rattle.dw_meaning.proofs.ScanSectionLaws.{header-placed}
+use Rattle.dw_meaning.proofs.UnitOneLaws.{header-tests}
 use Rattle.dbg_show.specs.ShownUnits.{unit_bytes, unit_entries}
 use Rattle.dbg_show.specs.UnitLists.{IsListed}
 use Rattle.dbg_show.specs.UnitReads.{EachReads}
@@ -34,20 +37,25 @@ pub record UnitFacts (v : View) (tables : List (List Abbreviation)) (z : UnitSec
   pub items_are : unit_entries h table (bytes_up_to z h) ≡ items
   pub starts : h.start ≤ h.first
   pub order_is : h.params.order ≡ (debug_data v).base.order
-  pub plain : IsPlain z.contents
+  pub cells_are : z.contents ≡ view_cells v h.section
+  pub address : IsTrue (is_address_size h.params.address)
 
 own-section : (v : View) (z : UnitSection) → Among (debug_data v).units z → unit_section_at v z.number ≡ z
 unfolding debug_data
 own-section v z a = section-at v a.front a.back z a.is
 
-own-plain : (v : View) (z : UnitSection) → Among (debug_data v).units z → IsPlain z.contents
+own-cells : (v : View) (z : UnitSection) → Among (debug_data v).units z → z.contents ≡ view_cells v z.number
 unfolding debug_data
-own-plain v z a =
-    let of = of-view v z.number z (numbered-section v a.front a.back z a.is) in
-    subst IsPlain (sym of.contents) (plain_cells-plain (section_bytes v z.number))
+own-cells v z a = (of-view v z.number z (numbered-section v a.front a.back z a.is)).contents
+
+-- the size of addresses that a header says is one that a unit may have
+own-address : (base : UnitBase) (z : UnitSection) (start : ℕ) (h : UnitHeader) → header_at base z start ≡ Some h → IsTrue (is_address_size h.params.address)
+own-address base z start h e =
+    (and_parts (nat_le h.first (h.start + length (drop start z.contents)) && nat_le h.first h.end && is_version z.kind h.params.version && is_unit_type h.kind)
+    (is_address_size h.params.address) (header-tests base z.kind z.number start (drop start z.contents) h e)).1
 
 pub unit-facts : (v : View) (tables : List (List Abbreviation)) (z : UnitSection) (start : ℕ) (h : UnitHeader) (u : ListedUnit) (table : List Abbreviation) (items : List Scanned)
-    → Among (debug_data v).units z → IsUnit (debug_data v).base z start h → IsTable (debug_data v).base.abbrevs.bytes h.abbrevs table → AreEntries h table (bytes_up_to z h) items
+    → Among (debug_data v).units z → IsUnit (debug_data v).base z start h → IsUnitTable (debug_data v).base h table → AreEntries h table (bytes_up_to z h) items
     → IsListed (debug_data v) tables h u → UnitFacts v tables z h u table items
 unit-facts v tables z start h u table items among is t entries listed =
     let header = header-of (debug_data v).base z start h is.header in
@@ -55,7 +63,7 @@ unit-facts v tables z start h u table items among is t entries listed =
     let here : unit_section_at v h.section ≡ z = ap (unit_section_at v) header.section ∙ at in
     let same : listed.table.table ≡ table =
     sym (table-found (debug_data v).base.abbrevs.bytes h.abbrevs listed.table.table listed.table.declares)
-    ∙ table-found (debug_data v).base.abbrevs.bytes h.abbrevs table t in
+    ∙ table-found (debug_data v).base.abbrevs.bytes h.abbrevs table t.is in
     let placed = header-placed (debug_data v).base z start h is.header in
     let start_is = placed.start_is in
     let behind = placed.behind in
@@ -68,13 +76,14 @@ unit-facts v tables z start h u table items among is t entries listed =
       items_are = entries-are h table (bytes_up_to z h) items (omega (arith, length-take h.end (bytes_of z.contents))) entries;
       starts = omega (arith, start_is, behind);
       order_is = header.order;
-      plain = own-plain v z among;
+      cells_are = own-cells v z among ∙ ap (view_cells v) (sym header.section);
+      address = own-address (debug_data v).base z start h is.header;
     }
 
 -- so it can be read
 pub unit-reads : (v : View) (tables : List (List Abbreviation)) (z : UnitSection) (start : ℕ) (list : List UnitHeader) (h : UnitHeader) (u : ListedUnit) (table : List Abbreviation)
     (items : List Scanned) → Among (debug_data v).units z → UnitsUpTo (debug_data v).base z list start → IsUnit (debug_data v).base z start h
-    → IsTable (debug_data v).base.abbrevs.bytes h.abbrevs table → AreEntries h table (bytes_up_to z h) items → IsListed (debug_data v) tables h u → EachReads v tables u
+    → IsUnitTable (debug_data v).base h table → AreEntries h table (bytes_up_to z h) items → IsListed (debug_data v) tables h u → EachReads v tables u
 unit-reads v tables z start list h u table items among units is t entries listed =
     let f : UnitFacts v tables z h u table items = unit-facts v tables z start h u table items among is t entries listed in
     let here : HasUnit (debug_data v) z h = record { before = among.front; behind = among.back; sections = among.is; list = list; start = start; units = units; is = is } in

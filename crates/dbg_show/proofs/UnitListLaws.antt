@@ -11,18 +11,20 @@ use Rattle.dw_base.specs.AbbreviationFails.{AbbreviationFails}
 use Rattle.dw_base.specs.EntryValues.{HasUnit}
 use Rattle.dw_base.specs.FileViews.{View, section_bytes}
 use Rattle.dw_base.specs.Refusals.{Blames}
-use Rattle.dw_base.specs.UnitFails.{UnitFails}
+use Rattle.dw_base.specs.UnitTables.{UnitTableFails}
 use Rattle.dw_base.specs.ViewData.{debug_data}
 use Rattle.dw_base.specs.declared.fault.Fault.{Fault}
 use Rattle.dw_base.specs.declared.fault.Fault.TheVariants.{NoMemory, Refused}
-use Rattle.dw_base.proofs.PlainCellLaws.{length-plain_cells}
+use Rattle.dw_base.specs.declared.fault.Refusal.{Refusal}
+use Rattle.dw_base.proofs.ViewCellLaws.{length-view_cells}
+use Rattle.dw_entries.specs.HeaderRows.{HeadersRefuse}
 use Rattle.dw_entries.specs.SectionOrder.{AreSections}
 use Rattle.dw_entries.specs.ViewUnits.{IsUnitSection, unit_base, unit_section_at}
 use Rattle.dw_entries.proofs.SectionListLaws.{sections-next, sections-whole}
 use Rattle.dw_entries.proofs.UnitSectionLaws.{is-of-view}
 use Rattle.dw_find.specs.ReadData.{DataRefuses, units}
 use Rattle.dw_find.specs.UnitTexts.{UnitsRefuse}
-use Rattle.dw_find.proofs.UnitRowLaws.{table-row, section-row}
+use Rattle.dw_find.proofs.UnitRowLaws.{elsewhere-row, table-row, section-row}
 use Rattle.dbg_show.specs.UnitLists.{HasTableAt, Grows, AreKnown, IsListed, AreListed, ListsAll, none_listed, more_listed, AllShort, Adds, AddsSection, KeepsNumber}
 use Rattle.dbg_show.specs.declared.listed_unit.ListedUnit.{ListedUnit}
 
@@ -147,7 +149,7 @@ pub all-short : (v : View) (section : ℕ) (hs : List UnitHeader) (bs : List ℕ
     → bs ≡ section_bytes v section → length bs ≤ 2 ^ 31 → AllShort hs
 all-short v section hs bs there u is small =
     let of = is-of-view v section there in
-    let size : length (unit_section_at v section).contents ≡ length bs = ap length of.contents ∙ length-plain_cells (section_bytes v section) ∙ ap length (sym is) in
+    let size : length (unit_section_at v section).contents ≡ length bs = ap length of.contents ∙ length-view_cells v section ∙ ap length (sym is) in
     units-short (debug_data v).base (unit_section_at v section) hs (length (unit_section_at v section).contents) u (omega (arith, size, small))
 
 pub section-within : (v : View) (section : ℕ) → IsUnitSection v section → section < length v.sections
@@ -160,20 +162,24 @@ section-added d tables z hs old new u a = record { headers = hs; units = u; adds
 pub ruleset headers_laws = (all-short, section-within, section-added)
 
 -- units that can't be read
-pub units-row : (v : View) (section : ℕ) (f : Fault) → IsUnitSection v section → Blames (UnitFails (unit_base v) (unit_section_at v section)) f → Blames (DataRefuses v) f
-units-row v section f there b = data-row v f (section-row v section f there b)
-  where
-    data-row : (v : View) (f : Fault) → Blames (UnitsRefuse (debug_data v)) f → Blames (DataRefuses v) f
-    data-row v NoMemory b = tt
-    data-row v (Refused r) b = units b
+data-row : (v : View) (f : Fault) → Blames (UnitsRefuse (debug_data v)) f → Blames (DataRefuses v) f
+data-row v NoMemory b = tt
+data-row v (Refused r) b = units b
 
-pub tables-row : (v : View) (h : UnitHeader) (f : Fault) → HasUnit (debug_data v) (unit_section_at v h.section) h
-    → Blames (AbbreviationFails (debug_data v).base.abbrevs.bytes (debug_data v).base.abbrevs.number h.abbrevs) f → Blames (DataRefuses v) f
-tables-row v h f u b = data-row v f (table-row (debug_data v) (unit_section_at v h.section) h f u b)
-  where
-    data-row : (v : View) (f : Fault) → Blames (UnitsRefuse (debug_data v)) f → Blames (DataRefuses v) f
-    data-row v NoMemory b = tt
-    data-row v (Refused r) b = units b
+pub units-row : (v : View) (section : ℕ) (f : Fault) → IsUnitSection v section → Blames (HeadersRefuse (unit_base v) (unit_section_at v section)) f → Blames (DataRefuses v) f
+units-row v section f there b = data-row v f (section-row v section f there b)
+
+pub tables-row : (v : View) (h : UnitHeader) (at : ℕ) (f : Fault) → HasUnit (debug_data v) (unit_section_at v h.section) h → at ≡ h.abbrevs
+    → Blames (AbbreviationFails (debug_data v).base.abbrevs.bytes (debug_data v).base.abbrevs.number at) f → Blames (DataRefuses v) f
+tables-row v h at f u same b = data-row v f (table-row (debug_data v) (unit_section_at v h.section) h at f u same b)
+
+pub other-row : (v : View) (h : UnitHeader) (r : Refusal) → HasUnit (debug_data v) (unit_section_at v h.section) h → UnitTableFails (debug_data v).base h r → DataRefuses v r
+other-row v h r u f = units (elsewhere-row (debug_data v) (unit_section_at v h.section) h r u f)
+
+pub table-own : (d : DebugData) (tables : List (List Abbreviation)) (at own number : ℕ) → at ≡ own → HasTableAt d tables at number → HasTableAt d tables own number
+table-own d tables at own number same t = subst (λ (n : ℕ). HasTableAt d tables n number) same t
+
+pub ruleset unit_laws = (other-row, table-own)
 
 pub ruleset section_laws = (units-row)
 

@@ -2,7 +2,7 @@
 use Rattle.std.proofs.Common.{Bool, true, false, ◌≡◌, ℕ, ◌+◌, ◌==◌, List, [], ◌∷◌, ◌++◌, Option, Some, refl, sym, ap, ◌∙◌, subst, if◌then◌else◌}
 use Rattle.dw_base.specs.AbbreviationTables.{Abbreviation}
 use Rattle.dw_base.specs.Cells.{Cell, bytes_of}
-use Rattle.dw_base.specs.DebugData.{Around, DataReadings, ReadsAll, around_of, info_numbers, start_number, started_unit}
+use Rattle.dw_base.specs.DebugData.{Around, DataReadings, ReadsAll, around_of, info_numbers, started_unit}
 use Rattle.dw_base.specs.EntryValues.{bytes_up_to}
 use Rattle.dw_base.specs.FileViews.{View}
 use Rattle.dw_base.specs.LineMeanings.{item_at}
@@ -16,16 +16,17 @@ use Rattle.dw_base.specs.UnitHeaders.{UnitSection}
 use Rattle.dw_base.specs.UnitMeanings.{head_mark, units_of}
 use Rattle.dw_base.specs.ValueMeanings.{first_of, indexed}
 use Rattle.dw_base.specs.ViewData.{debug_data, located, unit_sections}
-use Rattle.dw_base.specs.declared.debug_sections.DebugSection.TheVariants.{Str, StrOffsets}
+use Rattle.dw_base.specs.declared.debug_sections.DebugSection.TheVariants.{Str}
 use Rattle.dw_base.specs.declared.string_offsets.Contribution.{Contribution}
 use Rattle.dw_base.specs.declared.units.Scanned.{Scanned}
 use Rattle.dw_base.specs.declared.units.UnitHeader.{UnitHeader}
-use Rattle.dw_base.proofs.PlainCellLaws.{bytes_of-plain, plain_cells-plain}
+use Rattle.dw_base.proofs.ViewCellLaws.{lines-located}
 use Rattle.dw_entries.specs.ViewUnits.{numbered, unit_section_at}
 use Rattle.dw_entries.proofs.HasUnitLaws.{numbered-section}
+use Rattle.dbg_show.specs.PlaceKeys.{unit_number}
 use Rattle.dbg_show.specs.PieceRuns.{all_of, entries_out}
 use Rattle.dbg_show.specs.PieceTexts.{all_said, mark_said}
-use Rattle.dbg_show.specs.ShownUnits.{UnitSource, all_shown, entries_text, first_base, header_line, index_shown, info_section, one_shown, shown_unit, tabled_text, unit_bytes, unit_entries}
+use Rattle.dbg_show.specs.ShownUnits.{UnitSource, all_shown, entries_text, first_base, first_macro, header_line, index_shown, info_section, one_shown, shown_unit, tabled_text, unit_bytes, unit_entries}
 use Rattle.dbg_show.specs.UnitLists.{ListsAll}
 use Rattle.dbg_show.specs.UnitTexts.{kind_name, section_name, unit_line, units_text, value_said}
 use Rattle.dbg_show.specs.declared.listed_unit.ListedUnit.{ListedUnit}
@@ -34,10 +35,11 @@ use Rattle.dbg_show.proofs.BaseOwnLaws.{HasBase, all-based, in-shown, offsets_in
 use Rattle.dbg_show.proofs.ForestTextLaws.{all-said}
 use Rattle.dbg_show.proofs.PieceRunLaws.{SaidRun, before, in_headed, unit-run}
 use Rattle.dbg_show.proofs.PlaceRunLaws.{entries-shown}
-use Rattle.dbg_show.proofs.SlotTextLaws.{index-text}
+use Rattle.dbg_show.proofs.SlotTextLaws.{OffsetsAre, index-text}
 use Rattle.dbg_show.proofs.TextSaysLaws.{entries-texts, entry_says, said-all, says_of, unit-says, value_says}
 use Rattle.dbg_show.proofs.UnitFactLaws.{UnitFacts, unit-facts}
 use Rattle.dbg_show.proofs.ValueTextLaws.{IsAround}
+use Rattle.dbg_show.proofs.ViewPartLaws.{offsets-none, offsets-there}
 
 -- what units are printed from is what was read
 pub record SourceIs (g : UnitSource) (r : DataReadings) : Type 0 where
@@ -46,7 +48,8 @@ pub record SourceIs (g : UnitSource) (r : DataReadings) : Type 0 where
   pub offsets : ReadsOffsets (debug_data g.view).base.order (debug_data g.view).offsets.contents r.offsets
   pub contributions : contributions_in (debug_data g.view).base.order r.offsets ≡ g.contributions
   pub starts : table_starts r.lines ≡ g.starts
-  pub macros : (n : ℕ) → started_unit 0 (macro_starts r.macros) (first_macros (debug_data g.view).macros) n ≡ start_number 0 g.macros n
+  pub macros : (section place : ℕ) → started_unit 0 (macro_starts r.macros) section place ≡ unit_number g.keys section place
+  pub first : first_macros (debug_data g.view).macros ≡ first_macro g.view
   pub info : first_of (info_numbers (debug_data g.view).units) ≡ info_section g.view
 
 -- the name of a section
@@ -66,6 +69,10 @@ own-name : (v : View) (z : UnitSection) → Among (debug_data v).units z → sec
 unfolding debug_data
 own-name v z a = name-there (unit_sections v) z.number z (numbered-section v a.front a.back z a.is)
 
+-- the cells of string offsets
+offsets-are : (v : View) → OffsetsAre v (debug_data v).offsets.contents
+offsets-are v = record { there = λ i e. offsets-there v i e; none = λ e. offsets-none v e }
+
 -- the text of an index in a unit
 slots-said : (g : UnitSource) (r : DataReadings) (unit : ℕ) (base : Option ℕ) (path : Bool) (index : ℕ) (p : List Cell) → SourceIs g r
     → base_of (all_bases (debug_data g.view).base.order (offsets_in g.view) r.units) unit ≡ base
@@ -74,8 +81,7 @@ slots-said : (g : UnitSource) (r : DataReadings) (unit : ℕ) (base : Option ℕ
 unfolding debug_data slot_of
 slots-said g r unit base path index p i is =
     ap (λ (b : Option ℕ). value_said (indexed (slot_texts g.view.order (located g.view Str) r.offsets) path (slot_by b (contributions_in g.view.order r.offsets) index) p)) is
-    ∙ index-text g.view (debug_data g.view).offsets.contents r.offsets base index path p i.offsets (plain_cells-plain (located g.view StrOffsets).bytes)
-    (bytes_of-plain (located g.view StrOffsets).bytes)
+    ∙ index-text g.view (debug_data g.view).offsets.contents r.offsets base index path p i.offsets (offsets-are g.view)
     ∙ ap (λ (list : List Contribution). index_shown g.view list base index (bytes_of p)) i.contributions
 
 shown-around : (g : UnitSource) (r : DataReadings) (z : UnitSection) (h : UnitHeader) (u : ListedUnit) (table : List Abbreviation) (items : List Scanned) (unit : ℕ)
@@ -86,14 +92,17 @@ shown-around g r z h u table items unit i f q = record {
   order_is = f.order_is;
   str_is = refl;
   line_str_is = refl;
+  lines_is = lines-located g.view;
   starts_are = i.starts;
   macros_are = i.macros;
+  first_is = i.first;
   info_is = i.info;
+  infos_are = refl;
   entries_are = λ section place offset. entries-shown g r.units section place offset i.listed i.units;
   slots_are = λ path index p.
-      slots-said g r unit (first_base h.params table (unit_bytes g.view h) (unit_entries h table (unit_bytes g.view h))) path index p i
+      slots-said g r unit (first_base g.view h table (unit_bytes g.view h) (unit_entries h table (unit_bytes g.view h))) path index p i
       (q ∙ ap (tabled_base g.view u.header) f.table_is
-      ∙ ap (λ (x : UnitHeader). first_base x.params table (unit_bytes g.view x) (unit_entries x table (unit_bytes g.view x))) f.header_is);
+      ∙ ap (λ (x : UnitHeader). first_base g.view x table (unit_bytes g.view x) (unit_entries x table (unit_bytes g.view x))) f.header_is);
 }
 
 -- a unit's text is what its pieces say

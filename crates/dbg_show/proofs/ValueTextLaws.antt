@@ -1,45 +1,53 @@
 -- What a value says by its place is what its cells mean.
 use Rattle.std.proofs.Common.{ℤ, Bool, true, false, ◌≡◌, ℕ, suc, ◌+◌, ◌==◌, ◌≤◌, List, [], ◌∷◌, ◌++◌, length, take, drop, cond, nat_le, Option, Some, None, refl, sym, ap, ◌∙◌, subst, arith}
-use Rattle.std.specs.Prelude.{◌&&◌, ◌||◌, pos, negsuc}
-use Rattle.std.proofs.lemmas.Bool.{and_parts, leb-true}
-use Rattle.std.proofs.lemmas.List.{length-drop, take-append-drop, drop-drop, drop-take, take-take}
-use Rattle.dw_base.specs.Cells.{Cell, bytes_of, field_of, offset_of}
-use Rattle.dw_base.specs.DebugData.{Around, start_number, started_unit, table_of, unit_named}
-use Rattle.dw_base.specs.Forms.{TextSection, in_str, in_line_str, ValueKind, number_of, leb_number, FormRow, form_rows, kind_by, kind_in}
+use Rattle.std.specs.Prelude.{◌||◌, IsTrue, if◌then◌else◌, not, pos, negsuc}
+use Rattle.std.proofs.lemmas.Bool.{leb-true}
+use Rattle.std.proofs.lemmas.List.{length-drop, length-take, take-append-drop, drop-drop, drop-take, take-take}
+use Rattle.dw_base.specs.Cells.{Cell, Located, bytes_of, field_of, offset_into, offset_of}
+use Rattle.dw_base.specs.DebugData.{Around, info_numbers, start_number, started_unit, table_of, unit_named}
+use Rattle.dw_base.specs.FileViews.{address_at, field_at, section_bytes, view_cells}
+use Rattle.dw_base.specs.Forms.{TextSection, in_str, in_line_str, number_of, leb_number, text_offset}
 use Rattle.dw_base.specs.Lebs.{uleb_at, sleb, sleb_within, sleb_at, fits_i64}
 use Rattle.dw_base.specs.Numbers.{number_at, spelled}
 use Rattle.dw_base.specs.Roles.{Use, is_path_use}
-use Rattle.dw_base.specs.TextIndexes.{slot_of}
+use Rattle.dw_base.specs.TextIndexes.{holds_number, slot_of}
 use Rattle.dw_base.specs.Texts.{text, has_nul, text_in, ends_in}
+use Rattle.dw_base.specs.UnitHeaders.{is_address_size}
 use Rattle.dw_base.specs.UnitStates.{UnitState, code_value}
-use Rattle.dw_base.specs.ValueMeanings.{found_entry, first_of, indexed, number_meaning, leb_meaning, table_named, line_meaning, global_entry, macro_meaning, unit_meant, address_of, read_size, read_signed}
+use Rattle.dw_base.specs.ValueMeanings.{found_entry, first_of, stray, indexed, number_meaning, leb_meaning, table_named, line_meaning, global_entry, macro_meaning, unit_meant, address_of, read_size, read_signed}
 use Rattle.dw_base.specs.Values.{number_value, leb_value_at, signed_value_at, signed_bits, block_value, counted_value, counted_leb_value, text_value, offset_class}
-use Rattle.dw_base.specs.ViewData.{located}
-use Rattle.dw_base.specs.declared.debug_sections.DebugSection.TheVariants.{Str, LineStr}
+use Rattle.dw_base.specs.ViewData.{debug_data, located}
+use Rattle.dw_base.specs.declared.debug_sections.DebugSection.TheVariants.{Str, LineStr, Line}
 use Rattle.dw_base.specs.declared.shared.Order.{Order}
-use Rattle.dw_base.specs.declared.shared.Params.{Params}
 use Rattle.dw_base.specs.declared.values.Value.{Value}
 use Rattle.dw_base.specs.declared.values.ValueClass.{ValueClass}
 use Rattle.dw_base.specs.declared.values.ValueClass.TheVariants.{Address, Number, Signed, Bytes, Flag, InlineText, StrOffset, LineStrOffset, StrIndex, AddrIndex, ListIndex, LocalRef, GlobalRef, Signature, SecOffset}
 use Rattle.dw_base.specs.declared.view_fields.Field.{Field}
-use Rattle.dw_base.specs.declared.view_fields.Field.TheVariants.{Num}
+use Rattle.dw_base.specs.declared.view_fields.Field.TheVariants.{Num, Into, Sym}
 use Rattle.dw_base.proofs.LebLaws.{uleb_at-append}
 use Rattle.dw_base.proofs.NumberBytes.{signed-cut, number-cut}
-use Rattle.dw_base.proofs.PlainCellLaws.{IsPlain, plain-parts, first-plain, offset_of-plain}
+use Rattle.dw_base.proofs.ViewCellLaws.{bytes_of-view_cells, field_at-cells}
 use Rattle.dw_meaning.proofs.ScanPieceLaws.{part-bytes, before-end, part-length, unit_bytes, NumberPiece, number-piece, bytes_of-drop}
 use Rattle.dw_find.proofs.InlineTextLaws.{text-front}
 use Rattle.dw_find.proofs.ValueRunLaws.{number-at_place}
-use Rattle.dbg_show.specs.ShownUnits.{ShownUnit, class_shown, entry_shown, index_shown, info_section, signed_of, table_said, unit_said, value_bytes}
-use Rattle.dbg_show.specs.UnitTexts.{bytes_said, class_said, field_said, signed_said, text_said, value_said}
+use Rattle.dbg_show.specs.PlaceKeys.{unit_number}
+use Rattle.dbg_show.specs.ShownUnits.{ShownUnit, class_shown, entry_shown, has_field, index_shown, info_section, is_leb_form, macro_named, first_macro, macro_shown, reference_shown, signed_of, table_said, table_shown, unit_said, value_address, value_bytes, value_field, value_offset}
+use Rattle.dbg_show.specs.UnitTexts.{bytes_said, class_said, field_said, signed_said, stray_said, text_said, value_said}
+use Rattle.dbg_show.proofs.FieldPlaceLaws.{field-there}
+use Rattle.dbg_show.proofs.FormFactLaws.{FormFacts, IsSmall, is_leb_class, is_number_class, number-plain, text-plain}
+use Rattle.dbg_show.proofs.ViewPartLaws.{address_at-cells}
 
 -- what stands around the units of a file, by which their values mean what they say, and a unit that is printed
 pub record IsAround (around : Around) (u : ShownUnit) : Type 0 where
   pub order_is : u.header.params.order ≡ around.lasting.base.order
-  pub str_is : around.str.bytes ≡ (located u.source.view Str).bytes
-  pub line_str_is : around.line_str.bytes ≡ (located u.source.view LineStr).bytes
+  pub str_is : around.str ≡ located u.source.view Str
+  pub line_str_is : around.line_str ≡ located u.source.view LineStr
+  pub lines_is : around.lines ≡ located u.source.view Line
   pub starts_are : around.starts ≡ u.source.starts
-  pub macros_are : (n : ℕ) → started_unit 0 around.lasting.macros.starts around.lasting.macros.first n ≡ start_number 0 u.source.macros n
+  pub macros_are : (section place : ℕ) → started_unit 0 around.lasting.macros.starts section place ≡ unit_number u.source.keys section place
+  pub first_is : around.lasting.macros.first ≡ first_macro u.source.view
   pub info_is : first_of around.lasting.infos ≡ info_section u.source.view
+  pub infos_are : around.lasting.infos ≡ info_numbers (debug_data u.source.view).units
   pub entries_are : (section place offset : ℕ) → value_said (found_entry around.lasting.entries section place offset) ≡ entry_shown u.source section place offset
   pub slots_are : (path : Bool) (index : ℕ) (p : List Cell) → value_said (indexed around.slots path (slot_of around.lasting.indexing u.number index) p)
       ≡ index_shown u.source.view u.source.contributions u.base index (bytes_of p)
@@ -50,127 +58,9 @@ pub record IsIn (cells : List Cell) (s : UnitState) (u : ShownUnit) : Type 0 whe
   pub unit_is : s.unit ≡ u.number
   pub header_is : s.header ≡ u.header
   pub bytes_are : unit_bytes s cells ≡ u.bytes
-  pub plain : IsPlain cells
-
--- cells of a part of plain cells
-plain-part : (n a : ℕ) (cells : List Cell) → IsPlain cells → IsPlain (take n (drop a cells))
-plain-part n a cells h =
-    let behind : IsPlain (drop a cells) = (plain-parts (take a cells) (drop a cells) (subst IsPlain (sym (take-append-drop a cells)) h)).1 in
-    (plain-parts (take n (drop a cells)) (drop n (drop a cells)) (subst IsPlain (sym (take-append-drop n (drop a cells))) behind)).0
-
-field-plain : (order : Order) (p : List Cell) → IsPlain p → field_of order p ≡ Num (spelled order (bytes_of p) 0 (length p))
-unfolding field_of
-field-plain order p h = rw (first-plain p h) refl
-
-address-plain : (order : Order) (p : List Cell) → IsPlain p → address_of order p ≡ Num (spelled order (bytes_of p) 0 (length p))
-unfolding address_of
-address-plain order p h = rw (first-plain p h) refl
-
--- the classes of numbers, and of those in LEB128, that forms have
-abbrev pub is_number_class : ValueClass → Bool
-is_number_class Signed = false
-is_number_class Bytes = false
-is_number_class InlineText = false
-is_number_class StrOffset = false
-is_number_class LineStrOffset = false
-is_number_class class = true
-
-abbrev pub is_leb_class : ValueClass → Bool
-is_leb_class GlobalRef = false
-is_leb_class SecOffset = false
-is_leb_class class = is_number_class class
-
-abbrev pub is_own_kind : ValueKind → Bool
-is_own_kind (number_of class n) = is_number_class class
-is_own_kind (leb_number class) = is_leb_class class
-is_own_kind k = true
-
-abbrev row_own : FormRow → Bool
-row_own r = is_own_kind r.kind
-
-abbrev all_rows : (FormRow → Bool) → List FormRow → Bool
-all_rows P [] = true
-all_rows P (r ∷ rs) = P r && all_rows P rs
-
-rows_own : (params : Params) → all_rows row_own (form_rows params) ≡ true
-unfolding form_rows
-rows_own params = refl
-
-rows-own : (rows : List FormRow) (form : ℕ) → all_rows row_own rows ≡ true → is_own_kind (kind_by rows form) ≡ true
-rows-own [] form all = refl
-rows-own (r ∷ rs) form all =
-    let parts = and_parts (row_own r) (all_rows row_own rs) all in
-    by_form (r.form == form) parts.0 (rows-own rs form parts.1)
-  where
-    by_form : (b : Bool) → row_own r ≡ true → is_own_kind (kind_by rs form) ≡ true → is_own_kind (cond b r.kind (kind_by rs form)) ≡ true
-    by_form true one rest = one
-    by_form false one rest = rest
-
-pub kind-own : (params : Params) (form : ℕ) → is_own_kind (kind_in params form) ≡ true
-unfolding kind_in
-kind-own params form = rows-own (form_rows params) form (rows_own params)
-
--- what a number of a class says
-number-class : (around : Around) (u : ShownUnit) (cells : List Cell) (s : UnitState) (says : Use) (class : ValueClass) (p : List Cell) (v : Value) → IsAround around u → IsIn cells s u
-    → IsPlain p → is_number_class class ≡ true → spelled around.lasting.base.order (bytes_of p) 0 (length p) ≡ v.number → bytes_of p ≡ value_bytes u v
-    → value_said (number_meaning around s says class p) ≡ class_shown u class v
-unfolding class_shown
-number-class around u cells s says StrIndex p v a i plain ok number bytes =
-    ap (λ (k : ℕ). value_said (indexed around.slots (is_path_use says) (slot_of around.lasting.indexing s.unit k) p)) number
-    ∙ ap (λ (k : ℕ). value_said (indexed around.slots (is_path_use says) (slot_of around.lasting.indexing k v.number) p)) i.unit_is
-    ∙ a.slots_are (is_path_use says) v.number p
-    ∙ ap (index_shown u.source.view u.source.contributions u.base v.number) bytes
-number-class around u cells s says Address p v a i plain ok number bytes =
-    ap (field_said Address) (address-plain around.lasting.base.order p plain) ∙ ap (class_said Address) number
-number-class around u cells s says LocalRef p v a i plain ok number bytes =
-    ap (λ (n : ℕ). value_said (found_entry around.lasting.entries s.section (s.header.start + n) n)) number
-    ∙ ap (λ (k : ℕ). value_said (found_entry around.lasting.entries k (s.header.start + v.number) v.number)) i.section_is
-    ∙ ap (λ (k : ℕ). value_said (found_entry around.lasting.entries u.header.section (k + v.number) v.number)) (ap (λ h. h.start) i.header_is)
-    ∙ a.entries_are u.header.section (u.header.start + v.number) v.number
-number-class around u cells s says GlobalRef p v a i plain ok number bytes =
-    ap (λ (f : Field). value_said (global_entry around.lasting f)) (field-plain around.lasting.base.order p plain)
-    ∙ ap (λ (n : ℕ). value_said (found_entry around.lasting.entries (first_of around.lasting.infos) n n)) number
-    ∙ ap (λ (k : ℕ). value_said (found_entry around.lasting.entries k v.number v.number)) a.info_is
-    ∙ a.entries_are (info_section u.source.view) v.number v.number
-number-class around u cells s says Number p v a i plain ok number bytes = ap (field_said Number) (field-plain around.lasting.base.order p plain) ∙ ap (class_said Number) number
-number-class around u cells s says Flag p v a i plain ok number bytes = ap (field_said Flag) (field-plain around.lasting.base.order p plain) ∙ ap (class_said Flag) number
-number-class around u cells s says AddrIndex p v a i plain ok number bytes = ap (field_said AddrIndex) (field-plain around.lasting.base.order p plain) ∙ ap (class_said AddrIndex) number
-number-class around u cells s says ListIndex p v a i plain ok number bytes = ap (field_said ListIndex) (field-plain around.lasting.base.order p plain) ∙ ap (class_said ListIndex) number
-number-class around u cells s says Signature p v a i plain ok number bytes = ap (field_said Signature) (field-plain around.lasting.base.order p plain) ∙ ap (class_said Signature) number
-number-class around u cells s says SecOffset p v a i plain ok number bytes = ap (field_said SecOffset) (field-plain around.lasting.base.order p plain) ∙ ap (class_said SecOffset) number
-number-class around u cells s says Signed p v a i plain ok number bytes = absurd cc
-number-class around u cells s says Bytes p v a i plain ok number bytes = absurd cc
-number-class around u cells s says InlineText p v a i plain ok number bytes = absurd cc
-number-class around u cells s says StrOffset p v a i plain ok number bytes = absurd cc
-number-class around u cells s says LineStrOffset p v a i plain ok number bytes = absurd cc
-
--- and of one in LEB128
-leb-class : (around : Around) (u : ShownUnit) (cells : List Cell) (s : UnitState) (says : Use) (class : ValueClass) (p : List Cell) (v : Value) → IsAround around u → IsIn cells s u
-    → is_leb_class class ≡ true → code_value p ≡ v.number → bytes_of p ≡ value_bytes u v → value_said (leb_meaning around s says class p) ≡ class_shown u class v
-unfolding class_shown
-leb-class around u cells s says StrIndex p v a i ok number bytes =
-    ap (λ (k : ℕ). value_said (indexed around.slots (is_path_use says) (slot_of around.lasting.indexing s.unit k) p)) number
-    ∙ ap (λ (k : ℕ). value_said (indexed around.slots (is_path_use says) (slot_of around.lasting.indexing k v.number) p)) i.unit_is
-    ∙ a.slots_are (is_path_use says) v.number p
-    ∙ ap (index_shown u.source.view u.source.contributions u.base v.number) bytes
-leb-class around u cells s says LocalRef p v a i ok number bytes =
-    ap (λ (n : ℕ). value_said (found_entry around.lasting.entries s.section (s.header.start + n) n)) number
-    ∙ ap (λ (k : ℕ). value_said (found_entry around.lasting.entries k (s.header.start + v.number) v.number)) i.section_is
-    ∙ ap (λ (k : ℕ). value_said (found_entry around.lasting.entries u.header.section (k + v.number) v.number)) (ap (λ h. h.start) i.header_is)
-    ∙ a.entries_are u.header.section (u.header.start + v.number) v.number
-leb-class around u cells s says Address p v a i ok number bytes = ap (class_said Address) number
-leb-class around u cells s says Number p v a i ok number bytes = ap (class_said Number) number
-leb-class around u cells s says Flag p v a i ok number bytes = ap (class_said Flag) number
-leb-class around u cells s says AddrIndex p v a i ok number bytes = ap (class_said AddrIndex) number
-leb-class around u cells s says ListIndex p v a i ok number bytes = ap (class_said ListIndex) number
-leb-class around u cells s says Signature p v a i ok number bytes = ap (class_said Signature) number
-leb-class around u cells s says SecOffset p v a i ok number bytes = absurd cc
-leb-class around u cells s says GlobalRef p v a i ok number bytes = absurd cc
-leb-class around u cells s says Signed p v a i ok number bytes = absurd cc
-leb-class around u cells s says Bytes p v a i ok number bytes = absurd cc
-leb-class around u cells s says InlineText p v a i ok number bytes = absurd cc
-leb-class around u cells s says StrOffset p v a i ok number bytes = absurd cc
-leb-class around u cells s says LineStrOffset p v a i ok number bytes = absurd cc
+  pub cells_are : cells ≡ view_cells u.source.view u.header.section
+  pub order_is : u.header.params.order ≡ u.source.view.order
+  pub address : IsTrue (is_address_size u.header.params.address)
 
 -- a signed number of 64 bits
 signed-back : (z : ℤ) → fits_i64 z ≡ true → signed_of (signed_bits z) ≡ z
@@ -250,13 +140,11 @@ behind-count bs place front n = drop-take front n (drop place bs) ∙ ap (take n
 
 -- the cells of a value that lies in the unit
 pub record Own (cells : List Cell) (s : UnitState) (u : ShownUnit) (place size : ℕ) : Type 0 where
-  pub plain : IsPlain (take size (drop place cells))
   pub length_is : length (take size (drop place cells)) ≡ size
   pub bytes_are : bytes_of (take size (drop place cells)) ≡ take size (drop place u.bytes)
 
 pub own-cells : (cells : List Cell) (s : UnitState) (u : ShownUnit) (place size : ℕ) → IsIn cells s u → place + size ≤ length (unit_bytes s cells) → Own cells s u place size
 own-cells cells s u place size i inside = record {
-  plain = plain-part size place cells i.plain;
   length_is = part-length size place s.header.end cells inside;
   bytes_are = sym (part-bytes size place s.header.end cells (before-end (place + size) s.header.end (bytes_of cells) inside)) ∙ ap (λ (bs : List ℕ). take size (drop place bs)) i.bytes_are;
 }
@@ -279,68 +167,199 @@ number-spelled around u cells s place n a i inside =
     ap (λ (order : Order). spelled order (bytes_of (take n (drop place cells))) 0 (length (take n (drop place cells)))) (order-same around u cells s a i)
     ∙ spelled-own u cells s place n i inside
 
+-- what its field reads as, and its address
+read-there : (u : ShownUnit) (cells : List Cell) (s : UnitState) (class : ValueClass) (place n : ℕ) (v : Value) → IsIn cells s u → IsSmall n
+    → NumberRead class s.header.params.order (unit_bytes s cells) place n v → has_field u.bytes v ≡ true
+read-there u cells s class place n v i small r =
+    let len = r.len_is in
+    let at = r.at_is in
+    let inside = r.inside in
+    let some = small.0 in
+    let few = small.1 in
+    let size : length (unit_bytes s cells) ≡ length u.bytes = ap length i.bytes_are in
+    field-there u.bytes v (omega (arith, len, some)) (omega (arith, len, few)) (omega (arith, len, at, inside, size))
+
+view-inside : (u : ShownUnit) (cells : List Cell) (s : UnitState) (place n : ℕ) → IsIn cells s u → place + n ≤ length (unit_bytes s cells)
+    → place + n ≤ length (section_bytes u.source.view u.header.section)
+view-inside u cells s place n i inside =
+    let size : length (bytes_of cells) ≡ length (section_bytes u.source.view u.header.section) =
+    ap (λ (cs : List Cell). length (bytes_of cs)) i.cells_are ∙ ap length (bytes_of-view_cells u.source.view u.header.section) in
+    omega (arith, inside, size, length-take s.header.end (bytes_of cells))
+
+view-order : (u : ShownUnit) (cells : List Cell) (s : UnitState) → IsIn cells s u → s.header.params.order ≡ u.source.view.order
+view-order u cells s i = ap (λ h. h.params.order) i.header_is ∙ i.order_is
+
+pub own-field : (u : ShownUnit) (cells : List Cell) (s : UnitState) (class : ValueClass) (place n form : ℕ) (v : Value) → IsIn cells s u → is_leb_form form ≡ false → IsSmall n
+    → NumberRead class s.header.params.order (unit_bytes s cells) place n v → field_of s.header.params.order (take v.size (drop place cells)) ≡ value_field u form v
+own-field u cells s class place n form v i leb small r =
+    let has : has_field u.bytes v ≡ true = read-there u cells s class place n v i small r in
+    ap (λ (o : Order). field_of o (take v.size (drop place cells))) (view-order u cells s i)
+    ∙ ap (λ (m : ℕ). field_of u.source.view.order (take m (drop place cells))) r.size_is
+    ∙ ap (λ (cs : List Cell). field_of u.source.view.order (take n (drop place cs))) i.cells_are
+    ∙ field_at-cells u.source.view u.header.section place n small.0 (view-inside u cells s place n i r.inside)
+    ∙ ap (λ (k : ℕ). field_at u.source.view u.header.section k n) (sym r.at_is)
+    ∙ ap (field_at u.source.view u.header.section v.at) (sym r.len_is)
+    ∙ sym (ap (λ (b : Bool). if b || not (has_field u.bytes v) then Num v.number else field_at u.source.view u.header.section v.at v.len) leb
+    ∙ ap (λ (b : Bool). if not b then Num v.number else field_at u.source.view u.header.section v.at v.len) has)
+
+pub own-address : (u : ShownUnit) (cells : List Cell) (s : UnitState) (class : ValueClass) (place n : ℕ) (v : Value) → IsIn cells s u → IsSmall n
+    → NumberRead class s.header.params.order (unit_bytes s cells) place n v → address_of s.header.params.order (take v.size (drop place cells)) ≡ value_address u v
+own-address u cells s class place n v i small r =
+    let has : has_field u.bytes v ≡ true = read-there u cells s class place n v i small r in
+    ap (λ (o : Order). address_of o (take v.size (drop place cells))) (view-order u cells s i)
+    ∙ ap (λ (m : ℕ). address_of u.source.view.order (take m (drop place cells))) r.size_is
+    ∙ ap (λ (cs : List Cell). address_of u.source.view.order (take n (drop place cs))) i.cells_are
+    ∙ address_at-cells u.source.view u.header.section place n small.0 (view-inside u cells s place n i r.inside)
+    ∙ ap (λ (k : ℕ). address_at u.source.view u.header.section k n) (sym r.at_is)
+    ∙ ap (address_at u.source.view u.header.section v.at) (sym r.len_is)
+    ∙ sym (ap (λ (b : Bool). if b then address_at u.source.view u.header.section v.at v.len else Num v.number) has)
+
+-- an entry of another unit
+reference-said : (around : Around) (u : ShownUnit) (f : Field) → IsAround around u → value_said (global_entry around.lasting f) ≡ reference_shown u.source f
+reference-said around u (Num n) a =
+    ap (λ (k : ℕ). value_said (found_entry around.lasting.entries k n n)) a.info_is ∙ a.entries_are (info_section u.source.view) n n
+reference-said around u (Into z n) a =
+    ap (λ (ks : List ℕ). value_said (if holds_number ks z then found_entry around.lasting.entries z n n else stray n)) a.infos_are
+    ∙ by_info (holds_number (info_numbers (debug_data u.source.view).units) z)
+  where
+    by_info : (b : Bool) → value_said (if b then found_entry around.lasting.entries z n n else stray n) ≡ (if b then entry_shown u.source z n n else stray_said n)
+    by_info true = a.entries_are z n n
+    by_info false = refl
+reference-said around u (Sym symbol kind addend) a = refl
+
+-- what a number of a class says
+number-class : (around : Around) (u : ShownUnit) (cells : List Cell) (s : UnitState) (says : Use) (class : ValueClass) (place n form : ℕ) (v : Value) → IsAround around u → IsIn cells s u
+    → is_number_class class ≡ true → spelled around.lasting.base.order (bytes_of (take v.size (drop place cells))) 0 (length (take v.size (drop place cells))) ≡ v.number
+    → bytes_of (take v.size (drop place cells)) ≡ value_bytes u v → address_of around.lasting.base.order (take v.size (drop place cells)) ≡ value_address u v
+    → field_of around.lasting.base.order (take v.size (drop place cells)) ≡ value_field u form v
+    → value_said (number_meaning around s says class (take v.size (drop place cells))) ≡ class_shown u class form v
+unfolding class_shown
+number-class around u cells s says StrIndex place n form v a i ok number bytes address field =
+    ap (λ (k : ℕ). value_said (indexed around.slots (is_path_use says) (slot_of around.lasting.indexing s.unit k) (take v.size (drop place cells)))) number
+    ∙ ap (λ (k : ℕ). value_said (indexed around.slots (is_path_use says) (slot_of around.lasting.indexing k v.number) (take v.size (drop place cells)))) i.unit_is
+    ∙ a.slots_are (is_path_use says) v.number (take v.size (drop place cells))
+    ∙ ap (index_shown u.source.view u.source.contributions u.base v.number) bytes
+number-class around u cells s says Address place n form v a i ok number bytes address field = ap (field_said Address) address
+number-class around u cells s says LocalRef place n form v a i ok number bytes address field =
+    ap (λ (m : ℕ). value_said (found_entry around.lasting.entries s.section (s.header.start + m) m)) number
+    ∙ ap (λ (k : ℕ). value_said (found_entry around.lasting.entries k (s.header.start + v.number) v.number)) i.section_is
+    ∙ ap (λ (k : ℕ). value_said (found_entry around.lasting.entries u.header.section (k + v.number) v.number)) (ap (λ h. h.start) i.header_is)
+    ∙ a.entries_are u.header.section (u.header.start + v.number) v.number
+number-class around u cells s says GlobalRef place n form v a i ok number bytes address field =
+    ap (λ (f : Field). value_said (global_entry around.lasting f)) field ∙ reference-said around u (value_field u form v) a
+number-class around u cells s says Number place n form v a i ok number bytes address field = ap (field_said Number) field
+number-class around u cells s says Flag place n form v a i ok number bytes address field = ap (field_said Flag) field
+number-class around u cells s says AddrIndex place n form v a i ok number bytes address field = ap (field_said AddrIndex) field
+number-class around u cells s says ListIndex place n form v a i ok number bytes address field = ap (field_said ListIndex) field
+number-class around u cells s says Signature place n form v a i ok number bytes address field = ap (field_said Signature) field
+number-class around u cells s says SecOffset place n form v a i ok number bytes address field = ap (field_said SecOffset) field
+number-class around u cells s says Signed place n form v a i ok number bytes address field = absurd cc
+number-class around u cells s says Bytes place n form v a i ok number bytes address field = absurd cc
+number-class around u cells s says InlineText place n form v a i ok number bytes address field = absurd cc
+number-class around u cells s says StrOffset place n form v a i ok number bytes address field = absurd cc
+number-class around u cells s says LineStrOffset place n form v a i ok number bytes address field = absurd cc
+
+-- a field of a value, in the order of what stands around the unit
+around-field : (around : Around) (u : ShownUnit) (cells : List Cell) (s : UnitState) (class : ValueClass) (place n form : ℕ) (v : Value) → IsAround around u → IsIn cells s u
+    → is_leb_form form ≡ false → IsSmall n → NumberRead class s.header.params.order (unit_bytes s cells) place n v
+    → field_of around.lasting.base.order (take v.size (drop place cells)) ≡ value_field u form v
+around-field around u cells s class place n form v a i leb small r =
+    ap (λ (o : Order). field_of o (take v.size (drop place cells))) (order-same around u cells s a i) ∙ own-field u cells s class place n form v i leb small r
+
 -- a number of so many bytes says what it is
-pub sized-said : (around : Around) (u : ShownUnit) (cells : List Cell) (s : UnitState) (says : Use) (class : ValueClass) (place n : ℕ) (v : Value) → IsAround around u → IsIn cells s u
-    → is_number_class class ≡ true → NumberRead class s.header.params.order (unit_bytes s cells) place n v
-    → value_said (number_meaning around s says class (take v.size (drop place cells))) ≡ class_shown u v.class v
-sized-said around u cells s says class place n v a i ok r =
+pub sized-said : (around : Around) (u : ShownUnit) (cells : List Cell) (s : UnitState) (says : Use) (class : ValueClass) (place n form : ℕ) (v : Value) → IsAround around u → IsIn cells s u
+    → FormFacts (number_of class n) form → NumberRead class s.header.params.order (unit_bytes s cells) place n v
+    → value_said (number_meaning around s says class (take v.size (drop place cells))) ≡ class_shown u v.class form v
+sized-said around u cells s says class place n form v a i f r =
     let inside : place + v.size ≤ length (unit_bytes s cells) = (let e = r.size_is in let le = r.inside in omega (arith, e, le)) in
     let o : Own cells s u place v.size = own-cells cells s u place v.size i inside in
     let size : v.size ≡ v.len = r.size_is ∙ sym r.len_is in
     let number : spelled around.lasting.base.order (bytes_of (take v.size (drop place cells))) 0 (length (take v.size (drop place cells))) ≡ v.number =
     number-spelled around u cells s place v.size a i inside ∙ ap (spelled s.header.params.order (unit_bytes s cells) place) r.size_is ∙ sym r.number_is in
-    number-class around u cells s says class (take v.size (drop place cells)) v a i o.plain ok number
+    number-class around u cells s says class place n form v a i f.own number
     (o.bytes_are ∙ ap (λ (m : ℕ). take m (drop place u.bytes)) size ∙ ap (λ (m : ℕ). take v.len (drop m u.bytes)) (sym r.at_is))
-    ∙ ap (λ (c : ValueClass). class_shown u c v) (sym r.class_is)
+    (ap (λ (w : Order). address_of w (take v.size (drop place cells))) (order-same around u cells s a i) ∙ own-address u cells s class place n v i f.small r)
+    (around-field around u cells s class place n form v a i (number-plain class n form f) f.small r)
+    ∙ ap (λ (c : ValueClass). class_shown u c form v) (sym r.class_is)
 
 -- where a line table starts
-pub start-said : (around : Around) (u : ShownUnit) (cells : List Cell) (s : UnitState) (class : ValueClass) (place n : ℕ) (v : Value) → IsAround around u → IsIn cells s u
-    → NumberRead class s.header.params.order (unit_bytes s cells) place n v
-    → value_said (line_meaning around (take v.size (drop place cells))) ≡ table_said (start_number 0 u.source.starts v.number) v.number
-start-said around u cells s class place n v a i r =
-    let inside : place + v.size ≤ length (unit_bytes s cells) = (let e = r.size_is in let le = r.inside in omega (arith, e, le)) in
-    let o : Own cells s u place v.size = own-cells cells s u place v.size i inside in
-    let number : offset_of around.lasting.base.order around.lines (take v.size (drop place cells)) ≡ v.number =
-    offset_of-plain around.lasting.base.order around.lines (take v.size (drop place cells)) o.plain
-    ∙ number-spelled around u cells s place v.size a i inside ∙ ap (spelled s.header.params.order (unit_bytes s cells) place) r.size_is ∙ sym r.number_is in
-    ap (λ (k : ℕ). value_said (table_named (start_number 0 around.starts k) k)) number
-    ∙ ap (λ (starts : List ℕ). value_said (table_named (start_number 0 starts v.number) v.number)) a.starts_are
-    ∙ by_table (start_number 0 u.source.starts v.number)
+pub start-said : (around : Around) (u : ShownUnit) (cells : List Cell) (s : UnitState) (class : ValueClass) (place n form : ℕ) (v : Value) → IsAround around u → IsIn cells s u
+    → FormFacts (number_of class n) form → NumberRead class s.header.params.order (unit_bytes s cells) place n v
+    → value_said (line_meaning around (take v.size (drop place cells))) ≡ table_shown u.source (value_offset u Line form v)
+unfolding offset_of
+start-said around u cells s class place n form v a i f r =
+    let offset : offset_of around.lasting.base.order around.lines (take v.size (drop place cells)) ≡ value_offset u Line form v =
+    ap (offset_into around.lines) (around-field around u cells s class place n form v a i (number-plain class n form f) f.small r)
+    ∙ ap (λ (z : Located). offset_into z (value_field u form v)) a.lines_is in
+    ap (λ (k : ℕ). value_said (table_named (start_number 0 around.starts k) k)) offset
+    ∙ ap (λ (starts : List ℕ). value_said (table_named (start_number 0 starts (value_offset u Line form v)) (value_offset u Line form v))) a.starts_are
+    ∙ by_table (start_number 0 u.source.starts (value_offset u Line form v))
   where
-    by_table : (t : Option ℕ) → value_said (table_named t v.number) ≡ table_said t v.number
+    by_table : (t : Option ℕ) → value_said (table_named t (value_offset u Line form v)) ≡ table_said t (value_offset u Line form v)
     by_table None = refl
     by_table (Some k) = refl
 
 -- where a macro unit starts
-pub macro-said : (around : Around) (u : ShownUnit) (cells : List Cell) (s : UnitState) (class : ValueClass) (place n : ℕ) (v : Value) → IsAround around u → IsIn cells s u
-    → NumberRead class s.header.params.order (unit_bytes s cells) place n v
-    → value_said (macro_meaning around.lasting (take v.size (drop place cells))) ≡ unit_said (start_number 0 u.source.macros v.number) v.number
-macro-said around u cells s class place n v a i r =
-    let inside : place + v.size ≤ length (unit_bytes s cells) = (let e = r.size_is in let le = r.inside in omega (arith, e, le)) in
-    let o : Own cells s u place v.size = own-cells cells s u place v.size i inside in
-    let number : spelled around.lasting.base.order (bytes_of (take v.size (drop place cells))) 0 (length (take v.size (drop place cells))) ≡ v.number =
-    number-spelled around u cells s place v.size a i inside ∙ ap (spelled s.header.params.order (unit_bytes s cells) place) r.size_is ∙ sym r.number_is in
-    ap (λ (f : Field). value_said (unit_meant (unit_named around.lasting.macros f) f)) (field-plain around.lasting.base.order (take v.size (drop place cells)) o.plain)
-    ∙ ap (λ (k : ℕ). value_said (unit_meant (started_unit 0 around.lasting.macros.starts around.lasting.macros.first k) (Num k))) number
-    ∙ ap (λ (x : Option ℕ). value_said (unit_meant x (Num v.number))) (a.macros_are v.number)
-    ∙ by_unit (start_number 0 u.source.macros v.number)
+unit-named-said : (around : Around) (u : ShownUnit) (f : Field) → IsAround around u → unit_named around.lasting.macros f ≡ macro_named u.source f
+unit-named-said around u (Num n) a =
+    ap (λ (k : ℕ). started_unit 0 around.lasting.macros.starts k n) a.first_is ∙ a.macros_are (first_macro u.source.view) n
+unit-named-said around u (Into z n) a = a.macros_are z n
+unit-named-said around u (Sym symbol kind addend) a = refl
+
+pub macro-said : (around : Around) (u : ShownUnit) (cells : List Cell) (s : UnitState) (class : ValueClass) (place n form : ℕ) (v : Value) → IsAround around u → IsIn cells s u
+    → FormFacts (number_of class n) form → NumberRead class s.header.params.order (unit_bytes s cells) place n v
+    → value_said (macro_meaning around.lasting (take v.size (drop place cells))) ≡ macro_shown u.source (value_field u form v)
+macro-said around u cells s class place n form v a i f r =
+    ap (λ (x : Field). value_said (unit_meant (unit_named around.lasting.macros x) x))
+    (around-field around u cells s class place n form v a i (number-plain class n form f) f.small r)
+    ∙ ap (λ (x : Option ℕ). value_said (unit_meant x (value_field u form v))) (unit-named-said around u (value_field u form v) a)
+    ∙ by_unit (macro_named u.source (value_field u form v))
   where
-    by_unit : (x : Option ℕ) → value_said (unit_meant x (Num v.number)) ≡ unit_said x v.number
+    by_unit : (x : Option ℕ) → value_said (unit_meant x (value_field u form v)) ≡ unit_said x (value_field u form v)
     by_unit None = refl
     by_unit (Some k) = refl
 
--- a number in LEB128
-pub leb-said : (around : Around) (u : ShownUnit) (cells : List Cell) (s : UnitState) (says : Use) (class : ValueClass) (place : ℕ) (v : Value) → IsAround around u → IsIn cells s u
-    → is_leb_class class ≡ true → place + v.size ≤ length (unit_bytes s cells) → LebRead class (unit_bytes s cells) place v
-    → value_said (leb_meaning around s says class (take v.size (drop place cells))) ≡ class_shown u v.class v
-leb-said around u cells s says class place v a i ok inside r =
+-- and of one in LEB128
+leb-class : (around : Around) (u : ShownUnit) (cells : List Cell) (s : UnitState) (says : Use) (class : ValueClass) (form : ℕ) (p : List Cell) (v : Value) → IsAround around u → IsIn cells s u
+    → is_leb_class class ≡ true → code_value p ≡ v.number → bytes_of p ≡ value_bytes u v → value_field u form v ≡ Num v.number
+    → value_said (leb_meaning around s says class p) ≡ class_shown u class form v
+unfolding class_shown
+leb-class around u cells s says StrIndex form p v a i ok number bytes field =
+    ap (λ (k : ℕ). value_said (indexed around.slots (is_path_use says) (slot_of around.lasting.indexing s.unit k) p)) number
+    ∙ ap (λ (k : ℕ). value_said (indexed around.slots (is_path_use says) (slot_of around.lasting.indexing k v.number) p)) i.unit_is
+    ∙ a.slots_are (is_path_use says) v.number p
+    ∙ ap (index_shown u.source.view u.source.contributions u.base v.number) bytes
+leb-class around u cells s says LocalRef form p v a i ok number bytes field =
+    ap (λ (n : ℕ). value_said (found_entry around.lasting.entries s.section (s.header.start + n) n)) number
+    ∙ ap (λ (k : ℕ). value_said (found_entry around.lasting.entries k (s.header.start + v.number) v.number)) i.section_is
+    ∙ ap (λ (k : ℕ). value_said (found_entry around.lasting.entries u.header.section (k + v.number) v.number)) (ap (λ h. h.start) i.header_is)
+    ∙ a.entries_are u.header.section (u.header.start + v.number) v.number
+leb-class around u cells s says Number form p v a i ok number bytes field = ap (class_said Number) number ∙ sym (ap (field_said Number) field)
+leb-class around u cells s says Flag form p v a i ok number bytes field = ap (class_said Flag) number ∙ sym (ap (field_said Flag) field)
+leb-class around u cells s says AddrIndex form p v a i ok number bytes field = ap (class_said AddrIndex) number ∙ sym (ap (field_said AddrIndex) field)
+leb-class around u cells s says ListIndex form p v a i ok number bytes field = ap (class_said ListIndex) number ∙ sym (ap (field_said ListIndex) field)
+leb-class around u cells s says Signature form p v a i ok number bytes field = ap (class_said Signature) number ∙ sym (ap (field_said Signature) field)
+leb-class around u cells s says Address form p v a i ok number bytes field = absurd cc
+leb-class around u cells s says SecOffset form p v a i ok number bytes field = absurd cc
+leb-class around u cells s says GlobalRef form p v a i ok number bytes field = absurd cc
+leb-class around u cells s says Signed form p v a i ok number bytes field = absurd cc
+leb-class around u cells s says Bytes form p v a i ok number bytes field = absurd cc
+leb-class around u cells s says InlineText form p v a i ok number bytes field = absurd cc
+leb-class around u cells s says StrOffset form p v a i ok number bytes field = absurd cc
+leb-class around u cells s says LineStrOffset form p v a i ok number bytes field = absurd cc
+
+pub leb-said : (around : Around) (u : ShownUnit) (cells : List Cell) (s : UnitState) (says : Use) (class : ValueClass) (place form : ℕ) (v : Value) → IsAround around u → IsIn cells s u
+    → FormFacts (leb_number class) form → place + v.size ≤ length (unit_bytes s cells) → LebRead class (unit_bytes s cells) place v
+    → value_said (leb_meaning around s says class (take v.size (drop place cells))) ≡ class_shown u v.class form v
+leb-said around u cells s says class place form v a i f inside r =
     let o : Own cells s u place v.size = own-cells cells s u place v.size i inside in
     let c : NumberPiece s cells place r.number r.size = number-piece s cells place r.number r.size r.read in
     let size : v.size ≡ v.len = r.size_is ∙ sym r.len_is in
-    leb-class around u cells s says class (take v.size (drop place cells)) v a i ok
+    leb-class around u cells s says class form (take v.size (drop place cells)) v a i f.own
     (ap (λ (m : ℕ). code_value (take m (drop place cells))) r.size_is ∙ c.value ∙ sym r.number_is)
     (o.bytes_are ∙ ap (λ (m : ℕ). take m (drop place u.bytes)) size ∙ ap (λ (m : ℕ). take v.len (drop m u.bytes)) (sym r.at_is))
-    ∙ ap (λ (c : ValueClass). class_shown u c v) (sym r.class_is)
+    (ap (λ (b : Bool). if b || not (has_field u.bytes v) then Num v.number else field_at u.source.view u.header.section v.at v.len) f.leb)
+    ∙ ap (λ (c : ValueClass). class_shown u c form v) (sym r.class_is)
 
 -- a signed number
 fits-read : (bytes : List ℕ) (place : ℕ) (z : ℤ) (n : ℕ) → sleb_at bytes place ≡ Some (z, n) → fits_i64 z ≡ true
@@ -360,11 +379,11 @@ fits-read bytes place z n e = by_read (sleb (drop place bytes)) e
     by_read None e = absurd cc
     by_read (Some (y, m)) e = by_fits y m (fits_i64 y) refl e
 
-pub sleb-said : (u : ShownUnit) (cells : List Cell) (s : UnitState) (place : ℕ) (v : Value) → IsIn cells s u → place + v.size ≤ length (unit_bytes s cells)
+pub sleb-said : (u : ShownUnit) (cells : List Cell) (s : UnitState) (place form : ℕ) (v : Value) → IsIn cells s u → place + v.size ≤ length (unit_bytes s cells)
     → SignedRead (unit_bytes s cells) place v
-    → signed_said (read_signed (sleb_at (bytes_of (take v.size (drop place cells))) 0)) ≡ class_shown u v.class v
+    → signed_said (read_signed (sleb_at (bytes_of (take v.size (drop place cells))) 0)) ≡ class_shown u v.class form v
 unfolding class_shown
-sleb-said u cells s place v i inside r =
+sleb-said u cells s place form v i inside r =
     let o : Own cells s u place v.size = own-cells cells s u place v.size i inside in
     let cut = signed-cut (unit_bytes s cells) place r.number r.size r.read in
     let own : bytes_of (take v.size (drop place cells)) ≡ take r.size (drop place (unit_bytes s cells)) =
@@ -373,19 +392,19 @@ sleb-said u cells s place v i inside r =
     ap (λ (bs : List ℕ). signed_said (read_signed (sleb_at bs 0))) own
     ∙ ap (λ (q : Option (ℤ × ℕ)). signed_said (read_signed q)) cut.0
     ∙ ap signed_said (sym (ap signed_of r.number_is ∙ signed-back r.number fits))
-    ∙ ap (λ (c : ValueClass). class_shown u c v) (sym r.class_is)
+    ∙ ap (λ (c : ValueClass). class_shown u c form v) (sym r.class_is)
 
 -- bytes behind a count
-pub block-said : (u : ShownUnit) (cells : List Cell) (s : UnitState) (place front n : ℕ) (v : Value) → IsIn cells s u → BlockRead (unit_bytes s cells) place front n v
-    → bytes_said (bytes_of (drop front (take v.size (drop place cells)))) ≡ class_shown u v.class v
+pub block-said : (u : ShownUnit) (cells : List Cell) (s : UnitState) (place front n form : ℕ) (v : Value) → IsIn cells s u → BlockRead (unit_bytes s cells) place front n v
+    → bytes_said (bytes_of (drop front (take v.size (drop place cells)))) ≡ class_shown u v.class form v
 unfolding class_shown
-block-said u cells s place front n v i r =
+block-said u cells s place front n form v i r =
     let inside : place + v.size ≤ length (unit_bytes s cells) = (let e = r.size_is in let le = r.inside in omega (arith, e, le)) in
     let o : Own cells s u place v.size = own-cells cells s u place v.size i inside in
     ap bytes_said (bytes_of-drop front (take v.size (drop place cells)) ∙ ap (drop front) o.bytes_are
     ∙ ap (λ (m : ℕ). drop front (take m (drop place u.bytes))) r.size_is ∙ behind-count u.bytes place front n
     ∙ ap (λ (m : ℕ). take n (drop m u.bytes)) (sym r.at_is) ∙ ap (λ (m : ℕ). take m (drop v.at u.bytes)) (sym r.len_is))
-    ∙ ap (λ (c : ValueClass). class_shown u c v) (sym r.class_is)
+    ∙ ap (λ (c : ValueClass). class_shown u c form v) (sym r.class_is)
 
 -- a text that stands in the value
 pub record TextRead (bytes : List ℕ) (place : ℕ) (v : Value) : Type 0 where
@@ -417,10 +436,10 @@ text-own (b ∷ bs) e = by_nul (b == 0) refl (λ f. text-own bs f) e
         ∙ ap (λ (z : Bool). cond z [] (b ∷ text (take (length (text bs) + 1) bs))) is
         ∙ ap (λ (xs : List ℕ). b ∷ xs) (step f)
 
-pub inline-said : (u : ShownUnit) (cells : List Cell) (s : UnitState) (place : ℕ) (v : Value) → IsIn cells s u → place + v.size ≤ length (unit_bytes s cells) → TextRead (unit_bytes s cells) place v
-    → text_said (text (bytes_of (take v.size (drop place cells)))) ≡ class_shown u v.class v
+pub inline-said : (u : ShownUnit) (cells : List Cell) (s : UnitState) (place form : ℕ) (v : Value) → IsIn cells s u → place + v.size ≤ length (unit_bytes s cells) → TextRead (unit_bytes s cells) place v
+    → text_said (text (bytes_of (take v.size (drop place cells)))) ≡ class_shown u v.class form v
 unfolding class_shown text_in ends_in
-inline-said u cells s place v i inside r =
+inline-said u cells s place form v i inside r =
     let o : Own cells s u place v.size = own-cells cells s u place v.size i inside in
     let bs : List ℕ = drop place (unit_bytes s cells) in
     let own : bytes_of (take v.size (drop place cells)) ≡ take v.size (drop place (unit_bytes s cells)) =
@@ -429,36 +448,32 @@ inline-said u cells s place v i inside r =
     ∙ text-front (drop place (unit_bytes s cells))
     ∙ ap (λ (m : ℕ). take m (drop place (unit_bytes s cells))) (sym r.len_is)
     ∙ ap (λ (xs : List ℕ). take v.len (drop place xs)) i.bytes_are ∙ ap (λ (m : ℕ). take v.len (drop m u.bytes)) (sym r.at_is))
-    ∙ ap (λ (c : ValueClass). class_shown u c v) (sym r.class_is)
+    ∙ ap (λ (c : ValueClass). class_shown u c form v) (sym r.class_is)
 
 -- a text by an offset
-pub offset-said : (around : Around) (u : ShownUnit) (cells : List Cell) (s : UnitState) (table : TextSection) (place n : ℕ) (v : Value) → IsAround around u → IsIn cells s u
-    → NumberRead (offset_class table) s.header.params.order (unit_bytes s cells) place n v
-    → text_said (text_in (table_of around table).bytes (offset_of around.lasting.base.order (table_of around table) (take v.size (drop place cells)))) ≡ class_shown u v.class v
-unfolding class_shown
-offset-said around u cells s table place n v a i r =
-    let inside : place + v.size ≤ length (unit_bytes s cells) = (let e = r.size_is in let le = r.inside in omega (arith, e, le)) in
-    let o : Own cells s u place v.size = own-cells cells s u place v.size i inside in
-    let number : offset_of around.lasting.base.order (table_of around table) (take v.size (drop place cells)) ≡ v.number =
-    offset_of-plain around.lasting.base.order (table_of around table) (take v.size (drop place cells)) o.plain
-    ∙ number-spelled around u cells s place v.size a i inside ∙ ap (spelled s.header.params.order (unit_bytes s cells) place) r.size_is ∙ sym r.number_is in
-    ap (λ (k : ℕ). text_said (text_in (table_of around table).bytes k)) number
+pub offset-said : (around : Around) (u : ShownUnit) (cells : List Cell) (s : UnitState) (table : TextSection) (place n form : ℕ) (v : Value) → IsAround around u → IsIn cells s u
+    → FormFacts (text_offset table n) form → NumberRead (offset_class table) s.header.params.order (unit_bytes s cells) place n v
+    → text_said (text_in (table_of around table).bytes (offset_of around.lasting.base.order (table_of around table) (take v.size (drop place cells)))) ≡ class_shown u v.class form v
+unfolding class_shown offset_of
+offset-said around u cells s table place n form v a i f r =
+    ap (λ (x : Field). text_said (text_in (table_of around table).bytes (offset_into (table_of around table) x)))
+    (around-field around u cells s (offset_class table) place n form v a i (text-plain table n form f) f.small r)
     ∙ by_table table
-    ∙ ap (λ (c : ValueClass). class_shown u c v) (sym r.class_is)
+    ∙ ap (λ (c : ValueClass). class_shown u c form v) (sym r.class_is)
   where
-    by_table : (t : TextSection) → text_said (text_in (table_of around t).bytes v.number) ≡ class_shown u (offset_class t) v
-    by_table in_str = ap (λ (bs : List ℕ). text_said (text_in bs v.number)) a.str_is
-    by_table in_line_str = ap (λ (bs : List ℕ). text_said (text_in bs v.number)) a.line_str_is
+    by_table : (t : TextSection) → text_said (text_in (table_of around t).bytes (offset_into (table_of around t) (value_field u form v))) ≡ class_shown u (offset_class t) form v
+    by_table in_str = ap (λ (z : Located). text_said (text_in z.bytes (offset_into z (value_field u form v)))) a.str_is
+    by_table in_line_str = ap (λ (z : Located). text_said (text_in z.bytes (offset_into z (value_field u form v)))) a.line_str_is
 
 -- what stands behind a count
-pub counted-said : (u : ShownUnit) (cells : List Cell) (s : UnitState) (place n : ℕ) (v : Value) → IsIn cells s u
+pub counted-said : (u : ShownUnit) (cells : List Cell) (s : UnitState) (place n form : ℕ) (v : Value) → IsIn cells s u
     → counted_value (unit_bytes s cells) place n (number_at s.header.params.order (unit_bytes s cells) place n) ≡ Some v
-    → bytes_said (bytes_of (drop n (take v.size (drop place cells)))) ≡ class_shown u v.class v
-counted-said u cells s place n v i e = by_count (number_at s.header.params.order (unit_bytes s cells) place n) e
+    → bytes_said (bytes_of (drop n (take v.size (drop place cells)))) ≡ class_shown u v.class form v
+counted-said u cells s place n form v i e = by_count (number_at s.header.params.order (unit_bytes s cells) place n) e
   where
-    by_count : (o : Option ℕ) → counted_value (unit_bytes s cells) place n o ≡ Some v → bytes_said (bytes_of (drop n (take v.size (drop place cells)))) ≡ class_shown u v.class v
+    by_count : (o : Option ℕ) → counted_value (unit_bytes s cells) place n o ≡ Some v → bytes_said (bytes_of (drop n (take v.size (drop place cells)))) ≡ class_shown u v.class form v
     by_count None e = absurd cc
-    by_count (Some k) e = block-said u cells s place n k v i (block-read (unit_bytes s cells) place n k v e)
+    by_count (Some k) e = block-said u cells s place n k form v i (block-read (unit_bytes s cells) place n k v e)
 
 -- a number of LEB128 at the front of more bytes
 front-number : (bytes : List ℕ) (place k m size : ℕ) → uleb_at bytes place ≡ Some (k, m) → m ≤ size → size ≤ length (drop place bytes)
@@ -470,13 +485,13 @@ front-number bytes place k m size e le room =
     ap (λ (xs : List ℕ). uleb_at xs 0) split
     ∙ uleb_at-append (take m (drop place bytes)) (drop m (take size (drop place bytes))) 0 (k, m) (omega arith) cut.0
 
-pub counted-leb-said : (u : ShownUnit) (cells : List Cell) (s : UnitState) (place : ℕ) (v : Value) → IsIn cells s u
+pub counted-leb-said : (u : ShownUnit) (cells : List Cell) (s : UnitState) (place form : ℕ) (v : Value) → IsIn cells s u
     → counted_leb_value (unit_bytes s cells) place (uleb_at (unit_bytes s cells) place) ≡ Some v
-    → bytes_said (bytes_of (drop (read_size (uleb_at (bytes_of (take v.size (drop place cells))) 0)) (take v.size (drop place cells)))) ≡ class_shown u v.class v
-counted-leb-said u cells s place v i e = by_count (uleb_at (unit_bytes s cells) place) refl e
+    → bytes_said (bytes_of (drop (read_size (uleb_at (bytes_of (take v.size (drop place cells))) 0)) (take v.size (drop place cells)))) ≡ class_shown u v.class form v
+counted-leb-said u cells s place form v i e = by_count (uleb_at (unit_bytes s cells) place) refl e
   where
     by_count : (o : Option (ℕ × ℕ)) → uleb_at (unit_bytes s cells) place ≡ o → counted_leb_value (unit_bytes s cells) place o ≡ Some v
-        → bytes_said (bytes_of (drop (read_size (uleb_at (bytes_of (take v.size (drop place cells))) 0)) (take v.size (drop place cells)))) ≡ class_shown u v.class v
+        → bytes_said (bytes_of (drop (read_size (uleb_at (bytes_of (take v.size (drop place cells))) 0)) (take v.size (drop place cells)))) ≡ class_shown u v.class form v
     by_count None is e = absurd cc
     by_count (Some (k, m)) is e =
         let r : BlockRead (unit_bytes s cells) place m k v = block-read (unit_bytes s cells) place m k v e in
@@ -488,6 +503,6 @@ counted-leb-said u cells s place v i e = by_count (uleb_at (unit_bytes s cells) 
         ap (λ (xs : List ℕ). uleb_at xs 0) own
         ∙ front-number (unit_bytes s cells) place k m v.size is (let f = r.size_is in omega (arith, f)) (omega (arith, inside, length-drop place (unit_bytes s cells))) in
         ap (λ (q : Option (ℕ × ℕ)). bytes_said (bytes_of (drop (read_size q) (take v.size (drop place cells))))) front
-        ∙ block-said u cells s place m k v i r
+        ∙ block-said u cells s place m k form v i r
 
-pub ruleset value_text_laws = (kind-own)
+pub ruleset value_text_laws = (sized-said, start-said, macro-said, leb-said, offset-said)

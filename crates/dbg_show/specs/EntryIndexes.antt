@@ -1,18 +1,15 @@
 -- Where the units of a view and their entries start, kept in order, so that the entry at a place is found by halving (DWARF 5, 7.5.1 and
 -- 7.5.3).
-use Rattle.std.specs.Prelude.{◌≡◌, ℕ, zero, suc, ◌+◌, ◌*◌, ◌<◌, ◌≤◌, List, [], ◌∷◌, length, get_or, ⊤, Option, Some, None}
+use Rattle.std.specs.Prelude.{◌≡◌, ℕ, zero, suc, ◌<◌, ◌≤◌, List, [], ◌∷◌, length, get_or, ⊤, Option, Some, None}
 use Rattle.dw_base.specs.AbbreviationTables.{Abbreviation}
 use Rattle.dw_base.specs.FileViews.{View}
 use Rattle.dw_base.specs.LineMeanings.{item_at}
 use Rattle.dw_base.specs.declared.units.Scanned.{Scanned}
 use Rattle.dw_base.specs.declared.units.UnitHeader.{UnitHeader}
 use Rattle.dw_find.specs.LineStarts.{Rises}
+use Rattle.dbg_show.specs.PlaceKeys.{place_key}
 use Rattle.dbg_show.specs.ShownUnits.{EntryIndex, number_in, unit_bytes, unit_entries}
 use Rattle.dbg_show.specs.declared.listed_unit.ListedUnit.{ListedUnit}
-
--- one number for a place of a section, larger in a later section
-abbrev pub place_key : ℕ → ℕ → ℕ
-place_key section place = section * 0x100000000 + place
 
 abbrev pub start_key : UnitHeader → ℕ
 start_key h = place_key h.section h.start

@@ -1,6 +1,6 @@
 -- What macro units say, as it is printed of those that were read: texts by their places, line tables and units by where they start (DWARF 5,
 -- 6.3).
-use Rattle.std.specs.Prelude.{◌≡◌, ℕ, ◌+◌, ◌<◌, nat_lt, if◌then◌else◌, List, [], ◌∷◌, ◌++◌, length, Option, None, option_and_then, ⊤}
+use Rattle.std.specs.Prelude.{◌≡◌, ℕ, ◌+◌, ◌<◌, List, [], ◌∷◌, ◌++◌, length, Option, option_and_then, ⊤}
 use Rattle.dw_base.specs.DebugData.{start_number}
 use Rattle.dw_base.specs.FileViews.{View}
 use Rattle.dw_base.specs.declared.macro_units.MacroEvent.{MacroEvent}
@@ -11,21 +11,13 @@ use Rattle.dw_find.specs.MacroNames.{AreUnitsIn}
 use Rattle.dw_find.specs.MacroSections.{SectionUnits}
 use Rattle.dw_macros.specs.EventMeanings.{text_bytes}
 use Rattle.dw_macros.specs.MacroEvents.{unit_events}
-use Rattle.dbg_show.specs.EntryIndexes.{place_key}
 use Rattle.dbg_show.specs.MacroTexts.{define_front, undef_front, quoted_line, start_line, end_line, import_line, macros_line}
-
--- above every place in a section
-abbrev pub place_limit : ℕ
-place_limit = 0x100000000
+use Rattle.dbg_show.specs.PlaceKeys.{place_key, place_limit, unit_number}
 
 -- where units start, each as one number: of the units of a view these rise
 abbrev pub unit_keys : List MacroUnit → List ℕ
 unit_keys [] = []
 unit_keys (u ∷ us) = place_key u.section u.start ∷ unit_keys us
-
--- the number of the unit that starts at a place of a section
-abbrev pub unit_number : List ℕ → ℕ → ℕ → Option ℕ
-unit_number keys section place = if nat_lt place place_limit then start_number 0 keys (place_key section place) else None
 
 -- the number of the line table of a unit
 abbrev pub line_number : List ℕ → Option ℕ → Option ℕ

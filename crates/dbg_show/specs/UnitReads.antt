@@ -1,9 +1,9 @@
 -- Units of a view whose entries can be read with their tables of abbreviations (DWARF 5, 7.5.2 and 7.5.3).
-use Rattle.std.specs.Prelude.{◌≤◌, ◌^◌, List, [], ◌∷◌, ◌≡◌, ⊤, length, IsTrue, Some}
+use Rattle.std.specs.Prelude.{ℕ, ◌<◌, ◌≤◌, ◌^◌, List, [], ◌∷◌, ◌≡◌, ⊤, length, IsTrue, Some}
 use Rattle.dw_base.specs.AbbreviationTables.{Abbreviation}
 use Rattle.dw_base.specs.EntryScans.{AreEntries}
 use Rattle.dw_base.specs.EntryValues.{HasUnit}
-use Rattle.dw_base.specs.FileViews.{View}
+use Rattle.dw_base.specs.FileViews.{View, section_bytes}
 use Rattle.dw_base.specs.LineMeanings.{item_at}
 use Rattle.dw_base.specs.UnitHeaders.{is_address_size}
 use Rattle.dw_base.specs.ViewData.{debug_data}
@@ -37,10 +37,16 @@ pub record SourceFits (g : UnitSource) : Type 0 where
   pub index : IsIndexed g.view g.tables g.units g.index
   pub apart : StandApart g.units
   pub rises : Rises g.starts
-  pub units_rise : Rises g.macros
+  pub keys_rise : Rises g.keys
+
+-- a unit of a section of the view, with its bytes
+pub record BytesFit (v : View) (section : ℕ) (bytes : List ℕ) : Type 0 where
+  pub there : section < length v.sections
+  pub inside : length bytes ≤ length (section_bytes v section)
 
 -- a unit that is printed can be read, with its bytes
 pub record ShownFits (u : ShownUnit) : Type 0 where
   pub source : SourceFits u.source
+  pub bytes : BytesFit u.source.view u.header.section u.bytes
   pub address : IsTrue (is_address_size u.header.params.address)
   pub small : length u.bytes ≤ 2 ^ 31

@@ -13,7 +13,7 @@ use Rattle.dw_base.specs.declared.dwarf_numbers.TheConstants.{DW_UT_type}
 use Rattle.dw_base.specs.declared.shared.Width.{Width}
 use Rattle.dw_base.specs.declared.shared.Width.TheVariants.{W32, W64}
 use Rattle.dw_base.specs.declared.values.ValueClass.{ValueClass}
-use Rattle.dw_base.specs.declared.values.ValueClass.TheVariants.{Address, Number, Flag, AddrIndex, ListIndex, Signature}
+use Rattle.dw_base.specs.declared.values.ValueClass.TheVariants.{Address, Number, Flag, AddrIndex, ListIndex, Signature, SecOffset}
 use Rattle.dw_base.specs.declared.view_fields.Field.{Field}
 use Rattle.dw_base.specs.declared.view_fields.Field.TheVariants.{Num, Into, Sym}
 use Rattle.dbg_show.specs.Quoting.{quoted}
@@ -68,7 +68,7 @@ signature_said n = codes "signature 0x" ++ digits 16 false n
 unfoldable pub offset_said : ℕ → List ℕ
 offset_said n = codes "offset " ++ decimal n
 
--- a number of a class
+-- a number of a class; what values of the other classes mean is said in other words
 abbrev pub class_said : ValueClass → ℕ → List ℕ
 class_said Address n = address_said n
 class_said Number n = number_said n
@@ -76,7 +76,8 @@ class_said Flag n = flag_said n
 class_said AddrIndex n = index_said n
 class_said ListIndex n = index_said n
 class_said Signature n = signature_said n
-class_said class n = offset_said n
+class_said SecOffset n = offset_said n
+class_said class n = []
 
 -- symbol, type and addend of a relocation
 unfoldable pub relocation_said : ℕ → ℕ → ℤ → List ℕ

@@ -18,6 +18,7 @@
 #![tactic(auto)]
 
 mod entry_index;
+mod fields;
 mod listed_unit;
 mod lists;
 mod macro_lines;

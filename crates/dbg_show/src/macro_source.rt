@@ -8,8 +8,8 @@ ghost use Rattle.dw_find.specs.LineStarts.{Rises};
 ghost use Rattle.dw_find.specs.MacroNames.{AllUnitsIn, AreUnitsIn};
 ghost use Rattle.dw_macros.specs.EventMeanings.{text_bytes};
 ghost use Rattle.dw_macros.specs.MacroEvents.{IsUnitIn};
-ghost use Rattle.dbg_show.specs.EntryIndexes.{place_key};
-ghost use Rattle.dbg_show.specs.ShownMacros.{AllBelow, AreMacros, MacroSource as MacroSourceOf, all_units, line_number, place_limit, unit_keys, unit_number};
+ghost use Rattle.dbg_show.specs.ShownMacros.{AllBelow, AreMacros, MacroSource as MacroSourceOf, all_units, line_number, unit_keys};
+ghost use Rattle.dbg_show.specs.PlaceKeys.{place_key, place_limit, unit_number};
 
 use crate::entry_index::place_key;
 use crate::source::part;
@@ -127,7 +127,7 @@ fn line_number(starts: &[u64], line: Option<u64>) -> Option<u64>
 }
 
 /// The number of the unit that starts at a place of a section.
-fn unit_number(keys: &[u64], section: u32, place: u64) -> Option<u64>
+pub(crate) fn unit_number(keys: &[u64], section: u32, place: u64) -> Option<u64>
     requires rises { Rises keys.now }
     ensures { result ≡ unit_number keys.now section place }
 {

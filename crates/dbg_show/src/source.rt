@@ -1,32 +1,20 @@
 //! What the texts of line tables stand in.
 
-ghost use Rattle.std.specs.Prelude.{◌≡◌, length, take, drop};
+ghost use Rattle.std.specs.Prelude.{◌≡◌, length, take, drop, true};
 ghost use Rattle.dw_base.specs.LineMeanings.{place_text, section_in};
-ghost use Rattle.dw_base.specs.Cells.{Located as LocatedOf};
 ghost use Rattle.dw_base.specs.DebugData.{line_source};
 ghost use Rattle.dw_base.specs.LineSources.{LineSource as LineSourceOf};
-ghost use Rattle.dw_base.specs.ViewData.{debug_data, located};
+ghost use Rattle.dw_base.specs.ViewData.{debug_data};
 
+use crate::fields::located;
 use dw_base::{DebugSection, Order, TextPlace};
 use dw_view::View;
 use std::marker::Model;
 
-/// A section: its number and its bytes; 0 and none where there is no such section.
-#[derive(Drop)]
-struct SectionBytes<'v> {
-    number: u32,
-    bytes: &'v [u8],
-}
-
-impl<'v> Model for SectionBytes<'v> {
-    ghost Value = { LocatedOf };
-
-    ghost view = { λ z. record { number = z.number; bytes = z.bytes.now } };
-}
-
 /// The section of line tables, and the two tables of texts, each with its number.
 #[derive(Drop)]
 pub(crate) struct LineSource<'v> {
+    view: &'v View<'v>,
     order: Order,
     number: u32,
     bytes: &'v [u8],
@@ -39,7 +27,7 @@ pub(crate) struct LineSource<'v> {
 impl<'v> Model for LineSource<'v> {
     ghost Value = { LineSourceOf };
 
-    ghost view = { λ s. record { order = s.order; number = s.number; bytes = s.bytes.now; str = record { number = s.str_number; bytes = s.str_bytes.now }; line_str = record { number = s.line_str_number; bytes = s.line_str_bytes.now } } };
+    ghost view = { λ s. record { order = s.order; number = s.number; is_read = true; bytes = s.bytes.now; cells = (debug_data s.view.now).lines.contents; str = record { number = s.str_number; bytes = s.str_bytes.now }; line_str = record { number = s.line_str_number; bytes = s.line_str_bytes.now } } };
 }
 
 /// So many bytes at a place, as far as they are there.
@@ -54,32 +42,16 @@ pub(crate) fn part(bytes: &[u8], at: u64, len: u64) -> &[u8]
     text
 }
 
-/// The section of a name.
-#[tactic(auto, unfolding(dw_base::specs::ViewData::located))]
-fn located<'v>(view: &'v View, name: DebugSection) -> SectionBytes<'v>
-    ensures section { result ≡ located view.now name }
-{
-    match view.first(name) {
-        Some(number) => SectionBytes {
-            number,
-            bytes: view.bytes(number),
-        },
-        None => SectionBytes {
-            number: 0,
-            bytes: &[],
-        },
-    }
-}
-
 /// What the texts of the line tables of a view stand in.
 #[tactic(auto, using(crate::proofs::ReadLaws::source_laws))]
-pub(crate) fn line_source<'v>(view: &'v View) -> LineSource<'v>
+pub(crate) fn line_source<'v>(view: &'v View<'v>) -> LineSource<'v>
     ensures source { result ≡ line_source (debug_data view.now) }
 {
     let lines = located(view, DebugSection::Line);
     let texts = located(view, DebugSection::Str);
     let line_texts = located(view, DebugSection::LineStr);
     LineSource {
+        view,
         order: view.order(),
         number: lines.number,
         bytes: lines.bytes,

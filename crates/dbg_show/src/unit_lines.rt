@@ -9,31 +9,31 @@ ghost use Rattle.dw_base.specs.Texts.{text_in};
 ghost use Rattle.dw_base.specs.UnitHeaders.{is_address_size};
 ghost use Rattle.dw_base.specs.ViewData.{located};
 ghost use Rattle.dw_base.specs.Values.{value_at};
+ghost use Rattle.dw_base.specs.declared.view_fields.Field.TheVariants.{Into};
 ghost use Rattle.dbg_show.specs.Printing.{Cut, Printed};
-ghost use Rattle.dbg_show.specs.ShownUnits.{ShownUnit as ShownUnitOf, all_shown, class_shown, entries_text, entry_base, entry_shown, entry_text, first_base, header_line, index_shown, info_section, is_base_class, one_shown, other_shown, plain_shown, says_base, says_start, says_unit, shown_unit, table_said, tabled_text, unit_bytes, unit_entries, unit_said, value_bytes, value_shown, values_base, values_shown};
-ghost use Rattle.dbg_show.specs.UnitReads.{AllCanRead, CanRead, EachReads, ShownFits, SourceFits};
+ghost use Rattle.dbg_show.specs.ShownUnits.{ShownUnit as ShownUnitOf, all_shown, base_number, class_shown, entries_text, entry_base, entry_shown, entry_text, first_base, header_line, index_shown, is_base_class, macro_shown, offset_text, one_shown, other_shown, plain_shown, reference_shown, says_base, says_start, says_unit, shown_unit, table_said, table_shown, tabled_text, unit_bytes, unit_entries, unit_said, value_address, value_bytes, value_field, value_offset, value_shown, values_base, values_shown};
+ghost use Rattle.dbg_show.specs.UnitReads.{AllCanRead, BytesFit, CanRead, EachReads, ShownFits, SourceFits};
 ghost use Rattle.dbg_show.specs.UnitTexts.{attribute_line, entry_line, kind_name, text_said};
 ghost use Rattle.dw_base.specs.DebugData.{start_number};
 ghost use Rattle.dw_entries.specs.ScanStates.{scan_start};
 ghost use Rattle.dw_entries.specs.ViewUnits.{IsUnitSection, unit_section_at};
 ghost use Rattle.dw_find.specs.LineStarts.{Rises};
-ghost use Rattle.dw_find.specs.TextPlaces.{is_start_form, own_form};
 
+use crate::fields::{address_field, is_start_form, number_field, offset_into, own_form};
 use crate::listed_unit::ListedUnit;
 use crate::printing::write_full;
 use crate::show_err::ShowErr;
-use crate::unit_source::{UnitSource, info_section, text_of};
+use crate::unit_source::{UnitSource, info_section, is_info, text_of};
 use crate::unit_texts::{push_attribute_front, push_end, push_entry, push_unit};
 use crate::value_texts::{
-    push_address, push_bytes, push_flag, push_index, push_lines, push_macros, push_number,
-    push_offset, push_reference, push_signature, push_signed, push_stray, push_text,
+    push_bytes, push_field, push_lines, push_macros, push_reference, push_relocation, push_signed,
+    push_stray, push_text,
 };
 use dw_abbrev::AbbrevTable;
 use dw_base::dwarf_numbers::{
-    DW_AT_GNU_macros, DW_AT_macros, DW_AT_stmt_list, DW_AT_str_offsets_base, DW_FORM_data4,
-    DW_FORM_data8, DW_FORM_implicit_const, DW_FORM_indirect, DW_FORM_sec_offset,
+    DW_AT_GNU_macros, DW_AT_macros, DW_AT_stmt_list, DW_AT_str_offsets_base, DW_FORM_implicit_const,
 };
-use dw_base::{DebugSection, Scanned, Spec, UnitHeader, Value, ValueClass, uleb_at};
+use dw_base::{DebugSection, Field, Scanned, Spec, UnitHeader, Value, ValueClass, uleb_at};
 use dw_entries::EntryScan;
 use dw_find::start_number;
 use dw_forms::value_at;
@@ -71,26 +71,6 @@ fn part(bytes: &[u8], at: u64, len: u64) -> &[u8]
     text
 }
 
-/// A form that can say where a line table starts (DWARF 5, 3.1.1); before version 4 it is a number of 4 or 8 bytes.
-fn is_start_form(form: u64) -> bool
-    ensures { result ≡ is_start_form form }
-{
-    form == DW_FORM_sec_offset || form == DW_FORM_data4 || form == DW_FORM_data8
-}
-
-/// The form of a value at a place: its attribute's, or the one in front of it (DWARF 5, 7.5.3).
-fn own_form(spec: &Spec, bytes: &[u8], place: u64) -> u64
-    ensures { result ≡ own_form spec.now bytes.now place }
-{
-    if spec.form != DW_FORM_indirect {
-        return spec.form;
-    }
-    match uleb_at(bytes, place) {
-        Some((form, _)) => form,
-        None => 0,
-    }
-}
-
 /// A value at a place says where a line table starts.
 fn says_start(spec: &Spec, bytes: &[u8], place: u64) -> bool
     ensures { result ≡ says_start spec.now bytes.now place }
@@ -126,29 +106,27 @@ fn push_table(text: &mut String, starts: &[u64], start: u64) -> Result<(), Alloc
 /// The same, of the starts of a source.
 fn push_source_table(text: &mut String, source: &UnitSource, start: u64) -> Result<(), AllocError>
     requires fits { SourceFits source.now }
-    ensures text { OnOk result (string_bytes text.new ≡ string_bytes text.old ++ table_said (start_number 0 source.now.starts start) start) }
+    ensures text { OnOk result (string_bytes text.new ≡ string_bytes text.old ++ table_shown source.now start) }
 {
     push_table(text, source.starts(), start)
 }
 
-/// Appends what a value says that says where a macro unit starts.
-#[tactic(auto, using(crate::proofs::ShownLaws::unit_laws))]
-fn push_start(text: &mut String, starts: &[u64], start: u64) -> Result<(), AllocError>
-    requires rises { Rises starts.now }
-    ensures text { OnOk result (string_bytes text.new ≡ string_bytes text.old ++ unit_said (start_number 0 starts.now start) start) }
+/// Appends the number of a macro unit, or what the field reads as that names none.
+fn push_start(text: &mut String, unit: Option<u64>, field: Field) -> Result<(), AllocError>
+    ensures text { OnOk result (string_bytes text.new ≡ string_bytes text.old ++ unit_said unit field) }
 {
-    match start_number(starts, start) {
-        Some(number) => push_macros(text, number as u64),
-        None => push_offset(text, start),
+    match unit {
+        Some(number) => push_macros(text, number),
+        None => push_field(text, ValueClass::SecOffset, field),
     }
 }
 
-/// The same, of the starts of a source.
-fn push_source_start(text: &mut String, source: &UnitSource, start: u64) -> Result<(), AllocError>
+/// Appends what a field says that says where a macro unit starts.
+fn push_source_start(text: &mut String, source: &UnitSource, field: Field) -> Result<(), AllocError>
     requires fits { SourceFits source.now }
-    ensures text { OnOk result (string_bytes text.new ≡ string_bytes text.old ++ unit_said (start_number 0 source.now.macros start) start) }
+    ensures text { OnOk result (string_bytes text.new ≡ string_bytes text.old ++ macro_shown source.now field) }
 {
-    push_start(text, source.macros(), start)
+    push_start(text, source.macro_unit(field), field)
 }
 
 /// Appends the text of an index, or the bytes of the value where it names none.
@@ -175,14 +153,80 @@ fn push_local(text: &mut String, unit: &ShownUnit, offset: u64) -> Result<(), Al
     push_reference(text, unit.source.entry(unit.header.section, place), offset)
 }
 
-/// Appends a reference to an entry of the first section `.debug_info`.
+/// Appends a reference to an entry that starts at a place of a section.
 #[tactic(auto, using(crate::proofs::ShownLaws::reference_laws))]
-fn push_global(text: &mut String, source: &UnitSource, offset: u64) -> Result<(), AllocError>
+fn push_placed(
+    text: &mut String,
+    source: &UnitSource,
+    section: u32,
+    offset: u64,
+) -> Result<(), AllocError>
     requires fits { SourceFits source.now }
-    ensures text { OnOk result (string_bytes text.new ≡ string_bytes text.old ++ entry_shown source.now (info_section source.now.view) offset offset) }
+    ensures text { OnOk result (string_bytes text.new ≡ string_bytes text.old ++ entry_shown source.now section offset offset) }
 {
-    let section = info_section(source.view);
     push_reference(text, source.entry(section, offset), offset)
+}
+
+/// Appends a reference to an entry of a section, which is one of units and is called `.debug_info`, or else the offset.
+fn push_into(
+    text: &mut String,
+    source: &UnitSource,
+    section: u32,
+    offset: u64,
+) -> Result<(), AllocError>
+    requires fits { SourceFits source.now }
+    ensures text { OnOk result (string_bytes text.new ≡ string_bytes text.old ++ reference_shown source.now (Into section offset)) }
+{
+    if !is_info(source.view, section) {
+        return push_stray(text, offset);
+    }
+    push_placed(text, source, section, offset)
+}
+
+/// Appends a reference to an entry of another unit.
+fn push_global(text: &mut String, source: &UnitSource, field: Field) -> Result<(), AllocError>
+    requires fits { SourceFits source.now }
+    ensures text { OnOk result (string_bytes text.new ≡ string_bytes text.old ++ reference_shown source.now field) }
+{
+    match field {
+        Field::Num(offset) => push_placed(text, source, info_section(source.view), offset),
+        Field::Into { section, offset } => push_into(text, source, section, offset),
+        Field::Sym {
+            symbol,
+            kind,
+            addend,
+        } => push_relocation(text, symbol, kind, addend),
+    }
+}
+
+/// What the number of a value of a form reads as.
+#[tactic(auto, using(crate::proofs::ShownLaws::field_laws))]
+fn value_field(unit: &ShownUnit, form: u64, value: &Value) -> Field
+    requires fits { ShownFits unit.now }
+    ensures field { result ≡ value_field unit.now form value.now }
+{
+    let source = unit.source;
+    number_field(source.view, unit.header.section, unit.bytes, form, value)
+}
+
+/// What the address of a value reads as.
+#[tactic(auto, using(crate::proofs::ShownLaws::field_laws))]
+fn value_address(unit: &ShownUnit, value: &Value) -> Field
+    requires fits { ShownFits unit.now }
+    ensures field { result ≡ value_address unit.now value.now }
+{
+    let source = unit.source;
+    address_field(source.view, unit.header.section, unit.bytes, value)
+}
+
+/// The offset that a value of a form says into the section of a name.
+fn value_offset(unit: &ShownUnit, name: DebugSection, form: u64, value: &Value) -> u64
+    requires fits { ShownFits unit.now }
+    ensures offset { result ≡ value_offset unit.now name form value.now }
+{
+    let field = value_field(unit, form, value);
+    let source = unit.source;
+    offset_into(source.view, name, field)
 }
 
 /// Appends the text at a place of a table of texts.
@@ -198,46 +242,68 @@ fn push_named(
     push_text(text, text_of(source.view, table, at))
 }
 
-/// Appends what a value says, by its class.
-#[tactic(auto, unfolding(crate::specs::ShownUnits::class_shown))]
-fn push_class(text: &mut String, unit: &ShownUnit, value: &Value) -> Result<(), AllocError>
+/// Appends the text that the offset of a value of a form says.
+fn push_offset_text(
+    text: &mut String,
+    unit: &ShownUnit,
+    table: DebugSection,
+    form: u64,
+    value: &Value,
+) -> Result<(), AllocError>
     requires fits { ShownFits unit.now }
-    ensures text { OnOk result (string_bytes text.new ≡ string_bytes text.old ++ class_shown unit.now value.now.class value.now) }
+    ensures text { OnOk result (string_bytes text.new ≡ string_bytes text.old ++ text_said (offset_text unit.now table form value.now)) }
+{
+    let at = value_offset(unit, table, form, value);
+    push_named(text, unit.source, table, at)
+}
+
+/// Appends what a value of a form says, by its class.
+#[tactic(auto, unfolding(crate::specs::ShownUnits::class_shown))]
+fn push_class(
+    text: &mut String,
+    unit: &ShownUnit,
+    form: u64,
+    value: &Value,
+) -> Result<(), AllocError>
+    requires fits { ShownFits unit.now }
+    ensures text { OnOk result (string_bytes text.new ≡ string_bytes text.old ++ class_shown unit.now value.now.class form value.now) }
 {
     match value.class {
-        ValueClass::Address => push_address(text, value.number),
-        ValueClass::Number => push_number(text, value.number),
+        ValueClass::Address => push_field(text, value.class, value_address(unit, value)),
         ValueClass::Signed => push_signed(text, value.number.cast_signed()),
         ValueClass::Bytes => push_bytes(text, part(unit.bytes, value.at, value.len)),
-        ValueClass::Flag => push_flag(text, value.number),
         ValueClass::InlineText => push_text(text, part(unit.bytes, value.at, value.len)),
-        ValueClass::StrOffset => push_named(text, unit.source, DebugSection::Str, value.number),
+        ValueClass::StrOffset => push_offset_text(text, unit, DebugSection::Str, form, value),
         ValueClass::LineStrOffset => {
-            push_named(text, unit.source, DebugSection::LineStr, value.number)
+            push_offset_text(text, unit, DebugSection::LineStr, form, value)
         }
         ValueClass::StrIndex => push_indexed(text, unit, value),
-        ValueClass::AddrIndex | ValueClass::ListIndex => push_index(text, value.number),
         ValueClass::LocalRef => push_local(text, unit, value.number),
-        ValueClass::GlobalRef => push_global(text, unit.source, value.number),
-        ValueClass::Signature => push_signature(text, value.number),
-        ValueClass::SecOffset => push_offset(text, value.number),
+        ValueClass::GlobalRef => push_global(text, unit.source, value_field(unit, form, value)),
+        ValueClass::Number
+        | ValueClass::Flag
+        | ValueClass::AddrIndex
+        | ValueClass::ListIndex
+        | ValueClass::Signature
+        | ValueClass::SecOffset => push_field(text, value.class, value_field(unit, form, value)),
     }
 }
 
-/// Appends what a value says that stands in its abbreviation, or by its class.
+/// Appends what a value of a form says that stands in its abbreviation, or by its class.
 fn push_plain(
     text: &mut String,
     unit: &ShownUnit,
     spec: &Spec,
+    form: u64,
     value: &Value,
 ) -> Result<(), AllocError>
     requires fits { ShownFits unit.now }
-    ensures text { OnOk result (string_bytes text.new ≡ string_bytes text.old ++ plain_shown unit.now spec.now value.now) }
+    ensures text { OnOk result (string_bytes text.new ≡ string_bytes text.old ++ plain_shown unit.now spec.now form value.now) }
 {
     if spec.form == DW_FORM_implicit_const {
         return push_signed(text, spec.implicit);
     }
-    push_class(text, unit, value)
+    push_class(text, unit, form, value)
 }
 
 /// Appends what a value at a place says that says no start of a line table.
@@ -251,10 +317,11 @@ fn push_other(
     requires fits { ShownFits unit.now }
     ensures text { OnOk result (string_bytes text.new ≡ string_bytes text.old ++ other_shown unit.now spec.now place value.now) }
 {
+    let form = own_form(spec, unit.bytes, place);
     if says_unit(spec, unit.bytes, place) {
-        return push_source_start(text, unit.source, value.number);
+        return push_source_start(text, unit.source, value_field(unit, form, value));
     }
-    push_plain(text, unit, spec, value)
+    push_plain(text, unit, spec, form, value)
 }
 
 /// Appends what a value at a place says.
@@ -270,7 +337,9 @@ fn push_value(
     ensures text { OnOk result (string_bytes text.new ≡ string_bytes text.old ++ value_shown unit.now spec.now place value.now) }
 {
     if says_start(spec, unit.bytes, place) {
-        return push_source_table(text, unit.source, value.number);
+        let form = own_form(spec, unit.bytes, place);
+        let start = value_offset(unit, DebugSection::Line, form, value);
+        return push_source_table(text, unit.source, start);
     }
     push_other(text, unit, spec, place, value)
 }
@@ -451,13 +520,32 @@ fn says_base(spec: &Spec, class: ValueClass) -> bool
     is_base_class(class)
 }
 
+/// The base that a value of a form says: as an offset where that can be one, else its number.
+fn base_number(view: &View, unit: &UnitHeader, bytes: &[u8], form: u64, value: &Value) -> u64
+    requires fits { BytesFit view.now unit.now.section bytes.now }
+    ensures base { result ≡ base_number view.now unit.now bytes.now form value.now }
+{
+    if !is_start_form(form) {
+        return value.number;
+    }
+    let field = number_field(view, unit.section, bytes, form, value);
+    offset_into(view, DebugSection::StrOffsets, field)
+}
+
 /// The base of texts by index that values say from a place on.
 #[tactic(auto, using(crate::proofs::BaseLaws::base_laws))]
-fn values_base(unit: &UnitHeader, bytes: &[u8], specs: &[Spec], from: u64) -> Option<u64>
+fn values_base(
+    view: &View,
+    unit: &UnitHeader,
+    bytes: &[u8],
+    specs: &[Spec],
+    from: u64,
+) -> Option<u64>
+    requires fits { BytesFit view.now unit.now.section bytes.now }
     requires address { IsTrue (is_address_size unit.now.params.address) }
     requires small { length bytes.now ≤ 2 ^ 31 }
     requires inside { from ≤ length bytes.now }
-    ensures base { result ≡ values_base unit.now.params bytes.now specs.now from }
+    ensures base { result ≡ values_base view.now unit.now bytes.now specs.now from }
 {
     let mut place = from;
     for spec in specs {
@@ -466,7 +554,8 @@ fn values_base(unit: &UnitHeader, bytes: &[u8], specs: &[Spec], from: u64) -> Op
             None => return None,
         };
         if says_base(spec, value.class) {
-            return Some(value.number);
+            let form = own_form(spec, bytes, place);
+            return Some(base_number(view, unit, bytes, form, &value));
         }
         place += value.size;
     }
@@ -475,28 +564,42 @@ fn values_base(unit: &UnitHeader, bytes: &[u8], specs: &[Spec], from: u64) -> Op
 
 /// The base that an entry says.
 #[tactic(auto, unfolding(crate::specs::ShownUnits::entry_base))]
-fn entry_base(unit: &UnitHeader, table: &AbbrevTable, bytes: &[u8], entry: &Scanned) -> Option<u64>
+fn entry_base(
+    view: &View,
+    unit: &UnitHeader,
+    table: &AbbrevTable,
+    bytes: &[u8],
+    entry: &Scanned,
+) -> Option<u64>
+    requires fits { BytesFit view.now unit.now.section bytes.now }
     requires address { IsTrue (is_address_size unit.now.params.address) }
     requires small { length bytes.now ≤ 2 ^ 31 }
-    ensures base { result ≡ entry_base unit.now.params table.now bytes.now entry.now }
+    ensures base { result ≡ entry_base view.now unit.now table.now bytes.now entry.now }
 {
     let (code, size) = uleb_at(bytes, entry.offset)?;
     let abbrev = table.get(code)?;
-    values_base(unit, bytes, abbrev.specs.as_slice(), entry.offset + size)
+    values_base(
+        view,
+        unit,
+        bytes,
+        abbrev.specs.as_slice(),
+        entry.offset + size,
+    )
 }
 
 /// The base of the texts by index of a unit: that of its first entry.
 #[tactic(auto, using(crate::proofs::BaseLaws::unit_laws))]
 fn unit_base(view: &View, unit: &UnitHeader, table: &AbbrevTable, bytes: &[u8]) -> Option<u64>
     requires reads { CanRead view.now unit.now table.now }
+    requires fits { BytesFit view.now unit.now.section bytes.now }
     requires address { IsTrue (is_address_size unit.now.params.address) }
     requires small { length bytes.now ≤ 2 ^ 31 }
     requires bytes { bytes.now ≡ unit_bytes view.now unit.now }
-    ensures base { result ≡ first_base unit.now.params table.now bytes.now (unit_entries unit.now table.now bytes.now) }
+    ensures base { result ≡ first_base view.now unit.now table.now bytes.now (unit_entries unit.now table.now bytes.now) }
 {
     for entry in EntryScan::new(view, unit, table) {
         match entry {
-            Ok(entry) => return entry_base(unit, table, bytes, &entry),
+            Ok(entry) => return entry_base(view, unit, table, bytes, &entry),
             Err(_) => unreachable!(),
         }
     }

@@ -2,25 +2,32 @@
 //!
 //! Read first: `specs/ShownUnits.antt`.
 
-ghost use Rattle.std.specs.Prelude.{◌≡◌, ◌<◌, ◌≤◌, ◌^◌, drop, length, option_map, IfErr, IfOk};
+ghost use Rattle.std.specs.Prelude.{◌≡◌, ◌+◌, ◌<◌, ◌≤◌, ◌^◌, drop, length, nat_le, option_map, IfErr, IfOk};
 ghost use Rattle.dw_base.specs.EntryValues.{HasUnit};
 ghost use Rattle.dw_base.specs.Texts.{text_in};
 ghost use Rattle.dw_base.specs.ViewData.{debug_data, located};
 ghost use Rattle.dw_base.specs.DebugSections.{name_of};
+ghost use Rattle.dw_base.specs.declared.debug_sections.DebugSection.TheVariants.{StrOffsets};
 ghost use Rattle.dw_base.specs.Forms.{width_size};
-ghost use Rattle.dw_base.specs.DebugData.{start_number};
+ghost use Rattle.dw_base.specs.DebugData.{info_numbers, start_number};
+ghost use Rattle.dw_base.specs.FileViews.{section_bytes, section_named};
+ghost use Rattle.dw_find.specs.LineStarts.{Rises};
+ghost use Rattle.dw_base.specs.TextIndexes.{holds_number};
 ghost use Rattle.dw_entries.specs.ViewUnits.{unit_section_at};
 ghost use Rattle.dw_offsets.specs.SlotSearch.{BasesRise, HasBase, IsBaseGap};
-ghost use Rattle.dbg_show.specs.EntryIndexes.{AreBefore, place_key, unit_number, unit_starts};
-ghost use Rattle.dbg_show.specs.ShownUnits.{UnitSource as UnitSourceOf, index_text, info_section, lies_in, named_in, slot_size, slot_text};
+ghost use Rattle.dbg_show.specs.EntryIndexes.{AreBefore, unit_number, unit_starts};
+ghost use Rattle.dbg_show.specs.ShownUnits.{UnitSource as UnitSourceOf, index_text, info_section, lies_in, macro_named, first_macro, named_at, named_in, slot_field, slot_in, slot_size, slot_text};
 ghost use Rattle.dbg_show.specs.UnitReads.{SourceFits};
 ghost use Rattle.dw_base.specs.LineMeanings.{item_at};
 ghost use Rattle.dw_base.specs.StringOffsets.{slot_place};
+ghost use Rattle.dbg_show.specs.PlaceKeys.{place_key};
 
 use crate::entry_index::{EntryIndex, place_key, table_at};
+use crate::fields::{field_at, has_room, located, offset_into};
 use crate::listed_unit::ListedUnit;
+use crate::macro_source::unit_number;
 use dw_abbrev::AbbrevTable;
-use dw_base::{Contribution, DebugSection, Order, UnitHeader, Width, number_at};
+use dw_base::{Contribution, DebugSection, Field, UnitHeader, Width};
 use dw_offsets::{ContributionList, slot_place};
 use dw_strings::text_at;
 use dw_view::View;
@@ -30,7 +37,7 @@ use std::marker::Model;
 const MOST_PLACE: u64 = 0x1_0000_0000;
 
 /// The view, all its units in order, their tables of abbreviations by their numbers, where they and their entries start, the contributions of
-/// string offsets, and where line tables and the macro units of the first section of them start.
+/// string offsets, where line tables start, and where macro units start, as `place_key` says.
 #[derive(Drop)]
 pub(crate) struct UnitSource<'v, 'f, 'u> {
     pub view: &'v View<'f>,
@@ -39,13 +46,13 @@ pub(crate) struct UnitSource<'v, 'f, 'u> {
     pub index: &'u EntryIndex,
     pub contributions: &'u ContributionList,
     pub starts: &'u [u64],
-    pub macros: &'u [u64],
+    pub keys: &'u [u64],
 }
 
 impl<'v, 'f, 'u> Model for UnitSource<'v, 'f, 'u> {
     ghost Value = { UnitSourceOf };
 
-    ghost view = { λ s. record { view = s.view.now; units = s.units.now; tables = s.tables.now; index = s.index.now; contributions = s.contributions.now; starts = s.starts.now; macros = s.macros.now } };
+    ghost view = { λ s. record { view = s.view.now; units = s.units.now; tables = s.tables.now; index = s.index.now; contributions = s.contributions.now; starts = s.starts.now; keys = s.keys.now } };
 }
 
 /// A place of a section lies in a unit.
@@ -126,11 +133,12 @@ impl<'v, 'f, 'u> UnitSource<'v, 'f, 'u> {
         self.starts
     }
 
-    /// Where the macro units of the first section of them start.
-    pub(crate) fn macros(&self) -> &'u [u64]
-        ensures { result.now ≡ self.now.macros }
+    /// The number of the macro unit that a field names: of the first section of macro units, or of the one that a relocation leads to.
+    pub(crate) fn macro_unit(&self, field: Field) -> Option<u64>
+        requires fits { SourceFits self.now }
+        ensures number { result ≡ macro_named self.now field }
     {
-        self.macros
+        unit_named(self.view, self.keys, field)
     }
 
     /// The text of an index in the contribution of a base.
@@ -172,14 +180,36 @@ pub(crate) fn info_section(view: &View) -> u32
     }
 }
 
-/// The bytes of the first section of a name; none where there is no such section.
-#[tactic(auto, unfolding(dw_base::specs::ViewData::located))]
-fn bytes_of<'v>(view: &'v View, name: DebugSection) -> &'v [u8]
-    ensures { result.now ≡ (located view.now name).bytes }
+/// A section is one of the name `.debug_info`, with bytes in the file.
+#[tactic(auto, using(crate::proofs::InfoLaws::number_laws))]
+pub(crate) fn is_info(view: &View, section: u32) -> bool
+    ensures { result ≡ holds_number (info_numbers (debug_data view.now).units) section }
 {
-    match view.first(name) {
-        Some(section) => view.bytes(section),
-        None => &[],
+    if section == 0 {
+        return false;
+    }
+    match view.section(DebugSection::Info.name(), section - 1) {
+        Some(found) => found == section,
+        None => false,
+    }
+}
+
+/// The number of the first section of macro units, or 0.
+fn first_macro(view: &View) -> u32
+    ensures { result ≡ first_macro view.now }
+{
+    located(view, DebugSection::Macro).number
+}
+
+/// The number of the macro unit that a field names, among where they start.
+fn unit_named(view: &View, keys: &[u64], field: Field) -> Option<u64>
+    requires rises { Rises keys.now }
+    ensures number { result ≡ named_at view.now keys.now field }
+{
+    match field {
+        Field::Num(place) => unit_number(keys, first_macro(view), place),
+        Field::Into { section, offset } => unit_number(keys, section, offset),
+        Field::Sym { .. } => None,
     }
 }
 
@@ -208,7 +238,7 @@ fn text_from(bytes: &[u8], at: u64) -> &[u8]
 pub(crate) fn text_of<'v>(view: &'v View, table: DebugSection, at: u64) -> &'v [u8]
     ensures { result.now ≡ text_in (located view.now table).bytes at }
 {
-    text_from(bytes_of(view, table), at)
+    text_from(located(view, table).bytes, at)
 }
 
 /// How many bytes an offset has (DWARF 5, 7.4).
@@ -246,6 +276,32 @@ fn slot_size(list: &[Contribution], base: u64) -> u8
     }
 }
 
+/// What the slot at a place of a section reads as, of so many bytes.
+#[tactic(auto, using(crate::proofs::SourceLaws::slot_laws))]
+fn slot_in(view: &View, section: u32, place: u64, size: u8) -> Field
+    requires there { section < length view.now.sections }
+    requires some { 0 < size }
+    requires wide { size ≤ 8 }
+    ensures field { result ≡ slot_in view.now section place size }
+{
+    if !has_room(view.bytes(section), place, size as u64) {
+        return Field::Num(0);
+    }
+    field_at(view, section, place, size)
+}
+
+/// The same, of the section of string offsets.
+fn slot_field(view: &View, place: u64, size: u8) -> Field
+    requires some { 0 < size }
+    requires wide { size ≤ 8 }
+    ensures field { result ≡ slot_field view.now (section_named view.now (name_of StrOffsets)) place size }
+{
+    match view.first(DebugSection::StrOffsets) {
+        Some(section) => slot_in(view, section, place, size),
+        None => Field::Num(0),
+    }
+}
+
 /// The text of the slot that stands at a place, of so many bytes.
 #[tactic(auto, unfolding(crate::specs::ShownUnits::slot_text))]
 fn slot_text<'v>(view: &'v View, place: u64, size: u8) -> &'v [u8]
@@ -253,9 +309,10 @@ fn slot_text<'v>(view: &'v View, place: u64, size: u8) -> &'v [u8]
     requires wide { size ≤ 8 }
     ensures { result.now ≡ slot_text view.now place size }
 {
-    let offsets = bytes_of(view, DebugSection::StrOffsets);
-    match number_at(view.order(), offsets, place, size) {
-        Some(at) => text_of(view, DebugSection::Str, at),
-        None => text_of(view, DebugSection::Str, 0),
-    }
+    let field = slot_field(view, place, size);
+    text_of(
+        view,
+        DebugSection::Str,
+        offset_into(view, DebugSection::Str, field),
+    )
 }

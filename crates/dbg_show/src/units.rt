@@ -6,6 +6,7 @@ ghost use Rattle.std.specs.Prelude.{◌≡◌, ◌++◌, ◌∷◌, [], length, 
 ghost use Rattle.std.specs.HashMap.{get};
 ghost use Rattle.dw_base.specs.AbbreviationFails.{AbbreviationFails};
 ghost use Rattle.dw_base.specs.AbbreviationTables.{IsTable};
+ghost use Rattle.dw_base.specs.EntryValues.{HasUnit};
 ghost use Rattle.dw_base.specs.Refusals.{Blames};
 ghost use Rattle.dw_base.specs.UnitHeaders.{AreUnits};
 ghost use Rattle.dw_base.specs.ViewData.{debug_data};
@@ -17,7 +18,7 @@ ghost use Rattle.dbg_show.specs.UnitLists.{Adds, AddsSection, AllShort, AreKnown
 use crate::listed_unit::ListedUnit;
 use dw_abbrev::AbbrevTable;
 use dw_base::{DebugSection, Fault, UnitHeader};
-use dw_entries::{unit_headers, unit_sections};
+use dw_entries::{table_offset, unit_headers, unit_sections};
 use dw_view::View;
 use std::alloc::{AllocError, Global};
 use std::collections::HashMap;
@@ -83,6 +84,27 @@ fn table_number(
     Ok(number)
 }
 
+/// The number of the table of abbreviations of a unit.
+#[tactic(auto, using(crate::proofs::UnitListLaws::unit_laws))]
+fn unit_table(
+    alloc: Global,
+    view: &View,
+    unit: &UnitHeader,
+    numbers: &mut HashMap<u64, u64>,
+    tables: &mut Vec<AbbrevTable>,
+) -> Result<u64, Fault>
+    requires unit { HasUnit (debug_data view.now) (unit_section_at view.now unit.now.section) unit.now }
+    requires known { AreKnown (debug_data view.now) (λ at. get nat_eq numbers.old at) tables.old.items }
+    ensures known { OnOk result (AreKnown (debug_data view.now) (λ at. get nat_eq numbers.new at) tables.new.items) }
+    ensures number { IfOk result (HasTableAt (debug_data view.now) tables.new.items unit.now.abbrevs) }
+    ensures grows { OnOk result (Grows tables.old.items tables.new.items) }
+    ensures refused { IfErr result (Blames (DataRefuses view.now)) }
+{
+    let at = table_offset(view, unit)?;
+    let number = table_number(alloc, view, at, numbers, tables)?;
+    Ok(number)
+}
+
 /// Puts units behind others, and reads their tables.
 #[tactic(auto, using(crate::proofs::UnitListLaws::push_laws))]
 fn push_units(
@@ -104,7 +126,7 @@ fn push_units(
     ensures refused { IfErr result (Blames (DataRefuses view.now)) }
 {
     for header in headers {
-        let table = table_number(alloc, view, header.abbrevs, numbers, tables)?;
+        let table = unit_table(alloc, view, header, numbers, tables)?;
         units.push(ListedUnit {
             header: *header,
             table,

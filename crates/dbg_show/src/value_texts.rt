@@ -2,10 +2,11 @@
 
 ghost use Rattle.std.specs.Prelude.{◌≡◌, ◌++◌, OnOk, codes};
 ghost use Rattle.std.specs.String.{string_bytes};
-ghost use Rattle.dbg_show.specs.UnitTexts.{address_said, byte_digits, bytes_digits, bytes_said, entry_said, flag_said, index_said, lines_said, macros_said, number_said, offset_said, signature_said, signed_said, stray_said, text_said};
+ghost use Rattle.dbg_show.specs.UnitTexts.{address_said, byte_digits, bytes_digits, bytes_said, class_said, entry_said, field_said, flag_said, index_said, lines_said, macros_said, number_said, offset_said, relocation_said, signature_said, signed_said, stray_said, text_said};
 ghost use Rattle.dbg_show.specs.ShownUnits.{reference_said};
 
 use crate::quoting::push_quoted;
+use dw_base::{Field, ValueClass};
 use std::alloc::AllocError;
 
 /// Appends a text.
@@ -104,7 +105,7 @@ pub(crate) fn push_signed(text: &mut String, number: i64) -> Result<(), AllocErr
 
 /// Appends a number.
 #[tactic(auto, unfolding(crate::specs::UnitTexts::number_said))]
-pub(crate) fn push_number(text: &mut String, number: u64) -> Result<(), AllocError>
+fn push_number(text: &mut String, number: u64) -> Result<(), AllocError>
     ensures text { OnOk result (string_bytes text.new ≡ string_bytes text.old ++ number_said number) }
 {
     write!(text, "number {number}")
@@ -112,7 +113,7 @@ pub(crate) fn push_number(text: &mut String, number: u64) -> Result<(), AllocErr
 
 /// Appends a flag.
 #[tactic(auto, unfolding(crate::specs::UnitTexts::flag_said))]
-pub(crate) fn push_flag(text: &mut String, number: u64) -> Result<(), AllocError>
+fn push_flag(text: &mut String, number: u64) -> Result<(), AllocError>
     ensures text { OnOk result (string_bytes text.new ≡ string_bytes text.old ++ flag_said number) }
 {
     if number == 0 {
@@ -123,7 +124,7 @@ pub(crate) fn push_flag(text: &mut String, number: u64) -> Result<(), AllocError
 
 /// Appends an address.
 #[tactic(auto, unfolding(crate::specs::UnitTexts::address_said))]
-pub(crate) fn push_address(text: &mut String, number: u64) -> Result<(), AllocError>
+fn push_address(text: &mut String, number: u64) -> Result<(), AllocError>
     ensures text { OnOk result (string_bytes text.new ≡ string_bytes text.old ++ address_said number) }
 {
     write!(text, "address 0x{number:x}")
@@ -131,7 +132,7 @@ pub(crate) fn push_address(text: &mut String, number: u64) -> Result<(), AllocEr
 
 /// Appends an index.
 #[tactic(auto, unfolding(crate::specs::UnitTexts::index_said))]
-pub(crate) fn push_index(text: &mut String, number: u64) -> Result<(), AllocError>
+fn push_index(text: &mut String, number: u64) -> Result<(), AllocError>
     ensures text { OnOk result (string_bytes text.new ≡ string_bytes text.old ++ index_said number) }
 {
     write!(text, "index {number}")
@@ -139,7 +140,7 @@ pub(crate) fn push_index(text: &mut String, number: u64) -> Result<(), AllocErro
 
 /// Appends a signature.
 #[tactic(auto, unfolding(crate::specs::UnitTexts::signature_said))]
-pub(crate) fn push_signature(text: &mut String, number: u64) -> Result<(), AllocError>
+fn push_signature(text: &mut String, number: u64) -> Result<(), AllocError>
     ensures text { OnOk result (string_bytes text.new ≡ string_bytes text.old ++ signature_said number) }
 {
     write!(text, "signature 0x{number:x}")
@@ -147,8 +148,63 @@ pub(crate) fn push_signature(text: &mut String, number: u64) -> Result<(), Alloc
 
 /// Appends an offset into another section.
 #[tactic(auto, unfolding(crate::specs::UnitTexts::offset_said))]
-pub(crate) fn push_offset(text: &mut String, number: u64) -> Result<(), AllocError>
+fn push_offset(text: &mut String, number: u64) -> Result<(), AllocError>
     ensures text { OnOk result (string_bytes text.new ≡ string_bytes text.old ++ offset_said number) }
 {
     write!(text, "offset {number}")
+}
+
+/// Appends symbol, type and addend of a relocation.
+#[tactic(auto, unfolding(crate::specs::UnitTexts::relocation_said))]
+pub(crate) fn push_relocation(
+    text: &mut String,
+    symbol: u32,
+    kind: u32,
+    addend: i64,
+) -> Result<(), AllocError>
+    ensures text { OnOk result (string_bytes text.new ≡ string_bytes text.old ++ relocation_said symbol kind addend) }
+{
+    write!(text, "symbol {symbol} type {kind} addend {addend}")
+}
+
+/// Appends a number of a class; what values of the last ones mean is said in other words.
+#[tactic(auto, using(crate::proofs::AppendLaws::none_laws))]
+fn push_number_of(text: &mut String, class: ValueClass, number: u64) -> Result<(), AllocError>
+    ensures text { OnOk result (string_bytes text.new ≡ string_bytes text.old ++ class_said class number) }
+{
+    match class {
+        ValueClass::Address => push_address(text, number),
+        ValueClass::Number => push_number(text, number),
+        ValueClass::Flag => push_flag(text, number),
+        ValueClass::AddrIndex | ValueClass::ListIndex => push_index(text, number),
+        ValueClass::Signature => push_signature(text, number),
+        ValueClass::SecOffset => push_offset(text, number),
+        ValueClass::Signed
+        | ValueClass::Bytes
+        | ValueClass::InlineText
+        | ValueClass::StrOffset
+        | ValueClass::LineStrOffset
+        | ValueClass::StrIndex
+        | ValueClass::LocalRef
+        | ValueClass::GlobalRef => Ok(()),
+    }
+}
+
+/// Appends what a field of a class says; of one into a section its offset there.
+pub(crate) fn push_field(
+    text: &mut String,
+    class: ValueClass,
+    field: Field,
+) -> Result<(), AllocError>
+    ensures text { OnOk result (string_bytes text.new ≡ string_bytes text.old ++ field_said class field) }
+{
+    match field {
+        Field::Num(number) => push_number_of(text, class, number),
+        Field::Into { section: _, offset } => push_number_of(text, class, offset),
+        Field::Sym {
+            symbol,
+            kind,
+            addend,
+        } => push_relocation(text, symbol, kind, addend),
+    }
 }

@@ -31,7 +31,7 @@ use crate::table_lines::{print_dirs, print_files, print_row, print_start};
 use crate::unit_lines::print_units;
 use crate::unit_source::UnitSource;
 use crate::units::read_units;
-use dw_find::{MacroSection, first_places, starts_of};
+use dw_find::{MacroSection, starts_of};
 use dw_offsets::contributions;
 use dw_rows::{LineTable, Rows};
 use dw_view::View;
@@ -60,11 +60,11 @@ fn version_of(table: &LineTable) -> u16
 
 /// Prints the lines of rows.
 #[tactic(auto, using(crate::proofs::LoopLaws::row_laws))]
-fn print_rows<'v, O: Sink>(
+fn print_rows<'v, 'f, O: Sink>(
     text: &mut String,
     out: &mut O,
     lists: &TableLists,
-    rows: Rows<'v>,
+    rows: Rows<'v, 'f>,
 ) -> Result<(), ShowErr>
     ensures done { OnOk result (Printed (rows_text (listed_rows lists.now (rows_left rows.entry))) (string_bytes text.old) (O.heard out.old) (O.heard out.new) (string_bytes text.new)) }
     ensures cut { IfErr result (Cut (string_bytes text.old ++ rows_text (listed_rows lists.now (rows_left rows.entry))) (O.heard out.old) (O.heard out.new)) }
@@ -80,11 +80,11 @@ fn print_rows<'v, O: Sink>(
 
 /// Prints the files of a table, and its rows.
 #[tactic(auto, using(crate::proofs::PrintingLaws::then_laws))]
-fn print_files_rows<'v, O: Sink>(
+fn print_files_rows<'v, 'f, O: Sink>(
     text: &mut String,
     out: &mut O,
     lists: &TableLists,
-    rows: Rows<'v>,
+    rows: Rows<'v, 'f>,
 ) -> Result<(), ShowErr>
     ensures done { OnOk result (Printed (files_text (first_number lists.now.version) (file_texts lists.now.source lists.now.files) ++ rows_text (listed_rows lists.now (rows_left rows.entry))) (string_bytes text.old) (O.heard out.old) (O.heard out.new) (string_bytes text.new)) }
     ensures cut { IfErr result (Cut (string_bytes text.old ++ (files_text (first_number lists.now.version) (file_texts lists.now.source lists.now.files) ++ rows_text (listed_rows lists.now (rows_left rows.entry)))) (O.heard out.old) (O.heard out.new)) }
@@ -95,11 +95,11 @@ fn print_files_rows<'v, O: Sink>(
 
 /// Prints the directories of a table, its files and its rows.
 #[tactic(auto, using(crate::proofs::PrintingLaws::then_laws))]
-fn print_lists<'v, O: Sink>(
+fn print_lists<'v, 'f, O: Sink>(
     text: &mut String,
     out: &mut O,
     lists: &TableLists,
-    rows: Rows<'v>,
+    rows: Rows<'v, 'f>,
 ) -> Result<(), ShowErr>
     ensures done { OnOk result (Printed (dirs_text (first_number lists.now.version) (dir_texts lists.now.source lists.now.dirs) ++ (files_text (first_number lists.now.version) (file_texts lists.now.source lists.now.files) ++ rows_text (listed_rows lists.now (rows_left rows.entry)))) (string_bytes text.old) (O.heard out.old) (O.heard out.new) (string_bytes text.new)) }
     ensures cut { IfErr result (Cut (string_bytes text.old ++ (dirs_text (first_number lists.now.version) (dir_texts lists.now.source lists.now.dirs) ++ (files_text (first_number lists.now.version) (file_texts lists.now.source lists.now.files) ++ rows_text (listed_rows lists.now (rows_left rows.entry))))) (O.heard out.old) (O.heard out.new)) }
@@ -248,22 +248,23 @@ fn show_tables<O: Sink>(
     let index = EntryIndex::read(alloc, view, abbrevs, units)?;
     let contributions = contributions(alloc, view)?;
     let starts = starts_of(alloc, tables)?;
-    let places = first_places(alloc, macros)?;
     let found = macro_list(alloc, view, macros)?;
+    let lines = starts.as_slice();
+    let keys = found.keys.as_slice();
     let source = UnitSource {
         view,
         units,
         tables: abbrevs,
         index: &index,
         contributions: &contributions,
-        starts: starts.as_slice(),
-        macros: places.as_slice(),
+        starts: lines,
+        keys,
     };
     let macro_source = MacroSource {
         view,
-        lines: starts.as_slice(),
+        lines,
         units: found.units.as_slice(),
-        keys: found.keys.as_slice(),
+        keys,
     };
     write_shown(alloc, view, &source, tables, &macro_source, out)
 }

@@ -2,7 +2,7 @@
 use Rattle.std.proofs.Common.{◌≡◌, ◌≢◌, ℕ, zero, suc, ◌+◌, ◌<◌, ◌&&◌, ◌||◌, not, Bool, true, false, List, [], ◌∷◌, ◌++◌, drop, get_or, if◌then◌else◌, refl, sym, ap, ◌∙◌, arith, inl, inr, subst}
 use Rattle.std.proofs.lemmas.Bool.{cases_Bool}
 use Rattle.std.specs.Prelude.{Option, Some, None}
-use Rattle.dw_base.specs.Cells.{CellSection, Located}
+use Rattle.dw_base.specs.Cells.{CellSection, Located, plain_cells}
 use Rattle.dw_base.specs.DebugData.{DebugData, DataReadings, around_of, line_source}
 use Rattle.dw_base.specs.DebugSections.{debug_section, name_of, read_sections, section_in}
 use Rattle.dw_base.specs.Elf.{is_empty_kind, nth_section, order_of, section_count, section_name}
@@ -17,7 +17,7 @@ use Rattle.dw_base.specs.SlotTexts.{name_parts, slot_texts}
 use Rattle.dw_base.specs.Texts.{same_text}
 use Rattle.dw_base.specs.UnitHeaders.{UnitSection}
 use Rattle.dw_base.specs.UnitMeanings.{units_of}
-use Rattle.dw_base.specs.ViewData.{Meaning, NamedBytes, bytes_named, cell_section, debug_data, is_macro, is_other, is_read, located, located_at, macro_section, macro_sections, macro_sections_from, meaning_of, other_sections, unit_kind, unit_section, unit_sections, unit_sections_from, without_id, zeroed_at}
+use Rattle.dw_base.specs.ViewData.{Meaning, NamedBytes, bytes_named, cells_located, debug_data, is_macro, is_other, is_read, located, located_at, macro_section, macro_sections, macro_sections_from, meaning_of, other_sections, unit_kind, unit_section, unit_sections, unit_sections_from, without_id, zeroed_at}
 use Rattle.dw_base.specs.declared.debug_sections.DebugSection.{DebugSection}
 use Rattle.dw_base.specs.declared.debug_sections.DebugSection.TheVariants.{Abbrev, Str, LineStr, StrOffsets, Line, Names}
 use Rattle.dw_base.specs.declared.shared.Order.{Order}
@@ -228,39 +228,57 @@ section_bytes-is : (v : View) (i : ℕ) → section_bytes v i ≡ bytes_in (cont
 unfolding section_bytes
 section_bytes-is v i = refl
 
+-- a name that is read is that of the same section, with the same contents
+first-named : (v w : View) (x : DebugSection) → AllAlike 0 v.sections w.sections → section_named v (name_of x) ≡ section_named w (name_of x)
+first-named v w x all =
+    section_named-is v (name_of x)
+    ∙ first-alike (name_of x) 1 (drop 1 v.sections) (drop 1 w.sections) (name-read x)
+    (drop-at (λ (i : ℕ) (s t : ViewSection). Alike s t) v.sections w.sections all)
+    ∙ sym (section_named-is w (name_of x))
+
+contents-named : (v w : View) (x : DebugSection) → AllAlike 0 v.sections w.sections → (i : ℕ) → section_named w (name_of x) ≡ Some i
+    → contents_in v.sections i ≡ contents_in w.sections i
+contents-named v w x all i e =
+    contents-at v.sections w.sections i all
+    (found-alike (name_of x) 1 (drop 1 v.sections) (drop 1 w.sections) i (name-read x)
+    (drop-at (λ (i : ℕ) (s t : ViewSection). Alike s t) v.sections w.sections all) (sym (section_named-is w (name_of x)) ∙ e))
+
+bytes-alike : (v w : View) (i : ℕ) → contents_in v.sections i ≡ contents_in w.sections i → section_bytes v i ≡ section_bytes w i
+bytes-alike v w i same = section_bytes-is v i ∙ ap bytes_in same ∙ sym (section_bytes-is w i)
+
 located-alike : (v w : View) (x : DebugSection) → AllAlike 0 v.sections w.sections → located v x ≡ located w x
 unfolding located
-located-alike v w x all =
-    let some = name-read x in
-    let behind = drop-at (λ (i : ℕ) (s t : ViewSection). Alike s t) v.sections w.sections all in
-    let first : section_named v (name_of x) ≡ section_named w (name_of x) =
-    section_named-is v (name_of x) ∙ first-alike (name_of x) 1 (drop 1 v.sections) (drop 1 w.sections) some behind ∙ sym (section_named-is w (name_of x)) in
-    ap (located_at v) first
-    ∙ by_found (section_named w (name_of x))
-    (λ i e. contents-at v.sections w.sections i all
-    (found-alike (name_of x) 1 (drop 1 v.sections) (drop 1 w.sections) i some behind (sym (section_named-is w (name_of x)) ∙ e)))
+located-alike v w x all = ap (located_at v) (first-named v w x all) ∙ by_found (section_named w (name_of x)) (contents-named v w x all)
   where
     by_found : (o : Option ℕ) → ((i : ℕ) → o ≡ Some i → contents_in v.sections i ≡ contents_in w.sections i) → located_at v o ≡ located_at w o
     by_found None same = refl
-    by_found (Some i) same =
-        ap (λ (bytes : List ℕ). record { number = i; bytes = bytes })
-        (section_bytes-is v i ∙ ap bytes_in (same i refl) ∙ sym (section_bytes-is w i))
+    by_found (Some i) same = ap (λ (bytes : List ℕ). record { number = i; bytes = bytes }) (bytes-alike v w i (same i refl))
+
+abbrev cells_named : View → DebugSection → CellSection
+cells_named v x = cells_located v (section_named v (name_of x))
+
+cells-alike : (v w : View) (x : DebugSection) → AllAlike 0 v.sections w.sections → cells_named v x ≡ cells_named w x
+cells-alike v w x all = ap (cells_located v) (first-named v w x all) ∙ by_found (section_named w (name_of x)) (contents-named v w x all)
+  where
+    by_found : (o : Option ℕ) → ((i : ℕ) → o ≡ Some i → contents_in v.sections i ≡ contents_in w.sections i) → cells_located v o ≡ cells_located w o
+    by_found None same = refl
+    by_found (Some i) same = ap (λ (bytes : List ℕ). record { number = i; contents = plain_cells bytes }) (bytes-alike v w i (same i refl))
 
 -- so the debug data are the same
-abbrev data_with : Order → Located → List UnitSection → Located → Located → Located → Located → List CellSection → Located → DebugData
+abbrev data_with : Order → Located → List UnitSection → Located → Located → CellSection → CellSection → List CellSection → CellSection → DebugData
 data_with order abbrevs units str line_str offsets lines macros names = record {
   base = record { order = order; abbrevs = abbrevs };
   units = units;
   str = str;
   line_str = line_str;
-  offsets = cell_section offsets;
-  lines = cell_section lines;
+  offsets = offsets;
+  lines = lines;
   macros = macros;
-  names = cell_section names;
+  names = names;
 }
 
 data-is : (v : View) → debug_data v
-    ≡ data_with v.order (located v Abbrev) (unit_sections v) (located v Str) (located v LineStr) (located v StrOffsets) (located v Line) (macro_sections v) (located v Names)
+    ≡ data_with v.order (located v Abbrev) (unit_sections v) (located v Str) (located v LineStr) (cells_named v StrOffsets) (cells_named v Line) (macro_sections v) (cells_named v Names)
 unfolding debug_data
 data-is v = refl
 
@@ -284,12 +302,12 @@ data-alike v w order all =
     ∙ sym (macro_sections-is w) in
     data-is v
     ∙ parts v.order w.order (located v Abbrev) (located w Abbrev) (unit_sections v) (unit_sections w) (located v Str) (located w Str) (located v LineStr) (located w LineStr)
-    (located v StrOffsets) (located w StrOffsets) (located v Line) (located w Line) (macro_sections v) (macro_sections w) (located v Names) (located w Names) order
-    (located-alike v w Abbrev all) units (located-alike v w Str all) (located-alike v w LineStr all) (located-alike v w StrOffsets all) (located-alike v w Line all)
-    macros (located-alike v w Names all)
+    (cells_named v StrOffsets) (cells_named w StrOffsets) (cells_named v Line) (cells_named w Line) (macro_sections v) (macro_sections w) (cells_named v Names) (cells_named w Names) order
+    (located-alike v w Abbrev all) units (located-alike v w Str all) (located-alike v w LineStr all) (cells-alike v w StrOffsets all) (cells-alike v w Line all)
+    macros (cells-alike v w Names all)
     ∙ sym (data-is w)
   where
-    parts : (o p : Order) (a b : Located) (u x : List UnitSection) (s t l m f g i j : Located) (y z : List CellSection) (n k : Located) → o ≡ p → a ≡ b → u ≡ x → s ≡ t
+    parts : (o p : Order) (a b : Located) (u x : List UnitSection) (s t l m : Located) (f g i j : CellSection) (y z : List CellSection) (n k : CellSection) → o ≡ p → a ≡ b → u ≡ x → s ≡ t
         → l ≡ m → f ≡ g → i ≡ j → y ≡ z → n ≡ k → data_with o a u s l f i y n ≡ data_with p b x t m g j z k
     parts o p a b u x s t l m f g i j y z n k e1 e2 e3 e4 e5 e6 e7 e8 e9 =
         ap (λ (q : Order). data_with q a u s l f i y n) e1
@@ -297,10 +315,10 @@ data-alike v w order all =
         ∙ ap (λ (q : List UnitSection). data_with p b q s l f i y n) e3
         ∙ ap (λ (q : Located). data_with p b x q l f i y n) e4
         ∙ ap (λ (q : Located). data_with p b x t q f i y n) e5
-        ∙ ap (λ (q : Located). data_with p b x t m q i y n) e6
-        ∙ ap (λ (q : Located). data_with p b x t m g q y n) e7
+        ∙ ap (λ (q : CellSection). data_with p b x t m q i y n) e6
+        ∙ ap (λ (q : CellSection). data_with p b x t m g q y n) e7
         ∙ ap (λ (q : List CellSection). data_with p b x t m g j q n) e8
-        ∙ ap (λ (q : Located). data_with p b x t m g j z q) e9
+        ∙ ap (λ (q : CellSection). data_with p b x t m g j z q) e9
 
 -- the sections that are meant as they stand
 record Meant (new old : ViewSection) : Type 0 where

@@ -7,7 +7,10 @@ use Rattle.dw_base.specs.AbbreviationBytes.{TablePlace, code_next, tag_next, fla
 use Rattle.dw_base.specs.AbbreviationFails.{SpecFails, name_passes, form_passes, no_name, no_form, number_passes, DeclarationFails, code_passes, tag_passes, flag_passes, other_flag, spec, twice, AbbreviationFails, declaration}
 use Rattle.dw_base.specs.AbbreviationTables.{Abbreviation, abbreviation_of, SpellsSpecs, IsTable}
 use Rattle.dw_base.specs.Lebs.{uleb_at}
+use Rattle.dw_base.specs.UnitHeaders.{UnitBase}
+use Rattle.dw_base.specs.UnitTables.{IsUnitTable, UnitTableFails, other_section, table_fails}
 use Rattle.dw_base.specs.declared.fault.Refusal.{Refusal}
+use Rattle.dw_base.specs.declared.units.UnitHeader.{UnitHeader}
 use Rattle.dw_base.specs.declared.values.Spec.{Spec}
 use Rattle.dw_base.specs.declared.dwarf_numbers.TheConstants.{DW_FORM_implicit_const}
 use Rattle.dw_base.proofs.AbbreviationLaws.{from, pair-read, specs-read, and_specs, head-read, declares-read, table-read, code-some}
@@ -125,3 +128,9 @@ table-excludes bytes section start list r t (declaration before at d f) =
     let breaks : Breaks (at_place code_next []) (drop start bytes) =
     carried _ _ (declares-read bytes start before at d) (declaration-breaks before bytes at f) in
     breaks (ap (λ (s : TableState). s.place) (table-read bytes start list t))
+
+-- nor a unit's
+pub unit_table-excludes : (base : UnitBase) (h : UnitHeader) (list : List Abbreviation) (r : Refusal) → IsUnitTable base h list
+    → UnitTableFails base h r → ⊥
+unit_table-excludes base h list r t (other_section e) = let here = t.here in absurd cc
+unit_table-excludes base h list r t (table_fails f) = table-excludes base.abbrevs.bytes base.abbrevs.number h.abbrevs list r t.is f

@@ -57,10 +57,12 @@ pub mod SectionRelocationLaws
 pub mod RelocationFieldLaws
 pub mod RelocationSectionLaws
 pub mod ViewCellLaws
+pub mod ViewOffsetLaws
 pub mod RelocationTieLaws
 pub mod OffsetPutLaws
 pub mod RelocationRowLaws
-pub mod CellLineLaws
+pub mod LineFieldLaws
+pub mod OperationLaws
 pub mod RelocationBodyLaws
 pub mod MacroRowLaws
 pub mod WorkedMacroUnits

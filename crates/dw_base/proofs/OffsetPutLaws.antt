@@ -11,7 +11,7 @@ use Rattle.dw_base.specs.Numbers.{number_bytes, spelled}
 use Rattle.dw_base.specs.Relocs.{word_width}
 use Rattle.dw_base.specs.declared.shared.Class.{Class}
 use Rattle.dw_base.specs.declared.shared.Class.TheVariants.{C32, C64}
-use Rattle.dw_base.specs.TextChanges.{by_addend, moved_addend, moved_relocation, symbol_value, with_offset, with_offset_by, with_relocation}
+use Rattle.dw_base.specs.NewOffsets.{by_addend, moved_addend, moved_relocation, symbol_value, with_offset, with_offset_by, with_relocation}
 use Rattle.dw_base.specs.declared.shared.Order.{Order}
 use Rattle.dw_base.specs.declared.view_fields.Field.TheVariants.{Into}
 use Rattle.dw_base.proofs.NumberLaws.{length-number_bytes, spelled-number_bytes}

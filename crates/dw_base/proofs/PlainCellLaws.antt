@@ -3,7 +3,7 @@ use Rattle.std.proofs.Common.{suc, ◌≡◌, ℕ, ◌^◌, ◌<◌, ◌≤◌, 
 use Rattle.std.proofs.lemmas.List.{append-nil, drop_all}
 use Rattle.dw_base.specs.Cells.{Cell, Relocation, Located, bytes_of, plain_cells, with_bytes, first_relocation, field_of, offset_of}
 use Rattle.dw_base.specs.Numbers.{spelled, number_bytes}
-use Rattle.dw_base.specs.TextChanges.{with_offset_by, with_offset}
+use Rattle.dw_base.specs.NewOffsets.{with_offset_by, with_offset}
 use Rattle.dw_base.specs.declared.shared.Order.{Order}
 use Rattle.dw_base.proofs.NumberLaws.{length-number_bytes, spelled-number_bytes}
 use Rattle.dw_base.proofs.UnitEditLaws.{length-bytes_of}

@@ -1,12 +1,15 @@
 -- Laws of a view's sections as cells: their bytes are the sections', fields read by the relocations that begin in them, and none begins there
 -- yet. What goes by `view_cells-plain` is what relocations change.
-use Rattle.std.proofs.Common.{◌≡◌, ℕ, ◌+◌, ◌<◌, ◌≤◌, zero, suc, Bool, true, false, if◌then◌else◌, List, [], ◌∷◌, ◌++◌, length, take, drop, Option, None, refl, sym, ap, ◌∙◌, arith}
+use Rattle.std.proofs.Common.{◌≡◌, ℕ, ◌+◌, ◌<◌, ◌≤◌, zero, suc, Bool, true, false, if◌then◌else◌, List, [], ◌∷◌, ◌++◌, length, take, drop, Option, None, Some, refl, sym, ap, ◌∙◌, arith}
 use Rattle.std.specs.Prelude.{Ok, is_some}
 use Rattle.std.proofs.lemmas.List.{drop-drop}
-use Rattle.dw_base.specs.Cells.{Cell, Located, Relocation, address_by, bytes_of, cells_at, field_by, field_of, offset_into, offset_of, plain_cells}
-use Rattle.dw_base.specs.FileViews.{Contents, View, ViewSection, address_at, bytes_in, cells_of, contents_in, field_at, field_read, kind_at, partly_in, section_bytes, view_cells}
+use Rattle.dw_base.specs.Cells.{Cell, Located, Relocation, address_by, bytes_of, cells_at, field_by, field_of, located_cells, offset_into, offset_of, plain_cells}
+use Rattle.dw_base.specs.DebugSections.{name_of}
+use Rattle.dw_base.specs.FileViews.{Contents, View, ViewSection, address_at, bytes_in, cells_of, contents_in, field_at, field_read, kind_at, partly_in, section_bytes, section_named, view_cells}
 use Rattle.dw_base.specs.Numbers.{spelled}
 use Rattle.dw_base.specs.RelocationFields.{field_unless, partly_at, relocation_at}
+use Rattle.dw_base.specs.ViewData.{cells_located, debug_data, located, located_at}
+use Rattle.dw_base.specs.declared.debug_sections.DebugSection.TheVariants.{Line, Names, StrOffsets}
 use Rattle.dw_base.specs.declared.view_fields.Field.TheVariants.{Num}
 use Rattle.dw_base.proofs.PlainCellLaws.{IsPlain, bytes_of-plain, length-plain_cells, plain_cells-plain}
 use Rattle.dw_base.proofs.RelocationFieldLaws.{field_of-cells_at, partly-plain, relocation_at-plain}
@@ -35,6 +38,29 @@ view_cells-there v i s rest there = ap (λ (c : Contents). plain_cells (bytes_in
     among [] (suc k) e = absurd cc
     among (x ∷ xs) zero e = let same : x ≡ s = head e in ap (λ (y : ViewSection). y.contents) same
     among (x ∷ xs) (suc k) e = among xs k e
+
+-- a section that is read as pieces is one that offsets are of
+pub located-cells : (v : View) (o : Option ℕ) → located_cells (cells_located v o) ≡ located_at v o
+located-cells v None = refl
+located-cells v (Some i) = ap (λ (bs : List ℕ). record { number = i; bytes = bs }) (bytes_of-view_cells v i)
+
+pub number-cells : (v : View) (o : Option ℕ) → (cells_located v o).number ≡ (located_at v o).number
+number-cells v o = ap (λ (z : Located). z.number) (located-cells v o)
+
+pub bytes-cells : (v : View) (o : Option ℕ) → bytes_of (cells_located v o).contents ≡ (located_at v o).bytes
+bytes-cells v o = ap (λ (z : Located). z.bytes) (located-cells v o)
+
+pub offsets-located : (v : View) → located_cells (debug_data v).offsets ≡ located v StrOffsets
+unfolding debug_data located
+offsets-located v = located-cells v (section_named v (name_of StrOffsets))
+
+pub lines-located : (v : View) → located_cells (debug_data v).lines ≡ located v Line
+unfolding debug_data located
+lines-located v = located-cells v (section_named v (name_of Line))
+
+pub names-located : (v : View) → located_cells (debug_data v).names ≡ located v Names
+unfolding debug_data located
+names-located v = located-cells v (section_named v (name_of Names))
 
 -- a field by the relocation that begins at it,
 pub field_at-by : (v : View) (i place n : ℕ)
@@ -93,6 +119,19 @@ partly_in-none v i place n = by_kind (is_some (kind_at v i))
 pub field_read-is : (v : View) (i place n : ℕ) → field_read v i place n ≡ Ok (field_at v i place n)
 unfolding field_read
 field_read-is v i place n = ap (λ (o : Option ℕ). field_unless o i (field_at v i place n)) (partly_in-none v i place n)
+
+-- a field that is read, and an address, by the cells
+pub field_read-by : (v : View) (i place n : ℕ) → field_read v i place n
+    ≡ field_unless (if is_some (kind_at v i) then partly_at (view_cells v i) place n else None) i
+    (field_by (relocation_at (view_cells v i) place) n (spelled v.order (section_bytes v i) place n))
+unfolding field_read partly_in
+field_read-by v i place n =
+    ap (field_unless (if is_some (kind_at v i) then partly_at (view_cells v i) place n else None) i) (field_at-by v i place n)
+
+pub address_at-by : (v : View) (i place n : ℕ)
+    → address_at v i place n ≡ address_by (relocation_at (view_cells v i) place) (spelled v.order (section_bytes v i) place n)
+unfolding address_at
+address_at-by v i place n = refl
 
 -- an address is its number
 pub address_at-is : (v : View) (i place n : ℕ) → address_at v i place n ≡ Num (spelled v.order (section_bytes v i) place n)

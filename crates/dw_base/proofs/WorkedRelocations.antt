@@ -18,7 +18,7 @@ use Rattle.dw_base.specs.DebugSections.{debug_section}
 use Rattle.dw_base.specs.Texts.{text_in}
 use Rattle.dw_base.specs.SectionRelocations.{PlacedRelocation, RelocationSource, cells_from, extends, is_none_type, is_symbol_table, records_in, relocates, relocation_of, relocation_section, relocation_source, relocations_in, relocations_of, section_cells}
 use Rattle.dw_base.specs.Symbols.{symbol_at}
-use Rattle.dw_base.specs.TextChanges.{with_offset}
+use Rattle.dw_base.specs.NewOffsets.{with_offset}
 use Rattle.dw_base.specs.declared.fault.Kind.TheVariants.{Relocation as RelocationKind}
 use Rattle.dw_base.specs.declared.fault.Refusal.{Refusal}
 use Rattle.dw_base.specs.declared.shared.Class.{Class}

@@ -1,5 +1,5 @@
 -- The contents of a section as cells: a byte, and the relocation that begins there (gABI ch. 4 "Relocation").
-use Rattle.std.specs.Prelude.{Bool, true, false, negsuc, ℕ, ◌^◌, ◌%◌, ◌==◌, if◌then◌else◌, List, [], ◌∷◌, length, take, drop, Option, Some, None, pos, ℤ, ◌+ℤ◌, ◌-◌}
+use Rattle.std.specs.Prelude.{Bool, true, false, not, negsuc, ℕ, ◌^◌, ◌%◌, ◌==◌, if◌then◌else◌, List, [], ◌∷◌, length, take, drop, Option, Some, None, pos, ℤ, ◌+ℤ◌, ◌-◌}
 use Rattle.std.specs.Int.{w64, cast_signed}
 use Rattle.dw_base.specs.Numbers.{spelled}
 use Rattle.dw_base.specs.declared.shared.Class.{Class}
@@ -106,6 +106,18 @@ abbrev pub offset_into : Located → Field → ℕ
 offset_into z (Num n) = n
 offset_into z (Into s n) = if s == z.number then n else length z.bytes
 offset_into z (Sym s k a) = length z.bytes
+
+-- the offset that a field says, into whatever section: none where a symbol has no place
+abbrev pub said_offset : Field → ℕ
+said_offset (Num n) = n
+said_offset (Into s n) = n
+said_offset (Sym s k a) = 0
+
+-- a field holds no offset into a section: a relocation makes one into another of it, or one that has no place
+abbrev pub is_elsewhere : Located → Field → Bool
+is_elsewhere z (Num n) = false
+is_elsewhere z (Into s n) = not (s == z.number)
+is_elsewhere z (Sym s k a) = true
 
 unfoldable pub offset_of : Order → Located → List Cell → ℕ
 offset_of order z p = offset_into z (field_of order p)

@@ -95,13 +95,14 @@ pub record Lasting : Type 0 where
   pub macros : MacroPlaces
 
 -- what stands around a section that its values refer to: that, the tables of texts, the texts of the slots, and the section of line
--- tables with their starts
+-- tables, its cells, and their starts
 pub record Around : Type 0 where
   pub lasting : Lasting
   pub str : Located
   pub line_str : Located
   pub slots : List (List ℕ)
   pub lines : Located
+  pub line_cells : List Cell
   pub starts : List ℕ
 
 -- what line tables are read from
@@ -109,7 +110,9 @@ abbrev pub source_around : Around → LineSource
 source_around around = record {
   order = around.lasting.base.order;
   number = around.lines.number;
+  is_read = true;
   bytes = around.lines.bytes;
+  cells = around.line_cells;
   str = around.str;
   line_str = around.line_str;
 }
@@ -175,6 +178,7 @@ around_of d r = record {
   line_str = d.line_str;
   slots = slot_texts d.base.order d.str r.offsets;
   lines = located_cells d.lines;
+  line_cells = d.lines.contents;
   starts = table_starts r.lines;
 }
 
@@ -183,7 +187,9 @@ abbrev pub line_source : DebugData → LineSource
 line_source d = record {
   order = d.base.order;
   number = d.lines.number;
+  is_read = true;
   bytes = (located_cells d.lines).bytes;
+  cells = d.lines.contents;
   str = d.str;
   line_str = d.line_str;
 }

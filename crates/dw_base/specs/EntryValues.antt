@@ -1,11 +1,12 @@
 -- The values that stand in a unit, each with its attribute and its entry, and the units of debug data with their tables.
 use Rattle.std.specs.Prelude.{◌≡◌, ◌≢◌, ℕ, ◌+◌, List, ◌∷◌, ◌++◌, length, take, Some}
-use Rattle.dw_base.specs.AbbreviationTables.{Abbreviation, abbreviation_of, IsTable}
+use Rattle.dw_base.specs.AbbreviationTables.{Abbreviation, abbreviation_of}
 use Rattle.dw_base.specs.Cells.{bytes_of}
 use Rattle.dw_base.specs.DebugData.{DebugData}
 use Rattle.dw_base.specs.EntryScans.{SpellsValues, Scans}
 use Rattle.dw_base.specs.Lebs.{uleb_at}
 use Rattle.dw_base.specs.UnitHeaders.{UnitSection, IsUnit, UnitsUpTo}
+use Rattle.dw_base.specs.UnitTables.{IsUnitTable}
 use Rattle.dw_base.specs.Values.{value_at}
 use Rattle.dw_base.specs.declared.units.Scanned.{Scanned}
 use Rattle.dw_base.specs.declared.units.UnitHeader.{UnitHeader}
@@ -25,7 +26,7 @@ pub record HasUnit (d : DebugData) (z : UnitSection) (h : UnitHeader) : Type 0 w
 -- and its abbreviations
 pub record HasTable (d : DebugData) (z : UnitSection) (h : UnitHeader) (table : List Abbreviation) : Type 0 where
   pub unit : HasUnit d z h
-  pub declares : IsTable d.base.abbrevs.bytes h.abbrevs table
+  pub declares : IsUnitTable d.base h table
 
 -- the bytes of a section up to the end of a unit
 abbrev pub bytes_up_to : UnitSection → UnitHeader → List ℕ

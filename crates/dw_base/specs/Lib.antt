@@ -23,6 +23,7 @@ pub mod Cells
 pub mod Pieces
 pub mod UnitHeaders
 pub mod UnitFails
+pub mod UnitTables
 pub mod EntryScans
 pub mod AbbreviationBytes
 pub mod UnitStates
@@ -37,9 +38,11 @@ pub mod ValueMeanings
 pub mod Forests
 pub mod UnitMeanings
 pub mod MappedUnits
+pub mod NewOffsets
 pub mod TextChanges
 pub mod EntryValues
 pub mod ViewData
+pub mod ViewOffsets
 pub mod StringOffsets
 pub mod StringOffsetFails
 pub mod NameTables
@@ -81,7 +84,6 @@ pub mod SectionRelocations
 pub mod RelocationFields
 pub mod RelocationSectionFails
 pub mod RelocationRows
-pub mod CellLines
 pub mod RelocationBodies
 pub mod LineFields
 pub mod MacroOperations

@@ -1,6 +1,7 @@
 -- What line tables mean (DWARF 5, 6.2): the numbers of their headers, their directories and files with texts in place of offsets, their
 -- programs, and the rows that these give.
 use Rattle.std.specs.Prelude.{Bool, true, false, ℕ, zero, suc, ◌+◌, ◌-◌, ◌==◌, ◌&&◌, not, if◌then◌else◌, List, [], ◌∷◌, ◌++◌, take, drop, map, Option, Some, None, Result, Ok, Err}
+use Rattle.dw_base.specs.Cells.{Cell}
 use Rattle.dw_base.specs.Lebs.{uleb_at}
 use Rattle.dw_base.specs.LineEntries.{column_at, entry_at, entries_at}
 use Rattle.dw_base.specs.LineFormats.{format_at}
@@ -8,10 +9,10 @@ use Rattle.dw_base.specs.LineOperations.{operations}
 use Rattle.dw_base.specs.LineReadings.{LineReading}
 use Rattle.dw_base.specs.LineRegisters.{start_registers, rows_of}
 use Rattle.dw_base.specs.LineSources.{LineSource}
-use Rattle.dw_base.specs.LineTables.{table_bytes}
+use Rattle.dw_base.specs.LineTables.{table_bytes, table_cells}
 use Rattle.dw_base.specs.Paths.{PathMap, mapped_path}
 use Rattle.dw_base.specs.UnitStates.{read_value}
-use Rattle.dw_base.specs.WrittenLines.{part, length_size, header_length_place, behind_lengths}
+use Rattle.dw_base.specs.WrittenLines.{cells_part, part, length_size, header_length_place, behind_lengths}
 use Rattle.dw_base.specs.declared.dwarf_numbers.TheConstants.{DW_FORM_data16, DW_FORM_block}
 use Rattle.dw_base.specs.declared.fault.Refusal.{Refusal}
 use Rattle.dw_base.specs.declared.line_numbers.TheConstants.{DW_LNCT_path, DW_LNCT_directory_index, DW_LNCT_timestamp, DW_LNCT_size}
@@ -209,11 +210,11 @@ line_params order h = record {
 }
 
 -- the rows that a program gives, with these numbers and counts of operands
-abbrev pub program_rows : LineParams → List ℕ → List ℕ → List Row
+abbrev pub program_rows : LineParams → List ℕ → List Cell → List Row
 program_rows p counts program = rows_of p (start_registers p) (operations p counts program)
 
 -- a line table: version and width; the sizes of addresses and of segment selectors, in version 5 alone, and the numbers behind the length
--- of the header up to the counts of operands, one byte each; its directories and files; the bytes between these and the program; the
+-- of the header up to the counts of operands, one byte each; its directories and files; the cells between these and the program; the
 -- program, and its rows
 pub record LineMeaning : Type 0 where
   pub version : ℕ
@@ -222,14 +223,15 @@ pub record LineMeaning : Type 0 where
   pub numbers : List ℕ
   pub dirs : List LineEntry
   pub files : List LineEntry
-  pub gap : List ℕ
-  pub program : List ℕ
+  pub gap : List Cell
+  pub program : List Cell
   pub rows : List ShownRow
 
 abbrev pub line_meaning : LineSource → LineReading → LineMeaning
 line_meaning g r =
     let h : LineHeader = r.header in
     let table : List ℕ = table_bytes g r.header in
+    let cells : List Cell = table_cells g r.header in
     record {
       version = h.version;
       width = h.width;
@@ -237,10 +239,10 @@ line_meaning g r =
       numbers = part table (behind_lengths h.start h.width h.version) h.lists;
       dirs = entries_with (dir_texts g r.dirs) (dir_columns g r);
       files = entries_with (map file_path (file_texts g r.files)) (file_columns g r);
-      gap = part table r.behind h.program;
-      program = drop h.program table;
+      gap = cells_part cells r.behind h.program;
+      program = drop h.program cells;
       rows = shown_rows h.version (dir_texts g r.dirs) (file_texts g r.files ++ file_texts g r.defined)
-          (program_rows (line_params g.order h) (part table h.operands h.lists) (drop h.program table));
+          (program_rows (line_params g.order h) (part table h.operands h.lists) (drop h.program cells));
     }
 
 abbrev pub line_meanings : LineSource → List LineReading → List LineMeaning

@@ -1,6 +1,7 @@
 -- Line tables of DWARF 2 to 5 (DWARF 5, 6.2.4; for versions 2 to 4 the standards' own): their numbers, directories and files,
 -- and the files that their programs define.
 use Rattle.std.specs.Prelude.{Bool, ◌≡◌, ◌≢◌, ℕ, ℤ, ◌≤◌, List, [], map, take, Some, Ok}
+use Rattle.dw_base.specs.Cells.{Cell}
 use Rattle.dw_base.specs.LineSources.{LineSource}
 use Rattle.dw_base.specs.declared.shared.Width.{Width}
 use Rattle.dw_base.specs.declared.line_tables.TextPlace.{TextPlace}
@@ -56,6 +57,10 @@ table_with section h dirs files defined = record {
 -- the bytes of a section up to the end of a table
 abbrev pub table_bytes : LineSource → LineHeader → List ℕ
 table_bytes g h = take h.end g.bytes
+
+-- and its cells
+abbrev pub table_cells : LineSource → LineHeader → List Cell
+table_cells g h = take h.end g.cells
 
 -- the texts of entries
 abbrev pub texts_of : List FilePlace → List TextPlace

@@ -1,54 +1,21 @@
 -- The texts that pieces of units name, and what becomes of the pieces when the tables of texts change. The offset in a field
 -- is read and written by words of their own.
-use Rattle.std.specs.Prelude.{Bool, ℕ, List, [], ◌∷◌, ◌++◌, length, get_or, if◌then◌else◌, IsTrue, ⊤, Option, Some, None, ◌==◌, pos, ℤ, ◌+ℤ◌, ◌-ℤ◌}
-use Rattle.std.specs.Int.{cast_signed}
-use Rattle.dw_base.specs.Cells.{Cell, Relocation, bytes_of, with_bytes, first_relocation, offset_of, wrapped}
+use Rattle.std.specs.Prelude.{Bool, ℕ, List, [], ◌∷◌, ◌++◌, get_or, if◌then◌else◌, IsTrue, ⊤, Option, Some, None}
+use Rattle.dw_base.specs.Cells.{Cell, bytes_of, with_bytes, offset_of}
 use Rattle.dw_base.specs.DebugData.{Around, line_table, table_of}
-use Rattle.dw_base.specs.Elf.{word_size}
 use Rattle.dw_base.specs.Readings.{Readings}
 use Rattle.dw_base.specs.Forms.{TextSection, in_str, in_line_str}
 use Rattle.dw_base.specs.InlinePaths.{inline_fits, mapped_inline}
-use Rattle.dw_base.specs.Numbers.{number_bytes}
+use Rattle.dw_base.specs.NewOffsets.{with_offset}
 use Rattle.dw_base.specs.Paths.{PathMap}
 use Rattle.dw_base.specs.Pieces.{Piece}
 use Rattle.dw_base.specs.LineMeanings.{is_there}
 use Rattle.dw_base.specs.LineReadings.{starts_from}
-use Rattle.dw_base.specs.Relocs.{word_width}
 use Rattle.dw_base.specs.Roles.{Role, fixed, offset, inline_path, line_start, role_of}
 use Rattle.dw_base.specs.StringTables.{Mention, Plan, new_place}
 use Rattle.dw_base.specs.Texts.{text, text_in, ends_in}
 use Rattle.dw_base.specs.UnitStates.{UnitState}
 use Rattle.dw_base.specs.declared.shared.Order.{Order}
-
--- the value of the symbol of a relocation, 0 where it isn't defined
-abbrev pub symbol_value : Option (ℕ × ℕ) → ℕ
-symbol_value None = 0
-symbol_value (Some t) = t.1
-
--- the addend that makes the field of a relocation the offset n, as a signed word of the class
-abbrev pub moved_addend : Relocation → ℕ → ℤ
-moved_addend r n = cast_signed (word_width r.class) (wrapped (pos n -ℤ pos (symbol_value r.target)) (word_size r.class))
-
-abbrev pub moved_relocation : Relocation → ℕ → Relocation
-moved_relocation r n = record r { addend = Some (moved_addend r n) }
-
-abbrev pub with_relocation : List Cell → Relocation → List Cell
-with_relocation [] r = []
-with_relocation (c ∷ cs) r = record c { relocation = Some r } ∷ cs
-
--- a field of the same size with another offset: without a relocation its bytes spell it; with one the addend of its record
--- makes it, or where that has none the number in the field (gABI ch. 4 "Relocation"). A record that makes it already stays.
-abbrev pub by_addend : Option ℤ → Order → Relocation → List Cell → ℕ → List Cell
-by_addend None order r p n = with_bytes p (number_bytes order (length p) (wrapped (pos n -ℤ pos (symbol_value r.target)) (length p)))
-by_addend (Some a) order r p n =
-    if wrapped (pos (symbol_value r.target) +ℤ a) (length p) == n then p else with_relocation p (moved_relocation r n)
-
-abbrev pub with_offset_by : Option Relocation → Order → List Cell → ℕ → List Cell
-with_offset_by None order p n = with_bytes p (number_bytes order (length p) n)
-with_offset_by (Some r) order p n = by_addend r.addend order r p n
-
-unfoldable pub with_offset : Order → List Cell → ℕ → List Cell
-with_offset order p n = with_offset_by (first_relocation p) order p n
 
 -- the offset that a field holds into a table
 abbrev pub offset_in : Around → TextSection → List Cell → ℕ

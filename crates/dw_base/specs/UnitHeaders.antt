@@ -1,6 +1,6 @@
 -- The headers of units (DWARF 5, 7.5.1; for versions 2 to 4 the standards' own 7.5.1), and the units of a section.
 use Rattle.std.specs.Prelude.{Bool, false, ◌≡◌, ℕ, ◌+◌, ◌≤◌, ◌==◌, ◌&&◌, ◌||◌, nat_le, if◌then◌else◌, List, [], ◌∷◌, ◌++◌, length, drop, Option, Some, None}
-use Rattle.dw_base.specs.Cells.{Cell, Located, bytes_of, cells_at, offset_of}
+use Rattle.dw_base.specs.Cells.{Cell, Located, bytes_of, cells_at, field_of, is_elsewhere, said_offset}
 use Rattle.dw_base.specs.Forms.{width_size}
 use Rattle.dw_base.specs.Lebs.{initial_length_at}
 use Rattle.dw_base.specs.Numbers.{spelled}
@@ -79,7 +79,8 @@ header_with base section start p width extent version kind places = record {
   end = start + extent;
   params = record { order = base.order; width = width; version = version; address = spelled base.order (bytes_of p) places.address 1 };
   kind = kind;
-  abbrevs = offset_of base.order base.abbrevs (cells_at p places.abbrevs (width_size width));
+  abbrevs = said_offset (field_of base.order (cells_at p places.abbrevs (width_size width)));
+  elsewhere = is_elsewhere base.abbrevs (field_of base.order (cells_at p places.abbrevs (width_size width)));
   signature = if kind == DW_UT_type then spelled base.order (bytes_of p) places.behind 8 else 0;
   type_offset = if kind == DW_UT_type then spelled base.order (bytes_of p) (places.behind + 8) (width_size width) else 0;
   first = start + places.behind + further_size width kind;

@@ -1,13 +1,14 @@
 -- A unit section as pieces (DWARF 5, 7.5.1 to 7.5.6): which cells fit as a header, an entry's code or a value.
 use Rattle.std.specs.Prelude.{Bool, false, ◌≡◌, ◌≢◌, ℕ, ◌+◌, ◌≤◌, not, List, [], ◌∷◌, length, Option, Some, None, IsTrue}
 use Rattle.dw_base.specs.AbbreviationBytes.{abbreviations_at}
-use Rattle.dw_base.specs.AbbreviationTables.{Abbreviation, abbreviation_of, IsTable}
+use Rattle.dw_base.specs.AbbreviationTables.{Abbreviation, abbreviation_of}
 use Rattle.dw_base.specs.Cells.{Cell, bytes_of}
 use Rattle.dw_base.specs.EntryScans.{is_split_root}
 use Rattle.dw_base.specs.Forms.{ValueKind, in_abbreviation, form_in_front, kind_in}
 use Rattle.dw_base.specs.Lebs.{uleb_at}
 use Rattle.dw_base.specs.Pieces.{Grammar, Piece, Chain, joined}
 use Rattle.dw_base.specs.UnitHeaders.{UnitBase, UnitSection, is_split_type}
+use Rattle.dw_base.specs.UnitTables.{IsUnitTable}
 use Rattle.dw_base.specs.Values.{value_of}
 use Rattle.dw_base.specs.declared.units.UnitHeader.{UnitHeader}
 use Rattle.dw_base.specs.declared.values.Spec.{Spec}
@@ -21,7 +22,7 @@ pub record IsHeader (base : UnitBase) (s : UnitState) (p : List Cell) : Type 0 w
   pub size : s.place + length p ≡ header.first
   pub own : is_split_type header.kind ≡ false
   pub within : header.end ≤ s.whole
-  pub table : IsTable base.abbrevs.bytes header.abbrevs (abbreviations_at base.abbrevs.bytes header.abbrevs)
+  pub table : IsUnitTable base header (abbreviations_at base.abbrevs.bytes header.abbrevs)
 
 -- an entry of an abbreviation may stand there: it has one, and isn't the first entry of a unit of split DWARF
 abbrev pub may_stand : ℕ → Option Abbreviation → Bool

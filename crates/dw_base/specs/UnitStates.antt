@@ -1,6 +1,6 @@
 -- The places between the pieces of a unit section, and which piece leads from one to the next (DWARF 5, 7.5.1 to 7.5.6): a
 -- header, then entries, each a code and its values.
-use Rattle.std.specs.Prelude.{ℕ, ◌+◌, ◌-◌, ◌==◌, if◌then◌else◌, List, [], ◌∷◌, length, Option, Some, None}
+use Rattle.std.specs.Prelude.{false, ℕ, ◌+◌, ◌-◌, ◌==◌, if◌then◌else◌, List, [], ◌∷◌, length, Option, Some, None}
 use Rattle.dw_base.specs.AbbreviationBytes.{abbreviations_at}
 use Rattle.dw_base.specs.AbbreviationTables.{Abbreviation, abbreviation_of}
 use Rattle.dw_base.specs.Cells.{Cell, bytes_of}
@@ -45,6 +45,7 @@ no_header = record {
   params = record { order = Little; width = W32; version = 0; address = 0 };
   kind = 0;
   abbrevs = 0;
+  elsewhere = false;
   signature = 0;
   type_offset = 0;
   first = 0;

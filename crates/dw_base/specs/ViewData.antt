@@ -4,7 +4,7 @@ use Rattle.std.specs.Prelude.{Bool, ℕ, zero, suc, ◌||◌, ◌&&◌, not, if�
 use Rattle.dw_base.specs.Cells.{Cell, Located, CellSection, plain_cells}
 use Rattle.dw_base.specs.DebugData.{DebugData, DataReadings, around_of, line_source}
 use Rattle.dw_base.specs.DebugSections.{debug_section, name_of}
-use Rattle.dw_base.specs.FileViews.{Contents, plain_contents, bytes_in, cells_of, ViewSection, View, section_bytes, section_named}
+use Rattle.dw_base.specs.FileViews.{Contents, plain_contents, bytes_in, cells_of, ViewSection, View, section_bytes, section_named, view_cells}
 use Rattle.dw_base.specs.LineMeanings.{LineMeaning, line_meanings, mapped_lines}
 use Rattle.dw_base.specs.MacroMeanings.{MacroMeaning, macro_meanings}
 use Rattle.dw_base.specs.MappedSlots.{unit_slots, mapped_slots}
@@ -76,8 +76,9 @@ abbrev pub string_offsets : View → Located
 string_offsets v = located v StrOffsets
 
 -- a section of the view that is read as pieces: number 0 and no contents where there is none
-abbrev pub cell_section : Located → CellSection
-cell_section z = record { number = z.number; contents = plain_cells z.bytes }
+abbrev pub cells_located : View → Option ℕ → CellSection
+cells_located v None = record { number = 0; contents = [] }
+cells_located v (Some i) = record { number = i; contents = view_cells v i }
 
 -- the debug data of a view
 unfoldable pub debug_data : View → DebugData
@@ -86,10 +87,10 @@ debug_data v = record {
   units = unit_sections v;
   str = located v Str;
   line_str = located v LineStr;
-  offsets = cell_section (located v StrOffsets);
-  lines = cell_section (located v Line);
+  offsets = cells_located v (section_named v (name_of StrOffsets));
+  lines = cells_located v (section_named v (name_of Line));
   macros = macro_sections v;
-  names = cell_section (located v Names);
+  names = cells_located v (section_named v (name_of Names));
 }
 
 -- a section whose bytes are read: units, their abbreviations, the tables of texts, string offsets, line tables, macro units, and name

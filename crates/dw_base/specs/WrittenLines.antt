@@ -1,8 +1,10 @@
 -- The line table that an edit makes of one (DWARF 5, 6.2.4): its paths are mapped where they stand in it, the offsets of the others
 -- become those of their new texts, and both lengths are those of what follows them. All else is copied, the program too.
 use Rattle.std.specs.Prelude.{ℕ, ◌+◌, ◌-◌, ◌==◌, if◌then◌else◌, List, [], ◌∷◌, ◌++◌, length, take, drop, Option, Some, None}
+use Rattle.dw_base.specs.Cells.{Cell, bytes_of, cells_at}
 use Rattle.dw_base.specs.LineSources.{LineSource}
 use Rattle.dw_base.specs.Forms.{width_size}
+use Rattle.dw_base.specs.NewOffsets.{with_offset}
 use Rattle.dw_base.specs.Numbers.{number_bytes}
 use Rattle.dw_base.specs.Paths.{PathMap, mapped_path}
 use Rattle.dw_base.specs.declared.shared.Order.{Order}
@@ -15,6 +17,10 @@ use Rattle.dw_base.specs.LineTables.{LineTable, texts_of}
 -- the bytes from a place up to another
 abbrev pub part : List ℕ → ℕ → ℕ → List ℕ
 part bytes from end = take (end - from) (drop from bytes)
+
+-- the cells from a place up to another
+abbrev pub cells_part : List Cell → ℕ → ℕ → List Cell
+cells_part cells from end = take (end - from) (drop from cells)
 
 -- so many bytes at a place
 abbrev pub bytes_at : List ℕ → ℕ → ℕ → List ℕ
@@ -39,17 +45,22 @@ new_place g str line_str x = if x.section == g.str.number then str x.at else lin
 abbrev pub inline_change : PathMap → List ℕ → TextPlace → Change
 inline_change m bytes x = record { at = x.at; old = bytes_at bytes x.at x.len; new = mapped_path m (bytes_at bytes x.at x.len) }
 
--- the offset of another becomes that of its new text, where it has one
-abbrev pub offset_changes : Order → Width → List ℕ → ℕ → Option ℕ → List Change
-offset_changes order width bytes field None = []
-offset_changes order width bytes field (Some place) =
-    record { at = field; old = bytes_at bytes field (width_size width); new = number_bytes order (width_size width) place } ∷ []
+-- the offset of another becomes that of its new text, where it has one: its bytes, or the addend of its relocation
+abbrev pub offset_changes : Order → Width → List ℕ → List Cell → ℕ → Option ℕ → List Change
+offset_changes order width bytes cells field None = []
+offset_changes order width bytes cells field (Some place) =
+    record {
+      at = field;
+      old = bytes_at bytes field (width_size width);
+      new = bytes_of (with_offset order (cells_at cells field (width_size width)) place);
+    }
+    ∷ []
 
 -- what becomes of a path: it stands in the table where it is in the section of line tables
 abbrev pub path_changes : LineSource → PathMap → (TextPlace → Option ℕ) → Width → TextPlace → List Change
 path_changes g m places width x =
     if x.section == g.number then inline_change m g.bytes x ∷ []
-    else offset_changes g.order width g.bytes x.field (places x)
+    else offset_changes g.order width g.bytes g.cells x.field (places x)
 
 abbrev pub all_changes : LineSource → PathMap → (TextPlace → Option ℕ) → Width → List TextPlace → List Change
 all_changes g m places width [] = []

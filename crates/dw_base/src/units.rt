@@ -15,8 +15,10 @@ pub struct UnitHeader {
     pub params: Params,
     /// Its unit type, `DW_UT_..`; before version 5 `DW_UT_compile`, and in `.debug_types` `DW_UT_type`.
     pub kind: u8,
-    /// Where its abbreviations start in `.debug_abbrev`.
+    /// Where its abbreviations start in `.debug_abbrev`: the offset that its field says.
     pub abbrevs: u64,
+    /// That offset is one into another section, where no abbreviations stand.
+    pub elsewhere: bool,
     /// The signature of a type unit, else 0.
     pub signature: u64,
     /// The place of a type unit's type, in bytes from the unit's start, else 0.

@@ -1,5 +1,5 @@
 -- The header at a place of a section: what is read of it, and why there is none.
-use Rattle.std.proofs.Common.{Bool, true, false, ◌≡◌, ℕ, ◌+◌, ◌-◌, ◌≤◌, ◌<◌, ◌==◌, ◌&&◌, if◌then◌else◌, List, length, drop, Some, None, refl, sym, ap, ◌∙◌, subst, arith}
+use Rattle.std.proofs.Common.{Bool, true, false, ◌≡◌, ℕ, ◌+◌, ◌-◌, ◌≤◌, ◌<◌, ◌==◌, ◌&&◌, if◌then◌else◌, List, [], ◌∷◌, length, drop, Some, None, refl, sym, ap, ◌∙◌, subst, arith}
 use Rattle.std.specs.Prelude.{nat_le}
 use Rattle.std.proofs.lemmas.Bool.{eqb-true, le-leb, lt-leb}
 use Rattle.std.proofs.lemmas.List.{length-drop}
@@ -8,6 +8,7 @@ use Rattle.dw_base.specs.Forms.{width_size}
 use Rattle.dw_base.specs.Lebs.{initial_length_at}
 use Rattle.dw_base.specs.Numbers.{spelled}
 use Rattle.dw_base.specs.Refusals.{at}
+use Rattle.dw_base.specs.RelocationRows.{FieldPlace, OffsetFails, OffsetReads, field_place, header_field, offset_field}
 use Rattle.dw_base.specs.UnitFails.{bytes_from, HeaderFails, no_header, past, split}
 use Rattle.dw_base.specs.UnitHeaders.{UnitBase, UnitSection, SectionKind, in_info, in_types, HeaderPlaces, header_places, is_version, is_unit_type, is_split_type, is_address_size, old_unit_type, unit_type, further_size, header_with, is_header, header_if, header_of_version, header_of_length, unit_header, header_at, IsUnit}
 use Rattle.dw_base.specs.declared.fault.Kind.TheVariants.{Unit as UnitKind, SplitDwarf}
@@ -16,6 +17,7 @@ use Rattle.dw_base.specs.declared.shared.Width.{Width}
 use Rattle.dw_base.specs.declared.units.UnitHeader.{UnitHeader}
 use Rattle.dw_base.proofs.UnitEditLaws.{length-bytes_of}
 use Rattle.dw_entries.specs.Fronts.{HasFront}
+use Rattle.dw_entries.specs.HeaderRows.{IsOffsetOf, OffsetRead, UnitRefuses, offset}
 
 -- the header of a length that was read, before its test
 abbrev read_header : UnitBase → UnitSection → ℕ → Width → ℕ → ℕ → UnitHeader
@@ -176,6 +178,11 @@ is_split base z start width size front version kind known test r is e room v n k
         let yes_ : is_split_type kind ≡ true = sym t ∙ t_yes in
         absurd cc
 
+-- where the fields stand of which the first were read
+places-read : (base : UnitBase) (z : UnitSection) (start : ℕ) (width : Width) (extent version kind : ℕ) (places : HeaderPlaces)
+    → (f : HasFront base z start width extent version kind places) → header_places width (spelled base.order (bytes_from z start) f.at 2) f.at ≡ places
+places-read base z start width extent version kind places f = ap (λ (n : ℕ). header_places width n f.at) (sym f.version_is) ∙ sym f.places_are
+
 -- an address size that no unit has
 pub other_address : (base : UnitBase) (z : UnitSection) (start : ℕ) (width : Width) (extent version kind address : ℕ) (places : HeaderPlaces) (test : Bool) (r : Refusal)
     → r ≡ at UnitKind z.number start → HasFront base z start width extent version kind places
@@ -185,10 +192,6 @@ other_address base z start width extent version kind address places test r is f 
     (fails-address z.kind (drop start z.contents) (read_header base z start width f.size f.at)
     (ap (λ (p : HeaderPlaces). is_address_size (spelled base.order (bytes_from z start) p.address 1)) (places-read base z start width extent version kind places f)
     ∙ ap is_address_size (sym a) ∙ sym t ∙ no_))
-  where
-    places-read : (base : UnitBase) (z : UnitSection) (start : ℕ) (width : Width) (extent version kind : ℕ) (places : HeaderPlaces)
-        → (f : HasFront base z start width extent version kind places) → header_places width (spelled base.order (bytes_from z start) f.at 2) f.at ≡ places
-    places-read base z start width extent version kind places f = ap (λ (n : ℕ). header_places width n f.at) (sym f.version_is) ∙ sym f.places_are
 
 -- the header of the first fields that were read
 abbrev front_header : UnitBase → UnitSection → ℕ → Width → ℕ → ℕ → ℕ → HeaderPlaces → UnitHeader
@@ -232,3 +235,33 @@ unit-read base z start width extent version kind address places test h f inside 
       whole = ap is_split_type kind_is ∙ f.whole;
       within = omega (arith, ends, within, len, rest, inside);
     }
+
+-- the field of their offset of abbreviations
+offset-of : (base : UnitBase) (z : UnitSection) (start : ℕ) (width : Width) (extent version kind : ℕ) (places : HeaderPlaces)
+    → HasFront base z start width extent version kind places → IsOffsetOf base z start (field_place (start + places.abbrevs) (width_size width) offset_field)
+offset-of base z start width extent version kind places f =
+    ap (header_field base.order start (drop start z.contents)) f.length_is
+    ∙ ap (λ (p : HeaderPlaces). field_place (start + p.abbrevs) (width_size width) offset_field ∷ []) (places-read base z start width extent version kind places f)
+
+-- that was read
+pub unit-offset : (base : UnitBase) (z : UnitSection) (start : ℕ) (width : Width) (extent version kind : ℕ) (places : HeaderPlaces)
+    → HasFront base z start width extent version kind places
+    → OffsetReads base.order z.contents (field_place (start + places.abbrevs) (width_size width) offset_field) → OffsetRead base z start
+unit-offset base z start width extent version kind places f reads = record {
+  all = λ g there.
+      subst (OffsetReads base.order z.contents)
+      (one (field_place (start + places.abbrevs) (width_size width) offset_field) g (sym (offset-of base z start width extent version kind places f) ∙ there)) reads;
+}
+  where
+    one : (g h : FieldPlace) → g ∷ [] ≡ h ∷ [] → g ≡ h
+    one g h e = cc
+
+-- or can't be
+pub unit-refused : (base : UnitBase) (z : UnitSection) (start : ℕ) (width : Width) (extent version kind address : ℕ) (places : HeaderPlaces) (test : Bool) (r : Refusal)
+    → HasFront base z start width extent version kind places → start ≤ length z.contents
+    → address ≡ spelled base.order (bytes_from z start) places.address 1 → test ≡ is_address_size address → test ≡ true
+    → OffsetFails base.order z.number z.contents (field_place (start + places.abbrevs) (width_size width) offset_field) r → UnitRefuses base z start r
+unit-refused base z start width extent version kind address places test r f inside a t yes_ fails =
+    offset (front_header base z start width extent version kind places) (field_place (start + places.abbrevs) (width_size width) offset_field)
+    (unit-read base z start width extent version kind address places test (front_header base z start width extent version kind places) f inside a t yes_ refl)
+    (offset-of base z start width extent version kind places f) fails

@@ -5,6 +5,7 @@ pub mod WalkLaws
 pub mod StepLaws
 pub mod ScanLaws
 pub mod HeaderLaws
+pub mod HeaderRowLaws
 pub mod FrontLaws
 pub mod OffsetLaws
 pub mod UnitSectionLaws

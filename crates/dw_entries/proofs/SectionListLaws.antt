@@ -3,7 +3,6 @@ use Rattle.std.proofs.Common.{◌≡◌, ℕ, zero, suc, ◌+◌, ◌≤◌, ◌
 use Rattle.std.proofs.Math.Seq.{take-suc}
 use Rattle.std.proofs.lemmas.List.{map-append, take_all}
 use Rattle.dw_base.specs.FileViews.{View}
-use Rattle.dw_base.specs.UnitHeaders.{UnitSection}
 use Rattle.dw_base.specs.ViewData.{debug_data}
 use Rattle.dw_entries.specs.SectionOrder.{AreSections, EachSection}
 use Rattle.dw_entries.specs.ViewUnits.{IsUnitSection, unit_section_at}

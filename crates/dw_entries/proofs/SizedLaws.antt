@@ -1,10 +1,10 @@
 -- The values of attributes whose forms say their sizes stand one after another wherever so many bytes are left.
-use Rattle.std.proofs.Common.{◌≡◌, ℕ, ◌+◌, ◌≤◌, List, [], ◌∷◌, ◌++◌, length, Option, Some, None, refl, sym, ap, ◌∙◌, subst, arith}
+use Rattle.std.proofs.Common.{◌≡◌, ℕ, ◌+◌, ◌≤◌, List, [], ◌∷◌, ◌++◌, length, Option, Some, None, refl, sym, ◌∙◌, subst, arith}
 use Rattle.std.proofs.lemmas.Bool.{le-leb}
 use Rattle.std.proofs.lemmas.List.{append_assoc, append-nil}
 use Rattle.dw_base.specs.EntryScans.{SpellsValues, no_values, more_values}
 use Rattle.dw_base.specs.Forms.{kind_in}
-use Rattle.dw_base.specs.Values.{value_at, value_size}
+use Rattle.dw_base.specs.Values.{value_at}
 use Rattle.dw_base.specs.declared.shared.Params.{Params}
 use Rattle.dw_base.specs.declared.values.Spec.{Spec}
 use Rattle.dw_entries.specs.Passes.{HasSize}

@@ -1,5 +1,6 @@
 -- The unit section of a number is a section of the view: its name, its bytes, and where it is.
 use Rattle.std.proofs.Common.{Bool, true, false, ◌≡◌, ℕ, zero, suc, ◌+◌, ◌-◌, ◌≤◌, ◌<◌, ◌==◌, ◌&&◌, if◌then◌else◌, List, [], ◌∷◌, ◌++◌, length, drop, Option, Some, None, refl, sym, ap, ◌∙◌, arith}
+use Rattle.std.specs.Prelude.{is_some}
 use Rattle.std.proofs.lemmas.Bool.{eqb-true}
 use Rattle.std.proofs.lemmas.List.{drop-drop}
 use Rattle.dw_base.specs.DebugSections.{debug_section, name_of}
@@ -13,6 +14,7 @@ use Rattle.dw_base.proofs.DebugSectionLaws.{debug_section-name, debug_section-na
 use Rattle.dw_base.proofs.FileViewLaws.{section_after-within}
 use Rattle.dw_base.proofs.TextLaws.{same_text-true, same_text-refl}
 use Rattle.dw_base.proofs.ViewCellLaws.{view_cells-there}
+use Rattle.dw_base.proofs.ViewOffsetLaws.{kind_at-there}
 use Rattle.dw_entries.specs.Fronts.{IsOfView}
 use Rattle.dw_entries.specs.ViewUnits.{numbered, unit_section_at, IsUnitSection}
 
@@ -116,6 +118,11 @@ found-section v n z e =
       contents = p.placed.contents;
     }
 
+-- a section of units is read
+kind-read : (o : Option DebugSection) (kind : SectionKind) → unit_kind o ≡ Some kind → is_some o ≡ true
+kind-read None kind e = absurd cc
+kind-read (Some s) kind e = refl
+
 pub of-view : (v : View) (n : ℕ) (z : UnitSection) → numbered (unit_sections v) n ≡ Some z → IsOfView v n z
 of-view v n z e =
     let f = found-section v n z e in
@@ -123,6 +130,7 @@ of-view v n z e =
       there = drop-below v.sections n f.section f.rest f.there;
       number = f.number;
       contents = f.contents ∙ sym (view_cells-there v n f.section f.rest f.there);
+      read = ap (λ (o : Option DebugSection). is_some o) (kind_at-there v n f.section f.rest f.there) ∙ kind-read (debug_section f.section.name) z.kind f.kind;
     }
 
 pub is-of-view : (v : View) (n : ℕ) → IsUnitSection v n → IsOfView v n (unit_section_at v n)

@@ -4,7 +4,7 @@ use Rattle.dw_base.specs.FormFails.{FormFails}
 use Rattle.dw_base.specs.declared.fault.Refusal.{Refusal}
 use Rattle.dw_base.specs.declared.shared.Params.{Params}
 use Rattle.dw_base.specs.declared.values.Spec.{Spec}
-use Rattle.dw_entries.specs.ValueWalks.{WalkState, GivesFault}
+use Rattle.dw_entries.specs.ValueWalks.{GivesFault}
 
 -- a value that can't be read
 pub gives-fault : (params : Params) (section place : ℕ) (bytes : List ℕ) (left rest : List Spec) (x : Spec) (r : Refusal) → left ≡ x ∷ rest

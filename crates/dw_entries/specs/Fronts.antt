@@ -1,17 +1,18 @@
 -- What a view says of a unit section, and what stands at the front of a unit (DWARF 5, 7.5.1).
-use Rattle.std.specs.Prelude.{true, false, ◌≡◌, ℕ, ◌+◌, ◌<◌, ◌≤◌, length, Some}
-use Rattle.dw_base.specs.FileViews.{View, view_cells}
+use Rattle.std.specs.Prelude.{true, false, ◌≡◌, ℕ, ◌+◌, ◌<◌, ◌≤◌, length, Some, is_some}
+use Rattle.dw_base.specs.FileViews.{View, kind_at, view_cells}
 use Rattle.dw_base.specs.Lebs.{initial_length_at}
 use Rattle.dw_base.specs.Numbers.{spelled}
 use Rattle.dw_base.specs.UnitFails.{bytes_from}
 use Rattle.dw_base.specs.UnitHeaders.{UnitBase, UnitSection, HeaderPlaces, header_places, unit_type, further_size, is_version, is_unit_type, is_split_type}
 use Rattle.dw_base.specs.declared.shared.Width.{Width}
 
--- a unit section is the section of a number of a view
+-- a unit section is the section of a number of a view, and one that is read
 pub record IsOfView (v : View) (i : ℕ) (z : UnitSection) : Type 0 where
   pub there : i < length v.sections
   pub number : z.number ≡ i
   pub contents : z.contents ≡ view_cells v i
+  pub read : is_some (kind_at v i) ≡ true
 
 -- the first fields of a unit that starts at a place, from its length on; they and what follows them up to its first entry are
 -- in the unit, and it is in the section

@@ -2,5 +2,6 @@ pub mod Passes
 pub mod ScanStates
 pub mod ViewUnits
 pub mod Fronts
+pub mod HeaderRows
 pub mod ValueWalks
 pub mod SectionOrder

@@ -4,19 +4,19 @@
 //! This layer promises: the unit sections of a view are all that it has, in order; the units that are given fill their section, with the headers that stand there, in
 //! 32-bit and 64-bit DWARF of versions 2 to 5; the entries that a pass gives are those of the unit, in the
 //! order of their places, each with its depth; both are refused only where a unit or an entry can't be
-//! read, at its place. A pass takes no memory and doesn't recurse, and it ends without an error only where
+//! read, at its place, or where the offset of a unit's abbreviations can't, for its relocation. A pass takes no memory and doesn't recurse, and it ends without an error only where
 //! all lists of children are closed at the unit's end.
 //! It does not promise: anything of tags, and of attributes no more than that their values can be read.
 //! Read first: `dw_base/specs/UnitHeaders.antt`, `dw_base/specs/EntryScans.antt`, then
 //! `specs/ScanStates.antt`.
 //!
 //! ```
-//! use dw_entries::{unit_headers, unit_sections, EntryScan};
+//! use dw_entries::{table_offset, unit_headers, unit_sections, EntryScan};
 //!
 //! for section in unit_sections(alloc, &view)?.as_slice() {
 //!     let units = unit_headers(alloc, &view, *section)?;
 //!     for unit in units.as_slice() {
-//!         let table = AbbrevTable::read(alloc, abbrevs, view.bytes(abbrevs), unit.abbrevs)?;
+//!         let table = AbbrevTable::read(alloc, abbrevs, view.bytes(abbrevs), table_offset(&view, unit)?)?;
 //!         for entry in EntryScan::new(&view, unit, &table) {
 //!             let entry = entry?;
 //!             let code = entry.code;
@@ -27,6 +27,7 @@
 #![tactic(auto)]
 
 mod entry_values;
+mod fields;
 mod front;
 mod header;
 mod headers;
@@ -39,7 +40,7 @@ mod unit_kinds;
 mod values;
 
 pub use dw_base::{Fault, Kind, NoMemory, Params, Refusal, Scanned, Spec, UnitHeader, Value};
-pub use headers::{UnitHeaders, unit_headers};
+pub use headers::{UnitHeaders, table_offset, unit_headers};
 pub use scan::EntryScan;
 pub use sections::unit_sections;
 pub use values::EntryValues;

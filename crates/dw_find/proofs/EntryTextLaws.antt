@@ -1,30 +1,34 @@
 -- A pass over the values of an entry, value by value.
-use Rattle.std.proofs.Common.{Bool, true, false, ◌&&◌, ◌==◌, ◌≡◌, ◌⊎◌, inl, inr, ℕ, suc, ◌+◌, ◌≤◌, ◌<◌, List, [], ◌∷◌, ◌++◌, length, take, drop, get_or, Option, Some, None, refl, sym, ap, ◌∙◌, subst, arith, append_assoc, append-nil}
+use Rattle.std.proofs.Common.{Bool, true, false, ◌&&◌, ◌==◌, ◌≡◌, ◌⊎◌, inl, inr, ℕ, suc, ◌+◌, ◌≤◌, ◌<◌, nat_lt, List, [], ◌∷◌, ◌++◌, length, take, drop, get_or, Option, Some, None, IsTrue, refl, sym, ap, ◌∙◌, subst, arith, append_assoc, append-nil}
 use Rattle.std.proofs.Math.Seq.{take-length, take-suc, drop-cons}
 use Rattle.std.proofs.lemmas.List.{drop_all, take-append-drop}
 use Rattle.dw_base.specs.EntryScans.{SpellsValues, no_values, more_values, value as value_fails}
 use Rattle.dw_base.specs.FormFails.{FormFails}
+use Rattle.dw_base.specs.Cells.{Located}
 use Rattle.dw_base.specs.Forms.{in_str, in_line_str}
-use Rattle.dw_base.specs.Refusals.{Blames}
+use Rattle.dw_base.specs.Refusals.{Blames, at}
+use Rattle.dw_base.specs.Texts.{IsNulEnd, ends_in}
 use Rattle.dw_base.specs.Roles.{is_path}
 use Rattle.dw_base.specs.TextIndexes.{is_base}
 use Rattle.dw_base.specs.declared.dwarf_numbers.TheConstants.{DW_AT_stmt_list}
 use Rattle.dw_base.specs.Values.{value_at}
 use Rattle.dw_base.specs.declared.fault.Fault.{Fault}
 use Rattle.dw_base.specs.declared.fault.Fault.TheVariants.{NoMemory, Refused}
+use Rattle.dw_base.specs.declared.fault.Kind.TheVariants.{StringOffset}
 use Rattle.dw_base.specs.declared.fault.Refusal.{Refusal}
 use Rattle.dw_base.specs.declared.shared.Params.{Params}
 use Rattle.dw_base.specs.declared.values.Spec.{Spec}
 use Rattle.dw_base.specs.declared.values.Value.{Value}
-use Rattle.dw_find.specs.EntryTexts.{Tables, Found, OffsetSized, StartSized, with_base, with_paths, with_places, with_stray, TakenBehind, AreTaken, ValueRefuses, OneRefuses, none, some, ValuesRefuse, fails, value, ValueTaken}
-use Rattle.dw_find.specs.EntryTexts.ValueRefuses.{str, line_str}
+use Rattle.dw_base.specs.declared.values.ValueClass.{ValueClass}
+use Rattle.dw_base.specs.declared.values.ValueClass.TheVariants.{StrOffset, LineStrOffset}
+use Rattle.dw_find.specs.EntryTexts.{Tables, Found, OffsetLies, OffsetNames, OffsetRefuses, OffsetSized, no_text, offset, offset_in, relocation, StartSized, with_base, with_paths, with_places, with_stray, TakenBehind, AreTaken, ValueRefuses, OneRefuses, none, some, ValuesRefuse, fails, table_by, value, ValueTaken}
 use Rattle.dw_find.specs.TextPlaces.{TextPlace, Indexed, no_index, no_start, unit_start, unit_base, text_index, base_in, base_or, fields_in, index_at, indexes_in, indexed_at, inline_in, is_macros, is_start, is_start_form, line_at, macros_in, own_form, said_places, said_value, start_at, starts_in, stray_in, stray_or, line_places, class_places, unit_start_at, value_places, value_places_behind, values_places}
 use Rattle.dw_find.specs.UnitPaths.{UnitPaths}
 use Rattle.dw_find.specs.declared.fields.InlinePath.{InlinePath}
 use Rattle.dw_find.specs.declared.fields.PathField.{PathField}
 use Rattle.dw_find.specs.declared.fields.TextIndex.{TextIndex}
 use Rattle.dw_find.proofs.FoundLaws.{fields-append, inline-append, paths-same}
-use Rattle.dw_find.proofs.ValueFactLaws.{start-read, value-inside, value-sized}
+use Rattle.dw_find.proofs.ValueFactLaws.{start-read, value-inside, value-lies, value-sized}
 
 -- a field's size is a small number
 pub small-field : (n : ℕ) → (n ≡ 4) ⊎ (n ≡ 8) → n < 256
@@ -35,7 +39,7 @@ pub ruleset field_rules = (small-field)
 
 -- why a value can't be taken that was read
 pub refused-here : (t : Tables) (params : Params) (bytes : List ℕ) (section place : ℕ) (x : Spec) (v : Value) (f : Fault) → value_at params x bytes place ≡ Some v
-    → Blames (ValueRefuses t section v) f → Blames (OneRefuses t params bytes section place x) f
+    → Blames (ValueRefuses t v) f → Blames (OneRefuses t params bytes section place x) f
 refused-here t params bytes section place x v NoMemory is b = tt
 refused-here t params bytes section place x v (Refused r) is b = some v is b
 
@@ -61,7 +65,11 @@ pub all-start : (params : Params) (x : Spec) (bytes : List ℕ) (place : ℕ) (v
 all-start params x bytes place v e =
     record { sized = λ is. (start-read params x bytes place v (all-read params x bytes place v e) is).sized }
 
-pub ruleset read_rules = (all-read, all-fails, all-inside, all-sized, all-start)
+pub all-lies : (params : Params) (x : Spec) (bytes : List ℕ) (place : ℕ) (v : Value) → value_at params x (take (length bytes) bytes) place ≡ Some v
+    → OffsetLies (length bytes) v.class v
+all-lies params x bytes place v e = value-lies params x bytes place v (all-read params x bytes place v e)
+
+pub ruleset read_rules = (all-read, all-fails, all-inside, all-sized, all-lies, all-start)
 
 -- one attribute of a list
 spec_front : (specs : List Spec) (x : Spec) (i : ℕ) → i < length specs → x ≡ get_or specs i x → drop i specs ≡ x ∷ drop (i + 1) specs
@@ -229,7 +237,13 @@ start-sized x bytes place n line says sized is yes_ = sized.sized (and-right lin
     and-right true b h = h
     and-right false b h = absurd cc
 
-pub ruleset value_rules = (none, refused-here, value-found, start-sized)
+-- its field lies in the section
+pub lies-inside : (n m : ℕ) (class : ValueClass) (v : Value) → n ≤ m → OffsetLies n class v → OffsetLies m class v
+lies-inside n m StrOffset v le h = omega (arith, le, h)
+lies-inside n m LineStrOffset v le h = omega (arith, le, h)
+lies-inside n m class v le h = tt
+
+pub ruleset value_rules = (none, refused-here, value-found, start-sized, lies-inside)
 
 -- what is noted of starts
 pub said-none : (start macro : Bool) (form place : ℕ) (v : Value) (f : Found) → start ≡ false → f ≡ with_places f (said_places start macro form place v)
@@ -258,7 +272,38 @@ unit-sized form n can s is yes_ = s.sized (sym is ∙ yes_)
 
 pub ruleset said_rules = (said-none, said-stray, said-unit, said-line, unit-sized)
 
-pub ruleset note_rules = (str, line_str, append-nil, with_base-none, with_stray-none)
+-- the text that an offset of a class names, and why it names none
+pub names-str : (t : Tables) (z : Located) (class : ValueClass) (v : Value) → z ≡ t.str → class ≡ StrOffset → IsTrue (ends_in z.bytes (offset_in t z v)) → OffsetNames t class v
+names-str t z class v own is h =
+    subst (λ (c : ValueClass). OffsetNames t c v) (sym is) (subst (λ (y : Located). IsTrue (ends_in y.bytes (offset_in t y v))) own h)
+
+pub names-line_str : (t : Tables) (z : Located) (class : ValueClass) (v : Value) → z ≡ t.line_str → class ≡ LineStrOffset → IsTrue (ends_in z.bytes (offset_in t z v))
+    → OffsetNames t class v
+names-line_str t z class v own is h =
+    subst (λ (c : ValueClass). OffsetNames t c v) (sym is) (subst (λ (y : Located). IsTrue (ends_in y.bytes (offset_in t y v))) own h)
+
+pub refused-str : (t : Tables) (z : Located) (v : Value) (r : Refusal) → z ≡ t.str → v.class ≡ StrOffset → OffsetRefuses t z v r → ValueRefuses t v r
+refused-str t z v r own is h = offset z (ap (table_by t) is ∙ ap (λ (y : Located). Some y) (sym own)) h
+
+pub refused-line_str : (t : Tables) (z : Located) (v : Value) (r : Refusal) → z ≡ t.line_str → v.class ≡ LineStrOffset → OffsetRefuses t z v r → ValueRefuses t v r
+refused-line_str t z v r own is h = offset z (ap (table_by t) is ∙ ap (λ (y : Located). Some y) (sym own)) h
+
+-- by the end of its last text
+pub ends-here : (bs : List ℕ) (end n : ℕ) → IsNulEnd bs end → nat_lt n end ≡ ends_in bs n
+ends-here bs end n is = sym (is.ends n)
+
+pub ruleset end_rules = (ends-here)
+
+pub offset-names : (t : Tables) (z : Located) (v : Value) (n : ℕ) → n ≡ offset_in t z v → ends_in z.bytes n ≡ true → IsTrue (ends_in z.bytes (offset_in t z v))
+offset-names t z v n is ends = ap (ends_in z.bytes) (sym is) ∙ ends
+
+pub offset-none : (t : Tables) (z : Located) (v : Value) (n : ℕ) (r : Refusal) → n ≡ offset_in t z v → ends_in z.bytes n ≡ false → r ≡ at StringOffset t.number v.at
+    → OffsetRefuses t z v r
+offset-none t z v n r is none_ends same = subst (OffsetRefuses t z v) (sym same) (no_text (ap (ends_in z.bytes) (sym is) ∙ none_ends))
+
+pub ruleset offset_rules = (offset-names, offset-none, relocation)
+
+pub ruleset note_rules = (names-str, names-line_str, refused-str, refused-line_str, append-nil, with_base-none, with_stray-none)
 
 -- where a pass over the values of an entry stands: behind so many attributes, at a place, with what was found. Those passed
 -- stand before the place; what was found with the places of the others behind is what the whole entry gives; and if the

@@ -1,7 +1,7 @@
 -- What was found of paths: the readings of the debug data of a view, what they say of paths, and why there are none.
 use Rattle.std.proofs.Common.{true, false, ◌≡◌, ◌⊎◌, inl, inr, ℕ, ◌+◌, ◌<◌, ◌≤◌, if◌then◌else◌, Bool, List, [], ◌∷◌, ◌++◌, length, drop, replicate, Option, Some, None, refl, sym, ap, ◌∙◌, subst, arith, append_assoc}
 use Rattle.std.proofs.lemmas.List.{length-append, length-drop, length-replicate}
-use Rattle.dw_base.specs.Cells.{Cell, bytes_of, plain_cells}
+use Rattle.dw_base.specs.Cells.{Cell, bytes_of}
 use Rattle.dw_base.specs.DebugData.{Around, DataReadings, ReadsAll, around_of, indexing_of, line_source, macro_places, path_slots}
 use Rattle.dw_base.specs.DebugSections.{name_of}
 use Rattle.dw_base.specs.FileViews.{View, section_bytes, section_named}
@@ -11,8 +11,6 @@ use Rattle.dw_base.specs.LineReadings.{LineReading, table_starts}
 use Rattle.dw_base.specs.LineTables.{LineTable}
 use Rattle.dw_base.specs.MacroReadings.{MacroReading}
 use Rattle.dw_base.specs.NamePieces.{NameMode, at_table, at_string, at_rest, no_names, NameState, ReadsNames}
-use Rattle.dw_base.specs.NameTables.{AreNameTables, names_of}
-use Rattle.dw_base.specs.NameTableFails.{NameTablesFail}
 use Rattle.dw_base.specs.OffsetPieces.{OffsetMode, at_contribution, at_slot, no_offsets, OffsetState, FitsOffsets, ReadsOffsets, offset_grammar, past_offsets}
 use Rattle.dw_base.specs.Paths.{PathMap}
 use Rattle.dw_base.specs.Pieces.{Piece, Chain, EachPiece, joined}
@@ -29,8 +27,10 @@ use Rattle.dw_base.specs.TextChanges.{NamesTextBy}
 use Rattle.dw_base.specs.TextIndexes.{EachUse, Indexing, NamesSlot, holds_number}
 use Rattle.dw_base.specs.Texts.{ends_in}
 use Rattle.dw_base.specs.UnitHeaders.{UnitSection}
-use Rattle.dw_base.specs.ViewData.{debug_data, located_at, string_offsets}
-use Rattle.dw_base.specs.declared.debug_sections.DebugSection.TheVariants.{StrOffsets}
+use Rattle.dw_base.specs.RelocationRows.{FieldPlace, field_place, offset_field, slot_field as slot_place, slot_fields as slot_places}
+use Rattle.dw_base.specs.RelocationRows.FieldsFail.{offset as offset_row}
+use Rattle.dw_base.specs.ViewData.{cells_located, debug_data, located, located_at, string_offsets}
+use Rattle.dw_base.specs.declared.debug_sections.DebugSection.TheVariants.{Names, StrOffsets}
 use Rattle.dw_base.specs.declared.fault.Fault.{Fault}
 use Rattle.dw_base.specs.declared.fault.Fault.TheVariants.{NoMemory, Refused}
 use Rattle.dw_base.specs.declared.fault.Refusal.{Refusal}
@@ -42,19 +42,22 @@ use Rattle.dw_base.specs.declared.string_offsets.Contribution.{Contribution}
 use Rattle.dw_base.proofs.ContributionBackLaws.{contributions-are}
 use Rattle.dw_base.proofs.FileViewLaws.{section_after-within}
 use Rattle.dw_base.proofs.NameBackLaws.{StringNamesBy}
-use Rattle.dw_base.proofs.PlainCellLaws.{IsPlain, bytes_of-plain, plain_cells-plain, offset_of-plain}
+use Rattle.dw_base.proofs.PlainCellLaws.{IsPlain, offset_of-plain}
 use Rattle.dw_base.proofs.UnitEditLaws.{length-bytes_of}
+use Rattle.dw_base.proofs.ViewCellLaws.{bytes-cells}
 use Rattle.dw_lines.specs.ViewTables.{TablesFound}
 use Rattle.dw_meaning.specs.DataFails.{IndexesRead, index as index_row, slot as slot_row}
+use Rattle.dw_meaning.specs.RelocationFails.LeftRelocationsFail.{slots as left_slots}
 use Rattle.dw_meaning.proofs.OffsetMoveLaws.{EachCells}
+use Rattle.dw_offsets.specs.NameOffsets.{AreRead, NamesRefuse, tables as named_tables, offsets as named_offsets}
 use Rattle.dw_offsets.specs.PathSlots.{SlotsRefuse, SlotsTaken, slot_field, slot_fields, slots_in}
 use Rattle.dw_offsets.specs.SlotMarks.{AreMarks}
 use Rattle.dw_offsets.specs.declared.slot_fields.PathSlot.{PathSlot}
 use Rattle.dw_offsets.proofs.NamePieceLaws.{NamesRead, names-read}
 use Rattle.dw_offsets.proofs.OffsetPieceLaws.{contributions-read}
-use Rattle.dw_offsets.proofs.SlotPieceLaws.{SlotsAround, SlotsSay, SlotsFail, slot_fails, shared_fails, slots-fail, slots-say}
+use Rattle.dw_offsets.proofs.SlotPieceLaws.{SlotsAround, SlotsSay, SlotsFail, slot_fails, shared_fails, offset_fails, slots-fail, slots-say}
 use Rattle.dw_find.specs.FoundPaths.{PathsFound, PathsRefuse, SlotsFound, UnitPathsRefuse, UnitsFound, without_lines}
-use Rattle.dw_find.specs.FoundPaths.PathsRefuse.{units, starts, inline, string_tables, name_tables, slots, shared}
+use Rattle.dw_find.specs.FoundPaths.PathsRefuse.{units, starts, inline, string_tables, name_tables, name_offsets, relocations, slots, shared}
 use Rattle.dw_find.specs.FoundPaths.UnitPathsRefuse.{texts as refused_texts, inline as refused_inline}
 use Rattle.dw_find.specs.Fields.{ArePathFields, IsPathField, OffsetTable, offset_at}
 use Rattle.dw_find.specs.IndexedTexts.{SlotsMarked, TablesStart, TextsIndexed, UnitsStart, indexing_with}
@@ -96,24 +99,41 @@ field-is paths (at_slot w end) n place size more fs e = by_path (holds_number pa
     by_path false = e
 field-is paths no_offsets n place size more fs e = e
 
+field-head : (x y : FieldPlace) (xs ys : List FieldPlace) → x ∷ xs ≡ y ∷ ys → x ≡ y
+field-head x y xs ys e = cc
+
+field-tail : (x y : FieldPlace) (xs ys : List FieldPlace) → x ∷ xs ≡ y ∷ ys → xs ≡ ys
+field-tail x y xs ys e = cc
+
 fields-are : (paths : List ℕ) (xs : List (Piece OffsetState)) → as_fields (slot_fields paths xs) ≡ offset_fields in_str paths xs
 fields-are paths [] = refl
 fields-are paths (x ∷ xs) =
     field-is paths x.state.mode x.state.slot x.state.place (length x.cells) (slot_fields paths xs) (offset_fields in_str paths xs) (fields-are paths xs)
 
+-- the cells of string offsets and of name tables
+abbrev string_cells : View → List Cell
+string_cells v = (cells_located v (section_named v (name_of StrOffsets))).contents
+
+abbrev names_cells : View → List Cell
+names_cells v = (cells_located v (section_named v (name_of Names))).contents
+
+string-bytes : (v : View) → bytes_of (string_cells v) ≡ (string_offsets v).bytes
+unfolding located
+string-bytes v = bytes-cells v (section_named v (name_of StrOffsets))
+
 -- string offsets that were read are pieces
 record OffsetsRead (v : View) (list : List Contribution) : Type 0 where
   pieces : List (Piece OffsetState)
-  reads : ReadsOffsets v.order (plain_cells (string_offsets v).bytes) pieces
+  reads : ReadsOffsets v.order (string_cells v) pieces
   list_is : contributions_in v.order pieces ≡ list
 
 offsets-read : (v : View) (list : List Contribution) → AreContributions v.order (string_offsets v) list → OffsetsRead v list
 offsets-read v list are =
-    let bytes : bytes_of (plain_cells (string_offsets v).bytes) ≡ (string_offsets v).bytes = bytes_of-plain (string_offsets v).bytes in
-    let up : ContributionsUpTo v.order (bytes_of (plain_cells (string_offsets v).bytes)) list (length (bytes_of (plain_cells (string_offsets v).bytes))) =
+    let bytes : bytes_of (string_cells v) ≡ (string_offsets v).bytes = string-bytes v in
+    let up : ContributionsUpTo v.order (bytes_of (string_cells v)) list (length (bytes_of (string_cells v))) =
     subst (λ (bs : List ℕ). ContributionsUpTo v.order bs list (length bs)) (sym bytes) are in
-    let r = contributions-read v.order (plain_cells (string_offsets v).bytes) list up in
-    record { pieces = r.pieces; reads = r.reads; list_is = contributions-are v.order (plain_cells (string_offsets v).bytes) r.pieces list r.reads up }
+    let r = contributions-read v.order (string_cells v) list up in
+    record { pieces = r.pieces; reads = r.reads; list_is = contributions-are v.order (string_cells v) r.pieces list r.reads up }
 
 -- what was read of units and string offsets
 abbrev readings_with : Readings → List (Piece OffsetState) → List LineReading → List MacroReading → List (Piece NameState) → DataReadings
@@ -133,14 +153,13 @@ indexes-read v list us o ls ms ns reads = record { units = reads; offsets = o.re
 -- the slots, with what stands around them
 slots-around : (v : View) (list : List Contribution) (marks : List ℕ) (us : Readings) (o : OffsetsRead v list) (ls : List LineReading) (ms : List MacroReading) (ns : List (Piece NameState))
     → SlotsMarked (indexing_with (debug_data v) list us) marks
-    → SlotsAround (around_of (debug_data v) (readings_with us o.pieces ls ms ns)) (slots_in v) (plain_cells (string_offsets v).bytes) o.pieces marks
+    → SlotsAround (around_of (debug_data v) (readings_with us o.pieces ls ms ns)) (slots_in v) (string_cells v) o.pieces marks
 unfolding debug_data
 slots-around v list marks us o ls ms ns marked =
     let same = indexing-is v list us o.pieces ls ms ns o.list_is in
     record {
       reads = o.reads;
-      plain = plain_cells-plain (string_offsets v).bytes;
-      bytes = bytes_of-plain (string_offsets v).bytes;
+      same = refl;
       order = refl;
       str = refl;
       list = refl;
@@ -165,7 +184,7 @@ all-names : (v : View) (rs : DataReadings) (xs : List (Piece NameState)) → Eac
 all-names v rs [] h = tt
 all-names v rs (x ∷ xs) h = (string-names x.state.mode v rs x.cells h.0, all-names v rs xs h.1)
 
-names-cells : (v : View) (xs : List (Piece NameState)) → ReadsNames v.order (plain_cells (names_of v).bytes) xs
+names-cells : (v : View) (xs : List (Piece NameState)) → ReadsNames v.order (names_cells v) xs
     → ReadsNames (debug_data v).base.order (debug_data v).names.contents xs
 unfolding debug_data
 names-cells v xs r = r
@@ -224,7 +243,7 @@ are-fields : (table : OffsetTable) (info : List ℕ) (fs : List PathField) → E
 are-fields table info fs h = record { each = λ k d lt. each-get (IsPathField table info) fs k d lt h }
 
 -- so string offsets have paths
-slots-have-by : (v : View) (rs : DataReadings) (o : Option ℕ) → ((i : ℕ) → o ≡ Some i → i < length v.sections) → ReadsOffsets v.order (plain_cells (located_at v o).bytes) rs.offsets
+slots-have-by : (v : View) (rs : DataReadings) (o : Option ℕ) → ((i : ℕ) → o ≡ Some i → i < length v.sections) → ReadsOffsets v.order (cells_located v o).contents rs.offsets
     → NameTexts (slot_role (path_slots (around_of (debug_data v) rs))) (around_of (debug_data v) rs) rs.offsets
     → AllHavePaths v (slots_by o (read_fields (debug_data v) rs))
 slots-have-by v rs None there r names = tt
@@ -281,11 +300,11 @@ slots-rooms m v (Some i) fields = (tt, tt)
 record Parts (m : PathMap) (v : View) (list : List Contribution) (marks first : List ℕ) (us : List UnitPaths) (tables : List NameTable) : Type 0 where
   offsets : OffsetsRead v list
   found : FoundReadings (debug_data v) 0 (debug_data v).units us
-  names : NamesRead v (plain_cells (names_of v).bytes)
+  names : NamesRead v (names_cells v)
   marked : SlotsMarked (indexing_with (debug_data v) list found.readings) marks
 
 parts-of : (m : PathMap) (v : View) (list : List Contribution) (marks first places : List ℕ) (us : List UnitPaths) (tables : List NameTable) → AreContributions v.order (string_offsets v) list
-    → AreNameTables v tables → UnitsFound m (debug_data v) first places us → TextsIndexed (debug_data v) list marks → Parts m v list marks first us tables
+    → AreRead v tables → UnitsFound m (debug_data v) first places us → TextsIndexed (debug_data v) list marks → Parts m v list marks first us tables
 parts-of m v list marks first places us tables are names found indexed =
     let f : FoundReadings (debug_data v) 0 (debug_data v).units us = found-readings (debug_data v) 0 (debug_data v).units us found.placed in
     record { offsets = offsets-read v list are; found = f; names = names-read v tables names; marked = indexed.each f.readings f.reads }
@@ -306,7 +325,7 @@ pub slice-units : (v : View) (ss : List SectionUnits) (places slice : List ℕ) 
 slice-units v ss places slice found is same = units-start v ss slice found (same ∙ is)
 
 pub paths-found : (m : PathMap) (v : View) (list : List Contribution) (marks first slice again places inside also : List ℕ) (tables : List NameTable) (ts : List LineTable) (ss : List SectionUnits)
-    (us with_slots with_macros all : List UnitPaths) → AreContributions v.order (string_offsets v) list → AreNameTables v tables → TablesFound v ts → first ≡ starts_of ts → slice ≡ first
+    (us with_slots with_macros all : List UnitPaths) → AreContributions v.order (string_offsets v) list → AreRead v tables → TablesFound v ts → first ≡ starts_of ts → slice ≡ first
     → again ≡ first → UnitsFoundIn v ss → places ≡ first_places ss → inside ≡ places → also ≡ places → UnitsFound m (debug_data v) slice inside us → TextsIndexed (debug_data v) list marks
     → MacrosName v again also ss → SlotsFound m v list marks us with_slots → with_macros ≡ with_slots ++ macros_of ss → all ≡ with_macros ++ lines_of_view v ts → PathsFound m v all ts
 unfolding slice-start tables-start
@@ -324,7 +343,7 @@ paths-found m v list marks first slice again places inside also tables ts ss us 
     let units_start : PlacesStart inside (macro_places (debug_data v) (readings_with p.found.readings p.offsets.pieces lines.readings macros.readings p.names.pieces)) =
     places-start v ss inside (readings_with p.found.readings p.offsets.pieces lines.readings macros.readings p.names.pieces) units_are (within ∙ places_are) macros.starts in
     let say : SlotsSay m (around_of (debug_data v) (readings_with p.found.readings p.offsets.pieces lines.readings macros.readings p.names.pieces)) p.offsets.pieces slots_found.fields =
-    slots-say m (around_of (debug_data v) (readings_with p.found.readings p.offsets.pieces lines.readings macros.readings p.names.pieces)) (slots_in v) (plain_cells (string_offsets v).bytes) p.offsets.pieces marks
+    slots-say m (around_of (debug_data v) (readings_with p.found.readings p.offsets.pieces lines.readings macros.readings p.names.pieces)) (slots_in v) (string_cells v) p.offsets.pieces marks
     slots_found.fields around (subst (λ (cs_ : List Contribution). SlotsTaken m (slots_in v) marks (slots_of cs_) [] slots_found.fields) (sym same_list) slots_found.taken) in
     let fields : as_fields slots_found.fields ≡ read_fields (debug_data v) (readings_with p.found.readings p.offsets.pieces lines.readings macros.readings p.names.pieces) =
     ap as_fields say.fields_are ∙ fields-are (path_slots (around_of (debug_data v) (readings_with p.found.readings p.offsets.pieces lines.readings macros.readings p.names.pieces))) p.offsets.pieces in
@@ -369,6 +388,8 @@ paths-found m v list marks first slice again places inside also tables ts ss us 
       is = all_is ∙ ap (λ (ws : List UnitPaths). ws ++ lines_of_view v ts)
           (is ∙ ap (λ (ws : List UnitPaths). (ws ++ slots_read v (readings_with p.found.readings p.offsets.pieces lines.readings macros.readings p.names.pieces)) ++ macros_read macros.readings) (sym p.found.says));
       tables = lines.is;
+      name_list = tables;
+      names_read = named;
     }
 
 -- why nothing was found
@@ -376,9 +397,13 @@ pub contributions-fault : (m : PathMap) (v : View) (f : Fault) → Blames (Contr
 contributions-fault m v NoMemory h = tt
 contributions-fault m v (Refused r) h = string_tables h
 
-pub names-fault : (m : PathMap) (v : View) (f : Fault) → Blames (NameTablesFail v) f → Blames (PathsRefuse m v) f
+names-row : (m : PathMap) (v : View) (r : Refusal) → NamesRefuse v r → PathsRefuse m v r
+names-row m v r (named_tables f) = name_tables f
+names-row m v r (named_offsets list start t u some is f) = name_offsets (named_offsets list start t u some is f)
+
+pub names-fault : (m : PathMap) (v : View) (f : Fault) → Blames (NamesRefuse v) f → Blames (PathsRefuse m v) f
 names-fault m v NoMemory h = tt
-names-fault m v (Refused r) h = name_tables h
+names-fault m v (Refused r) h = names-row m v r h
 
 units-row : (m : PathMap) (v : View) (list : List Contribution) (r : Refusal) → AreContributions v.order (string_offsets v) list → UnitPathsRefuse m (debug_data v) list r → PathsRefuse m v r
 units-row m v list r are (refused_inline h) = inline h
@@ -394,17 +419,28 @@ pub units-fault : (m : PathMap) (v : View) (list : List Contribution) (f : Fault
 units-fault m v list NoMemory are h = tt
 units-fault m v list (Refused r) are h = units-row m v list r are h
 
-number-is : (v : View) → (slots_in v).number ≡ (debug_data v).offsets.number
-unfolding debug_data
-number-is v = refl
+-- slots are fields of offsets
+slot-use : (m : OffsetMode) (place : ℕ) (rest before behind : List FieldPlace) (f : FieldPlace) → slot_place m place ++ rest ≡ before ++ f ∷ behind
+    → ((before : List FieldPlace) → rest ≡ before ++ f ∷ behind → f.use_is ≡ offset_field) → f.use_is ≡ offset_field
+slot-use at_contribution place rest before behind f e more = more before e
+slot-use no_offsets place rest before behind f e more = more before e
+slot-use (at_slot w end) place rest [] behind f e more = ap (λ (x : FieldPlace). x.use_is) (sym (field-head (field_place place (width_size w) offset_field) f rest behind e))
+slot-use (at_slot w end) place rest (b ∷ bs) behind f e more = more bs (field-tail (field_place place (width_size w) offset_field) b rest (bs ++ f ∷ behind) e)
+
+slots-use : (xs : List (Piece OffsetState)) (before behind : List FieldPlace) (f : FieldPlace) → slot_places xs ≡ before ++ f ∷ behind → f.use_is ≡ offset_field
+slots-use [] [] behind f e = absurd cc
+slots-use [] (b ∷ bs) behind f e = absurd cc
+slots-use (x ∷ xs) before behind f e = slot-use x.state.mode x.state.place (slot_places xs) before behind f e (λ bs more. slots-use xs bs behind f more)
 
 slots-row : (m : PathMap) (v : View) (rs : DataReadings) (r : Refusal) → IndexesRead (debug_data v) rs
-    → SlotsFail m (debug_data v).offsets.number (around_of (debug_data v) rs) rs.offsets r → PathsRefuse m v r
+    → SlotsFail m (slots_in v) (around_of (debug_data v) rs) rs.offsets r → PathsRefuse m v r
+unfolding debug_data
 slots-row m v rs r i (slot_fails h) = slots (slot_row rs i h)
 slots-row m v rs r i (shared_fails h) = shared rs i h
+slots-row m v rs r i (offset_fails f is h) = relocations (left_slots rs.offsets i.offsets (offset_row f is (slots-use rs.offsets is.before is.behind f is.is) h))
 
 pub slots-fault : (m : PathMap) (v : View) (list : List Contribution) (marks first places : List ℕ) (tables : List NameTable) (us : List UnitPaths) (f : Fault)
-    → AreContributions v.order (string_offsets v) list → AreNameTables v tables → UnitsFound m (debug_data v) first places us → TextsIndexed (debug_data v) list marks
+    → AreContributions v.order (string_offsets v) list → AreRead v tables → UnitsFound m (debug_data v) first places us → TextsIndexed (debug_data v) list marks
     → Blames (SlotsRefuse m (slots_in v) marks (slots_of list)) f → Blames (PathsRefuse m v) f
 slots-fault m v list marks first places tables us NoMemory are named found indexed h = tt
 slots-fault m v list marks first places tables us (Refused r) are named found indexed h =
@@ -412,10 +448,9 @@ slots-fault m v list marks first places tables us (Refused r) are named found in
     let same = contributions-around v list p.found.readings p.offsets [] [] p.names.pieces in
     slots-row m v (readings_with p.found.readings p.offsets.pieces [] [] p.names.pieces) r
     (indexes-read v list p.found.readings p.offsets [] [] p.names.pieces p.found.reads)
-    (subst (λ (n : ℕ). SlotsFail m n (around_of (debug_data v) (readings_with p.found.readings p.offsets.pieces [] [] p.names.pieces)) p.offsets.pieces r) (number-is v)
-    (slots-fail m (around_of (debug_data v) (readings_with p.found.readings p.offsets.pieces [] [] p.names.pieces)) (slots_in v) (plain_cells (string_offsets v).bytes) p.offsets.pieces marks r
+    (slots-fail m (around_of (debug_data v) (readings_with p.found.readings p.offsets.pieces [] [] p.names.pieces)) (slots_in v) (string_cells v) p.offsets.pieces marks r
     (slots-around v list marks p.found.readings p.offsets [] [] p.names.pieces p.marked)
-    (subst (λ (cs_ : List Contribution). SlotsRefuse m (slots_in v) marks (slots_of cs_) r) (sym same) h)))
+    (subst (λ (cs_ : List Contribution). SlotsRefuse m (slots_in v) marks (slots_of cs_) r) (sym same) h))
 
 pub macros-row : (m : PathMap) (v : View) (first slice again places inside also : List ℕ) (ts : List LineTable) (ss : List SectionUnits) (us : List UnitPaths) (r : Refusal) → TablesFound v ts
     → first ≡ starts_of ts → again ≡ first → UnitsFoundIn v ss → places ≡ first_places ss → also ≡ places → UnitsFound m (debug_data v) slice inside us → MacrosStray v again also ss r

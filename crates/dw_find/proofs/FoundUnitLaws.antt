@@ -3,6 +3,7 @@ use Rattle.std.proofs.Common.{true, false, ◌≡◌, ◌≢◌, ℕ, suc, ◌-�
 use Rattle.std.proofs.Math.Seq.{take-append_seam}
 use Rattle.std.proofs.lemmas.Bool.{and_parts}
 use Rattle.std.proofs.lemmas.List.{length-append}
+use Rattle.dw_base.specs.Cells.{Located}
 use Rattle.dw_base.specs.DebugData.{DebugData, line_source}
 use Rattle.dw_base.specs.DebugSections.{name_of}
 use Rattle.dw_base.specs.FileViews.{View, ViewSection, first_filled, is_filled, section_after, section_bytes, section_named}
@@ -25,15 +26,15 @@ use Rattle.dw_lines.proofs.ReadingLaws.{source-is}
 use Rattle.dw_find.specs.FoundPaths.{UnitsFound, UnitPathsRefuse, texts, without_lines}
 use Rattle.dw_find.specs.FoundPaths.UnitPathsRefuse.{inline}
 use Rattle.dw_find.specs.Fields.{ArePathFields}
-use Rattle.dw_find.specs.EntryTexts.{Tables}
 use Rattle.dw_find.specs.IndexedTexts.{TextsRefuse}
-use Rattle.dw_find.specs.ViewFields.{AllHaveFields, offsets_in}
+use Rattle.dw_find.specs.ViewFields.{AllHaveFields, offsets_in, table_number}
 use Rattle.dw_find.specs.SlotPaths.{count_of, lines_count}
 use Rattle.dw_find.specs.TextPlaces.{AllPlaced, AllFitRooms, AllStarts}
 use Rattle.dw_find.specs.UnitPaths.{UnitPaths}
-use Rattle.dw_find.specs.UnitTexts.{AllTaken, tables_of}
+use Rattle.dw_find.specs.UnitTexts.{AllTaken, texts_of}
 use Rattle.dw_find.specs.ViewLines.{lines_by, lines_of_view, table_fields}
 use Rattle.dw_find.proofs.LineTextLaws.{TextsApart, lines-fields}
+use Rattle.dw_find.proofs.PlainFieldLaws.{lines-plain}
 use Rattle.dw_find.proofs.SectionFactLaws.{taken-placed}
 
 -- The line tables of a view. Their section is the one of a number, or there are none.
@@ -95,7 +96,7 @@ lines-have-by v rs (Some i) e are =
     let own = bytes-some v i e in
     let number : i ≡ (line_source (debug_data v)).number = ap (λ (g : LineSource). g.number) (sym (source-is v i e)) in
     let there : i < length v.sections = (section_after-within v (name_of Line) 0 i (sym e)).1 in
-    let fields = λ (table : TextSection). lines-fields (line_source (debug_data v)) table 0 (length (line_source (debug_data v)).bytes) rs (view-apart v) are in (
+    let fields = λ (table : TextSection). lines-fields (line_source (debug_data v)) table 0 (length (line_source (debug_data v)).bytes) rs (view-apart v) (lines-plain v) are in (
       record {
         there = subst (λ (n : ℕ). n < length v.sections) number there;
         str = subst (λ (bs : List ℕ). ArePathFields (offsets_in v in_str) bs
@@ -139,8 +140,13 @@ pub texts-fault : (m : PathMap) (d : DebugData) (list : List Contribution) (f : 
 texts-fault m d list NoMemory b = tt
 texts-fault m d list (Refused r) b = texts b
 
-pub tables-same : (v : View) (t : Tables) (s l : List ℕ) → t ≡ record { str = s; line_str = l } → s ≡ (offsets_in v in_str).bytes → l ≡ (offsets_in v in_line_str).bytes
-    → t ≡ tables_of (debug_data v)
-tables-same v t s l is es el = is ∙ ap (λ (x : List ℕ). record { str = x; line_str = l }) es ∙ ap (λ (x : List ℕ). record { str = (debug_data v).str.bytes; line_str = x }) el
+pub tables-same : (v : View) (s l : Located) (n m : ℕ) (sb lb : List ℕ) → s ≡ record { number = n; bytes = sb } → l ≡ record { number = m; bytes = lb }
+    → n ≡ table_number (debug_data v) in_str → m ≡ table_number (debug_data v) in_line_str → sb ≡ (offsets_in v in_str).bytes → lb ≡ (offsets_in v in_line_str).bytes
+    → record { str = s; line_str = l } ≡ texts_of (debug_data v)
+tables-same v s l n m sb lb s_is l_is n_is m_is sb_is lb_is =
+    ap (λ (x : Located). record { str = x; line_str = l })
+    (s_is ∙ ap (λ (k : ℕ). record { number = k; bytes = sb }) n_is ∙ ap (λ (bs : List ℕ). record { number = (debug_data v).str.number; bytes = bs }) sb_is)
+    ∙ ap (λ (x : Located). record { str = (debug_data v).str; line_str = x })
+    (l_is ∙ ap (λ (k : ℕ). record { number = k; bytes = lb }) m_is ∙ ap (λ (bs : List ℕ). record { number = (debug_data v).line_str.number; bytes = bs }) lb_is)
 
 pub ruleset unit_rules = (units-found, placed-found, texts-fault, inline, tables-same)

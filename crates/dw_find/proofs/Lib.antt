@@ -1,3 +1,4 @@
+pub mod FieldOffsetLaws
 pub mod PlacedLaws
 pub mod PieceFieldLaws
 pub mod InlineTextLaws
@@ -10,6 +11,7 @@ pub mod IndexRunLaws
 pub mod SectionRunLaws
 pub mod FoundLaws
 pub mod ValueFactLaws
+pub mod TextFieldLaws
 pub mod EntryTextLaws
 pub mod StrValueLaws
 pub mod QuietLaws
@@ -21,6 +23,7 @@ pub mod RowLaws
 pub mod SectionTextLaws
 pub mod UnitRowLaws
 pub mod ValueTextLaws
+pub mod PlainFieldLaws
 pub mod PlaceValueLaws
 pub mod SectionListLaws
 pub mod IndexedLaws
@@ -50,4 +53,5 @@ pub mod FoundUnitLaws
 pub mod MacroPathLaws
 pub mod FoundPathLaws
 pub mod SharedLaws
+pub mod PlainViewLaws
 pub mod ReadDataLaws

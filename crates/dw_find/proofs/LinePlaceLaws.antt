@@ -9,7 +9,7 @@ use Rattle.dw_base.specs.LineEntries.{first_of, with_column, columns}
 use Rattle.dw_base.specs.LineReadings.{LineReading, ReadsTable}
 use Rattle.dw_base.specs.LineSources.{LineSource}
 use Rattle.dw_base.specs.LineTables.{HasLists, old_lists, new_lists, table_bytes, texts_of}
-use Rattle.dw_base.specs.LineTexts.{inline_text, text_of}
+use Rattle.dw_base.specs.LineTexts.{inline_text, named_text, text_of}
 use Rattle.dw_base.specs.Numbers.{spelled}
 use Rattle.dw_base.specs.Texts.{ends_in}
 use Rattle.dw_base.specs.declared.line_numbers.TheConstants.{DW_LNCT_path}
@@ -20,7 +20,8 @@ use Rattle.dw_base.specs.declared.line_tables.LineHeader.{LineHeader}
 use Rattle.dw_base.specs.declared.line_tables.TextPlace.{TextPlace}
 use Rattle.dw_base.specs.declared.shared.Width.{Width}
 use Rattle.dw_base.specs.declared.values.Spec.{Spec}
-use Rattle.dw_meaning.proofs.LineColumnLaws.{texts_in, ColumnIs, inline_is, offset_is, value_is, column-is}
+use Rattle.dw_base.proofs.PlainCellLaws.{IsPlain}
+use Rattle.dw_meaning.proofs.LineColumnLaws.{texts_in, ColumnIs, inline_is, named-number, offset_is, value_is, column-is}
 use Rattle.dw_meaning.proofs.LineEntryLaws.{text_with, column-step, entry-same}
 use Rattle.dw_meaning.proofs.LineListLaws.{entry-is, list-is}
 use Rattle.dw_meaning.proofs.LineReadLaws.{inline-inside}
@@ -29,9 +30,9 @@ use Rattle.dw_meaning.proofs.LineWalkLaws.{OldDirs, OldFiles, NewFiles, dirs-of,
 -- a path that stands in the section of line tables, or that an offset names
 pub data PathReads (g : LineSource) (w : Width) : TextPlace → Type 0 where
   stands_there : (x : TextPlace) → x.section ≡ g.number → PathReads g w x
-  named_there : (z : TextSection) (field : ℕ) → field + width_size w ≤ length g.bytes
-      → ends_in (texts_in g z).bytes (spelled g.order g.bytes field (width_size w)) ≡ true
-      → PathReads g w (text_of (texts_in g z) (spelled g.order g.bytes field (width_size w)) field)
+  named_there : (z : TextSection) (n field : ℕ) → field + width_size w ≤ length g.bytes
+      → named_text g (texts_in g z) field (width_size w) ≡ Ok (text_of (texts_in g z) n field) → ends_in (texts_in g z).bytes n ≡ true
+      → PathReads g w (text_of (texts_in g z) n field)
 
 abbrev pub EachReads : LineSource → Width → List TextPlace → Type 0
 EachReads g w [] = ⊤
@@ -59,7 +60,7 @@ AnyReads g w (Some t) = PathReads g w t
 
 column-path : (g : LineSource) (h : LineHeader) (table : List ℕ) (spec : Spec) (p : ℕ) (c : Column) → length table ≤ length g.bytes → ColumnIs g h table spec p c → AnyReads g h.width c.text
 column-path g h table spec p c cut (inline_is form e) = stands_there _ refl
-column-path g h table spec p c cut (offset_is z form room e) = named_there z p (omega (arith, cut, room)) e
+column-path g h table spec p c cut (offset_is z n form room reads e) = named_there z n p (omega (arith, cut, room)) reads e
 column-path g h table spec p c cut (value_is a b d v e) = tt
 
 columns-path : (g : LineSource) (h : LineHeader) (table : List ℕ) (specs : List Spec) (e last : Entry) → length table ≤ length g.bytes → columns g h table specs e ≡ Ok last
@@ -104,12 +105,12 @@ table-paths g p r reads =
     let cut : length (table_bytes g r.header) ≤ length g.bytes = omega (arith, length-take r.header.end g.bytes) in
     lists-paths g r.header (table_bytes g r.header) r.dirs r.files r.behind cut reads.lists
 
--- the place of a text that an offset names is what its field holds
-pub offset-read : (g : LineSource) (w : Width) (x : TextPlace) → PathReads g w x → (x.section == g.number) ≡ false → x.at ≡ spelled g.order g.bytes x.field (width_size w)
-offset-read g w x (stands_there y is) other = absurd (true≢false (sym (eq-eqb x.section g.number is) ∙ other))
-offset-read g w x (named_there z field room ends) other = refl
+-- the place of a text that an offset names is what its field holds, where no relocation begins in the section
+pub offset-read : (g : LineSource) (w : Width) (x : TextPlace) → IsPlain g.cells → PathReads g w x → (x.section == g.number) ≡ false → x.at ≡ spelled g.order g.bytes x.field (width_size w)
+offset-read g w x plain (stands_there y is) other = absurd (true≢false (sym (eq-eqb x.section g.number is) ∙ other))
+offset-read g w x plain (named_there z n field room reads ends) other = named-number g (texts_in g z) field (width_size w) n plain reads
 
 -- which lies in the section
 pub offset-inside : (g : LineSource) (w : Width) (x : TextPlace) → PathReads g w x → (x.section == g.number) ≡ false → x.field + width_size w ≤ length g.bytes
 offset-inside g w x (stands_there y is) other = absurd (true≢false (sym (eq-eqb x.section g.number is) ∙ other))
-offset-inside g w x (named_there z field room ends) other = room
+offset-inside g w x (named_there z n field room reads ends) other = room

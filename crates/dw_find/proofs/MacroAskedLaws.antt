@@ -10,7 +10,7 @@ use Rattle.dw_base.specs.LineMeanings.{is_there}
 use Rattle.dw_base.specs.MacroHeaders.{is_macro_version, has_flag, width_by, header_by, header_of, macro_header}
 use Rattle.dw_base.specs.MacroOperations.{operation_at}
 use Rattle.dw_base.specs.MacroPieces.{OffsetUse, of_text, of_unit, at_line, at_offset}
-use Rattle.dw_base.specs.MacroUnits.{offset_at, names_text, taken, taken_if, unit_operation, is_end, OperationsUpTo, no_operations, more_operations, IsMacroUnit}
+use Rattle.dw_base.specs.MacroUnits.{offset_at, names_text, taken, taken_if, unit_operation, is_end, OperationsUpTo, no_operations, more_operations, IsMacroUnit, unit_with}
 use Rattle.dw_base.specs.Numbers.{spelled}
 use Rattle.dw_base.specs.Refusals.{at}
 use Rattle.dw_base.specs.ViewData.{debug_data, located}
@@ -27,21 +27,21 @@ use Rattle.dw_base.specs.declared.macro_units.MacroOperation.TheVariants.{End, I
 use Rattle.dw_base.specs.declared.macro_units.MacroUnit.{MacroUnit}
 use Rattle.dw_base.specs.declared.shared.Order.{Order}
 use Rattle.dw_base.specs.declared.shared.Width.{Width}
-use Rattle.dw_base.proofs.PlainCellLaws.{bytes_of-plain}
-use Rattle.dw_base.proofs.ViewCellLaws.{field_at-cells}
-use Rattle.dw_macros.proofs.CallerLaws.{read-unit}
+use Rattle.dw_base.proofs.ViewCellLaws.{field_at-cells, lines-located}
+use Rattle.dw_macros.proofs.UnitListLaws.{read-units}
 use Rattle.dw_macros.proofs.EventLaws.{unit-whole}
-use Rattle.dw_macros.specs.MacroEvents.{SpellsEvents, over, one_event, event_by, event_if, event_in, import_at, inline_place, named_place, text_event, unit_events}
+use Rattle.dw_macros.specs.MacroEvents.{IsUnitIn, SpellsEvents, over, one_event, event_by, event_if, event_in, import_at, inline_place, named_place, text_event, unit_events}
 use Rattle.dw_meaning.proofs.LineReadLaws.{if-some, some-same}
 use Rattle.dw_meaning.proofs.FieldPutLaws.{width-some}
 use Rattle.dw_meaning.proofs.MacroCutLaws.{FrontCut, operation-cut}
 use Rattle.dw_meaning.proofs.MacroPieceLaws.{Asked, CellsOf, EachUnit, offset_piece, offset_use, text-named}
 use Rattle.dw_meaning.proofs.MacroReadLaws.{read_as}
-use Rattle.dw_find.specs.MacroNames.{EventNames, EventsName, LineNames, MacrosName, UnitsName}
+use Rattle.dw_find.specs.MacroNames.{AreUnitsIn, EventNames, EventsName, LineNames, MacrosName, UnitsName}
 use Rattle.dw_find.specs.MacroSections.{HaveUnits, SectionUnits, UnitsFoundIn}
 use Rattle.dw_find.specs.TextPlaces.{names_place}
 use Rattle.dw_find.proofs.MacroFoundLaws.{AllAsked, PieceNames}
 use Rattle.dw_find.proofs.MacroHaveLaws.{AllBelow, AllCells, numbers-below}
+use Rattle.dw_find.proofs.MacroNameLaws.{in-run}
 use Rattle.dw_find.proofs.MacroStartLaws.{all-cells}
 
 -- what a field holds is what stands in the view
@@ -52,8 +52,7 @@ field-there v section cells width field c inside =
     ∙ field_at-cells v section field (width_size width) (width-some width) inside
 
 pub lines-same : (v : View) → located_cells (debug_data v).lines ≡ located v Line
-unfolding debug_data
-lines-same v = ap (λ (bs : List ℕ). record { number = (located v Line).number; bytes = bs }) (bytes_of-plain (located v Line).bytes)
+lines-same v = lines-located v
 
 pub line-there : (v : View) (section : ℕ) (cells : List Cell) (width : Width) (field : ℕ) → CellsOf v section cells → field + width_size width ≤ length (section_bytes v section)
     → offset_of v.order (located_cells (debug_data v).lines) (take (width_size width) (drop field cells)) ≡ offset_at v (located v Line) section field width
@@ -234,22 +233,22 @@ bring-room bs width place next field is =
     omega (arith, end, within)
 
 -- the events of a unit by its header
-pub header-events : (v : View) (section start : ℕ) (u : MacroUnit) → section < length v.sections → (is : IsMacroUnit v section start u)
-    → SpellsEvents v section is.header.width is.header.first (unit_events v u) u.end
-header-events v section start u there is =
-    let own : u.section ≡ section = ap (λ (x : MacroUnit). x.section) is.is in
-    let width : u.width ≡ is.header.width = ap (λ (x : MacroUnit). x.width) is.is in
-    let first : u.first ≡ is.header.first = ap (λ (x : MacroUnit). x.first) is.is in
-    subst (λ (n : ℕ). SpellsEvents v section is.header.width n (unit_events v u) u.end) first
+pub header-events : (v : View) (section start : ℕ) (u : MacroUnit) (h : MacroHeader) (end : ℕ) → IsUnitIn v u → u ≡ unit_with v section start h end
+    → SpellsEvents v section h.width h.first (unit_events v u) u.end
+header-events v section start u h end there is =
+    let own : u.section ≡ section = ap (λ (x : MacroUnit). x.section) is in
+    let width : u.width ≡ h.width = ap (λ (x : MacroUnit). x.width) is in
+    let first : u.first ≡ h.first = ap (λ (x : MacroUnit). x.first) is in
+    subst (λ (n : ℕ). SpellsEvents v section h.width n (unit_events v u) u.end) first
     (subst (λ (w : Width). SpellsEvents v section w u.first (unit_events v u) u.end) width
-    (subst (λ (n : ℕ). SpellsEvents v n u.width u.first (unit_events v u) u.end) own (unit-whole v u (read-unit v section start u there is))))
+    (subst (λ (n : ℕ). SpellsEvents v n u.width u.first (unit_events v u) u.end) own (unit-whole v u there)))
 
 -- the offset of an operation
 abbrev use_at : OffsetUse → ℕ → Option (OffsetUse × ℕ)
 use_at names field = Some (names, field)
 
 offset-named : (v : View) (starts places : List ℕ) (section start : ℕ) (cells : List Cell) (u : MacroUnit) (place next : ℕ) (o : MacroOperation) (names : OffsetUse) (field : ℕ) → CellsOf v section cells
-    → section < length v.sections → (is : IsMacroUnit v section start u) → EventsName places (unit_events v u) → OperationsUpTo v section start is.header.width is.header.first place
+    → IsUnitIn v u → (is : IsMacroUnit v section start u) → EventsName places (unit_events v u) → OperationsUpTo v section start is.header.width is.header.first place
     → unit_operation v section start is.header.width place ≡ ok_read o next → offset_use o ≡ use_at names field
     → PieceNames (debug_data v) starts places (offset_piece cells (at_offset is.header.width names) is.header.width field)
 unfolding debug_data
@@ -265,7 +264,7 @@ offset-named v starts places section start cells u place next (Bring f) names fi
     let read : operation_at (section_bytes v section) is.header.width place ≡ read_as (Bring f) next = operation-read v section start place is.header.width (Bring f) next e in
     let left : EventsLeft v places section is.header.width place =
     left-after v places section start is.header.width is.header.first place
-    (record { end = u.end; events = unit_events v u; spells = header-events v section start u there is; names = events }) up in
+    (record { end = u.end; events = unit_events v u; spells = header-events v section start u is.header is.end there is.is; names = events }) up in
     subst (λ (x : OffsetUse × ℕ). PieceNames (debug_data v) starts places (offset_piece cells (at_offset is.header.width x.0) is.header.width x.1))
     (some-same (of_unit, f) (names, field) same)
     (ap (names_place places) (field-there v section cells is.header.width f c (bring-room (section_bytes v section) is.header.width place next f read))
@@ -273,15 +272,15 @@ offset-named v starts places section start cells u place next (Bring f) names fi
 offset-named v starts places section start cells u place next Foreign names field c there is events up e same = absurd cc
 
 -- all of a unit, of a section, and of all sections
-asked-units : (v : View) (starts places : List ℕ) (section : ℕ) (cells : List Cell) (us : List MacroUnit) → CellsOf v section cells → section < length v.sections
+asked-units : (v : View) (starts places : List ℕ) (section : ℕ) (cells : List Cell) (us : List MacroUnit) → CellsOf v section cells → AreUnitsIn v us
     → UnitsName v starts places us → EachUnit (Asked v section cells (PieceNames (debug_data v) starts places)) us
 asked-units v starts places section cells [] c there names = tt
 asked-units v starts places section cells (u ∷ us) c there names = (
   λ start is. record {
     line = λ has. line-named v starts places section start cells u c is names.0 has;
-    offset = λ place o next use_ field up e is_use. offset-named v starts places section start cells u place next o use_ field c there is names.1 up e is_use;
+    offset = λ place o next use_ field up e is_use. offset-named v starts places section start cells u place next o use_ field c there.0 is names.1 up e is_use;
   },
-  asked-units v starts places section cells us c there names.2,
+  asked-units v starts places section cells us c there.1 names.2,
 )
 
 asked-all : (v : View) (starts places : List ℕ) (zs : List CellSection) (ss : List SectionUnits) → AllCells v zs → AllBelow (length v.sections) zs → HaveUnits v zs ss
@@ -292,8 +291,8 @@ asked-all v starts places (z ∷ zs) [] c b have names = absurd have
 asked-all v starts places (z ∷ zs) (s ∷ ss) c b have names = (
   c.0,
   have.0,
-  have.1,
-  asked-units v starts places z.number z.contents s.units c.0 b.0 names.0,
+  read-units v z.number s.units _ have.1,
+  asked-units v starts places z.number z.contents s.units c.0 (in-run v z.number _ s.units b.0 have.1) names.0,
   asked-all v starts places zs ss c.1 b.1 have.2 names.1,
 )
 

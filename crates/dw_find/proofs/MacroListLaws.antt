@@ -3,8 +3,6 @@ use Rattle.std.proofs.Common.{◌≡◌, ℕ, suc, ◌-◌, ◌<◌, arith, List
 use Rattle.dw_base.specs.Cells.{CellSection}
 use Rattle.dw_base.specs.DebugSections.{name_of}
 use Rattle.dw_base.specs.FileViews.{View, section_after, section_named}
-use Rattle.dw_base.specs.MacroFails.{MacroUnitsFail}
-use Rattle.dw_base.specs.MacroUnits.{AreMacroUnits}
 use Rattle.dw_base.specs.Refusals.{Blames}
 use Rattle.dw_base.specs.ViewData.{debug_data}
 use Rattle.dw_base.specs.declared.debug_sections.DebugSection.TheVariants.{Macro}
@@ -12,9 +10,10 @@ use Rattle.dw_base.specs.declared.fault.Fault.{Fault}
 use Rattle.dw_base.specs.declared.fault.Fault.TheVariants.{NoMemory, Refused}
 use Rattle.dw_base.specs.declared.fault.Refusal.{Refusal}
 use Rattle.dw_base.proofs.FileViewLaws.{section_after-within}
-use Rattle.dw_base.proofs.MacroRowLaws.{units-exclude}
 use Rattle.dw_meaning.proofs.MacroFirstLaws.{macros-all, macros-none, macros-some, macros_above, section_cells}
-use Rattle.dw_find.specs.MacroSections.{HaveUnits, SectionUnits, UnitsFailIn, units, UnitsFoundIn}
+use Rattle.dw_macros.specs.MacroOffsets.{AreReadUnits, UnitsRefuse, units as read_units, offsets as read_offsets}
+use Rattle.dw_macros.proofs.ExcludeLaws.{units-exclude-all}
+use Rattle.dw_find.specs.MacroSections.{HaveUnits, SectionUnits, UnitsFailIn, offsets, units, UnitsFoundIn}
 
 -- so many were found, and the next one comes behind
 pub record SectionsSo (v : View) (next : Option ℕ) (found : List SectionUnits) : Type 0 where
@@ -28,7 +27,7 @@ pub sections-none : (v : View) (next : Option ℕ) → next ≡ section_named v 
 unfolding debug_data section_named
 sections-none v next is = record { last = 0; done = []; split = macros-all v; next_is = is; have = tt }
 
-have-append : (v : View) (zs : List CellSection) (ss : List SectionUnits) (z : CellSection) (s : SectionUnits) → HaveUnits v zs ss → s.number ≡ z.number → AreMacroUnits v z.number s.units
+have-append : (v : View) (zs : List CellSection) (ss : List SectionUnits) (z : CellSection) (s : SectionUnits) → HaveUnits v zs ss → s.number ≡ z.number → AreReadUnits v z.number s.units
     → HaveUnits v (zs ++ z ∷ []) (ss ++ s ∷ [])
 have-append v [] [] z s h n u = (n, u, tt)
 have-append v [] (x ∷ xs) z s h n u = absurd h
@@ -37,7 +36,7 @@ have-append v (y ∷ ys) (x ∷ xs) z s h n u = (h.0, h.1, have-append v ys xs z
 
 -- one more
 pub sections-more : (v : View) (next after : Option ℕ) (found new : List SectionUnits) (i : ℕ) (s : SectionUnits) → SectionsSo v next found → next ≡ Some i → s.number ≡ i
-    → AreMacroUnits v i s.units → new ≡ found ++ s ∷ [] → after ≡ section_after v (name_of Macro) i → SectionsSo v after new
+    → AreReadUnits v i s.units → new ≡ found ++ s ∷ [] → after ≡ section_after v (name_of Macro) i → SectionsSo v after new
 sections-more v next after found new i s so some number are more is =
     let step = macros-some v so.last i (sym so.next_is ∙ some) in
     record {
@@ -56,21 +55,27 @@ sections-all v next found so none =
     record { units = subst (λ (zs : List CellSection). HaveUnits v zs found) (sym all) so.have }
 
 -- one that can't be read
-pub sections-fault : (v : View) (next : Option ℕ) (found : List SectionUnits) (i : ℕ) (f : Fault) → SectionsSo v next found → next ≡ Some i → Blames (MacroUnitsFail v i) f
+pub sections-fault : (v : View) (next : Option ℕ) (found : List SectionUnits) (i : ℕ) (f : Fault) → SectionsSo v next found → next ≡ Some i → Blames (UnitsRefuse v i) f
     → Blames (UnitsFailIn v) f
 sections-fault v next found i NoMemory so some b = tt
 sections-fault v next found i (Refused r) so some b =
-    units (section_cells v i) so.done (macros_above v i) (so.split ∙ ap (λ (zs : List CellSection). so.done ++ zs) (macros-some v so.last i (sym so.next_is ∙ some))) b
+    by_row (so.split ∙ ap (λ (zs : List CellSection). so.done ++ zs) (macros-some v so.last i (sym so.next_is ∙ some))) b
+  where
+    by_row : (debug_data v).macros ≡ so.done ++ section_cells v i ∷ macros_above v i → UnitsRefuse v i r → UnitsFailIn v r
+    by_row split (read_units f) = units (section_cells v i) so.done (macros_above v i) split f
+    by_row split (read_offsets list start u lt f) = offsets (section_cells v i) so.done (macros_above v i) split (read_offsets list start u lt f)
 
 -- those that were read exclude each refusal
-among : (v : View) (before behind : List CellSection) (z : CellSection) (ss : List SectionUnits) (r : Refusal) → HaveUnits v (before ++ z ∷ behind) ss → MacroUnitsFail v z.number r → ⊥
+among : (v : View) (before behind : List CellSection) (z : CellSection) (ss : List SectionUnits) (r : Refusal) → HaveUnits v (before ++ z ∷ behind) ss → UnitsRefuse v z.number r → ⊥
 among v [] behind z [] r h f = absurd h
-among v [] behind z (s ∷ ss) r h f = units-exclude v z.number s.units r h.1 f
+among v [] behind z (s ∷ ss) r h f = units-exclude-all v z.number s.units r h.1 f
 among v (y ∷ ys) behind z [] r h f = absurd h
 among v (y ∷ ys) behind z (s ∷ ss) r h f = among v ys behind z ss r h.2 f
 
 pub found-exclude : (v : View) (ss : List SectionUnits) (r : Refusal) → UnitsFoundIn v ss → UnitsFailIn v r → ⊥
-found-exclude v ss r found (units z before behind split f) = among v before behind z ss r (subst (λ (zs : List CellSection). HaveUnits v zs ss) split found.units) f
+found-exclude v ss r found (units z before behind split f) =
+    among v before behind z ss r (subst (λ (zs : List CellSection). HaveUnits v zs ss) split found.units) (read_units f)
+found-exclude v ss r found (offsets z before behind split f) = among v before behind z ss r (subst (λ (zs : List CellSection). HaveUnits v zs ss) split found.units) f
 
 -- the next one is a section of the view
 pub next-there : (v : View) (next : Option ℕ) (found : List SectionUnits) (i : ℕ) → SectionsSo v next found → next ≡ Some i → i < length v.sections

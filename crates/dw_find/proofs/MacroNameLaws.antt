@@ -3,7 +3,6 @@ use Rattle.std.proofs.Common.{◌≡◌, ℕ, ◌<◌, List, [], ◌∷◌, ◌+
 use Rattle.dw_base.specs.Cells.{CellSection}
 use Rattle.dw_base.specs.DebugData.{start_number}
 use Rattle.dw_base.specs.FileViews.{View}
-use Rattle.dw_base.specs.MacroUnits.{MacroUnitsUpTo, no_units, more_units}
 use Rattle.dw_base.specs.Refusals.{at}
 use Rattle.dw_base.specs.ViewData.{debug_data}
 use Rattle.dw_base.specs.declared.fault.Kind.TheVariants.{Stray}
@@ -12,6 +11,7 @@ use Rattle.dw_base.specs.declared.macro_units.MacroEvent.{MacroEvent}
 use Rattle.dw_base.specs.declared.macro_units.MacroEvent.TheVariants.{Import}
 use Rattle.dw_base.specs.declared.macro_units.MacroUnit.{MacroUnit}
 use Rattle.dw_macros.specs.MacroEvents.{IsUnitIn}
+use Rattle.dw_macros.specs.MacroOffsets.{UnitsReadUpTo, more_unit, no_unit}
 use Rattle.dw_macros.proofs.CallerLaws.{read-unit}
 use Rattle.dw_find.specs.MacroNames.{AllUnitsIn, AreUnitsIn, EventStray, LineStrays}
 use Rattle.dw_find.specs.MacroNames.EventStray.{import}
@@ -23,9 +23,9 @@ in-append : (v : View) (us : List MacroUnit) (u : MacroUnit) → AreUnitsIn v us
 in-append v [] u h k = (k, tt)
 in-append v (x ∷ xs) u h k = (h.0, in-append v xs u h.1 k)
 
-in-run : (v : View) (section place : ℕ) (us : List MacroUnit) → section < length v.sections → MacroUnitsUpTo v section us place → AreUnitsIn v us
-in-run v section place us there no_units = tt
-in-run v section place us there (more_units list u start before is) = in-append v list u (in-run v section start list there before) (read-unit v section start u there is)
+pub in-run : (v : View) (section place : ℕ) (us : List MacroUnit) → section < length v.sections → UnitsReadUpTo v section us place → AreUnitsIn v us
+in-run v section place us there no_unit = tt
+in-run v section place us there (more_unit list u start before is) = in-append v list u (in-run v section start list there before) (read-unit v section start u there is)
 
 all-in : (v : View) (zs : List CellSection) (ss : List SectionUnits) → HaveUnits v zs ss → AllBelow (length v.sections) zs → AllUnitsIn v ss
 all-in v [] [] h b = tt

@@ -12,6 +12,7 @@ use Rattle.dw_base.specs.ViewData.{debug_data, macro_sections}
 use Rattle.dw_base.specs.declared.macro_units.MacroUnit.{MacroUnit}
 use Rattle.dw_meaning.proofs.MacroPieceLaws.{Asked, EachUnit, PiecesRead, units-read}
 use Rattle.dw_meaning.proofs.MacroRowLaws.{cells-of}
+use Rattle.dw_macros.proofs.UnitListLaws.{read-units}
 use Rattle.dw_find.specs.IndexedTexts.{UnitsStart}
 use Rattle.dw_find.specs.LineStarts.{Rises}
 use Rattle.dw_find.specs.MacroSections.{HaveUnits, SectionUnits, UnitsFoundIn, first_places}
@@ -40,7 +41,7 @@ any-asked : (v : View) (zs : List CellSection) (ss : List SectionUnits) → AllC
 any-asked v [] [] c h = tt
 any-asked v [] (s ∷ ss) c h = absurd h
 any-asked v (z ∷ zs) [] c h = absurd h
-any-asked v (z ∷ zs) (s ∷ ss) c h = (c.0, h.0, h.1, any-unit v z s.units, any-asked v zs ss c.1 h.2)
+any-asked v (z ∷ zs) (s ∷ ss) c h = (c.0, h.0, read-units v z.number s.units _ h.1, any-unit v z s.units, any-asked v zs ss c.1 h.2)
 
 first-rises : (v : View) (zs : List CellSection) (ss : List SectionUnits) → AllAsked v Any zs ss → Rises (first_places ss)
 first-rises v [] [] a = record { rise = λ i j less lt. absurd (omega (arith, lt)) }

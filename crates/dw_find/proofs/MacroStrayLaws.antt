@@ -15,7 +15,7 @@ use Rattle.dw_base.specs.MacroHeaders.{has_flag, width_by, header_of, macro_head
 use Rattle.dw_base.specs.MacroOperations.{operation_at}
 use Rattle.dw_base.specs.MacroPieces.{OffsetUse, of_text, of_unit, OperationFront, whole, last, before_offset, MacroMode, at_unit, at_line, at_operation, at_offset, MacroState, macros_at, whole_by, front_of, FitsMacros, after_operation, mode_behind, macro_grammar, ReadsMacros}
 use Rattle.dw_base.specs.MacroReadings.{MacroReading, ReadsAllMacros}
-use Rattle.dw_base.specs.MacroUnits.{offset_at, is_end, IsMacroUnit, MacroUnitsUpTo, no_units, more_units, AreMacroUnits}
+use Rattle.dw_base.specs.MacroUnits.{offset_at, is_end}
 use Rattle.dw_base.specs.Numbers.{spelled}
 use Rattle.dw_base.specs.Pieces.{Piece, joined, Chain}
 use Rattle.dw_base.specs.Readings.{Readings}
@@ -52,6 +52,8 @@ use Rattle.dw_find.specs.MacroNames.MacrosStray.{section as section_stray}
 use Rattle.dw_find.specs.MacroNames.UnitStrays.{line as unit_line, events as unit_strays}
 use Rattle.dw_find.specs.MacroNames.UnitsStray.{unit as unit_stray}
 use Rattle.dw_find.specs.MacroSections.{HaveUnits, SectionUnits, UnitsFoundIn}
+use Rattle.dw_macros.specs.MacroOffsets.{AreReadUnits, IsReadUnit, UnitsReadUpTo, more_unit, no_unit}
+use Rattle.dw_macros.proofs.CallerLaws.{read-unit}
 use Rattle.dw_find.proofs.MacroAskedLaws.{bring-room, event-ends, event-same, event_read, field-there, header-events, line-room, line-there, lined_header, none-event, plain_header}
 use Rattle.dw_find.proofs.MacroHaveLaws.{AllBelow, AllCells, numbers-below}
 use Rattle.dw_find.proofs.MacroStartLaws.{all-cells}
@@ -427,24 +429,29 @@ pieces-behind v section cells xs width place end es c f (one_event p next q e re
     let o : EventOf v section width p next e = event-of v section width p next e is in
     pieces-behind v section cells xs width next q rest c (pieces-more v section cells xs width p next o.operation c f o.is o.more) s
 
+-- the events of a unit that was read
+own-events : (v : View) (section start : ℕ) (u : MacroUnit) → section < length v.sections → (is : IsReadUnit v section start u)
+    → SpellsEvents v section is.header.width is.header.first (unit_events v u) u.end
+own-events v section start u there is = header-events v section start u is.header is.end (read-unit v section start u there is) is.is
+
 unit-pieces : (v : View) (section : ℕ) (cells : List Cell) (xs : List (Piece MacroState)) (start : ℕ) (u : MacroUnit) → CellsOf v section cells → section < length v.sections
-    → IsMacroUnit v section start u → PiecesFrom v section cells xs (macros_at start at_unit) → PiecesFrom v section cells xs (macros_at u.end at_unit)
+    → IsReadUnit v section start u → PiecesFrom v section cells xs (macros_at start at_unit) → PiecesFrom v section cells xs (macros_at u.end at_unit)
 unit-pieces v section cells xs start u c there is f =
     pieces-behind v section cells xs is.header.width is.header.first u.end (unit_events v u) c (header-pieces v section cells xs start is.header c f is.header_is).behind
-    (header-events v section start u there is)
+    (own-events v section start u there is)
 
 units-pieces : (v : View) (section : ℕ) (cells : List Cell) (xs : List (Piece MacroState)) (place : ℕ) (us : List MacroUnit) → CellsOf v section cells → section < length v.sections
-    → PiecesFrom v section cells xs (macros_at 0 at_unit) → MacroUnitsUpTo v section us place → PiecesFrom v section cells xs (macros_at place at_unit)
-units-pieces v section cells xs place us c there f no_units = f
-units-pieces v section cells xs place us c there f (more_units list u start before is) =
+    → PiecesFrom v section cells xs (macros_at 0 at_unit) → UnitsReadUpTo v section us place → PiecesFrom v section cells xs (macros_at place at_unit)
+units-pieces v section cells xs place us c there f no_unit = f
+units-pieces v section cells xs place us c there f (more_unit list u start before is) =
     unit-pieces v section cells xs start u c there is (units-pieces v section cells xs start list c there f before)
 
 -- each unit of a section that was read, with those before it
 record UnitAt (v : View) (section : ℕ) (u : MacroUnit) : Type 0 where
   start : ℕ
   list : List MacroUnit
-  before : MacroUnitsUpTo v section list start
-  is : IsMacroUnit v section start u
+  before : UnitsReadUpTo v section list start
+  is : IsReadUnit v section start u
 
 abbrev UnitsAt : View → ℕ → List MacroUnit → Type 0
 UnitsAt v section [] = ⊤
@@ -454,9 +461,9 @@ units-append : (v : View) (section : ℕ) (us : List MacroUnit) (u : MacroUnit) 
 units-append v section [] u h k = (k, tt)
 units-append v section (x ∷ xs) u h k = (h.0, units-append v section xs u h.1 k)
 
-units-at : (v : View) (section place : ℕ) (us : List MacroUnit) → MacroUnitsUpTo v section us place → UnitsAt v section us
-units-at v section place us no_units = tt
-units-at v section place us (more_units list u start before is) =
+units-at : (v : View) (section place : ℕ) (us : List MacroUnit) → UnitsReadUpTo v section us place → UnitsAt v section us
+units-at v section place us no_unit = tt
+units-at v section place us (more_unit list u start before is) =
     units-append v section list u (units-at v section start list before) (record { start = start; list = list; before = before; is = is })
 
 unit-among : (v : View) (section : ℕ) (before behind : List MacroUnit) (u : MacroUnit) → UnitsAt v section (before ++ u ∷ behind) → UnitAt v section u
@@ -562,7 +569,7 @@ record SectionRead (v : View) (rs : List MacroReading) (s : SectionUnits) : Type
   number : reading.number ≡ place.number
   there : place.number < length v.sections
   cells : CellsOf v place.number place.contents
-  units : AreMacroUnits v place.number s.units
+  units : AreReadUnits v place.number s.units
   reads : ReadsMacros v.order place.contents reading.pieces
 
 section-read : (v : View) (zs : List CellSection) (rs first all : List MacroReading) (before behind : List SectionUnits) (s : SectionUnits) → all ≡ first ++ rs → AllCells v zs
@@ -662,7 +669,7 @@ import-fails v us starts places s u f reads tables units r a (event before behin
     let i : ImportIn v r.place.number r.place.contents r.reading.pieces a.is.header.width n field =
     import-in v r.place.number r.place.contents r.reading.pieces a.is.header.width a.is.header.first u.end (unit_events v u) before behind in_section n field r.cells
     (split ∙ ap (λ (x : MacroEvent). before ++ x ∷ behind) is)
-    (header-pieces v r.place.number r.place.contents r.reading.pieces a.start a.is.header r.cells first a.is.header_is).behind (header-events v r.place.number a.start u r.there a.is) in
+    (header-pieces v r.place.number r.place.contents r.reading.pieces a.start a.is.header r.cells first a.is.header_is).behind (own-events v r.place.number a.start u r.there a.is) in
     macro_stray (starts_with us tables.tables units.readings) (record { units = reads; lines = tables.are; macros = units.are })
     (subst (λ (k : ℕ). MacroStrayFails (around_of (debug_data v) (starts_with us tables.tables units.readings)) units.readings (at Stray k field)) (sym own)
     (import-row v us tables.tables places s a.is.header.width field n units r i none))

@@ -1,25 +1,26 @@
 -- String offsets of a view: their cells are plain, and they stand in their section.
 use Rattle.std.proofs.Common.{ℕ, List, length, Option, refl, sym, ap, ◌∙◌, subst}
-use Rattle.dw_base.specs.Cells.{bytes_of, plain_cells}
+use Rattle.dw_base.specs.Cells.{bytes_of}
 use Rattle.dw_base.specs.DebugSections.{name_of}
-use Rattle.dw_base.specs.OffsetPieces.{OffsetState, ReadsOffsets, at_contribution, offsets_at}
-use Rattle.dw_base.specs.declared.debug_sections.DebugSection.TheVariants.{StrOffsets}
-use Rattle.dw_base.proofs.PlainCellLaws.{IsPlain, bytes_of-plain, plain_cells-plain}
-use Rattle.dw_meaning.proofs.OffsetMoveLaws.{EachCells, cells-plain}
 use Rattle.dw_base.specs.FileViews.{View, section_named}
+use Rattle.dw_base.specs.OffsetPieces.{OffsetState, ReadsOffsets, at_contribution, offsets_at}
 use Rattle.dw_base.specs.Pieces.{Piece}
-use Rattle.dw_base.specs.ViewData.{debug_data, located, located_at}
+use Rattle.dw_base.specs.ViewData.{cells_located, debug_data, located_at}
+use Rattle.dw_base.specs.declared.debug_sections.DebugSection.TheVariants.{StrOffsets}
+use Rattle.dw_base.proofs.PlainCellLaws.{IsPlain}
+use Rattle.dw_base.proofs.ViewCellLaws.{bytes-cells}
+use Rattle.dw_meaning.proofs.OffsetMoveLaws.{EachCells, cells-plain}
+use Rattle.dw_find.proofs.PlainFieldLaws.{located-plain}
 use Rattle.dw_find.proofs.SlotPlaceLaws.{SlotsPlaced, slots-placed}
 
-pub offsets-plain : (v : View) (o : Option ℕ) (xs : List (Piece OffsetState)) → ReadsOffsets v.order (plain_cells (located_at v o).bytes) xs → EachCells xs
-offsets-plain v o xs r = cells-plain xs (subst IsPlain (sym r.cells) (plain_cells-plain (located_at v o).bytes))
+pub offsets-plain : (v : View) (o : Option ℕ) (xs : List (Piece OffsetState)) → ReadsOffsets v.order (cells_located v o).contents xs → EachCells xs
+offsets-plain v o xs r = cells-plain xs (subst IsPlain (sym r.cells) (located-plain v o))
 
-pub offsets-placed : (v : View) (o : Option ℕ) (xs : List (Piece OffsetState)) → ReadsOffsets v.order (plain_cells (located_at v o).bytes) xs → SlotsPlaced (located_at v o).bytes 0 xs
+pub offsets-placed : (v : View) (o : Option ℕ) (xs : List (Piece OffsetState)) → ReadsOffsets v.order (cells_located v o).contents xs → SlotsPlaced (located_at v o).bytes 0 xs
 offsets-placed v o xs r =
-    slots-placed v.order (located_at v o).bytes (offsets_at (length (plain_cells (located_at v o).bytes)) 0 0 at_contribution) 0 xs refl r.chain
-    (ap bytes_of r.cells ∙ bytes_of-plain (located_at v o).bytes)
+    slots-placed v.order (located_at v o).bytes (offsets_at (length (cells_located v o).contents) 0 0 at_contribution) 0 xs refl r.chain (ap bytes_of r.cells ∙ bytes-cells v o)
 
 pub offsets-of : (v : View) (xs : List (Piece OffsetState)) → ReadsOffsets (debug_data v).base.order (debug_data v).offsets.contents xs
-    → ReadsOffsets v.order (plain_cells (located_at v (section_named v (name_of StrOffsets))).bytes) xs
-unfolding debug_data located
+    → ReadsOffsets v.order (cells_located v (section_named v (name_of StrOffsets))).contents xs
+unfolding debug_data
 offsets-of v xs r = r

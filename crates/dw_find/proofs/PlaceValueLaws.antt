@@ -41,8 +41,7 @@ use Rattle.dw_find.specs.UnitPaths.{field_by, inline_text}
 use Rattle.dw_find.specs.declared.fields.InlinePath.{InlinePath}
 use Rattle.dw_find.specs.declared.fields.PathField.{PathField}
 use Rattle.dw_find.proofs.EntryRunLaws.{entries_places-more}
-use Rattle.dw_find.proofs.TakenLaws.{plain-at}
-use Rattle.dw_find.proofs.ValueRunLaws.{number-at_place}
+use Rattle.dw_find.proofs.PlainFieldLaws.{offset-number}
 use Rattle.dw_find.proofs.UnitTextLaws.{places-listed}
 use Rattle.dw_find.proofs.InlineTextLaws.{text-front}
 use Rattle.dw_find.proofs.ValueFactLaws.{OffsetRead, OffsetFacts, start-read, value-facts}
@@ -352,17 +351,6 @@ said-facts d z t p = by_place p.behind.is
     by_place (by_stray e) =
         let b = p.behind in
         subst (λ (s : TextPlace). SaidFacts s.says z s) (once (record { role = fixed; at = b.place; len = 0; says = no_start }) t e) tt
-
--- the offset in a field of plain cells
-pub offset-number : (o : Order) (z : Located) (cells : List Cell) (a n : ℕ) → IsPlain cells → a + n ≤ length (bytes_of cells)
-    → offset_of o z (cells_at cells a n) ≡ spelled o (bytes_of cells) a n
-offset-number o z cells a n plain room =
-    let size : length (cells_at cells a n) ≡ n = length-take-le n (drop a cells) (omega (arith, room, length-bytes_of cells, length-drop a cells)) in
-    let bytes : bytes_of (cells_at cells a n) ≡ take n (drop a (bytes_of cells)) = bytes_of-take n (drop a cells) ∙ ap (take n) (bytes_of-drop a cells) in
-    offset_of-plain o z (cells_at cells a n) (plain-at cells a n plain)
-    ∙ ap (λ (k : ℕ). spelled o (bytes_of (cells_at cells a n)) 0 k) size
-    ∙ ap (λ (bs : List ℕ). spelled o bs 0 n) bytes
-    ∙ number-at_place o (bytes_of cells) a n room
 
 field-each : (table : TextSection) (r : Role) (d : DebugData) (z : UnitSection) (t : TextPlace) → IsPlain z.contents → RoleFacts r d z t
     → PlaceNames r d (cells_at z.contents t.at t.len) → EachOf (IsPathField (offsets_of d table) (bytes_of z.contents)) (field_by table r t.at t.len)

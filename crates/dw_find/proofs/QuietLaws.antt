@@ -123,22 +123,22 @@ class-none GlobalRef place v e = refl
 class-none Signature place v e = refl
 class-none SecOffset place v e = refl
 
-class-names : (t : Tables) (c : ValueClass) (n : ℕ) → is_text_class c ≡ false → OffsetNames t c n
-class-names t Address n e = tt
-class-names t Number n e = tt
-class-names t Signed n e = tt
-class-names t Bytes n e = tt
-class-names t Flag n e = tt
-class-names t InlineText n e = tt
-class-names t StrOffset n e = absurd cc
-class-names t LineStrOffset n e = absurd cc
-class-names t StrIndex n e = absurd cc
-class-names t AddrIndex n e = tt
-class-names t ListIndex n e = tt
-class-names t LocalRef n e = tt
-class-names t GlobalRef n e = tt
-class-names t Signature n e = tt
-class-names t SecOffset n e = tt
+class-names : (t : Tables) (c : ValueClass) (v : Value) → is_text_class c ≡ false → OffsetNames t c v
+class-names t Address v e = tt
+class-names t Number v e = tt
+class-names t Signed v e = tt
+class-names t Bytes v e = tt
+class-names t Flag v e = tt
+class-names t InlineText v e = tt
+class-names t StrOffset v e = absurd cc
+class-names t LineStrOffset v e = absurd cc
+class-names t StrIndex v e = absurd cc
+class-names t AddrIndex v e = tt
+class-names t ListIndex v e = tt
+class-names t LocalRef v e = tt
+class-names t GlobalRef v e = tt
+class-names t Signature v e = tt
+class-names t SecOffset v e = tt
 
 -- what a quiet attribute isn't
 record Quiet (x : Spec) : Type 0 where
@@ -207,7 +207,7 @@ quiet-taken t params bytes (x ∷ xs) place all =
     by_value None is rest = tt
     by_value (Some v) is rest = (
       record {
-        names = class-names t v.class v.number (value-quiet params x bytes place v (quiet-parts x all.0).form is);
+        names = class-names t v.class v (value-quiet params x bytes place v (quiet-parts x all.0).form is);
       },
       rest (place + v.size),
     )

@@ -2,35 +2,41 @@
 -- data say alone; and what was read excludes what refuses.
 use Rattle.std.proofs.Common.{true, false, ◌≡◌, ℕ, Bool, if◌then◌else◌, nat_le, List, [], ◌∷◌, ◌++◌, length, drop, refl, sym, ap, ◌∙◌, subst, arith}
 use Rattle.std.proofs.lemmas.Bool.Decides.{nat_tests}
-use Rattle.dw_base.specs.Cells.{plain_cells}
+use Rattle.dw_base.specs.Cells.{CellSection, Located}
 use Rattle.dw_base.specs.DebugData.{DataReadings}
 use Rattle.dw_base.specs.FileViews.{View}
 use Rattle.dw_base.specs.IndexFails.{shared as shared_slot}
 use Rattle.dw_base.specs.InlinePaths.{inline_fits}
 use Rattle.dw_base.specs.LineTables.{LineTable}
-use Rattle.dw_base.specs.OffsetPieces.{ReadsOffsets}
 use Rattle.dw_base.specs.Paths.{PathMap, is_prefix, lies_under, mapped_path, path_map}
 use Rattle.dw_base.specs.Refusals.{Blames}
+use Rattle.dw_base.specs.RelocationRows.{moving_sections}
+use Rattle.dw_base.specs.StringOffsetFails.{ContributionsFail}
 use Rattle.dw_base.specs.ViewData.{debug_data, string_offsets}
 use Rattle.dw_base.specs.declared.fault.Fault.{Fault}
 use Rattle.dw_base.specs.declared.fault.Fault.TheVariants.{NoMemory, Refused}
 use Rattle.dw_base.specs.declared.fault.Refusal.{Refusal}
 use Rattle.dw_base.proofs.PathLaws.{lies_under-split}
+use Rattle.dw_base.proofs.ViewCellLaws.{offsets-located}
 use Rattle.dw_meaning.specs.DataFails.{InlineFails, grows, LinesFail}
 use Rattle.dw_meaning.specs.DataOutput.{DataReads}
 use Rattle.dw_meaning.proofs.DataRowLaws.{data-excludes}
 use Rattle.dw_meaning.proofs.LineRowLaws.{lines-exclude}
 use Rattle.dw_meaning.proofs.MacroRowLaws.{macros-exclude}
+use Rattle.dw_meaning.proofs.RelocationLaws.{left-none}
 use Rattle.dw_meaning.proofs.SlotRowLaws.{name_tables-exclude, slot_texts-exclude, string_tables-exclude}
 use Rattle.dw_meaning.proofs.StartRowLaws.{starts-exclude}
 use Rattle.dw_meaning.proofs.ValueRowLaws.{texts-exclude}
+use Rattle.dw_macros.specs.MacroOffsets.{UnitsRefuse}
+use Rattle.dw_offsets.specs.NameOffsets.{NamesRefuse}
 use Rattle.dw_find.specs.FoundPaths.{PathsFound, PathsRefuse}
-use Rattle.dw_find.specs.FoundPaths.PathsRefuse.{units as found_units, starts as found_starts, inline as found_inline, string_tables as found_string_tables, name_tables as found_name_tables, slots as found_slots, shared as found_shared}
-use Rattle.dw_find.specs.MacroSections.{SectionUnits, UnitsFailIn, UnitsFoundIn, units as section_fails}
+use Rattle.dw_find.specs.FoundPaths.PathsRefuse.{units as found_units, starts as found_starts, inline as found_inline, string_tables as found_string_tables, name_tables as found_name_tables, name_offsets as found_name_offsets, relocations as found_relocations, slots as found_slots, shared as found_shared}
+use Rattle.dw_find.specs.MacroSections.{SectionUnits, UnitsFailIn, UnitsFoundIn, units as section_fails, offsets as section_offsets}
 use Rattle.dw_find.specs.ReadData.{DataRead, DataRefuses}
-use Rattle.dw_find.specs.ReadData.DataRefuses.{units, starts, string_tables, slots, name_tables, lines, macros}
+use Rattle.dw_find.specs.ReadData.DataRefuses.{units, starts, string_tables, slots, name_tables, name_offsets, relocations, lines, macros}
 use Rattle.dw_find.specs.UnitPaths.{UnitPaths}
-use Rattle.dw_find.specs.UnitTexts.{data_fails, text_fails}
+use Rattle.dw_find.specs.UnitTexts.{data_fails, header_fails, relocation_fails, text_fails}
+use Rattle.dw_find.proofs.PlainViewLaws.{headers-plain, names-fail, no-relocations, units-fail, values-plain}
 
 -- such a map leaves each path
 same-path : (m : PathMap) (t : List ℕ) → m.base ≡ m.dest → mapped_path m t ≡ t
@@ -61,6 +67,8 @@ row-same m v r same (found_starts h) = starts h
 row-same m v r same (found_inline h) = absurd (inline-never m v r same h)
 row-same m v r same (found_string_tables h) = string_tables h
 row-same m v r same (found_name_tables h) = name_tables h
+row-same m v r same (found_name_offsets h) = name_offsets h
+row-same m v r same (found_relocations h) = relocations h
 row-same m v r same (found_slots h) = slots h
 row-same m v r same (found_shared readings i (shared_slot x there path other changes)) = absurd (changes (same-path m _ same))
 
@@ -78,7 +86,14 @@ macros-fault v (Refused r) h = macros h
 
 pub data-read : (m : PathMap) (v : View) (us : List UnitPaths) (ts slice : List LineTable) (ss : List SectionUnits) → slice ≡ ts → PathsFound m v us slice → UnitsFoundIn v ss
     → DataRead v ts ss
-data-read m v us ts slice ss same f units_ = record { readings = f.readings; reads = f.reads; tables = sym same ∙ f.tables; units = units_ }
+data-read m v us ts slice ss same f units_ = record {
+  readings = f.readings;
+  reads = f.reads;
+  tables = sym same ∙ f.tables;
+  units = units_;
+  name_list = f.name_list;
+  names_read = f.names_read;
+}
 
 -- those of a slice of the sections are those of the sections
 pub slice-units : (v : View) (ss slice : List SectionUnits) → slice ≡ ss → UnitsFoundIn v ss → UnitsFoundIn v slice
@@ -96,19 +111,32 @@ is-word = refl
 pub ruleset map_rules = (same-ends, is-word)
 
 -- what was read excludes each row
-offsets-plain : (v : View) (rs : DataReadings) → DataReads (debug_data v) rs → ReadsOffsets v.order (plain_cells (string_offsets v).bytes) rs.offsets
+strings-exclude : (v : View) (rs : DataReadings) (r : Refusal) → DataReads (debug_data v) rs → ContributionsFail v.order (string_offsets v) r → ⊥
 unfolding debug_data
-offsets-plain v rs reads = reads.offsets
+strings-exclude v rs r reads f =
+    string_tables-exclude v.order (debug_data v).offsets rs.offsets r reads.offsets (subst (λ (z : Located). ContributionsFail v.order z r) (sym (offsets-located v)) f)
+
+names-exclude : (v : View) (rs : DataReadings) (r : Refusal) → DataReads (debug_data v) rs → NamesRefuse v r → ⊥
+names-exclude v rs r reads f = name_tables-exclude v rs r reads (names-fail v r f)
+
+units-exclude : (v : View) (rs : DataReadings) (before behind : List CellSection) (z : CellSection) (r : Refusal) → DataReads (debug_data v) rs
+    → (debug_data v).macros ≡ before ++ z ∷ behind → UnitsRefuse v z.number r → ⊥
+units-exclude v rs before behind z r reads split f = macros-exclude v rs before behind z r reads split (units-fail v z.number r f)
 
 pub data_read-excludes : (v : View) (rs : DataReadings) (r : Refusal) → DataReads (debug_data v) rs → DataRefuses v r → ⊥
 data_read-excludes v rs r reads (units (data_fails f)) = data-excludes (debug_data v) rs r reads f
 data_read-excludes v rs r reads (units (text_fails f)) = texts-exclude (debug_data v) rs r reads f
+data_read-excludes v rs r reads (units (header_fails before behind z split f)) = headers-plain v before behind z r split f
+data_read-excludes v rs r reads (units (relocation_fails f)) = values-plain v r f
 data_read-excludes v rs r reads (starts f) = starts-exclude (debug_data v) rs r reads f
-data_read-excludes v rs r reads (string_tables f) = string_tables-exclude v.order (string_offsets v) rs.offsets r (offsets-plain v rs reads) f
+data_read-excludes v rs r reads (string_tables f) = strings-exclude v rs r reads f
+data_read-excludes v rs r reads (name_offsets f) = names-exclude v rs r reads f
+data_read-excludes v rs r reads (relocations f) = left-none (debug_data v) (moving_sections v) r (no-relocations v) f
 data_read-excludes v rs r reads (slots f) = slot_texts-exclude (debug_data v) rs r reads f
 data_read-excludes v rs r reads (name_tables f) = name_tables-exclude v rs r reads f
 data_read-excludes v rs r reads (lines f) = lines-exclude (debug_data v) rs.lines r reads.lines f
 data_read-excludes v rs r reads (macros (section_fails z before behind split f)) = macros-exclude v rs before behind z r reads split f
+data_read-excludes v rs r reads (macros (section_offsets z before behind split f)) = units-exclude v rs before behind z r reads split f
 
 pub found-excludes : {m : PathMap} {v : View} {us : List UnitPaths} {ts : List LineTable} (r : Refusal) → PathsFound m v us ts → DataRefuses v r → ⊥
 found-excludes {m} {v} r found f = data_read-excludes v found.readings r found.reads f

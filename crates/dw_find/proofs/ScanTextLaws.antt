@@ -4,6 +4,7 @@ use Rattle.std.specs.Prelude.{Result, Ok, Err}
 use Rattle.std.specs.Option.{IfSome}
 use Rattle.std.proofs.lemmas.List.{length-append, length-take}
 use Rattle.dw_base.specs.AbbreviationTables.{Abbreviation}
+use Rattle.dw_base.specs.Cells.{bytes_of}
 use Rattle.dw_base.specs.EntryScans.{SpellsValues, no_values, more_values, IsEntry, scanned, Scans, starts, null, entry as an_entry, AreEntries, EntryFails}
 use Rattle.dw_base.specs.EntryValues.{HasUnit, bytes_up_to}
 use Rattle.dw_base.specs.FileViews.{View, section_bytes}
@@ -19,13 +20,14 @@ use Rattle.dw_base.specs.declared.units.Scanned.{Scanned}
 use Rattle.dw_base.specs.declared.units.UnitHeader.{UnitHeader}
 use Rattle.dw_base.specs.declared.values.Spec.{Spec}
 use Rattle.dw_base.proofs.LebLaws.{uleb_at-size}
+use Rattle.dw_base.proofs.UnitEditLaws.{length-bytes_of}
 use Rattle.dw_meaning.proofs.ValueCutLaws.{uleb-inside}
 use Rattle.dw_entries.specs.ScanStates.{ScanState, scan_start, HasGiven, GivesEntry, GivesRefusal, GivesNothing, Gives}
 use Rattle.dw_entries.specs.ViewUnits.{unit_section_at}
 use Rattle.dw_entries.proofs.HasUnitLaws.{IsUnitOfView, unit-of-view}
 use Rattle.dw_find.specs.EntryTexts.{Tables, Found, with_places}
 use Rattle.dw_find.specs.TextPlaces.{entry_places, entries_places}
-use Rattle.dw_find.specs.UnitTexts.{IsGiven, EntryTaken, EntriesTaken, EntryRefuses, ScanTaken, UnitRefuses, entries, entry}
+use Rattle.dw_find.specs.UnitTexts.{IsGiven, EntryTaken, EntriesTaken, EntryRefuses, ScanTaken, UnitRefuses, entries, entry, tables_of}
 use Rattle.dw_find.proofs.EntryRunLaws.{entries_places-more}
 use Rattle.dw_find.proofs.EntryTextLaws.{with_places-more, with_places-none}
 use Rattle.dw_find.proofs.ValueFactLaws.{value-inside}
@@ -259,6 +261,13 @@ unit-length v h bs u is =
     let end = unit-end v h bs u is in
     omega (arith, end, length-take h.end bs)
 
+pub unit-within : (v : View) (h : UnitHeader) (bs : List ℕ) (t : Tables) → HasUnit (debug_data v) (unit_section_at v h.section) h → bs ≡ section_bytes v h.section
+    → t ≡ tables_of (debug_data v) (unit_section_at v h.section) → length (take h.end bs) ≤ length t.cells
+unit-within v h bs t u is same =
+    let size : length (take h.end bs) ≡ length (bytes_up_to (unit_section_at v h.section) h) = ap (λ (x : List ℕ). length x) (unit-bytes v h bs u is) in
+    let cells : length t.cells ≡ length (unit_section_at v h.section).contents = ap (λ (x : Tables). length x.cells) same in
+    omega (arith, size, cells, length-take h.end (bytes_of (unit_section_at v h.section).contents), length-bytes_of (unit_section_at v h.section).contents)
+
 pub unit-small : (h : UnitHeader) (bs : List ℕ) → length bs ≤ 2 ^ 31 → length (take h.end bs) ≤ 2 ^ 31
 unit-small h bs small = omega (arith, small, length-take h.end bs)
 
@@ -272,4 +281,4 @@ pub unit-refused : (t : Tables) (v : View) (h : UnitHeader) (table : List Abbrev
     → Blames (UnitRefuses t h table (bytes_up_to (unit_section_at v h.section) h)) f
 unit-refused t v h table bs f u is b = subst (λ (x : List ℕ). Blames (UnitRefuses t h table x) f) (unit-bytes v h bs u is) b
 
-pub ruleset unit_rules = (unit-end, unit-address, unit-small, unit-taken, unit-refused)
+pub ruleset unit_rules = (unit-end, unit-address, unit-within, unit-small, unit-taken, unit-refused)

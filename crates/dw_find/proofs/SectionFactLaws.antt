@@ -10,7 +10,8 @@ use Rattle.dw_base.specs.Paths.{PathMap}
 use Rattle.dw_base.specs.UnitHeaders.{UnitSection}
 use Rattle.dw_base.specs.ViewData.{debug_data, unit_sections}
 use Rattle.dw_base.specs.declared.fault.Refusal.{Refusal}
-use Rattle.dw_base.proofs.PlainCellLaws.{IsPlain, plain_cells-plain, bytes_of-plain}
+use Rattle.dw_base.proofs.PlainCellLaws.{IsPlain}
+use Rattle.dw_base.proofs.ViewCellLaws.{bytes_of-view_cells, view_cells-plain}
 use Rattle.dw_entries.specs.Fronts.{IsOfView}
 use Rattle.dw_entries.proofs.HasUnitLaws.{section-at, is-unit_section}
 use Rattle.dw_entries.proofs.UnitSectionLaws.{is-of-view}
@@ -42,10 +43,10 @@ own-section v before behind z split =
     subst (IsOfView v z.number) (section-at v before behind z e) (is-of-view v z.number (is-unit_section v before behind z e))
 
 pub own-bytes : (v : View) (z : UnitSection) → IsOfView v z.number z → bytes_of z.contents ≡ section_bytes v z.number
-own-bytes v z of = ap bytes_of of.contents ∙ bytes_of-plain (section_bytes v z.number)
+own-bytes v z of = ap bytes_of of.contents ∙ bytes_of-view_cells v z.number
 
 pub own-plain : (v : View) (z : UnitSection) → IsOfView v z.number z → IsPlain z.contents
-own-plain v z of = subst IsPlain (sym of.contents) (plain_cells-plain (section_bytes v z.number))
+own-plain v z of = subst IsPlain (sym of.contents) (view_cells-plain v z.number)
 
 pub says-number : (d : DebugData) (z : UnitSection) (u : UnitPaths) → SectionSays d z u → u.number ≡ z.number
 says-number d z u s = ap (λ (x : UnitPaths). x.number) s.says

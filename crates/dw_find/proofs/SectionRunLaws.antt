@@ -3,13 +3,14 @@ use Rattle.std.proofs.Common.{◌≡◌, ℕ, ◌+◌, ◌-◌, List, length, ta
 use Rattle.std.proofs.lemmas.Bool.{eq-eqb}
 use Rattle.std.proofs.lemmas.List.{length-take-le, take-append-drop, drop_all}
 use Rattle.dw_base.specs.AbbreviationBytes.{abbreviations_at}
-use Rattle.dw_base.specs.AbbreviationTables.{Abbreviation, IsTable}
+use Rattle.dw_base.specs.AbbreviationTables.{Abbreviation}
 use Rattle.dw_base.specs.Cells.{Cell, Located}
 use Rattle.dw_base.specs.DebugData.{units_in}
 use Rattle.dw_base.specs.EntryScans.{AreEntries}
 use Rattle.dw_base.specs.EntryValues.{bytes_up_to}
 use Rattle.dw_base.specs.UnitHeaders.{UnitBase, UnitSection, unit_header, IsUnit}
 use Rattle.dw_base.specs.UnitPieces.{IsHeader, ReadsUnits, unit_grammar}
+use Rattle.dw_base.specs.UnitTables.{IsUnitTable}
 use Rattle.dw_base.specs.Pieces.{Piece, Leads, joined}
 use Rattle.dw_base.specs.TextIndexes.{SaidBase, IndexUse, bases_in, uses_in}
 use Rattle.dw_base.specs.UnitStates.{UnitState, before_unit, between, headed, after_header}
@@ -36,7 +37,7 @@ in_headed base z start unit h = headed base (before z start unit) h
 
 -- the header is a piece
 header-run : (base : UnitBase) (z : UnitSection) (start unit : ℕ) (h : UnitHeader) (table : List Abbreviation) → IsUnit base z start h
-    → HeaderPlaced z start h → IsTable base.abbrevs.bytes h.abbrevs table
+    → HeaderPlaced z start h → IsUnitTable base h table
     → PlacedRun base z.contents z.number unit (before z start unit) (between (in_headed base z start unit h) h.first 0 0) start h.first []
 header-run base z start unit h table u placed t =
     let n : ℕ = h.first - start in
@@ -54,7 +55,7 @@ header-run base z start unit h table u placed t =
       size = whole;
       own = u.whole;
       within = u.within;
-      table = subst (λ (list : List Abbreviation). IsTable base.abbrevs.bytes h.abbrevs list) (sym (table-found base.abbrevs.bytes h.abbrevs table t)) t;
+      table = subst (IsUnitTable base h) (sym (table-found base.abbrevs.bytes h.abbrevs table t.is)) t;
     } in
     let next : after_header base (before z start unit) (start + length (take (h.first - start) (drop start z.contents)))
     (unit_header base z.kind z.number start (take (h.first - start) (drop start z.contents))) ≡ between (in_headed base z start unit h) h.first 0 0 =
@@ -71,11 +72,11 @@ unit-ends s e = rw (eq-eqb s.header.end s.header.end refl) refl
 
 -- a unit is pieces
 unit-run : (base : UnitBase) (z : UnitSection) (start unit : ℕ) (h : UnitHeader) (table : List Abbreviation) (items : List Scanned) → IsUnit base z start h
-    → HeaderPlaced z start h → IsTable base.abbrevs.bytes h.abbrevs table → AreEntries h table (bytes_up_to z h) items
+    → HeaderPlaced z start h → IsUnitTable base h table → AreEntries h table (bytes_up_to z h) items
     → PlacedRun base z.contents z.number unit (before z start unit) (before z h.end (unit + 1)) start h.end (entries_places h.params table (bytes_up_to z h) 0 items)
 unit-run base z start unit h table items u placed t entries =
     let order : h.params.order ≡ base.order = (header-of base z start h u.header).order in
-    let same : abbreviations_at base.abbrevs.bytes h.abbrevs ≡ table = table-found base.abbrevs.bytes h.abbrevs table t in
+    let same : abbreviations_at base.abbrevs.bytes h.abbrevs ≡ table = table-found base.abbrevs.bytes h.abbrevs table t.is in
     let own : AreEntries h (abbreviations_at base.abbrevs.bytes h.abbrevs) (bytes_up_to z h) items =
     subst (λ (list : List Abbreviation). AreEntries h list (bytes_up_to z h) items) (sym same) entries in
     let all : List TextPlace = entries_places h.params (abbreviations_at base.abbrevs.bytes h.abbrevs) (bytes_up_to z h) 0 items in

@@ -15,7 +15,7 @@ use Rattle.dw_find.specs.declared.fields.TextIndex.{TextIndex}
 use Rattle.dw_find.specs.UnitTexts.{tables_of, ScanTaken, OneTaken, IsUnitTaken, UnitsTaken, SectionIndexed}
 use Rattle.dw_find.proofs.EntryTextLaws.{with_paths-more, with_paths-none}
 use Rattle.dw_find.proofs.SlotRunLaws.{units-none, units-one, units-more}
-use Rattle.dw_find.proofs.TakenLaws.{UnitCells, names-append, entries-names}
+use Rattle.dw_find.proofs.TakenLaws.{names-append, entries-names}
 
 -- the units of a section from a place on, front first
 abbrev pub UnitsFrom : UnitBase → UnitSection → ℕ → List UnitHeader → ℕ → Type 0
@@ -131,11 +131,11 @@ paths-say p old found here start is = ap (λ (x : Found). x.paths) (is ∙ ap (�
 
 -- one unit more
 pub section-more : (d : DebugData) (z : UnitSection) (list : List UnitHeader) (i : ℕ) (old new : Found) (h : UnitHeader) (first now next_slots : Slots) → i < length list
-    → h ≡ get_or list i h → h.section ≡ z.number → UnitCells d z.contents h.params h.end → SectionPass d z list i old first now
+    → h ≡ get_or list i h → h.section ≡ z.number → SectionPass d z list i old first now
     → OneTaken d z h old new now next_slots → SectionPass d z list (i + 1) new first next_slots
-section-more d z list i old new h first now next_slots lt is section cells p one =
+section-more d z list i old new h first now next_slots lt is section p one =
     let next = next-unit d z list i old first now h lt is p in
-    let s : ScanTaken (tables_of d) h one.table (bytes_up_to z h) old one.found = one.scan in
+    let s : ScanTaken (tables_of d z) h one.table (bytes_up_to z h) old one.found = one.scan in
     let here : List TextPlace = entries_places h.params one.table (bytes_up_to z h) 0 s.items in
     let before_ : UnitPaths = with_paths (no_paths z.number) p.places in
     record {
@@ -148,7 +148,7 @@ section-more d z list i old new h first now next_slots lt is section cells p one
       rest = next.1;
       taken = subst (UnitsTaken d z) (sym (behind list h i lt is))
           (units-append d z (take i list) h p.taken (record { table = one.table; declares = one.declares; items = s.items; entries = s.entries; taken = s.taken }));
-      names = names-append d z.contents p.places here p.names (entries-names d z.contents h.params one.table h.end 0 s.items cells s.taken);
+      names = names-append d z.contents p.places here p.names (entries-names d z h.params one.table (bytes_up_to z h) 0 s.items s.taken);
       found_is =
           one.ends ∙ ap none_found (paths-say before_ old one.found here p.found_is s.found ∙ with_paths-more (no_paths z.number) p.places here);
       slots = units-more p.units (record { section = z.number; places = here } ∷ []) first now next_slots p.slots

@@ -52,8 +52,8 @@ use Rattle.dw_find.specs.UnitPaths.{UnitPaths, paths_in, paths_of, macro_by, mac
 use Rattle.dw_find.specs.UnitTexts.{AllTaken}
 use Rattle.dw_find.specs.declared.fields.PathField.{PathField}
 use Rattle.dw_find.proofs.FoundLaws.{FoundReadings, found-readings}
-use Rattle.dw_find.proofs.PlaceValueLaws.{EachOf, each-get, offset-number}
-use Rattle.dw_find.proofs.TakenLaws.{plain-at}
+use Rattle.dw_find.proofs.PlaceValueLaws.{EachOf, each-get}
+use Rattle.dw_find.proofs.PlainFieldLaws.{offset-number, plain-at}
 use Rattle.dw_find.proofs.PlacedLaws.{Placed, placed}
 use Rattle.dw_find.proofs.PieceFieldLaws.{piece_number}
 use Rattle.dw_find.proofs.SectionFactLaws.{has-paths, own-section, own-bytes, own-plain, paths-at, says-bytes, taken-placed}

@@ -1,5 +1,5 @@
 -- The value of an attribute whose form is an offset of a text in `.debug_str`.
-use Rattle.std.proofs.Common.{◌≡◌, ℕ, List, Some, refl, sym, ap, ◌∙◌}
+use Rattle.std.proofs.Common.{◌≡◌, ℕ, List, length, Some, refl, sym, ap, ◌∙◌}
 use Rattle.dw_base.specs.Forms.{ValueKind, form_rows, in_str, kind_in, text_offset, width_size}
 use Rattle.dw_base.specs.Numbers.{number_at}
 use Rattle.dw_base.specs.Values.{number_value, value_at, value_by, value_of}
@@ -8,9 +8,9 @@ use Rattle.dw_base.specs.declared.shared.Params.{Params}
 use Rattle.dw_base.specs.declared.values.Spec.{Spec}
 use Rattle.dw_base.specs.declared.values.Value.{Value}
 use Rattle.dw_base.specs.declared.values.ValueClass.TheVariants.{StrOffset}
-use Rattle.dw_find.specs.EntryTexts.{IsStrValue, OffsetSized, StartSized}
+use Rattle.dw_find.specs.EntryTexts.{IsStrValue, OffsetLies, OffsetSized, StartSized}
 use Rattle.dw_find.specs.TextPlaces.{own_form}
-use Rattle.dw_find.proofs.ValueFactLaws.{start-read, value-sized}
+use Rattle.dw_find.proofs.ValueFactLaws.{start-read, value-lies, value-sized}
 
 pub str-read : (params : Params) (bytes : List ℕ) (place size n : ℕ) → size ≡ width_size params.width → Some n ≡ number_at params.order bytes place size
     → IsStrValue params bytes place (record { class = StrOffset; number = n; at = place; len = size; size = size })
@@ -40,4 +40,8 @@ pub str-start : (params : Params) (x : Spec) (bytes : List ℕ) (place : ℕ) (v
 str-start params x bytes place v form s =
     record { sized = λ is. (start-read params x bytes place v (str-value params x bytes place v form s) is).sized }
 
-pub ruleset in_rules = (str-value, str-sized, str-start)
+pub str-lies : (params : Params) (x : Spec) (bytes : List ℕ) (place : ℕ) (v : Value) → x.form ≡ DW_FORM_strp → IsStrValue params bytes place v
+    → OffsetLies (length bytes) v.class v
+str-lies params x bytes place v form s = value-lies params x bytes place v (str-value params x bytes place v form s)
+
+pub ruleset in_rules = (str-value, str-sized, str-lies, str-start)

@@ -1,56 +1,53 @@
 -- The units of a view: what is known of one, and its rows.
-use Rattle.std.proofs.Common.{◌≡◌, ℕ, ◌+◌, ◌<◌, List, [], length, get_or, Option, Some, None, sym, ◌∙◌, subst}
+use Rattle.std.proofs.Common.{false, ◌≡◌, ℕ, ◌+◌, ◌<◌, List, [], length, get_or, Option, Some, None, sym, ap, ◌∙◌, subst}
 use Rattle.dw_base.specs.AbbreviationFails.{AbbreviationFails}
 use Rattle.dw_base.specs.AbbreviationTables.{Abbreviation, IsTable}
 use Rattle.dw_meaning.specs.DataFails.DataFails.{unit as unit_fails, table as table_fails}
+use Rattle.dw_base.specs.Cells.{Cell}
 use Rattle.dw_base.specs.DebugData.{DebugData}
 use Rattle.dw_base.specs.DebugSections.{name_of}
 use Rattle.dw_base.specs.EntryValues.{HasUnit, bytes_up_to}
-use Rattle.dw_base.specs.FileViews.{View, section_bytes, section_named}
+use Rattle.dw_base.specs.FileViews.{View, section_bytes, section_named, view_cells}
 use Rattle.dw_base.specs.Refusals.{Blames}
-use Rattle.dw_base.specs.UnitFails.{UnitFails}
 use Rattle.dw_base.specs.UnitHeaders.{UnitSection}
+use Rattle.dw_base.specs.UnitTables.{IsUnitTable, UnitTableFails, table_fails as row_fails}
 use Rattle.dw_base.specs.ViewData.{debug_data, located, located_at, unit_sections}
 use Rattle.dw_base.specs.declared.debug_sections.DebugSection.TheVariants.{Abbrev}
 use Rattle.dw_base.specs.declared.fault.Fault.{Fault}
 use Rattle.dw_base.specs.declared.fault.Fault.TheVariants.{NoMemory, Refused}
+use Rattle.dw_base.specs.declared.fault.Refusal.{Refusal}
 use Rattle.dw_base.specs.declared.units.UnitHeader.{UnitHeader}
-use Rattle.dw_base.proofs.PlainCellLaws.{IsPlain, plain_cells-plain}
 use Rattle.dw_entries.specs.Fronts.{IsOfView}
+use Rattle.dw_entries.specs.HeaderRows.{HeadersRefuse, offsets, units}
 use Rattle.dw_entries.specs.ViewUnits.{IsUnitSection, numbered, unit_base, unit_section_at}
-use Rattle.dw_entries.proofs.UnitSectionLaws.{of-view, is-of-view}
-use Rattle.dw_entries.proofs.HasUnitLaws.{numbered-section}
-use Rattle.dw_find.specs.EntryTexts.{Tables, Found, none_found}
+use Rattle.dw_entries.proofs.UnitSectionLaws.{is-of-view}
+use Rattle.dw_find.specs.EntryTexts.{Tables, TextTables, Found, none_found}
 use Rattle.dw_find.specs.NamedSlots.{Slots, TakesIndexes}
-use Rattle.dw_find.specs.UnitTexts.{OneTaken, ScanTaken, UnitRefuses, UnitsRefuse, data_fails, tables_of}
+use Rattle.dw_find.specs.UnitTexts.{OneTaken, ScanTaken, UnitRefuses, UnitsRefuse, data_fails, header_fails, tables_of, texts_of}
 use Rattle.dw_find.proofs.HeaderLaws.{header-of}
 use Rattle.dw_find.proofs.RowLaws.{unit-row}
 use Rattle.dw_find.proofs.SectionTextLaws.{SectionPass, section-starts, section-more, section-ends, unit-there, Stands, stands-numbered}
-use Rattle.dw_find.proofs.TakenLaws.{UnitCells}
-
--- a unit of debug data whose section has plain cells
-pub unit-cells : (d : DebugData) (z : UnitSection) (h : UnitHeader) → HasUnit d z h → IsPlain z.contents → UnitCells d z.contents h.params h.end
-unit-cells d z h u plain = record { plain = plain; order = (header-of d.base z u.start h u.is.header).order }
 
 unit-section : (d : DebugData) (z : UnitSection) (h : UnitHeader) → HasUnit d z h → h.section ≡ z.number
 unit-section d z h u = (header-of d.base z u.start h u.is.header).section
-
--- the sections of a view have plain cells
-view-plain : (v : View) (i : ℕ) (z : UnitSection) → numbered (unit_sections v) i ≡ Some z → IsPlain z.contents
-view-plain v i z e =
-    let of : IsOfView v i z = of-view v i z e in
-    subst IsPlain (sym of.contents) (plain_cells-plain (section_bytes v i))
 
 -- the section of a unit of a view is the one of its number
 data-numbered : (v : View) (i : ℕ) (z : UnitSection) → numbered (unit_sections v) i ≡ Some z → numbered (debug_data v).units i ≡ Some z
 unfolding debug_data
 data-numbered v i z e = e
 
-pub unit-numbered : (v : View) (h : UnitHeader) → HasUnit (debug_data v) (unit_section_at v h.section) h → IsPlain (unit_section_at v h.section).contents
+-- the texts of a unit section of a view
+pub tables-are : (v : View) (i : ℕ) (t : TextTables) → IsUnitSection v i → t ≡ texts_of (debug_data v)
+    → record { order = v.order; number = i; cells = view_cells v i; str = t.str; line_str = t.line_str } ≡ tables_of (debug_data v) (unit_section_at v i)
 unfolding debug_data
-unit-numbered v h u =
-    let z : UnitSection = unit_section_at v h.section in
-    view-plain v (unit_section_at v h.section).number (unit_section_at v h.section) (numbered-section v u.before u.behind (unit_section_at v h.section) u.sections)
+tables-are v i t there same =
+    let of : IsOfView v i (unit_section_at v i) = is-of-view v i there in
+    ap (λ (n : ℕ). record { order = v.order; number = n; cells = view_cells v i; str = t.str; line_str = t.line_str }) (sym of.number)
+    ∙ ap (λ (cs : List Cell). record { order = v.order; number = (unit_section_at v i).number; cells = cs; str = t.str; line_str = t.line_str }) (sym of.contents)
+    ∙ ap (λ (y : TextTables). record { order = v.order; number = (unit_section_at v i).number; cells = (unit_section_at v i).contents; str = y.str; line_str = y.line_str }) same
+
+pub section-within : (v : View) (i : ℕ) → IsUnitSection v i → i < length v.sections
+section-within v i there = (is-of-view v i there).there
 
 -- the table of abbreviations, where its section was found
 pub table-some : (v : View) (i at : ℕ) (bytes : List ℕ) (t : List Abbreviation) → section_named v (name_of Abbrev) ≡ Some i → bytes ≡ section_bytes v i → IsTable bytes at t
@@ -80,20 +77,29 @@ refused-none v at f found h =
 pub ruleset table_rules = (table-some, table-none, refused-some, refused-none)
 
 -- a table that can't be read
-pub table-row : (d : DebugData) (z : UnitSection) (h : UnitHeader) (f : Fault) → HasUnit d z h
-    → Blames (AbbreviationFails d.base.abbrevs.bytes d.base.abbrevs.number h.abbrevs) f → Blames (UnitsRefuse d) f
-table-row d z h NoMemory u b = tt
-table-row d z h (Refused r) u b = data_fails (table_fails z h u b)
+pub table-row : (d : DebugData) (z : UnitSection) (h : UnitHeader) (at : ℕ) (f : Fault) → HasUnit d z h → at ≡ h.abbrevs
+    → Blames (AbbreviationFails d.base.abbrevs.bytes d.base.abbrevs.number at) f → Blames (UnitsRefuse d) f
+table-row d z h at NoMemory u same b = tt
+table-row d z h at (Refused r) u same b =
+    data_fails (table_fails z h u (row_fails (subst (λ (n : ℕ). AbbreviationFails d.base.abbrevs.bytes d.base.abbrevs.number n r) same b)))
+
+pub elsewhere-row : (d : DebugData) (z : UnitSection) (h : UnitHeader) (r : Refusal) → HasUnit d z h → UnitTableFails d.base h r → UnitsRefuse d r
+elsewhere-row d z h r u f = data_fails (table_fails z h u f)
+
+-- its own table
+pub unit-table : (d : DebugData) (h : UnitHeader) (at : ℕ) (table : List Abbreviation) → h.elsewhere ≡ false → at ≡ h.abbrevs → IsTable d.base.abbrevs.bytes at table
+    → IsUnitTable d.base h table
+unit-table d h at table here same is = record { here = here; is = subst (λ (n : ℕ). IsTable d.base.abbrevs.bytes n table) same is }
 
 -- a unit that can't be taken
-pub one-row : (d : DebugData) (z : UnitSection) (h : UnitHeader) (t : Tables) (table : List Abbreviation) (f : Fault) → HasUnit d z h → IsPlain z.contents → t ≡ tables_of d
-    → IsTable d.base.abbrevs.bytes h.abbrevs table → Blames (UnitRefuses t h table (bytes_up_to z h)) f → Blames (UnitsRefuse d) f
-one-row d z h t table f u plain same declares b =
-    unit-row d z h table f (record { unit = u; declares = declares }) (unit-cells d z h u plain) (unit-section d z h u)
+pub one-row : (d : DebugData) (z : UnitSection) (h : UnitHeader) (t : Tables) (table : List Abbreviation) (f : Fault) → HasUnit d z h → t ≡ tables_of d z
+    → IsUnitTable d.base h table → Blames (UnitRefuses t h table (bytes_up_to z h)) f → Blames (UnitsRefuse d) f
+one-row d z h t table f u same declares b =
+    unit-row d z h table f (record { unit = u; declares = declares }) (unit-section d z h u)
     (subst (λ (x : Tables). Blames (UnitRefuses x h table (bytes_up_to z h)) f) same b)
 
-pub one-taken : (d : DebugData) (z : UnitSection) (h : UnitHeader) (t : Tables) (table : List Abbreviation) (old found new : Found) (before now : Slots) → t ≡ tables_of d
-    → IsTable d.base.abbrevs.bytes h.abbrevs table → ScanTaken t h table (bytes_up_to z h) old found → TakesIndexes h.section found.base found.indexes before now
+pub one-taken : (d : DebugData) (z : UnitSection) (h : UnitHeader) (t : Tables) (table : List Abbreviation) (old found new : Found) (before now : Slots) → t ≡ tables_of d z
+    → IsUnitTable d.base h table → ScanTaken t h table (bytes_up_to z h) old found → TakesIndexes h.section found.base found.indexes before now
     → new ≡ none_found found.paths → OneTaken d z h old new before now
 one-taken d z h t table old found new before now same declares s slots ends = record {
   table = table;
@@ -104,7 +110,7 @@ one-taken d z h t table old found new before now same declares s slots ends = re
   ends = ends;
 }
 
-pub ruleset one_rules = (one-taken)
+pub ruleset one_rules = (one-taken, elsewhere-row, unit-table)
 
 -- the next unit of a section of a view, and its section
 own-unit : (v : View) (section : ℕ) (list : List UnitHeader) (i : ℕ) (found : Found) (first now : Slots) (h : UnitHeader) → IsUnitSection v section → i < length list
@@ -126,8 +132,7 @@ units-more v section list i old new first now next_slots h there lt is p one =
     let own : OneTaken (debug_data v) (unit_section_at v section) h old new now next_slots =
     subst (λ (n : ℕ). OneTaken (debug_data v) (unit_section_at v n) h old new now next_slots) (own-section v section h there u) one in
     section-more (debug_data v) (unit_section_at v section) list i old new h first now next_slots lt is
-    (unit-section (debug_data v) (unit_section_at v section) h u)
-    (unit-cells (debug_data v) (unit_section_at v section) h u (view-plain v section (unit_section_at v section) there)) p own
+    (unit-section (debug_data v) (unit_section_at v section) h u) p own
 
 -- the next unit of a section of a view
 pub units-there : (v : View) (section : ℕ) (list : List UnitHeader) (i : ℕ) (found : Found) (first now : Slots) (h : UnitHeader) → IsUnitSection v section → i < length list
@@ -137,14 +142,25 @@ units-there v section list i found first now h there lt is p =
     subst (λ (n : ℕ). HasUnit (debug_data v) (unit_section_at v n) h) (sym (own-section v section h there u)) u
 
 -- the units of a section that can't be read
-pub section-row : (v : View) (section : ℕ) (f : Fault) → IsUnitSection v section → Blames (UnitFails (unit_base v) (unit_section_at v section)) f
+pub section-row : (v : View) (section : ℕ) (f : Fault) → IsUnitSection v section → Blames (HeadersRefuse (unit_base v) (unit_section_at v section)) f
     → Blames (UnitsRefuse (debug_data v)) f
 section-row v section NoMemory there b = tt
 section-row v section (Refused r) there b =
-    let s : Stands (debug_data v).units (unit_section_at v section) =
-    stands-numbered (debug_data v).units section (unit_section_at v section) (data-numbered v section (unit_section_at v section) there) in
-    data_fails (unit_fails (unit_section_at v section) s.before s.behind s.is b)
+    by_row (stands-numbered (debug_data v).units section (unit_section_at v section) (data-numbered v section (unit_section_at v section) there)) b
+  where
+    by_row : Stands (debug_data v).units (unit_section_at v section) → HeadersRefuse (unit_base v) (unit_section_at v section) r → UnitsRefuse (debug_data v) r
+    by_row s (units f) = data_fails (unit_fails (unit_section_at v section) s.before s.behind s.is f)
+    by_row s (offsets f) = header_fails s.before s.behind (unit_section_at v section) s.is f
 
-pub ruleset units_rules = (section-starts, section-ends)
+-- and its texts
+pub units-tables : (v : View) (section : ℕ) (list : List UnitHeader) (i : ℕ) (found : Found) (first now : Slots) (h : UnitHeader) (x : TextTables) (t : Tables) → IsUnitSection v section
+    → i < length list → h ≡ get_or list i h → SectionPass (debug_data v) (unit_section_at v section) list i found first now → x ≡ texts_of (debug_data v)
+    → t ≡ record { order = v.order; number = section; cells = view_cells v section; str = x.str; line_str = x.line_str }
+    → t ≡ tables_of (debug_data v) (unit_section_at v h.section)
+units-tables v section list i found first now h x t there lt is p same made =
+    let u : HasUnit (debug_data v) (unit_section_at v section) h = own-unit v section list i found first now h there lt is p in
+    made ∙ tables-are v section x there same ∙ ap (λ (n : ℕ). tables_of (debug_data v) (unit_section_at v n)) (sym (own-section v section h there u))
+
+pub ruleset units_rules = (section-starts, section-ends, section-within)
 
 pub ruleset section_rules = (section-row)

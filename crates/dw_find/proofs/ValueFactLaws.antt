@@ -17,7 +17,7 @@ use Rattle.dw_base.specs.declared.values.ValueClass.TheVariants.{InlineText, Str
 use Rattle.dw_base.proofs.FormLaws.{value_by-own}
 use Rattle.dw_base.proofs.FormSizeLaws.{is_sized, offset_sized, offset-size}
 use Rattle.dw_meaning.proofs.ValueCutLaws.{value_of-own}
-use Rattle.dw_find.specs.EntryTexts.{OffsetSized}
+use Rattle.dw_find.specs.EntryTexts.{OffsetLies, OffsetSized}
 use Rattle.dw_find.specs.TextPlaces.{is_start_form, own_form}
 use Rattle.dw_find.proofs.StartFormLaws.{StartKind, chosen-form, plain-form, start-kind}
 use Rattle.dw_find.proofs.ValuePlaceLaws.{is_plain_kind, kind_plain, is_plain_class, leb_plain, number-fields, leb-class, signed-class, block-class, counted-class, counted_leb-class, bare-class, text-fields}
@@ -170,6 +170,14 @@ value-inside params x bytes place v is = (value-facts params x bytes place v is)
 
 pub value-sized : (params : Params) (x : Spec) (bytes : List ℕ) (place : ℕ) (v : Value) → value_at params x bytes place ≡ Some v → OffsetSized v.class v.len
 value-sized params x bytes place v is = sized-class v.class params bytes v (value-facts params x bytes place v is).offset
+
+lies-class : (class : ValueClass) (params : Params) (bytes : List ℕ) (v : Value) → OffsetFacts class params bytes v → OffsetLies (length bytes) class v
+lies-class StrOffset params bytes v f = f.inside
+lies-class LineStrOffset params bytes v f = f.inside
+lies-class class params bytes v f = tt
+
+pub value-lies : (params : Params) (x : Spec) (bytes : List ℕ) (place : ℕ) (v : Value) → value_at params x bytes place ≡ Some v → OffsetLies (length bytes) v.class v
+value-lies params x bytes place v is = lies-class v.class params bytes v (value-facts params x bytes place v is).offset
 
 -- a value of a form that can say where a line table starts is a field of four or eight bytes
 kind-start : (params : Params) (form : ℕ) (bytes : List ℕ) (at : ℕ) (implicit : ℤ) (v : Value) → is_start_form form ≡ true

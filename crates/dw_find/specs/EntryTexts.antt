@@ -1,14 +1,18 @@
--- What a pass over the values of an entry finds: the texts that they name, and the paths among them; and what it refuses.
-use Rattle.std.specs.Prelude.{true, false, ◌≡◌, ◌⊎◌, ℕ, ◌+◌, List, [], ◌∷◌, ◌++◌, IsTrue, ⊤, Option, Some, None}
+-- What a pass over the values of an entry finds: the texts that they name, and the paths among them; and what it refuses (DWARF 5, 7.5.5, class
+-- string; gABI ch. 4 "Relocation").
+use Rattle.std.specs.Prelude.{true, false, ◌≡◌, ◌⊎◌, ℕ, ◌+◌, ◌≤◌, List, [], ◌∷◌, ◌++◌, IsTrue, ⊤, Option, Some, None}
+use Rattle.dw_base.specs.Cells.{Cell, Located, cells_at, offset_of}
 use Rattle.dw_base.specs.EntryScans.{SpellsValues, ValuesFail}
 use Rattle.dw_base.specs.FormFails.{FormFails}
 use Rattle.dw_base.specs.Forms.{in_str, in_line_str, width_size}
 use Rattle.dw_base.specs.Numbers.{number_at}
 use Rattle.dw_base.specs.Refusals.{at}
+use Rattle.dw_base.specs.RelocationRows.{FieldPlace, OffsetFails, field_place, offset_field}
 use Rattle.dw_base.specs.Texts.{ends_in, IsNulEnd}
 use Rattle.dw_base.specs.Values.{number_value, value_at}
 use Rattle.dw_base.specs.declared.fault.Kind.TheVariants.{StringOffset}
 use Rattle.dw_base.specs.declared.fault.Refusal.{Refusal}
+use Rattle.dw_base.specs.declared.shared.Order.{Order}
 use Rattle.dw_base.specs.declared.shared.Params.{Params}
 use Rattle.dw_base.specs.declared.values.Spec.{Spec}
 use Rattle.dw_base.specs.declared.values.Value.{Value}
@@ -18,10 +22,25 @@ use Rattle.dw_find.specs.TextPlaces.{TextPlace, base_in, fields_in, indexes_in, 
 use Rattle.dw_find.specs.UnitPaths.{UnitPaths}
 use Rattle.dw_find.specs.declared.fields.TextIndex.{TextIndex}
 
--- the tables of texts: their bytes
+-- the tables of texts
+pub record TextTables : Type 0 where
+  pub str : Located
+  pub line_str : Located
+
+-- a section whose values name texts, its number and its contents, with the byte order and the tables of texts
 pub record Tables : Type 0 where
-  pub str : List ℕ
-  pub line_str : List ℕ
+  pub order : Order
+  pub number : ℕ
+  pub cells : List Cell
+  pub str : Located
+  pub line_str : Located
+
+-- the field of a value, and the offset that it holds into a table
+abbrev pub value_field : Value → FieldPlace
+value_field v = field_place v.at v.len offset_field
+
+abbrev pub offset_in : Tables → Located → Value → ℕ
+offset_in t z v = offset_of t.order z (cells_at t.cells v.at v.len)
 
 -- what a pass over a unit section found: what it says of paths, and of the unit where the pass is its base and its values by index
 pub record Found : Type 0 where
@@ -68,10 +87,16 @@ with_places f ts = record {
 }
 
 -- an offset of a class names a text that ends in its table
-abbrev pub OffsetNames : Tables → ValueClass → ℕ → Type 0
-OffsetNames t StrOffset n = IsTrue (ends_in t.str n)
-OffsetNames t LineStrOffset n = IsTrue (ends_in t.line_str n)
-OffsetNames t class n = ⊤
+abbrev pub OffsetNames : Tables → ValueClass → Value → Type 0
+OffsetNames t StrOffset v = IsTrue (ends_in t.str.bytes (offset_in t t.str v))
+OffsetNames t LineStrOffset v = IsTrue (ends_in t.line_str.bytes (offset_in t t.line_str v))
+OffsetNames t class v = ⊤
+
+-- the field of an offset of a class lies in so many bytes
+abbrev pub OffsetLies : ℕ → ValueClass → Value → Type 0
+OffsetLies n StrOffset v = v.at + v.len ≤ n
+OffsetLies n LineStrOffset v = v.at + v.len ≤ n
+OffsetLies n class v = ⊤
 
 -- an offset of a class has four bytes or eight
 abbrev pub OffsetSized : ValueClass → ℕ → Type 0
@@ -89,7 +114,7 @@ pub record IsStrValue (params : Params) (bytes : List ℕ) (place : ℕ) (v : Va
 
 -- a value can be taken: its offset names a text
 pub record IsTaken (t : Tables) (v : Value) : Type 0 where
-  pub names : OffsetNames t v.class v.number
+  pub names : OffsetNames t v.class v
 
 -- so can the values of attributes that stand one after another from a place on
 abbrev pub TakenBehind : (ℕ → Type 0) → Tables → ℕ → Option Value → Type 0
@@ -100,21 +125,32 @@ abbrev pub AreTaken : Tables → Params → List ℕ → List Spec → ℕ → T
 AreTaken t params bytes [] place = ⊤
 AreTaken t params bytes (x ∷ xs) place = TakenBehind (λ p. AreTaken t params bytes xs p) t place (value_at params x bytes place)
 
--- why a value can't be taken: its offset names no text, at its field
-pub data ValueRefuses (t : Tables) (section : ℕ) (v : Value) : Refusal → Type 0 where
-  str : v.class ≡ StrOffset → ends_in t.str v.number ≡ false → ValueRefuses t section v (at StringOffset section v.at)
-  line_str : v.class ≡ LineStrOffset → ends_in t.line_str v.number ≡ false → ValueRefuses t section v (at StringOffset section v.at)
+-- the table of texts that offsets of a class are of
+abbrev pub table_by : Tables → ValueClass → Option Located
+table_by t StrOffset = Some t.str
+table_by t LineStrOffset = Some t.line_str
+table_by t class = None
+
+-- why an offset names no text of a table: a relocation lies on it only in part, or gives no place; or no text that ends begins there, at the
+-- field
+pub data OffsetRefuses (t : Tables) (z : Located) (v : Value) : Refusal → Type 0 where
+  relocation : {r : Refusal} → OffsetFails t.order t.number t.cells (value_field v) r → OffsetRefuses t z v r
+  no_text : ends_in z.bytes (offset_in t z v) ≡ false → OffsetRefuses t z v (at StringOffset t.number v.at)
+
+-- so can't a value be taken that is such an offset
+pub data ValueRefuses (t : Tables) (v : Value) : Refusal → Type 0 where
+  offset : (z : Located) {r : Refusal} → table_by t v.class ≡ Some z → OffsetRefuses t z v r → ValueRefuses t v r
 
 -- why no value that can be taken stands at a place
 pub data OneRefuses (t : Tables) (params : Params) (bytes : List ℕ) (section place : ℕ) (x : Spec) : Refusal → Type 0 where
   none : {r : Refusal} → FormFails params x bytes section place r → OneRefuses t params bytes section place x r
-  some : (v : Value) {r : Refusal} → value_at params x bytes place ≡ Some v → ValueRefuses t section v r → OneRefuses t params bytes section place x r
+  some : (v : Value) {r : Refusal} → value_at params x bytes place ≡ Some v → ValueRefuses t v r → OneRefuses t params bytes section place x r
 
 -- why the values of an entry can't be: one of them can't be read, or not be taken, and those before it stand from a place on
 pub data ValuesRefuse (t : Tables) (params : Params) (bytes : List ℕ) (section start : ℕ) (specs : List Spec) : Refusal → Type 0 where
   fails : {r : Refusal} → ValuesFail params bytes section start specs r → ValuesRefuse t params bytes section start specs r
   value : (before behind : List Spec) (x : Spec) (place : ℕ) (v : Value) {r : Refusal} → specs ≡ before ++ x ∷ behind
-      → SpellsValues params bytes start before place → value_at params x bytes place ≡ Some v → ValueRefuses t section v r
+      → SpellsValues params bytes start before place → value_at params x bytes place ≡ Some v → ValueRefuses t v r
       → ValuesRefuse t params bytes section start specs r
 
 -- a value of an attribute of entry `number` was read at a place, and what it says of paths stands behind what was found
@@ -126,6 +162,6 @@ pub record ValueTaken (t : Tables) (params : Params) (bytes : List ℕ) (number 
   pub found : new ≡ with_places old (value_places number tag x bytes place value)
 
 -- where the last text of each table ends
-pub record TablesEnd (t : Tables) (str_end line_str_end : ℕ) : Type 0 where
-  pub str : IsNulEnd t.str str_end
-  pub line_str : IsNulEnd t.line_str line_str_end
+pub record TablesEnd (t : TextTables) (str_end line_str_end : ℕ) : Type 0 where
+  pub str : IsNulEnd t.str.bytes str_end
+  pub line_str : IsNulEnd t.line_str.bytes line_str_end

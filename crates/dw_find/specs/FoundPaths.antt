@@ -3,6 +3,7 @@ use Rattle.std.specs.Prelude.{◌≡◌, ℕ, ◌-◌, List, [], ◌++◌, lengt
 use Rattle.dw_lines.specs.ViewTables.{tables_read}
 use Rattle.dw_meaning.specs.DataFails.{IndexesRead, InlineFails, SlotTextFails, StartsFail}
 use Rattle.dw_meaning.specs.DataOutput.{DataReads}
+use Rattle.dw_meaning.specs.RelocationFails.{LeftRelocationsFail}
 use Rattle.dw_base.specs.DebugData.{DebugData, DataReadings, around_of, line_source}
 use Rattle.dw_base.specs.FileViews.{View}
 use Rattle.dw_base.specs.IndexFails.{SharedFails, SlotFits}
@@ -11,12 +12,15 @@ use Rattle.dw_base.specs.NameTableFails.{NameTablesFail}
 use Rattle.dw_base.specs.Paths.{PathMap}
 use Rattle.dw_base.specs.Pieces.{EachPiece}
 use Rattle.dw_base.specs.Readings.{EachReading}
+use Rattle.dw_base.specs.RelocationRows.{moving_sections}
 use Rattle.dw_base.specs.Slots.{slots_of}
 use Rattle.dw_base.specs.StringOffsetFails.{ContributionsFail}
 use Rattle.dw_base.specs.TextChanges.{InlineFits}
 use Rattle.dw_base.specs.ViewData.{debug_data, string_offsets}
 use Rattle.dw_base.specs.declared.fault.Refusal.{Refusal}
+use Rattle.dw_base.specs.declared.name_tables.NameTable.{NameTable}
 use Rattle.dw_base.specs.declared.string_offsets.Contribution.{Contribution}
+use Rattle.dw_offsets.specs.NameOffsets.{AreRead, NamesRefuse}
 use Rattle.dw_offsets.specs.PathSlots.{SlotsTaken, slots_in}
 use Rattle.dw_offsets.specs.declared.slot_fields.PathSlot.{PathSlot}
 use Rattle.dw_find.specs.IndexedTexts.{TextsRefuse}
@@ -63,6 +67,8 @@ pub record PathsFound (m : PathMap) (v : View) (us : List UnitPaths) (ts : List 
   pub rooms : AllRoomsFit m v (without_lines v us)
   pub is : us ≡ ((paths_of readings.units ++ slots_read v readings) ++ macros_read readings.macros) ++ lines_of_view v ts
   pub tables : ts ≡ tables_read (line_source (debug_data v)) readings.lines
+  pub name_list : List NameTable
+  pub names_read : AreRead v name_list
 
 -- why it can't be
 pub data PathsRefuse (m : PathMap) (v : View) : Refusal → Type 0 where
@@ -71,6 +77,8 @@ pub data PathsRefuse (m : PathMap) (v : View) : Refusal → Type 0 where
   inline : {r : Refusal} → InlineFails m (debug_data v) r → PathsRefuse m v r
   string_tables : {r : Refusal} → ContributionsFail v.order (string_offsets v) r → PathsRefuse m v r
   name_tables : {r : Refusal} → NameTablesFail v r → PathsRefuse m v r
+  name_offsets : {r : Refusal} → NamesRefuse v r → PathsRefuse m v r
+  relocations : {r : Refusal} → LeftRelocationsFail (debug_data v) (moving_sections v) r → PathsRefuse m v r
   slots : {r : Refusal} → SlotTextFails (debug_data v) r → PathsRefuse m v r
   shared : (readings : DataReadings) {r : Refusal} → IndexesRead (debug_data v) readings
       → SharedFails m (debug_data v).offsets.number (around_of (debug_data v) readings) readings.offsets r → PathsRefuse m v r

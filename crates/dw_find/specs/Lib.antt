@@ -7,6 +7,7 @@ pub mod QuietValues
 pub mod UnitTexts
 pub mod IndexedTexts
 pub mod InlineRooms
+pub mod FieldOffsets
 pub mod ViewFields
 pub mod LineStarts
 pub mod ViewLines

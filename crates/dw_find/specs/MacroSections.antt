@@ -7,13 +7,13 @@ use Rattle.dw_base.specs.Forms.{width_size}
 use Rattle.dw_base.specs.MacroFails.{MacroUnitsFail}
 use Rattle.dw_base.specs.MacroPieces.{MacroState}
 use Rattle.dw_base.specs.MacroReadings.{MacroReading}
-use Rattle.dw_base.specs.MacroUnits.{AreMacroUnits}
 use Rattle.dw_base.specs.Pieces.{Piece}
 use Rattle.dw_base.specs.SectionTexts.{macro_role}
 use Rattle.dw_base.specs.ViewData.{debug_data}
 use Rattle.dw_base.specs.declared.fault.Refusal.{Refusal}
 use Rattle.dw_base.specs.declared.macro_units.MacroUnit.{MacroUnit}
 use Rattle.dw_base.specs.declared.shared.Width.{Width}
+use Rattle.dw_macros.specs.MacroOffsets.{AreReadUnits, UnitsRefuse}
 use Rattle.dw_find.specs.UnitPaths.{UnitPaths, start_by}
 use Rattle.dw_find.specs.declared.fields.PathField.{PathField}
 
@@ -22,12 +22,12 @@ pub record SectionUnits : Type 0 where
   pub number : ℕ
   pub units : List MacroUnit
 
--- the sections of a list have these units
+-- the sections of a list have these units, with offsets that can be read
 abbrev pub HaveUnits : View → List CellSection → List SectionUnits → Type 0
 HaveUnits v [] [] = ⊤
 HaveUnits v [] (s ∷ ss) = ⊥
 HaveUnits v (z ∷ zs) [] = ⊥
-HaveUnits v (z ∷ zs) (s ∷ ss) = (s.number ≡ z.number) × AreMacroUnits v z.number s.units × HaveUnits v zs ss
+HaveUnits v (z ∷ zs) (s ∷ ss) = (s.number ≡ z.number) × AreReadUnits v z.number s.units × HaveUnits v zs ss
 
 -- those of a view do
 pub record UnitsFoundIn (v : View) (ss : List SectionUnits) : Type 0 where
@@ -69,7 +69,9 @@ abbrev pub macros_read : List MacroReading → List UnitPaths
 macros_read [] = []
 macros_read (r ∷ rs) = macros_with r.number (macro_starts r.pieces) ∷ macros_read rs
 
--- why there are none: those of one section can't be read
+-- why there are none: those of one section can't be read, or one of their offsets can't
 pub data UnitsFailIn (v : View) : Refusal → Type 0 where
   units : (z : CellSection) (before behind : List CellSection) {r : Refusal} → (debug_data v).macros ≡ before ++ z ∷ behind → MacroUnitsFail v z.number r
+      → UnitsFailIn v r
+  offsets : (z : CellSection) (before behind : List CellSection) {r : Refusal} → (debug_data v).macros ≡ before ++ z ∷ behind → UnitsRefuse v z.number r
       → UnitsFailIn v r

@@ -5,12 +5,16 @@ use Rattle.dw_base.specs.DebugData.{DataReadings, line_source}
 use Rattle.dw_base.specs.FileViews.{View}
 use Rattle.dw_base.specs.LineTables.{LineTable}
 use Rattle.dw_base.specs.NameTableFails.{NameTablesFail}
+use Rattle.dw_base.specs.RelocationRows.{moving_sections}
 use Rattle.dw_base.specs.StringOffsetFails.{ContributionsFail}
 use Rattle.dw_base.specs.ViewData.{debug_data, string_offsets}
 use Rattle.dw_base.specs.declared.fault.Refusal.{Refusal}
+use Rattle.dw_base.specs.declared.name_tables.NameTable.{NameTable}
 use Rattle.dw_lines.specs.ViewTables.{tables_read}
 use Rattle.dw_meaning.specs.DataFails.{LinesFail, SlotTextFails, StartsFail}
 use Rattle.dw_meaning.specs.DataOutput.{DataReads}
+use Rattle.dw_meaning.specs.RelocationFails.{LeftRelocationsFail}
+use Rattle.dw_offsets.specs.NameOffsets.{AreRead, NamesRefuse}
 use Rattle.dw_find.specs.MacroSections.{SectionUnits, UnitsFailIn, UnitsFoundIn}
 use Rattle.dw_find.specs.UnitTexts.{UnitsRefuse}
 
@@ -20,6 +24,8 @@ pub record DataRead (v : View) (ts : List LineTable) (ss : List SectionUnits) : 
   pub reads : DataReads (debug_data v) readings
   pub tables : ts ≡ tables_read (line_source (debug_data v)) readings.lines
   pub units : UnitsFoundIn v ss
+  pub name_list : List NameTable
+  pub names_read : AreRead v name_list
 
 -- why they can't be: a unit, an entry or an offset of a text in one can't be read; what is to say where a line table or a macro unit starts
 -- names none; string offsets, slots, name tables, line tables or macro units can't be read
@@ -29,5 +35,7 @@ pub data DataRefuses (v : View) : Refusal → Type 0 where
   string_tables : {r : Refusal} → ContributionsFail v.order (string_offsets v) r → DataRefuses v r
   slots : {r : Refusal} → SlotTextFails (debug_data v) r → DataRefuses v r
   name_tables : {r : Refusal} → NameTablesFail v r → DataRefuses v r
+  name_offsets : {r : Refusal} → NamesRefuse v r → DataRefuses v r
+  relocations : {r : Refusal} → LeftRelocationsFail (debug_data v) (moving_sections v) r → DataRefuses v r
   lines : {r : Refusal} → LinesFail (debug_data v) r → DataRefuses v r
   macros : {r : Refusal} → UnitsFailIn v r → DataRefuses v r

@@ -1,7 +1,7 @@
 -- What a pass over the entries of units meets of texts: where they stand, each place with its role, and the values that name them by
 -- index (DWARF 5, 7.5.5, class string), or say where line tables and macro units start (DWARF 5, 3.1.1); and what these places say of source paths.
 use Rattle.std.specs.Prelude.{Bool, true, false, ◌≡◌, ℕ, ◌+◌, ◌-◌, ◌==◌, ◌||◌, if◌then◌else◌, List, [], ◌∷◌, ◌++◌, IsTrue, ⊤, Option, Some, None, length}
-use Rattle.dw_base.specs.AbbreviationTables.{Abbreviation, abbreviation_of, IsTable}
+use Rattle.dw_base.specs.AbbreviationTables.{Abbreviation, abbreviation_of}
 use Rattle.dw_base.specs.Cells.{Cell, bytes_of, cells_at, field_of, located_cells, offset_of}
 use Rattle.dw_base.specs.DebugData.{DebugData, start_number}
 use Rattle.dw_base.specs.EntryScans.{AreEntries}
@@ -18,6 +18,7 @@ use Rattle.dw_base.specs.TableStarts.{macro_value_by, start_form_by}
 use Rattle.dw_base.specs.TextIndexes.{SaidBase, IndexUse, is_base}
 use Rattle.dw_base.specs.Texts.{ends_in}
 use Rattle.dw_base.specs.UnitHeaders.{UnitBase, UnitSection, IsUnit}
+use Rattle.dw_base.specs.UnitTables.{IsUnitTable}
 use Rattle.dw_base.specs.UnitStates.{Mode, at_values, at_chosen, UnitState, code_value, read_value}
 use Rattle.dw_base.specs.Values.{value_at}
 use Rattle.dw_base.specs.declared.dwarf_numbers.TheConstants.{DW_AT_GNU_macros, DW_AT_macros, DW_AT_stmt_list, DW_FORM_data4, DW_FORM_data8, DW_FORM_indirect, DW_FORM_sec_offset}
@@ -186,7 +187,7 @@ pub record UnitSays : Type 0 where
 pub data UnitsPlaced (base : UnitBase) (z : UnitSection) : List UnitHeader → ℕ → List TextPlace → List UnitSays → Type 0 where
   none_placed : UnitsPlaced base z [] 0 [] []
   more_placed : (list : List UnitHeader) (h : UnitHeader) (start : ℕ) (places : List TextPlace) (units : List UnitSays) (table : List Abbreviation)
-      (items : List Scanned) → UnitsPlaced base z list start places units → IsUnit base z start h → IsTable base.abbrevs.bytes h.abbrevs table
+      (items : List Scanned) → UnitsPlaced base z list start places units → IsUnit base z start h → IsUnitTable base h table
       → AreEntries h table (bytes_up_to z h) items
       → UnitsPlaced base z (list ++ h ∷ []) h.end (places ++ entries_places h.params table (bytes_up_to z h) 0 items)
       (units ++ record { section = z.number; places = entries_places h.params table (bytes_up_to z h) 0 items } ∷ [])

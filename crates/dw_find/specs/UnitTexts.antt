@@ -2,16 +2,19 @@
 use Rattle.std.specs.Prelude.{◌≡◌, ℕ, ◌+◌, List, [], ◌∷◌, ◌++◌, ⊤, Option, Some, None}
 use Rattle.dw_base.specs.AbbreviationTables.{Abbreviation, abbreviation_of, IsTable}
 use Rattle.dw_meaning.specs.DataFails.{DataFails, TextFails}
+use Rattle.dw_meaning.specs.RelocationFails.{ValueRelocationFails}
 use Rattle.dw_base.specs.DebugData.{DebugData}
 use Rattle.dw_base.specs.EntryScans.{IsEntry, Scans, AreEntries, EntryFails}
 use Rattle.dw_base.specs.EntryValues.{bytes_up_to}
 use Rattle.dw_base.specs.Lebs.{uleb_at}
+use Rattle.dw_base.specs.RelocationRows.{HeaderOffsetFails}
 use Rattle.dw_base.specs.UnitHeaders.{UnitSection, AreUnits}
+use Rattle.dw_base.specs.UnitTables.{IsUnitTable}
 use Rattle.dw_base.specs.declared.fault.Refusal.{Refusal}
 use Rattle.dw_base.specs.declared.shared.Params.{Params}
 use Rattle.dw_base.specs.declared.units.Scanned.{Scanned}
 use Rattle.dw_base.specs.declared.units.UnitHeader.{UnitHeader}
-use Rattle.dw_find.specs.EntryTexts.{Tables, AreTaken, Found, ValuesRefuse, with_places, none_found}
+use Rattle.dw_find.specs.EntryTexts.{Tables, TextTables, AreTaken, Found, ValuesRefuse, with_places, none_found}
 use Rattle.dw_find.specs.NamedSlots.{Slots, TakesIndexes, TakesUnits}
 use Rattle.dw_find.specs.TextPlaces.{UnitSays, entries_places, SectionSays}
 use Rattle.dw_find.specs.UnitPaths.{UnitPaths}
@@ -54,14 +57,19 @@ pub record ScanTaken (t : Tables) (h : UnitHeader) (table : List Abbreviation) (
 abbrev pub UnitTaken : Tables → UnitSection → UnitHeader → List Abbreviation → Found → Found → Type 0
 UnitTaken t z h table old new = ScanTaken t h table (bytes_up_to z h) old new
 
--- the tables of debug data
-abbrev pub tables_of : DebugData → Tables
-tables_of d = record { str = d.str.bytes; line_str = d.line_str.bytes }
+-- the tables of texts of debug data, and a unit section with them
+abbrev pub texts_of : DebugData → TextTables
+texts_of d = record { str = d.str; line_str = d.line_str }
+
+abbrev pub tables_of : DebugData → UnitSection → Tables
+tables_of d z = record { order = d.base.order; number = z.number; cells = z.contents; str = d.str; line_str = d.line_str }
 
 -- why the units of debug data can't be taken
 pub data UnitsRefuse (d : DebugData) : Refusal → Type 0 where
   data_fails : {r : Refusal} → DataFails d r → UnitsRefuse d r
   text_fails : {r : Refusal} → TextFails d r → UnitsRefuse d r
+  header_fails : (before behind : List UnitSection) (z : UnitSection) {r : Refusal} → d.units ≡ before ++ z ∷ behind → HeaderOffsetFails d.base z r → UnitsRefuse d r
+  relocation_fails : {r : Refusal} → ValueRelocationFails d r → UnitsRefuse d r
 
 -- why a unit can't be: its entries can't be read, or an entry's values not be taken, behind entries that were
 pub data UnitRefuses (t : Tables) (h : UnitHeader) (table : List Abbreviation) (bytes : List ℕ) : Refusal → Type 0 where
@@ -73,19 +81,19 @@ pub data UnitRefuses (t : Tables) (h : UnitHeader) (table : List Abbreviation) (
 -- a unit was taken, with its table of abbreviations: what it says by index went to the slots
 pub record OneTaken (d : DebugData) (z : UnitSection) (h : UnitHeader) (old new : Found) (before now : Slots) : Type 0 where
   pub table : List Abbreviation
-  pub declares : IsTable d.base.abbrevs.bytes h.abbrevs table
+  pub declares : IsUnitTable d.base h table
   pub found : Found
-  pub scan : ScanTaken (tables_of d) h table (bytes_up_to z h) old found
+  pub scan : ScanTaken (tables_of d z) h table (bytes_up_to z h) old found
   pub slots : TakesIndexes h.section found.base found.indexes before now
   pub ends : new ≡ none_found found.paths
 
 -- a unit whose entries were taken, and units of a section
 pub record IsUnitTaken (d : DebugData) (z : UnitSection) (h : UnitHeader) : Type 0 where
   pub table : List Abbreviation
-  pub declares : IsTable d.base.abbrevs.bytes h.abbrevs table
+  pub declares : IsUnitTable d.base h table
   pub items : List Scanned
   pub entries : AreEntries h table (bytes_up_to z h) items
-  pub taken : EntriesTaken (tables_of d) h.params table (bytes_up_to z h) items
+  pub taken : EntriesTaken (tables_of d z) h.params table (bytes_up_to z h) items
 
 abbrev pub UnitsTaken : DebugData → UnitSection → List UnitHeader → Type 0
 UnitsTaken d z [] = ⊤

@@ -7,7 +7,7 @@ ghost use Rattle.dw_entries.specs.SectionOrder.{AreSections};
 ghost use Rattle.dw_find.specs.IndexedTexts.{TablesStart, TextsIndexed, TextsRefuse, UnitsStart};
 ghost use Rattle.dw_find.specs.NamedSlots.{no_slots};
 ghost use Rattle.dw_find.specs.TextPlaces.{AllStarts};
-ghost use Rattle.dw_find.specs.UnitTexts.{AllIndexed, AllTaken, UnitsRefuse, tables_of};
+ghost use Rattle.dw_find.specs.UnitTexts.{AllIndexed, AllTaken, UnitsRefuse, texts_of};
 
 use crate::found::{TextTables, UnitPaths};
 use crate::sections::section_texts;
@@ -33,7 +33,7 @@ pub(crate) fn all_texts(
     places: &[u64],
     slots: &mut NamedSlots,
 ) -> Result<Vec<UnitPaths>, Fault>
-    requires tables { tables.now ≡ tables_of (debug_data view.now) }
+    requires tables { tables.now ≡ texts_of (debug_data view.now) }
     requires none { slots.old ≡ no_slots slots.old.list (length slots.old.marks) }
     requires starts { TablesStart (debug_data view.now) starts.now }
     requires units { UnitsStart (debug_data view.now) places.now }
@@ -57,7 +57,7 @@ fn read_all(
     tables: &TextTables,
     slots: &mut NamedSlots,
 ) -> Result<Vec<UnitPaths>, Fault>
-    requires tables { tables.now ≡ tables_of (debug_data view.now) }
+    requires tables { tables.now ≡ texts_of (debug_data view.now) }
     ensures taken { IfOk result (λ us. AllIndexed (debug_data view.now) (debug_data view.now).units us.items slots.old slots.new) }
     ensures refused { IfErr result (Blames (UnitsRefuse (debug_data view.now))) }
 {
@@ -74,7 +74,7 @@ fn read_sections(
     sections: &[u32],
     slots: &mut NamedSlots,
 ) -> Result<Vec<UnitPaths>, Fault>
-    requires tables { tables.now ≡ tables_of (debug_data view.now) }
+    requires tables { tables.now ≡ texts_of (debug_data view.now) }
     requires sections { AreSections view.now sections.now }
     ensures taken { IfOk result (λ us. AllIndexed (debug_data view.now) (debug_data view.now).units us.items slots.old slots.new) }
     ensures refused { IfErr result (Blames (UnitsRefuse (debug_data view.now))) }

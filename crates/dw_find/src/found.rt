@@ -1,11 +1,17 @@
 //! What a pass over a unit section finds of paths, and of texts by index.
 
-ghost use Rattle.std.specs.Prelude.{◌≡◌};
-ghost use Rattle.dw_find.specs.EntryTexts.{Found as FoundOf, Tables, TablesEnd, no_paths, none_found};
+ghost use Rattle.std.specs.Prelude.{◌≡◌, ◌⊎◌, ◌+◌, ◌≤◌, ◌<◌, length, IfErr, IfOk};
+ghost use Rattle.dw_base.specs.Cells.{Located, cells_at, offset_of};
+ghost use Rattle.dw_base.specs.FileViews.{view_cells};
+ghost use Rattle.dw_base.specs.RelocationRows.{OffsetFails};
+ghost use Rattle.dw_base.specs.Texts.{IsNulEnd, ends_in};
+ghost use Rattle.dw_find.specs.EntryTexts.{Found as FoundOf, Tables, TextTables as TablesOf, no_paths, none_found, offset_in, value_field};
 ghost use Rattle.dw_find.specs.UnitPaths.{UnitPaths as PathsOf};
 
+use crate::field_offsets::offset_at;
 use crate::fields::{InlinePath, PathField, TextIndex};
-use dw_base::nul_end;
+use dw_base::{Refusal, Value, nul_end};
+use dw_view::View;
 use std::alloc::Global;
 use std::marker::Model;
 
@@ -90,37 +96,143 @@ impl Found {
     }
 }
 
-/// The tables of texts, and where the last text of each ends.
+/// A table of texts, and where its last text ends.
+#[derive(Drop)]
+pub(crate) struct TextTable<'a> {
+    /// The section's number.
+    pub number: u32,
+    /// Its bytes.
+    pub bytes: &'a [u8],
+    /// Where its last text ends.
+    pub end: u64,
+}
+
+impl<'a> Model for TextTable<'a> {
+    ghost Value = { Located };
+
+    ghost view = { λ t. record { number = t.number; bytes = t.bytes.now } };
+
+    ghost invariant = { λ t. IsNulEnd t.bytes.now t.end };
+}
+
+impl<'a> TextTable<'a> {
+    /// The table of a section of a number.
+    pub(crate) fn new(number: u32, bytes: &'a [u8]) -> TextTable<'a>
+        ensures { result ≡ record { number = number; bytes = bytes.now } }
+    {
+        TextTable {
+            number,
+            bytes,
+            end: nul_end(bytes) as u64,
+        }
+    }
+
+    /// A text that ends begins at a place.
+    #[tactic(auto, using(crate::proofs::EntryTextLaws::end_rules))]
+    pub(crate) fn ends(&self, place: u64) -> bool
+        ensures { result ≡ ends_in self.now.bytes place }
+    {
+        place < self.end
+    }
+}
+
+/// The tables of texts.
 #[derive(Drop)]
 pub(crate) struct TextTables<'a> {
-    /// The bytes of `.debug_str`.
-    pub str: &'a [u8],
-    /// Those of `.debug_line_str`.
-    pub line_str: &'a [u8],
-    /// Where the last text of `.debug_str` ends.
-    pub str_end: u64,
-    /// Where that of `.debug_line_str` ends.
-    pub line_str_end: u64,
+    /// `.debug_str`.
+    pub str: TextTable<'a>,
+    /// `.debug_line_str`.
+    pub line_str: TextTable<'a>,
 }
 
 impl<'a> Model for TextTables<'a> {
-    ghost Value = { Tables };
+    ghost Value = { TablesOf };
 
-    ghost view = { λ t. record { str = t.str.now; line_str = t.line_str.now } };
-
-    ghost invariant = { λ t. TablesEnd (record { str = t.str.now; line_str = t.line_str.now }) t.str_end t.line_str_end };
+    ghost view = { λ t. record { str = t.str; line_str = t.line_str } };
 }
 
-impl<'a> TextTables<'a> {
-    /// These tables.
-    pub(crate) fn new(str: &'a [u8], line_str: &'a [u8]) -> TextTables<'a>
-        ensures { result ≡ record { str = str.now; line_str = line_str.now } }
+/// A section whose values name texts, with the tables of texts.
+#[derive(Drop)]
+pub(crate) struct SectionTexts<'v, 'f, 't, 'a> {
+    /// The view.
+    pub view: &'v View<'f>,
+    /// The section's number.
+    pub section: u32,
+    /// The tables of texts.
+    tables: &'t TextTables<'a>,
+}
+
+impl<'v, 'f, 't, 'a> Model for SectionTexts<'v, 'f, 't, 'a> {
+    ghost Value = { Tables };
+
+    ghost view = { λ s. record { order = s.view.now.order; number = s.section; cells = view_cells s.view.now s.section; str = s.tables.now.str; line_str = s.tables.now.line_str } };
+
+    ghost invariant = { λ s. s.section < length s.view.now.sections };
+}
+
+impl<'v, 'f, 't, 'a> SectionTexts<'v, 'f, 't, 'a> {
+    /// The section of a number of a view.
+    pub(crate) fn new(
+        view: &'v View<'f>,
+        section: u32,
+        tables: &'t TextTables<'a>,
+    ) -> SectionTexts<'v, 'f, 't, 'a>
+        requires there { section < length view.now.sections }
+        ensures { result ≡ record { order = view.now.order; number = section; cells = view_cells view.now section; str = tables.now.str; line_str = tables.now.line_str } }
     {
-        TextTables {
-            str,
-            line_str,
-            str_end: nul_end(str) as u64,
-            line_str_end: nul_end(line_str) as u64,
+        SectionTexts {
+            view,
+            section,
+            tables,
         }
     }
+
+    /// `.debug_str`.
+    pub(crate) fn str(&self) -> &TextTable<'a>
+        ensures { result.now ≡ self.now.str }
+    {
+        let tables = self.tables;
+        &tables.str
+    }
+
+    /// `.debug_line_str`.
+    pub(crate) fn line_str(&self) -> &TextTable<'a>
+        ensures { result.now ≡ self.now.line_str }
+    {
+        let tables = self.tables;
+        &tables.line_str
+    }
+
+    /// The offset that a value's field holds into a table: one into another section counts as past it. Refused as `Relocation` where
+    /// a relocation lies on the field only in part, at that, and where the one at it gives no place, at the field.
+    #[tactic(auto, using(crate::proofs::FieldOffsetLaws::value_rules))]
+    pub(crate) fn offset(&self, value: &Value, table: &TextTable) -> Result<u64, Refusal>
+        requires sized { (value.now.len ≡ 4) ⊎ (value.now.len ≡ 8) }
+        requires lies { value.now.at + value.now.len ≤ length self.now.cells }
+        ensures offset { IfOk result (λ n. n ≡ offset_in self.now table.now value.now) }
+        ensures refused { IfErr result (OffsetFails self.now.order self.now.number self.now.cells (value_field value.now)) }
+    {
+        let offset = value_offset(self.view, self.section, value, table)?;
+        Ok(offset)
+    }
+}
+
+/// The same in the section of a number of a view.
+#[tactic(auto, using(crate::proofs::FieldOffsetLaws::value_rules))]
+fn value_offset(view: &View, section: u32, value: &Value, table: &TextTable) -> Result<u64, Refusal>
+    requires there { section < length view.now.sections }
+    requires sized { (value.now.len ≡ 4) ⊎ (value.now.len ≡ 8) }
+    requires lies { value.now.at + value.now.len ≤ length (view_cells view.now section) }
+    ensures offset { IfOk result (λ n. n ≡ offset_of view.now.order table.now (cells_at (view_cells view.now section) value.now.at value.now.len)) }
+    ensures refused { IfErr result (OffsetFails view.now.order section (view_cells view.now section) (value_field value.now)) }
+{
+    let offset = offset_at(
+        view,
+        section,
+        value.at,
+        value.len as u8,
+        table.number,
+        table.bytes,
+    )?;
+    Ok(offset)
 }

@@ -17,6 +17,7 @@
 #![tactic(auto)]
 
 mod all_sections;
+mod field_offsets;
 mod fields;
 mod found;
 mod lines;

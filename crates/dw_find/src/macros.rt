@@ -4,11 +4,10 @@
 //! Read first: `specs/MacroSections.antt`.
 
 ghost use Rattle.std.specs.Prelude.{◌≡◌, ◌++◌, ◌<◌, length, IfErr, IfOk, OnOk};
-ghost use Rattle.dw_base.specs.MacroFails.{MacroUnitsFail};
-ghost use Rattle.dw_base.specs.MacroUnits.{AreMacroUnits};
 ghost use Rattle.dw_base.specs.Refusals.{Blames};
 ghost use Rattle.dw_base.specs.declared.fault.Refusal.{Refusal as RefusalOf};
 ghost use Rattle.dw_macros.specs.MacroEvents.{IsUnitIn, events_left, unit_events};
+ghost use Rattle.dw_macros.specs.MacroOffsets.{AreReadUnits, UnitsRefuse};
 ghost use Rattle.dw_find.specs.LineStarts.{Rises};
 ghost use Rattle.dw_find.specs.MacroNames.{AllUnitsIn, AreUnitsIn, EventNames, EventStray, EventStrays, EventsName, LineNames, LineStrays, MacrosName, MacrosStray, UnitsName, UnitsStray};
 ghost use Rattle.dw_find.specs.MacroSections.{SectionUnits, UnitsFailIn, UnitsFoundIn, first_places, line_fields, macros_of, macros_with, places_of};
@@ -39,7 +38,7 @@ impl Model for MacroSection {
 }
 
 /// The macro units of all sections of a view, in the order of their numbers. Refused only where those of one can't be read, at
-/// the unit or the operation.
+/// the unit or the operation, or one of their offsets can't, for its relocation.
 #[tactic(auto, using(crate::proofs::MacroListLaws::sections_rules))]
 pub fn macro_sections(alloc: Global, view: &View) -> Result<Vec<MacroSection>, Fault>
     ensures units { IfOk result (λ ss. UnitsFoundIn view.now ss.items) }
@@ -59,8 +58,8 @@ pub fn macro_sections(alloc: Global, view: &View) -> Result<Vec<MacroSection>, F
 fn section_units(alloc: Global, view: &View, section: u32) -> Result<MacroSection, Fault>
     requires there { section < length view.now.sections }
     ensures number { IfOk result (λ s. s.number ≡ section) }
-    ensures units { IfOk result (λ s. AreMacroUnits view.now section s.units) }
-    ensures refused { IfErr result (Blames (MacroUnitsFail view.now section)) }
+    ensures units { IfOk result (λ s. AreReadUnits view.now section s.units) }
+    ensures refused { IfErr result (Blames (UnitsRefuse view.now section)) }
 {
     let units = macro_units(alloc, view, section)?;
     Ok(MacroSection { section, units })

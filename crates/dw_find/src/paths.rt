@@ -14,15 +14,16 @@ ghost use Rattle.dw_find.specs.IndexedTexts.{TablesStart, TextsIndexed, UnitsSta
 ghost use Rattle.dw_find.specs.MacroSections.{UnitsFoundIn};
 ghost use Rattle.dw_find.specs.NamedSlots.{no_slots};
 ghost use Rattle.dw_find.specs.SlotPaths.{as_fields, slots_with};
+ghost use Rattle.dw_find.specs.UnitTexts.{texts_of};
 
 use crate::all_sections::all_texts;
 use crate::fields::PathField;
-use crate::found::{TextTables, UnitPaths};
+use crate::found::{TextTable, TextTables, UnitPaths};
 use crate::lines::{push_lines, starts_of};
 use crate::macros::{MacroSection, first_places, macros_name, push_macros};
 use crate::rooms::all_rooms_fit;
 use crate::slots::NamedSlots;
-use crate::tables::{TextsOf, table_texts};
+use crate::tables::{TextsOf, table_number, table_texts};
 use dw_base::{DebugSection, Fault};
 use dw_lines::LineTable;
 use dw_offsets::{ContributionList, PathSlot, SlotMarks, contributions, name_tables, path_slots};
@@ -105,12 +106,23 @@ fn unit_paths(
     ensures indexed { OnOk result (TextsIndexed (debug_data view.now) slots.old.list slots.new.marks) }
     ensures refused { IfErr result (Blames (UnitPathsRefuse maps.now (debug_data view.now) slots.old.list)) }
 {
-    let str = table_texts(view, TextsOf::Str);
-    let line_str = table_texts(view, TextsOf::LineStr);
-    let tables = TextTables::new(str, line_str);
+    let tables = text_tables(view);
     let paths = all_texts(alloc, view, &tables, starts, places, slots)?;
     all_rooms_fit(view, maps, paths.as_slice())?;
     Ok(paths)
+}
+
+/// The tables of texts of the view.
+#[tactic(auto, using(crate::proofs::FoundUnitLaws::unit_rules))]
+fn text_tables<'a>(view: &'a View) -> TextTables<'a>
+    ensures { result ≡ texts_of (debug_data view.now) }
+{
+    let str = table_texts(view, TextsOf::Str);
+    let line_str = table_texts(view, TextsOf::LineStr);
+    TextTables {
+        str: TextTable::new(table_number(view, TextsOf::Str), str),
+        line_str: TextTable::new(table_number(view, TextsOf::LineStr), line_str),
+    }
 }
 
 /// Puts what the string offsets say of paths behind what the units say, where there are any.

@@ -11,15 +11,15 @@ ghost use Rattle.dw_base.specs.Refusals.{Blames};
 ghost use Rattle.dw_base.specs.UnitHeaders.{AreUnits};
 ghost use Rattle.dw_base.specs.ViewData.{debug_data};
 ghost use Rattle.dw_entries.specs.ViewUnits.{IsUnitSection, unit_section_at};
-ghost use Rattle.dw_find.specs.UnitTexts.{AreTables, OneTaken, SectionIndexed, UnitsRefuse, tables_of};
+ghost use Rattle.dw_find.specs.UnitTexts.{AreTables, OneTaken, SectionIndexed, UnitsRefuse, tables_of, texts_of};
 
-use crate::found::{Found, TextTables, UnitPaths};
+use crate::found::{Found, SectionTexts, TextTables, UnitPaths};
 use crate::scan_table::ScanTable;
 use crate::slots::NamedSlots;
 use crate::units::unit_texts;
 use dw_abbrev::AbbrevTable;
 use dw_base::{DebugSection, Fault, UnitHeader};
-use dw_entries::unit_headers;
+use dw_entries::{table_offset, unit_headers};
 use dw_view::View;
 use std::alloc::Global;
 use std::collections::HashMap;
@@ -36,7 +36,7 @@ pub(crate) fn section_texts(
     slots: &mut NamedSlots,
 ) -> Result<UnitPaths, Fault>
     requires there { IsUnitSection view.now section }
-    requires tables { tables.now ≡ tables_of (debug_data view.now) }
+    requires tables { tables.now ≡ texts_of (debug_data view.now) }
     requires shared { AreTables (debug_data view.now) (λ at. get nat_eq shared.old at) }
     ensures shared { OnOk result (AreTables (debug_data view.now) (λ at. get nat_eq shared.new at)) }
     ensures taken { IfOk result (λ u. SectionIndexed (debug_data view.now) (unit_section_at view.now section) u slots.old slots.new) }
@@ -66,16 +66,17 @@ fn units_texts(
     slots: &mut NamedSlots,
 ) -> Result<UnitPaths, Fault>
     requires there { IsUnitSection view.now section }
-    requires tables { tables.now ≡ tables_of (debug_data view.now) }
+    requires tables { tables.now ≡ texts_of (debug_data view.now) }
     requires shared { AreTables (debug_data view.now) (λ at. get nat_eq shared.old at) }
     requires units { AreUnits (debug_data view.now).base (unit_section_at view.now section) units.now }
     ensures shared { OnOk result (AreTables (debug_data view.now) (λ at. get nat_eq shared.new at)) }
     ensures taken { IfOk result (λ u. SectionIndexed (debug_data view.now) (unit_section_at view.now section) u slots.old slots.new) }
     ensures refused { IfErr result (Blames (UnitsRefuse (debug_data view.now))) }
 {
+    let texts = SectionTexts::new(view, section, tables);
     let mut found = Found::new(alloc, section);
     for unit in units {
-        one_unit(alloc, view, tables, unit, shared, &mut found, slots)?;
+        one_unit(alloc, view, &texts, unit, shared, &mut found, slots)?;
     }
     Ok(found.paths)
 }
@@ -86,24 +87,25 @@ fn units_texts(
 fn one_unit(
     alloc: Global,
     view: &View,
-    tables: &TextTables,
+    texts: &SectionTexts,
     unit: &UnitHeader,
     shared: &mut HashMap<u64, ScanTable>,
     found: &mut Found,
     slots: &mut NamedSlots,
 ) -> Result<(), Fault>
     requires unit { HasUnit (debug_data view.now) (unit_section_at view.now unit.now.section) unit.now }
-    requires tables { tables.now ≡ tables_of (debug_data view.now) }
+    requires texts { texts.now ≡ tables_of (debug_data view.now) (unit_section_at view.now unit.now.section) }
     requires shared { AreTables (debug_data view.now) (λ at. get nat_eq shared.old at) }
     ensures shared { OnOk result (AreTables (debug_data view.now) (λ at. get nat_eq shared.new at)) }
     ensures taken { OnOk result (OneTaken (debug_data view.now) (unit_section_at view.now unit.now.section) unit.now found.old found.new slots.old slots.new) }
     ensures refused { IfErr result (Blames (UnitsRefuse (debug_data view.now))) }
 {
-    read_table(alloc, view, unit.abbrevs, shared)?;
-    let Some(table) = shared.get(&unit.abbrevs) else {
+    let at = table_offset(view, unit)?;
+    read_table(alloc, view, at, shared)?;
+    let Some(table) = shared.get(&at) else {
         unreachable!()
     };
-    unit_texts(view, tables, unit, table, found)?;
+    unit_texts(view, texts, unit, table, found)?;
     slots.take(unit.section, found.base, found.indexes.as_slice());
     found.end_unit();
     Ok(())

@@ -10,13 +10,14 @@ ghost use Rattle.dw_base.specs.Values.{value_at};
 ghost use Rattle.dw_base.specs.Refusals.{Blames, at};
 ghost use Rattle.dw_base.specs.Roles.{is_path};
 ghost use Rattle.dw_base.specs.TextIndexes.{is_base};
+ghost use Rattle.dw_base.specs.Texts.{ends_in};
 ghost use Rattle.dw_base.specs.UnitHeaders.{is_address_size};
 ghost use Rattle.dw_base.specs.declared.dwarf_numbers.TheConstants.{DW_AT_stmt_list};
-ghost use Rattle.dw_find.specs.EntryTexts.{AreTaken, OffsetNames, OffsetSized, OneRefuses, StartSized, ValueRefuses, ValuesRefuse, ValueTaken, with_places, IsStrValue};
+ghost use Rattle.dw_find.specs.EntryTexts.{AreTaken, OffsetLies, OffsetNames, OffsetRefuses, OffsetSized, OneRefuses, offset_in, StartSized, ValueRefuses, ValuesRefuse, ValueTaken, with_places, IsStrValue};
 ghost use Rattle.dw_find.specs.TextPlaces.{class_places, indexed_at, is_macros, is_start, is_start_form, line_at, no_start, own_form, said_places, said_value, values_places};
 
 use crate::fields::{InlinePath, PathField, TextIndex};
-use crate::found::{Found, TextTables};
+use crate::found::{Found, SectionTexts, TextTable};
 use dw_base::dwarf_numbers::{
     DW_AT_GNU_macros, DW_AT_comp_dir, DW_AT_macros, DW_AT_name, DW_AT_stmt_list,
     DW_AT_str_offsets_base, DW_FORM_data4, DW_FORM_data8, DW_FORM_indirect, DW_FORM_sec_offset,
@@ -32,7 +33,7 @@ use std::alloc::AllocError;
 /// bytes up to the unit's end: the paths among them are noted. Refused where one can't be read or names no text.
 #[tactic(auto, using(crate::proofs::EntryTextLaws::entry_rules))]
 pub(crate) fn entry_texts(
-    tables: &TextTables,
+    texts: &SectionTexts,
     unit: &UnitHeader,
     bytes: &[u8],
     number: u64,
@@ -44,13 +45,14 @@ pub(crate) fn entry_texts(
     requires address { IsTrue (is_address_size unit.now.params.address) }
     requires small { length bytes.now ≤ 2 ^ 31 }
     requires inside { from ≤ length bytes.now }
+    requires within { length bytes.now ≤ length texts.now.cells }
     ensures found { OnOk result (found.new ≡ with_places found.old (values_places unit.now.params bytes.now number tag specs.now from)) }
-    ensures taken { OnOk result (AreTaken tables.now unit.now.params bytes.now specs.now from) }
-    ensures refused { IfErr result (Blames (ValuesRefuse tables.now unit.now.params bytes.now unit.now.section from specs.now)) }
+    ensures taken { OnOk result (AreTaken texts.now unit.now.params bytes.now specs.now from) }
+    ensures refused { IfErr result (Blames (ValuesRefuse texts.now unit.now.params bytes.now unit.now.section from specs.now)) }
 {
     let mut place = from;
     for spec in specs {
-        place += value_text(tables, unit, bytes, number, tag, spec, place, found)?;
+        place += value_text(texts, unit, bytes, number, tag, spec, place, found)?;
     }
     Ok(())
 }
@@ -58,7 +60,7 @@ pub(crate) fn entry_texts(
 /// Takes the value of an attribute at a place, and gives its size.
 #[tactic(auto, using(crate::proofs::EntryTextLaws::value_rules))]
 fn value_text(
-    tables: &TextTables,
+    texts: &SectionTexts,
     unit: &UnitHeader,
     bytes: &[u8],
     number: u64,
@@ -69,15 +71,16 @@ fn value_text(
 ) -> Result<u64, Fault>
     requires address { IsTrue (is_address_size unit.now.params.address) }
     requires small { length bytes.now ≤ 2 ^ 31 }
-    ensures taken { IfOk result (λ size. ValueTaken tables.now unit.now.params bytes.now number tag spec.now place size found.old found.new) }
+    requires within { length bytes.now ≤ length texts.now.cells }
+    ensures taken { IfOk result (λ size. ValueTaken texts.now unit.now.params bytes.now number tag spec.now place size found.old found.new) }
     ensures within { IfOk result (λ size. place + size ≤ length bytes.now) }
-    ensures refused { IfErr result (Blames (OneRefuses tables.now unit.now.params bytes.now unit.now.section place spec.now)) }
+    ensures refused { IfErr result (Blames (OneRefuses texts.now unit.now.params bytes.now unit.now.section place spec.now)) }
 {
     let value = value_in(unit, bytes, spec, place)?;
     let path = is_path(number, tag, spec.name);
     let base = is_base(number, spec.name);
     note_start(says_start(spec, bytes, place), &value, found)?;
-    note_value(tables, unit.section, place, &value, path, base, found)?;
+    note_value(texts, place, &value, path, base, found)?;
     note_said(spec, bytes, place, &value, found)?;
     Ok(value.size)
 }
@@ -89,6 +92,7 @@ fn value_in(unit: &UnitHeader, bytes: &[u8], spec: &Spec, place: u64) -> Result<
     requires address { IsTrue (is_address_size unit.now.params.address) }
     ensures value { IfOk result (λ v. value_at unit.now.params spec.now bytes.now place ≡ Some v) }
     ensures sized { IfOk result (λ v. OffsetSized v.class v.len) }
+    ensures lies { IfOk result (λ v. OffsetLies (length bytes.now) v.class v) }
     ensures start { IfOk result (λ v. StartSized (own_form spec.now bytes.now place) v.len) }
     ensures within { IfOk result (λ v. place + v.size ≤ length bytes.now) }
     ensures refused { IfErr result (FormFails unit.now.params spec.now bytes.now unit.now.section place) }
@@ -136,6 +140,7 @@ fn any_value(unit: &UnitHeader, bytes: &[u8], spec: &Spec, place: u64) -> Result
     requires address { IsTrue (is_address_size unit.now.params.address) }
     ensures value { IfOk result (λ v. value_at unit.now.params spec.now bytes.now place ≡ Some v) }
     ensures sized { IfOk result (λ v. OffsetSized v.class v.len) }
+    ensures lies { IfOk result (λ v. OffsetLies (length bytes.now) v.class v) }
     ensures start { IfOk result (λ v. StartSized (own_form spec.now bytes.now place) v.len) }
     ensures within { IfOk result (λ v. place + v.size ≤ length bytes.now) }
     ensures refused { IfErr result (FormFails unit.now.params spec.now bytes.now unit.now.section place) }
@@ -281,8 +286,7 @@ fn is_base(number: u64, name: u64) -> bool
 /// Notes what a value at a place says of a path or by index, where it is a path's or a base's, or an index.
 #[tactic(auto, using(crate::proofs::EntryTextLaws::note_rules), unfolding(crate::specs::EntryTexts::with_places, crate::specs::EntryTexts::with_paths))]
 fn note_value(
-    tables: &TextTables,
-    section: u32,
+    texts: &SectionTexts,
     place: u64,
     value: &Value,
     path: bool,
@@ -290,23 +294,20 @@ fn note_value(
     found: &mut Found,
 ) -> Result<(), Fault>
     requires sized { OffsetSized value.now.class value.now.len }
+    requires lies { OffsetLies (length texts.now.cells) value.now.class value.now }
     ensures found { OnOk result (found.new ≡ with_places found.old (class_places value.now.class path base place value.now)) }
-    ensures names { OnOk result (OffsetNames tables.now value.now.class value.now.number) }
-    ensures refused { IfErr result (Blames (ValueRefuses tables.now section value.now)) }
+    ensures names { OnOk result (OffsetNames texts.now value.now.class value.now) }
+    ensures refused { IfErr result (Blames (ValueRefuses texts.now value.now)) }
 {
     match value.class {
         ValueClass::StrOffset => {
-            if value.number >= tables.str_end {
-                return Err(no_text(section, value.at).into());
-            }
+            offset_names(texts, texts.str(), value)?;
             if path {
                 found.paths.str.push(field_of(value))?;
             }
         }
         ValueClass::LineStrOffset => {
-            if value.number >= tables.line_str_end {
-                return Err(no_text(section, value.at).into());
-            }
+            offset_names(texts, texts.line_str(), value)?;
             if path {
                 found.paths.line_str.push(field_of(value))?;
             }
@@ -344,6 +345,21 @@ fn field_of(value: &Value) -> PathField
         at: value.at,
         size: value.len as u8,
     }
+}
+
+/// Tests that the offset that a value is names a text of a table.
+#[tactic(auto, using(crate::proofs::EntryTextLaws::offset_rules))]
+fn offset_names(texts: &SectionTexts, table: &TextTable, value: &Value) -> Result<(), Refusal>
+    requires sized { (value.now.len ≡ 4) ⊎ (value.now.len ≡ 8) }
+    requires lies { value.now.at + value.now.len ≤ length texts.now.cells }
+    ensures names { OnOk result (IsTrue (ends_in table.now.bytes (offset_in texts.now table.now value.now))) }
+    ensures refused { IfErr result (OffsetRefuses texts.now table.now value.now) }
+{
+    let offset = texts.offset(value, table)?;
+    if !table.ends(offset) {
+        return Err(no_text(texts.section, value.at));
+    }
+    Ok(())
 }
 
 /// An offset that names no text.

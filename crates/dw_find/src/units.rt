@@ -11,9 +11,9 @@ ghost use Rattle.dw_entries.specs.ScanStates.{scan_start};
 ghost use Rattle.dw_entries.specs.ViewUnits.{unit_section_at};
 ghost use Rattle.dw_find.specs.EntryTexts.{with_places};
 ghost use Rattle.dw_find.specs.TextPlaces.{entry_places};
-ghost use Rattle.dw_find.specs.UnitTexts.{EntryRefuses, EntryTaken, IsGiven, ScanTaken, UnitRefuses, UnitTaken};
+ghost use Rattle.dw_find.specs.UnitTexts.{EntryRefuses, EntryTaken, IsGiven, ScanTaken, UnitRefuses, UnitTaken, tables_of};
 
-use crate::found::{Found, TextTables};
+use crate::found::{Found, SectionTexts};
 use crate::scan_table::ScanTable;
 use crate::texts::entry_texts;
 use dw_base::{Fault, Scanned, UnitHeader, uleb_at};
@@ -25,24 +25,25 @@ use dw_view::View;
 #[tactic(auto, using(crate::proofs::ScanTextLaws::unit_rules))]
 pub(crate) fn unit_texts(
     view: &View,
-    tables: &TextTables,
+    texts: &SectionTexts,
     unit: &UnitHeader,
     table: &ScanTable,
     found: &mut Found,
 ) -> Result<(), Fault>
     requires unit { HasUnit (debug_data view.now) (unit_section_at view.now unit.now.section) unit.now }
-    ensures taken { OnOk result (UnitTaken tables.now (unit_section_at view.now unit.now.section) unit.now table.now found.old found.new) }
-    ensures refused { IfErr result (Blames (UnitRefuses tables.now unit.now table.now (bytes_up_to (unit_section_at view.now unit.now.section) unit.now))) }
+    requires texts { texts.now ≡ tables_of (debug_data view.now) (unit_section_at view.now unit.now.section) }
+    ensures taken { OnOk result (UnitTaken texts.now (unit_section_at view.now unit.now.section) unit.now table.now found.old found.new) }
+    ensures refused { IfErr result (Blames (UnitRefuses texts.now unit.now table.now (bytes_up_to (unit_section_at view.now unit.now.section) unit.now))) }
 {
     let scan = EntryScan::new(view, unit, table.abbrevs());
     let bytes = &view.bytes(unit.section)[..unit.end as usize];
-    scan_texts(tables, unit, table, bytes, scan, found)
+    scan_texts(texts, unit, table, bytes, scan, found)
 }
 
 /// Takes the entries that a pass gives, from the first on.
 #[tactic(auto, using(crate::proofs::ScanTextLaws::scan_rules))]
 fn scan_texts(
-    tables: &TextTables,
+    texts: &SectionTexts,
     unit: &UnitHeader,
     table: &ScanTable,
     bytes: &[u8],
@@ -52,14 +53,15 @@ fn scan_texts(
     requires start { scan ≡ scan_start unit.now table.now bytes.now }
     requires address { IsTrue (is_address_size unit.now.params.address) }
     requires small { length bytes.now ≤ 2 ^ 31 }
+    requires within { length bytes.now ≤ length texts.now.cells }
     requires inside { unit.now.first ≤ length bytes.now }
-    ensures taken { OnOk result (ScanTaken tables.now unit.now table.now bytes.now found.old found.new) }
-    ensures refused { IfErr result (Blames (UnitRefuses tables.now unit.now table.now bytes.now)) }
+    ensures taken { OnOk result (ScanTaken texts.now unit.now table.now bytes.now found.old found.new) }
+    ensures refused { IfErr result (Blames (UnitRefuses texts.now unit.now table.now bytes.now)) }
 {
     let mut number = 0;
     for entry in scan {
         let entry = entry?;
-        scanned_texts(tables, unit, table, bytes, number, &entry, found)?;
+        scanned_texts(texts, unit, table, bytes, number, &entry, found)?;
         number += 1;
     }
     Ok(())
@@ -68,7 +70,7 @@ fn scan_texts(
 /// Takes the values of an entry that a pass gave, the entry `number` of its unit, up to the last that may say something.
 #[tactic(auto, using(crate::proofs::UnitTextLaws::given_rules))]
 fn scanned_texts(
-    tables: &TextTables,
+    texts: &SectionTexts,
     unit: &UnitHeader,
     table: &ScanTable,
     bytes: &[u8],
@@ -78,10 +80,11 @@ fn scanned_texts(
 ) -> Result<(), Fault>
     requires address { IsTrue (is_address_size unit.now.params.address) }
     requires small { length bytes.now ≤ 2 ^ 31 }
+    requires within { length bytes.now ≤ length texts.now.cells }
     requires given { IsGiven unit.now.params table.now bytes.now entry.now }
     ensures found { OnOk result (found.new ≡ with_places found.old (entry_places unit.now.params table.now bytes.now number entry.now)) }
-    ensures taken { OnOk result (EntryTaken tables.now unit.now.params table.now bytes.now entry.now) }
-    ensures refused { IfErr result (Blames (EntryRefuses tables.now unit.now.params table.now bytes.now unit.now.section entry.now)) }
+    ensures taken { OnOk result (EntryTaken texts.now unit.now.params table.now bytes.now entry.now) }
+    ensures refused { IfErr result (Blames (EntryRefuses texts.now unit.now.params table.now bytes.now unit.now.section entry.now)) }
 {
     let Some((code, size)) = uleb_at(bytes, entry.offset) else {
         unreachable!()
@@ -90,5 +93,5 @@ fn scanned_texts(
         unreachable!()
     };
     let from = entry.offset + size;
-    entry_texts(tables, unit, bytes, number, tag, specs, from, found)
+    entry_texts(texts, unit, bytes, number, tag, specs, from, found)
 }

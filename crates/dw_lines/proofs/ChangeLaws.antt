@@ -3,15 +3,20 @@ use Rattle.std.proofs.Common.{Bool, true, false, ◌≡◌, ◌≢◌, ℕ, ◌+
 use Rattle.std.proofs.lemmas.Bool.{cases_lt}
 use Rattle.std.proofs.lemmas.Bool.Decides.{nat_tests}
 use Rattle.std.proofs.lemmas.List.{append-nil, append_assoc, take_more, take_all, map-append, get_or_default, length-take, length-drop}
+use Rattle.dw_base.specs.Cells.{bytes_of, cells_at}
+use Rattle.dw_base.specs.FileViews.{View, view_cells}
 use Rattle.dw_base.specs.Forms.{width_size}
 use Rattle.dw_base.specs.LineSources.{LineSource}
+use Rattle.dw_base.specs.NewOffsets.{with_offset}
 use Rattle.dw_base.specs.Numbers.{number_bytes}
 use Rattle.dw_base.specs.Paths.{PathMap, mapped_path}
 use Rattle.dw_base.specs.Refusals.{at}
 use Rattle.dw_base.specs.declared.fault.Kind.TheVariants.{TooWide}
 use Rattle.dw_base.specs.declared.fault.Refusal.{Refusal}
+use Rattle.dw_base.specs.declared.shared.Order.{Order}
 use Rattle.dw_base.specs.declared.shared.Width.{Width}
 use Rattle.dw_base.specs.declared.line_tables.TextPlace.{TextPlace}
+use Rattle.dw_lines.specs.OffsetRooms.{AllHaveRoom, HasRoom}
 use Rattle.dw_lines.specs.ChangeSteps.{after_change, after_changes, fits_width, offset_fits}
 use Rattle.dw_base.specs.LineTables.{texts_of}
 use Rattle.dw_base.specs.LineWriteFails.{WideOffset, wide}
@@ -98,6 +103,19 @@ appended a b c p n f s = s ∙ ap (λ (xs : List ℕ). xs ++ n) f ∙ append_ass
 
 pub ruleset append_laws = (appended)
 
+-- the same, of a field with a new offset
+pub offset-appended : (v : View) (section field size place number : ℕ) (width : Width) (order : Order) (a b c p : List ℕ) → size ≡ width_size width
+    → number_bytes v.order size number ≡ bytes_of (with_offset v.order (cells_at (view_cells v section) field size) place) → order ≡ v.order → b ≡ a ++ p
+    → c ≡ b ++ number_bytes order (width_size width) number
+    → c ≡ a ++ (p ++ bytes_of (with_offset v.order (cells_at (view_cells v section) field (width_size width)) place))
+offset-appended v section field size place number width order a b c p s n o f g =
+    appended a b c p (bytes_of (with_offset v.order (cells_at (view_cells v section) field (width_size width)) place)) f
+    (g ∙ ap (λ (bs : List ℕ). b ++ bs)
+    (ap (λ (x : Order). number_bytes x (width_size width) number) o
+    ∙ subst (λ (k : ℕ). number_bytes v.order k number ≡ bytes_of (with_offset v.order (cells_at (view_cells v section) field k) place)) s n))
+
+pub ruleset offset_laws = (offset-appended)
+
 pub behind-small : (bytes old : List ℕ) (at n : ℕ) → old ≡ bytes_at bytes at n → length bytes ≤ 2 ^ 31 → at < 2 ^ 64 → at + length old < 2 ^ 64
 behind-small bytes old at n e small fits =
     let rest = length-drop at bytes in
@@ -120,7 +138,7 @@ put-inline g m places width x bytes old new out more from next b s o n e is =
     rw (here, is, e, n, o, b) refl
 
 pub put-offset : (g : LineSource) (m : PathMap) (places : TextPlace → Option ℕ) (width : Width) (x : TextPlace) (bytes out more : List ℕ) (from next place : ℕ)
-    → bytes ≡ g.bytes → x.section ≢ g.number → Some place ≡ places x → more ≡ out ++ (part bytes from x.field ++ number_bytes g.order (width_size width) place)
+    → bytes ≡ g.bytes → x.section ≢ g.number → Some place ≡ places x → more ≡ out ++ (part bytes from x.field ++ bytes_of (with_offset g.order (cells_at g.cells x.field (width_size width)) place))
     → next ≡ x.field + length (bytes_at bytes x.field (width_size width))
     → ◌≡◌ {A = List ℕ × ℕ} (more, next) (after_changes (g.bytes) (out, from) (path_changes g m places width x))
 put-offset g m places width x bytes out more from next place b s p e is =
@@ -134,7 +152,10 @@ put-none g m places width x out from s p =
     let other : (x.section == g.number) ≡ false = grind (arith, nat_tests) in
     rw (other, ← p) refl
 
-pub ruleset put_laws = (put-inline, put-offset, put-none)
+pub room-inside : (section size : ℕ) (width : Width) (x : TextPlace) → HasRoom section width size x → x.section ≢ section → x.field + width_size width ≤ size
+room-inside section size width x room other = room.inside other
+
+pub ruleset put_laws = (put-inline, put-offset, put-none, room-inside)
 
 -- what becomes of paths, one after another
 pub put-start : (g : LineSource) (m : PathMap) (places : TextPlace → Option ℕ) (width : Width) (xs : List TextPlace) (out : List ℕ) (from : ℕ)
@@ -163,6 +184,10 @@ pub put-over : (g : LineSource) (m : PathMap) (places : TextPlace → Option ℕ
 put-over g m places width xs out so from place i s le =
     s ∙ ap (λ (ys : List TextPlace). after_changes (g.bytes) (out, from) (all_changes g m places width ys)) (take_all i xs le)
 
-pub ruleset put_all_laws = (put-start, put-more, put-over)
+pub room-here : (section size : ℕ) (width : Width) (xs : List TextPlace) (i : ℕ) (d : TextPlace) → AllHaveRoom section width size xs → i < length xs
+    → HasRoom section width size (get_or xs i d)
+room-here section size width xs i d rooms lt = rooms i d lt
+
+pub ruleset put_all_laws = (put-start, put-more, put-over, room-here)
 
 pub ruleset fit_laws = (offset-wide)

@@ -8,6 +8,8 @@ pub mod EntryLaws
 pub mod WalkLaws
 pub mod TableLaws
 pub mod PartLaws
+pub mod RoomLaws
+pub mod NewOffsetLaws
 pub mod ChangeLaws
 pub mod DefinedLaws
 pub mod WrittenLaws

@@ -1,10 +1,12 @@
 -- Laws of the texts that a line table mentions, and of numbers that are skipped.
 use Rattle.std.proofs.Common.{true, false, ◌≡◌, ℕ, zero, suc, ◌+◌, ◌-◌, ◌<◌, ◌≤◌, List, [], length, Option, Some, None, refl, sym, ap, ◌∙◌, subst, arith}
-use Rattle.std.specs.Prelude.{Ok, Err}
+use Rattle.std.specs.Prelude.{Result, Ok, Err}
 use Rattle.std.proofs.lemmas.List.{drop_all}
-use Rattle.dw_base.specs.Cells.{Located, offset_into}
+use Rattle.dw_base.proofs.LineFieldLaws.{named_text-by, named_text-refused}
+use Rattle.dw_base.proofs.ViewCellLaws.{field_read-by}
+use Rattle.dw_base.specs.Cells.{Located}
 use Rattle.dw_base.specs.DebugSections.{name_of}
-use Rattle.dw_base.specs.FileViews.{View, field_at, section_bytes, section_named}
+use Rattle.dw_base.specs.FileViews.{View, field_read, section_bytes, section_named}
 use Rattle.dw_base.specs.Lebs.{uleb_at}
 use Rattle.dw_base.specs.Refusals.{at}
 use Rattle.dw_base.specs.Texts.{ends_in, has_nul, text_in}
@@ -15,7 +17,9 @@ use Rattle.dw_base.specs.declared.fault.Refusal.{Refusal}
 use Rattle.dw_base.specs.declared.view_fields.Field.{Field}
 use Rattle.dw_forms.proofs.ReadLaws.{text-within}
 use Rattle.dw_lines.specs.ViewSources.{view_source}
-use Rattle.dw_base.specs.LineTexts.{named_text, skip_lebs, text_if}
+use Rattle.dw_base.specs.LineSources.{line_field}
+use Rattle.dw_base.specs.LineTexts.{named_text, skip_lebs, text_by, text_if}
+use Rattle.dw_base.specs.declared.line_tables.TextPlace.{TextPlace}
 
 pub ruleset inline_laws = (text-within)
 
@@ -54,31 +58,39 @@ nothing-ends : (place : ℕ) → ends_in [] place ≡ false
 unfolding ends_in
 nothing-ends place = ap has_nul (drop_all place [] (omega arith))
 
--- the text that a field names
-pub named-in : (v : View) (texts : DebugSection) (section place size offset : ℕ) (f : Field) (z : Located) → z ≡ located v texts → f ≡ field_at v section place size
-    → offset ≡ offset_into (located v texts) f → named_text (view_source v section) (located v texts) place size ≡ text_if z section place offset
-unfolding named_text field_at
-named-in v texts section place size offset f z l e o = rw (l, o, e) refl
+-- the text at an offset
+pub text-nowhere : (v : View) (texts : DebugSection) (section place offset : ℕ) (r : Refusal) → None ≡ section_named v (name_of texts) → r ≡ at StringOffset section place
+    → Err r ≡ text_if (located v texts) section place offset
+text-nowhere v texts section place offset r none is =
+    sym (ap (λ (z : Located). text_if z section place offset) (located-none v texts none) ∙ rw (nothing-ends offset, is) refl)
 
-pub named-nowhere : (v : View) (texts : DebugSection) (section place size offset : ℕ) (f : Field) (r : Refusal) → None ≡ section_named v (name_of texts)
-    → f ≡ field_at v section place size → offset ≡ offset_into (located v texts) f → r ≡ at StringOffset section place → Err r ≡ named_text (view_source v section) (located v texts) place size
-named-nowhere v texts section place size offset f r none e o is =
-    sym (named-in v texts section place size offset f (record { number = 0; bytes = [] }) (sym (located-none v texts none)) e o
-    ∙ rw (nothing-ends offset, is) refl)
+pub text-not : (v : View) (texts : DebugSection) (section place offset number : ℕ) (bytes : List ℕ) (r : Refusal) → Some number ≡ section_named v (name_of texts)
+    → bytes ≡ section_bytes v number → ends_in bytes offset ≡ false → r ≡ at StringOffset section place → Err r ≡ text_if (located v texts) section place offset
+text-not v texts section place offset number bytes r some b none is =
+    sym (ap (λ (z : Located). text_if z section place offset) (located-some v texts number some) ∙ rw (← b, none, is) refl)
 
-pub named-not : (v : View) (texts : DebugSection) (section place size offset number : ℕ) (bytes : List ℕ) (f : Field) (r : Refusal)
-    → Some number ≡ section_named v (name_of texts) → bytes ≡ section_bytes v number → f ≡ field_at v section place size
-    → offset ≡ offset_into (located v texts) f → ends_in bytes offset ≡ false → r ≡ at StringOffset section place → Err r ≡ named_text (view_source v section) (located v texts) place size
-named-not v texts section place size offset number bytes f r some b e o none is =
-    sym (named-in v texts section place size offset f (record { number = number; bytes = section_bytes v number }) (sym (located-some v texts number some)) e o
-    ∙ rw (← b, none, is) refl)
+pub text-some : (v : View) (texts : DebugSection) (section place offset number len : ℕ) (bytes text : List ℕ) → Some number ≡ section_named v (name_of texts)
+    → bytes ≡ section_bytes v number → ends_in bytes offset ≡ true → text ≡ text_in bytes offset → len ≡ length text
+    → Ok (record { section = number; at = offset; len = len; field = place }) ≡ text_if (located v texts) section place offset
+text-some v texts section place offset number len bytes text some b ends t l =
+    sym (ap (λ (z : Located). text_if z section place offset) (located-some v texts number some) ∙ rw (← b, ends, l, t) refl)
 
-pub named-some : (v : View) (texts : DebugSection) (section place size offset number len : ℕ) (bytes text : List ℕ) (f : Field)
-    → Some number ≡ section_named v (name_of texts) → bytes ≡ section_bytes v number → f ≡ field_at v section place size
-    → offset ≡ offset_into (located v texts) f → ends_in bytes offset ≡ true → text ≡ text_in bytes offset → len ≡ length text
-    → Ok (record { section = number; at = offset; len = len; field = place }) ≡ named_text (view_source v section) (located v texts) place size
-named-some v texts section place size offset number len bytes text f some b e o ends t l =
-    sym (named-in v texts section place size offset f (record { number = number; bytes = section_bytes v number }) (sym (located-some v texts number some)) e o
-    ∙ rw (← b, ends, l, t) refl)
+pub ruleset text_laws = (text-nowhere, text-not, text-some)
 
-pub ruleset named_laws = (named-nowhere, named-not, named-some)
+-- a field of the section is one of the view
+pub source-field : (v : View) (section place size : ℕ) → line_field (view_source v section) place size ≡ field_read v section place size
+unfolding line_field
+source-field v section place size = sym (field_read-by v section place size)
+
+-- the text that it names
+pub named-read : (v : View) (texts : DebugSection) (section place size : ℕ) (f : Field) (x : Result TextPlace Refusal) → Ok f ≡ field_read v section place size
+    → x ≡ text_by (located v texts) section place f → x ≡ named_text (view_source v section) (located v texts) place size
+named-read v texts section place size f x e is =
+    is ∙ sym (named_text-by (view_source v section) (located v texts) place size f (source-field v section place size ∙ sym e))
+
+pub named-refused : (v : View) (texts : DebugSection) (section place size : ℕ) (r : Refusal) → Err r ≡ field_read v section place size
+    → Err r ≡ named_text (view_source v section) (located v texts) place size
+named-refused v texts section place size r e =
+    sym (named_text-refused (view_source v section) (located v texts) place size r (source-field v section place size ∙ sym e))
+
+pub ruleset named_laws = (named-read, named-refused)

@@ -1,6 +1,6 @@
 -- The line tables of a view: each that is read stands behind those before it, and the last ends where the section does.
-use Rattle.std.proofs.Common.{◌≡◌, ℕ, ◌<◌, ◌≤◌, List, [], ◌∷◌, ◌++◌, length, Option, Some, None, refl, sym, ap, ◌∙◌, subst, arith}
-use Rattle.dw_base.proofs.PlainCellLaws.{bytes_of-plain}
+use Rattle.std.proofs.Common.{◌≡◌, ℕ, ◌<◌, ◌≤◌, List, [], ◌∷◌, ◌++◌, length, Some, None, refl, sym, ap, ◌∙◌, subst, arith}
+use Rattle.dw_base.specs.Cells.{bytes_of}
 use Rattle.dw_base.specs.DebugData.{line_source}
 use Rattle.dw_base.specs.DebugSections.{name_of}
 use Rattle.dw_base.specs.FileViews.{View, section_bytes, section_named}
@@ -9,7 +9,7 @@ use Rattle.dw_base.specs.LineReadings.{LineReading, ReadsTable, TablesTo, table_
 use Rattle.dw_base.specs.LineSources.{LineSource}
 use Rattle.dw_base.specs.LineTables.{IsLineTable, LineTable}
 use Rattle.dw_base.specs.Refusals.{Blames}
-use Rattle.dw_base.specs.ViewData.{debug_data, located, located_at}
+use Rattle.dw_base.specs.ViewData.{debug_data}
 use Rattle.dw_base.specs.declared.debug_sections.DebugSection.TheVariants.{Line}
 use Rattle.dw_base.specs.declared.fault.Fault.{Fault}
 use Rattle.dw_base.specs.declared.fault.Fault.TheVariants.{NoMemory, Refused}
@@ -18,7 +18,7 @@ use Rattle.dw_meaning.specs.DataFails.{LinesFail, line_table}
 use Rattle.dw_meaning.proofs.LineRowLaws.{lines-exclude}
 use Rattle.dw_lines.specs.ViewSources.{view_source}
 use Rattle.dw_lines.specs.ViewTables.{TablesFound, TablesUpTo, tables_read}
-use Rattle.dw_lines.proofs.ReadingLaws.{reading_of, reading-end, reading-reads, reading-table, source-is}
+use Rattle.dw_lines.proofs.ReadingLaws.{lines-none, reading_of, reading-end, reading-reads, reading-table, source-is}
 
 -- one table more
 to-append : (g : LineSource) (p e end : ℕ) (rs : List LineReading) (r : LineReading) → TablesTo g p rs e → ReadsTable g e r → r.header.end ≡ end → TablesTo g p (rs ++ r ∷ []) end
@@ -63,8 +63,7 @@ pub ruleset table_laws = (tables-start, tables-more, tables-over, table-fails)
 
 -- a view without a section of line tables
 pub source-none : (v : View) → None ≡ section_named v (name_of Line) → (line_source (debug_data v)).bytes ≡ []
-unfolding debug_data located
-source-none v none = bytes_of-plain (located_at v (section_named v (name_of Line))).bytes ∙ ap (λ (o : Option ℕ). (located_at v o).bytes) (sym none)
+source-none v none = ap bytes_of (lines-none v none)
 
 pub tables-none : (v : View) (ts : List LineTable) → None ≡ section_named v (name_of Line) → ts ≡ [] → TablesFound v ts
 tables-none v ts none is =

@@ -19,7 +19,9 @@ use Rattle.dw_base.specs.declared.line_tables.TextPlace.{TextPlace}
 use Rattle.dw_lines.specs.ChangeSteps.{after_changes, OffsetsFit, offset_fits}
 use Rattle.dw_base.specs.LineHeaders.{line_header}
 use Rattle.dw_base.specs.LineSources.{LineSource}
+use Rattle.dw_lines.specs.OffsetRooms.{AllHaveRoom}
 use Rattle.dw_lines.specs.ViewSources.{view_source}
+use Rattle.dw_lines.proofs.RoomLaws.{table-room}
 use Rattle.dw_base.specs.LineTables.{LineTable, IsLineTable, table_bytes, table_with, texts_of}
 use Rattle.dw_base.specs.LinePrograms.{next_opcode}
 use Rattle.dw_base.specs.Walks.{ComesTo, Since}
@@ -110,6 +112,13 @@ same-defined v section start t h files own s p d e =
     let all : is.defined ≡ files = sym (ap (λ (x : LineTable). x.defined) is.is) ∙ sym d in
     subst (λ (x : List FilePlace). ComesTo (next_opcode section h (table_bytes (view_source v section) h)) ([], h.program) x) all
     (subst (λ (x : LineHeader). ComesTo (next_opcode section x (table_bytes (view_source v section) x)) ([], x.program) is.defined) same is.program)
+
+-- the offsets of its paths lie in the section
+pub paths-room : (g : LineSource) (start : ℕ) (t : LineTable) (h : LineHeader) (dirs paths : List TextPlace) (files : List FilePlace) → IsLineTable g start t
+    → t ≡ table_with g.number h dirs files t.defined → paths ≡ dirs ++ texts_of files → AllHaveRoom g.number h.width (length g.bytes) paths
+paths-room g start t h dirs paths files is e p =
+    subst (AllHaveRoom g.number h.width (length g.bytes)) (sym p)
+    (subst (λ (x : LineTable). AllHaveRoom g.number x.width (length g.bytes) (x.dirs ++ texts_of x.files)) e (table-room g start t is))
 
 -- its parts
 pub lists-are : (g : LineSource) (m : PathMap) (places : TextPlace → Option ℕ) (h : LineHeader) (dirs paths : List TextPlace) (files defined : List FilePlace) (t : LineTable) (lists : List ℕ)

@@ -1,4 +1,5 @@
 pub mod ViewSources
 pub mod ChangeSteps
+pub mod OffsetRooms
 pub mod ViewTables
 pub mod PlainOpcodes

@@ -4,13 +4,16 @@
 
 ghost use Rattle.std.specs.Prelude.{◌≡◌, ◌+◌, ◌≤◌, ◌<◌, ◌^◌, ◌==◌, ◌++◌, if◌then◌else◌, length, nat_eq, IfOk, IfErr, OnOk};
 ghost use Rattle.std.specs.HashMap.{get};
-ghost use Rattle.dw_base.specs.FileViews.{section_bytes};
+ghost use Rattle.dw_base.specs.Cells.{bytes_of, cells_at};
+ghost use Rattle.dw_base.specs.FileViews.{section_bytes, view_cells};
 ghost use Rattle.dw_base.specs.Forms.{width_size};
+ghost use Rattle.dw_base.specs.NewOffsets.{with_offset};
 ghost use Rattle.dw_base.specs.Numbers.{number_bytes};
 ghost use Rattle.dw_base.specs.Paths.{mapped_path};
 ghost use Rattle.dw_base.specs.ViewData.{located};
 ghost use Rattle.dw_base.specs.declared.debug_sections.DebugSection.TheVariants.{Str};
 ghost use Rattle.dw_lines.specs.ViewSources.{view_source};
+ghost use Rattle.dw_lines.specs.OffsetRooms.{AllHaveRoom, HasRoom};
 ghost use Rattle.dw_lines.specs.ChangeSteps.{after_change, after_changes, fits_width, offset_fits, OffsetsFit};
 ghost use Rattle.dw_base.specs.LineWriteFails.{WideOffset};
 ghost use Rattle.dw_base.specs.WrittenLines.{all_changes, bytes_at, new_place, part, path_changes};
@@ -127,21 +130,37 @@ fn push_change(
     Ok(())
 }
 
-/// Appends the bytes from a place up to a field, and a new offset in place of the field's.
-#[tactic(auto, using(crate::proofs::ChangeLaws::append_laws))]
+/// The number that a field of a section has when the offset in it becomes another.
+#[tactic(auto, using(crate::proofs::NewOffsetLaws::number_laws))]
+fn moved_number(view: &View, section: u32, at: u64, size: u8, offset: u64) -> u64
+    requires there { section < length view.now.sections }
+    requires some { 0 < size }
+    requires wide { size ≤ 8 }
+    requires inside { at + size ≤ length (section_bytes view.now section) }
+    ensures bytes { number_bytes view.now.order size result ≡ bytes_of (with_offset view.now.order (cells_at (view_cells view.now section) at size) offset) }
+{
+    offset
+}
+
+/// Appends the bytes from a place up to a field of a section, and the field's with a new offset in it.
+#[tactic(auto, using(crate::proofs::ChangeLaws::offset_laws))]
 fn push_offset(
     view: &View,
     out: &mut Vec<u8>,
+    section: u32,
     bytes: &[u8],
     from: u64,
     field: u64,
     width: Width,
     place: u64,
 ) -> Result<(), AllocError>
-    ensures out { OnOk result (out.new.items ≡ out.old.items ++ (part bytes.now from field ++ number_bytes view.now.order (width_size width) place)) }
+    requires there { section < length view.now.sections }
+    requires inside { field + width_size width ≤ length (section_bytes view.now section) }
+    ensures out { OnOk result (out.new.items ≡ out.old.items ++ (part bytes.now from field ++ bytes_of (with_offset view.now.order (cells_at (view_cells view.now section) field (width_size width)) place))) }
 {
+    let number = moved_number(view, section, field, width_size(width), place);
     out.extend_from_slice(part(bytes, from, field))?;
-    push_number(out, view.order(), width, place)?;
+    push_number(out, view.order(), width, number)?;
     Ok(())
 }
 
@@ -169,6 +188,7 @@ fn put_path(
     out: &mut Vec<u8>,
 ) -> Result<u64, NoMemory>
     requires there { section < length view.now.sections }
+    requires room { HasRoom section width (length (section_bytes view.now section)) path.now }
     ensures put { IfOk result (λ next. (out.new.items, next) ≡ after_changes (section_bytes view.now section) (out.old.items, from) (path_changes (view_source view.now section) maps.now (new_place (view_source view.now section) (λ o. get nat_eq str.now o) (λ o. get nat_eq line_str.now o)) width path.now)) }
 {
     let bytes = view.bytes(section);
@@ -181,7 +201,7 @@ fn put_path(
     let Some(place) = new_place(view, str, line_str, path) else {
         return Ok(from);
     };
-    push_offset(view, out, bytes, from, path.field, width, place)?;
+    push_offset(view, out, section, bytes, from, path.field, width, place)?;
     Ok(behind(bytes, path.field, u64::from(width_size(width))))
 }
 
@@ -201,6 +221,7 @@ pub(crate) fn put_paths(
     out: &mut Vec<u8>,
 ) -> Result<u64, NoMemory>
     requires there { section < length view.now.sections }
+    requires rooms { AllHaveRoom section width (length (section_bytes view.now section)) paths.now }
     ensures put { IfOk result (λ next. (out.new.items, next) ≡ after_changes (section_bytes view.now section) (out.old.items, from) (all_changes (view_source view.now section) maps.now (new_place (view_source view.now section) (λ o. get nat_eq str.now o) (λ o. get nat_eq line_str.now o)) width paths.now)) }
 {
     let mut place = from;

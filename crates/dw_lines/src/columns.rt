@@ -1,7 +1,8 @@
 //! The columns of an entry of version 5 (DWARF 5, 6.2.4): what the value of each form is.
 //!
 //! This file promises: a column that is given stands at the place, and its text is there; it is refused as the
-//! definition says: at the table where its value passes the end, and at an offset that names no text.
+//! definition says: at the table where its value passes the end, at an offset that names no text, and where a
+//! relocation doesn't let an offset be read.
 
 ghost use Rattle.std.specs.Prelude.{◌≡◌, ◌+◌, ◌≤◌, ◌<◌, Some, Ok, Err, length, IfOk};
 ghost use Rattle.dw_base.specs.FileViews.{section_bytes};

@@ -1,8 +1,8 @@
 //! The directories and files of version 5 (DWARF 5, 6.2.4): each is one value for each column of the format.
 //!
 //! This file promises: the entries that are given stand at the place, and each of their texts is there; they
-//! are refused as the definition says: at the table where a value passes its end or an entry has no path, and
-//! at an offset that names no text.
+//! are refused as the definition says: at the table where a value passes its end or an entry has no path, at an
+//! offset that names no text, and where a relocation doesn't let an offset be read.
 
 ghost use Rattle.std.specs.Prelude.{◌≡◌, ◌+◌, ◌≤◌, ◌<◌, Some, Ok, Err, length, take, IfOk, IfErr};
 ghost use Rattle.dw_base.specs.FileViews.{section_bytes};

@@ -2,7 +2,8 @@
 //!
 //! This layer promises: a table that is given is the one that stands at the place: the numbers of its header, its
 //! directories and files, and the files that its program defines, each text where it is. It is refused exactly
-//! where none can be read there: as `Line` at the table, as `StringOffset` at an offset that names no text. The tables
+//! where none can be read there: as `Line` at the table, as `StringOffset` at an offset that names no text, as `Relocation`
+//! where a relocation lies on an offset only in part, or gives it no place. The tables
 //! of a view are all that fill its section of line tables. A table that is written with mapped paths is the defined
 //! one, byte for byte, and is refused exactly where that can't be.
 //! It does not promise: the rows of a program, which isn't run.

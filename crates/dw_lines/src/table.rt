@@ -188,7 +188,9 @@ fn table_with(section: u32, header: &LineHeader, lists: Lists, defined: Vec<File
 impl LineTable {
     /// The table that starts at a place of the section of a number, in bytes from the section's start.
     /// Refused exactly where none can be read: as `Line` at the table, where its header, its lists or its
-    /// program don't fit; as `StringOffset` at an offset in its header that names no text.
+    /// program don't fit; as `StringOffset` at an offset in its header that names no text; as `Relocation` where, in a
+    /// section that is read, a relocation lies on such an offset only in part, at that relocation, and where one gives
+    /// it no place, at the offset.
     #[tactic(auto, using(crate::proofs::TableLaws::table_laws))]
     pub fn read(alloc: Global, view: &View, section: u32, at: u64) -> Result<LineTable, Fault>
         requires there { section < length view.now.sections }

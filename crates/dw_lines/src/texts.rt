@@ -5,7 +5,8 @@ ghost use Rattle.dw_base.specs.Cells.{offset_into};
 ghost use Rattle.dw_base.specs.FileViews.{section_bytes};
 ghost use Rattle.dw_base.specs.ViewData.{located};
 ghost use Rattle.dw_lines.specs.ViewSources.{view_source};
-ghost use Rattle.dw_base.specs.LineTexts.{file_numbers, inline_text, named_text, skip_lebs};
+ghost use Rattle.dw_base.specs.LineTexts.{file_numbers, inline_text, named_text, skip_lebs, text_by, text_if};
+ghost use Rattle.dw_base.specs.declared.view_fields.Field.TheVariants.{Into};
 
 use dw_base::{DebugSection, Field, Kind, Refusal, TextPlace, uleb_at};
 use dw_strings::text_at;
@@ -77,22 +78,69 @@ fn section_of(view: &View, texts: DebugSection) -> (u32, u64)
     }
 }
 
-/// The offset that a field holds into a section of texts; one into another section is the section's
-/// length, at which no text begins.
-fn offset_into(view: &View, texts: DebugSection, field: Field) -> u64
-    ensures offset { result ≡ offset_into (located view.now texts) field }
+/// The text at an offset of a section of texts, which a field at a place of a section names. Refused as `StringOffset` at the
+/// field exactly where no text that ends begins there.
+#[tactic(auto, using(crate::proofs::TextLaws::text_laws))]
+fn text_if(
+    view: &View,
+    texts: DebugSection,
+    section: u32,
+    place: u64,
+    offset: u64,
+) -> Result<TextPlace, Refusal>
+    ensures text { result ≡ text_if (located view.now texts) section place offset }
+{
+    let Some(number) = view.first(texts) else {
+        return Err(Refusal::at(Kind::StringOffset, section, place));
+    };
+    match text_at(number, view.bytes(number), offset) {
+        Ok(text) => Ok(TextPlace {
+            section: number,
+            at: offset,
+            len: text.len() as u64,
+            field: place,
+        }),
+        Err(_) => Err(Refusal::at(Kind::StringOffset, section, place)),
+    }
+}
+
+/// An offset into the section of a number as one into a section of texts; in another section it is that one's length, at
+/// which no text begins.
+fn offset_into(view: &View, texts: DebugSection, section: u32, offset: u64) -> u64
+    ensures offset { result ≡ offset_into (located view.now texts) (Into section offset) }
 {
     let (number, len) = section_of(view, texts);
+    if section == number { offset } else { len }
+}
+
+/// The text that a field at a place of a section names in a section of texts. Refused at the field: as `Relocation` exactly
+/// where it is a symbol that has no place, as `StringOffset` exactly where no text that ends begins there.
+fn text_by(
+    view: &View,
+    texts: DebugSection,
+    section: u32,
+    place: u64,
+    field: Field,
+) -> Result<TextPlace, Refusal>
+    ensures text { result ≡ text_by (located view.now texts) section place field }
+{
     match field {
-        Field::Num(offset) => offset,
-        Field::Into { section, offset } => { if section == number { offset } else { len } }
-        Field::Sym { .. } => len,
+        Field::Num(offset) => text_if(view, texts, section, place, offset),
+        Field::Into {
+            section: target,
+            offset,
+        } => {
+            let at = offset_into(view, texts, target, offset);
+            text_if(view, texts, section, place, at)
+        }
+        Field::Sym { .. } => Err(Refusal::at(Kind::Relocation, section, place)),
     }
 }
 
 /// The text that an offset of `size` bytes at a place of a section names in a section of texts. Refused as
-/// `StringOffset` at the offset exactly where no text that ends begins there.
-#[tactic(auto, using(crate::proofs::TextLaws::named_laws), unfolding(dw_base::specs::LineTexts::named_text))]
+/// `Relocation` exactly where a relocation lies on the offset only in part, at that relocation, or gives no place, at the
+/// offset; as `StringOffset` at the offset exactly where no text that ends begins there.
+#[tactic(auto, using(crate::proofs::TextLaws::named_laws))]
 pub(crate) fn named_text(
     view: &View,
     texts: DebugSection,
@@ -106,18 +154,8 @@ pub(crate) fn named_text(
     requires inside { place + size ≤ length (section_bytes view.now section) }
     ensures text { result ≡ named_text (view_source view.now section) (located view.now texts) place size }
 {
-    let field = view.field(section, place, size)?;
-    let at = offset_into(view, texts, field);
-    let Some(number) = view.first(texts) else {
-        return Err(Refusal::at(Kind::StringOffset, section, place));
-    };
-    match text_at(number, view.bytes(number), at) {
-        Ok(text) => Ok(TextPlace {
-            section: number,
-            at,
-            len: text.len() as u64,
-            field: place,
-        }),
-        Err(_) => Err(Refusal::at(Kind::StringOffset, section, place)),
+    match view.field(section, place, size) {
+        Ok(field) => text_by(view, texts, section, place, field),
+        Err(refusal) => Err(refusal),
     }
 }

@@ -19,8 +19,9 @@ use dw_view::View;
 use std::alloc::Global;
 
 /// The line tables of the view, in the order of their places; none where it has no section of them. They fill the section.
-/// Refused at the first that can't be read: as `Line` at the table, as `StringOffset` at an offset that names no text. Tables that
-/// were read exclude each refusal.
+/// Refused at the first that can't be read: as `Line` at the table, as `StringOffset` at an offset that names no text, as
+/// `Relocation` where a relocation lies on an offset only in part, at that relocation, or gives it no place, at the offset.
+/// Tables that were read exclude each refusal.
 #[tactic(auto, using(crate::proofs::ViewTableLaws::view_laws))]
 pub fn line_tables(alloc: Global, view: &View) -> Result<Vec<LineTable>, Fault>
     ensures tables { IfOk result (λ tables. TablesFound view.now tables.items) }

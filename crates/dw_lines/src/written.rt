@@ -7,6 +7,7 @@
 ghost use Rattle.std.specs.Prelude.{◌≡◌, ◌↔◌, ◌+◌, ◌-◌, ◌≤◌, ◌<◌, ◌^◌, ◌++◌, [], length, nat_eq, Some, IsSome, IsTrue, IfOk, IfErr, OnOk};
 ghost use Rattle.std.specs.HashMap.{get};
 ghost use Rattle.dw_base.specs.FileViews.{section_bytes};
+ghost use Rattle.dw_lines.specs.OffsetRooms.{AllHaveRoom};
 ghost use Rattle.dw_lines.specs.ViewSources.{view_source};
 ghost use Rattle.dw_base.specs.Refusals.{Blames, at};
 ghost use Rattle.dw_base.specs.declared.fault.Kind.TheVariants.{TooWide};
@@ -74,6 +75,7 @@ fn written_header(
     paths: &[TextPlace],
 ) -> Result<Vec<u8>, NoMemory>
     requires there { section < length view.now.sections }
+    requires rooms { AllHaveRoom section header.now.width (length (section_bytes view.now section)) paths.now }
     requires small { header.now.start ≤ 2 ^ 31 }
     ensures bytes { IfOk result (λ out. out.items ≡ changed (section_bytes view.now section) (behind_lengths header.now.start header.now.width header.now.version) header.now.program (all_changes (view_source view.now section) maps.now (new_place (view_source view.now section) (λ o. get nat_eq str.now o) (λ o. get nat_eq line_str.now o)) header.now.width paths.now)) }
 {
@@ -216,7 +218,7 @@ fn check_program(
 impl LineTable {
     /// The table with mapped paths, which was read of the view: a path that stands in it is mapped there, and the
     /// offset of another becomes the new place of its text, where one is known in `.debug_str` or
-    /// `.debug_line_str` by the old place; both lengths are those of what follows them, and all else is copied.
+    /// `.debug_line_str` by the old place: its bytes do, or the addend of its relocation; both lengths are those of what follows them, and all else is copied.
     /// Refused as `TooWide` at the field exactly where a new length or offset doesn't fit it, and as `DefinedPath`
     /// at the opcode exactly where the program defines a file whose path the map changes.
     #[tactic(auto, using(crate::proofs::WrittenLaws::write_laws))]

@@ -1,9 +1,9 @@
 -- Laws of the events of a macro unit.
-use Rattle.std.proofs.Common.{Bool, true, false, ◌≡◌, ℕ, zero, suc, ◌+◌, ◌-◌, ◌<◌, ◌≤◌, nat_lt, ℤ, if◌then◌else◌, List, [], ◌∷◌, length, drop, slice_index, Option, Some, None, refl, sym, ap, ◌∙◌, subst, arith}
-use Rattle.std.specs.Prelude.{Result, Ok, Err, option_map}
+use Rattle.std.proofs.Common.{Bool, true, false, ◌≡◌, ℕ, zero, suc, ◌+◌, ◌-◌, ◌<◌, nat_lt, ℤ, if◌then◌else◌, List, [], ◌∷◌, length, drop, slice_index, Option, Some, None, refl, sym, ap, ◌∙◌, subst, arith}
+use Rattle.std.specs.Prelude.{Result, Ok, Err, option_map, IfSome}
 use Rattle.std.proofs.lemmas.Bool.Decides.{nat_tests}
 use Rattle.std.proofs.lemmas.List.{drop_all, drop-drop, length-drop}
-use Rattle.dw_base.specs.Cells.{Located}
+use Rattle.dw_base.specs.Cells.{Located, is_placed}
 use Rattle.dw_base.specs.DebugSections.{name_of}
 use Rattle.dw_base.specs.FileViews.{View, field_at, section_bytes, section_named}
 use Rattle.dw_base.specs.Forms.{width_size}
@@ -16,8 +16,9 @@ use Rattle.dw_base.specs.declared.fault.Refusal.{Refusal}
 use Rattle.dw_base.specs.declared.shared.Width.{Width}
 use Rattle.dw_base.specs.declared.view_fields.Field.{Field}
 use Rattle.dw_base.specs.declared.view_fields.Field.TheVariants.{Num, Into, Sym}
-use Rattle.dw_macros.specs.MacroEvents.{EventsFit, EventsState, IsUnitIn, SpellsEvents, over, one_event, event_by, event_if, event_in, events_behind, events_from, events_start, import_at, import_of, inline_place, named_place, text_event, text_if, unit_events, with_those}
-use Rattle.dw_base.specs.MacroUnits.{IsMacroUnit, OperationsUpTo, no_operations, more_operations, is_end, names_text, offset_at, taken, taken_if, unit_operation}
+use Rattle.dw_macros.specs.MacroEvents.{EventsFit, IsUnitIn, SpellsEvents, over, one_event, event_by, event_if, event_in, events_behind, events_from, events_start, import_at, import_of, inline_place, named_place, text_event, text_if, unit_events, with_those}
+use Rattle.dw_macros.specs.MacroOffsets.{FieldReads, FieldRefuses, OperationReads, ReadUpTo, none_read, more_read, ReadsFrom, over_there, one_there}
+use Rattle.dw_base.specs.MacroUnits.{OperationsUpTo, no_operations, more_operations, is_end, names_text, offset_at, taken, taken_if, unit_operation}
 use Rattle.dw_macros.proofs.OperationLaws.{operation-behind}
 use Rattle.dw_base.specs.MacroOperations.{operation_at, operation_of}
 use Rattle.dw_base.specs.declared.macro_units.MacroEvent.{MacroEvent}
@@ -62,25 +63,48 @@ pub named-some : (v : View) (section field offset number len : ℕ) (bytes text 
 named-some v section field offset number len bytes text width o some b ends t l =
     sym (named-in v section field offset width (record { number = number; bytes = bytes }) (sym (located-some v number bytes some b)) o ∙ rw (ends, l, t) refl)
 
-pub ruleset named_laws = (named-nowhere, named-not, named-some)
+-- an offset that can be read isn't refused
+pub never-refused : (v : View) (section field : ℕ) (width : Width) (r : Refusal) → FieldReads v section width field → FieldRefuses v section width field r → ⊥
+never-refused v section field width r h f = by_kind (sym h.is ∙ f.is)
+  where
+    by_kind : ◌≡◌ {A = Result Field Refusal} (Ok (field_at v section field (width_size width))) (Err r) → ⊥
+    by_kind g = cc
+
+pub ruleset named_laws = (named-nowhere, named-not, named-some, never-refused)
 
 -- the unit that an offset names
-import-in : (v : View) (section field size : ℕ) (width : Width) (f : Field) → size ≡ width_size width → f ≡ field_at v section field size
+import-in : (v : View) (section field : ℕ) (width : Width) (f : Field) → f ≡ field_at v section field (width_size width)
     → import_at v section width field ≡ import_of (located v MacroSection) field f
 unfolding import_at
-import-in v section field size width f s e = ap (import_of (located v MacroSection) field) (sym (e ∙ ap (field_at v section field) s))
+import-in v section field width f e = ap (import_of (located v MacroSection) field) (sym e)
 
-pub import-num : (v : View) (section field size number n : ℕ) (width : Width) (f : Field) → size ≡ width_size width → f ≡ field_at v section field size
+pub import-num : (v : View) (section field number n : ℕ) (width : Width) (f : Field) → f ≡ field_at v section field (width_size width)
     → f ≡ Num n → number ≡ (located v MacroSection).number → Import number n field ≡ import_at v section width field
-import-num v section field size number n width f s e is here = sym (import-in v section field size width f s e ∙ rw (is, here) refl)
+import-num v section field number n width f e is here = sym (import-in v section field width f e ∙ rw (is, here) refl)
 
-pub import-into : (v : View) (section field size target n : ℕ) (width : Width) (f : Field) → size ≡ width_size width → f ≡ field_at v section field size
+pub import-into : (v : View) (section field target n : ℕ) (width : Width) (f : Field) → f ≡ field_at v section field (width_size width)
     → f ≡ Into target n → Import target n field ≡ import_at v section width field
-import-into v section field size target n width f s e is = sym (import-in v section field size width f s e ∙ rw is refl)
+import-into v section field target n width f e is = sym (import-in v section field width f e ∙ rw is refl)
 
-pub ruleset import_laws = (import-num, import-into)
+-- a symbol has no place
+pub never-symbol : (symbol kind : ℕ) (addend : ℤ) (f : Field) → f ≡ Sym symbol kind addend → is_placed f ≡ true → ⊥
+never-symbol symbol kind addend f is placed = false-true (sym (ap is_placed is) ∙ placed)
+  where
+    false-true : false ≡ true → ⊥
+    false-true e = cc
 
-pub ruleset by_laws = (named-some)
+pub ruleset import_laws = (import-num, import-into, never-refused, never-symbol)
+
+-- the offset of an operation
+pub named-reads : (v : View) (section line field : ℕ) (width : Width) (o : MacroOperation) (defines : Bool) → OperationReads v section width o
+    → o ≡ Named defines line field → FieldReads v section width field
+named-reads v section line field width o defines h kind = subst (OperationReads v section width) kind h
+
+pub brought-reads : (v : View) (section field : ℕ) (width : Width) (o : MacroOperation) → OperationReads v section width o → o ≡ Bring field
+    → FieldReads v section width field
+brought-reads v section field width o h kind = subst (OperationReads v section width) kind h
+
+pub ruleset by_laws = (named-some, named-reads, brought-reads)
 
 -- the event at a place, by the operation there
 read-event : (v : View) (section place : ℕ) (width : Width) (bytes : List ℕ) (x : Option (MacroOperation × ℕ)) → bytes ≡ section_bytes v section
@@ -96,7 +120,51 @@ pub event-some : (v : View) (section place next : ℕ) (width : Width) (bytes : 
     → Some (o, next) ≡ operation_at bytes width place → x ≡ event_by v section width o next → x ≡ event_in v section width place
 event-some v section place next width bytes o x b e is = is ∙ sym (read-event v section place width bytes (Some (o, next)) b e)
 
-pub ruleset in_laws = (event-none, event-some)
+-- offsets that can be read from a place on
+read-same : (o p : MacroOperation) (n m : ℕ) (x : Option (MacroOperation × ℕ)) → x ≡ Some (o, n) → x ≡ Some (p, m) → (o ≡ p) × (n ≡ m)
+read-same o p n m x e f = let both = by_kind (sym e ∙ f) in (ap (λ (y : MacroOperation × ℕ). y.0) both, ap (λ (y : MacroOperation × ℕ). y.1) both)
+  where
+    by_kind : ◌≡◌ {A = Option (MacroOperation × ℕ)} (Some (o, n)) (Some (p, m)) → ◌≡◌ {A = MacroOperation × ℕ} (o, n) (p, m)
+    by_kind g = cc
+
+there-is : (v : View) (section place next : ℕ) (width : Width) (bytes : List ℕ) (o : MacroOperation) → bytes ≡ section_bytes v section
+    → Some (o, next) ≡ operation_at bytes width place → operation_at (section_bytes v section) width place ≡ Some (o, next)
+there-is v section place next width bytes o b e = ap (λ (bs : List ℕ). operation_at bs width place) (sym b) ∙ sym e
+
+pub reads-here : (v : View) (section place next : ℕ) (width : Width) (bytes : List ℕ) (o : MacroOperation) → ReadsFrom v section width place
+    → bytes ≡ section_bytes v section → Some (o, next) ≡ operation_at bytes width place → OperationReads v section width o
+reads-here v section place next width bytes o (over_there p n is) b e =
+    let same = read-same o End next n (operation_at (section_bytes v section) width p) (there-is v section p next width bytes o b e) is in
+    subst (OperationReads v section width) (sym same.0) tt
+reads-here v section place next width bytes o (one_there p n q is reads rest) b e =
+    let same = read-same o q next n (operation_at (section_bytes v section) width p) (there-is v section p next width bytes o b e) is in
+    subst (OperationReads v section width) (sym same.0) reads
+
+end-none : (v : View) (section next : ℕ) (width : Width) (e : MacroEvent × ℕ) → event_by v section width End next ≡ Some e → ⊥
+unfolding event_by
+end-none v section next width e f = by_kind f
+  where
+    by_kind : ◌≡◌ {A = Option (MacroEvent × ℕ)} None (Some e) → ⊥
+    by_kind g = cc
+
+reads-next : (v : View) (section place next : ℕ) (width : Width) (bytes : List ℕ) (o : MacroOperation) (e : MacroEvent × ℕ) → ReadsFrom v section width place
+    → bytes ≡ section_bytes v section → Some (o, next) ≡ operation_at bytes width place → Some e ≡ event_by v section width o next → next ≡ e.1
+    → ReadsFrom v section width e.1
+reads-next v section place next width bytes o e (over_there p n is) b there event behind =
+    let same = read-same o End next n (operation_at (section_bytes v section) width p) (there-is v section p next width bytes o b there) is in
+    absurd (end-none v section next width e (ap (λ (x : MacroOperation). event_by v section width x next) (sym same.0) ∙ sym event))
+reads-next v section place next width bytes o e (one_there p n q is reads rest) b there event behind =
+    let same = read-same o q next n (operation_at (section_bytes v section) width p) (there-is v section p next width bytes o b there) is in
+    subst (ReadsFrom v section width) (sym same.1 ∙ behind) rest
+
+pub reads-behind : (v : View) (section place next : ℕ) (width : Width) (bytes : List ℕ) (o : MacroOperation) (x : Option (MacroEvent × ℕ))
+    → ReadsFrom v section width place → bytes ≡ section_bytes v section → Some (o, next) ≡ operation_at bytes width place
+    → x ≡ event_by v section width o next → IfSome x (λ e. e.1 ≡ next) → IfSome x (λ e. ReadsFrom v section width e.1)
+reads-behind v section place next width bytes o None reads b there event behind = tt
+reads-behind v section place next width bytes o (Some e) reads b there event behind =
+    reads-next v section place next width bytes o e reads b there event (sym behind)
+
+pub ruleset in_laws = (event-none, event-some, reads-here)
 
 -- events behind so many bytes are those of the bytes behind them
 events-drop : (event : ℕ → Option (MacroEvent × ℕ)) (n place : ℕ) (bytes : List ℕ)
@@ -286,29 +354,45 @@ events-front v section start width first place end (more_operations o before nex
     events-front v section start width first before end so
     (record { events = h.event ∷ s.events; spells = one_event before place end h.event s.events h.is s.spells })
 
--- the operation that ends a unit
-end-there : (v : View) (section start place end : ℕ) (width : Width) → unit_operation v section start width place ≡ Ok (End, end)
-    → operation_at (section_bytes v section) width place ≡ Some (End, end)
-unfolding unit_operation
-end-there v section start place end width e = by_operation (operation_at (section_bytes v section) width place) refl e
+-- an operation of a unit stands at its place
+taken-same : (v : View) (section place : ℕ) (width : Width) (x : MacroOperation) (n next : ℕ) (o : MacroOperation) → taken v section width place x n ≡ Ok (o, next)
+    → ◌≡◌ {A = Option (MacroOperation × ℕ)} (Some (x, n)) (Some (o, next))
+taken-same v section place width x n next o e = by_kind x e
   where
-    by_kind : (x : MacroOperation) (n : ℕ) → taken v section width place x n ≡ Ok (End, end) → ◌≡◌ {A = Option (MacroOperation × ℕ)} (Some (x, n)) (Some (End, end))
-    by_kind End n f = ap (λ (m : ℕ). Some (End, m)) (place-same End End n end f)
-    by_kind (Inline d l a k) n f = absurd (false-true (ap is_end (kind-same (Inline d l a k) End n end f)))
-    by_kind (Named d l g) n f = by_test (names_text v section width g) f
-      where
-        by_test : (b : Bool) → ◌≡◌ {A = Result (MacroOperation × ℕ) Refusal} (if b then Ok (Named d l g, n) else Err (at StringOffset section g)) (Ok (End, end)) → ◌≡◌ {A = Option (MacroOperation × ℕ)} (Some (Named d l g, n)) (Some (End, end))
-        by_test true h = absurd (false-true (ap is_end (kind-same (Named d l g) End n end h)))
-        by_test false h = absurd (err-ok (at StringOffset section g) (End, end) h)
-    by_kind (Enter l g) n f = absurd (false-true (ap is_end (kind-same (Enter l g) End n end f)))
-    by_kind Leave n f = absurd (false-true (ap is_end (kind-same Leave End n end f)))
-    by_kind (Bring g) n f = absurd (false-true (ap is_end (kind-same (Bring g) End n end f)))
-    by_kind Foreign n f = absurd (err-ok (at Supplementary section place) (End, end) f)
+    same : (y : MacroOperation) → ◌≡◌ {A = Result (MacroOperation × ℕ) Refusal} (Ok (y, n)) (Ok (o, next)) → ◌≡◌ {A = Option (MacroOperation × ℕ)} (Some (y, n)) (Some (o, next))
+    same y f = ap (λ (p : MacroOperation). Some (p, n)) (kind-same y o n next f) ∙ ap (λ (k : ℕ). Some (o, k)) (place-same y o n next f)
 
-    by_operation : (x : Option (MacroOperation × ℕ)) → operation_at (section_bytes v section) width place ≡ x → taken_if v section start width place x ≡ Ok (End, end)
-        → operation_at (section_bytes v section) width place ≡ Some (End, end)
-    by_operation None is f = absurd (err-ok (at Macro section start) (End, end) f)
-    by_operation (Some y) is f = is ∙ by_kind y.0 y.1 f
+    by_test : (d : Bool) (l g : ℕ) (b : Bool) → ◌≡◌ {A = Result (MacroOperation × ℕ) Refusal} (if b then Ok (Named d l g, n) else Err (at StringOffset section g)) (Ok (o, next))
+        → ◌≡◌ {A = Option (MacroOperation × ℕ)} (Some (Named d l g, n)) (Some (o, next))
+    by_test d l g true f = same (Named d l g) f
+    by_test d l g false f = absurd (err-ok (at StringOffset section g) (o, next) f)
+
+    by_kind : (y : MacroOperation) → taken v section width place y n ≡ Ok (o, next) → ◌≡◌ {A = Option (MacroOperation × ℕ)} (Some (y, n)) (Some (o, next))
+    by_kind End f = same End f
+    by_kind (Inline d l a k) f = same (Inline d l a k) f
+    by_kind (Named d l g) f = by_test d l g (names_text v section width g) f
+    by_kind (Enter l g) f = same (Enter l g) f
+    by_kind Leave f = same Leave f
+    by_kind (Bring g) f = same (Bring g) f
+    by_kind Foreign f = absurd (err-ok (at Supplementary section place) (o, next) f)
+
+pub operation-there : (v : View) (section start place next : ℕ) (width : Width) (o : MacroOperation) → unit_operation v section start width place ≡ Ok (o, next)
+    → operation_at (section_bytes v section) width place ≡ Some (o, next)
+unfolding unit_operation
+operation-there v section start place next width o e = by_operation (operation_at (section_bytes v section) width place) refl e
+  where
+    by_operation : (x : Option (MacroOperation × ℕ)) → operation_at (section_bytes v section) width place ≡ x → taken_if v section start width place x ≡ Ok (o, next)
+        → operation_at (section_bytes v section) width place ≡ Some (o, next)
+    by_operation None is f = absurd (err-ok (at Macro section start) (o, next) f)
+    by_operation (Some y) is f = is ∙ taken-same v section place width y.0 y.1 next o f
+
+-- from operations whose offsets can be read to those that are left
+pub reads-front : (v : View) (section start : ℕ) (width : Width) (first place : ℕ) → ReadUpTo v section start width first place → ReadsFrom v section width place
+    → ReadsFrom v section width first
+reads-front v section start width first place none_read rest = rest
+reads-front v section start width first place (more_read o before next so e more reads) rest =
+    reads-front v section start width first before so
+    (one_there before next o (operation-there v section start before next width o e) reads rest)
 
 -- the next event stands behind
 event-behind : (v : View) (section place : ℕ) (width : Width) (e : MacroEvent × ℕ) → event_in v section width place ≡ Some e → place < e.1
@@ -339,7 +423,7 @@ unit-whole v u is =
     let same = unit.is in
     let h = unit.header in
     let read = events-front v u.section is.start h.width h.first unit.last unit.end unit.operations
-    (record { events = []; spells = over unit.last unit.end (end-there v u.section is.start unit.last unit.end h.width unit.ends) }) in
+    (record { events = []; spells = over unit.last unit.end (operation-there v u.section is.start unit.last unit.end h.width End unit.ends) }) in
     let width : h.width ≡ u.width = sym (ap (λ (x : MacroUnit). x.width) same) in
     let first : h.first ≡ u.first = sym (ap (λ (x : MacroUnit). x.first) same) in
     let end : unit.end ≡ u.end = sym (ap (λ (x : MacroUnit). x.end) same) in
@@ -351,6 +435,6 @@ unit-whole v u is =
     (sym (spelled-events v u.section u.width u.first u.end read.events spells)) spells
 
 pub unit-fits : (v : View) (u : MacroUnit) → IsUnitIn v u → EventsFit (events_start v u)
-unit-fits v u is = record { there = is.there }
+unit-fits v u is = record { there = is.there; reads = is.reads }
 
 pub ruleset start_laws = (unit-whole, unit-fits)

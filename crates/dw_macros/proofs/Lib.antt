@@ -4,4 +4,5 @@ pub mod UnitLaws
 pub mod UnitListLaws
 pub mod CallerLaws
 pub mod EventLaws
+pub mod ExcludeLaws
 pub mod MeaningLaws

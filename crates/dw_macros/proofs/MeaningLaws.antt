@@ -1,37 +1,39 @@
 -- Units that were read mean what the pieces of their section mean.
 use Rattle.std.specs.Prelude.{option_and_then, option_map}
-use Rattle.std.proofs.Common.{Bool, true, false, ◌≡◌, ℕ, zero, suc, ◌+◌, ◌<◌, ◌≤◌, nat_le, List, [], ◌∷◌, ◌++◌, length, map, take, drop, slice_index, Option, Some, None, refl, sym, ap, ◌∙◌, subst, arith, append_assoc, if◌then◌else◌}
+use Rattle.std.proofs.Common.{Bool, true, false, ◌≡◌, ℕ, zero, suc, ◌+◌, ◌<◌, ◌≤◌, nat_le, List, [], ◌∷◌, ◌++◌, length, map, take, drop, slice_index, Option, Some, None, refl, sym, ap, ◌∙◌, subst, arith, if◌then◌else◌}
 use Rattle.std.proofs.lemmas.Bool.{leb-true}
 use Rattle.std.proofs.lemmas.List.{append-nil}
-use Rattle.dw_base.specs.Cells.{Located, offset_into}
-use Rattle.dw_base.specs.DebugData.{Around, DataReadings, around_of, start_number, started_unit}
+use Rattle.dw_base.specs.Cells.{Located, is_placed, offset_into}
+use Rattle.dw_base.specs.DebugData.{Around, DataReadings, around_of, start_number, started_unit, unit_named}
 use Rattle.dw_base.specs.FileViews.{View, field_at, section_bytes, section_named}
 use Rattle.dw_base.specs.DebugSections.{name_of}
 use Rattle.dw_base.specs.Forms.{width_size}
 use Rattle.dw_base.specs.MacroHeaders.{header_of, macro_header}
-use Rattle.dw_base.specs.MacroMeanings.{EventMeaning, defined, undefined, begun, ended, brought, MacroMeaning, text_event as event_of_text}
+use Rattle.dw_base.specs.MacroMeanings.{EventMeaning, defined, undefined, brought, MacroMeaning, text_event as event_of_text}
 use Rattle.dw_base.specs.MacroOperations.{operation_at}
-use Rattle.dw_base.specs.MacroUnits.{AreMacroUnits, IsMacroUnit, MacroUnitsUpTo, no_units, more_units, is_end, line_of, offset_at, unit_with}
+use Rattle.dw_macros.specs.MacroOffsets.{AreReadUnits, FieldReads, IsReadUnit, OperationReads, ReadsFrom, UnitsReadUpTo, no_unit, more_unit, over_there, one_there}
+use Rattle.dw_base.specs.MacroUnits.{is_end, offset_at, unit_with}
 use Rattle.dw_base.specs.Numbers.{spelled}
 use Rattle.dw_base.specs.Texts.{has_nul, text, ends_in, text_in}
 use Rattle.dw_base.specs.ViewData.{debug_data, located, located_at}
 use Rattle.dw_base.specs.declared.debug_sections.DebugSection.TheVariants.{Line, Macro as MacroSection, Str}
 use Rattle.dw_base.specs.declared.line_tables.TextPlace.{TextPlace}
 use Rattle.dw_base.specs.declared.macro_units.MacroEvent.{MacroEvent}
-use Rattle.dw_base.specs.declared.macro_units.MacroEvent.TheVariants.{Define, Undef, StartFile, EndFile, Import}
+use Rattle.dw_base.specs.declared.macro_units.MacroEvent.TheVariants.{StartFile, EndFile}
 use Rattle.dw_base.specs.declared.macro_units.MacroHeader.{MacroHeader}
 use Rattle.dw_base.specs.declared.macro_units.MacroOperation.{MacroOperation}
 use Rattle.dw_base.specs.declared.macro_units.MacroOperation.TheVariants.{End, Inline, Named, Enter, Leave, Bring, Foreign}
 use Rattle.dw_base.specs.declared.macro_units.MacroUnit.{MacroUnit}
 use Rattle.dw_base.specs.declared.shared.Width.{Width}
 use Rattle.dw_base.specs.declared.view_fields.Field.{Field}
-use Rattle.dw_base.specs.declared.view_fields.Field.TheVariants.{Num}
-use Rattle.dw_base.proofs.PlainCellLaws.{bytes_of-plain}
+use Rattle.dw_base.specs.declared.view_fields.Field.TheVariants.{Num, Into, Sym}
+use Rattle.dw_base.proofs.ViewCellLaws.{lines-located}
+use Rattle.dw_base.proofs.ViewOffsetLaws.{offset-is}
 use Rattle.dw_base.proofs.TextLaws.{take-text}
 use Rattle.dw_macros.proofs.CallerLaws.{read-unit}
-use Rattle.dw_macros.proofs.EventLaws.{unit-whole}
+use Rattle.dw_macros.proofs.EventLaws.{reads-here, unit-whole}
 use Rattle.dw_macros.specs.EventMeanings.{text_bytes, event_meaning, unit_meaning}
-use Rattle.dw_macros.specs.MacroEvents.{SpellsEvents, over, one_event, event_by, event_if, event_in, import_at, inline_place, named_place, text_event, text_if, unit_events}
+use Rattle.dw_macros.specs.MacroEvents.{IsUnitIn, import_of, SpellsEvents, over, one_event, event_by, event_if, event_in, import_at, inline_place, named_place, text_event, unit_events}
 use Rattle.dw_meaning.proofs.LineReadLaws.{if-some, some-same}
 use Rattle.dw_meaning.proofs.MacroFirstLaws.{first-macros}
 use Rattle.dw_meaning.proofs.MacroMeantLaws.{operation_meaning, EventsFrom, events_over, events_more, line_meant, UnitsFrom, units_over, units_more}
@@ -88,12 +90,51 @@ event-same e f n m h =
 none-event : (e : MacroEvent) (n : ℕ) → None ≡ event_read e n → ⊥
 none-event e n h = cc
 
+-- the text of an offset, where one begins there
+named-if : (v : View) (field offset m next : ℕ) (d : Bool) (l : ℕ) (e : MacroEvent) (b : Bool) → ends_in (located v Str).bytes offset ≡ b
+    → option_map (λ (t : TextPlace). pair_of (text_event d l t) m) (if b then Some (record {
+      section = (located v Str).number;
+      at = offset;
+      len = length (text_in (located v Str).bytes offset);
+      field = field;
+    }) else None) ≡ event_read e next
+    → ((g : Around) → event_of_text d l (text_in (located v Str).bytes offset) ≡ event_meaning v g e) × (m ≡ next)
+named-if v field offset m next d l e false ends h = absurd (none-event e next h)
+named-if v field offset m next d l e true ends h =
+    let both = event-same (text_event d l (record {
+      section = (located v Str).number;
+      at = offset;
+      len = length (text_in (located v Str).bytes offset);
+      field = field;
+    })) e m next h in (
+      λ g. place-says v g d l (record {
+        section = (located v Str).number;
+        at = offset;
+        len = length (text_in (located v Str).bytes offset);
+        field = field;
+      }) (text_in (located v Str).bytes offset) (named-bytes v field offset ends) ∙ ap (event_meaning v g) both.0,
+      both.1,
+    )
+
+-- the unit that a field names, which has a place
+import-says : (v : View) (g : Around) (field : ℕ) (f : Field) → g.lasting.macros.first ≡ (located v MacroSection).number → is_placed f ≡ true
+    → brought (unit_named g.lasting.macros f) ≡ event_meaning v g (import_of (located v MacroSection) field f)
+import-says v g field (Num n) first placed = ap (λ (i : ℕ). brought (started_unit 0 g.lasting.macros.starts i n)) first
+import-says v g field (Into s n) first placed = refl
+import-says v g field (Sym s k a) first placed = absurd (false-true placed)
+  where
+    false-true : false ≡ true → ⊥
+    false-true e = cc
+
+placed-field : (v : View) (section : ℕ) (width : Width) (field : ℕ) → FieldReads v section width field → is_placed (field_at v section field (width_size width)) ≡ true
+placed-field v section width field h = (offset-is v section field (width_size width) (field_at v section field (width_size width)) h.is).placed
+
 -- an operation as an event
-event-of : (v : View) (g : Around) (section : ℕ) (width : Width) (place m next : ℕ) (o : MacroOperation) (e : MacroEvent) → Seen v g
+event-of : (v : View) (g : Around) (section : ℕ) (width : Width) (place m next : ℕ) (o : MacroOperation) (e : MacroEvent) → Seen v g → OperationReads v section width o
     → operation_at (section_bytes v section) width place ≡ Some (o, m) → event_by v section width o m ≡ Some (e, next) → OperationOf v g section width place next e
-unfolding event_by named_place import_at field_at
-event-of v g section width place m next End e seen is f = absurd (none-event e next f)
-event-of v g section width place m next (Inline d l a n) e seen is f =
+unfolding event_by named_place import_at
+event-of v g section width place m next End e seen reads is f = absurd (none-event e next f)
+event-of v g section width place m next (Inline d l a n) e seen reads is f =
     let both = event-same (text_event d l (inline_place section a n)) e m next f in
     record {
       operation = Inline d l a n;
@@ -101,90 +142,47 @@ event-of v g section width place m next (Inline d l a n) e seen is f =
       more = refl;
       says = inline-says v g section d l a n ∙ ap (event_meaning v g) both.0;
     }
-event-of v g section width place m next (Named d l field) e seen is f = by_text (ends_in (located v Str).bytes (spelled v.order (section_bytes v section) field (width_size width))) refl f
-  where
-    offset : ℕ
-    offset = spelled v.order (section_bytes v section) field (width_size width)
-
-    found : TextPlace
-    found = record {
-      section = (located v Str).number;
-      at = spelled v.order (section_bytes v section) field (width_size width);
-      len = length (text_in (located v Str).bytes (spelled v.order (section_bytes v section) field (width_size width)));
-      field = field;
+event-of v g section width place m next (Named d l field) e seen reads is f =
+    let both = named-if v field (offset_at v (located v Str) section field width) m next d l e
+    (ends_in (located v Str).bytes (offset_at v (located v Str) section field width)) refl f in
+    record {
+      operation = Named d l field;
+      is = is ∙ ap (λ (k : ℕ). Some (Named d l field, k)) both.1;
+      more = refl;
+      says = ap (λ (z : Located). event_of_text d l (text_in z.bytes (offset_into z (field_at v section field (width_size width))))) seen.str ∙ both.0 g;
     }
-
-    by_text : (b : Bool) → ends_in (located v Str).bytes (spelled v.order (section_bytes v section) field (width_size width)) ≡ b
-        → option_map (λ (t : TextPlace). pair_of (text_event d l t) m) (if b then Some (record {
-          section = (located v Str).number;
-          at = spelled v.order (section_bytes v section) field (width_size width);
-          len = length (text_in (located v Str).bytes (spelled v.order (section_bytes v section) field (width_size width)));
-          field = field;
-        }) else None) ≡ event_read e next → OperationOf v g section width place next e
-    by_text false ends h = absurd (none-event e next h)
-    by_text true ends h =
-        let t : TextPlace = record {
-          section = (located v Str).number;
-          at = spelled v.order (section_bytes v section) field (width_size width);
-          len = length (text_in (located v Str).bytes (spelled v.order (section_bytes v section) field (width_size width)));
-          field = field;
-        } in
-        let both = event-same (text_event d l (record {
-          section = (located v Str).number;
-          at = spelled v.order (section_bytes v section) field (width_size width);
-          len = length (text_in (located v Str).bytes (spelled v.order (section_bytes v section) field (width_size width)));
-          field = field;
-        })) e m next h in
-        record {
-          operation = Named d l field;
-          is = is ∙ ap (λ (k : ℕ). Some (Named d l field, k)) both.1;
-          more = refl;
-          says = ap (λ (z : Located). event_of_text d l (text_in z.bytes (spelled v.order (section_bytes v section) field (width_size width)))) seen.str
-              ∙ place-says v g d l (record {
-                section = (located v Str).number;
-                at = spelled v.order (section_bytes v section) field (width_size width);
-                len = length (text_in (located v Str).bytes (spelled v.order (section_bytes v section) field (width_size width)));
-                field = field;
-              }) (text_in (located v Str).bytes (spelled v.order (section_bytes v section) field (width_size width)))
-              (named-bytes v field (spelled v.order (section_bytes v section) field (width_size width)) ends)
-              ∙ ap (event_meaning v g) both.0;
-        }
-event-of v g section width place m next (Enter l a) e seen is f =
+event-of v g section width place m next (Enter l a) e seen reads is f =
     let both = event-same (StartFile l a) e m next f in
     record { operation = Enter l a; is = is ∙ ap (λ (k : ℕ). Some (Enter l a, k)) both.1; more = refl; says = ap (event_meaning v g) both.0 }
-event-of v g section width place m next Leave e seen is f =
+event-of v g section width place m next Leave e seen reads is f =
     let both = event-same EndFile e m next f in
     record { operation = Leave; is = is ∙ ap (λ (k : ℕ). Some (Leave, k)) both.1; more = refl; says = ap (event_meaning v g) both.0 }
-event-of v g section width place m next (Bring field) e seen is f =
-    let n : ℕ = spelled v.order (section_bytes v section) field (width_size width) in
-    let both = event-same (Import (located v MacroSection).number (spelled v.order (section_bytes v section) field (width_size width)) field) e m next f in
+event-of v g section width place m next (Bring field) e seen reads is f =
+    let both = event-same (import_of (located v MacroSection) field (field_at v section field (width_size width))) e m next f in
     record {
       operation = Bring field;
       is = is ∙ ap (λ (k : ℕ). Some (Bring field, k)) both.1;
       more = refl;
-      says = ap (λ (i : ℕ). brought (started_unit 0 g.lasting.macros.starts i (spelled v.order (section_bytes v section) field (width_size width)))) seen.macros ∙ ap (event_meaning v g) both.0;
+      says = import-says v g field (field_at v section field (width_size width)) seen.macros (placed-field v section width field reads)
+          ∙ ap (event_meaning v g) both.0;
     }
-event-of v g section width place m next Foreign e seen is f = absurd (none-event e next f)
+event-of v g section width place m next Foreign e seen reads is f = absurd (none-event e next f)
 
-event-in : (v : View) (g : Around) (section : ℕ) (width : Width) (place next : ℕ) (e : MacroEvent) → Seen v g → event_in v section width place ≡ Some (e, next)
-    → OperationOf v g section width place next e
+-- the operation there can be read
+reads-at : (v : View) (section : ℕ) (width : Width) (place next : ℕ) (o : MacroOperation) → ReadsFrom v section width place
+    → operation_at (section_bytes v section) width place ≡ Some (o, next) → OperationReads v section width o
+reads-at v section width place next o reads is = reads-here v section place next width (section_bytes v section) o reads refl (sym is)
+
+event-in : (v : View) (g : Around) (section : ℕ) (width : Width) (place next : ℕ) (e : MacroEvent) → Seen v g → ReadsFrom v section width place
+    → event_in v section width place ≡ Some (e, next) → OperationOf v g section width place next e
 unfolding event_in
-event-in v g section width place next e seen f = by_read (operation_at (section_bytes v section) width place) refl f
+event-in v g section width place next e seen reads f = by_read (operation_at (section_bytes v section) width place) refl f
   where
     by_read : (x : Option (MacroOperation × ℕ)) → operation_at (section_bytes v section) width place ≡ x → event_if v section width x ≡ Some (e, next) → OperationOf v g section width place next e
     by_read None is h = absurd (none-event e next h)
-    by_read (Some o) is h = event-of v g section width place o.1 next o.0 e seen is h
+    by_read (Some o) is h = event-of v g section width place o.1 next o.0 e seen (reads-at v section width place o.1 o.0 reads is) is h
 
 -- events that were read are the events from their place on
-events-read : (v : View) (g : Around) (section : ℕ) (width : Width) (place end : ℕ) (es : List MacroEvent) → Seen v g → SpellsEvents v section width place es end
-    → EventsFrom v g section width place (map (event_meaning v g) es) end
-events-read v g section width place end es seen (over p q is) = events_over p q is
-events-read v g section width place end es seen (one_event p next q e rest is s) =
-    let o : OperationOf v g section width p next e = event-in v g section width p next e seen is in
-    subst (λ (m : EventMeaning). EventsFrom v g section width p (m ∷ map (event_meaning v g) rest) q) o.says
-    (events_more p next q o.operation (map (event_meaning v g) rest) o.is o.more (events-read v g section width next q rest seen s))
-
--- and there is one way
 read-same : (o r : MacroOperation) (n m : ℕ) (x : Option (MacroOperation × ℕ)) → x ≡ Some (o, n) → x ≡ Some (r, m) → (o ≡ r) × (n ≡ m)
 read-same o r n m x e f =
     let both = some-same (o, n) (r, m) (sym e ∙ f) in
@@ -193,6 +191,25 @@ read-same o r n m x e f =
 true-false : true ≡ false → ⊥
 true-false e = cc
 
+reads-past : (v : View) (section : ℕ) (width : Width) (place next : ℕ) (o : MacroOperation) → ReadsFrom v section width place
+    → operation_at (section_bytes v section) width place ≡ Some (o, next) → is_end o ≡ false → ReadsFrom v section width next
+reads-past v section width place next o (over_there p n is) e more =
+    let same = read-same o End next n (operation_at (section_bytes v section) width p) e is in
+    absurd (true-false (ap is_end (sym same.0) ∙ more))
+reads-past v section width place next o (one_there p n q is reads rest) e more =
+    let same = read-same o q next n (operation_at (section_bytes v section) width p) e is in
+    subst (ReadsFrom v section width) (sym same.1) rest
+
+events-read : (v : View) (g : Around) (section : ℕ) (width : Width) (place end : ℕ) (es : List MacroEvent) → Seen v g → ReadsFrom v section width place
+    → SpellsEvents v section width place es end → EventsFrom v g section width place (map (event_meaning v g) es) end
+events-read v g section width place end es seen reads (over p q is) = events_over p q is
+events-read v g section width place end es seen reads (one_event p next q e rest is s) =
+    let o : OperationOf v g section width p next e = event-in v g section width p next e seen reads is in
+    subst (λ (m : EventMeaning). EventsFrom v g section width p (m ∷ map (event_meaning v g) rest) q) o.says
+    (events_more p next q o.operation (map (event_meaning v g) rest) o.is o.more
+    (events-read v g section width next q rest seen (reads-past v section width p next o.operation reads o.is o.more) s))
+
+-- and there is one way
 events-one : (v : View) (g : Around) (section : ℕ) (width : Width) (place end other : ℕ) (es fs : List EventMeaning) → EventsFrom v g section width place es end
     → EventsFrom v g section width place fs other → (es ≡ fs) × (end ≡ other)
 events-one v g section width place end other es fs (events_over p q is) (events_over p2 q2 f) =
@@ -245,7 +262,7 @@ record OneMore (v : View) (g : Around) (section : ℕ) (u : MacroUnit) (ms : Lis
   is : ms ≡ unit_meaning v g u ∷ rest
   units : UnitsFrom v g section u.end rest
 
-one-more : (v : View) (g : Around) (section start : ℕ) (u : MacroUnit) (ms : List MacroMeaning) → Seen v g → section < length v.sections → IsMacroUnit v section start u
+one-more : (v : View) (g : Around) (section start : ℕ) (u : MacroUnit) (ms : List MacroMeaning) → Seen v g → section < length v.sections → IsReadUnit v section start u
     → UnitsFrom v g section start ms → OneMore v g section u ms
 one-more v g section start u ms seen there is (units_over p at_end) =
     let inside = header-inside v section start is.header is.header_is in
@@ -257,7 +274,8 @@ one-more v g section start u all seen there is (units_more p end h es ms head ev
     let first : is.header.first ≡ u.first = sym (ap (λ (x : MacroUnit). x.first) is.is) in
     let version : is.header.version ≡ u.version = sym (ap (λ (x : MacroUnit). x.version) is.is) in
     let read : EventsFrom v g u.section u.width u.first (map (event_meaning v g) (unit_events v u)) u.end =
-    events-read v g u.section u.width u.first u.end (unit_events v u) seen (unit-whole v u (read-unit v section start u there is)) in
+    let one_in : IsUnitIn v u = read-unit v section start u there is in
+    events-read v g u.section u.width u.first u.end (unit_events v u) seen one_in.reads (unit-whole v u one_in) in
     let here : EventsFrom v g section u.width u.first (map (event_meaning v g) (unit_events v u)) u.end =
     subst (λ (i : ℕ). EventsFrom v g i u.width u.first (map (event_meaning v g) (unit_events v u)) u.end) (sym own) read in
     let theirs : EventsFrom v g section u.width u.first es end =
@@ -279,10 +297,10 @@ one-more v g section start u all seen there is (units_more p end h es ms head ev
     meaning_with : ℕ → Option ℕ → List EventMeaning → MacroMeaning
     meaning_with n l xs = record { version = n; line = l; events = xs }
 
-units-behind : (v : View) (g : Around) (section place : ℕ) (list : List MacroUnit) (ms : List MacroMeaning) → Seen v g → section < length v.sections → MacroUnitsUpTo v section list place
+units-behind : (v : View) (g : Around) (section place : ℕ) (list : List MacroUnit) (ms : List MacroMeaning) → Seen v g → section < length v.sections → UnitsReadUpTo v section list place
     → UnitsFrom v g section 0 ms → Behind v g section list place ms
-units-behind v g section place list ms seen there no_units u = record { rest = ms; is = refl; units = u }
-units-behind v g section place all ms seen there (more_units list x start so is) u =
+units-behind v g section place list ms seen there no_unit u = record { rest = ms; is = refl; units = u }
+units-behind v g section place all ms seen there (more_unit list x start so is) u =
     let b : Behind v g section list start ms = units-behind v g section start list ms seen there so u in
     let more : OneMore v g section x b.rest = one-more v g section start x b.rest seen there is b.units in
     record {
@@ -298,7 +316,7 @@ nothing-behind v g section place all e (units_more p end h es ms head events uni
     absurd (omega (arith, inside, e))
 
 -- all units of a section
-pub units-mean : (v : View) (g : Around) (section : ℕ) (list : List MacroUnit) (ms : List MacroMeaning) → Seen v g → section < length v.sections → AreMacroUnits v section list
+pub units-mean : (v : View) (g : Around) (section : ℕ) (list : List MacroUnit) (ms : List MacroMeaning) → Seen v g → section < length v.sections → AreReadUnits v section list
     → UnitsFrom v g section 0 ms → ms ≡ map (unit_meaning v g) list
 units-mean v g section list ms seen there are u =
     let b : Behind v g section list (length (section_bytes v section)) ms = units-behind v g section (length (section_bytes v section)) list ms seen there are u in
@@ -310,6 +328,6 @@ pub seen-view : (v : View) (r : DataReadings) → Seen v (around_of (debug_data 
 unfolding debug_data
 seen-view v r = record {
   str = refl;
-  lines = ap (λ (bs : List ℕ). record { number = (located v Line).number; bytes = bs }) (bytes_of-plain (located v Line).bytes);
+  lines = lines-located v;
   macros = first-macros v;
 }

@@ -10,7 +10,7 @@ use Rattle.dw_macros.specs.OperationRooms.{HasRoom}
 use Rattle.dw_base.specs.MacroOperations.{bring_operation, enter_behind, enter_operation, inline_behind, inline_operation, is_foreign, named_behind, named_operation, operation_at, operation_of, plain_operation}
 use Rattle.dw_base.specs.declared.macro_numbers.TheConstants.{MACRO_END, DW_MACRO_define, DW_MACRO_undef, DW_MACRO_start_file, DW_MACRO_end_file, DW_MACRO_define_strp, DW_MACRO_undef_strp, DW_MACRO_import}
 use Rattle.dw_base.specs.declared.macro_units.MacroOperation.{MacroOperation}
-use Rattle.dw_base.specs.declared.macro_units.MacroOperation.TheVariants.{End, Inline, Named, Enter, Leave, Bring, Foreign}
+use Rattle.dw_base.specs.declared.macro_units.MacroOperation.TheVariants.{Inline, Named, Enter, Bring, Foreign}
 
 -- the same of what was read, if anything
 abbrev RoomIn : List ℕ → Width → Option (MacroOperation × ℕ) → Type 0

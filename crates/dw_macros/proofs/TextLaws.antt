@@ -1,19 +1,24 @@
 -- Laws of the texts that offsets of a macro section name.
-use Rattle.std.proofs.Common.{Bool, true, false, ◌≡◌, ◌≢◌, ℕ, ◌<◌, ◌≤◌, nat_lt, ℤ, List, [], length, Option, Some, None, refl, sym, ap, ◌∙◌, arith}
+use Rattle.std.proofs.Common.{Bool, true, false, ◌≡◌, ◌≢◌, ℕ, ◌≤◌, nat_lt, ℤ, List, [], length, Option, Some, None, refl, sym, ap, ◌∙◌, arith}
+use Rattle.std.specs.Prelude.{Ok, Err}
 use Rattle.std.proofs.lemmas.Bool.{eq-eqb, ne_eqb}
 use Rattle.std.proofs.lemmas.Bool.Decides.{nat_tests}
 use Rattle.std.proofs.lemmas.List.{drop_all}
-use Rattle.dw_base.specs.Cells.{Located, offset_into}
+use Rattle.dw_base.specs.Cells.{Located, is_placed, offset_into}
 use Rattle.dw_base.specs.DebugSections.{name_of}
 use Rattle.dw_base.specs.FileViews.{View, field_at, section_bytes, section_named}
 use Rattle.dw_base.specs.Forms.{width_size}
 use Rattle.dw_base.specs.Texts.{ends_in, has_nul, IsNulEnd}
 use Rattle.dw_base.specs.ViewData.{located, located_at}
+use Rattle.dw_base.specs.ViewOffsets.{offset_read}
 use Rattle.dw_base.specs.declared.debug_sections.DebugSection.TheVariants.{Str}
+use Rattle.dw_base.specs.declared.fault.Refusal.{Refusal}
 use Rattle.dw_base.specs.declared.shared.Width.{Width}
 use Rattle.dw_base.specs.declared.view_fields.Field.{Field}
 use Rattle.dw_base.specs.declared.view_fields.Field.TheVariants.{Num, Into, Sym}
 use Rattle.dw_base.specs.MacroUnits.{names_text, offset_at}
+use Rattle.dw_base.proofs.ViewOffsetLaws.{offset-is}
+use Rattle.dw_macros.specs.MacroOffsets.{FieldReads, FieldRefuses}
 use Rattle.dw_macros.specs.TextEnds.{IsTexts}
 use Rattle.dw_macros.specs.declared.texts.Texts.{Texts}
 
@@ -63,14 +68,36 @@ sym-ends z symbol kind addend f same = rw same (sym (end-ends z))
 
 pub ruleset field_laws = (num-ends, into-other, into-same, sym-ends)
 
--- the field at a place
-pub field-text : (v : View) (section field size : ℕ) (width : Width) (f : Field) (b : Bool) → size ≡ width_size width → f ≡ field_at v section field size
+-- the field of an offset
+pub field-value : (v : View) (section field size : ℕ) (width : Width) (f : Field) → size ≡ width_size width → Ok f ≡ offset_read v section field size
+    → f ≡ field_at v section field (width_size width)
+field-value v section field size width f s e = (offset-is v section field size f (sym e)).same ∙ ap (field_at v section field) s
+
+pub field-placed : (v : View) (section field size : ℕ) (width : Width) (f : Field) → size ≡ width_size width → Ok f ≡ offset_read v section field size
+    → is_placed f ≡ true
+field-placed v section field size width f s e =
+    let is = offset-is v section field size f (sym e) in
+    ap is_placed is.same ∙ is.placed
+
+pub field-reads : (v : View) (section field size : ℕ) (width : Width) (f : Field) → size ≡ width_size width → Ok f ≡ offset_read v section field size
+    → FieldReads v section width field
+field-reads v section field size width f s e = record {
+  is = ap (offset_read v section field) (sym s) ∙ sym e ∙ ap Ok (field-value v section field size width f s e);
+}
+
+pub field-refused : (v : View) (section field size : ℕ) (width : Width) (r : Refusal) → size ≡ width_size width → Err r ≡ offset_read v section field size
+    → FieldRefuses v section width field r
+field-refused v section field size width r s e = record { is = ap (offset_read v section field) (sym s) ∙ sym e }
+
+pub ruleset names_laws = (field-value, field-placed, field-reads, field-refused)
+
+-- what it names
+pub field-text : (v : View) (section field : ℕ) (width : Width) (f : Field) (b : Bool) → f ≡ field_at v section field (width_size width)
     → b ≡ ends_in (located v Str).bytes (offset_into (located v Str) f) → b ≡ names_text v section width field
-field-text v section field size width f b s e is =
-    is ∙ ap (λ (g : Field). ends_in (located v Str).bytes (offset_into (located v Str) g)) (e ∙ ap (field_at v section field) s)
+field-text v section field width f b e is = is ∙ ap (λ (g : Field). ends_in (located v Str).bytes (offset_into (located v Str) g)) e
 
-pub field-offset : (v : View) (z : Located) (section field size offset : ℕ) (width : Width) (f : Field) → size ≡ width_size width → f ≡ field_at v section field size
+pub field-offset : (v : View) (z : Located) (section field offset : ℕ) (width : Width) (f : Field) → f ≡ field_at v section field (width_size width)
     → offset ≡ offset_into z f → offset ≡ offset_at v z section field width
-field-offset v z section field size offset width f s e is = is ∙ ap (offset_into z) (e ∙ ap (field_at v section field) s)
+field-offset v z section field offset width f e is = is ∙ ap (offset_into z) e
 
-pub ruleset names_laws = (field-text, field-offset)
+pub ruleset named_laws = (field-text, field-offset)

@@ -17,6 +17,7 @@ use Rattle.dw_base.specs.declared.macro_units.MacroOperation.{MacroOperation}
 use Rattle.dw_base.specs.declared.macro_units.MacroOperation.TheVariants.{End, Inline, Named, Enter, Leave, Bring, Foreign}
 use Rattle.dw_base.specs.declared.macro_units.MacroUnit.{MacroUnit}
 use Rattle.dw_base.specs.declared.line_tables.TextPlace.{TextPlace}
+use Rattle.dw_macros.specs.MacroOffsets.{ReadsFrom}
 
 -- a definition, or its end
 abbrev pub text_event : Bool → ℕ → TextPlace → MacroEvent
@@ -90,11 +91,12 @@ pub data SpellsEvents (v : View) (section : ℕ) (width : Width) : ℕ → List 
   one_event : (place next end : ℕ) (e : MacroEvent) (es : List MacroEvent) → event_in v section width place ≡ Some (e, next)
       → SpellsEvents v section width next es end → SpellsEvents v section width place (e ∷ es) end
 
--- a unit that can be read in a section of the view
+-- a unit that can be read in a section of the view, with the offsets of its operations
 pub record IsUnitIn (v : View) (u : MacroUnit) : Type 0 where
   pub start : ℕ
   pub there : u.section < length v.sections
   pub is : IsMacroUnit v u.section start u
+  pub reads : ReadsFrom v u.section u.width u.first
 
 -- where a walk over the events of a unit stands
 pub record EventsState : Type 0 where
@@ -111,6 +113,7 @@ events_start v u = record { view = v; section = u.section; width = u.width; plac
 abbrev pub events_left : EventsState → List MacroEvent
 events_left s = events_from s.view s.section s.width s.place
 
--- the section of a walk is one of the view
+-- the section of a walk is one of the view, and the offsets of the operations that are left can be read
 pub record EventsFit (s : EventsState) : Type 0 where
   pub there : s.section < length s.view.sections
+  pub reads : ReadsFrom s.view s.section s.width s.place

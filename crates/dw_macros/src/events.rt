@@ -7,12 +7,12 @@ ghost use Rattle.std.specs.Prelude.{◌≡◌, ◌+◌, ◌≤◌, ◌<◌, ◌�
 ghost use Rattle.std.specs.Iterator.{YieldsFirst, item_count};
 ghost use Rattle.dw_base.specs.FileViews.{section_bytes};
 ghost use Rattle.dw_base.specs.Forms.{width_size};
+ghost use Rattle.dw_macros.specs.MacroOffsets.{FieldReads, OperationReads, ReadsFrom};
 ghost use Rattle.dw_macros.specs.MacroEvents.{EventsFit, EventsState, IsUnitIn, SpellsEvents, event_by, event_in, events_from, events_left, events_start, import_at, inline_place, named_place, text_event, unit_events};
 ghost use Rattle.dw_macros.specs.OperationRooms.{HasRoom};
 
 use crate::reading::operation_at;
-use crate::texts::{offset_at, section_of};
-use crate::widths::width_size;
+use crate::texts::{macro_field, offset_at, section_of};
 use dw_base::{DebugSection, Field, MacroEvent, MacroOperation, MacroUnit, TextPlace, Width};
 use dw_strings::text_at;
 use dw_view::View;
@@ -62,17 +62,18 @@ fn inline_place(section: u32, at: u64, len: u64) -> TextPlace
     }
 }
 
-/// The text that the offset at a place of a section names. `None` exactly where no text that ends begins
-/// there.
+/// The text that the offset at a place of a section names, which can be read. `None` exactly where no text that ends
+/// begins there.
 #[tactic(auto, using(crate::proofs::EventLaws::named_laws), unfolding(crate::specs::MacroEvents::named_place))]
 fn named_place(view: &View, section: u32, width: Width, field: u64) -> Option<TextPlace>
     requires there { section < length view.now.sections }
     requires inside { field + width_size width ≤ length (section_bytes view.now section) }
+    requires reads { FieldReads view.now section width field }
     ensures text { result ≡ named_place view.now section width field }
 {
     let at = match offset_at(view, DebugSection::Str, section, width, field) {
         Ok(at) => at,
-        Err(_) => return None,
+        Err(_) => unreachable!(),
     };
     let Some(number) = view.first(DebugSection::Str) else {
         return None;
@@ -88,30 +89,30 @@ fn named_place(view: &View, section: u32, width: Width, field: u64) -> Option<Te
     }
 }
 
-/// The unit that the offset at a place of a section names.
-#[tactic(auto, using(crate::proofs::EventLaws::import_laws), unfolding(crate::specs::MacroEvents::import_at))]
+/// The unit that the offset at a place of a section names, which can be read.
+#[tactic(auto, using(crate::proofs::EventLaws::import_laws))]
 fn import_at(view: &View, section: u32, width: Width, field: u64) -> MacroEvent
     requires there { section < length view.now.sections }
     requires inside { field + width_size width ≤ length (section_bytes view.now section) }
+    requires reads { FieldReads view.now section width field }
     ensures event { result ≡ import_at view.now section width field }
 {
-    let (number, len) = section_of(view, DebugSection::Macro);
-    match view.field(section, field, width_size(width)) {
-        Ok(Field::Num(offset)) => MacroEvent::Import {
-            section: number,
+    let read = match macro_field(view, section, width, field) {
+        Ok(read) => read,
+        Err(_) => unreachable!(),
+    };
+    match read {
+        Field::Num(offset) => MacroEvent::Import {
+            section: section_of(view, DebugSection::Macro).0,
             offset,
             field,
         },
-        Ok(Field::Into { section, offset }) => MacroEvent::Import {
+        Field::Into { section, offset } => MacroEvent::Import {
             section,
             offset,
             field,
         },
-        _ => MacroEvent::Import {
-            section: number,
-            offset: len,
-            field,
-        },
+        Field::Sym { .. } => unreachable!(),
     }
 }
 
@@ -126,6 +127,7 @@ fn event_by(
 ) -> Option<(MacroEvent, u64)>
     requires there { section < length view.now.sections }
     requires room { HasRoom (section_bytes view.now section) width operation }
+    requires reads { OperationReads view.now section width operation }
     ensures event { result ≡ event_by view.now section width operation next }
     ensures behind { IfSome result (λ e. e.1 ≡ next) }
 {
@@ -155,12 +157,15 @@ fn event_by(
     }
 }
 
-/// The event at a place of a section, and the place behind it. `None` exactly where none stands there.
+/// The event at a place of a section from which on offsets can be read, and the place behind it. `None` exactly where
+/// none stands there.
 #[tactic(auto, using(crate::proofs::EventLaws::in_laws), unfolding(crate::specs::MacroEvents::event_in))]
 fn event_in(view: &View, section: u32, width: Width, place: u64) -> Option<(MacroEvent, u64)>
     requires there { section < length view.now.sections }
+    requires reads { ReadsFrom view.now section width place }
     ensures event { result ≡ event_in view.now section width place }
     ensures behind { IfSome result (λ e. place < e.1) }
+    ensures reads { IfSome result (λ e. ReadsFrom view.now section width e.1) }
 {
     match operation_at(view.bytes(section), width, place) {
         Some((operation, next)) => event_by(view, section, width, operation, next),
@@ -172,8 +177,10 @@ fn event_in(view: &View, section: u32, width: Width, place: u64) -> Option<(Macr
 #[tactic(auto, using(crate::proofs::EventLaws::next_laws))]
 fn next_event(view: &View, section: u32, width: Width, place: u64) -> Option<(MacroEvent, u64)>
     requires there { section < length view.now.sections }
+    requires reads { ReadsFrom view.now section width place }
     ensures event { IfSome result (λ e. events_from view.now section width place ≡ e.0 ∷ events_from view.now section width e.1) }
     ensures none { IfNone result (events_from view.now section width place ≡ []) }
+    ensures reads { IfSome result (λ e. ReadsFrom view.now section width e.1) }
 {
     match event_in(view, section, width, place) {
         Some(read) => Some(read),

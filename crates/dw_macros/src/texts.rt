@@ -1,19 +1,22 @@
 //! The texts and line tables that offsets of a macro section name (DWARF 5, 6.3.2.3 and 6.3.1).
 //!
 //! This file promises: whether an offset names a text of `.debug_str`, by one comparison, and which; the
-//! offset that a field holds into a section.
+//! offset that a field holds into a section. A field is refused only at a relocation that lies on it in part, or at itself
+//! where the relocation that begins there gives no place.
 
-ghost use Rattle.std.specs.Prelude.{◌≡◌, ◌+◌, ◌≤◌, ◌<◌, length, Ok, IfOk, IfErr};
-ghost use Rattle.dw_base.specs.Cells.{offset_into};
-ghost use Rattle.dw_base.specs.FileViews.{section_bytes};
+ghost use Rattle.std.specs.Prelude.{◌≡◌, ◌+◌, ◌≤◌, ◌<◌, true, length, IfOk, IfErr, OnOk};
+ghost use Rattle.dw_base.specs.Cells.{is_placed, offset_into};
+ghost use Rattle.dw_base.specs.FileViews.{field_at, section_bytes};
 ghost use Rattle.dw_base.specs.Forms.{width_size};
 ghost use Rattle.dw_base.specs.Texts.{ends_in};
 ghost use Rattle.dw_base.specs.ViewData.{located};
 ghost use Rattle.dw_base.specs.MacroUnits.{names_text, offset_at};
+ghost use Rattle.dw_base.specs.ViewOffsets.{offset_read};
+ghost use Rattle.dw_macros.specs.MacroOffsets.{FieldReads, FieldRefuses};
 ghost use Rattle.dw_macros.specs.TextEnds.{IsTexts};
 
 use crate::widths::width_size;
-use dw_base::{DebugSection, Field, Refusal, Width, nul_end};
+use dw_base::{DebugSection, Field, Kind, Refusal, Width, nul_end};
 use dw_view::View;
 
 /// The texts of `.debug_str`.
@@ -57,8 +60,59 @@ fn is_text(view: &View, texts: &Texts, field: Field) -> bool
     }
 }
 
-/// A text begins where the offset at a place of a section says.
+/// A field is a number or a place, and not a symbol that has none.
+fn is_placed(field: Field) -> bool
+    ensures { result ≡ is_placed field }
+{
+    match field {
+        Field::Num(_) => true,
+        Field::Into { .. } => true,
+        Field::Sym { .. } => false,
+    }
+}
+
+/// What the field of an offset reads as. Refused as `Relocation` exactly where a relocation lies on it only in part, at
+/// that relocation, or where the one that begins there gives no place, at the field.
+#[tactic(auto, using(dw_base::proofs::ViewOffsetLaws::offset_laws))]
+fn offset_field(view: &View, section: u32, at: u64, size: u8) -> Result<Field, Refusal>
+    requires there { section < length view.now.sections }
+    requires some { 0 < size }
+    requires wide { size ≤ 8 }
+    requires inside { at + size ≤ length (section_bytes view.now section) }
+    ensures field { result ≡ offset_read view.now section at size }
+{
+    let field = match view.field(section, at, size) {
+        Ok(field) => field,
+        Err(refusal) => return Err(refusal),
+    };
+    if is_placed(field) {
+        Ok(field)
+    } else {
+        Err(Refusal::at(Kind::Relocation, section, at))
+    }
+}
+
+/// The field of an offset of a macro section.
 #[tactic(auto, using(crate::proofs::TextLaws::names_laws))]
+pub(crate) fn macro_field(
+    view: &View,
+    section: u32,
+    width: Width,
+    field: u64,
+) -> Result<Field, Refusal>
+    requires there { section < length view.now.sections }
+    requires inside { field + width_size width ≤ length (section_bytes view.now section) }
+    ensures value { IfOk result (λ f. f ≡ field_at view.now section field (width_size width)) }
+    ensures placed { IfOk result (λ f. is_placed f ≡ true) }
+    ensures reads { OnOk result (FieldReads view.now section width field) }
+    ensures refused { IfErr result (FieldRefuses view.now section width field) }
+{
+    let read = offset_field(view, section, field, width_size(width))?;
+    Ok(read)
+}
+
+/// A text begins where the offset at a place of a section says.
+#[tactic(auto, using(crate::proofs::TextLaws::named_laws))]
 pub(crate) fn names_text(
     view: &View,
     texts: &Texts,
@@ -69,9 +123,11 @@ pub(crate) fn names_text(
     requires there { section < length view.now.sections }
     requires texts { IsTexts (located view.now DebugSection.Str) texts.now }
     requires inside { field + width_size width ≤ length (section_bytes view.now section) }
-    ensures names { result ≡ Ok (names_text view.now section width field) }
+    ensures names { IfOk result (λ b. b ≡ names_text view.now section width field) }
+    ensures reads { OnOk result (FieldReads view.now section width field) }
+    ensures refused { IfErr result (FieldRefuses view.now section width field) }
 {
-    let read = view.field(section, field, width_size(width))?;
+    let read = macro_field(view, section, width, field)?;
     Ok(is_text(view, texts, read))
 }
 
@@ -100,7 +156,7 @@ fn offset_into(view: &View, kind: DebugSection, field: Field) -> u64
 }
 
 /// The offset at a place of a section, into a section of the view.
-#[tactic(auto, using(crate::proofs::TextLaws::names_laws))]
+#[tactic(auto, using(crate::proofs::TextLaws::named_laws))]
 pub(crate) fn offset_at(
     view: &View,
     kind: DebugSection,
@@ -110,8 +166,10 @@ pub(crate) fn offset_at(
 ) -> Result<u64, Refusal>
     requires there { section < length view.now.sections }
     requires inside { field + width_size width ≤ length (section_bytes view.now section) }
-    ensures offset { result ≡ Ok (offset_at view.now (located view.now kind) section field width) }
+    ensures offset { IfOk result (λ n. n ≡ offset_at view.now (located view.now kind) section field width) }
+    ensures reads { OnOk result (FieldReads view.now section width field) }
+    ensures refused { IfErr result (FieldRefuses view.now section width field) }
 {
-    let read = view.field(section, field, width_size(width))?;
+    let read = macro_field(view, section, width, field)?;
     Ok(offset_into(view, kind, read))
 }

@@ -39,7 +39,7 @@ use Rattle.dw_base.proofs.PlainCellLaws.{IsPlain, plain-parts, bytes_of-plain}
 use Rattle.dw_base.proofs.UnitEditLaws.{Shift, Becomes, UnitChange, UnitsChanged, length-becomes, length-bytes_of, units_preserve}
 use Rattle.dw_meaning.specs.DataOutput.{DataReads, DataFits, EachWritable, table_change, new_lines, changes_of, offsets_after, macros_after, names_after}
 use Rattle.dw_meaning.proofs.IndexTextLaws.{IsApart, texts-apart, slots-move}
-use Rattle.dw_meaning.proofs.LineColumnLaws.{edited_source, Grows}
+use Rattle.dw_meaning.proofs.LineColumnLaws.{edited_with, Grows}
 use Rattle.dw_meaning.proofs.LinePathLaws.{BothMove}
 use Rattle.dw_meaning.proofs.LineSectionLaws.{EachCan, LinesMoved, TablesApart, section-moved}
 use Rattle.dw_meaning.proofs.MacroEditLaws.{AllMacrosChanged, edited_macro_sections, all-macros-read, all-starts, same-first, all-macros-kept, all-macros-named, all-imports, macros-edited}
@@ -261,6 +261,7 @@ pub record DataMoves (m : PathMap) (d : DebugData) (r : DataReadings) : Type 0 w
   pub str : length (new_table (table_change m in_str (around_of d r) r).plan (table_change m in_str (around_of d r) r).texts) ≤ 2 ^ 32
   pub line_str : length (new_table (table_change m in_line_str (around_of d r) r).plan (table_change m in_line_str (around_of d r) r).texts) ≤ 2 ^ 32
   pub lines : length (all_lines (new_lines m (around_of d r) r)) ≤ 2 ^ 32
+  pub lines_plain : IsPlain d.lines.contents
   pub apart : TablesApart (line_source d) r.lines
   pub tables : (at : ℕ) → ends_in d.line_str.bytes at ≡ true → d.line_str.number ≢ d.str.number
 
@@ -357,10 +358,10 @@ lines-data m d r w =
     let c : TableChanges = changes_of m (around_of d r) r in
     let s : List ℕ = new_table c.str.plan c.str.texts in
     let l : List ℕ = new_table c.line_str.plan c.line_str.texts in
-    subst (λ (bs : List ℕ). LinesMoved (line_source d) (edited_source (line_source d) bs s l) m 0 (length (all_lines (new_lines m (around_of d r) r))) (new_lines m (around_of d r) r) r.lines)
+    subst (λ (bs : List ℕ). LinesMoved (line_source d) (edited_with (line_source d) bs (plain_cells (all_lines (new_lines m (around_of d r) r))) s l) m 0 (length (all_lines (new_lines m (around_of d r) r))) (new_lines m (around_of d r) r) r.lines)
     (sym (bytes_of-plain (all_lines (new_lines m (around_of d r) r))))
     (section-moved (changes_of m (around_of d r) r) (line_source d) (slots_texts m in_str d r) (slots_texts m in_line_str d r) (behind_lines_in in_str d r) (behind_lines_in in_line_str d r) r.lines
-    (both-move m d r w) (table-grows m in_str d r) (table-grows m in_line_str d r) w.apart w.tables w.reads.lines
+    refl w.lines_plain (both-move m d r w) (table-grows m in_str d r) (table-grows m in_line_str d r) w.apart w.tables w.reads.lines
     (each-can m (changes_of m (around_of d r) r) d r r.lines w.fits.lines) (behind-slots m d r))
 
 lines-move : (m : PathMap) (d : DebugData) (r : DataReadings) → DataMoves m d r → LinesMove (changes_of m (around_of d r) r) (around_of d r)
@@ -472,23 +473,24 @@ indexing-edited m d r w =
     (all-uses (data_shift m d r) d.base.order r.units qs (units-changed-all m d r w))
 
 -- what stands around the new units is what the change says
-abbrev around_with : UnitBase → Located → Located → ℕ → List EntryPlace → List ℕ → Indexing → MacroPlaces → List (List ℕ) → List ℕ → List ℕ → Around
-around_with base str line n es is_ g mp ts bs ns = record {
+abbrev around_with : UnitBase → Located → Located → ℕ → List Cell → List EntryPlace → List ℕ → Indexing → MacroPlaces → List (List ℕ) → List ℕ → List ℕ → Around
+around_with base str line n lc es is_ g mp ts bs ns = record {
   lasting = record { base = base; entries = es; infos = is_; indexing = g; macros = mp };
   str = str;
   line_str = line;
   slots = ts;
   lines = record { number = n; bytes = bs };
+  line_cells = lc;
   starts = ns;
 }
 
-around-parts : (base : UnitBase) (str line : Located) (n : ℕ) (es fs : List EntryPlace) (is_ js : List ℕ) (g h : Indexing) (mp np : MacroPlaces) (ts us : List (List ℕ)) (bs cs ns ks : List ℕ)
-    → es ≡ fs → is_ ≡ js → g ≡ h → mp ≡ np → ts ≡ us → bs ≡ cs → ns ≡ ks → around_with base str line n es is_ g mp ts bs ns ≡ around_with base str line n fs js h np us cs ks
-around-parts base str line n es fs is_ js g h mp np ts us bs cs ns ks e i x p t b k =
-    ap (λ (y : List EntryPlace). around_with base str line n y is_ g mp ts bs ns) e ∙ ap (λ (y : List ℕ). around_with base str line n fs y g mp ts bs ns) i
-    ∙ ap (λ (y : Indexing). around_with base str line n fs js y mp ts bs ns) x ∙ ap (λ (y : MacroPlaces). around_with base str line n fs js h y ts bs ns) p
-    ∙ ap (λ (y : List (List ℕ)). around_with base str line n fs js h np y bs ns) t
-    ∙ ap (λ (y : List ℕ). around_with base str line n fs js h np us y ns) b ∙ ap (around_with base str line n fs js h np us cs) k
+around-parts : (base : UnitBase) (str line : Located) (n : ℕ) (lc : List Cell) (es fs : List EntryPlace) (is_ js : List ℕ) (g h : Indexing) (mp np : MacroPlaces) (ts us : List (List ℕ)) (bs cs ns ks : List ℕ)
+    → es ≡ fs → is_ ≡ js → g ≡ h → mp ≡ np → ts ≡ us → bs ≡ cs → ns ≡ ks → around_with base str line n lc es is_ g mp ts bs ns ≡ around_with base str line n lc fs js h np us cs ks
+around-parts base str line n lc es fs is_ js g h mp np ts us bs cs ns ks e i x p t b k =
+    ap (λ (y : List EntryPlace). around_with base str line n lc y is_ g mp ts bs ns) e ∙ ap (λ (y : List ℕ). around_with base str line n lc fs y g mp ts bs ns) i
+    ∙ ap (λ (y : Indexing). around_with base str line n lc fs js y mp ts bs ns) x ∙ ap (λ (y : MacroPlaces). around_with base str line n lc fs js h y ts bs ns) p
+    ∙ ap (λ (y : List (List ℕ)). around_with base str line n lc fs js h np y bs ns) t
+    ∙ ap (λ (y : List ℕ). around_with base str line n lc fs js h np us y ns) b ∙ ap (around_with base str line n lc fs js h np us cs) k
 
 slots-edited : (m : PathMap) (d : DebugData) (r : DataReadings) → DataMoves m d r
     → slot_texts d.base.order (moved_table d.str (changes_of m (around_of d r) r).str) (offsets_after (changes_of m (around_of d r) r) (around_of d r) r)
@@ -517,7 +519,7 @@ around-edited : (m : PathMap) (d : DebugData) (r : DataReadings) (w : DataMoves 
 around-edited m d r w =
     let c : TableChanges = changes_of m (around_of d r) r in
     let qs : Readings = edited_readings (changes_of m (around_of d r) r) (around_of d r) r.units in
-    around-parts d.base (moved_table d.str c.str) (moved_table d.line_str c.line_str) d.lines.number (all_places qs) (all_places r.units)
+    around-parts d.base (moved_table d.str c.str) (moved_table d.line_str c.line_str) d.lines.number (plain_cells (all_lines c.lines)) (all_places qs) (all_places r.units)
     (info_numbers (edited_sections d.units qs)) (info_numbers d.units) (indexing_of (edited_data c d r) (after_reads m d r w)) (indexing_of d r)
     (record { first = first_macros (edited_macro_sections d.macros (macros_after c (around_of d r) r)); starts = macro_starts (macros_after c (around_of d r) r) })
     (record { first = first_macros d.macros; starts = macro_starts r.macros })

@@ -3,7 +3,7 @@ use Rattle.std.proofs.Common.{◌≡◌, ◌≢◌, ◌⊎◌, inl, inr, ℕ, �
 use Rattle.std.specs.Bool.{⊤}
 use Rattle.std.proofs.lemmas.Bool.{cases_eq, cases_lt}
 use Rattle.std.proofs.lemmas.List.{drop_all, length-take}
-use Rattle.dw_base.specs.AbbreviationTables.{Abbreviation, IsTable}
+use Rattle.dw_base.specs.AbbreviationTables.{Abbreviation}
 use Rattle.dw_base.specs.Cells.{bytes_of}
 use Rattle.dw_meaning.specs.DataFails.{DataFails, unit as unit_row, table as table_row, entries as entries_row}
 use Rattle.dw_meaning.specs.DataOutput.{DataReads}
@@ -16,11 +16,12 @@ use Rattle.dw_base.specs.UnitHeaders.{UnitBase, UnitSection, header_at, unit_hea
 use Rattle.dw_base.specs.UnitPieces.{ReadsUnits}
 use Rattle.dw_meaning.specs.UnitScans.{UnitsScanned, none_scanned, more_scanned}
 use Rattle.dw_base.specs.UnitStates.{UnitState}
+use Rattle.dw_base.specs.UnitTables.{IsUnitTable}
 use Rattle.dw_base.specs.declared.fault.Refusal.{Refusal}
 use Rattle.dw_base.specs.declared.units.Scanned.{Scanned}
 use Rattle.dw_base.specs.declared.units.UnitHeader.{UnitHeader}
 use Rattle.dw_base.proofs.AbbreviationLaws.{table-one}
-use Rattle.dw_base.proofs.AbbreviationRowLaws.{table-excludes}
+use Rattle.dw_base.proofs.AbbreviationRowLaws.{unit_table-excludes}
 use Rattle.dw_meaning.proofs.EntryRowLaws.{entries-exclude}
 use Rattle.dw_base.proofs.ReachLaws.{Reaches, here, on, reach-total}
 use Rattle.dw_meaning.proofs.ScanBackLaws.{section-scanned}
@@ -55,7 +56,7 @@ pub record WholeUnit (base : UnitBase) (z : UnitSection) (start : ℕ) (h : Unit
   pub list : List UnitHeader
   pub before : UnitsScanned base z list start
   pub table : List Abbreviation
-  pub is : IsTable base.abbrevs.bytes h.abbrevs table
+  pub is : IsUnitTable base h table
   pub items : List Scanned
   pub entries : AreEntries h table (bytes_up_to z h) items
 
@@ -160,9 +161,9 @@ data-excludes d rs r reads (unit_row z before behind split f) =
     units-exclude d.base z all.0 r (scanned-units d.base z all.0 (length z.contents) all.1) f
 data-excludes d rs r reads (table_row z h u f) =
     let w : WholeUnit d.base z u.start h = unit-whole d rs z h reads u in
-    table-excludes d.base.abbrevs.bytes d.base.abbrevs.number h.abbrevs w.table r w.is f
+    unit_table-excludes d.base h w.table r w.is f
 data-excludes d rs r reads (entries_row z h list t f) =
     let w : WholeUnit d.base z t.unit.start h = unit-whole d rs z h reads t.unit in
-    let same : w.table ≡ list = table-one d.base.abbrevs.bytes h.abbrevs w.table list w.is t.declares in
+    let same : w.table ≡ list = table-one d.base.abbrevs.bytes h.abbrevs w.table list w.is.is t.declares.is in
     let entries : AreEntries h list (bytes_up_to z h) w.items = subst (λ (xs : List Abbreviation). AreEntries h xs (bytes_up_to z h) w.items) same w.entries in
     entries-exclude h list (bytes_up_to z h) w.items r (omega (arith, length-take h.end (bytes_of z.contents))) entries f

@@ -9,23 +9,24 @@ use Rattle.dw_meaning.proofs.StartRowLaws.{starts-exclude}
 use Rattle.dw_meaning.proofs.MacroRowLaws.{macros-exclude}
 use Rattle.dw_meaning.proofs.LineRowLaws.{lines-exclude, write-excludes, TableAmong, table-among, can-among}
 use Rattle.dw_meaning.proofs.LineSectionLaws.{EachCan}
-use Rattle.dw_base.specs.Cells.{CellSection}
+use Rattle.dw_base.specs.Cells.{Located}
 use Rattle.dw_base.specs.DebugData.{DataReadings, around_of, line_source}
 use Rattle.dw_base.specs.FileViews.{view_of}
 use Rattle.dw_base.specs.OffsetPieces.{ReadsOffsets}
-use Rattle.dw_base.specs.ViewData.{debug_data, string_offsets}
+use Rattle.dw_base.specs.ViewData.{debug_data}
 use Rattle.dw_meaning.specs.DataOutput.{DataReads, DataFits, changes_of}
-use Rattle.dw_meaning.proofs.FileKeptLaws.{offsets-are}
 use Rattle.dw_meaning.proofs.SlotRowLaws.{slot_texts-exclude, shared-row, string_tables-exclude, name_tables-exclude}
 use Rattle.dw_meaning.specs.EditRows.{EditFails, file as file_row, inline as inline_row, shared as shared_row, line_table as line_table_row, output as output_row, IsAccepted}
 use Rattle.dw_meaning.specs.FileFails.{FileFails, elf as elf_row, sections as sections_row, loaded as loaded_row, units as units_row, texts as texts_row, unbuilt as unbuilt_row, string_tables as string_tables_row, slots as slots_row, lines as lines_row, macros as macros_row, starts as starts_row, name_tables as name_tables_row, relocations as relocations_row, loaded_relocations as loaded_relocations_row}
 use Rattle.dw_meaning.specs.FileMeanings.{file_data, new_body}
 use Rattle.dw_base.specs.LayoutFails.{LayoutFails}
 use Rattle.dw_base.specs.Paths.{PathMap}
+use Rattle.dw_base.specs.StringOffsetFails.{ContributionsFail}
 use Rattle.dw_base.specs.declared.fault.Refusal.{Refusal}
 use Rattle.dw_meaning.proofs.DataOneLaws.{data-one}
 use Rattle.dw_meaning.proofs.DataRowLaws.{data-excludes}
 use Rattle.dw_base.proofs.DebugSectionFailsLaws.{debug_sections_exclude}
+use Rattle.dw_base.proofs.ViewCellLaws.{offsets-located}
 use Rattle.dw_meaning.proofs.LayoutRowLaws.{layout_excludes}
 use Rattle.dw_meaning.proofs.PlainFileLaws.{relocations_fail-loaded, relocations_loaded-none}
 use Rattle.dw_base.proofs.ElfLaws.{elf_excludes}
@@ -43,8 +44,8 @@ file-excludes m b r a (loaded_row i e lt l) = a.unloaded i lt l
 file-excludes m b r a (units_row e f) = data-excludes (file_data b) a.readings r a.reads.data_reads f
 file-excludes m b r a (texts_row e f) = texts-exclude (file_data b) a.readings r a.reads.data_reads f
 file-excludes m b r a (string_tables_row e f) =
-    string_tables-exclude (view_of b).order (string_offsets (view_of b)) a.readings.offsets r
-    (subst (λ (z : CellSection). ReadsOffsets (view_of b).order z.contents a.readings.offsets) (offsets-are b) (file-offsets b a.readings a.reads.data_reads)) f
+    string_tables-exclude (view_of b).order (file_data b).offsets a.readings.offsets r (file-offsets b a.readings a.reads.data_reads)
+    (subst (λ (z : Located). ContributionsFail (view_of b).order z r) (sym (offsets-located (view_of b))) f)
 file-excludes m b r a (slots_row e f) = slot_texts-exclude (file_data b) a.readings r a.reads.data_reads f
 file-excludes m b r a (lines_row e f) = lines-exclude (file_data b) a.readings.lines r a.reads.data_reads.lines f
 file-excludes m b r a (macros_row z before behind e split f) = macros-exclude (view_of b) a.readings before behind z r a.reads.data_reads split f

@@ -20,7 +20,8 @@ use Rattle.dw_base.specs.Roles.{Role, fixed, inline_path, line_start, offset, ro
 use Rattle.dw_base.specs.SectionRelocations.{RelocationSource}
 use Rattle.dw_base.specs.SectionTexts.{edited_with}
 use Rattle.dw_base.specs.StringTables.{new_place}
-use Rattle.dw_base.specs.TextChanges.{TableChanges, by_addend, change_of, edited_all, edited_by, mention_at, moved_addend, moved_relocation, moved_start, symbol_value, with_offset, with_offset_by, with_relocation}
+use Rattle.dw_base.specs.NewOffsets.{by_addend, moved_addend, moved_relocation, symbol_value, with_offset, with_offset_by, with_relocation}
+use Rattle.dw_base.specs.TextChanges.{TableChanges, change_of, edited_all, edited_by, mention_at, moved_start}
 use Rattle.dw_base.specs.UnitStates.{UnitState}
 use Rattle.dw_base.specs.declared.shared.Class.{Class}
 use Rattle.dw_base.specs.declared.shared.Class.TheVariants.{C32, C64}

@@ -7,7 +7,7 @@ use Rattle.std.proofs.lemmas.Bool.{eq-eqb, eqb-true}
 use Rattle.dw_base.specs.Cells.{Cell, Located, Relocation, addend_of, bytes_of, field_by, field_of, first_relocation, is_placed, offset_into, offset_of, relocated, symbol_field, targeted, with_bytes, wrapped}
 use Rattle.dw_base.specs.Forms.{width_size}
 use Rattle.dw_base.specs.Numbers.{number_bytes, spelled}
-use Rattle.dw_base.specs.TextChanges.{by_addend, moved_relocation, symbol_value, with_offset, with_offset_by, with_relocation}
+use Rattle.dw_base.specs.NewOffsets.{by_addend, moved_relocation, symbol_value, with_offset, with_offset_by, with_relocation}
 use Rattle.dw_base.specs.declared.shared.Order.{Order}
 use Rattle.dw_base.specs.declared.shared.Width.{Width}
 use Rattle.dw_base.specs.declared.shared.Width.TheVariants.{W32, W64}

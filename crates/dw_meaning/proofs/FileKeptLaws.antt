@@ -11,7 +11,7 @@ use Rattle.dw_base.specs.Texts.{ends_in}
 use Rattle.dw_base.specs.DebugSections.{debug_section, name_of}
 use Rattle.dw_base.specs.Elf.{e_shoff, nth_section, section_count, section_name, contents_of, contents_at, is_empty_kind}
 use Rattle.dw_meaning.specs.FileMeanings.{file_data, FileReads, new_body}
-use Rattle.dw_base.specs.FileViews.{view_of, section_named, section_after}
+use Rattle.dw_base.specs.FileViews.{View, view_of, section_named, section_after}
 use Rattle.dw_base.specs.Forms.{TextSection, in_str, in_line_str}
 use Rattle.dw_base.specs.LayoutReads.{ReadsBack}
 use Rattle.dw_base.specs.Paths.{PathMap, IsPathMap}
@@ -20,7 +20,7 @@ use Rattle.dw_base.specs.TextChanges.{TableChanges, edited_by}
 use Rattle.dw_base.specs.Pieces.{Piece, joined}
 use Rattle.dw_base.specs.Roles.{Role}
 use Rattle.dw_base.specs.SectionTexts.{slot_role, name_role, edited_with}
-use Rattle.dw_base.specs.ViewData.{unit_kind, unit_sections, is_macro, macro_sections, located, located_at, cell_section, debug_data, is_read}
+use Rattle.dw_base.specs.ViewData.{unit_kind, unit_sections, is_macro, macro_sections, cells_located, located, located_at, debug_data, is_read}
 use Rattle.dw_base.specs.declared.debug_sections.DebugSection.{DebugSection}
 use Rattle.dw_base.specs.declared.debug_sections.DebugSection.TheVariants.{Info, Types, Abbrev, Str, LineStr, StrOffsets, Line, Macro, Names}
 use Rattle.dw_base.proofs.DebugSectionLaws.{debug_section-name}
@@ -134,17 +134,34 @@ tables-place b = table-place b Line
 pub names-place : (b : List ℕ) → TablePlace b (name_of Names) (located (view_of b) Names)
 names-place b = table-place b Names
 
-pub offsets-are : (b : List ℕ) → (file_data b).offsets ≡ cell_section (located (view_of b) StrOffsets)
-unfolding debug_data
-offsets-are b = refl
+-- a section that is read as pieces and on which no relocation stands
+abbrev pub plain_section : Located → CellSection
+plain_section z = record { number = z.number; contents = plain_cells z.bytes }
 
-pub lines-are : (b : List ℕ) → (file_data b).lines ≡ cell_section (located (view_of b) Line)
-unfolding debug_data
-lines-are b = refl
+section-plain : (v : View) (o : Option ℕ) → cells_located v o ≡ plain_section (located_at v o)
+section-plain v None = refl
+section-plain v (Some i) = refl
 
-pub names-are : (b : List ℕ) → (file_data b).names ≡ cell_section (located (view_of b) Names)
-unfolding debug_data
-names-are b = refl
+pub offsets-are : (b : List ℕ) → (file_data b).offsets ≡ plain_section (located (view_of b) StrOffsets)
+unfolding debug_data located
+offsets-are b = section-plain (view_of b) (section_named (view_of b) (name_of StrOffsets))
+
+pub lines-are : (b : List ℕ) → (file_data b).lines ≡ plain_section (located (view_of b) Line)
+unfolding debug_data located
+lines-are b = section-plain (view_of b) (section_named (view_of b) (name_of Line))
+
+pub names-are : (b : List ℕ) → (file_data b).names ≡ plain_section (located (view_of b) Names)
+unfolding debug_data located
+names-are b = section-plain (view_of b) (section_named (view_of b) (name_of Names))
+
+pub offsets-number : (b : List ℕ) → (file_data b).offsets.number ≡ (located (view_of b) StrOffsets).number
+offsets-number b = ap (λ (z : CellSection). z.number) (offsets-are b)
+
+pub lines-number : (b : List ℕ) → (file_data b).lines.number ≡ (located (view_of b) Line).number
+lines-number b = ap (λ (z : CellSection). z.number) (lines-are b)
+
+pub names-number : (b : List ℕ) → (file_data b).names.number ≡ (located (view_of b) Names).number
+names-number b = ap (λ (z : CellSection). z.number) (names-are b)
 
 -- the section of a table's number isn't one of another name
 pub name-apart : (b name : List ℕ) (z : Located) (i : ℕ) → TablePlace b name z → 0 < i → section_name b i ≢ name → i ≢ z.number
@@ -294,9 +311,9 @@ pub named-apart : (b : List ℕ) (i : ℕ) → 0 < i → section_name b i ≢ na
 named-apart b i some str line offsets tables names = record {
   str = name-apart b (name_of Str) (file_data b).str i (str-place b) some str;
   line = name-apart b (name_of LineStr) (file_data b).line_str i (line-place b) some line;
-  offsets = subst (λ (z : CellSection). i ≢ z.number) (sym (offsets-are b)) (name-apart b (name_of StrOffsets) (located (view_of b) StrOffsets) i (offsets-place b) some offsets);
-  lines = subst (λ (z : CellSection). i ≢ z.number) (sym (lines-are b)) (name-apart b (name_of Line) (located (view_of b) Line) i (tables-place b) some tables);
-  names = subst (λ (z : CellSection). i ≢ z.number) (sym (names-are b)) (name-apart b (name_of Names) (located (view_of b) Names) i (names-place b) some names);
+  offsets = subst (λ (n : ℕ). i ≢ n) (sym (offsets-number b)) (name-apart b (name_of StrOffsets) (located (view_of b) StrOffsets) i (offsets-place b) some offsets);
+  lines = subst (λ (n : ℕ). i ≢ n) (sym (lines-number b)) (name-apart b (name_of Line) (located (view_of b) Line) i (tables-place b) some tables);
+  names = subst (λ (n : ℕ). i ≢ n) (sym (names-number b)) (name-apart b (name_of Names) (located (view_of b) Names) i (names-place b) some names);
 }
 
 -- that of one that holds no macro units stands behind those
@@ -377,13 +394,13 @@ unread-kept m b r i w lt unread =
     (unread-same m b r i LineStr (file_data b).line_str (new_line_str m b r) w lt refl unread (line-none m b r w) (line-place b))
     (keep-body (offsets_new m b r) (behind_offsets m b r) (contents_of b) i
     (λ same. unread-same m b r i StrOffsets (located (view_of b) StrOffsets) (bytes_of (new_offsets m b r)) w lt refl unread
-    (λ none. ap bytes_of (offsets-none m b r w none)) (offsets-place b) (same ∙ ap (λ (z : CellSection). z.number) (offsets-are b)))
+    (λ none. ap bytes_of (offsets-none m b r w none)) (offsets-place b) (same ∙ offsets-number b))
     (keep-body (tables_new m b r) (behind_lines m b r) (contents_of b) i
     (λ same. unread-same m b r i Line (located (view_of b) Line) (new_line_tables m b r) w lt refl unread
-    (tables-none m b r w) (tables-place b) (same ∙ ap (λ (z : CellSection). z.number) (lines-are b)))
+    (tables-none m b r w) (tables-place b) (same ∙ lines-number b))
     (keep-body (names_new m b r) (behind_names m b r) (contents_of b) i
     (λ same. unread-same m b r i Names (located (view_of b) Names) (bytes_of (new_names m b r)) w lt refl unread
-    (λ none. ap bytes_of (names-none m b r w none)) (names-place b) (same ∙ ap (λ (z : CellSection). z.number) (names-are b)))
+    (λ none. ap bytes_of (names-none m b r w none)) (names-place b) (same ∙ names-number b))
     (macros-none m b r i w (unread-macros (debug_section (section_name b i)) unread)
     ∙ units-none m b r i w (unread-units (debug_section (section_name b i)) unread))))))
 
@@ -503,8 +520,9 @@ names-cells m b r w =
 
 pub offsets-back : (m : PathMap) (b : List ℕ) (r : DataReadings) (out : List ℕ) → CanMap m b r → ReadsBack b (new_body m b r) out
     → (file_data out).offsets ≡ record { number = (file_data b).offsets.number; contents = new_offsets m b r }
-unfolding debug_data
-offsets-back m b r out w back = by_place (located-back m b r out StrOffsets w back)
+offsets-back m b r out w back =
+    offsets-are out ∙ by_place (located-back m b r out StrOffsets w back)
+    ∙ ap (λ (n : ℕ). record { number = n; contents = new_offsets m b r }) (sym (offsets-number b))
   where
     str_no : Some StrOffsets ≡ Some Str → ⊥
     str_no e = cc
@@ -513,22 +531,23 @@ offsets-back m b r out w back = by_place (located-back m b r out StrOffsets w ba
     line_no e = cc
 
     by_place : LocatedBack m b r (name_of StrOffsets) (located (view_of b) StrOffsets) (located (view_of out) StrOffsets)
-        → cell_section (located (view_of out) StrOffsets) ≡ record { number = (located (view_of b) StrOffsets).number; contents = new_offsets m b r }
+        → plain_section (located (view_of out) StrOffsets) ≡ record { number = (located (view_of b) StrOffsets).number; contents = new_offsets m b r }
     by_place (gone zero none is) =
-        ap cell_section is ∙ ap (λ (n : ℕ). record { number = n; contents = [] }) (sym zero)
+        ap plain_section is ∙ ap (λ (n : ℕ). record { number = n; contents = [] }) (sym zero)
         ∙ ap (λ (p : List Cell). record { number = (located (view_of b) StrOffsets).number; contents = p }) (sym (offsets-none m b r w none))
     by_place (stands there within named bytes is) =
         let str = name-apart b (name_of Str) (file_data b).str (located (view_of b) StrOffsets).number (str-place b) there (λ e. str_no (differ StrOffsets Str (sym named ∙ e))) in
         let line = name-apart b (name_of LineStr) (file_data b).line_str (located (view_of b) StrOffsets).number (line-place b) there (λ e. line_no (differ StrOffsets LineStr (sym named ∙ e))) in
-        ap cell_section is
+        ap plain_section is
         ∙ ap (λ (bs : List ℕ). record { number = (located (view_of b) StrOffsets).number; contents = plain_cells bs })
-        (body-offsets m b r (located (view_of b) StrOffsets).number refl str line)
+        (body-offsets m b r (located (view_of b) StrOffsets).number (sym (offsets-number b)) str line)
         ∙ ap (λ (p : List Cell). record { number = (located (view_of b) StrOffsets).number; contents = p }) (sym (offsets-cells m b r w).plain)
 
 pub tables-back : (m : PathMap) (b : List ℕ) (r : DataReadings) (out : List ℕ) → CanMap m b r → ReadsBack b (new_body m b r) out
     → (file_data out).lines ≡ record { number = (file_data b).lines.number; contents = plain_cells (new_line_tables m b r) }
-unfolding debug_data
-tables-back m b r out w back = by_place (located-back m b r out Line w back)
+tables-back m b r out w back =
+    lines-are out ∙ by_place (located-back m b r out Line w back)
+    ∙ ap (λ (n : ℕ). record { number = n; contents = plain_cells (new_line_tables m b r) }) (sym (lines-number b))
   where
     str_no : Some Line ≡ Some Str → ⊥
     str_no e = cc
@@ -540,25 +559,25 @@ tables-back m b r out w back = by_place (located-back m b r out Line w back)
     offsets_no e = cc
 
     by_place : LocatedBack m b r (name_of Line) (located (view_of b) Line) (located (view_of out) Line)
-        → cell_section (located (view_of out) Line) ≡ record { number = (located (view_of b) Line).number; contents = plain_cells (new_line_tables m b r) }
+        → plain_section (located (view_of out) Line) ≡ record { number = (located (view_of b) Line).number; contents = plain_cells (new_line_tables m b r) }
     by_place (gone zero none is) =
-        ap cell_section is ∙ ap (λ (n : ℕ). record { number = n; contents = [] }) (sym zero)
+        ap plain_section is ∙ ap (λ (n : ℕ). record { number = n; contents = [] }) (sym zero)
         ∙ ap (λ (bs : List ℕ). record { number = (located (view_of b) Line).number; contents = plain_cells bs }) (sym (tables-none m b r w none))
     by_place (stands there within named bytes is) =
         let str = name-apart b (name_of Str) (file_data b).str (located (view_of b) Line).number (str-place b) there (λ e. str_no (differ Line Str (sym named ∙ e))) in
         let line = name-apart b (name_of LineStr) (file_data b).line_str (located (view_of b) Line).number (line-place b) there (λ e. line_no (differ Line LineStr (sym named ∙ e))) in
         let offsets = name-apart b (name_of StrOffsets) (located (view_of b) StrOffsets) (located (view_of b) Line).number (offsets-place b) there (λ e. offsets_no (differ Line StrOffsets (sym named ∙ e))) in
-        ap cell_section is
+        ap plain_section is
         ∙ ap (λ (bs : List ℕ). record { number = (located (view_of b) Line).number; contents = plain_cells bs })
-        (body-tables m b r (located (view_of b) Line).number refl str line offsets)
+        (body-tables m b r (located (view_of b) Line).number (sym (lines-number b)) str line (λ e. offsets (e ∙ offsets-number b)))
 
 pub body-lines : (m : PathMap) (b : List ℕ) (r : DataReadings) → 0 < (located (view_of b) Line).number → section_name b (located (view_of b) Line).number ≡ name_of Line
     → new_body m b r (located (view_of b) Line).number ≡ new_line_tables m b r
 body-lines m b r there named =
-    body-tables m b r (located (view_of b) Line).number (sym (ap (λ (z : CellSection). z.number) (lines-are b)))
+    body-tables m b r (located (view_of b) Line).number (sym (lines-number b))
     (name-apart b (name_of Str) (file_data b).str (located (view_of b) Line).number (str-place b) there (λ e. str_no (differ Line Str (sym named ∙ e))))
     (name-apart b (name_of LineStr) (file_data b).line_str (located (view_of b) Line).number (line-place b) there (λ e. line_no (differ Line LineStr (sym named ∙ e))))
-    (subst (λ (z : CellSection). (located (view_of b) Line).number ≢ z.number) (sym (offsets-are b))
+    (subst (λ (n : ℕ). (located (view_of b) Line).number ≢ n) (sym (offsets-number b))
     (name-apart b (name_of StrOffsets) (located (view_of b) StrOffsets) (located (view_of b) Line).number (offsets-place b) there (λ e. offsets_no (differ Line StrOffsets (sym named ∙ e)))))
   where
     str_no : Some Line ≡ Some Str → ⊥
@@ -572,7 +591,6 @@ body-lines m b r there named =
 
 -- where there are line tables, their section is none of those of texts
 pub lines-apart : (m : PathMap) (b : List ℕ) (r : DataReadings) → CanMap m b r → TablesApart (line_source (file_data b)) r.lines
-unfolding debug_data
 lines-apart m b r w = by_lines r.lines w.reads.data_reads.lines
   where
     str_no : Some Line ≡ Some Str → ⊥
@@ -595,12 +613,14 @@ lines-apart m b r w = by_lines r.lines w.reads.data_reads.lines
 
     by_lines : (xs : List LineReading) → TablesTo (line_source (file_data b)) 0 xs (length (line_source (file_data b)).bytes) → TablesApart (line_source (file_data b)) xs
     by_lines [] reads = tt
-    by_lines (x ∷ xs) reads = by_place (tables-place b) x xs reads
+    by_lines (x ∷ xs) reads =
+        subst (λ (n : ℕ). (n ≢ (file_data b).str.number) × (n ≢ (file_data b).line_str.number)) (sym (lines-number b)) (by_place (tables-place b) x xs reads)
 
 pub names-section : (m : PathMap) (b : List ℕ) (r : DataReadings) (out : List ℕ) → CanMap m b r → ReadsBack b (new_body m b r) out
     → (file_data out).names ≡ record { number = (file_data b).names.number; contents = new_names m b r }
-unfolding debug_data
-names-section m b r out w back = by_place (located-back m b r out Names w back)
+names-section m b r out w back =
+    names-are out ∙ by_place (located-back m b r out Names w back)
+    ∙ ap (λ (n : ℕ). record { number = n; contents = new_names m b r }) (sym (names-number b))
   where
     str_no : Some Names ≡ Some Str → ⊥
     str_no e = cc
@@ -615,18 +635,18 @@ names-section m b r out w back = by_place (located-back m b r out Names w back)
     tables_no e = cc
 
     by_place : LocatedBack m b r (name_of Names) (located (view_of b) Names) (located (view_of out) Names)
-        → cell_section (located (view_of out) Names) ≡ record { number = (located (view_of b) Names).number; contents = new_names m b r }
+        → plain_section (located (view_of out) Names) ≡ record { number = (located (view_of b) Names).number; contents = new_names m b r }
     by_place (gone zero none is) =
-        ap cell_section is ∙ ap (λ (n : ℕ). record { number = n; contents = [] }) (sym zero)
+        ap plain_section is ∙ ap (λ (n : ℕ). record { number = n; contents = [] }) (sym zero)
         ∙ ap (λ (p : List Cell). record { number = (located (view_of b) Names).number; contents = p }) (sym (names-none m b r w none))
     by_place (stands there within named bytes is) =
         let str = name-apart b (name_of Str) (file_data b).str (located (view_of b) Names).number (str-place b) there (λ e. str_no (differ Names Str (sym named ∙ e))) in
         let line = name-apart b (name_of LineStr) (file_data b).line_str (located (view_of b) Names).number (line-place b) there (λ e. line_no (differ Names LineStr (sym named ∙ e))) in
         let offsets = name-apart b (name_of StrOffsets) (located (view_of b) StrOffsets) (located (view_of b) Names).number (offsets-place b) there (λ e. offsets_no (differ Names StrOffsets (sym named ∙ e))) in
         let tables = name-apart b (name_of Line) (located (view_of b) Line) (located (view_of b) Names).number (tables-place b) there (λ e. tables_no (differ Names Line (sym named ∙ e))) in
-        ap cell_section is
+        ap plain_section is
         ∙ ap (λ (bs : List ℕ). record { number = (located (view_of b) Names).number; contents = plain_cells bs })
-        (body-names m b r (located (view_of b) Names).number refl str line offsets tables)
+        (body-names m b r (located (view_of b) Names).number (sym (names-number b)) str line (λ e. offsets (e ∙ offsets-number b)) (λ e. tables (e ∙ lines-number b)))
         ∙ ap (λ (p : List Cell). record { number = (located (view_of b) Names).number; contents = p }) (sym (names-cells m b r w).plain)
 
 -- the sections of macro units have their moved fields

@@ -35,7 +35,7 @@ use Rattle.dw_meaning.proofs.FileKeptLaws.{CanMap, around_file, changes_file, ne
 use Rattle.dw_base.proofs.FileViewLaws.{order-view_of}
 use Rattle.dw_base.proofs.PlainCellLaws.{IsPlain}
 use Rattle.dw_meaning.proofs.OffsetMoveLaws.{cells-plain, names-can, offsets-can}
-use Rattle.dw_meaning.proofs.PlainFileLaws.{file-macros, file-plain, names-plain, offsets-plain}
+use Rattle.dw_meaning.proofs.PlainFileLaws.{file-macros, file-plain, lines-plain, names-plain, offsets-plain}
 use Rattle.dw_meaning.proofs.SectionKeptLaws.{units-edited}
 use Rattle.dw_base.proofs.SectionLaws.{length-contents}
 use Rattle.dw_meaning.proofs.TableKeptLaws.{TablePlace, nowhere, lies_at, drop-at}
@@ -201,6 +201,7 @@ data-moves m b r out w back small = record {
   str = str-small m b r out w back small;
   line_str = line-small m b r out w back small;
   lines = lines-small m b r out w back small;
+  lines_plain = lines-plain b;
   apart = lines-apart m b r w;
   tables = texts-apart b;
 }

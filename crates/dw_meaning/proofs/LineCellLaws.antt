@@ -1,142 +1,235 @@
--- Where no relocation begins in the section of line tables, the cells of a new table are the bytes that are written.
-use Rattle.std.proofs.Common.{Bool, true, false, ◌≡◌, ℕ, zero, suc, ◌+◌, ◌-◌, ◌≤◌, ◌==◌, if◌then◌else◌, List, [], ◌∷◌, ◌++◌, length, take, drop, Option, None, Some, refl, sym, ap, ◌∙◌, arith}
+-- The cells of a new line table: their bytes are those that are written, and where no relocation begins in the section of line tables, none begins in them.
+use Rattle.std.proofs.Common.{Bool, true, false, ◌≡◌, ℕ, zero, suc, ◌+◌, ◌-◌, ◌==◌, if◌then◌else◌, List, [], ◌∷◌, ◌++◌, length, take, drop, Option, None, Some, refl, sym, ap, ◌∙◌, subst}
 use Rattle.std.specs.Bool.{⊤}
-use Rattle.std.proofs.lemmas.List.{length-drop, length-take}
 use Rattle.dw_base.specs.Cells.{Cell, bytes_of, cells_at, plain_cells}
 use Rattle.dw_base.specs.Forms.{width_size}
 use Rattle.dw_base.specs.LineSources.{LineSource}
 use Rattle.dw_base.specs.LineTables.{LineTable}
 use Rattle.dw_base.specs.Numbers.{number_bytes}
 use Rattle.dw_base.specs.Paths.{PathMap, mapped_path}
-use Rattle.dw_base.specs.TextChanges.{with_offset}
-use Rattle.dw_base.specs.WrittenLines.{Change, all_changes, behind_lengths, bytes_at, changed, header_length_place, inline_change, length_bytes, length_size, offset_changes, part, path_changes, paths_of, written_header, written_rest, written_table}
+use Rattle.dw_base.specs.WrittenLines.{Change, all_changes, behind_lengths, bytes_at, cells_part, changed, header_length_place, length_bytes, length_size, offset_changes, part, path_changes, paths_of, written_header, written_rest, written_table}
 use Rattle.dw_base.specs.declared.line_tables.TextPlace.{TextPlace}
 use Rattle.dw_base.specs.declared.shared.Order.{Order}
 use Rattle.dw_base.specs.declared.shared.Width.{Width}
-use Rattle.dw_base.proofs.PlainCellLaws.{IsPlain, bytes_of-plain, length-plain_cells, plain_cells-append, plain_cells-plain, with_offset-is}
-use Rattle.dw_meaning.specs.LineCells.{CellChange, all_path_cells, cells_part, changed_cells, header_cells, inline_cells, offset_cells, path_cells, rest_cells, written_cells}
+use Rattle.dw_base.proofs.LineFieldLaws.{cells_at-plain}
+use Rattle.dw_base.proofs.PlainCellLaws.{IsPlain, bytes_of-plain, plain-append, plain_cells-plain, with_offset-is}
+use Rattle.dw_base.proofs.RelocationFieldLaws.{bytes_of-drop, bytes_of-take}
+use Rattle.dw_base.proofs.UnitEditLaws.{length-bytes_of}
+use Rattle.dw_base.proofs.UnitHeaderLaws.{bytes_of-append}
+use Rattle.dw_meaning.specs.LineCells.{CellChange, all_path_cells, changed_cells, header_cells, inline_cells, offset_cells, path_cells, rest_cells, written_cells}
 
 -- parts of plain cells
-drop-plain : (n : ℕ) (bs : List ℕ) → drop n (plain_cells bs) ≡ plain_cells (drop n bs)
+pub drop-plain : (n : ℕ) (bs : List ℕ) → drop n (plain_cells bs) ≡ plain_cells (drop n bs)
 drop-plain zero bs = refl
 drop-plain (suc n) [] = refl
 drop-plain (suc n) (b ∷ bs) = drop-plain n bs
 
-take-plain : (n : ℕ) (bs : List ℕ) → take n (plain_cells bs) ≡ plain_cells (take n bs)
+pub take-plain : (n : ℕ) (bs : List ℕ) → take n (plain_cells bs) ≡ plain_cells (take n bs)
 take-plain zero bs = refl
 take-plain (suc n) [] = refl
 take-plain (suc n) (b ∷ bs) = ap (λ (cs : List Cell). record { byte = b; relocation = None } ∷ cs) (take-plain n bs)
 
-at-plain : (bs : List ℕ) (at n : ℕ) → cells_at (plain_cells bs) at n ≡ plain_cells (bytes_at bs at n)
-at-plain bs at n = ap (take n) (drop-plain at bs) ∙ take-plain n (drop at bs)
-
-part-plain : (bs : List ℕ) (from end : ℕ) → cells_part (plain_cells bs) from end ≡ plain_cells (part bs from end)
+pub part-plain : (bs : List ℕ) (from end : ℕ) → cells_part (plain_cells bs) from end ≡ plain_cells (part bs from end)
 part-plain bs from end = ap (take (end - from)) (drop-plain from bs) ∙ take-plain (end - from) (drop from bs)
 
--- changes of bytes as changes of cells
-abbrev plain_change : Change → CellChange
-plain_change c = record { at = c.at; old = length c.old; new = plain_cells c.new }
+-- the bytes of parts
+at-bytes : (cells : List Cell) (at n : ℕ) → bytes_of (cells_at cells at n) ≡ bytes_at (bytes_of cells) at n
+at-bytes cells at n = bytes_of-take n (drop at cells) ∙ ap (take n) (bytes_of-drop at cells)
 
-abbrev plain_changes : List Change → List CellChange
-plain_changes [] = []
-plain_changes (c ∷ cs) = plain_change c ∷ plain_changes cs
+pub part-bytes : (cells : List Cell) (from end : ℕ) → bytes_of (cells_part cells from end) ≡ part (bytes_of cells) from end
+part-bytes cells from end = bytes_of-take (end - from) (drop from cells) ∙ ap (take (end - from)) (bytes_of-drop from cells)
 
-plain_changes-append : (xs ys : List Change) → plain_changes (xs ++ ys) ≡ plain_changes xs ++ plain_changes ys
-plain_changes-append [] ys = refl
-plain_changes-append (x ∷ xs) ys = ap (λ (cs : List CellChange). plain_change x ∷ cs) (plain_changes-append xs ys)
+-- changes of cells are these changes of bytes
+record SameChange (c : CellChange) (b : Change) : Type 0 where
+  at : c.at ≡ b.at
+  old : c.old ≡ length b.old
+  new : bytes_of c.new ≡ b.new
 
-changed-plain : (bs : List ℕ) (from end : ℕ) (cs : List Change) → changed_cells (plain_cells bs) from end (plain_changes cs) ≡ plain_cells (changed bs from end cs)
-changed-plain bs from end [] = part-plain bs from end
-changed-plain bs from end (c ∷ cs) =
-    ap (λ (x : List Cell). x ++ (plain_cells c.new ++ changed_cells (plain_cells bs) (c.at + length c.old) end (plain_changes cs))) (part-plain bs from c.at)
-    ∙ ap (λ (x : List Cell). plain_cells (part bs from c.at) ++ (plain_cells c.new ++ x)) (changed-plain bs (c.at + length c.old) end cs)
-    ∙ ap (λ (x : List Cell). plain_cells (part bs from c.at) ++ x) (sym (plain_cells-append c.new (changed bs (c.at + length c.old) end cs)))
-    ∙ sym (plain_cells-append (part bs from c.at) (c.new ++ changed bs (c.at + length c.old) end cs))
+abbrev SameChanges : List CellChange → List Change → Type 0
+SameChanges [] [] = ⊤
+SameChanges [] (b ∷ bs) = ⊥
+SameChanges (c ∷ cs) [] = ⊥
+SameChanges (c ∷ cs) (b ∷ bs) = SameChange c b × SameChanges cs bs
 
--- each offset of a text lies in the section
-abbrev pub EachInside : LineSource → Width → List TextPlace → Type 0
-EachInside g width [] = ⊤
-EachInside g width (x ∷ xs) = ((x.section == g.number) ≡ false → x.field + width_size width ≤ length g.bytes) × EachInside g width xs
+same-append : (xs us : List CellChange) (ys vs : List Change) → SameChanges xs ys → SameChanges us vs → SameChanges (xs ++ us) (ys ++ vs)
+same-append [] us [] vs h k = k
+same-append [] us (y ∷ ys) vs h k = absurd h
+same-append (x ∷ xs) us [] vs h k = absurd h
+same-append (x ∷ xs) us (y ∷ ys) vs h k = (h.0, same-append xs us ys vs h.1 k)
 
-inline-plain : (m : PathMap) (bs : List ℕ) (x : TextPlace) → inline_cells m (plain_cells bs) x ≡ plain_change (inline_change m bs x)
-inline-plain m bs x =
-    ap (λ (p : List Cell). record { at = x.at; old = length p; new = plain_cells (mapped_path m (bytes_of p)) }) (at-plain bs x.at x.len)
-    ∙ ap (λ (n : ℕ). record { at = x.at; old = n; new = plain_cells (mapped_path m (bytes_of (plain_cells (bytes_at bs x.at x.len)))) })
-    (length-plain_cells (bytes_at bs x.at x.len))
-    ∙ ap (λ (q : List ℕ). record { at = x.at; old = length (bytes_at bs x.at x.len); new = plain_cells (mapped_path m q) }) (bytes_of-plain (bytes_at bs x.at x.len))
+changed-bytes : (cells : List Cell) (from end : ℕ) (cs : List CellChange) (bs : List Change) → SameChanges cs bs
+    → bytes_of (changed_cells cells from end cs) ≡ changed (bytes_of cells) from end bs
+changed-bytes cells from end [] [] h = part-bytes cells from end
+changed-bytes cells from end [] (b ∷ bs) h = absurd h
+changed-bytes cells from end (c ∷ cs) [] h = absurd h
+changed-bytes cells from end (c ∷ cs) (b ∷ bs) h =
+    bytes_of-append (cells_part cells from c.at) (c.new ++ changed_cells cells (c.at + c.old) end cs)
+    ∙ ap (λ (x : List ℕ). x ++ bytes_of (c.new ++ changed_cells cells (c.at + c.old) end cs))
+    (part-bytes cells from c.at ∙ ap (part (bytes_of cells) from) h.0.at)
+    ∙ ap (λ (x : List ℕ). part (bytes_of cells) from b.at ++ x)
+    (bytes_of-append c.new (changed_cells cells (c.at + c.old) end cs)
+    ∙ ap (λ (x : List ℕ). x ++ bytes_of (changed_cells cells (c.at + c.old) end cs)) h.0.new
+    ∙ ap (λ (x : List ℕ). b.new ++ x)
+    (changed-bytes cells (c.at + c.old) end cs bs h.1
+    ∙ ap (λ (i : ℕ). changed (bytes_of cells) (i + c.old) end bs) h.0.at ∙ ap (λ (i : ℕ). changed (bytes_of cells) (b.at + i) end bs) h.0.old))
 
-offset-plain : (order : Order) (width : Width) (bs : List ℕ) (field : ℕ) (o : Option ℕ) → field + width_size width ≤ length bs
-    → offset_cells order width (plain_cells bs) field o ≡ plain_changes (offset_changes order width bs field o)
-offset-plain order width bs field None inside = refl
-offset-plain order width bs field (Some place) inside =
-    let q : List ℕ = bytes_at bs field (width_size width) in
-    let size : length (bytes_at bs field (width_size width)) ≡ width_size width =
-    omega (arith, inside, length-take (width_size width) (drop field bs), length-drop field bs) in
-    let long : length (plain_cells (bytes_at bs field (width_size width))) ≡ width_size width = length-plain_cells (bytes_at bs field (width_size width)) ∙ size in
-    ap (λ (p : List Cell). record { at = field; old = length p; new = with_offset order p place } ∷ []) (at-plain bs field (width_size width))
-    ∙ ap (λ (n : ℕ). record { at = field; old = n; new = with_offset order (plain_cells (bytes_at bs field (width_size width))) place } ∷ [])
-    (length-plain_cells (bytes_at bs field (width_size width)))
-    ∙ ap (λ (p : List Cell). record { at = field; old = length (bytes_at bs field (width_size width)); new = p } ∷ [])
-    (with_offset-is order (plain_cells (bytes_at bs field (width_size width))) place (plain_cells-plain (bytes_at bs field (width_size width)))
-    ∙ ap (λ (n : ℕ). plain_cells (number_bytes order n place)) long)
-
-path-plain : (g : LineSource) (m : PathMap) (places : TextPlace → Option ℕ) (width : Width) (x : TextPlace)
-    → ((x.section == g.number) ≡ false → x.field + width_size width ≤ length g.bytes)
-    → path_cells g (plain_cells g.bytes) m places width x ≡ plain_changes (path_changes g m places width x)
-path-plain g m places width x inside = by_section (x.section == g.number) refl
+-- what becomes of a path
+path-bytes : (g : LineSource) (m : PathMap) (places : TextPlace → Option ℕ) (width : Width) (x : TextPlace) → bytes_of g.cells ≡ g.bytes
+    → SameChanges (path_cells g m places width x) (path_changes g m places width x)
+path-bytes g m places width x own = by_section (x.section == g.number)
   where
-    by_section : (b : Bool) → (x.section == g.number) ≡ b
-        → (if b then inline_cells m (plain_cells g.bytes) x ∷ [] else offset_cells g.order width (plain_cells g.bytes) x.field (places x))
-        ≡ plain_changes (if b then inline_change m g.bytes x ∷ [] else offset_changes g.order width g.bytes x.field (places x))
-    by_section true e = ap (λ (c : CellChange). c ∷ []) (inline-plain m g.bytes x)
-    by_section false e = offset-plain g.order width g.bytes x.field (places x) (inside e)
+    at : (place n : ℕ) → bytes_of (cells_at g.cells place n) ≡ bytes_at g.bytes place n
+    at place n = at-bytes g.cells place n ∙ ap (λ (bs : List ℕ). bytes_at bs place n) own
 
-paths-plain : (g : LineSource) (m : PathMap) (places : TextPlace → Option ℕ) (width : Width) (xs : List TextPlace) → EachInside g width xs
-    → all_path_cells g (plain_cells g.bytes) m places width xs ≡ plain_changes (all_changes g m places width xs)
-paths-plain g m places width [] h = refl
-paths-plain g m places width (x ∷ xs) h =
-    ap (λ (cs : List CellChange). cs ++ all_path_cells g (plain_cells g.bytes) m places width xs) (path-plain g m places width x h.0)
-    ∙ ap (λ (cs : List CellChange). plain_changes (path_changes g m places width x) ++ cs) (paths-plain g m places width xs h.1)
-    ∙ sym (plain_changes-append (path_changes g m places width x) (all_changes g m places width xs))
-
-header-plain : (g : LineSource) (m : PathMap) (places : TextPlace → Option ℕ) (t : LineTable) → EachInside g t.width (paths_of t)
-    → header_cells g (plain_cells g.bytes) m places t ≡ plain_cells (written_header g m places t)
-unfolding header_cells written_header
-header-plain g m places t inside =
-    ap (changed_cells (plain_cells g.bytes) (behind_lengths t.start t.width t.version) t.program) (paths-plain g m places t.width (paths_of t) inside)
-    ∙ changed-plain g.bytes (behind_lengths t.start t.width t.version) t.program (all_changes g m places t.width (paths_of t))
-
-rest-plain : (g : LineSource) (t : LineTable) (header : List ℕ) → rest_cells g (plain_cells g.bytes) t (plain_cells header)
-    ≡ plain_cells (part g.bytes (t.start + length_size t.width) (header_length_place t.start t.width t.version)
-    ++ (number_bytes g.order (width_size t.width) (length header) ++ header) ++ part g.bytes t.program t.end)
-rest-plain g t header =
-    let front : List ℕ = part g.bytes (t.start + length_size t.width) (header_length_place t.start t.width t.version) in
-    let middle : List ℕ = number_bytes g.order (width_size t.width) (length header) ++ header in
-    let inner : plain_cells (number_bytes g.order (width_size t.width) (length (plain_cells header))) ++ plain_cells header
-    ≡ plain_cells (number_bytes g.order (width_size t.width) (length header) ++ header) =
-    ap (λ (n : ℕ). plain_cells (number_bytes g.order (width_size t.width) n) ++ plain_cells header) (length-plain_cells header)
-    ∙ sym (plain_cells-append (number_bytes g.order (width_size t.width) (length header)) header) in
-    rw (
-      part-plain g.bytes (t.start + length_size t.width) (header_length_place t.start t.width t.version),
-      part-plain g.bytes t.program t.end,
-      inner,
+    by_place : (o : Option ℕ) → SameChanges (offset_cells g.order width g.cells x.field o) (offset_changes g.order width g.bytes g.cells x.field o)
+    by_place None = tt
+    by_place (Some place) = (
+      record {
+        at = refl;
+        old = sym (length-bytes_of (cells_at g.cells x.field (width_size width))) ∙ ap length (at x.field (width_size width));
+        new = refl;
+      },
+      tt,
     )
-    (sym (plain_cells-append
-    (part g.bytes (t.start + length_size t.width) (header_length_place t.start t.width t.version)
-    ++ (number_bytes g.order (width_size t.width) (length header) ++ header)) (part g.bytes t.program t.end)
-    ∙ ap (λ (x : List Cell). x ++ plain_cells (part g.bytes t.program t.end))
-    (plain_cells-append (part g.bytes (t.start + length_size t.width) (header_length_place t.start t.width t.version))
-    (number_bytes g.order (width_size t.width) (length header) ++ header))))
+
+    by_section : (b : Bool) → SameChanges (if b then inline_cells m g.cells x ∷ [] else offset_cells g.order width g.cells x.field (places x))
+        (if b then record { at = x.at; old = bytes_at g.bytes x.at x.len; new = mapped_path m (bytes_at g.bytes x.at x.len) } ∷ []
+        else offset_changes g.order width g.bytes g.cells x.field (places x))
+    by_section true = (
+      record {
+        at = refl;
+        old = sym (length-bytes_of (cells_at g.cells x.at x.len)) ∙ ap length (at x.at x.len);
+        new = bytes_of-plain (mapped_path m (bytes_of (cells_at g.cells x.at x.len))) ∙ ap (mapped_path m) (at x.at x.len);
+      },
+      tt,
+    )
+    by_section false = by_place (places x)
+
+paths-bytes : (g : LineSource) (m : PathMap) (places : TextPlace → Option ℕ) (width : Width) (xs : List TextPlace) → bytes_of g.cells ≡ g.bytes
+    → SameChanges (all_path_cells g m places width xs) (all_changes g m places width xs)
+paths-bytes g m places width [] own = tt
+paths-bytes g m places width (x ∷ xs) own =
+    same-append (path_cells g m places width x) (all_path_cells g m places width xs) (path_changes g m places width x) (all_changes g m places width xs)
+    (path-bytes g m places width x own) (paths-bytes g m places width xs own)
+
+-- the new header
+pub header-bytes : (g : LineSource) (m : PathMap) (places : TextPlace → Option ℕ) (t : LineTable) → bytes_of g.cells ≡ g.bytes
+    → bytes_of (header_cells g m places t) ≡ written_header g m places t
+unfolding header_cells written_header
+header-bytes g m places t own =
+    changed-bytes g.cells (behind_lengths t.start t.width t.version) t.program (all_path_cells g m places t.width (paths_of t))
+    (all_changes g m places t.width (paths_of t)) (paths-bytes g m places t.width (paths_of t) own)
+    ∙ ap (λ (bs : List ℕ). changed bs (behind_lengths t.start t.width t.version) t.program (all_changes g m places t.width (paths_of t))) own
+
+-- a number in front of cells
+number-bytes : (order : Order) (size : ℕ) (cells : List Cell) (bytes : List ℕ) → bytes_of cells ≡ bytes
+    → bytes_of (plain_cells (number_bytes order size (length cells)) ++ cells) ≡ number_bytes order size (length bytes) ++ bytes
+number-bytes order size cells bytes is =
+    bytes_of-append (plain_cells (number_bytes order size (length cells))) cells
+    ∙ ap (λ (x : List ℕ). x ++ bytes_of cells) (bytes_of-plain (number_bytes order size (length cells)))
+    ∙ ap (λ (n : ℕ). number_bytes order size n ++ bytes_of cells) (sym (length-bytes_of cells))
+    ∙ ap (λ (x : List ℕ). number_bytes order size (length x) ++ x) is
+
+rest-bytes : (g : LineSource) (t : LineTable) (header : List Cell) (bytes : List ℕ) → bytes_of g.cells ≡ g.bytes → bytes_of header ≡ bytes
+    → bytes_of (rest_cells g t header)
+    ≡ part g.bytes (t.start + length_size t.width) (header_length_place t.start t.width t.version)
+    ++ (number_bytes g.order (width_size t.width) (length bytes) ++ bytes) ++ part g.bytes t.program t.end
+rest-bytes g t header bytes own is =
+    let front : List Cell = cells_part g.cells (t.start + length_size t.width) (header_length_place t.start t.width t.version) in
+    let middle : List Cell = plain_cells (number_bytes g.order (width_size t.width) (length header)) ++ header in
+    joined-bytes (cells_part g.cells (t.start + length_size t.width) (header_length_place t.start t.width t.version))
+    (plain_cells (number_bytes g.order (width_size t.width) (length header)) ++ header) (cells_part g.cells t.program t.end)
+    (part g.bytes (t.start + length_size t.width) (header_length_place t.start t.width t.version))
+    (number_bytes g.order (width_size t.width) (length bytes) ++ bytes) (part g.bytes t.program t.end)
+    (own-part (t.start + length_size t.width) (header_length_place t.start t.width t.version)) (number-bytes g.order (width_size t.width) header bytes is)
+    (own-part t.program t.end)
+  where
+    own-part : (from end : ℕ) → bytes_of (cells_part g.cells from end) ≡ part g.bytes from end
+    own-part from end = part-bytes g.cells from end ∙ ap (λ (bs : List ℕ). part bs from end) own
+
+    joined-bytes : (p q r : List Cell) (a b c : List ℕ) → bytes_of p ≡ a → bytes_of q ≡ b → bytes_of r ≡ c → bytes_of (p ++ q ++ r) ≡ a ++ b ++ c
+    joined-bytes p q r a b c e f k =
+        bytes_of-append (p ++ q) r ∙ ap (λ (x : List ℕ). x ++ bytes_of r) (bytes_of-append p q) ∙ rw (e, f, k) refl
 
 -- the new table
-pub written-plain : (g : LineSource) (cells : List Cell) (m : PathMap) (places : TextPlace → Option ℕ) (t : LineTable) → IsPlain cells → bytes_of cells ≡ g.bytes
-    → EachInside g t.width (paths_of t) → written_cells g cells m places t ≡ plain_cells (written_table g m places t)
+pub written-bytes : (g : LineSource) (m : PathMap) (places : TextPlace → Option ℕ) (t : LineTable) → bytes_of g.cells ≡ g.bytes
+    → bytes_of (written_cells g m places t) ≡ written_table g m places t
 unfolding written_cells written_table
-written-plain g cells m places t plain bytes inside =
-    let same : cells ≡ plain_cells g.bytes = plain.plain ∙ ap plain_cells bytes in
-    let rest : rest_cells g (plain_cells g.bytes) t (header_cells g (plain_cells g.bytes) m places t) ≡ plain_cells (written_rest g m places t) =
-    ap (rest_cells g (plain_cells g.bytes) t) (header-plain g m places t inside) ∙ rest-plain g t (written_header g m places t) in
-    ap (λ (cs : List Cell). plain_cells (length_bytes g.order t.width (length (rest_cells g cs t (header_cells g cs m places t)))) ++ rest_cells g cs t (header_cells g cs m places t)) same
-    ∙ ap (λ (cs : List Cell). plain_cells (length_bytes g.order t.width (length cs)) ++ cs) rest
-    ∙ ap (λ (n : ℕ). plain_cells (length_bytes g.order t.width n) ++ plain_cells (written_rest g m places t)) (length-plain_cells (written_rest g m places t))
-    ∙ sym (plain_cells-append (length_bytes g.order t.width (length (written_rest g m places t))) (written_rest g m places t))
+written-bytes g m places t own =
+    let rest : bytes_of (rest_cells g t (header_cells g m places t)) ≡ written_rest g m places t =
+    rest-bytes g t (header_cells g m places t) (written_header g m places t) own (header-bytes g m places t own) in
+    bytes_of-append (plain_cells (length_bytes g.order t.width (length (rest_cells g t (header_cells g m places t))))) (rest_cells g t (header_cells g m places t))
+    ∙ ap (λ (x : List ℕ). x ++ bytes_of (rest_cells g t (header_cells g m places t)))
+    (bytes_of-plain (length_bytes g.order t.width (length (rest_cells g t (header_cells g m places t)))))
+    ∙ ap (λ (n : ℕ). length_bytes g.order t.width n ++ bytes_of (rest_cells g t (header_cells g m places t)))
+    (sym (length-bytes_of (rest_cells g t (header_cells g m places t))))
+    ∙ ap (λ (x : List ℕ). length_bytes g.order t.width (length x) ++ x) rest
+
+-- where no relocation begins in the section
+part-is : (cells : List Cell) (from end : ℕ) → IsPlain cells → IsPlain (cells_part cells from end)
+part-is cells from end plain = cells_at-plain cells from (end - from) plain
+
+abbrev EachPlain : List CellChange → Type 0
+EachPlain [] = ⊤
+EachPlain (c ∷ cs) = IsPlain c.new × EachPlain cs
+
+plains-append : (xs ys : List CellChange) → EachPlain xs → EachPlain ys → EachPlain (xs ++ ys)
+plains-append [] ys h k = k
+plains-append (x ∷ xs) ys h k = (h.0, plains-append xs ys h.1 k)
+
+changed-is : (cells : List Cell) (from end : ℕ) (cs : List CellChange) → IsPlain cells → EachPlain cs → IsPlain (changed_cells cells from end cs)
+changed-is cells from end [] plain h = part-is cells from end plain
+changed-is cells from end (c ∷ cs) plain h =
+    plain-append (cells_part cells from c.at) (c.new ++ changed_cells cells (c.at + c.old) end cs) (part-is cells from c.at plain)
+    (plain-append c.new (changed_cells cells (c.at + c.old) end cs) h.0 (changed-is cells (c.at + c.old) end cs plain h.1))
+
+path-is : (g : LineSource) (m : PathMap) (places : TextPlace → Option ℕ) (width : Width) (x : TextPlace) → IsPlain g.cells → EachPlain (path_cells g m places width x)
+path-is g m places width x plain = by_section (x.section == g.number)
+  where
+    by_place : (o : Option ℕ) → EachPlain (offset_cells g.order width g.cells x.field o)
+    by_place None = tt
+    by_place (Some place) = (
+      subst IsPlain (sym (with_offset-is g.order (cells_at g.cells x.field (width_size width)) place (cells_at-plain g.cells x.field (width_size width) plain)))
+          (plain_cells-plain (number_bytes g.order (length (cells_at g.cells x.field (width_size width))) place)),
+      tt,
+    )
+
+    by_section : (b : Bool) → EachPlain (if b then inline_cells m g.cells x ∷ [] else offset_cells g.order width g.cells x.field (places x))
+    by_section true = (plain_cells-plain (mapped_path m (bytes_of (cells_at g.cells x.at x.len))), tt)
+    by_section false = by_place (places x)
+
+paths-are : (g : LineSource) (m : PathMap) (places : TextPlace → Option ℕ) (width : Width) (xs : List TextPlace) → IsPlain g.cells
+    → EachPlain (all_path_cells g m places width xs)
+paths-are g m places width [] plain = tt
+paths-are g m places width (x ∷ xs) plain =
+    plains-append (path_cells g m places width x) (all_path_cells g m places width xs) (path-is g m places width x plain) (paths-are g m places width xs plain)
+
+header-is : (g : LineSource) (m : PathMap) (places : TextPlace → Option ℕ) (t : LineTable) → IsPlain g.cells → IsPlain (header_cells g m places t)
+unfolding header_cells
+header-is g m places t plain =
+    changed-is g.cells (behind_lengths t.start t.width t.version) t.program (all_path_cells g m places t.width (paths_of t)) plain
+    (paths-are g m places t.width (paths_of t) plain)
+
+rest-is : (g : LineSource) (t : LineTable) (header : List Cell) → IsPlain g.cells → IsPlain header → IsPlain (rest_cells g t header)
+rest-is g t header plain h =
+    plain-append
+    (cells_part g.cells (t.start + length_size t.width) (header_length_place t.start t.width t.version)
+    ++ (plain_cells (number_bytes g.order (width_size t.width) (length header)) ++ header)) (cells_part g.cells t.program t.end)
+    (plain-append (cells_part g.cells (t.start + length_size t.width) (header_length_place t.start t.width t.version))
+    (plain_cells (number_bytes g.order (width_size t.width) (length header)) ++ header)
+    (part-is g.cells (t.start + length_size t.width) (header_length_place t.start t.width t.version) plain)
+    (plain-append (plain_cells (number_bytes g.order (width_size t.width) (length header))) header
+    (plain_cells-plain (number_bytes g.order (width_size t.width) (length header))) h))
+    (part-is g.cells t.program t.end plain)
+
+pub written-is : (g : LineSource) (m : PathMap) (places : TextPlace → Option ℕ) (t : LineTable) → IsPlain g.cells → IsPlain (written_cells g m places t)
+unfolding written_cells
+written-is g m places t plain =
+    plain-append (plain_cells (length_bytes g.order t.width (length (rest_cells g t (header_cells g m places t))))) (rest_cells g t (header_cells g m places t))
+    (plain_cells-plain (length_bytes g.order t.width (length (rest_cells g t (header_cells g m places t)))))
+    (rest-is g t (header_cells g m places t) plain (header-is g m places t plain))
+
+-- the new table is the bytes that are written
+pub written-plain : (g : LineSource) (m : PathMap) (places : TextPlace → Option ℕ) (t : LineTable) → bytes_of g.cells ≡ g.bytes → IsPlain g.cells
+    → written_cells g m places t ≡ plain_cells (written_table g m places t)
+written-plain g m places t own plain = (written-is g m places t plain).plain ∙ ap plain_cells (written-bytes g m places t own)

@@ -2,19 +2,25 @@
 use Rattle.std.proofs.Common.{Bool, true, false, ◌≡◌, ◌≢◌, ℕ, ◌+◌, ◌^◌, ◌<◌, ◌≤◌, ◌==◌, List, ◌++◌, length, take, drop, Option, Some, None, refl, sym, ap, ◌∙◌, subst, arith, if◌then◌else◌}
 use Rattle.std.specs.Prelude.{nat_le, Result, Ok, Err, ⊤}
 use Rattle.std.proofs.lemmas.Bool.{eqb-true, eq-eqb, ne_eqb, leb-true}
-use Rattle.dw_base.specs.Cells.{Located}
+use Rattle.dw_base.specs.Cells.{Cell, Located, bytes_of, offset_into, plain_cells}
 use Rattle.dw_base.specs.Forms.{TextSection, in_str, in_line_str, width_size}
 use Rattle.dw_base.specs.LineEntries.{column_params, inline_column, text_column, offset_column, value_column, column_at}
 use Rattle.dw_base.specs.LineMeanings.{section_in, place_text}
-use Rattle.dw_base.specs.LineSources.{LineSource}
-use Rattle.dw_base.specs.LineTexts.{text_of, text_if, named_text}
+use Rattle.dw_base.specs.LineSources.{LineSource, line_field}
+use Rattle.dw_base.specs.LineTexts.{text_by, text_of, named_text}
 use Rattle.dw_base.specs.Numbers.{spelled}
 use Rattle.dw_base.specs.Paths.{PathMap, IsPathMap, mapped_path}
 use Rattle.dw_base.specs.Refusals.{at}
 use Rattle.dw_base.specs.Texts.{ends_in, text_in}
 use Rattle.dw_base.specs.Values.{value_at}
+use Rattle.dw_base.specs.Walks.{or_refused}
 use Rattle.dw_base.specs.declared.dwarf_numbers.TheConstants.{DW_FORM_string, DW_FORM_strp, DW_FORM_line_strp}
 use Rattle.dw_base.specs.declared.fault.Kind.TheVariants.{StringOffset}
+use Rattle.dw_base.specs.declared.fault.Refusal.{Refusal}
+use Rattle.dw_base.specs.declared.view_fields.Field.{Field}
+use Rattle.dw_base.specs.declared.view_fields.Field.TheVariants.{Num, Into, Sym}
+use Rattle.dw_base.proofs.LineFieldLaws.{named_text-plain}
+use Rattle.dw_base.proofs.PlainCellLaws.{IsPlain}
 use Rattle.dw_base.specs.declared.line_tables.Column.{Column}
 use Rattle.dw_base.specs.declared.line_tables.LineHeader.{LineHeader}
 use Rattle.dw_base.specs.declared.line_tables.TextPlace.{TextPlace}
@@ -24,24 +30,31 @@ use Rattle.dw_base.specs.declared.values.Value.{Value}
 use Rattle.dw_base.proofs.TextLaws.{ends_in-append, text_in-append, ends_in-inside, take-text}
 use Rattle.dw_meaning.proofs.LineReadLaws.{inline-inside}
 
--- the source of line tables after an edit: other bytes, and tables of texts with other bytes
-abbrev pub edited_source : LineSource → List ℕ → List ℕ → List ℕ → LineSource
-edited_source g bytes s l = record {
+-- the source of line tables after an edit: other bytes, without relocations, and tables of texts with other bytes
+abbrev pub edited_with : LineSource → List ℕ → List Cell → List ℕ → List ℕ → LineSource
+edited_with g bytes cells s l = record {
   order = g.order;
   number = g.number;
+  is_read = g.is_read;
   bytes = bytes;
+  cells = cells;
   str = record { number = g.str.number; bytes = s };
   line_str = record { number = g.line_str.number; bytes = l };
 }
+
+abbrev pub edited_source : LineSource → List ℕ → List ℕ → List ℕ → LineSource
+edited_source g bytes s l = edited_with g bytes (plain_cells bytes) s l
 
 -- bytes with more behind them
 pub record Grows (old new : List ℕ) : Type 0 where
   pub more : List ℕ
   pub is : new ≡ old ++ more
 
--- what holds of the tables of texts: they grow, and lie in sections of their own
+-- what holds of the section of line tables, in which no relocation begins, and of the tables of texts: they grow, and lie in sections of their own
 pub record SourceMoves (g : LineSource) (m : PathMap) (s l : List ℕ) : Type 0 where
   pub map : IsPathMap m
+  pub own : bytes_of g.cells ≡ g.bytes
+  pub plain : IsPlain g.cells
   pub str : Grows g.str.bytes s
   pub line_str : Grows g.line_str.bytes l
   pub apart_str : g.number ≢ g.str.number
@@ -128,9 +141,6 @@ inline-placed g table p front e =
     ∙ ap (λ (t : List ℕ). take (length t) (drop p g.bytes)) (sym same) ∙ placed-in g.bytes p ends ∙ same
 
 -- what a column is
-abbrev pub offset_at : LineSource → LineHeader → ℕ → ℕ
-offset_at g h p = spelled g.order g.bytes p (width_size h.width)
-
 abbrev pub offset_form : TextSection → ℕ
 offset_form in_str = DW_FORM_strp
 offset_form in_line_str = DW_FORM_line_strp
@@ -138,8 +148,9 @@ offset_form in_line_str = DW_FORM_line_strp
 pub data ColumnIs (g : LineSource) (h : LineHeader) (table : List ℕ) (spec : Spec) (p : ℕ) : Column → Type 0 where
   inline_is : spec.form ≡ DW_FORM_string → ends_in table p ≡ true
       → ColumnIs g h table spec p (record { text = Some (record { section = g.number; at = p; len = length (text_in table p); field = p }); number = 0; next = p + length (text_in table p) + 1 })
-  offset_is : (z : TextSection) → spec.form ≡ offset_form z → p + width_size h.width ≤ length table → ends_in (texts_in g z).bytes (offset_at g h p) ≡ true
-      → ColumnIs g h table spec p (record { text = Some (text_of (texts_in g z) (offset_at g h p) p); number = 0; next = p + width_size h.width })
+  offset_is : (z : TextSection) (n : ℕ) → spec.form ≡ offset_form z → p + width_size h.width ≤ length table
+      → named_text g (texts_in g z) p (width_size h.width) ≡ Ok (text_of (texts_in g z) n p) → ends_in (texts_in g z).bytes n ≡ true
+      → ColumnIs g h table spec p (record { text = Some (text_of (texts_in g z) n p); number = 0; next = p + width_size h.width })
   value_is : (spec.form == DW_FORM_string) ≡ false → (spec.form == DW_FORM_strp) ≡ false → (spec.form == DW_FORM_line_strp) ≡ false
       → (v : Value) → value_at (column_params g.order h) spec table p ≡ Some v
       → ColumnIs g h table spec p (record { text = None; number = v.number; next = p + v.size })
@@ -158,22 +169,55 @@ inline-is g h table spec p c (Some t) form is e =
     let same : record { text = Some t; number = 0; next = p + t.len + 1 } ≡ c = ok-same _ c e in
     subst (ColumnIs g h table spec p) (ap (λ (x : TextPlace). record { text = Some x; number = 0; next = p + x.len + 1 }) (sym both.1) ∙ same) (inline_is form both.0)
 
+-- the text that a field names begins at an offset
+pub record NamedAt (g : LineSource) (z : Located) (p size : ℕ) (t : TextPlace) : Type 0 where
+  pub offset : ℕ
+  pub is : t ≡ text_of z offset p
+  pub ends : ends_in z.bytes offset ≡ true
+
+pub named-at : (g : LineSource) (z : Located) (p size : ℕ) (t : TextPlace) → named_text g z p size ≡ Ok t → NamedAt g z p size t
+unfolding named_text
+named-at g z p size t e = by_field (line_field g p size) e
+  where
+    by_ends : (n : ℕ) (b : Bool) → ends_in z.bytes n ≡ b → (if b then Ok (text_of z n p) else Err (at StringOffset g.number p)) ≡ Ok t → NamedAt g z p size t
+    by_ends n true is e = record { offset = n; is = sym (ok-same (text_of z n p) t e); ends = is }
+    by_ends n false is e = absurd (err-ok _ t e)
+
+    by_field : (x : Result Field Refusal) → or_refused (text_by z g.number p) x ≡ Ok t → NamedAt g z p size t
+    by_field (Ok (Num n)) e = by_ends n (ends_in z.bytes n) refl e
+    by_field (Ok (Into i n)) e = by_ends (offset_into z (Into i n)) (ends_in z.bytes (offset_into z (Into i n))) refl e
+    by_field (Ok (Sym i k a)) e = absurd (err-ok _ t e)
+    by_field (Err r) e = absurd (err-ok r t e)
+
 offset-is : (g : LineSource) (h : LineHeader) (table : List ℕ) (spec : Spec) (p : ℕ) (c : Column) (z : TextSection) → spec.form ≡ offset_form z
     → offset_column g h table (texts_in g z) p ≡ Ok c → ColumnIs g h table spec p c
-unfolding offset_column named_text
+unfolding offset_column
 offset-is g h table spec p c z form e = by_room (nat_le (p + width_size h.width) (length table)) refl e
   where
-    by_text : (b : Bool) → ends_in (texts_in g z).bytes (offset_at g h p) ≡ b → p + width_size h.width ≤ length table
-        → text_column (p + width_size h.width) (if b then Ok (text_of (texts_in g z) (offset_at g h p) p) else Err (at StringOffset g.number p)) ≡ Ok c
-        → ColumnIs g h table spec p c
-    by_text true is room e = subst (ColumnIs g h table spec p) (ok-same _ c e) (offset_is z form room is)
-    by_text false is room e = absurd (err-ok _ c e)
+    by_text : (x : Result TextPlace Refusal) → named_text g (texts_in g z) p (width_size h.width) ≡ x → p + width_size h.width ≤ length table
+        → text_column (p + width_size h.width) x ≡ Ok c → ColumnIs g h table spec p c
+    by_text (Ok t) is room e =
+        let named = named-at g (texts_in g z) p (width_size h.width) t is in
+        let reads : named_text g (texts_in g z) p (width_size h.width) ≡ Ok (text_of (texts_in g z) named.offset p) = is ∙ ap Ok named.is in
+        let same : record { text = Some (text_of (texts_in g z) named.offset p); number = 0; next = p + width_size h.width } ≡ c =
+        ap (λ (u : TextPlace). record { text = Some u; number = 0; next = p + width_size h.width }) (sym named.is) ∙ ok-same _ c e in
+        subst (ColumnIs g h table spec p) same (offset_is z named.offset form room reads named.ends)
+    by_text (Err r) is room e = absurd (err-ok _ c e)
 
     by_room : (b : Bool) → nat_le (p + width_size h.width) (length table) ≡ b
-        → (if b then text_column (p + width_size h.width) (text_if (texts_in g z) g.number p (offset_at g h p)) else Err (Rattle.dw_base.specs.LineEntries.bad_table g.number h)) ≡ Ok c
+        → (if b then text_column (p + width_size h.width) (named_text g (texts_in g z) p (width_size h.width)) else Err (Rattle.dw_base.specs.LineEntries.bad_table g.number h)) ≡ Ok c
         → ColumnIs g h table spec p c
-    by_room true is e = by_text (ends_in (texts_in g z).bytes (offset_at g h p)) refl (leb-true _ _ is) e
+    by_room true is e = by_text (named_text g (texts_in g z) p (width_size h.width)) refl (leb-true _ _ is) e
     by_room false is e = absurd (err-ok _ c e)
+
+-- where no relocation begins in the section, the offset is the number of the field
+pub named-number : (g : LineSource) (z : Located) (p size n : ℕ) → IsPlain g.cells → named_text g z p size ≡ Ok (text_of z n p) → n ≡ spelled g.order g.bytes p size
+named-number g z p size n plain e = by_ends (ends_in z.bytes (spelled g.order g.bytes p size)) (sym (named_text-plain g z p size plain) ∙ e)
+  where
+    by_ends : (b : Bool) → (if b then Ok (text_of z (spelled g.order g.bytes p size) p) else Err (at StringOffset g.number p)) ≡ Ok (text_of z n p)
+        → n ≡ spelled g.order g.bytes p size
+    by_ends true e = ap (λ (t : TextPlace). t.at) (sym (ok-same (text_of z (spelled g.order g.bytes p size) p) (text_of z n p) e))
+    by_ends false e = absurd (err-ok _ _ e)
 
 value-is : (g : LineSource) (h : LineHeader) (table : List ℕ) (spec : Spec) (p : ℕ) (c : Column) (o : Option Value) → (spec.form == DW_FORM_string) ≡ false
     → (spec.form == DW_FORM_strp) ≡ false → (spec.form == DW_FORM_line_strp) ≡ false → value_at (column_params g.order h) spec table p ≡ o → value_column g.number h p o ≡ Ok c

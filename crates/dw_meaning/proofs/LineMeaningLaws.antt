@@ -3,6 +3,7 @@ use Rattle.std.proofs.Common.{Bool, true, false, ◌≡◌, ℕ, zero, suc, ◌+
 use Rattle.std.specs.Prelude.{not}
 use Rattle.std.proofs.lemmas.Bool.{eq-eqb, ne_eqb}
 use Rattle.std.proofs.lemmas.List.{append-nil, length-drop, length-take-le, take-append-drop, map-append, take_all}
+use Rattle.dw_base.specs.Cells.{Cell, plain_cells}
 use Rattle.dw_base.specs.LineHeaders.{length_place}
 use Rattle.dw_base.specs.LineMeanings.{place_text, LineColumn, LineEntry, listed_columns, list_end, place_behind, old_columns, dir_columns, file_columns, entries_with, FileText, dir_texts, file_text, file_texts, file_path, ShownFile, item_at, dir_numbered, file_numbered, shown_in, shown_as, shown_file, ShownRow, shown_row, shown_rows, line_params, program_rows, LineMeaning, line_meaning, mapped_entry, mapped_shown, mapped_row, mapped_line}
 use Rattle.dw_base.specs.LineReadings.{LineReading, ReadsTable, table_read}
@@ -12,7 +13,7 @@ use Rattle.dw_base.specs.Texts.{same_text}
 use Rattle.dw_base.proofs.TextLaws.{same_text-true}
 use Rattle.dw_base.specs.LineTables.{texts_of, HasLists, old_lists, new_lists}
 use Rattle.dw_base.specs.Paths.{PathMap, mapped_path}
-use Rattle.dw_base.specs.WrittenLines.{part, bytes_at, Change, path_changes, all_changes, paths_of, length_size, written_header, written_table}
+use Rattle.dw_base.specs.WrittenLines.{cells_part, part, bytes_at, Change, path_changes, all_changes, paths_of, length_size, written_header, written_table}
 use Rattle.dw_base.specs.declared.line_rows.Row.{Row}
 use Rattle.dw_base.specs.declared.line_tables.FilePlace.{FilePlace}
 use Rattle.dw_base.specs.declared.line_tables.LineHeader.{LineHeader}
@@ -20,6 +21,7 @@ use Rattle.dw_base.specs.declared.line_tables.TextPlace.{TextPlace}
 use Rattle.dw_base.specs.declared.shared.Width.{Width}
 use Rattle.dw_base.proofs.ContributionBackLaws.{StandsAt}
 use Rattle.dw_base.proofs.PathLaws.{mapped_path-none}
+use Rattle.dw_meaning.proofs.LineCellLaws.{drop-plain, take-plain, part-plain}
 use Rattle.dw_meaning.proofs.LineChangeLaws.{From, Rest, copied, part-length, part-none, all-before}
 use Rattle.dw_meaning.proofs.LineColumnLaws.{edited_source, SourceMoves}
 use Rattle.dw_meaning.proofs.LineHeaderLaws.{ops_size, length-place, flags-place, first_place, flags_at, HeaderIs, header-is, header-there}
@@ -241,15 +243,15 @@ part-both old new xs p q e b is =
     ap (λ (i : ℕ). take i (drop q new)) size ∙ first-stand new xs q (length xs) b.is (omega arith) ∙ take_all (length xs) xs (omega arith)
 
 -- a meaning by its parts
-abbrev line_with : ℕ → Width → List ℕ → List ℕ → List LineEntry → List LineEntry → List ℕ → List ℕ → List ShownRow → LineMeaning
+abbrev line_with : ℕ → Width → List ℕ → List ℕ → List LineEntry → List LineEntry → List Cell → List Cell → List ShownRow → LineMeaning
 line_with version width a c ds fs i p r = record { version = version; width = width; sizes = a; numbers = c; dirs = ds; files = fs; gap = i; program = p; rows = r }
 
-meaning-same : (version : ℕ) (width : Width) (a b c d : List ℕ) (ds es fs us : List LineEntry) (i j p q : List ℕ) (r t : List ShownRow) → a ≡ b → c ≡ d → ds ≡ es → fs ≡ us → i ≡ j → p ≡ q → r ≡ t
+meaning-same : (version : ℕ) (width : Width) (a b c d : List ℕ) (ds es fs us : List LineEntry) (i j p q : List Cell) (r t : List ShownRow) → a ≡ b → c ≡ d → ds ≡ es → fs ≡ us → i ≡ j → p ≡ q → r ≡ t
     → line_with version width a c ds fs i p r ≡ line_with version width b d es us j q t
 meaning-same version width a b c d ds es fs us i j p q r t e1 e2 e3 e4 e5 e6 e7 =
     ap (λ (z : List ℕ). line_with version width z c ds fs i p r) e1 ∙ ap (λ (z : List ℕ). line_with version width b z ds fs i p r) e2
     ∙ ap (λ (z : List LineEntry). line_with version width b d z fs i p r) e3 ∙ ap (λ (z : List LineEntry). line_with version width b d es z i p r) e4
-    ∙ ap (λ (z : List ℕ). line_with version width b d es us z p r) e5 ∙ ap (λ (z : List ℕ). line_with version width b d es us j z r) e6
+    ∙ ap (λ (z : List Cell). line_with version width b d es us z p r) e5 ∙ ap (λ (z : List Cell). line_with version width b d es us j z r) e6
     ∙ ap (λ (z : List ShownRow). line_with version width b d es us j q z) e7
 
 abbrev dirs_after : LineSource → LineHeader → LinePlaces → List ℕ → List (List LineColumn)
@@ -384,6 +386,19 @@ table-moved g m places bytes s l begin start r w reads fits moves stay st =
         (omega (arith, operands, lists, inside, old_size, fp)) in
         let gap_size : length (part (take r.header.end g.bytes) r.behind r.header.program) ≡ r.header.program - r.behind =
         part-length (take r.header.end g.bytes) r.behind r.header.program before (omega (arith, old_size, program)) in
+        let cells : g.cells ≡ plain_cells g.bytes = w.plain.plain ∙ ap plain_cells w.own in
+        let old_cells : take r.header.end g.cells ≡ plain_cells (take r.header.end g.bytes) = ap (take r.header.end) cells ∙ take-plain r.header.end g.bytes in
+        let gap_cells : cells_part (take (start + size) (plain_cells bytes)) lm.new_behind (first_place r.header.version (start + length_size r.header.width) r.header.width + head)
+        ≡ cells_part (take r.header.end g.cells) r.behind r.header.program =
+        ap (λ (cs : List Cell). cells_part cs lm.new_behind (first_place r.header.version (start + length_size r.header.width) r.header.width + head)) (take-plain (start + size) bytes)
+        ∙ part-plain (take (start + size) bytes) lm.new_behind (first_place r.header.version (start + length_size r.header.width) r.header.width + head)
+        ∙ ap plain_cells (part-both (take r.header.end g.bytes) (take (start + size) bytes) (part (take r.header.end g.bytes) r.behind r.header.program) r.behind lm.new_behind
+        (first_place r.header.version (start + length_size r.header.width) r.header.width + head) gap.both (omega (arith, gap_size, program_new)))
+        ∙ sym (ap (λ (cs : List Cell). cells_part cs r.behind r.header.program) old_cells ∙ part-plain (take r.header.end g.bytes) r.behind r.header.program) in
+        let program_cells : drop (first_place r.header.version (start + length_size r.header.width) r.header.width + head) (take (start + size) (plain_cells bytes)) ≡ drop r.header.program (take r.header.end g.cells) =
+        ap (drop (first_place r.header.version (start + length_size r.header.width) r.header.width + head)) (take-plain (start + size) bytes)
+        ∙ drop-plain (first_place r.header.version (start + length_size r.header.width) r.header.width + head) (take (start + size) bytes) ∙ ap plain_cells program_drop
+        ∙ sym (ap (drop r.header.program) old_cells ∙ drop-plain r.header.program (take r.header.end g.bytes)) in
         let counts_old : part (take r.header.end g.bytes) r.header.operands r.header.lists
         ≡ drop (ops_size r.header.version + 4) (part (take r.header.end g.bytes) (first_place r.header.version (r.header.start + length_size r.header.width) r.header.width) r.header.lists) =
         part-both (take (start + size) bytes) (take r.header.end g.bytes)
@@ -428,23 +443,22 @@ table-moved g m places bytes s l begin start r w reads fits moves stay st =
               ∙ ap (λ (ts : List (List ℕ)). entries_with ts (files_after (edited_source g bytes s l) r.header (places_of r.header start size head) (take (start + size) bytes) lm.new_files)) (file-paths m (file_texts g r.files))
               ∙ ap (entries_with (map (mapped_path m) (map file_path (file_texts g r.files)))) lm.file_columns_same
               ∙ entries-mapped m (map file_path (file_texts g r.files)) (file_columns g r))
-              (part-both (take r.header.end g.bytes) (take (start + size) bytes) (part (take r.header.end g.bytes) r.behind r.header.program) r.behind lm.new_behind
-              (first_place r.header.version (start + length_size r.header.width) r.header.width + head) gap.both (omega (arith, gap_size, program_new)))
-              program_drop
+              gap_cells
+              program_cells
               (ap (λ (ts : List (List ℕ)). shown_rows r.header.version ts (file_texts (edited_source g bytes s l) lm.new_files ++ file_texts (edited_source g bytes s l) pm.files)
               (program_rows (line_params g.order r.header)
               (part (take (start + size) bytes) (flags_at r.header.version (start + length_size r.header.width) r.header.width + 4)
               (first_place r.header.version (start + length_size r.header.width) r.header.width + (r.header.lists - first_place r.header.version (r.header.start + length_size r.header.width) r.header.width)))
-              (drop (first_place r.header.version (start + length_size r.header.width) r.header.width + head) (take (start + size) bytes)))) dirs_same
+              (drop (first_place r.header.version (start + length_size r.header.width) r.header.width + head) (take (start + size) (plain_cells bytes))))) dirs_same
               ∙ ap (λ (fs : List FileText). shown_rows r.header.version (map (mapped_path m) (dir_texts g r.dirs)) fs
               (program_rows (line_params g.order r.header)
               (part (take (start + size) bytes) (flags_at r.header.version (start + length_size r.header.width) r.header.width + 4)
               (first_place r.header.version (start + length_size r.header.width) r.header.width + (r.header.lists - first_place r.header.version (r.header.start + length_size r.header.width) r.header.width)))
-              (drop (first_place r.header.version (start + length_size r.header.width) r.header.width + head) (take (start + size) bytes)))) all_same
+              (drop (first_place r.header.version (start + length_size r.header.width) r.header.width + head) (take (start + size) (plain_cells bytes))))) all_same
               ∙ ap (λ (bs : List ℕ). shown_rows r.header.version (map (mapped_path m) (dir_texts g r.dirs)) (map (mapped_file m) (file_texts g r.files ++ file_texts g r.defined))
-              (program_rows (line_params g.order r.header) bs (drop (first_place r.header.version (start + length_size r.header.width) r.header.width + head) (take (start + size) bytes)))) counts_new
-              ∙ ap (λ (bs : List ℕ). shown_rows r.header.version (map (mapped_path m) (dir_texts g r.dirs)) (map (mapped_file m) (file_texts g r.files ++ file_texts g r.defined))
-              (program_rows (line_params g.order r.header) (part (take r.header.end g.bytes) r.header.operands r.header.lists) bs)) program_drop
+              (program_rows (line_params g.order r.header) bs (drop (first_place r.header.version (start + length_size r.header.width) r.header.width + head) (take (start + size) (plain_cells bytes))))) counts_new
+              ∙ ap (λ (cs : List Cell). shown_rows r.header.version (map (mapped_path m) (dir_texts g r.dirs)) (map (mapped_file m) (file_texts g r.files ++ file_texts g r.defined))
+              (program_rows (line_params g.order r.header) (part (take r.header.end g.bytes) r.header.operands r.header.lists) cs)) program_cells
               ∙ rows-mapped m r.header.version (dir_texts g r.dirs) (file_texts g r.files ++ file_texts g r.defined)
-              (program_rows (line_params g.order r.header) (part (take r.header.end g.bytes) r.header.operands r.header.lists) (drop r.header.program (take r.header.end g.bytes))) none);
+              (program_rows (line_params g.order r.header) (part (take r.header.end g.bytes) r.header.operands r.header.lists) (drop r.header.program (take r.header.end g.cells))) none);
         }

@@ -65,7 +65,7 @@ AnyPath g (Some t) = PathIs g t
 
 column-path : (g : LineSource) (h : LineHeader) (table : List ℕ) (spec : Spec) (p : ℕ) (c : Column) → ColumnIs g h table spec p c → AnyPath g c.text
 column-path g h table spec p c (inline_is form e) = stands_there _ refl
-column-path g h table spec p c (offset_is z form room e) = named_there z _ p e
+column-path g h table spec p c (offset_is z i form room reads e) = named_there z i p e
 column-path g h table spec p c (value_is a b d v e) = tt
 
 columns-path : (g : LineSource) (h : LineHeader) (table : List ℕ) (specs : List Spec) (e last : Entry) → columns g h table specs e ≡ Ok last → AnyPath g e.text → AnyPath g last.text

@@ -1,7 +1,7 @@
 -- Line tables that can be read and written exclude the refusals of line tables, and of values that say where they start.
 use Rattle.std.proofs.Common.{true, false, ◌≡◌, ℕ, ◌<◌, List, [], ◌∷◌, ◌++◌, length, take, Option, Some, None, sym, ap, ◌∙◌, subst, arith}
 use Rattle.std.specs.Prelude.{Result, Ok, Err}
-use Rattle.dw_base.specs.DebugData.{DebugData, DataReadings, line_source}
+use Rattle.dw_base.specs.DebugData.{DebugData, line_source}
 use Rattle.dw_base.specs.LineEntries.{entries_at}
 use Rattle.dw_base.specs.LineFails.{ListsFail, old_dirs, old_files, new_dirs, new_files, LineFails, no_header, lists, passes, program}
 use Rattle.dw_base.specs.LinePrograms.{opcode_at, next_opcode}
@@ -20,7 +20,6 @@ use Rattle.dw_base.specs.declared.line_tables.LineHeader.{LineHeader}
 use Rattle.dw_base.specs.declared.line_tables.Opcode.{Opcode}
 use Rattle.dw_base.specs.declared.line_tables.TextPlace.{TextPlace}
 use Rattle.dw_meaning.specs.DataFails.{LinesFail, line_table as line_table_row}
-use Rattle.dw_meaning.specs.DataOutput.{DataReads}
 use Rattle.dw_meaning.proofs.LineHeaderLaws.{header-is}
 use Rattle.dw_meaning.proofs.LineOneLaws.{comes-one, lists-one, table-one, tables-behind}
 use Rattle.dw_meaning.proofs.LineReadLaws.{some-same}

@@ -2,6 +2,7 @@
 use Rattle.std.proofs.Common.{true, ◌≡◌, ◌≢◌, ℕ, suc, ◌+◌, ◌<◌, ◌≤◌, List, [], ◌∷◌, ◌++◌, length, refl, sym, ap, ◌∙◌, subst, arith, append_assoc}
 use Rattle.std.specs.Prelude.{⊤}
 use Rattle.std.proofs.lemmas.List.{length-append, append-nil}
+use Rattle.dw_base.specs.Cells.{bytes_of}
 use Rattle.dw_base.specs.Forms.{in_str, in_line_str}
 use Rattle.dw_base.specs.LineChanges.{paths_mentions, line_mentions, line_place, lines_after}
 use Rattle.dw_base.specs.LineMeanings.{LineMeaning, line_meaning, line_meanings, mapped_line, mapped_lines}
@@ -17,6 +18,7 @@ use Rattle.dw_base.specs.declared.line_tables.TextPlace.{TextPlace}
 use Rattle.dw_base.specs.declared.shared.Width.{Width}
 use Rattle.dw_base.specs.declared.shared.Width.TheVariants.{W32, W64}
 use Rattle.dw_base.proofs.ContributionBackLaws.{StandsAt}
+use Rattle.dw_base.proofs.PlainCellLaws.{IsPlain}
 use Rattle.dw_meaning.proofs.LineColumnLaws.{edited_source, Grows, SourceMoves}
 use Rattle.dw_meaning.proofs.LineHeaderLaws.{header-is, length-size}
 use Rattle.dw_meaning.proofs.LineLaidLaws.{stands-first, stands-next, length-bytes}
@@ -129,18 +131,18 @@ no-tables g (r ∷ rs) none reads =
     absurd (omega (arith, below, within, size))
 
 -- the new section
-pub section-moved : (c : TableChanges) (g : LineSource) (ts us : List (List ℕ)) (ms ns : List Mention) (rs : List LineReading) → BothMove c g
-    → Grows g.str.bytes (new_table c.str.plan c.str.texts) → Grows g.line_str.bytes (new_table c.line_str.plan c.line_str.texts) → TablesApart g rs
+pub section-moved : (c : TableChanges) (g : LineSource) (ts us : List (List ℕ)) (ms ns : List Mention) (rs : List LineReading) → bytes_of g.cells ≡ g.bytes → IsPlain g.cells
+    → BothMove c g → Grows g.str.bytes (new_table c.str.plan c.str.texts) → Grows g.line_str.bytes (new_table c.line_str.plan c.line_str.texts) → TablesApart g rs
     → ((at : ℕ) → ends_in g.line_str.bytes at ≡ true → g.line_str.number ≢ g.str.number) → TablesTo g 0 rs (length g.bytes) → EachCan g c.map c rs
     → TextsAre c ts us (line_mentions g in_str rs ++ ms) (line_mentions g in_line_str rs ++ ns)
     → LinesMoved g (edited_source g (all_lines (lines_after c.map c.str c.line_str g rs)) (new_table c.str.plan c.str.texts) (new_table c.line_str.plan c.line_str.texts)) c.map 0
     (length (all_lines (lines_after c.map c.str c.line_str g rs))) (lines_after c.map c.str c.line_str g rs) rs
-section-moved c g ts us ms ns [] both a b apart tables reads can all =
+section-moved c g ts us ms ns [] own plain both a b apart tables reads can all =
     record { readings = []; are = refl; starts = refl; says = refl; some = tt; count = refl }
-section-moved c g ts us ms ns (r ∷ rs) both a b apart tables reads can all =
+section-moved c g ts us ms ns (r ∷ rs) own plain both a b apart tables reads can all =
     subst (λ (e : ℕ). LinesMoved g (edited_source g (all_lines (lines_after c.map c.str c.line_str g (r ∷ rs))) (new_table c.str.plan c.str.texts) (new_table c.line_str.plan c.line_str.texts))
     c.map 0 e (lines_after c.map c.str c.line_str g (r ∷ rs)) (r ∷ rs))
     (zero-plus (length (all_lines (lines_after c.map c.str c.line_str g (r ∷ rs)))))
     (lines-moved c g (all_lines (lines_after c.map c.str c.line_str g (r ∷ rs))) ts us ms ns 0 (length g.bytes) 0 (r ∷ rs)
-    (record { map = both.map; str = a; line_str = b; apart_str = apart.0; apart_line = apart.1; tables = tables }) both reads can all
+    (record { map = both.map; own = own; plain = plain; str = a; line_str = b; apart_str = apart.0; apart_line = apart.1; tables = tables }) both reads can all
     (whole-stands (all_lines (lines_after c.map c.str c.line_str g (r ∷ rs)))))

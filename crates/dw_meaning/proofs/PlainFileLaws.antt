@@ -48,7 +48,7 @@ file-macros b = macros-plain 1 (drop 1 (view_of b).sections)
 pub offsets-plain : (b : List ℕ) → IsPlain (file_data b).offsets.contents
 offsets-plain b = subst (λ (z : CellSection). IsPlain z.contents) (sym (offsets-are b)) (plain_cells-plain (located (view_of b) StrOffsets).bytes)
 
-lines-plain : (b : List ℕ) → IsPlain (file_data b).lines.contents
+pub lines-plain : (b : List ℕ) → IsPlain (file_data b).lines.contents
 lines-plain b = subst (λ (z : CellSection). IsPlain z.contents) (sym (lines-are b)) (plain_cells-plain (located (view_of b) Line).bytes)
 
 pub names-plain : (b : List ℕ) → IsPlain (file_data b).names.contents

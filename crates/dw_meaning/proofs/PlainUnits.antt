@@ -28,7 +28,7 @@ use Rattle.dw_meaning.proofs.PlainTests.{passes, passes-true}
 -- the tests of a header that was found, or not
 abbrev pub header_rules : UnitState → List Cell → UnitHeader → List Bool
 header_rules s p h =
-    (s.place + length p == h.first) ∷ not (is_split_type h.kind) ∷ nat_le h.end s.whole ∷ (h.abbrevs == 0) ∷ []
+    (s.place + length p == h.first) ∷ not (is_split_type h.kind) ∷ nat_le h.end s.whole ∷ (h.abbrevs == 0) ∷ not h.elsewhere ∷ []
 
 abbrev pub header_test : UnitState → List Cell → Option UnitHeader → Bool
 header_test s p None = false
@@ -49,7 +49,10 @@ header-sound base s p table test = by_found (piece_header base s p) refl test
           size = eqb-true _ _ t.0;
           own = not-true _ t.1.0;
           within = leb-true _ _ t.1.1.0;
-          table = subst (λ (n : ℕ). IsTable base.abbrevs.bytes n (abbreviations_at base.abbrevs.bytes n)) (sym first) table;
+          table = record {
+            here = not-true _ t.1.1.1.1.0;
+            is = subst (λ (n : ℕ). IsTable base.abbrevs.bytes n (abbreviations_at base.abbrevs.bytes n)) (sym first) table;
+          };
         }
 
 -- what was read is this value, in so many bytes

@@ -5,7 +5,7 @@ use Rattle.std.specs.Prelude.{◌==◌, not}
 use Rattle.std.proofs.lemmas.Bool.{eqb-true, eqb-false}
 use Rattle.std.proofs.lemmas.List.{length-append}
 use Rattle.dw_base.specs.AbbreviationBytes.{abbreviations_at}
-use Rattle.dw_base.specs.AbbreviationTables.{Abbreviation, abbreviation_of, IsTable}
+use Rattle.dw_base.specs.AbbreviationTables.{Abbreviation, abbreviation_of}
 use Rattle.dw_base.specs.Cells.{Cell}
 use Rattle.dw_base.specs.EntryScans.{SpellsValues, no_values, more_values, is_split_root, IsEntry, depth_behind, scanned, Scans, starts, null, entry, AreEntries}
 use Rattle.dw_base.specs.EntryValues.{bytes_up_to}
@@ -17,6 +17,7 @@ use Rattle.dw_base.specs.UnitPieces.{IsHeader, IsCode, IsValue, IsFrontForm, Fit
 use Rattle.dw_meaning.specs.UnitScans.{UnitsScanned, none_scanned, more_scanned, AreScanned}
 use Rattle.dw_base.specs.UnitStates.{Mode, at_header, at_code, at_values, at_chosen, stuck, UnitState, before_unit, in_unit, between, inside, headed, after_header, after_entry, after_code, code_value, of_chosen, after_value, past}
 use Rattle.dw_base.specs.Values.{value_of, value_at, value_by, indirect_value, behind}
+use Rattle.dw_base.specs.UnitTables.{IsUnitTable}
 use Rattle.dw_base.specs.declared.units.Scanned.{Scanned}
 use Rattle.dw_base.specs.declared.units.UnitHeader.{UnitHeader}
 use Rattle.dw_base.specs.declared.values.Spec.{Spec}
@@ -49,7 +50,7 @@ record InUnit (base : UnitBase) (z : UnitSection) (s : UnitState) (place e d : �
   list : List UnitHeader
   before : UnitsScanned base z list s.header.start
   unit : IsUnit base z s.header.start s.header
-  table : IsTable base.abbrevs.bytes s.header.abbrevs s.table
+  table : IsUnitTable base s.header s.table
   items : List Scanned
   count : length items ≡ e
   scans : Scans s.header s.table (bytes_up_to z s.header) items place d

@@ -3,7 +3,7 @@ use Rattle.std.proofs.Common.{◌≡◌, ℕ, ◌+◌, ◌-◌, ◌≤◌, List,
 use Rattle.std.proofs.lemmas.Bool.{eq-eqb}
 use Rattle.std.proofs.lemmas.List.{length-take-le, take-append-drop, drop_all}
 use Rattle.dw_base.specs.AbbreviationBytes.{abbreviations_at}
-use Rattle.dw_base.specs.AbbreviationTables.{Abbreviation, IsTable}
+use Rattle.dw_base.specs.AbbreviationTables.{Abbreviation}
 use Rattle.dw_base.specs.Cells.{Cell, bytes_of}
 use Rattle.dw_base.specs.EntryScans.{AreEntries}
 use Rattle.dw_base.specs.EntryValues.{bytes_up_to}
@@ -12,6 +12,7 @@ use Rattle.dw_base.specs.UnitPieces.{IsHeader, ReadsUnits, unit_grammar}
 use Rattle.dw_meaning.specs.UnitScans.{UnitsScanned, none_scanned, more_scanned, AreScanned}
 use Rattle.dw_base.specs.Pieces.{Piece, joined}
 use Rattle.dw_base.specs.UnitStates.{UnitState, before_unit, between, headed, after_header}
+use Rattle.dw_base.specs.UnitTables.{IsUnitTable}
 use Rattle.dw_base.specs.declared.units.Scanned.{Scanned}
 use Rattle.dw_base.specs.declared.units.UnitHeader.{UnitHeader}
 use Rattle.dw_base.proofs.AbbreviationLaws.{table-found}
@@ -43,7 +44,7 @@ pub record HeaderPlaced (z : UnitSection) (start : ℕ) (h : UnitHeader) : Type 
 
 -- the header is a piece
 pub header-run : (base : UnitBase) (z : UnitSection) (start unit : ℕ) (h : UnitHeader) (table : List Abbreviation) → IsUnit base z start h
-    → HeaderPlaced z start h → IsTable base.abbrevs.bytes h.abbrevs table
+    → HeaderPlaced z start h → IsUnitTable base h table
     → Run base z.contents (before z start unit) (between (in_headed base z start unit h) h.first 0 0) start h.first
 header-run base z start unit h table u placed t =
     let n : ℕ = h.first - start in
@@ -61,7 +62,7 @@ header-run base z start unit h table u placed t =
       size = whole;
       own = u.whole;
       within = u.within;
-      table = subst (λ (list : List Abbreviation). IsTable base.abbrevs.bytes h.abbrevs list) (sym (table-found base.abbrevs.bytes h.abbrevs table t)) t;
+      table = subst (λ (list : List Abbreviation). IsUnitTable base h list) (sym (table-found base.abbrevs.bytes h.abbrevs table t.is)) t;
     } in
     let next : after_header base (before z start unit) (start + length (take (h.first - start) (drop start z.contents)))
     (unit_header base z.kind z.number start (take (h.first - start) (drop start z.contents))) ≡ between (in_headed base z start unit h) h.first 0 0 =
@@ -78,12 +79,12 @@ unit-ends s e = rw (eq-eqb s.header.end s.header.end refl) refl
 
 -- a unit is pieces
 unit-run : (base : UnitBase) (z : UnitSection) (start unit : ℕ) (h : UnitHeader) (table : List Abbreviation) (items : List Scanned) → IsUnit base z start h
-    → HeaderPlaced z start h → IsTable base.abbrevs.bytes h.abbrevs table → AreEntries h table (bytes_up_to z h) items
+    → HeaderPlaced z start h → IsUnitTable base h table → AreEntries h table (bytes_up_to z h) items
     → Run base z.contents (before z start unit) (before z h.end (unit + 1)) start h.end
 unit-run base z start unit h table items u placed t entries =
     let s : UnitState = in_headed base z start unit h in
     let own : AreEntries h (abbreviations_at base.abbrevs.bytes h.abbrevs) (bytes_up_to z h) items =
-    subst (λ (list : List Abbreviation). AreEntries h list (bytes_up_to z h) items) (sym (table-found base.abbrevs.bytes h.abbrevs table t)) entries in
+    subst (λ (list : List Abbreviation). AreEntries h list (bytes_up_to z h) items) (sym (table-found base.abbrevs.bytes h.abbrevs table t.is)) entries in
     let scan : Run base z.contents (between (in_headed base z start unit h) h.first 0 0) (before z h.end (unit + 1)) h.first h.end =
     subst (λ (x : UnitState). Run base z.contents (between (in_headed base z start unit h) h.first 0 0) x h.first h.end)
     (unit-ends (in_headed base z start unit h) (length items)) (scan-run base z.contents (in_headed base z start unit h) items h.end 0 own) in

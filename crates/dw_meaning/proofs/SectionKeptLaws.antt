@@ -13,7 +13,8 @@ use Rattle.dw_base.specs.Pieces.{Piece, joined, EachPiece}
 use Rattle.dw_base.specs.LineReadings.{starts_from}
 use Rattle.dw_base.specs.Roles.{Role, fixed, offset, inline_path, line_start, role_of}
 use Rattle.dw_base.specs.StringTables.{new_place}
-use Rattle.dw_base.specs.TextChanges.{TableChanges, change_of, mention_at, with_offset, moved_start, edited_by, edited_all}
+use Rattle.dw_base.specs.NewOffsets.{with_offset}
+use Rattle.dw_base.specs.TextChanges.{TableChanges, change_of, mention_at, moved_start, edited_by, edited_all}
 use Rattle.dw_base.specs.UnitHeaders.{UnitBase, UnitSection, SectionKind}
 use Rattle.dw_base.specs.UnitStates.{UnitState}
 use Rattle.dw_base.specs.ViewData.{unit_kind, unit_section, unit_sections_from, cells_in}

@@ -6,13 +6,13 @@ use Rattle.dw_base.specs.NamePieces.{NameMode, at_table, at_string, at_rest, no_
 use Rattle.dw_base.specs.NameTableFails.{TablesFail, NameTablesFail}
 use Rattle.dw_base.specs.NameTables.{texts_in, no_tables}
 use Rattle.dw_base.specs.SectionTexts.{name_role_by, name_role}
-use Rattle.dw_base.specs.ViewData.{debug_data, located, located_at}
+use Rattle.dw_base.specs.ViewData.{cells_located, debug_data, located, located_at}
 use Rattle.dw_base.specs.declared.debug_sections.DebugSection.TheVariants.{Names}
 use Rattle.dw_base.proofs.NameBackLaws.{StringNamesBy, StringNames, tables-back}
 use Rattle.dw_base.proofs.NameRowLaws.{tables-exclude}
 use Rattle.dw_base.proofs.ViewCellLaws.{bytes_of-view_cells}
 use Rattle.std.proofs.Common.{true, false, ◌≡◌, ℕ, List, [], ◌∷◌, ◌++◌, Option, Some, None, IsTrue, refl, sym, ap, ◌∙◌, subst}
-use Rattle.dw_base.specs.Cells.{Cell, Located, bytes_of, plain_cells}
+use Rattle.dw_base.specs.Cells.{Cell, CellSection, Located, bytes_of, located_cells}
 use Rattle.dw_base.specs.DebugData.{DebugData, DataReadings, Around, around_of, indexing_of, macro_places, path_slots}
 use Rattle.dw_base.specs.MacroReadings.{MacroPlaces}
 use Rattle.dw_base.specs.Forms.{in_str}
@@ -32,7 +32,6 @@ use Rattle.dw_base.specs.declared.fault.Refusal.{Refusal}
 use Rattle.dw_base.specs.declared.shared.Order.{Order}
 use Rattle.dw_base.proofs.ContributionBackLaws.{contributions-back}
 use Rattle.dw_base.proofs.ContributionRowLaws.{contributions-exclude}
-use Rattle.dw_base.proofs.PlainCellLaws.{bytes_of-plain}
 use Rattle.dw_meaning.specs.DataFails.{IndexesRead, SlotTextFails, index as index_row, slot as slot_row}
 use Rattle.dw_meaning.specs.DataOutput.{DataReads, DataFits}
 use Rattle.dw_meaning.proofs.DataOneLaws.{readings-one, offsets-one, readings_with}
@@ -91,6 +90,7 @@ with_starts around ns ms = record {
   line_str = around.line_str;
   slots = around.slots;
   lines = around.lines;
+  line_cells = around.line_cells;
   starts = ns;
 }
 
@@ -147,13 +147,10 @@ shared-row m d q readings r a fits i f =
     (subst (λ (x : Around). SharedFails m d.offsets.number x readings.offsets r) same.0 f))
 
 -- string offsets that can be read exclude the refusals of contributions
-pub string_tables-exclude : (order : Order) (z : Located) (xs : List (Piece OffsetState)) (r : Refusal) → ReadsOffsets order (plain_cells z.bytes) xs
-    → ContributionsFail order z r → ⊥
+pub string_tables-exclude : (order : Order) (z : CellSection) (xs : List (Piece OffsetState)) (r : Refusal) → ReadsOffsets order z.contents xs
+    → ContributionsFail order (located_cells z) r → ⊥
 string_tables-exclude order z xs r reads f =
-    let back = contributions-back order (plain_cells z.bytes) xs reads in
-    let bytes : bytes_of (plain_cells z.bytes) ≡ z.bytes = bytes_of-plain z.bytes in
-    contributions-exclude order (bytes_of (plain_cells z.bytes)) z.number (contributions_in order xs) r back
-    (subst (λ (bs : List ℕ). ContributionsFail order (record { number = z.number; bytes = bs }) r) (sym bytes) f)
+    contributions-exclude order (bytes_of z.contents) z.number (contributions_in order xs) r (contributions-back order z.contents xs reads) f
 
 -- name tables whose pieces are read are tables of the view
 string-names : (m : NameMode) (v : View) (around : Around) (p : List Cell) → around.str ≡ texts_in v → around.lasting.base.order ≡ v.order → NamesTextBy (name_role_by m) around p
@@ -170,7 +167,7 @@ all-names : (v : View) (around : Around) (xs : List (Piece NameState)) → aroun
 all-names v around [] str order h = tt
 all-names v around (x ∷ xs) str order h = (string-names x.state.mode v around x.cells str order h.0, all-names v around xs str order h.1)
 
-tables-of : (v : View) (o : Option ℕ) (xs : List (Piece NameState)) (r : Refusal) → ReadsNames v.order (plain_cells (located_at v o).bytes) xs → EachPiece (StringNames v) xs
+tables-of : (v : View) (o : Option ℕ) (xs : List (Piece NameState)) (r : Refusal) → ReadsNames v.order (cells_located v o).contents xs → EachPiece (StringNames v) xs
     → TablesFail v (located_at v o).number (located_at v o).bytes r → ⊥
 tables-of v None xs r reads each f = tables-exclude v 0 [] [] r no_tables f
 tables-of v (Some i) xs r reads each f =

@@ -3,7 +3,7 @@
 use Rattle.std.proofs.Common.{Bool, true, false, ◌≡◌, ℕ, ◌+◌, ◌^◌, ◌<◌, ◌≤◌, List, [], ◌∷◌, ◌++◌, length, drop, get_or, ◌==◌, ◌||◌, Option, IsTrue, not, sym, ap, ◌∙◌, refl, subst, arith, if◌then◌else◌, None, Some, append_assoc}
 use Rattle.std.specs.Bool.{⊤}
 use Rattle.std.proofs.lemmas.List.{length-append, drop_all}
-use Rattle.dw_base.specs.Cells.{Cell, Located, bytes_of, with_bytes, offset_of}
+use Rattle.dw_base.specs.Cells.{Cell, Located, bytes_of, plain_cells, with_bytes, offset_of}
 use Rattle.dw_base.specs.DebugData.{Around, line_table, path_slots, start_number, table_of}
 use Rattle.dw_base.specs.Forms.{TextSection, in_str, in_line_str, ValueKind, number_of, leb_number, signed_leb, block_of, counted, counted_leb, inline_text, text_offset, present, in_abbreviation, form_in_front, supplementary, unlisted, kind_in, width_size}
 use Rattle.dw_base.specs.InlinePaths.{mapped_inline}
@@ -13,7 +13,8 @@ use Rattle.dw_base.specs.Paths.{PathMap, IsPathMap, mapped_path}
 use Rattle.dw_base.specs.Pieces.{Piece, Chain, EachPiece}
 use Rattle.dw_base.specs.Roles.{Role, fixed, offset, inline_path, line_start, names_line_table, is_line_start, role_of_kind, role_of_mode, role_of, Use, is_path_use, use_of}
 use Rattle.dw_base.specs.StringTables.{Mention, Plan, new_text, appending, rebuilding, with_mention, texts_after, place_in, new_table, new_place}
-use Rattle.dw_base.specs.TextChanges.{with_offset, mention_at, mentions_by, mentions_of, TableChange, TableChanges, change_of, moved_field, moved_start, edited_by, edited_all, NamesTextBy, NamesText, InlineFitsBy, InlineFits}
+use Rattle.dw_base.specs.NewOffsets.{with_offset}
+use Rattle.dw_base.specs.TextChanges.{mention_at, mentions_by, mentions_of, TableChange, TableChanges, change_of, moved_field, moved_start, edited_by, edited_all, NamesTextBy, NamesText, InlineFitsBy, InlineFits}
 use Rattle.dw_base.specs.Texts.{text, has_nul, text_in, ends_in, is_in, same_text, laid_texts}
 use Rattle.dw_base.specs.UnitHeaders.{UnitBase}
 use Rattle.dw_base.specs.UnitPieces.{IsValue, FitsKind, FitsMode, unit_grammar}
@@ -169,6 +170,7 @@ shift_of c around = record {
     line_str = moved_table around.line_str c.line_str;
     slots = mapped_slots c.map (path_slots around) 0 around.slots;
     lines = record { number = around.lines.number; bytes = all_lines c.lines };
+    line_cells = plain_cells (all_lines c.lines);
     starts = starts_from 0 c.lines;
   };
   lasting = refl;

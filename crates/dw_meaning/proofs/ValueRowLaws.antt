@@ -96,7 +96,7 @@ not_split d rs z h list number a x place v reads t y = by_split (is_split_root (
     by_split : (b : Bool) → is_split_root (length y.items) a ≡ b → b ≡ false
     by_split false is = refl
     by_split true is =
-        let same : w.table ≡ list = table-one d.base.abbrevs.bytes h.abbrevs w.table list w.is t.declares in
+        let same : w.table ≡ list = table-one d.base.abbrevs.bytes h.abbrevs w.table list w.is.is t.declares.is in
         absurd (entries-exclude h list (bytes_up_to z h) w.items _ (omega (arith, length-take h.end (bytes_of z.contents)))
         (subst (λ (xs : List Abbreviation). Scans h xs (bytes_up_to z h) w.items h.end 0) same w.entries)
         (split_row y.items y.start y.depth y.code y.size a y.scans y.spells y.some y.listed is))
@@ -111,7 +111,7 @@ value-met d rs z h list number a x place v P reads each t y =
     section-among d.base P 0 t.unit.before t.unit.behind z rs.units (subst (λ (zs : List UnitSection). ReadsAll d.base 0 zs rs.units) t.unit.sections reads.units) each in
     let unit : ℕ = r.first + length w.list in
     let s : UnitState = in_headed d.base z t.unit.start (r.first + length w.list) h in
-    let found : abbreviations_at d.base.abbrevs.bytes h.abbrevs ≡ list = table-found d.base.abbrevs.bytes h.abbrevs list t.declares in
+    let found : abbreviations_at d.base.abbrevs.bytes h.abbrevs ≡ list = table-found d.base.abbrevs.bytes h.abbrevs list t.declares.is in
     let root : is_split_root (length y.items) a ≡ false = not_split d rs z h list number a x place v reads t y in
     let one = units-run d.base z r.first w.list t.unit.start w.before in
     let two = header-run d.base z t.unit.start (r.first + length w.list) h w.table t.unit.is (header-placed d.base z t.unit.start h t.unit.is.header) w.is in

@@ -16,7 +16,7 @@ use Rattle.dw_base.specs.Lebs.{uleb_at, sleb_at, initial_length_at}
 use Rattle.dw_base.specs.Numbers.{spelled, number_at}
 use Rattle.dw_base.specs.Paths.{PathMap, lies_under, mapped_path}
 use Rattle.dw_base.specs.Roles.{role_of}
-use Rattle.dw_base.specs.TextChanges.{with_offset}
+use Rattle.dw_base.specs.NewOffsets.{with_offset}
 use Rattle.dw_base.specs.Texts.{text_in}
 use Rattle.dw_base.specs.UnitHeaders.{in_info, unit_header}
 use Rattle.dw_base.specs.UnitMeanings.{units_of}

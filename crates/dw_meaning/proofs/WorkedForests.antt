@@ -258,6 +258,7 @@ open_header = record {
   params = record { order = Little; width = W32; version = 4; address = 8 };
   kind = 1;
   abbrevs = 0;
+  elsewhere = false;
   signature = 0;
   type_offset = 0;
   first = 11;
@@ -278,7 +279,7 @@ open-table = record {
     units = no_units;
     is = record { header = refl; whole = refl; within = leb-true _ _ refl };
   };
-  declares = tree-table;
+  declares = record { here = refl; is = tree-table };
 }
 
 pub open_list-fails : DataFails (tree_data open_pieces) (at Entry 1 20)

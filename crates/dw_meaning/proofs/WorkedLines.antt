@@ -14,12 +14,12 @@ use Rattle.dw_base.specs.LineMeanings.{ShownFile, named, unnamed, ShownRow, Line
 use Rattle.dw_base.specs.Numbers.{spelled, number_at}
 use Rattle.dw_base.specs.Paths.{PathMap, lies_under, mapped_path}
 use Rattle.dw_base.specs.Roles.{role_of}
-use Rattle.dw_base.specs.TextChanges.{with_offset}
+use Rattle.dw_base.specs.NewOffsets.{with_offset}
 use Rattle.dw_base.specs.Texts.{text_in, ends_in}
 use Rattle.dw_base.specs.UnitHeaders.{in_info, unit_header}
 use Rattle.dw_base.specs.UnitMeanings.{units_of}
 use Rattle.dw_base.specs.UnitStates.{before_unit, between, after_code}
-use Rattle.dw_base.specs.ValueMeanings.{string, by_offset, table_number}
+use Rattle.dw_base.specs.ValueMeanings.{address_of, string, by_offset, table_number}
 use Rattle.dw_base.specs.WrittenLines.{written_header, written_table}
 use Rattle.dw_base.specs.declared.line_tables.LineHeader.{LineHeader}
 use Rattle.dw_base.specs.declared.shared.Order.TheVariants.{Little}
@@ -169,6 +169,6 @@ pub lines-rows : map (λ (x : LineMeaning). x.rows) (line_meanings (line_source 
     ≡ (worked_row 4097 2 (named [] (codes "u0.c")) ∷ worked_row 4098 3 (named [] (codes "u0.c")) ∷ last_row 4098 3 (named [] (codes "u0.c")) ∷ [])
     ∷ (worked_row 4097 2 (unnamed 1) ∷ last_row 4097 2 (unnamed 1) ∷ []) ∷ []
 unfolding initial_length_at number_at spelled uleb_at sleb_at line_header header_in header_of_version header_at flags_place length_place header_of_length is_header header_with has_standard_operands
-    special_operation const_operation is_numbered numbered unnumbered standard_operation extended extended_in extended_operation operation_of operation_in
+    special_operation const_operation is_numbered numbered unnumbered standard_operation extended extended_in extended_operation address_of operation_of operation_in
     start_registers advanced on_line at_address moved gives_row behind_row text_in ends_in
 lines-rows = refl

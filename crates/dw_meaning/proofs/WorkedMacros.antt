@@ -18,7 +18,7 @@ use Rattle.dw_base.specs.Pieces.{Piece}
 use Rattle.dw_base.specs.Refusals.{at}
 use Rattle.dw_base.specs.Roles.{role_of}
 use Rattle.dw_base.specs.TableStarts.{StrayFails, other_form, no_unit, MacroStrayFails, no_line, no_import}
-use Rattle.dw_base.specs.TextChanges.{with_offset}
+use Rattle.dw_base.specs.NewOffsets.{with_offset}
 use Rattle.dw_base.specs.Texts.{text_in, ends_in}
 use Rattle.dw_base.specs.UnitHeaders.{in_info, unit_header}
 use Rattle.dw_base.specs.UnitMeanings.{units_of}

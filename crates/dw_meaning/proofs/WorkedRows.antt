@@ -1,6 +1,6 @@
 -- Files that are refused, each made of the smallest one, and the row that holds of it; and which of them mean nothing. The kinds
 -- and places are those that an independent program gives.
-use Rattle.std.proofs.Common.{◌≡◌, ◌≢◌, ℕ, List, [], ◌∷◌, ◌++◌, codes, take, length, slice_index, refl, sym, ap, subst, ◌∙◌}
+use Rattle.std.proofs.Common.{false, ◌≡◌, ◌≢◌, ℕ, List, [], ◌∷◌, ◌++◌, codes, take, length, slice_index, refl, sym, ap, subst, ◌∙◌}
 use Rattle.std.proofs.lemmas.Bool.{ltb-true, leb-true, eqb-false}
 use Rattle.std.specs.Prelude.{pos}
 use Rattle.dw_base.specs.AbbreviationBytes.{abbreviations_at}
@@ -142,6 +142,7 @@ header_up_to end = record {
   params = record { order = Little; width = W32; version = 4; address = 8 };
   kind = 1;
   abbrevs = 0;
+  elsewhere = false;
   signature = 0;
   type_offset = 0;
   first = 11;
@@ -201,7 +202,7 @@ entries-fail = (
           units = no_units;
           is = record { header = refl; whole = refl; within = leb-true _ _ refl };
         };
-        declares = paths-table;
+        declares = record { here = refl; is = paths-table };
       })
       (no_code [] 11 0 2 1 starts refl (eqb-false _ _ refl) refl),
   entries_row (info_section (info_of 15 4 1 13)) (header_up_to 19) tables
@@ -215,7 +216,7 @@ entries-fail = (
           units = no_units;
           is = record { header = refl; whole = refl; within = leb-true _ _ refl };
         };
-        declares = paths-table;
+        declares = record { here = refl; is = paths-table };
       })
       (values_fail [] 11 0 1 1 paths_abbreviation starts refl (eqb-false _ _ refl) refl
       (value_fails (text_spec 3 ∷ []) [] (text_spec 27) 16 refl (more_values [] (text_spec 3) 12 (offset_value 0 12) no_values refl)
@@ -242,7 +243,7 @@ text-fails =
         units = no_units;
         is = record { header = refl; whole = refl; within = leb-true _ _ refl };
       };
-      declares = paths-table;
+      declares = record { here = refl; is = paths-table };
     })
     (record {
       items = [];

@@ -19,7 +19,7 @@ use Rattle.dw_base.specs.Notes.{build_id_of, descriptor_at, id_in, is_id_note, i
 use Rattle.dw_base.specs.Numbers.{spelled, number_at, with_number}
 use Rattle.dw_base.specs.Paths.{lies_under, mapped_path}
 use Rattle.dw_base.specs.Roles.{role_of}
-use Rattle.dw_base.specs.TextChanges.{with_offset}
+use Rattle.dw_base.specs.NewOffsets.{with_offset}
 use Rattle.dw_base.specs.Texts.{ends_in, text_in}
 use Rattle.dw_base.specs.UnitHeaders.{unit_header, in_info}
 use Rattle.dw_base.specs.UnitMeanings.{UnitMeaning, units_of}

@@ -8,7 +8,7 @@ use Rattle.dw_base.specs.Forms.{kind_in, form_rows}
 use Rattle.dw_base.specs.InlinePaths.{mapped_inline}
 use Rattle.dw_base.specs.Numbers.{spelled, number_at}
 use Rattle.dw_base.specs.Roles.{role_of}
-use Rattle.dw_base.specs.TextChanges.{with_offset}
+use Rattle.dw_base.specs.NewOffsets.{with_offset}
 use Rattle.dw_base.specs.Texts.{text_in}
 use Rattle.dw_base.specs.ValueMeanings.{address_of}
 use Rattle.dw_base.specs.NameHeaders.{name_counts, before_strings}

@@ -1,11 +1,16 @@
 -- Headers of units, and a table of abbreviations found byte by byte. The first header is that of a program that gcc 12.2
 -- compiled, as readelf shows it; the others are spelled by the standard's own layouts (DWARF 5, 7.5.1; DWARF 4, 7.5.1).
-use Rattle.std.proofs.Common.{◌≡◌, ℕ, List, [], ◌∷◌, ◌++◌, replicate, refl, Some, None}
+use Rattle.std.proofs.Common.{Bool, true, false, ◌≡◌, ℕ, List, [], ◌∷◌, ◌++◌, replicate, refl, Option, Some, None}
+use Rattle.std.specs.Prelude.{pos}
 use Rattle.dw_base.specs.AbbreviationBytes.{abbreviations_at}
-use Rattle.dw_base.specs.Cells.{plain_cells, offset_of, field_of}
+use Rattle.dw_base.specs.Cells.{Cell, plain_cells, field_of}
 use Rattle.dw_base.specs.Lebs.{initial_length_at}
 use Rattle.dw_base.specs.Numbers.{number_at, spelled}
+use Rattle.dw_base.specs.Refusals.{at}
 use Rattle.dw_base.specs.UnitHeaders.{UnitBase, in_info, in_types, unit_header}
+use Rattle.dw_base.specs.UnitTables.{UnitTableFails, other_section}
+use Rattle.dw_base.specs.declared.fault.Kind.TheVariants.{Abbreviation as AbbreviationKind}
+use Rattle.dw_base.specs.declared.shared.Class.TheVariants.{C64}
 use Rattle.dw_base.specs.declared.shared.Order.{Order}
 use Rattle.dw_base.specs.declared.shared.Order.TheVariants.{Little, Big}
 use Rattle.dw_base.specs.declared.shared.Width.{Width}
@@ -26,6 +31,7 @@ plain_header order width version address kind abbrevs first end = record {
   params = record { order = order; width = width; version = version; address = address };
   kind = kind;
   abbrevs = abbrevs;
+  elsewhere = false;
   signature = 0;
   type_offset = 0;
   first = first;
@@ -35,7 +41,7 @@ plain_header order width version address kind abbrevs first end = record {
 pub compile-header :
     unit_header (worked_base Little []) in_info 7 0 (plain_cells (166 ∷ 2 ∷ 0 ∷ 0 ∷ 5 ∷ 0 ∷ 1 ∷ 8 ∷ 0 ∷ 0 ∷ 0 ∷ 0 ∷ []))
     ≡ Some (plain_header Little W32 5 8 1 0 12 0x2aa)
-unfolding unit_header initial_length_at number_at spelled offset_of field_of
+unfolding unit_header initial_length_at number_at spelled field_of
 compile-header = refl
 
 -- version 4 of 64-bit DWARF, highest byte first, addresses of 4 bytes, abbreviations at 258; with nothing behind its header
@@ -43,7 +49,7 @@ pub wide-header :
     unit_header (worked_base Big []) in_info 7 0
     (plain_cells (replicate 4 255 ++ replicate 7 0 ++ (11 ∷ 0 ∷ 4 ∷ []) ++ replicate 6 0 ++ (1 ∷ 2 ∷ 4 ∷ [])))
     ≡ Some (plain_header Big W64 4 4 1 258 23 23)
-unfolding unit_header initial_length_at number_at spelled offset_of field_of
+unfolding unit_header initial_length_at number_at spelled field_of
 wide-header = refl
 
 -- a unit of .debug_types, with its signature and the place of its type; it starts at 5
@@ -57,12 +63,34 @@ pub types-header :
       params = record { order = Little; width = W32; version = 4; address = 8 };
       kind = 2;
       abbrevs = 9;
+      elsewhere = false;
       signature = 513;
       type_offset = 29;
       first = 28;
     })
-unfolding unit_header initial_length_at number_at spelled offset_of field_of
+unfolding unit_header initial_length_at number_at spelled field_of
 types-header = refl
+
+-- the first of these in a relocatable file, with a relocation at the offset of abbreviations: into .debug_abbrev; into another section, where
+-- it counts as a table that isn't there; and by a symbol that isn't defined
+abbrev placed : Option (ℕ × ℕ) → List Cell
+placed target =
+    plain_cells (166 ∷ 2 ∷ 0 ∷ 0 ∷ 5 ∷ 0 ∷ 1 ∷ 8 ∷ [])
+    ++ record { byte = 0; relocation = Some (record { class = C64; symbol = 2; kind = 10; size = Some 4; addend = Some (pos 300); target = target }) }
+    ∷ plain_cells (0 ∷ 0 ∷ 0 ∷ [])
+
+abbrev placed_header : ℕ → Bool → UnitHeader
+placed_header abbrevs elsewhere = record (plain_header Little W32 5 8 1 abbrevs 12 0x2aa) { elsewhere = elsewhere }
+
+pub placed-headers :
+    (unit_header (worked_base Little []) in_info 7 0 (placed (Some (3, 0))) ≡ Some (placed_header 300 false))
+    × (unit_header (worked_base Little []) in_info 7 0 (placed (Some (4, 0))) ≡ Some (placed_header 300 true))
+    × (unit_header (worked_base Little []) in_info 7 0 (placed None) ≡ Some (placed_header 0 true))
+unfolding unit_header initial_length_at number_at spelled field_of
+placed-headers = (refl, refl, refl)
+
+pub elsewhere-refused : UnitTableFails (worked_base Little []) (placed_header 300 true) (at AbbreviationKind 3 300)
+elsewhere-refused = other_section refl
 
 -- a version 6, a unit type 7, an address of 3 bytes, a unit shorter than its header, and a version 5 of .debug_types
 pub no-headers :
@@ -71,7 +99,7 @@ pub no-headers :
     × (unit_header (worked_base Little []) in_info 7 0 (plain_cells (8 ∷ 0 ∷ 0 ∷ 0 ∷ 5 ∷ 0 ∷ 1 ∷ 3 ∷ 0 ∷ 0 ∷ 0 ∷ 0 ∷ [])) ≡ None)
     × (unit_header (worked_base Little []) in_info 7 0 (plain_cells (7 ∷ 0 ∷ 0 ∷ 0 ∷ 5 ∷ 0 ∷ 1 ∷ 8 ∷ 0 ∷ 0 ∷ 0 ∷ 0 ∷ [])) ≡ None)
     × (unit_header (worked_base Little []) in_types 7 0 (plain_cells (8 ∷ 0 ∷ 0 ∷ 0 ∷ 5 ∷ 0 ∷ 1 ∷ 8 ∷ 0 ∷ 0 ∷ 0 ∷ 0 ∷ [])) ≡ None)
-unfolding unit_header initial_length_at number_at spelled offset_of field_of
+unfolding unit_header initial_length_at number_at spelled field_of
 no-headers = (refl, refl, refl, refl, refl)
 
 -- the abbreviations that the bytes of a table declare are those that stand in it

@@ -1,7 +1,6 @@
 -- Why debug data can't be read, or not be mapped: what is wrong with a unit, its table of abbreviations or its entries; an
 -- offset of a text, or an index of one, that names none; and a path that stands in its value and would grow.
 use Rattle.std.specs.Prelude.{true, false, ◌≡◌, ◌<◌, ℕ, length, List, ◌∷◌, ◌++◌, Option, Some, None}
-use Rattle.dw_base.specs.AbbreviationFails.{AbbreviationFails}
 use Rattle.dw_base.specs.AbbreviationTables.{Abbreviation}
 use Rattle.dw_base.specs.Cells.{Located, cells_at, offset_of}
 use Rattle.dw_base.specs.DebugData.{DebugData, DataReadings, ReadsAll, around_of, indexing_of, line_source}
@@ -20,6 +19,7 @@ use Rattle.dw_base.specs.TableStarts.{StrayFails, MacroStrayFails}
 use Rattle.dw_base.specs.Texts.{text_in, ends_in}
 use Rattle.dw_base.specs.UnitFails.{UnitFails}
 use Rattle.dw_base.specs.UnitHeaders.{UnitSection}
+use Rattle.dw_base.specs.UnitTables.{UnitTableFails}
 use Rattle.dw_base.specs.declared.fault.Kind.TheVariants.{StringOffset, InlineGrows}
 use Rattle.dw_base.specs.declared.fault.Refusal.{Refusal}
 use Rattle.dw_base.specs.declared.units.UnitHeader.{UnitHeader}
@@ -42,8 +42,7 @@ value_offset d z v table = offset_of d.base.order table (cells_at z.contents v.a
 pub data DataFails (d : DebugData) : Refusal → Type 0 where
   unit : (z : UnitSection) (before behind : List UnitSection) {r : Refusal} → d.units ≡ before ++ z ∷ behind → UnitFails d.base z r
       → DataFails d r
-  table : (z : UnitSection) (h : UnitHeader) {r : Refusal} → HasUnit d z h
-      → AbbreviationFails d.base.abbrevs.bytes d.base.abbrevs.number h.abbrevs r → DataFails d r
+  table : (z : UnitSection) (h : UnitHeader) {r : Refusal} → HasUnit d z h → UnitTableFails d.base h r → DataFails d r
   entries : (z : UnitSection) (h : UnitHeader) (list : List Abbreviation) {r : Refusal} → HasTable d z h list
       → EntryFails h list (bytes_up_to z h) r → DataFails d r
 

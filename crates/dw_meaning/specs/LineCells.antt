@@ -1,6 +1,6 @@
 -- The line table that an edit makes of one, as cells (DWARF 5, 6.2.4; gABI ch. 4 "Relocation"): what is copied keeps the relocations that begin
 -- in it, an offset of a text becomes another by its bytes or by its relocation, and lengths and paths that stand in the table have none.
-use Rattle.std.specs.Prelude.{ℕ, ◌+◌, ◌-◌, ◌==◌, if◌then◌else◌, List, [], ◌∷◌, ◌++◌, length, take, drop, Option, Some, None}
+use Rattle.std.specs.Prelude.{ℕ, ◌+◌, ◌==◌, if◌then◌else◌, List, [], ◌∷◌, ◌++◌, length, Option, Some, None}
 use Rattle.dw_base.specs.Cells.{Cell, bytes_of, cells_at, plain_cells}
 use Rattle.dw_base.specs.Forms.{width_size}
 use Rattle.dw_base.specs.LineReadings.{LineReading, table_read}
@@ -8,15 +8,11 @@ use Rattle.dw_base.specs.LineSources.{LineSource}
 use Rattle.dw_base.specs.LineTables.{LineTable}
 use Rattle.dw_base.specs.Numbers.{number_bytes}
 use Rattle.dw_base.specs.Paths.{PathMap, mapped_path}
-use Rattle.dw_base.specs.TextChanges.{with_offset}
-use Rattle.dw_base.specs.WrittenLines.{behind_lengths, header_length_place, length_bytes, length_size, paths_of}
+use Rattle.dw_base.specs.NewOffsets.{with_offset}
+use Rattle.dw_base.specs.WrittenLines.{behind_lengths, cells_part, header_length_place, length_bytes, length_size, paths_of}
 use Rattle.dw_base.specs.declared.line_tables.TextPlace.{TextPlace}
 use Rattle.dw_base.specs.declared.shared.Order.{Order}
 use Rattle.dw_base.specs.declared.shared.Width.{Width}
-
--- the cells from a place up to another
-abbrev pub cells_part : List Cell → ℕ → ℕ → List Cell
-cells_part cells from end = take (end - from) (drop from cells)
 
 -- so many cells at a place become others
 pub record CellChange : Type 0 where
@@ -49,32 +45,31 @@ offset_cells order width cells field (Some place) =
     ∷ []
 
 -- what becomes of a path: it stands in the table where it is in the section of line tables
-abbrev pub path_cells : LineSource → List Cell → PathMap → (TextPlace → Option ℕ) → Width → TextPlace → List CellChange
-path_cells g cells m places width x =
-    if x.section == g.number then inline_cells m cells x ∷ [] else offset_cells g.order width cells x.field (places x)
+abbrev pub path_cells : LineSource → PathMap → (TextPlace → Option ℕ) → Width → TextPlace → List CellChange
+path_cells g m places width x =
+    if x.section == g.number then inline_cells m g.cells x ∷ [] else offset_cells g.order width g.cells x.field (places x)
 
-abbrev pub all_path_cells : LineSource → List Cell → PathMap → (TextPlace → Option ℕ) → Width → List TextPlace → List CellChange
-all_path_cells g cells m places width [] = []
-all_path_cells g cells m places width (x ∷ xs) = path_cells g cells m places width x ++ all_path_cells g cells m places width xs
+abbrev pub all_path_cells : LineSource → PathMap → (TextPlace → Option ℕ) → Width → List TextPlace → List CellChange
+all_path_cells g m places width [] = []
+all_path_cells g m places width (x ∷ xs) = path_cells g m places width x ++ all_path_cells g m places width xs
 
 -- the new header from behind its length up to the program
-unfoldable pub header_cells : LineSource → List Cell → PathMap → (TextPlace → Option ℕ) → LineTable → List Cell
-header_cells g cells m places t =
-    changed_cells cells (behind_lengths t.start t.width t.version) t.program (all_path_cells g cells m places t.width (paths_of t))
+unfoldable pub header_cells : LineSource → PathMap → (TextPlace → Option ℕ) → LineTable → List Cell
+header_cells g m places t =
+    changed_cells g.cells (behind_lengths t.start t.width t.version) t.program (all_path_cells g m places t.width (paths_of t))
 
 -- what stands in the new table behind its length, of a new header
-abbrev pub rest_cells : LineSource → List Cell → LineTable → List Cell → List Cell
-rest_cells g cells t header =
-    cells_part cells (t.start + length_size t.width) (header_length_place t.start t.width t.version)
-    ++ (plain_cells (number_bytes g.order (width_size t.width) (length header)) ++ header) ++ cells_part cells t.program t.end
+abbrev pub rest_cells : LineSource → LineTable → List Cell → List Cell
+rest_cells g t header =
+    cells_part g.cells (t.start + length_size t.width) (header_length_place t.start t.width t.version)
+    ++ (plain_cells (number_bytes g.order (width_size t.width) (length header)) ++ header) ++ cells_part g.cells t.program t.end
 
 -- the new table
-unfoldable pub written_cells : LineSource → List Cell → PathMap → (TextPlace → Option ℕ) → LineTable → List Cell
-written_cells g cells m places t =
-    plain_cells (length_bytes g.order t.width (length (rest_cells g cells t (header_cells g cells m places t))))
-    ++ rest_cells g cells t (header_cells g cells m places t)
+unfoldable pub written_cells : LineSource → PathMap → (TextPlace → Option ℕ) → LineTable → List Cell
+written_cells g m places t =
+    plain_cells (length_bytes g.order t.width (length (rest_cells g t (header_cells g m places t)))) ++ rest_cells g t (header_cells g m places t)
 
 -- the new tables, one behind another
-abbrev pub all_written_cells : LineSource → List Cell → PathMap → (TextPlace → Option ℕ) → List LineReading → List Cell
-all_written_cells g cells m places [] = []
-all_written_cells g cells m places (r ∷ rs) = written_cells g cells m places (table_read g r) ++ all_written_cells g cells m places rs
+abbrev pub all_written_cells : LineSource → PathMap → (TextPlace → Option ℕ) → List LineReading → List Cell
+all_written_cells g m places [] = []
+all_written_cells g m places (r ∷ rs) = written_cells g m places (table_read g r) ++ all_written_cells g m places rs

@@ -38,7 +38,7 @@ macro_cells (r ∷ rs) = cell_body r.number (joined r.pieces) ∷ macro_cells rs
 abbrev pub cells_by : TableChanges → DebugData → Around → DataReadings → List CellBody
 cells_by changes d around r =
     cell_body d.offsets.number (joined (offsets_after changes around r))
-    ∷ cell_body d.lines.number (all_written_cells (line_source d) d.lines.contents changes.map
+    ∷ cell_body d.lines.number (all_written_cells (line_source d) changes.map
     (line_place changes.map changes.str changes.line_str (line_source d)) r.lines)
     ∷ cell_body d.names.number (joined (names_after changes around r))
     ∷ (macro_cells (macros_after changes around r) ++ unit_cells changes around r.units)

@@ -8,7 +8,7 @@ use Rattle.dw_base.specs.Forms.{width_size}
 use Rattle.dw_base.specs.Lebs.{initial_length_at}
 use Rattle.dw_base.specs.Numbers.{spelled}
 use Rattle.dw_base.specs.Refusals.{at, Blames}
-use Rattle.dw_base.specs.ViewData.{located, located_at}
+use Rattle.dw_base.specs.ViewData.{located, located_at, string_offsets}
 use Rattle.dw_base.specs.declared.debug_sections.DebugSection.TheVariants.{StrOffsets}
 use Rattle.dw_base.specs.declared.fault.Fault.{Fault}
 use Rattle.dw_base.specs.declared.fault.Fault.TheVariants.{NoMemory, Refused}
@@ -18,7 +18,6 @@ use Rattle.dw_base.specs.declared.shared.Order.{Order}
 use Rattle.dw_base.specs.declared.shared.Width.{Width}
 use Rattle.dw_base.specs.declared.shared.Width.TheVariants.{W32}
 use Rattle.dw_base.specs.StringOffsets.{contribution_from, IsContribution, ContributionsUpTo, no_contributions, more_contributions, AreContributions}
-use Rattle.dw_base.specs.ViewData.{string_offsets}
 use Rattle.dw_offsets.specs.SlotSearch.{BasesRise, base_at}
 use Rattle.dw_base.specs.StringOffsetFails.{ContributionFails, no_length, passes, no_version, other_version, cut_slot, SectionFails, contribution, ContributionsFail}
 use Rattle.dw_base.specs.declared.string_offsets.Contribution.{Contribution}

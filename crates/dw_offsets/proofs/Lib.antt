@@ -3,6 +3,7 @@ pub mod SlotLaws
 pub mod NameHeaderLaws
 pub mod NameTextLaws
 pub mod NameListLaws
+pub mod NameExcludeLaws
 pub mod NameViewLaws
 pub mod OffsetPieceLaws
 pub mod NamePieceLaws

@@ -1,29 +1,34 @@
 -- From name tables that were read one after another to the pieces of the section.
 use Rattle.std.proofs.Common.{true, ◌≡◌, ◌<◌, ◌∷◌, Option, None, ℕ, zero, suc, ◌+◌, ◌-◌, ◌*◌, ◌≤◌, List, [], ◌++◌, length, take, drop, Some, refl, sym, ap, ◌∙◌, subst, arith, append_assoc}
+use Rattle.std.specs.Bool.{⊤}
+use Rattle.std.specs.Prelude.{is_some}
 use Rattle.std.proofs.lemmas.List.{append-nil, drop_all, drop-drop, take-append-drop}
-use Rattle.dw_base.specs.Cells.{Cell, bytes_of, cells_at, plain_cells, offset_of, offset_into}
+use Rattle.dw_base.specs.Cells.{Cell, bytes_of, cells_at, offset_of, offset_into}
 use Rattle.dw_base.specs.DebugSections.{name_of}
-use Rattle.dw_base.specs.FileViews.{View, field_at, section_bytes, section_named, view_cells}
+use Rattle.dw_base.specs.FileViews.{View, field_at, kind_at, section_bytes, section_named, view_cells}
 use Rattle.dw_base.specs.Forms.{width_size}
 use Rattle.dw_base.specs.Lebs.{initial_length_at}
 use Rattle.dw_base.specs.Numbers.{spelled}
 use Rattle.dw_base.specs.Pieces.{Grammar, Leads, Piece, EachPiece, joined}
+use Rattle.dw_base.specs.RelocationRows.{FieldPlace, IsField, OffsetReads, field_place, name_field, name_fields, offset_field}
 use Rattle.dw_base.specs.declared.shared.Order.{Order}
 use Rattle.dw_base.specs.declared.shared.Width.{Width}
 use Rattle.dw_base.specs.declared.shared.Width.TheVariants.{W32, W64}
 use Rattle.dw_base.proofs.NumberLaws.{spelled-take, spelled-drop}
 use Rattle.dw_base.proofs.UnitEditLaws.{length-bytes_of}
-use Rattle.dw_base.specs.NamePieces.{at_table, at_string, at_rest, NameState, names_at, before_strings_of, IsTableFront, after_front, past_names, name_grammar, ReadsNames}
-use Rattle.dw_base.specs.NameTables.{IsNameTable, IsNamedTable, AreNameTables, names_of, texts_in, TablesUpTo, no_tables, more_tables}
+use Rattle.dw_base.specs.NamePieces.{NameMode, at_table, at_string, at_rest, no_names, NameState, names_at, before_strings_of, IsTableFront, after_front, past_names, name_grammar, ReadsNames}
+use Rattle.dw_base.specs.NameTables.{IsNameTable, IsNamedTable, string_place, texts_in}
 use Rattle.dw_base.specs.NameHeaders.{name_counts, before_strings, from_strings}
 use Rattle.dw_base.specs.declared.name_tables.NameCounts.{NameCounts}
 use Rattle.dw_base.specs.declared.name_tables.NameTable.{NameTable}
 use Rattle.dw_base.specs.Texts.{ends_in}
-use Rattle.dw_base.specs.ViewData.{located, located_at}
+use Rattle.dw_base.specs.ViewData.{cells_located, located, located_at}
 use Rattle.dw_base.specs.declared.debug_sections.DebugSection.TheVariants.{Names}
 use Rattle.dw_base.proofs.NameBackLaws.{StringNamesBy}
 use Rattle.dw_base.proofs.ViewCellLaws.{bytes_of-view_cells, length-view_cells, offset_at-cells}
 use Rattle.dw_offsets.proofs.OffsetPieceLaws.{header-length}
+use Rattle.dw_base.proofs.ViewOffsetLaws.{offset-reads, some-named}
+use Rattle.dw_offsets.specs.NameOffsets.{AreRead, OffsetsRead, ReadUpTo, none_read, more_read}
 use Rattle.dw_base.proofs.RunLaws.{leads-chain, part-bytes, part-length}
 
 -- the counts of a table are in its front
@@ -123,18 +128,25 @@ more-size : (w : Width) (k : ℕ) → suc k * width_size w ≡ width_size w + k 
 more-size W32 k = omega arith
 more-size W64 k = omega arith
 
+-- the field of a string offset has no relocation that refuses it
+abbrev StringReadsBy : NameMode → Order → List Cell → ℕ → Type 0
+StringReadsBy (at_string w left end) order cells place = OffsetReads order cells (field_place place (width_size w) offset_field)
+StringReadsBy m order cells place = ⊤
+
+abbrev PieceReads : View → List Cell → Piece NameState → Type 0
+PieceReads v cells x = StringNamesBy x.state.mode v x.cells × StringReadsBy x.state.mode v.order cells x.state.place
+
 -- pieces that lead from one state to another, whose cells stand from one place of some cells to another; each string offset among
--- them names a text
+-- them can be read and names a text
 record TextRun (v : View) (cells : List Cell) (s t : NameState) (a b : ℕ) : Type 0 where
   pieces : List (Piece NameState)
   leads : Leads (name_grammar v.order) s pieces t
   covers : joined pieces ++ drop b cells ≡ drop a cells
-  each : EachPiece (λ x. StringNamesBy x.state.mode v x.cells) pieces
+  each : EachPiece (PieceReads v cells) pieces
 
-each-more : (v : View) (xs ys : List (Piece NameState)) → EachPiece (λ x. StringNamesBy x.state.mode v x.cells) xs
-    → EachPiece (λ x. StringNamesBy x.state.mode v x.cells) ys → EachPiece (λ x. StringNamesBy x.state.mode v x.cells) (xs ++ ys)
-each-more v [] ys h k = k
-each-more v (x ∷ xs) ys h k = (h.0, each-more v xs ys h.1 k)
+each-more : (P : Piece NameState → Type 0) (xs ys : List (Piece NameState)) → EachPiece P xs → EachPiece P ys → EachPiece P (xs ++ ys)
+each-more P [] ys h k = k
+each-more P (x ∷ xs) ys h k = (h.0, each-more P xs ys h.1 k)
 
 leads-more : (g : Grammar) (s t u : g.State) (xs ys : List (Piece g.State)) → Leads g s xs t → Leads g t ys u → Leads g s (xs ++ ys) u
 leads-more g s t u [] ys l m = subst (λ (z : g.State). Leads g z ys u) (sym l) m
@@ -151,24 +163,26 @@ text-more v cells s t u a b c m n = record {
   covers =
       ap (λ (x : List Cell). x ++ drop c cells) (joined-append m.pieces n.pieces) ∙ append_assoc (joined m.pieces) (joined n.pieces) (drop c cells)
       ∙ ap (λ (x : List Cell). joined m.pieces ++ x) n.covers ∙ m.covers;
-  each = each-more v m.pieces n.pieces m.each n.each;
+  each = each-more (PieceReads v cells) m.pieces n.pieces m.each n.each;
 }
 
 -- a piece of so many cells
 text-one : (v : View) (cells : List Cell) (s t : NameState) (a n : ℕ) → (name_grammar v.order).Fits s (take n (drop a cells))
-    → (name_grammar v.order).next s (take n (drop a cells)) ≡ t → StringNamesBy s.mode v (take n (drop a cells)) → TextRun v cells s t a (a + n)
-text-one v cells s t a n fits next names = record {
+    → (name_grammar v.order).next s (take n (drop a cells)) ≡ t → StringNamesBy s.mode v (take n (drop a cells)) → StringReadsBy s.mode v.order cells s.place
+    → TextRun v cells s t a (a + n)
+text-one v cells s t a n fits next names reads = record {
   pieces = record { state = s; cells = take n (drop a cells) } ∷ [];
   leads = (refl, fits, next);
   covers =
       append_assoc (take n (drop a cells)) [] (drop (a + n) cells)
       ∙ ap (λ (x : List Cell). take n (drop a cells) ++ x) (sym (drop-drop n a cells)) ∙ take-append-drop n (drop a cells);
-  each = (names, tt);
+  each = ((names, reads), tt);
 }
 
 -- the contents of a section of a view
 record IsSection (v : View) (section : ℕ) (cells : List Cell) : Type 0 where
   same : cells ≡ view_cells v section
+  kind : is_some (kind_at v section) ≡ true
 
 -- the offset in a part is that of the field at its place
 part-offset : (v : View) (section : ℕ) (cells : List Cell) (n a : ℕ) → IsSection v section cells → 0 < n → a + n ≤ length cells
@@ -187,26 +201,34 @@ abbrev NameFrom : View → ℕ → Width → ℕ → ℕ → Type 0
 NameFrom v section w k place =
     (i : ℕ) → i < k → ends_in (texts_in v).bytes (offset_into (texts_in v) (field_at v section (place + i * width_size w) (width_size w))) ≡ true
 
+place-next : (w : Width) (i place : ℕ) → place + suc i * width_size w ≡ place + width_size w + i * width_size w
+place-next W32 i place = omega arith
+place-next W64 i place = omega arith
+
 name-rest : (v : View) (section : ℕ) (w : Width) (k place : ℕ) → NameFrom v section w (suc k) place → NameFrom v section w k (place + width_size w)
 name-rest v section w k place h = λ i lt.
-    let next : place + suc i * width_size w ≡ place + width_size w + i * width_size w = shift w i place in
-    ap (λ (p : ℕ). ends_in (texts_in v).bytes (offset_into (texts_in v) (field_at v section p (width_size w)))) (sym next) ∙ h (suc i) (omega (arith, lt))
-  where
-    shift : (w : Width) (i place : ℕ) → place + suc i * width_size w ≡ place + width_size w + i * width_size w
-    shift W32 i place = omega arith
-    shift W64 i place = omega arith
+    ap (λ (p : ℕ). ends_in (texts_in v).bytes (offset_into (texts_in v) (field_at v section p (width_size w)))) (sym (place-next w i place))
+    ∙ h (suc i) (omega (arith, lt))
+
+-- and no relocation refuses them
+abbrev ReadFrom : Order → List Cell → Width → ℕ → ℕ → Type 0
+ReadFrom order cells w k place = (i : ℕ) → i < k → OffsetReads order cells (field_place (place + i * width_size w) (width_size w) offset_field)
+
+read-rest : (order : Order) (cells : List Cell) (w : Width) (k place : ℕ) → ReadFrom order cells w (suc k) place → ReadFrom order cells w k (place + width_size w)
+read-rest order cells w k place h = λ i lt.
+    subst (λ (p : ℕ). OffsetReads order cells (field_place p (width_size w) offset_field)) (place-next w i place) (h (suc i) (omega (arith, lt)))
 
 -- so many string offsets, and what is left of their table
 strings-run : (v : View) (section : ℕ) (cells : List Cell) (w : Width) (k place end : ℕ) → IsSection v section cells → NameFrom v section w k place
-    → place + k * width_size w ≤ end → end ≤ length cells
+    → ReadFrom v.order cells w k place → place + k * width_size w ≤ end → end ≤ length cells
     → TextRun v cells (before_strings_of (length cells) place w k end) (names_at (length cells) end at_table) place end
-strings-run v section cells w zero place end is names fits inside =
+strings-run v section cells w zero place end is names reads fits inside =
     let room : place ≤ end = omega (arith, fits) in
     let size : length (take (end - place) (drop place cells)) ≡ end - place = part-length (end - place) place cells (omega (arith, room, inside)) in
     let here : place + length (take (end - place) (drop place cells)) ≡ end = omega (arith, size, room) in
-    let one = text-one v cells (names_at (length cells) place (at_rest end)) (names_at (length cells) end at_table) place (end - place) here refl tt in
+    let one = text-one v cells (names_at (length cells) place (at_rest end)) (names_at (length cells) end at_table) place (end - place) here refl tt tt in
     subst (λ (b : ℕ). TextRun v cells (names_at (length cells) place (at_rest end)) (names_at (length cells) end at_table) place b) (omega (arith, room)) one
-strings-run v section cells w (suc k) place end is names fits inside =
+strings-run v section cells w (suc k) place end is names reads fits inside =
     let more : suc k * width_size w ≡ width_size w + k * width_size w = more-size w k in
     let room : place + width_size w ≤ end = omega (arith, fits, more) in
     let whole : place + width_size w ≤ length cells = omega (arith, room, inside) in
@@ -218,10 +240,11 @@ strings-run v section cells w (suc k) place end is names fits inside =
     ap (ends_in (texts_in v).bytes) (part-offset v section cells (width_size w) place is (width-some w) whole)
     ∙ ap (λ (p : ℕ). ends_in (texts_in v).bytes (offset_into (texts_in v) (field_at v section p (width_size w)))) (sym first) ∙ names 0 (omega arith) in
     let one = text-one v cells (names_at (length cells) place (at_string w k end)) (before_strings_of (length cells) (place + width_size w) w k end) place (width_size w)
-    (record { size = size; before = omega (arith, size, room) }) next ends in
+    (record { size = size; before = omega (arith, size, room) }) next ends
+    (subst (λ (p : ℕ). OffsetReads v.order cells (field_place p (width_size w) offset_field)) first (reads 0 (omega arith))) in
     text-more v cells (names_at (length cells) place (at_string w k end)) (before_strings_of (length cells) (place + width_size w) w k end)
     (names_at (length cells) end at_table) place (place + width_size w) end one
-    (strings-run v section cells w k (place + width_size w) end is (name-rest v section w k place names) (omega (arith, fits, more)) inside)
+    (strings-run v section cells w k (place + width_size w) end is (name-rest v section w k place names) (read-rest v.order cells w k place reads) (omega (arith, fits, more)) inside)
 
 -- the string offsets lie in the table
 strings-inside : (w : Width) (counts : NameCounts) → counts.names * width_size w ≤ from_strings w counts
@@ -230,10 +253,24 @@ strings-inside w counts =
     let twice : 2 * counts.names * width_size w ≡ counts.names * width_size w + counts.names * width_size w = omega arith in
     omega (arith, twice)
 
+string-inside : (w : Width) (strings i names : ℕ) → i < names → strings + i * width_size w + width_size w ≤ strings + names * width_size w
+string-inside W32 strings i names lt = omega (arith, lt)
+string-inside W64 strings i names lt = omega (arith, lt)
+
+-- no relocation refuses them, since they were read
+strings-read : (v : View) (section : ℕ) (cells : List Cell) (t : NameTable) → IsSection v section cells → OffsetsRead v section t t.names
+    → t.strings + t.names * width_size t.width ≤ length cells → ReadFrom v.order cells t.width t.names t.strings
+strings-read v section cells t is reads inside = λ i lt.
+    let whole : length cells ≡ length (section_bytes v section) = ap length is.same ∙ length-view_cells v section in
+    let fits = string-inside t.width t.strings i t.names lt in
+    subst (λ (cs : List Cell). OffsetReads v.order cs (field_place (string_place t i) (width_size t.width) offset_field)) (sym is.same)
+    (offset-reads v section (string_place t i) (width_size t.width) (field_at v section (string_place t i) (width_size t.width)) is.kind
+    (width-some t.width) (omega (arith, whole, fits, inside)) (reads.all i lt))
+
 -- a table is its pieces
 table-run : (v : View) (section : ℕ) (cells : List Cell) (start : ℕ) (t : NameTable) → IsSection v section cells → IsNamedTable v section (bytes_of cells) start t
-    → TextRun v cells (names_at (length cells) start at_table) (names_at (length cells) t.end at_table) start t.end
-table-run v section cells start t whole named =
+    → OffsetsRead v section t t.names → TextRun v cells (names_at (length cells) start at_table) (names_at (length cells) t.end at_table) start t.end
+table-run v section cells start t whole named reads =
     let order : Order = v.order in
     let is : IsNameTable v.order (bytes_of cells) start t = named.table in
     let parts : Parts cells start t named.table.lengths (counts_of v.order cells start named.table.lengths) (front_size v.order cells start named.table.lengths) =
@@ -241,38 +278,72 @@ table-run v section cells start t whole named =
     let head = text-one v cells (names_at (length cells) start at_table) (before_strings_of (length cells) t.strings t.width t.names t.end) start
     (front_size v.order cells start named.table.lengths)
     (front-piece v.order cells start t named.table.lengths (front_size v.order cells start named.table.lengths) parts named.table.length_is named.table.version)
-    (front-next v.order cells start t named.table.lengths (front_size v.order cells start named.table.lengths) parts named.table.length_is) tt in
+    (front-next v.order cells start t named.table.lengths (front_size v.order cells start named.table.lengths) parts named.table.length_is) tt tt in
     let sizes : t.names * width_size t.width ≡ (counts_of v.order cells start named.table.lengths).names * width_size named.table.lengths.0 =
     ap (λ (k : ℕ). k * width_size t.width) parts.names ∙ ap (λ (w : Width). (counts_of v.order cells start named.table.lengths).names * width_size w) parts.width in
     let room : t.strings + t.names * width_size t.width ≤ t.end =
     omega (arith, sizes, strings-inside named.table.lengths.0 (counts_of v.order cells start named.table.lengths), parts.strings, parts.fits, parts.end) in
-    let rest = strings-run v section cells t.width t.names t.strings t.end whole named.texts.all room (omega (arith, named.table.within, length-bytes_of cells)) in
+    let inside : t.end ≤ length cells = omega (arith, named.table.within, length-bytes_of cells) in
+    let rest = strings-run v section cells t.width t.names t.strings t.end whole named.texts.all
+    (strings-read v section cells t whole reads (omega (arith, room, inside))) room inside in
     let first = subst (λ (b : ℕ). TextRun v cells (names_at (length cells) start at_table) (before_strings_of (length cells) t.strings t.width t.names t.end) start b)
     (sym parts.strings) head in
     text-more v cells (names_at (length cells) start at_table) (before_strings_of (length cells) t.strings t.width t.names t.end)
     (names_at (length cells) t.end at_table) start t.strings t.end first rest
 
 -- so are all of a section
-tables-run : (v : View) (section : ℕ) (cells : List Cell) (list : List NameTable) (place : ℕ) → IsSection v section cells → TablesUpTo v section (bytes_of cells) list place
+tables-run : (v : View) (section : ℕ) (cells : List Cell) (list : List NameTable) (place : ℕ) → IsSection v section cells → ReadUpTo v section (bytes_of cells) list place
     → TextRun v cells (names_at (length cells) 0 at_table) (names_at (length cells) place at_table) 0 place
-tables-run v section cells list place whole no_tables = record {
+tables-run v section cells list place whole none_read = record {
   pieces = [];
   leads = refl;
   covers = refl;
   each = tt;
 }
-tables-run v section cells list place whole (more_tables before t start u is) =
+tables-run v section cells list place whole (more_read before t start u is reads) =
     text-more v cells (names_at (length cells) 0 at_table) (names_at (length cells) start at_table) (names_at (length cells) t.end at_table) 0 start t.end
-    (tables-run v section cells before start whole u) (table-run v section cells start t whole is)
+    (tables-run v section cells before start whole u) (table-run v section cells start t whole is reads)
 
--- where tables fill a section, it is their pieces, and each string offset among them names a text
+-- where tables fill a section, it is their pieces; each string offset among them names a text, and no relocation refuses it
 pub record NamesRead (v : View) (cells : List Cell) : Type 0 where
   pub pieces : List (Piece NameState)
   pub reads : ReadsNames v.order cells pieces
   pub texts : EachPiece (λ x. StringNamesBy x.state.mode v x.cells) pieces
+  pub offsets : (f : FieldPlace) → IsField (name_fields pieces) f → OffsetReads v.order cells f
+
+texts-of : (v : View) (cells : List Cell) (xs : List (Piece NameState)) → EachPiece (PieceReads v cells) xs → EachPiece (λ x. StringNamesBy x.state.mode v x.cells) xs
+texts-of v cells [] h = tt
+texts-of v cells (x ∷ xs) h = (h.0.0, texts-of v cells xs h.1)
+
+-- a field of pieces is that of one of them
+first-field : (f g : FieldPlace) (fs gs : List FieldPlace) → f ∷ fs ≡ g ∷ gs → f ≡ g
+first-field f g fs gs e = cc
+
+rest-fields : (f g : FieldPlace) (fs gs : List FieldPlace) → f ∷ fs ≡ g ∷ gs → fs ≡ gs
+rest-fields f g fs gs e = cc
+
+no-field : (before behind : List FieldPlace) (f : FieldPlace) → [] ≡ before ++ f ∷ behind → ⊥
+no-field [] behind f e = cc
+no-field (b ∷ bs) behind f e = cc
+
+field-step : (order : Order) (cells : List Cell) (m : NameMode) (place : ℕ) (fs before behind : List FieldPlace) (f : FieldPlace) → StringReadsBy m order cells place
+    → ((front : List FieldPlace) → fs ≡ front ++ f ∷ behind → OffsetReads order cells f) → name_field m place ++ fs ≡ before ++ f ∷ behind → OffsetReads order cells f
+field-step order cells (at_string w left end) place fs [] behind f reads rest e =
+    subst (OffsetReads order cells) (first-field (field_place place (width_size w) offset_field) f fs behind e) reads
+field-step order cells (at_string w left end) place fs (b ∷ bs) behind f reads rest e =
+    rest bs (rest-fields (field_place place (width_size w) offset_field) b fs (bs ++ f ∷ behind) e)
+field-step order cells at_table place fs before behind f reads rest e = rest before e
+field-step order cells (at_rest end) place fs before behind f reads rest e = rest before e
+field-step order cells no_names place fs before behind f reads rest e = rest before e
+
+field-of : (v : View) (cells : List Cell) (xs : List (Piece NameState)) (before behind : List FieldPlace) (f : FieldPlace) → EachPiece (PieceReads v cells) xs
+    → name_fields xs ≡ before ++ f ∷ behind → OffsetReads v.order cells f
+field-of v cells [] before behind f h e = absurd (no-field before behind f e)
+field-of v cells (x ∷ xs) before behind f h e =
+    field-step v.order cells x.state.mode x.state.place (name_fields xs) before behind f h.0.1 (λ front g. field-of v cells xs front behind f h.1 g) e
 
 tables-read : (v : View) (section : ℕ) (cells : List Cell) (list : List NameTable) → IsSection v section cells
-    → TablesUpTo v section (bytes_of cells) list (length (bytes_of cells)) → NamesRead v cells
+    → ReadUpTo v section (bytes_of cells) list (length (bytes_of cells)) → NamesRead v cells
 tables-read v section cells list whole u =
     let all = tables-run v section cells list (length (bytes_of cells)) whole u in
     let same : length (bytes_of cells) ≡ length cells = length-bytes_of cells in
@@ -284,18 +355,24 @@ tables-read v section cells list whole u =
             (record { mode = refl; place = same });
         cells = sym (append-nil (joined all.pieces)) ∙ ap (λ (x : List Cell). joined all.pieces ++ x) (sym rest) ∙ all.covers;
       };
-      texts = all.each;
+      texts = texts-of v cells all.pieces all.each;
+      offsets = λ f is. field-of v cells all.pieces is.before is.behind f all.each is.is;
     }
 
 -- the name tables of a view are pieces
-names-by : (v : View) (o : Option ℕ) (list : List NameTable) → TablesUpTo v (located_at v o).number (located_at v o).bytes list (length (located_at v o).bytes)
-    → NamesRead v (plain_cells (located_at v o).bytes)
-names-by v None list u = record { pieces = []; reads = record { chain = record { mode = refl; place = refl }; cells = refl }; texts = tt }
-names-by v (Some i) list u =
+names-by : (v : View) (o : Option ℕ) (list : List NameTable) → section_named v (name_of Names) ≡ o
+    → ReadUpTo v (located_at v o).number (located_at v o).bytes list (length (located_at v o).bytes) → NamesRead v (cells_located v o).contents
+names-by v None list here u = record {
+  pieces = [];
+  reads = record { chain = record { mode = refl; place = refl }; cells = refl };
+  texts = tt;
+  offsets = λ f is. absurd (no-field is.before is.behind f is.is);
+}
+names-by v (Some i) list here u =
     let bytes : bytes_of (view_cells v i) ≡ section_bytes v i = bytes_of-view_cells v i in
-    tables-read v i (view_cells v i) list (record { same = refl })
-    (subst (λ (bs : List ℕ). TablesUpTo v i bs list (length bs)) (sym bytes) u)
+    tables-read v i (view_cells v i) list (record { same = refl; kind = some-named v Names i (sym here) })
+    (subst (λ (bs : List ℕ). ReadUpTo v i bs list (length bs)) (sym bytes) u)
 
-pub names-read : (v : View) (list : List NameTable) → AreNameTables v list → NamesRead v (plain_cells (names_of v).bytes)
+pub names-read : (v : View) (list : List NameTable) → AreRead v list → NamesRead v (cells_located v (section_named v (name_of Names))).contents
 unfolding located
-names-read v list u = names-by v (section_named v (name_of Names)) list u
+names-read v list u = names-by v (section_named v (name_of Names)) list refl u

@@ -1,5 +1,6 @@
 -- Laws of the string offsets of a name table: each names a text, or is refused at its field.
-use Rattle.std.proofs.Common.{inl, inr, Bool, true, false, ◌≡◌, ◌≢◌, ℕ, ◌+◌, ◌*◌, ◌<◌, ◌≤◌, nat_lt, ℤ, List, [], length, Option, Some, None, refl, sym, ap, ◌∙◌, subst, arith}
+use Rattle.std.proofs.Common.{inl, inr, Bool, true, false, ◌≡◌, ◌≢◌, ℕ, ◌+◌, ◌*◌, ◌<◌, ◌≤◌, nat_lt, ◌==◌, if◌then◌else◌, ℤ, List, [], length, Option, Some, None, refl, sym, ap, ◌∙◌, subst, arith}
+use Rattle.std.specs.Prelude.{Ok, Err}
 use Rattle.std.proofs.lemmas.Bool.{cases_lt, eq-eqb, ne_eqb}
 use Rattle.std.proofs.lemmas.Bool.Decides.{nat_tests}
 use Rattle.std.proofs.lemmas.List.{drop_all}
@@ -20,7 +21,10 @@ use Rattle.dw_base.specs.declared.view_fields.Field.{Field}
 use Rattle.dw_base.specs.declared.view_fields.Field.TheVariants.{Num, Into, Sym}
 use Rattle.dw_base.specs.NameTables.{texts_in, names_text, string_place, NamesTexts, IsNameTable, IsNamedTable}
 use Rattle.dw_offsets.specs.TextEnds.{IsTexts}
-use Rattle.dw_base.specs.NameTableFails.{TableFails, TextFails, no_text, NamedFails, table, texts}
+use Rattle.dw_offsets.specs.NameOffsets.{OffsetsRead, no_offset, TextRefuses, names_none, reads_none, TableRefuses, table_fails, offset_fails}
+use Rattle.dw_base.specs.ViewOffsets.{offset_read}
+use Rattle.dw_base.proofs.ViewOffsetLaws.{offset-is}
+use Rattle.dw_base.specs.NameTableFails.{TableFails, no_text, table, texts}
 use Rattle.dw_base.specs.declared.name_tables.NameTable.{NameTable}
 use Rattle.dw_offsets.specs.declared.name_texts.Texts.{Texts}
 
@@ -70,6 +74,28 @@ sym-ends z symbol kind addend f same = rw same (sym (end-ends z))
 
 pub ruleset field_laws = (num-ends, into-other, into-same, sym-ends)
 
+-- where the text begins that a field names
+pub into-start : (z : Located) (section n : ℕ) (f : Field) → f ≡ Into section n → ends_in z.bytes (offset_into z f) ≡ true → n ≡ offset_into z f
+into-start z section n f same ends = by_section (section == z.number) refl
+  where
+    none-end : ends_in z.bytes (length z.bytes) ≡ true → ⊥
+    none-end e = let none = end-ends z in absurd cc
+
+    by_section : (b : Bool) → (section == z.number) ≡ b → n ≡ offset_into z f
+    by_section true e = sym (ap (offset_into z) same ∙ ap (λ (t : Bool). if t then n else length z.bytes) e)
+    by_section false e =
+        absurd (none-end (ap (ends_in z.bytes) (sym (ap (offset_into z) same ∙ ap (λ (t : Bool). if t then n else length z.bytes) e)) ∙ ends))
+
+pub num-start : (z : Located) (n : ℕ) (f : Field) → f ≡ Num n → n ≡ offset_into z f
+num-start z n f same = sym (ap (offset_into z) same)
+
+pub sym-start : (z : Located) (symbol kind : ℕ) (addend : ℤ) (f : Field) → f ≡ Sym symbol kind addend → ends_in z.bytes (offset_into z f) ≡ true → ⊥
+sym-start z symbol kind addend f same ends =
+    let none : false ≡ ends_in z.bytes (offset_into z f) = sym-ends z symbol kind addend f same in
+    absurd cc
+
+pub ruleset start_laws = (num-start, into-start, sym-start)
+
 -- the place of a string offset
 pub place-narrow : (t : NameTable) (i : ℕ) → t.width ≡ W32 → t.strings + i * 4 ≡ string_place t i
 place-narrow t i w = rw w refl
@@ -93,13 +119,26 @@ pub ruleset place_laws = (place-narrow, place-wide, inside-narrow, inside-wide)
 pub no_texts : (v : View) (section : ℕ) (t : NameTable) → NamesTexts v section t 0
 no_texts v section t = record { all = λ i lt. absurd (omega (arith, lt)) }
 
+pub no_offsets : (v : View) (section : ℕ) (t : NameTable) → OffsetsRead v section t 0
+no_offsets v section t = record { all = λ i lt. absurd (omega (arith, lt)) }
+
+field-place : (v : View) (section place size : ℕ) (t : NameTable) (i : ℕ) → place ≡ string_place t i → size ≡ width_size t.width
+    → field_at v section place size ≡ field_at v section (string_place t i) (width_size t.width)
+field-place v section place size t i p s = ap (λ (k : ℕ). field_at v section k size) p ∙ ap (field_at v section (string_place t i)) s
+
+read-place : (v : View) (section place size : ℕ) (t : NameTable) (i : ℕ) → place ≡ string_place t i → size ≡ width_size t.width
+    → offset_read v section place size ≡ offset_read v section (string_place t i) (width_size t.width)
+read-place v section place size t i p s = ap (λ (k : ℕ). offset_read v section k size) p ∙ ap (offset_read v section (string_place t i)) s
+
 text-by : (v : View) (section place size : ℕ) (t : NameTable) (i : ℕ) (f : Field) (b : Bool) → place ≡ string_place t i → size ≡ width_size t.width
-    → f ≡ field_at v section place size → b ≡ ends_in (texts_in v).bytes (offset_into (texts_in v) f) → names_text v section t i ≡ b
+    → Ok f ≡ offset_read v section place size → b ≡ ends_in (texts_in v).bytes (offset_into (texts_in v) f) → names_text v section t i ≡ b
 text-by v section place size t i f b p s e is =
-    sym (is ∙ ap (λ (g : Field). ends_in (texts_in v).bytes (offset_into (texts_in v) g)) (e ∙ ap (λ (k : ℕ). field_at v section k size) p ∙ ap (field_at v section (string_place t i)) s))
+    sym (is ∙ ap (λ (g : Field). ends_in (texts_in v).bytes (offset_into (texts_in v) g))
+    ((offset-is v section place size f (sym e)).same ∙ field-place v section place size t i p s))
 
 pub more_texts : (v : View) (section place size : ℕ) (t : NameTable) (n : ℕ) (f : Field) (b : Bool) → NamesTexts v section t n → place ≡ string_place t n
-    → size ≡ width_size t.width → f ≡ field_at v section place size → b ≡ ends_in (texts_in v).bytes (offset_into (texts_in v) f) → b ≡ true → NamesTexts v section t (n + 1)
+    → size ≡ width_size t.width → Ok f ≡ offset_read v section place size → b ≡ ends_in (texts_in v).bytes (offset_into (texts_in v) f) → b ≡ true
+    → NamesTexts v section t (n + 1)
 more_texts v section place size t n f b before p s e is yes_is = record {
   all = λ i lt. elim (cases_lt i n) [
     | inl front ↦ before.all i front
@@ -109,13 +148,38 @@ more_texts v section place size t n f b before p s e is yes_is = record {
   ];
 }
 
-pub text-fails : (v : View) (section place size : ℕ) (t : NameTable) (i : ℕ) (f : Field) (b : Bool) (r : Refusal) → NamesTexts v section t i → i < t.names → place ≡ string_place t i → size ≡ width_size t.width
-    → f ≡ field_at v section place size → b ≡ ends_in (texts_in v).bytes (offset_into (texts_in v) f) → b ≡ false → r ≡ at StringOffset section place → TextFails v section t r
-text-fails v section place size t i f b r before lt p s e is none same =
-    subst (λ (x : Refusal). TextFails v section t x) (ap (at StringOffset section) (sym p) ∙ sym same)
-    (no_text i lt before (text-by v section place size t i f b p s e is ∙ none))
+offset-is_read : (v : View) (section place size : ℕ) (t : NameTable) (i : ℕ) (f : Field) → place ≡ string_place t i → size ≡ width_size t.width
+    → Ok f ≡ offset_read v section place size
+    → offset_read v section (string_place t i) (width_size t.width) ≡ Ok (field_at v section (string_place t i) (width_size t.width))
+offset-is_read v section place size t i f p s e =
+    sym (read-place v section place size t i p s) ∙ sym e
+    ∙ ap Ok ((offset-is v section place size f (sym e)).same ∙ field-place v section place size t i p s)
 
-pub ruleset check_laws = (no_texts, more_texts, text-fails)
+pub more_offsets : (v : View) (section place size : ℕ) (t : NameTable) (n : ℕ) (f : Field) → OffsetsRead v section t n → place ≡ string_place t n
+    → size ≡ width_size t.width → Ok f ≡ offset_read v section place size → OffsetsRead v section t (n + 1)
+more_offsets v section place size t n f before p s e = record {
+  all = λ i lt. elim (cases_lt i n) [
+    | inl front ↦ before.all i front
+    | inr last ↦
+        let here : n ≡ i = omega (arith, lt, last) in
+        subst (λ (k : ℕ). offset_read v section (string_place t k) (width_size t.width) ≡ Ok (field_at v section (string_place t k) (width_size t.width))) here
+        (offset-is_read v section place size t n f p s e)
+  ];
+}
+
+pub text-fails : (v : View) (section place size : ℕ) (t : NameTable) (i : ℕ) (f : Field) (b : Bool) (r : Refusal) → NamesTexts v section t i → i < t.names → place ≡ string_place t i → size ≡ width_size t.width
+    → Ok f ≡ offset_read v section place size → b ≡ ends_in (texts_in v).bytes (offset_into (texts_in v) f) → b ≡ false → r ≡ at StringOffset section place
+    → TextRefuses v section t r
+text-fails v section place size t i f b r before lt p s e is none same =
+    subst (λ (x : Refusal). TextRefuses v section t x) (ap (at StringOffset section) (sym p) ∙ sym same)
+    (names_none (no_text i lt before (text-by v section place size t i f b p s e is ∙ none)))
+
+pub offset-refused : (v : View) (section place size : ℕ) (t : NameTable) (i : ℕ) (r : Refusal) → NamesTexts v section t i → OffsetsRead v section t i → i < t.names
+    → place ≡ string_place t i → size ≡ width_size t.width → Err r ≡ offset_read v section place size → TextRefuses v section t r
+offset-refused v section place size t i r texts_are offsets_are lt p s e =
+    reads_none (no_offset i lt texts_are offsets_are (sym (read-place v section place size t i p s) ∙ sym e))
+
+pub ruleset check_laws = (no_texts, no_offsets, more_texts, more_offsets, text-fails, offset-refused)
 
 -- a table of a view
 pub named-table : (v : View) (section start : ℕ) (order : Order) (bytes : List ℕ) (t : NameTable) → order ≡ v.order → bytes ≡ section_bytes v section
@@ -124,13 +188,14 @@ unfolding section_bytes
 named-table v section start order bytes t o b is all = record { table = rw (← o, ← b) is; texts = all }
 
 pub table-refused : (v : View) (section start : ℕ) (order : Order) (bytes : List ℕ) (r : Refusal) → order ≡ v.order → bytes ≡ section_bytes v section
-    → TableFails order bytes section start r → NamedFails v section (section_bytes v section) start r
+    → TableFails order bytes section start r → TableRefuses v section (section_bytes v section) start r
 unfolding section_bytes
-table-refused v section start order bytes r o b f = table (rw (← o, ← b) f)
+table-refused v section start order bytes r o b f = table_fails (table (rw (← o, ← b) f))
 
 pub texts-refused : (v : View) (section start : ℕ) (order : Order) (bytes : List ℕ) (t : NameTable) (r : Refusal) → order ≡ v.order → bytes ≡ section_bytes v section
-    → IsNameTable order bytes start t → TextFails v section t r → NamedFails v section (section_bytes v section) start r
+    → IsNameTable order bytes start t → TextRefuses v section t r → TableRefuses v section (section_bytes v section) start r
 unfolding section_bytes
-texts-refused v section start order bytes t r o b is f = texts t (rw (← o, ← b) is) f
+texts-refused v section start order bytes t r o b is (names_none f) = table_fails (texts t (rw (← o, ← b) is) f)
+texts-refused v section start order bytes t r o b is (reads_none f) = offset_fails t (rw (← o, ← b) is) f
 
 pub ruleset table_laws = (named-table, table-refused, texts-refused)

@@ -1,20 +1,23 @@
 -- Laws of the pass over the slots of string offsets.
 use Rattle.std.proofs.Common.{Bool, true, false, ◌≡◌, ◌≢◌, ℕ, zero, suc, ◌+◌, ◌-◌, ◌*◌, ◌/◌, ◌<◌, ◌≤◌, nat_eq, nat_lt, if◌then◌else◌, List, [], ◌∷◌, ◌++◌, length, get_or, take, Option, Some, None, refl, sym, ap, ◌∙◌, subst, arith, append_assoc}
+use Rattle.std.specs.Prelude.{Result, Ok, Err, is_some, IfErr, IfOk, OnOk}
 use Rattle.std.proofs.lemmas.Bool.{eqb-true}
 use Rattle.std.proofs.lemmas.Bool.Decides.{nat_tests}
 use Rattle.std.proofs.lemmas.List.{append-nil, length-append, take_all, get_or_append_left, get_or_push}
 use Rattle.dw_base.specs.DebugSections.{name_of}
-use Rattle.dw_base.specs.FileViews.{View, section_bytes, section_named}
+use Rattle.dw_base.specs.Cells.{offset_into}
+use Rattle.dw_base.specs.FileViews.{View, kind_at, section_bytes, section_named}
 use Rattle.dw_base.specs.Forms.{width_size}
 use Rattle.dw_base.specs.Lists.{tabulate}
-use Rattle.dw_base.specs.Numbers.{spelled}
 use Rattle.dw_base.specs.Paths.{PathMap, mapped_path}
 use Rattle.dw_base.specs.Refusals.{at, Blames}
+use Rattle.dw_base.specs.RelocationRows.{OffsetFails, OffsetReads}
 use Rattle.dw_base.specs.Slots.{Slot, slot_at, slot_total, slots_of}
-use Rattle.dw_base.specs.StringOffsets.{ContributionsUpTo, no_contributions, more_contributions}
+use Rattle.dw_base.specs.StringOffsets.{AreContributions, ContributionsUpTo, no_contributions, more_contributions}
 use Rattle.dw_base.specs.Texts.{ends_in, text_in}
-use Rattle.dw_base.specs.ViewData.{located, located_at}
+use Rattle.dw_base.specs.ViewData.{cells_located, located, located_at, string_offsets}
 use Rattle.dw_base.specs.declared.debug_sections.DebugSection.{DebugSection}
+use Rattle.dw_base.specs.declared.debug_sections.DebugSection.TheVariants.{Str, StrOffsets}
 use Rattle.dw_base.specs.declared.fault.Fault.{Fault}
 use Rattle.dw_base.specs.declared.fault.Fault.TheVariants.{NoMemory, Refused}
 use Rattle.dw_base.specs.declared.fault.Kind.TheVariants.{StringOffset, SharedIndex}
@@ -23,9 +26,17 @@ use Rattle.dw_base.specs.declared.shared.Order.{Order}
 use Rattle.dw_base.specs.declared.shared.Width.{Width}
 use Rattle.dw_base.specs.declared.shared.Width.TheVariants.{W32, W64}
 use Rattle.dw_base.specs.declared.string_offsets.Contribution.{Contribution}
-use Rattle.dw_offsets.specs.PathSlots.{SlotTable, SlotTaken, EachSlot, field_of, fields_of, SlotsTaken, IsAmong, SlotRefuses, no_text, shared, SlotsRefuse, slot, LiesIn, AllLieIn}
+use Rattle.dw_base.specs.declared.view_fields.Field.{Field}
+use Rattle.dw_base.proofs.ViewCellLaws.{length-view_cells, offset_at-cells}
+use Rattle.dw_offsets.specs.PathSlots.{SlotTable, table_with, table_in, slots_in, as_field, slot_offset, SlotTaken, EachSlot, field_of, fields_of, SlotsTaken, IsAmong, SlotRefuses, no_offset, no_text, shared, SlotsRefuse, slot, LiesIn, AllLieIn}
 use Rattle.dw_offsets.specs.SlotMarks.{marked}
+use Rattle.dw_base.specs.ViewOffsets.{offset_read}
+use Rattle.dw_base.proofs.ViewOffsetLaws.{offset-fails, offset-is, offset-reads, some-named}
 use Rattle.dw_offsets.specs.declared.slot_fields.PathSlot.{PathSlot}
+
+-- a slot
+abbrev slot_of : ℕ → ℕ → Slot
+slot_of place size = record { place = place; size = size }
 
 -- a section of a view
 located-is : (v : View) (d : DebugSection) (o : Option ℕ) → o ≡ section_named v (name_of d) → located v d ≡ located_at v o
@@ -45,6 +56,59 @@ pub bytes-none : (v : View) (d : DebugSection) → None ≡ section_named v (nam
 bytes-none v d is = rw (located-is v d None is) refl
 
 pub ruleset located_laws = (number-some, number-none, bytes-some, bytes-none)
+
+-- the section of string offsets of a view
+slots-at : (v : View) (o : Option ℕ) → o ≡ section_named v (name_of StrOffsets) → slots_in v ≡ table_with v (cells_located v o)
+slots-at v o is = ap (λ (x : Option ℕ). table_with v (cells_located v x)) (sym is)
+
+pub table-is : (v : View) (i : ℕ) → Some i ≡ section_named v (name_of StrOffsets) → table_in v i ≡ slots_in v
+table-is v i is = sym (slots-at v (Some i) is)
+
+pub table-kind : (v : View) (i : ℕ) → Some i ≡ section_named v (name_of StrOffsets) → is_some (kind_at v i) ≡ true
+table-kind v i is = some-named v StrOffsets i is
+
+pub ruleset table_laws = (table-is, table-kind)
+
+-- its contents have the bytes that its contributions were read from
+cells-size : (v : View) → length (slots_in v).cells ≡ length (string_offsets v).bytes
+unfolding located
+cells-size v = by_section (section_named v (name_of StrOffsets))
+  where
+    by_section : (o : Option ℕ) → length (cells_located v o).contents ≡ length (located_at v o).bytes
+    by_section None = refl
+    by_section (Some i) = length-view_cells v i
+
+-- the field of a slot
+field-size : (v : View) (i : ℕ) (t : SlotTable) → t ≡ table_in v i → length t.cells ≡ length (section_bytes v i)
+field-size v i t is = ap (λ (x : SlotTable). length x.cells) is ∙ length-view_cells v i
+
+pub slot-there : (v : View) (i at size : ℕ) (t : SlotTable) → t ≡ table_in v i → at + size ≤ length t.cells → at + size ≤ length (section_bytes v i)
+slot-there v i at size t is inside = let same = field-size v i t is in omega (arith, same, inside)
+
+pub slot-offset : (v : View) (i at size : ℕ) (t : SlotTable) (x : Result Field Refusal) → t ≡ table_in v i → 0 < size → at + size ≤ length t.cells
+    → x ≡ offset_read v i at size → IfOk x (λ f. offset_into t.str f ≡ slot_offset t (slot_of at size))
+slot-offset v i at size t (Err r) is some inside e = tt
+slot-offset v i at size t (Ok f) is some inside e =
+    ap (λ (x : SlotTable). offset_into x.str f) is
+    ∙ ap (offset_into (located v Str)) (offset-is v i at size f (sym e)).same
+    ∙ sym (offset_at-cells v (located v Str) i at size some (slot-there v i at size t is inside))
+    ∙ ap (λ (x : SlotTable). slot_offset x (slot_of at size)) (sym is)
+
+pub slot-reads : (v : View) (i at size : ℕ) (t : SlotTable) (x : Result Field Refusal) → t ≡ table_in v i → is_some (kind_at v i) ≡ true → 0 < size
+    → at + size ≤ length t.cells → x ≡ offset_read v i at size → OnOk x (OffsetReads t.order t.cells (as_field (slot_of at size)))
+slot-reads v i at size t (Err r) is kind some inside e = tt
+slot-reads v i at size t (Ok f) is kind some inside e =
+    subst (λ (x : SlotTable). OffsetReads x.order x.cells (as_field (slot_of at size))) (sym is)
+    (offset-reads v i at size f kind some (slot-there v i at size t is inside) (sym e))
+
+pub slot-refused : (v : View) (i at size : ℕ) (t : SlotTable) (x : Result Field Refusal) → t ≡ table_in v i → 0 < size → at + size ≤ length t.cells
+    → x ≡ offset_read v i at size → IfErr x (OffsetFails t.order t.number t.cells (as_field (slot_of at size)))
+slot-refused v i at size t (Ok f) is some inside e = tt
+slot-refused v i at size t (Err r) is some inside e =
+    subst (λ (x : SlotTable). OffsetFails x.order x.number x.cells (as_field (slot_of at size)) r) (sym is)
+    (offset-fails v i at size r some (slot-there v i at size t is inside) (sym e))
+
+pub ruleset slot_laws = (slot-reads, slot-refused)
 
 -- how many slots a contribution has, and where they start
 pub total-narrow : (c : Contribution) → c.width ≡ W32 → (c.end - c.base) / 4 ≡ slot_total c
@@ -76,45 +140,60 @@ wide-inside c i le lt w =
 pub ruleset start_laws = (start-narrow, start-wide, narrow-inside, wide-inside)
 
 -- whether a slot can be taken
-abbrev slot_of : ℕ → ℕ → Slot
-slot_of place size = record { place = place; size = size }
-
 never : (b : Bool) → b ≡ false → b ≡ true → ⊥
 never b f t = absurd cc
 
-pub check-no_text : (m : PathMap) (t : SlotTable) (marks : List ℕ) (place size offset : ℕ) (b : Bool) → offset ≡ spelled t.order t.bytes place size
-    → b ≡ ends_in t.str offset → b ≡ false → SlotRefuses m t marks (slot_of place size) (at StringOffset t.number place)
-check-no_text m t marks place size offset b is e none = no_text (ap (ends_in t.str) (sym is) ∙ sym e ∙ none)
+-- what was read of it: that no relocation refuses it, and the offset
+ends-is : (t : SlotTable) (place size : ℕ) (f : Field) (b : Bool) → offset_into t.str f ≡ slot_offset t (slot_of place size)
+    → b ≡ ends_in t.str.bytes (offset_into t.str f) → ends_in t.str.bytes (slot_offset t (slot_of place size)) ≡ b
+ends-is t place size f b is e = ap (ends_in t.str.bytes) (sym is) ∙ sym e
 
-pub check-no_path : (m : PathMap) (t : SlotTable) (marks : List ℕ) (place size offset : ℕ) (b p : Bool) → offset ≡ spelled t.order t.bytes place size
-    → b ≡ ends_in t.str offset → b ≡ true → p ≡ marked true marks place → p ≡ false → SlotTaken m t marks (slot_of place size)
-check-no_path m t marks place size offset b p is e ends mark none = record {
-  ends = ap (ends_in t.str) (sym is) ∙ sym e ∙ ends;
+pub check-no_offset : (m : PathMap) (t : SlotTable) (marks : List ℕ) (place size : ℕ) (r : Refusal)
+    → OffsetFails t.order t.number t.cells (as_field (slot_of place size)) r → SlotRefuses m t marks (slot_of place size) r
+check-no_offset m t marks place size r f = no_offset f
+
+pub check-no_text : (m : PathMap) (t : SlotTable) (marks : List ℕ) (place size : ℕ) (f : Field) (b : Bool) → OffsetReads t.order t.cells (as_field (slot_of place size))
+    → offset_into t.str f ≡ slot_offset t (slot_of place size) → b ≡ ends_in t.str.bytes (offset_into t.str f) → b ≡ false
+    → SlotRefuses m t marks (slot_of place size) (at StringOffset t.number place)
+check-no_text m t marks place size f b reads is e none = no_text reads (ends-is t place size f b is e ∙ none)
+
+pub check-no_path : (m : PathMap) (t : SlotTable) (marks : List ℕ) (place size : ℕ) (f : Field) (b p : Bool) → OffsetReads t.order t.cells (as_field (slot_of place size))
+    → offset_into t.str f ≡ slot_offset t (slot_of place size) → b ≡ ends_in t.str.bytes (offset_into t.str f) → b ≡ true
+    → p ≡ marked true marks place → p ≡ false → SlotTaken m t marks (slot_of place size)
+check-no_path m t marks place size f b p reads is e ends mark none = record {
+  reads = reads;
+  ends = ends-is t place size f b is e ∙ ends;
   stays = λ path other. absurd (never p none (mark ∙ path));
 }
 
-pub check-no_other : (m : PathMap) (t : SlotTable) (marks : List ℕ) (place size offset : ℕ) (b p : Bool) → offset ≡ spelled t.order t.bytes place size
-    → b ≡ ends_in t.str offset → b ≡ true → p ≡ marked false marks place → p ≡ false → SlotTaken m t marks (slot_of place size)
-check-no_other m t marks place size offset b p is e ends mark none = record {
-  ends = ap (ends_in t.str) (sym is) ∙ sym e ∙ ends;
+pub check-no_other : (m : PathMap) (t : SlotTable) (marks : List ℕ) (place size : ℕ) (f : Field) (b p : Bool) → OffsetReads t.order t.cells (as_field (slot_of place size))
+    → offset_into t.str f ≡ slot_offset t (slot_of place size) → b ≡ ends_in t.str.bytes (offset_into t.str f) → b ≡ true
+    → p ≡ marked false marks place → p ≡ false → SlotTaken m t marks (slot_of place size)
+check-no_other m t marks place size f b p reads is e ends mark none = record {
+  reads = reads;
+  ends = ends-is t place size f b is e ∙ ends;
   stays = λ path other. absurd (never p none (mark ∙ other));
 }
 
-pub check-stays : (m : PathMap) (t : SlotTable) (marks : List ℕ) (place size offset : ℕ) (b : Bool) → offset ≡ spelled t.order t.bytes place size
-    → b ≡ ends_in t.str offset → b ≡ true → mapped_path m (text_in t.str offset) ≡ text_in t.str offset → SlotTaken m t marks (slot_of place size)
-check-stays m t marks place size offset b is e ends same = record {
-  ends = ap (ends_in t.str) (sym is) ∙ sym e ∙ ends;
-  stays = λ path other. subst (λ (n : ℕ). mapped_path m (text_in t.str n) ≡ text_in t.str n) is same;
+pub check-stays : (m : PathMap) (t : SlotTable) (marks : List ℕ) (place size : ℕ) (f : Field) (b : Bool) → OffsetReads t.order t.cells (as_field (slot_of place size))
+    → offset_into t.str f ≡ slot_offset t (slot_of place size) → b ≡ ends_in t.str.bytes (offset_into t.str f) → b ≡ true
+    → mapped_path m (text_in t.str.bytes (offset_into t.str f)) ≡ text_in t.str.bytes (offset_into t.str f) → SlotTaken m t marks (slot_of place size)
+check-stays m t marks place size f b reads is e ends same = record {
+  reads = reads;
+  ends = ends-is t place size f b is e ∙ ends;
+  stays = λ path other. subst (λ (n : ℕ). mapped_path m (text_in t.str.bytes n) ≡ text_in t.str.bytes n) is same;
 }
 
-pub check-shared : (m : PathMap) (t : SlotTable) (marks : List ℕ) (place size offset : ℕ) (b p o : Bool) → offset ≡ spelled t.order t.bytes place size
-    → b ≡ ends_in t.str offset → b ≡ true → p ≡ marked true marks place → p ≡ true → o ≡ marked false marks place → o ≡ true
-    → mapped_path m (text_in t.str offset) ≢ text_in t.str offset → SlotRefuses m t marks (slot_of place size) (at SharedIndex t.number place)
-check-shared m t marks place size offset b p o is e ends path is_path other is_other changes =
-    shared (ap (ends_in t.str) (sym is) ∙ sym e ∙ ends) (sym path ∙ is_path) (sym other ∙ is_other)
-    (λ same. changes (subst (λ (n : ℕ). mapped_path m (text_in t.str n) ≡ text_in t.str n) (sym is) same))
+pub check-shared : (m : PathMap) (t : SlotTable) (marks : List ℕ) (place size : ℕ) (f : Field) (b p o : Bool) → OffsetReads t.order t.cells (as_field (slot_of place size))
+    → offset_into t.str f ≡ slot_offset t (slot_of place size) → b ≡ ends_in t.str.bytes (offset_into t.str f) → b ≡ true
+    → p ≡ marked true marks place → p ≡ true → o ≡ marked false marks place → o ≡ true
+    → mapped_path m (text_in t.str.bytes (offset_into t.str f)) ≢ text_in t.str.bytes (offset_into t.str f)
+    → SlotRefuses m t marks (slot_of place size) (at SharedIndex t.number place)
+check-shared m t marks place size f b p o reads is e ends path is_path other is_other changes =
+    shared reads (ends-is t place size f b is e ∙ ends) (sym path ∙ is_path) (sym other ∙ is_other)
+    (λ same. changes (subst (λ (n : ℕ). mapped_path m (text_in t.str.bytes n) ≡ text_in t.str.bytes n) (sym is) same))
 
-pub ruleset check_laws = (check-no_text, check-no_path, check-no_other, check-stays, check-shared)
+pub ruleset check_laws = (check-no_offset, check-no_text, check-no_path, check-no_other, check-stays, check-shared)
 
 -- a slot that was taken
 pub taken-path : (m : PathMap) (t : SlotTable) (marks : List ℕ) (place size : ℕ) (old new : List PathSlot) (p : Bool) → SlotTaken m t marks (slot_of place size)
@@ -276,7 +355,27 @@ lies-up order bytes list end no_contributions = record { each = λ i c d lt e. a
 lies-up order bytes list end (more_contributions before c start u is) =
     lies-more (length bytes) before c (lies-up order bytes before start u) (record { header = is.header; within = is.within })
 
-pub contributions-lie : (order : Order) (bytes : List ℕ) (list : List Contribution) → ContributionsUpTo order bytes list (length bytes) → AllLieIn (length bytes) list
-contributions-lie order bytes list u = lies-up order bytes list (length bytes) u
+pub contributions-lie : (v : View) (t : SlotTable) (list : List Contribution) → t ≡ slots_in v → AreContributions v.order (string_offsets v) list
+    → AllLieIn (length t.cells) list
+contributions-lie v t list is u =
+    subst (λ (n : ℕ). AllLieIn n list) (sym (ap (λ (x : SlotTable). length x.cells) is ∙ cells-size v))
+    (lies-up v.order (string_offsets v).bytes list (length (string_offsets v).bytes) u)
 
-pub ruleset pass_laws = (contributions-lie)
+-- where there is no section of string offsets, there is no slot
+none-there : (v : View) → None ≡ section_named v (name_of StrOffsets) → length (string_offsets v).bytes ≡ 0
+unfolding located
+none-there v e = ap (λ (o : Option ℕ). length (located_at v o).bytes) (sym e)
+
+none-list : (order : Order) (bytes : List ℕ) (list : List Contribution) (end : ℕ) → end ≡ 0 → ContributionsUpTo order bytes list end → list ≡ []
+none-list order bytes list end e no_contributions = refl
+none-list order bytes list end e (more_contributions before c start u is) =
+    let base : c.base ≡ start + is.lengths.2 + 4 = ap (λ (x : Contribution). x.base) is.is in
+    absurd (omega (arith, base, is.header, e))
+
+pub none-taken : (m : PathMap) (v : View) (marks : List ℕ) (list : List Contribution) (new : List PathSlot) → None ≡ section_named v (name_of StrOffsets)
+    → AreContributions v.order (string_offsets v) list → new ≡ [] → SlotsTaken m (slots_in v) marks (slots_of list) [] new
+none-taken m v marks list new none u empty =
+    let nothing : list ≡ [] = none-list v.order (string_offsets v).bytes list (length (string_offsets v).bytes) (none-there v none) u in
+    subst (λ (l : List Contribution). SlotsTaken m (slots_in v) marks (slots_of l) [] new) (sym nothing) (taken-none m (slots_in v) marks [] new empty)
+
+pub ruleset pass_laws = (contributions-lie, none-taken)

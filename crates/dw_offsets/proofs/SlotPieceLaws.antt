@@ -4,17 +4,17 @@ use Rattle.std.specs.Prelude.{⊤}
 use Rattle.std.proofs.Common.{Bool, true, false, not, ◌≡◌, ◌⊎◌, inl, inr, ℕ, zero, suc, ◌+◌, ◌-◌, ◌*◌, ◌/◌, ◌<◌, ◌≤◌, ◌==◌, ◌&&◌, ◌||◌, if◌then◌else◌, List, [], ◌∷◌, ◌++◌, length, get_or, drop, Option, Some, None, refl, sym, ap, ◌∙◌, subst, arith, append_assoc}
 use Rattle.std.proofs.lemmas.Bool.{cases_eq, eq-eqb, ne_eqb, eqb-true}
 use Rattle.std.proofs.lemmas.List.{append-nil, length-append, get_or_at}
-use Rattle.dw_base.specs.Cells.{Cell, bytes_of, offset_of}
+use Rattle.dw_base.specs.Cells.{Cell, Located, bytes_of, cells_at, offset_of}
 use Rattle.dw_base.specs.DebugData.{Around, path_slots, other_slots}
 use Rattle.dw_base.specs.Forms.{in_str, width_size}
 use Rattle.dw_base.specs.IndexFails.{HasSlot, SlotFails, no_text, SlotFitsBy, SlotFits, SharedFails, shared}
 use Rattle.dw_base.specs.Lebs.{initial_length_at}
 use Rattle.dw_base.specs.Lists.{tabulate}
-use Rattle.dw_base.specs.Numbers.{spelled}
 use Rattle.dw_base.specs.OffsetPieces.{OffsetMode, at_contribution, at_slot, no_offsets, OffsetState, offsets_at, before_slot, FitsOffsets, after_offsets_header, past_offsets, offset_grammar, ReadsOffsets}
 use Rattle.dw_base.specs.Paths.{PathMap, mapped_path}
 use Rattle.dw_base.specs.Pieces.{Piece, EachPiece, Chain, joined}
 use Rattle.dw_base.specs.Refusals.{at}
+use Rattle.dw_base.specs.RelocationRows.{FieldPlace, IsField, OffsetFails, OffsetReads, field_place, offset_field, slot_field as field_by_mode, slot_fields as offset_fields}
 use Rattle.dw_base.specs.SectionTexts.{offset_role, slot_role, NameTexts}
 use Rattle.dw_base.specs.SlotTexts.{contribution_by, begun_by, contributions_in, field_text}
 use Rattle.dw_base.specs.Slots.{Slot, slot_at, slot_total, slots_of, slot_number}
@@ -28,13 +28,12 @@ use Rattle.dw_base.specs.declared.shared.Order.{Order}
 use Rattle.dw_base.specs.declared.shared.Width.{Width}
 use Rattle.dw_base.specs.declared.shared.Width.TheVariants.{W32, W64}
 use Rattle.dw_base.specs.declared.string_offsets.Contribution.{Contribution}
-use Rattle.dw_base.proofs.ContributionBackLaws.{StandsAt, spelled-there, piece-stands, behind-piece, piece-inside}
+use Rattle.dw_base.proofs.ContributionBackLaws.{behind-piece}
 use Rattle.dw_base.proofs.OffsetChangeLaws.{slot-before, slot-header}
-use Rattle.dw_base.proofs.UnitEditLaws.{length-bytes_of}
-use Rattle.dw_base.proofs.PlainCellLaws.{IsPlain, plain-parts, offset_of-plain}
+use Rattle.dw_base.proofs.ViewCellLaws.{piece-cells}
 use Rattle.dw_offsets.proofs.SlotNumberLaws.{StandsAt as SlotStands, slot-stands, slot-absent}
 use Rattle.dw_offsets.specs.NamedPlaces.{place_by, use_place, is_place, names_place}
-use Rattle.dw_offsets.specs.PathSlots.{SlotTable, slot_offset, named_text, SlotTaken, EachSlot, fields_of, SlotsTaken, SlotRefuses, no_text as slot_no_text, shared as slot_shared, SlotsRefuse, slot, slot_field, slot_fields}
+use Rattle.dw_offsets.specs.PathSlots.{SlotTable, as_field, slot_offset, named_text, SlotTaken, EachSlot, fields_of, SlotsTaken, IsAmong, SlotRefuses, no_offset, no_text as slot_no_text, shared as slot_shared, SlotsRefuse, slot, slot_field, slot_fields}
 use Rattle.dw_offsets.specs.SlotMarks.{marked, AreMarks}
 use Rattle.dw_offsets.specs.declared.slot_fields.PathSlot.{PathSlot}
 
@@ -138,25 +137,22 @@ slots-from order s (x ∷ xs) chain =
 pub slots-are : (order : Order) (cells : List Cell) (xs : List (Piece OffsetState)) → ReadsOffsets order cells xs → piece_slots xs ≡ slots_of (contributions_in order xs)
 slots-are order cells xs r = slots-from order (offsets_at (length cells) 0 0 at_contribution) xs r.chain
 
--- what is known of a slot among pieces: its number is its index among all slots, and it says the offset that the section's bytes say
+-- what is known of a slot among pieces: its number is its index among all slots, and its cells stand at its place
 record IsNth (all : List Slot) (n : ℕ) (s : Slot) : Type 0 where
   below : n < length all
   is : get_or all n (record { place = 0; size = 0 }) ≡ s
 
-record SlotFact (order : Order) (cells : List Cell) (all : List Slot) (x : Piece OffsetState) : Type 0 where
+record SlotFact (cells : List Cell) (all : List Slot) (x : Piece OffsetState) : Type 0 where
   nth : IsNth all x.state.slot (slot_piece x)
-  plain : IsPlain x.cells
-  says : spelled order (bytes_of x.cells) 0 (length x.cells) ≡ spelled order (bytes_of cells) x.state.place (length x.cells)
+  stands : cells_at cells x.state.place (length x.cells) ≡ x.cells
 
-abbrev FactBy : OffsetMode → Order → List Cell → List Slot → Piece OffsetState → Type 0
-FactBy (at_slot w end) order cells all x = SlotFact order cells all x
-FactBy m order cells all x = ⊤
+abbrev FactBy : OffsetMode → List Cell → List Slot → Piece OffsetState → Type 0
+FactBy (at_slot w end) cells all x = SlotFact cells all x
+FactBy m cells all x = ⊤
 
 -- where pieces stand that follow others
 record Follows (cells : List Cell) (all front : List Slot) (s : OffsetState) (xs : List (Piece OffsetState)) : Type 0 where
-  inside : s.place ≤ length cells
   is : drop s.place cells ≡ joined xs
-  plain : IsPlain (joined xs)
   slots : all ≡ front ++ piece_slots xs
   number : length front ≡ s.slot
 
@@ -194,57 +190,46 @@ follow order cells all front s x xs same f h =
     let place : x.state.place ≡ s.place = ap (λ (z : OffsetState). z.place) same in
     let next : (past_offsets x.state.mode order x.state x.cells).place ≡ x.state.place + length x.cells = place-next x.state.mode order x.state x.cells f in
     let is : drop x.state.place cells ≡ x.cells ++ joined xs = ap (λ (n : ℕ). drop n cells) place ∙ h.is in
-    let inside : x.state.place + length x.cells ≤ length cells = piece-inside cells x.cells (joined xs) x.state.place (omega (arith, place, h.inside)) is in
     record {
-      inside = omega (arith, next, inside);
       is = ap (λ (n : ℕ). drop n cells) next ∙ behind-piece cells x.cells (joined xs) x.state.place is;
-      plain = (plain-parts x.cells (joined xs) h.plain).1;
       slots = h.slots ∙ sym (append_assoc front (listed_by x.state.mode (slot_piece x)) (piece_slots xs));
       number = number-next x.state.mode order x.state x.cells front f (h.number ∙ ap (λ (z : OffsetState). z.slot) (sym same));
     }
 
-fact-by : (m : OffsetMode) (order : Order) (cells : List Cell) (all front : List Slot) (s : OffsetState) (x : Piece OffsetState) (xs : List (Piece OffsetState)) → x.state.mode ≡ m
-    → x.state ≡ s → Follows cells all front s (x ∷ xs) → FactBy m order cells all x
-fact-by at_contribution order cells all front s x xs mode same h = tt
-fact-by (at_slot w end) order cells all front s x xs mode same h =
+fact-by : (m : OffsetMode) (cells : List Cell) (all front : List Slot) (s : OffsetState) (x : Piece OffsetState) (xs : List (Piece OffsetState)) → x.state.mode ≡ m
+    → x.state ≡ s → Follows cells all front s (x ∷ xs) → FactBy m cells all x
+fact-by at_contribution cells all front s x xs mode same h = tt
+fact-by (at_slot w end) cells all front s x xs mode same h =
     let place : x.state.place ≡ s.place = ap (λ (z : OffsetState). z.place) same in
     let number : length front ≡ x.state.slot = h.number ∙ ap (λ (z : OffsetState). z.slot) (sym same) in
     let split : all ≡ front ++ slot_piece x ∷ piece_slots xs = subst (λ (k : OffsetMode). all ≡ front ++ (listed_by k (slot_piece x) ++ piece_slots xs)) mode h.slots in
     let size = length-append front (slot_piece x ∷ piece_slots xs) in
     let whole : length all ≡ length (front ++ slot_piece x ∷ piece_slots xs) = ap (λ (l : List Slot). length l) split in
     let is : drop x.state.place cells ≡ x.cells ++ joined xs = ap (λ (n : ℕ). drop n cells) place ∙ h.is in
-    let stands : StandsAt (bytes_of cells) (bytes_of x.cells) x.state.place = piece-stands cells x.cells (joined xs) x.state.place (omega (arith, place, h.inside)) is in
     record {
       nth = record {
         below = omega (arith, number, size, whole);
         is = ap (λ (l : List Slot). get_or l x.state.slot (record { place = 0; size = 0 })) split
             ∙ get_or_at front (slot_piece x) (piece_slots xs) (record { place = 0; size = 0 }) x.state.slot number;
       };
-      plain = (plain-parts x.cells (joined xs) h.plain).0;
-      says = sym (spelled-there order (bytes_of cells) (bytes_of x.cells) x.state.place 0 (length x.cells) stands (omega (arith, length-bytes_of x.cells)))
-          ∙ ap (λ (n : ℕ). spelled order (bytes_of cells) n (length x.cells)) (omega arith);
+      stands = piece-cells cells x.cells (joined xs) x.state.place is;
     }
-fact-by no_offsets order cells all front s x xs mode same h = tt
+fact-by no_offsets cells all front s x xs mode same h = tt
 
 facts-from : (order : Order) (cells : List Cell) (all front : List Slot) (s : OffsetState) (xs : List (Piece OffsetState)) → Chain (offset_grammar order) s xs
-    → Follows cells all front s xs → EachPiece (λ x. FactBy x.state.mode order cells all x) xs
+    → Follows cells all front s xs → EachPiece (λ x. FactBy x.state.mode cells all x) xs
 facts-from order cells all front s [] chain h = tt
 facts-from order cells all front s (x ∷ xs) chain h = (
-  fact-by x.state.mode order cells all front s x xs refl chain.0 h,
+  fact-by x.state.mode cells all front s x xs refl chain.0 h,
   facts-from order cells all (front ++ listed_by x.state.mode (slot_piece x)) (past_offsets x.state.mode order x.state x.cells) xs chain.2
       (follow order cells all front s x xs chain.0 chain.1 h),
 )
 
-piece-facts : (order : Order) (cells : List Cell) (xs : List (Piece OffsetState)) → ReadsOffsets order cells xs → IsPlain cells
-    → EachPiece (λ x. FactBy x.state.mode order cells (piece_slots xs) x) xs
-piece-facts order cells xs r plain =
-    facts-from order cells (piece_slots xs) [] (offsets_at (length cells) 0 0 at_contribution) xs r.chain (record {
-      inside = omega arith;
-      is = sym r.cells;
-      plain = subst IsPlain (sym r.cells) plain;
-      slots = refl;
-      number = refl;
-    })
+piece-facts : (order : Order) (cells : List Cell) (xs : List (Piece OffsetState)) → ReadsOffsets order cells xs
+    → EachPiece (λ x. FactBy x.state.mode cells (piece_slots xs) x) xs
+piece-facts order cells xs r =
+    facts-from order cells (piece_slots xs) [] (offsets_at (length cells) 0 0 at_contribution) xs r.chain
+    (record { is = sym r.cells; slots = refl; number = refl })
 
 -- the places of slots rise
 abbrev Rising : List Slot → Type 0
@@ -387,10 +372,9 @@ names-is false g (u ∷ us) n s h = by_path u.path (names-is false g us n s h)
 -- the pieces of string offsets, what stands around them, and the marks of what the units name
 pub record SlotsAround (around : Around) (t : SlotTable) (cells : List Cell) (xs : List (Piece OffsetState)) (marks : List ℕ) : Type 0 where
   pub reads : ReadsOffsets t.order cells xs
-  pub plain : IsPlain cells
-  pub bytes : bytes_of cells ≡ t.bytes
+  pub same : cells ≡ t.cells
   pub order : around.lasting.base.order ≡ t.order
-  pub str : around.str.bytes ≡ t.str
+  pub str : around.str ≡ t.str
   pub list : contributions_in t.order xs ≡ around.lasting.indexing.contributions
   pub are_marks : AreMarks marks around.lasting.indexing around.lasting.indexing.uses
 
@@ -405,7 +389,7 @@ KnownBy (at_slot w end) around t marks x = SlotKnown around t marks x
 KnownBy m around t marks x = ⊤
 
 slot-known : (around : Around) (t : SlotTable) (cells : List Cell) (xs : List (Piece OffsetState)) (marks : List ℕ) (x : Piece OffsetState) → SlotsAround around t cells xs marks
-    → SlotFact t.order cells (piece_slots xs) x → SlotKnown around t marks x
+    → SlotFact cells (piece_slots xs) x → SlotKnown around t marks x
 slot-known around t cells xs marks x a f =
     let all : piece_slots xs ≡ slots_of around.lasting.indexing.contributions = slots-are t.order cells xs a.reads ∙ ap slots_of a.list in
     let rise : RiseFrom 0 (piece_slots xs) = rise-all t.order (offsets_at (length cells) 0 0 at_contribution) xs a.reads.chain in
@@ -414,12 +398,12 @@ slot-known around t cells xs marks x a f =
     record {
       paths = a.are_marks.each true x.state.place ∙ names-is true around.lasting.indexing around.lasting.indexing.uses x.state.slot (slot_piece x) is;
       others = a.are_marks.each false x.state.place ∙ names-is false around.lasting.indexing around.lasting.indexing.uses x.state.slot (slot_piece x) is;
-      offset = ap (λ (o : Order). offset_of o around.str x.cells) a.order ∙ offset_of-plain t.order around.str x.cells f.plain ∙ f.says
-          ∙ ap (λ (bs : List ℕ). spelled t.order bs x.state.place (length x.cells)) a.bytes;
+      offset = ap (λ (o : Order). offset_of o around.str x.cells) a.order ∙ ap (λ (z : Located). offset_of t.order z x.cells) a.str
+          ∙ ap (offset_of t.order t.str) (sym f.stands ∙ ap (λ (cs : List Cell). cells_at cs x.state.place (length x.cells)) a.same);
     }
 
 known-by : (m : OffsetMode) (around : Around) (t : SlotTable) (cells : List Cell) (xs : List (Piece OffsetState)) (marks : List ℕ) (x : Piece OffsetState)
-    → SlotsAround around t cells xs marks → FactBy m t.order cells (piece_slots xs) x → KnownBy m around t marks x
+    → SlotsAround around t cells xs marks → FactBy m cells (piece_slots xs) x → KnownBy m around t marks x
 known-by at_contribution around t cells xs marks x a f = tt
 known-by (at_slot w end) around t cells xs marks x a f = slot-known around t cells xs marks x a f
 known-by no_offsets around t cells xs marks x a f = tt
@@ -428,9 +412,9 @@ abbrev AllKnown : Around → SlotTable → List ℕ → List (Piece OffsetState)
 AllKnown around t marks xs = EachPiece (λ x. KnownBy x.state.mode around t marks x) xs
 
 all-known : (around : Around) (t : SlotTable) (cells : List Cell) (xs : List (Piece OffsetState)) (marks : List ℕ) → SlotsAround around t cells xs marks → AllKnown around t marks xs
-all-known around t cells xs marks a = each xs (piece-facts t.order cells xs a.reads a.plain)
+all-known around t cells xs marks a = each xs (piece-facts t.order cells xs a.reads)
   where
-    each : (ys : List (Piece OffsetState)) → EachPiece (λ x. FactBy x.state.mode t.order cells (piece_slots xs) x) ys → AllKnown around t marks ys
+    each : (ys : List (Piece OffsetState)) → EachPiece (λ x. FactBy x.state.mode cells (piece_slots xs) x) ys → AllKnown around t marks ys
     each [] h = tt
     each (y ∷ ys) h = (known-by y.state.mode around t cells xs marks y a h.0, each ys h.1)
 
@@ -444,7 +428,7 @@ rest-taken P at_contribution s rest h = h
 rest-taken P (at_slot w end) s rest h = h.1
 rest-taken P no_offsets s rest h = h
 
-piece-names : (m : PathMap) (t : SlotTable) (marks : List ℕ) (around : Around) (x : Piece OffsetState) (rest : List Slot) (mode : OffsetMode) → around.str.bytes ≡ t.str
+piece-names : (m : PathMap) (t : SlotTable) (marks : List ℕ) (around : Around) (x : Piece OffsetState) (rest : List Slot) (mode : OffsetMode) → around.str.bytes ≡ t.str.bytes
     → KnownBy mode around t marks x → EachSlot (SlotTaken m t marks) (listed_by mode (slot_piece x) ++ rest)
     → NamesTextBy (offset_role (path_slots around) mode x.state.slot) around x.cells
 piece-names m t marks around x rest at_contribution str known h = tt
@@ -452,12 +436,12 @@ piece-names m t marks around x rest (at_slot w end) str known h =
     ap (ends_in around.str.bytes) known.offset ∙ ap (λ (bs : List ℕ). ends_in bs (slot_offset t (slot_piece x))) str ∙ h.0.ends
 piece-names m t marks around x rest no_offsets str known h = tt
 
-text-same : (around : Around) (t : SlotTable) (marks : List ℕ) (x : Piece OffsetState) → around.str.bytes ≡ t.str → SlotKnown around t marks x
+text-same : (around : Around) (t : SlotTable) (marks : List ℕ) (x : Piece OffsetState) → around.str.bytes ≡ t.str.bytes → SlotKnown around t marks x
     → field_text around.lasting.base.order around.str x.cells ≡ named_text t (slot_piece x)
 text-same around t marks x str known =
     ap (text_in around.str.bytes) known.offset ∙ ap (λ (bs : List ℕ). text_in bs (slot_offset t (slot_piece x))) str
 
-piece-fits : (m : PathMap) (t : SlotTable) (marks : List ℕ) (around : Around) (x : Piece OffsetState) (rest : List Slot) (mode : OffsetMode) → around.str.bytes ≡ t.str
+piece-fits : (m : PathMap) (t : SlotTable) (marks : List ℕ) (around : Around) (x : Piece OffsetState) (rest : List Slot) (mode : OffsetMode) → around.str.bytes ≡ t.str.bytes
     → KnownBy mode around t marks x → EachSlot (SlotTaken m t marks) (listed_by mode (slot_piece x) ++ rest)
     → SlotFitsBy mode m around x.state.slot x.cells
 piece-fits m t marks around x rest at_contribution str known h = tt
@@ -465,7 +449,7 @@ piece-fits m t marks around x rest (at_slot w end) str known h = λ path other.
     subst (λ (u : List ℕ). mapped_path m u ≡ u) (sym (text-same around t marks x str known)) (h.0.stays (known.paths ∙ path) (known.others ∙ other))
 piece-fits m t marks around x rest no_offsets str known h = tt
 
-pieces-name : (m : PathMap) (t : SlotTable) (marks : List ℕ) (around : Around) (xs : List (Piece OffsetState)) → around.str.bytes ≡ t.str → AllKnown around t marks xs
+pieces-name : (m : PathMap) (t : SlotTable) (marks : List ℕ) (around : Around) (xs : List (Piece OffsetState)) → around.str.bytes ≡ t.str.bytes → AllKnown around t marks xs
     → EachSlot (SlotTaken m t marks) (piece_slots xs) → NameTexts (slot_role (path_slots around)) around xs
 pieces-name m t marks around [] str known h = tt
 pieces-name m t marks around (x ∷ xs) str known h = (
@@ -473,7 +457,7 @@ pieces-name m t marks around (x ∷ xs) str known h = (
   pieces-name m t marks around xs str known.1 (rest-taken (SlotTaken m t marks) x.state.mode (slot_piece x) (piece_slots xs) h),
 )
 
-pieces-fit : (m : PathMap) (t : SlotTable) (marks : List ℕ) (around : Around) (xs : List (Piece OffsetState)) → around.str.bytes ≡ t.str → AllKnown around t marks xs
+pieces-fit : (m : PathMap) (t : SlotTable) (marks : List ℕ) (around : Around) (xs : List (Piece OffsetState)) → around.str.bytes ≡ t.str.bytes → AllKnown around t marks xs
     → EachSlot (SlotTaken m t marks) (piece_slots xs) → EachPiece (SlotFits m around) xs
 pieces-fit m t marks around [] str known h = tt
 pieces-fit m t marks around (x ∷ xs) str known h = (
@@ -508,15 +492,67 @@ slots-say m around t cells xs marks fields a h =
     let known : AllKnown around t marks xs = all-known around t cells xs marks a in
     let taken : EachSlot (SlotTaken m t marks) (piece_slots xs) = subst (λ (l : List Slot). EachSlot (SlotTaken m t marks) l) (sym all) h.taken in
     record {
-      texts = pieces-name m t marks around xs a.str known taken;
-      fits = pieces-fit m t marks around xs a.str known taken;
+      texts = pieces-name m t marks around xs (ap (λ (z : Located). z.bytes) a.str) known taken;
+      fits = pieces-fit m t marks around xs (ap (λ (z : Located). z.bytes) a.str) known taken;
       fields_are = h.fields ∙ ap (fields_of marks) (sym all) ∙ pieces-fields t marks around xs known;
     }
 
+-- the slots among pieces as fields
+abbrev slot_places : List Slot → List FieldPlace
+slot_places [] = []
+slot_places (s ∷ ss) = as_field s ∷ slot_places ss
+
+places-by : (m : OffsetMode) (order : Order) (s : OffsetState) (p : List Cell) (fs : List FieldPlace) (rest : List Slot) → FitsOffsets m order s p → fs ≡ slot_places rest
+    → field_by_mode m s.place ++ fs ≡ slot_places (listed_by m (slot_of_size s.place (length p)) ++ rest)
+places-by at_contribution order s p fs rest f e = e
+places-by (at_slot w end) order s p fs rest f e =
+    ap (λ (l : List FieldPlace). field_place s.place (width_size w) offset_field ∷ l) e
+    ∙ ap (λ (n : ℕ). field_place s.place n offset_field ∷ slot_places rest) (sym f.size)
+places-by no_offsets order s p fs rest f e = absurd f
+
+places-are : (order : Order) (s : OffsetState) (xs : List (Piece OffsetState)) → Chain (offset_grammar order) s xs → offset_fields xs ≡ slot_places (piece_slots xs)
+places-are order s [] chain = refl
+places-are order s (x ∷ xs) chain =
+    places-by x.state.mode order x.state x.cells (offset_fields xs) (piece_slots xs) chain.1
+    (places-are order (past_offsets x.state.mode order x.state x.cells) xs chain.2)
+
+places-append : (xs ys : List Slot) → slot_places (xs ++ ys) ≡ slot_places xs ++ slot_places ys
+places-append [] ys = refl
+places-append (x ∷ xs) ys = ap (λ (l : List FieldPlace). as_field x ∷ l) (places-append xs ys)
+
+first-field : (f g : FieldPlace) (fs gs : List FieldPlace) → f ∷ fs ≡ g ∷ gs → f ≡ g
+first-field f g fs gs e = cc
+
+rest-fields : (f g : FieldPlace) (fs gs : List FieldPlace) → f ∷ fs ≡ g ∷ gs → fs ≡ gs
+rest-fields f g fs gs e = cc
+
+no-field : (before behind : List FieldPlace) (f : FieldPlace) → [] ≡ before ++ f ∷ behind → ⊥
+no-field [] behind f e = cc
+no-field (b ∷ bs) behind f e = cc
+
+each-place : (P : FieldPlace → Type 0) (ss : List Slot) (before behind : List FieldPlace) (f : FieldPlace) → EachSlot (λ s. P (as_field s)) ss
+    → slot_places ss ≡ before ++ f ∷ behind → P f
+each-place P [] before behind f h e = absurd (no-field before behind f e)
+each-place P (s ∷ ss) [] behind f h e = subst P (first-field (as_field s) f (slot_places ss) behind e) h.0
+each-place P (s ∷ ss) (b ∷ bs) behind f h e = each-place P ss bs behind f h.1 (rest-fields (as_field s) b (slot_places ss) (bs ++ f ∷ behind) e)
+
+-- no relocation refuses a slot of those that were taken
+pub slots-offsets : (m : PathMap) (around : Around) (t : SlotTable) (cells : List Cell) (xs : List (Piece OffsetState)) (marks : List ℕ) (fields : List PathSlot)
+    (f : FieldPlace) → SlotsAround around t cells xs marks → SlotsTaken m t marks (slots_of around.lasting.indexing.contributions) [] fields
+    → IsField (offset_fields xs) f → OffsetReads t.order cells f
+slots-offsets m around t cells xs marks fields f a h is =
+    let all : piece_slots xs ≡ slots_of around.lasting.indexing.contributions = slots-are t.order cells xs a.reads ∙ ap slots_of a.list in
+    let taken : EachSlot (SlotTaken m t marks) (piece_slots xs) = subst (λ (l : List Slot). EachSlot (SlotTaken m t marks) l) (sym all) h.taken in
+    subst (λ (cs : List Cell). OffsetReads t.order cs f) (sym a.same)
+    (each-place (OffsetReads t.order t.cells) (piece_slots xs) is.before is.behind f
+    (each-from (SlotTaken m t marks) (λ s. OffsetReads t.order t.cells (as_field s)) (piece_slots xs) (λ s one. one.reads) taken)
+    (sym (places-are t.order (offsets_at (length cells) 0 0 at_contribution) xs a.reads.chain) ∙ is.is))
+
 -- and what it refuses is refused at a piece
-pub data SlotsFail (m : PathMap) (section : ℕ) (around : Around) (xs : List (Piece OffsetState)) : Refusal → Type 0 where
-  slot_fails : {r : Refusal} → SlotFails section around xs r → SlotsFail m section around xs r
-  shared_fails : {r : Refusal} → SharedFails m section around xs r → SlotsFail m section around xs r
+pub data SlotsFail (m : PathMap) (t : SlotTable) (around : Around) (xs : List (Piece OffsetState)) : Refusal → Type 0 where
+  slot_fails : {r : Refusal} → SlotFails t.number around xs r → SlotsFail m t around xs r
+  shared_fails : {r : Refusal} → SharedFails m t.number around xs r → SlotsFail m t around xs r
+  offset_fails : (f : FieldPlace) {r : Refusal} → IsField (offset_fields xs) f → OffsetFails t.order t.number t.cells f r → SlotsFail m t around xs r
 
 -- the slot of a piece among others
 record SlotAmong (around : Around) (t : SlotTable) (marks : List ℕ) (xs : List (Piece OffsetState)) (s : Slot) : Type 0 where
@@ -580,26 +616,38 @@ piece-among around t marks [] before behind s known e = absurd (none-among befor
 piece-among around t marks (x ∷ xs) before behind s known e =
     among-step x.state.mode around t marks x xs before behind s refl known.0 (λ front f. piece-among around t marks xs front behind s known.1 f) e
 
-slot-fails : (m : PathMap) (around : Around) (t : SlotTable) (marks : List ℕ) (xs : List (Piece OffsetState)) (s : Slot) (r : Refusal) → around.str.bytes ≡ t.str
-    → SlotAmong around t marks xs s → SlotRefuses m t marks s r → SlotsFail m t.number around xs r
-slot-fails m around t marks xs s r str a (slot_no_text ends) =
+slot-fails : (m : PathMap) (around : Around) (t : SlotTable) (marks : List ℕ) (xs : List (Piece OffsetState)) (s : Slot) (r : Refusal) → around.str.bytes ≡ t.str.bytes
+    → IsField (offset_fields xs) (as_field s) → SlotAmong around t marks xs s → SlotRefuses m t marks s r → SlotsFail m t around xs r
+slot-fails m around t marks xs s r str field a (no_offset f) = offset_fails (as_field s) field f
+slot-fails m around t marks xs s r str field a (slot_no_text reads ends) =
     let place : a.piece.state.place ≡ s.place = ap (λ (z : Slot). z.place) a.same in
     let none : ends_in around.str.bytes (offset_in around in_str a.piece.cells) ≡ false =
     ap (ends_in around.str.bytes) a.known.offset ∙ ap (λ (bs : List ℕ). ends_in bs (slot_offset t (slot_piece a.piece))) str
-    ∙ ap (λ (z : Slot). ends_in t.str (slot_offset t z)) a.same ∙ ends in
-    subst (λ (n : ℕ). SlotsFail m t.number around xs (at StringOffset t.number n)) place (slot_fails (no_text a.piece a.has none))
-slot-fails m around t marks xs s r str a (slot_shared ends path other changes) =
+    ∙ ap (λ (z : Slot). ends_in t.str.bytes (slot_offset t z)) a.same ∙ ends in
+    subst (λ (n : ℕ). SlotsFail m t around xs (at StringOffset t.number n)) place (slot_fails (no_text a.piece a.has none))
+slot-fails m around t marks xs s r str field a (slot_shared reads ends path other changes) =
     let place : a.piece.state.place ≡ s.place = ap (λ (z : Slot). z.place) a.same in
     let text : field_text around.lasting.base.order around.str a.piece.cells ≡ named_text t s =
     text-same around t marks a.piece str a.known ∙ ap (named_text t) a.same in
-    subst (λ (n : ℕ). SlotsFail m t.number around xs (at SharedIndex t.number n)) place
+    subst (λ (n : ℕ). SlotsFail m t around xs (at SharedIndex t.number n)) place
     (shared_fails (shared a.piece a.has (sym a.known.paths ∙ ap (λ (n : ℕ). marked true marks n) place ∙ path)
     (sym a.known.others ∙ ap (λ (n : ℕ). marked false marks n) place ∙ other)
     (λ same. changes (subst (λ (u : List ℕ). mapped_path m u ≡ u) text same))))
 
+slot-field : (order : Order) (cells : List Cell) (xs : List (Piece OffsetState)) (s : Slot) → ReadsOffsets order cells xs → IsAmong (piece_slots xs) s
+    → IsField (offset_fields xs) (as_field s)
+slot-field order cells xs s reads among = record {
+  before = slot_places among.before;
+  behind = slot_places among.behind;
+  is = places-are order (offsets_at (length cells) 0 0 at_contribution) xs reads.chain ∙ ap slot_places among.is
+      ∙ places-append among.before (s ∷ among.behind);
+}
+
 pub slots-fail : (m : PathMap) (around : Around) (t : SlotTable) (cells : List Cell) (xs : List (Piece OffsetState)) (marks : List ℕ) (r : Refusal)
-    → SlotsAround around t cells xs marks → SlotsRefuse m t marks (slots_of around.lasting.indexing.contributions) r → SlotsFail m t.number around xs r
+    → SlotsAround around t cells xs marks → SlotsRefuse m t marks (slots_of around.lasting.indexing.contributions) r → SlotsFail m t around xs r
 slots-fail m around t cells xs marks r a (slot s among refuses) =
     let all : piece_slots xs ≡ slots_of around.lasting.indexing.contributions = slots-are t.order cells xs a.reads ∙ ap slots_of a.list in
-    slot-fails m around t marks xs s r a.str
-    (piece-among around t marks xs among.before among.behind s (all-known around t cells xs marks a) (all ∙ among.is)) refuses
+    let here : piece_slots xs ≡ among.before ++ s ∷ among.behind = all ∙ among.is in
+    slot-fails m around t marks xs s r (ap (λ (z : Located). z.bytes) a.str)
+    (slot-field t.order cells xs s a.reads (record { before = among.before; behind = among.behind; is = here }))
+    (piece-among around t marks xs among.before among.behind s (all-known around t cells xs marks a) here) refuses

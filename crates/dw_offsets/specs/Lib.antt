@@ -3,3 +3,5 @@ pub mod PathSlots
 pub mod SlotMarks
 pub mod SlotSearch
 pub mod TextEnds
+pub mod NameOffsets
+pub mod SlotTables

@@ -1,17 +1,19 @@
 -- What a pass over the slots of string offsets finds: the fields of those that paths name, in the order of their places; and why
 -- one can't be taken (DWARF 5, 7.26).
 use Rattle.std.specs.Prelude.{true, false, ◌≡◌, ◌≢◌, ℕ, ◌<◌, ◌≤◌, if◌then◌else◌, List, [], ◌∷◌, ◌++◌, length, get_or, ⊤}
-use Rattle.dw_base.specs.FileViews.{View}
-use Rattle.dw_base.specs.Numbers.{spelled}
+use Rattle.dw_base.specs.Cells.{Cell, CellSection, Located, cells_at, offset_of}
+use Rattle.dw_base.specs.DebugSections.{name_of}
+use Rattle.dw_base.specs.FileViews.{View, section_named, view_cells}
 use Rattle.dw_base.specs.OffsetPieces.{OffsetMode, at_slot, OffsetState}
 use Rattle.dw_base.specs.Paths.{PathMap, mapped_path}
 use Rattle.dw_base.specs.Pieces.{Piece}
 use Rattle.dw_base.specs.Refusals.{at}
+use Rattle.dw_base.specs.RelocationRows.{FieldPlace, OffsetFails, OffsetReads, field_place, offset_field}
 use Rattle.dw_base.specs.Slots.{Slot}
 use Rattle.dw_base.specs.TextIndexes.{holds_number}
 use Rattle.dw_base.specs.Texts.{ends_in, text_in}
-use Rattle.dw_base.specs.ViewData.{located, string_offsets}
-use Rattle.dw_base.specs.declared.debug_sections.DebugSection.TheVariants.{Str}
+use Rattle.dw_base.specs.ViewData.{cells_located, located}
+use Rattle.dw_base.specs.declared.debug_sections.DebugSection.TheVariants.{Str, StrOffsets}
 use Rattle.dw_base.specs.declared.fault.Kind.TheVariants.{StringOffset, SharedIndex}
 use Rattle.dw_base.specs.declared.fault.Refusal.{Refusal}
 use Rattle.dw_base.specs.declared.shared.Order.{Order}
@@ -19,33 +21,39 @@ use Rattle.dw_base.specs.declared.string_offsets.Contribution.{Contribution}
 use Rattle.dw_offsets.specs.SlotMarks.{marked}
 use Rattle.dw_offsets.specs.declared.slot_fields.PathSlot.{PathSlot}
 
--- the section of string offsets, and the texts that its offsets name: the byte order, the section's number and bytes, and the bytes
--- of .debug_str
+-- the section of string offsets, and the texts that its offsets name: the byte order, the section's number and contents, and .debug_str
 pub record SlotTable : Type 0 where
   pub order : Order
   pub number : ℕ
-  pub bytes : List ℕ
-  pub str : List ℕ
+  pub cells : List Cell
+  pub str : Located
+
+abbrev pub table_with : View → CellSection → SlotTable
+table_with v z = record { order = v.order; number = z.number; cells = z.contents; str = located v Str }
 
 abbrev pub slots_in : View → SlotTable
-slots_in v = record {
-  order = v.order;
-  number = (string_offsets v).number;
-  bytes = (string_offsets v).bytes;
-  str = (located v Str).bytes;
-}
+slots_in v = table_with v (cells_located v (section_named v (name_of StrOffsets)))
+
+-- those of the section of a number
+abbrev pub table_in : View → ℕ → SlotTable
+table_in v i = record { order = v.order; number = i; cells = view_cells v i; str = located v Str }
+
+-- a slot as a field
+abbrev pub as_field : Slot → FieldPlace
+as_field s = field_place s.place s.size offset_field
 
 -- the offset in a slot, and its text
 abbrev pub slot_offset : SlotTable → Slot → ℕ
-slot_offset t s = spelled t.order t.bytes s.place s.size
+slot_offset t s = offset_of t.order t.str (cells_at t.cells s.place s.size)
 
 abbrev pub named_text : SlotTable → Slot → List ℕ
-named_text t s = text_in t.str (slot_offset t s)
+named_text t s = text_in t.str.bytes (slot_offset t s)
 
--- a slot can be taken: a text that ends begins at its offset, and where a path and another value name it that text stays when it is
--- mapped
+-- a slot can be taken: no relocation refuses it, a text that ends begins at its offset, and where a path and another value name it that text
+-- stays when it is mapped
 pub record SlotTaken (m : PathMap) (t : SlotTable) (marks : List ℕ) (s : Slot) : Type 0 where
-  pub ends : ends_in t.str (slot_offset t s) ≡ true
+  pub reads : OffsetReads t.order t.cells (as_field s)
+  pub ends : ends_in t.str.bytes (slot_offset t s) ≡ true
   pub stays : marked true marks s.place ≡ true → marked false marks s.place ≡ true → mapped_path m (named_text t s) ≡ named_text t s
 
 -- this holds of each slot
@@ -72,12 +80,15 @@ pub record IsAmong (slots : List Slot) (s : Slot) : Type 0 where
   pub behind : List Slot
   pub is : slots ≡ before ++ s ∷ behind
 
--- why a slot can't be taken, at the slot: no text that ends begins at its offset; or a path whose text changes names it, and another
--- value does
+-- why a slot can't be taken: a relocation lies on it only in part, or gives it no place; no text that ends begins at its offset; or a path whose text
+-- changes names it, and another value does
 pub data SlotRefuses (m : PathMap) (t : SlotTable) (marks : List ℕ) (s : Slot) : Refusal → Type 0 where
-  no_text : ends_in t.str (slot_offset t s) ≡ false → SlotRefuses m t marks s (at StringOffset t.number s.place)
-  shared : ends_in t.str (slot_offset t s) ≡ true → marked true marks s.place ≡ true → marked false marks s.place ≡ true
-      → mapped_path m (named_text t s) ≢ named_text t s → SlotRefuses m t marks s (at SharedIndex t.number s.place)
+  no_offset : {r : Refusal} → OffsetFails t.order t.number t.cells (as_field s) r → SlotRefuses m t marks s r
+  no_text : OffsetReads t.order t.cells (as_field s) → ends_in t.str.bytes (slot_offset t s) ≡ false
+      → SlotRefuses m t marks s (at StringOffset t.number s.place)
+  shared : OffsetReads t.order t.cells (as_field s) → ends_in t.str.bytes (slot_offset t s) ≡ true → marked true marks s.place ≡ true
+      → marked false marks s.place ≡ true → mapped_path m (named_text t s) ≢ named_text t s
+      → SlotRefuses m t marks s (at SharedIndex t.number s.place)
 
 -- why slots can't be: one of them can't
 pub data SlotsRefuse (m : PathMap) (t : SlotTable) (marks : List ℕ) (slots : List Slot) : Refusal → Type 0 where

@@ -20,6 +20,7 @@
 //! ```
 #![tactic(auto)]
 
+mod fields;
 mod name_headers;
 mod name_lists;
 mod name_texts;

@@ -1,15 +1,15 @@
 //! Name tables (DWARF 5, 6.1.1.4): where each is, and where its string offsets are.
 //!
 //! This file promises: the tables that are given fill the section, in the order of their places, and each of
-//! their string offsets names a text; they are refused only where a table can't be read, at that table, or
-//! where a string offset names no text, at its field.
+//! their string offsets names a text; they are refused only where a table can't be read, at that table, where a
+//! string offset names no text, at its field, or where a relocation refuses one.
 
 ghost use Rattle.std.specs.Prelude.{◌≡◌, ◌<◌, List, length, IfOk, IfErr, OnOk};
 ghost use Rattle.dw_base.specs.FileViews.{section_bytes};
 ghost use Rattle.dw_base.specs.Refusals.{Blames};
 ghost use Rattle.dw_base.specs.declared.fault.Refusal.{Refusal as RefusalOf};
-ghost use Rattle.dw_base.specs.NameTables.{AreNameTables, TablesUpTo};
-ghost use Rattle.dw_base.specs.NameTableFails.{NameTablesFail, TablesFail};
+ghost use Rattle.dw_base.specs.NameTables.{AreNameTables};
+ghost use Rattle.dw_offsets.specs.NameOffsets.{AreRead, NamesRefuse, ReadUpTo, TablesRefuse};
 ghost use Rattle.dw_base.specs.declared.name_tables.NameTable.{NameTable as NameTableOf};
 
 use crate::name_texts::{named_table_at, texts_of};
@@ -42,12 +42,14 @@ impl NameTableList {
 /// The tables of `.debug_names`; none where there is no such section. Refused exactly where they don't
 /// fill it or a string offset names no text: as `NameTable` at the first table whose length can't be read
 /// or passes the section's end, whose version isn't 5, or whose parts don't fit; as `StringOffset` at a
-/// string offset behind which no text that ends begins in `.debug_str`.
+/// string offset behind which no text that ends begins in `.debug_str`; as `Relocation` at a relocation that lies
+/// on a string offset only in part, or at a string offset whose relocation gives no place.
 #[tactic(auto, using(crate::proofs::NameViewLaws::section_laws))]
 pub fn name_tables(alloc: Global, view: &View) -> Result<NameTableList, Fault>
     ensures read { IfOk result (AreNameTables view.now) }
-    ensures none { OnOk result ((r : RefusalOf) → NameTablesFail view.now r → ⊥) }
-    ensures refused { IfErr result (Blames (NameTablesFail view.now)) }
+    ensures offsets { IfOk result (AreRead view.now) }
+    ensures none { OnOk result ((r : RefusalOf) → NamesRefuse view.now r → ⊥) }
+    ensures refused { IfErr result (Blames (NamesRefuse view.now)) }
 {
     let Some(section) = view.first(DebugSection::Names) else {
         return Ok(NameTableList {
@@ -62,8 +64,8 @@ pub fn name_tables(alloc: Global, view: &View) -> Result<NameTableList, Fault>
 #[tactic(auto, using(crate::proofs::NameListLaws::list_laws))]
 fn tables_in(alloc: Global, view: &View, section: u32) -> Result<Vec<NameTable>, Fault>
     requires there { section < length view.now.sections }
-    ensures read { IfOk result (λ list. TablesUpTo view.now section (section_bytes view.now section) list.items (length (section_bytes view.now section))) }
-    ensures refused { IfErr result (Blames (TablesFail view.now section (section_bytes view.now section))) }
+    ensures read { IfOk result (λ list. ReadUpTo view.now section (section_bytes view.now section) list.items (length (section_bytes view.now section))) }
+    ensures refused { IfErr result (Blames (TablesRefuse view.now section (section_bytes view.now section))) }
 {
     let texts = texts_of(view);
     let len = view.bytes(section).len() as u64;

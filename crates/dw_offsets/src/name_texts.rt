@@ -1,17 +1,18 @@
 //! The string offsets of a name table (DWARF 5, 6.1.1.4.6).
 //!
-//! This file promises: each string offset of the table that is given names a text of `.debug_str`; one that
-//! names none is refused at its field. One comparison an offset.
+//! This file promises: each string offset of the table that is given can be read and names a text of `.debug_str`; one
+//! that can't be read is refused for its relocation, and one that names none at its field. One comparison an offset.
 
-ghost use Rattle.std.specs.Prelude.{◌≡◌, ◌+◌, ◌*◌, ◌≤◌, ◌<◌, ◌^◌, length, IfOk, IfErr, OnOk};
+ghost use Rattle.std.specs.Prelude.{◌≡◌, ◌+◌, ◌*◌, ◌≤◌, ◌<◌, ◌^◌, true, length, IfOk, IfErr, OnOk};
 ghost use Rattle.dw_base.specs.Cells.{Located, offset_into};
 ghost use Rattle.dw_base.specs.FileViews.{section_bytes};
 ghost use Rattle.dw_base.specs.Forms.{width_size};
 ghost use Rattle.dw_base.specs.Texts.{ends_in};
 ghost use Rattle.dw_base.specs.NameTables.{IsNamedTable, NamesTexts, string_place, texts_in};
 ghost use Rattle.dw_offsets.specs.TextEnds.{IsTexts};
-ghost use Rattle.dw_base.specs.NameTableFails.{NamedFails, TextFails};
+ghost use Rattle.dw_offsets.specs.NameOffsets.{OffsetsRead, TableRefuses, TextRefuses};
 
+use crate::fields::offset_field;
 use crate::name_headers::table_at;
 use crate::widths::width_size;
 use dw_base::{DebugSection, Field, Kind, NameTable, Refusal, Width, nul_end};
@@ -42,7 +43,7 @@ pub(crate) fn texts_of(view: &View) -> Texts
 
 /// A text begins where a field says.
 #[tactic(auto, using(crate::proofs::NameTextLaws::field_laws))]
-fn names_text(view: &View, texts: &Texts, field: Field) -> bool
+pub(crate) fn names_text(view: &View, texts: &Texts, field: Field) -> bool
     requires texts { IsTexts (texts_in view.now) texts.now }
     ensures ends { result ≡ ends_in (texts_in view.now).bytes (offset_into (texts_in view.now) field) }
 {
@@ -55,6 +56,19 @@ fn names_text(view: &View, texts: &Texts, field: Field) -> bool
             offset < texts.end
         }
         Field::Sym { .. } => false,
+    }
+}
+
+/// The place of the text that begins where a field says.
+#[tactic(auto, using(crate::proofs::NameTextLaws::start_laws))]
+pub(crate) fn text_start(view: &View, field: Field) -> u64
+    requires ends { ends_in (texts_in view.now).bytes (offset_into (texts_in view.now) field) ≡ true }
+    ensures offset { result ≡ offset_into (texts_in view.now) field }
+{
+    match field {
+        Field::Num(offset) => offset,
+        Field::Into { offset, .. } => offset,
+        Field::Sym { .. } => unreachable!(),
     }
 }
 
@@ -72,7 +86,7 @@ fn string_place(table: &NameTable, i: u64) -> u64
     }
 }
 
-/// Each string offset of a table names a text.
+/// Each string offset of a table can be read and names a text.
 #[tactic(auto, using(crate::proofs::NameTextLaws::check_laws))]
 fn check_texts(view: &View, section: u32, texts: &Texts, table: &NameTable) -> Result<(), Refusal>
     requires there { section < length view.now.sections }
@@ -80,12 +94,13 @@ fn check_texts(view: &View, section: u32, texts: &Texts, table: &NameTable) -> R
     requires inside { table.now.strings + table.now.names * width_size table.now.width ≤ length (section_bytes view.now section) }
     requires small { length (section_bytes view.now section) ≤ 2 ^ 31 }
     ensures texts { OnOk result (NamesTexts view.now section table.now table.now.names) }
-    ensures refused { IfErr result (TextFails view.now section table.now) }
+    ensures offsets { OnOk result (OffsetsRead view.now section table.now table.now.names) }
+    ensures refused { IfErr result (TextRefuses view.now section table.now) }
 {
     let size = width_size(table.width);
     for i in 0..table.names {
         let place = string_place(table, i);
-        let field = view.field(section, place, size)?;
+        let field = offset_field(view, section, place, size)?;
         if !names_text(view, texts, field) {
             return Err(Refusal::at(Kind::StringOffset, section, place));
         }
@@ -104,9 +119,10 @@ pub(crate) fn named_table_at(
     requires there { section < length view.now.sections }
     requires texts { IsTexts (texts_in view.now) texts.now }
     ensures read { IfOk result (IsNamedTable view.now section (section_bytes view.now section) start) }
+    ensures offsets { IfOk result (λ t. OffsetsRead view.now section t t.names) }
     ensures further { IfOk result (λ t. start < t.end) }
     ensures within { IfOk result (λ t. t.end ≤ length (section_bytes view.now section)) }
-    ensures refused { IfErr result (NamedFails view.now section (section_bytes view.now section) start) }
+    ensures refused { IfErr result (TableRefuses view.now section (section_bytes view.now section) start) }
 {
     let bytes = view.bytes(section);
     let table = table_at(view.order(), section, bytes, start)?;

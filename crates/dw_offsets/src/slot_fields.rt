@@ -1,27 +1,31 @@
 //! The fields of the slots that paths name (DWARF 5, 7.26).
 //!
-//! This file promises: the fields are given in the order of their places, each once, only where each slot names a
-//! text and none is shared by a path whose text changes and another value; and they are refused only at a slot
-//! for which that doesn't hold. One pass; a text is read only where a path and another value name its slot.
+//! This file promises: the fields are given in the order of their places, each once, only where each slot can be read and
+//! names a text and none is shared by a path whose text changes and another value; and they are refused only for a slot of
+//! which that doesn't hold. One pass; a text is read only where a path and another value name its slot.
 
-ghost use Rattle.std.specs.Prelude.{◌≡◌, ◌≢◌, ◌↔◌, ◌+◌, ◌^◌, ◌≤◌, ◌<◌, ◌∷◌, [], true, length, IsTrue, IfOk, IfErr, OnOk};
+ghost use Rattle.std.specs.Prelude.{◌≡◌, ◌≢◌, ◌↔◌, ◌+◌, ◌^◌, ◌≤◌, ◌<◌, ◌∷◌, [], true, Some, length, IsTrue, IfOk, IfErr, OnOk};
+ghost use Rattle.dw_base.specs.Cells.{offset_into};
+ghost use Rattle.dw_base.specs.DebugSections.{name_of};
+ghost use Rattle.dw_base.specs.FileViews.{section_named};
 ghost use Rattle.dw_base.specs.Forms.{width_size};
 ghost use Rattle.dw_base.specs.Lists.{tabulate};
-ghost use Rattle.dw_base.specs.Numbers.{spelled};
 ghost use Rattle.dw_base.specs.Paths.{mapped_path};
 ghost use Rattle.dw_base.specs.Refusals.{Blames};
+ghost use Rattle.dw_base.specs.RelocationRows.{OffsetFails, OffsetReads};
 ghost use Rattle.dw_base.specs.Slots.{Slot, slot_at, slot_total, slots_of};
 ghost use Rattle.dw_base.specs.StringOffsets.{AreContributions};
-ghost use Rattle.dw_base.specs.Texts.{IsNulEnd, ends_in, text_in};
+ghost use Rattle.dw_base.specs.Texts.{ends_in, text_in};
 ghost use Rattle.dw_base.specs.ViewData.{located, string_offsets};
-ghost use Rattle.dw_offsets.specs.PathSlots.{AllLieIn, LiesIn, SlotRefuses, SlotTable, SlotTaken, SlotsRefuse, SlotsTaken, fields_of, slots_in};
+ghost use Rattle.dw_offsets.specs.PathSlots.{AllLieIn, LiesIn, SlotRefuses, SlotTable, SlotTaken, SlotsRefuse, SlotsTaken, fields_of, slot_offset, as_field, slots_in, table_in};
+ghost use Rattle.dw_offsets.specs.SlotTables.{TableFits};
 
+use crate::fields::offset_field;
+use crate::name_texts::{Texts, names_text, text_start, texts_of};
 use crate::slot_marks::SlotMarks;
 use crate::string_offsets::ContributionList;
 use crate::widths::width_size;
-use dw_base::{
-    Contribution, DebugSection, Fault, Kind, NoMemory, Order, Refusal, Width, nul_end, number_in,
-};
+use dw_base::{Contribution, DebugSection, Fault, Field, Kind, NoMemory, Refusal, Width};
 use dw_paths::{Maps, map_path};
 use dw_strings::text_at;
 use dw_view::View;
@@ -39,30 +43,30 @@ pub struct PathSlot {
 
 /// The section of string offsets, and the texts that they name.
 #[derive(Drop)]
-struct Table<'a> {
-    order: Order,
-    /// The section's number, 0 where there is none.
-    number: u32,
+struct Table<'v, 'f> {
+    /// The view.
+    view: &'v View<'f>,
+    /// The section's number.
+    section: u32,
+    /// The texts of `.debug_str`.
+    texts: Texts,
     /// Its bytes.
-    bytes: &'a [u8],
-    /// The bytes of `.debug_str`.
-    str: &'a [u8],
-    /// The place behind their last NUL.
-    str_end: u64,
+    str: &'v [u8],
 }
 
-impl<'a> Model for Table<'a> {
+impl<'v, 'f> Model for Table<'v, 'f> {
     ghost Value = { SlotTable };
 
-    ghost view = { λ t. record { order = t.order; number = t.number; bytes = t.bytes.now; str = t.str.now } };
+    ghost view = { λ t. table_in t.view.now t.section };
 
-    ghost invariant = { λ t. IsNulEnd t.str.now t.str_end };
+    ghost invariant = { λ t. TableFits t.view.now t.section t.texts t.str.now };
 }
 
 /// The fields of the slots that paths name, in the order of their places. `list` are the contributions of the view,
-/// and `marks` says which slots paths and other values name. Refused, at a slot of `.debug_str_offsets`: as
-/// `StringOffset` only where no text that ends begins at its offset; as `SharedIndex` only where a path whose text
-/// changes names it, and another value too.
+/// and `marks` says which slots paths and other values name. Refused, for a slot of `.debug_str_offsets`: as
+/// `Relocation` only at a relocation that lies on it only in part, or at the slot where its relocation gives no place; at
+/// the slot as `StringOffset` only where no text that ends begins at its offset, and as `SharedIndex` only where a path
+/// whose text changes names it, and another value too.
 #[tactic(auto, using(crate::proofs::PathSlotLaws::pass_laws))]
 pub fn path_slots(
     alloc: Global,
@@ -75,41 +79,32 @@ pub fn path_slots(
     ensures taken { IfOk result (λ fields. SlotsTaken maps.now (slots_in view.now) marks.now (slots_of list.now) [] fields.items) }
     ensures refused { IfErr result (Blames (SlotsRefuse maps.now (slots_in view.now) marks.now (slots_of list.now))) }
 {
-    let table = table_of(view);
+    let Some(section) = view.first(DebugSection::StrOffsets) else {
+        return Ok(Vec::new(alloc));
+    };
+    let table = table_of(view, section);
     all_fields(alloc, &table, maps, list.as_slice(), marks)
 }
 
 /// The section of string offsets of a view, and the texts that they name.
-fn table_of<'a>(view: &'a View) -> Table<'a>
+#[tactic(auto, using(crate::proofs::PathSlotLaws::table_laws))]
+fn table_of<'v, 'f>(view: &'v View<'f>, section: u32) -> Table<'v, 'f>
+    requires there { section < length view.now.sections }
+    requires found { Some section ≡ section_named view.now (name_of DebugSection.StrOffsets) }
     ensures table { result ≡ slots_in view.now }
-    ensures small { length result.bytes ≤ 2 ^ 31 }
 {
-    let str = first_bytes(view, DebugSection::Str);
     Table {
-        order: view.order(),
-        number: first_number(view, DebugSection::StrOffsets),
-        bytes: first_bytes(view, DebugSection::StrOffsets),
-        str,
-        str_end: nul_end(str) as u64,
+        view,
+        section,
+        texts: texts_of(view),
+        str: first_bytes(view, DebugSection::Str),
     }
 }
 
-/// The number of the first section of a kind, 0 where there is none.
+/// The bytes of the first section of a kind, none where there is none.
 #[tactic(auto, using(crate::proofs::PathSlotLaws::located_laws))]
-fn first_number(view: &View, section: DebugSection) -> u32
-    ensures number { result ≡ (located view.now section).number }
-{
-    match view.first(section) {
-        Some(number) => number,
-        None => 0,
-    }
-}
-
-/// Its bytes, none where there is none.
-#[tactic(auto, using(crate::proofs::PathSlotLaws::located_laws))]
-fn first_bytes<'a>(view: &'a View, section: DebugSection) -> &'a [u8]
+fn first_bytes<'v>(view: &'v View, section: DebugSection) -> &'v [u8]
     ensures bytes { result.now ≡ (located view.now section).bytes }
-    ensures small { length result.now ≤ 2 ^ 31 }
 {
     match view.first(section) {
         Some(number) => view.bytes(number),
@@ -126,8 +121,7 @@ fn all_fields(
     list: &[Contribution],
     marks: &SlotMarks,
 ) -> Result<Vec<PathSlot>, Fault>
-    requires inside { AllLieIn (length table.now.bytes) list.now }
-    requires small { length table.now.bytes ≤ 2 ^ 31 }
+    requires inside { AllLieIn (length table.now.cells) list.now }
     ensures taken { IfOk result (λ fields. SlotsTaken maps.now table.now marks.now (slots_of list.now) [] fields.items) }
     ensures refused { IfErr result (Blames (SlotsRefuse maps.now table.now marks.now (slots_of list.now))) }
 {
@@ -148,8 +142,7 @@ fn push_fields(
     marks: &SlotMarks,
     fields: &mut Vec<PathSlot>,
 ) -> Result<(), Fault>
-    requires inside { LiesIn (length table.now.bytes) contribution }
-    requires small { length table.now.bytes ≤ 2 ^ 31 }
+    requires inside { LiesIn (length table.now.cells) contribution }
     ensures taken { OnOk result (SlotsTaken maps.now table.now marks.now (tabulate (slot_at contribution) (slot_total contribution)) fields.old.items fields.new.items) }
     ensures refused { IfErr result (Blames (SlotsRefuse maps.now table.now marks.now (tabulate (slot_at contribution) (slot_total contribution)))) }
 {
@@ -178,7 +171,6 @@ fn slot_total(contribution: Contribution) -> u64
 #[tactic(auto, using(crate::proofs::PathSlotLaws::start_laws))]
 fn slot_start(contribution: Contribution, i: u64) -> u64
     requires header { contribution.base ≤ contribution.end }
-    requires small { contribution.end ≤ 2 ^ 31 }
     requires below { i < slot_total contribution }
     ensures start { result ≡ (slot_at contribution i).place }
     ensures inside { result + width_size contribution.width ≤ contribution.end }
@@ -202,7 +194,7 @@ fn push_field(
 ) -> Result<(), Fault>
     requires some { 0 < size }
     requires wide { size ≤ 8 }
-    requires inside { at + size ≤ length table.now.bytes }
+    requires inside { at + size ≤ length table.now.cells }
     ensures taken { OnOk result (SlotsTaken maps.now table.now marks.now (record { place = at; size = size } ∷ []) fields.old.items fields.new.items) }
     ensures refused { IfErr result (Blames (SlotRefuses maps.now table.now marks.now (record { place = at; size = size }))) }
 {
@@ -225,12 +217,12 @@ fn check_slot(
 ) -> Result<(), Fault>
     requires some { 0 < size }
     requires wide { size ≤ 8 }
-    requires inside { at + size ≤ length table.now.bytes }
+    requires inside { at + size ≤ length table.now.cells }
     ensures taken { OnOk result (SlotTaken maps.now table.now marks.now (record { place = at; size = size })) }
     ensures refused { IfErr result (Blames (SlotRefuses maps.now table.now marks.now (record { place = at; size = size }))) }
 {
-    let offset = table.offset(at, size);
-    if !table.names_text(offset) {
+    let field = table.field(at, size)?;
+    if !table.names_text(field) {
         return Err(table.refusal(Kind::StringOffset, at).into());
     }
     if !marks.is_marked(at, true) {
@@ -239,43 +231,46 @@ fn check_slot(
     if !marks.is_marked(at, false) {
         return Ok(());
     }
-    if !table.stays(alloc, maps, offset)? {
+    if !table.stays(alloc, maps, field)? {
         return Err(table.refusal(Kind::SharedIndex, at).into());
     }
     Ok(())
 }
 
-impl<'a> Table<'a> {
-    /// The offset in a slot.
-    fn offset(&self, at: u64, size: u8) -> u64
+impl<'v, 'f> Table<'v, 'f> {
+    /// The field of a slot.
+    #[tactic(auto, using(crate::proofs::PathSlotLaws::slot_laws))]
+    fn field(&self, at: u64, size: u8) -> Result<Field, Refusal>
         requires some { 0 < size }
         requires wide { size ≤ 8 }
-        requires inside { at + size ≤ length self.now.bytes }
-        ensures offset { result ≡ spelled self.now.order self.now.bytes at size }
+        requires inside { at + size ≤ length self.now.cells }
+        ensures offset { IfOk result (λ f. offset_into self.now.str f ≡ slot_offset self.now (record { place = at; size = size })) }
+        ensures reads { OnOk result (OffsetReads self.now.order self.now.cells (as_field (record { place = at; size = size }))) }
+        ensures refused { IfErr result (OffsetFails self.now.order self.now.number self.now.cells (as_field (record { place = at; size = size }))) }
     {
-        number_in(self.order, self.bytes, at, size)
+        offset_field(self.view, self.section, at, size)
     }
 
-    /// A text that ends begins at an offset.
-    fn names_text(&self, offset: u64) -> bool
-        ensures ends { result ≡ ends_in self.now.str offset }
+    /// A text that ends begins where a field says.
+    fn names_text(&self, field: Field) -> bool
+        ensures ends { result ≡ ends_in self.now.str.bytes (offset_into self.now.str field) }
     {
-        offset < self.str_end
+        names_text(self.view, &self.texts, field)
     }
 
-    /// The text at an offset stays when it is mapped.
-    fn stays(&self, alloc: Global, maps: &Maps, offset: u64) -> Result<bool, NoMemory>
-        requires ends { ends_in self.now.str offset ≡ true }
-        ensures stays { IfOk result (λ b. IsTrue b ↔ (mapped_path maps.now (text_in self.now.str offset) ≡ text_in self.now.str offset)) }
+    /// The text where a field says stays when it is mapped.
+    fn stays(&self, alloc: Global, maps: &Maps, field: Field) -> Result<bool, NoMemory>
+        requires ends { ends_in self.now.str.bytes (offset_into self.now.str field) ≡ true }
+        ensures stays { IfOk result (λ b. IsTrue b ↔ (mapped_path maps.now (text_in self.now.str.bytes (offset_into self.now.str field)) ≡ text_in self.now.str.bytes (offset_into self.now.str field))) }
     {
-        text_stays(alloc, maps, self.str, offset)
+        text_stays(alloc, maps, self.str, text_start(self.view, field))
     }
 
     /// What refuses a slot.
     fn refusal(&self, kind: Kind, at: u64) -> Refusal
         ensures refusal { result ≡ record { kind = kind; section = self.now.number; offset = at } }
     {
-        Refusal::at(kind, self.number, at)
+        Refusal::at(kind, self.section, at)
     }
 }
 

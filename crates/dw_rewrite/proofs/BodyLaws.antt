@@ -16,12 +16,12 @@ use Rattle.dw_base.specs.Paths.{PathMap}
 use Rattle.dw_base.specs.SectionTexts.{edited_macros}
 use Rattle.dw_base.specs.TextChanges.{TableChange, TableChanges}
 use Rattle.dw_base.specs.UnitHeaders.{SectionKind, UnitBase}
-use Rattle.dw_base.specs.ViewData.{debug_data, is_macro, located, located_at, macro_section, macro_sections, macro_sections_from, unit_kind, unit_section, unit_sections, unit_sections_from}
+use Rattle.dw_base.specs.ViewData.{cells_located, debug_data, is_macro, located, located_at, macro_section, macro_sections, macro_sections_from, unit_kind, unit_section, unit_sections, unit_sections_from}
 use Rattle.dw_base.specs.declared.debug_sections.DebugSection.{DebugSection}
 use Rattle.dw_base.specs.declared.debug_sections.DebugSection.TheVariants.{Line, Str, LineStr, StrOffsets, Names}
 use Rattle.dw_base.specs.declared.shared.Order.{Order}
 use Rattle.dw_meaning.proofs.FileBackLaws.{AllAt, tabulate-at}
-use Rattle.dw_meaning.proofs.FileKeptLaws.{CanMap, around_file, body-line, body-names, body-offsets, body-other, body-str, body-tables, changes_file, line-none, line-place, names-none, names-place, new_names, new_offsets, units_new, offsets-none, offsets-place, str-none, str-place, tables-none, tables-place}
+use Rattle.dw_meaning.proofs.FileKeptLaws.{CanMap, around_file, body-line, body-names, body-offsets, body-other, body-str, body-tables, changes_file, line-none, line-place, lines-number, names-none, names-number, names-place, new_names, new_offsets, units_new, offsets-none, offsets-number, offsets-place, str-none, str-place, tables-none, tables-place}
 use Rattle.dw_meaning.proofs.TableKeptLaws.{TablePlace, nowhere, lies_at, drop-at}
 use Rattle.dw_rewrite.specs.Rewritten.{AllStand, Stands, body_with, bytes_given, bytes_or, is_of}
 
@@ -116,22 +116,23 @@ macros-stand b order c around xs k (s ∷ ss) (t ∷ ts) rs all reads behind =
         (record { within = λ some. here.within; full = λ some. here.full }, rest qs f.2)
 
 -- sections that are read as pieces are in one each, or nowhere
-cells-stand : (b : List ℕ) (s : DebugSection) (p : List Cell) → Stands b (cells_body (located (view_of b) s).number p)
-unfolding located section_named section_after
+cells-stand : (b : List ℕ) (s : DebugSection) (p : List Cell) → Stands b (cells_body (cells_located (view_of b) (section_named (view_of b) (name_of s))).number p)
+unfolding section_named section_after
 cells-stand b s p = by_found (section_named (view_of b) (name_of s)) refl
   where
-    by_found : (o : Option ℕ) → section_named (view_of b) (name_of s) ≡ o → Stands b (cells_body (located_at (view_of b) o).number p)
+    by_found : (o : Option ℕ) → section_named (view_of b) (name_of s) ≡ o → Stands b (cells_body (cells_located (view_of b) o).number p)
     by_found None e = record { within = λ some. absurd (some refl); full = λ some. absurd (some refl) }
     by_found (Some i) e =
         let f : IsFull b i = found-full b (name_of s) 1 i (drop 1 (view_of b).sections) (drop 1 (view_of b).sections) (all_sections b) e in
         record { within = λ some. f.within; full = λ some. f.full }
 
 -- so is that of line tables
-lines-stand : (b : List ℕ) (bytes : List ℕ) → Stands b (record { number = (located (view_of b) Line).number; bytes = bytes })
-unfolding located section_named section_after
+lines-stand : (b : List ℕ) (bytes : List ℕ)
+    → Stands b (record { number = (cells_located (view_of b) (section_named (view_of b) (name_of Line))).number; bytes = bytes })
+unfolding section_named section_after
 lines-stand b bytes = by_found (section_named (view_of b) (name_of Line)) refl
   where
-    by_found : (o : Option ℕ) → section_named (view_of b) (name_of Line) ≡ o → Stands b (record { number = (located_at (view_of b) o).number; bytes = bytes })
+    by_found : (o : Option ℕ) → section_named (view_of b) (name_of Line) ≡ o → Stands b (record { number = (cells_located (view_of b) o).number; bytes = bytes })
     by_found None e = record { within = λ some. absurd (some refl); full = λ some. absurd (some refl) }
     by_found (Some i) e =
         let f : IsFull b i = found-full b (name_of Line) 1 i (drop 1 (view_of b).sections) (drop 1 (view_of b).sections) (all_sections b) e in
@@ -216,6 +217,9 @@ body-first m b r w some = by_str (cases_eq 0 (file_data b).str.number) (str-plac
     own : contents_of b 0 ≡ []
     own = section_0 b w.reads.elf some
 
+    none : (n : ℕ) → 0 < n → 0 ≡ n → ⊥
+    none n some is = omega (arith, some, is)
+
     by_names : 0 ≢ (file_data b).str.number → 0 ≢ (file_data b).line_str.number → 0 ≢ (file_data b).offsets.number → 0 ≢ (file_data b).lines.number
         → (0 ≡ (file_data b).names.number) ⊎ (0 ≡ (file_data b).names.number → ⊥) → TablePlace b (name_of Names) (located (view_of b) Names)
         → new_body m b r 0 ≡ contents_of b 0
@@ -225,20 +229,20 @@ body-first m b r w some = by_str (cases_eq 0 (file_data b).str.number) (str-plac
         ∙ units-above (file_data b).base (changes_file m b r) (around_file b r) (contents_of b) 0 0 1 (drop 1 (view_of b).sections) r.units w.reads.data_reads.units (omega arith)
     by_names str line offsets lines (inl same) (nowhere zero none) =
         body-names m b r 0 same str line offsets lines ∙ ap bytes_of (names-none m b r w none) ∙ sym own
-    by_names str line offsets lines (inl same) (lies_at there within named bytes) = absurd (omega (arith, same, there))
+    by_names str line offsets lines (inl same) (lies_at there within named bytes) = absurd (none (located (view_of b) Names).number there (same ∙ names-number b))
 
     by_tables : 0 ≢ (file_data b).str.number → 0 ≢ (file_data b).line_str.number → 0 ≢ (file_data b).offsets.number
         → (0 ≡ (file_data b).lines.number) ⊎ (0 ≡ (file_data b).lines.number → ⊥) → TablePlace b (name_of Line) (located (view_of b) Line) → new_body m b r 0 ≡ contents_of b 0
     by_tables str line offsets (inr other) place = by_names str line offsets other (cases_eq 0 (file_data b).names.number) (names-place b)
     by_tables str line offsets (inl same) (nowhere zero none) = body-tables m b r 0 same str line offsets ∙ tables-none m b r w none ∙ sym own
-    by_tables str line offsets (inl same) (lies_at there within named bytes) = absurd (omega (arith, same, there))
+    by_tables str line offsets (inl same) (lies_at there within named bytes) = absurd (none (located (view_of b) Line).number there (same ∙ lines-number b))
 
     by_offsets : 0 ≢ (file_data b).str.number → 0 ≢ (file_data b).line_str.number → (0 ≡ (file_data b).offsets.number) ⊎ (0 ≡ (file_data b).offsets.number → ⊥)
         → TablePlace b (name_of StrOffsets) (located (view_of b) StrOffsets) → new_body m b r 0 ≡ contents_of b 0
     by_offsets str line (inr other) place = by_tables str line other (cases_eq 0 (file_data b).lines.number) (tables-place b)
     by_offsets str line (inl same) (nowhere zero none) =
         body-offsets m b r 0 same str line ∙ ap bytes_of (offsets-none m b r w none) ∙ sym own
-    by_offsets str line (inl same) (lies_at there within named bytes) = absurd (omega (arith, same, there))
+    by_offsets str line (inl same) (lies_at there within named bytes) = absurd (none (located (view_of b) StrOffsets).number there (same ∙ offsets-number b))
 
     by_line : 0 ≢ (file_data b).str.number → (0 ≡ (file_data b).line_str.number) ⊎ (0 ≡ (file_data b).line_str.number → ⊥) → TablePlace b (name_of LineStr) (file_data b).line_str
         → new_body m b r 0 ≡ contents_of b 0

@@ -12,7 +12,8 @@ use Rattle.dw_base.specs.Paths.{PathMap}
 use Rattle.dw_base.specs.Pieces.{Piece, joined, EachPiece}
 use Rattle.dw_base.specs.Roles.{Role, fixed, offset, inline_path, line_start, role_of}
 use Rattle.dw_base.specs.StringTables.{Mention, Plan, appending, with_mention, texts_after, new_place}
-use Rattle.dw_base.specs.TextChanges.{TableChange, TableChanges, with_offset, mention_at, mentions_by, mentions_of, moved_field, moved_start, change_of, edited_by}
+use Rattle.dw_base.specs.NewOffsets.{with_offset}
+use Rattle.dw_base.specs.TextChanges.{TableChange, TableChanges, mention_at, mentions_by, mentions_of, moved_field, moved_start, change_of, edited_by}
 use Rattle.dw_base.specs.Texts.{text, text_in}
 use Rattle.dw_base.specs.UnitStates.{UnitState}
 use Rattle.dw_base.specs.declared.shared.Order.{Order}

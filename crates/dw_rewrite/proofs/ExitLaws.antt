@@ -13,8 +13,9 @@ use Rattle.dw_meaning.specs.EditRows.EditFails.{file, inline, line_table as line
 use Rattle.dw_base.specs.Elf.{contents_of, is_empty_kind, nth_section, section_count}
 use Rattle.dw_base.specs.ElfFails.{ElfFails, ElfReads}
 use Rattle.dw_meaning.specs.FileFails.{FileFails, UnbuiltFile}
-use Rattle.dw_meaning.specs.FileFails.FileFails.{elf, lines as lines_row, macros as macros_row, starts as starts_row, sections, units as units_row, texts as texts_row, string_tables as string_tables_row, slots as slots_row, name_tables as name_tables_row}
+use Rattle.dw_meaning.specs.FileFails.FileFails.{elf, lines as lines_row, macros as macros_row, starts as starts_row, sections, units as units_row, texts as texts_row, string_tables as string_tables_row, slots as slots_row, name_tables as name_tables_row, relocations as relocations_row}
 use Rattle.dw_meaning.specs.FileFails.UnbuiltFile.{relocatable}
+use Rattle.dw_meaning.specs.RelocationFails.RelocationsFail.{headers, left, values}
 use Rattle.dw_meaning.specs.FileMeanings.{FileReads, IsOutput, MeaningKept, file_data, new_body, output_of}
 use Rattle.dw_base.specs.FileViews.{View, view_of}
 use Rattle.dw_base.specs.Forms.{TextSection, in_str, in_line_str}
@@ -52,13 +53,14 @@ use Rattle.dw_meaning.proofs.TableKeptLaws.{TablePlace, nowhere, lies_at}
 use Rattle.dw_rewrite.specs.Bodies.{BodiesMade, BodiesRefuse, long_table}
 use Rattle.dw_find.specs.FoundPaths.{PathsFound, PathsRefuse}
 use Rattle.dw_rewrite.specs.Bodies.BodiesRefuse.{line_table_of, long_lines_of, long_table_of}
-use Rattle.dw_find.specs.FoundPaths.PathsRefuse.{units as paths_units, starts as paths_starts, inline as paths_inline, string_tables as paths_string_tables, name_tables as paths_name_tables, slots as paths_slots, shared as paths_shared}
+use Rattle.dw_find.specs.FoundPaths.PathsRefuse.{units as paths_units, starts as paths_starts, inline as paths_inline, string_tables as paths_string_tables, name_tables as paths_name_tables, name_offsets as paths_name_offsets, relocations as paths_relocations, slots as paths_slots, shared as paths_shared}
 use Rattle.dw_rewrite.specs.Judged.{IsJudged}
 use Rattle.dw_rewrite.specs.Rewritten.{AllStand, IsInFile, body_with, long_fault, long_or, long_refusal, told_refusal}
 use Rattle.dw_find.specs.MacroSections.{SectionUnits, UnitsFailIn, UnitsFoundIn}
-use Rattle.dw_find.specs.MacroSections.UnitsFailIn.{units as units_fail}
+use Rattle.dw_find.specs.MacroSections.UnitsFailIn.{units as units_fail, offsets as offsets_fail}
 use Rattle.dw_find.specs.UnitPaths.{UnitPaths}
-use Rattle.dw_find.specs.UnitTexts.UnitsRefuse.{data_fails, text_fails}
+use Rattle.dw_find.specs.UnitTexts.UnitsRefuse.{data_fails, header_fails, relocation_fails, text_fails}
+use Rattle.dw_find.proofs.PlainViewLaws.{names-fail, units-fail}
 use Rattle.dw_rewrite.proofs.BodyLaws.{bodies-same, bodies-stand, made-stand}
 use Rattle.dw_meaning.proofs.LoadedLaws.{loaded-kept}
 use Rattle.dw_rewrite.proofs.WrittenLaws.{fits_same, layout_same, length-moved}
@@ -81,14 +83,18 @@ refused_file m b r f h is = subst (λ (x : Fault). Blames (EditFails m b) x) (sy
 
 pub ruleset elf_rules = (refused_view, refused_file)
 
--- What can't be read of debug data, paths that would grow, and slots that are shared are rows.
+-- What can't be read of debug data, for a relocation or not, paths that would grow, and slots that are shared are rows.
 data_fail : (m : PathMap) (b : List ℕ) (r : Refusal) → ElfReads b → PathsRefuse m (view_of b) r → EditFails m b r
 data_fail m b r reads (paths_units (data_fails h)) = file (units_row reads h)
 data_fail m b r reads (paths_units (text_fails h)) = file (texts_row reads h)
+data_fail m b r reads (paths_units (header_fails before behind z split h)) = file (relocations_row reads (headers before behind z split h))
+data_fail m b r reads (paths_units (relocation_fails h)) = file (relocations_row reads (values h))
 data_fail m b r reads (paths_starts h) = file (starts_row reads h)
 data_fail m b r reads (paths_inline h) = inline reads h
 data_fail m b r reads (paths_string_tables h) = file (string_tables_row reads h)
 data_fail m b r reads (paths_name_tables h) = file (name_tables_row reads h)
+data_fail m b r reads (paths_name_offsets h) = file (name_tables_row reads (names-fail (view_of b) r h))
+data_fail m b r reads (paths_relocations h) = file (relocations_row reads (left h))
 data_fail m b r reads (paths_slots h) = file (slots_row reads h)
 data_fail m b r reads (paths_shared readings i h) = shared readings reads i h
 
@@ -120,6 +126,7 @@ pub ruleset tables_rules = (refused_tables, found_tables)
 -- and macro units.
 macro_fail : (m : PathMap) (b : List ℕ) (r : Refusal) → ElfReads b → UnitsFailIn (view_of b) r → EditFails m b r
 macro_fail m b r reads (units_fail z before behind split h) = file (macros_row z before behind reads split h)
+macro_fail m b r reads (offsets_fail z before behind split h) = file (macros_row z before behind reads split (units-fail (view_of b) z.number r h))
 
 pub refused_macros : (m : PathMap) (b : List ℕ) (v : View) (f : Fault) → IsJudged b → v ≡ view_of b → Blames (UnitsFailIn v) f → Blames (EditFails m b) f
 refused_macros m b v NoMemory j is h = tt

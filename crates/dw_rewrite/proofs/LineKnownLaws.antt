@@ -16,6 +16,7 @@ use Rattle.dw_base.specs.WrittenLines.{Change, all_changes, inline_change, new_p
 use Rattle.dw_base.specs.declared.fault.Refusal.{Refusal}
 use Rattle.dw_base.specs.declared.line_tables.TextPlace.{TextPlace}
 use Rattle.dw_base.specs.declared.shared.Width.{Width}
+use Rattle.dw_base.proofs.PlainCellLaws.{IsPlain}
 use Rattle.dw_lines.specs.ViewTables.{tables_read}
 use Rattle.dw_rewrite.specs.Changes.{IsNoted, Knows, path_of}
 use Rattle.dw_find.specs.Fields.{OffsetTable, offset_at}
@@ -49,9 +50,9 @@ one-change : (g : LineSource) (m : PathMap) (p q : TextPlace → Option ℕ) (w 
 one-change g m p q w x a = by (x.section == g.number) refl
   where
     by : (b : Bool) → (x.section == g.number) ≡ b
-        → (if b then inline_change m g.bytes x ∷ [] else offset_changes g.order w g.bytes x.field (p x)) ≡ (if b then inline_change m g.bytes x ∷ [] else offset_changes g.order w g.bytes x.field (q x))
+        → (if b then inline_change m g.bytes x ∷ [] else offset_changes g.order w g.bytes g.cells x.field (p x)) ≡ (if b then inline_change m g.bytes x ∷ [] else offset_changes g.order w g.bytes g.cells x.field (q x))
     by true e = refl
-    by false e = ap (offset_changes g.order w g.bytes x.field) (a e)
+    by false e = ap (offset_changes g.order w g.bytes g.cells x.field) (a e)
 
 changes-same : (g : LineSource) (m : PathMap) (p q : TextPlace → Option ℕ) (w : Width) (xs : List TextPlace) → EachAgree g p q xs → all_changes g m p w xs ≡ all_changes g m q w xs
 changes-same g m p q w [] a = refl
@@ -101,15 +102,15 @@ known-asked plan m table ts known o knows noted = by (known o) refl (plan.asks (
 abbrev pub NotedIn : Plan → OffsetTable → List ℕ → (ℕ → Option ℕ) → PathField → Type 0
 NotedIn plan table info known f = IsNoted plan table known (offset_at table info f)
 
-one-agrees : (g : LineSource) (m : PathMap) (str line_str : TableChange) (ks kl : ℕ → Option ℕ) (w : Width) (x : TextPlace) → PathReads g w x
+one-agrees : (g : LineSource) (m : PathMap) (str line_str : TableChange) (ks kl : ℕ → Option ℕ) (w : Width) (x : TextPlace) → IsPlain g.cells → PathReads g w x
     → Knows str.plan m (texts_table g in_str) str.texts ks → Knows line_str.plan m (texts_table g in_line_str) line_str.texts kl
     → EachOf (NotedIn str.plan (texts_table g in_str) g.bytes ks) (text_field g.number g.str.number in_str w x)
     → EachOf (NotedIn line_str.plan (texts_table g in_line_str) g.bytes kl) (text_field g.number g.str.number in_line_str w x)
     → (x.section == g.number) ≡ false → new_place g ks kl x ≡ line_place m str line_str g x
-one-agrees g m str line_str ks kl w x reads s l ns nl other = by (x.section == g.number) (x.section == g.str.number) other ns nl
+one-agrees g m str line_str ks kl w x plain reads s l ns nl other = by (x.section == g.number) (x.section == g.str.number) other ns nl
   where
     at : x.at ≡ spelled g.order g.bytes x.field (width_size w)
-    at = offset-read g w x reads other
+    at = offset-read g w x plain reads other
 
     by : (a b : Bool) → a ≡ false
         → EachOf (NotedIn str.plan (texts_table g in_str) g.bytes ks) (if (not a && b) then record { at = x.field; size = width_size w } ∷ [] else [])
@@ -125,35 +126,35 @@ each-parts : {X : Type 0} (P : X → Type 0) (xs ys : List X) → EachOf P (xs +
 each-parts P [] ys h = (tt, h)
 each-parts P (x ∷ xs) ys h = let rest = each-parts P xs ys h.1 in ((h.0, rest.0), rest.1)
 
-paths-agree : (g : LineSource) (m : PathMap) (str line_str : TableChange) (ks kl : ℕ → Option ℕ) (w : Width) (xs : List TextPlace) → EachReads g w xs
+paths-agree : (g : LineSource) (m : PathMap) (str line_str : TableChange) (ks kl : ℕ → Option ℕ) (w : Width) (xs : List TextPlace) → IsPlain g.cells → EachReads g w xs
     → Knows str.plan m (texts_table g in_str) str.texts ks → Knows line_str.plan m (texts_table g in_line_str) line_str.texts kl
     → EachOf (NotedIn str.plan (texts_table g in_str) g.bytes ks) (text_fields g.number g.str.number in_str w xs)
     → EachOf (NotedIn line_str.plan (texts_table g in_line_str) g.bytes kl) (text_fields g.number g.str.number in_line_str w xs)
     → EachAgree g (new_place g ks kl) (line_place m str line_str g) xs
-paths-agree g m str line_str ks kl w [] reads s l ns nl = tt
-paths-agree g m str line_str ks kl w (x ∷ xs) reads s l ns nl =
+paths-agree g m str line_str ks kl w [] plain reads s l ns nl = tt
+paths-agree g m str line_str ks kl w (x ∷ xs) plain reads s l ns nl =
     let a = each-parts (NotedIn str.plan (texts_table g in_str) g.bytes ks) (text_field g.number g.str.number in_str w x) (text_fields g.number g.str.number in_str w xs) ns in
     let b = each-parts (NotedIn line_str.plan (texts_table g in_line_str) g.bytes kl) (text_field g.number g.str.number in_line_str w x) (text_fields g.number g.str.number in_line_str w xs) nl in
-    (one-agrees g m str line_str ks kl w x reads.0 s l a.0 b.0, paths-agree g m str line_str ks kl w xs reads.1 s l a.1 b.1)
+    (one-agrees g m str line_str ks kl w x plain reads.0 s l a.0 b.0, paths-agree g m str line_str ks kl w xs plain reads.1 s l a.1 b.1)
 
 -- of all tables
 abbrev pub TablesAgree : LineSource → (TextPlace → Option ℕ) → (TextPlace → Option ℕ) → List LineReading → Type 0
 TablesAgree g p q [] = ⊤
 TablesAgree g p q (r ∷ rs) = EachAgree g p q (paths_of (table_read g r)) × TablesAgree g p q rs
 
-pub tables-agree : (g : LineSource) (m : PathMap) (str line_str : TableChange) (ks kl : ℕ → Option ℕ) (p e : ℕ) (rs : List LineReading) → TablesTo g p rs e
+pub tables-agree : (g : LineSource) (m : PathMap) (str line_str : TableChange) (ks kl : ℕ → Option ℕ) (p e : ℕ) (rs : List LineReading) → IsPlain g.cells → TablesTo g p rs e
     → Knows str.plan m (texts_table g in_str) str.texts ks → Knows line_str.plan m (texts_table g in_line_str) line_str.texts kl
     → EachOf (NotedIn str.plan (texts_table g in_str) g.bytes ks) (table_fields g.number g.str.number in_str (tables_read g rs))
     → EachOf (NotedIn line_str.plan (texts_table g in_line_str) g.bytes kl) (table_fields g.number g.str.number in_line_str (tables_read g rs))
     → TablesAgree g (new_place g ks kl) (line_place m str line_str g) rs
-tables-agree g m str line_str ks kl p e [] reads s l ns nl = tt
-tables-agree g m str line_str ks kl p e (r ∷ rs) reads s l ns nl =
+tables-agree g m str line_str ks kl p e [] plain reads s l ns nl = tt
+tables-agree g m str line_str ks kl p e (r ∷ rs) plain reads s l ns nl =
     let a = each-parts (NotedIn str.plan (texts_table g in_str) g.bytes ks) (text_fields g.number g.str.number in_str r.header.width (paths_of (table_read g r)))
     (table_fields g.number g.str.number in_str (tables_read g rs)) ns in
     let b = each-parts (NotedIn line_str.plan (texts_table g in_line_str) g.bytes kl) (text_fields g.number g.str.number in_line_str r.header.width (paths_of (table_read g r)))
     (table_fields g.number g.str.number in_line_str (tables_read g rs)) nl in (
-      paths-agree g m str line_str ks kl r.header.width (paths_of (table_read g r)) (table-paths g p r reads.0) s l a.0 b.0,
-      tables-agree g m str line_str ks kl r.header.end e rs reads.1 s l a.1 b.1,
+      paths-agree g m str line_str ks kl r.header.width (paths_of (table_read g r)) plain (table-paths g p r reads.0) s l a.0 b.0,
+      tables-agree g m str line_str ks kl r.header.end e rs plain reads.1 s l a.1 b.1,
     )
 
 -- the new tables

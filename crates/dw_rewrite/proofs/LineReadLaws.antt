@@ -5,7 +5,7 @@ use Rattle.dw_base.specs.FileViews.{View, section_named}
 use Rattle.dw_base.specs.LineReadings.{LineReading, TablesTo, table_read}
 use Rattle.dw_base.specs.LineSources.{LineSource}
 use Rattle.dw_base.specs.LineTables.{IsLineTable, LineTable}
-use Rattle.dw_base.specs.ViewData.{debug_data, located, located_at}
+use Rattle.dw_base.specs.ViewData.{cells_located, debug_data}
 use Rattle.dw_base.specs.declared.debug_sections.DebugSection.TheVariants.{Line}
 use Rattle.dw_lines.specs.ViewTables.{TablesUpTo, tables_read}
 use Rattle.dw_meaning.proofs.LineHeaderLaws.{header-is}
@@ -14,12 +14,12 @@ use Rattle.dw_rewrite.specs.NewLines.{AllStandIn}
 
 -- the number of their section
 pub number-some : (v : View) (i : ℕ) → Some i ≡ section_named v (name_of Line) → i ≡ (debug_data v).lines.number
-unfolding debug_data located
-number-some v i e = ap (λ (o : Option ℕ). (located_at v o).number) e
+unfolding debug_data
+number-some v i e = ap (λ (o : Option ℕ). (cells_located v o).number) e
 
 pub number-none : (v : View) → None ≡ section_named v (name_of Line) → 0 ≡ (debug_data v).lines.number
-unfolding debug_data located
-number-none v e = ap (λ (o : Option ℕ). (located_at v o).number) e
+unfolding debug_data
+number-none v e = ap (λ (o : Option ℕ). (cells_located v o).number) e
 
 pub ruleset number_rules = (number-some, number-none)
 

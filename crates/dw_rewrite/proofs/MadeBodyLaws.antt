@@ -44,6 +44,7 @@ use Rattle.dw_rewrite.proofs.NewBodyLaws.{known-bodies, made-noted, names-body, 
 use Rattle.dw_find.proofs.PlaceValueLaws.{EachOf}
 use Rattle.dw_find.proofs.StartLaws.{starts-rise}
 use Rattle.dw_find.proofs.FoundUnitLaws.{bytes-some, front-is, lines-number, without-is}
+use Rattle.dw_find.proofs.PlainFieldLaws.{lines-plain}
 use Rattle.dw_rewrite.proofs.TableTextLaws.{lines-none, made-table, same-lines, table-bytes}
 
 back-is : {X : Type 0} (xs ys : List X) (n : ℕ) → length ys ≡ n → drop (length (xs ++ ys) - n) (xs ++ ys) ≡ ys
@@ -132,7 +133,7 @@ lines-agree-by m v us ts ps pl ks kl f s l None e ns nl =
     (line_place m (change_of_table m v f.readings in_str) (change_of_table m v f.readings in_line_str) (line_source (debug_data v)))) (sym (lines-none v f.readings.lines e f.reads.lines)) tt
 lines-agree-by m v us ts ps pl ks kl f s l (Some i) e ns nl =
     tables-agree (line_source (debug_data v)) m (change_of_table m v f.readings in_str) (change_of_table m v f.readings in_line_str) ks kl 0 (length (line_source (debug_data v)).bytes)
-    f.readings.lines f.reads.lines (table-knows m v in_str us ts ps ks f s) (table-knows m v in_line_str us ts pl kl f l)
+    f.readings.lines (lines-plain v) f.reads.lines (table-knows m v in_str us ts ps ks f s) (table-knows m v in_line_str us ts pl kl f l)
     (subst (λ (us_ : List LineTable). EachOf (NotedIn (plan_in m v in_str) (offsets_in v in_str) (line_source (debug_data v)).bytes ks)
     (table_fields (line_source (debug_data v)).number (line_source (debug_data v)).str.number in_str us_)) f.tables (noted-lines m v in_str i ts ks e ns.0))
     (subst (λ (us_ : List LineTable). EachOf (NotedIn (plan_in m v in_line_str) (offsets_in v in_line_str) (line_source (debug_data v)).bytes kl)

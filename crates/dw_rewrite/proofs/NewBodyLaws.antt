@@ -1,11 +1,11 @@
 -- The new bodies are those of the readings of debug data.
 use Rattle.std.proofs.Common.{◌≡◌, ℕ, suc, ◌+◌, ◌<◌, List, [], ◌∷◌, ◌++◌, length, get_or, Option, Some, None, refl, sym, ap, ◌∙◌, arith, append_assoc}
-use Rattle.dw_base.specs.Cells.{bytes_of, plain_cells}
+use Rattle.dw_base.specs.Cells.{bytes_of}
 use Rattle.dw_base.specs.DebugSections.{name_of}
 use Rattle.dw_base.specs.OffsetPieces.{OffsetState, ReadsOffsets}
 use Rattle.dw_base.specs.SectionTexts.{edited_with, mentions_with, slot_role}
 use Rattle.dw_base.specs.declared.debug_sections.DebugSection.TheVariants.{Names, StrOffsets}
-use Rattle.dw_base.proofs.PlainCellLaws.{bytes_of-plain}
+use Rattle.dw_base.proofs.ViewCellLaws.{bytes-cells, bytes_of-view_cells}
 use Rattle.dw_meaning.specs.DataOutput.{Body, cells_body, table_change, changes_of, names_after, offsets_after, unit_body, unit_bodies}
 use Rattle.dw_base.specs.DebugData.{DebugData, DataReadings, Around, around_of, path_slots, table_of, units_in, ReadsAll}
 use Rattle.dw_base.specs.Readings.{Reading, Readings, EachReading}
@@ -18,7 +18,7 @@ use Rattle.dw_base.specs.TextChanges.{mentions_of, all_mentions, edited_all, Inl
 use Rattle.dw_base.specs.UnitHeaders.{UnitSection}
 use Rattle.dw_base.specs.UnitPieces.{ReadsUnits}
 use Rattle.dw_base.specs.UnitStates.{UnitState, before_unit}
-use Rattle.dw_base.specs.ViewData.{debug_data, located, located_at}
+use Rattle.dw_base.specs.ViewData.{cells_located, debug_data, located_at}
 use Rattle.dw_meaning.proofs.DataKeptLaws.{EachPlain}
 use Rattle.dw_meaning.proofs.TextEditLaws.{PlainPiece}
 use Rattle.dw_rewrite.specs.PushedBodies.{kept_body, names_body, one_body}
@@ -103,7 +103,7 @@ same-slots : (table : TextSection) (i : ℕ) (d : DebugData) (rs : DataReadings)
 same-slots in_str i d rs = refl
 same-slots in_line_str i d rs = line-fields (path_slots (around_of d rs)) rs.offsets
 
-slots-texts-by : (m : PathMap) (v : View) (rs : DataReadings) (table : TextSection) (ts : List (List ℕ)) (o : Option ℕ) → ReadsOffsets v.order (plain_cells (located_at v o).bytes) rs.offsets
+slots-texts-by : (m : PathMap) (v : View) (rs : DataReadings) (table : TextSection) (ts : List (List ℕ)) (o : Option ℕ) → ReadsOffsets v.order (cells_located v o).contents rs.offsets
     → texts_after (plan_in m v table) m ts (mentions_with (slot_role (path_slots (around_of (debug_data v) rs))) table (around_of (debug_data v) rs) rs.offsets)
     ≡ all_texts_at m v table ts (slots_by o (read_fields (debug_data v) rs))
 slots-texts-by m v rs table ts None r =
@@ -203,9 +203,9 @@ pub made-noted : (m : PathMap) (v : View) (table : TextSection) (us : List UnitP
 made-noted m v table us pool known t = noted-each m v table known us (λ (k : ℕ) (d : UnitPaths) (lt : k < length us). t.noted.each k d lt lt)
 
 -- the new bytes of string offsets are those of their edited pieces
-slots-body-by : (m : PathMap) (v : View) (rs : DataReadings) (kt : ℕ → Option ℕ) (o : Option ℕ) → ReadsOffsets v.order (plain_cells (located_at v o).bytes) rs.offsets
+slots-body-by : (m : PathMap) (v : View) (rs : DataReadings) (kt : ℕ → Option ℕ) (o : Option ℕ) → ReadsOffsets v.order (cells_located v o).contents rs.offsets
     → one_body (bodies_after m v (table_change m in_str (around_of (debug_data v) rs) rs).texts (table_change m in_line_str (around_of (debug_data v) rs) rs).texts kt (slots_by o (read_fields (debug_data v) rs)))
-    ≡ cells_body (located_at v o).number (joined (offsets_after (changes_of m (around_of (debug_data v) rs) rs) (around_of (debug_data v) rs) rs)) ∷ []
+    ≡ cells_body (cells_located v o).number (joined (offsets_after (changes_of m (around_of (debug_data v) rs) rs) (around_of (debug_data v) rs) rs)) ∷ []
 unfolding section_after table_change
 slots-body-by m v rs kt None r =
     ap (λ (xs : List (Piece OffsetState)). record {
@@ -220,7 +220,7 @@ slots-body-by m v rs kt (Some i) r =
     let ts : List (List ℕ) = (table_change m in_str (around_of (debug_data v) rs) rs).texts in
     let ls : List (List ℕ) = (table_change m in_line_str (around_of (debug_data v) rs) rs).texts in
     let fs : List PathField = offset_fields in_str (path_slots (around_of (debug_data v) rs)) rs.offsets in
-    let start : bytes_of (joined rs.offsets) ≡ section_bytes v i = ap bytes_of r.cells ∙ bytes_of-plain (section_bytes v i) in
+    let start : bytes_of (joined rs.offsets) ≡ section_bytes v i = ap bytes_of r.cells ∙ bytes_of-view_cells v i in
     ap (λ (bs : List ℕ). record { number = i; bytes = bs } ∷ [])
     (ap (λ (gs : List PathField). inlined m (section_bytes v i) (patched (change_in m v in_line_str ls) m (offsets_in v in_line_str) (section_bytes v i)
     (patched (change_in m v in_str ts) m (offsets_in v in_str) (section_bytes v i) (section_bytes v i) fs) gs) []) (sym (line-fields paths rs.offsets))
@@ -232,23 +232,23 @@ slots-body-by m v rs kt (Some i) r =
 pub slots-body : (m : PathMap) (v : View) (rs : DataReadings) (kt : ℕ → Option ℕ) → ReadsOffsets (debug_data v).base.order (debug_data v).offsets.contents rs.offsets
     → one_body (bodies_after m v (table_change m in_str (around_of (debug_data v) rs) rs).texts (table_change m in_line_str (around_of (debug_data v) rs) rs).texts kt (slots_read v rs))
     ≡ cells_body (debug_data v).offsets.number (joined (offsets_after (changes_of m (around_of (debug_data v) rs) rs) (around_of (debug_data v) rs) rs)) ∷ []
-unfolding debug_data located
+unfolding debug_data
 slots-body m v rs kt r = slots-body-by m v rs kt (section_named v (name_of StrOffsets)) (offsets-of v rs.offsets r)
 
 -- name tables keep their bytes
-names-body-by : (m : PathMap) (v : View) (rs : DataReadings) (o : Option ℕ) → joined rs.names ≡ plain_cells (located_at v o).bytes
-    → kept_body v o ≡ cells_body (located_at v o).number (joined (names_after (changes_of m (around_of (debug_data v) rs) rs) (around_of (debug_data v) rs) rs))
+names-body-by : (m : PathMap) (v : View) (rs : DataReadings) (o : Option ℕ) → joined rs.names ≡ (cells_located v o).contents
+    → kept_body v o ≡ cells_body (cells_located v o).number (joined (names_after (changes_of m (around_of (debug_data v) rs) rs) (around_of (debug_data v) rs) rs))
 unfolding table_change
 names-body-by m v rs o cells =
-    let kept : joined (names_after (changes_of m (around_of (debug_data v) rs) rs) (around_of (debug_data v) rs) rs) ≡ plain_cells (located_at v o).bytes =
+    let kept : joined (names_after (changes_of m (around_of (debug_data v) rs) rs) (around_of (debug_data v) rs) rs) ≡ (cells_located v o).contents =
     names-kept (changes_of m (around_of (debug_data v) rs) rs) (around_of (debug_data v) rs) rs.names refl ∙ cells in
-    by_option o ∙ ap (λ (bs : List ℕ). record { number = (located_at v o).number; bytes = bs }) (sym (ap bytes_of kept ∙ bytes_of-plain (located_at v o).bytes))
+    by_option o ∙ ap (λ (bs : List ℕ). record { number = (cells_located v o).number; bytes = bs }) (sym (ap bytes_of kept ∙ bytes-cells v o))
   where
-    by_option : (p : Option ℕ) → kept_body v p ≡ record { number = (located_at v p).number; bytes = (located_at v p).bytes }
+    by_option : (p : Option ℕ) → kept_body v p ≡ record { number = (cells_located v p).number; bytes = (located_at v p).bytes }
     by_option None = refl
     by_option (Some i) = refl
 
 pub names-body : (m : PathMap) (v : View) (rs : DataReadings) → joined rs.names ≡ (debug_data v).names.contents
     → names_body v ≡ cells_body (debug_data v).names.number (joined (names_after (changes_of m (around_of (debug_data v) rs) rs) (around_of (debug_data v) rs) rs))
-unfolding debug_data located
+unfolding debug_data
 names-body m v rs cells = names-body-by m v rs (section_named v (name_of Names)) cells

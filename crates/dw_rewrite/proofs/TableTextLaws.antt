@@ -36,6 +36,7 @@ use Rattle.dw_find.proofs.LineTextLaws.{texts_table}
 use Rattle.dw_rewrite.proofs.NewBodyLaws.{all_texts-append, readings-texts, same-plan, sections-plain, slots-texts, texts_after-append}
 use Rattle.dw_rewrite.proofs.SlotWrittenLaws.{names-texts}
 use Rattle.dw_find.proofs.FoundUnitLaws.{bytes-some}
+use Rattle.dw_find.proofs.PlainFieldLaws.{lines-plain}
 
 pub lines-none : (v : View) (rs : List LineReading) → None ≡ section_named v (name_of Line) → AreTables (line_source (debug_data v)) rs → rs ≡ []
 lines-none v rs e are = no-tables (line_source (debug_data v)) rs (source-none v e) are
@@ -57,7 +58,7 @@ lines-texts-by m v table ts rs None e are =
     ap (λ (xs : List LineReading). texts_after (plan_in m v table) m ts (line_mentions (line_source (debug_data v)) table xs)) (lines-none v rs e are)
 lines-texts-by m v table ts rs (Some i) e are =
     let us : List LineTable = tables_read (line_source (debug_data v)) rs in
-    lines-texts (line_source (debug_data v)) table (plan_in m v table) m ts 0 (length (line_source (debug_data v)).bytes) rs are
+    lines-texts (line_source (debug_data v)) table (plan_in m v table) m ts 0 (length (line_source (debug_data v)).bytes) rs (lines-plain v) are
     ∙ ap (λ (t : OffsetTable). texts_at (plan_in m v table) m t (line_source (debug_data v)).bytes ts
     (table_fields (line_source (debug_data v)).number (line_source (debug_data v)).str.number table (tables_read (line_source (debug_data v)) rs))) (same-texts v table)
     ∙ ap (λ (bs : List ℕ). texts_at (plan_in m v table) m (offsets_in v table) bs ts

@@ -10,7 +10,8 @@ use Rattle.dw_base.specs.Paths.{PathMap}
 use Rattle.dw_base.specs.Pieces.{Piece, joined, EachPiece}
 use Rattle.dw_base.specs.Roles.{Role, fixed, offset, inline_path, line_start, role_of}
 use Rattle.dw_base.specs.StringTables.{Plan, appending, new_place}
-use Rattle.dw_base.specs.TextChanges.{TableChanges, with_offset, mention_at, moved_start, change_of, edited_by, edited_all, InlineFitsBy, InlineFits}
+use Rattle.dw_base.specs.NewOffsets.{with_offset}
+use Rattle.dw_base.specs.TextChanges.{TableChanges, mention_at, moved_start, change_of, edited_by, edited_all, InlineFitsBy, InlineFits}
 use Rattle.dw_base.specs.Texts.{text}
 use Rattle.dw_base.specs.UnitStates.{UnitState}
 use Rattle.dw_base.specs.declared.shared.Order.{Order}

@@ -1,4 +1,5 @@
 pub mod RegisterLaws
+pub mod AddressLaws
 pub mod RowLaws
 pub mod HeaderLaws
 pub mod WholeLaws

@@ -1,7 +1,10 @@
 -- What is known of a table that was read, and where a walk over its rows begins.
 use Rattle.std.proofs.Common.{◌≡◌, ℕ, ◌+◌, ◌-◌, ◌<◌, ◌≤◌, ◌^◌, List, length, take, drop, refl, sym, ap, ◌∙◌, subst, arith}
 use Rattle.std.proofs.lemmas.List.{drop-take, take-take, length-take-le, length-drop}
-use Rattle.dw_base.specs.FileViews.{View, section_bytes}
+use Rattle.dw_base.proofs.RelocationFieldLaws.{bytes_of-take}
+use Rattle.dw_base.proofs.ViewCellLaws.{bytes_of-view_cells}
+use Rattle.dw_base.specs.Cells.{Cell, cells_at}
+use Rattle.dw_base.specs.FileViews.{View, section_bytes, view_cells}
 use Rattle.dw_base.specs.declared.shared.Order.{Order}
 use Rattle.dw_base.specs.declared.shared.Width.{Width}
 use Rattle.dw_base.specs.LineTables.{LineTable, IsLineTable, table_bytes}
@@ -10,6 +13,7 @@ use Rattle.dw_base.specs.WrittenLines.{part}
 use Rattle.dw_lines.specs.ViewSources.{view_source}
 use Rattle.dw_base.specs.LineOperations.{operations, Spells}
 use Rattle.dw_base.specs.LineRegisters.{start_registers}
+use Rattle.dw_rows.specs.ProgramPlaces.{StandsIn, cells_left}
 use Rattle.dw_rows.specs.TableRows.{IsTableIn, IsWhole, RowsFit, RowsState, counts_of, counts_place, params_of, program_of, rows_from, rows_start, table_rows}
 use Rattle.dw_base.specs.declared.line_rows.LineParams.{LineParams}
 use Rattle.dw_base.specs.declared.line_rows.Row.{Row}
@@ -84,26 +88,27 @@ counts-said v t is =
     ∙ ap (λ (n : ℕ). take (h.opcode_base - 1) (drop n (section_bytes v t.section))) place
     ∙ sym (take-inside (section_bytes v t.section) h.operands (h.opcode_base - 1) h.end room)
 
-pub program-said : (v : View) (t : LineTable) (is : IsTableIn v t) → drop is.is.header.program (table_bytes (view_source v t.section) is.is.header) ≡ program_of v t
+pub program-said : (v : View) (t : LineTable) (is : IsTableIn v t) → drop is.is.header.program (take is.is.header.end (view_cells v t.section)) ≡ program_of v t
 program-said v t is =
     let h = is.is.header in
     let same = is.is.is in
-    ap (λ (n : ℕ). drop n (table_bytes (view_source v t.section) h)) (sym (ap (λ (x : LineTable). x.program) same))
-    ∙ ap (λ (n : ℕ). drop t.program (take n (section_bytes v t.section))) (sym (ap (λ (x : LineTable). x.end) same))
+    ap (λ (n : ℕ). drop n (take h.end (view_cells v t.section))) (sym (ap (λ (x : LineTable). x.program) same))
+    ∙ ap (λ (n : ℕ). drop t.program (take n (view_cells v t.section))) (sym (ap (λ (x : LineTable). x.end) same))
 
 pub table-whole : (v : View) (t : LineTable) → IsTableIn v t → IsWhole (rows_start v t)
 table-whole v t is =
     let h = is.is.header in
     let same = is.is.is in
     let header = header-back v.order (section_bytes v t.section) is.start h is.is.header_is in
-    subst (λ (bs : List ℕ). Spells (params_of v.order t) (counts_of v t) bs (operations (params_of v.order t) (counts_of v t) bs)) (program-said v t is)
-    (program-whole (params_of v.order t) t.section h (table_bytes (view_source v t.section) h) (counts_of v t) is.is.defined header.standard_is
+    subst (λ (cs : List Cell). Spells (params_of v.order t) (counts_of v t) cs (operations (params_of v.order t) (counts_of v t) cs)) (program-said v t is)
+    (program-whole (params_of v.order t) t.section h (table_bytes (view_source v t.section) h) (take h.end (view_cells v t.section)) (counts_of v t) is.is.defined
+    (bytes_of-take h.end (view_cells v t.section) ∙ ap (take h.end) (bytes_of-view_cells v t.section)) header.standard_is
     (sym (ap (λ (x : LineTable). x.line_range) same)) (sym (ap (λ (x : LineTable). x.opcode_base) same)) (counts-said v t is) is.is.program)
 
 -- the rows of a table are those that it means
 pub rows-meant : (v : View) (t : LineTable) (is : IsTableIn v t) → table_rows v t
     ≡ program_rows (line_params v.order is.is.header) (part (table_bytes (view_source v t.section) is.is.header) is.is.header.operands is.is.header.lists)
-    (drop is.is.header.program (table_bytes (view_source v t.section) is.is.header))
+    (drop is.is.header.program (take is.is.header.end (view_cells v t.section)))
 rows-meant v t is =
     let h = is.is.header in
     let header = header-back v.order (section_bytes v t.section) is.start h is.is.header_is in
@@ -122,44 +127,78 @@ counts-cut bytes place n =
     let same : place + n - place ≡ n = omega arith in
     ap (λ (k : ℕ). take k (drop place bytes)) same
 
-pub program-cut : (bytes : List ℕ) (place end : ℕ) → place ≤ end → take (end - place) (drop place bytes) ≡ drop place (take end bytes)
-program-cut bytes place end le =
+pub program-cut : {X : Type 0} (xs : List X) (place end : ℕ) → place ≤ end → take (end - place) (drop place xs) ≡ drop place (take end xs)
+program-cut xs place end le =
     let sum : place + (end - place) ≡ end = omega (arith, le) in
-    sym (drop-take place (end - place) bytes) ∙ ap (λ (k : ℕ). drop place (take k bytes)) sum
+    sym (drop-take place (end - place) xs) ∙ ap (λ (k : ℕ). drop place (take k xs)) sum
+
+left-size : (bytes left : List ℕ) (place end : ℕ) → end ≤ length bytes → left ≡ drop place (take end bytes) → length left ≡ end - place
+left-size bytes left place end inside l =
+    ap length l ∙ length-drop place (take end bytes) ∙ ap (λ (n : ℕ). n - place) (length-take-le end bytes inside)
 
 pub ruleset cut_laws = (counts-cut, program-cut)
 
--- the walk before the first row
-pub start-is : (v : View) (t : LineTable) (order : Order) (params : LineParams) (bytes counts left : List ℕ) (registers : Row) → bytes ≡ section_bytes v t.section
+-- the walk before the first row: the program stands in its section,
+pub program-stands : (v : View) (t : LineTable) (section place : ℕ) (bytes left : List ℕ) → IsTableIn v t → section ≡ t.section → bytes ≡ section_bytes v section → length bytes ≤ 2 ^ 31
+    → place ≡ t.program → left ≡ drop t.program (take t.end bytes) → StandsIn v section place left
+program-stands v t section place bytes left is s b small p l =
+    let fits = table-fits v t is in
+    let program_in = fits.program_in in
+    let end_in = fits.end_in in
+    let own : bytes ≡ section_bytes v t.section = b ∙ ap (section_bytes v) s in
+    let all : length bytes ≡ length (section_bytes v t.section) = ap length own in
+    let all_own : length bytes ≡ length (section_bytes v section) = ap length b in
+    let size : length left ≡ t.end - t.program = left-size bytes left t.program t.end (omega (arith, end_in, all)) l in
+    record {
+      there = subst (λ (n : ℕ). n < length v.sections) (sym s) is.there;
+      within = omega (arith, size, program_in, end_in, all, all_own, p);
+      small = omega (arith, size, program_in, end_in, all, small, p);
+      is = l ∙ sym (program-cut bytes t.program t.end program_in) ∙ ap (λ (n : ℕ). take n (drop t.program bytes)) (sym size)
+          ∙ ap (λ (n : ℕ). take (length left) (drop n bytes)) (sym p) ∙ ap (λ (bs : List ℕ). take (length left) (drop place bs)) b;
+    }
+
+-- and is the table's
+pub program-cells : (v : View) (t : LineTable) (section place : ℕ) (bytes left : List ℕ) → IsTableIn v t → section ≡ t.section → bytes ≡ section_bytes v section
+    → place ≡ t.program → left ≡ drop t.program (take t.end bytes) → cells_left v section place left ≡ program_of v t
+program-cells v t section place bytes left is s b p l =
+    let fits = table-fits v t is in
+    let program_in = fits.program_in in
+    let end_in = fits.end_in in
+    let all : length bytes ≡ length (section_bytes v t.section) = ap length (b ∙ ap (section_bytes v) s) in
+    let size : length left ≡ t.end - t.program = left-size bytes left t.program t.end (omega (arith, end_in, all)) l in
+    ap (λ (n : ℕ). cells_at (view_cells v n) place (length left)) s ∙ ap (λ (n : ℕ). cells_at (view_cells v t.section) n (length left)) p
+    ∙ ap (cells_at (view_cells v t.section) t.program) size ∙ program-cut (view_cells v t.section) t.program t.end program_in
+
+pub start-is : (v : View) (t : LineTable) (section place : ℕ) (order : Order) (params : LineParams) (bytes counts left : List ℕ) (registers : Row) → IsTableIn v t → section ≡ t.section
+    → bytes ≡ section_bytes v section → place ≡ t.program
     → order ≡ v.order → params ≡ params_of order t → counts ≡ take (t.opcode_base - 1) (drop (counts_place t.start t.width t.version) bytes)
     → left ≡ drop t.program (take t.end bytes) → registers ≡ start_registers params
-    → ◌≡◌ {A = RowsState} (record { params = params; counts = counts; left = left; registers = registers }) (rows_start v t)
-start-is v t order params bytes counts left registers b o p c l r = rw (r, p, o, c, l, b) refl
+    → ◌≡◌ {A = RowsState} (record { params = params; counts = counts; left = cells_left v section place left; registers = registers }) (rows_start v t)
+start-is v t section place order params bytes counts left registers is s b n o p c l r =
+    rw (program-cells v t section place bytes left is s b n l, r, p, o, c, b, s) refl
 
 pub start-whole : (v : View) (t : LineTable) (s : RowsState) → IsTableIn v t → s ≡ rows_start v t → IsWhole s
 start-whole v t s is e = subst (λ (x : RowsState). IsWhole x) (sym e) (table-whole v t is)
 
-pub start-fits : (v : View) (t : LineTable) (order : Order) (params : LineParams) (bytes counts left : List ℕ) (registers : Row) → IsTableIn v t
-    → length bytes ≤ 2 ^ 31 → bytes ≡ section_bytes v t.section → params ≡ params_of order t
+pub start-fits : (v : View) (t : LineTable) (section place : ℕ) (order : Order) (params : LineParams) (bytes counts left : List ℕ) (registers : Row) → IsTableIn v t
+    → section ≡ t.section → length bytes ≤ 2 ^ 31 → bytes ≡ section_bytes v section → place ≡ t.program → order ≡ v.order → params ≡ params_of order t
     → counts ≡ take (t.opcode_base - 1) (drop (counts_place t.start t.width t.version) bytes) → left ≡ drop t.program (take t.end bytes) → registers.op_index ≡ 0
-    → RowsFit (record { params = params; counts = counts; left = left; registers = registers })
-start-fits v t order params bytes counts left registers is small b p c l index =
+    → RowsFit v section place left (record { params = params; counts = counts; left = cells_left v section place left; registers = registers })
+start-fits v t section place order params bytes counts left registers is s small b n o p c l index =
     let fits = table-fits v t is in
     let counts_in = fits.counts_in in
     let end_in = fits.end_in in
     let ops_some = fits.ops_some in
-    let all : length bytes ≡ length (section_bytes v t.section) = ap length b in
+    let all : length bytes ≡ length (section_bytes v t.section) = ap length (b ∙ ap (section_bytes v) s) in
     let behind : length (drop (counts_place t.start t.width t.version) bytes) ≡ length bytes - counts_place t.start t.width t.version =
     length-drop (counts_place t.start t.width t.version) bytes in
     let room : t.opcode_base - 1 ≤ length (drop (counts_place t.start t.width t.version) bytes) = omega (arith, behind, counts_in, end_in, all) in
-    let front : length (take t.end bytes) ≡ t.end = length-take-le t.end bytes (omega (arith, end_in, all)) in
-    let rest : length (drop t.program (take t.end bytes)) ≡ length (take t.end bytes) - t.program = length-drop t.program (take t.end bytes) in
     let max : params.max_ops ≡ t.max_ops = ap (λ (x : LineParams). x.max_ops) p in
-    let left_is : length left ≡ length (drop t.program (take t.end bytes)) = ap length l in
     record {
+      stands = program-stands v t section place bytes left is s b small n l;
+      order = ap (λ (x : LineParams). x.order) p ∙ o;
       counts = ap length c ∙ length-take-le (t.opcode_base - 1) (drop (counts_place t.start t.width t.version) bytes) room
           ∙ sym (ap (λ (x : LineParams). x.opcode_base - 1) p);
-      small = omega (arith, left_is, rest, front, end_in, all, small);
       some = omega (arith, max, ops_some);
       index = omega (arith, index, max, ops_some);
     }
@@ -192,7 +231,7 @@ end-inside v t bytes is b =
     let all : length bytes ≡ length (section_bytes v t.section) = ap length b in
     omega (arith, end_in, all)
 
-pub ruleset start_laws = (start-is, start-whole, start-fits, small-start, some-base, counts-inside, program-before, end-inside)
+pub ruleset start_laws = (start-is, start-whole, start-fits, program-stands, small-start, some-base, counts-inside, program-before, end-inside)
 
 -- the bytes of the table's section
 pub table-bytes : (v : View) (t : LineTable) (section : ℕ) (bytes : List ℕ) → bytes ≡ section_bytes v section → section ≡ t.section → bytes ≡ section_bytes v t.section
@@ -216,4 +255,4 @@ pub same-rows : (v w : View) (t u : LineTable) → params_of v.order t ≡ param
 same-rows v w t u p c b =
     ap (λ (x : LineParams). rows_from x (counts_of v t) (program_of v t) (start_registers x)) p
     ∙ ap (λ (xs : List ℕ). rows_from (params_of w.order u) xs (program_of v t) (start_registers (params_of w.order u))) c
-    ∙ ap (λ (xs : List ℕ). rows_from (params_of w.order u) (counts_of w u) xs (start_registers (params_of w.order u))) b
+    ∙ ap (λ (xs : List Cell). rows_from (params_of w.order u) (counts_of w u) xs (start_registers (params_of w.order u))) b

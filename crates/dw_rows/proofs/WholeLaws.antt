@@ -3,17 +3,22 @@ use Rattle.std.proofs.Common.{Bool, true, false, ◌≡◌, ℕ, zero, suc, ◌+
 use Rattle.std.specs.Prelude.{option_and_then, option_map, slice_index, ℤ, ◌||◌}
 use Rattle.std.proofs.lemmas.Bool.Decides.{nat_tests}
 use Rattle.std.proofs.lemmas.List.{drop-drop, drop_all, drop-take, get_or-drop, get_or-take, length-drop}
+use Rattle.dw_base.proofs.RelocationFieldLaws.{bytes_of-drop, bytes_of-take}
 use Rattle.dw_base.proofs.TextLaws.{same_text-true}
+use Rattle.dw_base.proofs.UnitEditLaws.{length-bytes_of}
+use Rattle.dw_base.specs.Cells.{Cell, bytes_of}
 use Rattle.dw_base.specs.Lebs.{uleb_at, uleb, uleb_within, sleb_at, sleb, sleb_within}
 use Rattle.dw_base.specs.Numbers.{number_at, spelled}
 use Rattle.dw_base.specs.UnitHeaders.{is_address_size}
+use Rattle.dw_base.specs.ValueMeanings.{address_of}
+use Rattle.dw_base.specs.declared.view_fields.Field.{Field}
 use Rattle.dw_base.specs.declared.shared.Order.{Order}
 use Rattle.dw_base.specs.LineHeaders.{standard_operands, standard_count, has_standard_operands}
 use Rattle.dw_base.specs.LineTexts.{skip_lebs}
 use Rattle.dw_base.specs.LinePrograms.{if_ranged, behind_bytes, standard_end, extended_operands, extended_by, extended_in as opcode_in, extended_at, plain_opcode, opcode_at, next_opcode, with_file}
 use Rattle.dw_base.specs.declared.line_tables.FilePlace.{FilePlace}
 use Rattle.dw_base.specs.Walks.{Step, goes, ends, Walks, no_step, one_more as one_step, ComesTo}
-use Rattle.dw_base.specs.LineOperations.{address_field, special, special_operation, const_operation, is_numbered, numbered, unnumbered, standard_operation, extended, extended_in, extended_operation, operation_of, operation_in, operations, Spells, none_left, one_more}
+use Rattle.dw_base.specs.LineOperations.{special, special_operation, const_operation, is_numbered, numbered, unnumbered, standard_operation, extended, extended_in, extended_operation, operation_of, operation_in, operations, Spells, none_left, one_more}
 use Rattle.dw_base.specs.declared.line_rows.LineParams.{LineParams}
 use Rattle.dw_base.specs.declared.line_rows.Operation.{Operation}
 use Rattle.dw_base.specs.declared.line_rows.Operation.TheVariants.{AddLine, AddAddress, EndSequence, SetAddress, SetDiscriminator, Skip, Advance}
@@ -189,12 +194,11 @@ discriminator-had body place q at Y f y a e =
     let v = map-some f (uleb_at body at) y e in
     (SetDiscriminator v.0.0, ap (option_map (λ n. SetDiscriminator n.0)) (uleb-drop body place q ∙ ap (uleb_at body) (sym a) ∙ v.1))
 
-address-had : {Y : Type 0} (order : Order) (left : List ℕ) (q m n : ℕ) (y z : Y) → m ≡ n → (if is_address_size n then Some y else None) ≡ Some z
-    → Had (if is_address_size m then Some (SetAddress (address_field order left q m)) else None)
-address-had order left q m n y z same e = (
-  SetAddress (address_field order left q m),
-  ap (λ (b : Bool). if b then Some (SetAddress (address_field order left q m)) else None)
-      (ap is_address_size same ∙ (if-some (is_address_size n) (Some y) z e).0),
+address-had : {Y : Type 0} (f : Field) (m n : ℕ) (y z : Y) → m ≡ n → (if is_address_size n then Some y else None) ≡ Some z
+    → Had (if is_address_size m then Some (SetAddress f) else None)
+address-had f m n y z same e = (
+  SetAddress f,
+  ap (λ (b : Bool). if b then Some (SetAddress f) else None) (ap is_address_size same ∙ (if-some (is_address_size n) (Some y) z e).0),
 )
 
 both_codes : (code : ℕ) → code == 3 ≡ true → code == 4 ≡ true → ⊥
@@ -211,15 +215,17 @@ code-ways z false false true false A B C D A' C' f g never e = (Skip, refl)
 code-ways z false false false true A B C D A' C' f g never e = g e
 code-ways z false false false false A B C D A' C' f g never e = (Skip, refl)
 
-extended-had : (order : Order) (section : ℕ) (body : List ℕ) (code place q at : ℕ) (file : _) → at ≡ place + q
-    → extended_operands section body code at ≡ Some file → Had (extended order (drop place body) code q)
+extended-had : (order : Order) (section : ℕ) (body : List ℕ) (cells : List Cell) (code place q at : ℕ) (file : _) → bytes_of cells ≡ body → at ≡ place + q
+    → extended_operands section body code at ≡ Some file → Had (extended order (drop place cells) code q)
 unfolding extended_operands extended
-extended-had order section body code place q at file a e =
+extended-had order section body cells code place q at file b a e =
+    let own : bytes_of (drop place cells) ≡ drop place body = bytes_of-drop place cells ∙ ap (drop place) b in
+    let size : length (bytes_of (drop place cells)) - q ≡ length body - at = ap (λ (bs : List ℕ). length bs - q) own ∙ size-same body place q at a in
     code-ways file (code == 1) (code == 2) (code == 3) (code == 4) _ _ _ _
-    (if is_address_size (length (drop place body) - q) then Some (SetAddress (address_field order (drop place body) q (length (drop place body) - q))) else None)
-    (option_map (λ n. SetDiscriminator n.0) (uleb_at (drop place body) q))
-    (address-had order (drop place body) q (length (drop place body) - q) (length body - at) _ file (size-same body place q at a))
-    (discriminator-had body place q at _ _ file a) (both_codes code) e
+    (if is_address_size (length (bytes_of (drop place cells)) - q) then Some (SetAddress (address_of order (drop q (drop place cells)))) else None)
+    (option_map (λ n. SetDiscriminator n.0) (uleb_at (bytes_of (drop place cells)) q))
+    (address-had (address_of order (drop q (drop place cells))) (length (bytes_of (drop place cells)) - q) (length body - at) _ file size)
+    (λ f. subst (λ (bs : List ℕ). Had (option_map (λ n. SetDiscriminator n.0) (uleb_at bs q))) (sym own) (discriminator-had body place q at _ _ file a f)) (both_codes code) e
 
 found-as : (x y : Option (Operation × ℕ)) (place next : ℕ) → x ≡ y → Found y place next → Found x place next
 found-as x y place next e f = subst (λ (z : Option (Operation × ℕ)). Found z place next) (sym e) f
@@ -236,46 +242,50 @@ by-some : (next : ℕ) (x : Option (Option FilePlace)) (o : _) → extended_by n
 by-some next None o e = absurd (none-some o e)
 by-some next (Some f) o e = (f, refl, sym (ap (λ x. x.next) (some-same _ o e)))
 
-in-back : (order : Order) (section : ℕ) (table : List ℕ) (place k size : ℕ) (o : _) → 0 < k → opcode_in section table (place + k) size ≡ Some o
-    → Found (extended_in order (drop place table) k size) place o.next
+in-back : (order : Order) (section : ℕ) (table : List ℕ) (cells : List Cell) (place k size : ℕ) (o : _) → bytes_of cells ≡ table → 0 < k
+    → opcode_in section table (place + k) size ≡ Some o → Found (extended_in order (drop place cells) k size) place o.next
 unfolding opcode_in extended_in
-in-back order section table place k size o some e =
-    two-ways (size == 0) (nat_le (place + k + size) (length table)) (nat_le (k + size) (length (drop place table)))
+in-back order section table cells place k size o b some e =
+    two-ways (size == 0) (nat_le (place + k + size) (length table)) (nat_le (k + size) (length (bytes_of (drop place cells))))
     (extended_by (place + k + size) (extended_operands section (take (place + k + size) table) (slice_index table (place + k)) (place + k + 1)))
-    (option_map (λ x. (x, k + size)) (extended order (take (k + size) (drop place table)) (slice_index (drop place table) k) (k + 1)))
+    (option_map (λ x. (x, k + size)) (extended order (take (k + size) (drop place cells)) (slice_index (bytes_of (drop place cells)) k) (k + 1)))
     o place o.next
     (λ test. (let far : place + k + size ≤ length table = true-le (place + k + size) (length table) test in
-    let len = length-drop place table in
-    le-true (k + size) (length (drop place table)) (omega (arith, far, len))))
+    let len = ap length (bytes_of-drop place cells ∙ ap (drop place) b) ∙ length-drop place table in
+    le-true (k + size) (length (bytes_of (drop place cells))) (omega (arith, far, len))))
     (λ f. had f) e
   where
     had : extended_by (place + k + size) (extended_operands section (take (place + k + size) table) (slice_index table (place + k)) (place + k + 1)) ≡ Some o
-        → Found (option_map (λ x. (x, k + size)) (extended order (take (k + size) (drop place table)) (slice_index (drop place table) k) (k + 1))) place o.next
+        → Found (option_map (λ x. (x, k + size)) (extended order (take (k + size) (drop place cells)) (slice_index (bytes_of (drop place cells)) k) (k + 1))) place o.next
     had f =
         let read = by-some (place + k + size) (extended_operands section (take (place + k + size) table) (slice_index table (place + k)) (place + k + 1)) o f in
-        let x = extended-had order section (take (place + k + size) table) (slice_index table (place + k)) place (k + 1) (place + k + 1) read.0 (omega arith) read.1 in
+        let x = extended-had order section (take (place + k + size) table) (take (place + k + size) cells) (slice_index table (place + k)) place (k + 1) (place + k + 1) read.0
+        (bytes_of-take (place + k + size) cells ∙ ap (take (place + k + size)) b) (omega arith) read.1 in
         let sum : place + k + size ≡ place + (k + size) = omega arith in
-        let body : take (k + size) (drop place table) ≡ drop place (take (place + k + size) table) =
-        sym (ap (λ (n : ℕ). drop place (take n table)) sum ∙ drop-take place (k + size) table) in
+        let body : take (k + size) (drop place cells) ≡ drop place (take (place + k + size) cells) =
+        sym (ap (λ (n : ℕ). drop place (take n cells)) sum ∙ drop-take place (k + size) cells) in
+        let own : bytes_of (drop place cells) ≡ drop place table = bytes_of-drop place cells ∙ ap (drop place) b in
         let next = read.2 in (
           (x.0, k + size),
-          ap (λ (bs : List ℕ). option_map (λ y. (y, k + size)) (extended order bs (slice_index (drop place table) k) (k + 1))) body
-              ∙ ap (λ (code : ℕ). option_map (λ y. (y, k + size)) (extended order (drop place (take (place + k + size) table)) code (k + 1))) (get_or-drop place table k 0)
+          ap (λ (cs : List Cell). option_map (λ y. (y, k + size)) (extended order cs (slice_index (bytes_of (drop place cells)) k) (k + 1))) body
+              ∙ ap (λ (bs : List ℕ). option_map (λ y. (y, k + size)) (extended order (drop place (take (place + k + size) cells)) (slice_index bs k) (k + 1))) own
+              ∙ ap (λ (code : ℕ). option_map (λ y. (y, k + size)) (extended order (drop place (take (place + k + size) cells)) code (k + 1))) (get_or-drop place table k 0)
               ∙ ap (option_map (λ y. (y, k + size))) x.1,
           omega (arith, next),
           omega (arith, some),
         )
 
-extended-back : (order : Order) (section : ℕ) (table : List ℕ) (place : ℕ) (o : _) → extended_at section table (place + 1) ≡ Some o
-    → Found (extended_operation order (drop place table)) place o.next
+extended-back : (order : Order) (section : ℕ) (table : List ℕ) (cells : List Cell) (place : ℕ) (o : _) → bytes_of cells ≡ table → extended_at section table (place + 1) ≡ Some o
+    → Found (extended_operation order (drop place cells)) place o.next
 unfolding extended_at extended_operation
-extended-back order section table place o e =
+extended-back order section table cells place o b e =
     let v = then-some (λ size. opcode_in section table (place + 1 + size.1) size.0) (uleb_at table (place + 1)) o e in
     let sum : place + 1 + v.0.1 ≡ place + (1 + v.0.1) = omega arith in
-    found-as (option_and_then (λ size. extended_in order (drop place table) (1 + size.1) size.0) (uleb_at (drop place table) 1))
-    (extended_in order (drop place table) (1 + v.0.1) v.0.0) place o.next
-    (ap (option_and_then (λ size. extended_in order (drop place table) (1 + size.1) size.0)) (uleb-drop table place 1 ∙ v.1))
-    (in-back order section table place (1 + v.0.1) v.0.0 o (omega arith) (subst (λ (n : ℕ). opcode_in section table n v.0.0 ≡ Some o) sum v.2))
+    let own : bytes_of (drop place cells) ≡ drop place table = bytes_of-drop place cells ∙ ap (drop place) b in
+    found-as (option_and_then (λ size. extended_in order (drop place cells) (1 + size.1) size.0) (uleb_at (bytes_of (drop place cells)) 1))
+    (extended_in order (drop place cells) (1 + v.0.1) v.0.0) place o.next
+    (ap (option_and_then (λ size. extended_in order (drop place cells) (1 + size.1) size.0)) (ap (λ (bs : List ℕ). uleb_at bs 1) own ∙ uleb-drop table place 1 ∙ v.1))
+    (in-back order section table cells place (1 + v.0.1) v.0.0 o b (omega arith) (subst (λ (n : ℕ). opcode_in section table n v.0.0 ≡ Some o) sum v.2))
 
 plain-some : (x : Option ℕ) (o : _) → plain_opcode x ≡ Some o → x ≡ Some o.next
 plain-some None o e = absurd (none-some o e)
@@ -287,30 +297,31 @@ positive n e = grind (arith, nat_tests)
 false-lt : (m n : ℕ) → nat_le m n ≡ false → n < m
 false-lt m n e = grind (arith, nat_tests)
 
--- the opcode at a place is the operation of the bytes from there on
-opcode-back : (p : LineParams) (section : ℕ) (h : _) (table counts : List ℕ) (place opcode : ℕ) (o : _) → has_standard_operands table h ≡ true → h.line_range ≡ p.line_range
-    → h.opcode_base ≡ p.opcode_base → counts ≡ take (h.opcode_base - 1) (drop h.operands table)
+-- the opcode at a place is the operation of the cells from there on
+opcode-back : (p : LineParams) (section : ℕ) (h : _) (table : List ℕ) (cells : List Cell) (counts : List ℕ) (place opcode : ℕ) (o : _) → bytes_of cells ≡ table
+    → has_standard_operands table h ≡ true → h.line_range ≡ p.line_range → h.opcode_base ≡ p.opcode_base → counts ≡ take (h.opcode_base - 1) (drop h.operands table)
     → (if nat_le h.opcode_base opcode then plain_opcode (if_ranged h (place + 1))
     else (if opcode == 0 then extended_at section table (place + 1) else plain_opcode (standard_end h table opcode (place + 1)))) ≡ Some o
-    → Found (operation_of p counts (drop place table) opcode) place o.next
+    → Found (operation_of p counts (drop place cells) opcode) place o.next
 unfolding operation_of if_ranged special_operation
-opcode-back p section h table counts place opcode o standard range base c e =
+opcode-back p section h table cells counts place opcode o b standard range base c e =
     subst (λ (n : ℕ). Found (if nat_le n opcode then special_operation p opcode
-    else (if opcode == 0 then extended_operation p.order (drop place table) else standard_operation p counts (drop place table) opcode)) place o.next) base
+    else (if opcode == 0 then extended_operation p.order (drop place cells) else standard_operation p counts (bytes_of (drop place cells)) opcode)) place o.next) base
     (by_tests (nat_le h.opcode_base opcode) (opcode == 0) refl refl e)
   where
     by_tests : (a z : Bool) → nat_le h.opcode_base opcode ≡ a → opcode == 0 ≡ z
         → (if a then plain_opcode (if_ranged h (place + 1))
         else (if z then extended_at section table (place + 1) else plain_opcode (standard_end h table opcode (place + 1)))) ≡ Some o
         → Found (if a then special_operation p opcode
-        else (if z then extended_operation p.order (drop place table) else standard_operation p counts (drop place table) opcode)) place o.next
+        else (if z then extended_operation p.order (drop place cells) else standard_operation p counts (bytes_of (drop place cells)) opcode)) place o.next
     by_tests true z t u f =
         ranged-back (p.line_range == 0) (special p (opcode - p.opcode_base)) place o.next
         (subst (λ (n : ℕ). (if n == 0 then None else Some (place + 1)) ≡ Some o.next) range (plain-some (if h.line_range == 0 then None else Some (place + 1)) o f))
-    by_tests false true t u f = extended-back p.order section table place o f
+    by_tests false true t u f = extended-back p.order section table cells place o b f
     by_tests false false t u f =
-        standard-back p h table counts opcode place o.next standard range c (positive opcode u) (false-lt h.opcode_base opcode t)
-        (plain-some (standard_end h table opcode (place + 1)) o f)
+        subst (λ (bs : List ℕ). Found (standard_operation p counts bs opcode) place o.next) (sym (bytes_of-drop place cells ∙ ap (drop place) b))
+        (standard-back p h table counts opcode place o.next standard range c (positive opcode u) (false-lt h.opcode_base opcode t)
+        (plain-some (standard_end h table opcode (place + 1)) o f))
 
 lt-true : (m n : ℕ) → m < n → nat_lt m n ≡ true
 lt-true m n lt = grind (arith, nat_tests)
@@ -321,30 +332,31 @@ true-lt m n e = grind (arith, nat_tests)
 false-le : (m n : ℕ) → nat_lt m n ≡ false → n ≤ m
 false-le m n e = grind (arith, nat_tests)
 
-operation-back : (p : LineParams) (section : ℕ) (h : _) (table counts : List ℕ) (place : ℕ) (o : _) → has_standard_operands table h ≡ true → h.line_range ≡ p.line_range
-    → h.opcode_base ≡ p.opcode_base → counts ≡ take (h.opcode_base - 1) (drop h.operands table) → place < length table
-    → opcode_at section h table place ≡ Some o → Found (operation_in p counts (drop place table)) place o.next
+operation-back : (p : LineParams) (section : ℕ) (h : _) (table : List ℕ) (cells : List Cell) (counts : List ℕ) (place : ℕ) (o : _) → bytes_of cells ≡ table
+    → has_standard_operands table h ≡ true → h.line_range ≡ p.line_range → h.opcode_base ≡ p.opcode_base → counts ≡ take (h.opcode_base - 1) (drop h.operands table)
+    → place < length table → opcode_at section h table place ≡ Some o → Found (operation_in p counts (drop place cells)) place o.next
 unfolding opcode_at operation_in
-operation-back p section h table counts place o standard range base c lt e =
-    let len = length-drop place table in
+operation-back p section h table cells counts place o b standard range base c lt e =
+    let len = ap length (bytes_of-drop place cells ∙ ap (drop place) b) ∙ length-drop place table in
     let here : place + 0 ≡ place = omega arith in
-    found-as (operation_in p counts (drop place table)) (operation_of p counts (drop place table) (slice_index table place)) place o.next
-    (ap (λ (b : Bool). if b then operation_of p counts (drop place table) (slice_index (drop place table) 0) else None)
-    (lt-true 0 (length (drop place table)) (omega (arith, len, lt)))
-    ∙ ap (operation_of p counts (drop place table)) (get_or-drop place table 0 0 ∙ ap (λ (n : ℕ). get_or table n 0) here))
-    (opcode-back p section h table counts place (slice_index table place) o standard range base c e)
+    found-as (operation_in p counts (drop place cells)) (operation_of p counts (drop place cells) (slice_index table place)) place o.next
+    (ap (λ (b : Bool). if b then operation_of p counts (drop place cells) (slice_index (bytes_of (drop place cells)) 0) else None)
+    (lt-true 0 (length (bytes_of (drop place cells))) (omega (arith, len, lt)))
+    ∙ ap (λ (bs : List ℕ). operation_of p counts (drop place cells) (slice_index bs 0)) (bytes_of-drop place cells ∙ ap (drop place) b)
+    ∙ ap (operation_of p counts (drop place cells)) (get_or-drop place table 0 0 ∙ ap (λ (n : ℕ). get_or table n 0) here))
+    (opcode-back p section h table cells counts place (slice_index table place) o b standard range base c e)
 
 -- what is left from a place on is whole
-abbrev Rest : LineParams → List ℕ → List ℕ → ℕ → Type 0
-Rest p counts table place = Spells p counts (drop place table) (operations p counts (drop place table))
+abbrev Rest : LineParams → List ℕ → List Cell → ℕ → Type 0
+Rest p counts cells place = Spells p counts (drop place cells) (operations p counts (drop place cells))
 
-rest-more : (p : LineParams) (counts table : List ℕ) (place next : ℕ) → Found (operation_in p counts (drop place table)) place next → Rest p counts table next
-    → Rest p counts table place
-rest-more p counts table place next f r =
-    let behind : drop f.0.1 (drop place table) ≡ drop next table = drop-drop f.0.1 place table ∙ ap (λ (n : ℕ). drop n table) (sym f.2) in
-    subst (λ (os : List Operation). Spells p counts (drop place table) os) (sym (operations-more p counts (drop place table) f.0.0 f.0.1 f.1 f.3))
-    (one_more (drop place table) f.0.0 f.0.1 (operations p counts (drop f.0.1 (drop place table))) f.1
-    (subst (λ (bs : List ℕ). Spells p counts bs (operations p counts bs)) (sym behind) r))
+rest-more : (p : LineParams) (counts : List ℕ) (cells : List Cell) (place next : ℕ) → Found (operation_in p counts (drop place cells)) place next → Rest p counts cells next
+    → Rest p counts cells place
+rest-more p counts cells place next f r =
+    let behind : drop f.0.1 (drop place cells) ≡ drop next cells = drop-drop f.0.1 place cells ∙ ap (λ (n : ℕ). drop n cells) (sym f.2) in
+    subst (λ (os : List Operation). Spells p counts (drop place cells) os) (sym (operations-more p counts (drop place cells) f.0.0 f.0.1 f.1 f.3))
+    (one_more (drop place cells) f.0.0 f.0.1 (operations p counts (drop f.0.1 (drop place cells))) f.1
+    (subst (λ (cs : List Cell). Spells p counts cs (operations p counts cs)) (sym behind) r))
 
 walk-back : {S X : Type 0} (step : S → Option (Step S X)) (P : S → Type 0) → ((s t : S) → step s ≡ Some (goes t) → P t → P s) → (start t : S) → Walks step start t → P t → P start
 walk-back step P back start t no_step x = x
@@ -362,38 +374,40 @@ ends-goes x t e = cc
 goes-ends : (x : List FilePlace) (t : List FilePlace × ℕ) → ◌≡◌ {A = Step (List FilePlace × ℕ) (List FilePlace)} (goes t) (ends x) → ⊥
 goes-ends x t e = cc
 
-step-back : (p : LineParams) (section : ℕ) (h : _) (table counts : List ℕ) → has_standard_operands table h ≡ true → h.line_range ≡ p.line_range
+step-back : (p : LineParams) (section : ℕ) (h : _) (table : List ℕ) (cells : List Cell) (counts : List ℕ) → bytes_of cells ≡ table → has_standard_operands table h ≡ true → h.line_range ≡ p.line_range
     → h.opcode_base ≡ p.opcode_base → counts ≡ take (h.opcode_base - 1) (drop h.operands table)
-    → (s t : List FilePlace × ℕ) → next_opcode section h table s ≡ Some (goes t) → Rest p counts table t.1 → Rest p counts table s.1
+    → (s t : List FilePlace × ℕ) → next_opcode section h table s ≡ Some (goes t) → Rest p counts cells t.1 → Rest p counts cells s.1
 unfolding next_opcode
-step-back p section h table counts standard range base c s t e r = by_test (nat_lt s.1 (length table)) refl e
+step-back p section h table cells counts b standard range base c s t e r = by_test (nat_lt s.1 (length table)) refl e
   where
     by_test : (b : Bool) → nat_lt s.1 (length table) ≡ b
-        → (if b then option_map (λ o. goes (with_file s.0 o.file, o.next)) (opcode_at section h table s.1) else Some (ends s.0)) ≡ Some (goes t) → Rest p counts table s.1
+        → (if b then option_map (λ o. goes (with_file s.0 o.file, o.next)) (opcode_at section h table s.1) else Some (ends s.0)) ≡ Some (goes t) → Rest p counts cells s.1
     by_test true test f =
         let o = map-some (λ o. goes (with_file s.0 o.file, o.next)) (opcode_at section h table s.1) (goes t) f in
         let next = goes-place t (with_file s.0 o.0.file) o.0.next o.2 in
-        rest-more p counts table s.1 o.0.next
-        (operation-back p section h table counts s.1 o.0 standard range base c (true-lt s.1 (length table) test) o.1)
-        (subst (λ (n : ℕ). Rest p counts table n) next r)
+        rest-more p counts cells s.1 o.0.next
+        (operation-back p section h table cells counts s.1 o.0 b standard range base c (true-lt s.1 (length table) test) o.1)
+        (subst (λ (n : ℕ). Rest p counts cells n) next r)
     by_test false test f = absurd (ends-goes s.0 t f)
 
-over-rest : (p : LineParams) (section : ℕ) (h : _) (table counts : List ℕ) (s : List FilePlace × ℕ) (x : List FilePlace) → next_opcode section h table s ≡ Some (ends x)
-    → Rest p counts table s.1
+over-rest : (p : LineParams) (section : ℕ) (h : _) (table : List ℕ) (cells : List Cell) (counts : List ℕ) (s : List FilePlace × ℕ) (x : List FilePlace) → bytes_of cells ≡ table → next_opcode section h table s ≡ Some (ends x)
+    → Rest p counts cells s.1
 unfolding next_opcode
-over-rest p section h table counts s x e = by_test (nat_lt s.1 (length table)) refl e
+over-rest p section h table cells counts s x b e = by_test (nat_lt s.1 (length table)) refl e
   where
     by_test : (b : Bool) → nat_lt s.1 (length table) ≡ b
-        → (if b then option_map {U = Step (List FilePlace × ℕ) (List FilePlace)} (λ o. goes (with_file s.0 o.file, o.next)) (opcode_at section h table s.1) else Some (ends s.0)) ≡ Some (ends x) → Rest p counts table s.1
+        → (if b then option_map {U = Step (List FilePlace × ℕ) (List FilePlace)} (λ o. goes (with_file s.0 o.file, o.next)) (opcode_at section h table s.1) else Some (ends s.0)) ≡ Some (ends x) → Rest p counts cells s.1
     by_test true test f =
         let o = map-some (λ o. goes (with_file s.0 o.file, o.next)) (opcode_at section h table s.1) (ends x) f in
         absurd (goes-ends x (with_file s.0 o.0.file, o.0.next) o.2)
     by_test false test f =
-        subst (λ (bs : List ℕ). Spells p counts bs (operations p counts bs)) (sym (drop_all s.1 table (false-le s.1 (length table) test))) none_left
+        let all = sym (length-bytes_of cells) ∙ ap length b in
+        let far = false-le s.1 (length table) test in
+        subst (λ (cs : List Cell). Spells p counts cs (operations p counts cs)) (sym (drop_all s.1 cells (omega (arith, all, far)))) none_left
 
-pub program-whole : (p : LineParams) (section : ℕ) (h : _) (table counts : List ℕ) (defined : List FilePlace) → has_standard_operands table h ≡ true → h.line_range ≡ p.line_range
+pub program-whole : (p : LineParams) (section : ℕ) (h : _) (table : List ℕ) (cells : List Cell) (counts : List ℕ) (defined : List FilePlace) → bytes_of cells ≡ table → has_standard_operands table h ≡ true → h.line_range ≡ p.line_range
     → h.opcode_base ≡ p.opcode_base → counts ≡ take (h.opcode_base - 1) (drop h.operands table)
-    → ComesTo (next_opcode section h table) ([], h.program) defined → Rest p counts table h.program
-program-whole p section h table counts defined standard range base c w =
-    walk-back (next_opcode section h table) (λ s. Rest p counts table s.1) (step-back p section h table counts standard range base c) ([], h.program) w.last w.walks
-    (over-rest p section h table counts w.last defined w.over)
+    → ComesTo (next_opcode section h table) ([], h.program) defined → Rest p counts cells h.program
+program-whole p section h table cells counts defined b standard range base c w =
+    walk-back (next_opcode section h table) (λ s. Rest p counts cells s.1) (step-back p section h table cells counts b standard range base c) ([], h.program) w.last w.walks
+    (over-rest p section h table cells counts w.last defined b w.over)

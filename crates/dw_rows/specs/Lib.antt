@@ -1,2 +1,3 @@
+pub mod ProgramPlaces
 pub mod TableRows
 pub mod ShownFiles

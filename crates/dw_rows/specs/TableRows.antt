@@ -1,6 +1,7 @@
 -- The rows of a line table (DWARF 5, 6.2), and where a walk over them stands.
-use Rattle.std.specs.Prelude.{ℕ, ◌≡◌, ◌+◌, ◌-◌, ◌<◌, ◌≤◌, ◌^◌, List, length, take, drop}
-use Rattle.dw_base.specs.FileViews.{View, section_bytes}
+use Rattle.std.specs.Prelude.{ℕ, ◌≡◌, ◌+◌, ◌-◌, ◌<◌, List, length, take, drop}
+use Rattle.dw_base.specs.Cells.{Cell}
+use Rattle.dw_base.specs.FileViews.{View, section_bytes, view_cells}
 use Rattle.dw_base.specs.Forms.{width_size}
 use Rattle.dw_base.specs.declared.shared.Order.{Order}
 use Rattle.dw_base.specs.declared.shared.Width.{Width}
@@ -12,6 +13,7 @@ use Rattle.dw_base.specs.LineOperations.{operations, Spells}
 use Rattle.dw_base.specs.LineRegisters.{start_registers, rows_of}
 use Rattle.dw_base.specs.declared.line_rows.LineParams.{LineParams}
 use Rattle.dw_base.specs.declared.line_rows.Row.{Row}
+use Rattle.dw_rows.specs.ProgramPlaces.{StandsIn}
 
 -- a table that can be read in a section of the view
 pub record IsTableIn (v : View) (t : LineTable) : Type 0 where
@@ -39,15 +41,15 @@ counts_place start width version = flags_place version (length_place version (st
 abbrev pub counts_of : View → LineTable → List ℕ
 counts_of v t = take (t.opcode_base - 1) (drop (counts_place t.start t.width t.version) (section_bytes v t.section))
 
--- the program, up to the table's end
-abbrev pub program_of : View → LineTable → List ℕ
-program_of v t = drop t.program (take t.end (section_bytes v t.section))
+-- the program, up to the table's end, as cells
+abbrev pub program_of : View → LineTable → List Cell
+program_of v t = drop t.program (take t.end (view_cells v t.section))
 
 -- a walk over the rows: the numbers and operand counts of the table, what is left of its program, and the registers
 pub record RowsState : Type 0 where
   pub params : LineParams
   pub counts : List ℕ
-  pub left : List ℕ
+  pub left : List Cell
   pub registers : Row
 
 -- before the first row
@@ -59,8 +61,8 @@ rows_start v t = record {
   registers = start_registers (params_of v.order t);
 }
 
--- the rows that bytes give, from these registers on
-abbrev pub rows_from : LineParams → List ℕ → List ℕ → Row → List Row
+-- the rows that a program gives, from these registers on
+abbrev pub rows_from : LineParams → List ℕ → List Cell → Row → List Row
 rows_from p counts left r = rows_of p r (operations p counts left)
 
 -- the rows that are left
@@ -75,9 +77,10 @@ table_rows v t = rows_left (rows_start v t)
 abbrev pub IsWhole : RowsState → Type 0
 IsWhole s = Spells s.params s.counts s.left (operations s.params s.counts s.left)
 
--- what holds of every walk
-pub record RowsFit (s : RowsState) : Type 0 where
+-- what holds of every walk, of a section of a view, from a place of which on these bytes are left
+pub record RowsFit (v : View) (section place : ℕ) (left : List ℕ) (s : RowsState) : Type 0 where
+  pub stands : StandsIn v section place left
+  pub order : s.params.order ≡ v.order
   pub counts : length s.counts ≡ s.params.opcode_base - 1
-  pub small : length s.left ≤ 2 ^ 31
   pub some : 0 < s.params.max_ops
   pub index : s.registers.op_index < s.params.max_ops

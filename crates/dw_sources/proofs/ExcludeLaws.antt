@@ -4,7 +4,7 @@ use Rattle.std.proofs.lemmas.List.{drop_all}
 use Rattle.dw_base.specs.AbbreviationBytes.{abbreviations_at}
 use Rattle.dw_base.specs.Cells.{bytes_of, located_cells}
 use Rattle.dw_base.specs.DebugData.{DebugData, DataReadings, line_source}
-use Rattle.dw_base.specs.LineReadings.{LineReading, AreTables}
+use Rattle.dw_base.specs.LineReadings.{LineReading}
 use Rattle.dw_base.specs.Refusals.{Blames}
 use Rattle.dw_base.specs.SlotTexts.{contributions_in}
 use Rattle.dw_base.specs.UnitHeaders.{UnitBase, UnitSection, IsUnit, UnitsUpTo, more_units, header_at, unit_header}
@@ -13,30 +13,32 @@ use Rattle.dw_base.specs.declared.fault.Fault.TheVariants.{NoMemory, Refused}
 use Rattle.dw_base.specs.declared.fault.Refusal.{Refusal}
 use Rattle.dw_base.specs.declared.string_offsets.Contribution.{Contribution}
 use Rattle.dw_base.specs.declared.units.UnitHeader.{UnitHeader}
-use Rattle.dw_base.proofs.AbbreviationRowLaws.{table-excludes}
+use Rattle.dw_base.proofs.AbbreviationRowLaws.{unit_table-excludes}
+use Rattle.dw_base.proofs.RelocationRowLaws.{header_offsets_exclude}
 use Rattle.dw_base.proofs.ContributionBackLaws.{contributions-back}
 use Rattle.dw_base.proofs.ContributionRowLaws.{contributions-exclude, contributions-one}
 use Rattle.dw_base.proofs.ReachLaws.{Reaches, here, on, Stops, reach-total}
 use Rattle.dw_base.proofs.UnitRowLaws.{UnitsRead, read_to, NextUnit, next-determined, no_cells-header, units-exclude, units-one, units-reach}
-use Rattle.dw_meaning.specs.DataFails.{LinesFail, line_table, unit as unit_fails, table as table_fails}
+use Rattle.dw_meaning.specs.DataFails.{unit as unit_fails, table as table_fails}
 use Rattle.dw_meaning.specs.DataOutput.{DataReads}
 use Rattle.dw_meaning.proofs.DataRowLaws.{data-excludes}
 use Rattle.dw_meaning.proofs.LineOneLaws.{tables-one}
 use Rattle.dw_meaning.proofs.LineRowLaws.{lines-exclude}
-use Rattle.dw_sources.specs.Sources.{AreSources, EachTable, EachUnits, HasAbbreviations, HasUnits, IsWant, SourceReadings, SourcesFail, SourcesRead, lines, string_tables, table, unit, sources_of}
+use Rattle.dw_sources.specs.Sources.{AreSources, EachTable, EachUnits, HasAbbreviations, HasUnits, HeadersRead, IsWant, SourceReadings, SourcesFail, SourcesRead, lines, relocation, string_tables, table, unit, sources_of}
 
 -- debug data that can be read exclude each refusal
-pub sources-exclude : (d : DebugData) (q : DataReadings) (r : Refusal) → DataReads d q → SourcesFail d r → ⊥
-sources-exclude d q r reads (unit z before behind split f) = data-excludes d q r reads (unit_fails z before behind split f)
-sources-exclude d q r reads (table z h u f) = data-excludes d q r reads (table_fails z h u f)
-sources-exclude d q r reads (lines f) = lines-exclude d q.lines r reads.lines f
-sources-exclude d q r reads (string_tables f) =
+pub sources-exclude : (d : DebugData) (q : DataReadings) (r : Refusal) → DataReads d q → HeadersRead d → SourcesFail d r → ⊥
+sources-exclude d q r reads headers (unit z before behind split f) = data-excludes d q r reads (unit_fails z before behind split f)
+sources-exclude d q r reads headers (relocation z before behind split f) = headers before behind z r split f
+sources-exclude d q r reads headers (table z h u f) = data-excludes d q r reads (table_fails z h u f)
+sources-exclude d q r reads headers (lines f) = lines-exclude d q.lines r reads.lines f
+sources-exclude d q r reads headers (string_tables f) =
     contributions-exclude d.base.order (bytes_of d.offsets.contents) d.offsets.number (contributions_in d.base.order q.offsets) r
     (contributions-back d.base.order d.offsets.contents q.offsets reads.offsets) f
 
 pub want-only : (d : DebugData) (f : Fault) → Blames (SourcesFail d) f → IsWant d f
-want-only d NoMemory b = record { whole = λ q reads. refl }
-want-only d (Refused r) b = record { whole = λ q reads. absurd (sources-exclude d q r reads b) }
+want-only d NoMemory b = record { whole = λ q reads headers. refl }
+want-only d (Refused r) b = record { whole = λ q reads headers. absurd (sources-exclude d q r reads headers b) }
 
 -- the units that were read of one section among all
 record SectionUnits (d : DebugData) (z : UnitSection) : Type 0 where
@@ -77,18 +79,18 @@ end-stops base z list t n =
     cc
 
 -- so a unit of a section is among those that fill it, and has its table
-table-among : (d : DebugData) (list more : List UnitHeader) (h : UnitHeader) → EachTable d ((list ++ h ∷ []) ++ more) → HasAbbreviations d h.abbrevs
+table-among : (d : DebugData) (list more : List UnitHeader) (h : UnitHeader) → EachTable d ((list ++ h ∷ []) ++ more) → HasAbbreviations d h
 table-among d [] more h all = all.0
 table-among d (x ∷ xs) more h all = table-among d xs more h all.1
 
 unit-table : (d : DebugData) (z : UnitSection) (hs list : List UnitHeader) (start : ℕ) (h : UnitHeader) → HasUnits d z hs → UnitsUpTo d.base z list start
-    → IsUnit d.base z start h → HasAbbreviations d h.abbrevs
+    → IsUnit d.base z start h → HasAbbreviations d h
 unit-table d z hs list start h has up is =
     by_reach
     (reach-total (NextUnit d.base z) (next-determined d.base z) (read_to [] 0) (read_to (list ++ h ∷ []) h.end) (read_to hs (length z.contents))
     (units-reach d.base z (list ++ h ∷ []) h.end (more_units list h start up is)) (units-reach d.base z hs (length z.contents) has.units))
   where
-    by_growth : Grows (read_to (list ++ h ∷ []) h.end) (read_to hs (length z.contents)) → HasAbbreviations d h.abbrevs
+    by_growth : Grows (read_to (list ++ h ∷ []) h.end) (read_to hs (length z.contents)) → HasAbbreviations d h
     by_growth g = table-among d list g.more h (subst (EachTable d) g.is has.tables)
 
     last : (a b : UnitsRead) → a ≡ read_to hs (length z.contents) → Reaches (NextUnit d.base z) a b → a ≡ b
@@ -96,7 +98,7 @@ unit-table d z hs list start h has up is =
     last a b e (on p q r n rest) = absurd (end-stops d.base z hs q (subst (λ (s : UnitsRead). NextUnit d.base z s q) e n))
 
     by_reach : Reaches (NextUnit d.base z) (read_to (list ++ h ∷ []) h.end) (read_to hs (length z.contents))
-        ⊎ Reaches (NextUnit d.base z) (read_to hs (length z.contents)) (read_to (list ++ h ∷ []) h.end) → HasAbbreviations d h.abbrevs
+        ⊎ Reaches (NextUnit d.base z) (read_to hs (length z.contents)) (read_to (list ++ h ∷ []) h.end) → HasAbbreviations d h
     by_reach (inl r) = by_growth (grows d.base z (read_to (list ++ h ∷ []) h.end) (read_to hs (length z.contents)) r)
     by_reach (inr r) =
         let same : read_to hs (length z.contents) ≡ read_to (list ++ h ∷ []) h.end = last (read_to hs (length z.contents)) (read_to (list ++ h ∷ []) h.end) refl r in
@@ -110,8 +112,11 @@ read-excludes d base names r are (unit z before behind split f) =
     units-exclude d.base z s.headers r s.has.units f
 read-excludes d base names r are (table z h u f) =
     let s : SectionUnits d z = section-units d u.before u.behind z are.readings.headers u.sections are.reads.units in
-    table-excludes d.base.abbrevs.bytes d.base.abbrevs.number h.abbrevs (abbreviations_at d.base.abbrevs.bytes h.abbrevs) r
+    unit_table-excludes d.base h (abbreviations_at d.base.abbrevs.bytes h.abbrevs) r
     (unit-table d z s.headers u.list u.start h s.has u.units u.is) f
+read-excludes d base names r are (relocation z before behind split f) =
+    let s : SectionUnits d z = section-units d before behind z are.readings.headers split are.reads.units in
+    header_offsets_exclude d.base z r s.has.offsets f
 read-excludes d base names r are (string_tables f) =
     contributions-exclude d.base.order (located_cells d.offsets).bytes d.offsets.number are.readings.contributions r are.reads.offsets f
 read-excludes d base names r are (lines f) = lines-exclude d are.readings.lines r are.reads.lines f

@@ -9,3 +9,4 @@ pub mod TableLaws
 pub mod UnitLaws
 pub mod SourceLaws
 pub mod ExcludeLaws
+pub mod OffsetLaws

@@ -2,14 +2,24 @@
 use Rattle.std.proofs.Common.{true, false, ◌≡◌, ℕ, zero, suc, ◌+◌, ◌≤◌, ◌<◌, List, [], ◌∷◌, ◌++◌, length, drop, get_or, Option, Some, None, refl, sym, ap, ◌∙◌, arith}
 use Rattle.std.proofs.Math.Seq.{drop-cons}
 use Rattle.std.proofs.lemmas.List.{drop_all}
+use Rattle.dw_base.specs.Cells.{Located, located_cells}
 use Rattle.dw_base.specs.DebugData.{DebugData, line_source}
+use Rattle.dw_base.specs.FileViews.{View}
 use Rattle.dw_base.specs.LineMeanings.{item_at}
 use Rattle.dw_base.specs.LineSources.{LineSource}
 use Rattle.dw_base.specs.LineTables.{LineTable}
+use Rattle.dw_base.specs.UnitHeaders.{UnitSection}
+use Rattle.dw_base.specs.ViewData.{debug_data, located}
+use Rattle.dw_base.specs.declared.debug_sections.DebugSection.TheVariants.{Line, StrOffsets}
 use Rattle.dw_base.specs.declared.line_tables.FilePlace.{FilePlace}
 use Rattle.dw_base.specs.declared.line_tables.TextPlace.{TextPlace}
+use Rattle.dw_base.specs.declared.shared.Order.{Order}
+use Rattle.dw_base.specs.declared.string_offsets.Contribution.{Contribution}
+use Rattle.dw_base.proofs.ViewCellLaws.{lines-located, offsets-located}
+use Rattle.dw_sources.specs.FieldOffsets.{root_offset}
 use Rattle.dw_sources.specs.KeptNames.{kept_name, with_kept, with_paths}
-use Rattle.dw_sources.specs.UnitPaths.{file_path, files_paths, is_made_up, listed, lines_paths, paths_in, unit_path}
+use Rattle.dw_sources.specs.declared.roots.Root.{Root}
+use Rattle.dw_sources.specs.UnitPaths.{file_path, files_paths, folder_of, is_made_up, listed, lines_paths, paths_by, paths_in, root_paths, unit_path, value_text}
 use Rattle.dw_sources.proofs.JoinLaws.{joined-stays}
 
 pub paths-append : (front : List ℕ) (names ps qs : List (List ℕ)) → with_paths front names (ps ++ qs) ≡ with_paths front (with_paths front names ps) qs
@@ -77,3 +87,29 @@ unit-both d front folder tables name lines old now new is e =
     ∙ sym (paths-append front old (unit_path folder name) (lines_paths (line_source d) tables folder lines))
 
 pub ruleset unit_rules = (unit-both, joined-stays)
+
+order-is : (v : View) → (debug_data v).base.order ≡ v.order
+unfolding debug_data
+order-is v = refl
+
+-- a unit by its values: its base, its line table, its folder and its name
+pub root-added : (v : View) (list : List Contribution) (tables : ℕ → Option LineTable) (front bytes folder : List ℕ) (z : UnitSection) (r : Root) (base lines : Option ℕ)
+    (dir name : Option (List ℕ)) (old new : List (List ℕ)) → base ≡ root_offset v.order z (located v StrOffsets) bytes r.base
+    → lines ≡ root_offset v.order z (located v Line) bytes r.lines → dir ≡ value_text (debug_data v) list z bytes base r.comp_dir → folder ≡ folder_of dir
+    → name ≡ value_text (debug_data v) list z bytes base r.name → new ≡ with_paths front old (paths_in (debug_data v) tables folder name lines)
+    → new ≡ with_paths front old (root_paths (debug_data v) list tables z bytes r)
+unfolding root_paths
+root-added v list tables front bytes folder z r base lines dir name old new base_is lines_is dir_is folder_is name_is e =
+    let own : base ≡ root_offset (debug_data v).base.order z (located_cells (debug_data v).offsets) bytes r.base =
+    base_is ∙ ap (λ (o : Order). root_offset o z (located v StrOffsets) bytes r.base) (sym (order-is v))
+    ∙ ap (λ (t : Located). root_offset (debug_data v).base.order z t bytes r.base) (sym (offsets-located v)) in
+    let table : lines ≡ root_offset (debug_data v).base.order z (located_cells (debug_data v).lines) bytes r.lines =
+    lines_is ∙ ap (λ (o : Order). root_offset o z (located v Line) bytes r.lines) (sym (order-is v))
+    ∙ ap (λ (t : Located). root_offset (debug_data v).base.order z t bytes r.lines) (sym (lines-located v)) in
+    e ∙ ap (λ (f : List ℕ). with_paths front old (paths_in (debug_data v) tables f name lines)) (folder_is ∙ ap folder_of dir_is)
+    ∙ ap (λ (n : Option (List ℕ)). with_paths front old (paths_in (debug_data v) tables (folder_of (value_text (debug_data v) list z bytes base r.comp_dir)) n lines)) name_is
+    ∙ ap (λ (b : Option ℕ). with_paths front old (paths_by (debug_data v) list tables z bytes r b lines)) own
+    ∙ ap (λ (l : Option ℕ). with_paths front old
+    (paths_by (debug_data v) list tables z bytes r (root_offset (debug_data v).base.order z (located_cells (debug_data v).offsets) bytes r.base) l)) table
+
+pub ruleset root_rules = (root-added)

@@ -8,24 +8,19 @@ use Rattle.dw_base.specs.Refusals.{Blames}
 use Rattle.dw_base.specs.StringOffsetFails.{ContributionsFail}
 use Rattle.dw_base.specs.StringOffsets.{AreContributions}
 use Rattle.dw_base.specs.UnitHeaders.{UnitSection}
-use Rattle.dw_base.specs.ViewData.{debug_data, located, string_offsets}
-use Rattle.dw_base.specs.declared.debug_sections.DebugSection.TheVariants.{StrOffsets}
+use Rattle.dw_base.specs.ViewData.{debug_data, string_offsets}
 use Rattle.dw_base.specs.declared.fault.Fault.{Fault}
 use Rattle.dw_base.specs.declared.fault.Fault.TheVariants.{NoMemory, Refused}
 use Rattle.dw_base.specs.declared.string_offsets.Contribution.{Contribution}
 use Rattle.dw_base.specs.declared.units.UnitHeader.{UnitHeader}
-use Rattle.dw_base.proofs.PlainCellLaws.{bytes_of-plain}
+use Rattle.dw_base.proofs.ViewCellLaws.{offsets-located}
 use Rattle.dw_meaning.specs.DataFails.{LinesFail}
+use Rattle.dw_sources.specs.FieldOffsets.{root_offset}
 use Rattle.dw_sources.specs.KeptNames.{front_of, with_paths}
 use Rattle.dw_sources.specs.Sources.{AddsSections, AreKept, AreSources, SourcesFail, string_tables, lines, section_paths, sections_paths, sources_of}
-use Rattle.dw_sources.specs.UnitPaths.{started_table, lines_paths, root_paths, unit_paths, table_paths, value_text, folder_of, unit_path}
+use Rattle.dw_sources.specs.UnitPaths.{folder_of, started_table, lines_paths, paths_in, root_paths, unit_paths, table_paths, unit_path, value_text}
 use Rattle.dw_sources.specs.declared.roots.Root.{Root}
 use Rattle.dw_sources.proofs.JoinLaws.{none-joined}
-
--- the section of string offsets
-offsets-are : (v : View) → located_cells (debug_data v).offsets ≡ string_offsets v
-unfolding debug_data
-offsets-are v = ap (λ (bs : List ℕ). record { number = (located v StrOffsets).number; bytes = bs }) (bytes_of-plain (located v StrOffsets).bytes)
 
 order-is : (v : View) → (debug_data v).base.order ≡ v.order
 unfolding debug_data
@@ -37,17 +32,22 @@ lines-same : (d : DebugData) (folder : List ℕ) (s t : ℕ → Option LineTable
 lines-same d folder s t None same = refl
 lines-same d folder s t (Some n) same = ap (table_paths (line_source d) folder) (same n)
 
-root-same : (d : DebugData) (list : List Contribution) (s t : ℕ → Option LineTable) (bytes : List ℕ) (r : Root) → ((n : ℕ) → s n ≡ t n)
-    → root_paths d list s bytes r ≡ root_paths d list t bytes r
+paths-same : (d : DebugData) (s t : ℕ → Option LineTable) (folder : List ℕ) (name : Option (List ℕ)) (start : Option ℕ) → ((n : ℕ) → s n ≡ t n)
+    → paths_in d s folder name start ≡ paths_in d t folder name start
+paths-same d s t folder name start same = ap (λ (ps : List (List ℕ)). unit_path folder name ++ ps) (lines-same d folder s t start same)
+
+root-same : (d : DebugData) (list : List Contribution) (s t : ℕ → Option LineTable) (z : UnitSection) (bytes : List ℕ) (r : Root) → ((n : ℕ) → s n ≡ t n)
+    → root_paths d list s z bytes r ≡ root_paths d list t z bytes r
 unfolding root_paths
-root-same d list s t bytes r same =
-    ap (λ (ps : List (List ℕ)). unit_path (folder_of (value_text d list bytes r.base r.comp_dir)) (value_text d list bytes r.base r.name) ++ ps)
-    (lines-same d (folder_of (value_text d list bytes r.base r.comp_dir)) s t r.lines same)
+root-same d list s t z bytes r same =
+    paths-same d s t (folder_of (value_text d list z bytes (root_offset d.base.order z (located_cells d.offsets) bytes r.base) r.comp_dir))
+    (value_text d list z bytes (root_offset d.base.order z (located_cells d.offsets) bytes r.base) r.name)
+    (root_offset d.base.order z (located_cells d.lines) bytes r.lines) same
 
 unit-same : (d : DebugData) (list : List Contribution) (s t : ℕ → Option LineTable) (z : UnitSection) (h : UnitHeader) → ((n : ℕ) → s n ≡ t n)
     → unit_paths d list s z h ≡ unit_paths d list t z h
 unfolding unit_paths
-unit-same d list s t z h same = root-same d list s t _ _ same
+unit-same d list s t z h same = root-same d list s t z _ _ same
 
 section-same : (d : DebugData) (list : List Contribution) (s t : ℕ → Option LineTable) (z : UnitSection) (hs : List UnitHeader) → ((n : ℕ) → s n ≡ t n)
     → section_paths d list s z hs ≡ section_paths d list t z hs
@@ -74,7 +74,7 @@ are-sources v base front list tables first last names is contributions kept none
   reads = record {
     units = adds.units;
     offsets = subst (λ order. AreContributions order (located_cells (debug_data v).offsets) list) (sym (order-is v))
-        (subst (λ (z : Located). AreContributions v.order z list) (sym (offsets-are v)) contributions);
+        (subst (λ (z : Located). AreContributions v.order z list) (sym (offsets-located v)) contributions);
     lines = kept.reads;
   };
   is =
@@ -92,6 +92,6 @@ pub offsets-row : (v : View) (f : Fault) → Blames (ContributionsFail v.order (
 offsets-row v NoMemory b = tt
 offsets-row v (Refused r) b =
     string_tables (subst (λ order. ContributionsFail order (located_cells (debug_data v).offsets) r) (sym (order-is v))
-    (subst (λ (z : Located). ContributionsFail v.order z r) (sym (offsets-are v)) b))
+    (subst (λ (z : Located). ContributionsFail v.order z r) (sym (offsets-located v)) b))
 
 pub ruleset source_rules = (none-joined, are-sources, lines-row, offsets-row)

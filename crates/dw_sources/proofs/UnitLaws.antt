@@ -2,7 +2,7 @@
 use Rattle.std.proofs.Common.{Bool, true, false, ◌≡◌, ℕ, suc, ◌+◌, ◌≤◌, ◌<◌, ◌==◌, if◌then◌else◌, List, [], ◌∷◌, ◌++◌, length, map, take, drop, get_or, cond, Option, Some, None, refl, sym, ap, ◌∙◌, subst, arith, append_assoc, append-nil}
 use Rattle.std.proofs.Math.Seq.{take-suc, drop-cons}
 use Rattle.std.proofs.lemmas.Bool.Decides.{nat_tests}
-use Rattle.std.proofs.lemmas.List.{drop_all, take_all}
+use Rattle.std.proofs.lemmas.List.{drop_all, length-take, take_all}
 use Rattle.dw_base.specs.AbbreviationFails.{AbbreviationFails}
 use Rattle.dw_base.specs.AbbreviationTables.{Abbreviation, IsTable}
 use Rattle.dw_base.specs.DebugData.{DebugData}
@@ -11,24 +11,28 @@ use Rattle.dw_base.specs.EntryValues.{HasUnit, bytes_up_to}
 use Rattle.dw_base.specs.FileViews.{View, section_bytes, section_named}
 use Rattle.dw_base.specs.LineTables.{LineTable}
 use Rattle.dw_base.specs.Refusals.{Blames}
-use Rattle.dw_base.specs.UnitFails.{UnitFails}
+use Rattle.dw_base.specs.RelocationRows.{HeaderOffsetsRead}
+use Rattle.dw_base.specs.UnitTables.{UnitTableFails, table_fails}
 use Rattle.dw_base.specs.UnitHeaders.{UnitBase, UnitSection, IsUnit, UnitsUpTo, no_units, more_units, AreUnits}
 use Rattle.dw_base.specs.ViewData.{debug_data, located, located_at, unit_sections}
 use Rattle.dw_base.specs.declared.debug_sections.DebugSection.TheVariants.{Abbrev}
 use Rattle.dw_base.specs.declared.fault.Fault.{Fault}
 use Rattle.dw_base.specs.declared.fault.Fault.TheVariants.{NoMemory, Refused}
+use Rattle.dw_base.specs.declared.fault.Refusal.{Refusal}
 use Rattle.dw_base.specs.declared.string_offsets.Contribution.{Contribution}
 use Rattle.dw_base.specs.declared.units.UnitHeader.{UnitHeader}
 use Rattle.dw_base.proofs.AbbreviationLaws.{table-found}
+use Rattle.dw_entries.specs.Fronts.{IsOfView}
+use Rattle.dw_entries.specs.HeaderRows.{HeadersRefuse, units as units_refuse, offsets as offsets_refuse}
 use Rattle.dw_entries.specs.SectionOrder.{AreSections}
 use Rattle.dw_entries.specs.ViewUnits.{IsUnitSection, numbered, unit_base, unit_section_at}
-use Rattle.dw_entries.proofs.HasUnitLaws.{unit-of-view, unit-section}
+use Rattle.dw_entries.proofs.HasUnitLaws.{numbered-section, unit-of-view, unit-section}
 use Rattle.dw_entries.proofs.SectionListLaws.{sections-next, sections-whole}
-use Rattle.dw_entries.proofs.UnitSectionLaws.{is-of-view}
+use Rattle.dw_entries.proofs.UnitSectionLaws.{is-of-view, of-view}
 use Rattle.dw_sources.specs.KeptNames.{with_paths}
 use Rattle.dw_sources.specs.RootValues.{root_at}
 use Rattle.dw_sources.specs.declared.roots.Root.{Root}
-use Rattle.dw_sources.specs.Sources.{AreShared, AddsSection, AddsSections, EachTable, EachUnits, HasAbbreviations, HasUnits, SourcesFail, unit as unit_fails, table as table_fails, section_paths, sections_paths}
+use Rattle.dw_sources.specs.Sources.{AreShared, AddsSection, AddsSections, EachTable, EachUnits, HasAbbreviations, HasUnits, SourcesFail, unit as unit_fails, relocation, table as unit_table, section_paths, sections_paths}
 use Rattle.dw_sources.specs.UnitPaths.{root_paths, unit_paths}
 use Rattle.dw_sources.proofs.PathLaws.{paths-append}
 
@@ -77,15 +81,19 @@ one-shared d old new at table are is more = record { each = λ (o : ℕ) (t : Li
         once x y e = cc
     by_offset o t false test e = are.each o t e
 
-pub shared-there : (d : DebugData) (shared : ℕ → Option (List Abbreviation)) (at : ℕ) (table : List Abbreviation) → AreShared d shared → Some table ≡ shared at
+shared-there : (d : DebugData) (shared : ℕ → Option (List Abbreviation)) (at : ℕ) (table : List Abbreviation) → AreShared d shared → Some table ≡ shared at
     → IsTable d.base.abbrevs.bytes at table
 shared-there d shared at table are e = are.each at table (sym e)
 
-pub own-table : (d : DebugData) (shared : ℕ → Option (List Abbreviation)) (at : ℕ) (table : List Abbreviation) → AreShared d shared → Some table ≡ shared at
-    → HasAbbreviations d at
-own-table d shared at table are e =
-    let t = shared-there d shared at table are e in
-    subst (IsTable d.base.abbrevs.bytes at) (sym (table-found d.base.abbrevs.bytes at table t)) t
+pub shared-own : (d : DebugData) (shared : ℕ → Option (List Abbreviation)) (at abbrevs : ℕ) (table : List Abbreviation) → AreShared d shared → Some table ≡ shared at
+    → at ≡ abbrevs → IsTable d.base.abbrevs.bytes abbrevs table
+shared-own d shared at abbrevs table are e same = subst (λ (n : ℕ). IsTable d.base.abbrevs.bytes n table) same (shared-there d shared at table are e)
+
+pub own-table : (d : DebugData) (shared : ℕ → Option (List Abbreviation)) (at : ℕ) (h : UnitHeader) (table : List Abbreviation) → AreShared d shared
+    → Some table ≡ shared at → at ≡ h.abbrevs → h.elsewhere ≡ false → HasAbbreviations d h
+own-table d shared at h table are e same there =
+    let t = shared-own d shared at h.abbrevs table are e same in
+    record { here = there; is = subst (IsTable d.base.abbrevs.bytes h.abbrevs) (sym (table-found d.base.abbrevs.bytes h.abbrevs table t)) t }
 
 pub ruleset read_rules = (one-shared)
 
@@ -97,25 +105,45 @@ unit-bytes v h bs u is = ap (take h.end) is ∙ (unit-of-view v h u).bytes
 pub unit-added : (v : View) (list : List Contribution) (tables : ℕ → Option LineTable) (front : List ℕ) (h : UnitHeader) (abbrevs : List Abbreviation) (bs : List ℕ) (root : Root)
     (old new : List (List ℕ)) → HasUnit (debug_data v) (unit_section_at v h.section) h → IsTable (debug_data v).base.abbrevs.bytes h.abbrevs abbrevs
     → bs ≡ section_bytes v h.section → root ≡ root_at h.params abbrevs (take h.end bs) h.first
-    → new ≡ with_paths front old (root_paths (debug_data v) list tables (take h.end bs) root)
+    → new ≡ with_paths front old (root_paths (debug_data v) list tables (unit_section_at v h.section) (take h.end bs) root)
     → new ≡ with_paths front old (unit_paths (debug_data v) list tables (unit_section_at v h.section) h)
 unfolding unit_paths
 unit-added v list tables front h abbrevs bs root old new u t is r e =
-    e ∙ ap (λ (x : Root). with_paths front old (root_paths (debug_data v) list tables (take h.end bs) x)) r
-    ∙ ap (λ (x : List ℕ). with_paths front old (root_paths (debug_data v) list tables x (root_at h.params abbrevs x h.first))) (unit-bytes v h bs u is)
-    ∙ ap (λ (x : List Abbreviation). with_paths front old (root_paths (debug_data v) list tables (bytes_up_to (unit_section_at v h.section) h)
+    e ∙ ap (λ (x : Root). with_paths front old (root_paths (debug_data v) list tables (unit_section_at v h.section) (take h.end bs) x)) r
+    ∙ ap (λ (x : List ℕ). with_paths front old (root_paths (debug_data v) list tables (unit_section_at v h.section) x (root_at h.params abbrevs x h.first))) (unit-bytes v h bs u is)
+    ∙ ap (λ (x : List Abbreviation). with_paths front old (root_paths (debug_data v) list tables (unit_section_at v h.section) (bytes_up_to (unit_section_at v h.section) h)
     (root_at h.params x (bytes_up_to (unit_section_at v h.section) h) h.first)))
     (sym (table-found (debug_data v).base.abbrevs.bytes h.abbrevs abbrevs t))
 
 pub ruleset unit_rules = (unit-added)
 
--- a table of abbreviations that can't be read
-pub table-row : (d : DebugData) (z : UnitSection) (h : UnitHeader) (f : Fault) → HasUnit d z h
-    → Blames (AbbreviationFails d.base.abbrevs.bytes d.base.abbrevs.number h.abbrevs) f → Blames (SourcesFail d) f
-table-row d z h NoMemory u b = tt
-table-row d z h (Refused r) u b = table_fails z h u b
+-- a unit's section is one of the view, and its bytes are a front of it
+pub unit-part : (v : View) (h : UnitHeader) → HasUnit (debug_data v) (unit_section_at v h.section) h → IsOfView v h.section (unit_section_at v h.section)
+unfolding debug_data
+unit-part v h u =
+    let own : h.section ≡ (unit_section_at v h.section).number =
+    unit-section (debug_data v).base (unit_section_at v h.section) u.start h u.is.header in
+    of-view v h.section (unit_section_at v h.section)
+    (ap (numbered (unit_sections v)) own ∙ numbered-section v u.before u.behind (unit_section_at v h.section) u.sections)
 
-pub ruleset one_rules = (shared-there, own-table, table-row)
+pub unit-front : (v : View) (section end : ℕ) (bytes : List ℕ) → bytes ≡ section_bytes v section → length (take end bytes) ≤ length (section_bytes v section)
+unit-front v section end bytes is =
+    let size = length-take end bytes in
+    let whole : length bytes ≡ length (section_bytes v section) = ap length is in
+    omega (arith, size, whole)
+
+-- a table of abbreviations that can't be read
+pub table-row : (d : DebugData) (z : UnitSection) (h : UnitHeader) (at : ℕ) (f : Fault) → at ≡ h.abbrevs → HasUnit d z h
+    → Blames (AbbreviationFails d.base.abbrevs.bytes d.base.abbrevs.number at) f → Blames (SourcesFail d) f
+table-row d z h at NoMemory same u b = tt
+table-row d z h at (Refused r) same u b =
+    unit_table z h u (table_fails (subst (λ (n : ℕ). AbbreviationFails d.base.abbrevs.bytes d.base.abbrevs.number n r) same b))
+
+-- or that lies elsewhere
+pub elsewhere-row : (d : DebugData) (z : UnitSection) (h : UnitHeader) (r : Refusal) → HasUnit d z h → UnitTableFails d.base h r → SourcesFail d r
+elsewhere-row d z h r u f = unit_table z h u f
+
+pub ruleset one_rules = (shared-own, own-table, elsewhere-row)
 
 -- the units of a section from a place on, front first
 abbrev pub UnitsFrom : UnitBase → UnitSection → ℕ → List UnitHeader → ℕ → Type 0
@@ -214,13 +242,13 @@ units-there v list tables front section hs i old now h there lt is p =
     let u : HasUnit (debug_data v) (unit_section_at v section) h = own-unit v list tables front section hs i old now h there lt is p in
     subst (λ (n : ℕ). HasUnit (debug_data v) (unit_section_at v n) h) (sym (own-section v section h there u)) u
 
-each-table-append : (d : DebugData) (hs : List UnitHeader) (h : UnitHeader) → EachTable d hs → HasAbbreviations d h.abbrevs → EachTable d (hs ++ h ∷ [])
+each-table-append : (d : DebugData) (hs : List UnitHeader) (h : UnitHeader) → EachTable d hs → HasAbbreviations d h → EachTable d (hs ++ h ∷ [])
 each-table-append d [] h all one = (one, tt)
 each-table-append d (x ∷ xs) h all one = (all.0, each-table-append d xs h all.1 one)
 
 pub units-more : (v : View) (list : List Contribution) (tables : ℕ → Option LineTable) (front : List ℕ) (section : ℕ) (hs : List UnitHeader) (i : ℕ) (old now new : List (List ℕ))
     (h : UnitHeader) → IsUnitSection v section → i < length hs → h ≡ get_or hs i h → UnitsPass v list tables front section hs i old now
-    → new ≡ with_paths front now (unit_paths (debug_data v) list tables (unit_section_at v h.section) h) → HasAbbreviations (debug_data v) h.abbrevs
+    → new ≡ with_paths front now (unit_paths (debug_data v) list tables (unit_section_at v h.section) h) → HasAbbreviations (debug_data v) h
     → UnitsPass v list tables front section hs (i + 1) old new
 units-more v list tables front section hs i old now new h there lt is p e own_table =
     let z : UnitSection = unit_section_at v section in
@@ -254,17 +282,26 @@ units-tables v list tables front section hs i old now p end = subst (EachTable (
 pub ruleset units_rules = (units-start, units-end, units-tables)
 
 -- the units of a section that can't be read
-pub section-row : (v : View) (section : ℕ) (f : Fault) → IsUnitSection v section → Blames (UnitFails (unit_base v) (unit_section_at v section)) f
+headers-row : (d : DebugData) (z : UnitSection) (before behind : List UnitSection) (r : Refusal) → d.units ≡ before ++ z ∷ behind → HeadersRefuse d.base z r
+    → SourcesFail d r
+headers-row d z before behind r split (units_refuse f) = unit_fails z before behind split f
+headers-row d z before behind r split (offsets_refuse f) = relocation z before behind split f
+
+pub section-row : (v : View) (section : ℕ) (f : Fault) → IsUnitSection v section → Blames (HeadersRefuse (unit_base v) (unit_section_at v section)) f
     → Blames (SourcesFail (debug_data v)) f
 section-row v section NoMemory there b = tt
 section-row v section (Refused r) there b =
     let s : Stands (debug_data v).units (unit_section_at v section) = stands-section v section there in
-    unit_fails (unit_section_at v section) s.before s.behind s.is b
+    headers-row (debug_data v) (unit_section_at v section) s.before s.behind r s.is b
 
 pub section-added : (d : DebugData) (list : List Contribution) (tables : ℕ → Option LineTable) (front : List ℕ) (z : UnitSection) (hs : List UnitHeader)
-    (old new : List (List ℕ)) → AreUnits d.base z hs → EachTable d hs → new ≡ with_paths front old (section_paths d list tables z hs)
+    (old new : List (List ℕ)) → AreUnits d.base z hs → HeaderOffsetsRead d.base z → EachTable d hs → new ≡ with_paths front old (section_paths d list tables z hs)
     → AddsSection d list tables front z old new
-section-added d list tables front z hs old new units each e = record { headers = hs; units = record { units = units; tables = each }; added = e }
+section-added d list tables front z hs old new are read each e = record {
+  headers = hs;
+  units = record { units = are; offsets = read; tables = each };
+  added = e;
+}
 
 pub ruleset section_rules = (section-row, section-added)
 

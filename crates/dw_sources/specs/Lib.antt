@@ -1,3 +1,4 @@
+pub mod FieldOffsets
 pub mod KeptNames
 pub mod RootValues
 pub mod UnitPaths

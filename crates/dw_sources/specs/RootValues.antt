@@ -49,8 +49,8 @@ abbrev pub with_value : ℕ → Root → ℕ → Value → Root
 with_value tag r name v = record {
   name = or_this r.name (is_unit_tag tag && name == DW_AT_name && is_text v.class) v;
   comp_dir = or_this r.comp_dir (is_unit_tag tag && name == DW_AT_comp_dir && is_text v.class) v;
-  lines = or_this r.lines (name == DW_AT_stmt_list && is_start v.class v.len) v.number;
-  base = or_this r.base (name == DW_AT_str_offsets_base && is_base v.class) v.number;
+  lines = or_this r.lines (name == DW_AT_stmt_list && is_start v.class v.len) v;
+  base = or_this r.base (name == DW_AT_str_offsets_base && is_base v.class) v;
 }
 
 -- with the values of attributes that stand one after another from a place on, up to one that can't be read

@@ -1,16 +1,17 @@
 -- The sources of debug data: the names of the paths that all units name. This project's profile.
 use Rattle.std.specs.Prelude.{◌≡◌, ℕ, ◌==◌, if◌then◌else◌, Option, Some, None, List, [], ◌∷◌, ◌++◌, ⊤}
 use Rattle.dw_base.specs.AbbreviationBytes.{abbreviations_at}
-use Rattle.dw_base.specs.AbbreviationFails.{AbbreviationFails}
 use Rattle.dw_base.specs.AbbreviationTables.{Abbreviation, IsTable}
 use Rattle.dw_base.specs.Cells.{located_cells}
 use Rattle.dw_base.specs.DebugData.{DebugData, DataReadings, line_source}
 use Rattle.dw_base.specs.EntryValues.{HasUnit}
 use Rattle.dw_base.specs.LineReadings.{LineReading, AreTables}
 use Rattle.dw_base.specs.LineTables.{LineTable}
+use Rattle.dw_base.specs.RelocationRows.{HeaderOffsetFails, HeaderOffsetsRead}
 use Rattle.dw_base.specs.StringOffsets.{AreContributions}
 use Rattle.dw_base.specs.UnitFails.{UnitFails}
 use Rattle.dw_base.specs.UnitHeaders.{UnitSection, AreUnits}
+use Rattle.dw_base.specs.UnitTables.{IsUnitTable, UnitTableFails}
 use Rattle.dw_base.specs.StringOffsetFails.{ContributionsFail}
 use Rattle.dw_base.specs.declared.fault.Refusal.{Refusal}
 use Rattle.dw_base.specs.declared.string_offsets.Contribution.{Contribution}
@@ -29,17 +30,18 @@ pub record SourceReadings : Type 0 where
   pub contributions : List Contribution
   pub lines : List LineReading
 
--- a table of abbreviations can be read at an offset
-abbrev pub HasAbbreviations : DebugData → ℕ → Type 0
-HasAbbreviations d at = IsTable d.base.abbrevs.bytes at (abbreviations_at d.base.abbrevs.bytes at)
+-- the table of abbreviations of a unit can be read
+abbrev pub HasAbbreviations : DebugData → UnitHeader → Type 0
+HasAbbreviations d h = IsUnitTable d.base h (abbreviations_at d.base.abbrevs.bytes h.abbrevs)
 
 abbrev pub EachTable : DebugData → List UnitHeader → Type 0
 EachTable d [] = ⊤
-EachTable d (h ∷ hs) = HasAbbreviations d h.abbrevs × EachTable d hs
+EachTable d (h ∷ hs) = HasAbbreviations d h × EachTable d hs
 
--- the units of a section, each with its table of abbreviations
+-- the units of a section, each with its table of abbreviations, the offset of which no relocation refuses
 pub record HasUnits (d : DebugData) (z : UnitSection) (headers : List UnitHeader) : Type 0 where
   pub units : AreUnits d.base z headers
+  pub offsets : HeaderOffsetsRead d.base z
   pub tables : EachTable d headers
 
 -- those of each section
@@ -76,11 +78,13 @@ pub record AreSources (d : DebugData) (base : List ℕ) (names : List (List ℕ)
   pub reads : SourcesRead d readings
   pub is : names ≡ sources_of d readings base
 
--- why they can't be read: a unit, its table of abbreviations, a contribution of string offsets, or a line table can't
+-- why they can't be read: a unit, the offset of its abbreviations for a relocation, its table of abbreviations, a contribution of string offsets, or a
+-- line table can't
 pub data SourcesFail (d : DebugData) : Refusal → Type 0 where
   unit : (z : UnitSection) (before behind : List UnitSection) {r : Refusal} → d.units ≡ before ++ z ∷ behind → UnitFails d.base z r → SourcesFail d r
-  table : (z : UnitSection) (h : UnitHeader) {r : Refusal} → HasUnit d z h
-      → AbbreviationFails d.base.abbrevs.bytes d.base.abbrevs.number h.abbrevs r → SourcesFail d r
+  relocation : (z : UnitSection) (before behind : List UnitSection) {r : Refusal} → d.units ≡ before ++ z ∷ behind → HeaderOffsetFails d.base z r
+      → SourcesFail d r
+  table : (z : UnitSection) (h : UnitHeader) {r : Refusal} → HasUnit d z h → UnitTableFails d.base h r → SourcesFail d r
   string_tables : {r : Refusal} → ContributionsFail d.base.order (located_cells d.offsets) r → SourcesFail d r
   lines : {r : Refusal} → LinesFail d r → SourcesFail d r
 
@@ -105,9 +109,13 @@ pub record AddsSections (d : DebugData) (list : List Contribution) (tables : ℕ
   pub units : EachUnits d zs headers
   pub added : new ≡ with_paths front old (sections_paths d list tables zs headers)
 
+-- no relocation refuses the offset of a unit's abbreviations
+abbrev pub HeadersRead : DebugData → Type 0
+HeadersRead d = (before behind : List UnitSection) (z : UnitSection) (r : Refusal) → d.units ≡ before ++ z ∷ behind → HeaderOffsetFails d.base z r → ⊥
+
 -- where all debug data can be read, want of memory alone keeps their sources from being read
 pub record IsWant (d : DebugData) (f : Fault) : Type 0 where
-  pub whole : (r : DataReadings) → DataReads d r → f ≡ NoMemory
+  pub whole : (r : DataReadings) → DataReads d r → HeadersRead d → f ≡ NoMemory
 
 -- a map of line tables has one more, at a place
 pub record KeepsOne (old new : ℕ → Option LineTable) (at : ℕ) (t : LineTable) : Type 0 where

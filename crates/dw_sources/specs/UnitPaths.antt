@@ -1,5 +1,5 @@
 -- The paths of sources that a unit names: its own, and those of the files in the header of its line table (DWARF 5, 3.1.1 and 6.2.4).
--- Texts are as they stand; relocations are not in them yet.
+-- Texts are as they stand.
 use Rattle.std.specs.Prelude.{Bool, ℕ, ◌-◌, ◌==◌, ◌&&◌, not, nat_eq, if◌then◌else◌, List, [], ◌∷◌, ◌++◌, Option, Some, None}
 use Rattle.std.specs.List.{starts_with}
 use Rattle.dw_base.specs.AbbreviationBytes.{abbreviations_at}
@@ -12,6 +12,7 @@ use Rattle.dw_base.specs.LineReadings.{LineReading, table_read}
 use Rattle.dw_base.specs.LineSources.{LineSource}
 use Rattle.dw_base.specs.LineTables.{LineTable}
 use Rattle.dw_base.specs.Numbers.{number_at}
+use Rattle.dw_base.specs.RelocationFields.{field_in}
 use Rattle.dw_base.specs.StringOffsets.{slot_place}
 use Rattle.dw_base.specs.Texts.{text_in, ends_in}
 use Rattle.dw_base.specs.UnitHeaders.{UnitSection}
@@ -24,6 +25,7 @@ use Rattle.dw_base.specs.declared.values.Value.{Value}
 use Rattle.dw_base.specs.declared.values.ValueClass.{ValueClass}
 use Rattle.dw_base.specs.declared.values.ValueClass.TheVariants.{InlineText, StrOffset, LineStrOffset, StrIndex}
 use Rattle.dw_paths.specs.CleanPaths.{joined_path}
+use Rattle.dw_sources.specs.FieldOffsets.{field_offset, root_offset, value_offset}
 use Rattle.dw_sources.specs.RootValues.{root_at}
 use Rattle.dw_sources.specs.declared.roots.Root.{Root}
 
@@ -41,10 +43,17 @@ abbrev pub number_text : List ℕ → Option ℕ → Option (List ℕ)
 number_text table None = None
 number_text table (Some n) = named_text table n
 
+-- the offset in a slot at a place, from which a number was read
+abbrev pub slot_offset : DebugData → ℕ → ℕ → Option ℕ → Option ℕ
+slot_offset d place n None = None
+slot_offset d place n (Some number) = field_offset d.str number (field_in d.base.order d.offsets.number d.offsets.contents place n)
+
 abbrev pub slot_text_at : DebugData → Option Width → Option ℕ → Option (List ℕ)
 slot_text_at d None place = None
 slot_text_at d (Some w) None = None
-slot_text_at d (Some w) (Some place) = number_text d.str.bytes (number_at d.base.order (located_cells d.offsets).bytes place (width_size w))
+slot_text_at d (Some w) (Some place) =
+    number_text d.str.bytes
+    (slot_offset d place (width_size w) (number_at d.base.order (located_cells d.offsets).bytes place (width_size w)))
 
 unfoldable pub slot_text : DebugData → List Contribution → ℕ → ℕ → Option (List ℕ)
 slot_text d list base index = slot_text_at d (base_width list base) (slot_place list base index)
@@ -53,17 +62,17 @@ abbrev pub index_text : DebugData → List Contribution → Option ℕ → ℕ �
 index_text d list None index = None
 index_text d list (Some base) index = slot_text d list base index
 
--- the text that a value holds in a unit with these bytes up to its end and this base
-abbrev pub class_text : ValueClass → DebugData → List Contribution → List ℕ → Option ℕ → Value → Option (List ℕ)
-class_text InlineText d list bytes base v = named_text bytes v.at
-class_text StrOffset d list bytes base v = named_text d.str.bytes v.number
-class_text LineStrOffset d list bytes base v = named_text d.line_str.bytes v.number
-class_text StrIndex d list bytes base v = index_text d list base v.number
-class_text class d list bytes base v = None
+-- the text that a value holds in a unit of a section with these bytes up to its end and this base
+abbrev pub class_text : ValueClass → DebugData → List Contribution → UnitSection → List ℕ → Option ℕ → Value → Option (List ℕ)
+class_text InlineText d list z bytes base v = named_text bytes v.at
+class_text StrOffset d list z bytes base v = number_text d.str.bytes (value_offset d.base.order z d.str bytes v)
+class_text LineStrOffset d list z bytes base v = number_text d.line_str.bytes (value_offset d.base.order z d.line_str bytes v)
+class_text StrIndex d list z bytes base v = index_text d list base v.number
+class_text class d list z bytes base v = None
 
-abbrev pub value_text : DebugData → List Contribution → List ℕ → Option ℕ → Option Value → Option (List ℕ)
-value_text d list bytes base None = None
-value_text d list bytes base (Some v) = class_text v.class d list bytes base v
+abbrev pub value_text : DebugData → List Contribution → UnitSection → List ℕ → Option ℕ → Option Value → Option (List ℕ)
+value_text d list z bytes base None = None
+value_text d list z bytes base (Some v) = class_text v.class d list z bytes base v
 
 -- a text that names no file, as `<built-in>`
 abbrev pub is_made_up : List ℕ → Bool
@@ -125,12 +134,17 @@ folder_of (Some folder) = folder
 abbrev pub paths_in : DebugData → (ℕ → Option LineTable) → List ℕ → Option (List ℕ) → Option ℕ → List (List ℕ)
 paths_in d tables folder name lines = unit_path folder name ++ lines_paths (line_source d) tables folder lines
 
-unfoldable pub root_paths : DebugData → List Contribution → (ℕ → Option LineTable) → List ℕ → Root → List (List ℕ)
-root_paths d list tables bytes r =
-    paths_in d tables (folder_of (value_text d list bytes r.base r.comp_dir)) (value_text d list bytes r.base r.name) r.lines
+abbrev pub paths_by : DebugData → List Contribution → (ℕ → Option LineTable) → UnitSection → List ℕ → Root → Option ℕ → Option ℕ → List (List ℕ)
+paths_by d list tables z bytes r base lines =
+    paths_in d tables (folder_of (value_text d list z bytes base r.comp_dir)) (value_text d list z bytes base r.name) lines
+
+unfoldable pub root_paths : DebugData → List Contribution → (ℕ → Option LineTable) → UnitSection → List ℕ → Root → List (List ℕ)
+root_paths d list tables z bytes r =
+    paths_by d list tables z bytes r (root_offset d.base.order z (located_cells d.offsets) bytes r.base)
+    (root_offset d.base.order z (located_cells d.lines) bytes r.lines)
 
 -- the paths of a unit
 unfoldable pub unit_paths : DebugData → List Contribution → (ℕ → Option LineTable) → UnitSection → UnitHeader → List (List ℕ)
 unit_paths d list tables z h =
-    root_paths d list tables (bytes_up_to z h)
+    root_paths d list tables z (bytes_up_to z h)
     (root_at h.params (abbreviations_at d.base.abbrevs.bytes h.abbrevs) (bytes_up_to z h) h.first)

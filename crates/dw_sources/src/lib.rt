@@ -3,13 +3,14 @@
 //! This layer promises: the names are those of the paths of all units and of the files in the headers of their
 //! line tables, of those below a base, with the base cut off, in byte order and each once; it is refused only
 //! where the units, their abbreviations, the string offsets or the line tables can't be read.
-//! It does not promise: that the files are there. A value that names no text, no slot or no line table is passed
-//! over; whether there is one is for the crates that read a file whole.
+//! It does not promise: that the files are there. A value that names no text, no slot or no line table, or whose
+//! offset a relocation refuses, is passed over; whether there is one is for the crates that read a file whole.
 //! Read first: `specs/Sources.antt`, `specs/UnitPaths.antt`, then `specs/KeptNames.antt`.
 #![tactic(auto)]
 
 mod listing;
 mod names;
+mod offsets;
 mod paths;
 mod roots;
 mod tables;

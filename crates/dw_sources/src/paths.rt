@@ -2,20 +2,24 @@
 //!
 //! Read first: `specs/UnitPaths.antt`.
 
-ghost use Rattle.std.specs.Prelude.{◌≡◌, map, nat_eq, option_map, OnOk};
+ghost use Rattle.std.specs.Prelude.{◌≡◌, ◌≤◌, length, map, nat_eq, option_map, OnOk};
 ghost use Rattle.std.specs.HashMap.{get};
 ghost use Rattle.dw_base.specs.DebugData.{line_source};
+ghost use Rattle.dw_base.specs.FileViews.{section_bytes};
 ghost use Rattle.dw_base.specs.LineMeanings.{item_at};
 ghost use Rattle.dw_base.specs.ViewData.{debug_data};
+ghost use Rattle.dw_entries.specs.Fronts.{IsOfView};
+ghost use Rattle.dw_entries.specs.ViewUnits.{unit_section_at};
 ghost use Rattle.dw_sources.specs.JoinedFiles.{AreJoined};
 ghost use Rattle.dw_sources.specs.KeptNames.{bytes_of, with_paths};
 ghost use Rattle.dw_sources.specs.UnitPaths.{dir_place, dir_text, file_path, files_paths, folder_of, is_made_up, lines_paths, listed, paths_in, root_paths, table_paths, unit_path};
 ghost use Rattle.dw_paths.specs.CleanPaths.{joined_path};
 
 use crate::names::{Found, add_path, mark};
+use crate::offsets::root_offset;
 use crate::roots::Root;
 use crate::texts::{place_text, value_text};
-use dw_base::{FilePlace, NoMemory, TextPlace};
+use dw_base::{DebugSection, FilePlace, NoMemory, TextPlace};
 use dw_lines::LineTable;
 use dw_offsets::ContributionList;
 use dw_paths::join_path;
@@ -204,23 +208,29 @@ fn add_paths(
     Ok(())
 }
 
-/// Adds the paths of a unit whose first entry says this, and which has these bytes up to its end.
-#[tactic(auto, unfolding(crate::specs::UnitPaths::root_paths))]
+/// Adds the paths of a unit whose first entry says this, of a section, and which has these bytes up to its end.
+#[tactic(auto, using(crate::proofs::PathLaws::root_rules))]
 pub(crate) fn add_root(
     alloc: Global,
     view: &View,
     list: &ContributionList,
     tables: &HashMap<u64, LineTable>,
     front: &[u8],
+    section: u32,
     bytes: &[u8],
     root: Root,
     found: &mut Found,
 ) -> Result<(), NoMemory>
+    requires unit { IsOfView view.now section (unit_section_at view.now section) }
+    requires inside { length bytes.now ≤ length (section_bytes view.now section) }
     requires joined { AreJoined (debug_data view.now) (λ at. get nat_eq tables.now at) front.now (map bytes_of found.old.names.keys) found.old.joined.keys }
     ensures joined { OnOk result (AreJoined (debug_data view.now) (λ at. get nat_eq tables.now at) front.now (map bytes_of found.new.names.keys) found.new.joined.keys) }
-    ensures value { OnOk result (map bytes_of found.new.names.keys ≡ with_paths front.now (map bytes_of found.old.names.keys) (root_paths (debug_data view.now) list.now (λ at. get nat_eq tables.now at) bytes.now root)) }
+    ensures value { OnOk result (map bytes_of found.new.names.keys ≡ with_paths front.now (map bytes_of found.old.names.keys) (root_paths (debug_data view.now) list.now (λ at. get nat_eq tables.now at) (unit_section_at view.now section) bytes.now root)) }
 {
-    let folder = folder_of(value_text(view, list, bytes, root.base, root.comp_dir));
-    let name = value_text(view, list, bytes, root.base, root.name);
-    add_paths(alloc, view, tables, front, folder, name, root.lines, found)
+    let base = root_offset(view, section, bytes, DebugSection::StrOffsets, root.base);
+    let lines = root_offset(view, section, bytes, DebugSection::Line, root.lines);
+    let folder = folder_of(value_text(view, list, section, bytes, base, root.comp_dir));
+    let name = value_text(view, list, section, bytes, base, root.name);
+    add_paths(alloc, view, tables, front, folder, name, lines, found)?;
+    Ok(())
 }

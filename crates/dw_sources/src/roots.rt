@@ -24,10 +24,10 @@ pub(crate) struct Root {
     pub name: Option<Value>,
     /// The folder in which it was compiled.
     pub comp_dir: Option<Value>,
-    /// Where its line table starts.
-    pub lines: Option<u64>,
-    /// The base of its texts by index.
-    pub base: Option<u64>,
+    /// The value that says where its line table starts.
+    pub lines: Option<Value>,
+    /// The value that says the base of its texts by index.
+    pub base: Option<Value>,
 }
 
 /// A code, and the place behind it.
@@ -94,21 +94,6 @@ fn or_value(found: Option<Value>, wanted: bool, value: Value) -> Option<Value>
     }
 }
 
-/// The number that was found before, or else this one, where it is wanted.
-fn or_number(found: Option<u64>, wanted: bool, number: u64) -> Option<u64>
-    ensures value { result ≡ or_this found wanted number }
-{
-    match found {
-        Some(old) => Some(old),
-        None => {
-            if wanted {
-                return Some(number);
-            }
-            None
-        }
-    }
-}
-
 /// What is said with one value more, of an attribute of a name in an entry of a tag.
 fn with_value(tag: u64, root: Root, name: u64, value: &Value) -> Root
     ensures value { result ≡ with_value tag root name value.now }
@@ -122,15 +107,15 @@ fn with_value(tag: u64, root: Root, name: u64, value: &Value) -> Root
             is_path && name == DW_AT_comp_dir && text,
             *value,
         ),
-        lines: or_number(
+        lines: or_value(
             root.lines,
             name == DW_AT_stmt_list && is_start(value.class, value.len),
-            value.number,
+            *value,
         ),
-        base: or_number(
+        base: or_value(
             root.base,
             name == DW_AT_str_offsets_base && is_base(value.class),
-            value.number,
+            *value,
         ),
     }
 }

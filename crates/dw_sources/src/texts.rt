@@ -1,40 +1,24 @@
 //! The texts that values and line tables name (DWARF 5, 7.5.5, class string; 6.2.4; 7.26).
 
-ghost use Rattle.std.specs.Prelude.{◌≡◌, ◌≤◌, ◌<◌, ◌^◌, length, take, drop, option_map, IfOk, IfErr};
+ghost use Rattle.std.specs.Prelude.{◌≡◌, ◌≤◌, ◌<◌, ◌^◌, Some, length, take, drop, option_map, IfOk, IfErr};
 ghost use Rattle.dw_base.specs.DebugData.{line_source};
+ghost use Rattle.dw_base.specs.DebugSections.{name_of};
+ghost use Rattle.dw_base.specs.FileViews.{section_bytes, section_named};
 ghost use Rattle.dw_base.specs.Forms.{width_size};
 ghost use Rattle.dw_base.specs.LineMeanings.{place_text, section_in};
+ghost use Rattle.dw_base.specs.Numbers.{number_at};
 ghost use Rattle.dw_base.specs.ViewData.{debug_data, located};
+ghost use Rattle.dw_entries.specs.Fronts.{IsOfView};
+ghost use Rattle.dw_entries.specs.ViewUnits.{unit_section_at};
 ghost use Rattle.dw_offsets.specs.SlotSearch.{BasesRise, HasBase, IsBaseGap};
-ghost use Rattle.dw_sources.specs.UnitPaths.{base_width, class_text, index_text, named_text, slot_text, value_text};
+ghost use Rattle.dw_sources.specs.FieldOffsets.{value_offset};
+ghost use Rattle.dw_sources.specs.UnitPaths.{base_width, class_text, index_text, named_text, number_text, slot_offset, slot_text, value_text};
 
+use crate::offsets::{field_offset, first_bytes, first_number, value_offset};
 use dw_base::{Contribution, DebugSection, TextPlace, Value, ValueClass, Width, number_at};
 use dw_offsets::{ContributionList, slot_place};
 use dw_strings::text_at;
 use dw_view::View;
-
-/// The number of the first section of a kind, 0 where there is none.
-#[tactic(auto, using(dw_offsets::proofs::PathSlotLaws::located_laws))]
-fn first_number(view: &View, section: DebugSection) -> u32
-    ensures number { result ≡ (located view.now section).number }
-{
-    match view.first(section) {
-        Some(number) => number,
-        None => 0,
-    }
-}
-
-/// Its bytes, none where there is none.
-#[tactic(auto, using(dw_offsets::proofs::PathSlotLaws::located_laws))]
-fn first_bytes<'v>(view: &'v View, section: DebugSection) -> &'v [u8]
-    ensures bytes { result.now ≡ (located view.now section).bytes }
-    ensures small { length result.now ≤ 2 ^ 31 }
-{
-    match view.first(section) {
-        Some(number) => view.bytes(number),
-        None => b"",
-    }
-}
 
 /// The text at a place of a table; none where no NUL follows.
 fn named_text(table: &[u8], at: u64) -> Option<&[u8]>
@@ -90,11 +74,28 @@ fn slot_text<'v>(view: &'v View, list: &ContributionList, base: u64, index: u64)
     let Some(place) = slot_place(list, base, index) else {
         return None;
     };
-    let offsets = first_bytes(view, DebugSection::StrOffsets);
-    let Some(offset) = number_at(view.order(), offsets, place, width_size(width)) else {
+    let Some(section) = view.first(DebugSection::StrOffsets) else {
+        return None;
+    };
+    let Some(offset) = slot_offset(view, section, place, width_size(width)) else {
         return None;
     };
     named_text(first_bytes(view, DebugSection::Str), offset)
+}
+
+/// The offset in the slot at a place of the section of string offsets; none where it passes the end.
+#[tactic(auto, using(crate::proofs::TextLaws::offset_rules))]
+fn slot_offset(view: &View, section: u32, place: u64, size: u8) -> Option<u64>
+    requires there { section < length view.now.sections }
+    requires found { Some section ≡ section_named view.now (name_of DebugSection.StrOffsets) }
+    requires some { 0 < size }
+    requires wide { size ≤ 8 }
+    ensures value { result ≡ slot_offset (debug_data view.now) place size (number_at view.now.order (section_bytes view.now section) place size) }
+{
+    let Some(number) = number_at(view.order(), view.bytes(section), place, size) else {
+        return None;
+    };
+    field_offset(view, section, place, size, DebugSection::Str, number)
 }
 
 /// The text of an index in a unit of a base, where it has one.
@@ -112,22 +113,44 @@ fn index_text<'v>(
     }
 }
 
-/// The text that a value holds in a unit with these bytes up to its end and this base.
+/// The text that the offset of a value names in the table of a kind.
+#[tactic(auto, using(crate::proofs::TextLaws::named_rules))]
+fn offset_text<'v>(
+    view: &'v View,
+    section: u32,
+    bytes: &[u8],
+    kind: DebugSection,
+    value: &Value,
+) -> Option<&'v [u8]>
+    requires unit { IsOfView view.now section (unit_section_at view.now section) }
+    requires inside { length bytes.now ≤ length (section_bytes view.now section) }
+    ensures value { option_map (λ t. t.now) result ≡ number_text (located view.now kind).bytes (value_offset view.now.order (unit_section_at view.now section) (located view.now kind) bytes.now value.now) }
+{
+    match value_offset(view, section, bytes, kind, value) {
+        Some(offset) => named_text(first_bytes(view, kind), offset),
+        None => None,
+    }
+}
+
+/// The text that a value holds in a unit of a section with these bytes up to its end and this base.
 #[tactic(auto, using(crate::proofs::TextLaws::class_rules))]
 fn class_text<'v>(
     view: &'v View,
     list: &ContributionList,
+    section: u32,
     bytes: &'v [u8],
     base: Option<u64>,
     value: &Value,
 ) -> Option<&'v [u8]>
-    ensures value { option_map (λ t. t.now) result ≡ class_text value.now.class (debug_data view.now) list.now bytes.now base value.now }
+    requires unit { IsOfView view.now section (unit_section_at view.now section) }
+    requires inside { length bytes.now ≤ length (section_bytes view.now section) }
+    ensures value { option_map (λ t. t.now) result ≡ class_text value.now.class (debug_data view.now) list.now (unit_section_at view.now section) bytes.now base value.now }
 {
     match value.class {
         ValueClass::InlineText => named_text(bytes, value.at),
-        ValueClass::StrOffset => named_text(first_bytes(view, DebugSection::Str), value.number),
+        ValueClass::StrOffset => offset_text(view, section, bytes, DebugSection::Str, value),
         ValueClass::LineStrOffset => {
-            named_text(first_bytes(view, DebugSection::LineStr), value.number)
+            offset_text(view, section, bytes, DebugSection::LineStr, value)
         }
         ValueClass::StrIndex => index_text(view, list, base, value.number),
         _ => None,
@@ -138,14 +161,17 @@ fn class_text<'v>(
 pub(crate) fn value_text<'v>(
     view: &'v View,
     list: &ContributionList,
+    section: u32,
     bytes: &'v [u8],
     base: Option<u64>,
     value: Option<Value>,
 ) -> Option<&'v [u8]>
-    ensures value { option_map (λ t. t.now) result ≡ value_text (debug_data view.now) list.now bytes.now base value }
+    requires unit { IsOfView view.now section (unit_section_at view.now section) }
+    requires inside { length bytes.now ≤ length (section_bytes view.now section) }
+    ensures value { option_map (λ t. t.now) result ≡ value_text (debug_data view.now) list.now (unit_section_at view.now section) bytes.now base value }
 {
     match value {
-        Some(value) => class_text(view, list, bytes, base, &value),
+        Some(value) => class_text(view, list, section, bytes, base, &value),
         None => None,
     }
 }

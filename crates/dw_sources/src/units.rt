@@ -22,7 +22,7 @@ use crate::paths::add_root;
 use crate::roots::root_at;
 use dw_abbrev::AbbrevTable;
 use dw_base::{DebugSection, Fault, NoMemory, UnitHeader};
-use dw_entries::{unit_headers, unit_sections};
+use dw_entries::{table_offset, unit_headers, unit_sections};
 use dw_lines::LineTable;
 use dw_offsets::ContributionList;
 use dw_view::View;
@@ -82,7 +82,17 @@ fn add_unit(
 {
     let bytes = &view.bytes(unit.section)[..unit.end as usize];
     let root = root_at(&unit.params, abbrevs, bytes, unit.first);
-    add_root(alloc, view, list, tables, front, bytes, root, found)?;
+    add_root(
+        alloc,
+        view,
+        list,
+        tables,
+        front,
+        unit.section,
+        bytes,
+        root,
+        found,
+    )?;
     Ok(())
 }
 
@@ -104,11 +114,12 @@ fn one_unit(
     ensures shared { OnOk result (AreShared (debug_data view.now) (λ at. get nat_eq shared.new at)) }
     ensures joined { OnOk result (AreJoined (debug_data view.now) (λ at. get nat_eq tables.now at) front.now (map bytes_of found.new.names.keys) found.new.joined.keys) }
     ensures value { OnOk result (map bytes_of found.new.names.keys ≡ with_paths front.now (map bytes_of found.old.names.keys) (unit_paths (debug_data view.now) list.now (λ at. get nat_eq tables.now at) (unit_section_at view.now unit.now.section) unit.now)) }
-    ensures table { OnOk result (HasAbbreviations (debug_data view.now) unit.now.abbrevs) }
+    ensures table { OnOk result (HasAbbreviations (debug_data view.now) unit.now) }
     ensures refused { IfErr result (Blames (SourcesFail (debug_data view.now))) }
 {
-    read_table(alloc, view, unit.abbrevs, shared)?;
-    let Some(abbrevs) = shared.get(&unit.abbrevs) else {
+    let at = table_offset(view, unit)?;
+    read_table(alloc, view, at, shared)?;
+    let Some(abbrevs) = shared.get(&at) else {
         unreachable!()
     };
     add_unit(alloc, view, list, tables, front, unit, abbrevs, found)?;

@@ -3,4 +3,4 @@ use Rattle.dbg_show.proofs.unit_lines.values_base.Given as goal
 
 -- the base is among the values that are left
 abbrev pub invariant-loop-spec : goal.invariant-loop-spec
-invariant-loop-spec l = BaseLeft l.unit.params l.bytes l.specs l.from l.spec-index l.place
+invariant-loop-spec l = BaseLeft l.view l.unit l.bytes l.specs l.from l.spec-index l.place

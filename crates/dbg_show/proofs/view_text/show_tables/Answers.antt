@@ -15,12 +15,11 @@ macro_list-requires g c = record { macros = tables-units c.args.view.now c.args.
 
 pub write_shown-requires : goal.write_shown-requires
 write_shown-requires g c = record {
-  sources = sources-are c.args.view.now c.as_slice-units.result.now c.as_slice-abbrevs.result.now c.in_ok-index.index c.in_ok-contributions.contributions c.as_slice.result.now c.as_slice-2.result.now
-      c.as_slice-3.result.now c.as_slice-4.result.now c.as_slice-5.result.now c.args.tables.now c.args.macros.now c.requires.read
+  sources = sources-are c.args.view.now c.as_slice-units.result.now c.as_slice-abbrevs.result.now c.in_ok-index.index c.in_ok-contributions.contributions c.as_slice-lines.result.now
+      c.as_slice.result.now c.as_slice-keys.result.now c.args.tables.now c.args.macros.now c.requires.read
       (units-listed c.args.view.now c.as_slice-units.result.now c.in_ok-list.list.units.items c.as_slice-abbrevs.result.now c.in_ok-list.list.tables.items c.as_slice-units.ensures.value
       c.as_slice-abbrevs.ensures.value c.in_ok-list.ensures.read)
-      c.in_ok-index.ensures.index c.in_ok-contributions.ensures.read (c.as_slice.ensures.value ∙ c.in_ok-starts.ensures) (c.as_slice-2.ensures.value ∙ c.in_ok-places.ensures)
-      (c.as_slice-3.ensures.value ∙ c.in_ok-starts.ensures)
-      (macros-listed c.args.view.now c.args.macros.now c.as_slice-4.result.now c.in_ok-found.found.units.items c.as_slice-5.result.now c.in_ok-found.found.keys.items c.as_slice-4.ensures.value
-      c.as_slice-5.ensures.value c.in_ok-found.ensures.list);
+      c.in_ok-index.ensures.index c.in_ok-contributions.ensures.read (c.as_slice-lines.ensures.value ∙ c.in_ok-starts.ensures)
+      (macros-listed c.args.view.now c.args.macros.now c.as_slice.result.now c.in_ok-found.found.units.items c.as_slice-keys.result.now c.in_ok-found.found.keys.items c.as_slice.ensures.value
+      c.as_slice-keys.ensures.value c.in_ok-found.ensures.list);
 }

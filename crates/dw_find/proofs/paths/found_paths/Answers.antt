@@ -30,7 +30,7 @@ returns-in_err-macros_name-clause-refused c =
 pub returns-clause-found : goal.returns-clause-found
 returns-clause-found c =
     paths-found c.args.maps.now c.args.view.now _ _ c.in_ok-starts.starts.items c.as_slice-2.result.now c.as_slice-4.result.now c.in_ok-places.places.items c.as_slice-3.result.now
-    c.as_slice-5.result.now _ c.args.tables.now c.args.macros.now c.in_ok-paths.paths.items c.push_slots.new.paths.items c.push_macros.new.paths.items c.push_lines.new.paths.items c.in_ok-list.ensures.read c.in_ok-names.ensures.read c.requires.tables c.in_ok-starts.ensures c.as_slice-2.ensures.value
+    c.as_slice-5.result.now _ c.args.tables.now c.args.macros.now c.in_ok-paths.paths.items c.push_slots.new.paths.items c.push_macros.new.paths.items c.push_lines.new.paths.items c.in_ok-list.ensures.read c.in_ok-names.ensures.offsets c.requires.tables c.in_ok-starts.ensures c.as_slice-2.ensures.value
     c.as_slice-4.ensures.value c.requires.macros c.in_ok-places.ensures c.as_slice-3.ensures.value c.as_slice-5.ensures.value c.in_ok-paths.ensures.found
     (subst (λ slots. TextsIndexed (debug_data c.args.view.now) c.in_ok-list.list slots.marks) (sym c.slots-2.view_is)
     (subst (λ slots. TextsIndexed (debug_data c.args.view.now) slots.list c.unit_paths.new.slots.marks) c.new-slots.ensures c.in_ok-paths.ensures.indexed))

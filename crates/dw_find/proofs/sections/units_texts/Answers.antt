@@ -8,13 +8,18 @@ use Rattle.dw_find.specs.EntryTexts.{Found, no_paths, none_found}
 use Rattle.dw_find.specs.UnitPaths.{UnitPaths}
 use Rattle.dw_find.specs.UnitTexts.{SectionIndexed}
 use Rattle.dw_find.proofs.SectionTextLaws.{section-starts, section-ends}
-use Rattle.dw_find.proofs.UnitRowLaws.{units-there, units-more}
+use Rattle.dw_find.proofs.UnitRowLaws.{units-tables, units-there, units-more}
 use Rattle.dw_find.proofs.sections.units_texts.Goals as goal
 
 pub one_unit-requires-clause-unit : goal.one_unit-requires-clause-unit
 one_unit-requires-clause-unit c =
     units-there c.args.view.now c.args.section c.args.units.now c.loop-unit.unit-index c.loop-unit.found c.args.slots.now c.loop-unit.slots _ c.requires.there (omega arith)
     (get_or_default c.args.units.now c.loop-unit.unit-index _ _ (omega arith)) c.loop-unit.invariant.passed
+
+pub one_unit-requires-clause-texts : goal.one_unit-requires-clause-texts
+one_unit-requires-clause-texts c =
+    units-tables c.args.view.now c.args.section c.args.units.now c.loop-unit.unit-index c.loop-unit.found c.args.slots.now c.loop-unit.slots _ c.args.tables.now _ c.requires.there (omega arith)
+    (get_or_default c.args.units.now c.loop-unit.unit-index _ _ (omega arith)) c.loop-unit.invariant.passed c.requires.tables c.new-texts.ensures
 
 pub loop-unit-preserved : goal.loop-unit-preserved
 loop-unit-preserved c = record {

@@ -5,5 +5,5 @@ use Rattle.dw_find.proofs.texts.entry_texts.Given as goal
 abbrev pub invariant-loop-spec : goal.invariant-loop-spec
 invariant-loop-spec l = record {
   within : l.place ≤ length l.bytes;
-  passed : ValuesPassed l.tables l.unit.params l.bytes l.number l.tag l.specs l.from l.spec-index l.place l.fn.found l.found;
+  passed : ValuesPassed l.texts l.unit.params l.bytes l.number l.tag l.specs l.from l.spec-index l.place l.fn.found l.found;
 }

@@ -7,26 +7,26 @@ use Rattle.dw_find.proofs.units.scan_texts.Goals as goal
 pub returns-in_err-entry-clause-refused : goal.returns-in_err-entry-clause-refused
 returns-in_err-entry-clause-refused c =
     let p = err_from_is_err_and c.from_residual.result c.from_residual.ensures.1 in
-    rw (p.1, p.2) (pass-fails c.args.tables.now c.args.unit.now c.args.table.now c.args.bytes.now c.args.found.now c.loop-entry.found c.loop-entry.entry-iterator c.next.new.self
+    rw (p.1, p.2) (pass-fails c.args.texts.now c.args.unit.now c.args.table.now c.args.bytes.now c.args.found.now c.loop-entry.found c.loop-entry.entry-iterator c.next.new.self
     c.loop-entry.number c.in_err-entry.field-0.0 c.loop-entry.invariant
     (gave-refusal c.loop-entry.entry-iterator c.next.new.self c.in-Some.entry c.in_err-entry.field-0.0 c.in-Some.ensures.steps c.in_err-entry.was))
 
 pub scanned_texts-requires-clause-given : goal.scanned_texts-requires-clause-given
 scanned_texts-requires-clause-given c =
-    pass-given c.args.tables.now c.args.unit.now c.args.table.now c.args.bytes.now c.args.found.now c.loop-entry.found c.loop-entry.entry-iterator c.next.new.self
+    pass-given c.args.texts.now c.args.unit.now c.args.table.now c.args.bytes.now c.args.found.now c.loop-entry.found c.loop-entry.entry-iterator c.next.new.self
     c.loop-entry.number c.in_ok-entry.entry c.loop-entry.invariant
     (gave-entry c.loop-entry.entry-iterator c.next.new.self c.in-Some.entry c.in_ok-entry.entry c.in-Some.ensures.steps c.in_ok-entry.was)
 
 pub returns-in_err-scanned_texts-clause-refused : goal.returns-in_err-scanned_texts-clause-refused
 returns-in_err-scanned_texts-clause-refused c =
     let p = err_from_is_err_and c.from_residual-in_err-scanned_texts.result c.from_residual-in_err-scanned_texts.ensures.1 in
-    rw (p.1, p.2) (pass-refused c.args.tables.now c.args.unit.now c.args.table.now c.args.bytes.now c.args.found.now c.loop-entry.found c.loop-entry.entry-iterator c.next.new.self
+    rw (p.1, p.2) (pass-refused c.args.texts.now c.args.unit.now c.args.table.now c.args.bytes.now c.args.found.now c.loop-entry.found c.loop-entry.entry-iterator c.next.new.self
     c.loop-entry.number c.in_ok-entry.entry c.in_err-scanned_texts.field-0.0 c.loop-entry.invariant
     (gave-entry c.loop-entry.entry-iterator c.next.new.self c.in-Some.entry c.in_ok-entry.entry c.in-Some.ensures.steps c.in_ok-entry.was) c.in_err-scanned_texts.ensures.refused)
 
 pub overflow_add-number : goal.overflow_add-number
 overflow_add-number c =
-    let few = pass-few c.args.tables.now c.args.unit.now c.args.table.now c.args.bytes.now c.args.found.now c.loop-entry.found c.loop-entry.entry-iterator c.loop-entry.number
+    let few = pass-few c.args.texts.now c.args.unit.now c.args.table.now c.args.bytes.now c.args.found.now c.loop-entry.found c.loop-entry.entry-iterator c.loop-entry.number
     c.loop-entry.invariant c.requires.inside in
     let small = c.requires.small in
     omega (arith, few, small)

@@ -1,5 +1,4 @@
 -- The first event, and those behind it.
-use Rattle.std.proofs.Common.{sym, ◌∙◌}
 use Rattle.dw_macros.proofs.EventLaws.{next-event, next-none}
 use Rattle.dw_macros.proofs.events.next_event.Goals as goal
 

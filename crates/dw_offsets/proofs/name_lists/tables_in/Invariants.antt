@@ -1,12 +1,12 @@
 use Rattle.std.proofs.Common.{◌-◌, ◌≤◌, length}
 use Rattle.dw_base.specs.FileViews.{section_bytes}
-use Rattle.dw_base.specs.NameTables.{TablesUpTo}
+use Rattle.dw_offsets.specs.NameOffsets.{ReadUpTo}
 use Rattle.dw_offsets.proofs.name_lists.tables_in.Given as goal
 
 -- the tables so far stand from the section's start up to this place
 abbrev pub invariant-tables : goal.invariant-tables
 invariant-tables l = record {
-  read : TablesUpTo l.view l.section (section_bytes l.view l.section) l.list.items l.start;
+  read : ReadUpTo l.view l.section (section_bytes l.view l.section) l.list.items l.start;
   within : l.start ≤ length (section_bytes l.view l.section);
 }
 

@@ -8,7 +8,7 @@ use Rattle.dw_base.specs.WrittenLines.{new_place, written_table, written_program
 use Rattle.dw_base.specs.declared.fault.Fault.TheVariants.{Refused}
 use Rattle.dw_lines.specs.ViewSources.{view_source}
 use Rattle.dw_lines.proofs.CanLaws.{can-write}
-use Rattle.dw_lines.proofs.WrittenLaws.{table-here, same-table, lists-are, front-is, table-is, program-is, wide-fails, offset-fails, own-fails, write-excludes}
+use Rattle.dw_lines.proofs.WrittenLaws.{table-here, same-table, lists-are, front-is, table-is, program-is, wide-fails, offset-fails, own-fails, paths-room, write-excludes}
 use Rattle.dw_lines.proofs.table.LineTable.write_mapped.Goals as goal
 
 pub returns-in-Err-check_offsets-clause-refused : goal.returns-in-Err-check_offsets-clause-refused
@@ -23,6 +23,17 @@ returns-in-Err-check_offsets-clause-refused c =
     own-fails c.args.view.now c.args.maps.now (new_place (view_source c.args.view.now c.args.self.now.section) (λ o. get nat_eq c.args.str.now o) (λ o. get nat_eq c.args.line_str.now o)) c.self.inside.section c.args.self.now (Refused c.in-Err-check_offsets.refusal) section
     (offset-fails (view_source c.args.view.now c.self.inside.section) c.args.maps.now (new_place (view_source c.args.view.now c.args.self.now.section) (λ o. get nat_eq c.args.str.now o) (λ o. get nat_eq c.args.line_str.now o)) c.header_of-header.result c.deref-2.result.now c.deref-4.result.now c.deref-3.result.now
     c.args.self.now.defined c.args.self.now c.in-Err-check_offsets.refusal same paths c.in-Err-check_offsets.ensures.refused)
+
+pub written_header-requires-clause-rooms : goal.written_header-requires-clause-rooms
+written_header-requires-clause-rooms c =
+    let section = ap (λ (t : LineTable). t.section) c.self.view_is in
+    let start = ap (λ (t : LineTable). t.start) c.self.view_is in
+    let here = table-here c.args.view.now c.self.inside.section c.self.inside.start c.args.self.now c.requires.table section start in
+    let same = same-table (view_source c.args.view.now c.self.inside.section) c.self.inside.start c.args.self.now c.header_of-header.result c.deref-2.result.now c.deref-3.result.now here
+    (c.deref-2.ensures.value ∙ ap (λ (t : LineTable). t.dirs) c.self.view_is) (c.deref-3.ensures.value ∙ ap (λ (t : LineTable). t.files) c.self.view_is)
+    c.header_of-header.ensures.header in
+    paths-room (view_source c.args.view.now c.self.inside.section) c.self.inside.start c.args.self.now c.header_of-header.result c.deref-2.result.now c.deref-5.result.now c.deref-3.result.now
+    here same (c.deref-5.ensures.value ∙ c.in_ok-paths.ensures.paths)
 
 pub returns-in-Ok-clause-bytes : goal.returns-in-Ok-clause-bytes
 returns-in-Ok-clause-bytes c =

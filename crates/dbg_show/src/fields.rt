@@ -1,0 +1,199 @@
+//! What fields of a view read as: those of values, and the offsets that they say.
+//!
+//! Read first: `specs/ShownUnits.antt`.
+
+ghost use Rattle.std.specs.Prelude.{◌≡◌, ◌+◌, ◌<◌, ◌≤◌, length, nat_le, true};
+ghost use Rattle.dw_base.specs.Cells.{Located as LocatedOf, offset_into};
+ghost use Rattle.dw_base.specs.FileViews.{address_at, field_at, section_bytes};
+ghost use Rattle.dw_base.specs.ViewData.{located};
+ghost use Rattle.dw_find.specs.TextPlaces.{is_start_form, own_form};
+ghost use Rattle.dbg_show.specs.ShownUnits.{address_field, has_field, is_leb_form, number_field};
+ghost use Rattle.dbg_show.specs.UnitReads.{BytesFit};
+
+use dw_base::dwarf_numbers::{
+    DW_FORM_addrx, DW_FORM_data4, DW_FORM_data8, DW_FORM_indirect, DW_FORM_loclistx,
+    DW_FORM_ref_udata, DW_FORM_rnglistx, DW_FORM_sec_offset, DW_FORM_strx, DW_FORM_udata,
+};
+use dw_base::{DebugSection, Field, Spec, Value, uleb_at};
+use dw_view::View;
+use std::marker::Model;
+
+/// A section: its number and its bytes; 0 and none where there is no such section.
+#[derive(Drop)]
+pub(crate) struct SectionBytes<'v> {
+    pub number: u32,
+    pub bytes: &'v [u8],
+}
+
+impl<'v> Model for SectionBytes<'v> {
+    ghost Value = { LocatedOf };
+
+    ghost view = { λ z. record { number = z.number; bytes = z.bytes.now } };
+}
+
+/// The section of a name.
+#[tactic(auto, unfolding(dw_base::specs::ViewData::located))]
+pub(crate) fn located<'v>(view: &'v View, name: DebugSection) -> SectionBytes<'v>
+    ensures section { result ≡ located view.now name }
+{
+    match view.first(name) {
+        Some(number) => SectionBytes {
+            number,
+            bytes: view.bytes(number),
+        },
+        None => SectionBytes {
+            number: 0,
+            bytes: &[],
+        },
+    }
+}
+
+/// The offset that a field says into a section: one into another section counts as past it.
+fn offset_of(section: &SectionBytes, field: Field) -> u64
+    ensures offset { result ≡ offset_into section.now field }
+{
+    match field {
+        Field::Num(offset) => offset,
+        Field::Into {
+            section: number,
+            offset,
+        } => {
+            if number == section.number {
+                return offset;
+            }
+            section.bytes.len() as u64
+        }
+        Field::Sym { .. } => section.bytes.len() as u64,
+    }
+}
+
+/// The offset that a field says into the section of a name.
+pub(crate) fn offset_into(view: &View, name: DebugSection, field: Field) -> u64
+    ensures offset { result ≡ offset_into (located view.now name) field }
+{
+    let section = located(view, name);
+    offset_of(&section, field)
+}
+
+/// What a number reads as, by the relocation that begins at it.
+pub(crate) fn field_at(view: &View, section: u32, at: u64, size: u8) -> Field
+    requires there { section < length view.now.sections }
+    requires some { 0 < size }
+    requires wide { size ≤ 8 }
+    requires inside { at + size ≤ length (section_bytes view.now section) }
+    ensures field { result ≡ field_at view.now section at size }
+{
+    match view.field(section, at, size) {
+        Ok(field) => field,
+        Err(_) => unreachable!(),
+    }
+}
+
+/// So many bytes at a place are there.
+#[tactic(auto, using(crate::proofs::FieldPlaceLaws::room_laws))]
+pub(crate) fn has_room(bytes: &[u8], at: u64, size: u64) -> bool
+    ensures room { result ≡ nat_le (at + size) (length bytes.now) }
+{
+    let len = bytes.len() as u64;
+    if at > len {
+        return false;
+    }
+    size <= len - at
+}
+
+/// A value has 1 to 8 bytes, which stand in these.
+#[tactic(auto, using(crate::proofs::FieldPlaceLaws::has_laws))]
+fn has_field(bytes: &[u8], value: &Value) -> bool
+    ensures field { result ≡ has_field bytes.now value.now }
+{
+    if value.len == 0 {
+        return false;
+    }
+    if value.len > 8 {
+        return false;
+    }
+    has_room(bytes, value.at, value.len)
+}
+
+/// A form of numbers in LEB128 (DWARF 5, 7.5.6).
+fn is_leb_form(form: u64) -> bool
+    ensures { result ≡ is_leb_form form }
+{
+    form == DW_FORM_udata
+        || form == DW_FORM_ref_udata
+        || form == DW_FORM_strx
+        || form == DW_FORM_addrx
+        || form == DW_FORM_loclistx
+        || form == DW_FORM_rnglistx
+}
+
+/// A form that can say where a line table starts (DWARF 5, 3.1.1); before version 4 it is a number of 4 or 8 bytes.
+pub(crate) fn is_start_form(form: u64) -> bool
+    ensures { result ≡ is_start_form form }
+{
+    form == DW_FORM_sec_offset || form == DW_FORM_data4 || form == DW_FORM_data8
+}
+
+/// The form of a value at a place: its attribute's, or the one in front of it (DWARF 5, 7.5.3).
+pub(crate) fn own_form(spec: &Spec, bytes: &[u8], place: u64) -> u64
+    ensures { result ≡ own_form spec.now bytes.now place }
+{
+    if spec.form != DW_FORM_indirect {
+        return spec.form;
+    }
+    match uleb_at(bytes, place) {
+        Some((form, _)) => form,
+        None => 0,
+    }
+}
+
+/// What the field of a value reads as, which has one in these bytes.
+#[tactic(auto, using(crate::proofs::FieldPlaceLaws::place_laws))]
+fn field_of(view: &View, section: u32, bytes: &[u8], value: &Value) -> Field
+    requires fits { BytesFit view.now section bytes.now }
+    requires field { has_field bytes.now value.now ≡ true }
+    ensures field { result ≡ field_at view.now section value.now.at value.now.len }
+{
+    field_at(view, section, value.at, value.len as u8)
+}
+
+/// What its address reads as.
+#[tactic(auto, using(crate::proofs::FieldPlaceLaws::place_laws))]
+fn address_of(view: &View, section: u32, bytes: &[u8], value: &Value) -> Field
+    requires fits { BytesFit view.now section bytes.now }
+    requires field { has_field bytes.now value.now ≡ true }
+    ensures address { result ≡ address_at view.now section value.now.at value.now.len }
+{
+    view.address(section, value.at, value.len as u8)
+}
+
+/// What the number of a value of a form reads as: its field, but a number in LEB128 and a flag without bytes are no fields.
+pub(crate) fn number_field(
+    view: &View,
+    section: u32,
+    bytes: &[u8],
+    form: u64,
+    value: &Value,
+) -> Field
+    requires fits { BytesFit view.now section bytes.now }
+    ensures field { result ≡ number_field view.now section bytes.now form value.now }
+{
+    if is_leb_form(form) {
+        return Field::Num(value.number);
+    }
+    if !has_field(bytes, value) {
+        return Field::Num(value.number);
+    }
+    field_of(view, section, bytes, value)
+}
+
+/// What the address of a value reads as.
+pub(crate) fn address_field(view: &View, section: u32, bytes: &[u8], value: &Value) -> Field
+    requires fits { BytesFit view.now section bytes.now }
+    ensures field { result ≡ address_field view.now section bytes.now value.now }
+{
+    if !has_field(bytes, value) {
+        return Field::Num(value.number);
+    }
+    address_of(view, section, bytes, value)
+}
