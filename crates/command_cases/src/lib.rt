@@ -36,6 +36,8 @@ mod shown_file;
 #[cfg(test)]
 mod shown_macros;
 #[cfg(test)]
+mod shown_objects;
+#[cfg(test)]
 mod shown_units;
 #[cfg(test)]
 mod shows;

@@ -9,7 +9,7 @@ use std::test::Fail;
 
 /// A file that has one byte changed, the place and the byte; the words; the status and the line. The byte of `in` is changed before
 /// that file is split into `a` and `a.debug`.
-const PAIR_ENDS: [(&str, usize, u8, &str, u8, &str); 12] = [
+const PAIR_ENDS: [(&str, usize, u8, &str, u8, &str); 11] = [
     ("in", 0, 0x7f, "show in same", 12, "not a pair: no link\n"),
     ("in", 0, 0x7f, "show a b.debug", 12, "not a pair: name\n"),
     // Zeros stand there, in front of the section headers.
@@ -41,15 +41,6 @@ const PAIR_ENDS: [(&str, usize, u8, &str, u8, &str); 12] = [
         "refused: a: file type section 0 offset 16\n",
     ),
     ("a", 16, 4, "show a b.debug", 12, "not a pair: name\n"),
-    // A relocatable file isn't shown yet.
-    (
-        "a",
-        16,
-        1,
-        "show a a.debug",
-        3,
-        "refused: a: unbuilt section 0 offset 0\n",
-    ),
     // The debug data of a pair are told by the debug file.
     (
         "in",
@@ -111,10 +102,13 @@ fn tree_with_pair(alloc: Global, file: &str, place: usize, value: u8) -> Result<
 #[test]
 fn the_two_files_of_a_split_are_shown_as_the_file(rt: HostRuntime) -> Result<(), Fail> {
     let alloc = rt.alloc();
-    let mut tree = tree_with_pair(alloc, "in", 0, 0x7f)?;
-    let ran = run(alloc, "show ./a a.debug", &mut tree)?;
-    assert_ran(&rt, &ran, 0, SHOWN_LINES, "");
-    assert_eq!(rt; tree.nodes().len(), 5);
+    // The stripped file as it is, and as a relocatable file.
+    for (place, value) in [(0, 0x7f), (16, 1)] {
+        let mut tree = tree_with_pair(alloc, "a", place, value)?;
+        let ran = run(alloc, "show ./a a.debug", &mut tree)?;
+        assert_ran(&rt, &ran, 0, SHOWN_LINES, "");
+        assert_eq!(rt; tree.nodes().len(), 5);
+    }
     Ok(())
 }
 

@@ -1,12 +1,20 @@
-//! Small executable files of a few sections.
+//! Small executable and relocatable files of a few sections.
 
-use dw_base::elf_numbers::{SHT_NULL, SHT_PROGBITS, SHT_STRTAB};
+use dw_base::elf_numbers::{ET_REL, SHT_NULL, SHT_PROGBITS, SHT_STRTAB};
 use dw_base::{Order, put_number};
 use std::alloc::{AllocError, Global};
 use std::process::Abort;
 
 /// A section: its name and its bytes.
 pub type Named<'a> = (&'a [u8], &'a [u8]);
+
+/// A section: its name, its type, the sections that its link and its info name, and its bytes.
+pub type Part<'a> = (&'a [u8], u32, u32, u32, &'a [u8]);
+
+/// Where the file header has its type and its machine (gABI ch. 4 "ELF Header").
+const TYPE_FIELD: u64 = 16;
+
+const MACHINE_FIELD: u64 = 18;
 
 /// Where the file header of 64 bits has the place of the section headers, their number and the number of
 /// the section name table (gABI ch. 4 "ELF Header").
@@ -59,14 +67,14 @@ struct Parts {
     headers: Vec<u8>,
 }
 
-/// Appends the header of a section that begins at the end of the file, and its name.
+/// Appends the header of a section of so many bytes that begins at the end of the file, and its name.
 fn push_header(
     rt: &impl Abort,
     parts: &mut Parts,
-    kind: u32,
-    name: &[u8],
+    section: Part,
     size: u64,
 ) -> Result<(), AllocError> {
+    let (name, kind, link, info, _) = section;
     let numbers = [
         (4, parts.names.len() as u64),
         (4, u64::from(kind)),
@@ -74,13 +82,22 @@ fn push_header(
         (8, 0),
         (8, parts.file.len() as u64),
         (8, size),
-        (8, 0),
+        (4, u64::from(link)),
+        (4, u64::from(info)),
         (8, 1),
         (8, 0),
     ];
     push_numbers(rt, parts.order, &mut parts.headers, &numbers)?;
     parts.names.extend_from_slice(name)?;
     parts.names.push(0)?;
+    Ok(())
+}
+
+/// Appends a section.
+fn push_section(rt: &impl Abort, parts: &mut Parts, section: Part) -> Result<(), AllocError> {
+    let (_, _, _, _, bytes) = section;
+    push_header(rt, parts, section, bytes.len() as u64)?;
+    parts.file.extend_from_slice(bytes)?;
     Ok(())
 }
 
@@ -97,6 +114,34 @@ fn file_header(rt: &impl Abort, alloc: Global, order: Order) -> Result<Vec<u8>, 
     Ok(file)
 }
 
+/// A file without sections but number 0.
+fn begun(rt: &impl Abort, alloc: Global, order: Order) -> Result<Parts, AllocError> {
+    let mut parts = Parts {
+        order,
+        file: file_header(rt, alloc, order)?,
+        names: Vec::new(alloc),
+        headers: Vec::new(alloc),
+    };
+    push_header(rt, &mut parts, (b"", SHT_NULL, 0, 0, b""), 0)?;
+    Ok(parts)
+}
+
+/// The file, with a section name table behind its sections, which are so many with number 0.
+fn ended(rt: &impl Abort, mut parts: Parts, names: u64) -> Result<Vec<u8>, AllocError> {
+    assert!(rt; names < 0xff00);
+    let size = parts.names.len() as u64 + 10;
+    let section: Part = (b".shstrtab", SHT_STRTAB, 0, 0, b"");
+    push_header(rt, &mut parts, section, size)?;
+    parts.file.extend_from_slice(&parts.names)?;
+    let place = parts.file.len() as u64;
+    parts.file.extend_from_slice(&parts.headers)?;
+    let file = &mut parts.file;
+    assert!(rt; put_number(parts.order, file, HEADERS_FIELD, 8, place));
+    assert!(rt; put_number(parts.order, file, COUNT_FIELD, 2, names + 1));
+    assert!(rt; put_number(parts.order, file, NAMES_FIELD, 2, names));
+    Ok(parts.file)
+}
+
 /// The file of these sections, from number 1 on, with a section name table behind them.
 pub fn file_of(
     rt: &impl Abort,
@@ -104,26 +149,27 @@ pub fn file_of(
     order: Order,
     sections: &[Named],
 ) -> Result<Vec<u8>, AllocError> {
-    let mut parts = Parts {
-        order,
-        file: file_header(rt, alloc, order)?,
-        names: Vec::new(alloc),
-        headers: Vec::new(alloc),
-    };
-    push_header(rt, &mut parts, SHT_NULL, b"", 0)?;
-    for (name, bytes) in sections {
-        push_header(rt, &mut parts, SHT_PROGBITS, name, bytes.len() as u64)?;
-        parts.file.extend_from_slice(bytes)?;
+    let mut parts = begun(rt, alloc, order)?;
+    for &(name, bytes) in sections {
+        push_section(rt, &mut parts, (name, SHT_PROGBITS, 0, 0, bytes))?;
     }
-    let size = parts.names.len() as u64 + 10;
-    push_header(rt, &mut parts, SHT_STRTAB, b".shstrtab", size)?;
-    parts.file.extend_from_slice(&parts.names)?;
-    let place = parts.file.len() as u64;
-    parts.file.extend_from_slice(&parts.headers)?;
-    let count = sections.len() as u64 + 2;
-    let file = &mut parts.file;
-    assert!(rt; put_number(order, file, HEADERS_FIELD, 8, place));
-    assert!(rt; put_number(order, file, COUNT_FIELD, 2, count));
-    assert!(rt; put_number(order, file, NAMES_FIELD, 2, count - 1));
-    Ok(parts.file)
+    ended(rt, parts, sections.len() as u64 + 1)
+}
+
+/// The relocatable file of a machine with these sections, from number 1 on, with a section name table behind them.
+pub fn object_of(
+    rt: &impl Abort,
+    alloc: Global,
+    order: Order,
+    machine: u64,
+    sections: &[Part],
+) -> Result<Vec<u8>, AllocError> {
+    let mut parts = begun(rt, alloc, order)?;
+    for &section in sections {
+        push_section(rt, &mut parts, section)?;
+    }
+    let mut file = ended(rt, parts, sections.len() as u64 + 1)?;
+    assert!(rt; put_number(order, &mut file, TYPE_FIELD, 2, u64::from(ET_REL)));
+    assert!(rt; put_number(order, &mut file, MACHINE_FIELD, 2, machine));
+    Ok(file)
 }

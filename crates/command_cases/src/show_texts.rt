@@ -1,8 +1,9 @@
 //! What is shown of files with units, line tables and macro units, and which files aren't shown.
 
-use crate::show_files::{Named, file_of};
+use crate::show_files::{Named, file_of, object_of};
 use crate::show_samples::{BOTH, BOTH_TEXT, SHOWN, UNITS};
 use crate::shown_macros::MACROS_SHOWN;
+use crate::shown_objects::{OBJECTS_REFUSED, OBJECTS_SHOWN, WITH_ADDENDS};
 use crate::shown_units::UNITS_SHOWN;
 use dbg_show::{ShowErr, show};
 use dw_base::{Fault, Kind, OUTPUT_LIMIT, Order, Refusal};
@@ -26,6 +27,21 @@ fn shown(
     let elf = ElfFile::read(alloc, &file)?;
     let view = View::one(&elf)?;
     Ok(show(alloc, &view, out))
+}
+
+/// What is shown of a relocatable file with these bytes.
+fn object_shown(
+    rt: &impl Abort,
+    alloc: Global,
+    file: &[u8],
+    out: &mut MemSink,
+) -> Result<Result<(), ShowErr>, Fail> {
+    assert!(rt; file.len() as u64 <= OUTPUT_LIMIT);
+    let elf = ElfFile::read(alloc, file)?;
+    match View::one(&elf) {
+        Ok(view) => Ok(show(alloc, &view, out)),
+        Err(fault) => Ok(Err(ShowErr::Fault(fault))),
+    }
 }
 
 #[test]
@@ -58,6 +74,36 @@ fn each_macro_unit_is_shown_with_its_events(rt: HostRuntime) -> Result<(), Fail>
         let result = shown(&rt, rt.alloc(), order, sections, &mut out)?;
         assert_eq!(rt; result, Ok(()));
         assert_eq!(rt; out.bytes(), text.as_bytes());
+    }
+    Ok(())
+}
+
+#[test]
+fn each_object_is_shown_with_the_symbols_of_its_addresses(rt: HostRuntime) -> Result<(), Fail> {
+    for (order, machine, sections, text) in OBJECTS_SHOWN {
+        let mut out = MemSink::new(rt.alloc(), 0x1000, None)?;
+        let file = object_of(&rt, rt.alloc(), order, machine, sections)?;
+        let result = object_shown(&rt, rt.alloc(), &file, &mut out)?;
+        assert_eq!(rt; result, Ok(()));
+        assert_eq!(rt; out.bytes(), text.as_bytes());
+    }
+    Ok(())
+}
+
+#[test]
+fn nothing_is_shown_of_an_object_with_a_relocation_that_isn_t_handled(
+    rt: HostRuntime,
+) -> Result<(), Fail> {
+    for (place, value, section, at) in OBJECTS_REFUSED {
+        let mut out = MemSink::new(rt.alloc(), 0x1000, None)?;
+        let mut file = object_of(&rt, rt.alloc(), Order::Little, 62, WITH_ADDENDS)?;
+        if let Some(byte) = file.get_mut(place) {
+            *byte = value;
+        }
+        let result = object_shown(&rt, rt.alloc(), &file, &mut out)?;
+        let refusal = Refusal::at(Kind::Relocation, section, at);
+        assert_eq!(rt; result, Err(ShowErr::Fault(Fault::Refused(refusal))));
+        assert_eq!(rt; out.bytes().len(), 0);
     }
     Ok(())
 }

@@ -37,10 +37,17 @@ pub(crate) fn assert_ran(rt: &impl Abort, ran: &Ran, status: u8, output: &str, l
 #[test]
 fn the_text_of_a_file_is_shown(rt: HostRuntime) -> Result<(), Fail> {
     let alloc = rt.alloc();
-    let mut tree = tree_with_lines(alloc)?;
-    let ran = run(alloc, "show ./in", &mut tree)?;
-    assert_ran(&rt, &ran, 0, SHOWN_LINES, "");
-    assert_eq!(rt; tree.nodes().len(), 1);
+    // An executable file, and a relocatable one.
+    for kind in [2, 1] {
+        let mut bytes = file_with_lines(alloc)?;
+        if let Some(byte) = bytes.get_mut(16) {
+            *byte = kind;
+        }
+        let mut tree = tree_with(alloc, "in", file_of(bytes))?;
+        let ran = run(alloc, "show ./in", &mut tree)?;
+        assert_ran(&rt, &ran, 0, SHOWN_LINES, "");
+        assert_eq!(rt; tree.nodes().len(), 1);
+    }
     Ok(())
 }
 
@@ -73,21 +80,6 @@ fn a_file_that_isn_t_shown_is_told(rt: HostRuntime) -> Result<(), Fail> {
     let mut tree = tree_with_lines(alloc)?;
     let ran = run(alloc, "show out", &mut tree)?;
     assert_ran(&rt, &ran, 4, "", "absent: out\n");
-
-    // A relocatable file isn't shown yet.
-    let mut bytes = built_file(alloc)?;
-    if let Some(byte) = bytes.get_mut(16) {
-        *byte = 1;
-    }
-    let mut tree = tree_with(alloc, "in", file_of(bytes))?;
-    let ran = run(alloc, "show in", &mut tree)?;
-    assert_ran(
-        &rt,
-        &ran,
-        3,
-        "",
-        "refused: in: unbuilt section 0 offset 0\n",
-    );
     Ok(())
 }
 

@@ -1,6 +1,7 @@
 -- The sources of a file that is taken can be read.
 use Rattle.std.proofs.Common.{◌≡◌, ℕ, List, refl, ap, ◌∙◌, subst}
-use Rattle.dw_base.specs.DebugSectionFails.{DebugSectionsFail}
+use Rattle.dw_base.specs.Elf.{contents_of}
+use Rattle.dw_base.specs.ViewFails.{ViewFails}
 use Rattle.dw_base.specs.ElfFails.{ElfFails}
 use Rattle.dw_base.specs.FileViews.{View, view_of}
 use Rattle.dw_base.specs.Paths.{PathMap}
@@ -8,7 +9,8 @@ use Rattle.dw_base.specs.Refusals.{Blames}
 use Rattle.dw_base.specs.ViewData.{debug_data}
 use Rattle.dw_base.specs.declared.fault.Fault.{Fault}
 use Rattle.dw_base.specs.declared.fault.Fault.TheVariants.{NoMemory, Refused}
-use Rattle.dw_base.proofs.DebugSectionFailsLaws.{debug_sections_exclude}
+use Rattle.dw_base.proofs.RelocationSectionLaws.{relocations_read-loaded}
+use Rattle.dw_base.proofs.ViewFailsLaws.{view_excludes}
 use Rattle.dw_base.proofs.ElfLaws.{elf_excludes}
 use Rattle.dw_meaning.specs.EditRows.{IsAccepted}
 use Rattle.dw_meaning.specs.FileMeanings.{file_data}
@@ -21,9 +23,11 @@ pub elf_wants : (m : PathMap) (b : List ℕ) (f : Fault) → IsAccepted m b → 
 elf_wants m b NoMemory a blames = refl
 elf_wants m b (Refused r) a blames = absurd (elf_excludes b r a.reads.elf blames)
 
-pub sections_want : (m : PathMap) (b c : List ℕ) (f : Fault) → IsAccepted m b → c ≡ b → Blames (DebugSectionsFail c) f → f ≡ NoMemory
+pub sections_want : (m : PathMap) (b c : List ℕ) (f : Fault) → IsAccepted m b → c ≡ b → Blames (ViewFails c) f → f ≡ NoMemory
 sections_want m b c NoMemory a same blames = refl
-sections_want m b c (Refused r) a same blames = absurd (debug_sections_exclude b r a.reads.names (subst (λ (x : List ℕ). DebugSectionsFail x r) same blames))
+sections_want m b c (Refused r) a same blames =
+    absurd (view_excludes b r (record { sections = a.reads.names; relocations = relocations_read-loaded (contents_of b) b a.reads.kind })
+    (subst (λ (x : List ℕ). ViewFails x r) same blames))
 
 pub sources_want : (m : PathMap) (b c : List ℕ) (v : View) (f : Fault) → IsAccepted m b → c ≡ b → v ≡ view_of c → IsWant (debug_data v) f → f ≡ NoMemory
 sources_want m b c v f a same is want =

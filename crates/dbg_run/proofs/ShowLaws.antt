@@ -2,23 +2,23 @@
 use Rattle.std.proofs.Common.{◌≡◌, ◌≢◌, ℕ, ◌==◌, true, false, List, Option, Some, None, refl, sym, ap, ◌∙◌, subst, arith, ◌⊎◌, inl, inr}
 use Rattle.std.specs.Option.{ForSome}
 use Rattle.std.proofs.lemmas.Bool.{true≢false}
-use Rattle.dw_base.specs.DebugData.{DebugData}
-use Rattle.dw_base.specs.Elf.{e_type}
+use Rattle.dw_base.specs.DebugData.{DebugData, DataReadings}
 use Rattle.dw_base.specs.ElfFails.{DebugFails, ElfFails, ElfReads}
 use Rattle.dw_base.specs.FileViews.{View, view_of}
-use Rattle.dw_base.specs.Layout.{is_loaded_kind}
+use Rattle.dw_base.specs.RelocationRows.{moving_sections}
 use Rattle.dw_base.specs.ViewData.{debug_data}
-use Rattle.dw_base.specs.declared.elf_numbers.TheConstants.{ET_REL}
 use Rattle.dw_base.specs.declared.fault.Fault.{Fault}
 use Rattle.dw_base.specs.declared.fault.Fault.TheVariants.{NoMemory, Refused}
 use Rattle.dw_base.specs.declared.fault.Refusal.{Refusal}
-use Rattle.dw_base.proofs.DebugSectionFailsLaws.{debug_sections_exclude}
+use Rattle.dw_base.proofs.ViewFailsLaws.{view_excludes}
 use Rattle.dw_base.proofs.ElfLaws.{debug_excludes, elf_excludes}
+use Rattle.dw_meaning.specs.DataOutput.{DataReads}
+use Rattle.dw_meaning.specs.RelocationFails.{RelocationsReadIn}
 use Rattle.dw_view.specs.PairViews.{pair_view}
 use Rattle.dw_view.specs.Pairs.{IsPaired, Mismatches}
 use Rattle.dw_view.specs.declared.mismatch.Mismatch.{Mismatch}
 use Rattle.dw_view.specs.declared.mismatch.Mismatch.TheVariants.{NoLink, Name, Sum}
-use Rattle.dbg_show.specs.Shows.{IsShown, ShowReads, view_text}
+use Rattle.dbg_show.specs.Shows.{IsShown, data_text}
 use Rattle.dbg_show.specs.Shows.{ShowEnds as WritingEnds}
 use Rattle.dbg_show.specs.declared.show_err.ShowErr.{ShowErr}
 use Rattle.dbg_show.specs.declared.show_err.ShowErr.TheVariants as err
@@ -40,8 +40,8 @@ use Rattle.dbg_ends.specs.Steps.{BlamesAt, FaultEnds, InputEnds}
 use Rattle.dbg_ends.specs.Steps.{BlamesAt as blames, FaultEnds as fault_ends, InputEnds as inputs}
 use Rattle.dbg_ends.proofs.StepLaws.{blames_at}
 use Rattle.dbg_run.proofs.EditLaws.{input_completes, same_bytes}
-use Rattle.dbg_run.specs.Shows.{AreRead, ErrEnds, HasBegun, IsSeen, IsShowable, IsTaken, ReadingEnds, ShowDone, ShowDue, ShowEnds, ShowFails, ShowUnopposed, Subject, SubjectDue, TakingFails, TextBegins, TextEnds, TextShown, Unseen, ViewEnds, base_name, of_file, of_pair, subject_data, subject_view, viewed_path}
-use Rattle.dbg_run.specs.Shows.{AreRead as reads, ErrEnds as errs, HasBegun as begun, ReadingEnds as readings, ShowEnds as shows, ShowFails as fails, TakingFails as taking, TextEnds as ends, Unseen as unseen}
+use Rattle.dbg_run.specs.Shows.{AreRead, ErrEnds, HasBegun, IsSeen, IsShowable, ReadingEnds, ShowDone, ShowDue, ShowEnds, ShowFails, ShowUnopposed, Subject, SubjectDue, TextBegins, TextEnds, TextShown, Unseen, ViewEnds, base_name, of_file, of_pair, subject_view, viewed_path}
+use Rattle.dbg_run.specs.Shows.{AreRead as reads, ErrEnds as errs, HasBegun as begun, ReadingEnds as readings, ShowEnds as shows, ShowFails as fails, TextEnds as ends, Unseen as unseen}
 
 pub ruleset elf_laws = (blames_at)
 
@@ -78,12 +78,19 @@ unseen_ends : (q : Subject) (heard said : Heard) (e : End) → said ≡ heard �
 unseen_ends q heard said e same (unseen.fails row) = ends.refused row same
 unseen_ends q heard said e same unseen.memory = ends.unread same
 
--- what is shown of a view is said by its debug data alone: two views with the same are shown alike
-pub shows_alike : (v w : View) (heard said : Heard) → debug_data v ≡ debug_data w → IsShown v heard said → IsShown w heard said
-shows_alike v w heard said same shown =
-    let P : DebugData → Type 0 = λ d. (r : ShowReads d) × (said.bytes ≡ grown heard.bytes (view_text d r)) in
-    let there : P (debug_data w) = subst P same (shown.reads, shown.bytes) in
-    record { reads = there.0; bytes = there.1; later = shown.later }
+-- what is shown of a view is said by its debug data alone: two views with the same are shown alike, where the places of the same sections change
+pub shows_alike : (v w : View) (heard said : Heard) → debug_data v ≡ debug_data w → moving_sections v ≡ moving_sections w → IsShown v heard said → IsShown w heard said
+shows_alike v w heard said same moving shown =
+    let readings : DataReadings = shown.reads.readings in
+    record {
+      reads = record {
+        readings = readings;
+        reads = subst (λ (d : DebugData). DataReads d readings) same shown.reads.reads;
+        relocations = subst (λ (d : DebugData). RelocationsReadIn d (moving_sections w)) same (subst (RelocationsReadIn (debug_data v)) moving shown.reads.relocations);
+      };
+      bytes = shown.bytes ∙ ap (λ (d : DebugData). grown heard.bytes (data_text d readings)) same;
+      later = shown.later;
+    }
 
 -- ### One file
 
@@ -196,16 +203,6 @@ pub ruleset step_laws = (first_ends, second_ends, file_ends, file_done, pair_end
 
 -- ### Both sides of what refuses it
 
-not_loaded : (b : List ℕ) → e_type b ≡ ET_REL → is_loaded_kind b ≡ true → ⊥
-not_loaded b rel loaded = true≢false (sym loaded ∙ other)
-  where
-    other : is_loaded_kind b ≡ false
-    other = rw rel refl
-
-taking_excludes : (b : List ℕ) (r : Refusal) → IsTaken b → TakingFails b r → ⊥
-taking_excludes b r is (taking.sections row) = debug_sections_exclude b r is.names row
-taking_excludes b r is (taking.relocatable rel) = not_loaded b rel is.kind
-
 mismatch_excludes : (s d name : List ℕ) (m : Mismatch) → IsPaired s d name → Mismatches s d name m → ⊥
 mismatch_excludes s d name NoLink is row = let no : true ≡ false = sym is.link.holds ∙ row.none in absurd cc
 mismatch_excludes s d name (Name x y) is row = row.differs (row.named_is ∙ sym is.link.name_is ∙ sym row.found_is)
@@ -218,12 +215,12 @@ fails_due q e (fails.stripped_elf {s = s} {r = r} row) = elsewhere (λ elf. elf_
 fails_due q e (fails.debug_elf {d = d} {r = r} reads row) = elsewhere (λ elf. debug_excludes d r elf.1 row) refl
 fails_due q e (fails.no_pair {s = s} {debug = debug} {d = d} {m = m} elf other row) =
     here (elf, other) (elsewhere (λ linked. mismatch_excludes s d (base_name debug) m linked row) refl)
-fails_due q e (fails.file_taking {b = b} {r = r} elf row) = here elf (here tt (elsewhere (λ is. taking_excludes b r is.seen.taken row) refl))
+fails_due q e (fails.file_taking {b = b} {r = r} elf row) = here elf (here tt (elsewhere (λ is. view_excludes b r is.seen.taken row) refl))
 fails_due q e (fails.stripped_taking {s = s} {r = r} elf other row) =
-    here (elf, other) (here row.paired (elsewhere (λ is. taking_excludes s r is.seen.taken.0 row.fails) refl))
+    here (elf, other) (here row.paired (elsewhere (λ is. view_excludes s r is.seen.taken.0 row.fails) refl))
 fails_due q e (fails.debug_taking {d = d} {r = r} elf other row) =
-    here (elf, other) (here row.paired (elsewhere (λ is. taking_excludes d r is.seen.taken.1 row.fails) refl))
-fails_due q e (fails.unreadable {r = r} elf linked row) = here elf (here linked (elsewhere (λ is. show-excludes (subject_data q) r is.reads row) refl))
+    here (elf, other) (here row.paired (elsewhere (λ is. view_excludes d r is.seen.taken.1 row.fails) refl))
+fails_due q e (fails.unreadable {r = r} elf linked row) = here elf (here linked (elsewhere (λ is. show-excludes (subject_view q) r is.reads row) refl))
 
 shown_due : (q : Subject) → IsShowable q → SubjectDue q 0
 shown_due q is = here is.seen.elf (here is.seen.linked (here is refl))

@@ -133,4 +133,4 @@ split_memory input stripped debug old new e (splits.done d) undone = absurd (und
 
 -- the stripped file and the debug file are shown together as the file is
 pub parts_shown : (b name s d : List ℕ) (heard said : Heard) → Parts b name s d → IsShown (view_of b) heard said → IsShown (pair_view d s) heard said
-parts_shown b name s d heard said (parts.all joins means read loaded) shown = shows_alike (view_of b) (pair_view d s) heard said (sym means.same_data) shown
+parts_shown b name s d heard said (parts.all joins means read loaded) shown = shows_alike (view_of b) (pair_view d s) heard said (sym means.same_data) (sym means.same_moving) shown

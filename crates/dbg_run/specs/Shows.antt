@@ -2,23 +2,14 @@
 -- end, and which status is due.
 use Rattle.std.specs.Prelude.{◌≡◌, true, ℕ, List, Option, Some, None, unwrap_or, ⊤}
 use Rattle.std.specs.Path.{path_file_name}
-use Rattle.dw_base.specs.DebugData.{DebugData}
-use Rattle.dw_base.specs.DebugSectionFails.{DebugSectionsFail, DebugSectionsRead}
-use Rattle.dw_base.specs.Elf.{e_type}
+use Rattle.dw_base.specs.ViewFails.{ViewFails, ViewReads}
 use Rattle.dw_base.specs.ElfFails.{DebugFails, DebugReads, ElfFails, ElfReads}
 use Rattle.dw_base.specs.FileViews.{View, view_of}
-use Rattle.dw_base.specs.Layout.{is_loaded_kind}
-use Rattle.dw_base.specs.Refusals.{at, Blames}
-use Rattle.dw_base.specs.ViewData.{debug_data}
-use Rattle.dw_base.specs.declared.elf_numbers.TheConstants.{ET_REL}
 use Rattle.dw_base.specs.declared.fault.Fault.{Fault}
-use Rattle.dw_base.specs.declared.fault.Kind.TheVariants.{Unbuilt}
 use Rattle.dw_base.specs.declared.fault.Refusal.{Refusal}
 use Rattle.dw_view.specs.PairViews.{pair_view}
-use Rattle.dw_view.specs.Pairs.{IsPaired, Mismatches}
+use Rattle.dw_view.specs.Pairs.{IsPaired, Mismatches, PairedFails}
 use Rattle.dw_view.specs.declared.mismatch.Mismatch.{Mismatch}
-use Rattle.dw_view.specs.declared.mismatch.PairErr.{PairErr}
-use Rattle.dw_view.specs.declared.mismatch.PairErr.TheVariants as pair_err
 use Rattle.dbg_show.specs.Printing.{Begun}
 use Rattle.dbg_show.specs.Shows.{IsShown, ShowReads, ShowRefuses, view_text}
 use Rattle.dbg_show.specs.Shows.{ShowEnds as WritingEnds}
@@ -55,10 +46,6 @@ abbrev pub viewed_path : Subject → List ℕ
 viewed_path (of_file file b) = file
 viewed_path (of_pair stripped s debug d) = debug
 
--- its debug data
-abbrev pub subject_data : Subject → DebugData
-subject_data q = debug_data (subject_view q)
-
 -- ### What refuses it
 
 -- its records can be read; the segments of a debug file may pass its end
@@ -71,14 +58,10 @@ abbrev pub AreLinked : Subject → Type 0
 AreLinked (of_file file b) = ⊤
 AreLinked (of_pair stripped s debug d) = IsPaired s d (base_name debug)
 
--- the sections of a file can be read, and its type is taken
-pub record IsTaken (b : List ℕ) : Type 0 where
-  pub names : DebugSectionsRead b
-  pub kind : is_loaded_kind b ≡ true
-
+-- the sections of each file, and relocations of these, can be read
 abbrev pub AreTaken : Subject → Type 0
-AreTaken (of_file file b) = IsTaken b
-AreTaken (of_pair stripped s debug d) = IsTaken s × IsTaken d
+AreTaken (of_file file b) = ViewReads b
+AreTaken (of_pair stripped s debug d) = ViewReads s × ViewReads d
 
 -- it has a view
 pub record IsSeen (q : Subject) : Type 0 where
@@ -89,23 +72,7 @@ pub record IsSeen (q : Subject) : Type 0 where
 -- it can be shown: its debug data can be read, too
 pub record IsShowable (q : Subject) : Type 0 where
   pub seen : IsSeen q
-  pub reads : ShowReads (subject_data q)
-
--- why a file isn't taken: its sections can't be read, or it is relocatable, which isn't taken yet
-pub data TakingFails (b : List ℕ) : Refusal → Type 0 where
-  sections : {r : Refusal} → DebugSectionsFail b r → TakingFails b r
-  relocatable : e_type b ≡ ET_REL → TakingFails b (at Unbuilt 0 0)
-
--- a file of a pair isn't taken
-pub record PairedFails (stripped debug name file : List ℕ) (r : Refusal) : Type 0 where
-  pub paired : IsPaired stripped debug name
-  pub fails : TakingFails file r
-
--- why there is no view of a stripped file and a debug file
-abbrev pub PairFails : List ℕ → List ℕ → List ℕ → PairErr → Type 0
-PairFails s d name (pair_err.NotAPair m) = Mismatches s d name m
-PairFails s d name (pair_err.Stripped fault) = Blames (PairedFails s d name s) fault
-PairFails s d name (pair_err.Debug fault) = Blames (PairedFails s d name d) fault
+  pub reads : ShowReads (subject_view q)
 
 -- why it isn't shown, as the end that says so: the records of a file can't be read, the two aren't a pair, a file isn't taken, or the
 -- debug data can't be read. A refusal has the path of its file; of the debug data of a pair that is the debug file
@@ -115,12 +82,12 @@ pub data ShowFails : Subject → End → Type 0 where
   debug_elf : {stripped s debug d : List ℕ} {r : Refusal} → ElfReads s → DebugFails d r → ShowFails (of_pair stripped s debug d) (end.Refused debug r)
   no_pair : {stripped s debug d : List ℕ} {m : Mismatch} → ElfReads s → DebugReads d → Mismatches s d (base_name debug) m
       → ShowFails (of_pair stripped s debug d) (end.NotAPair m)
-  file_taking : {file b : List ℕ} {r : Refusal} → ElfReads b → TakingFails b r → ShowFails (of_file file b) (end.Refused file r)
+  file_taking : {file b : List ℕ} {r : Refusal} → ElfReads b → ViewFails b r → ShowFails (of_file file b) (end.Refused file r)
   stripped_taking : {stripped s debug d : List ℕ} {r : Refusal} → ElfReads s → DebugReads d → PairedFails s d (base_name debug) s r
       → ShowFails (of_pair stripped s debug d) (end.Refused stripped r)
   debug_taking : {stripped s debug d : List ℕ} {r : Refusal} → ElfReads s → DebugReads d → PairedFails s d (base_name debug) d r
       → ShowFails (of_pair stripped s debug d) (end.Refused debug r)
-  unreadable : {q : Subject} {r : Refusal} → AreElf q → AreLinked q → ShowRefuses (subject_data q) r → ShowFails q (end.Refused (viewed_path q) r)
+  unreadable : {q : Subject} {r : Refusal} → AreElf q → AreLinked q → ShowRefuses (subject_view q) r → ShowFails q (end.Refused (viewed_path q) r)
 
 -- why it has no view: it isn't shown, or memory is wanting
 pub data Unseen (q : Subject) : End → Type 0 where
@@ -136,8 +103,8 @@ pub record TextShown (q : Subject) (heard said : Heard) : Type 0 where
 
 -- a first part of its text went to the output
 pub record TextBegins (q : Subject) (heard said : Heard) : Type 0 where
-  pub reads : ShowReads (subject_data q)
-  pub begun : Begun (view_text (subject_data q) reads) heard said
+  pub reads : ShowReads (subject_view q)
+  pub begun : Begun (view_text (subject_view q) reads) heard said
 
 -- the end of an error of the showing of a view, of the file at a path
 pub data ErrEnds (path : List ℕ) : ShowErr → End → Type 0 where

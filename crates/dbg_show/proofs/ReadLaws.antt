@@ -49,7 +49,7 @@ use Rattle.dbg_show.specs.UnitReads.{AllCanRead, SourceFits}
 use Rattle.dbg_show.specs.UnitTexts.{units_text}
 use Rattle.dbg_show.specs.ViewSources.{AreSources, all_printed}
 use Rattle.dbg_show.specs.declared.listed_unit.ListedUnit.{ListedUnit}
-use Rattle.dbg_show.specs.Shows.{ShowReads, IsShown, ShowRefuses, of_view, ShowEnds, refused, unread, cut, view_text}
+use Rattle.dbg_show.specs.Shows.{ShowReads, IsShown, ShowRefuses, unreadable, ShowEnds, refused, unread, cut, view_text}
 use Rattle.dbg_show.specs.declared.show_err.ShowErr.{ShowErr}
 use Rattle.dbg_show.specs.declared.show_err.ShowErr.TheVariants as err
 use Rattle.dbg_show.proofs.ExcludeLaws.{show-excludes}
@@ -224,12 +224,12 @@ heard-whole t old new p =
     p.begun.bytes ∙ ap (grown old.bytes) whole
 
 -- what was read of a view
-abbrev reads-of : (v : View) (ts : List LineTable) (ss : List SectionUnits) → ViewTables v ts ss → ShowReads (debug_data v)
-reads-of v ts ss t = record { readings = t.read.readings; reads = t.read.reads }
+abbrev reads-of : (v : View) (ts : List LineTable) (ss : List SectionUnits) → ViewTables v ts ss → ShowReads v
+reads-of v ts ss t = record { readings = t.read.readings; reads = t.read.reads; relocations = t.read.relocations }
 
 -- what is printed from it is the text of the view
 whole-text : (v : View) (ts : List LineTable) (g : UnitSource) (m : MacroSource) (s : AreSources v ts g m)
-    → all_printed v g ts m ≡ view_text (debug_data v) (reads-of v ts s.sections s.tables)
+    → all_printed v g ts m ≡ view_text v (reads-of v ts s.sections s.tables)
 whole-text v ts g m s =
     ap (λ (x : List ℕ). x ++ (all_read v (line_source (debug_data v)) 0 ts ++ units_shown m 0 m.units)) s.units
     ∙ ap (λ (x : List ℕ). units_text (debug_data v).units 0 (units_of (debug_data v) s.tables.read.readings) ++ (x ++ units_shown m 0 m.units)) s.tables.text
@@ -301,7 +301,7 @@ tables-units v ts ss t = units-in v ss t.read.units
 
 pub ends-unread : (v : View) (h : Heard) (x : Fault) (e : ShowErr) → Blames (DataRefuses v) x → e ≡ err.Fault x → ShowEnds v h h e
 ends-unread v h NoMemory e b is = subst (λ (y : ShowErr). ShowEnds v h h y) (sym is) (unread refl)
-ends-unread v h (Refused r) e b is = subst (λ (y : ShowErr). ShowEnds v h h y) (sym is) (refused r (of_view v refl b) refl)
+ends-unread v h (Refused r) e b is = subst (λ (y : ShowErr). ShowEnds v h h y) (sym is) (refused r (unreadable b) refl)
 
 pub ends-strings : (v : View) (h : Heard) (x : Fault) (e : ShowErr) → Blames (ContributionsFail v.order (string_offsets v)) x → e ≡ err.Fault x → ShowEnds v h h e
 ends-strings v h x e b is = ends-unread v h x e (row x b) is
@@ -315,8 +315,8 @@ ends-memory v h e is = subst (λ (y : ShowErr). ShowEnds v h h y) (sym is) (unre
 
 -- a view that was read is refused by no row
 pub none-refuses : {X E : Type 0} (x : Result X E) (v : View) (ts : List LineTable) (ss : List SectionUnits) → ViewTables v ts ss
-    → OnOk x ((r : Refusal) → ShowRefuses (debug_data v) r → ⊥)
-none-refuses (Ok y) v ts ss t = λ r row. show-excludes (debug_data v) r (reads-of v ts ss t) row
+    → OnOk x ((r : Refusal) → ShowRefuses v r → ⊥)
+none-refuses (Ok y) v ts ss t = λ r row. show-excludes v r (reads-of v ts ss t) row
 none-refuses (Err e) v ts ss t = tt
 
 pub ruleset show_laws = (ends-unread, ends-strings, ends-memory)

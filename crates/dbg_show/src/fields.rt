@@ -75,20 +75,6 @@ pub(crate) fn offset_into(view: &View, name: DebugSection, field: Field) -> u64
     offset_of(&section, field)
 }
 
-/// What a number reads as, by the relocation that begins at it.
-pub(crate) fn field_at(view: &View, section: u32, at: u64, size: u8) -> Field
-    requires there { section < length view.now.sections }
-    requires some { 0 < size }
-    requires wide { size ≤ 8 }
-    requires inside { at + size ≤ length (section_bytes view.now section) }
-    ensures field { result ≡ field_at view.now section at size }
-{
-    match view.field(section, at, size) {
-        Ok(field) => field,
-        Err(_) => unreachable!(),
-    }
-}
-
 /// So many bytes at a place are there.
 #[tactic(auto, using(crate::proofs::FieldPlaceLaws::room_laws))]
 pub(crate) fn has_room(bytes: &[u8], at: u64, size: u64) -> bool
@@ -154,7 +140,7 @@ fn field_of(view: &View, section: u32, bytes: &[u8], value: &Value) -> Field
     requires field { has_field bytes.now value.now ≡ true }
     ensures field { result ≡ field_at view.now section value.now.at value.now.len }
 {
-    field_at(view, section, value.at, value.len as u8)
+    view.value(section, value.at, value.len as u8)
 }
 
 /// What its address reads as.

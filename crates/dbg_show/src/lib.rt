@@ -4,7 +4,8 @@
 //! each with its directories, its files and its rows, and of its macro units, each with its events, byte for byte; before the first byte all
 //! debug data are read, and a view is refused exactly where they can't be, at the place, with nothing written; the text goes out in pieces of a
 //! few thousand bytes and is never held whole; a first part of it went out where the sink fails or memory is wanting.
-//! It does not promise: relocatable files, which aren't read yet.
+//! A value or an address that a relocation gives is shown with its symbol, type and addend.
+//! It does not promise: the names of symbols.
 //! Read first: `specs/Shows.antt`, then `specs/UnitTexts.antt`, `specs/LineTexts.antt`, `specs/Rows.antt`, `specs/MacroTexts.antt` and
 //! `specs/Quoting.antt`.
 //!

@@ -23,7 +23,7 @@ ghost use Rattle.dw_base.specs.StringOffsets.{slot_place};
 ghost use Rattle.dbg_show.specs.PlaceKeys.{place_key};
 
 use crate::entry_index::{EntryIndex, place_key, table_at};
-use crate::fields::{field_at, has_room, located, offset_into};
+use crate::fields::{has_room, located, offset_into};
 use crate::listed_unit::ListedUnit;
 use crate::macro_source::unit_number;
 use dw_abbrev::AbbrevTable;
@@ -287,7 +287,7 @@ fn slot_in(view: &View, section: u32, place: u64, size: u8) -> Field
     if !has_room(view.bytes(section), place, size as u64) {
         return Field::Num(0);
     }
-    field_at(view, section, place, size)
+    view.value(section, place, size)
 }
 
 /// The same, of the section of string offsets.

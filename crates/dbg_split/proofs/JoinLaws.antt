@@ -3,15 +3,17 @@ use Rattle.std.proofs.Common.{◌≡◌, ◌≢◌, ℕ, suc, ◌<◌, ◌==◌,
 use Rattle.std.proofs.lemmas.Bool.{cases_lt, cases_eq, cases_Bool}
 use Rattle.std.proofs.lemmas.Bool.Decides.{nat_tests}
 use Rattle.std.specs.Prelude.{Option, Some, None}
-use Rattle.dw_base.specs.Elf.{is_empty_kind, nth_section, section_count, section_name, name_index, contents_of}
+use Rattle.dw_base.specs.Elf.{e_type, is_empty_kind, nth_section, section_count, section_name, name_index, contents_of}
 use Rattle.dw_base.specs.FileViews.{ViewSection, is_name_section, plain_contents, view_section}
 use Rattle.dw_base.specs.Layout.{is_alloc, is_loaded_kind}
 use Rattle.dw_base.specs.Notes.{or_this}
 use Rattle.dw_base.specs.SectionNames.{debug_link}
 use Rattle.dw_base.specs.Texts.{same_text}
-use Rattle.dw_base.specs.declared.elf_numbers.TheConstants.{SHT_NULL, SHT_NOBITS, SHT_NOTE}
+use Rattle.dw_base.specs.declared.elf_numbers.TheConstants.{ET_DYN, ET_EXEC, SHT_NULL, SHT_NOBITS, SHT_NOTE}
 use Rattle.dw_base.specs.declared.records.Section.{Section}
 use Rattle.dw_base.proofs.ElfLaws.{e_shoff-some}
+use Rattle.dw_base.proofs.RelocationSectionLaws.{relocates_read-loaded}
+use Rattle.dw_base.proofs.SectionRelocationLaws.{relocations_of-loaded}
 use Rattle.dw_base.proofs.TextLaws.{same_text-from, same_text-true}
 use Rattle.dw_base.proofs.WrittenContents.{contents-empty}
 use Rattle.dbg_split.specs.DebugFile.{becomes_nobits, debug_head}
@@ -32,7 +34,12 @@ use Rattle.dbg_split.proofs.StrippedFitLaws.{IsSplit, names-kept, names-there, n
 pub record IsPair (b name d s : List ℕ) : Type 0 where
   pub split : IsSplit b
   pub debug : ReadsDebug b d
+  pub debug_type : e_type d ≡ e_type b
   pub stripped : ReadsStripped b name s
+
+-- the debug file is no more relocatable than the file is
+pub debug-loaded : (b name d s : List ℕ) → IsPair b name d s → is_loaded_kind d ≡ true
+debug-loaded b name d s p = ap (λ (n : ℕ). n == ET_EXEC || n == ET_DYN) p.debug_type ∙ p.split.loaded
 
 -- Booleans
 pub and-true : (x y : Bool) → (x && y) ≡ true → (x ≡ true) × (y ≡ true)
@@ -375,11 +382,17 @@ dropped-found b name d s i p lt dropped kind =
     ∙ ap (renumbered b) (nth-none k (section_count b))
 
 -- the sections of the pair
-view-same : (x y : ViewSection) → x.name ≡ y.name → x.alloc ≡ y.alloc → x.is_name_table ≡ y.is_name_table → x.has_bytes ≡ y.has_bytes → x.contents ≡ y.contents → x ≡ y
-view-same x y name alloc table has contents = rw (name, alloc, table, has, contents) refl
-
+-- as a file has them in which nothing is relocated
 abbrev pub whole : List ℕ → Bool → Bool → Bool → List ℕ → ViewSection
-whole n a t h c = record { name = n; alloc = a; is_name_table = t; has_bytes = h; contents = plain_contents c }
+whole n a t h c = record {
+  name = n;
+  alloc = a;
+  is_name_table = t;
+  has_bytes = h;
+  contents = plain_contents c;
+  relocations = [];
+  relocates_read = false;
+}
 
 wholes-same : (n m : List ℕ) (a e t u h g : Bool) (c f : List ℕ) → n ≡ m → a ≡ e → t ≡ u → h ≡ g → c ≡ f → whole n a t h c ≡ whole m e u g f
 wholes-same n m a e t u h g c f one two three four five =
@@ -389,13 +402,14 @@ wholes-same n m a e t u h g c f one two three four five =
     ∙ ap (λ (x : Bool). whole m e u x c) four
     ∙ ap (λ (x : List ℕ). whole m e u g x) five
 
-view-whole : (b : List ℕ) (i : ℕ) → view_section b i ≡ whole (section_name b i) (is_alloc (nth_section b i)) (is_name_section b i) (not (is_empty_kind (nth_section b i))) (contents_of b i)
+view-whole : (b : List ℕ) (i : ℕ) → is_loaded_kind b ≡ true
+    → view_section b i ≡ whole (section_name b i) (is_alloc (nth_section b i)) (is_name_section b i) (not (is_empty_kind (nth_section b i))) (contents_of b i)
 unfolding view_section
-view-whole b i = refl
+view-whole b i loaded = rw (relocations_of-loaded (contents_of b) b i loaded, relocates_read-loaded b i loaded) refl
 
-joined-whole : (d s : List ℕ) (i : ℕ) (o : Option ℕ) → stands_for d s i ≡ o
+joined-whole : (d s : List ℕ) (i : ℕ) (o : Option ℕ) → is_loaded_kind d ≡ true → stands_for d s i ≡ o
     → joined_section d s i ≡ whole (section_name d i) (is_alloc (nth_section d i)) (is_name_section d i) (found_bytes s o) (found_contents s o)
-joined-whole d s i o is = ap (λ (x : Option ℕ). whole (section_name d i) (is_alloc (nth_section d i)) (is_name_section d i) (found_bytes s x) (found_contents s x)) is
+joined-whole d s i o loaded is = rw (relocations_of-loaded (contents_of d) d i loaded, relocates_read-loaded d i loaded, is) refl
 
 pair-joined : (d s : List ℕ) (i : ℕ) → is_elsewhere d i ≡ true → pair_section d s i ≡ joined_section d s i
 unfolding pair_section
@@ -420,24 +434,24 @@ kept-joins : (b name d s : List ℕ) (i : ℕ) → IsPair b name d s → IsKept 
 kept-joins b name d s i p is own elsewhere =
     let j = kept_before b i in
     pair-joined d s i elsewhere
-    ∙ joined-whole d s i (Some j) (kept-found b name d s i p is own elsewhere)
+    ∙ joined-whole d s i (Some j) (debug-loaded b name d s p) (kept-found b name d s i p is own elsewhere)
     ∙ wholes-same (section_name d i) (section_name b i) (is_alloc (nth_section d i)) (is_alloc (nth_section b i)) (is_name_section d i) (is_name_section b i)
     (not (is_empty_kind (nth_section s j))) (not (is_empty_kind (nth_section b i))) (contents_of s j) (contents_of b i)
     (p.debug.names i is.there) (alloc-debug b name d s i p is.there) (name_section-debug b name d s i p)
     (ap not (empty-by (nth_section s j) (nth_section b i) (p.stripped.heads i is).kind)) (p.stripped.contents i is own.other)
-    ∙ sym (view-whole b i)
+    ∙ sym (view-whole b i p.split.loaded)
 
 -- one without bytes in either file
 dropped-joins : (b name d s : List ℕ) (i : ℕ) → IsPair b name d s → i < section_count b → is_droppable b i ≡ true → (nth_section b i).kind ≡ SHT_NOBITS
     → is_elsewhere d i ≡ true → pair_section d s i ≡ view_section b i
 dropped-joins b name d s i p lt dropped kind elsewhere =
     pair-joined d s i elsewhere
-    ∙ joined-whole d s i None (dropped-found b name d s i p lt dropped kind)
+    ∙ joined-whole d s i None (debug-loaded b name d s p) (dropped-found b name d s i p lt dropped kind)
     ∙ wholes-same (section_name d i) (section_name b i) (is_alloc (nth_section d i)) (is_alloc (nth_section b i)) (is_name_section d i) (is_name_section b i)
     false (not (is_empty_kind (nth_section b i))) [] (contents_of b i)
     (p.debug.names i lt) (alloc-debug b name d s i p lt) (name_section-debug b name d s i p)
     (sym (nobits-none (nth_section b i) kind)) (sym (nobits-empty b i kind))
-    ∙ sym (view-whole b i)
+    ∙ sym (view-whole b i p.split.loaded)
 
 -- one that counts from the debug file
 own-joins : (b name d s : List ℕ) (i : ℕ) → IsPair b name d s → i < section_count b → becomes_nobits b i ≡ false → is_elsewhere d i ≡ false
@@ -446,12 +460,12 @@ own-joins b name d s i p lt plain here =
     let kind : (nth_section d i).kind ≡ (nth_section b i).kind =
     kind-debug b name d s i p lt ∙ ap (λ (t : Bool). if t then SHT_NOBITS else (nth_section b i).kind) plain in
     pair-own d s i here
-    ∙ view-whole d i
+    ∙ view-whole d i (debug-loaded b name d s p)
     ∙ wholes-same (section_name d i) (section_name b i) (is_alloc (nth_section d i)) (is_alloc (nth_section b i)) (is_name_section d i) (is_name_section b i)
     (not (is_empty_kind (nth_section d i))) (not (is_empty_kind (nth_section b i))) (contents_of d i) (contents_of b i)
     (p.debug.names i lt) (alloc-debug b name d s i p lt) (name_section-debug b name d s i p)
     (ap not (empty-by (nth_section d i) (nth_section b i) kind)) (p.debug.contents i lt plain)
-    ∙ sym (view-whole b i)
+    ∙ sym (view-whole b i p.split.loaded)
 
 pub other-name : (b : List ℕ) (i : ℕ) → name_index b ≢ 0 → is_name_section b i ≡ false → i ≢ name_index b
 other-name b i some none e =
@@ -559,12 +573,12 @@ loaded-joins : (b name d s : List ℕ) (i : ℕ) → IsPair b name d s → i < s
 loaded-joins b name d s i p lt alloc empty =
     let none = empty-if (becomes_nobits b i) (nth_section b i) (nth_section d i) (kind-debug b name d s i p lt) empty in
     pair-own d s i (here-loaded b name d s i p lt alloc)
-    ∙ view-whole d i
+    ∙ view-whole d i (debug-loaded b name d s p)
     ∙ wholes-same (section_name d i) (section_name b i) (is_alloc (nth_section d i)) (is_alloc (nth_section b i)) (is_name_section d i) (is_name_section b i)
     (not (is_empty_kind (nth_section d i))) (not (is_empty_kind (nth_section b i))) (contents_of d i) (contents_of b i)
     (p.debug.names i lt) (alloc-debug b name d s i p lt) (name_section-debug b name d s i p)
     (ap not (none ∙ sym empty)) (no-contents d i none ∙ sym (no-contents b i empty))
-    ∙ sym (view-whole b i)
+    ∙ sym (view-whole b i p.split.loaded)
 
 empty-joins : (b name d s : List ℕ) (i : ℕ) → IsPair b name d s → i < section_count b → is_empty_kind (nth_section b i) ≡ true → pair_section d s i ≡ view_section b i
 empty-joins b name d s i p lt empty =
@@ -581,16 +595,17 @@ same-names b name d s i h c p lt = record {
   name = p.debug.names i lt;
   alloc = alloc-debug b name d s i p lt;
   is_name_table = name_section-debug b name d s i p;
+  relocates_read = sym (relocates_read-loaded b i p.split.loaded);
 }
 
 names-join : (b name d s : List ℕ) (i : ℕ) → IsPair b name d s → i < section_count b → SameSection (pair_section d s i) (view_section b i)
 names-join b name d s i p lt =
     elim (cases_Bool (is_elsewhere d i)) [
       | inl elsewhere ↦
-          subst (λ (x : ViewSection). SameSection x (view_section b i)) (sym (pair-joined d s i elsewhere))
+          subst (λ (x : ViewSection). SameSection x (view_section b i)) (sym (pair-joined d s i elsewhere ∙ joined-whole d s i (stands_for d s i) (debug-loaded b name d s p) refl))
           (same-names b name d s i (found_bytes s (stands_for d s i)) (found_contents s (stands_for d s i)) p lt)
       | inr here ↦
-          subst (λ (x : ViewSection). SameSection x (view_section b i)) (sym (pair-own d s i here ∙ view-whole d i))
+          subst (λ (x : ViewSection). SameSection x (view_section b i)) (sym (pair-own d s i here ∙ view-whole d i (debug-loaded b name d s p)))
           (same-names b name d s i (not (is_empty_kind (nth_section d i))) (contents_of d i) p lt)
     ]
 

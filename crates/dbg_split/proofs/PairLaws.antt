@@ -1,11 +1,12 @@
 -- A file that no row refuses is one that is split, and its two files read back.
 use Rattle.std.proofs.Common.{◌≡◌, ◌≢◌, ℕ, ◌<◌, ◌≤◌, true, false, List, length, slice_index, sym, ap, ◌∙◌, inl, inr, subst}
 use Rattle.std.proofs.lemmas.Bool.{cases_lt, cases_Bool}
-use Rattle.dw_base.specs.Elf.{e_type, name_index, nth_section}
+use Rattle.dw_base.specs.Elf.{contents_of, e_type, name_index, nth_section}
 use Rattle.dw_base.specs.ElfFails.{ElfReads}
 use Rattle.dw_base.specs.Layout.{is_fixed, is_loaded_kind, output_limit}
 use Rattle.dw_base.specs.LayoutFails.TooLong.{long}
 use Rattle.dw_base.specs.declared.fault.Refusal.{Refusal}
+use Rattle.dw_base.proofs.RelocationSectionLaws.{relocations_read-loaded}
 use Rattle.dbg_split.specs.DebugFile.{debug_file}
 use Rattle.dbg_split.specs.DebugFileReads.{ReadsDebug}
 use Rattle.dw_meaning.specs.Loaded.{LoadedKept}
@@ -18,10 +19,10 @@ use Rattle.dbg_split.specs.SplitFails.Unsplittable.{file_type, names_stay, secti
 use Rattle.dbg_split.specs.StrippedFile.{stripped_file}
 use Rattle.dbg_split.specs.StrippedReads.{ReadsStripped}
 use Rattle.dbg_split.proofs.DebugReadLaws.{debug-reads, debug-type}
-use Rattle.dbg_split.proofs.JoinLaws.{IsPair, pair-joins}
+use Rattle.dbg_split.proofs.JoinLaws.{IsPair, debug-loaded, pair-joins}
 use Rattle.dbg_split.proofs.PairMeaningLaws.{means-as-one}
 use Rattle.dbg_split.proofs.PairReadLaws.{debug-sections, is-paired, stripped-sections}
-use Rattle.dbg_split.proofs.SplitLoadedLaws.{loaded-kept, type-same}
+use Rattle.dbg_split.proofs.SplitLoadedLaws.{kind-same, loaded-kept, type-same}
 use Rattle.dbg_split.proofs.StrippedFitLaws.{IsSplit}
 use Rattle.dbg_split.proofs.StrippedReadLaws.{stripped-reads}
 
@@ -87,6 +88,7 @@ pair-of : (b name d s : List ℕ) → length b ≤ output_limit → ElfReads b �
 pair-of b name d s small reads bytes none d_is s_is = record {
   split = split-of b name small reads bytes none;
   debug = debug-back b name d small reads bytes none d_is;
+  debug_type = ap e_type d_is ∙ debug-type b (split-of b name small reads bytes none) (debug-short b name reads none);
   stripped = stripped-back b name s small reads bytes none s_is;
 }
 
@@ -101,10 +103,16 @@ means-back b name d s small reads bytes none d_is s_is = means-as-one b name d s
 pub reads-back : (b name d s : List ℕ) → length b ≤ output_limit → ElfReads b → ((k : ℕ) → slice_index b k < 256) → NoneFails b name
     → KeepsFront b s → d ≡ debug_file b → s ≡ stripped_file b name → ReadAsOne b name d s
 reads-back b name d s small reads bytes none front d_is s_is =
-    let w = split-of b name small reads bytes none in
     let p = pair-of b name d s small reads bytes none d_is s_is in
+    let type = type-same b name s p.stripped front in
     record {
       paired = λ plain. is-paired b name d s p d_is plain;
-      debug_reads = λ r. debug-sections b name d s p (ap e_type d_is ∙ debug-type b w (debug-short b name reads none)) r;
-      stripped_reads = λ r. stripped-sections b name d s p (type-same b name s p.stripped front) r;
+      debug_reads = λ r. (record {
+        sections = debug-sections b name d s p p.debug_type r.sections;
+        relocations = relocations_read-loaded (contents_of d) d (debug-loaded b name d s p);
+      });
+      stripped_reads = λ r. (record {
+        sections = stripped-sections b name d s p type r.sections;
+        relocations = relocations_read-loaded (contents_of s) s (kind-same s b type ∙ p.split.loaded);
+      });
     }

@@ -397,7 +397,7 @@ segments-are : (b : List ℕ) → segments_of b ≡ tabulate (nth_segment b) (e_
 unfolding segments_of
 segments-are b = refl
 
-kind-same : (out b : List ℕ) → e_type out ≡ e_type b → is_loaded_kind out ≡ is_loaded_kind b
+pub kind-same : (out b : List ℕ) → e_type out ≡ e_type b → is_loaded_kind out ≡ is_loaded_kind b
 kind-same out b same = rw same refl
 
 pub loaded-kept : (b name out : List ℕ) → IsSplit b → ReadsStripped b name out → KeepsFront b out → LoadedKept b out

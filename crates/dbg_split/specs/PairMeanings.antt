@@ -1,10 +1,11 @@
 -- What a view means that isn't that of one file, and that a pair means what the file meant that was split.
 use Rattle.std.specs.Prelude.{false, ◌≡◌, ℕ, List}
 use Rattle.dw_base.specs.DebugData.{DataReadings}
-use Rattle.dw_base.specs.DebugSectionFails.{DebugSectionsRead}
 use Rattle.dw_base.specs.FileViews.{View, view_of}
+use Rattle.dw_base.specs.RelocationRows.{moving_sections}
 use Rattle.dw_base.specs.Texts.{has_nul}
 use Rattle.dw_base.specs.ViewData.{Meaning, debug_data, meaning_of}
+use Rattle.dw_base.specs.ViewFails.{ViewReads}
 use Rattle.dw_meaning.specs.DataOutput.{DataReads}
 use Rattle.dw_meaning.specs.FileMeanings.{Means}
 use Rattle.dw_view.specs.PairViews.{pair_view}
@@ -16,16 +17,18 @@ pub record ViewMeans (v : View) (x : Meaning) : Type 0 where
   pub reads : DataReads (debug_data v) readings
   pub says : meaning_of v readings ≡ x
 
--- the pair has the debug data of the file `b`, and means the same, however they are read; so where the file means something the
--- pair means that, and nothing else
+-- the pair has the debug data of the file `b`, with the same sections whose places change, and means the same, however they are read; so where
+-- the file means something the pair means that, and nothing else
 pub record MeansAsOne (b debug stripped : List ℕ) : Type 0 where
   pub same_data : debug_data (pair_view debug stripped) ≡ debug_data (view_of b)
+  pub same_moving : moving_sections (pair_view debug stripped) ≡ moving_sections (view_of b)
   pub same_meaning : (r : DataReadings) → meaning_of (pair_view debug stripped) r ≡ meaning_of (view_of b) r
   pub means : (x : Meaning) → Means b x → ViewMeans (pair_view debug stripped) x
   pub one : (x y : Meaning) → Means b x → ViewMeans (pair_view debug stripped) y → y ≡ x
 
--- the two are a pair by this name, where it has no NUL, and each can be read for its sections where the file can
+-- the two are a pair by this name, where it has no NUL, and each can be read for its sections, and the relocations of these, where the
+-- file can
 pub record ReadAsOne (b name debug stripped : List ℕ) : Type 0 where
   pub paired : has_nul name ≡ false → IsPaired stripped debug name
-  pub debug_reads : DebugSectionsRead b → DebugSectionsRead debug
-  pub stripped_reads : DebugSectionsRead b → DebugSectionsRead stripped
+  pub debug_reads : ViewReads b → ViewReads debug
+  pub stripped_reads : ViewReads b → ViewReads stripped

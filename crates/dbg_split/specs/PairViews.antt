@@ -5,11 +5,12 @@ use Rattle.dw_base.specs.FileViews.{ViewSection, view_section}
 use Rattle.dw_base.specs.Layout.{is_alloc}
 use Rattle.dw_view.specs.PairViews.{pair_section}
 
--- two sections have the same name, and the same place among loaded sections and names
+-- two sections have the same name, and the same place among loaded sections, names, and relocations of what is read
 pub record SameSection (new old : ViewSection) : Type 0 where
   pub name : new.name ≡ old.name
   pub alloc : new.alloc ≡ old.alloc
   pub is_name_table : new.is_name_table ≡ old.is_name_table
+  pub relocates_read : new.relocates_read ≡ old.relocates_read
 
 -- the pair has the sections of the file `b` by number, each as that has it; of ALLOC sections that have bytes, the name alone
 pub record JoinsTo (b debug stripped : List ℕ) : Type 0 where

@@ -25,6 +25,7 @@ pub mod ElfReadsLaws
 pub mod WorkedForms
 pub mod DebugSectionLaws
 pub mod DebugSectionFailsLaws
+pub mod ViewFailsLaws
 pub mod FileViewLaws
 pub mod FormLaws
 pub mod NumberBytes

@@ -1,42 +1,44 @@
--- Laws of a view's sections as cells: their bytes are the sections', fields read by the relocations that begin in them, and none begins there
--- yet. What goes by `view_cells-plain` is what relocations change.
-use Rattle.std.proofs.Common.{◌≡◌, ℕ, ◌+◌, ◌<◌, ◌≤◌, zero, suc, Bool, true, false, if◌then◌else◌, List, [], ◌∷◌, ◌++◌, length, take, drop, Option, None, Some, refl, sym, ap, ◌∙◌, arith}
+-- Laws of a view's sections as cells: their bytes are the sections', and fields read by the relocations that begin in them. A file that
+-- isn't relocatable has none.
+use Rattle.std.proofs.Common.{◌≡◌, ℕ, ◌+◌, ◌<◌, ◌≤◌, zero, suc, Bool, true, false, if◌then◌else◌, List, [], ◌∷◌, ◌++◌, length, get_or, take, drop, Option, None, Some, refl, sym, ap, ◌∙◌, arith, subst, inl, inr}
 use Rattle.std.specs.Prelude.{Ok, is_some}
+use Rattle.std.proofs.lemmas.Bool.{cases_lt}
 use Rattle.std.proofs.lemmas.List.{drop-drop}
 use Rattle.dw_base.specs.Cells.{Cell, Located, Relocation, address_by, bytes_of, cells_at, field_by, field_of, located_cells, offset_into, offset_of, plain_cells}
 use Rattle.dw_base.specs.DebugSections.{name_of}
-use Rattle.dw_base.specs.FileViews.{Contents, View, ViewSection, address_at, bytes_in, cells_of, contents_in, field_at, field_read, kind_at, partly_in, section_bytes, section_named, view_cells}
+use Rattle.dw_base.specs.Elf.{contents_of, section_count}
+use Rattle.dw_base.specs.FileViews.{View, ViewSection, address_at, cells_of, contents_in, field_at, field_read, kind_at, partly_in, relocations_there, section_bytes, section_named, view_cells, view_of, view_relocations, view_section}
+use Rattle.dw_base.specs.Layout.{is_loaded_kind}
 use Rattle.dw_base.specs.Numbers.{spelled}
 use Rattle.dw_base.specs.RelocationFields.{field_unless, partly_at, relocation_at}
+use Rattle.dw_base.specs.SectionRelocations.{PlacedRelocation, cells_from, relocations_of, section_cells}
 use Rattle.dw_base.specs.ViewData.{cells_located, debug_data, located, located_at}
 use Rattle.dw_base.specs.declared.debug_sections.DebugSection.TheVariants.{Line, Names, StrOffsets}
 use Rattle.dw_base.specs.declared.view_fields.Field.TheVariants.{Num}
-use Rattle.dw_base.proofs.PlainCellLaws.{IsPlain, bytes_of-plain, length-plain_cells, plain_cells-plain}
+use Rattle.dw_base.proofs.FileViewLaws.{get_or-view_of, length-view_of, section_bytes-view_of}
+use Rattle.dw_base.proofs.PlainCellLaws.{IsPlain, plain_cells-plain}
 use Rattle.dw_base.proofs.RelocationFieldLaws.{field_of-cells_at, partly-plain, relocation_at-plain}
-
--- no relocation begins in a section
-pub view_cells-plain : (v : View) (i : ℕ) → IsPlain (view_cells v i)
-view_cells-plain v i = plain_cells-plain (section_bytes v i)
+use Rattle.dw_base.proofs.SectionRelocationLaws.{bytes_of-cells_from, cells_from-none, length-cells_from, relocations_of-loaded}
 
 -- the bytes of a section
 pub bytes_of-view_cells : (v : View) (i : ℕ) → bytes_of (view_cells v i) ≡ section_bytes v i
-bytes_of-view_cells v i = bytes_of-plain (section_bytes v i)
+bytes_of-view_cells v i = bytes_of-cells_from (view_relocations v i) 0 (section_bytes v i)
 
 pub length-view_cells : (v : View) (i : ℕ) → length (view_cells v i) ≡ length (section_bytes v i)
-length-view_cells v i = length-plain_cells (section_bytes v i)
+length-view_cells v i = length-cells_from (view_relocations v i) 0 (section_bytes v i)
 
 -- the contents of the section of a number are those of the section that stands there
 pub view_cells-there : (v : View) (i : ℕ) (s : ViewSection) (rest : List ViewSection) → drop i v.sections ≡ s ∷ rest → view_cells v i ≡ cells_of s
-unfolding section_bytes
-view_cells-there v i s rest there = ap (λ (c : Contents). plain_cells (bytes_in c)) (among v.sections i there)
+unfolding section_bytes view_relocations
+view_cells-there v i s rest there = among v.sections i there
   where
     head : {x : ViewSection} {xs : List ViewSection} → x ∷ xs ≡ s ∷ rest → x ≡ s
     head e = cc
 
-    among : (ss : List ViewSection) (k : ℕ) → drop k ss ≡ s ∷ rest → contents_in ss k ≡ s.contents
+    among : (ss : List ViewSection) (k : ℕ) → drop k ss ≡ s ∷ rest → cells_from (relocations_there ss k) 0 (contents_in ss k) ≡ cells_of s
     among [] zero e = absurd cc
     among [] (suc k) e = absurd cc
-    among (x ∷ xs) zero e = let same : x ≡ s = head e in ap (λ (y : ViewSection). y.contents) same
+    among (x ∷ xs) zero e = let same : x ≡ s = head e in ap cells_of same
     among (x ∷ xs) (suc k) e = among xs k e
 
 -- a section that is read as pieces is one that offsets are of
@@ -66,9 +68,7 @@ names-located v = located-cells v (section_named v (name_of Names))
 pub field_at-by : (v : View) (i place n : ℕ)
     → field_at v i place n ≡ field_by (relocation_at (view_cells v i) place) n (spelled v.order (section_bytes v i) place n)
 unfolding field_at
-field_at-by v i place n =
-    ap (λ (o : Option Relocation). field_by o n (spelled v.order (section_bytes v i) place n))
-    (sym (relocation_at-plain (view_cells v i) place (view_cells-plain v i)))
+field_at-by v i place n = refl
 
 -- and by its cells, in the section or in what is behind a place of it
 pub field_at-cells : (v : View) (i place n : ℕ) → 0 < n → place + n ≤ length (section_bytes v i)
@@ -107,19 +107,6 @@ pub offset_at-cells : (v : View) (z : Located) (i place n : ℕ) → 0 < n → p
 unfolding offset_of
 offset_at-cells v z i place n some inside = ap (offset_into z) (field_at-cells v i place n some inside)
 
--- no relocation lies on a field in part, so no field is refused
-pub partly_in-none : (v : View) (i place n : ℕ) → partly_in v i place n ≡ None
-unfolding partly_in
-partly_in-none v i place n = by_kind (is_some (kind_at v i))
-  where
-    by_kind : (t : Bool) → (if t then partly_at (view_cells v i) place n else None) ≡ None
-    by_kind true = partly-plain (view_cells v i) place n (view_cells-plain v i)
-    by_kind false = refl
-
-pub field_read-is : (v : View) (i place n : ℕ) → field_read v i place n ≡ Ok (field_at v i place n)
-unfolding field_read
-field_read-is v i place n = ap (λ (o : Option ℕ). field_unless o i (field_at v i place n)) (partly_in-none v i place n)
-
 -- a field that is read, and an address, by the cells
 pub field_read-by : (v : View) (i place n : ℕ) → field_read v i place n
     ≡ field_unless (if is_some (kind_at v i) then partly_at (view_cells v i) place n else None) i
@@ -133,9 +120,74 @@ pub address_at-by : (v : View) (i place n : ℕ)
 unfolding address_at
 address_at-by v i place n = refl
 
--- an address is its number
-pub address_at-is : (v : View) (i place n : ℕ) → address_at v i place n ≡ Num (spelled v.order (section_bytes v i) place n)
+-- Of one file the relocations are the file's.
+relocations-get_or : (ss : List ViewSection) (i : ℕ) (d : ViewSection) → i < length ss → relocations_there ss i ≡ (get_or ss i d).relocations
+relocations-get_or [] i d lt = absurd (omega (arith, lt))
+relocations-get_or (s ∷ ss) zero d lt = refl
+relocations-get_or (s ∷ ss) (suc i) d lt = relocations-get_or ss i d (omega (arith, lt))
+
+pub relocations-view_of : (b : List ℕ) (i : ℕ) → i < section_count b → view_relocations (view_of b) i ≡ relocations_of (contents_of b) b i
+unfolding view_relocations view_section
+relocations-view_of b i lt =
+    relocations-get_or (view_of b).sections i (view_section b i) (omega (arith, lt, length-view_of b))
+    ∙ ap (λ (s : ViewSection). s.relocations) (get_or-view_of b i (view_section b i) lt)
+
+pub view_cells-view_of : (b : List ℕ) (i : ℕ) → i < section_count b → view_cells (view_of b) i ≡ section_cells (contents_of b) b i
+unfolding section_cells
+view_cells-view_of b i lt =
+    ap (λ (rs : List PlacedRelocation). cells_from rs 0 (section_bytes (view_of b) i)) (relocations-view_of b i lt)
+    ∙ ap (cells_from (relocations_of (contents_of b) b i) 0) (section_bytes-view_of b i lt)
+
+-- none begins in a file that isn't relocatable,
+relocations-behind : (ss : List ViewSection) (i : ℕ) → length ss ≤ i → relocations_there ss i ≡ []
+relocations-behind [] i le = refl
+relocations-behind (s ∷ ss) zero le = absurd (omega (arith, le))
+relocations-behind (s ∷ ss) (suc i) le = relocations-behind ss i (omega (arith, le))
+
+none-behind : (b : List ℕ) (i : ℕ) → section_count b ≤ i → view_relocations (view_of b) i ≡ []
+unfolding view_relocations
+none-behind b i le = relocations-behind (view_of b).sections i (omega (arith, le, length-view_of b))
+
+pub relocations-loaded : (b : List ℕ) (i : ℕ) → is_loaded_kind b ≡ true → view_relocations (view_of b) i ≡ []
+relocations-loaded b i loaded = elim (cases_lt i (section_count b)) [
+  | inl lt ↦ relocations-view_of b i lt ∙ relocations_of-loaded (contents_of b) b i loaded
+  | inr le ↦ none-behind b i le
+]
+
+pub view_cells-loaded : (b : List ℕ) (i : ℕ) → is_loaded_kind b ≡ true → view_cells (view_of b) i ≡ plain_cells (section_bytes (view_of b) i)
+view_cells-loaded b i loaded =
+    ap (λ (rs : List PlacedRelocation). cells_from rs 0 (section_bytes (view_of b) i)) (relocations-loaded b i loaded)
+    ∙ cells_from-none 0 (section_bytes (view_of b) i)
+
+pub view_cells-plain-loaded : (b : List ℕ) (i : ℕ) → is_loaded_kind b ≡ true → IsPlain (view_cells (view_of b) i)
+view_cells-plain-loaded b i loaded = subst IsPlain (sym (view_cells-loaded b i loaded)) (plain_cells-plain (section_bytes (view_of b) i))
+
+-- so a field there is its number, as an address is, and none is refused
+pub field_at-loaded : (b : List ℕ) (i place n : ℕ) → is_loaded_kind b ≡ true
+    → field_at (view_of b) i place n ≡ Num (spelled (view_of b).order (section_bytes (view_of b) i) place n)
+unfolding field_at
+field_at-loaded b i place n loaded =
+    ap (λ (o : Option Relocation). field_by o n (spelled (view_of b).order (section_bytes (view_of b) i) place n))
+    (relocation_at-plain (view_cells (view_of b) i) place (view_cells-plain-loaded b i loaded))
+
+pub address_at-loaded : (b : List ℕ) (i place n : ℕ) → is_loaded_kind b ≡ true
+    → address_at (view_of b) i place n ≡ Num (spelled (view_of b).order (section_bytes (view_of b) i) place n)
 unfolding address_at
-address_at-is v i place n =
-    ap (λ (o : Option Relocation). address_by o (spelled v.order (section_bytes v i) place n))
-    (relocation_at-plain (view_cells v i) place (view_cells-plain v i))
+address_at-loaded b i place n loaded =
+    ap (λ (o : Option Relocation). address_by o (spelled (view_of b).order (section_bytes (view_of b) i) place n))
+    (relocation_at-plain (view_cells (view_of b) i) place (view_cells-plain-loaded b i loaded))
+
+pub partly_in-loaded : (b : List ℕ) (i place n : ℕ) → is_loaded_kind b ≡ true → partly_in (view_of b) i place n ≡ None
+unfolding partly_in
+partly_in-loaded b i place n loaded = by_kind (is_some (kind_at (view_of b) i))
+  where
+    by_kind : (t : Bool) → (if t then partly_at (view_cells (view_of b) i) place n else None) ≡ None
+    by_kind true = partly-plain (view_cells (view_of b) i) place n (view_cells-plain-loaded b i loaded)
+    by_kind false = refl
+
+pub field_read-loaded : (b : List ℕ) (i place n : ℕ) → is_loaded_kind b ≡ true
+    → field_read (view_of b) i place n ≡ Ok (Num (spelled (view_of b).order (section_bytes (view_of b) i) place n))
+unfolding field_read
+field_read-loaded b i place n loaded =
+    ap (λ (o : Option ℕ). field_unless o i (field_at (view_of b) i place n)) (partly_in-loaded b i place n loaded)
+    ∙ ap Ok (field_at-loaded b i place n loaded)

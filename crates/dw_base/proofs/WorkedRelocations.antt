@@ -16,7 +16,7 @@ use Rattle.dw_base.specs.RelocationSectionFails.SectionFails.{table as table_row
 use Rattle.dw_base.specs.RelocationSectionFails.TableFails.{together}
 use Rattle.dw_base.specs.DebugSections.{debug_section}
 use Rattle.dw_base.specs.Texts.{text_in}
-use Rattle.dw_base.specs.SectionRelocations.{PlacedRelocation, RelocationSource, cells_from, extends, is_none_type, is_symbol_table, records_in, relocates, relocation_of, relocation_section, relocation_source, relocations_in, relocations_of, section_cells}
+use Rattle.dw_base.specs.SectionRelocations.{PlacedRelocation, RelocationSource, cells_from, extended_section, extends, is_none_type, is_symbol_table, records_in, relocates, relocation_of, relocation_section, relocation_source, relocations_in, relocations_of, section_cells}
 use Rattle.dw_base.specs.Symbols.{symbol_at}
 use Rattle.dw_base.specs.NewOffsets.{with_offset}
 use Rattle.dw_base.specs.declared.fault.Kind.TheVariants.{Relocation as RelocationKind}
@@ -145,13 +145,13 @@ rela-relocations :
     × (relocations_of (contents_of rela_object) rela_object 1
     ≡ begins 6 (word_of C64 1 10 (Some (pos 0)) 2) ∷ begins 12 (word_of C64 2 10 (Some (pos 0)) 3) ∷ begins 16 (word_of C64 2 10 (Some (pos 13)) 3) ∷ [])
     × (relocations_of (contents_of rela_object) rela_object 3 ≡ [])
-unfolding relocation_section relocates relocations_of relocation_source relocations_in records_in relocation_of is_none_type is_symbol_table extends symbol_at absolute_size absolute_types class_of order_of contents_of contents_at e_type e_machine e_shoff e_shnum nth_section section_at section_count spelled number_at
+unfolding relocation_section relocates relocations_of relocation_source relocations_in records_in relocation_of is_none_type is_symbol_table extends extended_section symbol_at absolute_size absolute_types class_of order_of contents_of contents_at e_type e_machine e_shoff e_shnum nth_section section_at section_count spelled number_at
 rela-relocations = (refl, refl, refl, refl)
 
 rel-relocations :
     (relocation_section rel_object 1 ≡ Some 4)
     × (relocations_of (contents_of rel_object) rel_object 1 ≡ begins 6 (word_of C32 1 1 None 2) ∷ begins 12 (word_of C32 2 1 None 3) ∷ begins 16 (word_of C32 2 1 None 3) ∷ [])
-unfolding relocation_section relocates relocations_of relocation_source relocations_in records_in relocation_of is_none_type is_symbol_table extends symbol_at absolute_size absolute_types class_of order_of contents_of contents_at e_type e_machine e_shoff e_shnum nth_section section_at section_count spelled number_at
+unfolding relocation_section relocates relocations_of relocation_source relocations_in records_in relocation_of is_none_type is_symbol_table extends extended_section symbol_at absolute_size absolute_types class_of order_of contents_of contents_at e_type e_machine e_shoff e_shnum nth_section section_at section_count spelled number_at
 rel-relocations = (refl, refl)
 
 -- the offsets of abbreviations, name and directory: with addends the fields hold 0
@@ -161,14 +161,14 @@ rela-fields :
     × (field_in Little 1 (section_cells (contents_of rela_object) rela_object 1) 16 4 ≡ Ok (Into 3 13))
     × (field_in Little 1 (section_cells (contents_of rela_object) rela_object 1) 4 2 ≡ Ok (Num 4))
     × (field_in Little 2 (section_cells (contents_of rela_object) rela_object 2) 0 1 ≡ Ok (Num 1))
-unfolding section_cells field_in partly_at field_of relocation_section relocates relocations_of relocation_source relocations_in records_in relocation_of is_none_type is_symbol_table extends symbol_at absolute_size absolute_types class_of order_of contents_of contents_at e_type e_machine e_shoff e_shnum nth_section section_at section_count spelled number_at
+unfolding section_cells field_in partly_at field_of relocation_section relocates relocations_of relocation_source relocations_in records_in relocation_of is_none_type is_symbol_table extends extended_section symbol_at absolute_size absolute_types class_of order_of contents_of contents_at e_type e_machine e_shoff e_shnum nth_section section_at section_count spelled number_at
 rela-fields = (refl, refl, refl, refl, refl)
 
 rel-fields :
     (field_in Little 1 (section_cells (contents_of rel_object) rel_object 1) 6 4 ≡ Ok (Into 2 0))
     × (field_in Little 1 (section_cells (contents_of rel_object) rel_object 1) 12 4 ≡ Ok (Into 3 0))
     × (field_in Little 1 (section_cells (contents_of rel_object) rel_object 1) 16 4 ≡ Ok (Into 3 13))
-unfolding section_cells field_in partly_at field_of relocation_section relocates relocations_of relocation_source relocations_in records_in relocation_of is_none_type is_symbol_table extends symbol_at absolute_size absolute_types class_of order_of contents_of contents_at e_type e_machine e_shoff e_shnum nth_section section_at section_count spelled number_at
+unfolding section_cells field_in partly_at field_of relocation_section relocates relocations_of relocation_source relocations_in records_in relocation_of is_none_type is_symbol_table extends extended_section symbol_at absolute_size absolute_types class_of order_of contents_of contents_at e_type e_machine e_shoff e_shnum nth_section section_at section_count spelled number_at
 rel-fields = (refl, refl, refl)
 
 -- the directory at 43: with addends the record's becomes that and the field stays, without them the field is 2b 00 00 00
@@ -179,13 +179,13 @@ rela-moved :
     (with_offset Little (directory rela_object) 43
     ≡ record { byte = 0; relocation = Some (word_of C64 2 10 (Some (pos 43)) 3) } ∷ plain_cells (0 ∷ 0 ∷ 0 ∷ []))
     × (with_offset Little (directory rela_object) 13 ≡ directory rela_object)
-unfolding with_offset section_cells relocation_section relocates relocations_of relocation_source relocations_in records_in relocation_of is_none_type is_symbol_table extends symbol_at absolute_size absolute_types class_of order_of contents_of contents_at e_type e_machine e_shoff e_shnum nth_section section_at section_count spelled number_at
+unfolding with_offset section_cells relocation_section relocates relocations_of relocation_source relocations_in records_in relocation_of is_none_type is_symbol_table extends extended_section symbol_at absolute_size absolute_types class_of order_of contents_of contents_at e_type e_machine e_shoff e_shnum nth_section section_at section_count spelled number_at
 rela-moved = (refl, refl)
 
 rel-moved :
     with_offset Little (directory rel_object) 43
     ≡ record { byte = 43; relocation = Some (word_of C32 2 1 None 3) } ∷ plain_cells (0 ∷ 0 ∷ 0 ∷ [])
-unfolding with_offset section_cells relocation_section relocates relocations_of relocation_source relocations_in records_in relocation_of is_none_type is_symbol_table extends symbol_at absolute_size absolute_types class_of order_of contents_of contents_at e_type e_machine e_shoff e_shnum nth_section section_at section_count spelled number_at
+unfolding with_offset section_cells relocation_section relocates relocations_of relocation_source relocations_in records_in relocation_of is_none_type is_symbol_table extends extended_section symbol_at absolute_size absolute_types class_of order_of contents_of contents_at e_type e_machine e_shoff e_shnum nth_section section_at section_count spelled number_at
 rel-moved = refl
 
 -- Other relocations at the directory, each a record of 24 bytes, with the symbols of the first file and some more.
@@ -271,7 +271,7 @@ abbrev double_second : PlacedRelocation
 double_second = begins 16 (word_of C64 2 10 (Some (pos 0)) 3)
 
 doubled-together : BeginTogether (relocations_in (relocation_source (contents_of doubled) doubled 4)) double_first double_second
-unfolding relocation_source relocations_in records_in relocation_of is_none_type is_symbol_table extends symbol_at absolute_size absolute_types class_of order_of contents_of contents_at e_type e_machine e_shoff e_shnum nth_section section_at section_count spelled number_at
+unfolding relocation_source relocations_in records_in relocation_of is_none_type is_symbol_table extends extended_section symbol_at absolute_size absolute_types class_of order_of contents_of contents_at e_type e_machine e_shoff e_shnum nth_section section_at section_count spelled number_at
 doubled-together = record { before = []; between = begins 12 (word_of C64 2 10 (Some (pos 0)) 3) ∷ []; behind = []; both = refl; place = refl }
 
 doubled-refused : RelocationSectionsFail (contents_of doubled) doubled (at RelocationKind 1 16)
@@ -285,11 +285,11 @@ edited_cells b =
 
 rela-body : relocation_body (relocation_source (contents_of rela_object) rela_object 4) (section_cells (contents_of rela_object) rela_object 1) (edited_cells rela_object)
     ≡ record_of 6 1 10 0 ++ (record_of 12 2 10 22 ++ record_of 16 2 10 43)
-unfolding relocation_body with_reloc with_number with_offset section_cells relocation_section relocates relocations_of relocation_source relocations_in records_in relocation_of is_none_type is_symbol_table extends symbol_at absolute_size absolute_types class_of order_of contents_of contents_at e_type e_machine e_shoff e_shnum nth_section section_at section_count spelled number_at
+unfolding relocation_body with_reloc with_number with_offset section_cells relocation_section relocates relocations_of relocation_source relocations_in records_in relocation_of is_none_type is_symbol_table extends extended_section symbol_at absolute_size absolute_types class_of order_of contents_of contents_at e_type e_machine e_shoff e_shnum nth_section section_at section_count spelled number_at
 rela-body = refl
 
 rel-body : relocation_body (relocation_source (contents_of rel_object) rel_object 4) (section_cells (contents_of rel_object) rel_object 1) (edited_cells rel_object) ≡ rel_records
-unfolding relocation_body with_reloc with_number with_offset section_cells relocation_section relocates relocations_of relocation_source relocations_in records_in relocation_of is_none_type is_symbol_table extends symbol_at absolute_size absolute_types class_of order_of contents_of contents_at e_type e_machine e_shoff e_shnum nth_section section_at section_count spelled number_at
+unfolding relocation_body with_reloc with_number with_offset section_cells relocation_section relocates relocations_of relocation_source relocations_in records_in relocation_of is_none_type is_symbol_table extends extended_section symbol_at absolute_size absolute_types class_of order_of contents_of contents_at e_type e_machine e_shoff e_shnum nth_section section_at section_count spelled number_at
 rel-body = refl
 
 -- a relocation at 54 of 67 bytes, which stands at 62 where 8 bytes are put in front of it; and a record of type 0 at 0 stays

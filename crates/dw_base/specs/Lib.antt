@@ -31,6 +31,7 @@ pub mod UnitPieces
 pub mod DebugSections
 pub mod DebugSectionFails
 pub mod FileViews
+pub mod ViewFails
 pub mod InlinePaths
 pub mod Roles
 pub mod DebugData
@@ -47,6 +48,7 @@ pub mod StringOffsets
 pub mod StringOffsetFails
 pub mod NameTables
 pub mod NameTableFails
+pub mod NameOffsets
 pub mod Slots
 pub mod OffsetPieces
 pub mod NamePieces
@@ -93,3 +95,4 @@ pub mod MacroReadings
 pub mod MacroMeanings
 pub mod MacroUnits
 pub mod MacroFails
+pub mod MacroOffsets

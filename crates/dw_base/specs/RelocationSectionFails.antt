@@ -2,10 +2,9 @@
 -- "Sections" for `sh_link` and `sh_info`). Which of them are refused, and the places, are this project's profile. No row speaks of a file
 -- that isn't relocatable. Rows on fields stand with the readers of the fields. What the sections hold is said beside the file, so that the
 -- rows serve a debug file that has some of its sections in a stripped one.
-use Rattle.std.specs.Prelude.{Bool, true, false, ◌≡◌, ℕ, ◌<◌, ◌≤◌, ◌==◌, ◌&&◌, ◌||◌, nat_lt, List, ◌∷◌, ◌++◌, length, IsTrue, Option, Some, None}
+use Rattle.std.specs.Prelude.{Bool, true, false, ◌≡◌, ℕ, ◌<◌, ◌≤◌, ◌==◌, ◌&&◌, ◌||◌, nat_lt, List, ◌∷◌, ◌++◌, length, IsTrue, Option, Some, None, is_some}
 use Rattle.dw_base.specs.DebugSections.{debug_section}
 use Rattle.dw_base.specs.Elf.{e_type, nth_section, section_count, section_name}
-use Rattle.dw_base.specs.LineMeanings.{is_there}
 use Rattle.dw_base.specs.Refusals.{at}
 use Rattle.dw_base.specs.SectionRelocations.{PlacedRelocation, is_relocation_kind, is_symbol_table, relocates, relocation_section, relocation_source, relocations_in}
 use Rattle.dw_base.specs.declared.debug_sections.DebugSection.{DebugSection}
@@ -17,7 +16,7 @@ use Rattle.dw_base.specs.declared.records.Section.{Section}
 
 -- the section of a number is there, and has the name of one that is read
 abbrev pub is_read_section : List ℕ → ℕ → Bool
-is_read_section b i = nat_lt i (section_count b) && is_there (debug_section (section_name b i))
+is_read_section b i = nat_lt i (section_count b) && is_some (debug_section (section_name b i))
 
 -- the section of a number holds relocations of one that is read
 unfoldable pub relocates_read : List ℕ → ℕ → Bool

@@ -1,11 +1,10 @@
 -- The relocations of a section of a relocatable file, and its contents as cells (gABI ch. 4 "Relocation", and "Sections" for `sh_link`
 -- and `sh_info`). Which types of relocations count is this project's profile. The headers are those of a file, and what its sections hold
 -- is said beside it: a debug file may have some of them in its stripped file.
-use Rattle.std.specs.Prelude.{Bool, false, true, ℕ, suc, ◌*◌, ◌/◌, ◌==◌, ◌&&◌, ◌||◌, nat_lt, if◌then◌else◌, List, [], ◌∷◌, length, Option, Some, None}
+use Rattle.std.specs.Prelude.{Bool, false, true, ℕ, suc, ◌*◌, ◌/◌, ◌==◌, ◌&&◌, ◌||◌, nat_lt, if◌then◌else◌, List, [], ◌∷◌, length, Option, Some, None, is_some}
 use Rattle.dw_base.specs.AbsoluteTypes.{absolute_types, absolute_size}
 use Rattle.dw_base.specs.Cells.{Cell, Relocation}
 use Rattle.dw_base.specs.Elf.{class_of, order_of, e_type, e_machine, nth_section, section_count}
-use Rattle.dw_base.specs.LineMeanings.{is_there}
 use Rattle.dw_base.specs.Lists.{tabulate}
 use Rattle.dw_base.specs.Notes.{first_below}
 use Rattle.dw_base.specs.Relocs.{reloc_size, reloc_in}
@@ -37,6 +36,10 @@ is_symbol_table b i = nat_lt i (section_count b) && (nth_section b i).kind == SH
 unfoldable pub extends : List ℕ → ℕ → ℕ → Bool
 extends b symbols i = (nth_section b i).kind == SHT_SYMTAB_SHNDX && (nth_section b i).link == symbols
 
+-- the first section that does
+unfoldable pub extended_section : List ℕ → ℕ → Option ℕ
+extended_section b symbols = first_below (extends b symbols) (section_count b)
+
 -- the bytes of a section, none where there is none
 abbrev pub bytes_if : (ℕ → List ℕ) → Option ℕ → List ℕ
 bytes_if contents None = []
@@ -62,7 +65,7 @@ relocation_source contents b i = record {
   rela = (nth_section b i).kind == SHT_RELA;
   table = contents i;
   symbols = if is_symbol_table b (nth_section b i).link then contents (nth_section b i).link else [];
-  extended = bytes_if contents (first_below (extends b (nth_section b i).link) (section_count b));
+  extended = if is_symbol_table b (nth_section b i).link then bytes_if contents (extended_section b (nth_section b i).link) else [];
 }
 
 -- all records of the table; bytes behind the last whole one are none
@@ -71,7 +74,7 @@ records_in g = tabulate (λ i. reloc_in g.class g.order g.rela g.table (i * relo
 
 -- type 0 of a machine that is listed: the record stands there, but it is no relocation
 unfoldable pub is_none_type : ℕ → ℕ → Bool
-is_none_type machine kind = is_there (absolute_types machine) && kind == 0
+is_none_type machine kind = is_some (absolute_types machine) && kind == 0
 
 -- the section in which a symbol is defined, and its value there
 abbrev pub target_by : Bool → Symbol → Option (ℕ × ℕ)

@@ -1,10 +1,10 @@
 -- The debug data of a view, its sections found by their names (DWARF 5, Appendix B), and what a view means: its units, and by
 -- name the bytes of the sections that are meant as they stand.
 use Rattle.std.specs.Prelude.{Bool, ℕ, zero, suc, ◌||◌, ◌&&◌, not, if◌then◌else◌, List, [], ◌∷◌, ◌++◌, drop, Option, Some, None, true, false}
-use Rattle.dw_base.specs.Cells.{Cell, Located, CellSection, plain_cells}
+use Rattle.dw_base.specs.Cells.{Located, CellSection}
 use Rattle.dw_base.specs.DebugData.{DebugData, DataReadings, around_of, line_source}
 use Rattle.dw_base.specs.DebugSections.{debug_section, name_of}
-use Rattle.dw_base.specs.FileViews.{Contents, plain_contents, bytes_in, cells_of, ViewSection, View, section_bytes, section_named, view_cells}
+use Rattle.dw_base.specs.FileViews.{plain_contents, bytes_in, cells_of, ViewSection, View, section_bytes, section_named, view_cells}
 use Rattle.dw_base.specs.LineMeanings.{LineMeaning, line_meanings, mapped_lines}
 use Rattle.dw_base.specs.MacroMeanings.{MacroMeaning, macro_meanings}
 use Rattle.dw_base.specs.MappedSlots.{unit_slots, mapped_slots}
@@ -18,10 +18,6 @@ use Rattle.dw_base.specs.UnitHeaders.{UnitSection, SectionKind, in_info, in_type
 use Rattle.dw_base.specs.UnitMeanings.{UnitMeaning, units_of}
 use Rattle.dw_base.specs.declared.debug_sections.DebugSection.{DebugSection}
 use Rattle.dw_base.specs.declared.debug_sections.DebugSection.TheVariants.{Info, Types, Abbrev, Str, LineStr, StrOffsets, Line, Macro, Names}
-
--- contents as cells
-abbrev pub cells_in : Contents → List Cell
-cells_in contents = plain_cells (bytes_in contents)
 
 -- a section that holds units, by the section that its name is
 abbrev pub unit_kind : Option DebugSection → Option SectionKind
@@ -108,9 +104,10 @@ is_read (Some Names) = true
 is_read s = false
 
 -- a section whose bytes are meant as they stand: it isn't loaded and isn't read. The section name table and the link to a
--- debug file are left out, since they say how the sections are divided between files.
+-- debug file are left out, since they say how the sections are divided between files, and so are the sections that hold relocations
+-- of those that are read.
 abbrev pub is_other : ViewSection → Bool
-is_other s = not (s.alloc || s.is_name_table || is_read (debug_section s.name) || same_text s.name debug_link)
+is_other s = not (s.alloc || s.is_name_table || is_read (debug_section s.name) || same_text s.name debug_link || s.relocates_read)
 
 -- the bytes of a section, under its name
 pub record NamedBytes : Type 0 where

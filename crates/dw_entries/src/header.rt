@@ -17,7 +17,6 @@ ghost use Rattle.dw_entries.specs.Fronts.{HasFront, IsOfView};
 ghost use Rattle.dw_entries.specs.HeaderRows.{OffsetRead, UnitRefuses};
 ghost use Rattle.dw_entries.specs.ViewUnits.{as_kind, unit_base, unit_section_at};
 
-use crate::fields::placed_field;
 use crate::front::{Front, bytes_behind, front_at, refused};
 use crate::places::{further_size, width_size};
 use crate::unit_kinds::{UnitsOf, is_address_size};
@@ -68,7 +67,7 @@ fn abbrevs_at(
     ensures read { OnOk result (OffsetReads (unit_base view.now).order (unit_section_at view.now section).contents (field_place (start + at) size offset_field)) }
     ensures refused { IfErr result (OffsetFails (unit_base view.now).order (unit_section_at view.now section).number (unit_section_at view.now section).contents (field_place (start + at) size offset_field)) }
 {
-    let field = match placed_field(view, section, start + at, size) {
+    let field = match view.offset(section, start + at, size) {
         Ok(field) => field,
         Err(refusal) => return Err(refusal),
     };

@@ -27,7 +27,6 @@
 #![tactic(auto)]
 
 mod entry_values;
-mod fields;
 mod front;
 mod header;
 mod headers;

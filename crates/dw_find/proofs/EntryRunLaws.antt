@@ -128,7 +128,7 @@ null-run base cells s place e d size is =
     ∙ between-same s place e d at_code (place + length (take size (drop place cells))) e (d - 1)
     ∙ ap (λ (m : ℕ). between s (place + m) e (d - 1)) c.size in
     subst (λ (t : UnitState). PlacedRun base cells s.section s.unit t (between s (place + size) e (d - 1)) place (place + size) []) (sym (between-code s place e d (not_end s cells place 0 size is)))
-    (placed-one base cells (in_unit s place e d at_code) (between s (place + size) e (d - 1)) place size [] fits next refl tt)
+    (placed-one base cells (in_unit s place e d at_code) (between s (place + size) e (d - 1)) place size [] refl fits next refl tt)
 
 -- the code of an entry
 code-run : (base : UnitBase) (cells : List Cell) (s : UnitState) (place e d code size : ℕ) (a : Abbreviation)
@@ -156,7 +156,7 @@ code-run base cells s place e d code size a is some listed root =
     ∙ ap (λ (m : ℕ). inside s (place + m) (e + 1) (depth_behind a d) e a.tag a.specs) c.size in
     subst (λ (u : UnitState). PlacedRun base cells s.section s.unit u (inside s (place + size) (e + 1) (depth_behind a d) e a.tag a.specs) place (place + size) [])
     (sym (between-code s place e d (not_end s cells place code size is)))
-    (placed-one base cells (in_unit s place e d at_code) (inside s (place + size) (e + 1) (depth_behind a d) e a.tag a.specs) place size [] fits next refl tt)
+    (placed-one base cells (in_unit s place e d at_code) (inside s (place + size) (e + 1) (depth_behind a d) e a.tag a.specs) place size [] refl fits next refl tt)
 
 -- the places of an entry are those of its values
 pub entry_places-is : (params : Params) (table : List Abbreviation) (bytes : List ℕ) (n place depth after : ℕ) (a : Abbreviation) → (is : IsEntry params table bytes place a after)

@@ -22,10 +22,12 @@ use Rattle.dw_base.specs.declared.values.Value.{Value}
 use Rattle.dw_base.specs.declared.values.ValueClass.{ValueClass}
 use Rattle.dw_base.specs.declared.values.ValueClass.TheVariants.{StrOffset, LineStrOffset}
 use Rattle.dw_find.specs.EntryTexts.{Tables, Found, OffsetLies, OffsetNames, OffsetRefuses, OffsetSized, no_text, offset, offset_in, relocation, StartSized, with_base, with_paths, with_places, with_stray, TakenBehind, AreTaken, ValueRefuses, OneRefuses, none, some, ValuesRefuse, fails, table_by, value, ValueTaken}
-use Rattle.dw_find.specs.TextPlaces.{TextPlace, Indexed, no_index, no_start, unit_start, unit_base, text_index, base_in, base_or, fields_in, index_at, indexes_in, indexed_at, inline_in, is_macros, is_start, is_start_form, line_at, macros_in, own_form, said_places, said_value, start_at, starts_in, stray_in, stray_or, line_places, class_places, unit_start_at, value_places, value_places_behind, values_places}
+use Rattle.dw_find.specs.TextPlaces.{TextPlace, Indexed, no_index, no_start, unit_start, unit_base, base_offset, said_base, said_of, text_index, base_in, base_or, fields_in, index_at, indexes_in, indexed_at, inline_in, is_macros, is_start, is_start_form, line_at, macros_in, own_form, said_places, said_value, start_at, starts_in, stray_in, stray_or, line_places, class_places, unit_start_at, value_places, value_places_behind, values_places}
 use Rattle.dw_find.specs.UnitPaths.{UnitPaths}
 use Rattle.dw_find.specs.declared.fields.InlinePath.{InlinePath}
 use Rattle.dw_find.specs.declared.fields.PathField.{PathField}
+use Rattle.dw_find.specs.declared.fields.TextBase.{TextBase}
+use Rattle.dw_find.specs.declared.fields.TextBase.TheVariants.{Field as BaseField, Number as BaseNumber}
 use Rattle.dw_find.specs.declared.fields.TextIndex.{TextIndex}
 use Rattle.dw_find.proofs.FoundLaws.{fields-append, inline-append, paths-same}
 use Rattle.dw_find.proofs.ValueFactLaws.{start-read, value-inside, value-lies, value-sized}
@@ -108,6 +110,7 @@ with_or (Some n) o = Some n
 stray_or-append : (i : Indexed) (at : ℕ) (a b : Option ℕ) → with_or (stray_or at i a) b ≡ stray_or at i (with_or a b)
 stray_or-append no_index at a b = refl
 stray_or-append (unit_base n) at a b = refl
+stray_or-append base_offset at a b = refl
 stray_or-append (text_index path n) at a b = refl
 stray_or-append no_start at a b = refl
 stray_or-append unit_start at a b = refl
@@ -152,26 +155,31 @@ with_paths-none u =
     (append-nil u.str) (append-nil u.line_str) (append-nil u.inline) (append-nil u.starts) (append-nil u.macros) (with_stray-none u.stray)
 
 -- the base and the values by index
-base_or-append : (i : Indexed) (a b : Option ℕ) → with_or (base_or i a) b ≡ base_or i (with_or a b)
-base_or-append no_index a b = refl
-base_or-append no_start a b = refl
-base_or-append unit_start a b = refl
-base_or-append (unit_base n) a b = refl
-base_or-append (text_index path n) a b = refl
+abbrev base_first : Option TextBase → Option TextBase → Option TextBase
+base_first None o = o
+base_first (Some b) o = Some b
 
-base_in-append : (ts us : List TextPlace) → base_in (ts ++ us) ≡ with_or (base_in ts) (base_in us)
+base_or-append : (i : Indexed) (at len : ℕ) (a b : Option TextBase) → base_first (base_or at len i a) b ≡ base_or at len i (base_first a b)
+base_or-append no_index at len a b = refl
+base_or-append no_start at len a b = refl
+base_or-append unit_start at len a b = refl
+base_or-append (unit_base n) at len a b = refl
+base_or-append base_offset at len a b = refl
+base_or-append (text_index path n) at len a b = refl
+
+base_in-append : (ts us : List TextPlace) → base_in (ts ++ us) ≡ base_first (base_in ts) (base_in us)
 base_in-append [] us = refl
-base_in-append (t ∷ ts) us = ap (base_or t.says) (base_in-append ts us) ∙ sym (base_or-append t.says (base_in ts) (base_in us))
+base_in-append (t ∷ ts) us = ap (base_or t.at t.len t.says) (base_in-append ts us) ∙ sym (base_or-append t.says t.at t.len (base_in ts) (base_in us))
 
-pub with_base-more : (b : Option ℕ) (ts us : List TextPlace) → with_base (with_base b ts) us ≡ with_base b (ts ++ us)
+pub with_base-more : (b : Option TextBase) (ts us : List TextPlace) → with_base (with_base b ts) us ≡ with_base b (ts ++ us)
 with_base-more (Some n) ts us = refl
 with_base-more None ts us = by_first (base_in ts) refl
   where
-    by_first : (o : Option ℕ) → base_in ts ≡ o → with_base (base_in ts) us ≡ base_in (ts ++ us)
-    by_first None e = ap (λ (x : Option ℕ). with_base x us) e ∙ sym (base_in-append ts us ∙ ap (λ (x : Option ℕ). with_or x (base_in us)) e)
-    by_first (Some n) e = ap (λ (x : Option ℕ). with_base x us) e ∙ sym (base_in-append ts us ∙ ap (λ (x : Option ℕ). with_or x (base_in us)) e)
+    by_first : (o : Option TextBase) → base_in ts ≡ o → with_base (base_in ts) us ≡ base_in (ts ++ us)
+    by_first None e = ap (λ (x : Option TextBase). with_base x us) e ∙ sym (base_in-append ts us ∙ ap (λ (x : Option TextBase). base_first x (base_in us)) e)
+    by_first (Some n) e = ap (λ (x : Option TextBase). with_base x us) e ∙ sym (base_in-append ts us ∙ ap (λ (x : Option TextBase). base_first x (base_in us)) e)
 
-pub with_base-none : (b : Option ℕ) → with_base b [] ≡ b
+pub with_base-none : (b : Option TextBase) → with_base b [] ≡ b
 with_base-none None = refl
 with_base-none (Some n) = refl
 
@@ -185,7 +193,7 @@ pub with_places-more : (f : Found) (ts us : List TextPlace) → with_places (wit
 unfolding with_places
 with_places-more f ts us =
     ap (λ (u : UnitPaths). record { paths = u; base = with_base (with_base f.base ts) us; indexes = (f.indexes ++ indexes_in ts) ++ indexes_in us }) (with_paths-more f.paths ts us)
-    ∙ ap (λ (b : Option ℕ). record { paths = with_paths f.paths (ts ++ us); base = b; indexes = (f.indexes ++ indexes_in ts) ++ indexes_in us }) (with_base-more f.base ts us)
+    ∙ ap (λ (b : Option TextBase). record { paths = with_paths f.paths (ts ++ us); base = b; indexes = (f.indexes ++ indexes_in ts) ++ indexes_in us }) (with_base-more f.base ts us)
     ∙ ap (λ (xs : List TextIndex). record { paths = with_paths f.paths (ts ++ us); base = with_base f.base (ts ++ us); indexes = xs })
     (append_assoc f.indexes (indexes_in ts) (indexes_in us) ∙ ap (λ (xs : List TextIndex). f.indexes ++ xs) (sym (indexes-append ts us)))
 
@@ -193,7 +201,7 @@ pub with_places-none : (f : Found) → with_places f [] ≡ f
 unfolding with_places
 with_places-none f =
     ap (λ (u : UnitPaths). record { paths = u; base = with_base f.base []; indexes = f.indexes ++ [] }) (with_paths-none f.paths)
-    ∙ ap (λ (b : Option ℕ). record { paths = f.paths; base = b; indexes = f.indexes ++ [] }) (with_base-none f.base)
+    ∙ ap (λ (b : Option TextBase). record { paths = f.paths; base = b; indexes = f.indexes ++ [] }) (with_base-none f.base)
     ∙ ap (λ (xs : List TextIndex). record { paths = f.paths; base = f.base; indexes = xs }) (append-nil f.indexes)
 
 -- tests of a value that is to say where a line table starts
@@ -212,21 +220,34 @@ line-says false form v = refl
 -- what a value says: the start of a line table, a text or an index, and what it says of other starts
 pub value-found : (number tag : ℕ) (x : Spec) (bytes : List ℕ) (place : ℕ) (v : Value) (f0 f1 f2 f3 : Found) (path base says : Bool)
     → f3 ≡ with_places f2 (said_places (is_start x.name) (is_macros x.name) (own_form x bytes place) place v)
-    → f2 ≡ with_places f1 (class_places v.class path base place v) → f1 ≡ with_places f0 (line_at says v)
+    → f2 ≡ with_places f1 (class_places v.class path base (is_start_form (own_form x bytes place)) place v) → f1 ≡ with_places f0 (line_at says v)
     → path ≡ is_path number tag x.name → base ≡ is_base number x.name
     → says ≡ ((x.name == DW_AT_stmt_list) && is_start_form (own_form x bytes place)) → f3 ≡ with_places f0 (value_places number tag x bytes place v)
 value-found number tag x bytes place v f0 f1 f2 f3 path base says third second first path_is base_is says_is =
     let ls : List TextPlace = line_places (x.name == DW_AT_stmt_list) (own_form x bytes place) v in
-    let cs : List TextPlace = class_places v.class (is_path number tag x.name) (is_base number x.name) place v in
+    let cs : List TextPlace = class_places v.class (is_path number tag x.name) (is_base number x.name) (is_start_form (own_form x bytes place)) place v in
     let ss : List TextPlace = said_places (is_start x.name) (is_macros x.name) (own_form x bytes place) place v in
     third
     ∙ ap (λ (f : Found). with_places f (said_places (is_start x.name) (is_macros x.name) (own_form x bytes place) place v))
-    (second ∙ ap (λ (b : Bool). with_places f1 (class_places v.class b base place v)) path_is
-    ∙ ap (λ (b : Bool). with_places f1 (class_places v.class (is_path number tag x.name) b place v)) base_is)
+    (second ∙ ap (λ (b : Bool). with_places f1 (class_places v.class b base (is_start_form (own_form x bytes place)) place v)) path_is
+    ∙ ap (λ (b : Bool). with_places f1 (class_places v.class (is_path number tag x.name) b (is_start_form (own_form x bytes place)) place v)) base_is)
     ∙ with_places-more f1 cs ss
     ∙ ap (λ (f : Found). with_places f (cs ++ ss))
     (first ∙ ap (λ (ts : List TextPlace). with_places f0 ts) (ap (λ (b : Bool). line_at b v) says_is ∙ line-says (x.name == DW_AT_stmt_list) (own_form x bytes place) v))
     ∙ with_places-more f0 ls (cs ++ ss)
+
+-- the base that it says
+pub base-some : (field : Bool) (v : Value) (b : TextBase) (f : PathField) → field ≡ true → f ≡ record { at = v.at; size = v.len } → b ≡ BaseField f → b ≡ said_of field v
+base-some field v b f e is same = same ∙ ap BaseField is ∙ sym (ap (λ (x : Bool). said_of x v) e)
+
+pub base-none : (field : Bool) (v : Value) → field ≡ false → BaseNumber v.number ≡ said_of field v
+base-none field v e = sym (ap (λ (x : Bool). said_of x v) e)
+
+pub ruleset base_rules = (base-some, base-none)
+
+base-place : (field : Bool) (place : ℕ) (v : Value) → base_in (said_base field place v.at v.len v.number) ≡ Some (said_of field v)
+base-place true place v = refl
+base-place false place v = refl
 
 -- where it says a start it is a field of four bytes or eight
 pub start-sized : (x : Spec) (bytes : List ℕ) (place n : ℕ) (line says : Bool) → StartSized (own_form x bytes place) n → says ≡ (line && is_start_form (own_form x bytes place))

@@ -1,32 +1,30 @@
 -- Laws of the offsets that fields of a view hold: what was read is the offset of the field's cells, and where none was read that is a row.
-use Rattle.std.proofs.Common.{true, ◌≡◌, ◌⊎◌, inl, inr, ℕ, ◌+◌, ◌<◌, ◌≤◌, length, sym, ap, ◌∙◌, arith}
+use Rattle.std.proofs.Common.{◌≡◌, ◌⊎◌, inl, inr, ℕ, ◌+◌, ◌<◌, ◌≤◌, List, [], length, Option, Some, None, sym, ap, ◌∙◌, arith}
 use Rattle.std.specs.Prelude.{Ok, Err}
-use Rattle.dw_base.specs.Cells.{Located, cells_at, is_placed, offset_into, offset_of}
-use Rattle.dw_base.specs.FileViews.{View, field_at, field_read, section_bytes, view_cells}
+use Rattle.dw_base.specs.Cells.{Located, cells_at, field_of, offset_into, offset_of, Cell}
+use Rattle.dw_base.specs.DebugSections.{name_of}
+use Rattle.dw_base.specs.FileViews.{View, field_at, section_bytes, section_named, view_cells}
 use Rattle.dw_base.specs.RelocationRows.{OffsetFails, field_place, offset_field}
+use Rattle.dw_base.specs.ViewData.{located, located_at}
+use Rattle.dw_base.specs.declared.debug_sections.DebugSection.{DebugSection}
 use Rattle.dw_base.specs.declared.fault.Refusal.{Refusal}
 use Rattle.dw_base.specs.declared.view_fields.Field.{Field}
-use Rattle.dw_base.proofs.ViewCellLaws.{length-view_cells, offset_at-cells}
-use Rattle.dw_base.proofs.ViewOffsetLaws.{offset-fails, offset-is, read-nowhere, read-placed, read-refused}
-use Rattle.dw_find.specs.FieldOffsets.{GivesNoPlace}
+use Rattle.dw_base.proofs.ViewCellLaws.{field_at-cells, length-view_cells, offset_at-cells}
+use Rattle.dw_base.proofs.ViewOffsetLaws.{offset-fails, offset-is}
+use Rattle.dw_find.specs.Fields.{IsStartField}
+use Rattle.dw_find.specs.declared.fields.PathField.{PathField}
+use Rattle.dw_base.specs.ViewOffsets.{offset_read}
 
--- a field that is refused
-pub field-refused : (v : View) (section place n : ℕ) (r : Refusal) → 0 < n → place + n ≤ length (section_bytes v section) → Err r ≡ field_read v section place n
+-- a field that is refused, and one that was read
+pub field-refused : (v : View) (section place n : ℕ) (r : Refusal) → 0 < n → place + n ≤ length (section_bytes v section) → Err r ≡ offset_read v section place n
     → OffsetFails v.order section (view_cells v section) (field_place place n offset_field) r
-field-refused v section place n r some inside is = offset-fails v section place n r some inside (sym (read-refused v section place n r is))
+field-refused v section place n r some inside is = offset-fails v section place n r some inside (sym is)
 
-pub place-refused : (v : View) (section place n : ℕ) (f : Field) (r : Refusal) → 0 < n → place + n ≤ length (section_bytes v section)
-    → Ok f ≡ field_read v section place n → GivesNoPlace section place f r → OffsetFails v.order section (view_cells v section) (field_place place n offset_field) r
-place-refused v section place n f r some inside read g =
-    offset-fails v section place n r some inside (sym (read-nowhere v section place n f r read g.none g.is))
-
--- and one that was read
-pub offset-read : (v : View) (section place n offset : ℕ) (f : Field) (z : Located) → Ok f ≡ field_read v section place n → is_placed f ≡ true → offset ≡ offset_into z f
+pub offset-at : (v : View) (section place n offset : ℕ) (f : Field) (z : Located) → Ok f ≡ offset_read v section place n → offset ≡ offset_into z f
     → offset ≡ offset_into z (field_at v section place n)
-offset-read v section place n offset f z read placed is =
-    is ∙ ap (offset_into z) (offset-is v section place n f (sym (read-placed v section place n f read placed))).same
+offset-at v section place n offset f z read is = is ∙ ap (offset_into z) (offset-is v section place n f (sym read)).same
 
-pub ruleset field_rules = (field-refused, place-refused, offset-read)
+pub ruleset field_rules = (field-refused, offset-at)
 
 -- the offset of a value's field
 pub field-inside : (v : View) (section place n : ℕ) → place + n ≤ length (view_cells v section) → place + n ≤ length (section_bytes v section)
@@ -48,3 +46,43 @@ offset-cells v section place n offset z sized inside is =
     is ∙ sym (offset_at-cells v z section place n (offset-some n sized) (field-inside v section place n inside))
 
 pub ruleset value_rules = (field-inside, offset-some, offset-few, offset-cells)
+
+-- what a field reads as, by its cells
+pub start-some : (info : List ℕ) (at n : ℕ) → IsStartField info (record { at = at; size = n }) → 0 < n
+start-some info at n is = offset-some n is.sized
+
+pub start-few : (info : List ℕ) (at n : ℕ) → IsStartField info (record { at = at; size = n }) → n ≤ 8
+start-few info at n is = offset-few n is.sized
+
+pub start-inside : (info : List ℕ) (at n : ℕ) → IsStartField info (record { at = at; size = n }) → at + n ≤ length info
+start-inside info at n is = is.inside
+
+pub field-cells : (v : View) (section place n : ℕ) (f : Field) → IsStartField (section_bytes v section) (record { at = place; size = n }) → Ok f ≡ offset_read v section place n
+    → f ≡ field_of v.order (cells_at (view_cells v section) place n)
+field-cells v section place n f is read =
+    (offset-is v section place n f (sym read)).same ∙ sym (field_at-cells v section place n (offset-some n is.sized) is.inside)
+
+pub ruleset read_rules = (start-some, start-few, start-inside, field-cells, field-refused)
+
+-- a field lies in its section
+pub field-lies : (v : View) (i : ℕ) (f : PathField) → IsStartField (section_bytes v i) f → f.at + f.size ≤ length (view_cells v i)
+field-lies v i f is =
+    let inside = is.inside in
+    omega (arith, inside, length-view_cells v i)
+
+pub field-sized : (info : List ℕ) (f : PathField) → IsStartField info f → (f.size ≡ 4) ⊎ (f.size ≡ 8)
+field-sized info f is = is.sized
+
+-- the first section of a name
+pub named-some : (v : View) (s : DebugSection) (i n : ℕ) (bs : List ℕ) (p : List Cell) → Some i ≡ section_named v (name_of s) → bs ≡ section_bytes v i
+    → n ≡ offset_of v.order (record { number = i; bytes = bs }) p → n ≡ offset_of v.order (located v s) p
+unfolding located
+named-some v s i n bs p found bytes is =
+    is ∙ ap (λ (l : List ℕ). offset_of v.order (record { number = i; bytes = l }) p) bytes ∙ ap (λ (o : Option ℕ). offset_of v.order (located_at v o) p) found
+
+pub named-none : (v : View) (s : DebugSection) (n : ℕ) (p : List Cell) → None ≡ section_named v (name_of s) → n ≡ offset_of v.order (record { number = 0; bytes = [] }) p
+    → n ≡ offset_of v.order (located v s) p
+unfolding located
+named-none v s n p found is = is ∙ ap (λ (o : Option ℕ). offset_of v.order (located_at v o) p) found
+
+pub ruleset section_rules = (field-lies, field-sized, named-some, named-none)

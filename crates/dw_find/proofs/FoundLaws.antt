@@ -1,10 +1,10 @@
 -- From the places of texts in units to the readings of debug data, and what they say of paths.
-use Rattle.std.proofs.Common.{Bool, true, false, ◌≡◌, ℕ, ◌+◌, List, [], ◌∷◌, ◌++◌, length, take, drop, cond, IsTrue, Option, Some, None, refl, sym, ap, ◌∙◌, subst, arith, append_assoc, append-nil}
+use Rattle.std.proofs.Common.{Bool, true, false, ◌≡◌, ℕ, ◌+◌, List, [], ◌∷◌, ◌++◌, length, take, drop, cond, IsTrue, Option, Some, None, refl, sym, ap, ◌∙◌, subst, arith, append_assoc, append-nil, ◌==◌, ◌||◌}
 use Rattle.std.specs.Bool.{⊤}
 use Rattle.std.proofs.Math.Seq.{take-append_seam}
 use Rattle.std.proofs.lemmas.List.{take-append-le}
 use Rattle.dw_base.specs.Cells.{Cell, bytes_of, cells_at, field_of, located_cells, offset_of}
-use Rattle.dw_base.specs.DebugData.{DebugData, DataReadings, Lasting, around_of, start_number, started_unit, unit_named, units_in, ReadsAll}
+use Rattle.dw_base.specs.DebugData.{DebugData, DataReadings, Lasting, around_of, start_number, unit_named, units_in, ReadsAll}
 use Rattle.dw_base.specs.Readings.{Reading, Readings, EachReading}
 use Rattle.dw_base.specs.Forms.{TextSection, in_str, in_line_str, ValueKind, number_of, leb_number, inline_text as inline_kind, text_offset, kind_in}
 use Rattle.dw_base.specs.InlinePaths.{inline_fits}
@@ -30,7 +30,9 @@ use Rattle.dw_base.specs.declared.values.ValueClass.TheVariants.{Number, StrInde
 use Rattle.dw_meaning.proofs.TextEditLaws.{chosen-fits}
 use Rattle.dw_base.proofs.UnitHeaderLaws.{bytes_of-append}
 use Rattle.dw_meaning.proofs.ScanPieceLaws.{bytes_of-drop}
-use Rattle.dw_find.specs.TextPlaces.{TextPlace, Indexed, unit_base, text_index, place_of, indexed_at, indexed_kind, indexed_in, places_in, PlaceNames, PlacesName, fields_in, inline_at, inline_in, paths_by, SectionSays, AllPlaced, AllStarts, StartsNamed, UnitsNamed, InlinesFit, AllFitRooms, macros_in, names_place, no_start, said_start, stray_in, starts_in, unit_start}
+use Rattle.dw_find.specs.TextPlaces.{TextPlace, Indexed, base_offset, said_base, unit_base, text_index, place_of, indexed_at, indexed_kind, indexed_in, places_in, PlaceNames, PlacesName, fields_in, inline_at, inline_in, paths_by, SectionSays, AllPlaced, InlinesFit, AllFitRooms, macros_in, no_start, said_start, stray_in, starts_in, unit_start}
+use Rattle.dw_find.specs.NamedStarts.{AllStarts, StartsNamed, UnitsNamed}
+use Rattle.dw_find.specs.UnitPlaces.{PlacesStart, UnitPlaces, has_unit, names_place}
 use Rattle.dw_find.specs.UnitPaths.{UnitPaths, field_by, path_fields, inline_by, inline_paths, paths_in, paths_of, inline_text, macro_by, macro_fields, start_by, start_fields, stray_among}
 use Rattle.dw_find.specs.declared.fields.InlinePath.{InlinePath}
 use Rattle.dw_find.specs.declared.fields.PathField.{PathField}
@@ -93,24 +95,28 @@ both-indexed : (ts us : List TextPlace) → IsIndexed ts → IsIndexed us → Is
 both-indexed ts us none_indexed h = h
 both-indexed ts us (more_indexed at len i rest k) h = more_indexed at len i (rest ++ us) (both-indexed rest us k h)
 
-kind-indexed : (k : ValueKind) (path base : Bool) (order : Order) (at : ℕ) (p : List Cell) → IsIndexed (indexed_kind k path base order at p)
-kind-indexed (number_of class n) path base order at p = by_class class base
+base-indexed : (field : Bool) (begin at len n : ℕ) → IsIndexed (said_base field begin at len n)
+base-indexed true begin at len n = more_indexed at len base_offset [] none_indexed
+base-indexed false begin at len n = one_indexed begin (unit_base n)
+
+kind-indexed : (k : ValueKind) (path base : Bool) (order : Order) (begin at len : ℕ) (p : List Cell) → IsIndexed (indexed_kind k path base order begin at len p)
+kind-indexed (number_of class n) path base order begin at len p = by_class class base
   where
-    by_class : (c : ValueClass) (b : Bool) → IsIndexed (indexed_kind (number_of c n) path b order at p)
-    by_class StrIndex b = one_indexed at (text_index path (spelled order (bytes_of p) 0 (length p)))
-    by_class Number true = one_indexed at (unit_base (spelled order (bytes_of p) 0 (length p)))
+    by_class : (c : ValueClass) (b : Bool) → IsIndexed (indexed_kind (number_of c n) path b order begin at len p)
+    by_class StrIndex b = one_indexed begin (text_index path (spelled order (bytes_of p) 0 (length p)))
+    by_class Number true = base-indexed (n == 4 || n == 8) begin at len (spelled order (bytes_of p) 0 (length p))
     by_class Number false = none_indexed
-    by_class SecOffset true = one_indexed at (unit_base (spelled order (bytes_of p) 0 (length p)))
+    by_class SecOffset true = base-indexed true begin at len (spelled order (bytes_of p) 0 (length p))
     by_class SecOffset false = none_indexed
     by_class c b = none_indexed
-kind-indexed (leb_number class) path base order at p = by_class class base
+kind-indexed (leb_number class) path base order begin at len p = by_class class base
   where
-    by_class : (c : ValueClass) (b : Bool) → IsIndexed (indexed_kind (leb_number c) path b order at p)
-    by_class StrIndex b = one_indexed at (text_index path (code_value p))
-    by_class Number true = one_indexed at (unit_base (code_value p))
+    by_class : (c : ValueClass) (b : Bool) → IsIndexed (indexed_kind (leb_number c) path b order begin at len p)
+    by_class StrIndex b = one_indexed begin (text_index path (code_value p))
+    by_class Number true = one_indexed begin (unit_base (code_value p))
     by_class Number false = none_indexed
     by_class c b = none_indexed
-kind-indexed k path base order at p = none_indexed
+kind-indexed k path base order begin at len p = none_indexed
 
 said-indexed : (b macro : Bool) (begin at len : ℕ) → IsIndexed (said_start b macro begin at len)
 said-indexed true true begin at len = more_indexed at len unit_start [] none_indexed
@@ -122,14 +128,14 @@ piece-indexed at_header s p = none_indexed
 piece-indexed at_code s p = none_indexed
 piece-indexed (at_values n tag []) s p = none_indexed
 piece-indexed (at_values n tag (x ∷ xs)) s p =
-    both-indexed (indexed_kind (kind_in s.header.params x.form) (is_path n tag x.name) (is_base n x.name) s.header.params.order s.place p)
+    both-indexed (indexed_kind (kind_in s.header.params x.form) (is_path n tag x.name) (is_base n x.name) s.header.params.order s.place s.place (length p) p)
     (said_start (start_form_by (kind_in s.header.params x.form) (use_of n tag x.name)) (macro_value_by (kind_in s.header.params x.form) (use_of n tag x.name)) s.place s.place (length p))
-    (kind-indexed (kind_in s.header.params x.form) (is_path n tag x.name) (is_base n x.name) s.header.params.order s.place p)
+    (kind-indexed (kind_in s.header.params x.form) (is_path n tag x.name) (is_base n x.name) s.header.params.order s.place s.place (length p) p)
     (said-indexed (start_form_by (kind_in s.header.params x.form) (use_of n tag x.name)) (macro_value_by (kind_in s.header.params x.form) (use_of n tag x.name)) s.place s.place (length p))
 piece-indexed (at_chosen n tag start x xs) s p =
-    both-indexed (indexed_kind (kind_in s.header.params x.form) (is_path n tag x.name) (is_base n x.name) s.header.params.order start p)
+    both-indexed (indexed_kind (kind_in s.header.params x.form) (is_path n tag x.name) (is_base n x.name) s.header.params.order start s.place (length p) p)
     (said_start (start_form_by (kind_in s.header.params x.form) (use_of n tag x.name)) (macro_value_by (kind_in s.header.params x.form) (use_of n tag x.name)) start s.place (length p))
-    (kind-indexed (kind_in s.header.params x.form) (is_path n tag x.name) (is_base n x.name) s.header.params.order start p)
+    (kind-indexed (kind_in s.header.params x.form) (is_path n tag x.name) (is_base n x.name) s.header.params.order start s.place (length p) p)
     (said-indexed (start_form_by (kind_in s.header.params x.form) (use_of n tag x.name)) (macro_value_by (kind_in s.header.params x.form) (use_of n tag x.name)) start s.place (length p))
 piece-indexed stuck s p = none_indexed
 
@@ -171,24 +177,28 @@ stray-role (offset t path) at len us = refl
 stray-role inline_path at len us = refl
 stray-role line_start at len us = refl
 
-stray-kind : (k : ValueKind) (path base : Bool) (order : Order) (at : ℕ) (p : List Cell) (us : List TextPlace) → stray_in (indexed_kind k path base order at p ++ us) ≡ stray_in us
-stray-kind (number_of class n) path base order at p us = by_class class base
+stray-base : (field : Bool) (begin at len n : ℕ) (us : List TextPlace) → stray_in (said_base field begin at len n ++ us) ≡ stray_in us
+stray-base true begin at len n us = refl
+stray-base false begin at len n us = refl
+
+stray-kind : (k : ValueKind) (path base : Bool) (order : Order) (begin at len : ℕ) (p : List Cell) (us : List TextPlace) → stray_in (indexed_kind k path base order begin at len p ++ us) ≡ stray_in us
+stray-kind (number_of class n) path base order begin at len p us = by_class class base
   where
-    by_class : (c : ValueClass) (b : Bool) → stray_in (indexed_kind (number_of c n) path b order at p ++ us) ≡ stray_in us
+    by_class : (c : ValueClass) (b : Bool) → stray_in (indexed_kind (number_of c n) path b order begin at len p ++ us) ≡ stray_in us
     by_class StrIndex b = refl
-    by_class Number true = refl
+    by_class Number true = stray-base (n == 4 || n == 8) begin at len (spelled order (bytes_of p) 0 (length p)) us
     by_class Number false = refl
-    by_class SecOffset true = refl
+    by_class SecOffset true = stray-base true begin at len (spelled order (bytes_of p) 0 (length p)) us
     by_class SecOffset false = refl
     by_class c b = refl
-stray-kind (leb_number class) path base order at p us = by_class class base
+stray-kind (leb_number class) path base order begin at len p us = by_class class base
   where
-    by_class : (c : ValueClass) (b : Bool) → stray_in (indexed_kind (leb_number c) path b order at p ++ us) ≡ stray_in us
+    by_class : (c : ValueClass) (b : Bool) → stray_in (indexed_kind (leb_number c) path b order begin at len p ++ us) ≡ stray_in us
     by_class StrIndex b = refl
     by_class Number true = refl
     by_class Number false = refl
     by_class c b = refl
-stray-kind k path base order at p us = refl
+stray-kind k path base order begin at len p us = refl
 
 stray-form : (b macro : Bool) (begin at len : ℕ) (us : List TextPlace) → stray_in (said_start b macro begin at len ++ us) ≡ cond b (stray_in us) (Some begin)
 stray-form true true begin at len us = refl
@@ -196,10 +206,10 @@ stray-form true false begin at len us = refl
 stray-form false macro begin at len us = refl
 
 stray-both : (k : ValueKind) (path base : Bool) (order : Order) (start : ℕ) (p : List Cell) (b macro : Bool) (at len : ℕ) (us : List TextPlace)
-    → stray_in ((indexed_kind k path base order start p ++ said_start b macro start at len) ++ us) ≡ cond b (stray_in us) (Some start)
+    → stray_in ((indexed_kind k path base order start at len p ++ said_start b macro start at len) ++ us) ≡ cond b (stray_in us) (Some start)
 stray-both k path base order start p b macro at len us =
-    ap stray_in (append_assoc (indexed_kind k path base order start p) (said_start b macro start at len) us)
-    ∙ stray-kind k path base order start p (said_start b macro start at len ++ us) ∙ stray-form b macro start at len us
+    ap stray_in (append_assoc (indexed_kind k path base order start at len p) (said_start b macro start at len) us)
+    ∙ stray-kind k path base order start at len p (said_start b macro start at len ++ us) ∙ stray-form b macro start at len us
 
 stray-piece : (m : Mode) (s : UnitState) (p : List Cell) (us : List TextPlace)
     → stray_in (indexed_in m s p ++ us) ≡ cond (start_form_in m s.header.params) (stray_in us) (Some (begin_in m s.place))
@@ -228,24 +238,28 @@ macro-role (offset t path) at len us = refl
 macro-role inline_path at len us = refl
 macro-role line_start at len us = refl
 
-macro-kind : (k : ValueKind) (path base : Bool) (order : Order) (at : ℕ) (p : List Cell) (us : List TextPlace) → macros_in (indexed_kind k path base order at p ++ us) ≡ macros_in us
-macro-kind (number_of class n) path base order at p us = by_class class base
+macro-base : (field : Bool) (begin at len n : ℕ) (us : List TextPlace) → macros_in (said_base field begin at len n ++ us) ≡ macros_in us
+macro-base true begin at len n us = refl
+macro-base false begin at len n us = refl
+
+macro-kind : (k : ValueKind) (path base : Bool) (order : Order) (begin at len : ℕ) (p : List Cell) (us : List TextPlace) → macros_in (indexed_kind k path base order begin at len p ++ us) ≡ macros_in us
+macro-kind (number_of class n) path base order begin at len p us = by_class class base
   where
-    by_class : (c : ValueClass) (b : Bool) → macros_in (indexed_kind (number_of c n) path b order at p ++ us) ≡ macros_in us
+    by_class : (c : ValueClass) (b : Bool) → macros_in (indexed_kind (number_of c n) path b order begin at len p ++ us) ≡ macros_in us
     by_class StrIndex b = refl
-    by_class Number true = refl
+    by_class Number true = macro-base (n == 4 || n == 8) begin at len (spelled order (bytes_of p) 0 (length p)) us
     by_class Number false = refl
-    by_class SecOffset true = refl
+    by_class SecOffset true = macro-base true begin at len (spelled order (bytes_of p) 0 (length p)) us
     by_class SecOffset false = refl
     by_class c b = refl
-macro-kind (leb_number class) path base order at p us = by_class class base
+macro-kind (leb_number class) path base order begin at len p us = by_class class base
   where
-    by_class : (c : ValueClass) (b : Bool) → macros_in (indexed_kind (leb_number c) path b order at p ++ us) ≡ macros_in us
+    by_class : (c : ValueClass) (b : Bool) → macros_in (indexed_kind (leb_number c) path b order begin at len p ++ us) ≡ macros_in us
     by_class StrIndex b = refl
     by_class Number true = refl
     by_class Number false = refl
     by_class c b = refl
-macro-kind k path base order at p us = refl
+macro-kind k path base order begin at len p us = refl
 
 macro-said : (b macro : Bool) (begin at len : ℕ) (us : List TextPlace) → (macro ≡ true → b ≡ true)
     → macros_in (said_start b macro begin at len ++ us) ≡ macro_by macro at len ++ macros_in us
@@ -257,11 +271,11 @@ macro-said false true begin at len us form =
     absurd cc
 
 macro-both : (k : ValueKind) (path base : Bool) (order : Order) (start : ℕ) (p : List Cell) (u : Use) (at len : ℕ) (us : List TextPlace)
-    → macros_in ((indexed_kind k path base order start p ++ said_start (start_form_by k u) (macro_value_by k u) start at len) ++ us)
+    → macros_in ((indexed_kind k path base order start at len p ++ said_start (start_form_by k u) (macro_value_by k u) start at len) ++ us)
     ≡ macro_by (macro_value_by k u) at len ++ macros_in us
 macro-both k path base order start p u at len us =
-    ap macros_in (append_assoc (indexed_kind k path base order start p) (said_start (start_form_by k u) (macro_value_by k u) start at len) us)
-    ∙ macro-kind k path base order start p (said_start (start_form_by k u) (macro_value_by k u) start at len ++ us)
+    ap macros_in (append_assoc (indexed_kind k path base order start at len p) (said_start (start_form_by k u) (macro_value_by k u) start at len) us)
+    ∙ macro-kind k path base order start at len p (said_start (start_form_by k u) (macro_value_by k u) start at len ++ us)
     ∙ macro-said (start_form_by k u) (macro_value_by k u) start at len us (macro-form k u)
 
 macro-piece : (m : Mode) (s : UnitState) (p : List Cell) (us : List TextPlace)
@@ -398,24 +412,22 @@ names-are d rs starts cells place (x ∷ xs) e l h k =
     )
 
 -- a value that names a macro unit by its place names it
-units-first : (b : Bool) (d : DebugData) (places : List ℕ) (cells : List Cell) (at len : ℕ) (fs : List PathField) → UnitsNamed d places cells (macro_by b at len ++ fs)
+units-first : (b : Bool) (d : DebugData) (places : UnitPlaces) (cells : List Cell) (at len : ℕ) (fs : List PathField) → UnitsNamed d places cells (macro_by b at len ++ fs)
     → (b ≡ true → names_place places (field_of d.base.order (cells_at cells at len)) ≡ true) × UnitsNamed d places cells fs
 units-first true d places cells at len fs h = (λ e. h.0, h.1)
 units-first false d places cells at len fs h = (λ e. absurd cc, h)
 
-pub record PlacesStart (places : List ℕ) (g : MacroPlaces) : Type 0 where
-  pub named : (n : ℕ) → is_there (started_unit 0 g.starts g.first n) ≡ is_there (start_number 0 places n)
+pub field-unit : (places : UnitPlaces) (g : MacroPlaces) (f : Field) → PlacesStart places g → is_there (unit_named g f) ≡ names_place places f
+field-unit places g (Num n) p =
+    ap is_there (p.numbered g.first n) ∙ ap (λ (k : ℕ). has_unit places k n) (sym p.first)
+field-unit places g (Into z n) p = ap is_there (p.numbered z n)
+field-unit places g (Sym s k a) p = refl
 
-unit-there : (places : List ℕ) (g : MacroPlaces) (f : Field) → PlacesStart places g → names_place places f ≡ true → IsTrue (is_there (unit_named g f))
-unit-there places g (Num n) p e = p.named n ∙ e
-unit-there places g (Into z n) p e = absurd cc
-unit-there places g (Sym s k a) p e = absurd cc
-
-pub names-if : (b : Bool) (places : List ℕ) (g : Lasting) (p : List Cell) → PlacesStart places g.macros → (b ≡ true → names_place places (field_of g.base.order p) ≡ true) → NamesUnitIf b g p
+pub names-if : (b : Bool) (places : UnitPlaces) (g : Lasting) (p : List Cell) → PlacesStart places g.macros → (b ≡ true → names_place places (field_of g.base.order p) ≡ true) → NamesUnitIf b g p
 names-if false places g p s h = tt
-names-if true places g p s h = unit-there places g.macros (field_of g.base.order p) s (h refl)
+names-if true places g p s h = field-unit places g.macros (field_of g.base.order p) s ∙ h refl
 
-pub units-are : (d : DebugData) (g : Lasting) (places : List ℕ) (cells : List Cell) (place : ℕ) (xs : List (Piece UnitState)) → g.base.order ≡ d.base.order → PlacesStart places g.macros
+pub units-are : (d : DebugData) (g : Lasting) (places : UnitPlaces) (cells : List Cell) (place : ℕ) (xs : List (Piece UnitState)) → g.base.order ≡ d.base.order → PlacesStart places g.macros
     → PlacedCells cells place xs → UnitsNamed d places cells (macro_fields xs) → EachPiece (NamesMacro g) xs
 units-are d g places cells place [] o s l h = tt
 units-are d g places cells place (x ∷ xs) o s l h =
@@ -464,9 +476,9 @@ pub record FoundReadings (d : DebugData) (first : ℕ) (zs : List UnitSection) (
   pub readings : Readings
   pub reads : ReadsAll d.base first zs readings
   pub says : paths_of readings ≡ us
-  pub names : (rs : DataReadings) (starts places : List ℕ) → starts ≡ table_starts rs.lines → AllStarts d starts places zs us → EachReading (NamesText (around_of d rs)) readings
-  pub forms : (starts places : List ℕ) → AllStarts d starts places zs us → EachReading HasStartForm readings
-  pub units : (g : Lasting) (starts places : List ℕ) → g.base.order ≡ d.base.order → PlacesStart places g.macros → AllStarts d starts places zs us
+  pub names : (rs : DataReadings) (starts : List ℕ) (places : UnitPlaces) → starts ≡ table_starts rs.lines → AllStarts d starts places zs us → EachReading (NamesText (around_of d rs)) readings
+  pub forms : (starts : List ℕ) (places : UnitPlaces) → AllStarts d starts places zs us → EachReading HasStartForm readings
+  pub units : (g : Lasting) (starts : List ℕ) (places : UnitPlaces) → g.base.order ≡ d.base.order → PlacesStart places g.macros → AllStarts d starts places zs us
       → EachReading (NamesMacro g) readings
 
 pub found-readings : (d : DebugData) (first : ℕ) (zs : List UnitSection) (us : List UnitPaths) → AllPlaced d zs us → FoundReadings d first zs us
@@ -486,13 +498,13 @@ found-readings d first (z ∷ zs) (u ∷ us) all =
       readings = r ∷ rest.readings;
       reads = (refl, p.reads, rest.reads);
       says = ap (λ (v : UnitPaths). v ∷ paths_of rest.readings) own ∙ ap (λ (vs : List UnitPaths). u ∷ vs) rest.says;
-      names = λ (rs : DataReadings) (starts places : List ℕ) e h. (
+      names = λ (rs : DataReadings) (starts : List ℕ) (places : UnitPlaces) e h. (
         names-are d rs starts z.contents 0 p.pieces e cells (subst (PlacesName d z.contents) (sym p.places_are) s.names)
             (subst (λ (v : UnitPaths). StartsNamed d starts z.contents v.starts) (sym own) h.0.named),
         rest.names rs starts places e h.1,
       );
-      forms = λ (starts places : List ℕ) h. (forms-are p.pieces (ap (λ (v : UnitPaths). v.stray) own ∙ h.0.all_say), rest.forms starts places h.1);
-      units = λ (g : Lasting) (starts places : List ℕ) o st h. (
+      forms = λ (starts : List ℕ) (places : UnitPlaces) h. (forms-are p.pieces (ap (λ (v : UnitPaths). v.stray) own ∙ h.0.all_say), rest.forms starts places h.1);
+      units = λ (g : Lasting) (starts : List ℕ) (places : UnitPlaces) o st h. (
         units-are d g places z.contents 0 p.pieces o st cells (subst (λ (v : UnitPaths). UnitsNamed d places z.contents v.macros) (sym own) h.0.units),
         rest.units g starts places o st h.1,
       );

@@ -1,12 +1,12 @@
 -- What was found of paths: the readings of the debug data of a view, what they say of paths, and why there are none.
 use Rattle.std.proofs.Common.{true, false, ◌≡◌, ◌⊎◌, inl, inr, ℕ, ◌+◌, ◌<◌, ◌≤◌, if◌then◌else◌, Bool, List, [], ◌∷◌, ◌++◌, length, drop, replicate, Option, Some, None, refl, sym, ap, ◌∙◌, subst, arith, append_assoc}
 use Rattle.std.proofs.lemmas.List.{length-append, length-drop, length-replicate}
-use Rattle.dw_base.specs.Cells.{Cell, bytes_of}
+use Rattle.dw_base.specs.Cells.{Cell, bytes_of, cells_at, offset_of}
 use Rattle.dw_base.specs.DebugData.{Around, DataReadings, ReadsAll, around_of, indexing_of, line_source, macro_places, path_slots}
 use Rattle.dw_base.specs.DebugSections.{name_of}
-use Rattle.dw_base.specs.FileViews.{View, section_bytes, section_named}
+use Rattle.dw_base.specs.FileViews.{View, section_bytes, section_named, view_cells}
 use Rattle.dw_base.specs.Forms.{in_str, width_size}
-use Rattle.dw_base.specs.IndexFails.{IndexFails}
+use Rattle.dw_base.specs.IndexFails.{IndexFails, SlotFits}
 use Rattle.dw_base.specs.LineReadings.{LineReading, table_starts}
 use Rattle.dw_base.specs.LineTables.{LineTable}
 use Rattle.dw_base.specs.MacroReadings.{MacroReading}
@@ -14,8 +14,7 @@ use Rattle.dw_base.specs.NamePieces.{NameMode, at_table, at_string, at_rest, no_
 use Rattle.dw_base.specs.OffsetPieces.{OffsetMode, at_contribution, at_slot, no_offsets, OffsetState, FitsOffsets, ReadsOffsets, offset_grammar, past_offsets}
 use Rattle.dw_base.specs.Paths.{PathMap}
 use Rattle.dw_base.specs.Pieces.{Piece, Chain, EachPiece, joined}
-use Rattle.dw_base.specs.Readings.{Readings}
-use Rattle.dw_base.specs.Numbers.{spelled}
+use Rattle.dw_base.specs.Readings.{Readings, EachReading}
 use Rattle.dw_base.specs.Refusals.{Blames}
 use Rattle.dw_base.specs.Roles.{offset}
 use Rattle.dw_base.specs.SectionTexts.{NameTexts, name_role, name_role_by, offset_role, slot_role}
@@ -23,13 +22,13 @@ use Rattle.dw_base.specs.SlotTexts.{contributions_in}
 use Rattle.dw_base.specs.Slots.{slots_of}
 use Rattle.dw_base.specs.StringOffsetFails.{ContributionsFail}
 use Rattle.dw_base.specs.StringOffsets.{AreContributions, ContributionsUpTo}
-use Rattle.dw_base.specs.TextChanges.{NamesTextBy}
+use Rattle.dw_base.specs.TextChanges.{NamesTextBy, InlineFits}
 use Rattle.dw_base.specs.TextIndexes.{EachUse, Indexing, NamesSlot, holds_number}
 use Rattle.dw_base.specs.Texts.{ends_in}
 use Rattle.dw_base.specs.UnitHeaders.{UnitSection}
-use Rattle.dw_base.specs.RelocationRows.{FieldPlace, field_place, offset_field, slot_field as slot_place, slot_fields as slot_places}
+use Rattle.dw_base.specs.RelocationRows.{FieldPlace, field_place, offset_field, slot_field as slot_place, slot_fields as slot_places, moving_sections}
 use Rattle.dw_base.specs.RelocationRows.FieldsFail.{offset as offset_row}
-use Rattle.dw_base.specs.ViewData.{cells_located, debug_data, located, located_at, string_offsets}
+use Rattle.dw_base.specs.ViewData.{cells_located, debug_data, located, string_offsets}
 use Rattle.dw_base.specs.declared.debug_sections.DebugSection.TheVariants.{Names, StrOffsets}
 use Rattle.dw_base.specs.declared.fault.Fault.{Fault}
 use Rattle.dw_base.specs.declared.fault.Fault.TheVariants.{NoMemory, Refused}
@@ -42,14 +41,11 @@ use Rattle.dw_base.specs.declared.string_offsets.Contribution.{Contribution}
 use Rattle.dw_base.proofs.ContributionBackLaws.{contributions-are}
 use Rattle.dw_base.proofs.FileViewLaws.{section_after-within}
 use Rattle.dw_base.proofs.NameBackLaws.{StringNamesBy}
-use Rattle.dw_base.proofs.PlainCellLaws.{IsPlain, offset_of-plain}
-use Rattle.dw_base.proofs.UnitEditLaws.{length-bytes_of}
-use Rattle.dw_base.proofs.ViewCellLaws.{bytes-cells}
-use Rattle.dw_lines.specs.ViewTables.{TablesFound}
+use Rattle.dw_base.proofs.ViewCellLaws.{bytes-cells, piece-cells}
+use Rattle.dw_lines.specs.ViewTables.{TablesFound, tables_read}
 use Rattle.dw_meaning.specs.DataFails.{IndexesRead, index as index_row, slot as slot_row}
 use Rattle.dw_meaning.specs.RelocationFails.LeftRelocationsFail.{slots as left_slots}
-use Rattle.dw_meaning.proofs.OffsetMoveLaws.{EachCells}
-use Rattle.dw_offsets.specs.NameOffsets.{AreRead, NamesRefuse, tables as named_tables, offsets as named_offsets}
+use Rattle.dw_base.specs.NameOffsets.{AreRead, NamesRefuse, tables as named_tables, offsets as named_offsets}
 use Rattle.dw_offsets.specs.PathSlots.{SlotsRefuse, SlotsTaken, slot_field, slot_fields, slots_in}
 use Rattle.dw_offsets.specs.SlotMarks.{AreMarks}
 use Rattle.dw_offsets.specs.declared.slot_fields.PathSlot.{PathSlot}
@@ -59,34 +55,46 @@ use Rattle.dw_offsets.proofs.SlotPieceLaws.{SlotsAround, SlotsSay, SlotsFail, sl
 use Rattle.dw_find.specs.FoundPaths.{PathsFound, PathsRefuse, SlotsFound, UnitPathsRefuse, UnitsFound, without_lines}
 use Rattle.dw_find.specs.FoundPaths.PathsRefuse.{units, starts, inline, string_tables, name_tables, name_offsets, relocations, slots, shared}
 use Rattle.dw_find.specs.FoundPaths.UnitPathsRefuse.{texts as refused_texts, inline as refused_inline}
-use Rattle.dw_find.specs.Fields.{ArePathFields, IsPathField, OffsetTable, offset_at}
+use Rattle.dw_find.specs.Fields.{IsOffsetField}
 use Rattle.dw_find.specs.IndexedTexts.{SlotsMarked, TablesStart, TextsIndexed, UnitsStart, indexing_with}
 use Rattle.dw_find.specs.MacroNames.{MacrosName, MacrosStray}
-use Rattle.dw_find.specs.MacroSections.{SectionUnits, UnitsFoundIn, first_places, macros_of, macros_read}
+use Rattle.dw_find.specs.MacroSections.{SectionUnits, UnitsFoundIn, macros_of, macros_read}
 use Rattle.dw_find.specs.IndexedTexts.TextsRefuse.{units as texts_units, starts as texts_starts, index as texts_index}
 use Rattle.dw_find.specs.NamedSlots.{LieWithin}
 use Rattle.dw_find.proofs.SlotRunLaws.{contributions-lie}
-use Rattle.dw_find.specs.ViewFields.{AllHaveFields, AllHavePaths, AllRoomsFit, HasPaths, offsets_in}
+use Rattle.dw_find.specs.ViewFields.{AllHaveOffsets, AllRoomsFit, AllHavePlaces, HasPlaces}
 use Rattle.dw_find.specs.SlotPaths.{as_fields, offset_fields, read_fields, slots_by, slots_of_view, slots_read}
 use Rattle.dw_find.specs.TextPlaces.{AllFitRooms, AllPlaced, InlinesFit}
-use Rattle.dw_find.specs.UnitPaths.{UnitPaths, field_by}
+use Rattle.dw_find.specs.UnitPaths.{UnitPaths, field_by, paths_of}
 use Rattle.dw_find.specs.ViewLines.{lines_of_view, starts_of}
 use Rattle.dw_find.specs.declared.fields.PathField.{PathField}
 use Rattle.dw_find.proofs.ApartLaws.{slots-apart}
-use Rattle.dw_find.proofs.PieceFieldLaws.{piece_number}
-use Rattle.dw_find.proofs.FoundLaws.{FoundReadings, PlacesStart, found-readings, found-fits}
+use Rattle.dw_find.proofs.FoundLaws.{FoundReadings, found-readings, found-fits}
 use Rattle.dw_find.proofs.MacroAskedLaws.{asked-of}
 use Rattle.dw_find.proofs.MacroFoundLaws.{PieceNames, SectionsRead, holds-else, sections-read}
 use Rattle.dw_find.proofs.MacroNameLaws.{units-in}
 use Rattle.dw_find.proofs.MacroPathLaws.{have-macros, macro-imports, macro-texts, macros-order, places-start, rooms-macros}
-use Rattle.dw_find.proofs.MacroStartLaws.{units-start}
+use Rattle.dw_find.proofs.MacroStartLaws.{all-cells}
+use Rattle.dw_find.proofs.UnitPlaceLaws.{first-number}
+use Rattle.dw_find.proofs.MacroHaveLaws.{macros-have}
 use Rattle.dw_find.proofs.MacroStrayLaws.{macros-fail}
 use Rattle.dw_find.proofs.TableStartLaws.{read-starts}
-use Rattle.dw_find.proofs.FoundUnitLaws.{lines-have, without-is}
-use Rattle.dw_find.proofs.OffsetPlaceLaws.{offsets-placed, offsets-plain, offsets-of}
-use Rattle.dw_find.proofs.PlaceValueLaws.{EachOf, each-get}
-use Rattle.dw_find.proofs.SectionFactLaws.{SectionFacts, all-facts, has-paths, says-bytes}
-use Rattle.dw_find.proofs.SlotPlaceLaws.{SlotsPlaced}
+use Rattle.dw_find.proofs.FoundUnitLaws.{lines-offsets, without-is}
+use Rattle.dw_find.proofs.OffsetPlaceLaws.{offsets-in, offsets-placed, offsets-of}
+use Rattle.dw_find.proofs.PlaceValueLaws.{EachOf, offset-fields}
+use Rattle.dw_find.proofs.SectionFactLaws.{SectionFacts, all-facts, has-offsets, says-bytes, has-places}
+use Rattle.dw_find.proofs.SlotPlaceLaws.{SlotsIn}
+use Rattle.dw_find.specs.UnitPlaces.{PlacesStart, UnitPlaces}
+use Rattle.dw_base.specs.NameTables.{AreNameTables}
+use Rattle.dw_meaning.specs.DataOutput.{DataReads}
+use Rattle.dw_meaning.specs.RelocationFails.{LeftRelocationsRead}
+use Rattle.dw_fields.specs.FieldRefusals.{FieldsRefuse}
+use Rattle.dw_fields.specs.FieldRefusals.FieldsRefuse.{left as left_field, headers, table, entries, macros}
+use Rattle.dw_entries.specs.HeaderRows.HeadersRefuse.{units as header_units, offsets as header_offsets}
+use Rattle.dw_find.specs.UnitTexts.{data_fails, header_fails}
+use Rattle.dw_meaning.specs.DataFails.DataFails.{unit as unit_row, table as table_row, entries as entry_row}
+use Rattle.dw_find.proofs.MacroListLaws.{units-exclude}
+use Rattle.dw_find.proofs.ValueFieldLaws.{values-read}
 
 -- the fields that a pass over the slots gave are those of the pieces
 field-is : (paths : List ℕ) (m : OffsetMode) (n place size : ℕ) (more : List PathSlot) (fs : List PathField) → as_fields more ≡ fs
@@ -198,62 +206,65 @@ some-size : (w : Width) (n : ℕ) → n ≡ width_size w → 0 < n
 some-size W32 n e = omega (arith, e)
 some-size W64 n e = omega (arith, e)
 
-piece-field : (mode : OffsetMode) (paths : List ℕ) (order : Order) (around : Around) (info : List ℕ) (x : Piece OffsetState) (rest : List ℕ) (place : ℕ)
-    → FitsOffsets mode order x.state x.cells → x.state.place ≡ place → bytes_of x.cells ++ rest ≡ drop place info → IsPlain x.cells
-    → NamesTextBy (offset_role paths mode x.state.slot) around x.cells
-    → EachOf (IsPathField (record { order = around.lasting.base.order; bytes = around.str.bytes }) info) (field_by in_str (offset_role paths mode x.state.slot) x.state.place (length x.cells))
-piece-field at_contribution paths order around info x rest place fits at e plain names = tt
-piece-field (at_slot w end) paths order around info x rest place fits at e plain names = by_path (holds_number paths x.state.slot)
+piece-field : (mode : OffsetMode) (paths : List ℕ) (order : Order) (around : Around) (cells : List Cell) (x : Piece OffsetState) (rest : List Cell) (place : ℕ)
+    → FitsOffsets mode order x.state x.cells → x.state.place ≡ place → x.cells ++ rest ≡ drop place cells → NamesTextBy (offset_role paths mode x.state.slot) around x.cells
+    → EachOf (IsOffsetField around.lasting.base.order around.str cells) (field_by in_str (offset_role paths mode x.state.slot) x.state.place (length x.cells))
+piece-field at_contribution paths order around cells x rest place fits at e names = tt
+piece-field (at_slot w end) paths order around cells x rest place fits at e names = by_path (holds_number paths x.state.slot)
   where
-    inside : x.state.place + length x.cells ≤ length info
+    inside : x.state.place + length x.cells ≤ length cells
     inside =
-        let whole : length (bytes_of x.cells ++ rest) ≡ length (drop place info) = ap (λ (l : List ℕ). length l) e in
-        let size = length-append (bytes_of x.cells) rest in
+        let whole : length (x.cells ++ rest) ≡ length (drop place cells) = ap (λ (l : List Cell). length l) e in
+        let size = length-append x.cells rest in
         let some : 0 < length x.cells = some-size w (length x.cells) fits.size in
-        omega (arith, whole, size, length-drop place info, length-bytes_of x.cells, at, some)
+        omega (arith, whole, size, length-drop place cells, at, some)
 
-    ends : ends_in around.str.bytes (offset_at (record { order = around.lasting.base.order; bytes = around.str.bytes }) info (record { at = x.state.place; size = length x.cells })) ≡ true
+    ends : ends_in around.str.bytes (offset_of around.lasting.base.order around.str (cells_at cells x.state.place (length x.cells))) ≡ true
     ends =
-        let number = offset_of-plain around.lasting.base.order around.str x.cells plain
-        ∙ piece_number around.lasting.base.order (bytes_of x.cells) rest info place (length x.cells) e (length-bytes_of x.cells)
-        ∙ ap (λ (i : ℕ). spelled around.lasting.base.order info i (length x.cells)) (sym at) in
-        sym (ap (ends_in around.str.bytes) number) ∙ names
+        let own : cells_at cells x.state.place (length x.cells) ≡ x.cells =
+        ap (λ (i : ℕ). cells_at cells i (length x.cells)) at ∙ piece-cells cells x.cells rest place (sym e) in
+        ap (λ (p : List Cell). ends_in around.str.bytes (offset_of around.lasting.base.order around.str p)) own ∙ names
 
-    by_path : (b : Bool) → EachOf (IsPathField (record { order = around.lasting.base.order; bytes = around.str.bytes }) info)
-        (field_by in_str (offset in_str b) x.state.place (length x.cells))
+    by_path : (b : Bool) → EachOf (IsOffsetField around.lasting.base.order around.str cells) (field_by in_str (offset in_str b) x.state.place (length x.cells))
     by_path true = (record { sized = slot-sized w (length x.cells) fits.size; inside = inside; ends = ends }, tt)
     by_path false = tt
-piece-field no_offsets paths order around info x rest place fits at e plain names = tt
+piece-field no_offsets paths order around cells x rest place fits at e names = tt
 
 each-append : {X : Type 0} (P : X → Type 0) (xs ys : List X) → EachOf P xs → EachOf P ys → EachOf P (xs ++ ys)
 each-append P [] ys h k = k
 each-append P (x ∷ xs) ys h k = (h.0, each-append P xs ys h.1 k)
 
-pieces-fields : (paths : List ℕ) (order : Order) (around : Around) (info : List ℕ) (s : OffsetState) (xs : List (Piece OffsetState)) (place : ℕ) → Chain (offset_grammar order) s xs
-    → SlotsPlaced info place xs → EachCells xs → NameTexts (slot_role paths) around xs
-    → EachOf (IsPathField (record { order = around.lasting.base.order; bytes = around.str.bytes }) info) (offset_fields in_str paths xs)
-pieces-fields paths order around info s [] place chain placed plain names = tt
-pieces-fields paths order around info s (x ∷ xs) place chain placed plain names =
-    each-append (IsPathField (record { order = around.lasting.base.order; bytes = around.str.bytes }) info)
-    (field_by in_str (slot_role paths x.state) x.state.place (length x.cells)) (offset_fields in_str paths xs)
-    (piece-field x.state.mode paths order around info x (bytes_of (joined xs)) place chain.1 placed.0 placed.1 plain.0 names.0)
-    (pieces-fields paths order around info (past_offsets x.state.mode order x.state x.cells) xs (place + length x.cells) chain.2 placed.2 plain.1 names.1)
+pieces-fields : (paths : List ℕ) (order : Order) (around : Around) (cells : List Cell) (s : OffsetState) (xs : List (Piece OffsetState)) (place : ℕ) → Chain (offset_grammar order) s xs
+    → SlotsIn cells place xs → NameTexts (slot_role paths) around xs → EachOf (IsOffsetField around.lasting.base.order around.str cells) (offset_fields in_str paths xs)
+pieces-fields paths order around cells s [] place chain placed names = tt
+pieces-fields paths order around cells s (x ∷ xs) place chain placed names =
+    each-append (IsOffsetField around.lasting.base.order around.str cells) (field_by in_str (slot_role paths x.state) x.state.place (length x.cells)) (offset_fields in_str paths xs)
+    (piece-field x.state.mode paths order around cells x (joined xs) place chain.1 placed.0 placed.1 names.0)
+    (pieces-fields paths order around cells (past_offsets x.state.mode order x.state x.cells) xs (place + length x.cells) chain.2 placed.2 names.1)
 
-are-fields : (table : OffsetTable) (info : List ℕ) (fs : List PathField) → EachOf (IsPathField table info) fs → ArePathFields table info fs
-are-fields table info fs h = record { each = λ k d lt. each-get (IsPathField table info) fs k d lt h }
-
--- so string offsets have paths
-slots-have-by : (v : View) (rs : DataReadings) (o : Option ℕ) → ((i : ℕ) → o ≡ Some i → i < length v.sections) → ReadsOffsets v.order (cells_located v o).contents rs.offsets
+-- so string offsets have offsets of paths,
+slots-offsets-by : (v : View) (rs : DataReadings) (o : Option ℕ) → ((i : ℕ) → o ≡ Some i → i < length v.sections) → ReadsOffsets v.order (cells_located v o).contents rs.offsets
     → NameTexts (slot_role (path_slots (around_of (debug_data v) rs))) (around_of (debug_data v) rs) rs.offsets
-    → AllHavePaths v (slots_by o (read_fields (debug_data v) rs))
-slots-have-by v rs None there r names = tt
-slots-have-by v rs (Some i) there r names = (
+    → AllHaveOffsets v (slots_by o (read_fields (debug_data v) rs))
+unfolding debug_data
+slots-offsets-by v rs None there r names = tt
+slots-offsets-by v rs (Some i) there r names = (
   record {
     there = there i refl;
-    str = are-fields (offsets_in v in_str) (section_bytes v i) (read_fields (debug_data v) rs)
-        (pieces-fields (path_slots (around_of (debug_data v) rs)) v.order (around_of (debug_data v) rs) (section_bytes v i) _ rs.offsets 0 r.chain
-        (offsets-placed v (Some i) rs.offsets r) (offsets-plain v (Some i) rs.offsets r) names);
+    str = offset-fields v.order (debug_data v).str (view_cells v i) (read_fields (debug_data v) rs)
+        (pieces-fields (path_slots (around_of (debug_data v) rs)) v.order (around_of (debug_data v) rs) (view_cells v i) _ rs.offsets 0 r.chain (offsets-in v (Some i) rs.offsets r) names);
     line_str = record { each = λ k d lt. absurd (omega (arith, lt)) };
+  },
+  tt,
+)
+
+-- and places
+slots-places-by : (v : View) (rs : DataReadings) (o : Option ℕ) → ((i : ℕ) → o ≡ Some i → i < length v.sections) → ReadsOffsets v.order (cells_located v o).contents rs.offsets
+    → AllHavePlaces v (slots_by o (read_fields (debug_data v) rs))
+slots-places-by v rs None there r = tt
+slots-places-by v rs (Some i) there r = (
+  record {
+    there = there i refl;
     starts = record { each = λ k d lt. absurd (omega (arith, lt)) };
     macros = record { each = λ k d lt. absurd (omega (arith, lt)) };
     apart = slots-apart (section_bytes v i) 0 (path_slots (around_of (debug_data v) rs)) rs.offsets (offsets-placed v (Some i) rs.offsets r);
@@ -262,25 +273,40 @@ slots-have-by v rs (Some i) there r names = (
   tt,
 )
 
-slots-have : (v : View) (rs : DataReadings) → ReadsOffsets (debug_data v).base.order (debug_data v).offsets.contents rs.offsets
-    → NameTexts (slot_role (path_slots (around_of (debug_data v) rs))) (around_of (debug_data v) rs) rs.offsets → AllHavePaths v (slots_read v rs)
+strings-there : (v : View) (i : ℕ) → section_named v (name_of StrOffsets) ≡ Some i → i < length v.sections
 unfolding section_named
-slots-have v rs r names =
-    slots-have-by v rs (section_named v (name_of StrOffsets)) (λ i e. (section_after-within v (name_of StrOffsets) 0 i e).1) (offsets-of v rs.offsets r) names
+strings-there v i e = (section_after-within v (name_of StrOffsets) 0 i e).1
 
--- sections have paths, and their paths fit their rooms
-have-append : (v : View) (xs ys : List UnitPaths) → EachOf (HasPaths v) xs → AllHavePaths v ys → AllHavePaths v (xs ++ ys)
-have-append v [] ys h k = k
-have-append v (x ∷ xs) ys h k = (h.0, have-append v xs ys h.1 k)
+slots-offsets-of : (v : View) (rs : DataReadings) → ReadsOffsets (debug_data v).base.order (debug_data v).offsets.contents rs.offsets
+    → NameTexts (slot_role (path_slots (around_of (debug_data v) rs))) (around_of (debug_data v) rs) rs.offsets → AllHaveOffsets v (slots_read v rs)
+slots-offsets-of v rs r names = slots-offsets-by v rs (section_named v (name_of StrOffsets)) (strings-there v) (offsets-of v rs.offsets r) names
 
-has-each : (v : View) (us : List UnitPaths) → EachOf (SectionFacts v) us → EachOf (HasPaths v) us
-has-each v [] h = tt
-has-each v (u ∷ us) h = (has-paths v u h.0, has-each v us h.1)
+slots-places : (v : View) (rs : DataReadings) → ReadsOffsets (debug_data v).base.order (debug_data v).offsets.contents rs.offsets → AllHavePlaces v (slots_read v rs)
+slots-places v rs r = slots-places-by v rs (section_named v (name_of StrOffsets)) (strings-there v) (offsets-of v rs.offsets r)
 
--- so they have fields, and with more sections behind
-have-fields : (v : View) (xs ys : List UnitPaths) → AllHavePaths v xs → AllHaveFields v ys → AllHaveFields v (xs ++ ys)
-have-fields v [] ys h k = k
-have-fields v (x ∷ xs) ys h k = (record { there = h.0.there; str = h.0.str; line_str = h.0.line_str }, have-fields v xs ys h.1 k)
+-- sections have places, and their paths fit their rooms
+places-append : (v : View) (xs ys : List UnitPaths) → EachOf (HasPlaces v) xs → AllHavePlaces v ys → AllHavePlaces v (xs ++ ys)
+places-append v [] ys h k = k
+places-append v (x ∷ xs) ys h k = (h.0, places-append v xs ys h.1 k)
+
+places-each : (v : View) (us : List UnitPaths) → EachOf (SectionFacts v) us → EachOf (HasPlaces v) us
+places-each v [] h = tt
+places-each v (u ∷ us) h = (has-places v u h.0, places-each v us h.1)
+
+offsets-append : (v : View) (xs ys : List UnitPaths) → AllHaveOffsets v xs → AllHaveOffsets v ys → AllHaveOffsets v (xs ++ ys)
+offsets-append v [] ys h k = k
+offsets-append v (x ∷ xs) ys h k = (h.0, offsets-append v xs ys h.1 k)
+
+offsets-each : (v : View) (us : List UnitPaths) → EachOf (SectionFacts v) us → AllHaveOffsets v us
+offsets-each v [] h = tt
+offsets-each v (u ∷ us) h = (has-offsets v u h.0, offsets-each v us h.1)
+
+offsets-macros : (v : View) (rs : List MacroReading) → AllHavePlaces v (macros_read rs) → AllHaveOffsets v (macros_read rs)
+offsets-macros v [] h = tt
+offsets-macros v (r ∷ rs) h = (
+  record { there = h.0.there; str = record { each = λ k d lt. absurd (omega (arith, lt)) }; line_str = record { each = λ k d lt. absurd (omega (arith, lt)) } },
+  offsets-macros v rs h.1,
+)
 
 rooms-each : (m : PathMap) (v : View) (before zs : List UnitSection) (us ws : List UnitPaths) → (debug_data v).units ≡ before ++ zs → AllPlaced (debug_data v) zs us
     → AllFitRooms m zs us → AllRoomsFit m v ws → AllRoomsFit m v (us ++ ws)
@@ -303,7 +329,7 @@ record Parts (m : PathMap) (v : View) (list : List Contribution) (marks first : 
   names : NamesRead v (names_cells v)
   marked : SlotsMarked (indexing_with (debug_data v) list found.readings) marks
 
-parts-of : (m : PathMap) (v : View) (list : List Contribution) (marks first places : List ℕ) (us : List UnitPaths) (tables : List NameTable) → AreContributions v.order (string_offsets v) list
+parts-of : (m : PathMap) (v : View) (list : List Contribution) (marks first : List ℕ) (places : UnitPlaces) (us : List UnitPaths) (tables : List NameTable) → AreContributions v.order (string_offsets v) list
     → AreRead v tables → UnitsFound m (debug_data v) first places us → TextsIndexed (debug_data v) list marks → Parts m v list marks first us tables
 parts-of m v list marks first places us tables are names found indexed =
     let f : FoundReadings (debug_data v) 0 (debug_data v).units us = found-readings (debug_data v) 0 (debug_data v).units us found.placed in
@@ -320,28 +346,37 @@ tables-start v ts first found is = record {
 pub slice-start : (v : View) (ts : List LineTable) (first slice : List ℕ) → TablesFound v ts → first ≡ starts_of ts → slice ≡ first → TablesStart (debug_data v) slice
 slice-start v ts first slice found is same = tables-start v ts slice found (same ∙ is)
 
--- where its macro units start
-pub slice-units : (v : View) (ss : List SectionUnits) (places slice : List ℕ) → UnitsFoundIn v ss → places ≡ first_places ss → slice ≡ places → UnitsStart (debug_data v) slice
-slice-units v ss places slice found is same = units-start v ss slice found (same ∙ is)
+-- all of it but its relocations
+record PathsRead (m : PathMap) (v : View) (us : List UnitPaths) (ts : List LineTable) : Type 0 where
+  readings : DataReadings
+  reads : DataReads (debug_data v) readings
+  inline : EachReading (InlineFits m) readings.units
+  slots : EachPiece (SlotFits m (around_of (debug_data v) readings)) readings.offsets
+  offsets : AllHaveOffsets v us
+  places : AllHavePlaces v (without_lines v us)
+  rooms : AllRoomsFit m v (without_lines v us)
+  is : us ≡ ((paths_of readings.units ++ slots_read v readings) ++ macros_read readings.macros) ++ lines_of_view v ts
+  tables : ts ≡ tables_read (line_source (debug_data v)) readings.lines
+  name_list : List NameTable
+  names_read : AreRead v name_list
 
-pub paths-found : (m : PathMap) (v : View) (list : List Contribution) (marks first slice again places inside also : List ℕ) (tables : List NameTable) (ts : List LineTable) (ss : List SectionUnits)
+paths-read : (m : PathMap) (v : View) (list : List Contribution) (marks first slice again : List ℕ) (places : UnitPlaces) (tables : List NameTable) (ts : List LineTable) (ss : List SectionUnits)
     (us with_slots with_macros all : List UnitPaths) → AreContributions v.order (string_offsets v) list → AreRead v tables → TablesFound v ts → first ≡ starts_of ts → slice ≡ first
-    → again ≡ first → UnitsFoundIn v ss → places ≡ first_places ss → inside ≡ places → also ≡ places → UnitsFound m (debug_data v) slice inside us → TextsIndexed (debug_data v) list marks
-    → MacrosName v again also ss → SlotsFound m v list marks us with_slots → with_macros ≡ with_slots ++ macros_of ss → all ≡ with_macros ++ lines_of_view v ts → PathsFound m v all ts
+    → again ≡ first → UnitsFoundIn v ss → UnitsStart (debug_data v) places → UnitsFound m (debug_data v) slice places us → TextsIndexed (debug_data v) list marks
+    → MacrosName v again places ss → SlotsFound m v list marks us with_slots → with_macros ≡ with_slots ++ macros_of ss → all ≡ with_macros ++ lines_of_view v ts → PathsRead m v all ts
 unfolding slice-start tables-start
-paths-found m v list marks first slice again places inside also tables ts ss us with_slots with_macros all are named lines starts_are same once units_are places_are within twice found indexed names
+paths-read m v list marks first slice again places tables ts ss us with_slots with_macros all are named lines starts_are same once units_are units_start_at found indexed names
     slots_found macros_is all_is =
-    let p : Parts m v list marks slice us tables = parts-of m v list marks slice inside us tables are named found indexed in
-    let here : MacrosName v slice inside ss =
-    subst (λ (l : List ℕ). MacrosName v l inside ss) (once ∙ sym same) (subst (λ (l : List ℕ). MacrosName v again l ss) (twice ∙ sym within) names) in
-    let macros : SectionsRead v (PieceNames (debug_data v) slice inside) (debug_data v).macros ss =
-    sections-read v (PieceNames (debug_data v) slice inside) (debug_data v).macros ss (holds-else (debug_data v) slice inside) (asked-of v slice inside ss units_are here) in
+    let p : Parts m v list marks slice us tables = parts-of m v list marks slice places us tables are named found indexed in
+    let here : MacrosName v slice places ss = subst (λ (l : List ℕ). MacrosName v l places ss) (once ∙ sym same) names in
+    let macros : SectionsRead v (PieceNames (debug_data v) slice places) (debug_data v).macros ss =
+    sections-read v (PieceNames (debug_data v) slice places) (debug_data v).macros ss (holds-else (debug_data v) slice places) (asked-of v slice places ss (first-number v places units_start_at) units_are here) in
     let i = indexes-read v list p.found.readings p.offsets lines.readings macros.readings p.names.pieces p.found.reads in
     let around = slots-around v list marks p.found.readings p.offsets lines.readings macros.readings p.names.pieces p.marked in
     let same_list = contributions-around v list p.found.readings p.offsets lines.readings macros.readings p.names.pieces in
     let start_is : slice ≡ table_starts lines.readings = (slice-start v ts first slice lines starts_are same).is in
-    let units_start : PlacesStart inside (macro_places (debug_data v) (readings_with p.found.readings p.offsets.pieces lines.readings macros.readings p.names.pieces)) =
-    places-start v ss inside (readings_with p.found.readings p.offsets.pieces lines.readings macros.readings p.names.pieces) units_are (within ∙ places_are) macros.starts in
+    let units_start : PlacesStart places (macro_places (debug_data v) (readings_with p.found.readings p.offsets.pieces lines.readings macros.readings p.names.pieces)) =
+    places-start v places (readings_with p.found.readings p.offsets.pieces lines.readings macros.readings p.names.pieces) units_start_at (macros-order v macros.readings macros.reads) in
     let say : SlotsSay m (around_of (debug_data v) (readings_with p.found.readings p.offsets.pieces lines.readings macros.readings p.names.pieces)) p.offsets.pieces slots_found.fields =
     slots-say m (around_of (debug_data v) (readings_with p.found.readings p.offsets.pieces lines.readings macros.readings p.names.pieces)) (slots_in v) (string_cells v) p.offsets.pieces marks
     slots_found.fields around (subst (λ (cs_ : List Contribution). SlotsTaken m (slots_in v) marks (slots_of cs_) [] slots_found.fields) (sym same_list) slots_found.taken) in
@@ -353,10 +388,10 @@ paths-found m v list marks first slice again places inside also tables ts ss us 
     macros_is ∙ ap (λ (ws : List UnitPaths). ws ++ macros_of ss) slots_is
     ∙ ap (λ (ws : List UnitPaths). (us ++ slots_read v (readings_with p.found.readings p.offsets.pieces lines.readings macros.readings p.names.pieces)) ++ ws) (sym macros.says) in
     let without : without_lines v all ≡ with_macros = without-is v all with_macros ts all_is in
-    let have : AllHavePaths v with_macros =
-    subst (AllHavePaths v) (sym is)
+    let have : AllHavePlaces v with_macros =
+    subst (AllHavePlaces v) (sym is)
     (have-macros v (us ++ slots_read v (readings_with p.found.readings p.offsets.pieces lines.readings macros.readings p.names.pieces)) macros.readings
-    (have-append v us (slots_read v (readings_with p.found.readings p.offsets.pieces lines.readings macros.readings p.names.pieces)) (has-each v us (all-facts v [] (debug_data v).units us refl found.placed)) (slots-have v (readings_with p.found.readings p.offsets.pieces lines.readings macros.readings p.names.pieces) i.offsets say.texts)) macros.reads) in
+    (places-append v us (slots_read v (readings_with p.found.readings p.offsets.pieces lines.readings macros.readings p.names.pieces)) (places-each v us (all-facts v [] (debug_data v).units us refl found.placed)) (slots-places v (readings_with p.found.readings p.offsets.pieces lines.readings macros.readings p.names.pieces) i.offsets)) macros.reads) in
     let rooms : AllRoomsFit m v with_macros =
     subst (AllRoomsFit m v) (sym is)
     (rooms-macros m v (us ++ slots_read v (readings_with p.found.readings p.offsets.pieces lines.readings macros.readings p.names.pieces)) macros.readings
@@ -369,27 +404,57 @@ paths-found m v list marks first slice again places inside also tables ts ss us 
         lines = lines.reads;
         macros = macros-order v macros.readings macros.reads;
         names = names-cells v p.names.pieces p.names.reads;
-        texts = p.found.names (readings_with p.found.readings p.offsets.pieces lines.readings macros.readings p.names.pieces) slice inside start_is found.named;
+        texts = p.found.names (readings_with p.found.readings p.offsets.pieces lines.readings macros.readings p.names.pieces) slice places start_is found.named;
         slot_texts = say.texts;
-        macro_texts = macro-texts v (readings_with p.found.readings p.offsets.pieces lines.readings macros.readings p.names.pieces) slice inside macros.readings start_is macros.each;
+        macro_texts = macro-texts v (readings_with p.found.readings p.offsets.pieces lines.readings macros.readings p.names.pieces) slice places macros.readings start_is macros.each;
         name_texts = all-names v (readings_with p.found.readings p.offsets.pieces lines.readings macros.readings p.names.pieces) p.names.pieces p.names.texts;
         indexes = subst (λ (g : Indexing). EachUse (NamesSlot g) g.uses)
             (indexing-is v list p.found.readings p.offsets.pieces lines.readings macros.readings p.names.pieces p.offsets.list_is) p.marked.named;
-        forms = p.found.forms slice inside found.named;
-        macro_values = p.found.units (around_of (debug_data v) (readings_with p.found.readings p.offsets.pieces lines.readings macros.readings p.names.pieces)).lasting slice inside refl units_start found.named;
-        imports = macro-imports v (readings_with p.found.readings p.offsets.pieces lines.readings macros.readings p.names.pieces) slice inside macros.readings units_start macros.each;
+        forms = p.found.forms slice places found.named;
+        macro_values = p.found.units (around_of (debug_data v) (readings_with p.found.readings p.offsets.pieces lines.readings macros.readings p.names.pieces)).lasting slice places refl units_start found.named;
+        imports = macro-imports v (readings_with p.found.readings p.offsets.pieces lines.readings macros.readings p.names.pieces) slice places macros.readings units_start macros.each;
       };
       inline = found-fits (debug_data v).base m 0 (debug_data v).units p.found.readings p.found.reads
           (subst (AllFitRooms m (debug_data v).units) (sym p.found.says) found.fits);
       slots = say.fits;
-      fields = subst (AllHaveFields v) (sym all_is) (have-fields v with_macros (lines_of_view v ts) have (lines-have v lines.readings ts lines.reads lines.is));
-      have = subst (AllHavePaths v) (sym without) have;
+      offsets = subst (AllHaveOffsets v) (sym all_is)
+          (offsets-append v with_macros (lines_of_view v ts)
+          (subst (AllHaveOffsets v) (sym is)
+          (offsets-append v (us ++ slots_read v (readings_with p.found.readings p.offsets.pieces lines.readings macros.readings p.names.pieces)) (macros_read macros.readings)
+          (offsets-append v us (slots_read v (readings_with p.found.readings p.offsets.pieces lines.readings macros.readings p.names.pieces))
+          (offsets-each v us (all-facts v [] (debug_data v).units us refl found.placed))
+          (slots-offsets-of v (readings_with p.found.readings p.offsets.pieces lines.readings macros.readings p.names.pieces) i.offsets say.texts))
+          (offsets-macros v macros.readings (macros-have v macros.readings (all-cells v) macros.reads))))
+          (lines-offsets v lines.readings ts lines.reads lines.is));
+      places = subst (AllHavePlaces v) (sym without) have;
       rooms = subst (AllRoomsFit m v) (sym without) rooms;
       is = all_is ∙ ap (λ (ws : List UnitPaths). ws ++ lines_of_view v ts)
           (is ∙ ap (λ (ws : List UnitPaths). (ws ++ slots_read v (readings_with p.found.readings p.offsets.pieces lines.readings macros.readings p.names.pieces)) ++ macros_read macros.readings) (sym p.found.says));
       tables = lines.is;
       name_list = tables;
       names_read = named;
+    }
+
+pub paths-found : (m : PathMap) (v : View) (list : List Contribution) (marks first slice again : List ℕ) (places : UnitPlaces) (tables : List NameTable) (ts : List LineTable) (ss : List SectionUnits)
+    (us with_slots with_macros all : List UnitPaths) → AreContributions v.order (string_offsets v) list → AreRead v tables → TablesFound v ts → first ≡ starts_of ts → slice ≡ first
+    → again ≡ first → UnitsFoundIn v ss → UnitsStart (debug_data v) places → UnitsFound m (debug_data v) slice places us → TextsIndexed (debug_data v) list marks
+    → MacrosName v again places ss → SlotsFound m v list marks us with_slots → with_macros ≡ with_slots ++ macros_of ss → all ≡ with_macros ++ lines_of_view v ts → LeftRelocationsRead (debug_data v) (moving_sections v) → PathsFound m v all ts
+paths-found m v list marks first slice again places tables ts ss us with_slots with_macros all are named lines starts_are same once units_are units_start_at found indexed names slots_found macros_is all_is rest =
+    let r : PathsRead m v all ts =
+    paths-read m v list marks first slice again places tables ts ss us with_slots with_macros all are named lines starts_are same once units_are units_start_at found indexed names slots_found macros_is all_is in
+    record {
+      readings = r.readings;
+      reads = r.reads;
+      inline = r.inline;
+      slots = r.slots;
+      offsets = r.offsets;
+      places = r.places;
+      rooms = r.rooms;
+      is = r.is;
+      tables = r.tables;
+      name_list = r.name_list;
+      names_read = r.names_read;
+      relocations = record { headers = found.headers.all; values = values-read v (moving_sections v) r.readings r.reads rest; left = rest };
     }
 
 -- why nothing was found
@@ -439,7 +504,7 @@ slots-row m v rs r i (slot_fails h) = slots (slot_row rs i h)
 slots-row m v rs r i (shared_fails h) = shared rs i h
 slots-row m v rs r i (offset_fails f is h) = relocations (left_slots rs.offsets i.offsets (offset_row f is (slots-use rs.offsets is.before is.behind f is.is) h))
 
-pub slots-fault : (m : PathMap) (v : View) (list : List Contribution) (marks first places : List ℕ) (tables : List NameTable) (us : List UnitPaths) (f : Fault)
+pub slots-fault : (m : PathMap) (v : View) (list : List Contribution) (marks first : List ℕ) (places : UnitPlaces) (tables : List NameTable) (us : List UnitPaths) (f : Fault)
     → AreContributions v.order (string_offsets v) list → AreRead v tables → UnitsFound m (debug_data v) first places us → TextsIndexed (debug_data v) list marks
     → Blames (SlotsRefuse m (slots_in v) marks (slots_of list)) f → Blames (PathsRefuse m v) f
 slots-fault m v list marks first places tables us NoMemory are named found indexed h = tt
@@ -452,12 +517,16 @@ slots-fault m v list marks first places tables us (Refused r) are named found in
     (slots-around v list marks p.found.readings p.offsets [] [] p.names.pieces p.marked)
     (subst (λ (cs_ : List Contribution). SlotsRefuse m (slots_in v) marks (slots_of cs_) r) (sym same) h))
 
-pub macros-row : (m : PathMap) (v : View) (first slice again places inside also : List ℕ) (ts : List LineTable) (ss : List SectionUnits) (us : List UnitPaths) (r : Refusal) → TablesFound v ts
-    → first ≡ starts_of ts → again ≡ first → UnitsFoundIn v ss → places ≡ first_places ss → also ≡ places → UnitsFound m (debug_data v) slice inside us → MacrosStray v again also ss r
-    → PathsRefuse m v r
-macros-row m v first slice again places inside also ts ss us r lines starts_are once units_are places_are twice found stray =
+pub macros-row : (m : PathMap) (v : View) (first slice again : List ℕ) (places : UnitPlaces) (ts : List LineTable) (ss : List SectionUnits) (us : List UnitPaths) (r : Refusal)
+    → TablesFound v ts → first ≡ starts_of ts → again ≡ first → UnitsFoundIn v ss → UnitsStart (debug_data v) places → UnitsFound m (debug_data v) slice places us
+    → MacrosStray v again places ss r → PathsRefuse m v r
+macros-row m v first slice again places ts ss us r lines starts_are once units_are start found stray =
     let f : FoundReadings (debug_data v) 0 (debug_data v).units us = found-readings (debug_data v) 0 (debug_data v).units us found.placed in
-    starts (macros-fail v f.readings again also ss r f.reads (slice-start v ts first again lines starts_are once) (slice-units v ss places also units_are places_are twice) units_are stray)
+    starts (macros-fail v f.readings again places ss r f.reads (slice-start v ts first again lines starts_are once) start units_are stray)
+
+-- a slice of name tables
+pub tables-named : (v : View) (tables slice : List NameTable) → slice ≡ tables → AreNameTables v tables → AreNameTables v slice
+tables-named v tables slice same are = subst (AreNameTables v) (sym same) are
 
 -- the contributions lie in as many bytes as are marked
 pub lie-marks : (v : View) (list : List Contribution) (marks : List ℕ) → AreContributions v.order (string_offsets v) list
@@ -467,4 +536,17 @@ lie-marks v list marks are is =
     let size : length marks ≡ length (string_offsets v).bytes = ap (λ (l : List ℕ). length l) is ∙ length-replicate (length (string_offsets v).bytes) none in
     contributions-lie v.order (string_offsets v) list (length marks) are size
 
-pub ruleset found_rules = (slice-units, units-in, contributions-fault, names-fault, units-fault, slots-fault, lie-marks)
+-- a section that has relocations was read again: why it can't be is a row, but for macro units, which can be
+fields-row : (m : PathMap) (v : View) (ss : List SectionUnits) (r : Refusal) → UnitsFoundIn v ss → FieldsRefuse v r → PathsRefuse m v r
+fields-row m v ss r found (left_field f) = relocations f
+fields-row m v ss r found (headers before behind z split (header_units f)) = units (data_fails (unit_row z before behind split f))
+fields-row m v ss r found (headers before behind z split (header_offsets f)) = units (header_fails before behind z split f)
+fields-row m v ss r found (table z h u f) = units (data_fails (table_row z h u f))
+fields-row m v ss r found (entries z h list t f) = units (data_fails (entry_row z h list t f))
+fields-row m v ss r found (macros before behind z split f) = absurd (units-exclude v ss before behind z r found split f)
+
+pub fields-fault : (m : PathMap) (v : View) (ss : List SectionUnits) (f : Fault) → UnitsFoundIn v ss → Blames (FieldsRefuse v) f → Blames (PathsRefuse m v) f
+fields-fault m v ss NoMemory found h = tt
+fields-fault m v ss (Refused r) found h = fields-row m v ss r found h
+
+pub ruleset found_rules = (fields-fault, tables-named, units-in, contributions-fault, names-fault, units-fault, slots-fault, lie-marks)

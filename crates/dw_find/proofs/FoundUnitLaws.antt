@@ -3,10 +3,10 @@ use Rattle.std.proofs.Common.{true, false, ◌≡◌, ◌≢◌, ℕ, suc, ◌-�
 use Rattle.std.proofs.Math.Seq.{take-append_seam}
 use Rattle.std.proofs.lemmas.Bool.{and_parts}
 use Rattle.std.proofs.lemmas.List.{length-append}
-use Rattle.dw_base.specs.Cells.{Located}
+use Rattle.dw_base.specs.Cells.{Cell, Located}
 use Rattle.dw_base.specs.DebugData.{DebugData, line_source}
 use Rattle.dw_base.specs.DebugSections.{name_of}
-use Rattle.dw_base.specs.FileViews.{View, ViewSection, first_filled, is_filled, section_after, section_bytes, section_named}
+use Rattle.dw_base.specs.FileViews.{View, ViewSection, first_filled, is_filled, section_after, section_bytes, section_named, view_cells}
 use Rattle.dw_base.specs.Forms.{TextSection, in_str, in_line_str}
 use Rattle.dw_base.specs.LineReadings.{LineReading, AreTables}
 use Rattle.dw_base.specs.LineSources.{LineSource}
@@ -25,17 +25,20 @@ use Rattle.dw_lines.specs.ViewTables.{tables_read}
 use Rattle.dw_lines.proofs.ReadingLaws.{source-is}
 use Rattle.dw_find.specs.FoundPaths.{UnitsFound, UnitPathsRefuse, texts, without_lines}
 use Rattle.dw_find.specs.FoundPaths.UnitPathsRefuse.{inline}
-use Rattle.dw_find.specs.Fields.{ArePathFields}
+use Rattle.dw_find.specs.Fields.{AreOffsetFields}
 use Rattle.dw_find.specs.IndexedTexts.{TextsRefuse}
-use Rattle.dw_find.specs.ViewFields.{AllHaveFields, offsets_in, table_number}
+use Rattle.dw_find.specs.ViewFields.{AllHaveOffsets, offsets_in, table_number}
 use Rattle.dw_find.specs.SlotPaths.{count_of, lines_count}
-use Rattle.dw_find.specs.TextPlaces.{AllPlaced, AllFitRooms, AllStarts}
+use Rattle.dw_find.specs.TextPlaces.{AllPlaced, AllFitRooms}
+use Rattle.dw_find.specs.NamedStarts.{AllStarts}
 use Rattle.dw_find.specs.UnitPaths.{UnitPaths}
 use Rattle.dw_find.specs.UnitTexts.{AllTaken, texts_of}
 use Rattle.dw_find.specs.ViewLines.{lines_by, lines_of_view, table_fields}
 use Rattle.dw_find.proofs.LineTextLaws.{TextsApart, lines-fields}
-use Rattle.dw_find.proofs.PlainFieldLaws.{lines-plain}
 use Rattle.dw_find.proofs.SectionFactLaws.{taken-placed}
+use Rattle.dw_find.specs.UnitPlaces.{UnitPlaces}
+use Rattle.dw_base.specs.RelocationRows.{HeaderOffsetsRead}
+use Rattle.dw_base.specs.UnitHeaders.{UnitSection}
 
 -- The line tables of a view. Their section is the one of a number, or there are none.
 pub bytes-some : (v : View) (i : ℕ) → Some i ≡ section_named v (name_of Line) → (line_source (debug_data v)).bytes ≡ section_bytes v (line_source (debug_data v)).number
@@ -83,34 +86,35 @@ apart-by v (Some i) None e f at ends same =
 apart-by v (Some i) (Some j) e f at ends same =
     names-differ (both-first (name_of LineStr) (name_of Str) 1 i (drop 1 v.sections) (sym e) (sym f ∙ ap Some (sym same)))
 
-view-apart : (v : View) → TextsApart (line_source (debug_data v))
+pub view-apart : (v : View) → TextsApart (line_source (debug_data v))
 unfolding debug_data located
 view-apart v = apart-by v (section_named v (name_of LineStr)) (section_named v (name_of Str)) refl refl
 
--- the fields of line tables are fields of the view
-lines-have-by : (v : View) (rs : List LineReading) (o : Option ℕ) → o ≡ section_named v (name_of Line) → AreTables (line_source (debug_data v)) rs
-    → AllHaveFields v (lines_by o (line_source (debug_data v)) (tables_read (line_source (debug_data v)) rs))
-unfolding section_named
-lines-have-by v rs None e are = tt
-lines-have-by v rs (Some i) e are =
-    let own = bytes-some v i e in
+-- the fields of line tables hold offsets of the view, and are fields of it
+pub cells-some : (v : View) (i : ℕ) → Some i ≡ section_named v (name_of Line) → (line_source (debug_data v)).cells ≡ view_cells v (line_source (debug_data v)).number
+cells-some v i e = subst (λ (g : LineSource). g.cells ≡ view_cells v g.number) (sym (source-is v i e)) refl
+
+lines-offsets-by : (v : View) (rs : List LineReading) (o : Option ℕ) → o ≡ section_named v (name_of Line) → AreTables (line_source (debug_data v)) rs
+    → AllHaveOffsets v (lines_by o (line_source (debug_data v)) (tables_read (line_source (debug_data v)) rs))
+unfolding section_named debug_data
+lines-offsets-by v rs None e are = tt
+lines-offsets-by v rs (Some i) e are =
     let number : i ≡ (line_source (debug_data v)).number = ap (λ (g : LineSource). g.number) (sym (source-is v i e)) in
-    let there : i < length v.sections = (section_after-within v (name_of Line) 0 i (sym e)).1 in
-    let fields = λ (table : TextSection). lines-fields (line_source (debug_data v)) table 0 (length (line_source (debug_data v)).bytes) rs (view-apart v) (lines-plain v) are in (
+    let fields = λ (table : TextSection). lines-fields (line_source (debug_data v)) table 0 (length (line_source (debug_data v)).bytes) rs (view-apart v) refl are in (
       record {
-        there = subst (λ (n : ℕ). n < length v.sections) number there;
-        str = subst (λ (bs : List ℕ). ArePathFields (offsets_in v in_str) bs
-            (table_fields (line_source (debug_data v)).number (line_source (debug_data v)).str.number in_str (tables_read (line_source (debug_data v)) rs))) own (fields in_str);
-        line_str = subst (λ (bs : List ℕ). ArePathFields (offsets_in v in_line_str) bs
-            (table_fields (line_source (debug_data v)).number (line_source (debug_data v)).str.number in_line_str (tables_read (line_source (debug_data v)) rs))) own (fields in_line_str);
+        there = subst (λ (n : ℕ). n < length v.sections) number (section_after-within v (name_of Line) 0 i (sym e)).1;
+        str = subst (λ (cells : List Cell). AreOffsetFields v.order (debug_data v).str cells
+            (table_fields (line_source (debug_data v)).number (line_source (debug_data v)).str.number in_str (tables_read (line_source (debug_data v)) rs))) (cells-some v i e) (fields in_str);
+        line_str = subst (λ (cells : List Cell). AreOffsetFields v.order (debug_data v).line_str cells
+            (table_fields (line_source (debug_data v)).number (line_source (debug_data v)).str.number in_line_str (tables_read (line_source (debug_data v)) rs))) (cells-some v i e) (fields in_line_str);
       },
       tt,
     )
 
-pub lines-have : (v : View) (rs : List LineReading) (ts : List LineTable) → AreTables (line_source (debug_data v)) rs → ts ≡ tables_read (line_source (debug_data v)) rs
-    → AllHaveFields v (lines_of_view v ts)
-lines-have v rs ts are is =
-    subst (λ (us : List LineTable). AllHaveFields v (lines_of_view v us)) (sym is) (lines-have-by v rs (section_named v (name_of Line)) refl are)
+pub lines-offsets : (v : View) (rs : List LineReading) (ts : List LineTable) → AreTables (line_source (debug_data v)) rs → ts ≡ tables_read (line_source (debug_data v)) rs
+    → AllHaveOffsets v (lines_of_view v ts)
+lines-offsets v rs ts are is =
+    subst (λ (us : List LineTable). AllHaveOffsets v (lines_of_view v us)) (sym is) (lines-offsets-by v rs (section_named v (name_of Line)) refl are)
 
 -- all sections are those of units, behind them that of string offsets, and behind that the line tables
 pub front-is : {X : Type 0} (xs ys : List X) (n : ℕ) → length ys ≡ n → take (length (xs ++ ys) - n) (xs ++ ys) ≡ xs
@@ -127,10 +131,30 @@ pub without-is : (v : View) (us xs : List UnitPaths) (ts : List LineTable) → u
 without-is v us xs ts is =
     ap (without_lines v) is ∙ front-is xs (lines_of_view v ts) (lines_count v) (lines-number (section_named v (name_of Line)) (line_source (debug_data v)) ts)
 
+-- the offsets in the headers of units that were taken can be read
+head-same : (x y : UnitSection) (xs ys : List UnitSection) → x ∷ xs ≡ y ∷ ys → x ≡ y
+head-same x y xs ys e = cc
+
+tail-same : (x y : UnitSection) (xs ys : List UnitSection) → x ∷ xs ≡ y ∷ ys → xs ≡ ys
+tail-same x y xs ys e = cc
+
+taken-headers : (d : DebugData) (zs : List UnitSection) (us : List UnitPaths) → AllTaken d zs us → (before behind : List UnitSection) (z : UnitSection) → zs ≡ before ++ z ∷ behind
+    → HeaderOffsetsRead d.base z
+taken-headers d [] us all [] behind z split = absurd cc
+taken-headers d [] us all (b ∷ bs) behind z split = absurd cc
+taken-headers d (y ∷ ys) [] all before behind z split = absurd all
+taken-headers d (y ∷ ys) (u ∷ us) all [] behind z split = subst (HeaderOffsetsRead d.base) (head-same y z ys behind split) all.0.headers
+taken-headers d (y ∷ ys) (u ∷ us) all (b ∷ bs) behind z split = taken-headers d ys us all.1 bs behind z (tail-same y b ys (bs ++ z ∷ behind) split)
+
 -- what was found of paths in units
-pub units-found : (m : PathMap) (d : DebugData) (starts places : List ℕ) (us : List UnitPaths) → AllTaken d d.units us → AllFitRooms m d.units us
+pub units-found : (m : PathMap) (d : DebugData) (starts : List ℕ) (places : UnitPlaces) (us : List UnitPaths) → AllTaken d d.units us → AllFitRooms m d.units us
     → AllStarts d starts places d.units us → UnitsFound m d starts places us
-units-found m d starts places us taken fits all = record { placed = taken-placed d d.units us taken; fits = fits; named = all }
+units-found m d starts places us taken fits all = record {
+  headers = record { all = λ before behind z split. taken-headers d d.units us taken before behind z split };
+  placed = taken-placed d d.units us taken;
+  fits = fits;
+  named = all;
+}
 
 pub placed-found : (d : DebugData) (us : List UnitPaths) → AllTaken d d.units us → AllPlaced d d.units us
 placed-found d us taken = taken-placed d d.units us taken

@@ -1,12 +1,12 @@
 -- What the pieces of units say by index is what their places say, with the number of the unit.
 use Rattle.std.proofs.Common.{Bool, true, false, ◌≡◌, ℕ, ◌+◌, ◌-◌, ◌==◌, ◌||◌, List, [], ◌∷◌, ◌++◌, length, cond, if◌then◌else◌, Option, Some, None, refl, sym, ap, ◌∙◌, arith, append_assoc, append-nil}
 use Rattle.dw_base.specs.AbbreviationTables.{Abbreviation, abbreviation_of}
-use Rattle.dw_base.specs.Cells.{Cell, Located, bytes_of, offset_of}
+use Rattle.dw_base.specs.Cells.{Cell, Located, bytes_of, cells_at, offset_of}
 use Rattle.dw_base.specs.DebugData.{begins_by, units_in}
 use Rattle.dw_base.specs.EntryScans.{depth_behind}
 use Rattle.dw_base.specs.Forms.{ValueKind, number_of, leb_number, form_in_front, kind_in}
 use Rattle.dw_base.specs.Numbers.{spelled}
-use Rattle.dw_base.specs.Pieces.{Piece, EachPiece, Leads, joined}
+use Rattle.dw_base.specs.Pieces.{Piece, EachPiece, Leads}
 use Rattle.dw_base.specs.Roles.{Role, fixed, offset, inline_path, line_start, role_of, is_path, use_of}
 use Rattle.dw_base.specs.TableStarts.{macro_value_by, start_form_by}
 use Rattle.dw_base.specs.TextIndexes.{SaidBase, IndexUse, base_value, bases_by, bases_in, index_value, is_base, said_by, use_by, uses_by, uses_in}
@@ -18,8 +18,7 @@ use Rattle.dw_base.specs.declared.units.UnitHeader.{UnitHeader}
 use Rattle.dw_base.specs.declared.values.Spec.{Spec}
 use Rattle.dw_base.specs.declared.values.ValueClass.{ValueClass}
 use Rattle.dw_base.specs.declared.values.ValueClass.TheVariants.{Number, StrIndex, SecOffset}
-use Rattle.dw_base.proofs.PlainCellLaws.{IsPlain, offset_of-plain, plain-parts}
-use Rattle.dw_find.specs.TextPlaces.{TextPlace, place_of, indexed_kind, indexed_in, places_in, said_start, use_at, uses_among, base_at, bases_among, UnitSays, numbered_uses, numbered_bases}
+use Rattle.dw_find.specs.TextPlaces.{TextPlace, BaseSource, said_base, place_of, indexed_kind, indexed_in, places_in, said_start, use_at, uses_among, base_at, bases_among, UnitSays, numbered_uses, numbered_bases}
 use Rattle.dw_find.proofs.ValueRunLaws.{OrderIs, IsNumbered}
 
 -- lists, one behind another
@@ -41,11 +40,12 @@ uses_among-append section unit (t ∷ ts) us =
     ap (λ (xs : List IndexUse). use_at section unit t.at t.says ++ xs) (uses_among-append section unit ts us)
     ∙ sym (append_assoc (use_at section unit t.at t.says) (uses_among section unit ts) (uses_among section unit us))
 
-pub bases_among-append : (unit : ℕ) (ts us : List TextPlace) → bases_among unit (ts ++ us) ≡ bases_among unit ts ++ bases_among unit us
-bases_among-append unit [] us = refl
-bases_among-append unit (t ∷ ts) us =
-    ap (λ (xs : List SaidBase). base_at unit t.says ++ xs) (bases_among-append unit ts us)
-    ∙ sym (append_assoc (base_at unit t.says) (bases_among unit ts) (bases_among unit us))
+pub bases_among-append : (g : BaseSource) (cells : List Cell) (unit : ℕ) (ts us : List TextPlace)
+    → bases_among g cells unit (ts ++ us) ≡ bases_among g cells unit ts ++ bases_among g cells unit us
+bases_among-append g cells unit [] us = refl
+bases_among-append g cells unit (t ∷ ts) us =
+    ap (λ (xs : List SaidBase). base_at g cells unit t.at t.len t.says ++ xs) (bases_among-append g cells unit ts us)
+    ∙ sym (append_assoc (base_at g cells unit t.at t.len t.says) (bases_among g cells unit ts) (bases_among g cells unit us))
 
 pub numbered_uses-more : (unit : ℕ) (us : List UnitSays) (u : UnitSays)
     → numbered_uses unit (us ++ u ∷ []) ≡ numbered_uses unit us ++ uses_among u.section (unit + length us) u.places
@@ -55,13 +55,13 @@ numbered_uses-more unit (x ∷ xs) u =
     (numbered_uses-more (unit + 1) xs u ∙ ap (λ (n : ℕ). numbered_uses (unit + 1) xs ++ uses_among u.section n u.places) (omega arith))
     ∙ sym (append_assoc (uses_among x.section unit x.places) (numbered_uses (unit + 1) xs) (uses_among u.section (unit + length (x ∷ xs)) u.places))
 
-pub numbered_bases-more : (unit : ℕ) (us : List UnitSays) (u : UnitSays)
-    → numbered_bases unit (us ++ u ∷ []) ≡ numbered_bases unit us ++ bases_among (unit + length us) u.places
-numbered_bases-more unit [] u = append-nil (bases_among unit u.places) ∙ ap (λ (n : ℕ). bases_among n u.places) (omega arith)
-numbered_bases-more unit (x ∷ xs) u =
-    ap (λ (ys : List SaidBase). bases_among unit x.places ++ ys)
-    (numbered_bases-more (unit + 1) xs u ∙ ap (λ (n : ℕ). numbered_bases (unit + 1) xs ++ bases_among n u.places) (omega arith))
-    ∙ sym (append_assoc (bases_among unit x.places) (numbered_bases (unit + 1) xs) (bases_among (unit + length (x ∷ xs)) u.places))
+pub numbered_bases-more : (g : BaseSource) (unit : ℕ) (us : List UnitSays) (u : UnitSays)
+    → numbered_bases g unit (us ++ u ∷ []) ≡ numbered_bases g unit us ++ bases_among g u.cells (unit + length us) u.places
+numbered_bases-more g unit [] u = append-nil (bases_among g u.cells unit u.places) ∙ ap (λ (n : ℕ). bases_among g u.cells n u.places) (omega arith)
+numbered_bases-more g unit (x ∷ xs) u =
+    ap (λ (ys : List SaidBase). bases_among g x.cells unit x.places ++ ys)
+    (numbered_bases-more g (unit + 1) xs u ∙ ap (λ (n : ℕ). numbered_bases g (unit + 1) xs ++ bases_among g u.cells n u.places) (omega arith))
+    ∙ sym (append_assoc (bases_among g x.cells unit x.places) (numbered_bases g (unit + 1) xs) (bases_among g u.cells (unit + length (x ∷ xs)) u.places))
 
 -- a text that an edit may change says nothing by index
 place-uses : (r : Role) (section unit at len : ℕ) → uses_among section unit (place_of r at len) ≡ []
@@ -70,11 +70,11 @@ place-uses (offset t path) section unit at len = refl
 place-uses inline_path section unit at len = refl
 place-uses line_start section unit at len = refl
 
-place-bases : (r : Role) (unit at len : ℕ) → bases_among unit (place_of r at len) ≡ []
-place-bases fixed unit at len = refl
-place-bases (offset t path) unit at len = refl
-place-bases inline_path unit at len = refl
-place-bases line_start unit at len = refl
+place-bases : (r : Role) (g : BaseSource) (cells : List Cell) (unit at len : ℕ) → bases_among g cells unit (place_of r at len) ≡ []
+place-bases fixed g cells unit at len = refl
+place-bases (offset t path) g cells unit at len = refl
+place-bases inline_path g cells unit at len = refl
+place-bases line_start g cells unit at len = refl
 
 -- and neither does what a value says of starts
 said-uses : (b macro : Bool) (section unit begin at len : ℕ) (ts : List TextPlace) → uses_among section unit (ts ++ said_start b macro begin at len) ≡ uses_among section unit ts
@@ -82,31 +82,38 @@ said-uses true true section unit begin at len ts = uses_among-append section uni
 said-uses true false section unit begin at len ts = ap (uses_among section unit) (append-nil ts)
 said-uses false macro section unit begin at len ts = uses_among-append section unit ts (said_start false macro begin at len) ∙ append-nil (uses_among section unit ts)
 
-said-bases : (b macro : Bool) (unit begin at len : ℕ) (ts : List TextPlace) → bases_among unit (ts ++ said_start b macro begin at len) ≡ bases_among unit ts
-said-bases true true unit begin at len ts = bases_among-append unit ts (said_start true true begin at len) ∙ append-nil (bases_among unit ts)
-said-bases true false unit begin at len ts = ap (bases_among unit) (append-nil ts)
-said-bases false macro unit begin at len ts = bases_among-append unit ts (said_start false macro begin at len) ∙ append-nil (bases_among unit ts)
+said-bases : (b macro : Bool) (g : BaseSource) (cells : List Cell) (unit begin at len : ℕ) (ts : List TextPlace)
+    → bases_among g cells unit (ts ++ said_start b macro begin at len) ≡ bases_among g cells unit ts
+said-bases true true g cells unit begin at len ts = bases_among-append g cells unit ts (said_start true true begin at len) ∙ append-nil (bases_among g cells unit ts)
+said-bases true false g cells unit begin at len ts = ap (bases_among g cells unit) (append-nil ts)
+said-bases false macro g cells unit begin at len ts = bases_among-append g cells unit ts (said_start false macro begin at len) ∙ append-nil (bases_among g cells unit ts)
 
 -- a value that names a text by index
-kind-uses : (k : ValueKind) (path base : Bool) (order : Order) (s : UnitState) (at : ℕ) (p : List Cell)
-    → use_by s at path (index_value order k p) ≡ uses_among s.section s.unit (indexed_kind k path base order at p)
-kind-uses (number_of class n) path base order s at p = by_class class base
+base-uses : (field : Bool) (section unit begin at len n : ℕ) → [] ≡ uses_among section unit (said_base field begin at len n)
+base-uses true section unit begin at len n = refl
+base-uses false section unit begin at len n = refl
+
+kind-uses : (k : ValueKind) (path base : Bool) (order : Order) (s : UnitState) (begin at len : ℕ) (p : List Cell)
+    → use_by s begin path (index_value order k p) ≡ uses_among s.section s.unit (indexed_kind k path base order begin at len p)
+kind-uses (number_of class n) path base order s begin at len p = by_class class base
   where
-    by_class : (c : ValueClass) (b : Bool) → use_by s at path (index_value order (number_of c n) p) ≡ uses_among s.section s.unit (indexed_kind (number_of c n) path b order at p)
+    by_class : (c : ValueClass) (b : Bool)
+        → use_by s begin path (index_value order (number_of c n) p) ≡ uses_among s.section s.unit (indexed_kind (number_of c n) path b order begin at len p)
     by_class StrIndex b = refl
-    by_class Number true = refl
+    by_class Number true = base-uses (n == 4 || n == 8) s.section s.unit begin at len (spelled order (bytes_of p) 0 (length p))
     by_class Number false = refl
-    by_class SecOffset true = refl
+    by_class SecOffset true = base-uses true s.section s.unit begin at len (spelled order (bytes_of p) 0 (length p))
     by_class SecOffset false = refl
     by_class c b = refl
-kind-uses (leb_number class) path base order s at p = by_class class base
+kind-uses (leb_number class) path base order s begin at len p = by_class class base
   where
-    by_class : (c : ValueClass) (b : Bool) → use_by s at path (index_value order (leb_number c) p) ≡ uses_among s.section s.unit (indexed_kind (leb_number c) path b order at p)
+    by_class : (c : ValueClass) (b : Bool)
+        → use_by s begin path (index_value order (leb_number c) p) ≡ uses_among s.section s.unit (indexed_kind (leb_number c) path b order begin at len p)
     by_class StrIndex b = refl
     by_class Number true = refl
     by_class Number false = refl
     by_class c b = refl
-kind-uses k path base order s at p = refl
+kind-uses k path base order s begin at len p = refl
 
 piece-uses : (m : Mode) (order : Order) (s : UnitState) (p : List Cell) → OrderIs m s.header.params.order order
     → uses_by m order s p ≡ uses_among s.section s.unit (indexed_in m s p)
@@ -114,22 +121,22 @@ piece-uses at_header order s p same = refl
 piece-uses at_code order s p same = refl
 piece-uses (at_values n tag []) order s p same = refl
 piece-uses (at_values n tag (x ∷ xs)) order s p same =
-    kind-uses (kind_in s.header.params x.form) (is_path n tag x.name) (is_base n x.name) order s s.place p
-    ∙ ap (λ (o : Order). uses_among s.section s.unit (indexed_kind (kind_in s.header.params x.form) (is_path n tag x.name) (is_base n x.name) o s.place p)) (sym same)
+    kind-uses (kind_in s.header.params x.form) (is_path n tag x.name) (is_base n x.name) order s s.place s.place (length p) p
+    ∙ ap (λ (o : Order). uses_among s.section s.unit (indexed_kind (kind_in s.header.params x.form) (is_path n tag x.name) (is_base n x.name) o s.place s.place (length p) p)) (sym same)
     ∙ sym (said-uses (start_form_by (kind_in s.header.params x.form) (use_of n tag x.name)) (macro_value_by (kind_in s.header.params x.form) (use_of n tag x.name)) s.section s.unit s.place s.place (length p)
-    (indexed_kind (kind_in s.header.params x.form) (is_path n tag x.name) (is_base n x.name) s.header.params.order s.place p))
+    (indexed_kind (kind_in s.header.params x.form) (is_path n tag x.name) (is_base n x.name) s.header.params.order s.place s.place (length p) p))
 piece-uses (at_chosen n tag start x xs) order s p same =
-    kind-uses (kind_in s.header.params x.form) (is_path n tag x.name) (is_base n x.name) order s start p
-    ∙ ap (λ (o : Order). uses_among s.section s.unit (indexed_kind (kind_in s.header.params x.form) (is_path n tag x.name) (is_base n x.name) o start p)) (sym same)
+    kind-uses (kind_in s.header.params x.form) (is_path n tag x.name) (is_base n x.name) order s start s.place (length p) p
+    ∙ ap (λ (o : Order). uses_among s.section s.unit (indexed_kind (kind_in s.header.params x.form) (is_path n tag x.name) (is_base n x.name) o start s.place (length p) p)) (sym same)
     ∙ sym (said-uses (start_form_by (kind_in s.header.params x.form) (use_of n tag x.name)) (macro_value_by (kind_in s.header.params x.form) (use_of n tag x.name)) s.section s.unit start s.place (length p)
-    (indexed_kind (kind_in s.header.params x.form) (is_path n tag x.name) (is_base n x.name) s.header.params.order start p))
+    (indexed_kind (kind_in s.header.params x.form) (is_path n tag x.name) (is_base n x.name) s.header.params.order start s.place (length p) p))
 piece-uses stuck order s p same = refl
 
 -- so do pieces of a unit
-pub run-uses : (order : Order) (section unit : ℕ) (xs : List (Piece UnitState)) → EachPiece (IsNumbered order section unit) xs
+pub run-uses : (order : Order) (cells : List Cell) (section unit : ℕ) (xs : List (Piece UnitState)) → EachPiece (IsNumbered order cells section unit) xs
     → uses_in order xs ≡ uses_among section unit (places_in xs)
-run-uses order section unit [] each = refl
-run-uses order section unit (x ∷ xs) each =
+run-uses order cells section unit [] each = refl
+run-uses order cells section unit (x ∷ xs) each =
     let text : List TextPlace = place_of (role_of x) x.state.place (length x.cells) in
     let said : List TextPlace = indexed_in x.state.mode x.state x.cells in
     let one = each.0 in
@@ -138,76 +145,79 @@ run-uses order section unit (x ∷ xs) each =
     ∙ ap (λ (n : ℕ). uses_among n x.state.unit (indexed_in x.state.mode x.state x.cells)) one.section_is
     ∙ ap (λ (n : ℕ). uses_among section n (indexed_in x.state.mode x.state x.cells)) one.unit_is in
     ap (λ (us : List IndexUse). us ++ uses_in order xs) here
-    ∙ ap (λ (us : List IndexUse). uses_among section unit said ++ us) (run-uses order section unit xs each.1)
+    ∙ ap (λ (us : List IndexUse). uses_among section unit said ++ us) (run-uses order cells section unit xs each.1)
     ∙ sym (uses_among-append section unit said (places_in xs))
     ∙ ap (λ (us : List IndexUse). us ++ uses_among section unit (said ++ places_in xs)) (sym (place-uses (role_of x) section unit x.state.place (length x.cells)))
     ∙ sym (uses_among-append section unit text (said ++ places_in xs))
 
 -- a value that says a base
-kind-bases : (k : ValueKind) (path base : Bool) (order : Order) (y : Located) (s : UnitState) (at : ℕ) (p : List Cell) → IsPlain p
-    → (if base then said_by s.unit (base_value order y k p) else []) ≡ bases_among s.unit (indexed_kind k path base order at p)
-kind-bases (number_of class n) path base order y s at p plain = by_class class base
-  where
-    by_size : (b : Bool) → cond b (offset_of order y p) (spelled order (bytes_of p) 0 (length p)) ≡ spelled order (bytes_of p) 0 (length p)
-    by_size true = offset_of-plain order y p plain
-    by_size false = refl
+base-says : (field : Bool) (g : BaseSource) (cells : List Cell) (unit begin at : ℕ) (p : List Cell) → cells_at cells at (length p) ≡ p
+    → record { unit = unit; base = if field then offset_of g.order g.offsets p else spelled g.order (bytes_of p) 0 (length p) } ∷ []
+    ≡ bases_among g cells unit (said_base field begin at (length p) (spelled g.order (bytes_of p) 0 (length p)))
+base-says true g cells unit begin at p stands = ap (λ (q : List Cell). record { unit = unit; base = offset_of g.order g.offsets q } ∷ []) (sym stands)
+base-says false g cells unit begin at p stands = refl
 
+kind-bases : (k : ValueKind) (path base : Bool) (g : BaseSource) (cells : List Cell) (s : UnitState) (begin at : ℕ) (p : List Cell) → cells_at cells at (length p) ≡ p
+    → (if base then said_by s.unit (base_value g.order g.offsets k p) else []) ≡ bases_among g cells s.unit (indexed_kind k path base g.order begin at (length p) p)
+kind-bases (number_of class n) path base g cells s begin at p stands = by_class class base
+  where
     by_class : (c : ValueClass) (b : Bool)
-        → (if b then said_by s.unit (base_value order y (number_of c n) p) else []) ≡ bases_among s.unit (indexed_kind (number_of c n) path b order at p)
+        → (if b then said_by s.unit (base_value g.order g.offsets (number_of c n) p) else [])
+        ≡ bases_among g cells s.unit (indexed_kind (number_of c n) path b g.order begin at (length p) p)
     by_class StrIndex true = refl
     by_class StrIndex false = refl
-    by_class Number true = ap (λ (m : ℕ). record { unit = s.unit; base = m } ∷ []) (by_size (n == 4 || n == 8))
+    by_class Number true = base-says (n == 4 || n == 8) g cells s.unit begin at p stands
     by_class Number false = refl
-    by_class SecOffset true = ap (λ (m : ℕ). record { unit = s.unit; base = m } ∷ []) (offset_of-plain order y p plain)
+    by_class SecOffset true = base-says true g cells s.unit begin at p stands
     by_class SecOffset false = refl
     by_class c true = refl
     by_class c false = refl
-kind-bases (leb_number class) path base order y s at p plain = by_class class base
+kind-bases (leb_number class) path base g cells s begin at p stands = by_class class base
   where
     by_class : (c : ValueClass) (b : Bool)
-        → (if b then said_by s.unit (base_value order y (leb_number c) p) else []) ≡ bases_among s.unit (indexed_kind (leb_number c) path b order at p)
+        → (if b then said_by s.unit (base_value g.order g.offsets (leb_number c) p) else [])
+        ≡ bases_among g cells s.unit (indexed_kind (leb_number c) path b g.order begin at (length p) p)
     by_class StrIndex true = refl
     by_class StrIndex false = refl
     by_class Number true = refl
     by_class Number false = refl
     by_class c true = refl
     by_class c false = refl
-kind-bases k path true order y s at p plain = refl
-kind-bases k path false order y s at p plain = refl
+kind-bases k path true g cells s begin at p stands = refl
+kind-bases k path false g cells s begin at p stands = refl
 
-piece-bases : (m : Mode) (order : Order) (y : Located) (s : UnitState) (p : List Cell) → OrderIs m s.header.params.order order → IsPlain p
-    → bases_by m order y s p ≡ bases_among s.unit (indexed_in m s p)
-piece-bases at_header order y s p same plain = refl
-piece-bases at_code order y s p same plain = refl
-piece-bases (at_values n tag []) order y s p same plain = refl
-piece-bases (at_values n tag (x ∷ xs)) order y s p same plain =
-    kind-bases (kind_in s.header.params x.form) (is_path n tag x.name) (is_base n x.name) order y s s.place p plain
-    ∙ ap (λ (o : Order). bases_among s.unit (indexed_kind (kind_in s.header.params x.form) (is_path n tag x.name) (is_base n x.name) o s.place p)) (sym same)
-    ∙ sym (said-bases (start_form_by (kind_in s.header.params x.form) (use_of n tag x.name)) (macro_value_by (kind_in s.header.params x.form) (use_of n tag x.name)) s.unit s.place s.place (length p)
-    (indexed_kind (kind_in s.header.params x.form) (is_path n tag x.name) (is_base n x.name) s.header.params.order s.place p))
-piece-bases (at_chosen n tag start x xs) order y s p same plain =
-    kind-bases (kind_in s.header.params x.form) (is_path n tag x.name) (is_base n x.name) order y s start p plain
-    ∙ ap (λ (o : Order). bases_among s.unit (indexed_kind (kind_in s.header.params x.form) (is_path n tag x.name) (is_base n x.name) o start p)) (sym same)
-    ∙ sym (said-bases (start_form_by (kind_in s.header.params x.form) (use_of n tag x.name)) (macro_value_by (kind_in s.header.params x.form) (use_of n tag x.name)) s.unit start s.place (length p)
-    (indexed_kind (kind_in s.header.params x.form) (is_path n tag x.name) (is_base n x.name) s.header.params.order start p))
-piece-bases stuck order y s p same plain = refl
+piece-bases : (m : Mode) (g : BaseSource) (cells : List Cell) (s : UnitState) (p : List Cell) → OrderIs m s.header.params.order g.order → cells_at cells s.place (length p) ≡ p
+    → bases_by m g.order g.offsets s p ≡ bases_among g cells s.unit (indexed_in m s p)
+piece-bases at_header g cells s p same stands = refl
+piece-bases at_code g cells s p same stands = refl
+piece-bases (at_values n tag []) g cells s p same stands = refl
+piece-bases (at_values n tag (x ∷ xs)) g cells s p same stands =
+    kind-bases (kind_in s.header.params x.form) (is_path n tag x.name) (is_base n x.name) g cells s s.place s.place p stands
+    ∙ ap (λ (o : Order). bases_among g cells s.unit (indexed_kind (kind_in s.header.params x.form) (is_path n tag x.name) (is_base n x.name) o s.place s.place (length p) p)) (sym same)
+    ∙ sym (said-bases (start_form_by (kind_in s.header.params x.form) (use_of n tag x.name)) (macro_value_by (kind_in s.header.params x.form) (use_of n tag x.name)) g cells s.unit s.place s.place (length p)
+    (indexed_kind (kind_in s.header.params x.form) (is_path n tag x.name) (is_base n x.name) s.header.params.order s.place s.place (length p) p))
+piece-bases (at_chosen n tag start x xs) g cells s p same stands =
+    kind-bases (kind_in s.header.params x.form) (is_path n tag x.name) (is_base n x.name) g cells s start s.place p stands
+    ∙ ap (λ (o : Order). bases_among g cells s.unit (indexed_kind (kind_in s.header.params x.form) (is_path n tag x.name) (is_base n x.name) o start s.place (length p) p)) (sym same)
+    ∙ sym (said-bases (start_form_by (kind_in s.header.params x.form) (use_of n tag x.name)) (macro_value_by (kind_in s.header.params x.form) (use_of n tag x.name)) g cells s.unit start s.place (length p)
+    (indexed_kind (kind_in s.header.params x.form) (is_path n tag x.name) (is_base n x.name) s.header.params.order start s.place (length p) p))
+piece-bases stuck g cells s p same stands = refl
 
-pub run-bases : (order : Order) (section unit : ℕ) (y : Located) (xs : List (Piece UnitState)) → EachPiece (IsNumbered order section unit) xs → IsPlain (joined xs)
-    → bases_in order y xs ≡ bases_among unit (places_in xs)
-run-bases order section unit y [] each plain = refl
-run-bases order section unit y (x ∷ xs) each plain =
+pub run-bases : (g : BaseSource) (cells : List Cell) (section unit : ℕ) (xs : List (Piece UnitState)) → EachPiece (IsNumbered g.order cells section unit) xs
+    → bases_in g.order g.offsets xs ≡ bases_among g cells unit (places_in xs)
+run-bases g cells section unit [] each = refl
+run-bases g cells section unit (x ∷ xs) each =
     let text : List TextPlace = place_of (role_of x) x.state.place (length x.cells) in
     let said : List TextPlace = indexed_in x.state.mode x.state x.cells in
     let one = each.0 in
-    let parts : IsPlain x.cells × IsPlain (joined xs) = plain-parts x.cells (joined xs) plain in
-    let here : bases_by x.state.mode order y x.state x.cells ≡ bases_among unit said =
-    piece-bases x.state.mode order y x.state x.cells one.order_is parts.0
-    ∙ ap (λ (n : ℕ). bases_among n (indexed_in x.state.mode x.state x.cells)) one.unit_is in
-    ap (λ (us : List SaidBase). us ++ bases_in order y xs) here
-    ∙ ap (λ (us : List SaidBase). bases_among unit said ++ us) (run-bases order section unit y xs each.1 parts.1)
-    ∙ sym (bases_among-append unit said (places_in xs))
-    ∙ ap (λ (us : List SaidBase). us ++ bases_among unit (said ++ places_in xs)) (sym (place-bases (role_of x) unit x.state.place (length x.cells)))
-    ∙ sym (bases_among-append unit text (said ++ places_in xs))
+    let here : bases_by x.state.mode g.order g.offsets x.state x.cells ≡ bases_among g cells unit said =
+    piece-bases x.state.mode g cells x.state x.cells one.order_is one.stands
+    ∙ ap (λ (n : ℕ). bases_among g cells n (indexed_in x.state.mode x.state x.cells)) one.unit_is in
+    ap (λ (us : List SaidBase). us ++ bases_in g.order g.offsets xs) here
+    ∙ ap (λ (us : List SaidBase). bases_among g cells unit said ++ us) (run-bases g cells section unit xs each.1)
+    ∙ sym (bases_among-append g cells unit said (places_in xs))
+    ∙ ap (λ (us : List SaidBase). us ++ bases_among g cells unit (said ++ places_in xs)) (sym (place-bases (role_of x) g cells unit x.state.place (length x.cells)))
+    ∙ sym (bases_among-append g cells unit text (said ++ places_in xs))
 
 -- how many units have begun, with those before the first piece
 abbrev begun_by : Mode → ℕ → ℕ

@@ -1,59 +1,33 @@
 -- What the units of debug data say by index, from the pass over them to the pieces: the slots that their values name, and the first
 -- value that names none.
-use Rattle.std.proofs.Common.{Bool, true, false, ◌≡◌, ◌≢◌, ℕ, suc, ◌+◌, ◌<◌, ◌≤◌, ◌&&◌, ◌||◌, List, [], ◌∷◌, ◌++◌, length, drop, replicate, if◌then◌else◌, Option, Some, None, refl, sym, ap, ◌∙◌, subst, arith, append_assoc}
-use Rattle.std.specs.Bool.{⊤}
+use Rattle.std.proofs.Common.{Bool, true, false, ◌≡◌, ◌≢◌, ℕ, ◌+◌, ◌<◌, ◌≤◌, ◌&&◌, ◌||◌, List, [], ◌∷◌, ◌++◌, length, replicate, Option, Some, None, refl, sym, ap, ◌∙◌, subst, arith, append_assoc}
 use Rattle.std.proofs.lemmas.Bool.{eq-eqb, ne_eqb}
-use Rattle.dw_base.specs.Cells.{Located, located_cells}
+use Rattle.dw_base.specs.Cells.{Cell, Located, located_cells}
 use Rattle.dw_base.specs.DebugData.{DebugData, ReadsAll, units_in}
-use Rattle.dw_base.specs.FileViews.{View, ViewSection, bytes_in}
-use Rattle.dw_base.specs.DebugSections.{debug_section}
+use Rattle.dw_base.specs.FileViews.{View}
 use Rattle.dw_base.specs.IndexFails.{no_slot}
 use Rattle.dw_base.specs.Readings.{Readings}
 use Rattle.dw_base.specs.Refusals.{Blames, at as refusal_at}
 use Rattle.dw_base.specs.TextIndexes.{SaidBase, IndexUse, Indexing, EachUse, NamesSlot, all_bases, base_of, index_uses, slot_of}
-use Rattle.dw_base.specs.UnitHeaders.{UnitSection, SectionKind}
-use Rattle.dw_base.specs.ViewData.{unit_kind, unit_section, unit_sections_from, unit_sections, debug_data}
+use Rattle.dw_base.specs.UnitHeaders.{UnitSection}
+use Rattle.dw_base.specs.ViewData.{debug_data}
 use Rattle.dw_base.specs.declared.fault.Fault.{Fault}
 use Rattle.dw_base.specs.declared.fault.Fault.TheVariants.{NoMemory, Refused}
 use Rattle.dw_base.specs.declared.fault.Kind.TheVariants.{StringTable}
 use Rattle.dw_base.specs.declared.fault.Refusal.{Refusal}
 use Rattle.dw_base.specs.declared.string_offsets.Contribution.{Contribution}
-use Rattle.dw_base.proofs.PlainCellLaws.{IsPlain, plain_cells-plain}
 use Rattle.dw_meaning.proofs.DataOneLaws.{readings-one}
 use Rattle.dw_offsets.specs.NamedPlaces.{place_by, use_place, is_place, is_kind, names_place}
 use Rattle.dw_offsets.specs.SlotMarks.{marked}
 use Rattle.dw_offsets.proofs.NamedSlotLaws.{named-slot, no-slot}
 use Rattle.dw_offsets.proofs.SlotMarkLaws.{marks-none}
 use Rattle.dw_find.specs.IndexedTexts.{indexing_with, SlotsMarked, TextsIndexed, TextsRefuse, units, index, starts}
+use Rattle.dw_find.specs.LineStarts.{StartsRefuse, reads_none, says_none}
 use Rattle.dw_find.specs.NamedSlots.{Slots, no_slots, name_slot, first_refusal, missing_at, missing_in, units_name, units_missing}
-use Rattle.dw_find.specs.TextPlaces.{TextPlace, Indexed, no_index, no_start, unit_start, unit_base, text_index, UnitSays, SectionSays, base_or, base_in, base_at, bases_among, index_at, indexes_in, use_at, uses_among, numbered_uses, numbered_bases}
+use Rattle.dw_find.specs.TextPlaces.{TextPlace, BaseSource, Indexed, base_offset, base_source, number_said, unit_number, no_index, no_start, unit_start, unit_base, text_index, UnitSays, SectionSays, base_or, base_in, base_at, bases_among, index_at, indexes_in, use_at, uses_among, numbered_uses, numbered_bases}
 use Rattle.dw_find.specs.UnitPaths.{UnitPaths}
-use Rattle.dw_find.specs.UnitTexts.{AllTaken, AllIndexed, UnitsRefuse, units_taken}
-use Rattle.dw_find.proofs.SectionRunLaws.{PlacedPieces, section-placed}
-
--- the unit sections of a view have plain cells
-abbrev AllPlain : List UnitSection → Type 0
-AllPlain [] = ⊤
-AllPlain (z ∷ zs) = IsPlain z.contents × AllPlain zs
-
-plain-more : (ys zs : List UnitSection) → AllPlain ys → AllPlain zs → AllPlain (ys ++ zs)
-plain-more [] zs a b = b
-plain-more (y ∷ ys) zs a b = (a.0, plain-more ys zs a.1 b)
-
-one-plain : (i : ℕ) (s : ViewSection) (has : Bool) (kind : Option SectionKind) → AllPlain (if has then unit_section i s kind else [])
-one-plain i s true None = tt
-one-plain i s true (Some kind) = (plain_cells-plain (bytes_in s.contents), tt)
-one-plain i s false kind = tt
-
-sections-plain : (i : ℕ) (ss : List ViewSection) → AllPlain (unit_sections_from i ss)
-sections-plain i [] = tt
-sections-plain i (s ∷ ss) =
-    plain-more (if s.has_bytes then unit_section i s (unit_kind (debug_section s.name)) else []) (unit_sections_from (suc i) ss)
-    (one-plain i s s.has_bytes (unit_kind (debug_section s.name))) (sections-plain (suc i) ss)
-
-view-sections : (v : View) → AllPlain (debug_data v).units
-unfolding debug_data unit_sections
-view-sections v = sections-plain 1 (drop 1 v.sections)
+use Rattle.dw_find.specs.UnitTexts.{AllTaken, AllIndexed, UnitsRefuse, relocation_fails, units_taken}
+use Rattle.dw_find.proofs.SectionRunLaws.{PlacedPieces, section-placed, sourced}
 
 -- units that are numbered on
 numbered_uses-append : (n : ℕ) (us vs : List UnitSays) → numbered_uses n (us ++ vs) ≡ numbered_uses n us ++ numbered_uses (n + length us) vs
@@ -63,29 +37,29 @@ numbered_uses-append n (u ∷ us) vs =
     (numbered_uses-append (n + 1) us vs ∙ ap (λ (k : ℕ). numbered_uses (n + 1) us ++ numbered_uses k vs) (omega arith))
     ∙ sym (append_assoc (uses_among u.section n u.places) (numbered_uses (n + 1) us) (numbered_uses (n + length (u ∷ us)) vs))
 
-numbered_bases-append : (n : ℕ) (us vs : List UnitSays) → numbered_bases n (us ++ vs) ≡ numbered_bases n us ++ numbered_bases (n + length us) vs
-numbered_bases-append n [] vs = ap (λ (k : ℕ). numbered_bases k vs) (omega arith)
-numbered_bases-append n (u ∷ us) vs =
-    ap (λ (xs : List SaidBase). bases_among n u.places ++ xs)
-    (numbered_bases-append (n + 1) us vs ∙ ap (λ (k : ℕ). numbered_bases (n + 1) us ++ numbered_bases k vs) (omega arith))
-    ∙ sym (append_assoc (bases_among n u.places) (numbered_bases (n + 1) us) (numbered_bases (n + length (u ∷ us)) vs))
+numbered_bases-append : (g : BaseSource) (n : ℕ) (us vs : List UnitSays) → numbered_bases g n (us ++ vs) ≡ numbered_bases g n us ++ numbered_bases g (n + length us) vs
+numbered_bases-append g n [] vs = ap (λ (k : ℕ). numbered_bases g k vs) (omega arith)
+numbered_bases-append g n (u ∷ us) vs =
+    ap (λ (xs : List SaidBase). bases_among g u.cells n u.places ++ xs)
+    (numbered_bases-append g (n + 1) us vs ∙ ap (λ (k : ℕ). numbered_bases g (n + 1) us ++ numbered_bases g k vs) (omega arith))
+    ∙ sym (append_assoc (bases_among g u.cells n u.places) (numbered_bases g (n + 1) us) (numbered_bases g (n + length (u ∷ us)) vs))
 
 -- the readings of unit sections, with what their units say by index
 record SaidReadings (d : DebugData) (first : ℕ) (zs : List UnitSection) (said : List UnitSays) : Type 0 where
   readings : Readings
   reads : ReadsAll d.base first zs readings
   uses : index_uses d.base.order readings ≡ numbered_uses first said
-  bases : (y : Located) → all_bases d.base.order y readings ≡ numbered_bases first said
+  bases : (y : Located) → all_bases d.base.order y readings ≡ numbered_bases (sourced d.base y) first said
 
-said-readings : (d : DebugData) (first : ℕ) (zs : List UnitSection) (us : List UnitPaths) → (all : AllTaken d zs us) → AllPlain zs
+said-readings : (d : DebugData) (first : ℕ) (zs : List UnitSection) (us : List UnitPaths) → (all : AllTaken d zs us)
     → SaidReadings d first zs (units_taken d zs us all)
-said-readings d first [] [] all plain = record { readings = []; reads = tt; uses = refl; bases = λ y. refl }
-said-readings d first [] (u ∷ us) all plain = absurd all
-said-readings d first (z ∷ zs) [] all plain = absurd all
-said-readings d first (z ∷ zs) (u ∷ us) all plain =
+said-readings d first [] [] all = record { readings = []; reads = tt; uses = refl; bases = λ y. refl }
+said-readings d first [] (u ∷ us) all = absurd all
+said-readings d first (z ∷ zs) [] all = absurd all
+said-readings d first (z ∷ zs) (u ∷ us) all =
     let s : SectionSays d z u = all.0.says in
     let p : PlacedPieces d.base z first s.places s.section.units = section-placed d.base z first s.section.list s.places s.section.units s.section.placed in
-    let rest : SaidReadings d (first + units_in p.pieces) zs (units_taken d zs us all.1) = said-readings d (first + units_in p.pieces) zs us all.1 plain.1 in
+    let rest : SaidReadings d (first + units_in p.pieces) zs (units_taken d zs us all.1) = said-readings d (first + units_in p.pieces) zs us all.1 in
     let number : first + units_in p.pieces ≡ first + length s.section.units = ap (λ (n : ℕ). first + n) p.count in
     record {
       readings = record { number = z.number; pieces = p.pieces } ∷ rest.readings;
@@ -96,10 +70,10 @@ said-readings d first (z ∷ zs) (u ∷ us) all plain =
           (rest.uses ∙ ap (λ (n : ℕ). numbered_uses n (units_taken d zs us all.1)) number)
           ∙ sym (numbered_uses-append first s.section.units (units_taken d zs us all.1));
       bases = λ (y : Located).
-          ap (λ (xs : List SaidBase). xs ++ all_bases d.base.order y rest.readings) (p.bases y plain.0)
-          ∙ ap (λ (xs : List SaidBase). numbered_bases first s.section.units ++ xs)
-          (rest.bases y ∙ ap (λ (n : ℕ). numbered_bases n (units_taken d zs us all.1)) number)
-          ∙ sym (numbered_bases-append first s.section.units (units_taken d zs us all.1));
+          ap (λ (xs : List SaidBase). xs ++ all_bases d.base.order y rest.readings) (p.bases y)
+          ∙ ap (λ (xs : List SaidBase). numbered_bases (sourced d.base y) first s.section.units ++ xs)
+          (rest.bases y ∙ ap (λ (n : ℕ). numbered_bases (sourced d.base y) n (units_taken d zs us all.1)) number)
+          ∙ sym (numbered_bases-append (sourced d.base y) first s.section.units (units_taken d zs us all.1));
     }
 
 -- the base of a unit: what its own values say, since those of others have other numbers
@@ -111,52 +85,58 @@ or_base-none : (o : Option ℕ) → or_base o None ≡ o
 or_base-none None = refl
 or_base-none (Some n) = refl
 
-own-base : (n : ℕ) (ts : List TextPlace) (rest : List SaidBase) → base_of (bases_among n ts ++ rest) n ≡ or_base (base_in ts) (base_of rest n)
-own-base n [] rest = refl
-own-base n (t ∷ ts) rest =
-    ap (λ (xs : List SaidBase). base_of xs n) (append_assoc (base_at n t.says) (bases_among n ts) rest)
-    ∙ by_says t.says (own-base n ts rest)
+own-base : (g : BaseSource) (cells : List Cell) (n : ℕ) (ts : List TextPlace) (rest : List SaidBase)
+    → base_of (bases_among g cells n ts ++ rest) n ≡ or_base (number_said g cells (base_in ts)) (base_of rest n)
+own-base g cells n [] rest = refl
+own-base g cells n (t ∷ ts) rest =
+    ap (λ (xs : List SaidBase). base_of xs n) (append_assoc (base_at g cells n t.at t.len t.says) (bases_among g cells n ts) rest)
+    ∙ by_says t.says (own-base g cells n ts rest)
   where
-    by_says : (i : Indexed) → base_of (bases_among n ts ++ rest) n ≡ or_base (base_in ts) (base_of rest n)
-        → base_of (base_at n i ++ (bases_among n ts ++ rest)) n ≡ or_base (base_or i (base_in ts)) (base_of rest n)
+    by_says : (i : Indexed) → base_of (bases_among g cells n ts ++ rest) n ≡ or_base (number_said g cells (base_in ts)) (base_of rest n)
+        → base_of (base_at g cells n t.at t.len i ++ (bases_among g cells n ts ++ rest)) n ≡ or_base (number_said g cells (base_or t.at t.len i (base_in ts))) (base_of rest n)
     by_says no_index e = e
     by_says no_start e = e
     by_says unit_start e = e
     by_says (text_index path x) e = e
     by_says (unit_base b) e = rw (eq-eqb n n refl) refl
+    by_says base_offset e = rw (eq-eqb n n refl) refl
 
-other-base : (n m : ℕ) (ts : List TextPlace) (rest : List SaidBase) → n ≢ m → base_of (bases_among n ts ++ rest) m ≡ base_of rest m
-other-base n m [] rest other = refl
-other-base n m (t ∷ ts) rest other =
-    ap (λ (xs : List SaidBase). base_of xs m) (append_assoc (base_at n t.says) (bases_among n ts) rest)
-    ∙ by_says t.says (other-base n m ts rest other)
+other-base : (g : BaseSource) (cells : List Cell) (n m : ℕ) (ts : List TextPlace) (rest : List SaidBase) → n ≢ m
+    → base_of (bases_among g cells n ts ++ rest) m ≡ base_of rest m
+other-base g cells n m [] rest other = refl
+other-base g cells n m (t ∷ ts) rest other =
+    ap (λ (xs : List SaidBase). base_of xs m) (append_assoc (base_at g cells n t.at t.len t.says) (bases_among g cells n ts) rest)
+    ∙ by_says t.says (other-base g cells n m ts rest other)
   where
-    by_says : (i : Indexed) → base_of (bases_among n ts ++ rest) m ≡ base_of rest m → base_of (base_at n i ++ (bases_among n ts ++ rest)) m ≡ base_of rest m
+    by_says : (i : Indexed) → base_of (bases_among g cells n ts ++ rest) m ≡ base_of rest m
+        → base_of (base_at g cells n t.at t.len i ++ (bases_among g cells n ts ++ rest)) m ≡ base_of rest m
     by_says no_index e = e
     by_says no_start e = e
     by_says unit_start e = e
     by_says (text_index path x) e = e
     by_says (unit_base b) e = rw (ne_eqb n m other) e
+    by_says base_offset e = rw (ne_eqb n m other) e
 
-no-base : (n m : ℕ) (us : List UnitSays) → m < n → base_of (numbered_bases n us) m ≡ None
-no-base n m [] lt = refl
-no-base n m (u ∷ us) lt = other-base n m u.places (numbered_bases (n + 1) us) (λ e. omega (arith, e, lt)) ∙ no-base (n + 1) m us (omega (arith, lt))
+no-base : (g : BaseSource) (n m : ℕ) (us : List UnitSays) → m < n → base_of (numbered_bases g n us) m ≡ None
+no-base g n m [] lt = refl
+no-base g n m (u ∷ us) lt =
+    other-base g u.cells n m u.places (numbered_bases g (n + 1) us) (λ e. omega (arith, e, lt)) ∙ no-base g (n + 1) m us (omega (arith, lt))
 
-first-base : (n : ℕ) (u : UnitSays) (us : List UnitSays) → base_of (numbered_bases n (u ∷ us)) n ≡ base_in u.places
-first-base n u us =
-    own-base n u.places (numbered_bases (n + 1) us) ∙ ap (or_base (base_in u.places)) (no-base (n + 1) n us (omega arith)) ∙ or_base-none (base_in u.places)
+first-base : (g : BaseSource) (n : ℕ) (u : UnitSays) (us : List UnitSays) → base_of (numbered_bases g n (u ∷ us)) n ≡ unit_number g u
+first-base g n u us =
+    own-base g u.cells n u.places (numbered_bases g (n + 1) us) ∙ ap (or_base (unit_number g u)) (no-base g (n + 1) n us (omega arith)) ∙ or_base-none (unit_number g u)
 
 -- the bases that values go by are those of these units, from a number on
-record BasesAre (bs : List SaidBase) (n : ℕ) (us : List UnitSays) : Type 0 where
-  each : (m : ℕ) → n ≤ m → base_of bs m ≡ base_of (numbered_bases n us) m
+record BasesAre (g : BaseSource) (bs : List SaidBase) (n : ℕ) (us : List UnitSays) : Type 0 where
+  each : (m : ℕ) → n ≤ m → base_of bs m ≡ base_of (numbered_bases g n us) m
 
-bases-first : (bs : List SaidBase) (n : ℕ) (u : UnitSays) (us : List UnitSays) → BasesAre bs n (u ∷ us) → base_of bs n ≡ base_in u.places
-bases-first bs n u us b = b.each n (omega arith) ∙ first-base n u us
+bases-first : (g : BaseSource) (bs : List SaidBase) (n : ℕ) (u : UnitSays) (us : List UnitSays) → BasesAre g bs n (u ∷ us) → base_of bs n ≡ unit_number g u
+bases-first g bs n u us b = b.each n (omega arith) ∙ first-base g n u us
 
-bases-rest : (bs : List SaidBase) (n : ℕ) (u : UnitSays) (us : List UnitSays) → BasesAre bs n (u ∷ us) → BasesAre bs (n + 1) us
-bases-rest bs n u us b = record {
+bases-rest : (g : BaseSource) (bs : List SaidBase) (n : ℕ) (u : UnitSays) (us : List UnitSays) → BasesAre g bs n (u ∷ us) → BasesAre g bs (n + 1) us
+bases-rest g bs n u us b = record {
   each = λ (m : ℕ) (le : n + 1 ≤ m).
-      b.each m (omega (arith, le)) ∙ other-base n m u.places (numbered_bases (n + 1) us) (λ (e : n ≡ m). omega (arith, e, le));
+      b.each m (omega (arith, le)) ∙ other-base g u.cells n m u.places (numbered_bases g (n + 1) us) (λ (e : n ≡ m). omega (arith, e, le));
 }
 
 -- the slots that the values of a unit name
@@ -179,18 +159,19 @@ unit-names kind g section n b (t ∷ ts) rest place is =
     by_says no_start e = e
     by_says unit_start e = e
     by_says (unit_base x) e = e
+    by_says base_offset e = e
     by_says (text_index path x) e =
         ap (λ (y : Option ℕ). (is_kind kind path && is_place (place_by y g.contributions x) place) || names_place kind g (uses_among section n ts ++ rest) place) is
         ∙ ap (λ (y : Bool). (is_kind kind path && is_place (place_by b g.contributions x) place) || y) e
         ∙ or-assoc (is_kind kind path && is_place (place_by b g.contributions x) place) (name_slot kind b g.contributions (indexes_in ts) place) (names_place kind g rest place)
 
-units-names : (kind : Bool) (g : Indexing) (n : ℕ) (us : List UnitSays) (place : ℕ) → BasesAre g.bases n us
-    → names_place kind g (numbered_uses n us) place ≡ units_name kind g.contributions us place
-units-names kind g n [] place b = refl
-units-names kind g n (u ∷ us) place b =
-    unit-names kind g u.section n (base_in u.places) u.places (numbered_uses (n + 1) us) place (bases-first g.bases n u us b)
-    ∙ ap (λ (y : Bool). name_slot kind (base_in u.places) g.contributions (indexes_in u.places) place || y)
-    (units-names kind g (n + 1) us place (bases-rest g.bases n u us b))
+units-names : (o : BaseSource) (kind : Bool) (g : Indexing) (n : ℕ) (us : List UnitSays) (place : ℕ) → BasesAre o g.bases n us
+    → names_place kind g (numbered_uses n us) place ≡ units_name o kind g.contributions us place
+units-names o kind g n [] place b = refl
+units-names o kind g n (u ∷ us) place b =
+    unit-names kind g u.section n (unit_number o u) u.places (numbered_uses (n + 1) us) place (bases-first o g.bases n u us b)
+    ∙ ap (λ (y : Bool). name_slot kind (unit_number o u) g.contributions (indexes_in u.places) place || y)
+    (units-names o kind g (n + 1) us place (bases-rest o g.bases n u us b))
 
 -- where none is missing, each names a slot
 first-left : (a b : Option Refusal) → first_refusal a b ≡ None → a ≡ None
@@ -219,6 +200,7 @@ unit-named g section n b (t ∷ ts) rest is none each =
     by_says no_start e next = next e
     by_says unit_start e next = next e
     by_says (unit_base x) e next = next e
+    by_says base_offset e next = next e
     by_says (text_index path x) e next = (
       none-missing section t.at (place_by b g.contributions x)
           (first-left (missing_at section t.at (place_by b g.contributions x)) (missing_in section b g.contributions (indexes_in ts)) e)
@@ -226,13 +208,13 @@ unit-named g section n b (t ∷ ts) rest is none each =
       next (first-right (missing_at section t.at (place_by b g.contributions x)) (missing_in section b g.contributions (indexes_in ts)) e),
     )
 
-units-named : (g : Indexing) (n : ℕ) (us : List UnitSays) → BasesAre g.bases n us → units_missing g.contributions us ≡ None → EachUse (NamesSlot g) (numbered_uses n us)
-units-named g n [] b none = tt
-units-named g n (u ∷ us) b none =
-    let own : Option Refusal = missing_in u.section (base_in u.places) g.contributions (indexes_in u.places) in
-    unit-named g u.section n (base_in u.places) u.places (numbered_uses (n + 1) us) (bases-first g.bases n u us b)
-    (first-left own (units_missing g.contributions us) none)
-    (units-named g (n + 1) us (bases-rest g.bases n u us b) (first-right own (units_missing g.contributions us) none))
+units-named : (o : BaseSource) (g : Indexing) (n : ℕ) (us : List UnitSays) → BasesAre o g.bases n us → units_missing o g.contributions us ≡ None → EachUse (NamesSlot g) (numbered_uses n us)
+units-named o g n [] b none = tt
+units-named o g n (u ∷ us) b none =
+    let own : Option Refusal = missing_in u.section (unit_number o u) g.contributions (indexes_in u.places) in
+    unit-named g u.section n (unit_number o u) u.places (numbered_uses (n + 1) us) (bases-first o g.bases n u us b)
+    (first-left own (units_missing o g.contributions us) none)
+    (units-named o g (n + 1) us (bases-rest o g.bases n u us b) (first-right own (units_missing o g.contributions us) none))
 
 -- else the first that names none refuses
 record FirstMissing (g : Indexing) (uses : List IndexUse) (r : Refusal) : Type 0 where
@@ -281,6 +263,7 @@ unit-missing g section n b (t ∷ ts) rest r other is e next =
     by_says no_start e more = more e
     by_says unit_start e more = more e
     by_says (unit_base x) e more = more e
+    by_says base_offset e more = more e
     by_says (text_index path x) e more =
         missing-here g (uses_among section n ts ++ rest) (record { section = section; place = t.at; unit = n; path = path; index = x }) (place_by b g.contributions x) r
         (first_refusal (missing_in section b g.contributions (indexes_in ts)) other) (ap (λ (y : Option ℕ). place_by y g.contributions x) is)
@@ -289,22 +272,22 @@ unit-missing g section n b (t ∷ ts) rest r other is e next =
 none-some : (r : Refusal) → None ≡ Some r → ⊥
 none-some r e = cc
 
-units-missing : (g : Indexing) (n : ℕ) (us : List UnitSays) (r : Refusal) → BasesAre g.bases n us → units_missing g.contributions us ≡ Some r
+units-missing : (o : BaseSource) (g : Indexing) (n : ℕ) (us : List UnitSays) (r : Refusal) → BasesAre o g.bases n us → units_missing o g.contributions us ≡ Some r
     → FirstMissing g (numbered_uses n us) r
-units-missing g n [] r b e = absurd (none-some r e)
-units-missing g n (u ∷ us) r b e =
-    unit-missing g u.section n (base_in u.places) u.places (numbered_uses (n + 1) us) r (units_missing g.contributions us) (bases-first g.bases n u us b) e
-    (λ f. units-missing g (n + 1) us r (bases-rest g.bases n u us b) f)
+units-missing o g n [] r b e = absurd (none-some r e)
+units-missing o g n (u ∷ us) r b e =
+    unit-missing g u.section n (unit_number o u) u.places (numbered_uses (n + 1) us) r (units_missing o g.contributions us) (bases-first o g.bases n u us b) e
+    (λ f. units-missing o g (n + 1) us r (bases-rest o g.bases n u us b) f)
 
 -- the units of debug data that were read are these pieces, and go by these bases
 record Said (d : DebugData) (list : List Contribution) (said : List UnitSays) (r : Readings) : Type 0 where
   uses : (indexing_with d list r).uses ≡ numbered_uses 0 said
-  bases : BasesAre (indexing_with d list r).bases 0 said
+  bases : BasesAre (base_source d) (indexing_with d list r).bases 0 said
 
-said-by : (d : DebugData) (list : List Contribution) (us : List UnitPaths) (r : Readings) → (all : AllTaken d d.units us) → AllPlain d.units → ReadsAll d.base 0 d.units r
+said-by : (d : DebugData) (list : List Contribution) (us : List UnitPaths) (r : Readings) → (all : AllTaken d d.units us) → ReadsAll d.base 0 d.units r
     → Said d list (units_taken d d.units us all) r
-said-by d list us r all plain reads =
-    let f : SaidReadings d 0 d.units (units_taken d d.units us all) = said-readings d 0 d.units us all plain in
+said-by d list us r all reads =
+    let f : SaidReadings d 0 d.units (units_taken d d.units us all) = said-readings d 0 d.units us all in
     subst (Said d list (units_taken d d.units us all)) (readings-one d.base 0 d.units f.readings r f.reads reads) (record {
       uses = f.uses;
       bases = record { each = λ (m : ℕ) (le : 0 ≤ m). ap (λ (xs : List SaidBase). base_of xs m) (f.bases (located_cells d.offsets)) };
@@ -315,37 +298,37 @@ start-marks : (n : ℕ) (kind : Bool) (place : ℕ) (g : Indexing) → marked ki
 start-marks n kind place g = (marks-none n g).each kind place
 
 -- all slots are marked, where none was missing
-marked-all : (d : DebugData) (list : List Contribution) (n : ℕ) (us : List UnitPaths) (now : Slots) → AllPlain d.units
+marked-all : (d : DebugData) (list : List Contribution) (n : ℕ) (us : List UnitPaths) (now : Slots)
     → AllIndexed d d.units us (no_slots list n) now → now.missing ≡ None → TextsIndexed d list now.marks
-marked-all d list n us now plain all none = record {
-  each = λ (r : Readings) (reads : ReadsAll d.base 0 d.units r). one r reads (said-by d list us r all.taken plain reads);
+marked-all d list n us now all none = record {
+  each = λ (r : Readings) (reads : ReadsAll d.base 0 d.units r). one r reads (said-by d list us r all.taken reads);
 }
   where
     one : (r : Readings) → ReadsAll d.base 0 d.units r → Said d list (units_taken d d.units us all.taken) r → SlotsMarked (indexing_with d list r) now.marks
     one r reads s =
         let g : Indexing = indexing_with d list r in
         let said : List UnitSays = units_taken d d.units us all.taken in
-        let missing : units_missing list said ≡ None = sym all.slots.missing ∙ none in
+        let missing : units_missing (base_source d) list said ≡ None = sym all.slots.missing ∙ none in
         record {
-          named = subst (EachUse (NamesSlot g)) (sym s.uses) (units-named g 0 said s.bases missing);
+          named = subst (EachUse (NamesSlot g)) (sym s.uses) (units-named (base_source d) g 0 said s.bases missing);
           slots = record {
             each = λ (kind : Bool) (place : ℕ).
                 all.slots.marks kind place
-                ∙ ap (λ (b : Bool). b || units_name kind list said place) (start-marks n kind place g)
-                ∙ sym (units-names kind g 0 said place s.bases)
+                ∙ ap (λ (b : Bool). b || units_name (base_source d) kind list said place) (start-marks n kind place g)
+                ∙ sym (units-names (base_source d) kind g 0 said place s.bases)
                 ∙ ap (λ (xs : List IndexUse). names_place kind g xs place) (sym s.uses);
           };
         }
 
 -- and where one was, that is the row
-missing-row : (d : DebugData) (list : List Contribution) (n : ℕ) (us : List UnitPaths) (now : Slots) (r : Refusal) → AllPlain d.units
+missing-row : (d : DebugData) (list : List Contribution) (n : ℕ) (us : List UnitPaths) (now : Slots) (r : Refusal)
     → AllIndexed d d.units us (no_slots list n) now → now.missing ≡ Some r → TextsRefuse d list r
-missing-row d list n us now r plain all some =
+missing-row d list n us now r all some =
     let said : List UnitSays = units_taken d d.units us all.taken in
-    let f : SaidReadings d 0 d.units (units_taken d d.units us all.taken) = said-readings d 0 d.units us all.taken plain in
+    let f : SaidReadings d 0 d.units (units_taken d d.units us all.taken) = said-readings d 0 d.units us all.taken in
     let g : Indexing = indexing_with d list f.readings in
-    let s : Said d list (units_taken d d.units us all.taken) f.readings = said-by d list us f.readings all.taken plain f.reads in
-    let m : FirstMissing g (numbered_uses 0 said) r = units-missing g 0 said r s.bases (sym all.slots.missing ∙ some) in
+    let s : Said d list (units_taken d d.units us all.taken) f.readings = said-by d list us f.readings all.taken f.reads in
+    let m : FirstMissing g (numbered_uses 0 said) r = units-missing (base_source d) g 0 said r s.bases (sym all.slots.missing ∙ some) in
     subst (TextsRefuse d list) (sym m.is) (index f.readings f.reads (no_slot m.before m.behind m.one (s.uses ∙ m.split) m.none))
 
 -- the same of the debug data of a view
@@ -355,17 +338,21 @@ whole-taken d us old now all = all.taken
 pub whole-marked : (v : View) (us : List UnitPaths) (old now : Slots) → AllIndexed (debug_data v) (debug_data v).units us old now
     → old ≡ no_slots old.list (length old.marks) → now.missing ≡ None → TextsIndexed (debug_data v) old.list now.marks
 whole-marked v us old now all start none =
-    marked-all (debug_data v) old.list (length old.marks) us now (view-sections v)
+    marked-all (debug_data v) old.list (length old.marks) us now
     (subst (λ (s : Slots). AllIndexed (debug_data v) (debug_data v).units us s now) start all) none
 
 pub whole-row : (v : View) (us : List UnitPaths) (old now : Slots) (r : Refusal) → AllIndexed (debug_data v) (debug_data v).units us old now
     → old ≡ no_slots old.list (length old.marks) → now.missing ≡ Some r → TextsRefuse (debug_data v) old.list r
 whole-row v us old now r all start some =
-    missing-row (debug_data v) old.list (length old.marks) us now r (view-sections v)
+    missing-row (debug_data v) old.list (length old.marks) us now r
     (subst (λ (s : Slots). AllIndexed (debug_data v) (debug_data v).units us s now) start all) some
 
 pub whole-refused : (d : DebugData) (list : List Contribution) (f : Fault) → Blames (UnitsRefuse d) f → Blames (TextsRefuse d list) f
 whole-refused d list NoMemory b = tt
 whole-refused d list (Refused r) b = units b
 
-pub ruleset whole_rules = (whole-taken, whole-marked, whole-row, whole-refused, starts)
+pub whole-strays : (d : DebugData) (list : List Contribution) (r : Refusal) → StartsRefuse d r → TextsRefuse d list r
+whole-strays d list r (says_none f) = starts f
+whole-strays d list r (reads_none f) = units (relocation_fails f)
+
+pub ruleset whole_rules = (whole-taken, whole-marked, whole-row, whole-refused, whole-strays)

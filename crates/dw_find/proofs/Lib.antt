@@ -5,6 +5,7 @@ pub mod InlineTextLaws
 pub mod StartFormLaws
 pub mod ValuePlaceLaws
 pub mod ValueRunLaws
+pub mod BaseLaws
 pub mod EntryRunLaws
 pub mod HeaderLaws
 pub mod IndexRunLaws
@@ -42,6 +43,8 @@ pub mod MacroListLaws
 pub mod MacroNameLaws
 pub mod MacroLoopLaws
 pub mod MacroSectionLaws
+pub mod UnitKeyLaws
+pub mod UnitPlaceLaws
 pub mod SlotPlaceLaws
 pub mod TableStartLaws
 pub mod LineFieldLaws
@@ -53,5 +56,5 @@ pub mod FoundUnitLaws
 pub mod MacroPathLaws
 pub mod FoundPathLaws
 pub mod SharedLaws
-pub mod PlainViewLaws
+pub mod ValueFieldLaws
 pub mod ReadDataLaws

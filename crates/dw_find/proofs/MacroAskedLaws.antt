@@ -1,8 +1,8 @@
 -- Macro units whose offsets name what they are to name, as they were read: so do the offsets among the pieces of their sections.
 use Rattle.std.specs.Prelude.{Result, Ok, Err, option_map}
-use Rattle.std.proofs.Common.{Bool, true, false, ◌≡◌, ℕ, ◌+◌, ◌≤◌, ◌<◌, nat_le, List, [], ◌∷◌, length, take, drop, slice_index, IsTrue, Option, Some, None, refl, sym, ap, ◌∙◌, subst, arith, if◌then◌else◌}
+use Rattle.std.proofs.Common.{Bool, true, false, ◌≡◌, ℕ, ◌+◌, ◌≤◌, nat_le, List, [], ◌∷◌, length, take, drop, slice_index, IsTrue, Option, Some, None, refl, sym, ap, ◌∙◌, subst, arith, if◌then◌else◌}
 use Rattle.std.proofs.lemmas.Bool.{leb-true}
-use Rattle.dw_base.specs.Cells.{Cell, CellSection, Located, cells_at, field_of, located_cells, offset_into, offset_of}
+use Rattle.dw_base.specs.Cells.{Cell, CellSection, Located, cells_at, field_of, located_cells, offset_into, offset_of, is_placed}
 use Rattle.dw_base.specs.DebugData.{start_number}
 use Rattle.dw_base.specs.FileViews.{View, field_at, section_bytes}
 use Rattle.dw_base.specs.Forms.{width_size}
@@ -14,7 +14,7 @@ use Rattle.dw_base.specs.MacroUnits.{offset_at, names_text, taken, taken_if, uni
 use Rattle.dw_base.specs.Numbers.{spelled}
 use Rattle.dw_base.specs.Refusals.{at}
 use Rattle.dw_base.specs.ViewData.{debug_data, located}
-use Rattle.dw_base.specs.declared.debug_sections.DebugSection.TheVariants.{Line}
+use Rattle.dw_base.specs.declared.debug_sections.DebugSection.TheVariants.{Line, Macro as macro_table}
 use Rattle.dw_base.specs.declared.fault.Kind.TheVariants.{Macro, StringOffset, Supplementary}
 use Rattle.dw_base.specs.declared.fault.Refusal.{Refusal}
 use Rattle.dw_base.specs.declared.line_tables.TextPlace.{TextPlace}
@@ -30,7 +30,7 @@ use Rattle.dw_base.specs.declared.shared.Width.{Width}
 use Rattle.dw_base.proofs.ViewCellLaws.{field_at-cells, lines-located}
 use Rattle.dw_macros.proofs.UnitListLaws.{read-units}
 use Rattle.dw_macros.proofs.EventLaws.{unit-whole}
-use Rattle.dw_macros.specs.MacroEvents.{IsUnitIn, SpellsEvents, over, one_event, event_by, event_if, event_in, import_at, inline_place, named_place, text_event, unit_events}
+use Rattle.dw_macros.specs.MacroEvents.{IsUnitIn, SpellsEvents, over, one_event, event_by, event_if, event_in, import_at, inline_place, named_place, text_event, unit_events, import_of}
 use Rattle.dw_meaning.proofs.LineReadLaws.{if-some, some-same}
 use Rattle.dw_meaning.proofs.FieldPutLaws.{width-some}
 use Rattle.dw_meaning.proofs.MacroCutLaws.{FrontCut, operation-cut}
@@ -38,11 +38,15 @@ use Rattle.dw_meaning.proofs.MacroPieceLaws.{Asked, CellsOf, EachUnit, offset_pi
 use Rattle.dw_meaning.proofs.MacroReadLaws.{read_as}
 use Rattle.dw_find.specs.MacroNames.{AreUnitsIn, EventNames, EventsName, LineNames, MacrosName, UnitsName}
 use Rattle.dw_find.specs.MacroSections.{HaveUnits, SectionUnits, UnitsFoundIn}
-use Rattle.dw_find.specs.TextPlaces.{names_place}
+use Rattle.dw_find.specs.UnitPlaces.{UnitPlaces, has_unit, names_place}
 use Rattle.dw_find.proofs.MacroFoundLaws.{AllAsked, PieceNames}
 use Rattle.dw_find.proofs.MacroHaveLaws.{AllBelow, AllCells, numbers-below}
 use Rattle.dw_find.proofs.MacroNameLaws.{in-run}
 use Rattle.dw_find.proofs.MacroStartLaws.{all-cells}
+use Rattle.dw_base.specs.MacroOffsets.{FieldReads, OperationReads, ReadsFrom, one_there, over_there}
+use Rattle.dw_base.specs.declared.view_fields.Field.{Field}
+use Rattle.dw_base.specs.declared.view_fields.Field.TheVariants.{Num, Into, Sym}
+use Rattle.dw_base.proofs.ViewOffsetLaws.{offset-is}
 
 -- what a field holds is what stands in the view
 pub field-there : (v : View) (section : ℕ) (cells : List Cell) (width : Width) (field : ℕ) → CellsOf v section cells → field + width_size width ≤ length (section_bytes v section)
@@ -102,7 +106,7 @@ line-room order bytes start h e has =
 abbrev line_if : View → ℕ → MacroHeader → Bool → Option ℕ
 line_if v section h has = if has then Some (offset_at v (located v Line) section h.line_field h.width) else None
 
-line-named : (v : View) (starts places : List ℕ) (section start : ℕ) (cells : List Cell) (u : MacroUnit) → CellsOf v section cells → (is : IsMacroUnit v section start u) → LineNames starts u.line
+line-named : (v : View) (starts : List ℕ) (places : UnitPlaces) (section start : ℕ) (cells : List Cell) (u : MacroUnit) → CellsOf v section cells → (is : IsMacroUnit v section start u) → LineNames starts u.line
     → is.header.has_line ≡ true → PieceNames (debug_data v) starts places (offset_piece cells (at_line is.header.width) is.header.width is.header.line_field)
 unfolding debug_data
 line-named v starts places section start cells u c is names has =
@@ -186,11 +190,12 @@ unfolding event_in event_by
 import-is v section width place n m field e is h = (event-same (import_at v section width field) e n m (sym (ap (event_if v section width) is) ∙ h)).0
 
 -- the events that are left at a place
-record EventsLeft (v : View) (places : List ℕ) (section : ℕ) (width : Width) (place : ℕ) : Type 0 where
+record EventsLeft (v : View) (places : UnitPlaces) (section : ℕ) (width : Width) (place : ℕ) : Type 0 where
   end : ℕ
   events : List MacroEvent
   spells : SpellsEvents v section width place events end
   names : EventsName places events
+  reads : ReadsFrom v section width place
 
 end-not : (o : MacroOperation) (n m : ℕ) (x : Option (MacroOperation × ℕ)) → x ≡ read_as o n → x ≡ read_as End m → is_end o ≡ false → ⊥
 end-not o n m x a b more =
@@ -198,31 +203,61 @@ end-not o n m x a b more =
     let ends : false ≡ true = sym more ∙ ap is_end same in
     absurd cc
 
-left-behind : (v : View) (places : List ℕ) (section : ℕ) (width : Width) (place next end : ℕ) (o : MacroOperation) (es : List MacroEvent)
-    → operation_at (section_bytes v section) width place ≡ read_as o next → is_end o ≡ false → EventsName places es → SpellsEvents v section width place es end
-    → EventsLeft v places section width next
-left-behind v places section width place next end o es is more names (over p q ends) =
+reads-behind : (v : View) (section : ℕ) (width : Width) (place next : ℕ) (o : MacroOperation) → operation_at (section_bytes v section) width place ≡ read_as o next → is_end o ≡ false
+    → ReadsFrom v section width place → ReadsFrom v section width next
+reads-behind v section width place next o is more (over_there p q ends) =
     absurd (end-not o next q (operation_at (section_bytes v section) width p) is ends more)
-left-behind v places section width place next end o es is more names (one_event p n q e rest own s) =
-    let same : next ≡ n = event-next v section width p o next n e is own in
-    record { end = q; events = rest; spells = subst (λ (k : ℕ). SpellsEvents v section width k rest q) (sym same) s; names = names.1 }
+reads-behind v section width place next o is more (one_there p n own there reads rest) =
+    subst (ReadsFrom v section width) (ap (λ (x : MacroOperation × ℕ). x.1) (some-same (own, n) (o, next) (sym there ∙ is))) rest
 
-left-after : (v : View) (places : List ℕ) (section start : ℕ) (width : Width) (first place : ℕ) → EventsLeft v places section width first → OperationsUpTo v section start width first place
+left-behind : (v : View) (places : UnitPlaces) (section : ℕ) (width : Width) (place next end : ℕ) (o : MacroOperation) (es : List MacroEvent)
+    → operation_at (section_bytes v section) width place ≡ read_as o next → is_end o ≡ false → EventsName places es → ReadsFrom v section width place
+    → SpellsEvents v section width place es end → EventsLeft v places section width next
+left-behind v places section width place next end o es is more names reads (over p q ends) =
+    absurd (end-not o next q (operation_at (section_bytes v section) width p) is ends more)
+left-behind v places section width place next end o es is more names reads (one_event p n q e rest own s) =
+    let same : next ≡ n = event-next v section width p o next n e is own in
+    record {
+      end = q;
+      events = rest;
+      spells = subst (λ (k : ℕ). SpellsEvents v section width k rest q) (sym same) s;
+      names = names.1;
+      reads = reads-behind v section width p next o is more reads;
+    }
+
+left-after : (v : View) (places : UnitPlaces) (section start : ℕ) (width : Width) (first place : ℕ) → EventsLeft v places section width first → OperationsUpTo v section start width first place
     → EventsLeft v places section width place
 left-after v places section start width first place l no_operations = l
 left-after v places section start width first next l (more_operations o place n so e more) =
     let before : EventsLeft v places section width place = left-after v places section start width first place l so in
-    left-behind v places section width place n before.end o before.events (operation-read v section start place width o n e) more before.names before.spells
+    left-behind v places section width place n before.end o before.events (operation-read v section start place width o n e) more before.names before.reads before.spells
+
+-- the offset of an operation that brings a unit is one that can be read,
+own-reads : (v : View) (section : ℕ) (width : Width) (place next field : ℕ) → operation_at (section_bytes v section) width place ≡ read_as (Bring field) next
+    → ReadsFrom v section width place → FieldReads v section width field
+own-reads v section width place next field is (over_there p q ends) =
+    absurd (end-not (Bring field) next q (operation_at (section_bytes v section) width p) is ends refl)
+own-reads v section width place next field is (one_there p n own there reads rest) =
+    subst (λ (o : MacroOperation). OperationReads v section width o) (ap (λ (x : MacroOperation × ℕ). x.0) (some-same (own, n) (Bring field, next) (sym there ∙ is))) reads
+
+-- and what it names is a unit that starts there
+field-named : (places : UnitPlaces) (z : Located) (field : ℕ) (f : Field) → places.first ≡ z.number → is_placed f ≡ true → EventNames places (import_of z field f)
+    → IsTrue (names_place places f)
+field-named places z field (Num n) first placed names = subst (λ (k : ℕ). IsTrue (has_unit places k n)) (sym first) names
+field-named places z field (Into s n) first placed names = names
+field-named places z field (Sym s k a) first placed names = absurd cc
 
 -- so the next one that brings a unit names it
-import-names : (v : View) (places : List ℕ) (section : ℕ) (width : Width) (place next end field : ℕ) (es : List MacroEvent)
-    → operation_at (section_bytes v section) width place ≡ read_as (Bring field) next → EventsName places es → SpellsEvents v section width place es end
+import-names : (v : View) (places : UnitPlaces) (section : ℕ) (width : Width) (place next end field : ℕ) (es : List MacroEvent) → places.first ≡ (located v macro_table).number
+    → operation_at (section_bytes v section) width place ≡ read_as (Bring field) next → EventsName places es → FieldReads v section width field → SpellsEvents v section width place es end
     → IsTrue (names_place places (field_at v section field (width_size width)))
-unfolding import_at field_at
-import-names v places section width place next end field es is names (over p q ends) =
+unfolding import_at
+import-names v places section width place next end field es first is names reads (over p q ends) =
     absurd (end-not (Bring field) next q (operation_at (section_bytes v section) width p) is ends refl)
-import-names v places section width place next end field es is names (one_event p n q e rest own s) =
-    subst (EventNames places) (sym (import-is v section width p next n field e is own)) names.0
+import-names v places section width place next end field es first is names reads (one_event p n q e rest own s) =
+    field-named places (located v macro_table) field (field_at v section field (width_size width)) first
+    (offset-is v section field (width_size width) (field_at v section field (width_size width)) reads.is).placed
+    (subst (EventNames places) (sym (import-is v section width p next n field e is own)) names.0)
 
 -- it lies in the section
 pub bring-room : (bs : List ℕ) (width : Width) (place next field : ℕ) → operation_at bs width place ≡ read_as (Bring field) next → field + width_size width ≤ length bs
@@ -243,59 +278,68 @@ header-events v section start u h end there is =
     (subst (λ (w : Width). SpellsEvents v section w u.first (unit_events v u) u.end) width
     (subst (λ (n : ℕ). SpellsEvents v n u.width u.first (unit_events v u) u.end) own (unit-whole v u there)))
 
+-- and that their offsets can be read
+header-reads : (v : View) (section start : ℕ) (u : MacroUnit) (h : MacroHeader) (end : ℕ) → IsUnitIn v u → u ≡ unit_with v section start h end → ReadsFrom v section h.width h.first
+header-reads v section start u h end there is =
+    let own : u.section ≡ section = ap (λ (x : MacroUnit). x.section) is in
+    let width : u.width ≡ h.width = ap (λ (x : MacroUnit). x.width) is in
+    let first : u.first ≡ h.first = ap (λ (x : MacroUnit). x.first) is in
+    subst (λ (n : ℕ). ReadsFrom v section h.width n) first
+    (subst (λ (w : Width). ReadsFrom v section w u.first) width (subst (λ (n : ℕ). ReadsFrom v n u.width u.first) own there.reads))
+
 -- the offset of an operation
 abbrev use_at : OffsetUse → ℕ → Option (OffsetUse × ℕ)
 use_at names field = Some (names, field)
 
-offset-named : (v : View) (starts places : List ℕ) (section start : ℕ) (cells : List Cell) (u : MacroUnit) (place next : ℕ) (o : MacroOperation) (names : OffsetUse) (field : ℕ) → CellsOf v section cells
-    → IsUnitIn v u → (is : IsMacroUnit v section start u) → EventsName places (unit_events v u) → OperationsUpTo v section start is.header.width is.header.first place
+offset-named : (v : View) (starts : List ℕ) (places : UnitPlaces) (section start : ℕ) (cells : List Cell) (u : MacroUnit) (place next : ℕ) (o : MacroOperation) (names : OffsetUse) (field : ℕ) → CellsOf v section cells
+    → places.first ≡ (located v macro_table).number → IsUnitIn v u → (is : IsMacroUnit v section start u) → EventsName places (unit_events v u) → OperationsUpTo v section start is.header.width is.header.first place
     → unit_operation v section start is.header.width place ≡ ok_read o next → offset_use o ≡ use_at names field
     → PieceNames (debug_data v) starts places (offset_piece cells (at_offset is.header.width names) is.header.width field)
 unfolding debug_data
-offset-named v starts places section start cells u place next End names field c there is events up e same = absurd cc
-offset-named v starts places section start cells u place next (Inline d l a n) names field c there is events up e same = absurd cc
-offset-named v starts places section start cells u place next (Named d l f) names field c there is events up e same =
+offset-named v starts places section start cells u place next End names field c first there is events up e same = absurd cc
+offset-named v starts places section start cells u place next (Inline d l a n) names field c first there is events up e same = absurd cc
+offset-named v starts places section start cells u place next (Named d l f) names field c first there is events up e same =
     subst (λ (x : OffsetUse × ℕ). PieceNames (debug_data v) starts places (offset_piece cells (at_offset is.header.width x.0) is.header.width x.1))
     (some-same (of_text d l, f) (names, field) same)
     (text-named v section start cells is.header.width place next d l f c e)
-offset-named v starts places section start cells u place next (Enter l f) names field c there is events up e same = absurd cc
-offset-named v starts places section start cells u place next Leave names field c there is events up e same = absurd cc
-offset-named v starts places section start cells u place next (Bring f) names field c there is events up e same =
+offset-named v starts places section start cells u place next (Enter l f) names field c first there is events up e same = absurd cc
+offset-named v starts places section start cells u place next Leave names field c first there is events up e same = absurd cc
+offset-named v starts places section start cells u place next (Bring f) names field c first there is events up e same =
     let read : operation_at (section_bytes v section) is.header.width place ≡ read_as (Bring f) next = operation-read v section start place is.header.width (Bring f) next e in
     let left : EventsLeft v places section is.header.width place =
     left-after v places section start is.header.width is.header.first place
-    (record { end = u.end; events = unit_events v u; spells = header-events v section start u is.header is.end there is.is; names = events }) up in
+    (record { end = u.end; events = unit_events v u; spells = header-events v section start u is.header is.end there is.is; names = events; reads = header-reads v section start u is.header is.end there is.is }) up in
     subst (λ (x : OffsetUse × ℕ). PieceNames (debug_data v) starts places (offset_piece cells (at_offset is.header.width x.0) is.header.width x.1))
     (some-same (of_unit, f) (names, field) same)
     (ap (names_place places) (field-there v section cells is.header.width f c (bring-room (section_bytes v section) is.header.width place next f read))
-    ∙ import-names v places section is.header.width place next left.end f left.events read left.names left.spells)
-offset-named v starts places section start cells u place next Foreign names field c there is events up e same = absurd cc
+    ∙ import-names v places section is.header.width place next left.end f left.events first read left.names (own-reads v section is.header.width place next f read left.reads) left.spells)
+offset-named v starts places section start cells u place next Foreign names field c first there is events up e same = absurd cc
 
 -- all of a unit, of a section, and of all sections
-asked-units : (v : View) (starts places : List ℕ) (section : ℕ) (cells : List Cell) (us : List MacroUnit) → CellsOf v section cells → AreUnitsIn v us
+asked-units : (v : View) (starts : List ℕ) (places : UnitPlaces) (section : ℕ) (cells : List Cell) (us : List MacroUnit) → CellsOf v section cells → places.first ≡ (located v macro_table).number → AreUnitsIn v us
     → UnitsName v starts places us → EachUnit (Asked v section cells (PieceNames (debug_data v) starts places)) us
-asked-units v starts places section cells [] c there names = tt
-asked-units v starts places section cells (u ∷ us) c there names = (
+asked-units v starts places section cells [] c first there names = tt
+asked-units v starts places section cells (u ∷ us) c first there names = (
   λ start is. record {
     line = λ has. line-named v starts places section start cells u c is names.0 has;
-    offset = λ place o next use_ field up e is_use. offset-named v starts places section start cells u place next o use_ field c there.0 is names.1 up e is_use;
+    offset = λ place o next use_ field up e is_use. offset-named v starts places section start cells u place next o use_ field c first there.0 is names.1 up e is_use;
   },
-  asked-units v starts places section cells us c there.1 names.2,
+  asked-units v starts places section cells us c first there.1 names.2,
 )
 
-asked-all : (v : View) (starts places : List ℕ) (zs : List CellSection) (ss : List SectionUnits) → AllCells v zs → AllBelow (length v.sections) zs → HaveUnits v zs ss
-    → MacrosName v starts places ss → AllAsked v (PieceNames (debug_data v) starts places) zs ss
-asked-all v starts places [] [] c b have names = tt
-asked-all v starts places [] (s ∷ ss) c b have names = absurd have
-asked-all v starts places (z ∷ zs) [] c b have names = absurd have
-asked-all v starts places (z ∷ zs) (s ∷ ss) c b have names = (
+asked-all : (v : View) (starts : List ℕ) (places : UnitPlaces) (zs : List CellSection) (ss : List SectionUnits) → places.first ≡ (located v macro_table).number → AllCells v zs → AllBelow (length v.sections) zs
+    → HaveUnits v zs ss → MacrosName v starts places ss → AllAsked v (PieceNames (debug_data v) starts places) zs ss
+asked-all v starts places [] [] first c b have names = tt
+asked-all v starts places [] (s ∷ ss) first c b have names = absurd have
+asked-all v starts places (z ∷ zs) [] first c b have names = absurd have
+asked-all v starts places (z ∷ zs) (s ∷ ss) first c b have names = (
   c.0,
   have.0,
   read-units v z.number s.units _ have.1,
-  asked-units v starts places z.number z.contents s.units c.0 (in-run v z.number _ s.units b.0 have.1) names.0,
-  asked-all v starts places zs ss c.1 b.1 have.2 names.1,
+  asked-units v starts places z.number z.contents s.units c.0 first (in-run v z.number _ s.units b.0 have.1) names.0,
+  asked-all v starts places zs ss first c.1 b.1 have.2 names.1,
 )
 
-pub asked-of : (v : View) (starts places : List ℕ) (ss : List SectionUnits) → UnitsFoundIn v ss → MacrosName v starts places ss
+pub asked-of : (v : View) (starts : List ℕ) (places : UnitPlaces) (ss : List SectionUnits) → places.first ≡ (located v macro_table).number → UnitsFoundIn v ss → MacrosName v starts places ss
     → AllAsked v (PieceNames (debug_data v) starts places) (debug_data v).macros ss
-asked-of v starts places ss found names = asked-all v starts places (debug_data v).macros ss (all-cells v) (numbers-below v) found.units names
+asked-of v starts places ss first found names = asked-all v starts places (debug_data v).macros ss first (all-cells v) (numbers-below v) found.units names

@@ -18,10 +18,10 @@ use Rattle.dw_base.specs.declared.macro_units.MacroUnit.{MacroUnit}
 use Rattle.dw_base.specs.declared.shared.Order.{Order}
 use Rattle.dw_meaning.proofs.MacroPieceLaws.{Asked, CellsOf, EachUnit, FieldPlace, HoldsElse, PiecesRead, all_unit_starts, has_offset, line_field_by, line_fields as fields_begun, unit_line, unit_lines, unit_starts, units-read}
 use Rattle.dw_find.specs.MacroSections.{SectionUnits, line_field, line_fields, macro_starts, macros_of, macros_read, macros_with}
-use Rattle.dw_find.specs.TextPlaces.{names_place}
 use Rattle.dw_find.specs.UnitPaths.{UnitPaths, start_by}
+use Rattle.dw_find.specs.UnitPlaces.{PlacesStart, UnitPlaces, names_place}
 use Rattle.dw_find.specs.declared.fields.PathField.{PathField}
-use Rattle.dw_find.proofs.FoundLaws.{PlacesStart, names-if}
+use Rattle.dw_find.proofs.FoundLaws.{names-if}
 use Rattle.dw_find.proofs.MacroPlaceLaws.{units_of}
 
 -- places of fields as fields
@@ -61,16 +61,16 @@ pieces-fields order s (x ∷ xs) c =
     ∙ sym (as-append (line_field_by x.state.mode x.state.place) (fields_begun xs))
 
 -- what a piece is to name, by starts and places
-abbrev pub NamesBy : MacroMode → DebugData → List ℕ → List ℕ → List Cell → Type 0
+abbrev pub NamesBy : MacroMode → DebugData → List ℕ → UnitPlaces → List Cell → Type 0
 NamesBy (at_line width) d starts places p = IsTrue (is_there (start_number 0 starts (offset_of d.base.order (located_cells d.lines) p)))
 NamesBy (at_offset width (of_text defines line)) d starts places p = IsTrue (ends_in d.str.bytes (offset_of d.base.order d.str p))
 NamesBy (at_offset width of_unit) d starts places p = IsTrue (names_place places (field_of d.base.order p))
 NamesBy m d starts places p = ⊤
 
-abbrev pub PieceNames : DebugData → List ℕ → List ℕ → Piece MacroState → Type 0
+abbrev pub PieceNames : DebugData → List ℕ → UnitPlaces → Piece MacroState → Type 0
 PieceNames d starts places x = NamesBy x.state.mode d starts places x.cells
 
-pub holds-else : (d : DebugData) (starts places : List ℕ) → HoldsElse (PieceNames d starts places)
+pub holds-else : (d : DebugData) (starts : List ℕ) (places : UnitPlaces) → HoldsElse (PieceNames d starts places)
 holds-else d starts places = record { holds = λ x none. by_mode x.state.mode x.cells none }
   where
     by_mode : (m : MacroMode) (p : List Cell) → has_offset m ≡ false → NamesBy m d starts places p
@@ -81,7 +81,7 @@ holds-else d starts places = record { holds = λ x none. by_mode x.state.mode x.
     by_mode no_macros p none = tt
 
 -- so it names a text or a line table that stands around, and an import a unit
-pub text-of : (m : MacroMode) (d : DebugData) (around : Around) (starts places : List ℕ) (p : List Cell) → around.str ≡ d.str → around.lines ≡ located_cells d.lines
+pub text-of : (m : MacroMode) (d : DebugData) (around : Around) (starts : List ℕ) (places : UnitPlaces) (p : List Cell) → around.str ≡ d.str → around.lines ≡ located_cells d.lines
     → around.lasting.base.order ≡ d.base.order → around.starts ≡ starts → NamesBy m d starts places p → NamesTextBy (macro_role_by m) around p
 text-of at_unit d around starts places p str lines order same h = tt
 text-of (at_line width) d around starts places p str lines order same h = rw (lines, order, same) h
@@ -90,7 +90,7 @@ text-of (at_offset width (of_text defines line)) d around starts places p str li
 text-of (at_offset width of_unit) d around starts places p str lines order same h = tt
 text-of no_macros d around starts places p str lines order same h = tt
 
-pub import-of : (m : MacroMode) (d : DebugData) (g : Lasting) (starts places : List ℕ) (p : List Cell) → g.base.order ≡ d.base.order → PlacesStart places g.macros
+pub import-of : (m : MacroMode) (d : DebugData) (g : Lasting) (starts : List ℕ) (places : UnitPlaces) (p : List Cell) → g.base.order ≡ d.base.order → PlacesStart places g.macros
     → NamesBy m d starts places p → NamesUnitIf (is_import m) g p
 import-of (at_offset width of_unit) d g starts places p order s h =
     names-if true places g p s (λ e. ap (λ (o : Order). names_place places (field_of o p)) order ∙ h)

@@ -21,7 +21,7 @@ use Rattle.dw_meaning.proofs.MacroPieceLaws.{CellsOf}
 use Rattle.dw_find.specs.Fields.{AllApart, IsStartField}
 use Rattle.dw_find.specs.MacroSections.{macro_starts, macros_read, macros_with}
 use Rattle.dw_find.specs.UnitPaths.{start_by}
-use Rattle.dw_find.specs.ViewFields.{AllHavePaths, HasPaths}
+use Rattle.dw_find.specs.ViewFields.{AllHavePlaces, HasPlaces}
 use Rattle.dw_find.specs.declared.fields.PathField.{PathField}
 use Rattle.dw_find.proofs.ApartLaws.{apart-here}
 use Rattle.dw_find.proofs.MacroPlaceLaws.{AllAbove, NumbersRise}
@@ -155,7 +155,7 @@ all-apart info place (x ∷ xs) l =
 
 -- a section of macro units that was read
 macro-has : (v : View) (z : CellSection) (xs : List (Piece MacroState)) → CellsOf v z.number z.contents → z.number < length v.sections → ReadsMacros v.order z.contents xs
-    → HasPaths v (macros_with z.number (macro_starts xs))
+    → HasPlaces v (macros_with z.number (macro_starts xs))
 macro-has v z xs c there r =
     let info : List ℕ = section_bytes v z.number in
     let l : MacrosPlaced (section_bytes v z.number) 0 xs =
@@ -163,8 +163,6 @@ macro-has v z xs c there r =
     let fields : EachOf (IsStartField (section_bytes v z.number)) (macro_starts xs) = all-fields v.order (section_bytes v z.number) (macros_at 0 at_unit) 0 xs r.chain l in
     record {
       there = there;
-      str = record { each = λ k d lt. absurd (omega (arith, lt)) };
-      line_str = record { each = λ k d lt. absurd (omega (arith, lt)) };
       starts = record { each = λ k d lt. each-get (IsStartField (section_bytes v z.number)) (macro_starts xs) k d lt fields };
       macros = record { each = λ k d lt. absurd (omega (arith, lt)) };
       apart = all-apart (section_bytes v z.number) 0 xs l;
@@ -177,14 +175,14 @@ AllCells v [] = ⊤
 AllCells v (z ∷ zs) = CellsOf v z.number z.contents × AllCells v zs
 
 macros-have-by : (v : View) (zs : List CellSection) (rs : List MacroReading) → AllCells v zs → AllBelow (length v.sections) zs → ReadsAllMacros v.order zs rs
-    → AllHavePaths v (macros_read rs)
+    → AllHavePlaces v (macros_read rs)
 macros-have-by v [] [] c b r = tt
 macros-have-by v [] (x ∷ xs) c b r = absurd r
 macros-have-by v (z ∷ zs) [] c b r = absurd r
 macros-have-by v (z ∷ zs) (x ∷ xs) c b r = (
-  subst (λ (n : ℕ). HasPaths v (macros_with n (macro_starts x.pieces))) (sym r.0) (macro-has v z x.pieces c.0 b.0 r.1),
+  subst (λ (n : ℕ). HasPlaces v (macros_with n (macro_starts x.pieces))) (sym r.0) (macro-has v z x.pieces c.0 b.0 r.1),
   macros-have-by v zs xs c.1 b.1 r.2,
 )
 
-pub macros-have : (v : View) (rs : List MacroReading) → AllCells v (debug_data v).macros → ReadsAllMacros v.order (debug_data v).macros rs → AllHavePaths v (macros_read rs)
+pub macros-have : (v : View) (rs : List MacroReading) → AllCells v (debug_data v).macros → ReadsAllMacros v.order (debug_data v).macros rs → AllHavePlaces v (macros_read rs)
 macros-have v rs c r = macros-have-by v (debug_data v).macros rs c (numbers-below v) r

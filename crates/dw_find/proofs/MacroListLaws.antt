@@ -11,7 +11,7 @@ use Rattle.dw_base.specs.declared.fault.Fault.TheVariants.{NoMemory, Refused}
 use Rattle.dw_base.specs.declared.fault.Refusal.{Refusal}
 use Rattle.dw_base.proofs.FileViewLaws.{section_after-within}
 use Rattle.dw_meaning.proofs.MacroFirstLaws.{macros-all, macros-none, macros-some, macros_above, section_cells}
-use Rattle.dw_macros.specs.MacroOffsets.{AreReadUnits, UnitsRefuse, units as read_units, offsets as read_offsets}
+use Rattle.dw_base.specs.MacroOffsets.{AreReadUnits, UnitsRefuse, units as read_units, offsets as read_offsets}
 use Rattle.dw_macros.proofs.ExcludeLaws.{units-exclude-all}
 use Rattle.dw_find.specs.MacroSections.{HaveUnits, SectionUnits, UnitsFailIn, offsets, units, UnitsFoundIn}
 
@@ -76,6 +76,10 @@ pub found-exclude : (v : View) (ss : List SectionUnits) (r : Refusal) → UnitsF
 found-exclude v ss r found (units z before behind split f) =
     among v before behind z ss r (subst (λ (zs : List CellSection). HaveUnits v zs ss) split found.units) (read_units f)
 found-exclude v ss r found (offsets z before behind split f) = among v before behind z ss r (subst (λ (zs : List CellSection). HaveUnits v zs ss) split found.units) f
+
+pub units-exclude : (v : View) (ss : List SectionUnits) (before behind : List CellSection) (z : CellSection) (r : Refusal) → UnitsFoundIn v ss → (debug_data v).macros ≡ before ++ z ∷ behind
+    → UnitsRefuse v z.number r → ⊥
+units-exclude v ss before behind z r found split f = among v before behind z ss r (subst (λ (zs : List CellSection). HaveUnits v zs ss) split found.units) f
 
 -- the next one is a section of the view
 pub next-there : (v : View) (next : Option ℕ) (found : List SectionUnits) (i : ℕ) → SectionsSo v next found → next ≡ Some i → i < length v.sections

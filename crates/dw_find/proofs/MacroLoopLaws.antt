@@ -14,6 +14,7 @@ use Rattle.dw_find.specs.MacroNames.MacrosStray.{section as stray_section}
 use Rattle.dw_find.specs.MacroNames.UnitStrays.{line as stray_line, events as stray_events}
 use Rattle.dw_find.specs.MacroNames.UnitsStray.{unit as stray_unit}
 use Rattle.dw_find.specs.MacroSections.{SectionUnits}
+use Rattle.dw_find.specs.UnitPlaces.{UnitPlaces}
 
 -- one of a list, with those before it and behind it
 front-at : {X : Type 0} (xs : List X) (x : X) (i : ℕ) → i < length xs → x ≡ get_or xs i x → drop i xs ≡ x ∷ drop (i + 1) xs
@@ -25,15 +26,15 @@ split-at : {X : Type 0} (xs : List X) (x : X) (i : ℕ) → i < length xs → x 
 split-at {X} xs x i lt is = sym (take-append-drop i xs) ∙ ap (λ (ys : List X). take i xs ++ ys) (front-at xs x i lt is)
 
 -- events: those that are left behind some
-pub record EventsPassed (places : List ℕ) (all left : List MacroEvent) : Type 0 where
+pub record EventsPassed (places : UnitPlaces) (all left : List MacroEvent) : Type 0 where
   pub passed : List MacroEvent
   pub split : all ≡ passed ++ left
   pub here : EventsName places left → EventsName places all
 
-pub events-none : (places : List ℕ) (all : List MacroEvent) → EventsPassed places all all
+pub events-none : (places : UnitPlaces) (all : List MacroEvent) → EventsPassed places all all
 events-none places all = record { passed = []; split = refl; here = λ h. h }
 
-pub events-more : (places : List ℕ) (e : MacroEvent) (all left rest : List MacroEvent) → EventsPassed places all left → left ≡ e ∷ rest → EventNames places e
+pub events-more : (places : UnitPlaces) (e : MacroEvent) (all left rest : List MacroEvent) → EventsPassed places all left → left ≡ e ∷ rest → EventNames places e
     → EventsPassed places all rest
 events-more places e all left rest p is names = record {
   passed = p.passed ++ e ∷ [];
@@ -41,35 +42,35 @@ events-more places e all left rest p is names = record {
   here = λ h. p.here (subst (EventsName places) (sym is) (names, h));
 }
 
-pub events-over : (places : List ℕ) (all left : List MacroEvent) → EventsPassed places all left → left ≡ [] → EventsName places all
+pub events-over : (places : UnitPlaces) (all left : List MacroEvent) → EventsPassed places all left → left ≡ [] → EventsName places all
 events-over places all left p none = p.here (subst (EventsName places) (sym none) tt)
 
-pub events-refused : (section : ℕ) (places : List ℕ) (e : MacroEvent) (all left rest : List MacroEvent) (r : Refusal) → EventsPassed places all left → left ≡ e ∷ rest
+pub events-refused : (section : ℕ) (places : UnitPlaces) (e : MacroEvent) (all left rest : List MacroEvent) (r : Refusal) → EventsPassed places all left → left ≡ e ∷ rest
     → EventStray section places e r → EventStrays section places all r
 events-refused section places e all left rest r p is stray = event p.passed rest e (p.split ∙ ap (λ (es : List MacroEvent). p.passed ++ es) is) stray
 
 pub ruleset event_loop_rules = (events-none, events-more)
 
 -- units of a section
-pub record UnitsPassed (v : View) (starts places : List ℕ) (us : List MacroUnit) (i : ℕ) : Type 0 where
+pub record UnitsPassed (v : View) (starts : List ℕ) (places : UnitPlaces) (us : List MacroUnit) (i : ℕ) : Type 0 where
   pub here : UnitsName v starts places (drop i us) → UnitsName v starts places us
 
-pub units-none : (v : View) (starts places : List ℕ) (us : List MacroUnit) → UnitsPassed v starts places us 0
+pub units-none : (v : View) (starts : List ℕ) (places : UnitPlaces) (us : List MacroUnit) → UnitsPassed v starts places us 0
 units-none v starts places us = record { here = λ h. h }
 
-pub units-more : (v : View) (starts places : List ℕ) (us : List MacroUnit) (i : ℕ) (u : MacroUnit) → i < length us → u ≡ get_or us i u → UnitsPassed v starts places us i
+pub units-more : (v : View) (starts : List ℕ) (places : UnitPlaces) (us : List MacroUnit) (i : ℕ) (u : MacroUnit) → i < length us → u ≡ get_or us i u → UnitsPassed v starts places us i
     → LineNames starts u.line → EventsName places (unit_events v u) → UnitsPassed v starts places us (i + 1)
 units-more v starts places us i u lt is p line events =
     record { here = λ h. p.here (subst (UnitsName v starts places) (sym (front-at us u i lt is)) (line, events, h)) }
 
-pub units-over : (v : View) (starts places : List ℕ) (us : List MacroUnit) (i : ℕ) → length us ≤ i → UnitsPassed v starts places us i → UnitsName v starts places us
+pub units-over : (v : View) (starts : List ℕ) (places : UnitPlaces) (us : List MacroUnit) (i : ℕ) → length us ≤ i → UnitsPassed v starts places us i → UnitsName v starts places us
 units-over v starts places us i end p = p.here (subst (UnitsName v starts places) (sym (drop_all i us end)) tt)
 
-pub line-refused : (v : View) (starts places : List ℕ) (us : List MacroUnit) (i : ℕ) (u : MacroUnit) (r : Refusal) → i < length us → u ≡ get_or us i u
+pub line-refused : (v : View) (starts : List ℕ) (places : UnitPlaces) (us : List MacroUnit) (i : ℕ) (u : MacroUnit) (r : Refusal) → i < length us → u ≡ get_or us i u
     → LineStrays starts u r → UnitsStray v starts places us r
 line-refused v starts places us i u r lt is stray = stray_unit (take i us) (drop (i + 1) us) u (split-at us u i lt is) (stray_line stray)
 
-pub unit-refused : (v : View) (starts places : List ℕ) (us : List MacroUnit) (i : ℕ) (u : MacroUnit) (r : Refusal) → i < length us → u ≡ get_or us i u
+pub unit-refused : (v : View) (starts : List ℕ) (places : UnitPlaces) (us : List MacroUnit) (i : ℕ) (u : MacroUnit) (r : Refusal) → i < length us → u ≡ get_or us i u
     → EventStrays u.section places (unit_events v u) r → UnitsStray v starts places us r
 unit-refused v starts places us i u r lt is stray = stray_unit (take i us) (drop (i + 1) us) u (split-at us u i lt is) (stray_events stray)
 
@@ -81,22 +82,22 @@ unit-at v (u ∷ us) (suc i) d lt are = unit-at v us i d (omega (arith, lt)) are
 pub ruleset unit_loop_rules = (units-none, units-over)
 
 -- sections
-pub record SectionsPassed (v : View) (starts places : List ℕ) (ss : List SectionUnits) (i : ℕ) : Type 0 where
+pub record SectionsPassed (v : View) (starts : List ℕ) (places : UnitPlaces) (ss : List SectionUnits) (i : ℕ) : Type 0 where
   pub here : MacrosName v starts places (drop i ss) → MacrosName v starts places ss
 
-pub sections-none : (v : View) (starts places : List ℕ) (ss : List SectionUnits) → SectionsPassed v starts places ss 0
+pub sections-none : (v : View) (starts : List ℕ) (places : UnitPlaces) (ss : List SectionUnits) → SectionsPassed v starts places ss 0
 sections-none v starts places ss = record { here = λ h. h }
 
-pub sections-more : (v : View) (starts places : List ℕ) (ss : List SectionUnits) (i : ℕ) (s : SectionUnits) (us : List MacroUnit) → i < length ss → s ≡ get_or ss i s
+pub sections-more : (v : View) (starts : List ℕ) (places : UnitPlaces) (ss : List SectionUnits) (i : ℕ) (s : SectionUnits) (us : List MacroUnit) → i < length ss → s ≡ get_or ss i s
     → SectionsPassed v starts places ss i → us ≡ s.units → UnitsName v starts places us → SectionsPassed v starts places ss (i + 1)
 sections-more v starts places ss i s us lt is p own names = record {
   here = λ h. p.here (subst (MacrosName v starts places) (sym (front-at ss s i lt is)) (subst (UnitsName v starts places) own names, h));
 }
 
-pub sections-over : (v : View) (starts places : List ℕ) (ss : List SectionUnits) (i : ℕ) → length ss ≤ i → SectionsPassed v starts places ss i → MacrosName v starts places ss
+pub sections-over : (v : View) (starts : List ℕ) (places : UnitPlaces) (ss : List SectionUnits) (i : ℕ) → length ss ≤ i → SectionsPassed v starts places ss i → MacrosName v starts places ss
 sections-over v starts places ss i end p = p.here (subst (MacrosName v starts places) (sym (drop_all i ss end)) tt)
 
-pub section-refused : (v : View) (starts places : List ℕ) (ss : List SectionUnits) (i : ℕ) (s : SectionUnits) (us : List MacroUnit) (r : Refusal) → i < length ss
+pub section-refused : (v : View) (starts : List ℕ) (places : UnitPlaces) (ss : List SectionUnits) (i : ℕ) (s : SectionUnits) (us : List MacroUnit) (r : Refusal) → i < length ss
     → s ≡ get_or ss i s → us ≡ s.units → UnitsStray v starts places us r → MacrosStray v starts places ss r
 section-refused v starts places ss i s us r lt is own stray =
     stray_section (take i ss) (drop (i + 1) ss) s (split-at ss s i lt is) (subst (λ (xs : List MacroUnit). UnitsStray v starts places xs r) own stray)

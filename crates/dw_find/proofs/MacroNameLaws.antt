@@ -1,5 +1,5 @@
 -- Units that were read are units of the view, and the offsets of all of them name what they are to name where those of each do.
-use Rattle.std.proofs.Common.{◌≡◌, ℕ, ◌<◌, List, [], ◌∷◌, ◌++◌, length, Option, Some, None, sym, ◌∙◌, subst}
+use Rattle.std.proofs.Common.{◌≡◌, ℕ, ◌<◌, List, [], ◌∷◌, ◌++◌, length, Option, Some, None, sym, ◌∙◌, subst, Bool, false}
 use Rattle.dw_base.specs.Cells.{CellSection}
 use Rattle.dw_base.specs.DebugData.{start_number}
 use Rattle.dw_base.specs.FileViews.{View}
@@ -11,13 +11,14 @@ use Rattle.dw_base.specs.declared.macro_units.MacroEvent.{MacroEvent}
 use Rattle.dw_base.specs.declared.macro_units.MacroEvent.TheVariants.{Import}
 use Rattle.dw_base.specs.declared.macro_units.MacroUnit.{MacroUnit}
 use Rattle.dw_macros.specs.MacroEvents.{IsUnitIn}
-use Rattle.dw_macros.specs.MacroOffsets.{UnitsReadUpTo, more_unit, no_unit}
+use Rattle.dw_base.specs.MacroOffsets.{UnitsReadUpTo, more_unit, no_unit}
 use Rattle.dw_macros.proofs.CallerLaws.{read-unit}
 use Rattle.dw_find.specs.MacroNames.{AllUnitsIn, AreUnitsIn, EventStray, LineStrays}
 use Rattle.dw_find.specs.MacroNames.EventStray.{import}
 use Rattle.dw_find.specs.MacroNames.LineStrays.{line}
 use Rattle.dw_find.specs.MacroSections.{HaveUnits, SectionUnits, UnitsFoundIn}
 use Rattle.dw_find.proofs.MacroHaveLaws.{AllBelow, numbers-below}
+use Rattle.dw_find.specs.UnitPlaces.{UnitPlaces, has_unit}
 
 in-append : (v : View) (us : List MacroUnit) (u : MacroUnit) → AreUnitsIn v us → IsUnitIn v u → AreUnitsIn v (us ++ u ∷ [])
 in-append v [] u h k = (k, tt)
@@ -41,9 +42,9 @@ pub line-stray : (starts : List ℕ) (u : MacroUnit) (n : ℕ) (o : Option ℕ) 
     → r ≡ at Stray u.section u.line_field → LineStrays starts u r
 line-stray starts u n o r some is none same = subst (LineStrays starts u) (sym same) (line n some (sym is ∙ none))
 
-pub event-stray : (section : ℕ) (places : List ℕ) (e : MacroEvent) (other n field : ℕ) (o : Option ℕ) (r : Refusal) → e ≡ Import other n field → o ≡ start_number 0 places n → o ≡ None
+pub event-stray : (section : ℕ) (places : UnitPlaces) (e : MacroEvent) (other n field : ℕ) (b : Bool) (r : Refusal) → e ≡ Import other n field → b ≡ has_unit places other n → b ≡ false
     → r ≡ at Stray section field → EventStray section places e r
-event-stray section places e other n field o r event is none same = subst (EventStray section places e) (sym same) (import other n field event (sym is ∙ none))
+event-stray section places e other n field b r event is none same = subst (EventStray section places e) (sym same) (import other n field event (sym is ∙ none))
 
 pub ruleset line_rules = (line-stray)
 

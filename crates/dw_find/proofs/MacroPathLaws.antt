@@ -1,39 +1,35 @@
 -- Macro units among the debug data that were found: what their pieces name, the fields that they add, and why one names nothing.
-use Rattle.std.proofs.Common.{◌≡◌, ℕ, List, [], ◌∷◌, ◌++◌, refl, sym, ap, ◌∙◌}
-use Rattle.dw_base.specs.DebugData.{DataReadings, around_of, macro_places, start_number, started_unit}
+use Rattle.std.proofs.Common.{◌≡◌, ℕ, List, [], ◌∷◌, ◌++◌, refl, sym, subst}
+use Rattle.dw_base.specs.DebugData.{DataReadings, around_of, macro_places}
 use Rattle.dw_base.specs.FileViews.{View}
-use Rattle.dw_base.specs.LineMeanings.{is_there}
 use Rattle.dw_base.specs.LineReadings.{table_starts}
 use Rattle.dw_base.specs.MacroPieces.{MacroState}
-use Rattle.dw_base.specs.MacroReadings.{MacroReading, MacroStart, ReadsAllMacros, EachMacro, first_macros, macro_starts as units_begun}
+use Rattle.dw_base.specs.MacroReadings.{MacroReading, ReadsAllMacros, EachMacro, first_macros, macro_starts as units_begun}
 use Rattle.dw_base.specs.Paths.{PathMap}
 use Rattle.dw_base.specs.Pieces.{Piece, EachPiece}
 use Rattle.dw_base.specs.SectionTexts.{macro_role}
 use Rattle.dw_base.specs.TableStarts.{NamesImport}
 use Rattle.dw_base.specs.TextChanges.{NamesTextBy}
 use Rattle.dw_base.specs.ViewData.{debug_data}
-use Rattle.dw_meaning.proofs.MacroPieceLaws.{all_unit_starts}
-use Rattle.dw_find.specs.MacroSections.{SectionUnits, UnitsFoundIn, first_places, macros_read}
-use Rattle.dw_find.specs.ViewFields.{AllHavePaths, AllRoomsFit}
+use Rattle.dw_meaning.proofs.MacroReadLaws.{all-macros-one}
+use Rattle.dw_find.specs.IndexedTexts.{UnitsStart}
+use Rattle.dw_find.specs.MacroSections.{macros_read}
+use Rattle.dw_find.specs.ViewFields.{AllHavePlaces, AllRoomsFit}
 use Rattle.dw_find.specs.UnitPaths.{UnitPaths}
-use Rattle.dw_find.proofs.FoundLaws.{PlacesStart}
+use Rattle.dw_find.specs.UnitPlaces.{PlacesStart, UnitPlaces}
 use Rattle.dw_find.proofs.MacroFoundLaws.{PieceNames, import-of, text-of}
-use Rattle.dw_find.proofs.MacroHaveLaws.{macros-have, numbers-rise}
-use Rattle.dw_find.proofs.MacroPlaceLaws.{first-named, units_of}
+use Rattle.dw_find.proofs.MacroHaveLaws.{macros-have}
 use Rattle.dw_find.proofs.MacroStartLaws.{all-cells}
 
--- an offset names a unit exactly where it is one of the places
-pub places-start : (v : View) (ss : List SectionUnits) (places : List ℕ) (all : DataReadings) → UnitsFoundIn v ss → places ≡ first_places ss
-    → units_begun all.macros ≡ all_unit_starts (debug_data v).macros (units_of ss) → PlacesStart places (macro_places (debug_data v) all)
-places-start v ss places all found is starts = record {
-  named = λ (n : ℕ).
-      ap (λ (ms : List MacroStart). is_there (started_unit 0 ms (first_macros (debug_data v).macros) n)) starts
-      ∙ first-named v (debug_data v).macros ss n found.units (numbers-rise v)
-      ∙ ap (λ (ps : List ℕ). is_there (start_number 0 ps n)) (sym is);
-}
+-- where units start is where those of other readings do
+pub places-start : (v : View) (places : UnitPlaces) (all : DataReadings) → UnitsStart (debug_data v) places
+    → ReadsAllMacros (debug_data v).base.order (debug_data v).macros all.macros → PlacesStart places (macro_places (debug_data v) all)
+places-start v places all units reads =
+    subst (λ (rs : List MacroReading). PlacesStart places (record { first = first_macros (debug_data v).macros; starts = units_begun rs }))
+    (all-macros-one (debug_data v).base.order (debug_data v).macros units.readings all.macros units.are reads) units.start
 
 -- each offset names a text or a line table
-piece-texts : (v : View) (all : DataReadings) (starts places : List ℕ) (xs : List (Piece MacroState)) → starts ≡ table_starts all.lines
+piece-texts : (v : View) (all : DataReadings) (starts : List ℕ) (places : UnitPlaces) (xs : List (Piece MacroState)) → starts ≡ table_starts all.lines
     → EachPiece (PieceNames (debug_data v) starts places) xs → EachPiece (λ x. NamesTextBy (macro_role x.state) (around_of (debug_data v) all) x.cells) xs
 piece-texts v all starts places [] is h = tt
 piece-texts v all starts places (x ∷ xs) is h = (
@@ -41,13 +37,13 @@ piece-texts v all starts places (x ∷ xs) is h = (
   piece-texts v all starts places xs is h.1,
 )
 
-pub macro-texts : (v : View) (all : DataReadings) (starts places : List ℕ) (rs : List MacroReading) → starts ≡ table_starts all.lines
+pub macro-texts : (v : View) (all : DataReadings) (starts : List ℕ) (places : UnitPlaces) (rs : List MacroReading) → starts ≡ table_starts all.lines
     → EachMacro (PieceNames (debug_data v) starts places) rs → EachMacro (λ x. NamesTextBy (macro_role x.state) (around_of (debug_data v) all) x.cells) rs
 macro-texts v all starts places [] is h = tt
 macro-texts v all starts places (r ∷ rs) is h = (piece-texts v all starts places r.pieces is h.0, macro-texts v all starts places rs is h.1)
 
 -- and that of an import a unit
-piece-imports : (v : View) (all : DataReadings) (starts places : List ℕ) (xs : List (Piece MacroState)) → PlacesStart places (macro_places (debug_data v) all)
+piece-imports : (v : View) (all : DataReadings) (starts : List ℕ) (places : UnitPlaces) (xs : List (Piece MacroState)) → PlacesStart places (macro_places (debug_data v) all)
     → EachPiece (PieceNames (debug_data v) starts places) xs → EachPiece (NamesImport (around_of (debug_data v) all).lasting) xs
 piece-imports v all starts places [] s h = tt
 piece-imports v all starts places (x ∷ xs) s h = (
@@ -55,7 +51,7 @@ piece-imports v all starts places (x ∷ xs) s h = (
   piece-imports v all starts places xs s h.1,
 )
 
-pub macro-imports : (v : View) (all : DataReadings) (starts places : List ℕ) (rs : List MacroReading) → PlacesStart places (macro_places (debug_data v) all)
+pub macro-imports : (v : View) (all : DataReadings) (starts : List ℕ) (places : UnitPlaces) (rs : List MacroReading) → PlacesStart places (macro_places (debug_data v) all)
     → EachMacro (PieceNames (debug_data v) starts places) rs → EachMacro (NamesImport (around_of (debug_data v) all).lasting) rs
 macro-imports v all starts places [] s h = tt
 macro-imports v all starts places (r ∷ rs) s h = (piece-imports v all starts places r.pieces s h.0, macro-imports v all starts places rs s h.1)
@@ -64,12 +60,12 @@ pub macros-order : (v : View) (rs : List MacroReading) → ReadsAllMacros v.orde
 unfolding debug_data
 macros-order v rs r = r
 
--- sections with those of macro units behind them have paths
-have-both : (v : View) (xs ys : List UnitPaths) → AllHavePaths v xs → AllHavePaths v ys → AllHavePaths v (xs ++ ys)
+-- sections with those of macro units behind them have places
+have-both : (v : View) (xs ys : List UnitPaths) → AllHavePlaces v xs → AllHavePlaces v ys → AllHavePlaces v (xs ++ ys)
 have-both v [] ys h k = k
 have-both v (x ∷ xs) ys h k = (h.0, have-both v xs ys h.1 k)
 
-pub have-macros : (v : View) (us : List UnitPaths) (rs : List MacroReading) → AllHavePaths v us → ReadsAllMacros v.order (debug_data v).macros rs → AllHavePaths v (us ++ macros_read rs)
+pub have-macros : (v : View) (us : List UnitPaths) (rs : List MacroReading) → AllHavePlaces v us → ReadsAllMacros v.order (debug_data v).macros rs → AllHavePlaces v (us ++ macros_read rs)
 have-macros v us rs have reads = have-both v us (macros_read rs) have (macros-have v rs (all-cells v) reads)
 
 -- which fit their rooms

@@ -1,93 +1,34 @@
--- Where the units of the first section of macro units start: these places rise, and an offset names a unit exactly where it is one of them.
-use Rattle.std.proofs.Common.{Bool, true, false, ◌≡◌, ℕ, zero, suc, ◌+◌, ◌==◌, ◌&&◌, ◌<◌, ◌≤◌, arith, List, [], ◌∷◌, ◌++◌, length, get_or, cond, Some, refl, ap, ◌∙◌, subst}
+-- Where the units of a section of macro units start: these places rise; and the numbers of sections rise, too.
+use Rattle.std.proofs.Common.{◌≡◌, ℕ, zero, suc, ◌+◌, ◌<◌, ◌≤◌, arith, List, [], ◌∷◌, ◌++◌, length, get_or, Some, refl, ap, ◌∙◌, subst}
 use Rattle.std.specs.Bool.{⊤}
-use Rattle.std.proofs.lemmas.Bool.{eq-eqb, ne_eqb}
 use Rattle.dw_base.specs.Cells.{Cell, CellSection, bytes_of}
-use Rattle.dw_base.specs.DebugData.{start_number, started_unit}
-use Rattle.dw_base.specs.FileViews.{View}
 use Rattle.dw_base.specs.Forms.{width_size}
-use Rattle.dw_base.specs.LineMeanings.{is_there}
 use Rattle.dw_base.specs.MacroPieces.{OperationFront, FitsMacros, front_of, MacroMode, at_unit, at_line, at_operation, at_offset, no_macros, MacroState, macros_at, macro_grammar}
-use Rattle.dw_base.specs.MacroReadings.{MacroStart, first_macros, started_by, starts_in}
+use Rattle.dw_base.specs.MacroReadings.{MacroStart, started_by, starts_in}
 use Rattle.dw_base.specs.Pieces.{Piece, Chain}
 use Rattle.dw_base.specs.declared.shared.Order.{Order}
 use Rattle.dw_base.specs.declared.shared.Width.{Width}
 use Rattle.dw_base.specs.declared.shared.Width.TheVariants.{W32, W64}
 use Rattle.dw_base.proofs.UnitEditLaws.{length-bytes_of}
 use Rattle.dw_base.specs.declared.macro_units.MacroUnit.{MacroUnit}
-use Rattle.dw_meaning.proofs.MacroPieceLaws.{unit_starts, all_unit_starts}
+use Rattle.dw_meaning.proofs.MacroPieceLaws.{unit_starts}
 use Rattle.dw_find.specs.LineStarts.{Rises}
-use Rattle.dw_find.specs.MacroSections.{SectionUnits, HaveUnits, first_places, places_of}
+use Rattle.dw_find.specs.MacroSections.{SectionUnits, places_of}
 
 -- the units of each section
 abbrev pub units_of : List SectionUnits → List (List MacroUnit)
 units_of [] = []
 units_of (s ∷ ss) = s.units ∷ units_of ss
 
--- whether a place is one of these
-is_place : (first second n : ℕ) (places : List ℕ) → is_there (start_number first places n) ≡ is_there (start_number second places n)
-is_place first second n [] = refl
-is_place first second n (p ∷ ps) = by_place (p == n) (is_place (first + 1) (second + 1) n ps)
-  where
-    by_place : (b : Bool) → is_there (start_number (first + 1) ps n) ≡ is_there (start_number (second + 1) ps n)
-        → is_there (cond b (Some first) (start_number (first + 1) ps n)) ≡ is_there (cond b (Some second) (start_number (second + 1) ps n))
-    by_place true rest = refl
-    by_place false rest = rest
-
--- no unit of another section is one of this
-abbrev Apart : ℕ → List MacroStart → Type 0
-Apart section [] = ⊤
-Apart section (s ∷ ss) = (s.section == section) ≡ false × Apart section ss
-
-none-of : (first section n : ℕ) (ss : List MacroStart) → Apart section ss → is_there (started_unit first ss section n) ≡ false
-none-of first section n [] a = refl
-none-of first section n (s ∷ ss) a =
-    ap (λ (b : Bool). is_there (cond (b && s.place == n) (Some first) (started_unit (first + 1) ss section n))) a.0 ∙ none-of (first + 1) section n ss a.1
-
--- units of one section, with those of others behind
-units-then : (first section n : ℕ) (us : List MacroUnit) (ss : List MacroStart) → Apart section ss
-    → is_there (started_unit first (unit_starts section us ++ ss) section n) ≡ is_there (start_number first (places_of us) n)
-units-then first section n [] ss a = none-of first section n ss a
-units-then first section n (u ∷ us) ss a =
-    ap (λ (b : Bool). is_there (cond (b && u.start == n) (Some first) (started_unit (first + 1) (unit_starts section us ++ ss) section n))) (eq-eqb section section refl)
-    ∙ by_place (u.start == n) (units-then (first + 1) section n us ss a)
-  where
-    by_place : (b : Bool) → is_there (started_unit (first + 1) (unit_starts section us ++ ss) section n) ≡ is_there (start_number (first + 1) (places_of us) n)
-        → is_there (cond b (Some first) (started_unit (first + 1) (unit_starts section us ++ ss) section n)) ≡ is_there (cond b (Some first) (start_number (first + 1) (places_of us) n))
-    by_place true rest = refl
-    by_place false rest = rest
-
 -- the numbers of sections are above another
 abbrev pub AllAbove : ℕ → List CellSection → Type 0
 AllAbove k [] = ⊤
 AllAbove k (z ∷ zs) = k < z.number × AllAbove k zs
 
-apart-append : (section : ℕ) (ss ts : List MacroStart) → Apart section ss → Apart section ts → Apart section (ss ++ ts)
-apart-append section [] ts a b = b
-apart-append section (s ∷ ss) ts a b = (a.0, apart-append section ss ts a.1 b)
-
-apart-units : (section other : ℕ) (us : List MacroUnit) → section < other → Apart section (unit_starts other us)
-apart-units section other [] lt = tt
-apart-units section other (u ∷ us) lt = (ne_eqb other section (λ same. absurd (omega (arith, lt, same))), apart-units section other us lt)
-
-apart-all : (section : ℕ) (zs : List CellSection) (rest : List (List MacroUnit)) → AllAbove section zs → Apart section (all_unit_starts zs rest)
-apart-all section [] rest above = tt
-apart-all section (z ∷ zs) [] above = tt
-apart-all section (z ∷ zs) (us ∷ rest) above =
-    apart-append section (unit_starts z.number us) (all_unit_starts zs rest) (apart-units section z.number us above.0) (apart-all section zs rest above.1)
-
 -- the numbers rise
 abbrev pub NumbersRise : List CellSection → Type 0
 NumbersRise [] = ⊤
 NumbersRise (z ∷ zs) = AllAbove z.number zs × NumbersRise zs
-
-pub first-named : (v : View) (zs : List CellSection) (ss : List SectionUnits) (n : ℕ) → HaveUnits v zs ss → NumbersRise zs
-    → is_there (started_unit 0 (all_unit_starts zs (units_of ss)) (first_macros zs) n) ≡ is_there (start_number 0 (first_places ss) n)
-first-named v [] [] n have rise = refl
-first-named v [] (s ∷ ss) n have rise = absurd have
-first-named v (z ∷ zs) [] n have rise = absurd have
-first-named v (z ∷ zs) (s ∷ ss) n have rise =
-    units-then 0 z.number n s.units (all_unit_starts zs (units_of ss)) (apart-all z.number zs (units_of ss) rise.0)
 
 -- places that rise, from a number on
 abbrev RisesFrom : ℕ → List ℕ → Type 0

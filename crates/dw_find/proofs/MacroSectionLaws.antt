@@ -1,9 +1,9 @@
--- The macro units of a view, section by section: where they start, and the fields of the offsets of their line tables.
-use Rattle.std.proofs.Common.{◌≡◌, ℕ, suc, ◌+◌, ◌<◌, ◌≤◌, List, [], ◌∷◌, ◌++◌, length, get_or, drop, Option, Some, None, refl, sym, ap, ◌∙◌, arith, append_assoc, append-nil}
+-- The macro units of a view, section by section: the fields of the offsets of their line tables.
+use Rattle.std.proofs.Common.{◌≡◌, ℕ, suc, ◌+◌, ◌<◌, ◌≤◌, List, [], ◌∷◌, ◌++◌, length, get_or, drop, Option, Some, None, sym, ap, ◌∙◌, arith, append_assoc, append-nil}
 use Rattle.std.proofs.Math.Seq.{drop-cons}
 use Rattle.std.proofs.lemmas.List.{drop_all}
 use Rattle.dw_base.specs.declared.macro_units.MacroUnit.{MacroUnit}
-use Rattle.dw_find.specs.MacroSections.{SectionUnits, first_places, line_field, line_fields, macros_of, macros_with, places_of}
+use Rattle.dw_find.specs.MacroSections.{SectionUnits, line_field, line_fields, macros_of, macros_with}
 use Rattle.dw_find.specs.UnitPaths.{UnitPaths}
 use Rattle.dw_find.specs.declared.fields.PathField.{PathField}
 
@@ -12,17 +12,6 @@ unit-front : (us : List MacroUnit) (u : MacroUnit) (i : ℕ) → i < length us �
 unit-front us u i lt is =
     let next : suc i ≡ i + 1 = omega arith in
     drop-cons us i u lt ∙ ap (λ (n : ℕ). get_or us i u ∷ drop n us) next ∙ ap (λ (y : MacroUnit). y ∷ drop (i + 1) us) (sym is)
-
-pub places-pushed : (us : List MacroUnit) (u : MacroUnit) (i : ℕ) (old new : List ℕ) → i < length us → u ≡ get_or us i u
-    → old ++ places_of (drop i us) ≡ places_of us → new ≡ old ++ u.start ∷ [] → new ++ places_of (drop (i + 1) us) ≡ places_of us
-places-pushed us u i old new lt is before more =
-    ap (λ (ns : List ℕ). ns ++ places_of (drop (i + 1) us)) more ∙ append_assoc old (u.start ∷ []) (places_of (drop (i + 1) us))
-    ∙ ap (λ (xs : List MacroUnit). old ++ places_of xs) (sym (unit-front us u i lt is)) ∙ before
-
-pub places-all : (us : List MacroUnit) (i : ℕ) (places : List ℕ) → length us ≤ i → places ++ places_of (drop i us) ≡ places_of us → places ≡ places_of us
-places-all us i places end is = sym (append-nil places) ∙ ap (λ (xs : List MacroUnit). places ++ places_of xs) (sym (drop_all i us end)) ∙ is
-
-pub ruleset places_rules = (places-pushed, places-all)
 
 -- and the field of its line table, where it has one
 fields-pushed : (us : List MacroUnit) (u : MacroUnit) (i : ℕ) (old new : List PathField) → i < length us → u ≡ get_or us i u
@@ -67,14 +56,3 @@ pub macros-all : (ss : List SectionUnits) (i : ℕ) (first paths : List UnitPath
 macros-all ss i first paths end is = sym (append-nil paths) ∙ ap (λ (xs : List SectionUnits). paths ++ macros_of xs) (sym (drop_all i ss end)) ∙ is
 
 pub ruleset push_rules = (macros-pushed, macros-all)
-
--- the first section
-pub first-none : (ss : List SectionUnits) → length ss ≡ 0 → [] ≡ first_places ss
-first-none [] e = refl
-first-none (s ∷ ss) e = absurd (omega (arith, e))
-
-pub first-some : (ss : List SectionUnits) (s : SectionUnits) (places : List ℕ) → 0 < length ss → s ≡ get_or ss 0 s → places ≡ places_of s.units → places ≡ first_places ss
-first-some [] s places lt is e = absurd (omega (arith, lt))
-first-some (x ∷ xs) s places lt is e = e ∙ ap (λ (y : SectionUnits). places_of y.units) is
-
-pub ruleset first_rules = (first-none, first-some)

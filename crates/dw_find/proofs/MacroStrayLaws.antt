@@ -5,7 +5,7 @@ use Rattle.std.proofs.Common.{Bool, true, false, ◌≡◌, ℕ, ◌+◌, ◌≤
 use Rattle.std.proofs.Math.Seq.{take-append_seam}
 use Rattle.std.proofs.lemmas.Bool.{leb-true}
 use Rattle.std.proofs.lemmas.List.{length-drop}
-use Rattle.dw_base.specs.Cells.{Cell, CellSection, bytes_of, located_cells, offset_of}
+use Rattle.dw_base.specs.Cells.{Cell, CellSection, bytes_of, located_cells, offset_of, Located}
 use Rattle.dw_base.specs.DebugData.{DataReadings, ReadsAll, around_of, line_table, macro_places, macro_unit, start_number, unit_named}
 use Rattle.dw_base.specs.FileViews.{View, field_at, section_bytes}
 use Rattle.dw_base.specs.Forms.{width_size}
@@ -22,7 +22,7 @@ use Rattle.dw_base.specs.Readings.{Readings}
 use Rattle.dw_base.specs.Refusals.{at}
 use Rattle.dw_base.specs.TableStarts.{HasMacroPiece, MacroStrayFails, no_line, no_import}
 use Rattle.dw_base.specs.ViewData.{debug_data, located}
-use Rattle.dw_base.specs.declared.debug_sections.DebugSection.TheVariants.{Line}
+use Rattle.dw_base.specs.declared.debug_sections.DebugSection.TheVariants.{Line, Macro}
 use Rattle.dw_base.specs.declared.fault.Kind.TheVariants.{Stray}
 use Rattle.dw_base.specs.declared.fault.Refusal.{Refusal}
 use Rattle.dw_base.specs.declared.line_tables.TextPlace.{TextPlace}
@@ -37,7 +37,7 @@ use Rattle.dw_base.specs.declared.shared.Width.{Width}
 use Rattle.dw_base.specs.declared.view_fields.Field.{Field}
 use Rattle.dw_base.proofs.ContributionBackLaws.{StandsAt, piece-stands, behind-piece, piece-inside}
 use Rattle.dw_base.proofs.UnitEditLaws.{length-bytes_of}
-use Rattle.dw_macros.specs.MacroEvents.{SpellsEvents, over, one_event, event_by, event_if, event_in, import_at, inline_place, named_place, text_event, unit_events}
+use Rattle.dw_macros.specs.MacroEvents.{SpellsEvents, over, one_event, event_by, event_if, event_in, import_at, inline_place, named_place, text_event, unit_events, import_of}
 use Rattle.dw_meaning.proofs.LineReadLaws.{if-some, some-same}
 use Rattle.dw_meaning.proofs.MacroBackLaws.{byte-at, header-lined, header-plain, spelled-at}
 use Rattle.dw_meaning.proofs.MacroPieceLaws.{CellsOf}
@@ -52,11 +52,15 @@ use Rattle.dw_find.specs.MacroNames.MacrosStray.{section as section_stray}
 use Rattle.dw_find.specs.MacroNames.UnitStrays.{line as unit_line, events as unit_strays}
 use Rattle.dw_find.specs.MacroNames.UnitsStray.{unit as unit_stray}
 use Rattle.dw_find.specs.MacroSections.{HaveUnits, SectionUnits, UnitsFoundIn}
-use Rattle.dw_macros.specs.MacroOffsets.{AreReadUnits, IsReadUnit, UnitsReadUpTo, more_unit, no_unit}
+use Rattle.dw_base.specs.MacroOffsets.{AreReadUnits, IsReadUnit, UnitsReadUpTo, more_unit, no_unit}
 use Rattle.dw_macros.proofs.CallerLaws.{read-unit}
 use Rattle.dw_find.proofs.MacroAskedLaws.{bring-room, event-ends, event-same, event_read, field-there, header-events, line-room, line-there, lined_header, none-event, plain_header}
 use Rattle.dw_find.proofs.MacroHaveLaws.{AllBelow, AllCells, numbers-below}
 use Rattle.dw_find.proofs.MacroStartLaws.{all-cells}
+use Rattle.dw_base.specs.declared.view_fields.Field.TheVariants.{Num, Into, Sym}
+use Rattle.dw_find.specs.UnitPlaces.{UnitPlaces, has_unit, names_place}
+use Rattle.dw_find.proofs.FoundLaws.{field-unit}
+use Rattle.dw_find.proofs.UnitPlaceLaws.{first-number}
 
 -- the pieces of a section from a state on
 record PiecesFrom (v : View) (section : ℕ) (cells : List Cell) (xs : List (Piece MacroState)) (s : MacroState) : Type 0 where
@@ -471,10 +475,10 @@ unit-among v section [] behind u h = h.0
 unit-among v section (x ∷ xs) behind u h = unit-among v section xs behind u h.1
 
 -- an import among the events
-record ImportIn (v : View) (section : ℕ) (cells : List Cell) (xs : List (Piece MacroState)) (width : Width) (n field : ℕ) : Type 0 where
+record ImportIn (v : View) (section : ℕ) (cells : List Cell) (xs : List (Piece MacroState)) (width : Width) (in_section n field : ℕ) : Type 0 where
   offset : OffsetIn cells xs (at_offset width of_unit) width field
   room : field + width_size width ≤ length (section_bytes v section)
-  number : n ≡ spelled v.order (section_bytes v section) field (width_size width)
+  says : import_of (located v Macro) field (field_at v section field (width_size width)) ≡ Import in_section n field
 
 abbrev imported : ℕ → ℕ → ℕ → MacroEvent
 imported section n field = Import section n field
@@ -496,19 +500,38 @@ named-not : (d : Bool) (l n m section number field : ℕ) (x : Option TextPlace)
 named-not d l n m section number field None h = none-event (Import section number field) m h
 named-not d l n m section number field (Some t) h = text-not d l n m section number field t h
 
-import-same : (a b n m f g : ℕ) → imported a n f ≡ imported b m g → (n ≡ m) × (f ≡ g)
-import-same a b n m f g e = (number, field)
+import-same : (a b n m f g : ℕ) → imported a n f ≡ imported b m g → (a ≡ b) × (n ≡ m) × (f ≡ g)
+import-same a b n m f g e = (section, number, field)
   where
+    section : a ≡ b
+    section = cc
+
     number : n ≡ m
     number = cc
 
     field : f ≡ g
     field = cc
 
+-- its field, and that it names no unit where none starts
+import-field : (z : Located) (at in_section n field : ℕ) (f : Field) → import_of z at f ≡ imported in_section n field → at ≡ field
+import-field z at in_section n field (Num m) e = (import-same z.number in_section m n at field e).2
+import-field z at in_section n field (Into s m) e = (import-same s in_section m n at field e).2
+import-field z at in_section n field (Sym s k a) e = (import-same z.number in_section (length z.bytes) n at field e).2
+
+import-none : (places : UnitPlaces) (z : Located) (field in_section n : ℕ) (f : Field) → places.first ≡ z.number → import_of z field f ≡ imported in_section n field
+    → has_unit places in_section n ≡ false → names_place places f ≡ false
+import-none places z field in_section n (Num m) first e none =
+    let same = import-same z.number in_section m n field field e in
+    ap (λ (k : ℕ). has_unit places k m) (first ∙ same.0) ∙ ap (has_unit places in_section) same.1 ∙ none
+import-none places z field in_section n (Into s m) first e none =
+    let same = import-same s in_section m n field field e in
+    ap (λ (k : ℕ). has_unit places k m) same.0 ∙ ap (has_unit places in_section) same.1 ∙ none
+import-none places z field in_section n (Sym s k a) first e none = refl
+
 import-by : (v : View) (section : ℕ) (cells : List Cell) (xs : List (Piece MacroState)) (width : Width) (place next in_section n field : ℕ) (o : MacroOperation) → CellsOf v section cells
     → PiecesFrom v section cells xs (macros_at place (at_operation width)) → operation_at (section_bytes v section) width place ≡ read_as o next
-    → event_by v section width o next ≡ event_read (imported in_section n field) next → ImportIn v section cells xs width n field
-unfolding event_by import_at field_at
+    → event_by v section width o next ≡ event_read (imported in_section n field) next → ImportIn v section cells xs width in_section n field
+unfolding event_by import_at
 import-by v section cells xs width place next in_section n field End c f is h = absurd (none-event (Import in_section n field) next h)
 import-by v section cells xs width place next in_section n field (Inline d l a k) c f is h =
     absurd (text-not d l next next in_section n field (inline_place section a k) h)
@@ -525,13 +548,13 @@ import-by v section cells xs width place next in_section n field Leave c f is h 
     clash : (s n f : ℕ) → EndFile ≡ Import s n f → ⊥
     clash s n f e = cc
 import-by v section cells xs width place next in_section n field (Bring a) c f is h =
-    let same = import-same _ in_section (spelled v.order (section_bytes v section) a (width_size width)) n a field
-    (event-same (import_at v section width a) (Import in_section n field) next next h).0 in
-    let here : operation_at (section_bytes v section) width place ≡ read_as (Bring field) next = is ∙ ap (λ (k : ℕ). read_as (Bring k) next) same.1 in
+    let brings = (event-same (import_at v section width a) (Import in_section n field) next next h).0 in
+    let own : a ≡ field = import-field (located v Macro) a in_section n field (field_at v section a (width_size width)) brings in
+    let here : operation_at (section_bytes v section) width place ≡ read_as (Bring field) next = is ∙ ap (λ (k : ℕ). read_as (Bring k) next) own in
     record {
       offset = bring-piece v section cells xs width place next field c f here;
       room = bring-room (section_bytes v section) width place next field here;
-      number = sym same.0 ∙ ap (λ (k : ℕ). spelled v.order (section_bytes v section) k (width_size width)) same.1;
+      says = subst (λ (k : ℕ). import_of (located v Macro) k (field_at v section k (width_size width)) ≡ imported in_section n field) own brings;
     }
 import-by v section cells xs width place next in_section n field Foreign c f is h = absurd (none-event (Import in_section n field) next h)
 
@@ -547,7 +570,7 @@ none-events (x ∷ xs) behind e h = cc
 
 import-in : (v : View) (section : ℕ) (cells : List Cell) (xs : List (Piece MacroState)) (width : Width) (place end : ℕ) (es before behind : List MacroEvent) (in_section n field : ℕ) → CellsOf v section cells
     → es ≡ before ++ imported in_section n field ∷ behind → PiecesFrom v section cells xs (macros_at place (at_operation width)) → SpellsEvents v section width place es end
-    → ImportIn v section cells xs width n field
+    → ImportIn v section cells xs width in_section n field
 import-in v section cells xs width place end es before behind in_section n field c split f (over p q is) =
     absurd (none-events before behind (Import in_section n field) split)
 import-in v section cells xs width place end es [] behind in_section n field c split f (one_event p next q e rest is s) =
@@ -622,24 +645,24 @@ line-row v us ls ms starts s width field n is r o room number none =
     (subst (λ (k : ℕ). MacroStrayFails (around_of (debug_data v) (starts_with us ls ms)) ms (at Stray k o.piece.state.place)) r.number row)
 
 -- and no unit where an import does
-import-row : (v : View) (us : Readings) (ls : List LineReading) (places : List ℕ) (s : SectionUnits) (width : Width) (field n : ℕ) → (units : UnitsStart (debug_data v) places)
-    → (r : SectionRead v units.readings s) → ImportIn v r.place.number r.place.contents r.reading.pieces width n field → start_number 0 places n ≡ None
+import-row : (v : View) (us : Readings) (ls : List LineReading) (places : UnitPlaces) (s : SectionUnits) (width : Width) (field in_section n : ℕ) → (units : UnitsStart (debug_data v) places)
+    → (r : SectionRead v units.readings s) → ImportIn v r.place.number r.place.contents r.reading.pieces width in_section n field → has_unit places in_section n ≡ false
     → MacroStrayFails (around_of (debug_data v) (starts_with us ls units.readings)) units.readings (at Stray r.place.number field)
-unfolding debug_data field_at
-import-row v us ls places s width field n units r i none =
+unfolding debug_data
+import-row v us ls places s width field in_section n units r i none =
     let p : HasMacroPiece units.readings r.reading i.offset.piece = piece-of v units.readings s (at_offset width of_unit) width field r i.offset in
     let says : is_there (macro_unit (around_of (debug_data v) (starts_with us ls units.readings)).lasting i.offset.piece.cells) ≡ false =
     ap (λ (x : List Cell). is_there (macro_unit (around_of (debug_data v) (starts_with us ls units.readings)).lasting x)) i.offset.cells_are
     ∙ ap (λ (x : Field). is_there (unit_named (macro_places (debug_data v) (starts_with us ls units.readings)) x)) (field-there v r.place.number r.place.contents width field r.cells i.room)
-    ∙ units.named (spelled v.order (section_bytes v r.place.number) field (width_size width))
-    ∙ ap (λ (k : ℕ). is_there (start_number 0 places k)) (sym i.number) ∙ ap is_there none in
+    ∙ field-unit places (macro_places (debug_data v) (starts_with us ls units.readings)) (field_at v r.place.number field (width_size width)) units.start
+    ∙ import-none places (located v Macro) field in_section n (field_at v r.place.number field (width_size width)) (first-number v places units) i.says none in
     let row : MacroStrayFails (around_of (debug_data v) (starts_with us ls units.readings)) units.readings (at Stray r.reading.number i.offset.piece.state.place) =
     no_import r.reading i.offset.piece width p (ap (λ (z : MacroState). z.mode) i.offset.state) says in
     subst (λ (k : ℕ). MacroStrayFails (around_of (debug_data v) (starts_with us ls units.readings)) units.readings (at Stray r.place.number k)) (ap (λ (z : MacroState). z.place) i.offset.state)
     (subst (λ (k : ℕ). MacroStrayFails (around_of (debug_data v) (starts_with us ls units.readings)) units.readings (at Stray k i.offset.piece.state.place)) r.number row)
 
 -- so debug data have the row
-line-fails : (v : View) (us : Readings) (starts places : List ℕ) (s : SectionUnits) (u : MacroUnit) (f : Refusal) → ReadsAll (debug_data v).base 0 (debug_data v).units us
+line-fails : (v : View) (us : Readings) (starts : List ℕ) (places : UnitPlaces) (s : SectionUnits) (u : MacroUnit) (f : Refusal) → ReadsAll (debug_data v).base 0 (debug_data v).units us
     → TablesStart (debug_data v) starts → (units : UnitsStart (debug_data v) places) → (r : SectionRead v units.readings s) → UnitAt v r.place.number u → LineStrays starts u f
     → StartsFail (debug_data v) f
 line-fails v us starts places s u f reads tables units r a (line_stray n some none) =
@@ -659,35 +682,35 @@ line-fails v us starts places s u f reads tables units r a (line_stray n some no
     (subst (λ (k : ℕ). MacroStrayFails (around_of (debug_data v) (starts_with us tables.tables units.readings)) units.readings (at Stray u.section k)) (sym field)
     (subst (λ (k : ℕ). MacroStrayFails (around_of (debug_data v) (starts_with us tables.tables units.readings)) units.readings (at Stray k a.is.header.line_field)) (sym own) row))
 
-import-fails : (v : View) (us : Readings) (starts places : List ℕ) (s : SectionUnits) (u : MacroUnit) (f : Refusal) → ReadsAll (debug_data v).base 0 (debug_data v).units us
+import-fails : (v : View) (us : Readings) (starts : List ℕ) (places : UnitPlaces) (s : SectionUnits) (u : MacroUnit) (f : Refusal) → ReadsAll (debug_data v).base 0 (debug_data v).units us
     → TablesStart (debug_data v) starts → (units : UnitsStart (debug_data v) places) → (r : SectionRead v units.readings s) → UnitAt v r.place.number u
     → EventStrays u.section places (unit_events v u) f → StartsFail (debug_data v) f
 import-fails v us starts places s u f reads tables units r a (event before behind e split (import in_section n field is none)) =
     let own : u.section ≡ r.place.number = ap (λ (x : MacroUnit). x.section) a.is.is in
     let first : PiecesFrom v r.place.number r.place.contents r.reading.pieces (macros_at a.start at_unit) =
     units-pieces v r.place.number r.place.contents r.reading.pieces a.start a.list r.cells r.there (all-pieces v r.place.number r.place.contents r.reading.pieces r.reads) a.before in
-    let i : ImportIn v r.place.number r.place.contents r.reading.pieces a.is.header.width n field =
+    let i : ImportIn v r.place.number r.place.contents r.reading.pieces a.is.header.width in_section n field =
     import-in v r.place.number r.place.contents r.reading.pieces a.is.header.width a.is.header.first u.end (unit_events v u) before behind in_section n field r.cells
     (split ∙ ap (λ (x : MacroEvent). before ++ x ∷ behind) is)
     (header-pieces v r.place.number r.place.contents r.reading.pieces a.start a.is.header r.cells first a.is.header_is).behind (own-events v r.place.number a.start u r.there a.is) in
     macro_stray (starts_with us tables.tables units.readings) (record { units = reads; lines = tables.are; macros = units.are })
     (subst (λ (k : ℕ). MacroStrayFails (around_of (debug_data v) (starts_with us tables.tables units.readings)) units.readings (at Stray k field)) (sym own)
-    (import-row v us tables.tables places s a.is.header.width field n units r i none))
+    (import-row v us tables.tables places s a.is.header.width field in_section n units r i none))
 
-unit-fails : (v : View) (us : Readings) (starts places : List ℕ) (s : SectionUnits) (u : MacroUnit) (f : Refusal) → ReadsAll (debug_data v).base 0 (debug_data v).units us
+unit-fails : (v : View) (us : Readings) (starts : List ℕ) (places : UnitPlaces) (s : SectionUnits) (u : MacroUnit) (f : Refusal) → ReadsAll (debug_data v).base 0 (debug_data v).units us
     → TablesStart (debug_data v) starts → (units : UnitsStart (debug_data v) places) → (r : SectionRead v units.readings s) → UnitAt v r.place.number u → UnitStrays v starts places u f
     → StartsFail (debug_data v) f
 unit-fails v us starts places s u f reads tables units r a (unit_line h) = line-fails v us starts places s u f reads tables units r a h
 unit-fails v us starts places s u f reads tables units r a (unit_strays h) = import-fails v us starts places s u f reads tables units r a h
 
-units-fail : (v : View) (us : Readings) (starts places : List ℕ) (s : SectionUnits) (f : Refusal) → ReadsAll (debug_data v).base 0 (debug_data v).units us
+units-fail : (v : View) (us : Readings) (starts : List ℕ) (places : UnitPlaces) (s : SectionUnits) (f : Refusal) → ReadsAll (debug_data v).base 0 (debug_data v).units us
     → TablesStart (debug_data v) starts → (units : UnitsStart (debug_data v) places) → SectionRead v units.readings s → UnitsStray v starts places s.units f
     → StartsFail (debug_data v) f
 units-fail v us starts places s f reads tables units r (unit_stray before behind u split h) =
     let all : UnitsAt v r.place.number s.units = units-at v r.place.number (length (section_bytes v r.place.number)) s.units r.units in
     unit-fails v us starts places s u f reads tables units r (unit-among v r.place.number before behind u (subst (UnitsAt v r.place.number) split all)) h
 
-pub macros-fail : (v : View) (us : Readings) (starts places : List ℕ) (ss : List SectionUnits) (f : Refusal) → ReadsAll (debug_data v).base 0 (debug_data v).units us
+pub macros-fail : (v : View) (us : Readings) (starts : List ℕ) (places : UnitPlaces) (ss : List SectionUnits) (f : Refusal) → ReadsAll (debug_data v).base 0 (debug_data v).units us
     → TablesStart (debug_data v) starts → UnitsStart (debug_data v) places → UnitsFoundIn v ss → MacrosStray v starts places ss f → StartsFail (debug_data v) f
 unfolding debug_data
 macros-fail v us starts places ss f reads tables units found (section_stray before behind s split h) =

@@ -1,5 +1,5 @@
--- String offsets of a view: their cells are plain, and they stand in their section.
-use Rattle.std.proofs.Common.{ℕ, List, length, Option, refl, sym, ap, ◌∙◌, subst}
+-- String offsets of a view stand in their section.
+use Rattle.std.proofs.Common.{ℕ, List, length, Option, refl, ap, ◌∙◌}
 use Rattle.dw_base.specs.Cells.{bytes_of}
 use Rattle.dw_base.specs.DebugSections.{name_of}
 use Rattle.dw_base.specs.FileViews.{View, section_named}
@@ -7,14 +7,11 @@ use Rattle.dw_base.specs.OffsetPieces.{OffsetState, ReadsOffsets, at_contributio
 use Rattle.dw_base.specs.Pieces.{Piece}
 use Rattle.dw_base.specs.ViewData.{cells_located, debug_data, located_at}
 use Rattle.dw_base.specs.declared.debug_sections.DebugSection.TheVariants.{StrOffsets}
-use Rattle.dw_base.proofs.PlainCellLaws.{IsPlain}
 use Rattle.dw_base.proofs.ViewCellLaws.{bytes-cells}
-use Rattle.dw_meaning.proofs.OffsetMoveLaws.{EachCells, cells-plain}
-use Rattle.dw_find.proofs.PlainFieldLaws.{located-plain}
-use Rattle.dw_find.proofs.SlotPlaceLaws.{SlotsPlaced, slots-placed}
+use Rattle.dw_find.proofs.SlotPlaceLaws.{SlotsIn, SlotsPlaced, slots-in, slots-placed}
 
-pub offsets-plain : (v : View) (o : Option ℕ) (xs : List (Piece OffsetState)) → ReadsOffsets v.order (cells_located v o).contents xs → EachCells xs
-offsets-plain v o xs r = cells-plain xs (subst IsPlain (sym r.cells) (located-plain v o))
+pub offsets-in : (v : View) (o : Option ℕ) (xs : List (Piece OffsetState)) → ReadsOffsets v.order (cells_located v o).contents xs → SlotsIn (cells_located v o).contents 0 xs
+offsets-in v o xs r = slots-in v.order (cells_located v o).contents (offsets_at (length (cells_located v o).contents) 0 0 at_contribution) 0 xs refl r.chain r.cells
 
 pub offsets-placed : (v : View) (o : Option ℕ) (xs : List (Piece OffsetState)) → ReadsOffsets v.order (cells_located v o).contents xs → SlotsPlaced (located_at v o).bytes 0 xs
 offsets-placed v o xs r =

@@ -1,23 +1,25 @@
 -- Each place of a text in a section has a value behind it: so the fields of paths are fields, paths that stand in their values
 -- have rooms, and one that would grow is a row of the debug data.
-use Rattle.std.proofs.Common.{Bool, true, false, ◌≡◌, ◌≢◌, ◌⊎◌, ℕ, zero, suc, ◌+◌, ◌-◌, ◌==◌, ◌≤◌, ◌<◌, List, [], ◌∷◌, ◌++◌, length, take, drop, get_or, Option, Some, None, refl, sym, ap, ◌∙◌, subst, arith, append_assoc}
+use Rattle.std.proofs.Common.{Bool, true, false, ◌≡◌, ◌≢◌, ◌⊎◌, ℕ, zero, suc, ◌+◌, ◌-◌, ◌==◌, ◌||◌, ◌≤◌, ◌<◌, List, [], ◌∷◌, ◌++◌, length, take, drop, get_or, Option, Some, None, refl, sym, ap, ◌∙◌, subst, arith, append_assoc}
 use Rattle.std.specs.Bool.{⊤}
 use Rattle.dw_base.specs.AbbreviationTables.{Abbreviation, abbreviation_of}
-use Rattle.dw_base.specs.Cells.{Cell, Located, bytes_of, cells_at, offset_of}
+use Rattle.dw_base.specs.Cells.{Cell, Located, bytes_of, cells_at}
 use Rattle.dw_meaning.specs.DataFails.{InlineFails, grows as grows_row}
+use Rattle.dw_meaning.specs.RelocationFails.{ValueRelocationFails}
+use Rattle.dw_meaning.specs.RelocationFails.ValueRelocationFails.{value as relocation_row}
 use Rattle.dw_base.specs.DebugData.{DebugData}
-use Rattle.dw_base.specs.EntryScans.{SpellsValues, no_values, more_values, scanned, Scans, starts, null, entry}
+use Rattle.dw_base.specs.EntryScans.{SpellsValues, no_values, more_values, scanned, Scans, starts, null, entry, AreEntries}
 use Rattle.dw_base.specs.EntryValues.{HasTable, HasValue, bytes_up_to}
 use Rattle.dw_base.specs.Forms.{TextSection, in_str, in_line_str}
 use Rattle.dw_base.specs.InlinePaths.{inline_fits}
 use Rattle.dw_base.specs.Lebs.{uleb_at}
-use Rattle.dw_base.specs.Numbers.{spelled}
 use Rattle.dw_base.specs.Paths.{PathMap}
 use Rattle.dw_base.specs.Refusals.{at as refusal_at}
-use Rattle.dw_base.specs.Roles.{Role, fixed, offset, inline_path, line_start, is_path}
+use Rattle.dw_base.specs.RelocationRows.{OffsetFails, field_place, is_start as field_start, names_start, offset_field}
+use Rattle.dw_base.specs.Roles.{Role, fixed, offset, inline_path, line_start, is_path, use_of}
 use Rattle.dw_base.specs.declared.dwarf_numbers.TheConstants.{DW_AT_stmt_list}
 use Rattle.dw_base.specs.TextIndexes.{is_base}
-use Rattle.dw_base.specs.Texts.{text_in, ends_in}
+use Rattle.dw_base.specs.Texts.{text_in}
 use Rattle.dw_base.specs.UnitHeaders.{UnitBase, UnitSection, UnitsUpTo, no_units, more_units}
 use Rattle.dw_base.specs.Values.{value_at}
 use Rattle.dw_base.specs.declared.fault.Kind.TheVariants.{InlineGrows}
@@ -29,22 +31,25 @@ use Rattle.dw_base.specs.declared.values.Spec.{Spec}
 use Rattle.dw_base.specs.declared.values.Value.{Value}
 use Rattle.dw_base.specs.declared.values.ValueClass.{ValueClass}
 use Rattle.dw_base.specs.declared.values.ValueClass.TheVariants.{InlineText, Number, StrOffset, LineStrOffset, StrIndex, SecOffset}
-use Rattle.dw_base.proofs.PlainCellLaws.{IsPlain, offset_of-plain}
 use Rattle.dw_meaning.proofs.ScanPieceLaws.{part-bytes, before-end, bytes_of-take, bytes_of-drop}
-use Rattle.std.proofs.lemmas.List.{length-take, length-take-le, length-drop}
+use Rattle.std.proofs.lemmas.List.{length-take}
 use Rattle.dw_base.proofs.UnitEditLaws.{length-bytes_of}
-use Rattle.dw_find.specs.Fields.{IsPathField, ArePathFields, IsStartField, AreStartFields}
+use Rattle.dw_find.specs.Fields.{AreOffsetFields, IsOffsetField, IsStartField, AreStartFields}
+use Rattle.dw_find.specs.EntryTexts.{value_field}
 use Rattle.dw_find.specs.InlineRooms.{AreRooms, grows, Grows, one}
-use Rattle.dw_find.specs.ViewFields.{offsets_of}
-use Rattle.dw_find.specs.TextPlaces.{TextPlace, no_index, no_start, unit_base, text_index, UnitSays, indexed_at, Indexed, is_macros, is_start, is_start_form, line_at, line_places, macros_in, own_form, said_places, said_value, start_at, starts_in, unit_start, unit_start_at, class_places, value_places, value_places_behind, values_places, entry_places, entries_places, UnitsPlaced, none_placed, more_placed, PlaceNames, PlacesName, fields_in, inline_at, inline_in}
+use Rattle.dw_find.specs.ViewFields.{texts_in}
+use Rattle.dw_find.specs.TextPlaces.{TextPlace, no_index, no_start, unit_base, base_offset, said_base, base_or, base_in, text_index, UnitSays, indexed_at, Indexed, is_macros, is_start, is_start_form, line_at, line_places, macros_in, own_form, said_places, said_value, start_at, starts_in, unit_start, unit_start_at, class_places, value_places, value_places_behind, values_places, entry_places, entries_places, UnitsPlaced, none_placed, more_placed, PlaceNames, PlacesName, fields_in, inline_at, inline_in}
 use Rattle.dw_find.specs.UnitPaths.{field_by, inline_text}
 use Rattle.dw_find.specs.declared.fields.InlinePath.{InlinePath}
 use Rattle.dw_find.specs.declared.fields.PathField.{PathField}
+use Rattle.dw_find.specs.declared.fields.TextBase.{TextBase}
+use Rattle.dw_find.specs.declared.fields.TextBase.TheVariants.{Field as BaseField, Number as BaseNumber}
 use Rattle.dw_find.proofs.EntryRunLaws.{entries_places-more}
-use Rattle.dw_find.proofs.PlainFieldLaws.{offset-number}
 use Rattle.dw_find.proofs.UnitTextLaws.{places-listed}
 use Rattle.dw_find.proofs.InlineTextLaws.{text-front}
 use Rattle.dw_find.proofs.ValueFactLaws.{OffsetRead, OffsetFacts, start-read, value-facts}
+use Rattle.dw_find.proofs.StartFormLaws.{line-use, macro-use, macros-line}
+use Rattle.dw_find.proofs.TextFieldLaws.{start-field}
 use Rattle.dw_find.proofs.ValueTextLaws.{TextRead, value-text}
 
 -- this holds of each of a list
@@ -67,9 +72,9 @@ each-of P Q (x ∷ xs) f all = (f x all.0, each-of P Q xs f all.1)
 
 -- a value says a place: by its class, as the start of a line table or a macro unit, or as one that can't say a start
 pub data SaysPlace (number tag : ℕ) (x : Spec) (bytes : List ℕ) (place : ℕ) (v : Value) (t : TextPlace) : Type 0 where
-  by_class : class_places v.class (is_path number tag x.name) (is_base number x.name) place v ≡ t ∷ [] → SaysPlace number tag x bytes place v t
-  by_start : is_start_form (own_form x bytes place) ≡ true → line_at true v ≡ t ∷ [] → SaysPlace number tag x bytes place v t
-  by_unit : is_start_form (own_form x bytes place) ≡ true → said_value true true 0 v ≡ t ∷ [] → SaysPlace number tag x bytes place v t
+  by_class : class_places v.class (is_path number tag x.name) (is_base number x.name) (is_start_form (own_form x bytes place)) place v ≡ t ∷ [] → SaysPlace number tag x bytes place v t
+  by_start : (x.name == DW_AT_stmt_list) ≡ true → is_start_form (own_form x bytes place) ≡ true → line_at true v ≡ t ∷ [] → SaysPlace number tag x bytes place v t
+  by_unit : is_macros x.name ≡ true → is_start_form (own_form x bytes place) ≡ true → said_value true true 0 v ≡ t ∷ [] → SaysPlace number tag x bytes place v t
   by_stray : indexed_at place no_start ≡ t ∷ [] → SaysPlace number tag x bytes place v t
 
 -- the value in a unit that says a place
@@ -82,52 +87,58 @@ pub record ValueBehind (h : UnitHeader) (table : List Abbreviation) (bytes : Lis
   pub stands : HasValue h table bytes number abbreviation spec place value
   pub is : SaysPlace number abbreviation.tag spec bytes place value t
 
-class-each : (P : TextPlace → Type 0) (c : ValueClass) (b base : Bool) (place : ℕ) (v : Value)
-    → ((t : TextPlace) → class_places c b base place v ≡ t ∷ [] → P t) → EachOf P (class_places c b base place v)
-class-each P StrOffset b base place v f = (f _ refl, tt)
-class-each P LineStrOffset b base place v f = (f _ refl, tt)
-class-each P InlineText true base place v f = (f _ refl, tt)
-class-each P InlineText false base place v f = tt
-class-each P StrIndex b base place v f = (f _ refl, tt)
-class-each P Number b true place v f = (f _ refl, tt)
-class-each P Number b false place v f = tt
-class-each P SecOffset b true place v f = (f _ refl, tt)
-class-each P SecOffset b false place v f = tt
-class-each P c b base place v f = tt
+base-each : (P : TextPlace → Type 0) (field : Bool) (place at len n : ℕ) → ((t : TextPlace) → said_base field place at len n ≡ t ∷ [] → P t)
+    → EachOf P (said_base field place at len n)
+base-each P true place at len n f = (f _ refl, tt)
+base-each P false place at len n f = (f _ refl, tt)
 
-line-each : (P : TextPlace → Type 0) (line : Bool) (form : ℕ) (v : Value) → ((t : TextPlace) → is_start_form form ≡ true → line_at true v ≡ t ∷ [] → P t)
-    → EachOf P (line_places line form v)
+class-each : (P : TextPlace → Type 0) (c : ValueClass) (b base field : Bool) (place : ℕ) (v : Value)
+    → ((t : TextPlace) → class_places c b base field place v ≡ t ∷ [] → P t) → EachOf P (class_places c b base field place v)
+class-each P StrOffset b base field place v f = (f _ refl, tt)
+class-each P LineStrOffset b base field place v f = (f _ refl, tt)
+class-each P InlineText true base field place v f = (f _ refl, tt)
+class-each P InlineText false base field place v f = tt
+class-each P StrIndex b base field place v f = (f _ refl, tt)
+class-each P Number b true field place v f = base-each P field place v.at v.len v.number f
+class-each P Number b false field place v f = tt
+class-each P SecOffset b true field place v f = base-each P field place v.at v.len v.number f
+class-each P SecOffset b false field place v f = tt
+class-each P c b base field place v f = tt
+
+line-each : (P : TextPlace → Type 0) (line : Bool) (form : ℕ) (v : Value)
+    → ((t : TextPlace) → line ≡ true → is_start_form form ≡ true → line_at true v ≡ t ∷ [] → P t) → EachOf P (line_places line form v)
 line-each P false form v f = tt
 line-each P true form v f = by_form (is_start_form form) refl
   where
     by_form : (b : Bool) → is_start_form form ≡ b → EachOf P (line_at b v)
-    by_form true is = (f _ is refl, tt)
+    by_form true is = (f _ refl is refl, tt)
     by_form false is = tt
 
-said-each : (P : TextPlace → Type 0) (start macro : Bool) (form at : ℕ) (v : Value) → ((t : TextPlace) → is_start_form form ≡ true → said_value true true 0 v ≡ t ∷ [] → P t)
-    → ((t : TextPlace) → indexed_at at no_start ≡ t ∷ [] → P t) → EachOf P (said_places start macro form at v)
+said-each : (P : TextPlace → Type 0) (start macro : Bool) (form at : ℕ) (v : Value)
+    → ((t : TextPlace) → macro ≡ true → is_start_form form ≡ true → said_value true true 0 v ≡ t ∷ [] → P t) → ((t : TextPlace) → indexed_at at no_start ≡ t ∷ [] → P t)
+    → EachOf P (said_places start macro form at v)
 said-each P false macro form at v u f = tt
-said-each P true macro form at v u f = by_form (is_start_form form) macro refl
+said-each P true macro form at v u f = by_form (is_start_form form) macro refl refl
   where
-    by_form : (b m : Bool) → is_start_form form ≡ b → EachOf P (said_value b m at v)
-    by_form true true is = (u _ is refl, tt)
-    by_form true false is = tt
-    by_form false m is = (f _ refl, tt)
+    by_form : (b m : Bool) → is_start_form form ≡ b → macro ≡ m → EachOf P (said_value b m at v)
+    by_form true true is m = (u _ m is refl, tt)
+    by_form true false is m = tt
+    by_form false m is m_is = (f _ refl, tt)
 
 value-each : (h : UnitHeader) (table : List Abbreviation) (bytes : List ℕ) (number : ℕ) (a : Abbreviation) (x : Spec) (place : ℕ) (v : Value)
     → HasValue h table bytes number a x place v → EachOf (ValueBehind h table bytes) (value_places number a.tag x bytes place v)
 value-each h table bytes number a x place v has =
     let line : Bool = x.name == DW_AT_stmt_list in
-    let texts : List TextPlace = class_places v.class (is_path number a.tag x.name) (is_base number x.name) place v in
+    let texts : List TextPlace = class_places v.class (is_path number a.tag x.name) (is_base number x.name) (is_start_form (own_form x bytes place)) place v in
     each-append (ValueBehind h table bytes) (line_places (x.name == DW_AT_stmt_list) (own_form x bytes place) v)
     (texts ++ said_places (is_start x.name) (is_macros x.name) (own_form x bytes place) place v)
     (line-each (ValueBehind h table bytes) (x.name == DW_AT_stmt_list) (own_form x bytes place) v
-    (λ (t : TextPlace) f e. record { number = number; abbreviation = a; spec = x; place = place; value = v; stands = has; is = by_start f e }))
+    (λ (t : TextPlace) n f e. record { number = number; abbreviation = a; spec = x; place = place; value = v; stands = has; is = by_start n f e }))
     (each-append (ValueBehind h table bytes) texts (said_places (is_start x.name) (is_macros x.name) (own_form x bytes place) place v)
-    (class-each (ValueBehind h table bytes) v.class (is_path number a.tag x.name) (is_base number x.name) place v
+    (class-each (ValueBehind h table bytes) v.class (is_path number a.tag x.name) (is_base number x.name) (is_start_form (own_form x bytes place)) place v
     (λ (t : TextPlace) e. record { number = number; abbreviation = a; spec = x; place = place; value = v; stands = has; is = by_class e }))
     (said-each (ValueBehind h table bytes) (is_start x.name) (is_macros x.name) (own_form x bytes place) place v
-    (λ (t : TextPlace) f e. record { number = number; abbreviation = a; spec = x; place = place; value = v; stands = has; is = by_unit f e })
+    (λ (t : TextPlace) n f e. record { number = number; abbreviation = a; spec = x; place = place; value = v; stands = has; is = by_unit n f e })
     (λ (t : TextPlace) e. record { number = number; abbreviation = a; spec = x; place = place; value = v; stands = has; is = by_stray e })))
 
 -- an entry whose values are met
@@ -233,11 +244,17 @@ pub record InlineOf (d : DebugData) (z : UnitSection) (p : InlinePath) : Type 0 
   pub at_is : p.at ≡ value.at
   pub len_is : p.len ≡ value.len
 
+-- and of one that says a start: a relocation that refuses its field is a row
+pub record StartFacts (d : DebugData) (z : UnitSection) (t : TextPlace) : Type 0 where
+  pub sized : (t.len ≡ 4) ⊎ (t.len ≡ 8)
+  pub inside : t.at + t.len ≤ length (bytes_of z.contents)
+  pub row : (r : Refusal) → OffsetFails d.base.order z.number z.contents (field_place t.at t.len offset_field) r → ValueRelocationFails d r
+
 abbrev pub RoleFacts : Role → DebugData → UnitSection → TextPlace → Type 0
 RoleFacts fixed d z t = ⊤
 RoleFacts (offset table path) d z t = FieldPlace (bytes_of z.contents) t
 RoleFacts inline_path d z t = InlineOf d z (record { at = t.at; len = t.len - 1 })
-RoleFacts line_start d z t = FieldPlace (bytes_of z.contents) t
+RoleFacts line_start d z t = StartFacts d z t
 
 once : (s t : TextPlace) → s ∷ [] ≡ t ∷ [] → s ≡ t
 once s t e = cc
@@ -252,16 +269,39 @@ field-place z h v t r at len = record {
 none-one : (t : TextPlace) → [] ≡ t ∷ [] → ⊥
 none-one t e = omega (arith, ap length e)
 
-class-facts : (c : ValueClass) (b base : Bool) (d : DebugData) (z : UnitSection) (h : UnitHeader) (table : List Abbreviation) (number : ℕ) (a : Abbreviation) (x : Spec) (place : ℕ) (v : Value) (t : TextPlace)
+-- a value that says a start, or a base
+names-field : (names base : Bool) → names ≡ true → (names || base) ≡ true
+names-field names base e = ap (λ (x : Bool). x || base) e
+
+base-field : (names base : Bool) → base ≡ true → (names || base) ≡ true
+base-field true base e = refl
+base-field false base e = e
+
+start-facts : (d : DebugData) (z : UnitSection) (h : UnitHeader) (table : List Abbreviation) (t : TextPlace) → HasTable d z h table → (b : ValueBehind h table (bytes_up_to z h) t)
+    → field_start b.number b.abbreviation.tag b.spec.name ≡ true → is_start_form (own_form b.spec (bytes_up_to z h) b.place) ≡ true → (s : TextPlace) → s.at ≡ b.value.at
+    → s.len ≡ b.value.len → StartFacts d z s
+start-facts d z h table t there b start form s at len =
+    let f : FieldPlace (bytes_of z.contents) s = field-place z h b.value s (start-read h.params b.spec (bytes_up_to z h) b.place b.value b.stands.is form) at len in
+    record {
+      sized = f.sized;
+      inside = f.inside;
+      row = λ (r : Refusal) (fails : OffsetFails d.base.order z.number z.contents (field_place s.at s.len offset_field) r).
+          relocation_row z h table b.number b.abbreviation b.spec b.place b.value (value_field b.value) there b.stands
+          (start-field h.params b.spec (bytes_up_to z h) b.place b.value (field_start b.number b.abbreviation.tag b.spec.name) b.stands.is form start) refl
+          (subst (λ (n : ℕ). OffsetFails d.base.order z.number z.contents (field_place b.value.at n offset_field) r) len
+          (subst (λ (n : ℕ). OffsetFails d.base.order z.number z.contents (field_place n s.len offset_field) r) at fails));
+    }
+
+class-facts : (c : ValueClass) (b base field : Bool) (d : DebugData) (z : UnitSection) (h : UnitHeader) (table : List Abbreviation) (number : ℕ) (a : Abbreviation) (x : Spec) (place : ℕ) (v : Value) (t : TextPlace)
     → HasTable d z h table → HasValue h table (bytes_up_to z h) number a x place v → v.class ≡ c → is_path number a.tag x.name ≡ b
-    → OffsetFacts c h.params (bytes_up_to z h) v → class_places c b base place v ≡ t ∷ [] → RoleFacts t.role d z t
-class-facts StrOffset b base d z h table number a x place v t there has class path facts e =
+    → OffsetFacts c h.params (bytes_up_to z h) v → class_places c b base field place v ≡ t ∷ [] → RoleFacts t.role d z t
+class-facts StrOffset b base field d z h table number a x place v t there has class path facts e =
     let same : record { role = offset in_str b; at = v.at; len = v.len; says = no_index } ≡ t = once _ t e in
     subst (λ (s : TextPlace). RoleFacts s.role d z s) same (field-place z h v _ facts refl refl)
-class-facts LineStrOffset b base d z h table number a x place v t there has class path facts e =
+class-facts LineStrOffset b base field d z h table number a x place v t there has class path facts e =
     let same : record { role = offset in_line_str b; at = v.at; len = v.len; says = no_index } ≡ t = once _ t e in
     subst (λ (s : TextPlace). RoleFacts s.role d z s) same (field-place z h v _ facts refl refl)
-class-facts InlineText true base d z h table number a x place v t there has class path facts e =
+class-facts InlineText true base field d z h table number a x place v t there has class path facts e =
     let same : record { role = inline_path; at = v.at; len = v.len + 1; says = no_index } ≡ t = once _ t e in
     subst (λ (s : TextPlace). RoleFacts s.role d z s) same (record {
       header = h;
@@ -278,16 +318,20 @@ class-facts InlineText true base d z h table number a x place v t there has clas
       at_is = refl;
       len_is = omega arith;
     })
-class-facts InlineText false base d z h table number a x place v t there has class path facts e = absurd (none-one t e)
-class-facts StrIndex b base d z h table number a x place v t there has class path facts e =
+class-facts InlineText false base field d z h table number a x place v t there has class path facts e = absurd (none-one t e)
+class-facts StrIndex b base field d z h table number a x place v t there has class path facts e =
     subst (λ (s : TextPlace). RoleFacts s.role d z s) (once (record { role = fixed; at = place; len = 0; says = text_index b v.number }) t e) tt
-class-facts Number b true d z h table number a x place v t there has class path facts e =
+class-facts Number b true true d z h table number a x place v t there has class path facts e =
+    subst (λ (s : TextPlace). RoleFacts s.role d z s) (once (record { role = fixed; at = v.at; len = v.len; says = base_offset }) t e) tt
+class-facts Number b true false d z h table number a x place v t there has class path facts e =
     subst (λ (s : TextPlace). RoleFacts s.role d z s) (once (record { role = fixed; at = place; len = 0; says = unit_base v.number }) t e) tt
-class-facts Number b false d z h table number a x place v t there has class path facts e = absurd (none-one t e)
-class-facts SecOffset b true d z h table number a x place v t there has class path facts e =
+class-facts Number b false field d z h table number a x place v t there has class path facts e = absurd (none-one t e)
+class-facts SecOffset b true true d z h table number a x place v t there has class path facts e =
+    subst (λ (s : TextPlace). RoleFacts s.role d z s) (once (record { role = fixed; at = v.at; len = v.len; says = base_offset }) t e) tt
+class-facts SecOffset b true false d z h table number a x place v t there has class path facts e =
     subst (λ (s : TextPlace). RoleFacts s.role d z s) (once (record { role = fixed; at = place; len = 0; says = unit_base v.number }) t e) tt
-class-facts SecOffset b false d z h table number a x place v t there has class path facts e = absurd (none-one t e)
-class-facts c b base d z h table number a x place v t there has class path facts e = absurd (none-one t e)
+class-facts SecOffset b false field d z h table number a x place v t there has class path facts e = absurd (none-one t e)
+class-facts c b base field d z h table number a x place v t there has class path facts e = absurd (none-one t e)
 
 pub place-facts : (d : DebugData) (z : UnitSection) (t : TextPlace) → PlaceOf d z t → RoleFacts t.role d z t
 place-facts d z t p =
@@ -297,83 +341,102 @@ place-facts d z t p =
     by_place : SaysPlace p.behind.number p.behind.abbreviation.tag p.behind.spec (bytes_up_to z p.header) p.behind.place p.behind.value t → RoleFacts t.role d z t
     by_place (by_class e) =
         let b = p.behind in
-        class-facts b.value.class (is_path b.number b.abbreviation.tag b.spec.name) (is_base b.number b.spec.name) d z p.header p.table b.number b.abbreviation b.spec b.place b.value t p.there b.stands refl refl
+        class-facts b.value.class (is_path b.number b.abbreviation.tag b.spec.name) (is_base b.number b.spec.name)
+        (is_start_form (own_form b.spec (bytes_up_to z p.header) b.place)) d z p.header p.table b.number b.abbreviation b.spec b.place b.value t p.there b.stands refl refl
         (value-facts p.header.params b.spec (bytes_up_to z p.header) b.place b.value b.stands.is).offset e
-    by_place (by_start f e) =
+    by_place (by_start n f e) =
         let b = p.behind in
         let same : record { role = line_start; at = b.value.at; len = b.value.len; says = no_index } ≡ t = once _ t e in
         subst (λ (s : TextPlace). RoleFacts s.role d z s) same
-        (field-place z p.header b.value _ (start-read p.header.params b.spec (bytes_up_to z p.header) b.place b.value b.stands.is f) refl refl)
-    by_place (by_unit f e) =
+        (start-facts d z p.header p.table t p.there p.behind
+        (names-field (names_start (use_of b.number b.abbreviation.tag b.spec.name)) (is_base b.number b.spec.name) (ap names_start (line-use b.number b.abbreviation.tag b.spec.name n))) f _ refl refl)
+    by_place (by_unit n f e) =
         let b = p.behind in
         subst (λ (s : TextPlace). RoleFacts s.role d z s) (once (record { role = fixed; at = b.value.at; len = b.value.len; says = unit_start }) t e) tt
     by_place (by_stray e) =
         let b = p.behind in
         subst (λ (s : TextPlace). RoleFacts s.role d z s) (once (record { role = fixed; at = b.place; len = 0; says = no_start }) t e) tt
 
--- what is known of a place that says where a macro unit starts
-abbrev pub SaidFacts : Indexed → UnitSection → TextPlace → Type 0
-SaidFacts unit_start z t = FieldPlace (bytes_of z.contents) t
-SaidFacts i z t = ⊤
+-- what is known of a place that says where a macro unit starts, or a unit's base as an offset
+abbrev pub SaidFacts : Indexed → DebugData → UnitSection → TextPlace → Type 0
+SaidFacts unit_start d z t = StartFacts d z t
+SaidFacts base_offset d z t = StartFacts d z t
+SaidFacts i d z t = ⊤
 
-class-said : (c : ValueClass) (b base : Bool) (place : ℕ) (v : Value) (z : UnitSection) (t : TextPlace) → class_places c b base place v ≡ t ∷ [] → SaidFacts t.says z t
-class-said StrOffset b base place v z t e =
-    subst (λ (s : TextPlace). SaidFacts s.says z s) (once (record { role = offset in_str b; at = v.at; len = v.len; says = no_index }) t e) tt
-class-said LineStrOffset b base place v z t e =
-    subst (λ (s : TextPlace). SaidFacts s.says z s) (once (record { role = offset in_line_str b; at = v.at; len = v.len; says = no_index }) t e) tt
-class-said InlineText true base place v z t e =
-    subst (λ (s : TextPlace). SaidFacts s.says z s) (once (record { role = inline_path; at = v.at; len = v.len + 1; says = no_index }) t e) tt
-class-said InlineText false base place v z t e = absurd (none-one t e)
-class-said StrIndex b base place v z t e =
-    subst (λ (s : TextPlace). SaidFacts s.says z s) (once (record { role = fixed; at = place; len = 0; says = text_index b v.number }) t e) tt
-class-said Number b true place v z t e =
-    subst (λ (s : TextPlace). SaidFacts s.says z s) (once (record { role = fixed; at = place; len = 0; says = unit_base v.number }) t e) tt
-class-said Number b false place v z t e = absurd (none-one t e)
-class-said SecOffset b true place v z t e =
-    subst (λ (s : TextPlace). SaidFacts s.says z s) (once (record { role = fixed; at = place; len = 0; says = unit_base v.number }) t e) tt
-class-said SecOffset b false place v z t e = absurd (none-one t e)
-class-said c b base place v z t e = absurd (none-one t e)
+class-said : (c : ValueClass) (b base field : Bool) (place : ℕ) (v : Value) (d : DebugData) (z : UnitSection) (t : TextPlace) → class_places c b base field place v ≡ t ∷ []
+    → (base ≡ true → field ≡ true → StartFacts d z (record { role = fixed; at = v.at; len = v.len; says = base_offset }))
+    → SaidFacts t.says d z t
+class-said StrOffset b base field place v d z t e start =
+    subst (λ (s : TextPlace). SaidFacts s.says d z s) (once (record { role = offset in_str b; at = v.at; len = v.len; says = no_index }) t e) tt
+class-said LineStrOffset b base field place v d z t e start =
+    subst (λ (s : TextPlace). SaidFacts s.says d z s) (once (record { role = offset in_line_str b; at = v.at; len = v.len; says = no_index }) t e) tt
+class-said InlineText true base field place v d z t e start =
+    subst (λ (s : TextPlace). SaidFacts s.says d z s) (once (record { role = inline_path; at = v.at; len = v.len + 1; says = no_index }) t e) tt
+class-said InlineText false base field place v d z t e start = absurd (none-one t e)
+class-said StrIndex b base field place v d z t e start =
+    subst (λ (s : TextPlace). SaidFacts s.says d z s) (once (record { role = fixed; at = place; len = 0; says = text_index b v.number }) t e) tt
+class-said Number b true true place v d z t e start =
+    subst (λ (s : TextPlace). SaidFacts s.says d z s) (once (record { role = fixed; at = v.at; len = v.len; says = base_offset }) t e) (start refl refl)
+class-said Number b true false place v d z t e start =
+    subst (λ (s : TextPlace). SaidFacts s.says d z s) (once (record { role = fixed; at = place; len = 0; says = unit_base v.number }) t e) tt
+class-said Number b false field place v d z t e start = absurd (none-one t e)
+class-said SecOffset b true true place v d z t e start =
+    subst (λ (s : TextPlace). SaidFacts s.says d z s) (once (record { role = fixed; at = v.at; len = v.len; says = base_offset }) t e) (start refl refl)
+class-said SecOffset b true false place v d z t e start =
+    subst (λ (s : TextPlace). SaidFacts s.says d z s) (once (record { role = fixed; at = place; len = 0; says = unit_base v.number }) t e) tt
+class-said SecOffset b false field place v d z t e start = absurd (none-one t e)
+class-said c b base field place v d z t e start = absurd (none-one t e)
 
-pub said-facts : (d : DebugData) (z : UnitSection) (t : TextPlace) → PlaceOf d z t → SaidFacts t.says z t
+pub said-facts : (d : DebugData) (z : UnitSection) (t : TextPlace) → PlaceOf d z t → SaidFacts t.says d z t
 said-facts d z t p = by_place p.behind.is
   where
-    by_place : SaysPlace p.behind.number p.behind.abbreviation.tag p.behind.spec (bytes_up_to z p.header) p.behind.place p.behind.value t → SaidFacts t.says z t
+    by_place : SaysPlace p.behind.number p.behind.abbreviation.tag p.behind.spec (bytes_up_to z p.header) p.behind.place p.behind.value t → SaidFacts t.says d z t
     by_place (by_class e) =
         let b = p.behind in
-        class-said b.value.class (is_path b.number b.abbreviation.tag b.spec.name) (is_base b.number b.spec.name) b.place b.value z t e
-    by_place (by_start f e) =
+        class-said b.value.class (is_path b.number b.abbreviation.tag b.spec.name) (is_base b.number b.spec.name)
+        (is_start_form (own_form b.spec (bytes_up_to z p.header) b.place)) b.place b.value d z t e
+        (λ base form. start-facts d z p.header p.table t p.there p.behind
+        (base-field (names_start (use_of b.number b.abbreviation.tag b.spec.name)) (is_base b.number b.spec.name) base) form _ refl refl)
+    by_place (by_start n f e) =
         let b = p.behind in
-        subst (λ (s : TextPlace). SaidFacts s.says z s) (once (record { role = line_start; at = b.value.at; len = b.value.len; says = no_index }) t e) tt
-    by_place (by_unit f e) =
+        subst (λ (s : TextPlace). SaidFacts s.says d z s) (once (record { role = line_start; at = b.value.at; len = b.value.len; says = no_index }) t e) tt
+    by_place (by_unit n f e) =
         let b = p.behind in
-        subst (λ (s : TextPlace). SaidFacts s.says z s) (once (record { role = fixed; at = b.value.at; len = b.value.len; says = unit_start }) t e)
-        (field-place z p.header b.value _ (start-read p.header.params b.spec (bytes_up_to z p.header) b.place b.value b.stands.is f) refl refl)
+        subst (λ (s : TextPlace). SaidFacts s.says d z s) (once (record { role = fixed; at = b.value.at; len = b.value.len; says = unit_start }) t e)
+        (start-facts d z p.header p.table t p.there p.behind
+        (names-field (names_start (use_of b.number b.abbreviation.tag b.spec.name)) (is_base b.number b.spec.name)
+        (ap names_start (macro-use b.number b.abbreviation.tag b.spec.name (macros-line b.spec.name n) n))) f _ refl refl)
     by_place (by_stray e) =
         let b = p.behind in
-        subst (λ (s : TextPlace). SaidFacts s.says z s) (once (record { role = fixed; at = b.place; len = 0; says = no_start }) t e) tt
+        subst (λ (s : TextPlace). SaidFacts s.says d z s) (once (record { role = fixed; at = b.place; len = 0; says = no_start }) t e) tt
 
-field-each : (table : TextSection) (r : Role) (d : DebugData) (z : UnitSection) (t : TextPlace) → IsPlain z.contents → RoleFacts r d z t
-    → PlaceNames r d (cells_at z.contents t.at t.len) → EachOf (IsPathField (offsets_of d table) (bytes_of z.contents)) (field_by table r t.at t.len)
-field-each in_str (offset in_str true) d z t plain f names =
-    (record { sized = f.sized; inside = f.inside; ends = ap (ends_in d.str.bytes) (sym (offset-number d.base.order d.str z.contents t.at t.len plain f.inside)) ∙ names }, tt)
-field-each in_line_str (offset in_line_str true) d z t plain f names =
-    (record { sized = f.sized; inside = f.inside; ends = ap (ends_in d.line_str.bytes) (sym (offset-number d.base.order d.line_str z.contents t.at t.len plain f.inside)) ∙ names }, tt)
-field-each table r d z t plain f names = tt
+cells-room : (z : UnitSection) (t : TextPlace) → FieldPlace (bytes_of z.contents) t → t.at + t.len ≤ length z.contents
+cells-room z t f =
+    let inside = f.inside in
+    omega (arith, inside, length-bytes_of z.contents)
 
-fields-each : (table : TextSection) (d : DebugData) (z : UnitSection) (ts : List TextPlace) → IsPlain z.contents → EachOf (PlaceOf d z) ts → PlacesName d z.contents ts
-    → EachOf (IsPathField (offsets_of d table) (bytes_of z.contents)) (fields_in table ts)
-fields-each table d z [] plain each names = tt
-fields-each table d z (t ∷ ts) plain each names =
-    each-append (IsPathField (offsets_of d table) (bytes_of z.contents)) (field_by table t.role t.at t.len) (fields_in table ts)
-    (field-each table t.role d z t plain (place-facts d z t each.0) names.0) (fields-each table d z ts plain each.1 names.1)
+field-each : (table : TextSection) (r : Role) (d : DebugData) (z : UnitSection) (t : TextPlace) → RoleFacts r d z t → PlaceNames r d (cells_at z.contents t.at t.len)
+    → EachOf (IsOffsetField d.base.order (texts_in d table) z.contents) (field_by table r t.at t.len)
+field-each in_str (offset in_str true) d z t f names = (record { sized = f.sized; inside = cells-room z t f; ends = names }, tt)
+field-each in_line_str (offset in_line_str true) d z t f names = (record { sized = f.sized; inside = cells-room z t f; ends = names }, tt)
+field-each table r d z t f names = tt
+
+fields-each : (table : TextSection) (d : DebugData) (z : UnitSection) (ts : List TextPlace) → EachOf (PlaceOf d z) ts → PlacesName d z.contents ts
+    → EachOf (IsOffsetField d.base.order (texts_in d table) z.contents) (fields_in table ts)
+fields-each table d z [] each names = tt
+fields-each table d z (t ∷ ts) each names =
+    each-append (IsOffsetField d.base.order (texts_in d table) z.contents) (field_by table t.role t.at t.len) (fields_in table ts)
+    (field-each table t.role d z t (place-facts d z t each.0) names.0) (fields-each table d z ts each.1 names.1)
 
 -- the fields of paths among places are fields
-pub path-fields : (table : TextSection) (d : DebugData) (z : UnitSection) (ts : List TextPlace) → IsPlain z.contents → EachOf (PlaceOf d z) ts → PlacesName d z.contents ts
-    → ArePathFields (offsets_of d table) (bytes_of z.contents) (fields_in table ts)
-path-fields table d z ts plain each names = record {
-  each = λ (k : ℕ) (x : PathField) (lt : k < length (fields_in table ts)).
-      each-get (IsPathField (offsets_of d table) (bytes_of z.contents)) (fields_in table ts) k x lt (fields-each table d z ts plain each names);
+pub offset-fields : (order : Order) (table : Located) (cells : List Cell) (fs : List PathField) → EachOf (IsOffsetField order table cells) fs → AreOffsetFields order table cells fs
+offset-fields order table cells fs each = record {
+  each = λ (k : ℕ) (x : PathField) (lt : k < length fs). each-get (IsOffsetField order table cells) fs k x lt each;
 }
+
+pub path-fields : (table : TextSection) (d : DebugData) (z : UnitSection) (ts : List TextPlace) → EachOf (PlaceOf d z) ts → PlacesName d z.contents ts
+    → AreOffsetFields d.base.order (texts_in d table) z.contents (fields_in table ts)
+path-fields table d z ts each names = offset-fields d.base.order (texts_in d table) z.contents (fields_in table ts) (fields-each table d z ts each names)
 
 -- the fields that say where line tables start are fields
 start-each : (r : Role) (d : DebugData) (z : UnitSection) (t : TextPlace) → RoleFacts r d z t → EachOf (IsStartField (bytes_of z.contents)) (start_at r t.at t.len)
@@ -394,23 +457,92 @@ start-fields d z ts each = record {
 }
 
 -- and so are those that say where macro units start
-unit-each : (i : Indexed) (z : UnitSection) (t : TextPlace) → SaidFacts i z t → EachOf (IsStartField (bytes_of z.contents)) (unit_start_at t.at t.len i)
-unit-each unit_start z t f = (record { sized = f.sized; inside = f.inside }, tt)
-unit-each no_index z t f = tt
-unit-each (unit_base n) z t f = tt
-unit-each (text_index path n) z t f = tt
-unit-each no_start z t f = tt
+unit-each : (i : Indexed) (d : DebugData) (z : UnitSection) (t : TextPlace) → SaidFacts i d z t → EachOf (IsStartField (bytes_of z.contents)) (unit_start_at t.at t.len i)
+unit-each unit_start d z t f = (record { sized = f.sized; inside = f.inside }, tt)
+unit-each no_index d z t f = tt
+unit-each (unit_base n) d z t f = tt
+unit-each base_offset d z t f = tt
+unit-each (text_index path n) d z t f = tt
+unit-each no_start d z t f = tt
 
 units-each : (d : DebugData) (z : UnitSection) (ts : List TextPlace) → EachOf (PlaceOf d z) ts → EachOf (IsStartField (bytes_of z.contents)) (macros_in ts)
 units-each d z [] each = tt
 units-each d z (t ∷ ts) each =
-    each-append (IsStartField (bytes_of z.contents)) (unit_start_at t.at t.len t.says) (macros_in ts) (unit-each t.says z t (said-facts d z t each.0)) (units-each d z ts each.1)
+    each-append (IsStartField (bytes_of z.contents)) (unit_start_at t.at t.len t.says) (macros_in ts) (unit-each t.says d z t (said-facts d z t each.0)) (units-each d z ts each.1)
 
 pub unit-fields : (d : DebugData) (z : UnitSection) (ts : List TextPlace) → EachOf (PlaceOf d z) ts → AreStartFields (bytes_of z.contents) (macros_in ts)
 unit-fields d z ts each = record {
   each = λ (k : ℕ) (x : PathField) (lt : k < length (macros_in ts)).
       each-get (IsStartField (bytes_of z.contents)) (macros_in ts) k x lt (units-each d z ts each);
 }
+
+-- so is a relocation that refuses one of them
+pub record RowField (d : DebugData) (z : UnitSection) (f : PathField) : Type 0 where
+  pub row : (r : Refusal) → OffsetFails d.base.order z.number z.contents (field_place f.at f.size offset_field) r → ValueRelocationFails d r
+
+row-start : (r : Role) (d : DebugData) (z : UnitSection) (t : TextPlace) → RoleFacts r d z t → EachOf (RowField d z) (start_at r t.at t.len)
+row-start fixed d z t f = tt
+row-start (offset table path) d z t f = tt
+row-start inline_path d z t f = tt
+row-start line_start d z t f = (record { row = f.row }, tt)
+
+pub starts-rows : (d : DebugData) (z : UnitSection) (ts : List TextPlace) → EachOf (PlaceOf d z) ts → EachOf (RowField d z) (starts_in ts)
+starts-rows d z [] each = tt
+starts-rows d z (t ∷ ts) each =
+    each-append (RowField d z) (start_at t.role t.at t.len) (starts_in ts) (row-start t.role d z t (place-facts d z t each.0)) (starts-rows d z ts each.1)
+
+row-unit : (i : Indexed) (d : DebugData) (z : UnitSection) (t : TextPlace) → SaidFacts i d z t → EachOf (RowField d z) (unit_start_at t.at t.len i)
+row-unit unit_start d z t f = (record { row = f.row }, tt)
+row-unit no_index d z t f = tt
+row-unit (unit_base n) d z t f = tt
+row-unit base_offset d z t f = tt
+row-unit (text_index path n) d z t f = tt
+row-unit no_start d z t f = tt
+
+pub units-rows : (d : DebugData) (z : UnitSection) (ts : List TextPlace) → EachOf (PlaceOf d z) ts → EachOf (RowField d z) (macros_in ts)
+units-rows d z [] each = tt
+units-rows d z (t ∷ ts) each =
+    each-append (RowField d z) (unit_start_at t.at t.len t.says) (macros_in ts) (row-unit t.says d z t (said-facts d z t each.0)) (units-rows d z ts each.1)
+
+-- and a base that is an offset
+abbrev pub base_place : PathField → TextPlace
+base_place f = record { role = fixed; at = f.at; len = f.size; says = base_offset }
+
+base-facts : (f : PathField) (d : DebugData) (z : UnitSection) (ts : List TextPlace) → EachOf (PlaceOf d z) ts → base_in ts ≡ Some (BaseField f)
+    → StartFacts d z (base_place f)
+base-facts f d z [] each is = absurd (none-some (BaseField f) is)
+  where
+    none-some : (b : TextBase) → None ≡ Some b → ⊥
+    none-some b e = cc
+base-facts f d z (t ∷ ts) each is = by_says t.says (said-facts d z t each.0) (base-facts f d z ts each.1) is
+  where
+    same : (g : PathField) → Some (BaseField g) ≡ Some (BaseField f) → g ≡ f
+    same g e = cc
+
+    number : (n : ℕ) → Some (BaseNumber n) ≡ Some (BaseField f) → ⊥
+    number n e = cc
+
+    by_says : (i : Indexed) → SaidFacts i d z t
+        → (base_in ts ≡ Some (BaseField f) → StartFacts d z (base_place f))
+        → base_or t.at t.len i (base_in ts) ≡ Some (BaseField f) → StartFacts d z (base_place f)
+    by_says no_index facts rest e = rest e
+    by_says no_start facts rest e = rest e
+    by_says unit_start facts rest e = rest e
+    by_says (text_index path n) facts rest e = rest e
+    by_says (unit_base n) facts rest e = absurd (number n e)
+    by_says base_offset facts rest e =
+        subst (λ (g : PathField). StartFacts d z (base_place g)) (same (record { at = t.at; size = t.len }) e)
+        (record { sized = facts.sized; inside = facts.inside; row = facts.row })
+
+-- of a unit
+pub unit-base : (d : DebugData) (z : UnitSection) (h : UnitHeader) (table : List Abbreviation) (items : List Scanned) (f : PathField) → HasTable d z h table
+    → AreEntries h table (bytes_up_to z h) items → base_in (entries_places h.params table (bytes_up_to z h) 0 items) ≡ Some (BaseField f)
+    → StartFacts d z (base_place f)
+unit-base d z h table items f there e is =
+    base-facts f d z (entries_places h.params table (bytes_up_to z h) 0 items)
+    (each-of (ValueBehind h table (bytes_up_to z h)) (PlaceOf d z) (entries_places h.params table (bytes_up_to z h) 0 items)
+    (λ (x : TextPlace) b. record { header = h; table = table; there = there; behind = b })
+    (entries-each h table (bytes_up_to z h) items h.end 0 e)) is
 
 -- the paths that stand in their values
 inline-each : (r : Role) (d : DebugData) (z : UnitSection) (t : TextPlace) → RoleFacts r d z t → EachOf (InlineOf d z) (inline_at r t.at t.len)

@@ -23,7 +23,7 @@ use Rattle.dw_base.proofs.ClassLaws.{class_of_kind, value-class}
 use Rattle.dw_base.proofs.FormLaws.{value_by-own}
 use Rattle.dw_find.specs.EntryTexts.{Tables, AreTaken, OffsetNames, TakenBehind, ValuesRefuse, fails, value}
 use Rattle.dw_find.specs.QuietValues.{AllQuiet, AreCounts, AreLooked, IsCount, SaysNothing, none_left, quiet_left, is_quiet, is_text_form}
-use Rattle.dw_find.specs.TextPlaces.{TextPlace, class_places, is_macros, is_start, line_places, own_form, said_places, value_places, value_places_behind, values_places}
+use Rattle.dw_find.specs.TextPlaces.{TextPlace, class_places, is_macros, is_start, line_places, own_form, said_places, value_places, value_places_behind, values_places, is_start_form}
 
 -- the class of a text, or of what names one
 abbrev is_text_class : ValueClass → Bool
@@ -106,22 +106,22 @@ value-quiet params x bytes place v plain is =
     (sym (value_by-own (kind_in params x.form) params x bytes place (not-front (kind_in params x.form) quiet)) ∙ is))
 
 -- a value of no such class, which is neither a path nor a base, says nothing, and its offset names what it may
-class-none : (c : ValueClass) (place : ℕ) (v : Value) → is_text_class c ≡ false → class_places c false false place v ≡ []
-class-none Address place v e = refl
-class-none Number place v e = refl
-class-none Signed place v e = refl
-class-none Bytes place v e = refl
-class-none Flag place v e = refl
-class-none InlineText place v e = refl
-class-none StrOffset place v e = absurd cc
-class-none LineStrOffset place v e = absurd cc
-class-none StrIndex place v e = absurd cc
-class-none AddrIndex place v e = refl
-class-none ListIndex place v e = refl
-class-none LocalRef place v e = refl
-class-none GlobalRef place v e = refl
-class-none Signature place v e = refl
-class-none SecOffset place v e = refl
+class-none : (c : ValueClass) (field : Bool) (place : ℕ) (v : Value) → is_text_class c ≡ false → class_places c false false field place v ≡ []
+class-none Address field place v e = refl
+class-none Number field place v e = refl
+class-none Signed field place v e = refl
+class-none Bytes field place v e = refl
+class-none Flag field place v e = refl
+class-none InlineText field place v e = refl
+class-none StrOffset field place v e = absurd cc
+class-none LineStrOffset field place v e = absurd cc
+class-none StrIndex field place v e = absurd cc
+class-none AddrIndex field place v e = refl
+class-none ListIndex field place v e = refl
+class-none LocalRef field place v e = refl
+class-none GlobalRef field place v e = refl
+class-none Signature field place v e = refl
+class-none SecOffset field place v e = refl
 
 class-names : (t : Tables) (c : ValueClass) (v : Value) → is_text_class c ≡ false → OffsetNames t c v
 class-names t Address v e = tt
@@ -174,13 +174,13 @@ base-none number name other = ap (λ (b : Bool). b && name == DW_AT_str_offsets_
 places-none : (number tag : ℕ) (x : Spec) (bytes : List ℕ) (place : ℕ) (v : Value) → number ≢ 0 → Quiet x → is_text_class v.class ≡ false
     → value_places number tag x bytes place v ≡ []
 places-none number tag x bytes place v other q class =
-    ap (λ (b : Bool). line_places b (own_form x bytes place) v ++ (class_places v.class (is_path number tag x.name) (is_base number x.name) place v
+    ap (λ (b : Bool). line_places b (own_form x bytes place) v ++ (class_places v.class (is_path number tag x.name) (is_base number x.name) (is_start_form (own_form x bytes place)) place v
     ++ said_places (is_start x.name) (is_macros x.name) (own_form x bytes place) place v)) q.line
-    ∙ ap (λ (b : Bool). class_places v.class (is_path number tag x.name) (is_base number x.name) place v
+    ∙ ap (λ (b : Bool). class_places v.class (is_path number tag x.name) (is_base number x.name) (is_start_form (own_form x bytes place)) place v
     ++ said_places b (is_macros x.name) (own_form x bytes place) place v) q.start
     ∙ ap (λ (ts : List TextPlace). ts ++ [])
-    (ap (λ (b : Bool). class_places v.class b (is_base number x.name) place v) (path-none number tag x.name other)
-    ∙ ap (λ (b : Bool). class_places v.class false b place v) (base-none number x.name other) ∙ class-none v.class place v class)
+    (ap (λ (b : Bool). class_places v.class b (is_base number x.name) (is_start_form (own_form x bytes place)) place v) (path-none number tag x.name other)
+    ∙ ap (λ (b : Bool). class_places v.class false b (is_start_form (own_form x bytes place)) place v) (base-none number x.name other) ∙ class-none v.class (is_start_form (own_form x bytes place)) place v class)
 
 -- the values of quiet attributes say nothing, and can be taken
 pub quiet-places : (params : Params) (bytes : List ℕ) (number tag : ℕ) (xs : List Spec) (place : ℕ) → number ≢ 0 → AllQuiet xs

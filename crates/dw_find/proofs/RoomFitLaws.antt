@@ -11,7 +11,7 @@ use Rattle.dw_base.specs.ViewData.{debug_data}
 use Rattle.dw_base.specs.declared.fault.Kind.TheVariants.{InlineGrows}
 use Rattle.dw_base.specs.declared.fault.Refusal.{Refusal}
 use Rattle.dw_find.specs.InlineRooms.{AreRooms, grows, Grows, one}
-use Rattle.dw_find.specs.ViewFields.{HasPaths, info_of}
+use Rattle.dw_find.specs.ViewFields.{HasPlaces, info_of}
 use Rattle.dw_find.specs.TextPlaces.{InlinesFit, AllFitRooms, AllPlaced}
 use Rattle.dw_find.specs.UnitPaths.{UnitPaths, inline_text}
 use Rattle.dw_find.specs.declared.fields.InlinePath.{InlinePath}
@@ -72,10 +72,10 @@ all-end m v us i placed end passed =
 pub ruleset all_rules = (all-none)
 
 -- what is known of a section
-pub paths-there : (v : View) (u : UnitPaths) → HasPaths v u → u.number < length v.sections
+pub paths-there : (v : View) (u : UnitPaths) → HasPlaces v u → u.number < length v.sections
 paths-there v u h = h.there
 
-pub paths-rooms : (v : View) (u : UnitPaths) (info : List ℕ) → HasPaths v u → info ≡ info_of v u → AreRooms info u.inline
+pub paths-rooms : (v : View) (u : UnitPaths) (info : List ℕ) → HasPlaces v u → info ≡ info_of v u → AreRooms info u.inline
 paths-rooms v u info h is = subst (λ (bs : List ℕ). AreRooms bs u.inline) (sym is) h.rooms
 
 pub ruleset section_rules = (paths-there, paths-rooms)

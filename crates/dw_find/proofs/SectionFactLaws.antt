@@ -1,23 +1,22 @@
 -- What is known of each section of a view whose units were taken: its fields of paths, its rooms, and the row of a path that
 -- would grow.
 use Rattle.std.proofs.Common.{◌≡◌, ℕ, ◌<◌, List, [], ◌∷◌, ◌++◌, length, get_or, refl, sym, ap, ◌∙◌, subst, append_assoc}
-use Rattle.dw_base.specs.Cells.{bytes_of}
+use Rattle.dw_base.specs.Cells.{Cell, bytes_of}
 use Rattle.dw_meaning.specs.DataFails.{InlineFails}
 use Rattle.dw_base.specs.DebugData.{DebugData}
-use Rattle.dw_base.specs.FileViews.{View, section_bytes}
+use Rattle.dw_base.specs.FileViews.{View, section_bytes, view_cells}
 use Rattle.dw_base.specs.Forms.{TextSection, in_str, in_line_str}
 use Rattle.dw_base.specs.Paths.{PathMap}
 use Rattle.dw_base.specs.UnitHeaders.{UnitSection}
 use Rattle.dw_base.specs.ViewData.{debug_data, unit_sections}
 use Rattle.dw_base.specs.declared.fault.Refusal.{Refusal}
-use Rattle.dw_base.proofs.PlainCellLaws.{IsPlain}
-use Rattle.dw_base.proofs.ViewCellLaws.{bytes_of-view_cells, view_cells-plain}
+use Rattle.dw_base.proofs.ViewCellLaws.{bytes_of-view_cells}
 use Rattle.dw_entries.specs.Fronts.{IsOfView}
 use Rattle.dw_entries.proofs.HasUnitLaws.{section-at, is-unit_section}
 use Rattle.dw_entries.proofs.UnitSectionLaws.{is-of-view}
-use Rattle.dw_find.specs.Fields.{ArePathFields, AreStartFields}
+use Rattle.dw_find.specs.Fields.{AreOffsetFields, ArePathFields, AreStartFields}
 use Rattle.dw_find.specs.InlineRooms.{AreRooms, Grows}
-use Rattle.dw_find.specs.ViewFields.{offsets_in, fields_of, info_of, HasPaths}
+use Rattle.dw_find.specs.ViewFields.{HasOffsets, HasPaths, fields_of, info_of, offsets_in, texts_in, HasPlaces}
 use Rattle.dw_find.specs.TextPlaces.{InlinesFit, AllFitRooms, SectionSays, AllPlaced, fields_in}
 use Rattle.dw_find.specs.UnitPaths.{UnitPaths}
 use Rattle.dw_find.specs.UnitTexts.{AllTaken}
@@ -45,9 +44,6 @@ own-section v before behind z split =
 pub own-bytes : (v : View) (z : UnitSection) → IsOfView v z.number z → bytes_of z.contents ≡ section_bytes v z.number
 own-bytes v z of = ap bytes_of of.contents ∙ bytes_of-view_cells v z.number
 
-pub own-plain : (v : View) (z : UnitSection) → IsOfView v z.number z → IsPlain z.contents
-own-plain v z of = subst IsPlain (sym of.contents) (view_cells-plain v z.number)
-
 pub says-number : (d : DebugData) (z : UnitSection) (u : UnitPaths) → SectionSays d z u → u.number ≡ z.number
 says-number d z u s = ap (λ (x : UnitPaths). x.number) s.says
 
@@ -57,27 +53,41 @@ pub says-bytes : (v : View) (before behind : List UnitSection) (z : UnitSection)
 says-bytes v before behind z u split s =
     own-bytes v z (own-section v before behind z split) ∙ ap (section_bytes v) (sym (says-number (debug_data v) z u s))
 
-facts-each : (v : View) (u : UnitPaths) → (f : SectionFacts v u) → EachOf (PlaceOf (debug_data v) f.section) f.says.places
+pub facts-each : (v : View) (u : UnitPaths) → (f : SectionFacts v u) → EachOf (PlaceOf (debug_data v) f.section) f.says.places
 facts-each v u f =
     section-each (debug_data v) f.section f.before f.behind f.says.section.list _ f.says.places f.says.section.units f.split f.says.section.placed
 
-facts-fields : (v : View) (u : UnitPaths) (table : TextSection) → (f : SectionFacts v u) → fields_of table u ≡ fields_in table f.says.places
-    → ArePathFields (offsets_in v table) (info_of v u) (fields_of table u)
-facts-fields v u table f same =
-    subst (λ (bs : List ℕ). ArePathFields (offsets_in v table) bs (fields_of table u)) (says-bytes v f.before f.behind f.section u f.split f.says)
-    (subst (ArePathFields (offsets_in v table) (bytes_of f.section.contents)) (sym same)
-    (path-fields table (debug_data v) f.section f.says.places (own-plain v f.section (own-section v f.before f.behind f.section f.split)) (facts-each v u f) f.says.names))
+-- its fields hold offsets of the view
+facts-offsets : (v : View) (u : UnitPaths) (table : TextSection) → (f : SectionFacts v u) → fields_of table u ≡ fields_in table f.says.places
+    → AreOffsetFields v.order (texts_in (debug_data v) table) (view_cells v u.number) (fields_of table u)
+unfolding debug_data
+facts-offsets v u table f same =
+    let of : IsOfView v f.section.number f.section = own-section v f.before f.behind f.section f.split in
+    subst (λ (n : ℕ). AreOffsetFields v.order (texts_in (debug_data v) table) (view_cells v n) (fields_of table u)) (sym (says-number (debug_data v) f.section u f.says))
+    (subst (λ (cells : List Cell). AreOffsetFields v.order (texts_in (debug_data v) table) cells (fields_of table u)) of.contents
+    (subst (AreOffsetFields v.order (texts_in (debug_data v) table) f.section.contents) (sym same)
+    (path-fields table (debug_data v) f.section f.says.places (facts-each v u f) f.says.names)))
+
+facts-there : (v : View) (u : UnitPaths) → SectionFacts v u → u.number < length v.sections
+facts-there v u f =
+    subst (λ (n : ℕ). n < length v.sections) (sym (says-number (debug_data v) f.section u f.says)) (own-section v f.before f.behind f.section f.split).there
+
+pub has-offsets : (v : View) (u : UnitPaths) → SectionFacts v u → HasOffsets v u
+has-offsets v u f = record {
+  there = facts-there v u f;
+  str = facts-offsets v u in_str f (ap (λ (x : UnitPaths). x.str) f.says.says);
+  line_str = facts-offsets v u in_line_str f (ap (λ (x : UnitPaths). x.line_str) f.says.says);
+}
 
 facts-inline : (v : View) (u : UnitPaths) → (f : SectionFacts v u) → EachOf (InlineOf (debug_data v) f.section) u.inline
 facts-inline v u f =
     subst (EachOf (InlineOf (debug_data v) f.section)) (sym (ap (λ (x : UnitPaths). x.inline) f.says.says)) (inlines-each (debug_data v) f.section f.says.places (facts-each v u f))
 
--- so it has paths
-pub has-paths : (v : View) (u : UnitPaths) → SectionFacts v u → HasPaths v u
-has-paths v u f = record {
-  there = subst (λ (n : ℕ). n < length v.sections) (sym (says-number (debug_data v) f.section u f.says)) (own-section v f.before f.behind f.section f.split).there;
-  str = facts-fields v u in_str f (ap (λ (x : UnitPaths). x.str) f.says.says);
-  line_str = facts-fields v u in_line_str f (ap (λ (x : UnitPaths). x.line_str) f.says.says);
+-- so it has places
+pub has-places : (v : View) (u : UnitPaths) → SectionFacts v u → HasPlaces v u
+unfolding debug_data
+has-places v u f = record {
+  there = facts-there v u f;
   starts = subst (λ (bs : List ℕ). AreStartFields bs u.starts) (says-bytes v f.before f.behind f.section u f.split f.says)
       (subst (AreStartFields (bytes_of f.section.contents)) (sym (ap (λ (x : UnitPaths). x.starts) f.says.says))
       (start-fields (debug_data v) f.section f.says.places (facts-each v u f)));
@@ -114,8 +124,8 @@ all-facts v before (z ∷ zs) (u ∷ us) split all = (
 pub facts-at : (v : View) (us : List UnitPaths) (i : ℕ) (u : UnitPaths) → AllPlaced (debug_data v) (debug_data v).units us → i < length us → u ≡ get_or us i u → SectionFacts v u
 facts-at v us i u all lt is = subst (SectionFacts v) (sym is) (each-get (SectionFacts v) us i u lt (all-facts v [] (debug_data v).units us refl all))
 
-pub paths-at : (v : View) (us : List UnitPaths) (i : ℕ) (u : UnitPaths) → AllPlaced (debug_data v) (debug_data v).units us → i < length us → u ≡ get_or us i u → HasPaths v u
-paths-at v us i u all lt is = has-paths v u (facts-at v us i u all lt is)
+pub places-at : (v : View) (us : List UnitPaths) (i : ℕ) (u : UnitPaths) → AllPlaced (debug_data v) (debug_data v).units us → i < length us → u ≡ get_or us i u → HasPlaces v u
+places-at v us i u all lt is = has-places v u (facts-at v us i u all lt is)
 
 -- sections that were taken are placed
 pub taken-placed : (d : DebugData) (zs : List UnitSection) (us : List UnitPaths) → AllTaken d zs us → AllPlaced d zs us

@@ -8,7 +8,7 @@ use Rattle.dw_entries.specs.SectionOrder.{AreSections}
 use Rattle.dw_entries.specs.ViewUnits.{unit_section_at}
 use Rattle.dw_entries.proofs.SectionListLaws.{sections-next, sections-whole}
 use Rattle.dw_find.specs.NamedSlots.{Slots, TakesUnits}
-use Rattle.dw_find.specs.TextPlaces.{UnitSays}
+use Rattle.dw_find.specs.TextPlaces.{UnitSays, base_source}
 use Rattle.dw_find.specs.UnitPaths.{UnitPaths}
 use Rattle.dw_find.specs.UnitTexts.{SectionTaken, SectionIndexed, AllTaken, AllIndexed, units_taken}
 use Rattle.dw_find.proofs.SlotRunLaws.{units-none, units-more}
@@ -34,8 +34,8 @@ indexed-append : (d : DebugData) (zs : List UnitSection) (us : List UnitPaths) (
     → SectionIndexed d z u now next_slots → AllIndexed d (zs ++ z ∷ []) (us ++ u ∷ []) first next_slots
 indexed-append d zs us z u first now next_slots all one = record {
   taken = taken-append d zs us z u all.taken one.taken;
-  slots = subst (λ (ws : List UnitSays). TakesUnits ws first next_slots) (sym (units_taken-append d zs us z u all.taken one.taken))
-      (units-more (units_taken d zs us all.taken) one.taken.says.section.units first now next_slots all.slots one.slots);
+  slots = subst (λ (ws : List UnitSays). TakesUnits (base_source d) ws first next_slots) (sym (units_taken-append d zs us z u all.taken one.taken))
+      (units-more (base_source d) (units_taken d zs us all.taken) one.taken.says.section.units first now next_slots all.slots one.slots);
 }
 
 -- where the pass over the sections of these numbers stands: those up to one are done
@@ -44,7 +44,7 @@ SectionsPass v numbers i found first now = AllIndexed (debug_data v) (map (unit_
 
 pub pass-none : (v : View) (numbers : List ℕ) (found : List UnitPaths) (first : Slots) → found ≡ [] → SectionsPass v numbers 0 found first first
 pass-none v numbers found first none =
-    subst (λ (us : List UnitPaths). AllIndexed (debug_data v) [] us first first) (sym none) (record { taken = tt; slots = units-none first })
+    subst (λ (us : List UnitPaths). AllIndexed (debug_data v) [] us first first) (sym none) (record { taken = tt; slots = units-none (base_source (debug_data v)) first })
 
 pub pass-more : (v : View) (numbers : List ℕ) (i n : ℕ) (found : List UnitPaths) (first now next_slots : Slots) (u : UnitPaths) → i < length numbers → n ≡ get_or numbers i n
     → SectionsPass v numbers i found first now → SectionIndexed (debug_data v) (unit_section_at v n) u now next_slots → SectionsPass v numbers (i + 1) (found ++ u ∷ []) first next_slots

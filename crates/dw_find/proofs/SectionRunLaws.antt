@@ -17,11 +17,10 @@ use Rattle.dw_base.specs.UnitStates.{UnitState, before_unit, between, headed, af
 use Rattle.dw_base.specs.declared.units.Scanned.{Scanned}
 use Rattle.dw_base.specs.declared.units.UnitHeader.{UnitHeader}
 use Rattle.dw_base.proofs.AbbreviationLaws.{table-found}
-use Rattle.dw_base.proofs.PlainCellLaws.{IsPlain, plain-parts}
 use Rattle.dw_meaning.proofs.PieceLaws.{leads-chain, leads-more, joined-append}
 use Rattle.dw_meaning.proofs.UnitCutLaws.{header-cut}
 use Rattle.dw_meaning.proofs.ScanSectionLaws.{HeaderPlaced, header-placed}
-use Rattle.dw_find.specs.TextPlaces.{TextPlace, UnitSays, places_in, entries_places, uses_among, bases_among, numbered_uses, numbered_bases, UnitsPlaced, none_placed, more_placed, ArePlaced}
+use Rattle.dw_find.specs.TextPlaces.{TextPlace, BaseSource, UnitSays, places_in, entries_places, uses_among, bases_among, numbered_uses, numbered_bases, UnitsPlaced, none_placed, more_placed, ArePlaced}
 use Rattle.dw_find.proofs.EntryRunLaws.{scan-placed}
 use Rattle.dw_find.proofs.HeaderLaws.{header-of}
 use Rattle.dw_find.proofs.IndexRunLaws.{uses-append, bases-append, run-uses, run-bases, run-begins, numbered_uses-more, numbered_bases-more}
@@ -63,7 +62,7 @@ header-run base z start unit h table u placed t =
     ∙ ap (λ (m : ℕ). between (in_headed base z start unit h) m 0 0) whole in
     let end : start + (h.first - start) ≡ h.first = omega (arith, placed.behind) in
     subst (λ (m : ℕ). PlacedRun base z.contents z.number unit (before z start unit) (between (in_headed base z start unit h) h.first 0 0) start m []) end
-    (placed-one base z.contents (before z start unit) (between (in_headed base z start unit h) h.first 0 0) start (h.first - start) [] fits next refl tt)
+    (placed-one base z.contents (before z start unit) (between (in_headed base z start unit h) h.first 0 0) start (h.first - start) [] refl fits next refl tt)
 
 -- behind the last entry comes the next unit
 unit-ends : (s : UnitState) (e : ℕ) → between s s.header.end e 0 ≡ before_unit s.section s.kind s.whole s.header.end (s.unit + 1)
@@ -87,6 +86,10 @@ unit-run base z start unit h table items u placed t entries =
     (placed-more base z.contents z.number unit (before z start unit) (between (in_headed base z start unit h) h.first 0 0) (before z h.end (unit + 1)) start h.first h.end [] all
     (header-run base z start unit h table u placed t) scan)
 
+-- what bases go by, with a section of string offsets
+abbrev pub sourced : UnitBase → Located → BaseSource
+sourced base y = record { order = base.order; offsets = y }
+
 -- the pieces of units, with what their values say by index
 pub record UnitsRun (base : UnitBase) (z : UnitSection) (first : ℕ) (list : List UnitHeader) (place : ℕ) (places : List TextPlace) (units : List UnitSays) : Type 0 where
   pub pieces : List (Piece UnitState)
@@ -95,13 +98,13 @@ pub record UnitsRun (base : UnitBase) (z : UnitSection) (first : ℕ) (list : Li
   pub places_are : places_in pieces ≡ places
   pub count : length units ≡ length list
   pub uses : uses_in base.order pieces ≡ numbered_uses first units
-  pub bases : (y : Located) → IsPlain (joined pieces) → bases_in base.order y pieces ≡ numbered_bases first units
+  pub bases : (y : Located) → bases_in base.order y pieces ≡ numbered_bases (sourced base y) first units
 
 -- one unit more
 units-more : (base : UnitBase) (z : UnitSection) (first : ℕ) (list : List UnitHeader) (h : UnitHeader) (start : ℕ) (places here : List TextPlace) (units : List UnitSays)
     → UnitsRun base z first list start places units
     → PlacedRun base z.contents z.number (first + length list) (before z start (first + length list)) (before z h.end (first + length list + 1)) start h.end here
-    → UnitsRun base z first (list ++ h ∷ []) h.end (places ++ here) (units ++ record { section = z.number; places = here } ∷ [])
+    → UnitsRun base z first (list ++ h ∷ []) h.end (places ++ here) (units ++ record { section = z.number; cells = z.contents; places = here } ∷ [])
 units-more base z first list h start places here units m n =
     let u : ℕ = first + length list in
     let count : first + length list + 1 ≡ first + length (list ++ h ∷ []) = omega (arith, length-append list (h ∷ [])) in
@@ -115,25 +118,25 @@ units-more base z first list h start places here units m n =
           ∙ ap (λ (x : List Cell). joined m.pieces ++ x) n.covers ∙ m.covers;
       places_are =
           places-append m.pieces n.pieces ∙ ap (λ (x : List TextPlace). x ++ places_in n.pieces) m.places_are ∙ ap (λ (x : List TextPlace). places ++ x) n.places;
-      count = (let before_ = m.count in omega (arith, before_, length-append list (h ∷ []), length-append units (record { section = z.number; places = here } ∷ [])));
+      count = (let before_ = m.count in omega (arith, before_, length-append list (h ∷ []), length-append units (record { section = z.number; cells = z.contents; places = here } ∷ [])));
       uses =
           uses-append base.order m.pieces n.pieces ∙ ap (λ (x : List IndexUse). x ++ uses_in base.order n.pieces) m.uses
-          ∙ ap (λ (x : List IndexUse). numbered_uses first units ++ x) (run-uses base.order z.number u n.pieces n.numbered ∙ ap (uses_among z.number u) n.places)
+          ∙ ap (λ (x : List IndexUse). numbered_uses first units ++ x) (run-uses base.order z.contents z.number u n.pieces n.numbered ∙ ap (uses_among z.number u) n.places)
           ∙ ap (λ (k : ℕ). numbered_uses first units ++ uses_among z.number k here) (sym number)
-          ∙ sym (numbered_uses-more first units (record { section = z.number; places = here }));
-      bases = λ (y : Located) (plain : IsPlain (joined (m.pieces ++ n.pieces))).
-          units-bases y (plain-parts (joined m.pieces) (joined n.pieces) (subst IsPlain (joined-append m.pieces n.pieces) plain));
+          ∙ sym (numbered_uses-more first units (record { section = z.number; cells = z.contents; places = here }));
+      bases = λ (y : Located). units-bases y;
     }
   where
-    units-bases : (y : Located) → IsPlain (joined m.pieces) × IsPlain (joined n.pieces)
-        → bases_in base.order y (m.pieces ++ n.pieces) ≡ numbered_bases first (units ++ record { section = z.number; places = here } ∷ [])
-    units-bases y plain =
+    units-bases : (y : Located)
+        → bases_in base.order y (m.pieces ++ n.pieces)
+        ≡ numbered_bases (sourced base y) first (units ++ record { section = z.number; cells = z.contents; places = here } ∷ [])
+    units-bases y =
         let number : first + length units ≡ first + length list = ap (λ (k : ℕ). first + k) m.count in
-        bases-append base.order y m.pieces n.pieces ∙ ap (λ (x : List SaidBase). x ++ bases_in base.order y n.pieces) (m.bases y plain.0)
-        ∙ ap (λ (x : List SaidBase). numbered_bases first units ++ x)
-        (run-bases base.order z.number (first + length list) y n.pieces n.numbered plain.1 ∙ ap (bases_among (first + length list)) n.places)
-        ∙ ap (λ (k : ℕ). numbered_bases first units ++ bases_among k here) (sym number)
-        ∙ sym (numbered_bases-more first units (record { section = z.number; places = here }))
+        bases-append base.order y m.pieces n.pieces ∙ ap (λ (x : List SaidBase). x ++ bases_in base.order y n.pieces) (m.bases y)
+        ∙ ap (λ (x : List SaidBase). numbered_bases (sourced base y) first units ++ x)
+        (run-bases (sourced base y) z.contents z.number (first + length list) n.pieces n.numbered ∙ ap (bases_among (sourced base y) z.contents (first + length list)) n.places)
+        ∙ ap (λ (k : ℕ). numbered_bases (sourced base y) first units ++ bases_among (sourced base y) z.contents k here) (sym number)
+        ∙ sym (numbered_bases-more (sourced base y) first units (record { section = z.number; cells = z.contents; places = here }))
 
 -- units one after another
 units-run : (base : UnitBase) (z : UnitSection) (first : ℕ) (list : List UnitHeader) (place : ℕ) (places : List TextPlace) (units : List UnitSays)
@@ -145,7 +148,7 @@ units-run base z first list place places units none_placed = record {
   places_are = refl;
   count = refl;
   uses = refl;
-  bases = λ y plain. refl;
+  bases = λ y. refl;
 }
 units-run base z first all z_end all_places all_units (more_placed list h start places units table items placed u t entries) =
     units-more base z first list h start places (entries_places h.params table (bytes_up_to z h) 0 items) units
@@ -159,7 +162,7 @@ pub record PlacedPieces (base : UnitBase) (z : UnitSection) (first : ℕ) (place
   pub places_are : places_in pieces ≡ places
   pub count : units_in pieces ≡ length units
   pub uses : uses_in base.order pieces ≡ numbered_uses first units
-  pub bases : (y : Located) → IsPlain z.contents → bases_in base.order y pieces ≡ numbered_bases first units
+  pub bases : (y : Located) → bases_in base.order y pieces ≡ numbered_bases (sourced base y) first units
 
 -- a section whose units can be read is pieces
 pub section-placed : (base : UnitBase) (z : UnitSection) (first : ℕ) (list : List UnitHeader) (places : List TextPlace) (units : List UnitSays)
@@ -181,5 +184,5 @@ section-placed base z first list places units placed =
       places_are = run.places_are;
       count = omega (arith, number, count);
       uses = run.uses;
-      bases = λ (y : Located) (plain : IsPlain z.contents). run.bases y (subst IsPlain (sym cells) plain);
+      bases = run.bases;
     }

@@ -1,5 +1,5 @@
 -- A pass over the units of a section: where it stands, one unit more, and its end.
-use Rattle.std.proofs.Common.{Bool, true, false, ◌≡◌, ℕ, suc, ◌+◌, ◌≤◌, ◌<◌, ◌==◌, List, [], ◌∷◌, ◌++◌, length, take, drop, get_or, cond, Option, Some, refl, sym, ap, ◌∙◌, subst, arith, append_assoc, append-nil}
+use Rattle.std.proofs.Common.{Bool, true, false, ◌≡◌, ℕ, suc, ◌+◌, ◌≤◌, ◌<◌, ◌==◌, List, [], ◌∷◌, ◌++◌, length, take, drop, get_or, cond, Option, Some, refl, sym, ap, ◌∙◌, subst, arith, append_assoc, append-nil, None}
 use Rattle.std.proofs.Math.Seq.{take-suc, drop-cons}
 use Rattle.std.proofs.lemmas.List.{drop_all, take_all}
 use Rattle.dw_base.specs.DebugData.{DebugData}
@@ -9,13 +9,15 @@ use Rattle.dw_base.specs.declared.units.UnitHeader.{UnitHeader}
 use Rattle.dw_entries.specs.ViewUnits.{numbered}
 use Rattle.dw_find.specs.EntryTexts.{Found, with_paths, with_places, no_paths, none_found}
 use Rattle.dw_find.specs.NamedSlots.{Slots, TakesIndexes, TakesUnits}
-use Rattle.dw_find.specs.TextPlaces.{TextPlace, UnitSays, base_in, entries_places, indexes_in, UnitsPlaced, none_placed, more_placed, PlacesName, SectionSays}
+use Rattle.dw_find.specs.TextPlaces.{TextPlace, BaseSource, UnitSays, base_in, base_source, number_said, entries_places, indexes_in, UnitsPlaced, none_placed, more_placed, PlacesName, SectionSays}
 use Rattle.dw_find.specs.UnitPaths.{UnitPaths}
+use Rattle.dw_find.specs.declared.fields.TextBase.{TextBase}
 use Rattle.dw_find.specs.declared.fields.TextIndex.{TextIndex}
 use Rattle.dw_find.specs.UnitTexts.{tables_of, ScanTaken, OneTaken, IsUnitTaken, UnitsTaken, SectionIndexed}
 use Rattle.dw_find.proofs.EntryTextLaws.{with_paths-more, with_paths-none}
 use Rattle.dw_find.proofs.SlotRunLaws.{units-none, units-one, units-more}
 use Rattle.dw_find.proofs.TakenLaws.{names-append, entries-names}
+use Rattle.dw_base.specs.RelocationRows.{HeaderOffsetsRead}
 
 -- the units of a section from a place on, front first
 abbrev pub UnitsFrom : UnitBase → UnitSection → ℕ → List UnitHeader → ℕ → Type 0
@@ -59,11 +61,12 @@ pub record SectionPass (d : DebugData) (z : UnitSection) (list : List UnitHeader
   pub names : PlacesName d z.contents places
   pub taken : UnitsTaken d z (take i list)
   pub found_is : found ≡ none_found (with_paths (no_paths z.number) places)
-  pub slots : TakesUnits units first now
+  pub slots : TakesUnits (base_source d) units first now
+  pub headers : HeaderOffsetsRead d.base z
 
-pub section-starts : (d : DebugData) (z : UnitSection) (list : List UnitHeader) (found : Found) (first : Slots) → AreUnits d.base z list
+pub section-starts : (d : DebugData) (z : UnitSection) (list : List UnitHeader) (found : Found) (first : Slots) → HeaderOffsetsRead d.base z → AreUnits d.base z list
     → found ≡ none_found (no_paths z.number) → SectionPass d z list 0 found first first
-section-starts d z list found first units is = record {
+section-starts d z list found first headers units is = record {
   start = 0;
   places = [];
   units = [];
@@ -74,7 +77,8 @@ section-starts d z list found first units is = record {
   names = tt;
   taken = tt;
   found_is = is ∙ ap none_found (sym (with_paths-none (no_paths z.number)));
-  slots = units-none first;
+  slots = units-none (base_source d) first;
+  headers = headers;
 }
 
 front : (list : List UnitHeader) (h : UnitHeader) (i : ℕ) → i < length list → h ≡ get_or list i h → drop i list ≡ h ∷ drop (i + 1) list
@@ -112,18 +116,18 @@ units-append d z [] h all one = (one, tt)
 units-append d z (x ∷ xs) h all one = (all.0, units-append d z xs h all.1 one)
 
 -- what a unit says by index goes to the slots
-one-says : (h : UnitHeader) (z : UnitSection) (p : UnitPaths) (old found : Found) (here : List TextPlace) (before now : Slots) → h.section ≡ z.number
-    → old ≡ none_found p → found ≡ with_places old here → TakesIndexes h.section found.base found.indexes before now
-    → TakesUnits (record { section = z.number; places = here } ∷ []) before now
+one-says : (g : BaseSource) (h : UnitHeader) (z : UnitSection) (p : UnitPaths) (old found : Found) (here : List TextPlace) (before now : Slots) → h.section ≡ z.number
+    → old ≡ none_found p → found ≡ with_places old here → TakesIndexes h.section (number_said g z.contents found.base) found.indexes before now
+    → TakesUnits g (record { section = z.number; cells = z.contents; places = here } ∷ []) before now
 unfolding with_places
-one-says h z p old found here before now section start is t =
+one-says g h z p old found here before now section start is t =
     let says : found ≡ with_places (none_found p) here = is ∙ ap (λ (x : Found). with_places x here) start in
     let base : found.base ≡ base_in here = ap (λ (x : Found). x.base) says in
     let indexes : found.indexes ≡ indexes_in here = ap (λ (x : Found). x.indexes) says in
-    units-one (record { section = z.number; places = here }) before now
-    (subst (λ (n : ℕ). TakesIndexes n (base_in here) (indexes_in here) before now) section
-    (subst (λ (xs : List TextIndex). TakesIndexes h.section (base_in here) xs before now) indexes
-    (subst (λ (b : Option ℕ). TakesIndexes h.section b found.indexes before now) base t)))
+    units-one g (record { section = z.number; cells = z.contents; places = here }) before now
+    (subst (λ (n : ℕ). TakesIndexes n (number_said g z.contents (base_in here)) (indexes_in here) before now) section
+    (subst (λ (xs : List TextIndex). TakesIndexes h.section (number_said g z.contents (base_in here)) xs before now) indexes
+    (subst (λ (b : Option TextBase). TakesIndexes h.section (number_said g z.contents b) found.indexes before now) base t)))
 
 paths-say : (p : UnitPaths) (old found : Found) (here : List TextPlace) → old ≡ none_found p → found ≡ with_places old here → found.paths ≡ with_paths p here
 unfolding with_places
@@ -141,9 +145,9 @@ section-more d z list i old new h first now next_slots lt is section p one =
     record {
       start = h.end;
       places = p.places ++ here;
-      units = p.units ++ record { section = z.number; places = here } ∷ [];
+      units = p.units ++ record { section = z.number; cells = z.contents; places = here } ∷ [];
       before = subst (λ (xs : List UnitHeader). UnitsUpTo d.base z xs h.end) (sym (behind list h i lt is)) (more_units (take i list) h p.start p.before next.0);
-      placed = subst (λ (xs : List UnitHeader). UnitsPlaced d.base z xs h.end (p.places ++ here) (p.units ++ record { section = z.number; places = here } ∷ [])) (sym (behind list h i lt is))
+      placed = subst (λ (xs : List UnitHeader). UnitsPlaced d.base z xs h.end (p.places ++ here) (p.units ++ record { section = z.number; cells = z.contents; places = here } ∷ [])) (sym (behind list h i lt is))
           (more_placed (take i list) h p.start p.places p.units one.table s.items p.placed next.0 one.declares s.entries);
       rest = next.1;
       taken = subst (UnitsTaken d z) (sym (behind list h i lt is))
@@ -151,9 +155,14 @@ section-more d z list i old new h first now next_slots lt is section p one =
       names = names-append d z.contents p.places here p.names (entries-names d z h.params one.table (bytes_up_to z h) 0 s.items s.taken);
       found_is =
           one.ends ∙ ap none_found (paths-say before_ old one.found here p.found_is s.found ∙ with_paths-more (no_paths z.number) p.places here);
-      slots = units-more p.units (record { section = z.number; places = here } ∷ []) first now next_slots p.slots
-          (one-says h z before_ old one.found here now next_slots section p.found_is s.found one.slots);
+      slots = units-more (base_source d) p.units (record { section = z.number; cells = z.contents; places = here } ∷ []) first now next_slots p.slots
+          (one-says (base_source d) h z before_ old one.found here now next_slots section p.found_is s.found one.slots);
+      headers = p.headers;
     }
+
+-- no base was found of the next unit yet
+pub pass-base : (d : DebugData) (z : UnitSection) (list : List UnitHeader) (i : ℕ) (found : Found) (first now : Slots) → SectionPass d z list i found first now → found.base ≡ None
+pass-base d z list i found first now p = ap (λ (f : Found). f.base) p.found_is
 
 -- the end
 pub section-says : (d : DebugData) (z : UnitSection) (list : List UnitHeader) (i : ℕ) (found : Found) (first now : Slots) → length list ≤ i
@@ -180,6 +189,7 @@ section-ends d z list i found first now end p =
     let at_end : p.start ≡ length z.contents = subst (λ (xs : List UnitHeader). UnitsFrom d.base z p.start xs (length z.contents)) (drop_all i list end) p.rest in
     record {
       taken = record {
+        headers = p.headers;
         says = section-says d z list i found first now end p;
         list = list;
         units = subst (λ (n : ℕ). UnitsUpTo d.base z list n) at_end (subst (λ (xs : List UnitHeader). UnitsUpTo d.base z xs p.start) (take_all i list end) p.before);

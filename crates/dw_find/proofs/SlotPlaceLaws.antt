@@ -3,7 +3,7 @@ use Rattle.std.specs.Prelude.{⊤}
 use Rattle.std.proofs.Common.{◌≡◌, ℕ, ◌+◌, List, [], ◌∷◌, ◌++◌, length, drop, sym, ap, ◌∙◌, refl, subst, arith}
 use Rattle.std.proofs.Math.Seq.{drop-append_seam}
 use Rattle.std.proofs.lemmas.List.{drop-drop}
-use Rattle.dw_base.specs.Cells.{bytes_of}
+use Rattle.dw_base.specs.Cells.{Cell, bytes_of}
 use Rattle.dw_base.specs.Forms.{TextSection, in_line_str}
 use Rattle.dw_base.specs.OffsetPieces.{OffsetMode, at_contribution, at_slot, no_offsets, OffsetState, past_offsets, offset_grammar}
 use Rattle.dw_base.specs.Pieces.{Piece, Chain, joined}
@@ -35,6 +35,22 @@ slots-placed order info s place (x ∷ xs) at c e =
     let next : (past_offsets x.state.mode order x.state x.cells).place ≡ place + length x.cells =
     place-next x.state.mode order x.state x.cells c.1 ∙ ap (λ (i : ℕ). i + length x.cells) here in
     (here, parts, slots-placed order info (past_offsets x.state.mode order x.state x.cells) (place + length x.cells) xs next c.2 behind)
+
+-- the same in the section's cells
+abbrev pub SlotsIn : List Cell → ℕ → List (Piece OffsetState) → Type 0
+SlotsIn cells place [] = ⊤
+SlotsIn cells place (x ∷ xs) = (x.state.place ≡ place) × (x.cells ++ joined xs ≡ drop place cells) × SlotsIn cells (place + length x.cells) xs
+
+pub slots-in : (order : Order) (cells : List Cell) (s : OffsetState) (place : ℕ) (xs : List (Piece OffsetState)) → s.place ≡ place
+    → Chain (offset_grammar order) s xs → joined xs ≡ drop place cells → SlotsIn cells place xs
+slots-in order cells s place [] at c e = tt
+slots-in order cells s place (x ∷ xs) at c e =
+    let here : x.state.place ≡ place = ap (λ (z : OffsetState). z.place) c.0 ∙ at in
+    let behind : joined xs ≡ drop (place + length x.cells) cells =
+    sym (drop-append_seam x.cells (joined xs)) ∙ ap (drop (length x.cells)) e ∙ drop-drop (length x.cells) place cells in
+    let next : (past_offsets x.state.mode order x.state x.cells).place ≡ place + length x.cells =
+    place-next x.state.mode order x.state x.cells c.1 ∙ ap (λ (i : ℕ). i + length x.cells) here in
+    (here, e, slots-in order cells (past_offsets x.state.mode order x.state x.cells) (place + length x.cells) xs next c.2 behind)
 
 -- no slot holds an offset into the other table
 line-field : (paths : List ℕ) (m : OffsetMode) (n place size : ℕ) → field_by in_line_str (offset_role paths m n) place size ≡ []

@@ -14,7 +14,7 @@ use Rattle.dw_base.specs.declared.string_offsets.Contribution.{Contribution}
 use Rattle.dw_offsets.specs.NamedPlaces.{place_by, is_place, is_kind}
 use Rattle.dw_offsets.specs.SlotMarks.{marked, IsMarked}
 use Rattle.dw_find.specs.NamedSlots.{Slots, LieWithin, names_slot, name_slot, first_refusal, missing_at, missing_in, TakesIndexes, units_name, units_missing, TakesUnits}
-use Rattle.dw_find.specs.TextPlaces.{UnitSays, base_in, indexes_in}
+use Rattle.dw_find.specs.TextPlaces.{BaseSource, UnitSays, indexes_in, unit_number}
 use Rattle.dw_find.specs.declared.fields.TextIndex.{TextIndex}
 
 -- contributions that can be read lie in their section
@@ -181,41 +181,41 @@ indexes-all section base xs i a b end m = subst (λ (ys : List TextIndex). Takes
 pub ruleset all_rules = (indexes-none, indexes-step, indexes-all)
 
 -- no unit, one unit, and more units
-pub units-none : (s : Slots) → TakesUnits [] s s
-units-none s = record { list_is = refl; marks = λ kind place. or-false (marked kind s.marks place); missing = first-none s.missing }
+pub units-none : (g : BaseSource) (s : Slots) → TakesUnits g [] s s
+units-none g s = record { list_is = refl; marks = λ kind place. or-false (marked kind s.marks place); missing = first-none s.missing }
 
-pub units-one : (u : UnitSays) (a b : Slots) → TakesIndexes u.section (base_in u.places) (indexes_in u.places) a b → TakesUnits (u ∷ []) a b
-units-one u a b t = record {
+pub units-one : (g : BaseSource) (u : UnitSays) (a b : Slots) → TakesIndexes u.section (unit_number g u) (indexes_in u.places) a b → TakesUnits g (u ∷ []) a b
+units-one g u a b t = record {
   list_is = t.list_is;
   marks = λ (kind : Bool) (place : ℕ).
-      t.marks kind place ∙ sym (or-none (marked kind a.marks place) (name_slot kind (base_in u.places) a.list (indexes_in u.places) place));
-  missing = t.missing ∙ ap (first_refusal a.missing) (first-none (missing_in u.section (base_in u.places) a.list (indexes_in u.places)));
+      t.marks kind place ∙ sym (or-none (marked kind a.marks place) (name_slot kind (unit_number g u) a.list (indexes_in u.places) place));
+  missing = t.missing ∙ ap (first_refusal a.missing) (first-none (missing_in u.section (unit_number g u) a.list (indexes_in u.places)));
 }
 
-units_name-append : (kind : Bool) (list : List Contribution) (us vs : List UnitSays) (place : ℕ)
-    → units_name kind list (us ++ vs) place ≡ (units_name kind list us place || units_name kind list vs place)
-units_name-append kind list [] vs place = refl
-units_name-append kind list (u ∷ us) vs place =
-    ap (λ (b : Bool). name_slot kind (base_in u.places) list (indexes_in u.places) place || b) (units_name-append kind list us vs place)
-    ∙ sym (or-assoc (name_slot kind (base_in u.places) list (indexes_in u.places) place) (units_name kind list us place) (units_name kind list vs place))
+units_name-append : (g : BaseSource) (kind : Bool) (list : List Contribution) (us vs : List UnitSays) (place : ℕ)
+    → units_name g kind list (us ++ vs) place ≡ (units_name g kind list us place || units_name g kind list vs place)
+units_name-append g kind list [] vs place = refl
+units_name-append g kind list (u ∷ us) vs place =
+    ap (λ (b : Bool). name_slot kind (unit_number g u) list (indexes_in u.places) place || b) (units_name-append g kind list us vs place)
+    ∙ sym (or-assoc (name_slot kind (unit_number g u) list (indexes_in u.places) place) (units_name g kind list us place) (units_name g kind list vs place))
 
-units_missing-append : (list : List Contribution) (us vs : List UnitSays) → units_missing list (us ++ vs) ≡ first_refusal (units_missing list us) (units_missing list vs)
-units_missing-append list [] vs = refl
-units_missing-append list (u ∷ us) vs =
-    ap (first_refusal (missing_in u.section (base_in u.places) list (indexes_in u.places))) (units_missing-append list us vs)
-    ∙ sym (first-assoc (missing_in u.section (base_in u.places) list (indexes_in u.places)) (units_missing list us) (units_missing list vs))
+units_missing-append : (g : BaseSource) (list : List Contribution) (us vs : List UnitSays) → units_missing g list (us ++ vs) ≡ first_refusal (units_missing g list us) (units_missing g list vs)
+units_missing-append g list [] vs = refl
+units_missing-append g list (u ∷ us) vs =
+    ap (first_refusal (missing_in u.section (unit_number g u) list (indexes_in u.places))) (units_missing-append g list us vs)
+    ∙ sym (first-assoc (missing_in u.section (unit_number g u) list (indexes_in u.places)) (units_missing g list us) (units_missing g list vs))
 
-pub units-more : (us vs : List UnitSays) (a b c : Slots) → TakesUnits us a b → TakesUnits vs b c → TakesUnits (us ++ vs) a c
-units-more us vs a b c m n = record {
+pub units-more : (g : BaseSource) (us vs : List UnitSays) (a b c : Slots) → TakesUnits g us a b → TakesUnits g vs b c → TakesUnits g (us ++ vs) a c
+units-more g us vs a b c m n = record {
   list_is = n.list_is ∙ m.list_is;
   marks = λ (kind : Bool) (place : ℕ).
-      n.marks kind place ∙ ap (λ (y : Bool). y || units_name kind b.list vs place) (m.marks kind place)
-      ∙ ap (λ (list : List Contribution). (marked kind a.marks place || units_name kind a.list us place) || units_name kind list vs place) m.list_is
-      ∙ or-assoc (marked kind a.marks place) (units_name kind a.list us place) (units_name kind a.list vs place)
-      ∙ ap (λ (y : Bool). marked kind a.marks place || y) (sym (units_name-append kind a.list us vs place));
+      n.marks kind place ∙ ap (λ (y : Bool). y || units_name g kind b.list vs place) (m.marks kind place)
+      ∙ ap (λ (list : List Contribution). (marked kind a.marks place || units_name g kind a.list us place) || units_name g kind list vs place) m.list_is
+      ∙ or-assoc (marked kind a.marks place) (units_name g kind a.list us place) (units_name g kind a.list vs place)
+      ∙ ap (λ (y : Bool). marked kind a.marks place || y) (sym (units_name-append g kind a.list us vs place));
   missing =
-      n.missing ∙ ap (λ (y : Option Refusal). first_refusal y (units_missing b.list vs)) m.missing
-      ∙ ap (λ (list : List Contribution). first_refusal (first_refusal a.missing (units_missing a.list us)) (units_missing list vs)) m.list_is
-      ∙ first-assoc a.missing (units_missing a.list us) (units_missing a.list vs)
-      ∙ ap (first_refusal a.missing) (sym (units_missing-append a.list us vs));
+      n.missing ∙ ap (λ (y : Option Refusal). first_refusal y (units_missing g b.list vs)) m.missing
+      ∙ ap (λ (list : List Contribution). first_refusal (first_refusal a.missing (units_missing g a.list us)) (units_missing g list vs)) m.list_is
+      ∙ first-assoc a.missing (units_missing g a.list us) (units_missing g a.list vs)
+      ∙ ap (first_refusal a.missing) (sym (units_missing-append g a.list us vs));
 }

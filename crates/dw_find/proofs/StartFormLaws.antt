@@ -257,6 +257,16 @@ macro-use number tag name line e =
 pub line-macros : (name : ℕ) → (name == DW_AT_stmt_list) ≡ true → is_macros name ≡ false
 line-macros name e = ap is_macros (eqb-true name DW_AT_stmt_list e)
 
+pub macros-line : (name : ℕ) → is_macros name ≡ true → (name == DW_AT_stmt_list) ≡ false
+macros-line name e = by_name (name == DW_AT_stmt_list) refl
+  where
+    both : is_macros name ≡ false → ⊥
+    both none = let clash : true ≡ false = sym e ∙ none in absurd cc
+
+    by_name : (b : Bool) → (name == DW_AT_stmt_list) ≡ b → b ≡ false
+    by_name true is = absurd (both (line-macros name is))
+    by_name false is = refl
+
 -- a value that says where a macro unit starts has a form that can
 number-form : (u : Use) (class : ValueClass) (n : ℕ) → is_macro_start u class n ≡ true → start_form_by (number_of class n) u ≡ true
 number-form names_macro_unit class n e = e

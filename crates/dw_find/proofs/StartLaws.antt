@@ -1,5 +1,5 @@
 -- Values that are to say where line tables start: each names a table, or is a row of the debug data; and a table is found by its start.
-use Rattle.std.proofs.Common.{Bool, true, false, ◌≡◌, ◌≢◌, ◌⊎◌, inl, inr, ℕ, zero, suc, ◌+◌, ◌-◌, ◌<◌, ◌≤◌, ◌==◌, List, [], ◌∷◌, ◌++◌, length, drop, get_or, cond, Option, Some, None, Result, Ok, Err, IfOk, IfErr, IsTrue, refl, sym, ap, ◌∙◌, subst, arith, append_assoc}
+use Rattle.std.proofs.Common.{Bool, true, false, ◌≡◌, ◌≢◌, ◌⊎◌, inl, inr, ℕ, zero, suc, ◌+◌, ◌-◌, ◌<◌, ◌≤◌, ◌==◌, List, [], ◌∷◌, ◌++◌, length, drop, get_or, cond, Option, Some, None, Result, Ok, Err, IfOk, IfErr, refl, sym, ap, ◌∙◌, subst, arith, append_assoc}
 use Rattle.std.specs.List.Sorted.{IsSearchInRange, IsBinarySearchResult, IsNonDecreasingBy}
 use Rattle.std.specs.Ordering.{nat_cmp, ordering_index}
 use Rattle.std.proofs.Math.Seq.{drop-cons}
@@ -9,54 +9,52 @@ use Rattle.std.proofs.lemmas.Cmp.{ranked}
 use Rattle.std.proofs.lemmas.List.{drop_all}
 use Rattle.std.proofs.lemmas.List.Sorted.{IsNonDecreasingBy-from_default}
 use Rattle.dw_base.specs.AbbreviationTables.{Abbreviation, abbreviation_of}
-use Rattle.dw_base.specs.Cells.{Cell, Relocation, bytes_of, cells_at, field_by, field_of, located_cells, offset_of}
-use Rattle.dw_base.specs.DebugData.{DebugData, DataReadings, ReadsAll, around_of, line_source, line_table, macro_unit, start_number, started_unit, unit_named, units_in}
+use Rattle.dw_base.specs.Cells.{Cell, Located, cells_at, field_of, offset_of}
+use Rattle.dw_base.specs.DebugData.{DebugData, DataReadings, ReadsAll, around_of, line_source, line_table, macro_unit, start_number, units_in, macro_places}
 use Rattle.dw_base.specs.EntryScans.{depth_behind}
-use Rattle.dw_base.specs.FileViews.{View, section_bytes}
+use Rattle.dw_base.specs.FileViews.{View, section_bytes, view_cells}
 use Rattle.dw_base.specs.Forms.{ValueKind, form_in_front, kind_in}
 use Rattle.dw_base.specs.LineMeanings.{is_there}
 use Rattle.dw_base.specs.LineReadings.{LineReading, ReadsTable, TablesTo, table_starts}
 use Rattle.dw_base.specs.LineSources.{LineSource}
-use Rattle.dw_base.specs.MacroReadings.{first_macros, macro_starts}
-use Rattle.dw_base.specs.Numbers.{spelled}
 use Rattle.dw_base.specs.Pieces.{Piece, Chain, EachPiece, joined}
-use Rattle.dw_base.proofs.UnitEditLaws.{length-bytes_of}
 use Rattle.dw_base.specs.Readings.{Reading, Readings}
 use Rattle.dw_base.specs.Refusals.{at}
+use Rattle.dw_base.specs.RelocationRows.{OffsetFails, field_place, offset_field}
 use Rattle.dw_base.specs.Roles.{Role, fixed, offset, inline_path, line_start, role_of}
 use Rattle.dw_base.specs.TableStarts.{other_form as form_row, no_table as table_row, no_unit as unit_row, has_start_form, is_macro_value, value_begin}
 use Rattle.dw_base.specs.UnitHeaders.{UnitBase, UnitSection}
 use Rattle.dw_base.specs.UnitPieces.{ReadsUnits, unit_grammar}
 use Rattle.dw_base.specs.UnitStates.{Mode, at_header, at_code, at_values, at_chosen, stuck, UnitState, before_unit, in_unit, between, inside, headed, after_header, after_entry, after_code, after_value, code_value, piece_header, past}
-use Rattle.dw_base.specs.ViewData.{debug_data}
+use Rattle.dw_base.specs.ViewData.{debug_data, located}
+use Rattle.dw_base.specs.declared.debug_sections.DebugSection.TheVariants.{Line}
 use Rattle.dw_base.specs.declared.fault.Kind.TheVariants.{Stray}
 use Rattle.dw_base.specs.declared.fault.Refusal.{Refusal}
 use Rattle.dw_base.specs.declared.shared.Order.{Order}
 use Rattle.dw_base.specs.declared.units.UnitHeader.{UnitHeader}
 use Rattle.dw_base.specs.declared.values.Spec.{Spec}
-use Rattle.dw_base.specs.declared.view_fields.Field.{Field}
-use Rattle.dw_base.specs.declared.view_fields.Field.TheVariants.{Num}
-use Rattle.dw_base.proofs.PlainCellLaws.{IsPlain, first-plain, offset_of-plain, plain-parts}
+use Rattle.dw_base.proofs.ViewCellLaws.{lines-located, piece-cells}
 use Rattle.dw_entries.specs.Fronts.{IsOfView}
 use Rattle.dw_meaning.specs.DataFails.{StartsFail, stray}
+use Rattle.dw_meaning.specs.RelocationFails.{ValueRelocationFails}
 use Rattle.dw_meaning.proofs.LineHeaderLaws.{header-is}
 use Rattle.dw_meaning.proofs.LineSectionLaws.{some-bytes}
 use Rattle.dw_meaning.proofs.LineTableLaws.{header-places}
 use Rattle.dw_meaning.proofs.SlotRowLaws.{piece-among}
 use Rattle.dw_find.specs.Fields.{AreStartFields, IsStartField}
 use Rattle.dw_find.specs.IndexedTexts.{TablesStart, UnitsStart}
-use Rattle.dw_find.specs.LineStarts.{HasStart, IsStartGap, Rises, SectionStrays, other_form, no_table, no_unit, StartsStray, field}
-use Rattle.dw_find.specs.ViewFields.{HasPaths, info_of}
-use Rattle.dw_find.specs.TextPlaces.{AllPlaced, AllStarts, SectionStarts, StartsHere, StartsNamed, UnitsNamed, names_place}
+use Rattle.dw_find.specs.LineStarts.{FieldStrays, HasStart, IsStartGap, Rises, SectionStrays, StartsRefuse, other_form, no_offset, no_table, no_unit, reads_none, says_none, field}
+use Rattle.dw_find.specs.ViewFields.{HasPlaces, info_of}
+use Rattle.dw_find.specs.TextPlaces.{AllPlaced, SectionSays, macros_in, starts_in}
+use Rattle.dw_find.specs.NamedStarts.{AllStarts, FieldsSay, SectionStarts, says_start, says_unit}
 use Rattle.dw_find.specs.UnitPaths.{UnitPaths, paths_in, paths_of, macro_by, macro_fields, start_by, start_fields, stray_among}
 use Rattle.dw_find.specs.UnitTexts.{AllTaken}
 use Rattle.dw_find.specs.declared.fields.PathField.{PathField}
-use Rattle.dw_find.proofs.FoundLaws.{FoundReadings, found-readings}
-use Rattle.dw_find.proofs.PlaceValueLaws.{EachOf, each-get}
-use Rattle.dw_find.proofs.PlainFieldLaws.{offset-number, plain-at}
-use Rattle.dw_find.proofs.PlacedLaws.{Placed, placed}
-use Rattle.dw_find.proofs.PieceFieldLaws.{piece_number}
-use Rattle.dw_find.proofs.SectionFactLaws.{has-paths, own-section, own-bytes, own-plain, paths-at, says-bytes, taken-placed}
+use Rattle.dw_find.proofs.FoundLaws.{FoundReadings, found-readings, field-unit}
+use Rattle.dw_find.proofs.PlaceValueLaws.{EachOf, PlaceOf, RowField, each-get, starts-rows, units-rows}
+use Rattle.dw_find.proofs.PlacedLaws.{PlacedCells, placed-cells}
+use Rattle.dw_find.proofs.SectionFactLaws.{SectionFacts, facts-at, facts-each, own-section, places-at, says-number, taken-placed}
+use Rattle.dw_find.specs.UnitPlaces.{PlacesStart, UnitPlaces}
 
 -- a search among starts that rise ends at the start, or at the gap for it
 comparisons-rise : (starts : List ℕ) (start : ℕ) → Rises starts → IsNonDecreasingBy (λ x. ordering_index (nat_cmp x start)) starts
@@ -142,34 +140,43 @@ field-front fields f i lt is =
     let next : suc i ≡ i + 1 = omega arith in
     drop-cons fields i f lt ∙ ap (λ (n : ℕ). get_or fields i f ∷ drop n fields) next ∙ ap (λ (y : PathField). y ∷ drop (i + 1) fields) (sym is)
 
--- if the fields that are left name tables, all do
-pub record FieldsPassed (order : Order) (info starts : List ℕ) (fields : List PathField) (i : ℕ) : Type 0 where
-  pub here : StartsHere order info starts (drop i fields) → StartsHere order info starts fields
+-- if the fields that are left say this, all do
+pub record FieldsPassed (says : List Cell → Bool) (cells : List Cell) (fields : List PathField) (i : ℕ) : Type 0 where
+  pub here : FieldsSay says cells (drop i fields) → FieldsSay says cells fields
 
-pub fields-none : (order : Order) (info starts : List ℕ) (fields : List PathField) → FieldsPassed order info starts fields 0
-fields-none order info starts fields = record { here = λ h. h }
+pub fields-none : (says : List Cell → Bool) (cells : List Cell) (fields : List PathField) → FieldsPassed says cells fields 0
+fields-none says cells fields = record { here = λ h. h }
 
-there-some : (o : Option ℕ) (k : ℕ) → o ≡ Some k → IsTrue (is_there o)
-there-some o k e = ap is_there e
-
-pub fields-more : (order : Order) (info starts : List ℕ) (fields : List PathField) (i : ℕ) (f : PathField) (start k : ℕ) (o : Option ℕ) → i < length fields → f ≡ get_or fields i f
-    → FieldsPassed order info starts fields i → start ≡ spelled order info f.at f.size → o ≡ start_number 0 starts start → o ≡ Some k → FieldsPassed order info starts fields (i + 1)
-fields-more order info starts fields i f start k o lt is passed said number some = record {
-  here = λ h. passed.here (subst (StartsHere order info starts) (sym (field-front fields f i lt is))
-      (there-some (start_number 0 starts (spelled order info f.at f.size)) k (ap (start_number 0 starts) (sym said) ∙ sym number ∙ some), h));
+pub fields-more : (says : List Cell → Bool) (cells : List Cell) (fields : List PathField) (i : ℕ) (f : PathField) → i < length fields → f ≡ get_or fields i f
+    → FieldsPassed says cells fields i → says (cells_at cells f.at f.size) ≡ true → FieldsPassed says cells fields (i + 1)
+fields-more says cells fields i f lt is passed said = record {
+  here = λ h. passed.here (subst (FieldsSay says cells) (sym (field-front fields f i lt is)) (said, h));
 }
 
-pub fields-all : (order : Order) (info starts : List ℕ) (fields : List PathField) (i : ℕ) → length fields ≤ i → FieldsPassed order info starts fields i
-    → StartsHere order info starts fields
-fields-all order info starts fields i end passed = passed.here (subst (StartsHere order info starts) (sym (drop_all i fields end)) tt)
+pub fields-all : (says : List Cell → Bool) (cells : List Cell) (fields : List PathField) (i : ℕ) → length fields ≤ i → FieldsPassed says cells fields i → FieldsSay says cells fields
+fields-all says cells fields i end passed = passed.here (subst (FieldsSay says cells) (sym (drop_all i fields end)) tt)
 
-pub fields-refused : (order : Order) (section : ℕ) (info starts : List ℕ) (fields : List PathField) (i : ℕ) (f : PathField) (start : ℕ) (o : Option ℕ) (r : Refusal) → i < length fields
-    → f ≡ get_or fields i f → start ≡ spelled order info f.at f.size → o ≡ start_number 0 starts start → o ≡ None → r ≡ at Stray section f.at
-    → StartsStray order section info starts fields r
-fields-refused order section info starts fields i f start o r lt is said number none same =
-    subst (StartsStray order section info starts fields) (sym same) (field i f lt is (ap (start_number 0 starts) (sym said) ∙ sym number ∙ none))
+pub fields-refused : (order : Order) (section : ℕ) (cells : List Cell) (says : List Cell → Bool) (fields : List PathField) (i : ℕ) (f : PathField) (b : Bool) (r : Refusal) → i < length fields
+    → f ≡ get_or fields i f → b ≡ says (cells_at cells f.at f.size) → b ≡ false → r ≡ at Stray section f.at → FieldStrays order section cells says fields r
+fields-refused order section cells says fields i f b r lt is said none same =
+    subst (FieldStrays order section cells says fields) (sym same) (field i f lt is (sym said ∙ none))
+
+pub fields-unread : (order : Order) (section : ℕ) (cells : List Cell) (says : List Cell → Bool) (fields : List PathField) (i : ℕ) (f : PathField) (r : Refusal) → i < length fields
+    → f ≡ get_or fields i f → OffsetFails order section cells (field_place f.at f.size offset_field) r → FieldStrays order section cells says fields r
+fields-unread order section cells says fields i f r lt is fails = no_offset i f lt is fails
 
 pub ruleset fields_rules = (fields-none, fields-all)
+
+-- where the offset of a field is one of the starts
+pub says-table : (order : Order) (z : Located) (starts : List ℕ) (p : List Cell) (n k : ℕ) (o : Option ℕ) → n ≡ offset_of order z p → o ≡ start_number 0 starts n → o ≡ Some k
+    → true ≡ says_start order z starts p
+says-table order z starts p n k o read number some = sym (ap (λ (m : ℕ). is_there (start_number 0 starts m)) (sym read) ∙ ap is_there (sym number ∙ some))
+
+pub says-nothing : (order : Order) (z : Located) (starts : List ℕ) (p : List Cell) (n : ℕ) (o : Option ℕ) → n ≡ offset_of order z p → o ≡ start_number 0 starts n → o ≡ None
+    → false ≡ says_start order z starts p
+says-nothing order z starts p n o read number none = sym (ap (λ (m : ℕ). is_there (start_number 0 starts m)) (sym read) ∙ ap is_there (sym number ∙ none))
+
+pub ruleset says_rules = (says-table, says-nothing)
 
 pub field-room : (info : List ℕ) (f : PathField) → IsStartField info f → f.at + f.size ≤ length info
 field-room info f is = is.inside
@@ -184,33 +191,41 @@ field-few info f is = few is.sized
 pub ruleset field_rules = (field-room, field-few)
 
 -- a section
-pub section-there : (v : View) (u : UnitPaths) → HasPaths v u → u.number < length v.sections
+pub section-there : (v : View) (u : UnitPaths) → HasPlaces v u → u.number < length v.sections
 section-there v u h = h.there
 
-pub section-fields : (v : View) (u : UnitPaths) (info : List ℕ) (fields : List PathField) → HasPaths v u → info ≡ info_of v u → fields ≡ u.starts → AreStartFields info fields
-section-fields v u info fields h ei ef = subst (λ (bs : List ℕ). AreStartFields bs fields) (sym ei) (subst (AreStartFields (info_of v u)) (sym ef) h.starts)
+pub section-fields : (v : View) (u : UnitPaths) (n : ℕ) (fields : List PathField) → HasPlaces v u → n ≡ u.number → fields ≡ u.starts → AreStartFields (section_bytes v n) fields
+section-fields v u n fields h en ef = subst (λ (k : ℕ). AreStartFields (section_bytes v k) fields) (sym en) (subst (AreStartFields (info_of v u)) (sym ef) h.starts)
 
-pub section-strays : (order own : Order) (n : ℕ) (info bytes starts places : List ℕ) (u : UnitPaths) (fields : List PathField) (r : Refusal) → order ≡ own → n ≡ u.number → info ≡ bytes
-    → fields ≡ u.starts → StartsStray order n info starts fields r → SectionStrays own bytes starts places u r
-section-strays order own n info bytes starts places u fields r eo en ei ef h =
-    no_table (subst (λ (o : Order). StartsStray o u.number bytes starts u.starts r) eo
-    (subst (λ (k : ℕ). StartsStray order k bytes starts u.starts r) en
-    (subst (λ (bs : List ℕ). StartsStray order n bs starts u.starts r) ei (subst (λ (fs : List PathField). StartsStray order n info starts fs r) ef h))))
+pub unit-fields : (v : View) (u : UnitPaths) (n : ℕ) (fields : List PathField) → HasPlaces v u → n ≡ u.number → fields ≡ u.macros → AreStartFields (section_bytes v n) fields
+unit-fields v u n fields h en ef = subst (λ (k : ℕ). AreStartFields (section_bytes v k) fields) (sym en) (subst (AreStartFields (info_of v u)) (sym ef) h.macros)
 
-pub unit-strays : (order own : Order) (n : ℕ) (info bytes starts places : List ℕ) (u : UnitPaths) (fields : List PathField) (r : Refusal) → order ≡ own → n ≡ u.number → info ≡ bytes
-    → fields ≡ u.macros → StartsStray order n info places fields r → SectionStrays own bytes starts places u r
-unit-strays order own n info bytes starts places u fields r eo en ei ef h =
-    no_unit (subst (λ (o : Order). StartsStray o u.number bytes places u.macros r) eo
-    (subst (λ (k : ℕ). StartsStray order k bytes places u.macros r) en
-    (subst (λ (bs : List ℕ). StartsStray order n bs places u.macros r) ei (subst (λ (fs : List PathField). StartsStray order n info places fs r) ef h))))
+pub section-strays : (v : View) (n : ℕ) (starts : List ℕ) (places : UnitPlaces) (u : UnitPaths) (fields : List PathField) (r : Refusal) → n ≡ u.number → fields ≡ u.starts
+    → FieldStrays v.order n (view_cells v n) (says_start v.order (located v Line) starts) fields r → SectionStrays v starts places u r
+section-strays v n starts places u fields r en ef h =
+    no_table (subst (λ (k : ℕ). FieldStrays v.order k (view_cells v k) (says_start v.order (located v Line) starts) u.starts r) en
+    (subst (λ (fs : List PathField). FieldStrays v.order n (view_cells v n) (says_start v.order (located v Line) starts) fs r) ef h))
 
-pub section-stray : (own : Order) (bytes starts places : List ℕ) (u : UnitPaths) (n place : ℕ) (r : Refusal) → n ≡ u.number → u.stray ≡ Some place → r ≡ at Stray n place
-    → SectionStrays own bytes starts places u r
-section-stray own bytes starts places u n place r en some same =
-    subst (SectionStrays own bytes starts places u) (sym (same ∙ ap (λ (k : ℕ). at Stray k place) en)) (other_form place some)
+pub unit-strays : (v : View) (n : ℕ) (starts : List ℕ) (places : UnitPlaces) (u : UnitPaths) (fields : List PathField) (r : Refusal) → n ≡ u.number → fields ≡ u.macros
+    → FieldStrays v.order n (view_cells v n) (says_unit v.order places) fields r → SectionStrays v starts places u r
+unit-strays v n starts places u fields r en ef h =
+    no_unit (subst (λ (k : ℕ). FieldStrays v.order k (view_cells v k) (says_unit v.order places) u.macros r) en
+    (subst (λ (fs : List PathField). FieldStrays v.order n (view_cells v n) (says_unit v.order places) fs r) ef h))
 
-pub unit-fields : (v : View) (u : UnitPaths) (info : List ℕ) (fields : List PathField) → HasPaths v u → info ≡ info_of v u → fields ≡ u.macros → AreStartFields info fields
-unit-fields v u info fields h ei ef = subst (λ (bs : List ℕ). AreStartFields bs fields) (sym ei) (subst (AreStartFields (info_of v u)) (sym ef) h.macros)
+pub section-stray : (v : View) (starts : List ℕ) (places : UnitPlaces) (u : UnitPaths) (n place : ℕ) (r : Refusal) → n ≡ u.number → u.stray ≡ Some place → r ≡ at Stray n place
+    → SectionStrays v starts places u r
+section-stray v starts places u n place r en some same =
+    subst (SectionStrays v starts places u) (sym (same ∙ ap (λ (k : ℕ). at Stray k place) en)) (other_form place some)
+
+pub section-said : (v : View) (starts : List ℕ) (places : UnitPlaces) (u : UnitPaths) (n : ℕ) (fields units : List PathField) → n ≡ u.number → u.stray ≡ None → fields ≡ u.starts → units ≡ u.macros
+    → FieldsSay (says_start v.order (located v Line) starts) (view_cells v n) fields → FieldsSay (says_unit v.order places) (view_cells v n) units → SectionStarts v starts places u
+section-said v starts places u n fields units en none ef eu lines macros = record {
+  all_say = none;
+  there = subst (λ (k : ℕ). FieldsSay (says_start v.order (located v Line) starts) (view_cells v k) u.starts) en
+      (subst (FieldsSay (says_start v.order (located v Line) starts) (view_cells v n)) ef lines);
+  units = subst (λ (k : ℕ). FieldsSay (says_unit v.order places) (view_cells v k) u.macros) en
+      (subst (FieldsSay (says_unit v.order places) (view_cells v n)) eu macros);
+}
 
 pub ruleset section_rules = (section-there, section-fields, unit-fields)
 
@@ -257,22 +272,24 @@ stays-past (at_values number tag (x ∷ xs)) base s p = stays-value (kind_in s.h
 stays-past (at_chosen number tag start x xs) base s p = stays-inside s (s.place + length p) s.entry s.depth number tag xs
 stays-past stuck base s p = refl
 
--- what is known of a piece of a section: it is plain, and stands in the section's bytes
-record PieceFacts (section : ℕ) (info : List ℕ) (x : Piece UnitState) : Type 0 where
-  own : x.state.section ≡ section
-  plain : IsPlain x.cells
-  rest : List ℕ
-  stands : bytes_of x.cells ++ rest ≡ drop x.state.place info
+-- what is known of a piece of a section: it stands in the section's cells
+pub record PieceFacts (section : ℕ) (cells : List Cell) (x : Piece UnitState) : Type 0 where
+  pub own : x.state.section ≡ section
+  pub rest : List Cell
+  pub stands : x.cells ++ rest ≡ drop x.state.place cells
 
-piece-facts : (base : UnitBase) (section : ℕ) (info : List ℕ) (s : UnitState) (place : ℕ) (xs : List (Piece UnitState)) → s.section ≡ section → Chain (unit_grammar base) s xs
-    → IsPlain (joined xs) → Placed info place xs → EachPiece (PieceFacts section info) xs
-piece-facts base section info s place [] own c plain l = tt
-piece-facts base section info s place (x ∷ xs) own c plain l =
-    let parts : IsPlain x.cells × IsPlain (joined xs) = plain-parts x.cells (joined xs) plain in
+pub piece-facts : (base : UnitBase) (section : ℕ) (cells : List Cell) (s : UnitState) (place : ℕ) (xs : List (Piece UnitState)) → s.section ≡ section → Chain (unit_grammar base) s xs
+    → PlacedCells cells place xs → EachPiece (PieceFacts section cells) xs
+piece-facts base section cells s place [] own c l = tt
+piece-facts base section cells s place (x ∷ xs) own c l =
     let here : x.state.section ≡ section = ap (λ (y : UnitState). y.section) c.0 ∙ own in (
-      record { own = here; plain = parts.0; rest = bytes_of (joined xs); stands = l.1 ∙ ap (λ (i : ℕ). drop i info) (sym l.0) },
-      piece-facts base section info (past x.state.mode base x.state x.cells) (place + length x.cells) xs (stays-past x.state.mode base x.state x.cells ∙ here) c.2 parts.1 l.2,
+      record { own = here; rest = joined xs; stands = l.1 ∙ ap (λ (i : ℕ). drop i cells) (sym l.0) },
+      piece-facts base section cells (past x.state.mode base x.state x.cells) (place + length x.cells) xs (stays-past x.state.mode base x.state x.cells ∙ here) c.2 l.2,
     )
+
+-- so it is the cells there
+piece-is : (section : ℕ) (cells : List Cell) (x : Piece UnitState) → PieceFacts section cells x → cells_at cells x.state.place (length x.cells) ≡ x.cells
+piece-is section cells x p = piece-cells cells x.cells p.rest x.state.place (sym p.stands)
 
 -- a piece that is to say where a line table starts, and has another form
 record StrayPiece (xs : List (Piece UnitState)) (place : ℕ) : Type 0 where
@@ -345,20 +362,17 @@ record ReadingOf (v : View) (rs : Readings) (u : UnitPaths) : Type 0 where
   reading : Reading
   sections : rs ≡ before ++ reading ∷ behind
   says : paths_in reading ≡ u
-  facts : EachPiece (PieceFacts u.number (info_of v u)) reading.pieces
+  facts : EachPiece (PieceFacts u.number (view_cells v u.number)) reading.pieces
 
 reading-here : (v : View) (before zs : List UnitSection) (z : UnitSection) (first : ℕ) (r : Reading) (u : UnitPaths) → (debug_data v).units ≡ before ++ z ∷ zs → r.number ≡ z.number
-    → ReadsUnits (debug_data v).base z first r.pieces → u ≡ paths_in r → EachPiece (PieceFacts u.number (info_of v u)) r.pieces
+    → ReadsUnits (debug_data v).base z first r.pieces → u ≡ paths_in r → EachPiece (PieceFacts u.number (view_cells v u.number)) r.pieces
 reading-here v before zs z first r u split number reads is =
     let own : IsOfView v z.number z = own-section v before zs z split in
     let same : z.number ≡ u.number = sym number ∙ sym (ap (λ (x : UnitPaths). x.number) is) in
-    let start : UnitState = before_unit z.number z.kind (length z.contents) 0 first in
-    let here : EachPiece (PieceFacts z.number (bytes_of z.contents)) r.pieces =
-    piece-facts (debug_data v).base z.number (bytes_of z.contents) (before_unit z.number z.kind (length z.contents) 0 first) 0 r.pieces refl reads.chain
-    (subst IsPlain (sym reads.cells) (own-plain v z own))
-    (placed (debug_data v).base (bytes_of z.contents) (before_unit z.number z.kind (length z.contents) 0 first) 0 r.pieces refl reads.chain (ap bytes_of reads.cells)) in
-    subst (λ (n : ℕ). EachPiece (PieceFacts n (info_of v u)) r.pieces) same
-    (subst (λ (bs : List ℕ). EachPiece (PieceFacts z.number bs) r.pieces) (own-bytes v z own ∙ ap (section_bytes v) same) here)
+    let here : EachPiece (PieceFacts z.number z.contents) r.pieces =
+    piece-facts (debug_data v).base z.number z.contents (before_unit z.number z.kind (length z.contents) 0 first) 0 r.pieces refl reads.chain
+    (placed-cells (debug_data v).base z.contents (before_unit z.number z.kind (length z.contents) 0 first) 0 r.pieces refl reads.chain reads.cells) in
+    subst (λ (n : ℕ). EachPiece (PieceFacts n (view_cells v n)) r.pieces) same (subst (λ (cells : List Cell). EachPiece (PieceFacts z.number cells) r.pieces) own.contents here)
 
 reading-of : (v : View) (before zs : List UnitSection) (first : ℕ) (rs : Readings) (i : ℕ) (u : UnitPaths) → (debug_data v).units ≡ before ++ zs
     → ReadsAll (debug_data v).base first zs rs → i < length (paths_of rs) → u ≡ get_or (paths_of rs) i u → ReadingOf v rs u
@@ -389,38 +403,39 @@ refused-at : (P : Refusal → Type 0) (a b c d : ℕ) → a ≡ b → c ≡ d �
 refused-at P a b c d e f h = subst (λ (n : ℕ). P (at Stray b n)) f (subst (λ (n : ℕ). P (at Stray n c)) e h)
 
 -- where no table starts
-none-there : (v : View) (q : DataReadings) (starts info : List ℕ) (x : Piece UnitState) (section : ℕ) → starts ≡ table_starts q.lines → PieceFacts section info x
-    → start_number 0 starts (spelled v.order info x.state.place (length x.cells)) ≡ None → is_there (line_table (around_of (debug_data v) q) x.cells) ≡ false
+none-there : (v : View) (q : DataReadings) (starts : List ℕ) (x : Piece UnitState) (section : ℕ) → starts ≡ table_starts q.lines → PieceFacts section (view_cells v section) x
+    → says_start v.order (located v Line) starts (cells_at (view_cells v section) x.state.place (length x.cells)) ≡ false → is_there (line_table (around_of (debug_data v) q) x.cells) ≡ false
 unfolding debug_data
-none-there v q starts info x section same p none =
-    let number : offset_of v.order (located_cells (debug_data v).lines) x.cells ≡ spelled v.order info x.state.place (length x.cells) =
-    offset_of-plain v.order (located_cells (debug_data v).lines) x.cells p.plain
-    ∙ piece_number v.order (bytes_of x.cells) p.rest info x.state.place (length x.cells) p.stands (length-bytes_of x.cells) in
-    ap (λ (n : ℕ). is_there (start_number 0 (table_starts q.lines) n)) number
-    ∙ ap (λ (ss : List ℕ). is_there (start_number 0 ss (spelled v.order info x.state.place (length x.cells)))) (sym same)
-    ∙ ap is_there none
+none-there v q starts x section same p none =
+    ap (λ (z : Located). is_there (start_number 0 (table_starts q.lines) (offset_of v.order z x.cells))) (lines-located v)
+    ∙ ap (λ (ss : List ℕ). says_start v.order (located v Line) ss x.cells) (sym same)
+    ∙ ap (says_start v.order (located v Line) starts) (sym (piece-is section (view_cells v section) x p))
+    ∙ none
 
 -- where no macro unit starts
-pub field-plain : (o : Order) (p : List Cell) → IsPlain p → field_of o p ≡ Num (spelled o (bytes_of p) 0 (length p))
-unfolding field_of
-field-plain o p plain = ap (λ (x : Option Relocation). field_by x (length p) (spelled o (bytes_of p) 0 (length p))) (first-plain p plain)
-
-no-unit-there : (v : View) (q : DataReadings) (places info : List ℕ) (x : Piece UnitState) (section : ℕ)
-    → ((n : ℕ) → is_there (started_unit 0 (macro_starts q.macros) (first_macros (debug_data v).macros) n) ≡ is_there (start_number 0 places n)) → PieceFacts section info x
-    → start_number 0 places (spelled v.order info x.state.place (length x.cells)) ≡ None → is_there (macro_unit (around_of (debug_data v) q).lasting x.cells) ≡ false
+no-unit-there : (v : View) (q : DataReadings) (places : UnitPlaces) (x : Piece UnitState) (section : ℕ) → PlacesStart places (macro_places (debug_data v) q)
+    → PieceFacts section (view_cells v section) x → says_unit v.order places (cells_at (view_cells v section) x.state.place (length x.cells)) ≡ false
+    → is_there (macro_unit (around_of (debug_data v) q).lasting x.cells) ≡ false
 unfolding debug_data
-no-unit-there v q places info x section named p none =
-    let number : spelled v.order (bytes_of x.cells) 0 (length x.cells) ≡ spelled v.order info x.state.place (length x.cells) =
-    piece_number v.order (bytes_of x.cells) p.rest info x.state.place (length x.cells) p.stands (length-bytes_of x.cells) in
-    ap (λ (f : Field). is_there (unit_named (around_of (debug_data v) q).lasting.macros f)) (field-plain v.order x.cells p.plain)
-    ∙ named (spelled v.order (bytes_of x.cells) 0 (length x.cells))
-    ∙ ap (λ (n : ℕ). is_there (start_number 0 places n)) number
-    ∙ ap is_there none
+no-unit-there v q places x section start p none =
+    field-unit places (macro_places (debug_data v) q) (field_of v.order x.cells) start
+    ∙ ap (says_unit v.order places) (sym (piece-is section (view_cells v section) x p))
+    ∙ none
+
+-- the field of a section of debug data is that of the view
+own-fails : (v : View) (before behind : List UnitSection) (z : UnitSection) (u : UnitPaths) (g : PathField) (r : Refusal) → (debug_data v).units ≡ before ++ z ∷ behind
+    → SectionSays (debug_data v) z u → OffsetFails v.order u.number (view_cells v u.number) (field_place g.at g.size offset_field) r
+    → OffsetFails (debug_data v).base.order z.number z.contents (field_place g.at g.size offset_field) r
+unfolding debug_data
+own-fails v before behind z u g r split says fails =
+    let of : IsOfView v z.number z = own-section v before behind z split in
+    subst (λ (cs : List Cell). OffsetFails v.order z.number cs (field_place g.at g.size offset_field) r) (sym of.contents)
+    (subst (λ (n : ℕ). OffsetFails v.order n (view_cells v n) (field_place g.at g.size offset_field) r) (says-number (debug_data v) z u says) fails)
 
 -- a value that says none is a row
-pub section-row : (v : View) (starts places : List ℕ) (us : List UnitPaths) (i : ℕ) (u : UnitPaths) (r : Refusal) → AllTaken (debug_data v) (debug_data v).units us
-    → TablesStart (debug_data v) starts → UnitsStart (debug_data v) places → i < length us → u ≡ get_or us i u → SectionStrays v.order (info_of v u) starts places u r
-    → StartsFail (debug_data v) r
+pub section-row : (v : View) (starts : List ℕ) (places : UnitPlaces) (us : List UnitPaths) (i : ℕ) (u : UnitPaths) (r : Refusal) → AllTaken (debug_data v) (debug_data v).units us
+    → TablesStart (debug_data v) starts → UnitsStart (debug_data v) places → i < length us → u ≡ get_or us i u → SectionStrays v starts places u r
+    → StartsRefuse (debug_data v) r
 section-row v starts places us i u r taken t ms lt is row =
     let d : DebugData = debug_data v in
     let f : FoundReadings (debug_data v) 0 (debug_data v).units us = found-readings (debug_data v) 0 (debug_data v).units us (taken-placed (debug_data v) (debug_data v).units us taken) in
@@ -431,103 +446,92 @@ section-row v starts places us i u r taken t ms lt is row =
     all f = record { units = f.readings; offsets = []; lines = t.tables; macros = ms.readings; names = [] }
 
     by_field : (f : FoundReadings (debug_data v) 0 (debug_data v).units us) (x : ReadingOf v f.readings u) (g : PathField) → StartPiece x.reading.pieces g
-        → start_number 0 starts (spelled v.order (info_of v u) g.at g.size) ≡ None → StartsFail (debug_data v) (at Stray u.number g.at)
+        → says_start v.order (located v Line) starts (cells_at (view_cells v u.number) g.at g.size) ≡ false → StartsFail (debug_data v) (at Stray u.number g.at)
     by_field f x g s none =
-        let facts : PieceFacts u.number (info_of v u) s.one =
-        piece-among (PieceFacts u.number (info_of v u)) s.front s.rest s.one (subst (EachPiece (PieceFacts u.number (info_of v u))) s.split x.facts) in
-        let absent : start_number 0 starts (spelled v.order (info_of v u) s.one.state.place (length s.one.cells)) ≡ None =
-        subst (λ (y : PathField). start_number 0 starts (spelled v.order (info_of v u) y.at y.size) ≡ None) s.is none in
+        let facts : PieceFacts u.number (view_cells v u.number) s.one =
+        piece-among (PieceFacts u.number (view_cells v u.number)) s.front s.rest s.one (subst (EachPiece (PieceFacts u.number (view_cells v u.number))) s.split x.facts) in
+        let absent : says_start v.order (located v Line) starts (cells_at (view_cells v u.number) s.one.state.place (length s.one.cells)) ≡ false =
+        subst (λ (y : PathField). says_start v.order (located v Line) starts (cells_at (view_cells v u.number) y.at y.size) ≡ false) s.is none in
         refused-at (StartsFail (debug_data v)) s.one.state.section u.number s.one.state.place g.at facts.own (sym (ap (λ (y : PathField). y.at) s.is))
         (stray (all f) (record { units = f.reads; lines = t.are; macros = ms.are })
         (table_row s.one (record { before = x.before; behind = x.behind; section = x.reading; sections = x.sections; front = s.front; rest = s.rest; pieces = s.split }) s.role
-        (none-there v (all f) starts (info_of v u) s.one u.number t.is facts absent)))
+        (none-there v (all f) starts s.one u.number t.is facts absent)))
 
     by_unit : (f : FoundReadings (debug_data v) 0 (debug_data v).units us) (x : ReadingOf v f.readings u) (g : PathField) → UnitPiece x.reading.pieces g
-        → start_number 0 places (spelled v.order (info_of v u) g.at g.size) ≡ None → StartsFail (debug_data v) (at Stray u.number g.at)
+        → says_unit v.order places (cells_at (view_cells v u.number) g.at g.size) ≡ false → StartsFail (debug_data v) (at Stray u.number g.at)
     by_unit f x g s none =
-        let facts : PieceFacts u.number (info_of v u) s.one =
-        piece-among (PieceFacts u.number (info_of v u)) s.front s.rest s.one (subst (EachPiece (PieceFacts u.number (info_of v u))) s.split x.facts) in
-        let absent : start_number 0 places (spelled v.order (info_of v u) s.one.state.place (length s.one.cells)) ≡ None =
-        subst (λ (y : PathField). start_number 0 places (spelled v.order (info_of v u) y.at y.size) ≡ None) s.is none in
+        let facts : PieceFacts u.number (view_cells v u.number) s.one =
+        piece-among (PieceFacts u.number (view_cells v u.number)) s.front s.rest s.one (subst (EachPiece (PieceFacts u.number (view_cells v u.number))) s.split x.facts) in
+        let absent : says_unit v.order places (cells_at (view_cells v u.number) s.one.state.place (length s.one.cells)) ≡ false =
+        subst (λ (y : PathField). says_unit v.order places (cells_at (view_cells v u.number) y.at y.size) ≡ false) s.is none in
         refused-at (StartsFail (debug_data v)) s.one.state.section u.number s.one.state.place g.at facts.own (sym (ap (λ (y : PathField). y.at) s.is))
         (stray (all f) (record { units = f.reads; lines = t.are; macros = ms.are })
         (unit_row s.one (record { before = x.before; behind = x.behind; section = x.reading; sections = x.sections; front = s.front; rest = s.rest; pieces = s.split }) s.value
-        (no-unit-there v (all f) places (info_of v u) s.one u.number ms.named facts absent)))
+        (no-unit-there v (all f) places s.one u.number ms.start facts absent)))
 
-    by_row : (f : FoundReadings (debug_data v) 0 (debug_data v).units us) (x : ReadingOf v f.readings u) (q : Refusal) → SectionStrays v.order (info_of v u) starts places u q
-        → StartsFail (debug_data v) q
+    section : SectionFacts v u
+    section = facts-at v us i u (taken-placed (debug_data v) (debug_data v).units us taken) lt is
+
+    places_each : EachOf (PlaceOf (debug_data v) section.section) section.says.places
+    places_each = facts-each v u section
+
+    unread : (g : PathField) (q : Refusal) → RowField (debug_data v) section.section g → OffsetFails v.order u.number (view_cells v u.number) (field_place g.at g.size offset_field) q
+        → ValueRelocationFails (debug_data v) q
+    unread g q row fails = row.row q (own-fails v section.before section.behind section.section u g q section.split section.says fails)
+
+    by_row : (f : FoundReadings (debug_data v) 0 (debug_data v).units us) (x : ReadingOf v f.readings u) (q : Refusal) → SectionStrays v starts places u q → StartsRefuse (debug_data v) q
     by_row f x q (other_form place some) =
         let s : StrayPiece x.reading.pieces place = stray-found x.reading.pieces place (ap (λ (y : UnitPaths). y.stray) x.says ∙ some) in
-        let facts : PieceFacts u.number (info_of v u) s.one =
-        piece-among (PieceFacts u.number (info_of v u)) s.front s.rest s.one (subst (EachPiece (PieceFacts u.number (info_of v u))) s.split x.facts) in
-        refused-at (StartsFail (debug_data v)) s.one.state.section u.number (value_begin s.one.state) place facts.own s.there
+        let facts : PieceFacts u.number (view_cells v u.number) s.one =
+        piece-among (PieceFacts u.number (view_cells v u.number)) s.front s.rest s.one (subst (EachPiece (PieceFacts u.number (view_cells v u.number))) s.split x.facts) in
+        says_none (refused-at (StartsFail (debug_data v)) s.one.state.section u.number (value_begin s.one.state) place facts.own s.there
         (stray (all f) (record { units = f.reads; lines = t.are; macros = ms.are })
-        (form_row s.one (record { before = x.before; behind = x.behind; section = x.reading; sections = x.sections; front = s.front; rest = s.rest; pieces = s.split }) s.form))
+        (form_row s.one (record { before = x.before; behind = x.behind; section = x.reading; sections = x.sections; front = s.front; rest = s.rest; pieces = s.split }) s.form)))
     by_row f x q (no_table (field k g lt_k is_k none)) =
         let same : start_fields x.reading.pieces ≡ u.starts = ap (λ (y : UnitPaths). y.starts) x.says in
         let piece : StartPiece x.reading.pieces g =
         subst (StartPiece x.reading.pieces) (sym is_k)
         (each-get (StartPiece x.reading.pieces) u.starts k g lt_k (subst (EachOf (StartPiece x.reading.pieces)) same (start-pieces x.reading.pieces [] x.reading.pieces refl))) in
-        by_field f x g piece none
+        says_none (by_field f x g piece none)
+    by_row f x q (no_table (no_offset k g lt_k is_k fails)) =
+        let same : u.starts ≡ starts_in section.says.places = ap (λ (y : UnitPaths). y.starts) section.says.says in
+        let row : RowField (debug_data v) section.section g =
+        subst (RowField (debug_data v) section.section) (sym is_k)
+        (each-get (RowField (debug_data v) section.section) u.starts k g lt_k (subst (EachOf (RowField (debug_data v) section.section)) (sym same)
+        (starts-rows (debug_data v) section.section section.says.places places_each))) in
+        reads_none (unread g q row fails)
     by_row f x q (no_unit (field k g lt_k is_k none)) =
         let same : macro_fields x.reading.pieces ≡ u.macros = ap (λ (y : UnitPaths). y.macros) x.says in
         let piece : UnitPiece x.reading.pieces g =
         subst (UnitPiece x.reading.pieces) (sym is_k)
         (each-get (UnitPiece x.reading.pieces) u.macros k g lt_k (subst (EachOf (UnitPiece x.reading.pieces)) same (unit-pieces x.reading.pieces [] x.reading.pieces refl))) in
-        by_unit f x g piece none
+        says_none (by_unit f x g piece none)
+    by_row f x q (no_unit (no_offset k g lt_k is_k fails)) =
+        let same : u.macros ≡ macros_in section.says.places = ap (λ (y : UnitPaths). y.macros) section.says.says in
+        let row : RowField (debug_data v) section.section g =
+        subst (RowField (debug_data v) section.section) (sym is_k)
+        (each-get (RowField (debug_data v) section.section) u.macros k g lt_k (subst (EachOf (RowField (debug_data v) section.section)) (sym same)
+        (units-rows (debug_data v) section.section section.says.places places_each))) in
+        reads_none (unread g q row fails)
 
 -- the same of sections: what was tested holds of all
-abbrev pub StartsIn : View → List ℕ → List ℕ → UnitPaths → Type 0
-StartsIn v starts places u = SectionStarts v.order (info_of v u) starts places u
+abbrev pub StartsIn : View → List ℕ → UnitPlaces → UnitPaths → Type 0
+StartsIn v starts places u = SectionStarts v starts places u
 
-named-fields : (v : View) (z : UnitSection) (starts : List ℕ) (fs : List PathField) → IsPlain z.contents → EachOf (IsStartField (bytes_of z.contents)) fs
-    → StartsHere v.order (bytes_of z.contents) starts fs → StartsNamed (debug_data v) starts z.contents fs
-unfolding debug_data
-named-fields v z starts [] plain each h = tt
-named-fields v z starts (f ∷ fs) plain each h =
-    let first = each.0 in (
-      subst (λ (n : ℕ). IsTrue (is_there (start_number 0 starts n)))
-          (sym (offset-number v.order (located_cells (debug_data v).lines) z.contents f.at f.size plain first.inside)) h.0,
-      named-fields v z starts fs plain each.1 h.1,
-    )
-
-unit-named : (v : View) (z : UnitSection) (places : List ℕ) (fs : List PathField) → IsPlain z.contents → EachOf (IsStartField (bytes_of z.contents)) fs
-    → StartsHere v.order (bytes_of z.contents) places fs → UnitsNamed (debug_data v) places z.contents fs
-unfolding debug_data
-unit-named v z places [] plain each h = tt
-unit-named v z places (f ∷ fs) plain each h =
-    let first = each.0 in
-    let cells : List Cell = cells_at z.contents f.at f.size in
-    let own : IsPlain (cells_at z.contents f.at f.size) = plain-at z.contents f.at f.size plain in (
-      ap (names_place places) (field-plain v.order (cells_at z.contents f.at f.size) own)
-          ∙ ap (λ (n : ℕ). is_there (start_number 0 places n))
-          (sym (offset_of-plain v.order (located_cells (debug_data v).lines) (cells_at z.contents f.at f.size) own)
-          ∙ offset-number v.order (located_cells (debug_data v).lines) z.contents f.at f.size plain first.inside)
-          ∙ h.0,
-      unit-named v z places fs plain each.1 h.1,
-    )
-
-each-of-fields : (info : List ℕ) (fs : List PathField) → AreStartFields info fs → EachOf (IsStartField info) fs
-each-of-fields info [] are = tt
-each-of-fields info (f ∷ fs) are =
-    (are.each 0 f (omega arith), each-of-fields info fs (record { each = λ (k : ℕ) (d : PathField) (lt : k < length fs). are.each (suc k) d (omega arith) }))
-
-all-starts : (v : View) (starts places : List ℕ) (before zs : List UnitSection) (us : List UnitPaths) → (debug_data v).units ≡ before ++ zs → AllPlaced (debug_data v) zs us
+all-starts : (v : View) (starts : List ℕ) (places : UnitPlaces) (before zs : List UnitSection) (us : List UnitPaths) → (debug_data v).units ≡ before ++ zs → AllPlaced (debug_data v) zs us
     → EachOf (StartsIn v starts places) us → AllStarts (debug_data v) starts places zs us
+unfolding debug_data
 all-starts v starts places before [] us split all each = tt
 all-starts v starts places before (z ∷ zs) [] split all each = tt
 all-starts v starts places before (z ∷ zs) (u ∷ us) split all each =
     let here : StartsIn v starts places u = each.0 in
-    let bytes : bytes_of z.contents ≡ info_of v u = says-bytes v before zs z u split all.0 in
-    let has : HasPaths v u = has-paths v u (record { section = z; before = before; behind = zs; split = split; says = all.0 }) in (
+    let of : IsOfView v z.number z = own-section v before zs z split in
+    let cells : view_cells v u.number ≡ z.contents = ap (view_cells v) (says-number (debug_data v) z u all.0) ∙ sym of.contents in (
       record {
         all_say = here.all_say;
-        named = named-fields v z starts u.starts (own-plain v z (own-section v before zs z split))
-            (each-of-fields (bytes_of z.contents) u.starts (subst (λ (bs : List ℕ). AreStartFields bs u.starts) (sym bytes) has.starts))
-            (subst (λ (bs : List ℕ). StartsHere v.order bs starts u.starts) (sym bytes) here.there);
-        units = unit-named v z places u.macros (own-plain v z (own-section v before zs z split))
-            (each-of-fields (bytes_of z.contents) u.macros (subst (λ (bs : List ℕ). AreStartFields bs u.macros) (sym bytes) has.macros))
-            (subst (λ (bs : List ℕ). StartsHere v.order bs places u.macros) (sym bytes) here.units);
+        named = subst (λ (l : Located). FieldsSay (says_start v.order l starts) z.contents u.starts) (sym (lines-located v))
+            (subst (λ (cs : List Cell). FieldsSay (says_start v.order (located v Line) starts) cs u.starts) cells here.there);
+        units = subst (λ (cs : List Cell). FieldsSay (says_unit v.order places) cs u.macros) cells here.units;
       },
       all-starts v starts places (before ++ z ∷ []) zs us (split ∙ sym (append_assoc before (z ∷ []) zs)) all.1 each.1,
     )
@@ -537,23 +541,23 @@ sections-front us u i lt is =
     let next : suc i ≡ i + 1 = omega arith in
     drop-cons us i u lt ∙ ap (λ (n : ℕ). get_or us i u ∷ drop n us) next ∙ ap (λ (y : UnitPaths). y ∷ drop (i + 1) us) (sym is)
 
-pub record AllPassed (v : View) (starts places : List ℕ) (us : List UnitPaths) (i : ℕ) : Type 0 where
+pub record AllPassed (v : View) (starts : List ℕ) (places : UnitPlaces) (us : List UnitPaths) (i : ℕ) : Type 0 where
   pub here : EachOf (StartsIn v starts places) (drop i us) → EachOf (StartsIn v starts places) us
 
-pub all-none : (v : View) (starts places : List ℕ) (us : List UnitPaths) → AllPassed v starts places us 0
+pub all-none : (v : View) (starts : List ℕ) (places : UnitPlaces) (us : List UnitPaths) → AllPassed v starts places us 0
 all-none v starts places us = record { here = λ h. h }
 
-pub all-more : (v : View) (starts places : List ℕ) (us : List UnitPaths) (i : ℕ) (u : UnitPaths) → i < length us → u ≡ get_or us i u → AllPassed v starts places us i
-    → SectionStarts v.order (info_of v u) starts places u → AllPassed v starts places us (i + 1)
+pub all-more : (v : View) (starts : List ℕ) (places : UnitPlaces) (us : List UnitPaths) (i : ℕ) (u : UnitPaths) → i < length us → u ≡ get_or us i u → AllPassed v starts places us i
+    → SectionStarts v starts places u → AllPassed v starts places us (i + 1)
 all-more v starts places us i u lt is passed here = record { here = λ h. passed.here (subst (EachOf (StartsIn v starts places)) (sym (sections-front us u i lt is)) (here, h)) }
 
-pub all-end : (v : View) (starts places : List ℕ) (us : List UnitPaths) (i : ℕ) → AllTaken (debug_data v) (debug_data v).units us → length us ≤ i → AllPassed v starts places us i
+pub all-end : (v : View) (starts : List ℕ) (places : UnitPlaces) (us : List UnitPaths) (i : ℕ) → AllTaken (debug_data v) (debug_data v).units us → length us ≤ i → AllPassed v starts places us i
     → AllStarts (debug_data v) starts places (debug_data v).units us
 all-end v starts places us i taken end passed =
     all-starts v starts places [] (debug_data v).units us refl (taken-placed (debug_data v) (debug_data v).units us taken)
     (passed.here (subst (EachOf (StartsIn v starts places)) (sym (drop_all i us end)) tt))
 
-pub taken-paths : (v : View) (us : List UnitPaths) (i : ℕ) (u : UnitPaths) → AllTaken (debug_data v) (debug_data v).units us → i < length us → u ≡ get_or us i u → HasPaths v u
-taken-paths v us i u taken lt is = paths-at v us i u (taken-placed (debug_data v) (debug_data v).units us taken) lt is
+pub taken-paths : (v : View) (us : List UnitPaths) (i : ℕ) (u : UnitPaths) → AllTaken (debug_data v) (debug_data v).units us → i < length us → u ≡ get_or us i u → HasPlaces v u
+taken-paths v us i u taken lt is = places-at v us i u (taken-placed (debug_data v) (debug_data v).units us taken) lt is
 
 pub ruleset all_rules = (all-none)

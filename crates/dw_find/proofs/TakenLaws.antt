@@ -16,7 +16,7 @@ use Rattle.dw_base.specs.declared.values.ValueClass.{ValueClass}
 use Rattle.dw_base.specs.declared.values.ValueClass.TheVariants.{Number, StrOffset, LineStrOffset, InlineText, StrIndex, SecOffset}
 use Rattle.dw_find.specs.EntryTexts.{OffsetNames, IsTaken, TakenBehind, AreTaken}
 use Rattle.dw_base.specs.declared.dwarf_numbers.TheConstants.{DW_AT_stmt_list}
-use Rattle.dw_find.specs.TextPlaces.{TextPlace, PlacesName, class_places, is_macros, is_start, is_start_form, line_at, line_places, own_form, said_places, said_value, value_places, value_places_behind, values_places, places_behind, places_by, entry_places, entries_places}
+use Rattle.dw_find.specs.TextPlaces.{TextPlace, PlacesName, class_places, said_base, is_macros, is_start, is_start_form, line_at, line_places, own_form, said_places, said_value, value_places, value_places_behind, values_places, places_behind, places_by, entry_places, entries_places}
 use Rattle.dw_find.specs.UnitTexts.{tables_of, TakenOf, TakenBy, EntryTaken, EntriesTaken}
 
 -- places that name texts, and more of them
@@ -25,18 +25,22 @@ names-append d cells [] us a b = b
 names-append d cells (t ∷ ts) us a b = (a.0, names-append d cells ts us a.1 b)
 
 -- an offset that was taken names a text
-class-names : (class : ValueClass) (path base : Bool) (place : ℕ) (d : DebugData) (z : UnitSection) (v : Value) → OffsetNames (tables_of d z) class v
-    → PlacesName d z.contents (class_places class path base place v)
-class-names StrOffset path base place d z v h = (h, tt)
-class-names LineStrOffset path base place d z v h = (h, tt)
-class-names InlineText true base place d z v h = (tt, tt)
-class-names InlineText false base place d z v h = tt
-class-names StrIndex path base place d z v h = (tt, tt)
-class-names Number path true place d z v h = (tt, tt)
-class-names Number path false place d z v h = tt
-class-names SecOffset path true place d z v h = (tt, tt)
-class-names SecOffset path false place d z v h = tt
-class-names class path base place d z v h = tt
+base-names : (field : Bool) (place at len n : ℕ) (d : DebugData) (cells : List Cell) → PlacesName d cells (said_base field place at len n)
+base-names true place at len n d cells = (tt, tt)
+base-names false place at len n d cells = (tt, tt)
+
+class-names : (class : ValueClass) (path base field : Bool) (place : ℕ) (d : DebugData) (z : UnitSection) (v : Value) → OffsetNames (tables_of d z) class v
+    → PlacesName d z.contents (class_places class path base field place v)
+class-names StrOffset path base field place d z v h = (h, tt)
+class-names LineStrOffset path base field place d z v h = (h, tt)
+class-names InlineText true base field place d z v h = (tt, tt)
+class-names InlineText false base field place d z v h = tt
+class-names StrIndex path base field place d z v h = (tt, tt)
+class-names Number path true field place d z v h = base-names field place v.at v.len v.number d z.contents
+class-names Number path false field place d z v h = tt
+class-names SecOffset path true field place d z v h = base-names field place v.at v.len v.number d z.contents
+class-names SecOffset path false field place d z v h = tt
+class-names class path base field place d z v h = tt
 
 -- a start names no text
 line-names : (line : Bool) (form : ℕ) (d : DebugData) (cells : List Cell) (v : Value) → PlacesName d cells (line_places line form v)
@@ -60,11 +64,11 @@ value-names : (d : DebugData) (z : UnitSection) (bytes : List ℕ) (n tag : ℕ)
     → PlacesName d z.contents (value_places n tag x bytes place v)
 value-names d z bytes n tag x place v taken =
     let form : ℕ = own_form x bytes place in
-    let texts : List TextPlace = class_places v.class (is_path n tag x.name) (is_base n x.name) place v in
+    let texts : List TextPlace = class_places v.class (is_path n tag x.name) (is_base n x.name) (is_start_form (own_form x bytes place)) place v in
     names-append d z.contents (line_places (x.name == DW_AT_stmt_list) form v) (texts ++ said_places (is_start x.name) (is_macros x.name) form place v)
     (line-names (x.name == DW_AT_stmt_list) form d z.contents v)
     (names-append d z.contents texts (said_places (is_start x.name) (is_macros x.name) form place v)
-    (class-names v.class (is_path n tag x.name) (is_base n x.name) place d z v taken.names)
+    (class-names v.class (is_path n tag x.name) (is_base n x.name) (is_start_form (own_form x bytes place)) place d z v taken.names)
     (said-names (is_start x.name) (is_macros x.name) form place v d z.contents))
 
 -- so do the values of an entry

@@ -23,6 +23,7 @@ use Rattle.dw_entries.specs.ViewUnits.{IsUnitSection, numbered, unit_base, unit_
 use Rattle.dw_entries.proofs.UnitSectionLaws.{is-of-view}
 use Rattle.dw_find.specs.EntryTexts.{Tables, TextTables, Found, none_found}
 use Rattle.dw_find.specs.NamedSlots.{Slots, TakesIndexes}
+use Rattle.dw_find.specs.TextPlaces.{base_source, number_said}
 use Rattle.dw_find.specs.UnitTexts.{OneTaken, ScanTaken, UnitRefuses, UnitsRefuse, data_fails, header_fails, tables_of, texts_of}
 use Rattle.dw_find.proofs.HeaderLaws.{header-of}
 use Rattle.dw_find.proofs.RowLaws.{unit-row}
@@ -99,7 +100,7 @@ one-row d z h t table f u same declares b =
     (subst (λ (x : Tables). Blames (UnitRefuses x h table (bytes_up_to z h)) f) same b)
 
 pub one-taken : (d : DebugData) (z : UnitSection) (h : UnitHeader) (t : Tables) (table : List Abbreviation) (old found new : Found) (before now : Slots) → t ≡ tables_of d z
-    → IsUnitTable d.base h table → ScanTaken t h table (bytes_up_to z h) old found → TakesIndexes h.section found.base found.indexes before now
+    → IsUnitTable d.base h table → ScanTaken t h table (bytes_up_to z h) old found → TakesIndexes h.section (number_said (base_source d) z.contents found.base) found.indexes before now
     → new ≡ none_found found.paths → OneTaken d z h old new before now
 one-taken d z h t table old found new before now same declares s slots ends = record {
   table = table;

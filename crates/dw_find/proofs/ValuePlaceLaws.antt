@@ -17,7 +17,7 @@ use Rattle.dw_base.specs.declared.shared.Params.{Params}
 use Rattle.dw_base.specs.declared.values.Value.{Value}
 use Rattle.dw_base.specs.declared.values.ValueClass.{ValueClass}
 use Rattle.dw_base.specs.declared.values.ValueClass.TheVariants.{InlineText, Number, StrOffset, LineStrOffset, StrIndex, SecOffset, Signed, Bytes, Flag}
-use Rattle.dw_find.specs.TextPlaces.{TextPlace, no_index, unit_start, place_of, indexed_at, indexed_kind, no_start, class_places, is_macros, is_start, is_start_form, line_at, line_places, said_places, said_start, said_value}
+use Rattle.dw_find.specs.TextPlaces.{TextPlace, no_index, unit_start, place_of, indexed_at, indexed_kind, no_start, class_places, is_macros, is_start, is_start_form, line_at, line_places, said_places, said_start, said_value, said_base}
 use Rattle.dw_find.proofs.StartFormLaws.{is_other_use, line-macro, line-macros, line-path, line-starts, line-use, macro-path, macro-starts, macro-use, macro-value, plain-macro, plain-other, plain-starts, plain-use}
 
 -- a class that isn't of texts
@@ -135,28 +135,29 @@ is_other_class Number = false
 is_other_class SecOffset = false
 is_other_class class = true
 
-no_places : (class : ValueClass) (path base : Bool) (place : ℕ) (v : Value) → is_other_class class ≡ true → v.class ≡ class → [] ≡ class_places v.class path base place v
-no_places InlineText path base place v other is = absurd cc
-no_places StrOffset path base place v other is = absurd cc
-no_places LineStrOffset path base place v other is = absurd cc
-no_places StrIndex path base place v other is = absurd cc
-no_places Number path base place v other is = absurd cc
-no_places SecOffset path base place v other is = absurd cc
-no_places class path base place v other is = rw is refl
+no_places : (class : ValueClass) (path base field : Bool) (place : ℕ) (v : Value) → is_other_class class ≡ true → v.class ≡ class
+    → [] ≡ class_places v.class path base field place v
+no_places InlineText path base field place v other is = absurd cc
+no_places StrOffset path base field place v other is = absurd cc
+no_places LineStrOffset path base field place v other is = absurd cc
+no_places StrIndex path base field place v other is = absurd cc
+no_places Number path base field place v other is = absurd cc
+no_places SecOffset path base field place v other is = absurd cc
+no_places class path base field place v other is = rw is refl
 
 -- a field of an offset
-offset_places : (table : TextSection) (used path base : Bool) (place : ℕ) (v : Value) (at n : ℕ) → used ≡ path → Fields v (offset_class table) at n n
-    → place_of (offset table used) at v.size ++ [] ≡ class_places v.class path base place v
-offset_places in_str used path base place v at n same f = rw (f.class_is, f.at_is, f.len_is, f.size_is, same) refl
-offset_places in_line_str used path base place v at n same f = rw (f.class_is, f.at_is, f.len_is, f.size_is, same) refl
+offset_places : (table : TextSection) (used path base field : Bool) (place : ℕ) (v : Value) (at n : ℕ) → used ≡ path → Fields v (offset_class table) at n n
+    → place_of (offset table used) at v.size ++ [] ≡ class_places v.class path base field place v
+offset_places in_str used path base field place v at n same f = rw (f.class_is, f.at_is, f.len_is, f.size_is, same) refl
+offset_places in_line_str used path base field place v at n same f = rw (f.class_is, f.at_is, f.len_is, f.size_is, same) refl
 
 -- a text
-text_places : (used path base : Bool) (place : ℕ) (v : Value) (at n : ℕ) → used ≡ path → Fields v InlineText at n (n + 1)
-    → place_of (cond used inline_path fixed) at v.size ++ [] ≡ class_places v.class path base place v
-text_places true true base place v at n same f = rw (f.class_is, f.at_is, f.len_is, f.size_is) refl
-text_places true false base place v at n same f = absurd cc
-text_places false true base place v at n same f = absurd cc
-text_places false false base place v at n same f = rw f.class_is refl
+text_places : (used path base field : Bool) (place : ℕ) (v : Value) (at n : ℕ) → used ≡ path → Fields v InlineText at n (n + 1)
+    → place_of (cond used inline_path fixed) at v.size ++ [] ≡ class_places v.class path base field place v
+text_places true true base field place v at n same f = rw (f.class_is, f.at_is, f.len_is, f.size_is) refl
+text_places true false base field place v at n same f = absurd cc
+text_places false true base field place v at n same f = absurd cc
+text_places false false base field place v at n same f = rw f.class_is refl
 
 -- the cells of a value of a kind spell its number
 abbrev pub SpellsNumber : ValueKind → Order → List Cell → ℕ → Type 0
@@ -165,29 +166,39 @@ SpellsNumber (leb_number class) order p x = code_value p ≡ x
 SpellsNumber k order p x = ⊤
 
 -- a number
-number_places : (class : ValueClass) (size : ℕ) (path base : Bool) (order : Order) (place : ℕ) (p : List Cell) (v : Value) → is_plain_class class ≡ true → v.class ≡ class
-    → spelled order (bytes_of p) 0 (length p) ≡ v.number → indexed_kind (number_of class size) path base order place p ≡ class_places v.class path base place v
-number_places InlineText size path base order place p v plain is same = absurd cc
-number_places StrOffset size path base order place p v plain is same = absurd cc
-number_places LineStrOffset size path base order place p v plain is same = absurd cc
-number_places StrIndex size path base order place p v plain is same = rw (is, same) refl
-number_places Number size path true order place p v plain is same = rw (is, same) refl
-number_places Number size path false order place p v plain is same = rw is refl
-number_places SecOffset size path true order place p v plain is same = rw (is, same) refl
-number_places SecOffset size path false order place p v plain is same = rw is refl
-number_places class size path base order place p v plain is same = rw is refl
+base_places : (b field : Bool) (begin at len n : ℕ) (v : Value) → b ≡ field → at ≡ v.at → len ≡ v.len → n ≡ v.number
+    → said_base b begin at len n ≡ said_base field begin v.at v.len v.number
+base_places b field begin at len n v same at_is len_is is = rw (same, at_is, len_is, is) refl
+
+number_places : (class : ValueClass) (size : ℕ) (path base field : Bool) (order : Order) (place at : ℕ) (p : List Cell) (v : Value) → is_plain_class class ≡ true
+    → Fields v class at size size → can_start (number_of class size) ≡ field → spelled order (bytes_of p) 0 (length p) ≡ v.number
+    → indexed_kind (number_of class size) path base order place at v.size p ≡ class_places v.class path base field place v
+number_places InlineText size path base field order place at p v plain f can same = absurd cc
+number_places StrOffset size path base field order place at p v plain f can same = absurd cc
+number_places LineStrOffset size path base field order place at p v plain f can same = absurd cc
+number_places StrIndex size path base field order place at p v plain f can same = rw (f.class_is, same) refl
+number_places Number size path true field order place at p v plain f can same =
+    base_places (size == 4 || size == 8) field place at v.size (spelled order (bytes_of p) 0 (length p)) v can (sym f.at_is) (f.size_is ∙ sym f.len_is) same
+    ∙ ap (λ (c : ValueClass). class_places c path true field place v) (sym f.class_is)
+number_places Number size path false field order place at p v plain f can same = rw f.class_is refl
+number_places SecOffset size path true field order place at p v plain f can same =
+    base_places true field place at v.size (spelled order (bytes_of p) 0 (length p)) v can (sym f.at_is) (f.size_is ∙ sym f.len_is) same
+    ∙ ap (λ (c : ValueClass). class_places c path true field place v) (sym f.class_is)
+number_places SecOffset size path false field order place at p v plain f can same = rw f.class_is refl
+number_places class size path base field order place at p v plain f can same = rw f.class_is refl
 
 -- a number of LEB128
-leb_places : (class : ValueClass) (path base : Bool) (order : Order) (place : ℕ) (p : List Cell) (v : Value) → is_plain_leb class ≡ true → v.class ≡ class
-    → code_value p ≡ v.number → indexed_kind (leb_number class) path base order place p ≡ class_places v.class path base place v
-leb_places InlineText path base order place p v plain is same = absurd cc
-leb_places StrOffset path base order place p v plain is same = absurd cc
-leb_places LineStrOffset path base order place p v plain is same = absurd cc
-leb_places SecOffset path base order place p v plain is same = absurd cc
-leb_places StrIndex path base order place p v plain is same = rw (is, same) refl
-leb_places Number path true order place p v plain is same = rw (is, same) refl
-leb_places Number path false order place p v plain is same = rw is refl
-leb_places class path base order place p v plain is same = rw is refl
+leb_places : (class : ValueClass) (path base field : Bool) (order : Order) (place at len : ℕ) (p : List Cell) (v : Value) → is_plain_leb class ≡ true → v.class ≡ class
+    → false ≡ field → code_value p ≡ v.number → indexed_kind (leb_number class) path base order place at len p ≡ class_places v.class path base field place v
+leb_places InlineText path base field order place at len p v plain is can same = absurd cc
+leb_places StrOffset path base field order place at len p v plain is can same = absurd cc
+leb_places LineStrOffset path base field order place at len p v plain is can same = absurd cc
+leb_places SecOffset path base field order place at len p v plain is can same = absurd cc
+leb_places StrIndex path base field order place at len p v plain is can same = rw (is, same) refl
+leb_places Number path true true order place at len p v plain is can same = absurd cc
+leb_places Number path true false order place at len p v plain is can same = rw (is, same) refl
+leb_places Number path false field order place at len p v plain is can same = rw is refl
+leb_places class path base field order place at len p v plain is can same = rw is refl
 
 -- the role of a value that is a text, of a path or not
 abbrev text_role : ValueKind → Bool → Role
@@ -196,34 +207,34 @@ text_role inline_text path = cond path inline_path fixed
 text_role k path = fixed
 
 -- a value of a kind has its text where its class says, and says by index what its class says
-text-placed : (k : ValueKind) (order : Order) (bytes : List ℕ) (at : ℕ) (implicit : ℤ) (path base : Bool) (place : ℕ) (p : List Cell) (v : Value)
-    → is_plain_kind k ≡ true → value_of k order bytes at implicit ≡ Some v → SpellsNumber k order p v.number
-    → place_of (text_role k path) at v.size ++ indexed_kind k path base order place p ≡ class_places v.class path base place v
+text-placed : (k : ValueKind) (order : Order) (bytes : List ℕ) (at : ℕ) (implicit : ℤ) (path base field : Bool) (place : ℕ) (p : List Cell) (v : Value)
+    → is_plain_kind k ≡ true → can_start k ≡ field → value_of k order bytes at implicit ≡ Some v → SpellsNumber k order p v.number
+    → place_of (text_role k path) at v.size ++ indexed_kind k path base order place at v.size p ≡ class_places v.class path base field place v
 unfolding value_of
-text-placed (number_of class n) order bytes at i path base place p v plain e same =
-    number_places class n path base order place p v plain (number-fields class at n (number_at order bytes at n) v e).class_is same
-text-placed (leb_number class) order bytes at i path base place p v plain e same =
-    leb_places class path base order place p v plain (leb-class class at (uleb_at bytes at) v e) same
-text-placed signed_leb order bytes at i path base place p v plain e same =
-    no_places Signed path base place v refl (signed-class at (sleb_at bytes at) v e)
-text-placed (block_of n) order bytes at i path base place p v plain e same =
-    no_places Bytes path base place v refl (block-class bytes at 0 n v e)
-text-placed (counted n) order bytes at i path base place p v plain e same =
-    no_places Bytes path base place v refl (counted-class bytes at n (number_at order bytes at n) v e)
-text-placed counted_leb order bytes at i path base place p v plain e same =
-    no_places Bytes path base place v refl (counted_leb-class bytes at (uleb_at bytes at) v e)
-text-placed inline_text order bytes at i path base place p v plain e same =
-    text_places path path base place v at (length (text_in bytes at)) refl (text-fields bytes at v e)
-text-placed (text_offset table n) order bytes at i path base place p v plain e same =
-    offset_places table path path base place v at n refl
+text-placed (number_of class n) order bytes at i path base field place p v plain can e same =
+    number_places class n path base field order place at p v plain (number-fields class at n (number_at order bytes at n) v e) can same
+text-placed (leb_number class) order bytes at i path base field place p v plain can e same =
+    leb_places class path base field order place at v.size p v plain (leb-class class at (uleb_at bytes at) v e) can same
+text-placed signed_leb order bytes at i path base field place p v plain can e same =
+    no_places Signed path base field place v refl (signed-class at (sleb_at bytes at) v e)
+text-placed (block_of n) order bytes at i path base field place p v plain can e same =
+    no_places Bytes path base field place v refl (block-class bytes at 0 n v e)
+text-placed (counted n) order bytes at i path base field place p v plain can e same =
+    no_places Bytes path base field place v refl (counted-class bytes at n (number_at order bytes at n) v e)
+text-placed counted_leb order bytes at i path base field place p v plain can e same =
+    no_places Bytes path base field place v refl (counted_leb-class bytes at (uleb_at bytes at) v e)
+text-placed inline_text order bytes at i path base field place p v plain can e same =
+    text_places path path base field place v at (length (text_in bytes at)) refl (text-fields bytes at v e)
+text-placed (text_offset table n) order bytes at i path base field place p v plain can e same =
+    offset_places table path path base field place v at n refl
     (number-fields (offset_class table) at n (number_at order bytes at n) v e)
-text-placed present order bytes at i path base place p v plain e same =
-    no_places Flag path base place v refl (bare-class bytes at Flag 1 v e)
-text-placed in_abbreviation order bytes at i path base place p v plain e same =
-    no_places Signed path base place v refl (bare-class bytes at Signed _ v e)
-text-placed form_in_front order bytes at i path base place p v plain e same = absurd cc
-text-placed supplementary order bytes at i path base place p v plain e same = absurd cc
-text-placed unlisted order bytes at i path base place p v plain e same = absurd cc
+text-placed present order bytes at i path base field place p v plain can e same =
+    no_places Flag path base field place v refl (bare-class bytes at Flag 1 v e)
+text-placed in_abbreviation order bytes at i path base field place p v plain can e same =
+    no_places Signed path base field place v refl (bare-class bytes at Signed _ v e)
+text-placed form_in_front order bytes at i path base field place p v plain can e same = absurd cc
+text-placed supplementary order bytes at i path base field place p v plain can e same = absurd cc
+text-placed unlisted order bytes at i path base field place p v plain can e same = absurd cc
 
 -- the role of a value that says no start
 number-other : (u : Use) (class : ValueClass) (n : ℕ) → is_other_use u ≡ true → cond (is_line_start u class n) line_start fixed ≡ fixed
@@ -241,18 +252,19 @@ role-stray (number_of class n) no_ = rw no_ refl
 role-stray k no_ = refl
 
 -- a number that says where a line table starts
-start-placed : (k : ValueKind) (order : Order) (bytes : List ℕ) (at : ℕ) (implicit : ℤ) (base : Bool) (place : ℕ) (p : List Cell) (v : Value)
-    → is_plain_kind k ≡ true → can_start k ≡ true → value_of k order bytes at implicit ≡ Some v → SpellsNumber k order p v.number
-    → place_of (role_of_kind k names_line_table) at v.size ++ (indexed_kind k false base order place p ++ []) ≡ line_at true v ++ (class_places v.class false base place v ++ [])
+start-placed : (k : ValueKind) (order : Order) (bytes : List ℕ) (at : ℕ) (implicit : ℤ) (base field : Bool) (place : ℕ) (p : List Cell) (v : Value)
+    → is_plain_kind k ≡ true → can_start k ≡ true → can_start k ≡ field → value_of k order bytes at implicit ≡ Some v → SpellsNumber k order p v.number
+    → place_of (role_of_kind k names_line_table) at v.size ++ (indexed_kind k false base order place at v.size p ++ [])
+    ≡ line_at true v ++ (class_places v.class false base field place v ++ [])
 unfolding value_of
-start-placed (number_of class n) order bytes at i base place p v plain says e same =
+start-placed (number_of class n) order bytes at i base field place p v plain says can e same =
     let f : Fields v class at n n = number-fields class at n (number_at order bytes at n) v e in
-    ap (λ (r : Role). place_of r at v.size ++ (indexed_kind (number_of class n) false base order place p ++ [])) (ap (λ (b : Bool). cond b line_start fixed) says)
+    ap (λ (r : Role). place_of r at v.size ++ (indexed_kind (number_of class n) false base order place at v.size p ++ [])) (ap (λ (b : Bool). cond b line_start fixed) says)
     ∙ ap (λ (ts : List TextPlace). record { role = line_start; at = at; len = v.size; says = no_index } ∷ (ts ++ []))
-    (number_places class n false base order place p v plain f.class_is same)
-    ∙ ap (λ (k : ℕ). record { role = line_start; at = k; len = v.size; says = no_index } ∷ (class_places v.class false base place v ++ [])) (sym f.at_is)
-    ∙ ap (λ (k : ℕ). record { role = line_start; at = v.at; len = k; says = no_index } ∷ (class_places v.class false base place v ++ [])) (f.size_is ∙ sym f.len_is)
-start-placed k order bytes at i base place p v plain says e same = absurd cc
+    (number_places class n false base field order place at p v plain f can same)
+    ∙ ap (λ (k : ℕ). record { role = line_start; at = k; len = v.size; says = no_index } ∷ (class_places v.class false base field place v ++ [])) (sym f.at_is)
+    ∙ ap (λ (k : ℕ). record { role = line_start; at = v.at; len = k; says = no_index } ∷ (class_places v.class false base field place v ++ [])) (f.size_is ∙ sym f.len_is)
+start-placed k order bytes at i base field place p v plain says can e same = absurd cc
 
 -- a number that says where a macro unit starts
 unit-placed : (k : ValueKind) (order : Order) (bytes : List ℕ) (at place : ℕ) (implicit : ℤ) (v : Value) → can_start k ≡ true → value_of k order bytes at implicit ≡ Some v
@@ -269,83 +281,83 @@ unit-placed k order bytes at place i v says e = absurd cc
 pub value-placed : (k : ValueKind) (order : Order) (bytes : List ℕ) (at : ℕ) (implicit : ℤ) (number tag name form : ℕ) (base : Bool) (place : ℕ) (p : List Cell) (v : Value)
     → is_plain_kind k ≡ true → k ≢ form_in_front → can_start k ≡ is_start_form form → value_of k order bytes at implicit ≡ Some v → SpellsNumber k order p v.number
     → place_of (role_of_kind k (use_of number tag name)) at v.size
-    ++ (indexed_kind k (is_path number tag name) base order place p
+    ++ (indexed_kind k (is_path number tag name) base order place at v.size p
     ++ said_start (start_form_by k (use_of number tag name)) (macro_value_by k (use_of number tag name)) place at v.size)
     ≡ line_places (name == DW_AT_stmt_list) form v
-    ++ (class_places v.class (is_path number tag name) base place v ++ said_places (is_start name) (is_macros name) form place v)
+    ++ (class_places v.class (is_path number tag name) base (is_start_form form) place v ++ said_places (is_start name) (is_macros name) form place v)
 value-placed k order bytes at i number tag name form base place p v plain own starts e same = by_line (name == DW_AT_stmt_list) refl
   where
     by_start : (b : Bool) → can_start k ≡ b → is_start_form form ≡ b
-        → place_of (role_of_kind k names_line_table) at v.size ++ (indexed_kind k false base order place p ++ said_start b false place at v.size)
-        ≡ line_at (is_start_form form) v ++ (class_places v.class false base place v ++ said_value (is_start_form form) false place v)
+        → place_of (role_of_kind k names_line_table) at v.size ++ (indexed_kind k false base order place at v.size p ++ said_start b false place at v.size)
+        ≡ line_at (is_start_form form) v ++ (class_places v.class false base (is_start_form form) place v ++ said_value (is_start_form form) false place v)
     by_start true can is =
-        start-placed k order bytes at i base place p v plain can e same
-        ∙ ap (λ (x : Bool). line_at x v ++ (class_places v.class false base place v ++ said_value x false place v)) (sym is)
+        start-placed k order bytes at i base (is_start_form form) place p v plain can starts e same
+        ∙ ap (λ (x : Bool). line_at x v ++ (class_places v.class false base (is_start_form form) place v ++ said_value x false place v)) (sym is)
     by_start false can is =
-        ap (λ (r : Role). place_of r at v.size ++ (indexed_kind k false base order place p ++ indexed_at place no_start)) (role-stray k can)
-        ∙ sym (append_assoc (place_of (text_role k false) at v.size) (indexed_kind k false base order place p) (indexed_at place no_start))
-        ∙ ap (λ (ts : List TextPlace). ts ++ indexed_at place no_start) (text-placed k order bytes at i false base place p v plain e same)
-        ∙ ap (λ (x : Bool). line_at x v ++ (class_places v.class false base place v ++ said_value x false place v)) (sym is)
+        ap (λ (r : Role). place_of r at v.size ++ (indexed_kind k false base order place at v.size p ++ indexed_at place no_start)) (role-stray k can)
+        ∙ sym (append_assoc (place_of (text_role k false) at v.size) (indexed_kind k false base order place at v.size p) (indexed_at place no_start))
+        ∙ ap (λ (ts : List TextPlace). ts ++ indexed_at place no_start) (text-placed k order bytes at i false base (is_start_form form) place p v plain starts e same)
+        ∙ ap (λ (x : Bool). line_at x v ++ (class_places v.class false base (is_start_form form) place v ++ said_value x false place v)) (sym is)
 
     by_unit : (b : Bool) → can_start k ≡ b → is_start_form form ≡ b
-        → place_of (text_role k false) at v.size ++ (indexed_kind k false base order place p ++ said_start b b place at v.size)
-        ≡ class_places v.class false base place v ++ said_value (is_start_form form) true place v
+        → place_of (text_role k false) at v.size ++ (indexed_kind k false base order place at v.size p ++ said_start b b place at v.size)
+        ≡ class_places v.class false base (is_start_form form) place v ++ said_value (is_start_form form) true place v
     by_unit true can is =
-        sym (append_assoc (place_of (text_role k false) at v.size) (indexed_kind k false base order place p) (said_start true true place at v.size))
-        ∙ ap (λ (ts : List TextPlace). ts ++ said_start true true place at v.size) (text-placed k order bytes at i false base place p v plain e same)
-        ∙ ap (λ (ts : List TextPlace). class_places v.class false base place v ++ ts) (unit-placed k order bytes at place i v can e)
-        ∙ ap (λ (x : Bool). class_places v.class false base place v ++ said_value x true place v) (sym is)
+        sym (append_assoc (place_of (text_role k false) at v.size) (indexed_kind k false base order place at v.size p) (said_start true true place at v.size))
+        ∙ ap (λ (ts : List TextPlace). ts ++ said_start true true place at v.size) (text-placed k order bytes at i false base (is_start_form form) place p v plain starts e same)
+        ∙ ap (λ (ts : List TextPlace). class_places v.class false base (is_start_form form) place v ++ ts) (unit-placed k order bytes at place i v can e)
+        ∙ ap (λ (x : Bool). class_places v.class false base (is_start_form form) place v ++ said_value x true place v) (sym is)
     by_unit false can is =
-        sym (append_assoc (place_of (text_role k false) at v.size) (indexed_kind k false base order place p) (indexed_at place no_start))
-        ∙ ap (λ (ts : List TextPlace). ts ++ indexed_at place no_start) (text-placed k order bytes at i false base place p v plain e same)
-        ∙ ap (λ (x : Bool). class_places v.class false base place v ++ said_value x true place v) (sym is)
+        sym (append_assoc (place_of (text_role k false) at v.size) (indexed_kind k false base order place at v.size p) (indexed_at place no_start))
+        ∙ ap (λ (ts : List TextPlace). ts ++ indexed_at place no_start) (text-placed k order bytes at i false base (is_start_form form) place p v plain starts e same)
+        ∙ ap (λ (x : Bool). class_places v.class false base (is_start_form form) place v ++ said_value x true place v) (sym is)
 
     by_macro : (b : Bool) → (name == DW_AT_stmt_list) ≡ false → is_macros name ≡ b
         → place_of (role_of_kind k (use_of number tag name)) at v.size
-        ++ (indexed_kind k (is_path number tag name) base order place p
+        ++ (indexed_kind k (is_path number tag name) base order place at v.size p
         ++ said_start (start_form_by k (use_of number tag name)) (macro_value_by k (use_of number tag name)) place at v.size)
-        ≡ class_places v.class (is_path number tag name) base place v ++ said_places b b form place v
+        ≡ class_places v.class (is_path number tag name) base (is_start_form form) place v ++ said_places b b form place v
     by_macro true line macro =
         ap (λ (u : Use). place_of (role_of_kind k u) at v.size
-        ++ (indexed_kind k (is_path number tag name) base order place p ++ said_start (start_form_by k u) (macro_value_by k u) place at v.size)) (macro-use number tag name line macro)
+        ++ (indexed_kind k (is_path number tag name) base order place at v.size p ++ said_start (start_form_by k u) (macro_value_by k u) place at v.size)) (macro-use number tag name line macro)
         ∙ ap (λ (r : Role). place_of r at v.size
-        ++ (indexed_kind k (is_path number tag name) base order place p ++ said_start (start_form_by k names_macro_unit) (macro_value_by k names_macro_unit) place at v.size))
+        ++ (indexed_kind k (is_path number tag name) base order place at v.size p ++ said_start (start_form_by k names_macro_unit) (macro_value_by k names_macro_unit) place at v.size))
         (role-other k names_macro_unit refl)
         ∙ ap (λ (x : Bool). place_of (text_role k false) at v.size
-        ++ (indexed_kind k x base order place p ++ said_start (start_form_by k names_macro_unit) (macro_value_by k names_macro_unit) place at v.size)) (macro-path number tag name macro)
-        ∙ ap (λ (x : Bool). place_of (text_role k false) at v.size ++ (indexed_kind k false base order place p ++ said_start x (macro_value_by k names_macro_unit) place at v.size))
+        ++ (indexed_kind k x base order place at v.size p ++ said_start (start_form_by k names_macro_unit) (macro_value_by k names_macro_unit) place at v.size)) (macro-path number tag name macro)
+        ∙ ap (λ (x : Bool). place_of (text_role k false) at v.size ++ (indexed_kind k false base order place at v.size p ++ said_start x (macro_value_by k names_macro_unit) place at v.size))
         (macro-starts k own)
-        ∙ ap (λ (x : Bool). place_of (text_role k false) at v.size ++ (indexed_kind k false base order place p ++ said_start (can_start k) x place at v.size)) (macro-value k)
+        ∙ ap (λ (x : Bool). place_of (text_role k false) at v.size ++ (indexed_kind k false base order place at v.size p ++ said_start (can_start k) x place at v.size)) (macro-value k)
         ∙ by_unit (can_start k) refl (sym starts)
-        ∙ ap (λ (x : Bool). class_places v.class x base place v ++ said_value (is_start_form form) true place v) (sym (macro-path number tag name macro))
+        ∙ ap (λ (x : Bool). class_places v.class x base (is_start_form form) place v ++ said_value (is_start_form form) true place v) (sym (macro-path number tag name macro))
     by_macro false line macro =
         let plain_use = plain-use number tag name line macro in
         ap (λ (x : Bool). place_of (role_of_kind k (use_of number tag name)) at v.size
-        ++ (indexed_kind k (is_path number tag name) base order place p ++ said_start x (macro_value_by k (use_of number tag name)) place at v.size))
+        ++ (indexed_kind k (is_path number tag name) base order place at v.size p ++ said_start x (macro_value_by k (use_of number tag name)) place at v.size))
         (plain-starts k (use_of number tag name) plain_use)
-        ∙ ap (λ (x : Bool). place_of (role_of_kind k (use_of number tag name)) at v.size ++ (indexed_kind k (is_path number tag name) base order place p ++ said_start true x place at v.size))
+        ∙ ap (λ (x : Bool). place_of (role_of_kind k (use_of number tag name)) at v.size ++ (indexed_kind k (is_path number tag name) base order place at v.size p ++ said_start true x place at v.size))
         (plain-macro k (use_of number tag name) plain_use)
-        ∙ ap (λ (r : Role). place_of r at v.size ++ (indexed_kind k (is_path number tag name) base order place p ++ []))
+        ∙ ap (λ (r : Role). place_of r at v.size ++ (indexed_kind k (is_path number tag name) base order place at v.size p ++ []))
         (role-other k (use_of number tag name) (plain-other (use_of number tag name) plain_use) ∙ ap (text_role k) (path_use number tag name))
-        ∙ ap (λ (ts : List TextPlace). place_of (text_role k (is_path number tag name)) at v.size ++ ts) (append-nil (indexed_kind k (is_path number tag name) base order place p))
-        ∙ text-placed k order bytes at i (is_path number tag name) base place p v plain e same
-        ∙ sym (append-nil (class_places v.class (is_path number tag name) base place v))
+        ∙ ap (λ (ts : List TextPlace). place_of (text_role k (is_path number tag name)) at v.size ++ ts) (append-nil (indexed_kind k (is_path number tag name) base order place at v.size p))
+        ∙ text-placed k order bytes at i (is_path number tag name) base (is_start_form form) place p v plain starts e same
+        ∙ sym (append-nil (class_places v.class (is_path number tag name) base (is_start_form form) place v))
 
     by_line : (b : Bool) → (name == DW_AT_stmt_list) ≡ b
         → place_of (role_of_kind k (use_of number tag name)) at v.size
-        ++ (indexed_kind k (is_path number tag name) base order place p
+        ++ (indexed_kind k (is_path number tag name) base order place at v.size p
         ++ said_start (start_form_by k (use_of number tag name)) (macro_value_by k (use_of number tag name)) place at v.size)
-        ≡ line_places b form v ++ (class_places v.class (is_path number tag name) base place v ++ said_places (b || is_macros name) (is_macros name) form place v)
+        ≡ line_places b form v ++ (class_places v.class (is_path number tag name) base (is_start_form form) place v ++ said_places (b || is_macros name) (is_macros name) form place v)
     by_line true line =
         ap (λ (u : Use). place_of (role_of_kind k u) at v.size
-        ++ (indexed_kind k (is_path number tag name) base order place p ++ said_start (start_form_by k u) (macro_value_by k u) place at v.size)) (line-use number tag name line)
+        ++ (indexed_kind k (is_path number tag name) base order place at v.size p ++ said_start (start_form_by k u) (macro_value_by k u) place at v.size)) (line-use number tag name line)
         ∙ ap (λ (x : Bool). place_of (role_of_kind k names_line_table) at v.size
-        ++ (indexed_kind k x base order place p ++ said_start (start_form_by k names_line_table) (macro_value_by k names_line_table) place at v.size)) (line-path number tag name line)
-        ∙ ap (λ (x : Bool). place_of (role_of_kind k names_line_table) at v.size ++ (indexed_kind k false base order place p ++ said_start x (macro_value_by k names_line_table) place at v.size))
+        ++ (indexed_kind k x base order place at v.size p ++ said_start (start_form_by k names_line_table) (macro_value_by k names_line_table) place at v.size)) (line-path number tag name line)
+        ∙ ap (λ (x : Bool). place_of (role_of_kind k names_line_table) at v.size ++ (indexed_kind k false base order place at v.size p ++ said_start x (macro_value_by k names_line_table) place at v.size))
         (line-starts k own)
-        ∙ ap (λ (x : Bool). place_of (role_of_kind k names_line_table) at v.size ++ (indexed_kind k false base order place p ++ said_start (can_start k) x place at v.size)) (line-macro k)
+        ∙ ap (λ (x : Bool). place_of (role_of_kind k names_line_table) at v.size ++ (indexed_kind k false base order place at v.size p ++ said_start (can_start k) x place at v.size)) (line-macro k)
         ∙ by_start (can_start k) refl (sym starts)
-        ∙ ap (λ (x : Bool). line_at (is_start_form form) v ++ (class_places v.class x base place v ++ said_value (is_start_form form) false place v)) (sym (line-path number tag name line))
-        ∙ ap (λ (x : Bool). line_at (is_start_form form) v ++ (class_places v.class (is_path number tag name) base place v ++ said_value (is_start_form form) x place v))
+        ∙ ap (λ (x : Bool). line_at (is_start_form form) v ++ (class_places v.class x base (is_start_form form) place v ++ said_value (is_start_form form) false place v)) (sym (line-path number tag name line))
+        ∙ ap (λ (x : Bool). line_at (is_start_form form) v ++ (class_places v.class (is_path number tag name) base (is_start_form form) place v ++ said_value (is_start_form form) x place v))
         (sym (line-macros name line))
     by_line false line = by_macro (is_macros name) line refl

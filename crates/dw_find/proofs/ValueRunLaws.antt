@@ -1,8 +1,8 @@
 -- From values that a pass over a unit meets to its pieces, and where texts stand in them.
-use Rattle.std.proofs.Common.{ℤ, Bool, true, false, ◌≡◌, ◌≢◌, ◌⊎◌, inl, inr, ℕ, ◌+◌, ◌==◌, ◌≤◌, List, [], ◌∷◌, ◌++◌, length, take, drop, cond, nat_le, Option, Some, None, refl, sym, ap, ◌∙◌, subst, arith, append_assoc, append-nil}
+use Rattle.std.proofs.Common.{ℤ, Bool, true, false, ◌≡◌, ◌≢◌, ◌⊎◌, inl, inr, ℕ, ◌+◌, ◌==◌, ◌≤◌, List, [], ◌∷◌, ◌++◌, length, take, drop, cond, nat_le, Option, Some, None, refl, sym, ap, ◌∙◌, subst, arith, append_assoc, append-nil, suc, zero}
 use Rattle.std.specs.Bool.{⊤}
 use Rattle.std.proofs.lemmas.List.{length-take-le, length-drop, take-append-drop, drop-drop}
-use Rattle.dw_base.specs.Cells.{Cell, bytes_of}
+use Rattle.dw_base.specs.Cells.{Cell, cells_at, bytes_of}
 use Rattle.dw_base.specs.Forms.{ValueKind, number_of, leb_number, signed_leb, block_of, counted, counted_leb, inline_text, text_offset, present, in_abbreviation, form_in_front, supplementary, unlisted, kind_in}
 use Rattle.dw_base.specs.Lebs.{uleb_at}
 use Rattle.dw_base.specs.Numbers.{number_at, spelled}
@@ -27,7 +27,7 @@ use Rattle.dw_meaning.proofs.PieceLaws.{leads-more, joined-append}
 use Rattle.dw_meaning.proofs.ScanPieceLaws.{part-bytes, before-end, part-length, inside-same, unit_bytes, NumberPiece, number-piece}
 use Rattle.dw_meaning.proofs.TextEditLaws.{chosen-fits}
 use Rattle.dw_meaning.proofs.ValueCutLaws.{IsCut, value_of-own}
-use Rattle.dw_find.specs.TextPlaces.{TextPlace, place_of, indexed_kind, indexed_in, places_in, class_places, value_places, is_start_form, line_at, line_places, is_macros, is_start, own_form, said_places, said_start, said_value}
+use Rattle.dw_find.specs.TextPlaces.{TextPlace, place_of, indexed_kind, indexed_in, said_base, places_in, class_places, value_places, is_start_form, line_at, line_places, is_macros, is_start, own_form, said_places, said_start, said_value}
 use Rattle.dw_find.proofs.StartFormLaws.{chosen-form, form-starts, plain-form}
 use Rattle.dw_find.proofs.ValuePlaceLaws.{SpellsNumber, kind_plain, value-placed}
 
@@ -37,10 +37,11 @@ OrderIs (at_values n tag xs) own order = own ≡ order
 OrderIs (at_chosen n tag start x xs) own order = own ≡ order
 OrderIs m own order = ⊤
 
-pub record IsNumbered (order : Order) (section unit : ℕ) (x : Piece UnitState) : Type 0 where
+pub record IsNumbered (order : Order) (cells : List Cell) (section unit : ℕ) (x : Piece UnitState) : Type 0 where
   pub section_is : x.state.section ≡ section
   pub unit_is : x.state.unit ≡ unit
   pub order_is : OrderIs x.state.mode x.state.header.params.order order
+  pub stands : cells_at cells x.state.place (length x.cells) ≡ x.cells
 
 -- pieces of a unit that lead from one state to another, whose cells stand from one place of some cells to another, and in which
 -- texts stand at these places
@@ -49,7 +50,7 @@ pub record PlacedRun (base : UnitBase) (cells : List Cell) (section unit : ℕ) 
   pub leads : Leads (unit_grammar base) s pieces t
   pub covers : joined pieces ++ drop b cells ≡ drop a cells
   pub places : places_in pieces ≡ ts
-  pub numbered : EachPiece (IsNumbered base.order section unit) pieces
+  pub numbered : EachPiece (IsNumbered base.order cells section unit) pieces
 
 -- the places of pieces, and of more of them
 pub places-append : (xs ys : List (Piece UnitState)) → places_in (xs ++ ys) ≡ places_in xs ++ places_in ys
@@ -65,6 +66,12 @@ pub each-append : (P : Piece UnitState → Type 0) (xs ys : List (Piece UnitStat
 each-append P [] ys a b = b
 each-append P (x ∷ xs) ys a b = (a.0, each-append P xs ys a.1 b)
 
+-- so many as there are
+take-take : (n : ℕ) (p : List Cell) → take (length (take n p)) p ≡ take n p
+take-take zero p = refl
+take-take (suc n) [] = refl
+take-take (suc n) (c ∷ p) = ap (λ (q : List Cell). c ∷ q) (take-take n p)
+
 -- one after another
 pub placed-more : (base : UnitBase) (cells : List Cell) (section unit : ℕ) (s t u : UnitState) (a b c : ℕ) (ts us : List TextPlace)
     → PlacedRun base cells section unit s t a b ts → PlacedRun base cells section unit t u b c us → PlacedRun base cells section unit s u a c (ts ++ us)
@@ -75,19 +82,19 @@ placed-more base cells section unit s t u a b c ts us m n = record {
       ap (λ (x : List Cell). x ++ drop c cells) (joined-append m.pieces n.pieces) ∙ append_assoc (joined m.pieces) (joined n.pieces) (drop c cells)
       ∙ ap (λ (x : List Cell). joined m.pieces ++ x) n.covers ∙ m.covers;
   places = places-append m.pieces n.pieces ∙ ap (λ (x : List TextPlace). x ++ places_in n.pieces) m.places ∙ ap (λ (x : List TextPlace). ts ++ x) n.places;
-  numbered = each-append (IsNumbered base.order section unit) m.pieces n.pieces m.numbered n.numbered;
+  numbered = each-append (IsNumbered base.order cells section unit) m.pieces n.pieces m.numbered n.numbered;
 }
 
 pub placed-none : (base : UnitBase) (cells : List Cell) (section unit : ℕ) (s t : UnitState) (a : ℕ) → s ≡ t → PlacedRun base cells section unit s t a a []
 placed-none base cells section unit s t a e = record { pieces = []; leads = e; covers = refl; places = refl; numbered = tt }
 
 -- a piece of so many cells
-pub placed-one : (base : UnitBase) (cells : List Cell) (s t : UnitState) (a n : ℕ) (ts : List TextPlace) → FitsMode s.mode base s (take n (drop a cells))
+pub placed-one : (base : UnitBase) (cells : List Cell) (s t : UnitState) (a n : ℕ) (ts : List TextPlace) → s.place ≡ a → FitsMode s.mode base s (take n (drop a cells))
     → past s.mode base s (take n (drop a cells)) ≡ t
     → place_of (role_of_mode s.mode s.header.params) s.place (length (take n (drop a cells))) ++ indexed_in s.mode s (take n (drop a cells)) ≡ ts
     → OrderIs s.mode s.header.params.order base.order → PlacedRun base cells s.section s.unit s t a (a + n) ts
 unfolding role_of
-placed-one base cells s t a n ts fits next here order = record {
+placed-one base cells s t a n ts begins fits next here order = record {
   pieces = record { state = s; cells = take n (drop a cells) } ∷ [];
   leads = (refl, fits, next);
   covers =
@@ -97,7 +104,15 @@ placed-one base cells s t a n ts fits next here order = record {
       ap (λ (x : List TextPlace). place_of (role_of_mode s.mode s.header.params) s.place (length (take n (drop a cells))) ++ x)
       (append-nil (indexed_in s.mode s (take n (drop a cells))))
       ∙ here;
-  numbered = (record { section_is = refl; unit_is = refl; order_is = order }, tt);
+  numbered = (
+    record {
+      section_is = refl;
+      unit_is = refl;
+      order_is = order;
+      stands = ap (λ (k : ℕ). cells_at cells k (length (take n (drop a cells)))) begins ∙ take-take n (drop a cells);
+    },
+    tt,
+  );
 }
 
 -- the state behind a value that isn't a form
@@ -203,11 +218,11 @@ value-spells s unlisted cells place implicit v is inside_ = tt
 -- the places of a value by its own form
 value-own : (n tag : ℕ) (x : Spec) (bytes : List ℕ) (place form : ℕ) (v : Value) → own_form x bytes place ≡ form
     → line_places (x.name == DW_AT_stmt_list) form v
-    ++ (class_places v.class (is_path n tag x.name) (is_base n x.name) place v ++ said_places (is_start x.name) (is_macros x.name) form place v)
+    ++ (class_places v.class (is_path n tag x.name) (is_base n x.name) (is_start_form form) place v ++ said_places (is_start x.name) (is_macros x.name) form place v)
     ≡ value_places n tag x bytes place v
 value-own n tag x bytes place form v f =
     ap (λ (k : ℕ). line_places (x.name == DW_AT_stmt_list) k v
-    ++ (class_places v.class (is_path n tag x.name) (is_base n x.name) place v ++ said_places (is_start x.name) (is_macros x.name) k place v)) (sym f)
+    ++ (class_places v.class (is_path n tag x.name) (is_base n x.name) (is_start_form k) place v ++ said_places (is_start x.name) (is_macros x.name) k place v)) (sym f)
 
 -- so a value of an attribute that isn't behind a form is one
 own-run : (base : UnitBase) (cells : List Cell) (s : UnitState) (place e d n tag : ℕ) (x : Spec) (xs : List Spec) (v : Value)
@@ -223,14 +238,14 @@ own-run base cells s place e d n tag x xs v order other is =
     let inside_ : place + v.size ≤ length (unit_bytes s cells) =
     (value_of-own (kind_in s.header.params x.form) s.header.params.order (unit_bytes s cells) place x.implicit v is).inside in
     let size : length (take v.size (drop place cells)) ≡ v.size = part-length v.size place s.header.end cells inside_ in
-    placed-one base cells (in_unit s place e d (at_values n tag (x ∷ xs))) (inside s (place + v.size) e d n tag xs) place v.size (value_places n tag x (unit_bytes s cells) place v)
+    placed-one base cells (in_unit s place e d (at_values n tag (x ∷ xs))) (inside s (place + v.size) e d n tag xs) place v.size (value_places n tag x (unit_bytes s cells) place v) refl
     (chosen-fits (kind_in s.header.params x.form) (in_unit s place e d (at_values n tag (x ∷ xs))) x (take v.size (drop place cells)) f)
     (after-own (kind_in s.header.params x.form) (in_unit s place e d (at_values n tag (x ∷ xs))) (place + length (take v.size (drop place cells)))
     (code_value (take v.size (drop place cells))) n tag x xs other
     ∙ inside-same s place e d (at_values n tag (x ∷ xs)) (place + length (take v.size (drop place cells))) e d n tag xs
     ∙ ap (λ (m : ℕ). inside s (place + m) e d n tag xs) size)
     (ap (λ (m : ℕ). place_of (role_of_kind (kind_in s.header.params x.form) (use_of n tag x.name)) place m
-    ++ (indexed_kind (kind_in s.header.params x.form) (is_path n tag x.name) (is_base n x.name) s.header.params.order place (take v.size (drop place cells))
+    ++ (indexed_kind (kind_in s.header.params x.form) (is_path n tag x.name) (is_base n x.name) s.header.params.order place place m (take v.size (drop place cells))
     ++ said_start (start_form_by (kind_in s.header.params x.form) (use_of n tag x.name)) (macro_value_by (kind_in s.header.params x.form) (use_of n tag x.name)) place place m)) size
     ∙ value-placed (kind_in s.header.params x.form) s.header.params.order (unit_bytes s cells) place x.implicit n tag x.name x.form (is_base n x.name) place
     (take v.size (drop place cells)) v (kind_plain s.header.params x.form) other (form-starts s.header.params x.form) is
@@ -326,14 +341,14 @@ front-run base cells s place e d n tag form size x xs order front is other own =
       other = λ f. other (ap (kind_in s.header.params) (sym c.value) ∙ f);
       own = λ f. own (ap (kind_in s.header.params) (sym c.value) ∙ f);
     } in
-    placed-one base cells (in_unit s place e d (at_values n tag (x ∷ xs))) (in_unit s (place + size) e d (at_chosen n tag place (of_chosen x form) xs)) place size []
+    placed-one base cells (in_unit s place e d (at_values n tag (x ∷ xs))) (in_unit s (place + size) e d (at_chosen n tag place (of_chosen x form) xs)) place size [] refl
     (subst (λ (k : ValueKind). FitsKind k (in_unit s place e d (at_values n tag (x ∷ xs))) x (take size (drop place cells))) (sym front) fits)
     (ap (λ (k : ValueKind). after_value k (in_unit s place e d (at_values n tag (x ∷ xs))) (place + length (take size (drop place cells)))
     (code_value (take size (drop place cells))) n tag x xs) front
     ∙ ap (λ (m : ℕ). in_unit s (place + m) e d (at_chosen n tag place (of_chosen x (code_value (take size (drop place cells)))) xs)) c.size
     ∙ ap (λ (f : ℕ). in_unit s (place + size) e d (at_chosen n tag place (of_chosen x f) xs)) c.value)
     (ap (λ (k : ValueKind). place_of (role_of_kind k (use_of n tag x.name)) place (length (take size (drop place cells)))
-    ++ (indexed_kind k (is_path n tag x.name) (is_base n x.name) s.header.params.order place (take size (drop place cells))
+    ++ (indexed_kind k (is_path n tag x.name) (is_base n x.name) s.header.params.order place place (length (take size (drop place cells))) (take size (drop place cells))
     ++ said_start (start_form_by k (use_of n tag x.name)) (macro_value_by k (use_of n tag x.name)) place place (length (take size (drop place cells))))) front)
     order
 
@@ -347,12 +362,12 @@ chosen-run base cells s place e d n tag start form x xs v order other own is =
     let inside_ : place + v.size ≤ length (unit_bytes s cells) =
     (value_of-own (kind_in s.header.params form) s.header.params.order (unit_bytes s cells) place x.implicit v is).inside in
     let size : length (take v.size (drop place cells)) ≡ v.size = part-length v.size place s.header.end cells inside_ in
-    placed-one base cells (in_unit s place e d (at_chosen n tag start (of_chosen x form) xs)) (inside s (place + v.size) e d n tag xs) place v.size (value_places n tag x (unit_bytes s cells) start v)
+    placed-one base cells (in_unit s place e d (at_chosen n tag start (of_chosen x form) xs)) (inside s (place + v.size) e d n tag xs) place v.size (value_places n tag x (unit_bytes s cells) start v) refl
     (value-piece s (of_chosen x form) (kind_in s.header.params form) cells place e d (at_chosen n tag start (of_chosen x form) xs) v is)
     (inside-same s place e d (at_chosen n tag start (of_chosen x form) xs) (place + length (take v.size (drop place cells))) e d n tag xs
     ∙ ap (λ (m : ℕ). inside s (place + m) e d n tag xs) size)
     (ap (λ (m : ℕ). place_of (role_of_kind (kind_in s.header.params form) (use_of n tag x.name)) place m
-    ++ (indexed_kind (kind_in s.header.params form) (is_path n tag x.name) (is_base n x.name) s.header.params.order start (take v.size (drop place cells))
+    ++ (indexed_kind (kind_in s.header.params form) (is_path n tag x.name) (is_base n x.name) s.header.params.order start place m (take v.size (drop place cells))
     ++ said_start (start_form_by (kind_in s.header.params form) (use_of n tag x.name)) (macro_value_by (kind_in s.header.params form) (use_of n tag x.name)) start place m)) size
     ∙ value-placed (kind_in s.header.params form) s.header.params.order (unit_bytes s cells) place x.implicit n tag x.name form (is_base n x.name) start
     (take v.size (drop place cells)) v (kind_plain s.header.params form) other (form-starts s.header.params form) is
@@ -361,18 +376,22 @@ chosen-run base cells s place e d n tag start form x xs v order other own is =
     order
 
 -- values that are the same but for their sizes
-class_places-same : (class : ValueClass) (path base : Bool) (place : ℕ) (v w : Value) → v.at ≡ w.at → v.len ≡ w.len → v.number ≡ w.number
-    → class_places class path base place w ≡ class_places class path base place v
-class_places-same StrOffset path base place v w at len number = rw (at, len) refl
-class_places-same LineStrOffset path base place v w at len number = rw (at, len) refl
-class_places-same InlineText true base place v w at len number = rw (at, len) refl
-class_places-same InlineText false base place v w at len number = refl
-class_places-same StrIndex path base place v w at len number = rw number refl
-class_places-same Number path true place v w at len number = rw number refl
-class_places-same Number path false place v w at len number = refl
-class_places-same SecOffset path true place v w at len number = rw number refl
-class_places-same SecOffset path false place v w at len number = refl
-class_places-same class path base place v w at len number = refl
+base-same : (field : Bool) (place : ℕ) (v w : Value) → v.at ≡ w.at → v.len ≡ w.len → v.number ≡ w.number
+    → said_base field place w.at w.len w.number ≡ said_base field place v.at v.len v.number
+base-same field place v w at len number = rw (at, len, number) refl
+
+class_places-same : (class : ValueClass) (path base field : Bool) (place : ℕ) (v w : Value) → v.at ≡ w.at → v.len ≡ w.len → v.number ≡ w.number
+    → class_places class path base field place w ≡ class_places class path base field place v
+class_places-same StrOffset path base field place v w at len number = rw (at, len) refl
+class_places-same LineStrOffset path base field place v w at len number = rw (at, len) refl
+class_places-same InlineText true base field place v w at len number = rw (at, len) refl
+class_places-same InlineText false base field place v w at len number = refl
+class_places-same StrIndex path base field place v w at len number = rw number refl
+class_places-same Number path true field place v w at len number = base-same field place v w at len number
+class_places-same Number path false field place v w at len number = refl
+class_places-same SecOffset path true field place v w at len number = base-same field place v w at len number
+class_places-same SecOffset path false field place v w at len number = refl
+class_places-same class path base field place v w at len number = refl
 
 line_at-same : (b : Bool) (v w : Value) → v.at ≡ w.at → v.len ≡ w.len → line_at b w ≡ line_at b v
 line_at-same true v w at len = rw (at, len) refl
@@ -394,15 +413,15 @@ said_places-same false macro form place v w at len = refl
 places-same : (n tag : ℕ) (x : Spec) (bytes : List ℕ) (place : ℕ) (v w : Value) → v.class ≡ w.class → v.at ≡ w.at → v.len ≡ w.len → v.number ≡ w.number
     → value_places n tag x bytes place w ≡ value_places n tag x bytes place v
 places-same n tag x bytes place v w class at len number =
-    ap (λ (ts : List TextPlace). ts ++ (class_places w.class (is_path n tag x.name) (is_base n x.name) place w
+    ap (λ (ts : List TextPlace). ts ++ (class_places w.class (is_path n tag x.name) (is_base n x.name) (is_start_form (own_form x bytes place)) place w
     ++ said_places (is_start x.name) (is_macros x.name) (own_form x bytes place) place w))
     (line_places-same (x.name == DW_AT_stmt_list) (own_form x bytes place) v w at len)
     ∙ ap (λ (ts : List TextPlace). line_places (x.name == DW_AT_stmt_list) (own_form x bytes place) v
     ++ (ts ++ said_places (is_start x.name) (is_macros x.name) (own_form x bytes place) place w))
-    (class_places-same w.class (is_path n tag x.name) (is_base n x.name) place v w at len number
-    ∙ ap (λ (c : ValueClass). class_places c (is_path n tag x.name) (is_base n x.name) place v) (sym class))
+    (class_places-same w.class (is_path n tag x.name) (is_base n x.name) (is_start_form (own_form x bytes place)) place v w at len number
+    ∙ ap (λ (c : ValueClass). class_places c (is_path n tag x.name) (is_base n x.name) (is_start_form (own_form x bytes place)) place v) (sym class))
     ∙ ap (λ (ts : List TextPlace). line_places (x.name == DW_AT_stmt_list) (own_form x bytes place) v
-    ++ (class_places v.class (is_path n tag x.name) (is_base n x.name) place v ++ ts))
+    ++ (class_places v.class (is_path n tag x.name) (is_base n x.name) (is_start_form (own_form x bytes place)) place v ++ ts))
     (said_places-same (is_start x.name) (is_macros x.name) (own_form x bytes place) place v w at len)
 
 -- a value of an attribute is one piece or two

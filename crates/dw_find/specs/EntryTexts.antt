@@ -20,6 +20,7 @@ use Rattle.dw_base.specs.declared.values.ValueClass.{ValueClass}
 use Rattle.dw_base.specs.declared.values.ValueClass.TheVariants.{StrOffset, LineStrOffset}
 use Rattle.dw_find.specs.TextPlaces.{TextPlace, base_in, fields_in, indexes_in, inline_in, is_start_form, macros_in, starts_in, stray_in, value_places}
 use Rattle.dw_find.specs.UnitPaths.{UnitPaths}
+use Rattle.dw_find.specs.declared.fields.TextBase.{TextBase}
 use Rattle.dw_find.specs.declared.fields.TextIndex.{TextIndex}
 
 -- the tables of texts
@@ -45,7 +46,7 @@ offset_in t z v = offset_of t.order z (cells_at t.cells v.at v.len)
 -- what a pass over a unit section found: what it says of paths, and of the unit where the pass is its base and its values by index
 pub record Found : Type 0 where
   pub paths : UnitPaths
-  pub base : Option ℕ
+  pub base : Option TextBase
   pub indexes : List TextIndex
 
 -- nothing was found in a section
@@ -74,9 +75,9 @@ with_paths u ts = record {
 }
 
 -- a base, or else one that these places say
-abbrev pub with_base : Option ℕ → List TextPlace → Option ℕ
+abbrev pub with_base : Option TextBase → List TextPlace → Option TextBase
 with_base None ts = base_in ts
-with_base (Some n) ts = Some n
+with_base (Some b) ts = Some b
 
 -- what was found, with more places behind
 unfoldable pub with_places : Found → List TextPlace → Found

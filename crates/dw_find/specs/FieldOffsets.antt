@@ -1,12 +1,19 @@
--- The offset that a field of a view holds (gABI ch. 4 "Relocation"): where its relocation gives no place, that, at the field.
-use Rattle.std.specs.Prelude.{false, ◌≡◌, ℕ}
-use Rattle.dw_base.specs.Cells.{is_placed}
-use Rattle.dw_base.specs.Refusals.{at}
-use Rattle.dw_base.specs.declared.fault.Kind.TheVariants.{Relocation as RelocationKind}
+-- The base of a unit's texts by index as a field of an offset (gABI ch. 4 "Relocation"; DWARF 5, 3.1.1).
+use Rattle.std.specs.Prelude.{ℕ, List, Option, Some, ⊤}
+use Rattle.dw_base.specs.Cells.{Cell}
+use Rattle.dw_base.specs.RelocationRows.{OffsetFails, field_place, offset_field}
 use Rattle.dw_base.specs.declared.fault.Refusal.{Refusal}
-use Rattle.dw_base.specs.declared.view_fields.Field.{Field}
+use Rattle.dw_base.specs.declared.shared.Order.{Order}
+use Rattle.dw_find.specs.Fields.{IsStartField}
+use Rattle.dw_find.specs.declared.fields.TextBase.{TextBase}
+use Rattle.dw_find.specs.declared.fields.TextBase.TheVariants.{Field as BaseField}
 
--- the field at a place of the section of a number is a symbol that has no place
-pub record GivesNoPlace (section place : ℕ) (field : Field) (r : Refusal) : Type 0 where
-  pub none : is_placed field ≡ false
-  pub is : r ≡ at RelocationKind section place
+-- the base of a unit that is a field lies in its section
+abbrev pub BaseLies : List ℕ → Option TextBase → Type 0
+BaseLies info (Some (BaseField f)) = IsStartField info f
+BaseLies info b = ⊤
+
+-- a relocation refuses it
+abbrev pub BaseRefuses : Order → ℕ → List Cell → Option TextBase → Refusal → Type 0
+BaseRefuses order section cells (Some (BaseField f)) r = OffsetFails order section cells (field_place f.at f.size offset_field) r
+BaseRefuses order section cells b r = ⊥

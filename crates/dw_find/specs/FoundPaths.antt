@@ -1,9 +1,9 @@
 -- What was found of paths in the debug data of a view, by its readings; and why there is nothing.
-use Rattle.std.specs.Prelude.{◌≡◌, ℕ, ◌-◌, List, [], ◌++◌, length, take}
+use Rattle.std.specs.Prelude.{◌≡◌, ℕ, ◌-◌, List, [], ◌∷◌, ◌++◌, length, take}
 use Rattle.dw_lines.specs.ViewTables.{tables_read}
 use Rattle.dw_meaning.specs.DataFails.{IndexesRead, InlineFails, SlotTextFails, StartsFail}
 use Rattle.dw_meaning.specs.DataOutput.{DataReads}
-use Rattle.dw_meaning.specs.RelocationFails.{LeftRelocationsFail}
+use Rattle.dw_meaning.specs.RelocationFails.{LeftRelocationsFail, RelocationsReadIn}
 use Rattle.dw_base.specs.DebugData.{DebugData, DataReadings, around_of, line_source}
 use Rattle.dw_base.specs.FileViews.{View}
 use Rattle.dw_base.specs.IndexFails.{SharedFails, SlotFits}
@@ -12,7 +12,7 @@ use Rattle.dw_base.specs.NameTableFails.{NameTablesFail}
 use Rattle.dw_base.specs.Paths.{PathMap}
 use Rattle.dw_base.specs.Pieces.{EachPiece}
 use Rattle.dw_base.specs.Readings.{EachReading}
-use Rattle.dw_base.specs.RelocationRows.{moving_sections}
+use Rattle.dw_base.specs.RelocationRows.{moving_sections, HeaderOffsetsRead}
 use Rattle.dw_base.specs.Slots.{slots_of}
 use Rattle.dw_base.specs.StringOffsetFails.{ContributionsFail}
 use Rattle.dw_base.specs.TextChanges.{InlineFits}
@@ -20,21 +20,29 @@ use Rattle.dw_base.specs.ViewData.{debug_data, string_offsets}
 use Rattle.dw_base.specs.declared.fault.Refusal.{Refusal}
 use Rattle.dw_base.specs.declared.name_tables.NameTable.{NameTable}
 use Rattle.dw_base.specs.declared.string_offsets.Contribution.{Contribution}
-use Rattle.dw_offsets.specs.NameOffsets.{AreRead, NamesRefuse}
+use Rattle.dw_base.specs.NameOffsets.{AreRead, NamesRefuse}
 use Rattle.dw_offsets.specs.PathSlots.{SlotsTaken, slots_in}
 use Rattle.dw_offsets.specs.declared.slot_fields.PathSlot.{PathSlot}
 use Rattle.dw_find.specs.IndexedTexts.{TextsRefuse}
-use Rattle.dw_find.specs.ViewFields.{AllHaveFields, AllHavePaths, AllRoomsFit}
+use Rattle.dw_find.specs.ViewFields.{AllHaveOffsets, AllHavePlaces, AllRoomsFit}
 use Rattle.dw_find.specs.SlotPaths.{as_fields, lines_count, slots_of_view, slots_read}
-use Rattle.dw_find.specs.TextPlaces.{AllPlaced, AllFitRooms, AllStarts}
+use Rattle.dw_find.specs.TextPlaces.{AllPlaced, AllFitRooms}
+use Rattle.dw_find.specs.NamedStarts.{AllStarts}
 use Rattle.dw_find.specs.UnitPaths.{UnitPaths, paths_of}
+use Rattle.dw_find.specs.UnitPlaces.{UnitPlaces}
 use Rattle.dw_find.specs.MacroSections.{macros_read}
 use Rattle.dw_find.specs.UnitTexts.{UnitsRefuse}
 use Rattle.dw_find.specs.ViewLines.{lines_of_view}
+use Rattle.dw_base.specs.UnitHeaders.{UnitSection}
 
--- the unit sections of debug data can be read and say this of paths, each path that stands in its value fits its room, and each value that
--- is to say where a line table or a macro unit starts names one of these starts or places
-pub record UnitsFound (m : PathMap) (d : DebugData) (starts places : List ℕ) (us : List UnitPaths) : Type 0 where
+-- the offsets in the headers of all units can be read
+pub record HeadersRead (d : DebugData) : Type 0 where
+  pub all : (before behind : List UnitSection) (z : UnitSection) → d.units ≡ before ++ z ∷ behind → HeaderOffsetsRead d.base z
+
+-- the unit sections of debug data can be read, with the offsets in the headers of units, and say this of paths, each path that stands in its
+-- value fits its room, and each value that is to say where a line table or a macro unit starts names one of these starts or places
+pub record UnitsFound (m : PathMap) (d : DebugData) (starts : List ℕ) (places : UnitPlaces) (us : List UnitPaths) : Type 0 where
+  pub headers : HeadersRead d
   pub placed : AllPlaced d d.units us
   pub fits : AllFitRooms m d.units us
   pub named : AllStarts d starts places d.units us
@@ -54,21 +62,22 @@ pub record SlotsFound (m : PathMap) (v : View) (list : List Contribution) (marks
 abbrev pub without_lines : View → List UnitPaths → List UnitPaths
 without_lines v us = take (length us - lines_count v) us
 
--- the debug data of a view can be read, its line tables are these, its paths fit the rooms in which they stand, and its slots can be mapped;
+-- the debug data of a view can be read, its relocations are ones that may stand there, its line tables are these, its paths fit the rooms in which they stand, and its slots can be mapped;
 -- its unit sections say this of paths, behind them its slots, behind these its macro units, and behind these its line tables. All of these
--- are fields of the view.
+-- are fields of the view, by the cells of its sections.
 pub record PathsFound (m : PathMap) (v : View) (us : List UnitPaths) (ts : List LineTable) : Type 0 where
   pub readings : DataReadings
   pub reads : DataReads (debug_data v) readings
   pub inline : EachReading (InlineFits m) readings.units
   pub slots : EachPiece (SlotFits m (around_of (debug_data v) readings)) readings.offsets
-  pub fields : AllHaveFields v us
-  pub have : AllHavePaths v (without_lines v us)
+  pub offsets : AllHaveOffsets v us
+  pub places : AllHavePlaces v (without_lines v us)
   pub rooms : AllRoomsFit m v (without_lines v us)
   pub is : us ≡ ((paths_of readings.units ++ slots_read v readings) ++ macros_read readings.macros) ++ lines_of_view v ts
   pub tables : ts ≡ tables_read (line_source (debug_data v)) readings.lines
   pub name_list : List NameTable
   pub names_read : AreRead v name_list
+  pub relocations : RelocationsReadIn (debug_data v) (moving_sections v)
 
 -- why it can't be
 pub data PathsRefuse (m : PathMap) (v : View) : Refusal → Type 0 where

@@ -2,10 +2,9 @@
 -- they can't be taken (DWARF 5, 7.26, 7.5.5, class string, and 3.1.1).
 use Rattle.std.specs.Prelude.{◌≡◌, ℕ, List}
 use Rattle.dw_base.specs.Cells.{located_cells}
-use Rattle.dw_base.specs.DebugData.{DebugData, ReadsAll, line_source, start_number, started_unit}
+use Rattle.dw_base.specs.DebugData.{DebugData, ReadsAll, line_source}
 use Rattle.dw_base.specs.IndexFails.{IndexFails}
 use Rattle.dw_base.specs.LineReadings.{LineReading, AreTables, table_starts}
-use Rattle.dw_base.specs.LineMeanings.{is_there}
 use Rattle.dw_base.specs.MacroReadings.{MacroReading, ReadsAllMacros, first_macros, macro_starts}
 use Rattle.dw_base.specs.Readings.{Readings}
 use Rattle.dw_base.specs.TextIndexes.{Indexing, EachUse, NamesSlot, all_bases, index_uses}
@@ -13,7 +12,7 @@ use Rattle.dw_base.specs.declared.fault.Refusal.{Refusal}
 use Rattle.dw_base.specs.declared.string_offsets.Contribution.{Contribution}
 use Rattle.dw_meaning.specs.DataFails.{StartsFail}
 use Rattle.dw_offsets.specs.SlotMarks.{AreMarks}
-use Rattle.dw_find.specs.LineStarts.{Rises}
+use Rattle.dw_find.specs.UnitPlaces.{PlacesStart, UnitPlaces}
 use Rattle.dw_find.specs.UnitTexts.{UnitsRefuse}
 
 -- what values by index go by: the units that were read, and the contributions of the section of string offsets
@@ -39,13 +38,11 @@ pub record TablesStart (d : DebugData) (starts : List ℕ) : Type 0 where
   pub are : AreTables (line_source d) tables
   pub is : starts ≡ table_starts tables
 
--- the macro units of debug data can be read; these places rise, and an offset names a unit of the first section exactly where it is one of
--- them
-pub record UnitsStart (d : DebugData) (places : List ℕ) : Type 0 where
+-- the macro units of debug data can be read, and start at these places
+pub record UnitsStart (d : DebugData) (places : UnitPlaces) : Type 0 where
   pub readings : List MacroReading
   pub are : ReadsAllMacros d.base.order d.macros readings
-  pub rises : Rises places
-  pub named : (n : ℕ) → is_there (started_unit 0 (macro_starts readings) (first_macros d.macros) n) ≡ is_there (start_number 0 places n)
+  pub start : PlacesStart places (record { first = first_macros d.macros; starts = macro_starts readings })
 
 -- why the units of debug data can't be taken: a unit can't be, a value by index names no slot, or one that is to say where a line table
 -- or a macro unit starts says none

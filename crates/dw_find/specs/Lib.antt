@@ -1,6 +1,9 @@
 pub mod Fields
 pub mod UnitPaths
+pub mod MacroSections
+pub mod UnitPlaces
 pub mod TextPlaces
+pub mod NamedStarts
 pub mod EntryTexts
 pub mod NamedSlots
 pub mod QuietValues
@@ -12,7 +15,6 @@ pub mod ViewFields
 pub mod LineStarts
 pub mod ViewLines
 pub mod SlotPaths
-pub mod MacroSections
 pub mod MacroNames
 pub mod FoundPaths
 pub mod ReadData

@@ -1,13 +1,21 @@
 -- Where line tables and macro units start, by their numbers: which value says one of these starts, where they start anew, and why a value
 -- says none (DWARF 5, 3.1.1).
-use Rattle.std.specs.Prelude.{◌≡◌, ℕ, ◌≤◌, ◌<◌, List, length, get_or, Some, None}
-use Rattle.dw_base.specs.DebugData.{start_number}
-use Rattle.dw_base.specs.Numbers.{spelled}
+use Rattle.std.specs.Prelude.{Bool, false, ◌≡◌, ℕ, ◌≤◌, ◌<◌, List, length, get_or, Some}
+use Rattle.dw_base.specs.Cells.{Cell, cells_at}
+use Rattle.dw_base.specs.DebugData.{DebugData}
+use Rattle.dw_base.specs.FileViews.{View, view_cells}
 use Rattle.dw_base.specs.Refusals.{at}
+use Rattle.dw_base.specs.RelocationRows.{OffsetFails, field_place, offset_field}
+use Rattle.dw_base.specs.ViewData.{located}
+use Rattle.dw_base.specs.declared.debug_sections.DebugSection.TheVariants.{Line}
 use Rattle.dw_base.specs.declared.fault.Kind.TheVariants.{Stray}
 use Rattle.dw_base.specs.declared.fault.Refusal.{Refusal}
 use Rattle.dw_base.specs.declared.shared.Order.{Order}
+use Rattle.dw_meaning.specs.DataFails.{StartsFail}
+use Rattle.dw_meaning.specs.RelocationFails.{ValueRelocationFails}
+use Rattle.dw_find.specs.NamedStarts.{says_start, says_unit}
 use Rattle.dw_find.specs.UnitPaths.{UnitPaths}
+use Rattle.dw_find.specs.UnitPlaces.{UnitPlaces}
 use Rattle.dw_find.specs.declared.fields.PathField.{PathField}
 
 -- starts rise
@@ -25,13 +33,21 @@ pub record IsStartGap (starts : List ℕ) (start i : ℕ) : Type 0 where
   pub before : (k : ℕ) → k < i → get_or starts k 0 < start
   pub behind : (k : ℕ) → i ≤ k → k < length starts → start < get_or starts k 0
 
--- a field of a section says none of these starts
-pub data StartsStray (order : Order) (section : ℕ) (info starts : List ℕ) (fields : List PathField) : Refusal → Type 0 where
-  field : (k : ℕ) (f : PathField) → k < length fields → f ≡ get_or fields k f → start_number 0 starts (spelled order info f.at f.size) ≡ None
-      → StartsStray order section info starts fields (at Stray section f.at)
+-- a field of a section doesn't say this; or a relocation lies on it only in part, or gives it no place
+pub data FieldStrays (order : Order) (section : ℕ) (cells : List Cell) (says : List Cell → Bool) (fields : List PathField) : Refusal → Type 0 where
+  field : (k : ℕ) (f : PathField) → k < length fields → f ≡ get_or fields k f → says (cells_at cells f.at f.size) ≡ false
+      → FieldStrays order section cells says fields (at Stray section f.at)
+  no_offset : (k : ℕ) (f : PathField) {r : Refusal} → k < length fields → f ≡ get_or fields k f
+      → OffsetFails order section cells (field_place f.at f.size offset_field) r → FieldStrays order section cells says fields r
 
--- so does a value of a section that is to say where a line table or a macro unit starts, or its form can't
-pub data SectionStrays (order : Order) (info starts places : List ℕ) (u : UnitPaths) : Refusal → Type 0 where
-  other_form : (place : ℕ) → u.stray ≡ Some place → SectionStrays order info starts places u (at Stray u.number place)
-  no_table : {r : Refusal} → StartsStray order u.number info starts u.starts r → SectionStrays order info starts places u r
-  no_unit : {r : Refusal} → StartsStray order u.number info places u.macros r → SectionStrays order info starts places u r
+-- so does a value of a section of a view that is to say where a line table or a macro unit starts, or its form can't
+pub data SectionStrays (v : View) (starts : List ℕ) (places : UnitPlaces) (u : UnitPaths) : Refusal → Type 0 where
+  other_form : (place : ℕ) → u.stray ≡ Some place → SectionStrays v starts places u (at Stray u.number place)
+  no_table : {r : Refusal} → FieldStrays v.order u.number (view_cells v u.number) (says_start v.order (located v Line) starts) u.starts r
+      → SectionStrays v starts places u r
+  no_unit : {r : Refusal} → FieldStrays v.order u.number (view_cells v u.number) (says_unit v.order places) u.macros r → SectionStrays v starts places u r
+
+-- why what the units of debug data are to say of starts can't be taken: one says none; or its offset can't be read
+pub data StartsRefuse (d : DebugData) : Refusal → Type 0 where
+  says_none : {r : Refusal} → StartsFail d r → StartsRefuse d r
+  reads_none : {r : Refusal} → ValueRelocationFails d r → StartsRefuse d r

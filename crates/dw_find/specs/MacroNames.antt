@@ -1,5 +1,5 @@
 -- That the offsets of macro units name line tables and units that start there; and why one doesn't (DWARF 5, 6.3).
-use Rattle.std.specs.Prelude.{◌≡◌, ℕ, List, [], ◌∷◌, ◌++◌, IsTrue, ⊤, Option, Some, None}
+use Rattle.std.specs.Prelude.{false, ◌≡◌, ℕ, List, [], ◌∷◌, ◌++◌, IsTrue, ⊤, Option, Some, None}
 use Rattle.dw_base.specs.DebugData.{start_number}
 use Rattle.dw_base.specs.FileViews.{View}
 use Rattle.dw_base.specs.LineMeanings.{is_there}
@@ -11,13 +11,14 @@ use Rattle.dw_base.specs.declared.macro_units.MacroEvent.TheVariants.{Import}
 use Rattle.dw_base.specs.declared.macro_units.MacroUnit.{MacroUnit}
 use Rattle.dw_macros.specs.MacroEvents.{IsUnitIn, unit_events}
 use Rattle.dw_find.specs.MacroSections.{SectionUnits}
+use Rattle.dw_find.specs.UnitPlaces.{UnitPlaces, has_unit}
 
 -- an event that brings the events of another unit names one of these places
-abbrev pub EventNames : List ℕ → MacroEvent → Type 0
-EventNames places (Import section n field) = IsTrue (is_there (start_number 0 places n))
+abbrev pub EventNames : UnitPlaces → MacroEvent → Type 0
+EventNames places (Import section n field) = IsTrue (has_unit places section n)
 EventNames places e = ⊤
 
-abbrev pub EventsName : List ℕ → List MacroEvent → Type 0
+abbrev pub EventsName : UnitPlaces → List MacroEvent → Type 0
 EventsName places [] = ⊤
 EventsName places (e ∷ es) = EventNames places e × EventsName places es
 
@@ -27,11 +28,11 @@ LineNames starts None = ⊤
 LineNames starts (Some n) = IsTrue (is_there (start_number 0 starts n))
 
 -- so it is for units of sections
-abbrev pub UnitsName : View → List ℕ → List ℕ → List MacroUnit → Type 0
+abbrev pub UnitsName : View → List ℕ → UnitPlaces → List MacroUnit → Type 0
 UnitsName v starts places [] = ⊤
 UnitsName v starts places (u ∷ us) = LineNames starts u.line × EventsName places (unit_events v u) × UnitsName v starts places us
 
-abbrev pub MacrosName : View → List ℕ → List ℕ → List SectionUnits → Type 0
+abbrev pub MacrosName : View → List ℕ → UnitPlaces → List SectionUnits → Type 0
 MacrosName v starts places [] = ⊤
 MacrosName v starts places (s ∷ ss) = UnitsName v starts places s.units × MacrosName v starts places ss
 
@@ -45,25 +46,25 @@ AllUnitsIn v [] = ⊤
 AllUnitsIn v (s ∷ ss) = AreUnitsIn v s.units × AllUnitsIn v ss
 
 -- why an event of a unit in the section of a number names none, and the offset of a unit's line table
-pub data EventStray (section : ℕ) (places : List ℕ) (e : MacroEvent) : Refusal → Type 0 where
-  import : (in_section n field : ℕ) → e ≡ Import in_section n field → start_number 0 places n ≡ None → EventStray section places e (at Stray section field)
+pub data EventStray (section : ℕ) (places : UnitPlaces) (e : MacroEvent) : Refusal → Type 0 where
+  import : (in_section n field : ℕ) → e ≡ Import in_section n field → has_unit places in_section n ≡ false → EventStray section places e (at Stray section field)
 
 pub data LineStrays (starts : List ℕ) (u : MacroUnit) : Refusal → Type 0 where
   line : (n : ℕ) → u.line ≡ Some n → start_number 0 starts n ≡ None → LineStrays starts u (at Stray u.section u.line_field)
 
 -- so of events, units and sections
-pub data EventStrays (section : ℕ) (places : List ℕ) (es : List MacroEvent) : Refusal → Type 0 where
+pub data EventStrays (section : ℕ) (places : UnitPlaces) (es : List MacroEvent) : Refusal → Type 0 where
   event : (before behind : List MacroEvent) (e : MacroEvent) {r : Refusal} → es ≡ before ++ e ∷ behind → EventStray section places e r
       → EventStrays section places es r
 
-pub data UnitStrays (v : View) (starts places : List ℕ) (u : MacroUnit) : Refusal → Type 0 where
+pub data UnitStrays (v : View) (starts : List ℕ) (places : UnitPlaces) (u : MacroUnit) : Refusal → Type 0 where
   line : {r : Refusal} → LineStrays starts u r → UnitStrays v starts places u r
   events : {r : Refusal} → EventStrays u.section places (unit_events v u) r → UnitStrays v starts places u r
 
-pub data UnitsStray (v : View) (starts places : List ℕ) (us : List MacroUnit) : Refusal → Type 0 where
+pub data UnitsStray (v : View) (starts : List ℕ) (places : UnitPlaces) (us : List MacroUnit) : Refusal → Type 0 where
   unit : (before behind : List MacroUnit) (u : MacroUnit) {r : Refusal} → us ≡ before ++ u ∷ behind → UnitStrays v starts places u r
       → UnitsStray v starts places us r
 
-pub data MacrosStray (v : View) (starts places : List ℕ) (ss : List SectionUnits) : Refusal → Type 0 where
+pub data MacrosStray (v : View) (starts : List ℕ) (places : UnitPlaces) (ss : List SectionUnits) : Refusal → Type 0 where
   section : (before behind : List SectionUnits) (s : SectionUnits) {r : Refusal} → ss ≡ before ++ s ∷ behind → UnitsStray v starts places s.units r
       → MacrosStray v starts places ss r

@@ -1,4 +1,4 @@
--- The macro units of the sections of a view, as they were read: where those of the first section start, and the fields of the offsets of
+-- The macro units of the sections of a view, as they were read: where they start, and the fields of the offsets of
 -- their line tables (DWARF 5, 6.3).
 use Rattle.std.specs.Prelude.{◌≡◌, ℕ, List, [], ◌∷◌, ◌++◌, length, ⊤, Option, Some, None}
 use Rattle.dw_base.specs.Cells.{CellSection}
@@ -13,7 +13,7 @@ use Rattle.dw_base.specs.ViewData.{debug_data}
 use Rattle.dw_base.specs.declared.fault.Refusal.{Refusal}
 use Rattle.dw_base.specs.declared.macro_units.MacroUnit.{MacroUnit}
 use Rattle.dw_base.specs.declared.shared.Width.{Width}
-use Rattle.dw_macros.specs.MacroOffsets.{AreReadUnits, UnitsRefuse}
+use Rattle.dw_base.specs.MacroOffsets.{AreReadUnits, UnitsRefuse}
 use Rattle.dw_find.specs.UnitPaths.{UnitPaths, start_by}
 use Rattle.dw_find.specs.declared.fields.PathField.{PathField}
 
@@ -38,10 +38,10 @@ abbrev pub places_of : List MacroUnit → List ℕ
 places_of [] = []
 places_of (u ∷ us) = u.start ∷ places_of us
 
--- where those of the first section start
-abbrev pub first_places : List SectionUnits → List ℕ
-first_places [] = []
-first_places (s ∷ ss) = places_of s.units
+-- the number of the first section; 0 where there is none
+abbrev pub first_section : List SectionUnits → ℕ
+first_section [] = 0
+first_section (s ∷ ss) = s.number
 
 -- the field of the offset of a unit's line table, where it has one
 abbrev pub line_field : Option ℕ → ℕ → Width → List PathField

@@ -6,7 +6,7 @@ use Rattle.dw_base.specs.declared.fault.Refusal.{Refusal}
 use Rattle.dw_base.specs.declared.string_offsets.Contribution.{Contribution}
 use Rattle.dw_offsets.specs.NamedPlaces.{place_by, is_place, is_kind}
 use Rattle.dw_offsets.specs.SlotMarks.{marked}
-use Rattle.dw_find.specs.TextPlaces.{UnitSays, base_in, indexes_in}
+use Rattle.dw_find.specs.TextPlaces.{BaseSource, UnitSays, indexes_in, unit_number}
 use Rattle.dw_find.specs.declared.fields.TextIndex.{TextIndex}
 
 -- the contributions, the marks of the slots that were named, and what refuses the first value that named none
@@ -55,15 +55,15 @@ pub record TakesIndexes (section : ℕ) (base : Option ℕ) (xs : List TextIndex
   pub missing : new.missing ≡ first_refusal old.missing (missing_in section base old.list xs)
 
 -- the same of units
-abbrev pub units_name : Bool → List Contribution → List UnitSays → ℕ → Bool
-units_name path list [] place = false
-units_name path list (u ∷ us) place = name_slot path (base_in u.places) list (indexes_in u.places) place || units_name path list us place
+abbrev pub units_name : BaseSource → Bool → List Contribution → List UnitSays → ℕ → Bool
+units_name g path list [] place = false
+units_name g path list (u ∷ us) place = name_slot path (unit_number g u) list (indexes_in u.places) place || units_name g path list us place
 
-abbrev pub units_missing : List Contribution → List UnitSays → Option Refusal
-units_missing list [] = None
-units_missing list (u ∷ us) = first_refusal (missing_in u.section (base_in u.places) list (indexes_in u.places)) (units_missing list us)
+abbrev pub units_missing : BaseSource → List Contribution → List UnitSays → Option Refusal
+units_missing g list [] = None
+units_missing g list (u ∷ us) = first_refusal (missing_in u.section (unit_number g u) list (indexes_in u.places)) (units_missing g list us)
 
-pub record TakesUnits (us : List UnitSays) (old new : Slots) : Type 0 where
+pub record TakesUnits (g : BaseSource) (us : List UnitSays) (old new : Slots) : Type 0 where
   pub list_is : new.list ≡ old.list
-  pub marks : (path : Bool) (place : ℕ) → marked path new.marks place ≡ (marked path old.marks place || units_name path old.list us place)
-  pub missing : new.missing ≡ first_refusal old.missing (units_missing old.list us)
+  pub marks : (path : Bool) (place : ℕ) → marked path new.marks place ≡ (marked path old.marks place || units_name g path old.list us place)
+  pub missing : new.missing ≡ first_refusal old.missing (units_missing g old.list us)

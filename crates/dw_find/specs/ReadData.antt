@@ -13,12 +13,12 @@ use Rattle.dw_base.specs.declared.name_tables.NameTable.{NameTable}
 use Rattle.dw_lines.specs.ViewTables.{tables_read}
 use Rattle.dw_meaning.specs.DataFails.{LinesFail, SlotTextFails, StartsFail}
 use Rattle.dw_meaning.specs.DataOutput.{DataReads}
-use Rattle.dw_meaning.specs.RelocationFails.{LeftRelocationsFail}
-use Rattle.dw_offsets.specs.NameOffsets.{AreRead, NamesRefuse}
+use Rattle.dw_meaning.specs.RelocationFails.{LeftRelocationsFail, RelocationsReadIn}
+use Rattle.dw_base.specs.NameOffsets.{AreRead, NamesRefuse}
 use Rattle.dw_find.specs.MacroSections.{SectionUnits, UnitsFailIn, UnitsFoundIn}
 use Rattle.dw_find.specs.UnitTexts.{UnitsRefuse}
 
--- the debug data of a view can be read, and these are the line tables and the macro units
+-- the debug data of a view can be read, their relocations are ones that may stand there, and these are the line tables and the macro units
 pub record DataRead (v : View) (ts : List LineTable) (ss : List SectionUnits) : Type 0 where
   pub readings : DataReadings
   pub reads : DataReads (debug_data v) readings
@@ -26,6 +26,7 @@ pub record DataRead (v : View) (ts : List LineTable) (ss : List SectionUnits) : 
   pub units : UnitsFoundIn v ss
   pub name_list : List NameTable
   pub names_read : AreRead v name_list
+  pub relocations : RelocationsReadIn (debug_data v) (moving_sections v)
 
 -- why they can't be: a unit, an entry or an offset of a text in one can't be read; what is to say where a line table or a macro unit starts
 -- names none; string offsets, slots, name tables, line tables or macro units can't be read

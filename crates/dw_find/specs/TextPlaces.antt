@@ -2,14 +2,13 @@
 -- index (DWARF 5, 7.5.5, class string), or say where line tables and macro units start (DWARF 5, 3.1.1); and what these places say of source paths.
 use Rattle.std.specs.Prelude.{Bool, true, false, ◌≡◌, ℕ, ◌+◌, ◌-◌, ◌==◌, ◌||◌, if◌then◌else◌, List, [], ◌∷◌, ◌++◌, IsTrue, ⊤, Option, Some, None, length}
 use Rattle.dw_base.specs.AbbreviationTables.{Abbreviation, abbreviation_of}
-use Rattle.dw_base.specs.Cells.{Cell, bytes_of, cells_at, field_of, located_cells, offset_of}
-use Rattle.dw_base.specs.DebugData.{DebugData, start_number}
+use Rattle.dw_base.specs.Cells.{Cell, Located, bytes_of, cells_at, located_cells, offset_of}
+use Rattle.dw_base.specs.DebugData.{DebugData}
 use Rattle.dw_base.specs.EntryScans.{AreEntries}
 use Rattle.dw_base.specs.EntryValues.{bytes_up_to}
 use Rattle.dw_base.specs.Forms.{TextSection, in_str, in_line_str, ValueKind, number_of, leb_number, kind_in}
 use Rattle.dw_base.specs.InlinePaths.{inline_fits}
 use Rattle.dw_base.specs.Lebs.{uleb_at}
-use Rattle.dw_base.specs.LineMeanings.{is_there}
 use Rattle.dw_base.specs.Numbers.{spelled}
 use Rattle.dw_base.specs.Paths.{PathMap}
 use Rattle.dw_base.specs.Pieces.{Piece}
@@ -30,18 +29,20 @@ use Rattle.dw_base.specs.declared.values.Spec.{Spec}
 use Rattle.dw_base.specs.declared.values.Value.{Value}
 use Rattle.dw_base.specs.declared.values.ValueClass.{ValueClass}
 use Rattle.dw_base.specs.declared.values.ValueClass.TheVariants.{InlineText, Number, StrOffset, LineStrOffset, StrIndex, SecOffset}
-use Rattle.dw_base.specs.declared.view_fields.Field.{Field}
-use Rattle.dw_base.specs.declared.view_fields.Field.TheVariants.{Num}
 use Rattle.dw_find.specs.UnitPaths.{UnitPaths, field_by, inline_text}
 use Rattle.dw_find.specs.declared.fields.InlinePath.{InlinePath}
 use Rattle.dw_find.specs.declared.fields.PathField.{PathField}
+use Rattle.dw_find.specs.declared.fields.TextBase.{TextBase}
+use Rattle.dw_find.specs.declared.fields.TextBase.TheVariants.{Field as BaseField, Number as BaseNumber}
 use Rattle.dw_find.specs.declared.fields.TextIndex.{TextIndex}
 
--- what a value that stays says: nothing; of texts by index the base of its unit, or the index of a text, of a path or not; that it says where a
--- macro unit starts; or that it is to say where that or a line table starts, and has a form that can't
+-- what a value that stays says: nothing; of texts by index the base of its unit, as a number or as an offset into the section of string
+-- offsets, or the index of a text, of a path or not; that it says where a macro unit starts; or that it is to say where that or a line table
+-- starts, and has a form that can't
 pub data Indexed : Type 0 where
   no_index : Indexed
   unit_base : ℕ → Indexed
+  base_offset : Indexed
   text_index : Bool → ℕ → Indexed
   unit_start : Indexed
   no_start : Indexed
@@ -63,14 +64,20 @@ place_of r at len = record { role = r; at = at; len = len; says = no_index } ∷
 abbrev pub indexed_at : ℕ → Indexed → List TextPlace
 indexed_at at i = record { role = fixed; at = at; len = 0; says = i } ∷ []
 
--- what the cells of a value of a kind say by index, of an attribute that holds a path or not, and a unit's base or not
-abbrev pub indexed_kind : ValueKind → Bool → Bool → Order → ℕ → List Cell → List TextPlace
-indexed_kind (number_of StrIndex n) path base order at p = indexed_at at (text_index path (spelled order (bytes_of p) 0 (length p)))
-indexed_kind (leb_number StrIndex) path base order at p = indexed_at at (text_index path (code_value p))
-indexed_kind (number_of Number n) path true order at p = indexed_at at (unit_base (spelled order (bytes_of p) 0 (length p)))
-indexed_kind (number_of SecOffset n) path true order at p = indexed_at at (unit_base (spelled order (bytes_of p) 0 (length p)))
-indexed_kind (leb_number Number) path true order at p = indexed_at at (unit_base (code_value p))
-indexed_kind k path base order at p = []
+-- the base that a value says, which begins at a place and whose bytes stand at another, so many: the field of an offset, or else a number
+abbrev pub said_base : Bool → ℕ → ℕ → ℕ → ℕ → List TextPlace
+said_base true begin at len n = record { role = fixed; at = at; len = len; says = base_offset } ∷ []
+said_base false begin at len n = indexed_at begin (unit_base n)
+
+-- what the cells of a value of a kind say by index, of an attribute that holds a path or not, and a unit's base or not; it begins at a
+-- place, and its bytes stand at another, so many
+abbrev pub indexed_kind : ValueKind → Bool → Bool → Order → ℕ → ℕ → ℕ → List Cell → List TextPlace
+indexed_kind (number_of StrIndex n) path base order begin at len p = indexed_at begin (text_index path (spelled order (bytes_of p) 0 (length p)))
+indexed_kind (leb_number StrIndex) path base order begin at len p = indexed_at begin (text_index path (code_value p))
+indexed_kind (number_of Number n) path true order begin at len p = said_base (n == 4 || n == 8) begin at len (spelled order (bytes_of p) 0 (length p))
+indexed_kind (number_of SecOffset n) path true order begin at len p = said_base true begin at len (spelled order (bytes_of p) 0 (length p))
+indexed_kind (leb_number Number) path true order begin at len p = said_base false begin at len (code_value p)
+indexed_kind k path base order begin at len p = []
 
 -- what a value that begins at a place, and whose bytes stand at another, so many, says of starts: where it is to say one and its form
 -- can't, that, where it begins; else the field of the start of a macro unit, where it says one
@@ -82,11 +89,11 @@ said_start true false begin at len = []
 -- what a piece says so
 abbrev pub indexed_in : Mode → UnitState → List Cell → List TextPlace
 indexed_in (at_values number tag (x ∷ xs)) s p =
-    indexed_kind (kind_in s.header.params x.form) (is_path number tag x.name) (is_base number x.name) s.header.params.order s.place p
+    indexed_kind (kind_in s.header.params x.form) (is_path number tag x.name) (is_base number x.name) s.header.params.order s.place s.place (length p) p
     ++ said_start (start_form_by (kind_in s.header.params x.form) (use_of number tag x.name)) (macro_value_by (kind_in s.header.params x.form) (use_of number tag x.name))
     s.place s.place (length p)
 indexed_in (at_chosen number tag start x xs) s p =
-    indexed_kind (kind_in s.header.params x.form) (is_path number tag x.name) (is_base number x.name) s.header.params.order start p
+    indexed_kind (kind_in s.header.params x.form) (is_path number tag x.name) (is_base number x.name) s.header.params.order start s.place (length p) p
     ++ said_start (start_form_by (kind_in s.header.params x.form) (use_of number tag x.name)) (macro_value_by (kind_in s.header.params x.form) (use_of number tag x.name))
     start s.place (length p)
 indexed_in m s p = []
@@ -97,16 +104,16 @@ places_in [] = []
 places_in (x ∷ xs) =
     place_of (role_of x) x.state.place (length x.cells) ++ (indexed_in x.state.mode x.state x.cells ++ places_in xs)
 
--- those of a value of a class that stands at a place, of an attribute that holds a path or not, and a unit's base or not; an inline
--- path has its NUL behind it
-abbrev pub class_places : ValueClass → Bool → Bool → ℕ → Value → List TextPlace
-class_places StrOffset path base place v = record { role = offset in_str path; at = v.at; len = v.len; says = no_index } ∷ []
-class_places LineStrOffset path base place v = record { role = offset in_line_str path; at = v.at; len = v.len; says = no_index } ∷ []
-class_places InlineText true base place v = record { role = inline_path; at = v.at; len = v.len + 1; says = no_index } ∷ []
-class_places StrIndex path base place v = indexed_at place (text_index path v.number)
-class_places Number path true place v = indexed_at place (unit_base v.number)
-class_places SecOffset path true place v = indexed_at place (unit_base v.number)
-class_places class path base place v = []
+-- those of a value of a class that stands at a place, of an attribute that holds a path or not, and a unit's base or not, and of a form
+-- that can be an offset or not; an inline path has its NUL behind it
+abbrev pub class_places : ValueClass → Bool → Bool → Bool → ℕ → Value → List TextPlace
+class_places StrOffset path base field place v = record { role = offset in_str path; at = v.at; len = v.len; says = no_index } ∷ []
+class_places LineStrOffset path base field place v = record { role = offset in_line_str path; at = v.at; len = v.len; says = no_index } ∷ []
+class_places InlineText true base field place v = record { role = inline_path; at = v.at; len = v.len + 1; says = no_index } ∷ []
+class_places StrIndex path base field place v = indexed_at place (text_index path v.number)
+class_places Number path true field place v = said_base field place v.at v.len v.number
+class_places SecOffset path true field place v = said_base field place v.at v.len v.number
+class_places class path base field place v = []
 
 -- the form of a value that stands at a place: its attribute's, or the one in front of it (DWARF 5, 7.5.3)
 abbrev pub own_form : Spec → List ℕ → ℕ → ℕ
@@ -146,7 +153,7 @@ said_places false macro form place v = []
 abbrev pub value_places : ℕ → ℕ → Spec → List ℕ → ℕ → Value → List TextPlace
 value_places number tag x bytes place v =
     line_places (x.name == DW_AT_stmt_list) (own_form x bytes place) v
-    ++ (class_places v.class (is_path number tag x.name) (is_base number x.name) place v
+    ++ (class_places v.class (is_path number tag x.name) (is_base number x.name) (is_start_form (own_form x bytes place)) place v
     ++ said_places (is_start x.name) (is_macros x.name) (own_form x bytes place) place v)
 
 -- those of the values of attributes that stand one after another from a place on
@@ -177,9 +184,10 @@ entries_places params table bytes number [] = []
 entries_places params table bytes number (x ∷ xs) =
     entry_places params table bytes number x ++ entries_places params table bytes (number + 1) xs
 
--- what the values of a unit in the section of a number say
+-- what the values of a unit in the section of a number, of these cells, say
 pub record UnitSays : Type 0 where
   pub section : ℕ
+  pub cells : List Cell
   pub places : List TextPlace
 
 -- units that can be read whole stand one after another from the section's start up to a place, and these are their places, all
@@ -190,7 +198,7 @@ pub data UnitsPlaced (base : UnitBase) (z : UnitSection) : List UnitHeader → �
       (items : List Scanned) → UnitsPlaced base z list start places units → IsUnit base z start h → IsUnitTable base h table
       → AreEntries h table (bytes_up_to z h) items
       → UnitsPlaced base z (list ++ h ∷ []) h.end (places ++ entries_places h.params table (bytes_up_to z h) 0 items)
-      (units ++ record { section = z.number; places = entries_places h.params table (bytes_up_to z h) 0 items } ∷ [])
+      (units ++ record { section = z.number; cells = z.contents; places = entries_places h.params table (bytes_up_to z h) 0 items } ∷ [])
 
 -- all units of the section
 abbrev pub ArePlaced : UnitBase → UnitSection → List UnitHeader → List TextPlace → List UnitSays → Type 0
@@ -258,14 +266,41 @@ indexes_in [] = []
 indexes_in (t ∷ ts) = index_at t.at t.says ++ indexes_in ts
 
 -- the base that a place says, or else those behind it
-abbrev pub base_or : Indexed → Option ℕ → Option ℕ
-base_or (unit_base n) o = Some n
-base_or i o = o
+abbrev pub base_or : ℕ → ℕ → Indexed → Option TextBase → Option TextBase
+base_or at len (unit_base n) o = Some (BaseNumber n)
+base_or at len base_offset o = Some (BaseField (record { at = at; size = len }))
+base_or at len i o = o
 
 -- the base among the places of a unit: where several values say one, the first counts
-abbrev pub base_in : List TextPlace → Option ℕ
+abbrev pub base_in : List TextPlace → Option TextBase
 base_in [] = None
-base_in (t ∷ ts) = base_or t.says (base_in ts)
+base_in (t ∷ ts) = base_or t.at t.len t.says (base_in ts)
+
+-- the base that a value says: a field of an offset, or else a number
+abbrev pub said_of : Bool → Value → TextBase
+said_of true v = BaseField (record { at = v.at; size = v.len })
+said_of false v = BaseNumber v.number
+
+-- what bases go by: the byte order, and the section of string offsets
+pub record BaseSource : Type 0 where
+  pub order : Order
+  pub offsets : Located
+
+abbrev pub base_source : DebugData → BaseSource
+base_source d = record { order = d.base.order; offsets = located_cells d.offsets }
+
+-- the number of a base that values in these cells say
+abbrev pub base_number : BaseSource → List Cell → TextBase → ℕ
+base_number g cells (BaseNumber n) = n
+base_number g cells (BaseField f) = offset_of g.order g.offsets (cells_at cells f.at f.size)
+
+abbrev pub number_said : BaseSource → List Cell → Option TextBase → Option ℕ
+number_said g cells None = None
+number_said g cells (Some b) = Some (base_number g cells b)
+
+-- that of a unit
+abbrev pub unit_number : BaseSource → UnitSays → Option ℕ
+unit_number g u = number_said g u.cells (base_in u.places)
 
 -- the same as values by index of the whole file, in the section and the unit of a number
 abbrev pub use_at : ℕ → ℕ → ℕ → Indexed → List IndexUse
@@ -276,22 +311,23 @@ abbrev pub uses_among : ℕ → ℕ → List TextPlace → List IndexUse
 uses_among section unit [] = []
 uses_among section unit (t ∷ ts) = use_at section unit t.at t.says ++ uses_among section unit ts
 
-abbrev pub base_at : ℕ → Indexed → List SaidBase
-base_at unit (unit_base n) = record { unit = unit; base = n } ∷ []
-base_at unit i = []
+abbrev pub base_at : BaseSource → List Cell → ℕ → ℕ → ℕ → Indexed → List SaidBase
+base_at g cells unit at len (unit_base n) = record { unit = unit; base = n } ∷ []
+base_at g cells unit at len base_offset = record { unit = unit; base = offset_of g.order g.offsets (cells_at cells at len) } ∷ []
+base_at g cells unit at len i = []
 
-abbrev pub bases_among : ℕ → List TextPlace → List SaidBase
-bases_among unit [] = []
-bases_among unit (t ∷ ts) = base_at unit t.says ++ bases_among unit ts
+abbrev pub bases_among : BaseSource → List Cell → ℕ → List TextPlace → List SaidBase
+bases_among g cells unit [] = []
+bases_among g cells unit (t ∷ ts) = base_at g cells unit t.at t.len t.says ++ bases_among g cells unit ts
 
 -- those of units, of which the first has this number
 abbrev pub numbered_uses : ℕ → List UnitSays → List IndexUse
 numbered_uses unit [] = []
 numbered_uses unit (u ∷ us) = uses_among u.section unit u.places ++ numbered_uses (unit + 1) us
 
-abbrev pub numbered_bases : ℕ → List UnitSays → List SaidBase
-numbered_bases unit [] = []
-numbered_bases unit (u ∷ us) = bases_among unit u.places ++ numbered_bases (unit + 1) us
+abbrev pub numbered_bases : BaseSource → ℕ → List UnitSays → List SaidBase
+numbered_bases g unit [] = []
+numbered_bases g unit (u ∷ us) = bases_among g u.cells unit u.places ++ numbered_bases g (unit + 1) us
 
 -- what a unit section says of paths, by its number and its places of texts
 abbrev pub paths_by : ℕ → List TextPlace → UnitPaths
@@ -335,41 +371,3 @@ abbrev pub AllFitRooms : PathMap → List UnitSection → List UnitPaths → Typ
 AllFitRooms m [] us = ⊤
 AllFitRooms m (z ∷ zs) [] = ⊤
 AllFitRooms m (z ∷ zs) (u ∷ us) = InlinesFit m (bytes_of z.contents) u.inline × AllFitRooms m zs us
-
--- each of these fields holds one of these starts
-abbrev pub StartsHere : Order → List ℕ → List ℕ → List PathField → Type 0
-StartsHere order info starts [] = ⊤
-StartsHere order info starts (f ∷ fs) = IsTrue (is_there (start_number 0 starts (spelled order info f.at f.size))) × StartsHere order info starts fs
-
--- each value of a section that is to say where a line table starts says one of these starts, and so does one of a macro unit
-pub record SectionStarts (order : Order) (info starts places : List ℕ) (u : UnitPaths) : Type 0 where
-  pub all_say : u.stray ≡ None
-  pub there : StartsHere order info starts u.starts
-  pub units : StartsHere order info places u.macros
-
--- the same of the cells of a section of debug data
-abbrev pub StartsNamed : DebugData → List ℕ → List Cell → List PathField → Type 0
-StartsNamed d starts cells [] = ⊤
-StartsNamed d starts cells (f ∷ fs) =
-    IsTrue (is_there (start_number 0 starts (offset_of d.base.order (located_cells d.lines) (cells_at cells f.at f.size)))) × StartsNamed d starts cells fs
-
--- a number names one of these places
-abbrev pub names_place : List ℕ → Field → Bool
-names_place places (Num n) = is_there (start_number 0 places n)
-names_place places f = false
-
-abbrev pub UnitsNamed : DebugData → List ℕ → List Cell → List PathField → Type 0
-UnitsNamed d places cells [] = ⊤
-UnitsNamed d places cells (f ∷ fs) =
-    IsTrue (names_place places (field_of d.base.order (cells_at cells f.at f.size))) × UnitsNamed d places cells fs
-
-pub record SectionNamed (d : DebugData) (starts places : List ℕ) (z : UnitSection) (u : UnitPaths) : Type 0 where
-  pub all_say : u.stray ≡ None
-  pub named : StartsNamed d starts z.contents u.starts
-  pub units : UnitsNamed d places z.contents u.macros
-
--- in all sections
-abbrev pub AllStarts : DebugData → List ℕ → List ℕ → List UnitSection → List UnitPaths → Type 0
-AllStarts d starts places [] us = ⊤
-AllStarts d starts places (z ∷ zs) [] = ⊤
-AllStarts d starts places (z ∷ zs) (u ∷ us) = SectionNamed d starts places z u × AllStarts d starts places zs us

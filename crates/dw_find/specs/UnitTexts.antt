@@ -7,7 +7,7 @@ use Rattle.dw_base.specs.DebugData.{DebugData}
 use Rattle.dw_base.specs.EntryScans.{IsEntry, Scans, AreEntries, EntryFails}
 use Rattle.dw_base.specs.EntryValues.{bytes_up_to}
 use Rattle.dw_base.specs.Lebs.{uleb_at}
-use Rattle.dw_base.specs.RelocationRows.{HeaderOffsetFails}
+use Rattle.dw_base.specs.RelocationRows.{HeaderOffsetFails, HeaderOffsetsRead}
 use Rattle.dw_base.specs.UnitHeaders.{UnitSection, AreUnits}
 use Rattle.dw_base.specs.UnitTables.{IsUnitTable}
 use Rattle.dw_base.specs.declared.fault.Refusal.{Refusal}
@@ -16,7 +16,7 @@ use Rattle.dw_base.specs.declared.units.Scanned.{Scanned}
 use Rattle.dw_base.specs.declared.units.UnitHeader.{UnitHeader}
 use Rattle.dw_find.specs.EntryTexts.{Tables, TextTables, AreTaken, Found, ValuesRefuse, with_places, none_found}
 use Rattle.dw_find.specs.NamedSlots.{Slots, TakesIndexes, TakesUnits}
-use Rattle.dw_find.specs.TextPlaces.{UnitSays, entries_places, SectionSays}
+use Rattle.dw_find.specs.TextPlaces.{UnitSays, base_source, entries_places, number_said, SectionSays}
 use Rattle.dw_find.specs.UnitPaths.{UnitPaths}
 
 -- an entry that a pass gave stands there
@@ -84,7 +84,7 @@ pub record OneTaken (d : DebugData) (z : UnitSection) (h : UnitHeader) (old new 
   pub declares : IsUnitTable d.base h table
   pub found : Found
   pub scan : ScanTaken (tables_of d z) h table (bytes_up_to z h) old found
-  pub slots : TakesIndexes h.section found.base found.indexes before now
+  pub slots : TakesIndexes h.section (number_said (base_source d) z.contents found.base) found.indexes before now
   pub ends : new ≡ none_found found.paths
 
 -- a unit whose entries were taken, and units of a section
@@ -99,8 +99,9 @@ abbrev pub UnitsTaken : DebugData → UnitSection → List UnitHeader → Type 0
 UnitsTaken d z [] = ⊤
 UnitsTaken d z (h ∷ hs) = IsUnitTaken d z h × UnitsTaken d z hs
 
--- what the units of a section say of paths, all of which were taken
+-- what the units of a section say of paths, all of which were taken, with the offsets in their headers
 pub record SectionTaken (d : DebugData) (z : UnitSection) (u : UnitPaths) : Type 0 where
+  pub headers : HeaderOffsetsRead d.base z
   pub says : SectionSays d z u
   pub list : List UnitHeader
   pub units : AreUnits d.base z list
@@ -109,7 +110,7 @@ pub record SectionTaken (d : DebugData) (z : UnitSection) (u : UnitPaths) : Type
 -- and what these units say by index went to the slots
 pub record SectionIndexed (d : DebugData) (z : UnitSection) (u : UnitPaths) (before now : Slots) : Type 0 where
   pub taken : SectionTaken d z u
-  pub slots : TakesUnits taken.says.section.units before now
+  pub slots : TakesUnits (base_source d) taken.says.section.units before now
 
 -- so do those of sections
 abbrev pub AllTaken : DebugData → List UnitSection → List UnitPaths → Type 0
@@ -128,7 +129,7 @@ units_taken d (z ∷ zs) (u ∷ us) all = all.0.says.section.units ++ units_take
 -- all of it went to the slots
 pub record AllIndexed (d : DebugData) (zs : List UnitSection) (us : List UnitPaths) (before now : Slots) : Type 0 where
   pub taken : AllTaken d zs us
-  pub slots : TakesUnits (units_taken d zs us taken) before now
+  pub slots : TakesUnits (base_source d) (units_taken d zs us taken) before now
 
 -- the tables of abbreviations that are kept by their offsets are those of the debug data
 pub record AreTables (d : DebugData) (shared : ℕ → Option (List Abbreviation)) : Type 0 where

@@ -1,13 +1,14 @@
 -- Fields and rooms of paths in the sections of a view, and the tables of texts that they name.
-use Rattle.std.specs.Prelude.{ℕ, ◌<◌, List, [], ◌∷◌, ◌++◌, length, ⊤}
+use Rattle.std.specs.Prelude.{◌≡◌, ℕ, ◌<◌, List, [], ◌∷◌, ◌++◌, length, ⊤}
+use Rattle.dw_base.specs.Cells.{Located}
 use Rattle.dw_base.specs.DebugData.{DebugData}
-use Rattle.dw_base.specs.FileViews.{View, section_bytes}
+use Rattle.dw_base.specs.FileViews.{View, section_bytes, view_cells, view_relocations}
 use Rattle.dw_base.specs.Forms.{TextSection, in_str, in_line_str}
 use Rattle.dw_base.specs.Paths.{PathMap}
 use Rattle.dw_base.specs.ViewData.{debug_data}
 use Rattle.dw_base.specs.declared.debug_sections.DebugSection.{DebugSection}
 use Rattle.dw_base.specs.declared.debug_sections.DebugSection.TheVariants.{Str as str_section, LineStr as line_str_section}
-use Rattle.dw_find.specs.Fields.{OffsetTable, AllApart, ArePathFields, AreStartFields}
+use Rattle.dw_find.specs.Fields.{OffsetTable, AllApart, AreOffsetFields, ArePathFields, AreStartFields}
 use Rattle.dw_find.specs.InlineRooms.{AreRooms}
 use Rattle.dw_find.specs.TextPlaces.{InlinesFit}
 use Rattle.dw_find.specs.UnitPaths.{UnitPaths}
@@ -30,6 +31,10 @@ abbrev pub offsets_of : DebugData → TextSection → OffsetTable
 offsets_of d in_str = record { order = d.base.order; bytes = d.str.bytes }
 offsets_of d in_line_str = record { order = d.base.order; bytes = d.line_str.bytes }
 
+abbrev pub texts_in : DebugData → TextSection → Located
+texts_in d in_str = d.str
+texts_in d in_line_str = d.line_str
+
 abbrev pub table_number : DebugData → TextSection → ℕ
 table_number d in_str = d.str.number
 table_number d in_line_str = d.line_str.number
@@ -45,6 +50,34 @@ fields_of in_line_str u = u.line_str
 -- the bytes of a section that says this of paths
 abbrev pub info_of : View → UnitPaths → List ℕ
 info_of v u = section_bytes v u.number
+
+-- it is there, and each of its fields of paths holds an offset that names a text, by the cells of the section
+pub record HasOffsets (v : View) (u : UnitPaths) : Type 0 where
+  pub there : u.number < length v.sections
+  pub str : AreOffsetFields v.order (debug_data v).str (view_cells v u.number) u.str
+  pub line_str : AreOffsetFields v.order (debug_data v).line_str (view_cells v u.number) u.line_str
+
+abbrev pub AllHaveOffsets : View → List UnitPaths → Type 0
+AllHaveOffsets v [] = ⊤
+AllHaveOffsets v (u ∷ us) = HasOffsets v u × AllHaveOffsets v us
+
+-- a section of a view: it is there, its fields of line tables and of macro units are fields, no two fields of paths and of line tables have
+-- a byte in common, and its paths that stand in their values have rooms
+pub record HasPlaces (v : View) (u : UnitPaths) : Type 0 where
+  pub there : u.number < length v.sections
+  pub starts : AreStartFields (info_of v u) u.starts
+  pub macros : AreStartFields (info_of v u) u.macros
+  pub apart : AllApart (u.str ++ (u.line_str ++ u.starts))
+  pub rooms : AreRooms (info_of v u) u.inline
+
+abbrev pub AllHavePlaces : View → List UnitPaths → Type 0
+AllHavePlaces v [] = ⊤
+AllHavePlaces v (u ∷ us) = HasPlaces v u × AllHavePlaces v us
+
+-- no relocation begins in a section of the view, as in none of a file that isn't relocatable: there the offsets are the numbers that the fields
+-- hold
+pub record HasNoRelocations (v : View) : Type 0 where
+  pub each : (i : ℕ) → view_relocations v i ≡ []
 
 -- a section of a view: it is there, its fields of paths and of line tables are fields of which no two have a byte in common, those of macro
 -- units are fields, and its paths that stand in their values have rooms

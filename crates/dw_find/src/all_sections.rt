@@ -6,13 +6,14 @@ ghost use Rattle.dw_base.specs.ViewData.{debug_data};
 ghost use Rattle.dw_entries.specs.SectionOrder.{AreSections};
 ghost use Rattle.dw_find.specs.IndexedTexts.{TablesStart, TextsIndexed, TextsRefuse, UnitsStart};
 ghost use Rattle.dw_find.specs.NamedSlots.{no_slots};
-ghost use Rattle.dw_find.specs.TextPlaces.{AllStarts};
+ghost use Rattle.dw_find.specs.NamedStarts.{AllStarts};
 ghost use Rattle.dw_find.specs.UnitTexts.{AllIndexed, AllTaken, UnitsRefuse, texts_of};
 
 use crate::found::{TextTables, UnitPaths};
 use crate::sections::section_texts;
 use crate::slots::NamedSlots;
 use crate::starts::all_start;
+use crate::unit_places::UnitPlaces;
 use dw_base::Fault;
 use dw_entries::unit_sections;
 use dw_view::View;
@@ -30,7 +31,7 @@ pub(crate) fn all_texts(
     view: &View,
     tables: &TextTables,
     starts: &[u64],
-    places: &[u64],
+    places: &UnitPlaces,
     slots: &mut NamedSlots,
 ) -> Result<Vec<UnitPaths>, Fault>
     requires tables { tables.now ≡ texts_of (debug_data view.now) }

@@ -2,13 +2,15 @@
 //!
 //! Read first: `specs/FieldOffsets.antt`.
 
-ghost use Rattle.std.specs.Prelude.{true, ◌≡◌, ◌+◌, ◌<◌, ◌≤◌, length, IfErr, IfOk, OnOk};
-ghost use Rattle.dw_base.specs.Cells.{is_placed, offset_into};
+ghost use Rattle.std.specs.Prelude.{◌≡◌, ◌⊎◌, ◌+◌, ◌<◌, ◌≤◌, length, IfErr, IfOk};
+ghost use Rattle.dw_base.specs.Cells.{cells_at, field_of, offset_into, offset_of};
 ghost use Rattle.dw_base.specs.FileViews.{field_at, section_bytes, view_cells};
 ghost use Rattle.dw_base.specs.RelocationRows.{OffsetFails, field_place, offset_field};
-ghost use Rattle.dw_find.specs.FieldOffsets.{GivesNoPlace};
+ghost use Rattle.dw_base.specs.ViewData.{located};
+ghost use Rattle.dw_find.specs.Fields.{IsStartField};
 
-use dw_base::{Field, Kind, Refusal};
+use crate::fields::PathField;
+use dw_base::{DebugSection, Field, Refusal};
 use dw_view::View;
 
 /// The offset that a field holds into the section of a number with these bytes: one into another section counts as past it. Refused as
@@ -29,33 +31,77 @@ pub(crate) fn offset_at(
     ensures offset { IfOk result (λ n. n ≡ offset_into (record { number = number; bytes = bytes.now }) (field_at view.now section at size)) }
     ensures refused { IfErr result (OffsetFails view.now.order section (view_cells view.now section) (field_place at size offset_field)) }
 {
-    let field = view.field(section, at, size)?;
-    let offset = offset_into(field, section, at, number, bytes)?;
-    Ok(offset)
+    let field = view.offset(section, at, size)?;
+    Ok(offset_into(field, number, bytes))
 }
 
 /// The same of a field that was read.
-fn offset_into(
-    field: Field,
+fn offset_into(field: Field, number: u32, bytes: &[u8]) -> u64
+    ensures { result ≡ offset_into (record { number = number; bytes = bytes.now }) field }
+{
+    match field {
+        Field::Num(offset) => offset,
+        Field::Into { section, offset } => {
+            if section == number {
+                offset
+            } else {
+                bytes.len() as u64
+            }
+        }
+        Field::Sym { .. } => bytes.len() as u64,
+    }
+}
+
+/// The offset that a field of four or eight bytes holds, by the cells of its section.
+#[tactic(auto, using(crate::proofs::FieldOffsetLaws::value_rules))]
+pub(crate) fn cells_offset(
+    view: &View,
     section: u32,
     at: u64,
+    size: u8,
     number: u32,
     bytes: &[u8],
 ) -> Result<u64, Refusal>
-    ensures offset { IfOk result (λ n. n ≡ offset_into (record { number = number; bytes = bytes.now }) field) }
-    ensures placed { OnOk result (is_placed field ≡ true) }
-    ensures refused { IfErr result (GivesNoPlace section at field) }
+    requires there { section < length view.now.sections }
+    requires sized { (size ≡ 4) ⊎ (size ≡ 8) }
+    requires lies { at + size ≤ length (view_cells view.now section) }
+    ensures offset { IfOk result (λ n. n ≡ offset_of view.now.order (record { number = number; bytes = bytes.now }) (cells_at (view_cells view.now section) at size)) }
+    ensures refused { IfErr result (OffsetFails view.now.order section (view_cells view.now section) (field_place at size offset_field)) }
 {
-    match field {
-        Field::Num(offset) => Ok(offset),
-        Field::Into {
-            section: target,
-            offset,
-        } => Ok(if target == number {
-            offset
-        } else {
-            bytes.len() as u64
-        }),
-        Field::Sym { .. } => Err(Refusal::at(Kind::Relocation, section, at)),
+    let offset = offset_at(view, section, at, size, number, bytes)?;
+    Ok(offset)
+}
+
+/// The offset that a field holds into the first section of a name.
+#[tactic(auto, using(crate::proofs::FieldOffsetLaws::section_rules))]
+pub(crate) fn section_offset(
+    view: &View,
+    section: u32,
+    field: PathField,
+    of: DebugSection,
+) -> Result<u64, Refusal>
+    requires there { section < length view.now.sections }
+    requires field { IsStartField (section_bytes view.now section) field }
+    ensures offset { IfOk result (λ n. n ≡ offset_of view.now.order (located view.now of) (cells_at (view_cells view.now section) field.at field.size)) }
+    ensures refused { IfErr result (OffsetFails view.now.order section (view_cells view.now section) (field_place field.at field.size offset_field)) }
+{
+    if let Some(number) = view.first(of) {
+        let bytes = view.bytes(number);
+        let offset = cells_offset(view, section, field.at, field.size, number, bytes)?;
+        return Ok(offset);
     }
+    let offset = cells_offset(view, section, field.at, field.size, 0, b"")?;
+    Ok(offset)
+}
+
+/// What such a field reads as: a number or a place.
+#[tactic(auto, using(crate::proofs::FieldOffsetLaws::read_rules))]
+pub(crate) fn cells_field(view: &View, section: u32, at: u64, size: u8) -> Result<Field, Refusal>
+    requires there { section < length view.now.sections }
+    requires field { IsStartField (section_bytes view.now section) (record { at = at; size = size }) }
+    ensures field { IfOk result (λ f. f ≡ field_of view.now.order (cells_at (view_cells view.now section) at size)) }
+    ensures refused { IfErr result (OffsetFails view.now.order section (view_cells view.now section) (field_place at size offset_field)) }
+{
+    let field = view.offset(section, at, size)?;
+    Ok(field)
 }

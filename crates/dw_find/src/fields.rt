@@ -20,6 +20,15 @@ pub struct InlinePath {
     pub len: u64,
 }
 
+/// The base of a unit's texts by index (DWARF 5, 3.1.1).
+#[derive(Clone, Copy)]
+pub(crate) enum TextBase {
+    /// A number.
+    Number(u64),
+    /// The field of an offset into the section of string offsets.
+    Field(PathField),
+}
+
 /// A value that names a text by index.
 #[derive(Clone, Copy)]
 pub(crate) struct TextIndex {

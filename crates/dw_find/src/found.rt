@@ -9,7 +9,7 @@ ghost use Rattle.dw_find.specs.EntryTexts.{Found as FoundOf, Tables, TextTables 
 ghost use Rattle.dw_find.specs.UnitPaths.{UnitPaths as PathsOf};
 
 use crate::field_offsets::offset_at;
-use crate::fields::{InlinePath, PathField, TextIndex};
+use crate::fields::{InlinePath, PathField, TextBase, TextIndex};
 use dw_base::{Refusal, Value, nul_end};
 use dw_view::View;
 use std::alloc::Global;
@@ -64,7 +64,7 @@ pub(crate) struct Found {
     /// The paths.
     pub paths: UnitPaths,
     /// The base of the unit, the first that its first entry says.
-    pub base: Option<u64>,
+    pub base: Option<TextBase>,
     /// The values of the unit that name texts by index.
     pub indexes: Vec<TextIndex>,
 }

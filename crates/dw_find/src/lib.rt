@@ -31,12 +31,13 @@ mod slots;
 mod starts;
 mod tables;
 mod texts;
+mod unit_places;
 mod units;
 
 pub use fields::{InlinePath, PathField};
 pub use found::UnitPaths;
 pub use lines::starts_of;
-pub use macros::{MacroSection, first_places, macro_sections};
+pub use macros::{MacroSection, macro_sections};
 pub use paths::found_paths;
 pub use reading::{ReadTables, read_data};
 pub use starts::{start_in, start_number};

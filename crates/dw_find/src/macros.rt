@@ -1,4 +1,4 @@
-//! The macro units of a view, read whole: where they start, the fields of the offsets of their line tables, and that each such
+//! The macro units of a view, read whole: the fields of the offsets of their line tables, and that each such
 //! offset and each of another unit names one (DWARF 5, 6.3).
 //!
 //! Read first: `specs/MacroSections.antt`.
@@ -7,15 +7,16 @@ ghost use Rattle.std.specs.Prelude.{◌≡◌, ◌++◌, ◌<◌, length, IfErr,
 ghost use Rattle.dw_base.specs.Refusals.{Blames};
 ghost use Rattle.dw_base.specs.declared.fault.Refusal.{Refusal as RefusalOf};
 ghost use Rattle.dw_macros.specs.MacroEvents.{IsUnitIn, events_left, unit_events};
-ghost use Rattle.dw_macros.specs.MacroOffsets.{AreReadUnits, UnitsRefuse};
+ghost use Rattle.dw_base.specs.MacroOffsets.{AreReadUnits, UnitsRefuse};
 ghost use Rattle.dw_find.specs.LineStarts.{Rises};
 ghost use Rattle.dw_find.specs.MacroNames.{AllUnitsIn, AreUnitsIn, EventNames, EventStray, EventStrays, EventsName, LineNames, LineStrays, MacrosName, MacrosStray, UnitsName, UnitsStray};
-ghost use Rattle.dw_find.specs.MacroSections.{SectionUnits, UnitsFailIn, UnitsFoundIn, first_places, line_fields, macros_of, macros_with, places_of};
+ghost use Rattle.dw_find.specs.MacroSections.{SectionUnits, UnitsFailIn, UnitsFoundIn, line_fields, macros_of, macros_with};
 
 use crate::fields::PathField;
 use crate::found::UnitPaths;
 use crate::lines::width_size;
 use crate::starts::{start_number, stray};
+use crate::unit_places::UnitPlaces;
 use dw_base::{DebugSection, Fault, MacroEvent, MacroUnit, Refusal};
 use dw_macros::{MacroEvents, macro_units};
 use dw_view::View;
@@ -65,41 +66,18 @@ fn section_units(alloc: Global, view: &View, section: u32) -> Result<MacroSectio
     Ok(MacroSection { section, units })
 }
 
-/// Where the units of the first section start, in bytes: the numbers that a value or an import can say (DWARF 5, 3.1.1 and 6.3.2).
-#[tactic(auto, using(crate::proofs::MacroSectionLaws::first_rules))]
-pub fn first_places(alloc: Global, macros: &[MacroSection]) -> Result<Vec<u64>, AllocError>
-    ensures { IfOk result (λ places. places.items ≡ first_places macros.now) }
-{
-    if macros.is_empty() {
-        return Ok(Vec::new(alloc));
-    }
-    places_of(alloc, units_of(&macros[0]))
-}
-
 /// The units of a section.
-fn units_of(section: &MacroSection) -> &[MacroUnit]
+pub(crate) fn units_of(section: &MacroSection) -> &[MacroUnit]
     ensures { result.now ≡ section.now.units }
 {
     section.units.as_slice()
 }
 
 /// The number of a section.
-fn number_of(section: &MacroSection) -> u32
+pub(crate) fn number_of(section: &MacroSection) -> u32
     ensures { result ≡ section.now.number }
 {
     section.section
-}
-
-/// Where units start.
-#[tactic(auto, using(crate::proofs::MacroSectionLaws::places_rules))]
-fn places_of(alloc: Global, units: &[MacroUnit]) -> Result<Vec<u64>, AllocError>
-    ensures { IfOk result (λ places. places.items ≡ places_of units.now) }
-{
-    let mut places = Vec::with_capacity(alloc, units.len())?;
-    for unit in units {
-        places.push(unit.start)?;
-    }
-    Ok(places)
 }
 
 /// Puts what the sections of macro units say of line tables behind what was found.
@@ -156,12 +134,11 @@ fn line_fields(alloc: Global, units: &[MacroUnit]) -> Result<Vec<PathField>, All
 pub(crate) fn macros_name(
     view: &View,
     starts: &[u64],
-    places: &[u64],
+    places: &UnitPlaces,
     macros: &[MacroSection],
 ) -> Result<(), Refusal>
     requires macros { AllUnitsIn view.now macros.now }
     requires starts { Rises starts.now }
-    requires places { Rises places.now }
     ensures named { OnOk result (MacrosName view.now starts.now places.now macros.now) }
     ensures refused { IfErr result (MacrosStray view.now starts.now places.now macros.now) }
 {
@@ -176,12 +153,11 @@ pub(crate) fn macros_name(
 fn units_name(
     view: &View,
     starts: &[u64],
-    places: &[u64],
+    places: &UnitPlaces,
     units: &[MacroUnit],
 ) -> Result<(), Refusal>
     requires units { AreUnitsIn view.now units.now }
     requires starts { Rises starts.now }
-    requires places { Rises places.now }
     ensures named { OnOk result (UnitsName view.now starts.now places.now units.now) }
     ensures refused { IfErr result (UnitsStray view.now starts.now places.now units.now) }
 {
@@ -209,9 +185,8 @@ fn line_names(starts: &[u64], unit: &MacroUnit) -> Result<(), Refusal>
 }
 
 /// The same of the events of one unit.
-fn events_name(view: &View, places: &[u64], unit: &MacroUnit) -> Result<(), Refusal>
+fn events_name(view: &View, places: &UnitPlaces, unit: &MacroUnit) -> Result<(), Refusal>
     requires unit { IsUnitIn view.now unit.now }
-    requires places { Rises places.now }
     ensures named { OnOk result (EventsName places.now (unit_events view.now unit.now)) }
     ensures refused { IfErr result (EventStrays unit.now.section places.now (unit_events view.now unit.now)) }
 {
@@ -220,8 +195,7 @@ fn events_name(view: &View, places: &[u64], unit: &MacroUnit) -> Result<(), Refu
 
 /// The same of events that are left.
 #[tactic(auto, using(crate::proofs::MacroLoopLaws::event_loop_rules))]
-fn left_name(section: u32, places: &[u64], events: MacroEvents) -> Result<(), Refusal>
-    requires places { Rises places.now }
+fn left_name(section: u32, places: &UnitPlaces, events: MacroEvents) -> Result<(), Refusal>
     ensures named { OnOk result (EventsName places.now (events_left events.entry)) }
     ensures refused { IfErr result (EventStrays section places.now (events_left events.entry)) }
 {
@@ -233,16 +207,21 @@ fn left_name(section: u32, places: &[u64], events: MacroEvents) -> Result<(), Re
 
 /// The same of one event.
 #[tactic(auto, using(crate::proofs::MacroNameLaws::event_rules))]
-fn event_names(section: u32, places: &[u64], event: MacroEvent) -> Result<(), Refusal>
-    requires places { Rises places.now }
+fn event_names(section: u32, places: &UnitPlaces, event: MacroEvent) -> Result<(), Refusal>
     ensures named { OnOk result (EventNames places.now event) }
     ensures refused { IfErr result (EventStray section places.now event) }
 {
     match event {
-        MacroEvent::Import { offset, field, .. } => match start_number(places, offset) {
-            Some(_) => Ok(()),
-            None => Err(stray(section, field)),
-        },
+        MacroEvent::Import {
+            section: target,
+            offset,
+            field,
+        } => {
+            if places.has(target, offset) {
+                return Ok(());
+            }
+            Err(stray(section, field))
+        }
         _ => Ok(()),
     }
 }

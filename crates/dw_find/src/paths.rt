@@ -20,11 +20,13 @@ use crate::all_sections::all_texts;
 use crate::fields::PathField;
 use crate::found::{TextTable, TextTables, UnitPaths};
 use crate::lines::{push_lines, starts_of};
-use crate::macros::{MacroSection, first_places, macros_name, push_macros};
+use crate::macros::{MacroSection, macros_name, push_macros};
 use crate::rooms::all_rooms_fit;
 use crate::slots::NamedSlots;
 use crate::tables::{TextsOf, table_number, table_texts};
+use crate::unit_places::UnitPlaces;
 use dw_base::{DebugSection, Fault};
+use dw_fields::check_fields;
 use dw_lines::LineTable;
 use dw_offsets::{ContributionList, PathSlot, SlotMarks, contributions, name_tables, path_slots};
 use dw_paths::Maps;
@@ -34,7 +36,7 @@ use std::alloc::{AllocError, Global};
 /// What the unit sections of the view say of paths, in the order of their numbers, behind them what its string
 /// offsets say, behind these its macro units, and behind these its line tables. Refused where one of these sections or a
 /// name table can't be read or names no text, where what is to say where a line table or a macro unit starts names none,
-/// where a path that stands in its value would grow, and where a slot is shared.
+/// where a path that stands in its value would grow, where a slot is shared, and where a relocation stands that may not.
 #[tactic(auto, using(crate::proofs::FoundPathLaws::found_rules))]
 pub fn found_paths(
     alloc: Global,
@@ -50,23 +52,16 @@ pub fn found_paths(
 {
     let list = contributions(alloc, view)?;
     let names = name_tables(alloc, view)?;
-    let _ = names.as_slice();
     let marks = no_marks(alloc, view)?;
     let mut slots = NamedSlots::new(&list, marks);
     let starts = starts_of(alloc, tables)?;
-    let places = first_places(alloc, macros)?;
-    let mut paths = unit_paths(
-        alloc,
-        view,
-        maps,
-        starts.as_slice(),
-        places.as_slice(),
-        &mut slots,
-    )?;
-    macros_name(view, starts.as_slice(), places.as_slice(), macros)?;
+    let places = UnitPlaces::new(alloc, view, macros)?;
+    let mut paths = unit_paths(alloc, view, maps, starts.as_slice(), &places, &mut slots)?;
+    macros_name(view, starts.as_slice(), &places, macros)?;
     push_slots(alloc, view, maps, &list, &slots.marks, &mut paths)?;
     push_macros(alloc, macros, &mut paths)?;
     push_lines(alloc, view, tables, &mut paths)?;
+    check_fields(alloc, view, list.as_slice(), names.as_slice(), tables)?;
     Ok(paths)
 }
 
@@ -96,7 +91,7 @@ fn unit_paths(
     view: &View,
     maps: &Maps,
     starts: &[u64],
-    places: &[u64],
+    places: &UnitPlaces,
     slots: &mut NamedSlots,
 ) -> Result<Vec<UnitPaths>, Fault>
     requires none { slots.old ≡ no_slots slots.old.list (length slots.old.marks) }

@@ -25,8 +25,9 @@ pub struct ReadTables {
 }
 
 /// Reads all debug data of a view: its units and their entries, string offsets, name tables, line tables and macro units; and gives
-/// these two. Refused only where one of these can't be read, at its place: also where an offset or an index names no text, and where
-/// what is to say where a line table or a macro unit starts names none. What was read excludes each of these refusals.
+/// these two. Refused only where one of these can't be read, at its place: also where an offset or an index names no text, where what
+/// is to say where a line table or a macro unit starts names none, and where a relocation stands that may not. What was read excludes
+/// each of these refusals.
 #[tactic(auto, using(crate::proofs::ReadDataLaws::read_rules))]
 pub fn read_data(alloc: Global, view: &View) -> Result<ReadTables, Fault>
     ensures read { IfOk result (λ tables. DataRead view.now tables.lines.items tables.macros.items) }

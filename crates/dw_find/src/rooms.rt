@@ -7,7 +7,7 @@ ghost use Rattle.dw_meaning.specs.DataFails.{InlineFails};
 ghost use Rattle.dw_base.specs.InlinePaths.{inline_fits};
 ghost use Rattle.dw_base.specs.ViewData.{debug_data};
 ghost use Rattle.dw_find.specs.InlineRooms.{AreRooms, Grows};
-ghost use Rattle.dw_find.specs.ViewFields.{HasPaths, info_of};
+ghost use Rattle.dw_find.specs.ViewFields.{HasPlaces, info_of};
 ghost use Rattle.dw_find.specs.TextPlaces.{AllFitRooms, AllPlaced, InlinesFit};
 ghost use Rattle.dw_find.specs.UnitPaths.{inline_text};
 
@@ -34,7 +34,7 @@ pub(crate) fn all_rooms_fit(view: &View, maps: &Maps, paths: &[UnitPaths]) -> Re
 /// The same of one section.
 #[tactic(auto, using(crate::proofs::RoomFitLaws::section_rules))]
 fn rooms_fit(view: &View, maps: &Maps, found: &UnitPaths) -> Result<(), Refusal>
-    requires paths { HasPaths view.now found.now }
+    requires paths { HasPlaces view.now found.now }
     ensures fits { OnOk result (InlinesFit maps.now (info_of view.now found.now) found.now.inline) }
     ensures refused { IfErr result (Grows maps.now found.now.number (info_of view.now found.now) found.now.inline) }
 {

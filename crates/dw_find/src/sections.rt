@@ -2,23 +2,29 @@
 //!
 //! Read first: `specs/UnitTexts.antt`.
 
-ghost use Rattle.std.specs.Prelude.{◌≡◌, true, is_some, nat_eq, IfErr, IfOk, OnOk};
+ghost use Rattle.std.specs.Prelude.{◌≡◌, ◌<◌, true, is_some, nat_eq, length, IfErr, IfOk, OnOk, None};
 ghost use Rattle.std.specs.HashMap.{get};
 ghost use Rattle.dw_base.specs.AbbreviationFails.{AbbreviationFails};
 ghost use Rattle.dw_base.specs.AbbreviationTables.{IsTable};
 ghost use Rattle.dw_base.specs.EntryValues.{HasUnit};
+ghost use Rattle.dw_base.specs.FileViews.{section_bytes, view_cells};
 ghost use Rattle.dw_base.specs.Refusals.{Blames};
+ghost use Rattle.dw_base.specs.RelocationRows.{HeaderOffsetsRead};
 ghost use Rattle.dw_base.specs.UnitHeaders.{AreUnits};
 ghost use Rattle.dw_base.specs.ViewData.{debug_data};
 ghost use Rattle.dw_entries.specs.ViewUnits.{IsUnitSection, unit_section_at};
+ghost use Rattle.dw_find.specs.FieldOffsets.{BaseLies, BaseRefuses};
+ghost use Rattle.dw_find.specs.TextPlaces.{base_source, number_said};
 ghost use Rattle.dw_find.specs.UnitTexts.{AreTables, OneTaken, SectionIndexed, UnitsRefuse, tables_of, texts_of};
 
+use crate::field_offsets::section_offset;
+use crate::fields::TextBase;
 use crate::found::{Found, SectionTexts, TextTables, UnitPaths};
 use crate::scan_table::ScanTable;
 use crate::slots::NamedSlots;
 use crate::units::unit_texts;
 use dw_abbrev::AbbrevTable;
-use dw_base::{DebugSection, Fault, UnitHeader};
+use dw_base::{DebugSection, Fault, Refusal, UnitHeader};
 use dw_entries::{table_offset, unit_headers};
 use dw_view::View;
 use std::alloc::Global;
@@ -68,6 +74,7 @@ fn units_texts(
     requires there { IsUnitSection view.now section }
     requires tables { tables.now ≡ texts_of (debug_data view.now) }
     requires shared { AreTables (debug_data view.now) (λ at. get nat_eq shared.old at) }
+    requires headers { HeaderOffsetsRead (debug_data view.now).base (unit_section_at view.now section) }
     requires units { AreUnits (debug_data view.now).base (unit_section_at view.now section) units.now }
     ensures shared { OnOk result (AreTables (debug_data view.now) (λ at. get nat_eq shared.new at)) }
     ensures taken { IfOk result (λ u. SectionIndexed (debug_data view.now) (unit_section_at view.now section) u slots.old slots.new) }
@@ -95,6 +102,7 @@ fn one_unit(
 ) -> Result<(), Fault>
     requires unit { HasUnit (debug_data view.now) (unit_section_at view.now unit.now.section) unit.now }
     requires texts { texts.now ≡ tables_of (debug_data view.now) (unit_section_at view.now unit.now.section) }
+    requires none { found.old.base ≡ None }
     requires shared { AreTables (debug_data view.now) (λ at. get nat_eq shared.old at) }
     ensures shared { OnOk result (AreTables (debug_data view.now) (λ at. get nat_eq shared.new at)) }
     ensures taken { OnOk result (OneTaken (debug_data view.now) (unit_section_at view.now unit.now.section) unit.now found.old found.new slots.old slots.new) }
@@ -106,9 +114,30 @@ fn one_unit(
         unreachable!()
     };
     unit_texts(view, texts, unit, table, found)?;
-    slots.take(unit.section, found.base, found.indexes.as_slice());
+    let base = base_number(view, unit.section, found.base)?;
+    slots.take(unit.section, base, found.indexes.as_slice());
     found.end_unit();
     Ok(())
+}
+
+/// The number of the base that a unit of a section says: a field holds an offset into the section of string offsets, and one into
+/// another section counts as past it. Refused as `Relocation` where a relocation lies on the field only in part, at that, and where
+/// the one at it gives no place, at the field.
+#[tactic(auto, using(crate::proofs::BaseLaws::number_rules))]
+fn base_number(view: &View, section: u32, base: Option<TextBase>) -> Result<Option<u64>, Refusal>
+    requires there { section < length view.now.sections }
+    requires field { BaseLies (section_bytes view.now section) base }
+    ensures number { IfOk result (λ n. n ≡ number_said (base_source (debug_data view.now)) (view_cells view.now section) base) }
+    ensures refused { IfErr result (BaseRefuses view.now.order section (view_cells view.now section) base) }
+{
+    match base {
+        None => Ok(None),
+        Some(TextBase::Number(number)) => Ok(Some(number)),
+        Some(TextBase::Field(field)) => {
+            let number = section_offset(view, section, field, DebugSection::StrOffsets)?;
+            Ok(Some(number))
+        }
+    }
 }
 
 /// Reads the table of abbreviations at an offset, if it wasn't read before.

@@ -4,38 +4,42 @@
 
 ghost use Rattle.std.specs.Prelude.{◌≡◌, ◌<◌, length, IfErr, IfOk, OnOk};
 ghost use Rattle.std.specs.Option.{ForSome};
+ghost use Rattle.dw_base.specs.Cells.{cells_at, offset_of};
 ghost use Rattle.dw_base.specs.DebugData.{start_number};
+ghost use Rattle.dw_base.specs.FileViews.{section_bytes, view_cells};
 ghost use Rattle.dw_base.specs.Numbers.{spelled};
 ghost use Rattle.dw_base.specs.Refusals.{at};
-ghost use Rattle.dw_base.specs.ViewData.{debug_data};
-ghost use Rattle.dw_meaning.specs.DataFails.{StartsFail};
+ghost use Rattle.dw_base.specs.RelocationRows.{OffsetFails, field_place, offset_field};
+ghost use Rattle.dw_base.specs.ViewData.{debug_data, located};
 ghost use Rattle.dw_find.specs.Fields.{AreStartFields, IsStartField};
 ghost use Rattle.dw_find.specs.IndexedTexts.{TablesStart, UnitsStart};
-ghost use Rattle.dw_find.specs.LineStarts.{HasStart, IsStartGap, Rises, SectionStrays, StartsStray};
-ghost use Rattle.dw_find.specs.ViewFields.{HasPaths, info_of};
-ghost use Rattle.dw_find.specs.TextPlaces.{AllStarts, SectionStarts, StartsHere};
+ghost use Rattle.dw_find.specs.LineStarts.{FieldStrays, HasStart, IsStartGap, Rises, SectionStrays, StartsRefuse};
+ghost use Rattle.dw_find.specs.ViewFields.{HasPlaces};
+ghost use Rattle.dw_find.specs.NamedStarts.{AllStarts, FieldsSay, SectionStarts, says_start, says_unit};
 ghost use Rattle.dw_find.specs.UnitTexts.{AllTaken};
 
+use crate::field_offsets::{cells_field, section_offset};
 use crate::fields::PathField;
 use crate::found::UnitPaths;
-use dw_base::{Kind, Order, Refusal, number_in};
+use crate::unit_places::UnitPlaces;
+use dw_base::{DebugSection, Kind, Order, Refusal, number_in};
 use dw_view::View;
 
 /// Tests that each value of all unit sections that is to say where a line table starts names one of these starts, and that
 /// each that is to say where a macro unit starts names one of these places. Refused as `Stray`, at a value that has another
-/// form or names none.
+/// form or names none, and as `Relocation` where the offset of one can't be read.
 #[tactic(auto, using(crate::proofs::StartLaws::all_rules))]
 pub(crate) fn all_start(
     view: &View,
     starts: &[u64],
-    places: &[u64],
+    places: &UnitPlaces,
     paths: &[UnitPaths],
 ) -> Result<(), Refusal>
     requires taken { AllTaken (debug_data view.now) (debug_data view.now).units paths.now }
     requires tables { TablesStart (debug_data view.now) starts.now }
     requires units { UnitsStart (debug_data view.now) places.now }
     ensures starts { OnOk result (AllStarts (debug_data view.now) starts.now places.now (debug_data view.now).units paths.now) }
-    ensures refused { IfErr result (StartsFail (debug_data view.now)) }
+    ensures refused { IfErr result (StartsRefuse (debug_data view.now)) }
 {
     for found in paths {
         section_starts(view, starts, places, found)?;
@@ -48,58 +52,95 @@ pub(crate) fn all_start(
 fn section_starts(
     view: &View,
     starts: &[u64],
-    places: &[u64],
+    places: &UnitPlaces,
     found: &UnitPaths,
 ) -> Result<(), Refusal>
-    requires paths { HasPaths view.now found.now }
+    requires paths { HasPlaces view.now found.now }
     requires rises { Rises starts.now }
-    requires units { Rises places.now }
-    ensures starts { OnOk result (SectionStarts view.now.order (info_of view.now found.now) starts.now places.now found.now) }
-    ensures refused { IfErr result (SectionStrays view.now.order (info_of view.now found.now) starts.now places.now found.now) }
+    ensures starts { OnOk result (SectionStarts view.now starts.now places.now found.now) }
+    ensures refused { IfErr result (SectionStrays view.now starts.now places.now found.now) }
 {
     if let Some(place) = found.stray {
         return Err(stray(found.section, place));
     }
-    let info = view.bytes(found.section);
-    fields_start(
-        view.order(),
-        found.section,
-        info,
-        starts,
-        found.starts.as_slice(),
-    )?;
-    fields_start(
-        view.order(),
-        found.section,
-        info,
-        places,
-        found.macros.as_slice(),
-    )?;
+    lines_start(view, found.section, starts, found.starts.as_slice())?;
+    units_start(view, found.section, places, found.macros.as_slice())?;
     Ok(())
 }
 
-/// The same of these fields.
+/// Tests that each of these fields of a section holds the start of a line table.
 #[tactic(auto, using(crate::proofs::StartLaws::fields_rules))]
-fn fields_start(
-    order: Order,
+fn lines_start(
+    view: &View,
     section: u32,
-    info: &[u8],
     starts: &[u64],
     fields: &[PathField],
 ) -> Result<(), Refusal>
-    requires fields { AreStartFields info.now fields.now }
+    requires there { section < length view.now.sections }
+    requires fields { AreStartFields (section_bytes view.now section) fields.now }
     requires rises { Rises starts.now }
-    ensures starts { OnOk result (StartsHere order info.now starts.now fields.now) }
-    ensures refused { IfErr result (StartsStray order section info.now starts.now fields.now) }
+    ensures starts { OnOk result (FieldsSay (says_start view.now.order (located view.now DebugSection.Line) starts.now) (view_cells view.now section) fields.now) }
+    ensures refused { IfErr result (FieldStrays view.now.order section (view_cells view.now section) (says_start view.now.order (located view.now DebugSection.Line) starts.now) fields.now) }
 {
     for field in fields {
-        let start = start_in(order, info, *field);
-        match start_number(starts, start) {
-            Some(_) => {}
-            None => return Err(stray(section, field.at)),
+        if !line_starts(view, section, starts, *field)? {
+            return Err(stray(section, field.at));
         }
     }
     Ok(())
+}
+
+/// A field holds the start of a line table.
+#[tactic(auto, using(crate::proofs::StartLaws::says_rules))]
+fn line_starts(view: &View, section: u32, starts: &[u64], field: PathField) -> Result<bool, Refusal>
+    requires there { section < length view.now.sections }
+    requires field { IsStartField (section_bytes view.now section) field }
+    requires rises { Rises starts.now }
+    ensures says { IfOk result (λ says. says ≡ says_start view.now.order (located view.now DebugSection.Line) starts.now (cells_at (view_cells view.now section) field.at field.size)) }
+    ensures refused { IfErr result (OffsetFails view.now.order section (view_cells view.now section) (field_place field.at field.size offset_field)) }
+{
+    let start = section_offset(view, section, field, DebugSection::Line)?;
+    match start_number(starts, start) {
+        Some(_) => Ok(true),
+        None => Ok(false),
+    }
+}
+
+/// Tests that each of these fields of a section names a macro unit.
+#[tactic(auto, using(crate::proofs::StartLaws::fields_rules))]
+fn units_start(
+    view: &View,
+    section: u32,
+    places: &UnitPlaces,
+    fields: &[PathField],
+) -> Result<(), Refusal>
+    requires there { section < length view.now.sections }
+    requires fields { AreStartFields (section_bytes view.now section) fields.now }
+    ensures starts { OnOk result (FieldsSay (says_unit view.now.order places.now) (view_cells view.now section) fields.now) }
+    ensures refused { IfErr result (FieldStrays view.now.order section (view_cells view.now section) (says_unit view.now.order places.now) fields.now) }
+{
+    for field in fields {
+        if !unit_starts(view, section, places, *field)? {
+            return Err(stray(section, field.at));
+        }
+    }
+    Ok(())
+}
+
+/// A field names a macro unit.
+fn unit_starts(
+    view: &View,
+    section: u32,
+    places: &UnitPlaces,
+    field: PathField,
+) -> Result<bool, Refusal>
+    requires there { section < length view.now.sections }
+    requires field { IsStartField (section_bytes view.now section) field }
+    ensures says { IfOk result (λ says. says ≡ says_unit view.now.order places.now (cells_at (view_cells view.now section) field.at field.size)) }
+    ensures refused { IfErr result (OffsetFails view.now.order section (view_cells view.now section) (field_place field.at field.size offset_field)) }
+{
+    let read = cells_field(view, section, field.at, field.size)?;
+    Ok(places.names(read))
 }
 
 /// The start that a field holds.

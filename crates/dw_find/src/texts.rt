@@ -14,9 +14,9 @@ ghost use Rattle.dw_base.specs.Texts.{ends_in};
 ghost use Rattle.dw_base.specs.UnitHeaders.{is_address_size};
 ghost use Rattle.dw_base.specs.declared.dwarf_numbers.TheConstants.{DW_AT_stmt_list};
 ghost use Rattle.dw_find.specs.EntryTexts.{AreTaken, OffsetLies, OffsetNames, OffsetRefuses, OffsetSized, OneRefuses, offset_in, StartSized, ValueRefuses, ValuesRefuse, ValueTaken, with_places, IsStrValue};
-ghost use Rattle.dw_find.specs.TextPlaces.{class_places, indexed_at, is_macros, is_start, is_start_form, line_at, no_start, own_form, said_places, said_value, values_places};
+ghost use Rattle.dw_find.specs.TextPlaces.{class_places, indexed_at, is_macros, is_start, is_start_form, line_at, no_start, own_form, said_of, said_places, said_value, values_places};
 
-use crate::fields::{InlinePath, PathField, TextIndex};
+use crate::fields::{InlinePath, PathField, TextBase, TextIndex};
 use crate::found::{Found, SectionTexts, TextTable};
 use dw_base::dwarf_numbers::{
     DW_AT_GNU_macros, DW_AT_comp_dir, DW_AT_macros, DW_AT_name, DW_AT_stmt_list,
@@ -80,7 +80,7 @@ fn value_text(
     let path = is_path(number, tag, spec.name);
     let base = is_base(number, spec.name);
     note_start(says_start(spec, bytes, place), &value, found)?;
-    note_value(texts, place, &value, path, base, found)?;
+    note_value(texts, spec, bytes, place, &value, path, base, found)?;
     note_said(spec, bytes, place, &value, found)?;
     Ok(value.size)
 }
@@ -287,6 +287,8 @@ fn is_base(number: u64, name: u64) -> bool
 #[tactic(auto, using(crate::proofs::EntryTextLaws::note_rules), unfolding(crate::specs::EntryTexts::with_places, crate::specs::EntryTexts::with_paths))]
 fn note_value(
     texts: &SectionTexts,
+    spec: &Spec,
+    bytes: &[u8],
     place: u64,
     value: &Value,
     path: bool,
@@ -294,8 +296,9 @@ fn note_value(
     found: &mut Found,
 ) -> Result<(), Fault>
     requires sized { OffsetSized value.now.class value.now.len }
+    requires start { StartSized (own_form spec.now bytes.now place) value.now.len }
     requires lies { OffsetLies (length texts.now.cells) value.now.class value.now }
-    ensures found { OnOk result (found.new ≡ with_places found.old (class_places value.now.class path base place value.now)) }
+    ensures found { OnOk result (found.new ≡ with_places found.old (class_places value.now.class path base (is_start_form (own_form spec.now bytes.now place)) place value.now)) }
     ensures names { OnOk result (OffsetNames texts.now value.now.class value.now) }
     ensures refused { IfErr result (Blames (ValueRefuses texts.now value.now)) }
 {
@@ -327,12 +330,25 @@ fn note_value(
         })?,
         ValueClass::Number | ValueClass::SecOffset => {
             if base && found.base.is_none() {
-                found.base = Some(value.number);
+                found.base = Some(text_base(is_start_form(own_form(spec, bytes, place)), value));
             }
         }
         _ => {}
     }
     Ok(())
+}
+
+/// The base that a value says: a field of an offset, or else a number.
+#[tactic(auto, using(crate::proofs::EntryTextLaws::base_rules))]
+fn text_base(field: bool, value: &Value) -> TextBase
+    requires sized { field ≡ true → (value.now.len ≡ 4) ⊎ (value.now.len ≡ 8) }
+    ensures { result ≡ said_of field value.now }
+{
+    if field {
+        TextBase::Field(field_of(value))
+    } else {
+        TextBase::Number(value.number)
+    }
 }
 
 /// The field of a value that is an offset.

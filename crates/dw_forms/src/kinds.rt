@@ -21,7 +21,7 @@ use dw_base::{Kind, Params, ValueClass, Width};
 
 /// The size of a number's field, by what it depends on.
 #[derive(Clone, Copy)]
-pub(crate) enum FieldSize {
+pub enum FieldSize {
     /// So many bytes.
     Bytes(u8),
     /// That of an address.
@@ -34,7 +34,7 @@ pub(crate) enum FieldSize {
 
 /// What a value of a form is.
 #[derive(Clone, Copy)]
-pub(crate) enum FormKind {
+pub enum FormKind {
     /// A number of a class, in a field of this size.
     Number(ValueClass, FieldSize),
     /// A number of a class, in LEB128.
@@ -87,8 +87,8 @@ pub(crate) fn reference_size(params: &Params) -> u8
 }
 
 impl FieldSize {
-    /// The size in a unit of these parameters, in bytes.
-    pub(crate) fn bytes(self, params: &Params) -> u8
+    /// The size in a unit of these parameters, in bytes: 1 to 8.
+    pub fn bytes(self, params: &Params) -> u8
         requires address { IsTrue (is_address_size params.now.address) }
         requires room { HasRoom self }
         ensures size { result ≡ field_size params.now self }
@@ -104,10 +104,10 @@ impl FieldSize {
     }
 }
 
-/// What a value of a form is, in every unit.
+/// What a value of a form is, in every unit, by the table of forms (DWARF 5, table 7.6); `Unlisted` of a form that it doesn't have.
 #[rattlefmt::skip]
 #[tactic(auto, unfolding(dw_base::specs::Forms::kind_in, dw_base::specs::Forms::form_rows))]
-pub(crate) fn form_kind(form: u64) -> FormKind
+pub fn form_kind(form: u64) -> FormKind
     ensures kind { (params : ParamsOf) → as_kind params result ≡ kind_in params form }
     ensures fields { HasFields result }
 {

@@ -1,5 +1,5 @@
 -- Laws of the changes of a header: paths in their order, offsets that fit, and changes one after another.
-use Rattle.std.proofs.Common.{Bool, true, false, ◌≡◌, ◌≢◌, ℕ, ◌+◌, ◌<◌, ◌≤◌, ◌^◌, ◌==◌, List, [], ◌∷◌, ◌++◌, length, take, drop, get_or, Option, Some, None, Contains, refl, sym, ap, ◌∙◌, subst, inl, inr, if◌then◌else◌, arith}
+use Rattle.std.proofs.Common.{Bool, true, false, ◌≡◌, ◌≢◌, ◌⊎◌, ℕ, ◌+◌, ◌<◌, ◌≤◌, ◌^◌, ◌==◌, List, [], ◌∷◌, ◌++◌, length, take, drop, get_or, Option, Some, None, Contains, refl, sym, ap, ◌∙◌, subst, inl, inr, if◌then◌else◌, arith}
 use Rattle.std.proofs.lemmas.Bool.{cases_lt}
 use Rattle.std.proofs.lemmas.Bool.Decides.{nat_tests}
 use Rattle.std.proofs.lemmas.List.{append-nil, append_assoc, take_more, take_all, map-append, get_or_default, length-take, length-drop}
@@ -15,6 +15,7 @@ use Rattle.dw_base.specs.declared.fault.Kind.TheVariants.{TooWide}
 use Rattle.dw_base.specs.declared.fault.Refusal.{Refusal}
 use Rattle.dw_base.specs.declared.shared.Order.{Order}
 use Rattle.dw_base.specs.declared.shared.Width.{Width}
+use Rattle.dw_base.specs.declared.shared.Width.TheVariants.{W32, W64}
 use Rattle.dw_base.specs.declared.line_tables.TextPlace.{TextPlace}
 use Rattle.dw_lines.specs.OffsetRooms.{AllHaveRoom, HasRoom}
 use Rattle.dw_lines.specs.ChangeSteps.{after_change, after_changes, fits_width, offset_fits}
@@ -114,7 +115,11 @@ offset-appended v section field size place number width order a b c p s n o f g 
     (ap (λ (x : Order). number_bytes x (width_size width) number) o
     ∙ subst (λ (k : ℕ). number_bytes v.order k number ≡ bytes_of (with_offset v.order (cells_at (view_cells v section) field k) place)) s n))
 
-pub ruleset offset_laws = (offset-appended)
+pub offset-size : (n : ℕ) (w : Width) → n ≡ width_size w → (n ≡ 4) ⊎ (n ≡ 8)
+offset-size n W32 is = inl is
+offset-size n W64 is = inr is
+
+pub ruleset offset_laws = (offset-appended, offset-size)
 
 pub behind-small : (bytes old : List ℕ) (at n : ℕ) → old ≡ bytes_at bytes at n → length bytes ≤ 2 ^ 31 → at < 2 ^ 64 → at + length old < 2 ^ 64
 behind-small bytes old at n e small fits =

@@ -9,10 +9,10 @@ pub mod WalkLaws
 pub mod TableLaws
 pub mod PartLaws
 pub mod RoomLaws
-pub mod NewOffsetLaws
 pub mod ChangeLaws
 pub mod DefinedLaws
 pub mod WrittenLaws
 pub mod CanLaws
 pub mod ReadingLaws
+pub mod FieldLaws
 pub mod ViewTableLaws

@@ -121,7 +121,7 @@ lists-exclude g h table dirs files p r (new_lists a1 a2 m n five d f) (new_files
     ok-err (a2, n) r (entries_at g h table k) (subst (λ (x : ℕ). entries_at g h table x ≡ Ok (a2, n)) place f) b
 
 -- the whole table
-header-once : (a b : LineHeader) (x : Option LineHeader) → x ≡ Some a → x ≡ Some b → a ≡ b
+pub header-once : (a b : LineHeader) (x : Option LineHeader) → x ≡ Some a → x ≡ Some b → a ≡ b
 header-once a b x e f = ap (header_or a) (sym e ∙ f)
   where
     header_or : LineHeader → Option LineHeader → LineHeader

@@ -3,3 +3,4 @@ pub mod ChangeSteps
 pub mod OffsetRooms
 pub mod ViewTables
 pub mod PlainOpcodes
+pub mod HeaderFields

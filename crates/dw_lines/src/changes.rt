@@ -8,7 +8,6 @@ ghost use Rattle.dw_base.specs.Cells.{bytes_of, cells_at};
 ghost use Rattle.dw_base.specs.FileViews.{section_bytes, view_cells};
 ghost use Rattle.dw_base.specs.Forms.{width_size};
 ghost use Rattle.dw_base.specs.NewOffsets.{with_offset};
-ghost use Rattle.dw_base.specs.Numbers.{number_bytes};
 ghost use Rattle.dw_base.specs.Paths.{mapped_path};
 ghost use Rattle.dw_base.specs.ViewData.{located};
 ghost use Rattle.dw_base.specs.declared.debug_sections.DebugSection.TheVariants.{Str};
@@ -130,18 +129,6 @@ fn push_change(
     Ok(())
 }
 
-/// The number that a field of a section has when the offset in it becomes another.
-#[tactic(auto, using(crate::proofs::NewOffsetLaws::number_laws))]
-fn moved_number(view: &View, section: u32, at: u64, size: u8, offset: u64) -> u64
-    requires there { section < length view.now.sections }
-    requires some { 0 < size }
-    requires wide { size ≤ 8 }
-    requires inside { at + size ≤ length (section_bytes view.now section) }
-    ensures bytes { number_bytes view.now.order size result ≡ bytes_of (with_offset view.now.order (cells_at (view_cells view.now section) at size) offset) }
-{
-    offset
-}
-
 /// Appends the bytes from a place up to a field of a section, and the field's with a new offset in it.
 #[tactic(auto, using(crate::proofs::ChangeLaws::offset_laws))]
 fn push_offset(
@@ -158,7 +145,7 @@ fn push_offset(
     requires inside { field + width_size width ≤ length (section_bytes view.now section) }
     ensures out { OnOk result (out.new.items ≡ out.old.items ++ (part bytes.now from field ++ bytes_of (with_offset view.now.order (cells_at (view_cells view.now section) field (width_size width)) place))) }
 {
-    let number = moved_number(view, section, field, width_size(width), place);
+    let number = view.moved_number(section, field, width_size(width), place);
     out.extend_from_slice(part(bytes, from, field))?;
     push_number(out, view.order(), width, number)?;
     Ok(())

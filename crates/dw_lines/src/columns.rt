@@ -4,7 +4,7 @@
 //! definition says: at the table where its value passes the end, at an offset that names no text, and where a
 //! relocation doesn't let an offset be read.
 
-ghost use Rattle.std.specs.Prelude.{◌≡◌, ◌+◌, ◌≤◌, ◌<◌, Some, Ok, Err, length, IfOk};
+ghost use Rattle.std.specs.Prelude.{◌≡◌, ◌+◌, ◌≤◌, ◌<◌, ◌==◌, ◌||◌, Some, Ok, Err, length, IfOk};
 ghost use Rattle.dw_base.specs.FileViews.{section_bytes};
 ghost use Rattle.dw_base.specs.ViewData.{located};
 ghost use Rattle.dw_lines.specs.ViewSources.{view_source};
@@ -26,6 +26,13 @@ pub(crate) fn is_text_form(form: u64) -> bool
     ensures form { result ≡ is_text_form form }
 {
     form == DW_FORM_string || form == DW_FORM_strp || form == DW_FORM_line_strp
+}
+
+/// A form by which an offset of a text stands.
+pub(crate) fn is_offset_form(form: u64) -> bool
+    ensures form { result ≡ (form == DW_FORM_strp || form == DW_FORM_line_strp) }
+{
+    form == DW_FORM_strp || form == DW_FORM_line_strp
 }
 
 /// The refusal of a table.

@@ -111,7 +111,7 @@ fn columns(
 /// The entry at a place, and the place behind it. Refused as its columns are, or at the table where it has no
 /// path.
 #[tactic(auto, unfolding(dw_base::specs::LineEntries::entry_at))]
-fn entry_at(
+pub(crate) fn entry_at(
     view: &View,
     section: u32,
     header: &LineHeader,

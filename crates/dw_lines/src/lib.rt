@@ -4,11 +4,12 @@
 //! directories and files, and the files that its program defines, each text where it is. It is refused exactly
 //! where none can be read there: as `Line` at the table, as `StringOffset` at an offset that names no text, as `Relocation`
 //! where a relocation lies on an offset only in part, or gives it no place. The tables
-//! of a view are all that fill its section of line tables. A table that is written with mapped paths is the defined
+//! of a view are all that fill its section of line tables. The places of the offsets of a header are those of all its columns
+//! by offset, in order. A table that is written with mapped paths is the defined
 //! one, byte for byte, and is refused exactly where that can't be.
 //! It does not promise: the rows of a program, which isn't run.
-//! Read first: `LineTables`, `LineFails`, `WrittenLines` and `LineWriteFails` in `dw_base/specs`, then
-//! `specs/ViewSources.antt` and `specs/ViewTables.antt`.
+//! Read first: `LineTables`, `LineFails`, `LineFields`, `WrittenLines` and `LineWriteFails` in `dw_base/specs`, then
+//! `specs/ViewSources.antt`, `specs/ViewTables.antt` and `specs/HeaderFields.antt`.
 //!
 //! ```
 //! use dw_lines::line_tables;
@@ -25,6 +26,7 @@ mod changes;
 mod columns;
 mod defined_paths;
 mod entries;
+mod fields;
 mod formats;
 mod header;
 mod old_lists;
@@ -37,6 +39,7 @@ mod view_tables;
 mod written;
 
 pub use dw_base::{Fault, FilePlace, Kind, Refusal, TextPlace, Width};
+pub use fields::HeaderFields;
 pub use table::LineTable;
 pub use view_tables::line_tables;
 pub use written::WrittenTable;

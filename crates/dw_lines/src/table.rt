@@ -63,10 +63,10 @@ impl Model for LineTable {
 
 /// The directories and files of a header, and the place behind them.
 #[derive(Drop)]
-struct Lists {
-    dirs: Vec<TextPlace>,
-    files: Vec<FilePlace>,
-    behind: u64,
+pub(crate) struct Lists {
+    pub(crate) dirs: Vec<TextPlace>,
+    pub(crate) files: Vec<FilePlace>,
+    pub(crate) behind: u64,
 }
 
 /// The texts of entries.
@@ -114,7 +114,7 @@ fn new_lists(
 
 /// The lists before version 5.
 #[tactic(auto, using(crate::proofs::TableLaws::old_laws))]
-fn old_lists(
+pub(crate) fn old_lists(
     alloc: Global,
     view: &View,
     section: u32,

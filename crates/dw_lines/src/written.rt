@@ -174,7 +174,7 @@ fn whole_table(
 
 /// The header of the table that starts at a place of a section, which has one.
 #[tactic(auto, using(crate::proofs::WrittenLaws::there_laws))]
-fn header_of(view: &View, section: u32, start: u64) -> LineHeader
+pub(crate) fn header_of(view: &View, section: u32, start: u64) -> LineHeader
     requires there { section < length view.now.sections }
     requires header { IsSome (line_header view.now.order (section_bytes view.now section) start) }
     ensures header { Some result ≡ line_header view.now.order (section_bytes view.now section) start }

@@ -4,7 +4,7 @@ use Rattle.std.proofs.lemmas.Bool.{cases_lt}
 use Rattle.std.proofs.lemmas.List.{get_or_append_left, get_or-append-add, length-append}
 use Rattle.dw_base.specs.FileViews.{View, section_bytes}
 use Rattle.dw_macros.specs.MacroEvents.{IsUnitIn}
-use Rattle.dw_macros.specs.MacroOffsets.{AreReadUnits, IsReadUnit, ReadsFrom, UnitsReadUpTo, no_unit, more_unit, over_there}
+use Rattle.dw_base.specs.MacroOffsets.{AreReadUnits, IsReadUnit, ReadsFrom, UnitsReadUpTo, no_unit, more_unit, over_there}
 use Rattle.dw_base.specs.MacroUnits.{IsMacroUnit}
 use Rattle.dw_base.specs.declared.macro_units.MacroOperation.TheVariants.{End}
 use Rattle.dw_base.specs.declared.macro_units.MacroUnit.{MacroUnit}

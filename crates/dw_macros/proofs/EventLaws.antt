@@ -17,7 +17,7 @@ use Rattle.dw_base.specs.declared.shared.Width.{Width}
 use Rattle.dw_base.specs.declared.view_fields.Field.{Field}
 use Rattle.dw_base.specs.declared.view_fields.Field.TheVariants.{Num, Into, Sym}
 use Rattle.dw_macros.specs.MacroEvents.{EventsFit, IsUnitIn, SpellsEvents, over, one_event, event_by, event_if, event_in, events_behind, events_from, events_start, import_at, import_of, inline_place, named_place, text_event, text_if, unit_events, with_those}
-use Rattle.dw_macros.specs.MacroOffsets.{FieldReads, FieldRefuses, OperationReads, ReadUpTo, none_read, more_read, ReadsFrom, over_there, one_there}
+use Rattle.dw_base.specs.MacroOffsets.{FieldReads, FieldRefuses, OperationReads, ReadUpTo, none_read, more_read, ReadsFrom, over_there, one_there}
 use Rattle.dw_base.specs.MacroUnits.{OperationsUpTo, no_operations, more_operations, is_end, names_text, offset_at, taken, taken_if, unit_operation}
 use Rattle.dw_macros.proofs.OperationLaws.{operation-behind}
 use Rattle.dw_base.specs.MacroOperations.{operation_at, operation_of}

@@ -17,7 +17,7 @@ use Rattle.dw_base.specs.declared.shared.Width.{Width}
 use Rattle.dw_base.specs.declared.view_fields.Field.{Field}
 use Rattle.dw_base.proofs.MacroRowLaws.{units-exclude}
 use Rattle.dw_base.proofs.ReachLaws.{Reaches, here, reach-more, Determined, Stops, stops-one}
-use Rattle.dw_macros.specs.MacroOffsets.{FieldReads, FieldRefuses, OperationReads, OperationRefuses, ReadUpTo, none_read, more_read, IsReadUnit, UnitsReadUpTo, no_unit, more_unit, AreReadUnits, OffsetRefuses, of_line, of_operation, UnitsRefuse, units, offsets}
+use Rattle.dw_base.specs.MacroOffsets.{FieldReads, FieldRefuses, OperationReads, OperationRefuses, ReadUpTo, none_read, more_read, IsReadUnit, UnitsReadUpTo, no_unit, more_unit, AreReadUnits, OffsetRefuses, of_line, of_operation, UnitsRefuse, units, offsets}
 use Rattle.dw_macros.proofs.EventLaws.{operation-there}
 use Rattle.dw_macros.proofs.UnitListLaws.{read-units}
 

@@ -11,7 +11,7 @@ use Rattle.dw_base.specs.Forms.{width_size}
 use Rattle.dw_base.specs.MacroHeaders.{header_of, macro_header}
 use Rattle.dw_base.specs.MacroMeanings.{EventMeaning, defined, undefined, brought, MacroMeaning, text_event as event_of_text}
 use Rattle.dw_base.specs.MacroOperations.{operation_at}
-use Rattle.dw_macros.specs.MacroOffsets.{AreReadUnits, FieldReads, IsReadUnit, OperationReads, ReadsFrom, UnitsReadUpTo, no_unit, more_unit, over_there, one_there}
+use Rattle.dw_base.specs.MacroOffsets.{AreReadUnits, FieldReads, IsReadUnit, OperationReads, ReadsFrom, UnitsReadUpTo, no_unit, more_unit, over_there, one_there}
 use Rattle.dw_base.specs.MacroUnits.{is_end, offset_at, unit_with}
 use Rattle.dw_base.specs.Numbers.{spelled}
 use Rattle.dw_base.specs.Texts.{has_nul, text, ends_in, text_in}

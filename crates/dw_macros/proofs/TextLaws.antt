@@ -4,7 +4,7 @@ use Rattle.std.specs.Prelude.{Ok, Err}
 use Rattle.std.proofs.lemmas.Bool.{eq-eqb, ne_eqb}
 use Rattle.std.proofs.lemmas.Bool.Decides.{nat_tests}
 use Rattle.std.proofs.lemmas.List.{drop_all}
-use Rattle.dw_base.specs.Cells.{Located, is_placed, offset_into}
+use Rattle.dw_base.specs.Cells.{Located, offset_into}
 use Rattle.dw_base.specs.DebugSections.{name_of}
 use Rattle.dw_base.specs.FileViews.{View, field_at, section_bytes, section_named}
 use Rattle.dw_base.specs.Forms.{width_size}
@@ -18,7 +18,7 @@ use Rattle.dw_base.specs.declared.view_fields.Field.{Field}
 use Rattle.dw_base.specs.declared.view_fields.Field.TheVariants.{Num, Into, Sym}
 use Rattle.dw_base.specs.MacroUnits.{names_text, offset_at}
 use Rattle.dw_base.proofs.ViewOffsetLaws.{offset-is}
-use Rattle.dw_macros.specs.MacroOffsets.{FieldReads, FieldRefuses}
+use Rattle.dw_base.specs.MacroOffsets.{FieldReads, FieldRefuses}
 use Rattle.dw_macros.specs.TextEnds.{IsTexts}
 use Rattle.dw_macros.specs.declared.texts.Texts.{Texts}
 
@@ -73,12 +73,6 @@ pub field-value : (v : View) (section field size : ℕ) (width : Width) (f : Fie
     → f ≡ field_at v section field (width_size width)
 field-value v section field size width f s e = (offset-is v section field size f (sym e)).same ∙ ap (field_at v section field) s
 
-pub field-placed : (v : View) (section field size : ℕ) (width : Width) (f : Field) → size ≡ width_size width → Ok f ≡ offset_read v section field size
-    → is_placed f ≡ true
-field-placed v section field size width f s e =
-    let is = offset-is v section field size f (sym e) in
-    ap is_placed is.same ∙ is.placed
-
 pub field-reads : (v : View) (section field size : ℕ) (width : Width) (f : Field) → size ≡ width_size width → Ok f ≡ offset_read v section field size
     → FieldReads v section width field
 field-reads v section field size width f s e = record {
@@ -89,7 +83,7 @@ pub field-refused : (v : View) (section field size : ℕ) (width : Width) (r : R
     → FieldRefuses v section width field r
 field-refused v section field size width r s e = record { is = ap (offset_read v section field) (sym s) ∙ sym e }
 
-pub ruleset names_laws = (field-value, field-placed, field-reads, field-refused)
+pub ruleset names_laws = (field-value, field-reads, field-refused)
 
 -- what it names
 pub field-text : (v : View) (section field : ℕ) (width : Width) (f : Field) (b : Bool) → f ≡ field_at v section field (width_size width)

@@ -13,7 +13,7 @@ use Rattle.dw_base.specs.MacroFails.{no_header, operation}
 use Rattle.dw_base.specs.MacroHeaders.{macro_header}
 use Rattle.dw_base.specs.MacroUnits.{IsMacroUnit, OperationsUpTo, no_operations, more_operations, is_end, line_of, names_text, offset_at, taken_if, unit_operation}
 use Rattle.dw_base.specs.MacroOperations.{operation_at}
-use Rattle.dw_macros.specs.MacroOffsets.{FieldReads, FieldRefuses, OperationReads, LineReads, LineRefuses, OperationFails, none_taken, no_offset, ReadUpTo, none_read, more_read, IsReadUnit, of_line, of_operation, UnitRefuses, unit_fails, offset_fails}
+use Rattle.dw_base.specs.MacroOffsets.{FieldReads, FieldRefuses, OperationReads, LineReads, LineRefuses, OperationFails, none_taken, no_offset, ReadUpTo, none_read, more_read, IsReadUnit, of_line, of_operation, UnitRefuses, unit_fails, offset_fails}
 use Rattle.dw_macros.specs.UnitEnds.{EndsAt, UnitBreaks}
 use Rattle.dw_base.specs.declared.macro_units.MacroHeader.{MacroHeader}
 use Rattle.dw_base.specs.declared.macro_units.MacroOperation.{MacroOperation}

@@ -5,7 +5,7 @@ use Rattle.dw_base.specs.declared.fault.Refusal.{Refusal}
 use Rattle.dw_base.specs.MacroFails.{one}
 use Rattle.dw_base.specs.MacroUnits.{AreMacroUnits, MacroUnitsUpTo, no_units, more_units}
 use Rattle.dw_base.specs.declared.macro_units.MacroUnit.{MacroUnit}
-use Rattle.dw_macros.specs.MacroOffsets.{UnitsReadUpTo, no_unit, more_unit, AreReadUnits, UnitRefuses, unit_fails, offset_fails, UnitsRefuse, units, offsets}
+use Rattle.dw_base.specs.MacroOffsets.{UnitsReadUpTo, no_unit, more_unit, AreReadUnits, UnitRefuses, unit_fails, offset_fails, UnitsRefuse, units, offsets}
 use Rattle.dw_macros.proofs.UnitLaws.{read-unit}
 
 -- units that can be read with their offsets are units

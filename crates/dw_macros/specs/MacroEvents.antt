@@ -17,7 +17,7 @@ use Rattle.dw_base.specs.declared.macro_units.MacroOperation.{MacroOperation}
 use Rattle.dw_base.specs.declared.macro_units.MacroOperation.TheVariants.{End, Inline, Named, Enter, Leave, Bring, Foreign}
 use Rattle.dw_base.specs.declared.macro_units.MacroUnit.{MacroUnit}
 use Rattle.dw_base.specs.declared.line_tables.TextPlace.{TextPlace}
-use Rattle.dw_macros.specs.MacroOffsets.{ReadsFrom}
+use Rattle.dw_base.specs.MacroOffsets.{ReadsFrom}
 
 -- a definition, or its end
 abbrev pub text_event : Bool → ℕ → TextPlace → MacroEvent

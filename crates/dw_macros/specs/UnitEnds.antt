@@ -4,7 +4,7 @@ use Rattle.dw_base.specs.FileViews.{View}
 use Rattle.dw_base.specs.declared.fault.Refusal.{Refusal}
 use Rattle.dw_base.specs.declared.shared.Width.{Width}
 use Rattle.dw_base.specs.MacroUnits.{unit_operation}
-use Rattle.dw_macros.specs.MacroOffsets.{OperationFails, ReadUpTo}
+use Rattle.dw_base.specs.MacroOffsets.{OperationFails, ReadUpTo}
 use Rattle.dw_base.specs.declared.macro_units.MacroOperation.TheVariants.{End}
 
 -- operations whose offsets can be read lead from the first of a unit to the one that ends it, and that ends at a place

@@ -7,7 +7,7 @@ ghost use Rattle.std.specs.Prelude.{◌≡◌, ◌+◌, ◌≤◌, ◌<◌, ◌�
 ghost use Rattle.std.specs.Iterator.{YieldsFirst, item_count};
 ghost use Rattle.dw_base.specs.FileViews.{section_bytes};
 ghost use Rattle.dw_base.specs.Forms.{width_size};
-ghost use Rattle.dw_macros.specs.MacroOffsets.{FieldReads, OperationReads, ReadsFrom};
+ghost use Rattle.dw_base.specs.MacroOffsets.{FieldReads, OperationReads, ReadsFrom};
 ghost use Rattle.dw_macros.specs.MacroEvents.{EventsFit, EventsState, IsUnitIn, SpellsEvents, event_by, event_in, events_from, events_left, events_start, import_at, inline_place, named_place, text_event, unit_events};
 ghost use Rattle.dw_macros.specs.OperationRooms.{HasRoom};
 

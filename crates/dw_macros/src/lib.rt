@@ -1,4 +1,4 @@
-//! Macro units (DWARF 5, 6.3): which a section has, and the events of one.
+//! Macro units (DWARF 5, 6.3): which a section has, the events of one, and its operations.
 //!
 //! This layer promises: the macro units of a section are given only where they fill it, and are refused only
 //! where one of them can't be read, at that unit, at an operation that refers to a supplementary file, or at
@@ -25,6 +25,7 @@ mod texts;
 mod units;
 mod widths;
 
-pub use dw_base::{Fault, Kind, MacroEvent, MacroUnit, Refusal, TextPlace, Width};
+pub use dw_base::{Fault, Kind, MacroEvent, MacroOperation, MacroUnit, Refusal, TextPlace, Width};
 pub use events::MacroEvents;
+pub use reading::operation_at;
 pub use units::macro_units;

@@ -209,10 +209,10 @@ fn operation_of(bytes: &[u8], width: Width, opcode: u8, place: u64) -> Option<(M
     plain_operation(bytes, width, opcode, place)
 }
 
-/// The operation at a place of the bytes of a section, and the place behind it. `None` exactly where none
-/// that a unit may have ends in the bytes.
+/// The operation at a place of the bytes of a macro section, in a unit whose offsets are so wide, and the place behind it; both are
+/// in bytes from the section's start. `None` exactly where none that a unit may have ends in the bytes (DWARF 5, 6.3.2).
 #[tactic(auto, unfolding(dw_base::specs::MacroOperations::operation_at))]
-pub(crate) fn operation_at(bytes: &[u8], width: Width, place: u64) -> Option<(MacroOperation, u64)>
+pub fn operation_at(bytes: &[u8], width: Width, place: u64) -> Option<(MacroOperation, u64)>
     requires small { length bytes.now ≤ 2 ^ 31 }
     ensures operation { result ≡ operation_at bytes.now width place }
     ensures behind { IfSome result (λ o. place < o.1) }

@@ -11,12 +11,11 @@ ghost use Rattle.dw_base.specs.Forms.{width_size};
 ghost use Rattle.dw_base.specs.Texts.{ends_in};
 ghost use Rattle.dw_base.specs.ViewData.{located};
 ghost use Rattle.dw_base.specs.MacroUnits.{names_text, offset_at};
-ghost use Rattle.dw_base.specs.ViewOffsets.{offset_read};
-ghost use Rattle.dw_macros.specs.MacroOffsets.{FieldReads, FieldRefuses};
+ghost use Rattle.dw_base.specs.MacroOffsets.{FieldReads, FieldRefuses};
 ghost use Rattle.dw_macros.specs.TextEnds.{IsTexts};
 
 use crate::widths::width_size;
-use dw_base::{DebugSection, Field, Kind, Refusal, Width, nul_end};
+use dw_base::{DebugSection, Field, Refusal, Width, nul_end};
 use dw_view::View;
 
 /// The texts of `.debug_str`.
@@ -60,38 +59,6 @@ fn is_text(view: &View, texts: &Texts, field: Field) -> bool
     }
 }
 
-/// A field is a number or a place, and not a symbol that has none.
-fn is_placed(field: Field) -> bool
-    ensures { result ≡ is_placed field }
-{
-    match field {
-        Field::Num(_) => true,
-        Field::Into { .. } => true,
-        Field::Sym { .. } => false,
-    }
-}
-
-/// What the field of an offset reads as. Refused as `Relocation` exactly where a relocation lies on it only in part, at
-/// that relocation, or where the one that begins there gives no place, at the field.
-#[tactic(auto, using(dw_base::proofs::ViewOffsetLaws::offset_laws))]
-fn offset_field(view: &View, section: u32, at: u64, size: u8) -> Result<Field, Refusal>
-    requires there { section < length view.now.sections }
-    requires some { 0 < size }
-    requires wide { size ≤ 8 }
-    requires inside { at + size ≤ length (section_bytes view.now section) }
-    ensures field { result ≡ offset_read view.now section at size }
-{
-    let field = match view.field(section, at, size) {
-        Ok(field) => field,
-        Err(refusal) => return Err(refusal),
-    };
-    if is_placed(field) {
-        Ok(field)
-    } else {
-        Err(Refusal::at(Kind::Relocation, section, at))
-    }
-}
-
 /// The field of an offset of a macro section.
 #[tactic(auto, using(crate::proofs::TextLaws::names_laws))]
 pub(crate) fn macro_field(
@@ -107,7 +74,7 @@ pub(crate) fn macro_field(
     ensures reads { OnOk result (FieldReads view.now section width field) }
     ensures refused { IfErr result (FieldRefuses view.now section width field) }
 {
-    let read = offset_field(view, section, field, width_size(width))?;
+    let read = view.offset(section, field, width_size(width))?;
     Ok(read)
 }
 

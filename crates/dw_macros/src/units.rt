@@ -12,7 +12,7 @@ ghost use Rattle.dw_base.specs.declared.fault.Refusal.{Refusal as RefusalOf};
 ghost use Rattle.dw_base.specs.MacroHeaders.{macro_header};
 ghost use Rattle.dw_macros.specs.HeaderRooms.{HasLineRoom};
 ghost use Rattle.dw_base.specs.MacroUnits.{AreMacroUnits, is_end, line_of, unit_operation, unit_with};
-ghost use Rattle.dw_macros.specs.MacroOffsets.{AreReadUnits, IsReadUnit, LineReads, LineRefuses, OperationFails, OperationReads, UnitRefuses, UnitsRefuse};
+ghost use Rattle.dw_base.specs.MacroOffsets.{AreReadUnits, IsReadUnit, LineReads, LineRefuses, OperationFails, OperationReads, UnitRefuses, UnitsRefuse};
 ghost use Rattle.dw_macros.specs.TextEnds.{IsTexts};
 ghost use Rattle.dw_macros.specs.UnitEnds.{EndsAt, UnitBreaks};
 

@@ -2,10 +2,10 @@
 use Rattle.std.proofs.Common.{true, ◌≡◌, ◌≢◌, ℕ, ◌+◌, ◌≤◌, List, [], ◌∷◌, ◌++◌, length, sym, ap, ◌∙◌, refl, subst, arith, ◌^◌, append_assoc}
 use Rattle.std.specs.Bool.{⊤}
 use Rattle.std.proofs.lemmas.List.{length-append, append-nil}
-use Rattle.dw_base.specs.Cells.{Cell, Located, bytes_of, plain_cells, located_cells}
+use Rattle.dw_base.specs.Cells.{Cell, Located, bytes_of, located_cells}
 use Rattle.dw_base.specs.DebugData.{DebugData, DataReadings, begins_by, units_in, ReadsAll, EntryPlace, place_by, entry_places, all_places, info_number, info_numbers, Lasting, Around, around_of, indexing_of, line_source, path_slots, table_of}
 use Rattle.dw_base.specs.Forms.{TextSection, in_str, in_line_str, ValueKind, number_of, leb_number, signed_leb, block_of, counted, counted_leb, inline_text, text_offset, present, in_abbreviation, form_in_front, supplementary, unlisted, kind_in}
-use Rattle.dw_base.specs.LineChanges.{line_mentions}
+use Rattle.dw_base.specs.LineChanges.{line_mentions, line_place}
 use Rattle.dw_base.specs.LineReadings.{LineReading, TablesTo, table_starts, starts_from, all_lines}
 use Rattle.dw_base.specs.MacroMeanings.{macro_meanings}
 use Rattle.dw_base.specs.MacroReadings.{MacroReading, EachMacro, MacroStart, MacroPlaces, macro_starts, first_macros}
@@ -35,12 +35,15 @@ use Rattle.dw_base.proofs.IndexKeptLaws.{bases-kept, bases-same, uses-kept, cont
 use Rattle.dw_base.proofs.OffsetChangeLaws.{slots-mapped, names-kept}
 use Rattle.dw_base.proofs.PathLaws.{mapped_path-none}
 use Rattle.dw_base.proofs.PieceFrameLaws.{chain-changed}
-use Rattle.dw_base.proofs.PlainCellLaws.{IsPlain, plain-parts, bytes_of-plain}
+use Rattle.dw_base.proofs.PlainCellLaws.{IsPlain, plain-parts}
 use Rattle.dw_base.proofs.UnitEditLaws.{Shift, Becomes, UnitChange, UnitsChanged, length-becomes, length-bytes_of, units_preserve}
 use Rattle.dw_meaning.specs.DataOutput.{DataReads, DataFits, EachWritable, table_change, new_lines, changes_of, offsets_after, macros_after, names_after}
 use Rattle.dw_meaning.proofs.IndexTextLaws.{IsApart, texts-apart, slots-move}
+use Rattle.dw_meaning.specs.LineCells.{all_written_cells}
+use Rattle.dw_meaning.proofs.LineCellLaws.{all-bytes}
+use Rattle.dw_meaning.proofs.LineClearLaws.{EachClear}
 use Rattle.dw_meaning.proofs.LineColumnLaws.{edited_with, Grows}
-use Rattle.dw_meaning.proofs.LinePathLaws.{BothMove}
+use Rattle.dw_meaning.proofs.LinePathLaws.{AllTake, BothMove}
 use Rattle.dw_meaning.proofs.LineSectionLaws.{EachCan, LinesMoved, TablesApart, section-moved}
 use Rattle.dw_meaning.proofs.MacroEditLaws.{AllMacrosChanged, edited_macro_sections, all-macros-read, all-starts, same-first, all-macros-kept, all-macros-named, all-imports, macros-edited}
 use Rattle.dw_meaning.proofs.OffsetMoveLaws.{RolesChanged, roles-length, names-becomes, roles-named, offsets-reads, names-reads}
@@ -125,13 +128,13 @@ AllReadingsChanged c (x ∷ xs) [] = ⊥
 AllReadingsChanged c (x ∷ xs) (y ∷ ys) = (y.number ≡ x.number) × UnitsChanged c x.pieces y.pieces × AllReadingsChanged c xs ys
 
 -- the text law, for all sections
-readings-edited : (base : UnitBase) (c : TableChanges) (around : Around) (ts us : List (List ℕ)) (first : ℕ) (zs : List UnitSection) (rs : Readings) (ms ns : List Mention)
+readings-edited : (lc : List Cell) (base : UnitBase) (c : TableChanges) (around : Around) (ts us : List (List ℕ)) (first : ℕ) (zs : List UnitSection) (rs : Readings) (ms ns : List Mention)
     → TablesMove c around → TextsAre c ts us (all_mentions in_str around rs ++ ms) (all_mentions in_line_str around rs ++ ns) → ReadsAll base first zs rs
-    → EachReading (Moves around) rs → EachReading (NamesText around) rs → EachReading (InlineFits c.map) rs → EachReading (SlotMoves (shift_of c around)) rs
-    → AllReadingsChanged (shift_of c around) rs (edited_readings c around rs)
-readings-edited base c around ts us first zs [] ms ns t all reads moves names fits slots = tt
-readings-edited base c around ts us first [] (r ∷ rs) ms ns t all reads moves names fits slots = absurd reads
-readings-edited base c around ts us first (z ∷ zs) (r ∷ rs) ms ns t all reads moves names fits slots =
+    → EachReading (Moves around) rs → EachReading (NamesText around) rs → EachReading (InlineFits c.map) rs → EachReading (SlotMoves (shift_of c around lc)) rs
+    → AllReadingsChanged (shift_of c around lc) rs (edited_readings c around rs)
+readings-edited lc base c around ts us first zs [] ms ns t all reads moves names fits slots = tt
+readings-edited lc base c around ts us first [] (r ∷ rs) ms ns t all reads moves names fits slots = absurd reads
+readings-edited lc base c around ts us first (z ∷ zs) (r ∷ rs) ms ns t all reads moves names fits slots =
     let heres : List Mention = mentions_of in_str around r.pieces in
     let lines : List Mention = mentions_of in_line_str around r.pieces in
     let rest : TextsAre c ts us (heres ++ (all_mentions in_str around rs ++ ms)) (lines ++ (all_mentions in_line_str around rs ++ ns)) =
@@ -140,9 +143,9 @@ readings-edited base c around ts us first (z ∷ zs) (r ∷ rs) ms ns t all read
       line_str = all.line_str ∙ ap (texts_after c.line_str.plan c.map us) (append_assoc lines (all_mentions in_line_str around rs) ns);
     } in (
       refl,
-      edited-changed base c around ts us (before_unit z.number z.kind (length z.contents) 0 first) r.pieces (all_mentions in_str around rs ++ ms)
+      edited-changed lc base c around ts us (before_unit z.number z.kind (length z.contents) 0 first) r.pieces (all_mentions in_str around rs ++ ms)
           (all_mentions in_line_str around rs ++ ns) t rest reads.1.chain moves.0 names.0 fits.0 slots.0,
-      readings-edited base c around (texts_after c.str.plan c.map ts heres) (texts_after c.line_str.plan c.map us lines) (first + units_in r.pieces) zs rs ms ns t
+      readings-edited lc base c around (texts_after c.str.plan c.map ts heres) (texts_after c.line_str.plan c.map us lines) (first + units_in r.pieces) zs rs ms ns t
           (behind_piece c ts us heres lines (all_mentions in_str around rs ++ ms) (all_mentions in_line_str around rs ++ ns) rest)
           reads.2 moves.1 names.1 fits.1 slots.1,
     )
@@ -235,6 +238,10 @@ edited_reads c d r ls = record {
   names = names_after c (around_of d r) r;
 }
 
+-- the new cells of the section of line tables
+abbrev pub new_line_cells : TableChanges → DebugData → DataReadings → List Cell
+new_line_cells c d r = all_written_cells (line_source d) c.map (line_place c.map c.str c.line_str (line_source d)) r.lines
+
 -- the debug data with these changes
 abbrev pub edited_data : TableChanges → DebugData → DataReadings → DebugData
 edited_data c d r = record {
@@ -243,7 +250,7 @@ edited_data c d r = record {
   str = moved_table d.str c.str;
   line_str = moved_table d.line_str c.line_str;
   offsets = record { number = d.offsets.number; contents = joined (offsets_after c (around_of d r) r) };
-  lines = record { number = d.lines.number; contents = plain_cells (all_lines c.lines) };
+  lines = record { number = d.lines.number; contents = new_line_cells c d r };
   macros = edited_macro_sections d.macros (macros_after c (around_of d r) r);
   names = record { number = d.names.number; contents = joined (names_after c (around_of d r) r) };
 }
@@ -261,7 +268,8 @@ pub record DataMoves (m : PathMap) (d : DebugData) (r : DataReadings) : Type 0 w
   pub str : length (new_table (table_change m in_str (around_of d r) r).plan (table_change m in_str (around_of d r) r).texts) ≤ 2 ^ 32
   pub line_str : length (new_table (table_change m in_line_str (around_of d r) r).plan (table_change m in_line_str (around_of d r) r).texts) ≤ 2 ^ 32
   pub lines : length (all_lines (new_lines m (around_of d r) r)) ≤ 2 ^ 32
-  pub lines_plain : IsPlain d.lines.contents
+  pub lines_clear : EachClear (line_source d) r.lines
+  pub lines_take : AllTake (line_source d) (line_place m (table_change m in_str (around_of d r) r) (table_change m in_line_str (around_of d r) r) (line_source d)) r.lines
   pub apart : TablesApart (line_source d) r.lines
   pub tables : (at : ℕ) → ends_in d.line_str.bytes at ≡ true → d.line_str.number ≢ d.str.number
 
@@ -353,15 +361,18 @@ LinesAfter m d r =
     LinesMoved (line_source d) (line_source (edited_data (changes_of m (around_of d r) r) d r)) m 0 (length (all_lines (new_lines m (around_of d r) r)))
     (new_lines m (around_of d r) r) r.lines
 
+pub new-line-bytes : (m : PathMap) (d : DebugData) (r : DataReadings) → bytes_of (new_line_cells (changes_of m (around_of d r) r) d r) ≡ all_lines (new_lines m (around_of d r) r)
+new-line-bytes m d r = all-bytes (changes_of m (around_of d r) r) (line_source d) r.lines refl
+
 pub lines-data : (m : PathMap) (d : DebugData) (r : DataReadings) → DataMoves m d r → LinesAfter m d r
 lines-data m d r w =
     let c : TableChanges = changes_of m (around_of d r) r in
     let s : List ℕ = new_table c.str.plan c.str.texts in
     let l : List ℕ = new_table c.line_str.plan c.line_str.texts in
-    subst (λ (bs : List ℕ). LinesMoved (line_source d) (edited_with (line_source d) bs (plain_cells (all_lines (new_lines m (around_of d r) r))) s l) m 0 (length (all_lines (new_lines m (around_of d r) r))) (new_lines m (around_of d r) r) r.lines)
-    (sym (bytes_of-plain (all_lines (new_lines m (around_of d r) r))))
+    subst (λ (bs : List ℕ). LinesMoved (line_source d) (edited_with (line_source d) bs (new_line_cells (changes_of m (around_of d r) r) d r) s l) m 0 (length (all_lines (new_lines m (around_of d r) r))) (new_lines m (around_of d r) r) r.lines)
+    (sym (new-line-bytes m d r))
     (section-moved (changes_of m (around_of d r) r) (line_source d) (slots_texts m in_str d r) (slots_texts m in_line_str d r) (behind_lines_in in_str d r) (behind_lines_in in_line_str d r) r.lines
-    refl w.lines_plain (both-move m d r w) (table-grows m in_str d r) (table-grows m in_line_str d r) w.apart w.tables w.reads.lines
+    refl refl w.lines_clear w.lines_take (both-move m d r w) (table-grows m in_str d r) (table-grows m in_line_str d r) w.apart w.tables w.reads.lines
     (each-can m (changes_of m (around_of d r) r) d r r.lines w.fits.lines) (behind-slots m d r))
 
 lines-move : (m : PathMap) (d : DebugData) (r : DataReadings) → DataMoves m d r → LinesMove (changes_of m (around_of d r) r) (around_of d r)
@@ -384,7 +395,7 @@ tables-move m d r w = record {
 
 -- the change as one of what stands around
 abbrev pub data_shift : PathMap → DebugData → DataReadings → Shift
-data_shift m d r = shift_of (changes_of m (around_of d r) r) (around_of d r)
+data_shift m d r = shift_of (changes_of m (around_of d r) r) (around_of d r) (new_line_cells (changes_of m (around_of d r) r) d r)
 
 -- no slot is named by a path whose text changes and by another value
 data-apart : (m : PathMap) (d : DebugData) (r : DataReadings) → DataMoves m d r → IsApart m (around_of d r)
@@ -396,17 +407,17 @@ data-apart m d r w =
 units-changed-all : (m : PathMap) (d : DebugData) (r : DataReadings) → DataMoves m d r
     → AllReadingsChanged (data_shift m d r) r.units (edited_readings (changes_of m (around_of d r) r) (around_of d r) r.units)
 units-changed-all m d r w =
-    readings-edited d.base (changes_of m (around_of d r) r) (around_of d r) [] [] 0 d.units r.units
+    readings-edited (new_line_cells (changes_of m (around_of d r) r) d r) d.base (changes_of m (around_of d r) r) (around_of d r) [] [] 0 d.units r.units
     (behind_units_in in_str d r)
     (behind_units_in in_line_str d r)
     (tables-move m d r w) (texts-are m d r) w.reads.units w.units_move w.reads.texts w.fits.inline
-    (slots-move (changes_of m (around_of d r) r) (around_of d r) r.units (mapped_path-none m w.map) (data-apart m d r w) refl)
+    (slots-move (new_line_cells (changes_of m (around_of d r) r) d r) (changes_of m (around_of d r) r) (around_of d r) r.units (mapped_path-none m w.map) (data-apart m d r w) refl)
 
 -- string offsets and name tables, changed
 offsets-changed : (m : PathMap) (d : DebugData) (r : DataReadings) → DataMoves m d r
     → RolesChanged (slot_role (path_slots (around_of d r))) (data_shift m d r) r.offsets (offsets_after (changes_of m (around_of d r) r) (around_of d r) r)
 offsets-changed m d r w =
-    roles-changed (slot_role (path_slots (around_of d r))) (changes_of m (around_of d r) r) (around_of d r)
+    roles-changed (new_line_cells (changes_of m (around_of d r) r) d r) (slot_role (path_slots (around_of d r))) (changes_of m (around_of d r) r) (around_of d r)
     (units_texts m in_str d r) (units_texts m in_line_str d r) r.offsets (behind_slots_in in_str d r) (behind_slots_in in_line_str d r)
     (tables-move m d r w) (behind-units m d r) w.slots_move w.reads.slot_texts
 
@@ -414,7 +425,7 @@ names-changed-all : (m : PathMap) (d : DebugData) (r : DataReadings) → DataMov
     → RolesChanged name_role (data_shift m d r) r.names (names_after (changes_of m (around_of d r) r) (around_of d r) r)
 names-changed-all m d r w =
     let all = behind-macros m d r in
-    roles-changed name_role (changes_of m (around_of d r) r) (around_of d r) (macros_texts m in_str d r) (macros_texts m in_line_str d r)
+    roles-changed (new_line_cells (changes_of m (around_of d r) r) d r) name_role (changes_of m (around_of d r) r) (around_of d r) (macros_texts m in_str d r) (macros_texts m in_line_str d r)
     r.names [] [] (tables-move m d r w)
     (record {
       str = all.str ∙ ap (texts_after (changes_of m (around_of d r) r).str.plan m (macros_texts m in_str d r)) (sym (append-nil (names_in in_str d r)));
@@ -426,7 +437,7 @@ names-changed-all m d r w =
 pub macros-changed-all : (m : PathMap) (d : DebugData) (r : DataReadings) → DataMoves m d r
     → AllMacrosChanged (data_shift m d r) r.macros (macros_after (changes_of m (around_of d r) r) (around_of d r) r)
 macros-changed-all m d r w =
-    macros-edited d.base.order (changes_of m (around_of d r) r) (around_of d r) (lines_texts m in_str d r) (lines_texts m in_line_str d r) d.macros r.macros
+    macros-edited (new_line_cells (changes_of m (around_of d r) r) d r) d.base.order (changes_of m (around_of d r) r) (around_of d r) (lines_texts m in_str d r) (lines_texts m in_line_str d r) d.macros r.macros
     (names_in in_str d r) (names_in in_line_str d r) (tables-move m d r w) (behind-lines m d r) w.reads.macros w.macros_move w.reads.macro_texts
 
 -- which slots values by index name is as it was
@@ -519,14 +530,14 @@ around-edited : (m : PathMap) (d : DebugData) (r : DataReadings) (w : DataMoves 
 around-edited m d r w =
     let c : TableChanges = changes_of m (around_of d r) r in
     let qs : Readings = edited_readings (changes_of m (around_of d r) r) (around_of d r) r.units in
-    around-parts d.base (moved_table d.str c.str) (moved_table d.line_str c.line_str) d.lines.number (plain_cells (all_lines c.lines)) (all_places qs) (all_places r.units)
+    around-parts d.base (moved_table d.str c.str) (moved_table d.line_str c.line_str) d.lines.number (new_line_cells c d r) (all_places qs) (all_places r.units)
     (info_numbers (edited_sections d.units qs)) (info_numbers d.units) (indexing_of (edited_data c d r) (after_reads m d r w)) (indexing_of d r)
     (record { first = first_macros (edited_macro_sections d.macros (macros_after c (around_of d r) r)); starts = macro_starts (macros_after c (around_of d r) r) })
     (record { first = first_macros d.macros; starts = macro_starts r.macros })
     (slot_texts d.base.order (moved_table d.str c.str) (offsets_after c (around_of d r) r)) (mapped_slots m (path_slots (around_of d r)) 0 (slot_texts d.base.order d.str r.offsets))
-    (bytes_of (plain_cells (all_lines c.lines))) (all_lines c.lines) (table_starts (lines-data m d r w).readings) (starts_from 0 c.lines)
+    (bytes_of (new_line_cells c d r)) (all_lines c.lines) (table_starts (lines-data m d r w).readings) (starts_from 0 c.lines)
     (all-places (data_shift m d r) r.units qs (units-changed-all m d r w)) (same-infos d.units qs) (indexing-edited m d r w) (places-edited m d r w) (slots-edited m d r w)
-    (bytes_of-plain (all_lines c.lines)) (lines-data m d r w).starts
+    (new-line-bytes m d r) (lines-data m d r w).starts
 
 -- the forms of values stay
 forms-kept : (c : TableChanges) (around : Around) (xs : List (Piece UnitState)) → EachPiece HasStartForm xs → EachPiece HasStartForm (edited_all c around xs)
@@ -588,7 +599,7 @@ data-reads m d r w =
       units = all-changed d.base (data_shift m d r) 0 d.units r.units qs (units-changed-all m d r w) w.reads.units;
       offsets = offsets-reads (data_shift m d r) (path_slots (around_of d r)) d.base.order d.offsets.contents r.offsets ys (offsets-changed m d r w) w.reads.offsets;
       lines = subst (TablesTo (line_source (edited_data (changes_of m (around_of d r) r) d r)) 0 (lines-data m d r w).readings)
-          (ap length (sym (bytes_of-plain (all_lines (new_lines m (around_of d r) r))))) (lines-data m d r w).are;
+          (ap length (sym (new-line-bytes m d r))) (lines-data m d r w).are;
       macros = all-macros-read d.base.order (data_shift m d r) d.macros r.macros ms (macros-changed-all m d r w) w.reads.macros;
       names = names-reads (data_shift m d r) d.base.order d.names.contents r.names ns (names-changed-all m d r w) w.reads.names;
       texts = subst (λ (a : Around). EachReading (NamesText a) qs) (sym (around-edited m d r w)) (all-names (data_shift m d r) r.units qs (units-changed-all m d r w));

@@ -78,7 +78,7 @@ stays-self : (g : RelocationSource) (o : Option Relocation) → FitsWord g o →
 stays-self g None h = refl
 stays-self g (Some r) h = record { relocation = r; is = refl; same = refl; kept = kept-self r.addend; fits = h.1 }
 
-all-self : (g : RelocationSource) (xs : List Cell) → AllFit g xs → AllStay g xs xs
+pub all-self : (g : RelocationSource) (xs : List Cell) → AllFit g xs → AllStay g xs xs
 all-self g [] h = tt
 all-self g (x ∷ xs) h = (stays-self g x.relocation h.0, all-self g xs h.1)
 

@@ -2,25 +2,30 @@
 -- sections have their names and kinds, its build-id stays, and what is meant by bytes alone is as it was.
 use Rattle.std.proofs.Common.{◌+◌, Bool, true, false, ◌≡◌, ◌≢◌, ℕ, zero, suc, ◌<◌, ◌==◌, ◌||◌, ◌&&◌, not, List, [], ◌∷◌, ◌++◌, length, IsTrue, cond, sym, ap, ◌∙◌, refl, subst, arith}
 use Rattle.std.specs.Bool.{⊤}
-use Rattle.std.specs.Prelude.{bit_and, Option, Some, None}
-use Rattle.std.proofs.lemmas.Bool.{ne_eqb}
+use Rattle.std.specs.Prelude.{bit_and, Option, Some, None, is_some, nat_lt}
+use Rattle.std.proofs.lemmas.Bool.{ltb-true, ne_eqb}
 use Rattle.dw_base.specs.DebugSectionFails.{NameReads, DebugSectionsRead, is_active, repeats_by}
+use Rattle.dw_base.specs.Cells.{plain_cells}
 use Rattle.dw_base.specs.DebugSections.{debug_section, is_listed, name_of}
 use Rattle.dw_base.specs.Elf.{e_type, nth_section, section_count, section_name, name_index, name_table, contents_of}
 use Rattle.dw_base.specs.ElfFails.{ElfReads}
-use Rattle.dw_base.specs.FileViews.{ViewSection, view_section, view_of, bytes_in, plain_contents}
+use Rattle.dw_base.specs.FileViews.{ViewSection, cells_of, view_section, view_of, bytes_in, plain_contents}
 use Rattle.dw_base.specs.Layout.{is_loaded_kind}
 use Rattle.dw_base.specs.LayoutReads.{ReadsBack, NamesEnd, is_known_kind}
 use Rattle.dw_base.specs.Lists.{tabulate}
 use Rattle.dw_base.specs.Notes.{BuildId, zeroed, is_id_section, or_this, first_below, build_id_in, build_id_of}
+use Rattle.dw_base.specs.RelocationSectionFails.{relocates_read}
 use Rattle.dw_base.specs.SectionNames.{note_build_id, debug_link}
+use Rattle.dw_base.specs.SectionRelocations.{PlacedRelocation, cells_from, is_relocation_kind, relocates}
 use Rattle.dw_base.specs.Texts.{same_text, text_in, ends_in}
 use Rattle.dw_base.specs.ViewData.{is_read, is_other, NamedBytes, other_sections, zeroed_at, without_id}
+use Rattle.dw_base.specs.declared.elf_numbers.TheConstants.{ET_REL}
 use Rattle.dw_base.specs.declared.debug_sections.DebugSection.{DebugSection}
 use Rattle.dw_base.specs.declared.debug_sections.DebugSection.TheVariants.{Info, Types, Abbrev, Str, LineStr, StrOffsets, Line, Macro, Names}
 use Rattle.dw_meaning.proofs.BuildIdLaws.{first_below-found}
 use Rattle.dw_base.proofs.DebugSectionLaws.{debug_section-named}
 use Rattle.dw_base.proofs.ListLaws.{length-tabulate}
+use Rattle.dw_base.proofs.SectionRelocationLaws.{cells_from-none, relocations_of-loaded}
 use Rattle.dw_base.proofs.TextLaws.{same_text-true}
 
 -- the name of a section is that of one that is read
@@ -108,6 +113,34 @@ pub section_name-back : (b : List ℕ) (bodies : ℕ → List ℕ) (out : List �
 unfolding section_name
 section_name-back b bodies out i w lt =
     ap (λ (t : List ℕ). text_in t (nth_section out i).name) (name_table-back b bodies out w) ∙ ap (text_in (name_table b)) (w.back.heads i lt).name
+
+-- and its sections hold relocations of those of which they held some
+relocates-back : (b : List ℕ) (bodies : ℕ → List ℕ) (out : List ℕ) (target i : ℕ) → Back b bodies out → i < section_count b
+    → relocates out target i ≡ relocates b target i
+unfolding relocates
+relocates-back b bodies out target i w lt =
+    ap (λ (t : ℕ). t == ET_REL && is_relocation_kind (nth_section out i) && (nth_section out i).info == target) w.back.kind
+    ∙ ap (λ (t : Bool). e_type b == ET_REL && t && (nth_section out i).info == target) (rw (w.back.heads i lt).kind refl)
+    ∙ ap (λ (n : ℕ). e_type b == ET_REL && is_relocation_kind (nth_section b i) && n == target) (w.back.heads i lt).info
+
+pub relocates_read-back : (b : List ℕ) (bodies : ℕ → List ℕ) (out : List ℕ) (i : ℕ) → Back b bodies out → i < section_count b
+    → relocates_read out i ≡ relocates_read b i
+unfolding relocates_read
+relocates_read-back b bodies out i w lt =
+    ap (λ (n : ℕ). relocates out n i && (nat_lt n (section_count out) && is_some (debug_section (section_name out n)))) (w.back.heads i lt).info
+    ∙ ap (λ (t : Bool). t && (nat_lt (nth_section b i).info (section_count out) && is_some (debug_section (section_name out (nth_section b i).info))))
+    (relocates-back b bodies out (nth_section b i).info i w lt)
+    ∙ ap (λ (t : Bool). relocates b (nth_section b i).info i && t) (read-back (nth_section b i).info)
+  where
+    read-back : (n : ℕ) → (nat_lt n (section_count out) && is_some (debug_section (section_name out n)))
+        ≡ (nat_lt n (section_count b) && is_some (debug_section (section_name b n)))
+    read-back n =
+        ap (λ (count : ℕ). nat_lt n count && is_some (debug_section (section_name out n))) w.back.count ∙ by_test (nat_lt n (section_count b)) refl
+      where
+        by_test : (t : Bool) → nat_lt n (section_count b) ≡ t
+            → (t && is_some (debug_section (section_name out n))) ≡ (t && is_some (debug_section (section_name b n)))
+        by_test false e = refl
+        by_test true e = ap (λ (name : List ℕ). is_some (debug_section name)) (section_name-back b bodies out n w (ltb-true n (section_count b) e))
 
 -- and its sections are such that can be read
 pub names-back : (b : List ℕ) (bodies : ℕ → List ℕ) (out : List ℕ) → Back b bodies out → DebugSectionsRead out
@@ -206,7 +239,11 @@ tabulate-at P f g zero each = tt
 tabulate-at P f g (suc n) each =
     at-push P 0 n (tabulate f n) (tabulate g n) (f n) (g n) (omega (arith, length-tabulate f n)) (tabulate-at P f g n (λ i lt. each i (omega arith))) (each n (omega arith))
 
--- a section of the view is as it was, but for its bytes
+-- a section in which no relocation begins is its bytes
+pub bare-cells : (t : ViewSection) → t.relocations ≡ [] → cells_of t ≡ plain_cells (bytes_in t.contents)
+bare-cells t none = ap (λ (rs : List PlacedRelocation). cells_from rs 0 (bytes_in t.contents)) none ∙ cells_from-none 0 (bytes_in t.contents)
+
+-- a section of the view is as it was, but for its bytes; of a file that isn't relocatable no relocation begins in it
 pub record SectionBack (b : List ℕ) (bodies : ℕ → List ℕ) (i : ℕ) (s t : ViewSection) : Type 0 where
   pub within : i < section_count b
   pub named : s.name ≡ section_name b i
@@ -214,6 +251,8 @@ pub record SectionBack (b : List ℕ) (bodies : ℕ → List ℕ) (i : ℕ) (s t
   pub alloc : t.alloc ≡ s.alloc
   pub is_name_table : t.is_name_table ≡ s.is_name_table
   pub has_bytes : t.has_bytes ≡ s.has_bytes
+  pub relocates_read : t.relocates_read ≡ s.relocates_read
+  pub bare : is_loaded_kind b ≡ true → t.relocations ≡ []
   pub old : bytes_in s.contents ≡ contents_of b i
   pub new : bytes_in t.contents ≡ bodies i
 
@@ -226,6 +265,8 @@ section-back b bodies out i w lt = record {
   alloc = rw (w.back.heads i lt).flags refl;
   is_name_table = rw w.back.names refl;
   has_bytes = rw (w.back.heads i lt).kind refl;
+  relocates_read = relocates_read-back b bodies out i w lt;
+  bare = λ loaded. relocations_of-loaded (contents_of out) out i (kind-back b bodies out w);
   old = refl;
   new = w.back.contents i lt;
 }
@@ -241,6 +282,7 @@ record Alike (s t : ViewSection) : Type 0 where
   name : t.name ≡ s.name
   alloc : t.alloc ≡ s.alloc
   is_name_table : t.is_name_table ≡ s.is_name_table
+  relocates_read : t.relocates_read ≡ s.relocates_read
   contents : is_read_name s.name ≡ false → bytes_in t.contents ≡ bytes_in s.contents
 
 abbrev AllAlike : List ViewSection → List ViewSection → Type 0
@@ -258,6 +300,7 @@ alike-back b bodies out k (s ∷ ss) (t ∷ ts) w all = (
     name = all.0.name;
     alloc = all.0.alloc;
     is_name_table = all.0.is_name_table;
+    relocates_read = all.0.relocates_read;
     contents = λ unread. all.0.new ∙ w.unread k all.0.within (ap is_read_name (sym all.0.named) ∙ unread) ∙ sym all.0.old;
   },
   alike-back b bodies out (suc k) ss ts w all.1,
@@ -270,6 +313,7 @@ zeroed-alike id s t h = record {
   name = h.name;
   alloc = h.alloc;
   is_name_table = h.is_name_table;
+  relocates_read = h.relocates_read;
   contents = λ unread. ap (zeroed id.descriptor) (h.contents unread);
 }
 
@@ -286,16 +330,16 @@ without_id-alike (Some id) ss ts h = zeroed_at-alike id.section id ss ts h
 
 -- the sections that are meant by their bytes are the same
 other-alike : (s t : ViewSection) → Alike s t → is_other t ≡ is_other s
-other-alike s t h = rw (h.name, h.alloc, h.is_name_table) refl
+other-alike s t h = rw (h.name, h.alloc, h.is_name_table, h.relocates_read) refl
 
 other-unread : (s : ViewSection) → is_other s ≡ true → is_read_name s.name ≡ false
-other-unread s is = by_tests s.alloc s.is_name_table (is_read_name s.name) (same_text s.name debug_link) is
+other-unread s is = by_tests s.alloc s.is_name_table (is_read_name s.name) (same_text s.name debug_link) s.relocates_read is
   where
-    by_tests : (a n r l : Bool) → not (a || n || r || l) ≡ true → r ≡ false
-    by_tests true n r l h = let no : false ≡ true = h in cc
-    by_tests false true r l h = let no : false ≡ true = h in cc
-    by_tests false false true l h = let no : false ≡ true = h in cc
-    by_tests false false false l h = refl
+    by_tests : (a n r l h : Bool) → not (a || n || r || l || h) ≡ true → r ≡ false
+    by_tests true n r l h is = let no : false ≡ true = is in cc
+    by_tests false true r l h is = let no : false ≡ true = is in cc
+    by_tests false false true l h is = let no : false ≡ true = is in cc
+    by_tests false false false l h is = refl
 
 abbrev named_bytes : ViewSection → NamedBytes
 named_bytes s = record { name = s.name; bytes = bytes_in s.contents }

@@ -11,8 +11,9 @@ use Rattle.dw_base.specs.Texts.{ends_in}
 use Rattle.dw_base.specs.DebugSections.{debug_section, name_of}
 use Rattle.dw_base.specs.Elf.{e_shoff, nth_section, section_count, section_name, contents_of, contents_at, is_empty_kind}
 use Rattle.dw_meaning.specs.FileMeanings.{file_data, FileReads, new_body}
-use Rattle.dw_base.specs.FileViews.{View, view_of, section_named, section_after}
+use Rattle.dw_base.specs.FileViews.{view_of, section_named, section_after}
 use Rattle.dw_base.specs.Forms.{TextSection, in_str, in_line_str}
+use Rattle.dw_base.specs.Layout.{is_loaded_kind}
 use Rattle.dw_base.specs.LayoutReads.{ReadsBack}
 use Rattle.dw_base.specs.Paths.{PathMap, IsPathMap}
 use Rattle.dw_base.specs.StringTables.{new_table}
@@ -24,14 +25,15 @@ use Rattle.dw_base.specs.ViewData.{unit_kind, unit_sections, is_macro, macro_sec
 use Rattle.dw_base.specs.declared.debug_sections.DebugSection.{DebugSection}
 use Rattle.dw_base.specs.declared.debug_sections.DebugSection.TheVariants.{Info, Types, Abbrev, Str, LineStr, StrOffsets, Line, Macro, Names}
 use Rattle.dw_base.proofs.DebugSectionLaws.{debug_section-name}
-use Rattle.dw_meaning.proofs.FileBackLaws.{Back, SectionBack, is_read_name, sections-back}
+use Rattle.dw_meaning.proofs.FileBackLaws.{Back, SectionBack, is_read_name, kind-back, sections-back}
 use Rattle.dw_base.proofs.FileViewLaws.{section_bytes-view_of}
 use Rattle.dw_meaning.proofs.MacroEditLaws.{edited_macro_sections}
 use Rattle.dw_meaning.proofs.MacroKeptLaws.{edited-cells, macros-plain, macros-skip, macros-sections}
 use Rattle.dw_meaning.proofs.SectionKeptLaws.{edited-size, units-skip}
 use Rattle.dw_meaning.proofs.OffsetMoveLaws.{EachCells, cells-plain}
-use Rattle.dw_base.proofs.PlainCellLaws.{IsPlain, bytes_of-plain, plain_cells-plain}
+use Rattle.dw_base.proofs.PlainCellLaws.{IsPlain, plain_cells-plain}
 use Rattle.dw_base.proofs.TextLaws.{ends_in-inside}
+use Rattle.dw_base.proofs.ViewCellLaws.{bytes-cells, number-cells, view_cells-loaded}
 use Rattle.dw_meaning.proofs.LineColumnLaws.{texts_in}
 use Rattle.dw_meaning.proofs.LinePathLaws.{lines-none}
 use Rattle.dw_meaning.proofs.LineSectionLaws.{TablesApart, no-tables}
@@ -138,30 +140,33 @@ names-place b = table-place b Names
 abbrev pub plain_section : Located → CellSection
 plain_section z = record { number = z.number; contents = plain_cells z.bytes }
 
-section-plain : (v : View) (o : Option ℕ) → cells_located v o ≡ plain_section (located_at v o)
-section-plain v None = refl
-section-plain v (Some i) = refl
+section-plain : (b : List ℕ) (o : Option ℕ) → is_loaded_kind b ≡ true → cells_located (view_of b) o ≡ plain_section (located_at (view_of b) o)
+section-plain b None loaded = refl
+section-plain b (Some i) loaded = ap (λ (p : List Cell). record { number = i; contents = p }) (view_cells-loaded b i loaded)
 
-pub offsets-are : (b : List ℕ) → (file_data b).offsets ≡ plain_section (located (view_of b) StrOffsets)
+pub offsets-are : (b : List ℕ) → is_loaded_kind b ≡ true → (file_data b).offsets ≡ plain_section (located (view_of b) StrOffsets)
 unfolding debug_data located
-offsets-are b = section-plain (view_of b) (section_named (view_of b) (name_of StrOffsets))
+offsets-are b loaded = section-plain b (section_named (view_of b) (name_of StrOffsets)) loaded
 
-pub lines-are : (b : List ℕ) → (file_data b).lines ≡ plain_section (located (view_of b) Line)
+pub lines-are : (b : List ℕ) → is_loaded_kind b ≡ true → (file_data b).lines ≡ plain_section (located (view_of b) Line)
 unfolding debug_data located
-lines-are b = section-plain (view_of b) (section_named (view_of b) (name_of Line))
+lines-are b loaded = section-plain b (section_named (view_of b) (name_of Line)) loaded
 
-pub names-are : (b : List ℕ) → (file_data b).names ≡ plain_section (located (view_of b) Names)
+pub names-are : (b : List ℕ) → is_loaded_kind b ≡ true → (file_data b).names ≡ plain_section (located (view_of b) Names)
 unfolding debug_data located
-names-are b = section-plain (view_of b) (section_named (view_of b) (name_of Names))
+names-are b loaded = section-plain b (section_named (view_of b) (name_of Names)) loaded
 
 pub offsets-number : (b : List ℕ) → (file_data b).offsets.number ≡ (located (view_of b) StrOffsets).number
-offsets-number b = ap (λ (z : CellSection). z.number) (offsets-are b)
+unfolding debug_data located
+offsets-number b = number-cells (view_of b) (section_named (view_of b) (name_of StrOffsets))
 
 pub lines-number : (b : List ℕ) → (file_data b).lines.number ≡ (located (view_of b) Line).number
-lines-number b = ap (λ (z : CellSection). z.number) (lines-are b)
+unfolding debug_data located
+lines-number b = number-cells (view_of b) (section_named (view_of b) (name_of Line))
 
 pub names-number : (b : List ℕ) → (file_data b).names.number ≡ (located (view_of b) Names).number
-names-number b = ap (λ (z : CellSection). z.number) (names-are b)
+unfolding debug_data located
+names-number b = number-cells (view_of b) (section_named (view_of b) (name_of Names))
 
 -- the section of a table's number isn't one of another name
 pub name-apart : (b name : List ℕ) (z : Located) (i : ℕ) → TablePlace b name z → 0 < i → section_name b i ≢ name → i ≢ z.number
@@ -225,16 +230,17 @@ edited-none role c around xs bs cells none =
 pub offsets-none : (m : PathMap) (b : List ℕ) (r : DataReadings) → CanMap m b r → (located (view_of b) StrOffsets).bytes ≡ [] → new_offsets m b r ≡ []
 offsets-none m b r w none =
     edited-none (slot_role (path_slots (around_file b r))) (changes_file m b r) (around_file b r) r.offsets (located (view_of b) StrOffsets).bytes
-    (w.reads.data_reads.offsets.cells ∙ ap (λ (z : CellSection). z.contents) (offsets-are b)) none
+    (w.reads.data_reads.offsets.cells ∙ ap (λ (z : CellSection). z.contents) (offsets-are b w.reads.kind)) none
 
 pub names-none : (m : PathMap) (b : List ℕ) (r : DataReadings) → CanMap m b r → (located (view_of b) Names).bytes ≡ [] → new_names m b r ≡ []
 names-none m b r w none =
     edited-none name_role (changes_file m b r) (around_file b r) r.names (located (view_of b) Names).bytes
-    (w.reads.data_reads.names.cells ∙ ap (λ (z : CellSection). z.contents) (names-are b)) none
+    (w.reads.data_reads.names.cells ∙ ap (λ (z : CellSection). z.contents) (names-are b w.reads.kind)) none
 
 -- nor line tables
 pub line-bytes : (b : List ℕ) → (line_source (file_data b)).bytes ≡ (located (view_of b) Line).bytes
-line-bytes b = ap (λ (z : CellSection). bytes_of z.contents) (lines-are b) ∙ bytes_of-plain (located (view_of b) Line).bytes
+unfolding debug_data located
+line-bytes b = bytes-cells (view_of b) (section_named (view_of b) (name_of Line))
 
 pub tables-none : (m : PathMap) (b : List ℕ) (r : DataReadings) → CanMap m b r → (located (view_of b) Line).bytes ≡ [] → new_line_tables m b r ≡ []
 tables-none m b r w none =
@@ -511,17 +517,17 @@ differ s t e = sym (debug_section-name s) ∙ ap debug_section e ∙ debug_secti
 offsets-cells : (m : PathMap) (b : List ℕ) (r : DataReadings) → CanMap m b r → IsPlain (new_offsets m b r)
 offsets-cells m b r w =
     edited-cells (slot_role (path_slots (around_file b r))) (changes_file m b r) (around_file b r) r.offsets
-    (cells-plain r.offsets (subst IsPlain (sym (w.reads.data_reads.offsets.cells ∙ ap (λ (z : CellSection). z.contents) (offsets-are b))) (plain_cells-plain (located (view_of b) StrOffsets).bytes)))
+    (cells-plain r.offsets (subst IsPlain (sym (w.reads.data_reads.offsets.cells ∙ ap (λ (z : CellSection). z.contents) (offsets-are b w.reads.kind))) (plain_cells-plain (located (view_of b) StrOffsets).bytes)))
 
 names-cells : (m : PathMap) (b : List ℕ) (r : DataReadings) → CanMap m b r → IsPlain (new_names m b r)
 names-cells m b r w =
     edited-cells name_role (changes_file m b r) (around_file b r) r.names
-    (cells-plain r.names (subst IsPlain (sym (w.reads.data_reads.names.cells ∙ ap (λ (z : CellSection). z.contents) (names-are b))) (plain_cells-plain (located (view_of b) Names).bytes)))
+    (cells-plain r.names (subst IsPlain (sym (w.reads.data_reads.names.cells ∙ ap (λ (z : CellSection). z.contents) (names-are b w.reads.kind))) (plain_cells-plain (located (view_of b) Names).bytes)))
 
 pub offsets-back : (m : PathMap) (b : List ℕ) (r : DataReadings) (out : List ℕ) → CanMap m b r → ReadsBack b (new_body m b r) out
     → (file_data out).offsets ≡ record { number = (file_data b).offsets.number; contents = new_offsets m b r }
 offsets-back m b r out w back =
-    offsets-are out ∙ by_place (located-back m b r out StrOffsets w back)
+    offsets-are out (kind-back b (new_body m b r) out (file-back m b r out w back)) ∙ by_place (located-back m b r out StrOffsets w back)
     ∙ ap (λ (n : ℕ). record { number = n; contents = new_offsets m b r }) (sym (offsets-number b))
   where
     str_no : Some StrOffsets ≡ Some Str → ⊥
@@ -546,7 +552,7 @@ offsets-back m b r out w back =
 pub tables-back : (m : PathMap) (b : List ℕ) (r : DataReadings) (out : List ℕ) → CanMap m b r → ReadsBack b (new_body m b r) out
     → (file_data out).lines ≡ record { number = (file_data b).lines.number; contents = plain_cells (new_line_tables m b r) }
 tables-back m b r out w back =
-    lines-are out ∙ by_place (located-back m b r out Line w back)
+    lines-are out (kind-back b (new_body m b r) out (file-back m b r out w back)) ∙ by_place (located-back m b r out Line w back)
     ∙ ap (λ (n : ℕ). record { number = n; contents = plain_cells (new_line_tables m b r) }) (sym (lines-number b))
   where
     str_no : Some Line ≡ Some Str → ⊥
@@ -619,7 +625,7 @@ lines-apart m b r w = by_lines r.lines w.reads.data_reads.lines
 pub names-section : (m : PathMap) (b : List ℕ) (r : DataReadings) (out : List ℕ) → CanMap m b r → ReadsBack b (new_body m b r) out
     → (file_data out).names ≡ record { number = (file_data b).names.number; contents = new_names m b r }
 names-section m b r out w back =
-    names-are out ∙ by_place (located-back m b r out Names w back)
+    names-are out (kind-back b (new_body m b r) out (file-back m b r out w back)) ∙ by_place (located-back m b r out Names w back)
     ∙ ap (λ (n : ℕ). record { number = n; contents = new_names m b r }) (sym (names-number b))
   where
     str_no : Some Names ≡ Some Str → ⊥
@@ -660,9 +666,11 @@ pub macros-back : (m : PathMap) (b : List ℕ) (r : DataReadings) (out : List �
     → (file_data out).macros ≡ edited_macro_sections (file_data b).macros (new_macros m b r)
 unfolding debug_data macro_sections
 macros-back m b r out w back =
-    macros-sections b (new_body m b r) (file_data b).base.order (changes_file m b r) (around_file b r) (units_new m b r) 1 (drop 1 (view_of b).sections) (drop 1 (view_of out).sections) r.macros
+    macros-sections b (new_body m b r) (file_data b).base.order (changes_file m b r) (around_file b r) (units_new m b r) 1 (drop 1 (view_of b).sections) (drop 1 (view_of out).sections) r.macros w.reads.kind
     (drop-at (SectionBack b (new_body m b r)) (view_of b).sections (view_of out).sections (sections-back b (new_body m b r) out (file-back m b r out w back)))
-    w.reads.data_reads.macros (macros-plain 1 (drop 1 (view_of b).sections))
+    w.reads.data_reads.macros
+    (macros-plain b (contents_of b) 1 (drop 1 (view_of b).sections) w.reads.kind
+    (drop-at (SectionBack b (contents_of b)) (view_of b).sections (view_of b).sections (sections-self b)))
     (λ i le lt some.
     body-other m b r i
     (named-apart b i (omega arith) (macro-apart b i Str refl some) (macro-apart b i LineStr refl some) (macro-apart b i StrOffsets refl some)

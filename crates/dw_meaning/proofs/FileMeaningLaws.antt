@@ -1,6 +1,6 @@
 -- The output of a file means what the file means, with each source path mapped: from what reads back of it.
-use Rattle.std.proofs.Common.{false, ◌≡◌, ◌≢◌, ℕ, ◌^◌, ◌≤◌, List, length, drop, Option, Some, None, sym, ap, ◌∙◌, refl, subst, arith}
-use Rattle.dw_base.specs.Cells.{Located, CellSection, plain_cells}
+use Rattle.std.proofs.Common.{true, false, ◌≡◌, ◌≢◌, ℕ, ◌^◌, ◌≤◌, List, length, drop, Option, Some, None, sym, ap, ◌∙◌, refl, subst, arith}
+use Rattle.dw_base.specs.Cells.{Cell, Located, CellSection, plain_cells}
 use Rattle.dw_meaning.specs.DataOutput.{DataReads}
 use Rattle.dw_base.specs.DebugData.{DebugData, DataReadings, around_of, line_source, path_slots}
 use Rattle.dw_base.specs.MacroMeanings.{MacroMeaning, macro_meanings}
@@ -12,7 +12,7 @@ use Rattle.dw_base.specs.DebugSections.{debug_section, name_of}
 use Rattle.dw_base.specs.Elf.{section_name, contents_of}
 use Rattle.dw_meaning.specs.FileMeanings.{file_data, FileReads, Means, MeaningKept, new_body}
 use Rattle.dw_base.specs.FileViews.{view_of}
-use Rattle.dw_base.specs.Layout.{output_limit}
+use Rattle.dw_base.specs.Layout.{is_loaded_kind, output_limit}
 use Rattle.dw_base.specs.LayoutReads.{ReadsBack}
 use Rattle.dw_base.specs.MappedUnits.{mapped_units}
 use Rattle.dw_base.specs.NamePieces.{at_table, names_at}
@@ -26,7 +26,7 @@ use Rattle.dw_base.specs.ViewData.{unit_kind, unit_sections, is_macro, located, 
 use Rattle.dw_base.specs.declared.debug_sections.DebugSection.{DebugSection}
 use Rattle.dw_base.specs.declared.debug_sections.DebugSection.TheVariants.{Info, Types, Abbrev, Str, LineStr, StrOffsets, Line, Macro, Names}
 use Rattle.dw_base.specs.declared.shared.Order.{Order}
-use Rattle.dw_meaning.proofs.DataKeptLaws.{DataMoves, edited_data, edited_readings, after_reads, lines-data, edited_sections, readings-move, readings-plain, data-reads, data-mapped, slots-data, macros-data, names-data}
+use Rattle.dw_meaning.proofs.DataKeptLaws.{DataMoves, edited_data, new_line_cells, edited_readings, after_reads, lines-data, edited_sections, readings-move, readings-plain, data-reads, data-mapped, slots-data, macros-data, names-data}
 use Rattle.dw_meaning.proofs.DataOneLaws.{means-one}
 use Rattle.dw_base.proofs.DebugSectionLaws.{debug_section-name}
 use Rattle.dw_meaning.proofs.FileBackLaws.{SectionBack, sections-back, elf-back, kind-back, names-back, others-back}
@@ -35,14 +35,15 @@ use Rattle.dw_meaning.proofs.FileKeptLaws.{CanMap, around_file, changes_file, ne
 use Rattle.dw_base.proofs.FileViewLaws.{order-view_of}
 use Rattle.dw_base.proofs.PlainCellLaws.{IsPlain}
 use Rattle.dw_meaning.proofs.OffsetMoveLaws.{cells-plain, names-can, offsets-can}
-use Rattle.dw_meaning.proofs.PlainFileLaws.{file-macros, file-plain, lines-plain, names-plain, offsets-plain}
+use Rattle.dw_meaning.proofs.LineCellLaws.{all-plain}
+use Rattle.dw_meaning.proofs.PlainFileLaws.{lines-clear, lines-take, file-macros, file-plain, lines-plain, names-plain, offsets-plain}
 use Rattle.dw_meaning.proofs.SectionKeptLaws.{units-edited}
 use Rattle.dw_base.proofs.SectionLaws.{length-contents}
 use Rattle.dw_meaning.proofs.TableKeptLaws.{TablePlace, nowhere, lies_at, drop-at}
 use Rattle.dw_meaning.proofs.TextEditLaws.{CanMove, PlainPiece}
 
 pieces-plain : (m : PathMap) (b : List ℕ) (r : DataReadings) → CanMap m b r → EachReading PlainPiece r.units
-pieces-plain m b r w = readings-plain (file_data b).base 0 (file_data b).units r.units w.reads.data_reads.units (file-plain b)
+pieces-plain m b r w = readings-plain (file_data b).base 0 (file_data b).units r.units w.reads.data_reads.units (file-plain b w.reads.kind)
 
 -- the units of the output
 abbrev pub new_units : PathMap → List ℕ → DataReadings → Readings
@@ -80,7 +81,7 @@ units-back : (m : PathMap) (b : List ℕ) (r : DataReadings) (out : List ℕ) �
     → (file_data out).units ≡ edited_sections (file_data b).units (new_units m b r)
 unfolding debug_data unit_sections
 units-back m b r out w back =
-    units-edited b (new_body m b r) (file_data b).base (changes_file m b r) (around_file b r) 0 1 (drop 1 (view_of b).sections) (drop 1 (view_of out).sections) r.units
+    units-edited b (new_body m b r) (file_data b).base (changes_file m b r) (around_file b r) 0 1 (drop 1 (view_of b).sections) (drop 1 (view_of out).sections) r.units w.reads.kind
     (drop-at (SectionBack b (new_body m b r)) (view_of b).sections (view_of out).sections (sections-back b (new_body m b r) out (file-back m b r out w back)))
     w.reads.data_reads.units (pieces-plain m b r w)
     (λ i kind le lt some.
@@ -112,10 +113,17 @@ same-parts o p a c us vs s t l k x y i j ms ks n q e1 e2 e3 e4 e5 e6 e7 e8 e9 =
 edited-parts : (m : PathMap) (b : List ℕ) (r : DataReadings) → data_with (view_of b).order (located (view_of b) Abbrev)
     (edited_sections (file_data b).units (new_units m b r)) (record { number = (file_data b).str.number; bytes = new_str m b r })
     (record { number = (file_data b).line_str.number; bytes = new_line_str m b r }) (record { number = (file_data b).offsets.number; contents = new_offsets m b r })
-    (record { number = (file_data b).lines.number; contents = plain_cells (new_line_tables m b r) }) (edited_macro_sections (file_data b).macros (new_macros m b r))
+    (record { number = (file_data b).lines.number; contents = new_line_cells (changes_file m b r) (file_data b) r }) (edited_macro_sections (file_data b).macros (new_macros m b r))
     (record { number = (file_data b).names.number; contents = new_names m b r }) ≡ edited_data (changes_file m b r) (file_data b) r
 unfolding debug_data
 edited-parts m b r = refl
+
+-- the new line tables have no relocations where those of the file have none
+tables-cells : (m : PathMap) (b : List ℕ) (r : DataReadings) → is_loaded_kind b ≡ true
+    → ◌≡◌ {A = CellSection} (record { number = (file_data b).lines.number; contents = new_line_cells (changes_file m b r) (file_data b) r })
+    (record { number = (file_data b).lines.number; contents = plain_cells (new_line_tables m b r) })
+tables-cells m b r loaded =
+    ap (λ (p : List Cell). record { number = (file_data b).lines.number; contents = p }) (all-plain (changes_file m b r) (line_source (file_data b)) r.lines refl (lines-plain b loaded))
 
 pub data-back : (m : PathMap) (b : List ℕ) (r : DataReadings) (out : List ℕ) → CanMap m b r → ReadsBack b (new_body m b r) out
     → file_data out ≡ edited_data (changes_file m b r) (file_data b) r
@@ -125,11 +133,11 @@ data-back m b r out w back =
     (edited_sections (file_data b).units (new_units m b r)) (file_data out).str (record { number = (file_data b).str.number; bytes = new_str m b r })
     (file_data out).line_str (record { number = (file_data b).line_str.number; bytes = new_line_str m b r })
     (file_data out).offsets (record { number = (file_data b).offsets.number; contents = new_offsets m b r })
-    (file_data out).lines (record { number = (file_data b).lines.number; contents = plain_cells (new_line_tables m b r) })
+    (file_data out).lines (record { number = (file_data b).lines.number; contents = new_line_cells (changes_file m b r) (file_data b) r })
     (file_data out).macros (edited_macro_sections (file_data b).macros (new_macros m b r))
     (file_data out).names (record { number = (file_data b).names.number; contents = new_names m b r })
     (order-back m b r out back) (abbrev-back m b r out w back) (units-back m b r out w back) (str-back m b r out w back) (line-back m b r out w back)
-    (offsets-back m b r out w back) (tables-back m b r out w back) (macros-back m b r out w back) (names-section m b r out w back)
+    (offsets-back m b r out w back) (tables-back m b r out w back ∙ sym (tables-cells m b r w.reads.kind)) (macros-back m b r out w back) (names-section m b r out w back)
     ∙ edited-parts m b r
 
 -- the tables stay small where the output does
@@ -180,12 +188,12 @@ file-slots : (m : PathMap) (b : List ℕ) (r : DataReadings) → CanMap m b r
 file-slots m b r w =
     offsets-can (path_slots (around_of (file_data b) r)) (around_of (file_data b) r) (file_data b).base.order
     (offsets_at (length (file_data b).offsets.contents) 0 0 at_contribution) r.offsets w.reads.data_reads.offsets.chain
-    (cells-plain r.offsets (subst IsPlain (sym w.reads.data_reads.offsets.cells) (offsets-plain b)))
+    (cells-plain r.offsets (subst IsPlain (sym w.reads.data_reads.offsets.cells) (offsets-plain b w.reads.kind)))
 
 file-names : (m : PathMap) (b : List ℕ) (r : DataReadings) → CanMap m b r → EachPiece (λ x. CanMove (name_role x.state) (around_of (file_data b) r) x.cells) r.names
 file-names m b r w =
     names-can (around_of (file_data b) r) (file_data b).base.order (names_at (length (file_data b).names.contents) 0 at_table) r.names
-    w.reads.data_reads.names.chain (cells-plain r.names (subst IsPlain (sym w.reads.data_reads.names.cells) (names-plain b)))
+    w.reads.data_reads.names.chain (cells-plain r.names (subst IsPlain (sym w.reads.data_reads.names.cells) (names-plain b w.reads.kind)))
 
 -- what the data law asks for
 data-moves : (m : PathMap) (b : List ℕ) (r : DataReadings) (out : List ℕ) → CanMap m b r → ReadsBack b (new_body m b r) out → length out ≤ output_limit
@@ -196,12 +204,13 @@ data-moves m b r out w back small = record {
   fits = w.fits;
   units_move = readings-move (around_of (file_data b) r) r.units (pieces-plain m b r w);
   slots_move = file-slots m b r w;
-  macros_move = all-macros-can (around_of (file_data b) r) (file_data b).base.order (file_data b).macros r.macros w.reads.data_reads.macros (file-macros b);
+  macros_move = all-macros-can (around_of (file_data b) r) (file_data b).base.order (file_data b).macros r.macros w.reads.data_reads.macros (file-macros b w.reads.kind);
   names_move = file-names m b r w;
   str = str-small m b r out w back small;
   line_str = line-small m b r out w back small;
   lines = lines-small m b r out w back small;
-  lines_plain = lines-plain b;
+  lines_clear = lines-clear b r.lines w.reads.kind w.reads.data_reads.lines;
+  lines_take = lines-take b _ r.lines w.reads.kind;
   apart = lines-apart m b r w;
   tables = texts-apart b;
 }

@@ -99,26 +99,26 @@ texts-apart m around order s xs none chain fits first is n path other =
 abbrev pub UseMoves : Shift → IndexUse → Type 0
 UseMoves c u = IndexBecomes (Some u.index) u.path c u.unit
 
-use-moves : (c : TableChanges) (around : Around) (o : Option ℕ) (path : Bool) → mapped_path c.map [] ≡ [] → IsApart c.map around
+use-moves : (lc : List Cell) (c : TableChanges) (around : Around) (o : Option ℕ) (path : Bool) → mapped_path c.map [] ≡ [] → IsApart c.map around
     → (path ≡ true → (n : ℕ) → holds_number (listed_slot o) n ≡ true → holds_number (path_slots around) n ≡ true)
-    → (path ≡ false → (n : ℕ) → holds_number (listed_slot o) n ≡ true → holds_number (other_slots around) n ≡ true) → SlotBecomes o path (shift_of c around)
-use-moves c around None path none apart named other = tt
-use-moves c around (Some n) path none apart named other =
+    → (path ≡ false → (n : ℕ) → holds_number (listed_slot o) n ≡ true → holds_number (other_slots around) n ≡ true) → SlotBecomes o path (shift_of c around lc)
+use-moves lc c around None path none apart named other = tt
+use-moves lc c around (Some n) path none apart named other =
     slot-text c.map (path_slots around) around.slots path n none (λ e. named e n (holds-own n)) (λ e here. apart n here (other e n (holds-own n)))
 
 -- what the first of more uses names is among what all name
-uses-move : (c : TableChanges) (around : Around) (us : List IndexUse) → mapped_path c.map [] ≡ [] → IsApart c.map around
+uses-move : (lc : List Cell) (c : TableChanges) (around : Around) (us : List IndexUse) → mapped_path c.map [] ≡ [] → IsApart c.map around
     → ((n : ℕ) → holds_number (slots_named true around.lasting.indexing us) n ≡ true → holds_number (path_slots around) n ≡ true)
     → ((n : ℕ) → holds_number (slots_named false around.lasting.indexing us) n ≡ true → holds_number (other_slots around) n ≡ true)
-    → EachUse (UseMoves (shift_of c around)) us
-uses-move c around [] none apart named other = tt
-uses-move c around (u ∷ us) none apart named other = (
-  use-moves c around (slot_of around.lasting.indexing u.unit u.index) u.path none apart
+    → EachUse (UseMoves (shift_of c around lc)) us
+uses-move lc c around [] none apart named other = tt
+uses-move lc c around (u ∷ us) none apart named other = (
+  use-moves lc c around (slot_of around.lasting.indexing u.unit u.index) u.path none apart
       (λ e n h. named n (holds-front (if u.path then listed_slot (slot_of around.lasting.indexing u.unit u.index) else []) (slots_named true around.lasting.indexing us) n
       (subst (λ (b : Bool). holds_number (if b then listed_slot (slot_of around.lasting.indexing u.unit u.index) else []) n ≡ true) (sym e) h)))
       (λ e n h. other n (holds-front (if u.path then [] else listed_slot (slot_of around.lasting.indexing u.unit u.index)) (slots_named false around.lasting.indexing us) n
       (subst (λ (b : Bool). holds_number (if b then [] else listed_slot (slot_of around.lasting.indexing u.unit u.index)) n ≡ true) (sym e) h))),
-  uses-move c around us none apart
+  uses-move lc c around us none apart
       (λ n h. named n (holds-behind (if u.path then listed_slot (slot_of around.lasting.indexing u.unit u.index) else []) (slots_named true around.lasting.indexing us) n h))
       (λ n h. other n (holds-behind (if u.path then [] else listed_slot (slot_of around.lasting.indexing u.unit u.index)) (slots_named false around.lasting.indexing us) n h)),
 )
@@ -157,7 +157,7 @@ readings-move c (r ∷ rs) h =
     (pieces-move c r.pieces both.0, readings-move c rs both.1)
 
 -- so it is for all values of units
-pub slots-move : (c : TableChanges) (around : Around) (rs : Readings) → mapped_path c.map [] ≡ [] → IsApart c.map around
-    → around.lasting.indexing.uses ≡ index_uses around.lasting.base.order rs → EachReading (SlotMoves (shift_of c around)) rs
-slots-move c around rs none apart all =
-    readings-move (shift_of c around) rs (subst (EachUse (UseMoves (shift_of c around))) all (uses-move c around around.lasting.indexing.uses none apart (λ n h. h) (λ n h. h)))
+pub slots-move : (lc : List Cell) (c : TableChanges) (around : Around) (rs : Readings) → mapped_path c.map [] ≡ [] → IsApart c.map around
+    → around.lasting.indexing.uses ≡ index_uses around.lasting.base.order rs → EachReading (SlotMoves (shift_of c around lc)) rs
+slots-move lc c around rs none apart all =
+    readings-move (shift_of c around lc) rs (subst (EachUse (UseMoves (shift_of c around lc))) all (uses-move lc c around around.lasting.indexing.uses none apart (λ n h. h) (λ n h. h)))

@@ -85,3 +85,17 @@ pub mod RecordMoveLaws
 pub mod EditStayLaws
 pub mod TableMoveLaws
 pub mod RecordShiftLaws
+pub mod OutputCellLaws
+pub mod CellKeptLaws
+pub mod LineClearLaws
+pub mod LineShiftLaws
+pub mod ClearLaws
+pub mod CellRestLaws
+pub mod FieldCellLaws
+pub mod CellLaidLaws
+pub mod LineRecordLaws
+pub mod LineStretchLaws
+pub mod ReadAlikeLaws
+pub mod NameFieldRowLaws
+pub mod MacroFieldRowLaws
+pub mod OffsetRowLaws

@@ -1,12 +1,16 @@
 -- The cells of a new line table: their bytes are those that are written, and where no relocation begins in the section of line tables, none begins in them.
-use Rattle.std.proofs.Common.{Bool, true, false, ◌≡◌, ℕ, zero, suc, ◌+◌, ◌-◌, ◌==◌, if◌then◌else◌, List, [], ◌∷◌, ◌++◌, length, take, drop, Option, None, Some, refl, sym, ap, ◌∙◌, subst}
+use Rattle.std.proofs.Common.{Bool, true, false, ◌≡◌, ℕ, zero, suc, ◌+◌, ◌-◌, ◌≤◌, ◌==◌, if◌then◌else◌, List, [], ◌∷◌, ◌++◌, length, take, drop, Option, None, Some, refl, sym, ap, ◌∙◌, subst, arith, take-add, append_assoc}
 use Rattle.std.specs.Bool.{⊤}
+use Rattle.std.proofs.lemmas.List.{drop-drop}
 use Rattle.dw_base.specs.Cells.{Cell, bytes_of, cells_at, plain_cells}
 use Rattle.dw_base.specs.Forms.{width_size}
+use Rattle.dw_base.specs.LineChanges.{line_place, lines_after}
+use Rattle.dw_base.specs.LineReadings.{LineReading, all_lines, table_read}
 use Rattle.dw_base.specs.LineSources.{LineSource}
 use Rattle.dw_base.specs.LineTables.{LineTable}
 use Rattle.dw_base.specs.Numbers.{number_bytes}
 use Rattle.dw_base.specs.Paths.{PathMap, mapped_path}
+use Rattle.dw_base.specs.TextChanges.{TableChanges}
 use Rattle.dw_base.specs.WrittenLines.{Change, all_changes, behind_lengths, bytes_at, cells_part, changed, header_length_place, length_bytes, length_size, offset_changes, part, path_changes, paths_of, written_header, written_rest, written_table}
 use Rattle.dw_base.specs.declared.line_tables.TextPlace.{TextPlace}
 use Rattle.dw_base.specs.declared.shared.Order.{Order}
@@ -16,7 +20,7 @@ use Rattle.dw_base.proofs.PlainCellLaws.{IsPlain, bytes_of-plain, plain-append, 
 use Rattle.dw_base.proofs.RelocationFieldLaws.{bytes_of-drop, bytes_of-take}
 use Rattle.dw_base.proofs.UnitEditLaws.{length-bytes_of}
 use Rattle.dw_base.proofs.UnitHeaderLaws.{bytes_of-append}
-use Rattle.dw_meaning.specs.LineCells.{CellChange, all_path_cells, changed_cells, header_cells, inline_cells, offset_cells, path_cells, rest_cells, written_cells}
+use Rattle.dw_meaning.specs.LineCells.{CellChange, all_path_cells, changed_cells, header_cells, inline_cells, offset_cells, path_cells, rest_cells, written_cells, all_written_cells}
 
 -- parts of plain cells
 pub drop-plain : (n : ℕ) (bs : List ℕ) → drop n (plain_cells bs) ≡ plain_cells (drop n bs)
@@ -32,6 +36,14 @@ take-plain (suc n) (b ∷ bs) = ap (λ (cs : List Cell). record { byte = b; relo
 pub part-plain : (bs : List ℕ) (from end : ℕ) → cells_part (plain_cells bs) from end ≡ plain_cells (part bs from end)
 part-plain bs from end = ap (take (end - from)) (drop-plain from bs) ∙ take-plain (end - from) (drop from bs)
 
+-- parts one after another
+pub cells-split : (cells : List Cell) (a b c : ℕ) → a ≤ b → b ≤ c → cells_part cells a c ≡ cells_part cells a b ++ cells_part cells b c
+cells-split cells a b c ab bc =
+    let size : c - a ≡ (b - a) + (c - b) = omega (arith, ab, bc) in
+    let at : a + (b - a) ≡ b = omega (arith, ab) in
+    ap (λ (n : ℕ). take n (drop a cells)) size ∙ take-add (b - a) (c - b) (drop a cells)
+    ∙ ap (λ (xs : List Cell). cells_part cells a b ++ take (c - b) xs) (drop-drop (b - a) a cells ∙ ap (λ (n : ℕ). drop n cells) at)
+
 -- the bytes of parts
 at-bytes : (cells : List Cell) (at n : ℕ) → bytes_of (cells_at cells at n) ≡ bytes_at (bytes_of cells) at n
 at-bytes cells at n = bytes_of-take n (drop at cells) ∙ ap (take n) (bytes_of-drop at cells)
@@ -40,18 +52,18 @@ pub part-bytes : (cells : List Cell) (from end : ℕ) → bytes_of (cells_part c
 part-bytes cells from end = bytes_of-take (end - from) (drop from cells) ∙ ap (take (end - from)) (bytes_of-drop from cells)
 
 -- changes of cells are these changes of bytes
-record SameChange (c : CellChange) (b : Change) : Type 0 where
-  at : c.at ≡ b.at
-  old : c.old ≡ length b.old
-  new : bytes_of c.new ≡ b.new
+pub record SameChange (c : CellChange) (b : Change) : Type 0 where
+  pub at : c.at ≡ b.at
+  pub old : c.old ≡ length b.old
+  pub new : bytes_of c.new ≡ b.new
 
-abbrev SameChanges : List CellChange → List Change → Type 0
+abbrev pub SameChanges : List CellChange → List Change → Type 0
 SameChanges [] [] = ⊤
 SameChanges [] (b ∷ bs) = ⊥
 SameChanges (c ∷ cs) [] = ⊥
 SameChanges (c ∷ cs) (b ∷ bs) = SameChange c b × SameChanges cs bs
 
-same-append : (xs us : List CellChange) (ys vs : List Change) → SameChanges xs ys → SameChanges us vs → SameChanges (xs ++ us) (ys ++ vs)
+pub same-append : (xs us : List CellChange) (ys vs : List Change) → SameChanges xs ys → SameChanges us vs → SameChanges (xs ++ us) (ys ++ vs)
 same-append [] us [] vs h k = k
 same-append [] us (y ∷ ys) vs h k = absurd h
 same-append (x ∷ xs) us [] vs h k = absurd h
@@ -74,7 +86,7 @@ changed-bytes cells from end (c ∷ cs) (b ∷ bs) h =
     ∙ ap (λ (i : ℕ). changed (bytes_of cells) (i + c.old) end bs) h.0.at ∙ ap (λ (i : ℕ). changed (bytes_of cells) (b.at + i) end bs) h.0.old))
 
 -- what becomes of a path
-path-bytes : (g : LineSource) (m : PathMap) (places : TextPlace → Option ℕ) (width : Width) (x : TextPlace) → bytes_of g.cells ≡ g.bytes
+pub path-bytes : (g : LineSource) (m : PathMap) (places : TextPlace → Option ℕ) (width : Width) (x : TextPlace) → bytes_of g.cells ≡ g.bytes
     → SameChanges (path_cells g m places width x) (path_changes g m places width x)
 path-bytes g m places width x own = by_section (x.section == g.number)
   where
@@ -105,12 +117,20 @@ path-bytes g m places width x own = by_section (x.section == g.number)
     )
     by_section false = by_place (places x)
 
-paths-bytes : (g : LineSource) (m : PathMap) (places : TextPlace → Option ℕ) (width : Width) (xs : List TextPlace) → bytes_of g.cells ≡ g.bytes
+pub paths-bytes : (g : LineSource) (m : PathMap) (places : TextPlace → Option ℕ) (width : Width) (xs : List TextPlace) → bytes_of g.cells ≡ g.bytes
     → SameChanges (all_path_cells g m places width xs) (all_changes g m places width xs)
 paths-bytes g m places width [] own = tt
 paths-bytes g m places width (x ∷ xs) own =
     same-append (path_cells g m places width x) (all_path_cells g m places width xs) (path_changes g m places width x) (all_changes g m places width xs)
     (path-bytes g m places width x own) (paths-bytes g m places width xs own)
+
+-- of lists one behind another
+pub cells-append : (g : LineSource) (m : PathMap) (places : TextPlace → Option ℕ) (w : Width) (xs ys : List TextPlace)
+    → all_path_cells g m places w (xs ++ ys) ≡ all_path_cells g m places w xs ++ all_path_cells g m places w ys
+cells-append g m places w [] ys = refl
+cells-append g m places w (x ∷ xs) ys =
+    ap (λ (cs : List CellChange). path_cells g m places w x ++ cs) (cells-append g m places w xs ys)
+    ∙ sym (append_assoc (path_cells g m places w x) (all_path_cells g m places w xs) (all_path_cells g m places w ys))
 
 -- the new header
 pub header-bytes : (g : LineSource) (m : PathMap) (places : TextPlace → Option ℕ) (t : LineTable) → bytes_of g.cells ≡ g.bytes
@@ -233,3 +253,23 @@ written-is g m places t plain =
 pub written-plain : (g : LineSource) (m : PathMap) (places : TextPlace → Option ℕ) (t : LineTable) → bytes_of g.cells ≡ g.bytes → IsPlain g.cells
     → written_cells g m places t ≡ plain_cells (written_table g m places t)
 written-plain g m places t own plain = (written-is g m places t plain).plain ∙ ap plain_cells (written-bytes g m places t own)
+
+-- the new tables, one behind another
+pub all-bytes : (c : TableChanges) (g : LineSource) (rs : List LineReading) → bytes_of g.cells ≡ g.bytes
+    → bytes_of (all_written_cells g c.map (line_place c.map c.str c.line_str g) rs) ≡ all_lines (lines_after c.map c.str c.line_str g rs)
+all-bytes c g [] own = refl
+all-bytes c g (r ∷ rs) own =
+    bytes_of-append (written_cells g c.map (line_place c.map c.str c.line_str g) (table_read g r)) (all_written_cells g c.map (line_place c.map c.str c.line_str g) rs)
+    ∙ ap (λ (x : List ℕ). x ++ bytes_of (all_written_cells g c.map (line_place c.map c.str c.line_str g) rs))
+    (written-bytes g c.map (line_place c.map c.str c.line_str g) (table_read g r) own)
+    ∙ ap (λ (x : List ℕ). written_table g c.map (line_place c.map c.str c.line_str g) (table_read g r) ++ x) (all-bytes c g rs own)
+
+pub all-plain : (c : TableChanges) (g : LineSource) (rs : List LineReading) → bytes_of g.cells ≡ g.bytes → IsPlain g.cells
+    → all_written_cells g c.map (line_place c.map c.str c.line_str g) rs ≡ plain_cells (all_lines (lines_after c.map c.str c.line_str g rs))
+all-plain c g rs own plain = (all-is rs).plain ∙ ap plain_cells (all-bytes c g rs own)
+  where
+    all-is : (xs : List LineReading) → IsPlain (all_written_cells g c.map (line_place c.map c.str c.line_str g) xs)
+    all-is [] = plain_cells-plain []
+    all-is (x ∷ xs) =
+        plain-append (written_cells g c.map (line_place c.map c.str c.line_str g) (table_read g x)) (all_written_cells g c.map (line_place c.map c.str c.line_str g) xs)
+        (written-is g c.map (line_place c.map c.str c.line_str g) (table_read g x) plain) (all-is xs)

@@ -2,7 +2,7 @@
 use Rattle.std.proofs.Common.{Bool, true, false, ◌≡◌, ◌≢◌, ℕ, ◌+◌, ◌^◌, ◌<◌, ◌≤◌, ◌==◌, List, ◌++◌, length, take, drop, Option, Some, None, refl, sym, ap, ◌∙◌, subst, arith, if◌then◌else◌}
 use Rattle.std.specs.Prelude.{nat_le, Result, Ok, Err, ⊤}
 use Rattle.std.proofs.lemmas.Bool.{eqb-true, eq-eqb, ne_eqb, leb-true}
-use Rattle.dw_base.specs.Cells.{Cell, Located, bytes_of, offset_into, plain_cells}
+use Rattle.dw_base.specs.Cells.{Cell, Located, bytes_of, offset_into}
 use Rattle.dw_base.specs.Forms.{TextSection, in_str, in_line_str, width_size}
 use Rattle.dw_base.specs.LineEntries.{column_params, inline_column, text_column, offset_column, value_column, column_at}
 use Rattle.dw_base.specs.LineMeanings.{section_in, place_text}
@@ -11,6 +11,7 @@ use Rattle.dw_base.specs.LineTexts.{text_by, text_of, named_text}
 use Rattle.dw_base.specs.Numbers.{spelled}
 use Rattle.dw_base.specs.Paths.{PathMap, IsPathMap, mapped_path}
 use Rattle.dw_base.specs.Refusals.{at}
+use Rattle.dw_base.specs.RelocationFields.{relocation_at}
 use Rattle.dw_base.specs.Texts.{ends_in, text_in}
 use Rattle.dw_base.specs.Values.{value_at}
 use Rattle.dw_base.specs.Walks.{or_refused}
@@ -28,9 +29,10 @@ use Rattle.dw_base.specs.declared.shared.Width.{Width}
 use Rattle.dw_base.specs.declared.values.Spec.{Spec}
 use Rattle.dw_base.specs.declared.values.Value.{Value}
 use Rattle.dw_base.proofs.TextLaws.{ends_in-append, text_in-append, ends_in-inside, take-text}
+use Rattle.dw_meaning.proofs.FieldCellLaws.{TakesAt}
 use Rattle.dw_meaning.proofs.LineReadLaws.{inline-inside}
 
--- the source of line tables after an edit: other bytes, without relocations, and tables of texts with other bytes
+-- the source of line tables after an edit: other bytes and cells, and tables of texts with other bytes
 abbrev pub edited_with : LineSource → List ℕ → List Cell → List ℕ → List ℕ → LineSource
 edited_with g bytes cells s l = record {
   order = g.order;
@@ -42,19 +44,16 @@ edited_with g bytes cells s l = record {
   line_str = record { number = g.line_str.number; bytes = l };
 }
 
-abbrev pub edited_source : LineSource → List ℕ → List ℕ → List ℕ → LineSource
-edited_source g bytes s l = edited_with g bytes (plain_cells bytes) s l
-
 -- bytes with more behind them
 pub record Grows (old new : List ℕ) : Type 0 where
   pub more : List ℕ
   pub is : new ≡ old ++ more
 
--- what holds of the section of line tables, in which no relocation begins, and of the tables of texts: they grow, and lie in sections of their own
+-- what holds of the section of line tables, which is one that is read, and of the tables of texts: they grow, and lie in sections of their own
 pub record SourceMoves (g : LineSource) (m : PathMap) (s l : List ℕ) : Type 0 where
   pub map : IsPathMap m
+  pub read : g.is_read ≡ true
   pub own : bytes_of g.cells ≡ g.bytes
-  pub plain : IsPlain g.cells
   pub str : Grows g.str.bytes s
   pub line_str : Grows g.line_str.bytes l
   pub apart_str : g.number ≢ g.str.number
@@ -66,10 +65,15 @@ abbrev pub OffsetMoves : PathMap → Width → List ℕ → List ℕ → ℕ →
 OffsetMoves m width old new at None = mapped_path m (text_in old at) ≡ text_in old at
 OffsetMoves m width old new at (Some n) = (n < 256 ^ width_size width) × (ends_in new n ≡ true) × (text_in new n ≡ mapped_path m (text_in old at))
 
+-- and, where a relocation begins at the offset, its record can make the new place
+abbrev pub TakesPlace : LineSource → Width → ℕ → Option ℕ → Type 0
+TakesPlace g width field None = ⊤
+TakesPlace g width field (Some n) = TakesAt (relocation_at g.cells field) (width_size width) n
+
 abbrev pub MovesIn : LineSource → PathMap → List ℕ → List ℕ → Width → TextPlace → Option ℕ → Bool → Bool → Type 0
 MovesIn g m s l width x o true b = ⊤
-MovesIn g m s l width x o false true = OffsetMoves m width g.str.bytes s x.at o
-MovesIn g m s l width x o false false = OffsetMoves m width g.line_str.bytes l x.at o
+MovesIn g m s l width x o false true = OffsetMoves m width g.str.bytes s x.at o × TakesPlace g width x.field o
+MovesIn g m s l width x o false false = OffsetMoves m width g.line_str.bytes l x.at o × TakesPlace g width x.field o
 
 abbrev pub PathMoves : LineSource → PathMap → List ℕ → List ℕ → Width → (TextPlace → Option ℕ) → TextPlace → Type 0
 PathMoves g m s l width places x = MovesIn g m s l width x (places x) (x.section == g.number) (x.section == g.str.number)
@@ -97,15 +101,16 @@ in-section : (g : LineSource) (m : PathMap) (s l : List ℕ) (z : TextSection) (
 in-section g m s l in_str at w e = rw (section-not g m s l in_str w, eq-eqb g.str.number g.str.number refl) refl
 in-section g m s l in_line_str at w e = rw (section-not g m s l in_line_str w, ne_eqb g.line_str.number g.str.number (w.tables at e)) refl
 
-new-section : (g : LineSource) (m : PathMap) (bytes s l : List ℕ) (z : TextSection) (at : ℕ) → SourceMoves g m s l → ends_in (texts_in g z).bytes at ≡ true
-    → section_in (edited_source g bytes s l) (texts_in g z).number ≡ (new_texts_in g s l z).bytes
-new-section g m bytes s l in_str at w e = rw (section-not g m s l in_str w, eq-eqb g.str.number g.str.number refl) refl
-new-section g m bytes s l in_line_str at w e = rw (section-not g m s l in_line_str w, ne_eqb g.line_str.number g.str.number (w.tables at e)) refl
+new-section : (g : LineSource) (m : PathMap) (bytes : List ℕ) (cells : List Cell) (s l : List ℕ) (z : TextSection) (at : ℕ) → SourceMoves g m s l → ends_in (texts_in g z).bytes at ≡ true
+    → section_in (edited_with g bytes cells s l) (texts_in g z).number ≡ (new_texts_in g s l z).bytes
+new-section g m bytes cells s l in_str at w e = rw (section-not g m s l in_str w, eq-eqb g.str.number g.str.number refl) refl
+new-section g m bytes cells s l in_line_str at w e = rw (section-not g m s l in_line_str w, ne_eqb g.line_str.number g.str.number (w.tables at e)) refl
 
 -- what is said of its move
 pub offset-says : (g : LineSource) (m : PathMap) (s l : List ℕ) (width : Width) (places : TextPlace → Option ℕ) (z : TextSection) (at field : ℕ) → SourceMoves g m s l
     → ends_in (texts_in g z).bytes at ≡ true → PathMoves g m s l width places (text_of (texts_in g z) at field)
     → OffsetMoves m width (texts_in g z).bytes (new_texts_in g s l z).bytes at (places (text_of (texts_in g z) at field))
+    × TakesPlace g width field (places (text_of (texts_in g z) at field))
 offset-says g m s l width places in_str at field w e moves =
     subst (λ (b : Bool). MovesIn g m s l width (text_of g.str at field) (places (text_of g.str at field)) false b) (eq-eqb g.str.number g.str.number refl)
     (subst (λ (b : Bool). MovesIn g m s l width (text_of g.str at field) (places (text_of g.str at field)) b (g.str.number == g.str.number)) (section-not g m s l in_str w) moves)
@@ -123,12 +128,12 @@ pub offset-text : (g : LineSource) (m : PathMap) (s l : List ℕ) (z : TextSecti
 offset-text g m s l z at field w e =
     ap (λ (bs : List ℕ). take (length (text_in (texts_in g z).bytes at)) (drop at bs)) (in-section g m s l z at w e) ∙ placed-in (texts_in g z).bytes at e
 
-pub new-offset-text : (g : LineSource) (m : PathMap) (bytes s l : List ℕ) (z : TextSection) (old at field : ℕ) → SourceMoves g m s l → ends_in (texts_in g z).bytes old ≡ true
+pub new-offset-text : (g : LineSource) (m : PathMap) (bytes : List ℕ) (cells : List Cell) (s l : List ℕ) (z : TextSection) (old at field : ℕ) → SourceMoves g m s l → ends_in (texts_in g z).bytes old ≡ true
     → ends_in (new_texts_in g s l z).bytes at ≡ true
-    → place_text (edited_source g bytes s l) (record { section = (texts_in g z).number; at = at; len = length (text_in (new_texts_in g s l z).bytes at); field = field })
+    → place_text (edited_with g bytes cells s l) (record { section = (texts_in g z).number; at = at; len = length (text_in (new_texts_in g s l z).bytes at); field = field })
     ≡ text_in (new_texts_in g s l z).bytes at
-new-offset-text g m bytes s l z old at field w e f =
-    ap (λ (bs : List ℕ). take (length (text_in (new_texts_in g s l z).bytes at)) (drop at bs)) (new-section g m bytes s l z old w e) ∙ placed-in (new_texts_in g s l z).bytes at f
+new-offset-text g m bytes cells s l z old at field w e f =
+    ap (λ (bs : List ℕ). take (length (text_in (new_texts_in g s l z).bytes at)) (drop at bs)) (new-section g m bytes cells s l z old w e) ∙ placed-in (new_texts_in g s l z).bytes at f
 
 -- a text that stands in a table of lines, whose bytes are the first of the section
 pub inline-placed : (g : LineSource) (table : List ℕ) (p : ℕ) → Grows table g.bytes → ends_in table p ≡ true

@@ -3,6 +3,7 @@ use Rattle.std.proofs.Common.{true, false, ◌≡◌, ℕ, pos, zero, suc, ◌+�
 use Rattle.std.specs.Prelude.{Result, Ok, Err, ⊤, unwrap_or, nat_lt, option_and_then, option_map}
 use Rattle.std.proofs.lemmas.Bool.{ltb-true, lt-ltb}
 use Rattle.std.proofs.lemmas.List.{length-drop, get_or_append_left, get_or-drop}
+use Rattle.dw_base.specs.Cells.{Cell}
 use Rattle.dw_base.specs.Lebs.{uleb_at}
 use Rattle.dw_base.specs.LineEntries.{columns, file_of, entry_at, counted_entries, entries_behind, entries_at}
 use Rattle.dw_base.specs.LineFormats.{is_column, spec_at, with_spec, next_spec, format_at}
@@ -20,9 +21,13 @@ use Rattle.dw_base.specs.declared.line_tables.TextPlace.{TextPlace}
 use Rattle.dw_base.specs.declared.shared.Width.{Width}
 use Rattle.dw_base.specs.declared.values.Spec.{Spec}
 use Rattle.dw_base.proofs.ContributionBackLaws.{StandsAt}
-use Rattle.dw_meaning.proofs.LineChangeLaws.{From, Rest, copied, from-before, part-length}
-use Rattle.dw_meaning.proofs.LineColumnLaws.{edited_source, SourceMoves, PathMoves}
-use Rattle.dw_meaning.proofs.LineEntryLaws.{pending, MovedText, MovesText, AreColumns, columns-from, columns-moved}
+use Rattle.dw_meaning.specs.LineCells.{CellChange, all_path_cells, path_cells}
+use Rattle.dw_meaning.proofs.CellRestLaws.{CellRest, cells-copied, clear-none, same-from}
+use Rattle.dw_meaning.proofs.ClearLaws.{ColumnsClear, EntriesClear, ListClear}
+use Rattle.dw_meaning.proofs.LineCellLaws.{SameChanges, paths-bytes, same-append}
+use Rattle.dw_meaning.proofs.LineChangeLaws.{From, Rest, copied, from-before, from-end, part-length}
+use Rattle.dw_meaning.proofs.LineColumnLaws.{edited_with, SourceMoves, PathMoves}
+use Rattle.dw_meaning.proofs.LineEntryLaws.{pending, pending_cells, MovedText, MovesText, AreColumns, columns-from, columns-moved}
 use Rattle.dw_meaning.proofs.LineMoveLaws.{LinePlaces, moved_header, Sides}
 use Rattle.dw_meaning.proofs.LineReadLaws.{Both, both-behind, uleb-both, bound, made, if-some, some-same}
 use Rattle.dw_meaning.proofs.LineWalkLaws.{NewFiles, bound-ok, entries-read, entries-run}
@@ -85,13 +90,15 @@ MovedFiles g k m (f ∷ fs) [] = ⊥
 MovedFiles g k m (f ∷ fs) (u ∷ us) = (u.dir ≡ f.dir) × (place_text k u.text ≡ mapped_path m (place_text g f.text)) × MovedFiles g k m fs us
 
 -- an entry under an edit
-record FileMoved (g k : LineSource) (m : PathMap) (h : LineHeader) (n : LinePlaces) (old new : List ℕ) (end : ℕ) (cs : List Change) (specs : List Spec) (p q : ℕ) (f : FilePlace) (next : ℕ) : Type 0 where
+record FileMoved (g k : LineSource) (m : PathMap) (h : LineHeader) (n : LinePlaces) (old new : List ℕ) (end : ℕ) (cs : List Change)
+    (us : List CellChange) (tail : List Cell) (specs : List Spec) (p q : ℕ) (f : FilePlace) (next : ℕ) : Type 0 where
   file : FilePlace
   behind : ℕ
   entry : entry_at k (moved_header h n) new specs q ≡ Ok (file, behind)
   dir : file.dir ≡ f.dir
   says : place_text k file.text ≡ mapped_path m (place_text g f.text)
   rest : Rest old new end cs next behind
+  cells : CellRest g.cells k.cells end us tail next behind
   further : further_columns k (moved_header h n) new specs false q ≡ further_columns g h old specs false p
 
 file-from : (g : LineSource) (m : PathMap) (s l old : List ℕ) (h : LineHeader) (places : TextPlace → Option ℕ) (end : ℕ) (cs : List Change) (specs : List Spec) (p : ℕ) (f : FilePlace) (next : ℕ)
@@ -102,31 +109,36 @@ file-from g m s l old h places end cs specs p f next w plain e from =
     (subst (λ (i : ℕ). From end i cs) (sym x.behind) from) in
     (subst (λ (o : Option TextPlace). From end p (pending g m places h.width None o ++ cs)) x.text r.0, subst (λ (i : ℕ). p ≤ i) x.behind r.1)
 
-file-moved : (g : LineSource) (m : PathMap) (bytes s l old new : List ℕ) (h : LineHeader) (n : LinePlaces) (places : TextPlace → Option ℕ) (end : ℕ) (cs : List Change) (specs : List Spec)
-    (p q : ℕ) (f : FilePlace) (next : ℕ) → SourceMoves g m s l → Sides g bytes old new → AreColumns specs → entry_at g h old specs p ≡ Ok (f, next)
-    → PathMoves g m s l h.width places f.text → Rest old new end (path_changes g m places h.width f.text ++ cs) p q → From end next cs
-    → FileMoved g (edited_source g bytes s l) m h n old new end cs specs p q f next
-file-moved g m bytes s l old new h n places end cs specs p q f next w sides plain e moves rest from =
+file-moved : (g : LineSource) (m : PathMap) (bytes : List ℕ) (cells : List Cell) (s l old new : List ℕ) (h : LineHeader) (n : LinePlaces) (places : TextPlace → Option ℕ) (end : ℕ) (cs : List Change)
+    (us : List CellChange) (tail : List Cell) (specs : List Spec) (p q : ℕ) (f : FilePlace) (next : ℕ) → SourceMoves g m s l → Sides g bytes cells old new → AreColumns specs → entry_at g h old specs p ≡ Ok (f, next)
+    → PathMoves g m s l h.width places f.text → Rest old new end (path_changes g m places h.width f.text ++ cs) p q
+    → CellRest g.cells cells end (path_cells g m places h.width f.text ++ us) tail p q → SameChanges us cs → From end next cs → ColumnsClear g h old specs p
+    → FileMoved g (edited_with g bytes cells s l) m h n old new end cs us tail specs p q f next
+file-moved g m bytes cells s l old new h n places end cs us tail specs p q f next w sides plain e moves rest cell both from clear =
     let x = entry-is g h old specs p f next e in
-    let r = columns-moved g m bytes s l old new h n places end cs specs (record { text = None; dir = None; next = p }) (record { text = None; dir = None; next = q }) x.last w sides plain
+    let r = columns-moved g m bytes cells s l old new h n places end cs us tail specs (record { text = None; dir = None; next = p }) (record { text = None; dir = None; next = q }) x.last w sides plain
     x.columns_are (subst (MovesText g m s l h.width places) (sym x.text) moves) refl tt
     (subst (λ (o : Option TextPlace). Rest old new end (pending g m places h.width None o ++ cs) p q) (sym x.text) rest)
-    (subst (λ (i : ℕ). From end i cs) (sym x.behind) from) in
-    by_text r.entry r.entry.text refl r.is r.dir (subst (λ (o : Option TextPlace). MovedText g (edited_source g bytes s l) m o r.entry.text) x.text r.text)
-    (subst (λ (i : ℕ). Rest old new end cs i r.entry.next) x.behind r.rest) r.further x.dir
+    (subst (λ (o : Option TextPlace). CellRest g.cells cells end (pending_cells g m places h.width None o ++ us) tail p q) (sym x.text) cell) both
+    (subst (λ (i : ℕ). From end i cs) (sym x.behind) from) clear in
+    by_text r.entry r.entry.text refl r.is r.dir (subst (λ (o : Option TextPlace). MovedText g (edited_with g bytes cells s l) m o r.entry.text) x.text r.text)
+    (subst (λ (i : ℕ). Rest old new end cs i r.entry.next) x.behind r.rest)
+    (subst (λ (i : ℕ). CellRest g.cells cells end us tail i r.entry.next) x.behind r.cells) r.further x.dir
   where
-    by_text : (y : Entry) → (o : Option TextPlace) → y.text ≡ o → columns (edited_source g bytes s l) (moved_header h n) new specs (record { text = None; dir = None; next = q }) ≡ Ok y
-        → {d : Option ℕ} → y.dir ≡ d → MovedText g (edited_source g bytes s l) m (Some f.text) y.text → Rest old new end cs next y.next
-        → further_columns (edited_source g bytes s l) (moved_header h n) new specs false q ≡ further_columns g h old specs false p → f.dir ≡ unwrap_or d 0
-        → FileMoved g (edited_source g bytes s l) m h n old new end cs specs p q f next
-    by_text y None t is dir moved r further own = absurd (subst (λ (o : Option TextPlace). MovedText g (edited_source g bytes s l) m (Some f.text) o) t moved)
-    by_text y (Some u) t is dir moved r further own = record {
+    by_text : (y : Entry) → (o : Option TextPlace) → y.text ≡ o → columns (edited_with g bytes cells s l) (moved_header h n) new specs (record { text = None; dir = None; next = q }) ≡ Ok y
+        → {d : Option ℕ} → y.dir ≡ d → MovedText g (edited_with g bytes cells s l) m (Some f.text) y.text → Rest old new end cs next y.next
+        → CellRest g.cells cells end us tail next y.next
+        → further_columns (edited_with g bytes cells s l) (moved_header h n) new specs false q ≡ further_columns g h old specs false p → f.dir ≡ unwrap_or d 0
+        → FileMoved g (edited_with g bytes cells s l) m h n old new end cs us tail specs p q f next
+    by_text y None t is dir moved r cell_rest further own = absurd (subst (λ (o : Option TextPlace). MovedText g (edited_with g bytes cells s l) m (Some f.text) o) t moved)
+    by_text y (Some u) t is dir moved r cell_rest further own = record {
       file = record { text = u; dir = unwrap_or y.dir 0 };
       behind = y.next;
-      entry = entry-there (edited_source g bytes s l) (moved_header h n) new specs q y u is t;
+      entry = entry-there (edited_with g bytes cells s l) (moved_header h n) new specs q y u is t;
       dir = ap (λ (o : Option ℕ). unwrap_or o 0) dir ∙ sym own;
-      says = subst (λ (o : Option TextPlace). MovedText g (edited_source g bytes s l) m (Some f.text) o) t moved;
+      says = subst (λ (o : Option TextPlace). MovedText g (edited_with g bytes cells s l) m (Some f.text) o) t moved;
       rest = r;
+      cells = cell_rest;
       further = further;
     }
 
@@ -141,26 +153,33 @@ files-from g m s l old h places end cs specs p e (f ∷ fs) w plain are from =
     let here = one.1 in
     (subst (From end p) (sym (append_assoc (path_changes g m places h.width f.text) (all_changes g m places h.width (texts_of fs)) cs)) one.0, omega (arith, here, more))
 
-record NewMoved (g k : LineSource) (m : PathMap) (h : LineHeader) (n : LinePlaces) (old new : List ℕ) (end : ℕ) (cs : List Change) (specs : List Spec) (p q e : ℕ) (fs : List FilePlace) : Type 0 where
+record NewMoved (g k : LineSource) (m : PathMap) (h : LineHeader) (n : LinePlaces) (old new : List ℕ) (end : ℕ) (cs : List Change)
+    (us : List CellChange) (tail : List Cell) (specs : List Spec) (p q e : ℕ) (fs : List FilePlace) : Type 0 where
   files : List FilePlace
   behind : ℕ
   are : NewFiles k (moved_header h n) new specs q files behind
   moved : MovedFiles g k m fs files
   count : length files ≡ length fs
   rest : Rest old new end cs e behind
+  cells : CellRest g.cells k.cells end us tail e behind
   further : entries_columns k (moved_header h n) new specs (length fs) q ≡ entries_columns g h old specs (length fs) p
 
-files-moved : (g : LineSource) (m : PathMap) (bytes s l old new : List ℕ) (h : LineHeader) (n : LinePlaces) (places : TextPlace → Option ℕ) (end : ℕ) (cs : List Change) (specs : List Spec)
-    (p q e : ℕ) (fs : List FilePlace) → SourceMoves g m s l → Sides g bytes old new → AreColumns specs → NewFiles g h old specs p fs e → EachMoves g m s l h.width places (texts_of fs)
-    → Rest old new end (all_changes g m places h.width (texts_of fs) ++ cs) p q → From end e cs
-    → NewMoved g (edited_source g bytes s l) m h n old new end cs specs p q e fs
-files-moved g m bytes s l old new h n places end cs specs p q e [] w sides plain are moves rest from =
-    record { files = []; behind = q; are = refl; moved = tt; count = refl; rest = subst (λ (i : ℕ). Rest old new end cs i q) are rest; further = refl }
-files-moved g m bytes s l old new h n places end cs specs p q e (f ∷ fs) w sides plain are moves rest from =
+files-moved : (g : LineSource) (m : PathMap) (bytes : List ℕ) (cells : List Cell) (s l old new : List ℕ) (h : LineHeader) (n : LinePlaces) (places : TextPlace → Option ℕ) (end : ℕ) (cs : List Change)
+    (us : List CellChange) (tail : List Cell) (specs : List Spec) (p q e : ℕ) (fs : List FilePlace) → SourceMoves g m s l → Sides g bytes cells old new → AreColumns specs → NewFiles g h old specs p fs e → EachMoves g m s l h.width places (texts_of fs)
+    → Rest old new end (all_changes g m places h.width (texts_of fs) ++ cs) p q → CellRest g.cells cells end (all_path_cells g m places h.width (texts_of fs) ++ us) tail p q
+    → SameChanges us cs → From end e cs → EntriesClear g h old specs (length fs) p
+    → NewMoved g (edited_with g bytes cells s l) m h n old new end cs us tail specs p q e fs
+files-moved g m bytes cells s l old new h n places end cs us tail specs p q e [] w sides plain are moves rest cell both from clear =
+    record { files = []; behind = q; are = refl; moved = tt; count = refl; rest = subst (λ (i : ℕ). Rest old new end cs i q) are rest; cells = subst (λ (i : ℕ). CellRest g.cells cells end us tail i q) are cell; further = refl }
+files-moved g m bytes cells s l old new h n places end cs us tail specs p q e (f ∷ fs) w sides plain are moves rest cell both from clear =
     let behind = files-from g m s l old h places end cs specs are.0.next e fs w plain are.1 from in
-    let one = file-moved g m bytes s l old new h n places end (all_changes g m places h.width (texts_of fs) ++ cs) specs p q f are.0.next w sides plain are.0.entry moves.0
-    (subst (λ (ds : List Change). Rest old new end ds p q) (append_assoc (path_changes g m places h.width f.text) (all_changes g m places h.width (texts_of fs)) cs) rest) behind.0 in
-    let more = files-moved g m bytes s l old new h n places end cs specs are.0.next one.behind e fs w sides plain are.1 moves.1 one.rest from in
+    let one = file-moved g m bytes cells s l old new h n places end (all_changes g m places h.width (texts_of fs) ++ cs)
+    (all_path_cells g m places h.width (texts_of fs) ++ us) tail specs p q f are.0.next w sides plain are.0.entry moves.0
+    (subst (λ (ds : List Change). Rest old new end ds p q) (append_assoc (path_changes g m places h.width f.text) (all_changes g m places h.width (texts_of fs)) cs) rest)
+    (subst (λ (vs : List CellChange). CellRest g.cells cells end vs tail p q) (append_assoc (path_cells g m places h.width f.text) (all_path_cells g m places h.width (texts_of fs)) us) cell)
+    (same-append (all_path_cells g m places h.width (texts_of fs)) us (all_changes g m places h.width (texts_of fs)) cs (paths-bytes g m places h.width (texts_of fs) w.own) both)
+    behind.0 clear.0 in
+    let more = files-moved g m bytes cells s l old new h n places end cs us tail specs are.0.next one.behind e fs w sides plain are.1 moves.1 one.rest one.cells both from (clear.1 f are.0.next are.0.entry) in
     record {
       files = one.file ∷ more.files;
       behind = more.behind;
@@ -168,7 +187,8 @@ files-moved g m bytes s l old new h n places end cs specs p q e (f ∷ fs) w sid
       moved = (one.dir, one.says, more.moved);
       count = ap suc more.count;
       rest = more.rest;
-      further = rw (one.entry, are.0.entry) (ap (λ (c : List LineColumn). c ∷ entries_columns (edited_source g bytes s l) (moved_header h n) new specs (length fs) one.behind) one.further
+      cells = more.cells;
+      further = rw (one.entry, are.0.entry) (ap (λ (c : List LineColumn). c ∷ entries_columns (edited_with g bytes cells s l) (moved_header h n) new specs (length fs) one.behind) one.further
           ∙ ap (λ (cs_ : List (List LineColumn)). further_columns g h old specs false p ∷ cs_) more.further);
     }
 
@@ -284,7 +304,7 @@ format-is table p f e =
     let both = if-some (nat_lt p (length table)) (steps (next_spec table) (slice_index table p) ([], p + 1)) f e in
     record { inside = ltb-true _ _ both.0; walk = both.1 }
 
-format-place : (table : List ℕ) (p : ℕ) (f : List Spec × ℕ) → format_at table p ≡ Some f → (p < f.1) × (f.1 ≤ length table) × AreColumns f.0
+pub format-place : (table : List ℕ) (p : ℕ) (f : List Spec × ℕ) → format_at table p ≡ Some f → (p < f.1) × (f.1 ≤ length table) × AreColumns f.0
 format-place table p f e =
     let a = format-is table p f e in
     let b = steps-place table (slice_index table p) ([], p + 1) f a.walk in
@@ -338,12 +358,14 @@ list-is g h table p files e is = by_format (format_at table p) refl is
     by_format (Some f) at is = by_count f at (uleb_at table f.1) refl is
 
 -- a list of entries under an edit
-pub record ListMoved (g k : LineSource) (m : PathMap) (h : LineHeader) (n : LinePlaces) (old new : List ℕ) (end : ℕ) (cs : List Change) (p q e : ℕ) (fs : List FilePlace) : Type 0 where
+pub record ListMoved (g k : LineSource) (m : PathMap) (h : LineHeader) (n : LinePlaces) (old new : List ℕ) (end : ℕ) (cs : List Change)
+    (us : List CellChange) (tail : List Cell) (p q e : ℕ) (fs : List FilePlace) : Type 0 where
   pub files : List FilePlace
   pub behind : ℕ
   pub is : entries_at k (moved_header h n) new q ≡ Ok (files, behind)
   pub moved : MovedFiles g k m fs files
   pub rest : Rest old new end cs e behind
+  pub cells : CellRest g.cells k.cells end us tail e behind
   pub further : listed_columns k (moved_header h n) new q ≡ listed_columns g h old p
 
 pub list-from : (g : LineSource) (m : PathMap) (s l old : List ℕ) (h : LineHeader) (places : TextPlace → Option ℕ) (end : ℕ) (cs : List Change) (p e : ℕ) (files : List FilePlace)
@@ -356,18 +378,24 @@ list-from g m s l old h places end cs p e files w is from =
     let more = r.1 in
     (from-before end p (x.format.1 + x.count.1) (all_changes g m places h.width (texts_of files) ++ cs) (omega (arith, behind)) r.0, omega (arith, behind, more))
 
-pub list-moved : (g : LineSource) (m : PathMap) (bytes s l old new : List ℕ) (h : LineHeader) (n : LinePlaces) (places : TextPlace → Option ℕ) (end : ℕ) (cs : List Change)
-    (p q e : ℕ) (fs : List FilePlace) → SourceMoves g m s l → Sides g bytes old new → entries_at g h old p ≡ Ok (fs, e) → EachMoves g m s l h.width places (texts_of fs)
-    → Rest old new end (all_changes g m places h.width (texts_of fs) ++ cs) p q → From end e cs
-    → ListMoved g (edited_source g bytes s l) m h n old new end cs p q e fs
+pub list-moved : (g : LineSource) (m : PathMap) (bytes : List ℕ) (cells : List Cell) (s l old new : List ℕ) (h : LineHeader) (n : LinePlaces) (places : TextPlace → Option ℕ) (end : ℕ) (cs : List Change)
+    (us : List CellChange) (tail : List Cell) (p q e : ℕ) (fs : List FilePlace) → SourceMoves g m s l → Sides g bytes cells old new → entries_at g h old p ≡ Ok (fs, e) → EachMoves g m s l h.width places (texts_of fs)
+    → Rest old new end (all_changes g m places h.width (texts_of fs) ++ cs) p q
+    → CellRest g.cells cells end (all_path_cells g m places h.width (texts_of fs) ++ us) tail p q → SameChanges us cs → From end e cs → ListClear g h old p
+    → ListMoved g (edited_with g bytes cells s l) m h n old new end cs us tail p q e fs
 unfolding entries_at
-list-moved g m bytes s l old new h n places end cs p q e fs w sides is moves rest from =
+list-moved g m bytes cells s l old new h n places end cs us tail p q e fs w sides is moves rest cell both from clear =
     let x = list-is g h old p fs e is in
     let f = format-place old p x.format x.format_is in
     let front = f.0 in
     let inside : x.format.1 + x.count.1 ≤ length old = uleb-inside old x.format.1 x.count.0 x.count.1 x.count_is in
     let behind = files-from g m s l old h places end cs x.format.0 (x.format.1 + x.count.1) e fs w f.2 x.are from in
     let k = copied old new end (all_changes g m places h.width (texts_of fs) ++ cs) p q (x.format.1 + x.count.1) rest (omega (arith, front)) behind.0 in
+    let last : x.format.1 + x.count.1 ≤ end = from-end end (x.format.1 + x.count.1) (all_changes g m places h.width (texts_of fs) ++ cs) behind.0 in
+    let d = cells-copied g.cells cells end (all_path_cells g m places h.width (texts_of fs) ++ us) tail p q (x.format.1 + x.count.1) cell (omega (arith, front)) last
+    (same-from end (x.format.1 + x.count.1) (all_path_cells g m places h.width (texts_of fs) ++ us) (all_changes g m places h.width (texts_of fs) ++ cs)
+    (same-append (all_path_cells g m places h.width (texts_of fs)) us (all_changes g m places h.width (texts_of fs)) cs (paths-bytes g m places h.width (texts_of fs) w.own) both) behind.0)
+    (clear-none g.cells p (x.format.1 + x.count.1) (clear.front x.format x.count x.format_is x.count_is)) in
     let size : length (part old p (x.format.1 + x.count.1)) ≡ x.format.1 + x.count.1 - p = part-length old p (x.format.1 + x.count.1) (omega (arith, front)) inside in
     let format_new : format_at new q ≡ Some (x.format.0, q + (x.format.1 - p)) =
     format-both old new (part old p (x.format.1 + x.count.1)) p q x.format x.format_is k.both (omega (arith, size, front)) in
@@ -378,15 +406,18 @@ list-moved g m bytes s l old new h n places end cs p q e fs w sides is moves res
     (both-behind old new (part old p (x.format.1 + x.count.1)) p q (x.format.1 - p) k.both (omega (arith, size, front)))) x.count_is
     (omega (arith, size, front, length-drop (x.format.1 - p) (part old p (x.format.1 + x.count.1)))) in
     let mid : q + (x.format.1 + x.count.1 - p) ≡ q + (x.format.1 - p) + x.count.1 = omega (arith, front) in
-    let r = files-moved g m bytes s l old new h n places end cs x.format.0 (x.format.1 + x.count.1) (q + (x.format.1 - p) + x.count.1) e fs w sides f.2 x.are moves
-    (subst (λ (i : ℕ). Rest old new end (all_changes g m places h.width (texts_of fs) ++ cs) (x.format.1 + x.count.1) i) mid k.rest) from in
+    let r = files-moved g m bytes cells s l old new h n places end cs us tail x.format.0 (x.format.1 + x.count.1) (q + (x.format.1 - p) + x.count.1) e fs w sides f.2 x.are moves
+    (subst (λ (i : ℕ). Rest old new end (all_changes g m places h.width (texts_of fs) ++ cs) (x.format.1 + x.count.1) i) mid k.rest)
+    (subst (λ (i : ℕ). CellRest g.cells cells end (all_path_cells g m places h.width (texts_of fs) ++ us) tail (x.format.1 + x.count.1) i) mid d.rest) both from
+    (subst (λ (k : ℕ). EntriesClear g h old x.format.0 k (x.format.1 + x.count.1)) (sym x.number) (clear.entries x.format x.count x.format_is x.count_is)) in
     let number : length r.files ≡ x.count.0 = r.count ∙ x.number in
-    let run = entries-run (edited_source g bytes s l) (moved_header h n) new x.format.0 (q + (x.format.1 - p) + x.count.1) r.behind [] r.files r.are in
+    let run = entries-run (edited_with g bytes cells s l) (moved_header h n) new x.format.0 (q + (x.format.1 - p) + x.count.1) r.behind [] r.files r.are in
     record {
       files = r.files;
       behind = r.behind;
       is = rw (format_new, count_new, ← number) run;
       moved = r.moved;
       rest = r.rest;
+      cells = r.cells;
       further = rw (format_new, count_new, x.format_is, x.count_is, ← x.number) r.further;
     }

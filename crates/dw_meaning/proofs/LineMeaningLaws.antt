@@ -3,7 +3,7 @@ use Rattle.std.proofs.Common.{Bool, true, false, ◌≡◌, ℕ, zero, suc, ◌+
 use Rattle.std.specs.Prelude.{not}
 use Rattle.std.proofs.lemmas.Bool.{eq-eqb, ne_eqb}
 use Rattle.std.proofs.lemmas.List.{append-nil, length-drop, length-take-le, take-append-drop, map-append, take_all}
-use Rattle.dw_base.specs.Cells.{Cell, plain_cells}
+use Rattle.dw_base.specs.Cells.{Cell, bytes_of}
 use Rattle.dw_base.specs.LineHeaders.{length_place}
 use Rattle.dw_base.specs.LineMeanings.{place_text, LineColumn, LineEntry, listed_columns, list_end, place_behind, old_columns, dir_columns, file_columns, entries_with, FileText, dir_texts, file_text, file_texts, file_path, ShownFile, item_at, dir_numbered, file_numbered, shown_in, shown_as, shown_file, ShownRow, shown_row, shown_rows, line_params, program_rows, LineMeaning, line_meaning, mapped_entry, mapped_shown, mapped_row, mapped_line}
 use Rattle.dw_base.specs.LineReadings.{LineReading, ReadsTable, table_read}
@@ -20,10 +20,16 @@ use Rattle.dw_base.specs.declared.line_tables.LineHeader.{LineHeader}
 use Rattle.dw_base.specs.declared.line_tables.TextPlace.{TextPlace}
 use Rattle.dw_base.specs.declared.shared.Width.{Width}
 use Rattle.dw_base.proofs.ContributionBackLaws.{StandsAt}
+use Rattle.dw_base.proofs.UnitEditLaws.{length-bytes_of}
 use Rattle.dw_base.proofs.PathLaws.{mapped_path-none}
-use Rattle.dw_meaning.proofs.LineCellLaws.{drop-plain, take-plain, part-plain}
-use Rattle.dw_meaning.proofs.LineChangeLaws.{From, Rest, copied, part-length, part-none, all-before}
-use Rattle.dw_meaning.proofs.LineColumnLaws.{edited_source, SourceMoves}
+use Rattle.dw_meaning.specs.LineCells.{CellChange, all_path_cells, written_cells}
+use Rattle.dw_meaning.proofs.CellLaidLaws.{cells-end, laid-cells}
+use Rattle.dw_meaning.proofs.CellRestLaws.{CellRest, cells-copied, clear-none, same-from}
+use Rattle.dw_meaning.proofs.ClearLaws.{Clear, ListClear, ListsClear, NoneOver, clear-part}
+use Rattle.dw_meaning.proofs.LineCellLaws.{SameChanges, cells-append, paths-bytes, same-append}
+use Rattle.dw_meaning.proofs.LineClearLaws.{TableClear}
+use Rattle.dw_meaning.proofs.LineChangeLaws.{From, Rest, copied, from-end, part-length, part-none, all-before}
+use Rattle.dw_meaning.proofs.LineColumnLaws.{edited_with, SourceMoves}
 use Rattle.dw_meaning.proofs.LineHeaderLaws.{ops_size, length-place, flags-place, first_place, flags_at, HeaderIs, header-is, header-there}
 use Rattle.dw_meaning.proofs.LineLaidLaws.{Writable, Laid, laid}
 use Rattle.dw_meaning.proofs.LineListLaws.{EachMoves, MovedFiles, list-from, list-moved}
@@ -76,7 +82,8 @@ texts-moved g k m (f ∷ fs) [] h = absurd h
 texts-moved g k m (f ∷ fs) (u ∷ us) h = (h.1, texts-moved g k m fs us h.2)
 
 -- the lists under an edit
-pub record ListsMoved (g k : LineSource) (m : PathMap) (h : LineHeader) (n : LinePlaces) (old new : List ℕ) (dirs : List TextPlace) (files : List FilePlace) (behind : ℕ) : Type 0 where
+pub record ListsMoved (g k : LineSource) (m : PathMap) (h : LineHeader) (n : LinePlaces) (old new : List ℕ) (tail : List Cell) (dirs : List TextPlace) (files : List FilePlace)
+    (behind : ℕ) : Type 0 where
   pub new_dirs : List TextPlace
   pub new_files : List FilePlace
   pub new_behind : ℕ
@@ -84,23 +91,37 @@ pub record ListsMoved (g k : LineSource) (m : PathMap) (h : LineHeader) (n : Lin
   pub dirs_moved : MovedTexts g k m dirs new_dirs
   pub files_moved : MovedFiles g k m files new_files
   pub rest : Rest old new h.program [] behind new_behind
+  pub cells : CellRest g.cells k.cells h.program [] tail behind new_behind
   pub dir_columns_same : (if h.version == 5 then listed_columns k (moved_header h n) new n.lists else []) ≡ (if h.version == 5 then listed_columns g h old h.lists else [])
   pub file_columns_same : (if h.version == 5 then listed_columns k (moved_header h n) new (list_end k (moved_header h n) new n.lists) else map (old_columns new) new_files)
       ≡ (if h.version == 5 then listed_columns g h old (list_end g h old h.lists) else map (old_columns old) files)
 
-pub lists-moved : (g : LineSource) (m : PathMap) (bytes s l old new : List ℕ) (h : LineHeader) (n : LinePlaces) (places : TextPlace → Option ℕ) (dirs : List TextPlace) (files : List FilePlace)
-    (behind : ℕ) → SourceMoves g m s l → Sides g bytes old new → HasLists g h old dirs files behind → behind ≤ h.program → EachMoves g m s l h.width places (dirs ++ texts_of files)
+pub lists-moved : (g : LineSource) (m : PathMap) (bytes : List ℕ) (cells : List Cell) (s l old new : List ℕ) (h : LineHeader) (n : LinePlaces) (places : TextPlace → Option ℕ) (tail : List Cell) (dirs : List TextPlace)
+    (files : List FilePlace) (behind : ℕ) → SourceMoves g m s l → Sides g bytes cells old new → HasLists g h old dirs files behind → behind ≤ h.program → EachMoves g m s l h.width places (dirs ++ texts_of files)
     → Rest old new h.program (all_changes g m places h.width (dirs ++ texts_of files)) h.lists n.lists
-    → ListsMoved g (edited_source g bytes s l) m h n old new dirs files behind
-lists-moved g m bytes s l old new h n places dirs files behind w sides (old_lists ds fs place e other d f) le moves rest =
+    → CellRest g.cells cells h.program (all_path_cells g m places h.width (dirs ++ texts_of files)) tail h.lists n.lists → ListsClear g h old behind
+    → ListsMoved g (edited_with g bytes cells s l) m h n old new tail dirs files behind
+lists-moved g m bytes cells s l old new h n places tail dirs files behind w sides (old_lists ds fs place e other d f) le moves rest cell clear =
     let d0 = dirs-of g.number old h.lists place dirs d in
     let f0 = files-of g.number old place behind files f in
     let f2 = files-from g m places h old h.program [] place behind files f0 le in
     let none : all_changes g m places h.width (texts_of files) ++ [] ≡ all_changes g m places h.width (texts_of files) = append-nil (all_changes g m places h.width (texts_of files)) in
-    let d1 = dirs-moved g m bytes s l old new h places h.program (all_changes g m places h.width (texts_of files) ++ []) h.lists n.lists place dirs w sides d0
+    let last : CellRest g.cells cells h.program (all_path_cells g m places h.width dirs ++ (all_path_cells g m places h.width (texts_of files) ++ [])) tail h.lists n.lists =
+    subst (λ (us : List CellChange). CellRest g.cells cells h.program us tail h.lists n.lists)
+    (cells-append g m places h.width dirs (texts_of files)
+    ∙ ap (λ (us : List CellChange). all_path_cells g m places h.width dirs ++ us) (sym (append-nil (all_path_cells g m places h.width (texts_of files))))) cell in
+    let same : SameChanges (all_path_cells g m places h.width (texts_of files) ++ []) (all_changes g m places h.width (texts_of files) ++ []) =
+    same-append (all_path_cells g m places h.width (texts_of files)) [] (all_changes g m places h.width (texts_of files)) [] (paths-bytes g m places h.width (texts_of files) w.own) tt in
+    let whole : Clear g.cells h.lists behind = clear.old other in
+    let second = f2.1 in
+    let first = (dirs-from g m places h old h.program (all_changes g m places h.width (texts_of files) ++ []) h.lists place dirs d0 f2.0).1 in
+    let d1 = dirs-moved g m bytes cells s l old new h places h.program (all_changes g m places h.width (texts_of files) ++ [])
+    (all_path_cells g m places h.width (texts_of files) ++ []) tail h.lists n.lists place dirs w sides d0
     (subst (λ (cs : List Change). Rest old new h.program cs h.lists n.lists)
-    (changes-append g m places h.width dirs (texts_of files) ∙ ap (λ (cs : List Change). all_changes g m places h.width dirs ++ cs) (sym none)) rest) f2.0 in
-    let f1 = files-moved g m bytes s l old new h places h.program [] place d1.behind behind files w sides f0 d1.rest le in
+    (changes-append g m places h.width dirs (texts_of files) ∙ ap (λ (cs : List Change). all_changes g m places h.width dirs ++ cs) (sym none)) rest) last same f2.0
+    (clear-part g.cells h.lists behind h.lists place whole (omega arith) second) in
+    let f1 = files-moved g m bytes cells s l old new h places h.program [] [] tail place d1.behind behind files w sides f0 d1.rest d1.cells tt le
+    (clear-part g.cells h.lists behind place behind whole first (omega arith)) in
     record {
       new_dirs = d1.texts;
       new_files = f1.files;
@@ -109,29 +130,39 @@ lists-moved g m bytes s l old new h n places dirs files behind w sides (old_list
       dirs_moved = d1.moved;
       files_moved = f1.moved;
       rest = f1.rest;
+      cells = f1.cells;
       dir_columns_same = rw (ne_eqb h.version 5 other) refl;
       file_columns_same = rw (ne_eqb h.version 5 other) f1.further;
     }
-lists-moved g m bytes s l old new h n places dirs files behind w sides (new_lists ds fs place e five d f) le moves rest =
+lists-moved g m bytes cells s l old new h n places tail dirs files behind w sides (new_lists ds fs place e five d f) le moves rest cell clear =
     let both = moves-first g m s l h.width places (texts_of ds) (texts_of files) moves in
     let f2 = list-from g m s l old h places h.program [] place behind files w f le in
     let none : all_changes g m places h.width (texts_of files) ++ [] ≡ all_changes g m places h.width (texts_of files) = append-nil (all_changes g m places h.width (texts_of files)) in
-    let d1 = list-moved g m bytes s l old new h n places h.program (all_changes g m places h.width (texts_of files) ++ []) h.lists n.lists place ds w sides d both.0
+    let last : CellRest g.cells cells h.program (all_path_cells g m places h.width (texts_of ds) ++ (all_path_cells g m places h.width (texts_of files) ++ [])) tail h.lists n.lists =
+    subst (λ (us : List CellChange). CellRest g.cells cells h.program us tail h.lists n.lists)
+    (cells-append g m places h.width (texts_of ds) (texts_of files)
+    ∙ ap (λ (us : List CellChange). all_path_cells g m places h.width (texts_of ds) ++ us) (sym (append-nil (all_path_cells g m places h.width (texts_of files))))) cell in
+    let same : SameChanges (all_path_cells g m places h.width (texts_of files) ++ []) (all_changes g m places h.width (texts_of files) ++ []) =
+    same-append (all_path_cells g m places h.width (texts_of files)) [] (all_changes g m places h.width (texts_of files)) [] (paths-bytes g m places h.width (texts_of files) w.own) tt in
+    let d1 = list-moved g m bytes cells s l old new h n places h.program (all_changes g m places h.width (texts_of files) ++ [])
+    (all_path_cells g m places h.width (texts_of files) ++ []) tail h.lists n.lists place ds w sides d both.0
     (subst (λ (cs : List Change). Rest old new h.program cs h.lists n.lists)
-    (changes-append g m places h.width (texts_of ds) (texts_of files) ∙ ap (λ (cs : List Change). all_changes g m places h.width (texts_of ds) ++ cs) (sym none)) rest) f2.0 in
-    let f1 = list-moved g m bytes s l old new h n places h.program [] place d1.behind behind files w sides f both.1 d1.rest le in
+    (changes-append g m places h.width (texts_of ds) (texts_of files) ∙ ap (λ (cs : List Change). all_changes g m places h.width (texts_of ds) ++ cs) (sym none)) rest) last same f2.0 (clear.dirs five) in
     let end_old : list_end g h old h.lists ≡ place = ap (place_behind h.lists) d in
-    let end_new : list_end (edited_source g bytes s l) (moved_header h n) new n.lists ≡ d1.behind = ap (place_behind n.lists) d1.is in
+    let f1 = list-moved g m bytes cells s l old new h n places h.program [] [] tail place d1.behind behind files w sides f both.1 d1.rest d1.cells tt le
+    (subst (ListClear g h old) end_old (clear.files five)) in
+    let end_new : list_end (edited_with g bytes cells s l) (moved_header h n) new n.lists ≡ d1.behind = ap (place_behind n.lists) d1.is in
     record {
       new_dirs = texts_of d1.files;
       new_files = f1.files;
       new_behind = f1.behind;
       lists = new_lists d1.files f1.files d1.behind f1.behind five d1.is f1.is;
-      dirs_moved = texts-moved g (edited_source g bytes s l) m ds d1.files d1.moved;
+      dirs_moved = texts-moved g (edited_with g bytes cells s l) m ds d1.files d1.moved;
       files_moved = f1.moved;
       rest = f1.rest;
+      cells = f1.cells;
       dir_columns_same = by_five (h.version == 5) d1.further;
-      file_columns_same = rw (eq-eqb h.version 5 five) (ap (listed_columns (edited_source g bytes s l) (moved_header h n) new) end_new ∙ f1.further ∙ ap (listed_columns g h old) (sym end_old));
+      file_columns_same = rw (eq-eqb h.version 5 five) (ap (listed_columns (edited_with g bytes cells s l) (moved_header h n) new) end_new ∙ f1.further ∙ ap (listed_columns g h old) (sym end_old));
     }
   where
     by_five : (b : Bool) {x y : List (List LineColumn)} → x ≡ y → (if b then x else []) ≡ (if b then y else [])
@@ -268,12 +299,14 @@ pub record TableMoved (g k : LineSource) (m : PathMap) (start size : ℕ) (r : L
   pub begins : reading.header.start ≡ start
   pub ends : reading.header.end ≡ start + size
   pub says : line_meaning k reading ≡ mapped_line m (line_meaning g r)
+  pub over : NoneOver g.cells r.header.end → NoneOver k.cells (start + size)
 
-pub table-moved : (g : LineSource) (m : PathMap) (places : TextPlace → Option ℕ) (bytes s l : List ℕ) (begin start : ℕ) (r : LineReading) → SourceMoves g m s l → ReadsTable g begin r
+pub table-moved : (g : LineSource) (m : PathMap) (places : TextPlace → Option ℕ) (bytes : List ℕ) (cells more : List Cell) (s l : List ℕ) (begin start : ℕ) (r : LineReading) → SourceMoves g m s l → ReadsTable g begin r
     → Writable g m places r → EachMoves g m s l r.header.width places (paths_of (table_read g r)) → DefinedStay m (take r.header.end g.bytes) r.defined
-    → StandsAt bytes (written_table g m places (table_read g r)) start
-    → TableMoved g (edited_source g bytes s l) m start (length (written_table g m places (table_read g r))) r
-table-moved g m places bytes s l begin start r w reads fits moves stay st =
+    → StandsAt bytes (written_table g m places (table_read g r)) start → bytes_of cells ≡ bytes → drop start cells ≡ written_cells g m places (table_read g r) ++ more
+    → NoneOver cells start → TableClear g r
+    → TableMoved g (edited_with g bytes cells s l) m start (length (written_table g m places (table_read g r))) r
+table-moved g m places bytes cells more s l begin start r w reads fits moves stay st own there_cells over clear =
     let h : LineHeader = r.header in
     let x0 = header-is g.order g.bytes begin r.header reads.header in
     let hp0 = header-places g begin r.header x0 in
@@ -284,7 +317,16 @@ table-moved g m places bytes s l begin start r w reads fits moves stay st =
     let head : ℕ = length (written_header g m places (table_read g r)) in
     let cs : List Change = all_changes g m places r.header.width (paths_of (table_read g r)) in
     let l1 = laid g m places r bytes start x fits (all-before r.header.program r.header.lists (all_changes g m places r.header.width (paths_of (table_read g r))) from.0) hp.program st in
-    finish (length (written_table g m places (table_read g r))) (length (written_header g m places (table_read g r))) x hp from.0 from.1 l1
+    let program = hp.program in
+    let before = reads.before in
+    let lists = from.1 in
+    let xw = x.within in
+    let xe = x.end_is in
+    let size_cells : length g.bytes ≡ length g.cells = sym (ap length w.own) ∙ length-bytes_of g.cells in
+    let new_cells : length bytes ≡ length cells = sym (ap length own) ∙ length-bytes_of cells in
+    let begins = st.inside in
+    let c1 = laid-cells g m places begin r cells more start reads clear hp.program (omega (arith, xw, xe, size_cells)) (omega (arith, lists, before)) (omega (arith, begins, new_cells)) over there_cells in
+    finish (length (written_table g m places (table_read g r))) (length (written_header g m places (table_read g r))) x hp from.0 from.1 l1 c1
   where
     h_ : LineHeader
     h_ = r.header
@@ -292,8 +334,10 @@ table-moved g m places bytes s l begin start r w reads fits moves stay st =
     finish : (size head : ℕ) → HeaderIs g.order g.bytes r.header.start r.header → HeaderPlaces r.header
         → From r.header.program r.header.lists (all_changes g m places r.header.width (r.dirs ++ texts_of r.files)) → r.header.lists ≤ r.behind
         → Laid g r.header bytes (all_changes g m places r.header.width (r.dirs ++ texts_of r.files)) start size head
-        → TableMoved g (edited_source g bytes s l) m start size r
-    finish size head x hp from behind l1 =
+        → CellRest g.cells cells r.header.program (all_path_cells g m places r.header.width (r.dirs ++ texts_of r.files)) (cells_part g.cells r.header.program r.header.end ++ more)
+        (first_place r.header.version (r.header.start + length_size r.header.width) r.header.width) (first_place r.header.version (start + length_size r.header.width) r.header.width)
+        → TableMoved g (edited_with g bytes cells s l) m start size r
+    finish size head x hp from behind l1 c1 =
         let old : List ℕ = take r.header.end g.bytes in
         let new : List ℕ = take (start + size) bytes in
         let n : LinePlaces = places_of r.header start size head in
@@ -314,14 +358,23 @@ table-moved g m places bytes s l begin start r w reads fits moves stay st =
         let lw = l1.within in
         let ls = l1.size_is in
         let new_size : length (take (start + size) bytes) ≡ start + size = length-take-le (start + size) bytes (omega (arith, lw, ls)) in
-        let sides : Sides g bytes (take r.header.end g.bytes) (take (start + size) bytes) = record {
+        let sides : Sides g bytes cells (take r.header.end g.bytes) (take (start + size) bytes) = record {
           was = record { more = drop r.header.end g.bytes; is = sym (take-append-drop r.header.end g.bytes) };
           is = record { more = drop (start + size) bytes; is = sym (take-append-drop (start + size) bytes) };
+          own = own;
         } in
         let first_lists : first_place r.header.version (r.header.start + length_size r.header.width) r.header.width ≤ r.header.lists = omega (arith, operands, lists, fp) in
         let k = copied (take r.header.end g.bytes) (take (start + size) bytes) r.header.program (all_changes g m places r.header.width (r.dirs ++ texts_of r.files))
         (first_place r.header.version (r.header.start + length_size r.header.width) r.header.width) (first_place r.header.version (start + length_size r.header.width) r.header.width) r.header.lists l1.rest first_lists from in
-        let lm = lists-moved g m bytes s l (take r.header.end g.bytes) (take (start + size) bytes) r.header (places_of r.header start size head) places r.dirs r.files r.behind w sides reads.lists reads.before moves k.rest in
+        let lists_end = from-end r.header.program r.header.lists (all_changes g m places r.header.width (r.dirs ++ texts_of r.files)) from in
+        let kc = cells-copied g.cells cells r.header.program (all_path_cells g m places r.header.width (r.dirs ++ texts_of r.files)) (cells_part g.cells r.header.program r.header.end ++ more)
+        (first_place r.header.version (r.header.start + length_size r.header.width) r.header.width) (first_place r.header.version (start + length_size r.header.width) r.header.width) r.header.lists c1 first_lists lists_end
+        (same-from r.header.program r.header.lists (all_path_cells g m places r.header.width (r.dirs ++ texts_of r.files)) (all_changes g m places r.header.width (r.dirs ++ texts_of r.files))
+        (paths-bytes g m places r.header.width (r.dirs ++ texts_of r.files) w.own) from)
+        (clear-none g.cells (first_place r.header.version (r.header.start + length_size r.header.width) r.header.width) r.header.lists
+        (clear-part g.cells r.header.start r.header.lists (first_place r.header.version (r.header.start + length_size r.header.width) r.header.width) r.header.lists clear.front (omega (arith, lp)) (omega arith))) in
+        let lm = lists-moved g m bytes cells s l (take r.header.end g.bytes) (take (start + size) bytes) r.header (places_of r.header start size head) places
+        (cells_part g.cells r.header.program r.header.end ++ more) r.dirs r.files r.behind w sides reads.lists reads.before moves k.rest kc.rest clear.lists in
         let gap = copied (take r.header.end g.bytes) (take (start + size) bytes) r.header.program [] r.behind lm.new_behind r.header.program lm.rest before (omega arith) in
         let last : drop (lm.new_behind + (r.header.program - r.behind)) (take (start + size) bytes) ≡ drop r.header.program (take r.header.end g.bytes) =
         gap.rest.is ∙ ap (λ (ys : List ℕ). ys ++ drop r.header.program (take r.header.end g.bytes)) (part-none (take r.header.end g.bytes) r.header.program) in
@@ -371,14 +424,14 @@ table-moved g m places bytes s l begin start r w reads fits moves stay st =
           is = omega (arith, new_size, ends);
           same = sym program_drop;
         } in
-        let pm = program-moved g bytes s l (take r.header.end g.bytes) (take (start + size) bytes) r.header (places_of r.header start size head) r.header.program
+        let pm = program-moved g bytes cells s l (take r.header.end g.bytes) (take (start + size) bytes) r.header (places_of r.header start size head) r.header.program
         (first_place r.header.version (start + length_size r.header.width) r.header.width + head) r.defined sides counts same (opcodes-of g.number r.header (take r.header.end g.bytes) r.header.program r.defined reads.program) in
         let none : mapped_path m [] ≡ [] = mapped_path-none m w.map in
-        let dirs_same = moved-dirs g (edited_source g bytes s l) m r.dirs lm.new_dirs lm.dirs_moved in
-        let files_same = moved-files g (edited_source g bytes s l) m r.files lm.new_files lm.files_moved in
-        let all_same : file_texts (edited_source g bytes s l) lm.new_files ++ file_texts (edited_source g bytes s l) pm.files ≡ map (mapped_file m) (file_texts g r.files ++ file_texts g r.defined) =
-        ap (λ (ys : List FileText). ys ++ file_texts (edited_source g bytes s l) pm.files) files_same
-        ∙ ap (λ (ys : List FileText). map (mapped_file m) (file_texts g r.files) ++ ys) (kept-files g (edited_source g bytes s l) m (take r.header.end g.bytes) r.defined pm.files pm.kept stay)
+        let dirs_same = moved-dirs g (edited_with g bytes cells s l) m r.dirs lm.new_dirs lm.dirs_moved in
+        let files_same = moved-files g (edited_with g bytes cells s l) m r.files lm.new_files lm.files_moved in
+        let all_same : file_texts (edited_with g bytes cells s l) lm.new_files ++ file_texts (edited_with g bytes cells s l) pm.files ≡ map (mapped_file m) (file_texts g r.files ++ file_texts g r.defined) =
+        ap (λ (ys : List FileText). ys ++ file_texts (edited_with g bytes cells s l) pm.files) files_same
+        ∙ ap (λ (ys : List FileText). map (mapped_file m) (file_texts g r.files) ++ ys) (kept-files g (edited_with g bytes cells s l) m (take r.header.end g.bytes) r.defined pm.files pm.kept stay)
         ∙ sym (map-append (mapped_file m) (file_texts g r.files) (file_texts g r.defined)) in
         let front_size : length (part (take r.header.end g.bytes) (r.header.start + length_size r.header.width) (length_place r.header.version (r.header.start + length_size r.header.width)))
         ≡ length_place r.header.version (r.header.start + length_size r.header.width) - (r.header.start + length_size r.header.width) =
@@ -386,19 +439,9 @@ table-moved g m places bytes s l begin start r w reads fits moves stay st =
         (omega (arith, operands, lists, inside, old_size, fp)) in
         let gap_size : length (part (take r.header.end g.bytes) r.behind r.header.program) ≡ r.header.program - r.behind =
         part-length (take r.header.end g.bytes) r.behind r.header.program before (omega (arith, old_size, program)) in
-        let cells : g.cells ≡ plain_cells g.bytes = w.plain.plain ∙ ap plain_cells w.own in
-        let old_cells : take r.header.end g.cells ≡ plain_cells (take r.header.end g.bytes) = ap (take r.header.end) cells ∙ take-plain r.header.end g.bytes in
-        let gap_cells : cells_part (take (start + size) (plain_cells bytes)) lm.new_behind (first_place r.header.version (start + length_size r.header.width) r.header.width + head)
-        ≡ cells_part (take r.header.end g.cells) r.behind r.header.program =
-        ap (λ (cs : List Cell). cells_part cs lm.new_behind (first_place r.header.version (start + length_size r.header.width) r.header.width + head)) (take-plain (start + size) bytes)
-        ∙ part-plain (take (start + size) bytes) lm.new_behind (first_place r.header.version (start + length_size r.header.width) r.header.width + head)
-        ∙ ap plain_cells (part-both (take r.header.end g.bytes) (take (start + size) bytes) (part (take r.header.end g.bytes) r.behind r.header.program) r.behind lm.new_behind
-        (first_place r.header.version (start + length_size r.header.width) r.header.width + head) gap.both (omega (arith, gap_size, program_new)))
-        ∙ sym (ap (λ (cs : List Cell). cells_part cs r.behind r.header.program) old_cells ∙ part-plain (take r.header.end g.bytes) r.behind r.header.program) in
-        let program_cells : drop (first_place r.header.version (start + length_size r.header.width) r.header.width + head) (take (start + size) (plain_cells bytes)) ≡ drop r.header.program (take r.header.end g.cells) =
-        ap (drop (first_place r.header.version (start + length_size r.header.width) r.header.width + head)) (take-plain (start + size) bytes)
-        ∙ drop-plain (first_place r.header.version (start + length_size r.header.width) r.header.width + head) (take (start + size) bytes) ∙ ap plain_cells program_drop
-        ∙ sym (ap (drop r.header.program) old_cells ∙ drop-plain r.header.program (take r.header.end g.bytes)) in
+        let size_cells : length g.bytes ≡ length g.cells = sym (ap length w.own) ∙ length-bytes_of g.cells in
+        let ce = cells-end g cells more r.behind r.header.program r.header.end lm.new_behind (first_place r.header.version (start + length_size r.header.width) r.header.width + head) (start + size) lm.cells before program
+        (omega (arith, xw, xe, size_cells)) (sym program_new) (sym ends) in
         let counts_old : part (take r.header.end g.bytes) r.header.operands r.header.lists
         ≡ drop (ops_size r.header.version + 4) (part (take r.header.end g.bytes) (first_place r.header.version (r.header.start + length_size r.header.width) r.header.width) r.header.lists) =
         part-both (take (start + size) bytes) (take r.header.end g.bytes)
@@ -438,27 +481,28 @@ table-moved g m places bytes s l begin start r w reads fits moves stay st =
               (first_place r.header.version (r.header.start + length_size r.header.width) r.header.width) (first_place r.header.version (start + length_size r.header.width) r.header.width)
               (first_place r.header.version (start + length_size r.header.width) r.header.width + (r.header.lists - first_place r.header.version (r.header.start + length_size r.header.width) r.header.width))
               k.both (omega (arith, numbers_size)))
-              (ap (λ (ts : List (List ℕ)). entries_with ts (dirs_after (edited_source g bytes s l) r.header (places_of r.header start size head) (take (start + size) bytes))) dirs_same ∙ ap (entries_with (map (mapped_path m) (dir_texts g r.dirs))) lm.dir_columns_same ∙ entries-mapped m (dir_texts g r.dirs) (dir_columns g r))
-              (ap (λ (ts : List FileText). entries_with (map file_path ts) (files_after (edited_source g bytes s l) r.header (places_of r.header start size head) (take (start + size) bytes) lm.new_files)) files_same
-              ∙ ap (λ (ts : List (List ℕ)). entries_with ts (files_after (edited_source g bytes s l) r.header (places_of r.header start size head) (take (start + size) bytes) lm.new_files)) (file-paths m (file_texts g r.files))
+              (ap (λ (ts : List (List ℕ)). entries_with ts (dirs_after (edited_with g bytes cells s l) r.header (places_of r.header start size head) (take (start + size) bytes))) dirs_same ∙ ap (entries_with (map (mapped_path m) (dir_texts g r.dirs))) lm.dir_columns_same ∙ entries-mapped m (dir_texts g r.dirs) (dir_columns g r))
+              (ap (λ (ts : List FileText). entries_with (map file_path ts) (files_after (edited_with g bytes cells s l) r.header (places_of r.header start size head) (take (start + size) bytes) lm.new_files)) files_same
+              ∙ ap (λ (ts : List (List ℕ)). entries_with ts (files_after (edited_with g bytes cells s l) r.header (places_of r.header start size head) (take (start + size) bytes) lm.new_files)) (file-paths m (file_texts g r.files))
               ∙ ap (entries_with (map (mapped_path m) (map file_path (file_texts g r.files)))) lm.file_columns_same
               ∙ entries-mapped m (map file_path (file_texts g r.files)) (file_columns g r))
-              gap_cells
-              program_cells
-              (ap (λ (ts : List (List ℕ)). shown_rows r.header.version ts (file_texts (edited_source g bytes s l) lm.new_files ++ file_texts (edited_source g bytes s l) pm.files)
+              ce.gap
+              ce.program_is
+              (ap (λ (ts : List (List ℕ)). shown_rows r.header.version ts (file_texts (edited_with g bytes cells s l) lm.new_files ++ file_texts (edited_with g bytes cells s l) pm.files)
               (program_rows (line_params g.order r.header)
               (part (take (start + size) bytes) (flags_at r.header.version (start + length_size r.header.width) r.header.width + 4)
               (first_place r.header.version (start + length_size r.header.width) r.header.width + (r.header.lists - first_place r.header.version (r.header.start + length_size r.header.width) r.header.width)))
-              (drop (first_place r.header.version (start + length_size r.header.width) r.header.width + head) (take (start + size) (plain_cells bytes))))) dirs_same
+              (drop (first_place r.header.version (start + length_size r.header.width) r.header.width + head) (take (start + size) cells)))) dirs_same
               ∙ ap (λ (fs : List FileText). shown_rows r.header.version (map (mapped_path m) (dir_texts g r.dirs)) fs
               (program_rows (line_params g.order r.header)
               (part (take (start + size) bytes) (flags_at r.header.version (start + length_size r.header.width) r.header.width + 4)
               (first_place r.header.version (start + length_size r.header.width) r.header.width + (r.header.lists - first_place r.header.version (r.header.start + length_size r.header.width) r.header.width)))
-              (drop (first_place r.header.version (start + length_size r.header.width) r.header.width + head) (take (start + size) (plain_cells bytes))))) all_same
+              (drop (first_place r.header.version (start + length_size r.header.width) r.header.width + head) (take (start + size) cells)))) all_same
               ∙ ap (λ (bs : List ℕ). shown_rows r.header.version (map (mapped_path m) (dir_texts g r.dirs)) (map (mapped_file m) (file_texts g r.files ++ file_texts g r.defined))
-              (program_rows (line_params g.order r.header) bs (drop (first_place r.header.version (start + length_size r.header.width) r.header.width + head) (take (start + size) (plain_cells bytes))))) counts_new
+              (program_rows (line_params g.order r.header) bs (drop (first_place r.header.version (start + length_size r.header.width) r.header.width + head) (take (start + size) cells)))) counts_new
               ∙ ap (λ (cs : List Cell). shown_rows r.header.version (map (mapped_path m) (dir_texts g r.dirs)) (map (mapped_file m) (file_texts g r.files ++ file_texts g r.defined))
-              (program_rows (line_params g.order r.header) (part (take r.header.end g.bytes) r.header.operands r.header.lists) cs)) program_cells
+              (program_rows (line_params g.order r.header) (part (take r.header.end g.bytes) r.header.operands r.header.lists) cs)) ce.program_is
               ∙ rows-mapped m r.header.version (dir_texts g r.dirs) (file_texts g r.files ++ file_texts g r.defined)
               (program_rows (line_params g.order r.header) (part (take r.header.end g.bytes) r.header.operands r.header.lists) (drop r.header.program (take r.header.end g.cells))) none);
+          over = ce.over;
         }

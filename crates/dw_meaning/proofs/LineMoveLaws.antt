@@ -1,38 +1,41 @@
 -- One column under an edit: where nothing changes in it, it is read as it was; the path of an entry is read mapped.
-use Rattle.std.proofs.Common.{Bool, true, false, ◌≡◌, ℕ, ◌+◌, ◌-◌, ◌<◌, ◌≤◌, ◌==◌, List, [], ◌∷◌, ◌++◌, length, drop, Option, Some, None, refl, sym, ap, ◌∙◌, subst, arith}
-use Rattle.std.specs.Prelude.{if◌then◌else◌, Ok, Err, ⊤}
+use Rattle.std.proofs.Common.{Bool, true, false, ◌≡◌, ℕ, zero, suc, ◌+◌, ◌-◌, ◌<◌, ◌≤◌, ◌==◌, List, [], ◌∷◌, ◌++◌, length, take, drop, Option, Some, None, refl, sym, ap, ◌∙◌, subst, arith}
+use Rattle.std.specs.Prelude.{if◌then◌else◌, Ok, ⊤}
 use Rattle.std.proofs.lemmas.Bool.{eq-eqb, le-leb}
-use Rattle.std.proofs.lemmas.List.{append-nil, length-append, length-drop, length-take-le}
-use Rattle.dw_base.specs.Cells.{bytes_of, cells_at}
+use Rattle.std.proofs.lemmas.List.{length-append, length-drop, length-take-le}
+use Rattle.dw_base.specs.Cells.{Cell, Relocation, bytes_of, cells_at, offset_of, plain_cells}
 use Rattle.dw_base.specs.Forms.{TextSection, in_str, in_line_str, width_size}
 use Rattle.dw_base.specs.LineEntries.{column_params, offset_column, column_at}
 use Rattle.dw_base.specs.LineFormats.{is_column}
 use Rattle.dw_base.specs.LineMeanings.{place_text}
 use Rattle.dw_base.specs.LineSources.{LineSource}
-use Rattle.dw_base.specs.LineTexts.{text_if, text_of, named_text}
+use Rattle.dw_base.specs.LineTexts.{text_of, named_text}
 use Rattle.dw_base.specs.NewOffsets.{with_offset}
-use Rattle.dw_base.specs.Numbers.{spelled, number_bytes}
+use Rattle.dw_base.specs.RelocationFields.{reach_of, relocation_at}
 use Rattle.dw_base.specs.Paths.{PathMap, mapped_path}
 use Rattle.dw_base.specs.Texts.{ends_in, text_in}
 use Rattle.dw_base.specs.Values.{value_at}
-use Rattle.dw_base.specs.WrittenLines.{part, bytes_at, Change, inline_change, offset_changes, path_changes}
+use Rattle.dw_base.specs.WrittenLines.{part, bytes_at, cells_part, Change, inline_change, offset_changes, path_changes}
 use Rattle.dw_base.specs.declared.dwarf_numbers.TheConstants.{DW_FORM_string, DW_FORM_strp, DW_FORM_line_strp}
 use Rattle.dw_base.specs.declared.line_tables.Column.{Column}
 use Rattle.dw_base.specs.declared.line_tables.LineHeader.{LineHeader}
 use Rattle.dw_base.specs.declared.line_tables.TextPlace.{TextPlace}
+use Rattle.dw_base.specs.declared.shared.Order.{Order}
 use Rattle.dw_base.specs.declared.values.Spec.{Spec}
 use Rattle.dw_base.specs.declared.values.Value.{Value}
-use Rattle.dw_base.specs.declared.fault.Kind.TheVariants.{StringOffset}
-use Rattle.dw_base.proofs.ContributionBackLaws.{spelled-there}
-use Rattle.dw_base.proofs.LineFieldLaws.{named_text-plain, new_bytes-plain}
-use Rattle.dw_base.proofs.NumberLaws.{spelled-append, length-number_bytes, spelled-number_bytes}
 use Rattle.dw_base.proofs.PathLaws.{has_nul-mapped_path}
-use Rattle.dw_base.proofs.PlainCellLaws.{plain_cells-plain}
+use Rattle.dw_base.proofs.RelocationFieldLaws.{bytes_of-drop, bytes_of-take, length-cells_at}
 use Rattle.dw_base.proofs.UnitEditLaws.{length-bytes_of}
 use Rattle.dw_base.proofs.TextLaws.{ends_in-append, text_in-append, ends_in-inside, has_nul-text_in}
+use Rattle.dw_meaning.specs.LineCells.{CellChange, inline_cells, offset_cells, path_cells}
+use Rattle.dw_meaning.proofs.CellRestLaws.{CellRest, cells-changed, cells-copied, clear-none, plain-none, plain-size, same-from}
+use Rattle.dw_meaning.proofs.ClearLaws.{Clear, NoneOver, clear-part, clear_from}
+use Rattle.dw_meaning.proofs.FieldCellLaws.{FieldNames, cells-own, field-kept, field-names, field-own, field-put, field-there, put-tail, read-tail}
+use Rattle.dw_meaning.proofs.FieldPutLaws.{length-put, width-some}
+use Rattle.dw_meaning.proofs.LineCellLaws.{SameChanges}
 use Rattle.dw_meaning.proofs.LineChangeLaws.{From, Rest, copied, exchanged, TextChanged, text-changed, text-part, text-room, part-length, from-before, from-end, all-before}
-use Rattle.dw_meaning.proofs.LineColumnLaws.{edited_source, Grows, SourceMoves, OffsetMoves, PathMoves, texts_in, new_texts_in, texts-grow, section-not, offset-says, offset-text, new-offset-text, inline-placed, offset_form, named-number, ColumnIs, inline_is, offset_is, value_is}
-use Rattle.dw_meaning.proofs.LineReadLaws.{Both, spelled-both, text-both, inline-here}
+use Rattle.dw_meaning.proofs.LineColumnLaws.{edited_with, Grows, SourceMoves, OffsetMoves, PathMoves, TakesPlace, texts_in, new_texts_in, texts-grow, section-not, offset-says, offset-text, new-offset-text, inline-placed, offset_form, ColumnIs, inline_is, offset_is, value_is}
+use Rattle.dw_meaning.proofs.LineReadLaws.{Both, text-both, inline-here}
 use Rattle.dw_meaning.proofs.LineValueLaws.{column-plain, value-both, value-in}
 
 -- where the parts of a table lie
@@ -46,10 +49,11 @@ pub record LinePlaces : Type 0 where
 abbrev pub moved_header : LineHeader → LinePlaces → LineHeader
 moved_header h n = record h { start = n.start; end = n.end; program = n.program; operands = n.operands; lists = n.lists }
 
--- a table before and after: its bytes are the first of its section, up to its end
-pub record Sides (g : LineSource) (bytes old new : List ℕ) : Type 0 where
+-- a table before and after: its bytes are the first of its section, up to its end, and the section's bytes are those of its cells
+pub record Sides (g : LineSource) (bytes : List ℕ) (cells : List Cell) (old new : List ℕ) : Type 0 where
   pub was : Grows old g.bytes
   pub is : Grows new bytes
+  pub own : bytes_of cells ≡ bytes
 
 -- texts that are kept
 abbrev pub KeptText : LineSource → LineSource → Option TextPlace → Option TextPlace → Type 0
@@ -66,48 +70,53 @@ pub record ColumnKept (g k : LineSource) (h : LineHeader) (new : List ℕ) (spec
   pub next : column.next ≡ q + (c.next - p)
   pub text : KeptText g k c.text column.text
 
--- the number that the field of an offset is
-abbrev offset_at : LineSource → LineHeader → ℕ → ℕ
-offset_at g h p = spelled g.order g.bytes p (width_size h.width)
+-- places in a table are places in the cells of its section
+pub room-cells : (cells : List Cell) (bytes table : List ℕ) (n : ℕ) → bytes_of cells ≡ bytes → Grows table bytes → n ≤ length table → n ≤ length cells
+room-cells cells bytes table n own front le =
+    let size : length bytes ≡ length cells = sym (ap length own) ∙ length-bytes_of cells in
+    let whole : length bytes ≡ length (table ++ front.more) = ap length front.is in
+    omega (arith, size, whole, le, length-append table front.more)
 
--- an offset at the new place
-offset-there : (g : LineSource) (bytes s l old new : List ℕ) (h : LineHeader) (p q : ℕ) → Sides g bytes old new → p + width_size h.width ≤ length old → q + width_size h.width ≤ length new
-    → spelled g.order new q (width_size h.width) ≡ spelled g.order old p (width_size h.width)
-    → offset_at (edited_source g bytes s l) h q ≡ offset_at g h p
-offset-there g bytes s l old new h p q w inside there e =
-    ap (λ (bs : List ℕ). spelled g.order bs q (width_size h.width)) w.is.is ∙ spelled-append g.order new w.is.more q (width_size h.width) there
-    ∙ e ∙ sym (ap (λ (bs : List ℕ). spelled g.order bs p (width_size h.width)) w.was.is ∙ spelled-append g.order old w.was.more p (width_size h.width) inside)
+-- a field that was read
+pub read-field : (g : LineSource) (m : PathMap) (bytes : List ℕ) (cells : List Cell) (s l old new : List ℕ) (h : LineHeader) (z : TextSection) (p n : ℕ) → SourceMoves g m s l
+    → Sides g bytes cells old new → p + width_size h.width ≤ length old → named_text g (texts_in g z) p (width_size h.width) ≡ Ok (text_of (texts_in g z) n p)
+    → FieldNames g (texts_in g z) p (width_size h.width) n
+read-field g m bytes cells s l old new h z p n w sides room reads =
+    field-names g (texts_in g z) p (width_size h.width) n w.read w.own (width-some h.width)
+    (room-cells g.cells g.bytes old (p + width_size h.width) w.own sides.was room) reads
 
 -- a column by an offset that is there
-named-there : (g : LineSource) (bytes s l : List ℕ) (h : LineHeader) (z : TextSection) (q n : ℕ) → offset_at (edited_source g bytes s l) h q ≡ n
-    → ends_in (new_texts_in g s l z).bytes n ≡ true
-    → named_text (edited_source g bytes s l) (new_texts_in g s l z) q (width_size h.width) ≡ Ok (text_of (new_texts_in g s l z) n q)
-named-there g bytes s l h z q n at ends =
-    named_text-plain (edited_source g bytes s l) (new_texts_in g s l z) q (width_size h.width) (plain_cells-plain bytes)
-    ∙ ap (text_if (new_texts_in g s l z) g.number q) at
-    ∙ ap (λ (b : Bool). if b then Ok (text_of (new_texts_in g s l z) n q) else Err (Rattle.dw_base.specs.Refusals.at StringOffset g.number q)) ends
+same-number : (g : LineSource) (s l : List ℕ) (z : TextSection) → (new_texts_in g s l z).number ≡ (texts_in g z).number
+same-number g s l in_str = refl
+same-number g s l in_line_str = refl
 
-offset-column : (g : LineSource) (bytes s l new : List ℕ) (h : LineHeader) (spec : Spec) (z : TextSection) (q n : ℕ) → spec.form ≡ offset_form z → q + width_size h.width ≤ length new
-    → offset_at (edited_source g bytes s l) h q ≡ n → ends_in (new_texts_in g s l z).bytes n ≡ true
-    → column_at (edited_source g bytes s l) h new spec q
+offset-column : (g : LineSource) (bytes : List ℕ) (cells : List Cell) (s l new : List ℕ) (h : LineHeader) (spec : Spec) (z : TextSection) (q n : ℕ) → spec.form ≡ offset_form z
+    → q + width_size h.width ≤ length new
+    → named_text (edited_with g bytes cells s l) (new_texts_in g s l z) q (width_size h.width) ≡ Ok (text_of (new_texts_in g s l z) n q)
+    → column_at (edited_with g bytes cells s l) h new spec q
     ≡ Ok (record { text = Some (record { section = (texts_in g z).number; at = n; len = length (text_in (new_texts_in g s l z).bytes n); field = q }); number = 0; next = q + width_size h.width })
 unfolding column_at offset_column
-offset-column g bytes s l new h spec in_str q n form room at ends =
-    rw (form, le-leb (q + width_size h.width) (length new) room, named-there g bytes s l h in_str q n at ends) refl
-offset-column g bytes s l new h spec in_line_str q n form room at ends =
-    rw (form, le-leb (q + width_size h.width) (length new) room, named-there g bytes s l h in_line_str q n at ends) refl
+offset-column g bytes cells s l new h spec in_str q n form room named = rw (form, le-leb (q + width_size h.width) (length new) room, named) refl
+offset-column g bytes cells s l new h spec in_line_str q n form room named = rw (form, le-leb (q + width_size h.width) (length new) room, named) refl
 
-inline-column : (g : LineSource) (bytes s l new : List ℕ) (h : LineHeader) (spec : Spec) (q : ℕ) → spec.form ≡ DW_FORM_string → ends_in new q ≡ true
-    → column_at (edited_source g bytes s l) h new spec q
+inline-column : (g : LineSource) (bytes : List ℕ) (cells : List Cell) (s l new : List ℕ) (h : LineHeader) (spec : Spec) (q : ℕ) → spec.form ≡ DW_FORM_string → ends_in new q ≡ true
+    → column_at (edited_with g bytes cells s l) h new spec q
     ≡ Ok (record { text = Some (record { section = g.number; at = q; len = length (text_in new q); field = q }); number = 0; next = q + length (text_in new q) + 1 })
 unfolding column_at
-inline-column g bytes s l new h spec q form ends = rw (form, inline-here g.number new q ends) refl
+inline-column g bytes cells s l new h spec q form ends = rw (form, inline-here g.number new q ends) refl
 
-value-column : (g : LineSource) (bytes s l new : List ℕ) (h : LineHeader) (spec : Spec) (q : ℕ) (v : Value) → (spec.form == DW_FORM_string) ≡ false
+value-column : (g : LineSource) (bytes : List ℕ) (cells : List Cell) (s l new : List ℕ) (h : LineHeader) (spec : Spec) (q : ℕ) (v : Value) → (spec.form == DW_FORM_string) ≡ false
     → (spec.form == DW_FORM_strp) ≡ false → (spec.form == DW_FORM_line_strp) ≡ false → value_at (column_params g.order h) spec new q ≡ Some v
-    → column_at (edited_source g bytes s l) h new spec q ≡ Ok (record { text = None; number = v.number; next = q + v.size })
+    → column_at (edited_with g bytes cells s l) h new spec q ≡ Ok (record { text = None; number = v.number; next = q + v.size })
 unfolding column_at
-value-column g bytes s l new h spec q v a b c e = rw (a, b, c, e) refl
+value-column g bytes cells s l new h spec q v a b c e = rw (a, b, c, e) refl
+
+-- where no relocation begins in a column that is no offset: from its start on
+clear-inline : (spec : Spec) (p : ℕ) → spec.form ≡ DW_FORM_string → clear_from spec p ≡ p
+clear-inline spec p e = rw e refl
+
+clear-value : (spec : Spec) (p : ℕ) → (spec.form == DW_FORM_strp) ≡ false → (spec.form == DW_FORM_line_strp) ≡ false → clear_from spec p ≡ p
+clear-value spec p a b = rw (a, b) refl
 
 -- what a column takes
 pub column-place : (g : LineSource) (h : LineHeader) (table : List ℕ) (spec : Spec) (p : ℕ) (c : Column) → is_column spec ≡ true → ColumnIs g h table spec p c
@@ -117,61 +126,75 @@ column-place g h table spec p c plain (offset_is z i form room reads ends) = (om
 column-place g h table spec p c plain (value_is a b d v is) =
     (omega arith, value-in (column_params g.order h) spec table p v (column-plain (column_params g.order h) spec a b d plain) is)
 
--- where the bytes of an offset stand at another place too, it is read there
-offset-kept : (g : LineSource) (m : PathMap) (bytes s l old new : List ℕ) (h : LineHeader) (n : LinePlaces) (spec : Spec) (z : TextSection) (p q : ℕ) → SourceMoves g m s l
-    → Sides g bytes old new → spec.form ≡ offset_form z → p + width_size h.width ≤ length old → ends_in (texts_in g z).bytes (offset_at g h p) ≡ true
-    → Both old new (part old p (p + width_size h.width)) p q
-    → ColumnKept g (edited_source g bytes s l) (moved_header h n) new spec p q
-    (record { text = Some (text_of (texts_in g z) (offset_at g h p) p); number = 0; next = p + width_size h.width })
-offset-kept g m bytes s l old new h n spec z p q w sides form room ends b =
-    let size : length (part old p (p + width_size h.width)) ≡ p + width_size h.width - p = part-length old p (p + width_size h.width) (omega arith) room in
-    let inside = b.is.inside in
-    let there : q + width_size h.width ≤ length new = omega (arith, inside, size) in
-    let same : offset_at (edited_source g bytes s l) h q ≡ offset_at g h p =
-    offset-there g bytes s l old new h p q sides room there
-    (spelled-both g.order old new (part old p (p + width_size h.width)) p q (width_size h.width) b (omega (arith, size))) in
+-- where the cells of an offset stand at another place too, it is read there
+offset-kept : (g : LineSource) (m : PathMap) (bytes : List ℕ) (cells : List Cell) (s l old new : List ℕ) (h : LineHeader) (n : LinePlaces) (spec : Spec) (z : TextSection) (i p q : ℕ)
+    → SourceMoves g m s l → Sides g bytes cells old new → spec.form ≡ offset_form z → p + width_size h.width ≤ length old
+    → named_text g (texts_in g z) p (width_size h.width) ≡ Ok (text_of (texts_in g z) i p) → ends_in (texts_in g z).bytes i ≡ true → q + width_size h.width ≤ length new
+    → cells_at cells q (width_size h.width) ≡ cells_at g.cells p (width_size h.width) → NoneOver cells q
+    → ColumnKept g (edited_with g bytes cells s l) (moved_header h n) new spec p q
+    (record { text = Some (text_of (texts_in g z) i p); number = 0; next = p + width_size h.width })
+offset-kept g m bytes cells s l old new h n spec z i p q w sides form room reads ends there same over =
     let grown : Grows (texts_in g z).bytes (new_texts_in g s l z).bytes = texts-grow g m s l z w in
-    let lies : offset_at g h p < length (texts_in g z).bytes = ends_in-inside (texts_in g z).bytes (offset_at g h p) ends in
-    let new_ends : ends_in (new_texts_in g s l z).bytes (offset_at g h p) ≡ true =
-    ap (λ (bs : List ℕ). ends_in bs (offset_at g h p)) grown.is ∙ ends_in-append (texts_in g z).bytes grown.more (offset_at g h p) (omega (arith, lies)) ends in
-    let new_text : text_in (new_texts_in g s l z).bytes (offset_at g h p) ≡ text_in (texts_in g z).bytes (offset_at g h p) =
-    ap (λ (bs : List ℕ). text_in bs (offset_at g h p)) grown.is ∙ text_in-append (texts_in g z).bytes grown.more (offset_at g h p) (omega (arith, lies)) ends in
+    let lies : i < length (texts_in g z).bytes = ends_in-inside (texts_in g z).bytes i ends in
+    let new_ends : ends_in (new_texts_in g s l z).bytes i ≡ true =
+    ap (λ (bs : List ℕ). ends_in bs i) grown.is ∙ ends_in-append (texts_in g z).bytes grown.more i (omega (arith, lies)) ends in
+    let new_text : text_in (new_texts_in g s l z).bytes i ≡ text_in (texts_in g z).bytes i =
+    ap (λ (bs : List ℕ). text_in bs i) grown.is ∙ text_in-append (texts_in g z).bytes grown.more i (omega (arith, lies)) ends in
+    let field = read-field g m bytes cells s l old new h z p i w sides room reads in
+    let named : named_text (edited_with g bytes cells s l) (new_texts_in g s l z) q (width_size h.width) ≡ Ok (text_of (new_texts_in g s l z) i q) =
+    field-there (edited_with g bytes cells s l) (new_texts_in g s l z) (cells_at g.cells p (width_size h.width)) q (width_size h.width) i sides.own (width-some h.width)
+    (room-cells cells bytes new (q + width_size h.width) sides.own sides.is there) same (λ k a b. read-tail g.cells p (width_size h.width) k field.whole a b) over
+    (field-kept g (texts_in g z) (new_texts_in g s l z) p (width_size h.width) i field ends (same-number g s l z)) new_ends in
     record {
       column = record {
-        text = Some (record { section = (texts_in g z).number; at = offset_at g h p; len = length (text_in (new_texts_in g s l z).bytes (offset_at g h p)); field = q });
+        text = Some (record { section = (texts_in g z).number; at = i; len = length (text_in (new_texts_in g s l z).bytes i); field = q });
         number = 0;
         next = q + width_size h.width;
       };
-      is = offset-column g bytes s l new (moved_header h n) spec z q (offset_at g h p) form there same new_ends;
+      is = offset-column g bytes cells s l new (moved_header h n) spec z q i form there named;
       number = refl;
       next = omega arith;
       text =
-          new-offset-text g m bytes s l z (offset_at g h p) (offset_at g h p) q w ends new_ends ∙ new_text
-          ∙ sym (offset-text g m s l z (offset_at g h p) p w ends);
+          new-offset-text g m bytes cells s l z i i q w ends new_ends ∙ new_text
+          ∙ sym (offset-text g m s l z i p w ends);
     }
 
--- where the bytes of a column stand at another place too, it is read there
-pub column-kept : (g : LineSource) (m : PathMap) (bytes s l old new : List ℕ) (h : LineHeader) (n : LinePlaces) (spec : Spec) (p q : ℕ) (c : Column) → SourceMoves g m s l
-    → Sides g bytes old new → is_column spec ≡ true → ColumnIs g h old spec p c → Both old new (part old p c.next) p q
-    → ColumnKept g (edited_source g bytes s l) (moved_header h n) new spec p q c
-column-kept g m bytes s l old new h n spec p q c w sides plain (inline_is form ends) b =
+-- no relocation in a column reaches over its end
+pub column-own : (g : LineSource) (m : PathMap) (bytes : List ℕ) (cells : List Cell) (s l old new : List ℕ) (h : LineHeader) (spec : Spec) (p : ℕ) (c : Column) → SourceMoves g m s l
+    → Sides g bytes cells old new → ColumnIs g h old spec p c → Clear g.cells (clear_from spec p) c.next
+    → (x : ℕ) (r : Relocation) → relocation_at g.cells x ≡ Some r → p ≤ x → x < c.next → x + reach_of r ≤ c.next
+column-own g m bytes cells s l old new h spec p c w sides (inline_is form ends) clear =
+    clear-none g.cells p (p + length (text_in old p) + 1)
+    (subst (λ (i : ℕ). Clear g.cells i (p + length (text_in old p) + 1)) (clear-inline spec p form) clear)
+column-own g m bytes cells s l old new h spec p c w sides (offset_is z i form room reads ends) clear =
+    field-own g (texts_in g z) p (width_size h.width) i (read-field g m bytes cells s l old new h z p i w sides room reads) ends
+    (room-cells g.cells g.bytes old (p + width_size h.width) w.own sides.was room)
+column-own g m bytes cells s l old new h spec p c w sides (value_is x y d v is) clear =
+    clear-none g.cells p (p + v.size) (subst (λ (i : ℕ). Clear g.cells i (p + v.size)) (clear-value spec p y d) clear)
+
+-- where the bytes and the cells of a column stand at another place too, it is read there
+pub column-kept : (g : LineSource) (m : PathMap) (bytes : List ℕ) (cells : List Cell) (s l old new : List ℕ) (h : LineHeader) (n : LinePlaces) (spec : Spec) (p q : ℕ) (c : Column) → SourceMoves g m s l
+    → Sides g bytes cells old new → is_column spec ≡ true → ColumnIs g h old spec p c → Both old new (part old p c.next) p q
+    → cells_at cells q (c.next - p) ≡ cells_part g.cells p c.next → NoneOver cells q → ColumnKept g (edited_with g bytes cells s l) (moved_header h n) new spec p q c
+column-kept g m bytes cells s l old new h n spec p q c w sides plain (inline_is form ends) b same over =
     let room : p + length (text_in old p) + 1 ≤ length old = text-room old p ends in
     let size : length (part old p (p + length (text_in old p) + 1)) ≡ p + length (text_in old p) + 1 - p =
     part-length old p (p + length (text_in old p) + 1) (omega arith) room in
     let there = text-both old new (part old p (p + length (text_in old p) + 1)) p q b ends (omega (arith, size)) in
     record {
       column = record { text = Some (record { section = g.number; at = q; len = length (text_in new q); field = q }); number = 0; next = q + length (text_in new q) + 1 };
-      is = inline-column g bytes s l new (moved_header h n) spec q form there.0;
+      is = inline-column g bytes cells s l new (moved_header h n) spec q form there.0;
       number = refl;
       next = ap (λ (t : List ℕ). q + length t + 1) there.1 ∙ omega arith;
-      text = inline-placed (edited_source g bytes s l) new q sides.is there.0 ∙ there.1 ∙ sym (inline-placed g old p sides.was ends);
+      text = inline-placed (edited_with g bytes cells s l) new q sides.is there.0 ∙ there.1 ∙ sym (inline-placed g old p sides.was ends);
     }
-column-kept g m bytes s l old new h n spec p q c w sides plain (offset_is z i form room reads ends) b =
-    let number : offset_at g h p ≡ i = sym (named-number g (texts_in g z) p (width_size h.width) i w.plain reads) in
-    subst (λ (k : ℕ). ColumnKept g (edited_source g bytes s l) (moved_header h n) new spec p q
-    (record { text = Some (text_of (texts_in g z) k p); number = 0; next = p + width_size h.width })) number
-    (offset-kept g m bytes s l old new h n spec z p q w sides form room (subst (λ (k : ℕ). ends_in (texts_in g z).bytes k ≡ true) (sym number) ends) b)
-column-kept g m bytes s l old new h n spec p q c w sides plain (value_is x y d v is) b =
+column-kept g m bytes cells s l old new h n spec p q c w sides plain (offset_is z i form room reads ends) b same over =
+    let size : length (part old p (p + width_size h.width)) ≡ p + width_size h.width - p = part-length old p (p + width_size h.width) (omega arith) room in
+    let inside = b.is.inside in
+    let width : p + width_size h.width - p ≡ width_size h.width = omega arith in
+    offset-kept g m bytes cells s l old new h n spec z i p q w sides form room reads ends (omega (arith, inside, size))
+    (ap (λ (k : ℕ). take k (drop q cells)) (sym width) ∙ same ∙ ap (λ (k : ℕ). take k (drop p g.cells)) width) over
+column-kept g m bytes cells s l old new h n spec p q c w sides plain (value_is x y d v is) b same over =
     let kind = column-plain (column_params g.order h) spec x y d plain in
     let room : p + v.size ≤ length old = value-in (column_params g.order h) spec old p v kind is in
     let size : length (part old p (p + v.size)) ≡ p + v.size - p = part-length old p (p + v.size) (omega arith) room in
@@ -179,14 +202,14 @@ column-kept g m bytes s l old new h n spec p q c w sides plain (value_is x y d v
     let size_same = there.size in
     record {
       column = record { text = None; number = there.value.number; next = q + there.value.size };
-      is = value-column g bytes s l new (moved_header h n) spec q there.value x y d there.is;
+      is = value-column g bytes cells s l new (moved_header h n) spec q there.value x y d there.is;
       number = there.number;
       next = omega (arith, size_same);
       text = tt;
     }
 
 -- the path of an entry, after the edit
-pub record ColumnMoved (g k : LineSource) (m : PathMap) (h : LineHeader) (old new : List ℕ) (end : ℕ) (cs : List Change) (spec : Spec) (q : ℕ) (c : Column) (t : TextPlace) : Type 0 where
+pub record ColumnMoved (g k : LineSource) (m : PathMap) (h : LineHeader) (old new : List ℕ) (end : ℕ) (cs : List Change) (us : List CellChange) (tail : List Cell) (spec : Spec) (q : ℕ) (c : Column) (t : TextPlace) : Type 0 where
   pub column : Column
   pub is : column_at k h new spec q ≡ Ok column
   pub number : column.number ≡ c.number
@@ -194,6 +217,7 @@ pub record ColumnMoved (g k : LineSource) (m : PathMap) (h : LineHeader) (old ne
   pub text : column.text ≡ Some place
   pub says : place_text k place ≡ mapped_path m (place_text g t)
   pub rest : Rest old new end cs c.next column.next
+  pub cells : CellRest g.cells k.cells end us tail c.next column.next
 
 -- a change that stands in the section of line tables, and one of an offset
 pub inline-changes : (g : LineSource) (m : PathMap) (places : TextPlace → Option ℕ) (h : LineHeader) (x : TextPlace) → x.section ≡ g.number
@@ -204,19 +228,19 @@ offset-changed : (g : LineSource) (m : PathMap) (s l : List ℕ) (places : TextP
     → path_changes g m places h.width (text_of (texts_in g z) at field) ≡ offset_changes g.order h.width g.bytes g.cells field (places (text_of (texts_in g z) at field))
 offset-changed g m s l places h z at field w = rw (section-not g m s l z w) refl
 
-some-place : (t u : TextPlace) → Some t ≡ Some u → t ≡ u
+pub some-place : (t u : TextPlace) → Some t ≡ Some u → t ≡ u
 some-place t u e = cc
 
-none-place : (u : TextPlace) → None ≡ Some u → ⊥
+pub none-place : (u : TextPlace) → None ≡ Some u → ⊥
 none-place u e = cc
 
 -- a text that stands in a table of lines, mapped
-pub text-moved : (g : LineSource) (m : PathMap) (bytes s l old new : List ℕ) (h : LineHeader) (places : TextPlace → Option ℕ) (end : ℕ) (cs : List Change)
-    (p q : ℕ) → SourceMoves g m s l → Sides g bytes old new → ends_in old p ≡ true
+pub text-moved : (g : LineSource) (m : PathMap) (bytes : List ℕ) (cells : List Cell) (s l old new : List ℕ) (h : LineHeader) (places : TextPlace → Option ℕ) (end : ℕ) (cs : List Change)
+    (p q : ℕ) → SourceMoves g m s l → Sides g bytes cells old new → ends_in old p ≡ true
     → Rest old new end (path_changes g m places h.width (record { section = g.number; at = p; len = length (text_in old p); field = p }) ++ cs) p q
     → From end (p + length (text_in old p) + 1) cs
     → TextChanged old new end cs (mapped_path m (text_in old p)) (p + length (text_in old p) + 1) q
-text-moved g m bytes s l old new h places end cs p q w sides ends rest from =
+text-moved g m bytes cells s l old new h places end cs p q w sides ends rest from =
     let own : bytes_at g.bytes p (length (text_in old p)) ≡ text_in old p = own-text in
     text-changed old new end (inline_change m g.bytes (record { section = g.number; at = p; len = length (text_in old p); field = p })) cs (mapped_path m (text_in old p)) p q
     (subst (λ (ds : List Change). Rest old new end (ds ++ cs) p q) (inline-changes g m places h (record { section = g.number; at = p; len = length (text_in old p); field = p }) refl) rest)
@@ -229,117 +253,180 @@ text-moved g m bytes s l old new h places end cs p q w sides ends rest from =
         let there : ends_in g.bytes p ≡ true = ap (λ (bs : List ℕ). ends_in bs p) sides.was.is ∙ ends_in-append old sides.was.more p (omega arith) ends in
         ap (λ (u : List ℕ). bytes_at g.bytes p (length u)) (sym same) ∙ text-part g.bytes p there ∙ same
 
+-- and its cells
+pub text-cells : (g : LineSource) (m : PathMap) (cells : List Cell) (s l old : List ℕ) (h : LineHeader) (places : TextPlace → Option ℕ) (end : ℕ) (cs : List Change) (us : List CellChange)
+    (tail : List Cell) (p q : ℕ) → SourceMoves g m s l → Grows old g.bytes → ends_in old p ≡ true
+    → CellRest g.cells cells end (path_cells g m places h.width (record { section = g.number; at = p; len = length (text_in old p); field = p }) ++ us) tail p q → SameChanges us cs
+    → From end (p + length (text_in old p) + 1) cs → Clear g.cells p (p + length (text_in old p) + 1)
+    → CellRest g.cells cells end us tail (p + length (text_in old p) + 1) (q + length (mapped_path m (text_in old p)) + 1)
+text-cells g m cells s l old h places end cs us tail p q w was ends rest same from clear =
+    let room : p + length (text_in old p) + 1 ≤ length g.cells = room-cells g.cells g.bytes old (p + length (text_in old p) + 1) w.own was (text-room old p ends) in
+    let size : length (cells_at g.cells p (length (text_in old p))) ≡ length (text_in old p) = length-cells_at g.cells p (length (text_in old p)) (omega (arith, room)) in
+    let one : CellRest g.cells cells end (inline_cells m g.cells (record { section = g.number; at = p; len = length (text_in old p); field = p }) ∷ us) tail p q =
+    subst (λ (b : Bool). CellRest g.cells cells end ((if b then inline_cells m g.cells (record { section = g.number; at = p; len = length (text_in old p); field = p }) ∷ []
+    else offset_cells g.order h.width g.cells p (places (record { section = g.number; at = p; len = length (text_in old p); field = p }))) ++ us) tail p q)
+    (eq-eqb g.number g.number refl) rest in
+    let x = cells-changed g.cells cells end (inline_cells m g.cells (record { section = g.number; at = p; len = length (text_in old p); field = p })) us tail p q one refl
+    (plain-none (mapped_path m (bytes_of (cells_at g.cells p (length (text_in old p)))))) in
+    let long : length (plain_cells (mapped_path m (bytes_of (cells_at g.cells p (length (text_in old p)))))) ≡ length (mapped_path m (text_in old p)) =
+    plain-size (mapped_path m (bytes_of (cells_at g.cells p (length (text_in old p))))) ∙ ap (λ (t : List ℕ). length (mapped_path m t)) own-text in
+    let mid : CellRest g.cells cells end us tail (p + length (text_in old p)) (q + length (mapped_path m (text_in old p))) =
+    subst (λ (i : ℕ). CellRest g.cells cells end us tail (p + i) (q + length (mapped_path m (text_in old p)))) size
+    (subst (λ (i : ℕ). CellRest g.cells cells end us tail (p + length (cells_at g.cells p (length (text_in old p)))) (q + i)) long x.rest) in
+    let last : p + length (text_in old p) + 1 ≤ end = from-end end (p + length (text_in old p) + 1) cs from in
+    let k = cells-copied g.cells cells end us tail (p + length (text_in old p)) (q + length (mapped_path m (text_in old p))) (p + length (text_in old p) + 1) mid (omega arith) last
+    (same-from end (p + length (text_in old p) + 1) us cs same from)
+    (clear-none g.cells (p + length (text_in old p)) (p + length (text_in old p) + 1)
+    (clear-part g.cells p (p + length (text_in old p) + 1) (p + length (text_in old p)) (p + length (text_in old p) + 1) clear (omega arith) (omega arith))) in
+    let place : q + length (mapped_path m (text_in old p)) + (p + length (text_in old p) + 1 - (p + length (text_in old p))) ≡ q + length (mapped_path m (text_in old p)) + 1 = omega arith in
+    subst (λ (i : ℕ). CellRest g.cells cells end us tail (p + length (text_in old p) + 1) i) place k.rest
+  where
+    own-text : bytes_of (cells_at g.cells p (length (text_in old p))) ≡ text_in old p
+    own-text =
+        let inside : p < length old = ends_in-inside old p ends in
+        let text_same : text_in g.bytes p ≡ text_in old p = ap (λ (bs : List ℕ). text_in bs p) was.is ∙ text_in-append old was.more p (omega arith) ends in
+        let there : ends_in g.bytes p ≡ true = ap (λ (bs : List ℕ). ends_in bs p) was.is ∙ ends_in-append old was.more p (omega arith) ends in
+        bytes_of-take (length (text_in old p)) (drop p g.cells) ∙ ap (take (length (text_in old p))) (bytes_of-drop p g.cells ∙ ap (drop p) w.own)
+        ∙ ap (λ (u : List ℕ). bytes_at g.bytes p (length u)) (sym text_same) ∙ text-part g.bytes p there ∙ text_same
+
 -- the path stands in its column
-inline-moved : (g : LineSource) (m : PathMap) (bytes s l old new : List ℕ) (h : LineHeader) (n : LinePlaces) (places : TextPlace → Option ℕ) (end : ℕ) (cs : List Change) (spec : Spec)
-    (p q : ℕ) → SourceMoves g m s l → Sides g bytes old new → spec.form ≡ DW_FORM_string → ends_in old p ≡ true
+inline-moved : (g : LineSource) (m : PathMap) (bytes : List ℕ) (cells : List Cell) (s l old new : List ℕ) (h : LineHeader) (n : LinePlaces) (places : TextPlace → Option ℕ) (end : ℕ) (cs : List Change)
+    (us : List CellChange) (tail : List Cell) (spec : Spec) (p q : ℕ) → SourceMoves g m s l → Sides g bytes cells old new → spec.form ≡ DW_FORM_string → ends_in old p ≡ true
     → Rest old new end (path_changes g m places h.width (record { section = g.number; at = p; len = length (text_in old p); field = p }) ++ cs) p q
-    → From end (p + length (text_in old p) + 1) cs
-    → ColumnMoved g (edited_source g bytes s l) m (moved_header h n) old new end cs spec q
+    → CellRest g.cells cells end (path_cells g m places h.width (record { section = g.number; at = p; len = length (text_in old p); field = p }) ++ us) tail p q → SameChanges us cs
+    → From end (p + length (text_in old p) + 1) cs → Clear g.cells p (p + length (text_in old p) + 1)
+    → ColumnMoved g (edited_with g bytes cells s l) m (moved_header h n) old new end cs us tail spec q
     (record { text = Some (record { section = g.number; at = p; len = length (text_in old p); field = p }); number = 0; next = p + length (text_in old p) + 1 })
     (record { section = g.number; at = p; len = length (text_in old p); field = p })
-inline-moved g m bytes s l old new h n places end cs spec p q w sides form ends rest from =
-    let r = text-moved g m bytes s l old new h places end cs p q w sides ends rest from in
+inline-moved g m bytes cells s l old new h n places end cs us tail spec p q w sides form ends rest cell same from clear =
+    let r = text-moved g m bytes cells s l old new h places end cs p q w sides ends rest from in
     record {
       column = record { text = Some (record { section = g.number; at = q; len = length (text_in new q); field = q }); number = 0; next = q + length (text_in new q) + 1 };
-      is = inline-column g bytes s l new (moved_header h n) spec q form r.ends;
+      is = inline-column g bytes cells s l new (moved_header h n) spec q form r.ends;
       number = refl;
       place = record { section = g.number; at = q; len = length (text_in new q); field = q };
       text = refl;
-      says = inline-placed (edited_source g bytes s l) new q sides.is r.ends ∙ r.says ∙ ap (mapped_path m) (sym (inline-placed g old p sides.was ends));
+      says = inline-placed (edited_with g bytes cells s l) new q sides.is r.ends ∙ r.says ∙ ap (mapped_path m) (sym (inline-placed g old p sides.was ends));
       rest = subst (λ (u : List ℕ). Rest old new end cs (p + length (text_in old p) + 1) (q + length u + 1)) (sym r.says) r.rest;
+      cells = subst (λ (u : List ℕ). CellRest g.cells cells end us tail (p + length (text_in old p) + 1) (q + length u + 1)) (sym r.says)
+          (text-cells g m cells s l old h places end cs us tail p q w sides.was ends cell same from clear);
     }
 
+-- no relocation begins in a field with another offset but at its start
+put-none : (order : Order) (p : List Cell) (n size : ℕ) → ((i : ℕ) → 0 < i → i < size → relocation_at p i ≡ None) → (i : ℕ) → 0 < i → i < size
+    → relocation_at (with_offset order p n) i ≡ None
+put-none order p n size h zero some lt = absurd (omega (arith, some))
+put-none order p n size h (suc i) some lt = put-tail order p n i ∙ h (suc i) some lt
+
 -- an offset names the path
-offset-moved : (g : LineSource) (m : PathMap) (bytes s l old new : List ℕ) (h : LineHeader) (n : LinePlaces) (end : ℕ) (cs : List Change) (spec : Spec) (z : TextSection)
-    (p q : ℕ) (o : Option ℕ) → SourceMoves g m s l → Sides g bytes old new → is_column spec ≡ true → spec.form ≡ offset_form z → p + width_size h.width ≤ length old
-    → ends_in (texts_in g z).bytes (offset_at g h p) ≡ true → OffsetMoves m h.width (texts_in g z).bytes (new_texts_in g s l z).bytes (offset_at g h p) o
-    → Rest old new end (offset_changes g.order h.width g.bytes g.cells p o ++ cs) p q → From end (p + width_size h.width) cs
-    → ColumnMoved g (edited_source g bytes s l) m (moved_header h n) old new end cs spec q
-    (record { text = Some (text_of (texts_in g z) (offset_at g h p) p); number = 0; next = p + width_size h.width }) (text_of (texts_in g z) (offset_at g h p) p)
-offset-moved g m bytes s l old new h n end cs spec z p q None w sides plain form room ends moves rest from =
+offset-moved : (g : LineSource) (m : PathMap) (bytes : List ℕ) (cells : List Cell) (s l old new : List ℕ) (h : LineHeader) (n : LinePlaces) (end : ℕ) (cs : List Change) (us : List CellChange)
+    (tail : List Cell) (spec : Spec) (z : TextSection) (i p q : ℕ) (o : Option ℕ) → SourceMoves g m s l → Sides g bytes cells old new → spec.form ≡ offset_form z
+    → p + width_size h.width ≤ length old → named_text g (texts_in g z) p (width_size h.width) ≡ Ok (text_of (texts_in g z) i p) → ends_in (texts_in g z).bytes i ≡ true
+    → OffsetMoves m h.width (texts_in g z).bytes (new_texts_in g s l z).bytes i o → TakesPlace g h.width p o → Rest old new end (offset_changes g.order h.width g.bytes g.cells p o ++ cs) p q
+    → CellRest g.cells cells end (offset_cells g.order h.width g.cells p o ++ us) tail p q → SameChanges us cs → From end (p + width_size h.width) cs
+    → ColumnMoved g (edited_with g bytes cells s l) m (moved_header h n) old new end cs us tail spec q
+    (record { text = Some (text_of (texts_in g z) i p); number = 0; next = p + width_size h.width }) (text_of (texts_in g z) i p)
+offset-moved g m bytes cells s l old new h n end cs us tail spec z i p q None w sides form room reads ends moves takes rest cell same from =
     let k = copied old new end cs p q (p + width_size h.width) rest (omega arith) from in
-    let kept = offset-kept g m bytes s l old new h n spec z p q w sides form room ends k.both in
-    by_text kept.column.text kept refl k.rest
+    let field = read-field g m bytes cells s l old new h z p i w sides room reads in
+    let last : p + width_size h.width ≤ end = from-end end (p + width_size h.width) cs from in
+    let d = cells-copied g.cells cells end us tail p q (p + width_size h.width) cell (omega arith) last (same-from end (p + width_size h.width) us cs same from)
+    (field-own g (texts_in g z) p (width_size h.width) i field ends (room-cells g.cells g.bytes old (p + width_size h.width) w.own sides.was room)) in
+    let size : length (part old p (p + width_size h.width)) ≡ p + width_size h.width - p = part-length old p (p + width_size h.width) (omega arith) room in
+    let inside = k.both.is.inside in
+    let width : p + width_size h.width - p ≡ width_size h.width = omega arith in
+    let kept = offset-kept g m bytes cells s l old new h n spec z i p q w sides form room reads ends (omega (arith, inside, size))
+    (ap (λ (j : ℕ). take j (drop q cells)) (sym width) ∙ d.same ∙ ap (λ (j : ℕ). take j (drop p g.cells)) width) cell.over in
+    by_text kept.column.text kept refl k.rest d.rest
   where
     by_text : (t : Option TextPlace)
-        → (kept : ColumnKept g (edited_source g bytes s l) (moved_header h n) new spec p q (record { text = Some (text_of (texts_in g z) (offset_at g h p) p); number = 0; next = p + width_size h.width }))
+        → (kept : ColumnKept g (edited_with g bytes cells s l) (moved_header h n) new spec p q (record { text = Some (text_of (texts_in g z) i p); number = 0; next = p + width_size h.width }))
         → kept.column.text ≡ t → Rest old new end cs (p + width_size h.width) (q + (p + width_size h.width - p))
-        → ColumnMoved g (edited_source g bytes s l) m (moved_header h n) old new end cs spec q
-        (record { text = Some (text_of (texts_in g z) (offset_at g h p) p); number = 0; next = p + width_size h.width }) (text_of (texts_in g z) (offset_at g h p) p)
-    by_text None kept e r = absurd (subst (λ (x : Option TextPlace). KeptText g (edited_source g bytes s l) (Some (text_of (texts_in g z) (offset_at g h p) p)) x) e kept.text)
-    by_text (Some u) kept e r = record {
+        → CellRest g.cells cells end us tail (p + width_size h.width) (q + (p + width_size h.width - p))
+        → ColumnMoved g (edited_with g bytes cells s l) m (moved_header h n) old new end cs us tail spec q
+        (record { text = Some (text_of (texts_in g z) i p); number = 0; next = p + width_size h.width }) (text_of (texts_in g z) i p)
+    by_text None kept e r d = absurd (subst (λ (x : Option TextPlace). KeptText g (edited_with g bytes cells s l) (Some (text_of (texts_in g z) i p)) x) e kept.text)
+    by_text (Some u) kept e r d = record {
       column = kept.column;
       is = kept.is;
       number = kept.number;
       place = u;
       text = e;
       says =
-          subst (λ (x : Option TextPlace). KeptText g (edited_source g bytes s l) (Some (text_of (texts_in g z) (offset_at g h p) p)) x) e kept.text
-          ∙ offset-text g m s l z (offset_at g h p) p w ends ∙ sym moves ∙ ap (mapped_path m) (sym (offset-text g m s l z (offset_at g h p) p w ends));
+          subst (λ (x : Option TextPlace). KeptText g (edited_with g bytes cells s l) (Some (text_of (texts_in g z) i p)) x) e kept.text
+          ∙ offset-text g m s l z i p w ends ∙ sym moves ∙ ap (mapped_path m) (sym (offset-text g m s l z i p w ends));
       rest = subst (λ (k : ℕ). Rest old new end cs (p + width_size h.width) k) (sym kept.next) r;
+      cells = subst (λ (k : ℕ). CellRest g.cells cells end us tail (p + width_size h.width) k) (sym kept.next) d;
     }
-offset-moved g m bytes s l old new h n end cs spec z p q (Some to) w sides plain form room ends moves rest from =
-    let size : ℕ = width_size h.width in
-    let more = sides.was.is in
+offset-moved g m bytes cells s l old new h n end cs us tail spec z i p q (Some to) w sides form room reads ends moves takes rest cell same from =
+    let cell_room : p + width_size h.width ≤ length g.cells = room-cells g.cells g.bytes old (p + width_size h.width) w.own sides.was room in
+    let field = read-field g m bytes cells s l old new h z p i w sides room reads in
+    let own_size : length (cells_at g.cells p (width_size h.width)) ≡ width_size h.width = length-cells_at g.cells p (width_size h.width) cell_room in
+    let put_size : length (with_offset g.order (cells_at g.cells p (width_size h.width)) to) ≡ width_size h.width =
+    length-put g.order (cells_at g.cells p (width_size h.width)) to ∙ own_size in
+    let x = exchanged old new end (record { at = p; old = bytes_at g.bytes p (width_size h.width); new = bytes_of (with_offset g.order (cells_at g.cells p (width_size h.width)) to) }) cs p q rest refl in
     let whole : length g.bytes ≡ length (old ++ sides.was.more) = ap length sides.was.is in
-    let cells : length g.bytes ≡ length g.cells = sym (ap length w.own) ∙ length-bytes_of g.cells in
-    let spells : bytes_of (with_offset g.order (cells_at g.cells p (width_size h.width)) to) ≡ number_bytes g.order (width_size h.width) to =
-    new_bytes-plain g.order g.cells p (width_size h.width) to w.plain (omega (arith, room, whole, cells, length-append old sides.was.more)) in
-    let x = exchanged old new end (record { at = p; old = bytes_at g.bytes p (width_size h.width); new = number_bytes g.order (width_size h.width) to }) cs p q
-    (subst (λ (bs : List ℕ). Rest old new end (record { at = p; old = bytes_at g.bytes p (width_size h.width); new = bs } ∷ cs) p q) spells rest) refl in
-    let field : length (bytes_at g.bytes p (width_size h.width)) ≡ width_size h.width =
+    let old_size : length (bytes_at g.bytes p (width_size h.width)) ≡ width_size h.width =
     length-take-le (width_size h.width) (drop p g.bytes) (omega (arith, room, whole, length-append old sides.was.more, length-drop p g.bytes)) in
-    let long : length (number_bytes g.order (width_size h.width) to) ≡ width_size h.width = length-number_bytes g.order (width_size h.width) to in
+    let long : length (bytes_of (with_offset g.order (cells_at g.cells p (width_size h.width)) to)) ≡ width_size h.width =
+    length-bytes_of (with_offset g.order (cells_at g.cells p (width_size h.width)) to) ∙ put_size in
     let inside = x.stands.inside in
     let there : q + width_size h.width ≤ length new = omega (arith, inside, long) in
-    let first : q ≡ q + 0 = omega arith in
-    let none : number_bytes g.order (width_size h.width) to ++ [] ≡ number_bytes g.order (width_size h.width) to = append-nil (number_bytes g.order (width_size h.width) to) in
-    let reads : spelled g.order new q (width_size h.width) ≡ to =
-    ap (λ (i : ℕ). spelled g.order new i (width_size h.width)) first
-    ∙ spelled-there g.order new (number_bytes g.order (width_size h.width) to) q 0 (width_size h.width) x.stands (omega (arith, long))
-    ∙ ap (λ (bs : List ℕ). spelled g.order bs 0 (width_size h.width)) (sym none) ∙ spelled-number_bytes g.order (width_size h.width) to [] moves.0 in
-    let at : offset_at (edited_source g bytes s l) h q ≡ to =
-    ap (λ (bs : List ℕ). spelled g.order bs q (width_size h.width)) sides.is.is ∙ spelled-append g.order new sides.is.more q (width_size h.width) there ∙ reads in
+    let none : (j : ℕ) → 0 < j → j < width_size h.width → relocation_at (with_offset g.order (cells_at g.cells p (width_size h.width)) to) j ≡ None =
+    put-none g.order (cells_at g.cells p (width_size h.width)) to (width_size h.width) (λ j a b. read-tail g.cells p (width_size h.width) j field.whole a b) in
+    let offset : offset_of g.order (new_texts_in g s l z) (with_offset g.order (cells_at g.cells p (width_size h.width)) to) ≡ to =
+    field-put g (texts_in g z) (new_texts_in g s l z) p (width_size h.width) i to field ends (same-number g s l z) takes (width-some h.width) cell_room moves.0 in
+    let d = cells-changed g.cells cells end
+    (record { at = p; old = length (cells_at g.cells p (width_size h.width)); new = with_offset g.order (cells_at g.cells p (width_size h.width)) to }) us tail p q cell refl
+    (cells-own g.order (new_texts_in g s l z) (with_offset g.order (cells_at g.cells p (width_size h.width)) to) to offset (ends_in-inside (new_texts_in g s l z).bytes to moves.1)
+    (λ j a b. none j a (omega (arith, b, put_size)))) in
+    let named : named_text (edited_with g bytes cells s l) (new_texts_in g s l z) q (width_size h.width) ≡ Ok (text_of (new_texts_in g s l z) to q) =
+    field-there (edited_with g bytes cells s l) (new_texts_in g s l z) (with_offset g.order (cells_at g.cells p (width_size h.width)) to) q (width_size h.width) to sides.own (width-some h.width)
+    (room-cells cells bytes new (q + width_size h.width) sides.own sides.is there) (ap (λ (j : ℕ). take j (drop q cells)) (sym put_size) ∙ d.same) none cell.over offset moves.1 in
     record {
       column = record {
         text = Some (record { section = (texts_in g z).number; at = to; len = length (text_in (new_texts_in g s l z).bytes to); field = q });
         number = 0;
         next = q + width_size h.width;
       };
-      is = offset-column g bytes s l new (moved_header h n) spec z q to form there at moves.1;
+      is = offset-column g bytes cells s l new (moved_header h n) spec z q to form there named;
       number = refl;
       place = record { section = (texts_in g z).number; at = to; len = length (text_in (new_texts_in g s l z).bytes to); field = q };
       text = refl;
       says =
-          new-offset-text g m bytes s l z (offset_at g h p) to q w ends moves.1 ∙ moves.2
-          ∙ ap (mapped_path m) (sym (offset-text g m s l z (offset_at g h p) p w ends));
-      rest = subst (λ (i : ℕ). Rest old new end cs (p + i) (q + width_size h.width)) field (subst (λ (i : ℕ). Rest old new end cs (p + length (bytes_at g.bytes p (width_size h.width))) (q + i)) long x.rest);
+          new-offset-text g m bytes cells s l z i to q w ends moves.1 ∙ moves.2
+          ∙ ap (mapped_path m) (sym (offset-text g m s l z i p w ends));
+      rest = subst (λ (j : ℕ). Rest old new end cs (p + j) (q + width_size h.width)) old_size (subst (λ (j : ℕ). Rest old new end cs (p + length (bytes_at g.bytes p (width_size h.width))) (q + j)) long x.rest);
+      cells = subst (λ (j : ℕ). CellRest g.cells cells end us tail (p + j) (q + width_size h.width)) own_size
+          (subst (λ (j : ℕ). CellRest g.cells cells end us tail (p + length (cells_at g.cells p (width_size h.width))) (q + j)) put_size d.rest);
     }
 
-pub column-moved : (g : LineSource) (m : PathMap) (bytes s l old new : List ℕ) (h : LineHeader) (n : LinePlaces) (places : TextPlace → Option ℕ) (end : ℕ) (cs : List Change) (spec : Spec)
-    (p q : ℕ) (c : Column) (t : TextPlace) → SourceMoves g m s l → Sides g bytes old new → is_column spec ≡ true → ColumnIs g h old spec p c → c.text ≡ Some t
-    → PathMoves g m s l h.width places t → Rest old new end (path_changes g m places h.width t ++ cs) p q → From end c.next cs
-    → ColumnMoved g (edited_source g bytes s l) m (moved_header h n) old new end cs spec q c t
-column-moved g m bytes s l old new h n places end cs spec p q c t w sides plain (inline_is form ends) is moves rest from =
+pub column-moved : (g : LineSource) (m : PathMap) (bytes : List ℕ) (cells : List Cell) (s l old new : List ℕ) (h : LineHeader) (n : LinePlaces) (places : TextPlace → Option ℕ) (end : ℕ) (cs : List Change)
+    (us : List CellChange) (tail : List Cell) (spec : Spec) (p q : ℕ) (c : Column) (t : TextPlace) → SourceMoves g m s l → Sides g bytes cells old new → ColumnIs g h old spec p c → c.text ≡ Some t
+    → PathMoves g m s l h.width places t → Rest old new end (path_changes g m places h.width t ++ cs) p q → CellRest g.cells cells end (path_cells g m places h.width t ++ us) tail p q
+    → SameChanges us cs → From end c.next cs → Clear g.cells (clear_from spec p) c.next
+    → ColumnMoved g (edited_with g bytes cells s l) m (moved_header h n) old new end cs us tail spec q c t
+column-moved g m bytes cells s l old new h n places end cs us tail spec p q c t w sides (inline_is form ends) is moves rest cell both from clear =
     let same : record { section = g.number; at = p; len = length (text_in old p); field = p } ≡ t = some-place _ t is in
-    subst (λ (u : TextPlace). ColumnMoved g (edited_source g bytes s l) m (moved_header h n) old new end cs spec q
+    subst (λ (u : TextPlace). ColumnMoved g (edited_with g bytes cells s l) m (moved_header h n) old new end cs us tail spec q
     (record { text = Some (record { section = g.number; at = p; len = length (text_in old p); field = p }); number = 0; next = p + length (text_in old p) + 1 }) u) same
-    (inline-moved g m bytes s l old new h n places end cs spec p q w sides form ends
-    (subst (λ (u : TextPlace). Rest old new end (path_changes g m places h.width u ++ cs) p q) (sym same) rest) from)
-column-moved g m bytes s l old new h n places end cs spec p q c t w sides plain (offset_is z i form room reads ends) is moves rest from =
+    (inline-moved g m bytes cells s l old new h n places end cs us tail spec p q w sides form ends
+    (subst (λ (u : TextPlace). Rest old new end (path_changes g m places h.width u ++ cs) p q) (sym same) rest)
+    (subst (λ (u : TextPlace). CellRest g.cells cells end (path_cells g m places h.width u ++ us) tail p q) (sym same) cell) both from
+    (subst (λ (i : ℕ). Clear g.cells i (p + length (text_in old p) + 1)) (clear-inline spec p form) clear))
+column-moved g m bytes cells s l old new h n places end cs us tail spec p q c t w sides (offset_is z i form room reads ends) is moves rest cell both from clear =
     let same : text_of (texts_in g z) i p ≡ t = some-place _ t is in
-    let number : offset_at g h p ≡ i = sym (named-number g (texts_in g z) p (width_size h.width) i w.plain reads) in
-    let there : ends_in (texts_in g z).bytes (offset_at g h p) ≡ true = subst (λ (k : ℕ). ends_in (texts_in g z).bytes k ≡ true) (sym number) ends in
-    let own : t ≡ text_of (texts_in g z) (offset_at g h p) p = sym (ap (λ (k : ℕ). text_of (texts_in g z) k p) number ∙ same) in
-    subst (λ (u : TextPlace). ColumnMoved g (edited_source g bytes s l) m (moved_header h n) old new end cs spec q
+    let says = offset-says g m s l h.width places z i p w ends (subst (PathMoves g m s l h.width places) (sym same) moves) in
+    subst (λ (u : TextPlace). ColumnMoved g (edited_with g bytes cells s l) m (moved_header h n) old new end cs us tail spec q
     (record { text = Some (text_of (texts_in g z) i p); number = 0; next = p + width_size h.width }) u) same
-    (subst (λ (k : ℕ). ColumnMoved g (edited_source g bytes s l) m (moved_header h n) old new end cs spec q
-    (record { text = Some (text_of (texts_in g z) k p); number = 0; next = p + width_size h.width }) (text_of (texts_in g z) k p)) number
-    (offset-moved g m bytes s l old new h n end cs spec z p q (places (text_of (texts_in g z) (offset_at g h p) p)) w sides plain form room there
-    (offset-says g m s l h.width places z (offset_at g h p) p w there (subst (PathMoves g m s l h.width places) own moves))
-    (subst (λ (ds : List Change). Rest old new end (ds ++ cs) p q) (offset-changed g m s l places h z (offset_at g h p) p w)
-    (subst (λ (u : TextPlace). Rest old new end (path_changes g m places h.width u ++ cs) p q) own rest)) from))
-column-moved g m bytes s l old new h n places end cs spec p q c t w sides plain (value_is x y d v is_) is moves rest from = absurd (none-place t is)
+    (offset-moved g m bytes cells s l old new h n end cs us tail spec z i p q (places (text_of (texts_in g z) i p)) w sides form room reads ends
+    says.0 says.1
+    (subst (λ (ds : List Change). Rest old new end (ds ++ cs) p q) (offset-changed g m s l places h z i p w)
+    (subst (λ (u : TextPlace). Rest old new end (path_changes g m places h.width u ++ cs) p q) (sym same) rest))
+    (subst (λ (b : Bool). CellRest g.cells cells end ((if b then inline_cells m g.cells (text_of (texts_in g z) i p) ∷ []
+    else offset_cells g.order h.width g.cells p (places (text_of (texts_in g z) i p))) ++ us) tail p q) (section-not g m s l z w)
+    (subst (λ (u : TextPlace). CellRest g.cells cells end (path_cells g m places h.width u ++ us) tail p q) (sym same) cell)) both from)
+column-moved g m bytes cells s l old new h n places end cs us tail spec p q c t w sides (value_is x y d v is_) is moves rest cell both from clear = absurd (none-place t is)
 
 -- no change begins before the column of its path
 pub column-from : (g : LineSource) (m : PathMap) (s l old : List ℕ) (h : LineHeader) (places : TextPlace → Option ℕ) (end : ℕ) (cs : List Change) (spec : Spec) (p : ℕ) (c : Column)

@@ -2,6 +2,7 @@
 use Rattle.std.proofs.Common.{Bool, true, false, ◌≡◌, ◌≢◌, ℕ, zero, suc, ◌+◌, ◌-◌, ◌<◌, ◌≤◌, List, [], ◌∷◌, ◌++◌, length, drop, map, Option, Some, refl, sym, ap, ◌∙◌, subst, arith, if◌then◌else◌, append_assoc}
 use Rattle.std.specs.Prelude.{⊤, option_and_then, option_map}
 use Rattle.std.proofs.lemmas.List.{length-append, length-drop}
+use Rattle.dw_base.specs.Cells.{Cell}
 use Rattle.dw_base.specs.Lebs.{uleb_at}
 use Rattle.dw_base.specs.LineMeanings.{place_text, LineColumn, number_column, leb_size, leb_columns, old_columns}
 use Rattle.dw_base.specs.LineSources.{LineSource}
@@ -16,10 +17,14 @@ use Rattle.dw_base.specs.declared.line_tables.FilePlace.{FilePlace}
 use Rattle.dw_base.specs.declared.line_tables.LineHeader.{LineHeader}
 use Rattle.dw_base.specs.declared.line_tables.TextPlace.{TextPlace}
 use Rattle.dw_base.proofs.PathLaws.{is_prefix-parts}
+use Rattle.dw_meaning.specs.LineCells.{CellChange, all_path_cells, path_cells}
+use Rattle.dw_meaning.proofs.CellRestLaws.{CellRest, cells-copied, clear-none, same-from}
+use Rattle.dw_meaning.proofs.ClearLaws.{Clear, clear-part}
+use Rattle.dw_meaning.proofs.LineCellLaws.{SameChanges, paths-bytes, same-append}
 use Rattle.dw_meaning.proofs.LineChangeLaws.{From, Rest, Copied, copied, from-before, from-end, all-before, part-length, text-room}
-use Rattle.dw_meaning.proofs.LineColumnLaws.{edited_source, SourceMoves, inline-placed}
+use Rattle.dw_meaning.proofs.LineColumnLaws.{edited_with, SourceMoves, inline-placed}
 use Rattle.dw_meaning.proofs.LineListLaws.{MovedFiles}
-use Rattle.dw_meaning.proofs.LineMoveLaws.{Sides, inline-changes, text-moved}
+use Rattle.dw_meaning.proofs.LineMoveLaws.{Sides, inline-changes, text-cells, text-moved}
 use Rattle.dw_meaning.proofs.LineReadLaws.{Both, both-behind, uleb-both, text-both, inline-here, inline-inside, bound, made, some-same, skip-behind, file_numbers-both}
 use Rattle.dw_meaning.proofs.LineWalkLaws.{OldDirs, OldFile, OldFiles}
 use Rattle.dw_meaning.proofs.ValueCutLaws.{uleb-inside}
@@ -86,50 +91,65 @@ end-moved g old new end cs p q t is none k =
       none = ap length there.1 ∙ sym len ∙ none;
     }
 
-pub record DirsMoved (g k : LineSource) (m : PathMap) (old new : List ℕ) (end : ℕ) (cs : List Change) (q e : ℕ) (ts : List TextPlace) : Type 0 where
+pub record DirsMoved (g k : LineSource) (m : PathMap) (old new : List ℕ) (end : ℕ) (cs : List Change)
+    (us : List CellChange) (tail : List Cell) (q e : ℕ) (ts : List TextPlace) : Type 0 where
   pub texts : List TextPlace
   pub behind : ℕ
   pub are : OldDirs g.number new q texts behind
   pub moved : MovedTexts g k m ts texts
   pub rest : Rest old new end cs e behind
+  pub cells : CellRest g.cells k.cells end us tail e behind
 
 -- a text of a list under an edit
-record NameMoved (g k : LineSource) (m : PathMap) (old new : List ℕ) (end : ℕ) (cs : List Change) (p q : ℕ) (t : TextPlace) : Type 0 where
+record NameMoved (g k : LineSource) (m : PathMap) (old new : List ℕ) (end : ℕ) (cs : List Change)
+    (us : List CellChange) (tail : List Cell) (p q : ℕ) (t : TextPlace) : Type 0 where
   text : TextPlace
   is : inline_text g.number new q ≡ Some text
   some : text.len ≢ 0
   says : place_text k text ≡ mapped_path m (place_text g t)
   at : text.at ≡ q
   rest : Rest old new end cs (p + t.len + 1) (q + text.len + 1)
+  cells : CellRest g.cells k.cells end us tail (p + t.len + 1) (q + text.len + 1)
 
-name-moved : (g : LineSource) (m : PathMap) (bytes s l old new : List ℕ) (h : LineHeader) (places : TextPlace → Option ℕ) (end : ℕ) (cs : List Change) (p q : ℕ) (t : TextPlace)
-    → SourceMoves g m s l → Sides g bytes old new → inline_text g.number old p ≡ Some t → t.len ≢ 0 → Rest old new end (path_changes g m places h.width t ++ cs) p q
-    → From end (p + t.len + 1) cs → NameMoved g (edited_source g bytes s l) m old new end cs p q t
-name-moved g m bytes s l old new h places end cs p q t w sides is some rest from =
-    let both = inline-inside g.number old p t is in
-    let len : t.len ≡ length (text_in old p) = ap (λ (x : TextPlace). x.len) both.1 in
+name-moved : (g : LineSource) (m : PathMap) (bytes : List ℕ) (cells : List Cell) (s l old new : List ℕ) (h : LineHeader) (places : TextPlace → Option ℕ) (end : ℕ) (cs : List Change)
+    (us : List CellChange) (tail : List Cell) (p q : ℕ) (t : TextPlace)
+    → SourceMoves g m s l → Sides g bytes cells old new → inline_text g.number old p ≡ Some t → t.len ≢ 0 → Rest old new end (path_changes g m places h.width t ++ cs) p q
+    → CellRest g.cells cells end (path_cells g m places h.width t ++ us) tail p q → SameChanges us cs → From end (p + t.len + 1) cs → Clear g.cells p (p + t.len + 1) → NameMoved g (edited_with g bytes cells s l) m old new end cs us tail p q t
+name-moved g m bytes cells s l old new h places end cs us tail p q t w sides is some rest cell both from clear =
+    let text = inline-inside g.number old p t is in
+    let len : t.len ≡ length (text_in old p) = ap (λ (x : TextPlace). x.len) text.1 in
     let place : p + t.len + 1 ≡ p + length (text_in old p) + 1 = ap (λ (i : ℕ). p + i + 1) len in
-    let r = text-moved g m bytes s l old new h places end cs p q w sides both.0
-    (subst (λ (x : TextPlace). Rest old new end (path_changes g m places h.width x ++ cs) p q) both.1 rest) (subst (λ (i : ℕ). From end i cs) place from) in
+    let r = text-moved g m bytes cells s l old new h places end cs p q w sides text.0
+    (subst (λ (x : TextPlace). Rest old new end (path_changes g m places h.width x ++ cs) p q) text.1 rest) (subst (λ (i : ℕ). From end i cs) place from) in
     let size : length (text_in new q) ≡ length (mapped_path m (text_in old p)) = ap length r.says in
+    let d = text-cells g m cells s l old h places end cs us tail p q w sides.was text.0
+    (subst (λ (x : TextPlace). CellRest g.cells cells end (path_cells g m places h.width x ++ us) tail p q) text.1 cell) both (subst (λ (i : ℕ). From end i cs) place from)
+    (subst (Clear g.cells p) place clear) in
     record {
       text = record { section = g.number; at = q; len = length (text_in new q); field = q };
       is = inline-here g.number new q r.ends;
       some = λ e. mapped-some m (text_in old p) w.map (λ none. some (len ∙ none)) (sym size ∙ e);
       says =
-          inline-placed (edited_source g bytes s l) new q sides.is r.ends ∙ r.says
-          ∙ ap (mapped_path m) (sym (ap (place_text g) both.1 ∙ inline-placed g old p sides.was both.0));
+          inline-placed (edited_with g bytes cells s l) new q sides.is r.ends ∙ r.says
+          ∙ ap (mapped_path m) (sym (ap (place_text g) text.1 ∙ inline-placed g old p sides.was text.0));
       at = refl;
       rest = subst (λ (i : ℕ). Rest old new end cs i (q + length (text_in new q) + 1)) (sym place)
           (subst (λ (i : ℕ). Rest old new end cs (p + length (text_in old p) + 1) (q + i + 1)) (sym size) r.rest);
+      cells = subst (λ (i : ℕ). CellRest g.cells cells end us tail i (q + length (text_in new q) + 1)) (sym place)
+          (subst (λ (i : ℕ). CellRest g.cells cells end us tail (p + length (text_in old p) + 1) (q + i + 1)) (sym size) d);
     }
 
-pub dirs-moved : (g : LineSource) (m : PathMap) (bytes s l old new : List ℕ) (h : LineHeader) (places : TextPlace → Option ℕ) (end : ℕ) (cs : List Change) (p q e : ℕ) (ts : List TextPlace)
-    → SourceMoves g m s l → Sides g bytes old new → OldDirs g.number old p ts e → Rest old new end (all_changes g m places h.width ts ++ cs) p q → From end e cs
-    → DirsMoved g (edited_source g bytes s l) m old new end cs q e ts
-dirs-moved g m bytes s l old new h places end cs p q e [] w sides d rest from =
+pub dirs-moved : (g : LineSource) (m : PathMap) (bytes : List ℕ) (cells : List Cell) (s l old new : List ℕ) (h : LineHeader) (places : TextPlace → Option ℕ) (end : ℕ) (cs : List Change)
+    (us : List CellChange) (tail : List Cell) (p q e : ℕ) (ts : List TextPlace)
+    → SourceMoves g m s l → Sides g bytes cells old new → OldDirs g.number old p ts e → Rest old new end (all_changes g m places h.width ts ++ cs) p q
+    → CellRest g.cells cells end (all_path_cells g m places h.width ts ++ us) tail p q → SameChanges us cs → From end e cs → Clear g.cells p e
+    → DirsMoved g (edited_with g bytes cells s l) m old new end cs us tail q e ts
+dirs-moved g m bytes cells s l old new h places end cs us tail p q e [] w sides d rest cell both from clear =
     let k = copied old new end cs p q (p + 1) rest (omega arith) (subst (λ (i : ℕ). From end i cs) d.3 from) in
     let x = end-moved g old new end cs p q d.0 d.1 d.2 k in
+    let last : p + 1 ≤ end = from-end end (p + 1) cs (subst (λ (i : ℕ). From end i cs) d.3 from) in
+    let c = cells-copied g.cells cells end us tail p q (p + 1) cell (omega arith) last (same-from end (p + 1) us cs both (subst (λ (i : ℕ). From end i cs) d.3 from))
+    (clear-none g.cells p (p + 1) (subst (Clear g.cells p) d.3 clear)) in
     let place : q + (p + 1 - p) ≡ q + 1 = omega arith in
     record {
       texts = [];
@@ -137,13 +157,18 @@ dirs-moved g m bytes s l old new h places end cs p q e [] w sides d rest from =
       are = (x.text, x.is, x.none, refl);
       moved = tt;
       rest = subst (λ (i : ℕ). Rest old new end cs i (q + 1)) (sym d.3) (subst (λ (i : ℕ). Rest old new end cs (p + 1) i) place k.rest);
+      cells = subst (λ (i : ℕ). CellRest g.cells cells end us tail i (q + 1)) (sym d.3) (subst (λ (i : ℕ). CellRest g.cells cells end us tail (p + 1) i) place c.rest);
     }
-dirs-moved g m bytes s l old new h places end cs p q e (t ∷ ts) w sides d rest from =
+dirs-moved g m bytes cells s l old new h places end cs us tail p q e (t ∷ ts) w sides d rest cell both from clear =
     let behind = dirs-from g m places h old end cs (p + t.len + 1) e ts d.2 from in
-    let one = name-moved g m bytes s l old new h places end (all_changes g m places h.width ts ++ cs) p q t w sides d.0 d.1
-    (subst (λ (ds : List Change). Rest old new end ds p q) (append_assoc (path_changes g m places h.width t) (all_changes g m places h.width ts) cs) rest) behind.0 in
-    let more = dirs-moved g m bytes s l old new h places end cs (p + t.len + 1) (q + one.text.len + 1) e ts w sides d.2 one.rest from in
-    record { texts = one.text ∷ more.texts; behind = more.behind; are = (one.is, one.some, more.are); moved = (one.says, more.moved); rest = more.rest }
+    let one = name-moved g m bytes cells s l old new h places end (all_changes g m places h.width ts ++ cs) (all_path_cells g m places h.width ts ++ us) tail p q t w sides d.0 d.1
+    (subst (λ (ds : List Change). Rest old new end ds p q) (append_assoc (path_changes g m places h.width t) (all_changes g m places h.width ts) cs) rest)
+    (subst (λ (vs : List CellChange). CellRest g.cells cells end vs tail p q) (append_assoc (path_cells g m places h.width t) (all_path_cells g m places h.width ts) us) cell)
+    (same-append (all_path_cells g m places h.width ts) us (all_changes g m places h.width ts) cs (paths-bytes g m places h.width ts w.own) both) behind.0
+    (clear-part g.cells p e p (p + t.len + 1) clear (omega arith) behind.1) in
+    let more = dirs-moved g m bytes cells s l old new h places end cs us tail (p + t.len + 1) (q + one.text.len + 1) e ts w sides d.2 one.rest one.cells both from
+    (clear-part g.cells p e (p + t.len + 1) e clear (omega arith) (omega arith)) in
+    record { texts = one.text ∷ more.texts; behind = more.behind; are = (one.is, one.some, more.are); moved = (one.says, more.moved); rest = more.rest; cells = more.cells }
 
 -- the numbers behind the name of a file
 abbrev leb_step : ℕ → List ℕ → List ℕ → ℕ → Option (ℕ × ℕ) → List LineColumn
@@ -180,7 +205,7 @@ pub skips-inside : (n : ℕ) (bs : List ℕ) (p e : ℕ) → skip_lebs n bs p �
 skips-inside n bs p e is le = (skip-behind n bs p e is, skip-inside n bs p e is le)
 
 -- where a file ends
-file-place : (g : LineSource) (old : List ℕ) (p : ℕ) (f : FilePlace) (one : OldFile g.number old p f) → (p + f.text.len + 1 ≤ length old) × (p + f.text.len + 1 ≤ one.next) × (one.next ≤ length old)
+pub file-place : (g : LineSource) (old : List ℕ) (p : ℕ) (f : FilePlace) (one : OldFile g.number old p f) → (p + f.text.len + 1 ≤ length old) × (p + f.text.len + 1 ≤ one.next) × (one.next ≤ length old)
 file-place g old p f one =
     let both = inline-inside g.number old p f.text one.text in
     let len : f.text.len ≡ length (text_in old p) = ap (λ (x : TextPlace). x.len) both.1 in
@@ -203,20 +228,27 @@ files-from g m places h old end cs p e (f ∷ fs) d from =
       omega (arith, behind, more),
     )
 
-pub record OldMoved (g k : LineSource) (m : PathMap) (old new : List ℕ) (end : ℕ) (cs : List Change) (q e : ℕ) (fs : List FilePlace) : Type 0 where
+pub record OldMoved (g k : LineSource) (m : PathMap) (old new : List ℕ) (end : ℕ) (cs : List Change)
+    (us : List CellChange) (tail : List Cell) (q e : ℕ) (fs : List FilePlace) : Type 0 where
   pub files : List FilePlace
   pub behind : ℕ
   pub are : OldFiles g.number new q files behind
   pub moved : MovedFiles g k m fs files
   pub rest : Rest old new end cs e behind
+  pub cells : CellRest g.cells k.cells end us tail e behind
   pub further : map (old_columns new) files ≡ map (old_columns old) fs
 
-pub files-moved : (g : LineSource) (m : PathMap) (bytes s l old new : List ℕ) (h : LineHeader) (places : TextPlace → Option ℕ) (end : ℕ) (cs : List Change) (p q e : ℕ) (fs : List FilePlace)
-    → SourceMoves g m s l → Sides g bytes old new → OldFiles g.number old p fs e → Rest old new end (all_changes g m places h.width (texts_of fs) ++ cs) p q → From end e cs
-    → OldMoved g (edited_source g bytes s l) m old new end cs q e fs
-files-moved g m bytes s l old new h places end cs p q e [] w sides d rest from =
+pub files-moved : (g : LineSource) (m : PathMap) (bytes : List ℕ) (cells : List Cell) (s l old new : List ℕ) (h : LineHeader) (places : TextPlace → Option ℕ) (end : ℕ) (cs : List Change)
+    (us : List CellChange) (tail : List Cell) (p q e : ℕ) (fs : List FilePlace)
+    → SourceMoves g m s l → Sides g bytes cells old new → OldFiles g.number old p fs e → Rest old new end (all_changes g m places h.width (texts_of fs) ++ cs) p q
+    → CellRest g.cells cells end (all_path_cells g m places h.width (texts_of fs) ++ us) tail p q → SameChanges us cs → From end e cs → Clear g.cells p e
+    → OldMoved g (edited_with g bytes cells s l) m old new end cs us tail q e fs
+files-moved g m bytes cells s l old new h places end cs us tail p q e [] w sides d rest cell both from clear =
     let k = copied old new end cs p q (p + 1) rest (omega arith) (subst (λ (i : ℕ). From end i cs) d.3 from) in
     let x = end-moved g old new end cs p q d.0 d.1 d.2 k in
+    let last : p + 1 ≤ end = from-end end (p + 1) cs (subst (λ (i : ℕ). From end i cs) d.3 from) in
+    let c = cells-copied g.cells cells end us tail p q (p + 1) cell (omega arith) last (same-from end (p + 1) us cs both (subst (λ (i : ℕ). From end i cs) d.3 from))
+    (clear-none g.cells p (p + 1) (subst (Clear g.cells p) d.3 clear)) in
     let place : q + (p + 1 - p) ≡ q + 1 = omega arith in
     record {
       files = [];
@@ -224,21 +256,31 @@ files-moved g m bytes s l old new h places end cs p q e [] w sides d rest from =
       are = (x.text, x.is, x.none, refl);
       moved = tt;
       rest = subst (λ (i : ℕ). Rest old new end cs i (q + 1)) (sym d.3) (subst (λ (i : ℕ). Rest old new end cs (p + 1) i) place k.rest);
+      cells = subst (λ (i : ℕ). CellRest g.cells cells end us tail i (q + 1)) (sym d.3) (subst (λ (i : ℕ). CellRest g.cells cells end us tail (p + 1) i) place c.rest);
       further = refl;
     }
-files-moved g m bytes s l old new h places end cs p q e (f ∷ fs) w sides d rest from =
+files-moved g m bytes cells s l old new h places end cs us tail p q e (f ∷ fs) w sides d rest cell both from clear =
     let behind = files-from g m places h old end cs d.0.next e fs d.1 from in
     let place = file-place g old p f d.0 in
-    let ds : List Change = all_changes g m places h.width (texts_of fs) ++ cs in
-    let one = name-moved g m bytes s l old new h places end (all_changes g m places h.width (texts_of fs) ++ cs) p q f.text w sides d.0.text d.0.some
+    let after = place.1 in
+    let further_behind = behind.1 in
+    let further_same : SameChanges (all_path_cells g m places h.width (texts_of fs) ++ us) (all_changes g m places h.width (texts_of fs) ++ cs) =
+    same-append (all_path_cells g m places h.width (texts_of fs)) us (all_changes g m places h.width (texts_of fs)) cs (paths-bytes g m places h.width (texts_of fs) w.own) both in
+    let one = name-moved g m bytes cells s l old new h places end (all_changes g m places h.width (texts_of fs) ++ cs) (all_path_cells g m places h.width (texts_of fs) ++ us) tail p q f.text w sides d.0.text d.0.some
     (subst (λ (ds : List Change). Rest old new end ds p q) (append_assoc (path_changes g m places h.width f.text) (all_changes g m places h.width (texts_of fs)) cs) rest)
-    (from-before end (p + f.text.len + 1) d.0.next (all_changes g m places h.width (texts_of fs) ++ cs) place.1 behind.0) in
+    (subst (λ (vs : List CellChange). CellRest g.cells cells end vs tail p q) (append_assoc (path_cells g m places h.width f.text) (all_path_cells g m places h.width (texts_of fs)) us) cell)
+    further_same (from-before end (p + f.text.len + 1) d.0.next (all_changes g m places h.width (texts_of fs) ++ cs) place.1 behind.0)
+    (clear-part g.cells p e p (p + f.text.len + 1) clear (omega arith) (omega (arith, after, further_behind))) in
     let k = copied old new end (all_changes g m places h.width (texts_of fs) ++ cs) (p + f.text.len + 1) (q + one.text.len + 1) d.0.next one.rest place.1 behind.0 in
     let size : length (part old (p + f.text.len + 1) d.0.next) ≡ d.0.next - (p + f.text.len + 1) = part-length old (p + f.text.len + 1) d.0.next place.1 place.2 in
-    let after = place.1 in
+    let last : d.0.next ≤ end = from-end end d.0.next (all_changes g m places h.width (texts_of fs) ++ cs) behind.0 in
+    let c = cells-copied g.cells cells end (all_path_cells g m places h.width (texts_of fs) ++ us) tail (p + f.text.len + 1) (q + one.text.len + 1) d.0.next one.cells place.1 last
+    (same-from end d.0.next (all_path_cells g m places h.width (texts_of fs) ++ us) (all_changes g m places h.width (texts_of fs) ++ cs) further_same behind.0)
+    (clear-none g.cells (p + f.text.len + 1) d.0.next (clear-part g.cells p e (p + f.text.len + 1) d.0.next clear (omega arith) further_behind)) in
     let numbers = file_numbers-both old new (part old (p + f.text.len + 1) d.0.next) (p + f.text.len + 1) (q + one.text.len + 1) (f.dir, d.0.next) k.both d.0.numbers (omega (arith, size, after)) in
     let next_q : ℕ = q + one.text.len + 1 + (d.0.next - (p + f.text.len + 1)) in
-    let more = files-moved g m bytes s l old new h places end cs d.0.next (q + one.text.len + 1 + (d.0.next - (p + f.text.len + 1))) e fs w sides d.1 k.rest from in
+    let more = files-moved g m bytes cells s l old new h places end cs us tail d.0.next (q + one.text.len + 1 + (d.0.next - (p + f.text.len + 1))) e fs w sides d.1 k.rest c.rest both from
+    (clear-part g.cells p e d.0.next e clear (omega (arith, after)) (omega arith)) in
     let columns_old = three-numbers old (p + f.text.len + 1) (f.dir, d.0.next) d.0.numbers in
     let at_old : f.text.at ≡ p = ap (λ (x : TextPlace). x.at) (inline-inside g.number old p f.text d.0.text).1 in
     let columns : old_columns new (record { text = one.text; dir = f.dir }) ≡ old_columns old f =
@@ -252,5 +294,6 @@ files-moved g m bytes s l old new h places end cs p q e (f ∷ fs) w sides d res
       are = (record { text = one.is; some = one.some; next = q + one.text.len + 1 + (d.0.next - (p + f.text.len + 1)); numbers = numbers.1 }, more.are);
       moved = (refl, one.says, more.moved);
       rest = more.rest;
+      cells = more.cells;
       further = ap (λ (c : List LineColumn). c ∷ map (old_columns new) more.files) columns ∙ ap (λ (cs_ : List (List LineColumn)). old_columns old f ∷ cs_) more.further;
     }

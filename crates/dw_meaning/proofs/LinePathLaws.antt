@@ -4,7 +4,7 @@ use Rattle.std.proofs.Common.{Bool, true, false, ◌≡◌, ◌≢◌, ℕ, ◌+
 use Rattle.std.specs.Prelude.{⊤, Ok}
 use Rattle.std.proofs.lemmas.Bool.{eq-eqb, ne_eqb}
 use Rattle.std.proofs.lemmas.List.{length-append}
-use Rattle.dw_base.specs.Cells.{Located}
+use Rattle.dw_base.specs.Cells.{Located, Relocation}
 use Rattle.dw_base.specs.Forms.{TextSection, in_str, in_line_str, width_size}
 use Rattle.dw_base.specs.LineChanges.{path_in, mention_in, paths_mentions, line_mentions, asked_place, line_place}
 use Rattle.dw_base.specs.LineEntries.{first_of, with_column, columns}
@@ -27,7 +27,16 @@ use Rattle.dw_base.specs.declared.values.Spec.{Spec}
 use Rattle.dw_base.proofs.PathLaws.{has_nul-mapped_path}
 use Rattle.dw_base.proofs.TableLaws.{is_in-texts_after, is_in-with_mention}
 use Rattle.dw_base.proofs.TextLaws.{has_nul-text_in, ends_in-inside, text_in-place_in, ends_in-place_in, place_in-lt}
-use Rattle.dw_meaning.proofs.LineColumnLaws.{texts_in, OffsetMoves, MovesIn, PathMoves, ColumnIs, inline_is, offset_is, value_is, column-is}
+use Rattle.dw_base.specs.RelocationFields.{relocation_at}
+use Rattle.dw_base.specs.declared.shared.Class.{Class}
+use Rattle.dw_base.specs.declared.shared.Class.TheVariants.{C32, C64}
+use Rattle.dw_base.specs.declared.shared.Width.TheVariants.{W32, W64}
+use Rattle.dw_base.proofs.OffsetPutLaws.{reaches_all}
+use Rattle.dw_base.proofs.PlainCellLaws.{IsPlain}
+use Rattle.dw_base.proofs.RelocationFieldLaws.{relocation_at-plain}
+use Rattle.dw_meaning.proofs.FieldCellLaws.{TakesAt, takes-reached}
+use Rattle.dw_meaning.proofs.FieldPutLaws.{ReachesBy}
+use Rattle.dw_meaning.proofs.LineColumnLaws.{texts_in, OffsetMoves, MovesIn, PathMoves, TakesPlace, ColumnIs, inline_is, offset_is, value_is, column-is}
 use Rattle.dw_meaning.proofs.LineEntryLaws.{text_with, column-step, entry-same}
 use Rattle.dw_meaning.proofs.LineListLaws.{entry-is, list-is, EachMoves}
 use Rattle.dw_meaning.proofs.LineReadLaws.{inline-inside}
@@ -171,35 +180,110 @@ pub record BothMove (c : TableChanges) (g : LineSource) : Type 0 where
   pub str : TableMoves c.map c.str g.str
   pub line_str : TableMoves c.map c.line_str g.line_str
 
+-- and the records of relocations at offsets can make the new places
+abbrev pub TakesIn : LineSource → Width → ℕ → Option ℕ → Bool → Type 0
+TakesIn g w field o true = ⊤
+TakesIn g w field o false = TakesPlace g w field o
+
+abbrev pub EachTakes : LineSource → (TextPlace → Option ℕ) → Width → List TextPlace → Type 0
+EachTakes g places w [] = ⊤
+EachTakes g places w (x ∷ xs) = TakesIn g w x.field (places x) (x.section == g.number) × EachTakes g places w xs
+
+abbrev pub AllTake : LineSource → (TextPlace → Option ℕ) → List LineReading → Type 0
+AllTake g places [] = ⊤
+AllTake g places (r ∷ rs) = EachTakes g places r.header.width (r.dirs ++ texts_of r.files) × AllTake g places rs
+
 path-moves : (c : TableChanges) (g : LineSource) (w : Width) (ts us : List (List ℕ)) (ms ns : List Mention) (x : TextPlace) → BothMove c g
     → TextsAre c ts us (mention_in g in_str x ++ ms) (mention_in g in_line_str x ++ ns)
+    → TakesIn g w x.field (line_place c.map c.str c.line_str g x) (x.section == g.number)
     → PathMoves g c.map (new_table c.str.plan c.str.texts) (new_table c.line_str.plan c.line_str.texts) w (line_place c.map c.str c.line_str g) x
-path-moves c g w ts us ms ns x both all = by_section (x.section == g.number) (x.section == g.str.number) all
+path-moves c g w ts us ms ns x both all takes = by_section (x.section == g.number) (x.section == g.str.number) all takes
   where
     by_section : (a b : Bool)
         → TextsAre c ts us ((if a then [] else (if b then path_in g.str.bytes x ∷ [] else [])) ++ ms) ((if a then [] else (if b then [] else path_in g.line_str.bytes x ∷ [])) ++ ns)
+        → TakesIn g w x.field (if b then asked_place c.str c.map (path_in g.str.bytes x) else asked_place c.line_str c.map (path_in g.line_str.bytes x)) a
         → MovesIn g c.map (new_table c.str.plan c.str.texts) (new_table c.line_str.plan c.line_str.texts) w x
         (if b then asked_place c.str c.map (path_in g.str.bytes x) else asked_place c.line_str c.map (path_in g.line_str.bytes x)) a b
-    by_section true b all = tt
-    by_section false true all = asked-moves c.map c.str g.str w x both.map both.str (λ asks.
-        subst (λ (vs : List (List ℕ)). is_in vs (new_text c.map (path_in g.str.bytes x)) ≡ true) (sym all.str)
-        (is_in-texts_after c.str.plan c.map (with_mention c.str.plan c.map ts (path_in g.str.bytes x)) ms (new_text c.map (path_in g.str.bytes x))
-        (is_in-with_mention c.str.plan c.map ts (path_in g.str.bytes x) asks)))
-    by_section false false all = asked-moves c.map c.line_str g.line_str w x both.map both.line_str (λ asks.
-        subst (λ (vs : List (List ℕ)). is_in vs (new_text c.map (path_in g.line_str.bytes x)) ≡ true) (sym all.line_str)
-        (is_in-texts_after c.line_str.plan c.map (with_mention c.line_str.plan c.map us (path_in g.line_str.bytes x)) ns (new_text c.map (path_in g.line_str.bytes x))
-        (is_in-with_mention c.line_str.plan c.map us (path_in g.line_str.bytes x) asks)))
+    by_section true b all takes = tt
+    by_section false true all takes = (
+      asked-moves c.map c.str g.str w x both.map both.str (λ asks.
+          subst (λ (vs : List (List ℕ)). is_in vs (new_text c.map (path_in g.str.bytes x)) ≡ true) (sym all.str)
+          (is_in-texts_after c.str.plan c.map (with_mention c.str.plan c.map ts (path_in g.str.bytes x)) ms (new_text c.map (path_in g.str.bytes x))
+          (is_in-with_mention c.str.plan c.map ts (path_in g.str.bytes x) asks))),
+      takes,
+    )
+    by_section false false all takes = (
+      asked-moves c.map c.line_str g.line_str w x both.map both.line_str (λ asks.
+          subst (λ (vs : List (List ℕ)). is_in vs (new_text c.map (path_in g.line_str.bytes x)) ≡ true) (sym all.line_str)
+          (is_in-texts_after c.line_str.plan c.map (with_mention c.line_str.plan c.map us (path_in g.line_str.bytes x)) ns (new_text c.map (path_in g.line_str.bytes x))
+          (is_in-with_mention c.line_str.plan c.map us (path_in g.line_str.bytes x) asks))),
+      takes,
+    )
 
 pub paths-move : (c : TableChanges) (g : LineSource) (w : Width) (ts us : List (List ℕ)) (ms ns : List Mention) (xs : List TextPlace) → BothMove c g
-    → TextsAre c ts us (paths_mentions g in_str xs ++ ms) (paths_mentions g in_line_str xs ++ ns)
+    → TextsAre c ts us (paths_mentions g in_str xs ++ ms) (paths_mentions g in_line_str xs ++ ns) → EachTakes g (line_place c.map c.str c.line_str g) w xs
     → EachMoves g c.map (new_table c.str.plan c.str.texts) (new_table c.line_str.plan c.line_str.texts) w (line_place c.map c.str c.line_str g) xs
-paths-move c g w ts us ms ns [] both all = tt
-paths-move c g w ts us ms ns (x ∷ xs) both all =
+paths-move c g w ts us ms ns [] both all takes = tt
+paths-move c g w ts us ms ns (x ∷ xs) both all takes =
     let here : TextsAre c ts us (mention_in g in_str x ++ (paths_mentions g in_str xs ++ ms)) (mention_in g in_line_str x ++ (paths_mentions g in_line_str xs ++ ns)) = record {
       str = all.str ∙ ap (texts_after c.str.plan c.map ts) (append_assoc (mention_in g in_str x) (paths_mentions g in_str xs) ms);
       line_str = all.line_str ∙ ap (texts_after c.line_str.plan c.map us) (append_assoc (mention_in g in_line_str x) (paths_mentions g in_line_str xs) ns);
     } in (
-      path-moves c g w ts us (paths_mentions g in_str xs ++ ms) (paths_mentions g in_line_str xs ++ ns) x both here,
+      path-moves c g w ts us (paths_mentions g in_str xs ++ ms) (paths_mentions g in_line_str xs ++ ns) x both here takes.0,
       paths-move c g w (texts_after c.str.plan c.map ts (mention_in g in_str x)) (texts_after c.line_str.plan c.map us (mention_in g in_line_str x)) ms ns xs both
-          (behind_piece c ts us (mention_in g in_str x) (mention_in g in_line_str x) (paths_mentions g in_str xs ++ ms) (paths_mentions g in_line_str xs ++ ns) here),
+          (behind_piece c ts us (mention_in g in_str x) (mention_in g in_line_str x) (paths_mentions g in_str xs ++ ms) (paths_mentions g in_line_str xs ++ ns) here) takes.1,
     )
+
+-- where no relocation begins all are made
+pub plain-take : (g : LineSource) (places : TextPlace → Option ℕ) (rs : List LineReading) → IsPlain g.cells → AllTake g places rs
+plain-take g places [] plain = tt
+plain-take g places (r ∷ rs) plain = (each r.header.width (r.dirs ++ texts_of r.files), plain-take g places rs plain)
+  where
+    one : (w : Width) (field : ℕ) (o : Option ℕ) (b : Bool) → TakesIn g w field o b
+    one w field o true = tt
+    one w field None false = tt
+    one w field (Some n) false = subst (λ (r : Option Relocation). TakesAt r (width_size w) n) (sym (relocation_at-plain g.cells field plain)) tt
+
+    each : (w : Width) (xs : List TextPlace) → EachTakes g places w xs
+    each w [] = tt
+    each w (x ∷ xs) = (one w x.field (places x) (x.section == g.number), each w xs)
+
+-- and where the addends of relocations reach each offset of a table's width
+pub record WidthReaches (g : LineSource) (w : Width) : Type 0 where
+  pub all : (p : ℕ) (r : Relocation) → relocation_at g.cells p ≡ Some r → reaches_all r.class (width_size w) ≡ true
+
+abbrev pub EachReaches : LineSource → List LineReading → Type 0
+EachReaches g [] = ⊤
+EachReaches g (r ∷ rs) = WidthReaches g r.header.width × EachReaches g rs
+
+pub reaches-take : (g : LineSource) (places : TextPlace → Option ℕ) (rs : List LineReading) → EachReaches g rs → AllTake g places rs
+reaches-take g places [] h = tt
+reaches-take g places (r ∷ rs) h = (each r.header.width h.0 (r.dirs ++ texts_of r.files), reaches-take g places rs h.1)
+  where
+    at_place : (w : Width) → WidthReaches g w → (field : ℕ) (o : Option Relocation) → relocation_at g.cells field ≡ o → ReachesBy o (width_size w)
+    at_place w k field None e = tt
+    at_place w k field (Some q) e = k.all field q e
+
+    one : (w : Width) → WidthReaches g w → (field : ℕ) (o : Option ℕ) (b : Bool) → TakesIn g w field o b
+    one w k field o true = tt
+    one w k field None false = tt
+    one w k field (Some n) false = takes-reached (relocation_at g.cells field) (width_size w) n (at_place w k field (relocation_at g.cells field) refl)
+
+    each : (w : Width) → WidthReaches g w → (xs : List TextPlace) → EachTakes g places w xs
+    each w k [] = tt
+    each w k (x ∷ xs) = (one w k x.field (places x) (x.section == g.number), each w k xs)
+
+-- so it is of each table of DWARF's 32 bits, and in a file of 64 bits
+pub narrow-reaches : (g : LineSource) → WidthReaches g W32
+narrow-reaches g = record { all = λ p r e. by_class r.class }
+  where
+    by_class : (c : Class) → reaches_all c 4 ≡ true
+    by_class C32 = refl
+    by_class C64 = refl
+
+pub wide-reaches : (g : LineSource) (w : Width) → ((p : ℕ) (r : Relocation) → relocation_at g.cells p ≡ Some r → r.class ≡ C64) → WidthReaches g w
+wide-reaches g w wide = record { all = λ p r e. subst (λ (c : Class). reaches_all c (width_size w) ≡ true) (sym (wide p r e)) (by_width w) }
+  where
+    by_width : (w : Width) → reaches_all C64 (width_size w) ≡ true
+    by_width W32 = refl
+    by_width W64 = refl

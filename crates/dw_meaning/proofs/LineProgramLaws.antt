@@ -3,6 +3,7 @@ use Rattle.std.proofs.Common.{Bool, true, false, ◌≡◌, ◌≢◌, ℕ, ℤ,
 use Rattle.std.specs.Prelude.{nat_le, nat_lt, ⊤, option_and_then, option_map}
 use Rattle.std.proofs.lemmas.Bool.{leb-true, le-leb, eqb-false, ltb-true, lt-ltb}
 use Rattle.std.proofs.lemmas.List.{append-nil, length-drop, length-take-le, drop-drop, drop-take, take-append-drop}
+use Rattle.dw_base.specs.Cells.{Cell}
 use Rattle.dw_base.specs.Lebs.{uleb_at, sleb_at}
 use Rattle.dw_base.specs.LineMeanings.{place_text}
 use Rattle.dw_base.specs.LinePrograms.{if_ranged, behind_bytes, standard_end, file_behind, defined_file, extended_operands, extended_by, extended_in, extended_at, plain_opcode, opcode_at}
@@ -18,7 +19,7 @@ use Rattle.dw_base.specs.declared.line_tables.Opcode.{Opcode}
 use Rattle.dw_base.specs.declared.line_tables.TextPlace.{TextPlace}
 use Rattle.dw_base.proofs.ContributionBackLaws.{StandsAt}
 use Rattle.dw_meaning.proofs.LineChangeLaws.{part-cut, text-part, text-room}
-use Rattle.dw_meaning.proofs.LineColumnLaws.{edited_source, Grows, inline-placed}
+use Rattle.dw_meaning.proofs.LineColumnLaws.{edited_with, Grows, inline-placed}
 use Rattle.dw_meaning.proofs.LineListLaws.{byte-both}
 use Rattle.dw_meaning.proofs.LineMoveLaws.{LinePlaces, moved_header, Sides}
 use Rattle.dw_meaning.proofs.LineOldLaws.{numbers-inside, skips-inside}
@@ -170,10 +171,10 @@ kept-cut g k bs e (Some f) (Some u) le h =
     }
 
 -- a file that an opcode defines
-defined-both : (g : LineSource) (bytes s l old new xs : List ℕ) (p q : ℕ) (f : FilePlace) → Grows old g.bytes → Grows new bytes → Both old new xs p q → p + length xs ≡ length old
-    → defined_file g.number old p ≡ Some f → (u : FilePlace) × (defined_file g.number new q ≡ Some u) × KeptFile g (edited_source g bytes s l) old f u
+defined-both : (g : LineSource) (bytes : List ℕ) (cells : List Cell) (s l old new xs : List ℕ) (p q : ℕ) (f : FilePlace) → Grows old g.bytes → Grows new bytes → Both old new xs p q → p + length xs ≡ length old
+    → defined_file g.number old p ≡ Some f → (u : FilePlace) × (defined_file g.number new q ≡ Some u) × KeptFile g (edited_with g bytes cells s l) old f u
 unfolding defined_file
-defined-both g bytes s l old new xs p q f was is b size e =
+defined-both g bytes cells s l old new xs p q f was is b size e =
     let first = bound (file_behind old p) (inline_text g.number old p) f e in
     let text = inline-inside g.number old p first.first first.is in
     let len : first.first.len ≡ length (text_in old p) = ap (λ (x : TextPlace). x.len) text.1 in
@@ -194,7 +195,7 @@ defined-both g bytes s l old new xs p q f was is b size e =
           ∙ ap (option_map (λ (n : ℕ × ℕ). record { text = record { section = g.number; at = q; len = length (text_in new q); field = q }; dir = n.0 })) numbers.1),
       record {
         dir = dir;
-        text = inline-placed (edited_source g bytes s l) new q is there.0 ∙ there.1 ∙ sym (inline-placed g old p was text.0) ∙ ap (place_text g) (sym text.1 ∙ own);
+        text = inline-placed (edited_with g bytes cells s l) new q is there.0 ∙ there.1 ∙ sym (inline-placed g old p was text.0) ∙ ap (place_text g) (sym text.1 ∙ own);
         own = ap (place_text g) (sym own ∙ text.1) ∙ inline-placed g old p was text.0 ∙ sym (text-part old p text.0)
             ∙ ap (λ (x : TextPlace). bytes_at old x.at x.len) (sym text.1 ∙ own);
         inside =
@@ -205,44 +206,44 @@ defined-both g bytes s l old new xs p q f was is b size e =
     )
 
 -- the operands of an extended opcode
-operands-both : (g : LineSource) (bytes s l old new xs : List ℕ) (code p q : ℕ) (f : Option FilePlace) → Grows old g.bytes → Grows new bytes → Both old new xs p q → p + length xs ≡ length old
-    → length new - q ≡ length old - p → extended_operands g.number old code p ≡ Some f → DefinedBoth g (edited_source g bytes s l) old (extended_operands g.number new code q) f
+operands-both : (g : LineSource) (bytes : List ℕ) (cells : List Cell) (s l old new xs : List ℕ) (code p q : ℕ) (f : Option FilePlace) → Grows old g.bytes → Grows new bytes → Both old new xs p q → p + length xs ≡ length old
+    → length new - q ≡ length old - p → extended_operands g.number old code p ≡ Some f → DefinedBoth g (edited_with g bytes cells s l) old (extended_operands g.number new code q) f
 unfolding extended_operands
-operands-both g bytes s l old new xs code p q f was is b size rest e = by_code (code == DW_LNE_set_address) (code == DW_LNE_define_file) (code == DW_LNE_set_discriminator) e
+operands-both g bytes cells s l old new xs code p q f was is b size rest e = by_code (code == DW_LNE_set_address) (code == DW_LNE_define_file) (code == DW_LNE_set_discriminator) e
   where
-    address : (o : Option FilePlace) (t : Bool) → (if t then Some None else None) ≡ Some o → DefinedBoth g (edited_source g bytes s l) old (if t then Some None else None) o
-    address o true e = subst (DefinedBoth g (edited_source g bytes s l) old (Some None)) (some-same None o e) (record { file = None; is = refl; kept = tt })
+    address : (o : Option FilePlace) (t : Bool) → (if t then Some None else None) ≡ Some o → DefinedBoth g (edited_with g bytes cells s l) old (if t then Some None else None) o
+    address o true e = subst (DefinedBoth g (edited_with g bytes cells s l) old (Some None)) (some-same None o e) (record { file = None; is = refl; kept = tt })
     address o false e = absurd cc
 
     file : option_map (λ (x : FilePlace). Some x) (defined_file g.number old p) ≡ Some f
-        → DefinedBoth g (edited_source g bytes s l) old (option_map (λ (x : FilePlace). Some x) (defined_file g.number new q)) f
+        → DefinedBoth g (edited_with g bytes cells s l) old (option_map (λ (x : FilePlace). Some x) (defined_file g.number new q)) f
     file e =
         let first = made (λ (x : FilePlace). Some x) (defined_file g.number old p) f e in
-        let d = defined-both g bytes s l old new xs p q first.first was is b size first.is in
-        subst (DefinedBoth g (edited_source g bytes s l) old (option_map (λ (x : FilePlace). Some x) (defined_file g.number new q))) first.same
+        let d = defined-both g bytes cells s l old new xs p q first.first was is b size first.is in
+        subst (DefinedBoth g (edited_with g bytes cells s l) old (option_map (λ (x : FilePlace). Some x) (defined_file g.number new q))) first.same
         (record { file = Some d.0; is = ap (option_map (λ (x : FilePlace). Some x)) d.1; kept = d.2 })
 
-    number : option_map (λ (n : ℕ × ℕ). None) (uleb_at old p) ≡ Some f → DefinedBoth g (edited_source g bytes s l) old (option_map (λ (n : ℕ × ℕ). None) (uleb_at new q)) f
+    number : option_map (λ (n : ℕ × ℕ). None) (uleb_at old p) ≡ Some f → DefinedBoth g (edited_with g bytes cells s l) old (option_map (λ (n : ℕ × ℕ). None) (uleb_at new q)) f
     number e =
         let first = made (λ (n : ℕ × ℕ). None) (uleb_at old p) f e in
         let inside = uleb-inside old p first.first.0 first.first.1 first.is in
         let there = uleb-both old new xs p q first.first.0 first.first.1 b first.is (omega (arith, inside, size)) in
-        subst (DefinedBoth g (edited_source g bytes s l) old (option_map (λ (n : ℕ × ℕ). None) (uleb_at new q))) first.same
+        subst (DefinedBoth g (edited_with g bytes cells s l) old (option_map (λ (n : ℕ × ℕ). None) (uleb_at new q))) first.same
         (record { file = None; is = ap (option_map (λ (n : ℕ × ℕ). None)) there; kept = tt })
 
     by_code : (a c d : Bool) → (if a then (if is_address_size (length old - p) then Some None else None)
         else (if c then option_map (λ (x : FilePlace). Some x) (defined_file g.number old p)
         else (if d then option_map (λ (n : ℕ × ℕ). None) (uleb_at old p)
         else Some None))) ≡ Some f
-        → DefinedBoth g (edited_source g bytes s l) old (if a then (if is_address_size (length new - q) then Some None else None)
+        → DefinedBoth g (edited_with g bytes cells s l) old (if a then (if is_address_size (length new - q) then Some None else None)
         else (if c then option_map (λ (x : FilePlace). Some x) (defined_file g.number new q)
         else (if d then option_map (λ (n : ℕ × ℕ). None) (uleb_at new q)
         else Some None))) f
     by_code true c d e =
-        subst (λ (i : ℕ). DefinedBoth g (edited_source g bytes s l) old (if is_address_size i then Some None else None) f) (sym rest) (address f (is_address_size (length old - p)) e)
+        subst (λ (i : ℕ). DefinedBoth g (edited_with g bytes cells s l) old (if is_address_size i then Some None else None) f) (sym rest) (address f (is_address_size (length old - p)) e)
     by_code false true d e = file e
     by_code false false true e = number e
-    by_code false false false e = subst (DefinedBoth g (edited_source g bytes s l) old (Some None)) (some-same None f e) (record { file = None; is = refl; kept = tt })
+    by_code false false false e = subst (DefinedBoth g (edited_with g bytes cells s l) old (Some None)) (some-same None f e) (record { file = None; is = refl; kept = tt })
 
 -- an opcode at another place
 pub record OpcodeMoved (g k : LineSource) (h : LineHeader) (n : LinePlaces) (old new : List ℕ) (p q : ℕ) (o : Opcode) : Type 0 where
@@ -273,14 +274,14 @@ body-stands bs p size le =
       inside = omega (arith, le, length-take-le size (drop p bs) (omega (arith, le, length-drop p bs)), length-take-le (p + size) bs le);
     }
 
-extended-in-both : (g : LineSource) (bytes s l old new : List ℕ) (first at size : ℕ) (o : Opcode) → Sides g bytes old new → Same old new first at
-    → extended_in g.number old first size ≡ Some o → ExtendedBoth g (edited_source g bytes s l) (extended_in g.number new at size) old new o
+extended-in-both : (g : LineSource) (bytes : List ℕ) (cells : List Cell) (s l old new : List ℕ) (first at size : ℕ) (o : Opcode) → Sides g bytes cells old new → Same old new first at
+    → extended_in g.number old first size ≡ Some o → ExtendedBoth g (edited_with g bytes cells s l) (extended_in g.number new at size) old new o
 unfolding extended_in
-extended-in-both g bytes s l old new first at size o sides same e = by_size (size == 0) refl e
+extended-in-both g bytes cells s l old new first at size o sides same e = by_size (size == 0) refl e
   where
     operands : size ≢ 0 → first + size ≤ length old → (x : Option (Option FilePlace)) → extended_operands g.number (take (first + size) old) (slice_index old first) (first + 1) ≡ x
         → extended_by (first + size) x ≡ Some o
-        → ExtendedBoth g (edited_source g bytes s l) (extended_by (at + size) (extended_operands g.number (take (at + size) new) (slice_index new at) (at + 1))) old new o
+        → ExtendedBoth g (edited_with g bytes cells s l) (extended_by (at + size) (extended_operands g.number (take (at + size) new) (slice_index new at) (at + 1))) old new o
     operands some room None is e = absurd cc
     operands some room (Some f) is e =
         let was = same.was in
@@ -294,24 +295,24 @@ extended-in-both g bytes s l old new first at size o sides same e = by_size (siz
         let end_new : length (take (at + size) new) ≡ at + size = length-take-le (at + size) new room_new in
         let code : slice_index new at ≡ slice_index old first =
         ap (slice_index new) (omega arith) ∙ byte-both old new (drop first old) first at 0 (same-both old new first at same) (omega (arith, some, room, length-drop first old)) ∙ ap (slice_index old) (omega arith) in
-        let d = operands-both g bytes s l (take (first + size) old) (take (at + size) new) (drop 1 (take size (drop first old))) (slice_index old first) (first + 1) (at + 1) f
+        let d = operands-both g bytes cells s l (take (first + size) old) (take (at + size) new) (drop 1 (take size (drop first old))) (slice_index old first) (first + 1) (at + 1) f
         (grows-cut old g.bytes (first + size) sides.was) (grows-cut new bytes (at + size) sides.is)
         (both-behind (take (first + size) old) (take (at + size) new) (take size (drop first old)) first at 1 whole (omega (arith, long, some)))
         (omega (arith, end_old, long, some, length-drop 1 (take size (drop first old)))) (omega (arith, end_old, end_new)) is in
         let own : record { next = first + size; file = f } ≡ o = some-same (record { next = first + size; file = f }) o e in
         let on = same-on old new first at (first + size) same (omega arith) room in
         let place : at + (first + size - first) ≡ at + size = omega arith in
-        subst (ExtendedBoth g (edited_source g bytes s l) (extended_by (at + size) (extended_operands g.number (take (at + size) new) (slice_index new at) (at + 1))) old new) own
+        subst (ExtendedBoth g (edited_with g bytes cells s l) (extended_by (at + size) (extended_operands g.number (take (at + size) new) (slice_index new at) (at + 1))) old new) own
         (record {
           opcode = record { next = at + size; file = d.file };
           is = rw (code, d.is) refl;
-          kept = kept-cut g (edited_source g bytes s l) old (first + size) f d.file room d.kept;
+          kept = kept-cut g (edited_with g bytes cells s l) old (first + size) f d.file room d.kept;
           same = subst (λ (i : ℕ). Same old new (first + size) i) place on;
         })
 
     by_room : size ≢ 0 → (b : Bool) → nat_le (first + size) (length old) ≡ b
         → (if b then extended_by (first + size) (extended_operands g.number (take (first + size) old) (slice_index old first) (first + 1)) else None) ≡ Some o
-        → ExtendedBoth g (edited_source g bytes s l)
+        → ExtendedBoth g (edited_with g bytes cells s l)
         (if nat_le (at + size) (length new) then extended_by (at + size) (extended_operands g.number (take (at + size) new) (slice_index new at) (at + 1)) else None) old new o
     by_room some false is e = absurd cc
     by_room some true is e =
@@ -319,43 +320,43 @@ extended-in-both g bytes s l old new first at size o sides same e = by_size (siz
         let was = same.was in
         let there = same.is in
         let fits : nat_le (at + size) (length new) ≡ true = le-leb (at + size) (length new) (omega (arith, room, was, there, same-length old new first at same)) in
-        subst (λ (b : Bool). ExtendedBoth g (edited_source g bytes s l) (if b then extended_by (at + size) (extended_operands g.number (take (at + size) new) (slice_index new at) (at + 1)) else None) old new o)
+        subst (λ (b : Bool). ExtendedBoth g (edited_with g bytes cells s l) (if b then extended_by (at + size) (extended_operands g.number (take (at + size) new) (slice_index new at) (at + 1)) else None) old new o)
         (sym fits) (operands some room (extended_operands g.number (take (first + size) old) (slice_index old first) (first + 1)) refl e)
 
     by_size : (b : Bool) → (size == 0) ≡ b
         → (if b then None
         else (if nat_le (first + size) (length old) then extended_by (first + size) (extended_operands g.number (take (first + size) old) (slice_index old first) (first + 1)) else None)) ≡ Some o
-        → ExtendedBoth g (edited_source g bytes s l) (if b then None
+        → ExtendedBoth g (edited_with g bytes cells s l) (if b then None
         else (if nat_le (at + size) (length new) then extended_by (at + size) (extended_operands g.number (take (at + size) new) (slice_index new at) (at + 1)) else None)) old new o
     by_size true is e = absurd cc
     by_size false is e = by_room (eqb-false size 0 is) (nat_le (first + size) (length old)) refl e
 
-extended-both : (g : LineSource) (bytes s l old new : List ℕ) (p q : ℕ) (o : Opcode) → Sides g bytes old new → Same old new p q → extended_at g.number old p ≡ Some o
-    → ExtendedBoth g (edited_source g bytes s l) (extended_at g.number new q) old new o
+extended-both : (g : LineSource) (bytes : List ℕ) (cells : List Cell) (s l old new : List ℕ) (p q : ℕ) (o : Opcode) → Sides g bytes cells old new → Same old new p q → extended_at g.number old p ≡ Some o
+    → ExtendedBoth g (edited_with g bytes cells s l) (extended_at g.number new q) old new o
 unfolding extended_at
-extended-both g bytes s l old new p q o sides same e =
+extended-both g bytes cells s l old new p q o sides same e =
     let first = bound (λ (size : ℕ × ℕ). extended_in g.number old (p + size.1) size.0) (uleb_at old p) o e in
     let inside = uleb-inside old p first.first.0 first.first.1 first.is in
     let was = same.was in
     let there = uleb-both old new (drop p old) p q first.first.0 first.first.1 (same-both old new p q same) first.is (omega (arith, inside, was, length-drop p old)) in
     let on = same-on old new p q (p + first.first.1) same (omega arith) inside in
     let place : q + (p + first.first.1 - p) ≡ q + first.first.1 = omega arith in
-    let r = extended-in-both g bytes s l old new (p + first.first.1) (q + first.first.1) first.first.0 o sides (subst (λ (i : ℕ). Same old new (p + first.first.1) i) place on) first.rest in
+    let r = extended-in-both g bytes cells s l old new (p + first.first.1) (q + first.first.1) first.first.0 o sides (subst (λ (i : ℕ). Same old new (p + first.first.1) i) place on) first.rest in
     record { opcode = r.opcode; is = ap (option_and_then (λ (size : ℕ × ℕ). extended_in g.number new (q + size.1) size.0)) there ∙ r.is; kept = r.kept; same = r.same }
 
-plain-both : (g : LineSource) (bytes s l old new : List ℕ) (p q : ℕ) (r t : Option ℕ) (o : Opcode) → Same old new p q → plain_opcode r ≡ Some o
-    → ((e : ℕ) → r ≡ Some e → PlaceBoth t old p q e) → ExtendedBoth g (edited_source g bytes s l) (plain_opcode t) old new o
-plain-both g bytes s l old new p q None t o same e both = absurd cc
-plain-both g bytes s l old new p q (Some e) t o same f both =
+plain-both : (g : LineSource) (bytes : List ℕ) (cells : List Cell) (s l old new : List ℕ) (p q : ℕ) (r t : Option ℕ) (o : Opcode) → Same old new p q → plain_opcode r ≡ Some o
+    → ((e : ℕ) → r ≡ Some e → PlaceBoth t old p q e) → ExtendedBoth g (edited_with g bytes cells s l) (plain_opcode t) old new o
+plain-both g bytes cells s l old new p q None t o same e both = absurd cc
+plain-both g bytes cells s l old new p q (Some e) t o same f both =
     let b = both e refl in
     let own : record { next = e; file = None } ≡ o = some-same (record { next = e; file = None }) o f in
-    subst (ExtendedBoth g (edited_source g bytes s l) (plain_opcode t) old new) own
+    subst (ExtendedBoth g (edited_with g bytes cells s l) (plain_opcode t) old new) own
     (record { opcode = record { next = q + (e - p); file = None }; is = ap plain_opcode b.is; kept = tt; same = same-on old new p q e same b.behind b.inside })
 
-pub opcode-moved : (g : LineSource) (bytes s l old new : List ℕ) (h : LineHeader) (n : LinePlaces) (p q : ℕ) (o : Opcode) → Sides g bytes old new → Counts h n old new → Same old new p q
-    → p < length old → opcode_at g.number h old p ≡ Some o → OpcodeMoved g (edited_source g bytes s l) h n old new p q o
+pub opcode-moved : (g : LineSource) (bytes : List ℕ) (cells : List Cell) (s l old new : List ℕ) (h : LineHeader) (n : LinePlaces) (p q : ℕ) (o : Opcode) → Sides g bytes cells old new → Counts h n old new → Same old new p q
+    → p < length old → opcode_at g.number h old p ≡ Some o → OpcodeMoved g (edited_with g bytes cells s l) h n old new p q o
 unfolding opcode_at
-opcode-moved g bytes s l old new h n p q o sides counts same inside e =
+opcode-moved g bytes cells s l old new h n p q o sides counts same inside e =
     let first_q : q ≡ q + 0 = omega arith in
     let first_p : p + 0 ≡ p = omega arith in
     let byte : slice_index new q ≡ slice_index old p =
@@ -369,16 +370,16 @@ opcode-moved g bytes s l old new h n p q o sides counts same inside e =
         → (if a then plain_opcode (if_ranged h (p + 1))
         else (if b then extended_at g.number old (p + 1)
         else plain_opcode (standard_end h old (slice_index old p) (p + 1)))) ≡ Some o
-        → ExtendedBoth g (edited_source g bytes s l) (if a then plain_opcode (if_ranged (moved_header h n) (q + 1))
+        → ExtendedBoth g (edited_with g bytes cells s l) (if a then plain_opcode (if_ranged (moved_header h n) (q + 1))
         else (if b then extended_at g.number new (q + 1)
         else plain_opcode (standard_end (moved_header h n) new (slice_index old p) (q + 1)))) old new o
     by_kind true b x y on e =
-        plain-both g bytes s l old new (p + 1) (q + 1) (if_ranged h (p + 1)) (if_ranged (moved_header h n) (q + 1)) o on e (λ i f. ranged-both h n old (p + 1) (q + 1) i on.was f)
-    by_kind false true x y on e = extended-both g bytes s l old new (p + 1) (q + 1) o sides on e
+        plain-both g bytes cells s l old new (p + 1) (q + 1) (if_ranged h (p + 1)) (if_ranged (moved_header h n) (q + 1)) o on e (λ i f. ranged-both h n old (p + 1) (q + 1) i on.was f)
+    by_kind false true x y on e = extended-both g bytes cells s l old new (p + 1) (q + 1) o sides on e
     by_kind false false x y on e =
         let some : slice_index old p ≢ 0 = eqb-false (slice_index old p) 0 y in
         let below : slice_index old p < h.opcode_base = not_le h.opcode_base (slice_index old p) x in
-        plain-both g bytes s l old new (p + 1) (q + 1) (standard_end h old (slice_index old p) (p + 1)) (standard_end (moved_header h n) new (slice_index old p) (q + 1)) o on e
+        plain-both g bytes cells s l old new (p + 1) (q + 1) (standard_end h old (slice_index old p) (p + 1)) (standard_end (moved_header h n) new (slice_index old p) (q + 1)) o on e
         (λ i f. standard-both h n old new (slice_index old p) (p + 1) (q + 1) i counts on some below f)
       where
         not_le : (a b : ℕ) → nat_le a b ≡ false → b < a
@@ -403,9 +404,9 @@ pub record ProgramMoved (g k : LineSource) (h : LineHeader) (n : LinePlaces) (ol
   pub are : Opcodes g.number (moved_header h n) new q files
   pub kept : KeptFiles g k old fs files
 
-pub program-moved : (g : LineSource) (bytes s l old new : List ℕ) (h : LineHeader) (n : LinePlaces) (p q : ℕ) (fs : List FilePlace) → Sides g bytes old new → Counts h n old new
-    → Same old new p q → Opcodes g.number h old p fs → ProgramMoved g (edited_source g bytes s l) h n old new q fs
-program-moved g bytes s l old new h n p q fs sides counts same (program_over a over) =
+pub program-moved : (g : LineSource) (bytes : List ℕ) (cells : List Cell) (s l old new : List ℕ) (h : LineHeader) (n : LinePlaces) (p q : ℕ) (fs : List FilePlace) → Sides g bytes cells old new → Counts h n old new
+    → Same old new p q → Opcodes g.number h old p fs → ProgramMoved g (edited_with g bytes cells s l) h n old new q fs
+program-moved g bytes cells s l old new h n p q fs sides counts same (program_over a over) =
     let was = same.was in
     let is = same.is in
     let late : nat_lt q (length new) ≡ false = not_lt q (length new) (lt_not p (length old) over) in
@@ -423,14 +424,14 @@ program-moved g bytes s l old new h n p q fs sides counts same (program_over a o
       where
         past : (x y : ℕ) → y ≤ x → nat_lt x y ≡ false
         past x y z = grind (arith, z)
-program-moved g bytes s l old new h n p q all sides counts same (one_opcode a o fs inside at rest) =
-    let one = opcode-moved g bytes s l old new h n p q o sides counts same (ltb-true _ _ inside) at in
-    let more = program-moved g bytes s l old new h n o.next one.opcode.next fs sides counts one.same rest in
+program-moved g bytes cells s l old new h n p q all sides counts same (one_opcode a o fs inside at rest) =
+    let one = opcode-moved g bytes cells s l old new h n p q o sides counts same (ltb-true _ _ inside) at in
+    let more = program-moved g bytes cells s l old new h n o.next one.opcode.next fs sides counts one.same rest in
     let lt : p < length old = ltb-true _ _ inside in
     let is = same.is in
     let was = same.was in
     record {
       files = file_first one.opcode.file more.files;
       are = one_opcode q one.opcode more.files (lt-ltb q (length new) (omega (arith, lt, was, is, same-length old new p q same))) one.is more.are;
-      kept = first-kept g (edited_source g bytes s l) old o.file one.opcode.file fs more.files one.kept more.kept;
+      kept = first-kept g (edited_with g bytes cells s l) old o.file one.opcode.file fs more.files one.kept more.kept;
     }

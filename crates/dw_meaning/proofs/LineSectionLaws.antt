@@ -1,8 +1,8 @@
 -- Line tables one after another that were written with their paths mapped are read, start where they were laid, and mean the mapped tables.
-use Rattle.std.proofs.Common.{true, ◌≡◌, ◌≢◌, ℕ, suc, ◌+◌, ◌<◌, ◌≤◌, List, [], ◌∷◌, ◌++◌, length, refl, sym, ap, ◌∙◌, subst, arith, append_assoc}
+use Rattle.std.proofs.Common.{true, ◌≡◌, ◌≢◌, ℕ, suc, ◌+◌, ◌<◌, ◌≤◌, List, [], ◌∷◌, ◌++◌, length, drop, refl, sym, ap, ◌∙◌, subst, arith, append_assoc}
 use Rattle.std.specs.Prelude.{⊤}
 use Rattle.std.proofs.lemmas.List.{length-append, append-nil}
-use Rattle.dw_base.specs.Cells.{bytes_of}
+use Rattle.dw_base.specs.Cells.{Cell, bytes_of}
 use Rattle.dw_base.specs.Forms.{in_str, in_line_str}
 use Rattle.dw_base.specs.LineChanges.{paths_mentions, line_mentions, line_place, lines_after}
 use Rattle.dw_base.specs.LineMeanings.{LineMeaning, line_meaning, line_meanings, mapped_line, mapped_lines}
@@ -18,12 +18,18 @@ use Rattle.dw_base.specs.declared.line_tables.TextPlace.{TextPlace}
 use Rattle.dw_base.specs.declared.shared.Width.{Width}
 use Rattle.dw_base.specs.declared.shared.Width.TheVariants.{W32, W64}
 use Rattle.dw_base.proofs.ContributionBackLaws.{StandsAt}
-use Rattle.dw_base.proofs.PlainCellLaws.{IsPlain}
-use Rattle.dw_meaning.proofs.LineColumnLaws.{edited_source, Grows, SourceMoves}
+use Rattle.dw_base.proofs.UnitEditLaws.{length-bytes_of}
+use Rattle.dw_meaning.specs.LineCells.{all_written_cells, written_cells}
+use Rattle.dw_meaning.proofs.CellLaidLaws.{stand-behind}
+use Rattle.dw_meaning.proofs.ClearLaws.{NoneOver, over-start}
+use Rattle.dw_meaning.proofs.LineCellLaws.{all-bytes, written-bytes}
+use Rattle.dw_meaning.proofs.LineClearLaws.{EachClear}
+use Rattle.dw_meaning.proofs.LineTableLaws.{header-places}
+use Rattle.dw_meaning.proofs.LineColumnLaws.{edited_with, Grows, SourceMoves}
 use Rattle.dw_meaning.proofs.LineHeaderLaws.{header-is, length-size}
 use Rattle.dw_meaning.proofs.LineLaidLaws.{stands-first, stands-next, length-bytes}
 use Rattle.dw_meaning.proofs.LineMeaningLaws.{table-moved}
-use Rattle.dw_meaning.proofs.LinePathLaws.{BothMove, paths-move}
+use Rattle.dw_meaning.proofs.LinePathLaws.{AllTake, BothMove, paths-move}
 use Rattle.dw_meaning.proofs.LineStartLaws.{EachSome}
 use Rattle.dw_meaning.proofs.TextEditLaws.{TextsAre, behind_piece}
 
@@ -50,6 +56,16 @@ written-some g m c r =
           (written_rest g m (line_place m c.str c.line_str g) (table_read g r)),
     )
 
+-- where there is a table more, none reaches over its start
+abbrev OverIf : List Cell → ℕ → List LineReading → Type 0
+OverIf cells q [] = ⊤
+OverIf cells q (r ∷ rs) = NoneOver cells q
+
+over-if : (g : LineSource) (cells : List Cell) (q e : ℕ) (p : ℕ) (rs : List LineReading) → EachClear g rs → TablesTo g p rs e → (NoneOver g.cells p → NoneOver cells q) → OverIf cells q rs
+over-if g cells q e p [] clear tables h = tt
+over-if g cells q e p (r ∷ rs) clear tables h =
+    h (subst (NoneOver g.cells) (header-places g p r.header (header-is g.order g.bytes p r.header tables.0.header)).0 clear.0.apart)
+
 -- the tables after the edit
 pub record LinesMoved (g k : LineSource) (m : PathMap) (q e : ℕ) (ts : List (List ℕ)) (rs : List LineReading) : Type 0 where
   pub readings : List LineReading
@@ -59,15 +75,17 @@ pub record LinesMoved (g k : LineSource) (m : PathMap) (q e : ℕ) (ts : List (L
   pub some : EachSome ts
   pub count : length ts ≡ length (table_starts rs)
 
-pub lines-moved : (c : TableChanges) (g : LineSource) (bytes : List ℕ) (ts us : List (List ℕ)) (ms ns : List Mention) (p e q : ℕ) (rs : List LineReading)
+pub lines-moved : (c : TableChanges) (g : LineSource) (bytes : List ℕ) (cells more_cells : List Cell) (ts us : List (List ℕ)) (ms ns : List Mention) (p e q : ℕ) (rs : List LineReading)
     → SourceMoves g c.map (new_table c.str.plan c.str.texts) (new_table c.line_str.plan c.line_str.texts) → BothMove c g → TablesTo g p rs e → EachCan g c.map c rs
     → TextsAre c ts us (line_mentions g in_str rs ++ ms) (line_mentions g in_line_str rs ++ ns)
-    → StandsAt bytes (all_lines (lines_after c.map c.str c.line_str g rs)) q
-    → LinesMoved g (edited_source g bytes (new_table c.str.plan c.str.texts) (new_table c.line_str.plan c.line_str.texts)) c.map q
+    → StandsAt bytes (all_lines (lines_after c.map c.str c.line_str g rs)) q → bytes_of cells ≡ bytes
+    → drop q cells ≡ all_written_cells g c.map (line_place c.map c.str c.line_str g) rs ++ more_cells → OverIf cells q rs → EachClear g rs
+    → AllTake g (line_place c.map c.str c.line_str g) rs
+    → LinesMoved g (edited_with g bytes cells (new_table c.str.plan c.str.texts) (new_table c.line_str.plan c.line_str.texts)) c.map q
     (q + length (all_lines (lines_after c.map c.str c.line_str g rs))) (lines_after c.map c.str c.line_str g rs) rs
-lines-moved c g bytes ts us ms ns p e q [] w both reads can all st =
+lines-moved c g bytes cells more_cells ts us ms ns p e q [] w both reads can all st own there over clear takes =
     record { readings = []; are = omega arith; starts = refl; says = refl; some = tt; count = refl }
-lines-moved c g bytes ts us ms ns p e q (r ∷ rs) w both reads can all st =
+lines-moved c g bytes cells more_cells ts us ms ns p e q (r ∷ rs) w both reads can all st own there over clear takes =
     let s : List ℕ = new_table c.str.plan c.str.texts in
     let l : List ℕ = new_table c.line_str.plan c.line_str.texts in
     let xs : List TextPlace = r.dirs ++ Rattle.dw_base.specs.LineTables.texts_of r.files in
@@ -77,14 +95,24 @@ lines-moved c g bytes ts us ms ns p e q (r ∷ rs) w both reads can all st =
       str = all.str ∙ ap (texts_after c.str.plan c.map ts) (append_assoc (paths_mentions g in_str xs) (line_mentions g in_str rs) ms);
       line_str = all.line_str ∙ ap (texts_after c.line_str.plan c.map us) (append_assoc (paths_mentions g in_line_str xs) (line_mentions g in_line_str rs) ns);
     } in
-    let moves = paths-move c g r.header.width ts us (line_mentions g in_str rs ++ ms) (line_mentions g in_line_str rs ++ ns) xs both here in
-    let one = table-moved g c.map (line_place c.map c.str c.line_str g) bytes s l p q r w reads.0 (record { table = can.0.table; header = can.0.header }) moves can.0.defined
-    (stands-first bytes t (all_lines rest) q st) in
-    let more = lines-moved c g bytes (texts_after c.str.plan c.map ts (paths_mentions g in_str xs)) (texts_after c.line_str.plan c.map us (paths_mentions g in_line_str xs)) ms ns
+    let moves = paths-move c g r.header.width ts us (line_mentions g in_str rs ++ ms) (line_mentions g in_line_str rs ++ ns) xs both here takes.0 in
+    let here_cells : drop q cells ≡ written_cells g c.map (line_place c.map c.str c.line_str g) (table_read g r)
+    ++ (all_written_cells g c.map (line_place c.map c.str c.line_str g) rs ++ more_cells) =
+    there ∙ append_assoc (written_cells g c.map (line_place c.map c.str c.line_str g) (table_read g r)) (all_written_cells g c.map (line_place c.map c.str c.line_str g) rs) more_cells in
+    let size : length (written_cells g c.map (line_place c.map c.str c.line_str g) (table_read g r)) ≡ length (written_table g c.map (line_place c.map c.str c.line_str g) (table_read g r)) =
+    sym (length-bytes_of (written_cells g c.map (line_place c.map c.str c.line_str g) (table_read g r)))
+    ∙ ap length (written-bytes g c.map (line_place c.map c.str c.line_str g) (table_read g r) w.own) in
+    let behind_cells : drop (q + length (written_table g c.map (line_place c.map c.str c.line_str g) (table_read g r))) cells
+    ≡ all_written_cells g c.map (line_place c.map c.str c.line_str g) rs ++ more_cells =
+    ap (λ (i : ℕ). drop (q + i) cells) (sym size)
+    ∙ stand-behind cells (written_cells g c.map (line_place c.map c.str c.line_str g) (table_read g r)) (all_written_cells g c.map (line_place c.map c.str c.line_str g) rs ++ more_cells) q here_cells in
+    let one = table-moved g c.map (line_place c.map c.str c.line_str g) bytes cells (all_written_cells g c.map (line_place c.map c.str c.line_str g) rs ++ more_cells) s l p q r w reads.0
+    (record { table = can.0.table; header = can.0.header }) moves can.0.defined (stands-first bytes t (all_lines rest) q st) own here_cells over clear.0 in
+    let more = lines-moved c g bytes cells more_cells (texts_after c.str.plan c.map ts (paths_mentions g in_str xs)) (texts_after c.line_str.plan c.map us (paths_mentions g in_line_str xs)) ms ns
     r.header.end e (q + length t) rs w both reads.1 can.1
     (behind_piece c ts us (paths_mentions g in_str xs) (paths_mentions g in_line_str xs) (line_mentions g in_str rs ++ ms) (line_mentions g in_line_str rs ++ ns) here)
-    (stands-next bytes t (all_lines rest) q st) in
-    let k : LineSource = edited_source g bytes s l in
+    (stands-next bytes t (all_lines rest) q st) own behind_cells (over-if g cells (q + length t) e r.header.end rs clear.1 reads.1 one.over) clear.1 takes.1 in
+    let k : LineSource = edited_with g bytes cells s l in
     let end : q + length t + length (all_lines rest) ≡ q + length (t ++ all_lines rest) = omega (arith, length-append t (all_lines rest)) in
     record {
       readings = one.reading ∷ more.readings;
@@ -131,18 +159,20 @@ no-tables g (r ∷ rs) none reads =
     absurd (omega (arith, below, within, size))
 
 -- the new section
-pub section-moved : (c : TableChanges) (g : LineSource) (ts us : List (List ℕ)) (ms ns : List Mention) (rs : List LineReading) → bytes_of g.cells ≡ g.bytes → IsPlain g.cells
-    → BothMove c g → Grows g.str.bytes (new_table c.str.plan c.str.texts) → Grows g.line_str.bytes (new_table c.line_str.plan c.line_str.texts) → TablesApart g rs
-    → ((at : ℕ) → ends_in g.line_str.bytes at ≡ true → g.line_str.number ≢ g.str.number) → TablesTo g 0 rs (length g.bytes) → EachCan g c.map c rs
+pub section-moved : (c : TableChanges) (g : LineSource) (ts us : List (List ℕ)) (ms ns : List Mention) (rs : List LineReading) → g.is_read ≡ true → bytes_of g.cells ≡ g.bytes
+    → EachClear g rs → AllTake g (line_place c.map c.str c.line_str g) rs → BothMove c g → Grows g.str.bytes (new_table c.str.plan c.str.texts) → Grows g.line_str.bytes (new_table c.line_str.plan c.line_str.texts)
+    → TablesApart g rs → ((at : ℕ) → ends_in g.line_str.bytes at ≡ true → g.line_str.number ≢ g.str.number) → TablesTo g 0 rs (length g.bytes) → EachCan g c.map c rs
     → TextsAre c ts us (line_mentions g in_str rs ++ ms) (line_mentions g in_line_str rs ++ ns)
-    → LinesMoved g (edited_source g (all_lines (lines_after c.map c.str c.line_str g rs)) (new_table c.str.plan c.str.texts) (new_table c.line_str.plan c.line_str.texts)) c.map 0
-    (length (all_lines (lines_after c.map c.str c.line_str g rs))) (lines_after c.map c.str c.line_str g rs) rs
-section-moved c g ts us ms ns [] own plain both a b apart tables reads can all =
+    → LinesMoved g (edited_with g (all_lines (lines_after c.map c.str c.line_str g rs)) (all_written_cells g c.map (line_place c.map c.str c.line_str g) rs)
+    (new_table c.str.plan c.str.texts) (new_table c.line_str.plan c.line_str.texts)) c.map 0 (length (all_lines (lines_after c.map c.str c.line_str g rs)))
+    (lines_after c.map c.str c.line_str g rs) rs
+section-moved c g ts us ms ns [] read own clear takes both a b apart tables reads can all =
     record { readings = []; are = refl; starts = refl; says = refl; some = tt; count = refl }
-section-moved c g ts us ms ns (r ∷ rs) own plain both a b apart tables reads can all =
-    subst (λ (e : ℕ). LinesMoved g (edited_source g (all_lines (lines_after c.map c.str c.line_str g (r ∷ rs))) (new_table c.str.plan c.str.texts) (new_table c.line_str.plan c.line_str.texts))
-    c.map 0 e (lines_after c.map c.str c.line_str g (r ∷ rs)) (r ∷ rs))
+section-moved c g ts us ms ns (r ∷ rs) read own clear takes both a b apart tables reads can all =
+    subst (λ (e : ℕ). LinesMoved g (edited_with g (all_lines (lines_after c.map c.str c.line_str g (r ∷ rs))) (all_written_cells g c.map (line_place c.map c.str c.line_str g) (r ∷ rs))
+    (new_table c.str.plan c.str.texts) (new_table c.line_str.plan c.line_str.texts)) c.map 0 e (lines_after c.map c.str c.line_str g (r ∷ rs)) (r ∷ rs))
     (zero-plus (length (all_lines (lines_after c.map c.str c.line_str g (r ∷ rs)))))
-    (lines-moved c g (all_lines (lines_after c.map c.str c.line_str g (r ∷ rs))) ts us ms ns 0 (length g.bytes) 0 (r ∷ rs)
-    (record { map = both.map; own = own; plain = plain; str = a; line_str = b; apart_str = apart.0; apart_line = apart.1; tables = tables }) both reads can all
-    (whole-stands (all_lines (lines_after c.map c.str c.line_str g (r ∷ rs)))))
+    (lines-moved c g (all_lines (lines_after c.map c.str c.line_str g (r ∷ rs))) (all_written_cells g c.map (line_place c.map c.str c.line_str g) (r ∷ rs)) [] ts us ms ns 0 (length g.bytes) 0 (r ∷ rs)
+    (record { map = both.map; read = read; own = own; str = a; line_str = b; apart_str = apart.0; apart_line = apart.1; tables = tables }) both reads can all
+    (whole-stands (all_lines (lines_after c.map c.str c.line_str g (r ∷ rs)))) (all-bytes c g (r ∷ rs) own)
+    (sym (append-nil (all_written_cells g c.map (line_place c.map c.str c.line_str g) (r ∷ rs)))) (over-start (all_written_cells g c.map (line_place c.map c.str c.line_str g) (r ∷ rs))) clear takes)

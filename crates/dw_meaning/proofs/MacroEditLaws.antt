@@ -207,13 +207,13 @@ all-macros-can around order (z ∷ zs) (r ∷ rs) reads plain = (
 )
 
 -- the text law, for all sections
-pub macros-edited : (order : Order) (c : TableChanges) (around : Around) (ts us : List (List ℕ)) (zs : List CellSection) (rs : List MacroReading) (ms ns : List Mention)
+pub macros-edited : (lc : List Cell) (order : Order) (c : TableChanges) (around : Around) (ts us : List (List ℕ)) (zs : List CellSection) (rs : List MacroReading) (ms ns : List Mention)
     → TablesMove c around → TextsAre c ts us (macro_mentions in_str around rs ++ ms) (macro_mentions in_line_str around rs ++ ns) → ReadsAllMacros order zs rs
     → EachMacro (λ x. CanMove (macro_role x.state) around x.cells) rs → EachMacro (λ x. NamesTextBy (macro_role x.state) around x.cells) rs
-    → AllMacrosChanged (shift_of c around) rs (edited_macros c around rs)
-macros-edited order c around ts us zs [] ms ns t all reads moves names = tt
-macros-edited order c around ts us [] (r ∷ rs) ms ns t all reads moves names = absurd reads
-macros-edited order c around ts us (z ∷ zs) (r ∷ rs) ms ns t all reads moves names =
+    → AllMacrosChanged (shift_of c around lc) rs (edited_macros c around rs)
+macros-edited lc order c around ts us zs [] ms ns t all reads moves names = tt
+macros-edited lc order c around ts us [] (r ∷ rs) ms ns t all reads moves names = absurd reads
+macros-edited lc order c around ts us (z ∷ zs) (r ∷ rs) ms ns t all reads moves names =
     let heres : List Mention = mentions_with macro_role in_str around r.pieces in
     let lines : List Mention = mentions_with macro_role in_line_str around r.pieces in
     let rest : TextsAre c ts us (heres ++ (macro_mentions in_str around rs ++ ms)) (lines ++ (macro_mentions in_line_str around rs ++ ns)) =
@@ -222,9 +222,9 @@ macros-edited order c around ts us (z ∷ zs) (r ∷ rs) ms ns t all reads moves
       line_str = all.line_str ∙ ap (texts_after c.line_str.plan c.map us) (append_assoc lines (macro_mentions in_line_str around rs) ns);
     } in (
       refl,
-      roles-changed macro_role c around ts us r.pieces (macro_mentions in_str around rs ++ ms) (macro_mentions in_line_str around rs ++ ns) t rest
+      roles-changed lc macro_role c around ts us r.pieces (macro_mentions in_str around rs ++ ms) (macro_mentions in_line_str around rs ++ ns) t rest
           moves.0 names.0,
-      macros-edited order c around (texts_after c.str.plan c.map ts heres) (texts_after c.line_str.plan c.map us lines) zs rs ms ns t
+      macros-edited lc order c around (texts_after c.str.plan c.map ts heres) (texts_after c.line_str.plan c.map us lines) zs rs ms ns t
           (behind_piece c ts us heres lines (macro_mentions in_str around rs ++ ms) (macro_mentions in_line_str around rs ++ ns) rest)
           reads.2 moves.1 names.1,
     )

@@ -2,12 +2,13 @@
 use Rattle.std.proofs.lemmas.List.{drop-drop}
 use Rattle.std.proofs.Common.{Bool, true, false, ◌≡◌, ℕ, zero, suc, ◌+◌, arith, List, [], ◌∷◌, ◌++◌, drop, Option, Some, None, true≢false, refl, sym, ap, ◌∙◌, if◌then◌else◌}
 use Rattle.std.specs.Prelude.{◌&&◌}
-use Rattle.dw_base.specs.Cells.{CellSection, plain_cells}
+use Rattle.dw_base.specs.Cells.{Cell, CellSection}
 use Rattle.dw_base.specs.DebugSections.{debug_section, name_of}
-use Rattle.dw_base.specs.FileViews.{Contents, plain_contents, ViewSection, View, contents_in, section_bytes, first_filled, section_after, section_named}
+use Rattle.dw_base.specs.FileViews.{ViewSection, View, bytes_in, cells_of, contents_in, relocations_there, section_bytes, first_filled, section_after, section_named, view_cells, view_relocations}
+use Rattle.dw_base.specs.SectionRelocations.{cells_from}
 use Rattle.dw_base.specs.MacroReadings.{first_macros}
 use Rattle.dw_base.specs.Texts.{same_text}
-use Rattle.dw_base.specs.ViewData.{cells_in, is_macro, macro_section, macro_sections_from, macro_sections, located, located_at}
+use Rattle.dw_base.specs.ViewData.{is_macro, macro_section, macro_sections_from, macro_sections, located, located_at}
 use Rattle.dw_base.specs.declared.debug_sections.DebugSection.{DebugSection}
 use Rattle.dw_base.specs.declared.debug_sections.DebugSection.TheVariants.{Info, Types, Abbrev, Str, LineStr, StrOffsets, Line, Macro, Names}
 use Rattle.dw_base.proofs.DebugSectionLaws.{debug_section-name, debug_section-named}
@@ -62,13 +63,17 @@ abbrev pub macros_above : View → ℕ → List CellSection
 macros_above v n = macro_sections_from (suc n) (drop (suc n) v.sections)
 
 abbrev pub section_cells : View → ℕ → CellSection
-section_cells v i = record { number = i; contents = plain_cells (section_bytes v i) }
+section_cells v i = record { number = i; contents = view_cells v i }
+
+-- the contents of the section of a number of a list as cells
+abbrev cells_among : List ViewSection → ℕ → List Cell
+cells_among ss i = cells_from (relocations_there ss i) 0 (bytes_in (contents_in ss i))
 
 -- the first that is filled, at a place of a list
 record FilledAt (k i : ℕ) (ss : List ViewSection) : Type 0 where
   place : ℕ
   is : i ≡ k + place
-  list : macro_sections_from k ss ≡ record { number = i; contents = cells_in (contents_in ss place) } ∷ macro_sections_from (suc i) (drop (suc place) ss)
+  list : macro_sections_from k ss ≡ record { number = i; contents = cells_among ss place } ∷ macro_sections_from (suc i) (drop (suc place) ss)
 
 none-from : (k : ℕ) (ss : List ViewSection) → first_filled (name_of Macro) k ss ≡ None → macro_sections_from k ss ≡ []
 none-from k [] e = refl
@@ -98,7 +103,7 @@ filled-from k i (s ∷ ss) e =
           place = 0;
           is = sym here ∙ omega arith;
           list = ap (λ (b : Bool). macro_section k s b ++ macro_sections_from (suc k) ss) is
-              ∙ ap (λ (n : ℕ). record { number = n; contents = cells_in s.contents } ∷ macro_sections_from (suc n) ss) here;
+              ∙ ap (λ (n : ℕ). record { number = n; contents = cells_of s } ∷ macro_sections_from (suc n) ss) here;
         }
     by_test false is f rest =
         let far : FilledAt (suc k) i ss = rest f in
@@ -108,36 +113,36 @@ filled-from k i (s ∷ ss) e =
           list = ap (λ (b : Bool). macro_section k s b ++ macro_sections_from (suc k) ss) is ∙ far.list;
         }
 
-contents-drop : (n i : ℕ) (ss : List ViewSection) → contents_in (drop n ss) i ≡ contents_in ss (n + i)
-contents-drop n i [] = ap (λ (ts : List ViewSection). contents_in ts i) (none n) ∙ nothing i ∙ sym (nothing (n + i))
+cells-drop : (n i : ℕ) (ss : List ViewSection) → cells_among (drop n ss) i ≡ cells_among ss (n + i)
+cells-drop n i [] = ap (λ (ts : List ViewSection). cells_among ts i) (none n) ∙ nothing i ∙ sym (nothing (n + i))
   where
     none : (m : ℕ) → drop {A = ViewSection} m [] ≡ []
     none zero = refl
     none (suc m) = refl
 
-    nothing : (j : ℕ) → contents_in [] j ≡ plain_contents []
+    nothing : (j : ℕ) → cells_among [] j ≡ []
     nothing j = refl
-contents-drop zero i (s ∷ ss) =
+cells-drop zero i (s ∷ ss) =
     let same : i ≡ 0 + i = omega arith in
-    ap (contents_in (s ∷ ss)) same
-contents-drop (suc n) i (s ∷ ss) =
+    ap (cells_among (s ∷ ss)) same
+cells-drop (suc n) i (s ∷ ss) =
     let same : suc (n + i) ≡ suc n + i = omega arith in
-    contents-drop n i ss ∙ ap (contents_in (s ∷ ss)) same
+    cells-drop n i ss ∙ ap (cells_among (s ∷ ss)) same
 
 pub macros-none : (v : View) (n : ℕ) → section_after v (name_of Macro) n ≡ None → macros_above v n ≡ []
 unfolding section_after
 macros-none v n e = none-from (suc n) (drop (suc n) v.sections) e
 
 pub macros-some : (v : View) (n i : ℕ) → section_after v (name_of Macro) n ≡ Some i → macros_above v n ≡ section_cells v i ∷ macros_above v i
-unfolding section_after section_bytes
+unfolding section_after section_bytes view_relocations
 macros-some v n i e =
     let f : FilledAt (suc n) i (drop (suc n) v.sections) = filled-from (suc n) i (drop (suc n) v.sections) e in
     let there : i ≡ suc n + f.place = f.is in
     let next : suc n + suc f.place ≡ suc i = omega (arith, there) in
     f.list
-    ∙ ap (λ (c : Contents). record { number = i; contents = cells_in c } ∷ macro_sections_from (suc i) (drop (suc f.place) (drop (suc n) v.sections)))
-    (contents-drop (suc n) f.place v.sections ∙ ap (contents_in v.sections) (sym f.is))
-    ∙ ap (λ (ss : List ViewSection). record { number = i; contents = cells_in (contents_in v.sections i) } ∷ macro_sections_from (suc i) ss)
+    ∙ ap (λ (c : List Cell). record { number = i; contents = c } ∷ macro_sections_from (suc i) (drop (suc f.place) (drop (suc n) v.sections)))
+    (cells-drop (suc n) f.place v.sections ∙ ap (cells_among v.sections) (sym f.is))
+    ∙ ap (λ (ss : List ViewSection). record { number = i; contents = cells_among v.sections i } ∷ macro_sections_from (suc i) ss)
     (drop-drop (suc f.place) (suc n) v.sections ∙ ap (λ (m : ℕ). drop m v.sections) next)
 
 pub macros-all : (v : View) → macro_sections v ≡ macros_above v 0

@@ -4,7 +4,8 @@ use Rattle.std.specs.Prelude.{◌&&◌, zero}
 use Rattle.dw_base.specs.Cells.{Cell, CellSection, Located, bytes_of, offset_of}
 use Rattle.dw_base.specs.DebugData.{DataReadings, Around, around_of}
 use Rattle.dw_base.specs.DebugSections.{debug_section}
-use Rattle.dw_base.specs.FileViews.{View, ViewSection, cells_of, contents_in, section_bytes, view_cells}
+use Rattle.dw_base.specs.FileViews.{View, ViewSection, bytes_in, cells_of, contents_in, relocations_there, section_bytes, view_cells, view_relocations}
+use Rattle.dw_base.specs.SectionRelocations.{cells_from}
 use Rattle.dw_base.specs.MacroFails.{MacroUnitsFail}
 use Rattle.dw_base.specs.MacroPieces.{of_text, of_unit, MacroMode, at_unit, at_line, at_operation, at_offset, no_macros, MacroState, ReadsMacros}
 use Rattle.dw_base.specs.MacroReadings.{MacroReading, ReadsAllMacros, EachMacro}
@@ -12,7 +13,7 @@ use Rattle.dw_base.specs.Pieces.{Piece, EachPiece}
 use Rattle.dw_base.specs.SectionTexts.{macro_role_by, macro_role}
 use Rattle.dw_base.specs.TextChanges.{NamesTextBy}
 use Rattle.dw_base.specs.Texts.{ends_in}
-use Rattle.dw_base.specs.ViewData.{cells_in, is_macro, macro_section, macro_sections_from, macro_sections, debug_data, located}
+use Rattle.dw_base.specs.ViewData.{is_macro, macro_section, macro_sections_from, macro_sections, debug_data, located}
 use Rattle.dw_base.specs.declared.debug_sections.DebugSection.TheVariants.{Str}
 use Rattle.dw_base.specs.declared.fault.Refusal.{Refusal}
 use Rattle.dw_base.specs.declared.shared.Order.{Order}
@@ -22,10 +23,14 @@ use Rattle.dw_meaning.specs.DataOutput.{DataReads}
 use Rattle.dw_meaning.proofs.MacroBackLaws.{MacroNamesBy, MacroNames, UnitsBack, units-back}
 use Rattle.dw_meaning.proofs.MacroPieceLaws.{CellsOf}
 
+-- the contents of the section of a number of a list as cells
+abbrev cells_among : List ViewSection → ℕ → List Cell
+cells_among ss i = cells_from (relocations_there ss i) 0 (bytes_in (contents_in ss i))
+
 -- a section of macro units of a list, by its number
 record SectionAt (k : ℕ) (ss : List ViewSection) (z : CellSection) : Type 0 where
   from : k ≤ z.number
-  cells : (i : ℕ) → z.number ≡ k + i → z.contents ≡ cells_in (contents_in ss i)
+  cells : (i : ℕ) → z.number ≡ k + i → z.contents ≡ cells_among ss i
 
 section-among : (k : ℕ) (ss : List ViewSection) (before behind : List CellSection) (z : CellSection) → macro_sections_from k ss ≡ before ++ z ∷ behind → SectionAt k ss z
 section-among k [] [] behind z e = absurd cc
@@ -38,15 +43,15 @@ section-among k (s ∷ ss) before behind z e =
         let from = h.from in
         record { from = omega (arith, from); cells = by_index from h.cells }
       where
-        by_index : suc k ≤ z.number → ((i : ℕ) → z.number ≡ suc k + i → z.contents ≡ cells_in (contents_in ss i))
-            → (i : ℕ) → z.number ≡ k + i → z.contents ≡ cells_in (contents_in (s ∷ ss) i)
+        by_index : suc k ≤ z.number → ((i : ℕ) → z.number ≡ suc k + i → z.contents ≡ cells_among ss i)
+            → (i : ℕ) → z.number ≡ k + i → z.contents ≡ cells_among (s ∷ ss) i
         by_index from h zero same = absurd (omega (arith, from, same))
         by_index from h (suc i) same = h i (omega (arith, same))
 
     here : z ≡ record { number = k; contents = cells_of s } → SectionAt k (s ∷ ss) z
     here e = subst (SectionAt k (s ∷ ss)) (sym e) (record { from = omega arith; cells = own })
       where
-        own : (i : ℕ) → k ≡ k + i → cells_of s ≡ cells_in (contents_in (s ∷ ss) i)
+        own : (i : ℕ) → k ≡ k + i → cells_of s ≡ cells_among (s ∷ ss) i
         own zero same = refl
         own (suc i) same = absurd (omega (arith, same))
 
@@ -64,20 +69,20 @@ section-among k (s ∷ ss) before behind z e =
     by_section true (y ∷ ys) e rest =
         rest ys (tail-same (record { number = k; contents = cells_of s }) y (macro_sections_from (suc k) ss) (ys ++ z ∷ behind) e)
 
-contents-behind : (ss : List ViewSection) (i : ℕ) → contents_in (drop 1 ss) i ≡ contents_in ss (suc i)
-contents-behind [] i = refl
-contents-behind (s ∷ ss) i = refl
+cells-behind : (ss : List ViewSection) (i : ℕ) → cells_among (drop 1 ss) i ≡ cells_among ss (suc i)
+cells-behind [] i = refl
+cells-behind (s ∷ ss) i = refl
 
 -- the contents of a section of macro units of a view, and their bytes
 view-cells : (v : View) (before behind : List CellSection) (z : CellSection) → macro_sections v ≡ before ++ z ∷ behind → z.contents ≡ view_cells v z.number
-unfolding macro_sections section_bytes
+unfolding macro_sections section_bytes view_relocations
 view-cells v before behind z e = by_number z.number refl (section-among 1 (drop 1 v.sections) before behind z e)
   where
-    by_number : (n : ℕ) → z.number ≡ n → SectionAt 1 (drop 1 v.sections) z → z.contents ≡ cells_in (contents_in v.sections n)
+    by_number : (n : ℕ) → z.number ≡ n → SectionAt 1 (drop 1 v.sections) z → z.contents ≡ cells_among v.sections n
     by_number zero same h =
         let from = h.from in
         absurd (omega (arith, from, same))
-    by_number (suc i) same h = h.cells i (same ∙ omega arith) ∙ ap cells_in (contents-behind v.sections i)
+    by_number (suc i) same h = h.cells i (same ∙ omega arith) ∙ cells-behind v.sections i
 
 view-bytes : (v : View) (before behind : List CellSection) (z : CellSection) → macro_sections v ≡ before ++ z ∷ behind → bytes_of z.contents ≡ section_bytes v z.number
 view-bytes v before behind z e = ap bytes_of (view-cells v before behind z e) ∙ bytes_of-view_cells v z.number

@@ -1,58 +1,87 @@
--- No relocation begins in the debug data of a file, since its view has none yet; so no row of relocations holds of it. And none holds of a
--- file that isn't relocatable, whatever its view has.
-use Rattle.std.proofs.Common.{Bool, true, false, ◌≡◌, ℕ, suc, List, [], ◌∷◌, ◌++◌, drop, Option, Some, None, sym, refl, subst, if◌then◌else◌}
+-- No relocation begins in the debug data of a file that isn't relocatable; so no row of relocations holds of it.
+use Rattle.std.proofs.Common.{Bool, true, false, ◌≡◌, ℕ, suc, List, [], ◌∷◌, ◌++◌, length, drop, Option, Some, None, sym, refl, subst, if◌then◌else◌, ap, ◌∙◌}
+use Rattle.std.specs.Prelude.{Result, Ok, Err}
 use Rattle.dw_base.specs.Cells.{CellSection}
+use Rattle.dw_base.specs.DebugData.{line_source}
 use Rattle.dw_base.specs.DebugSections.{debug_section}
 use Rattle.dw_base.specs.Elf.{contents_of}
-use Rattle.dw_base.specs.FileViews.{ViewSection, bytes_in, view_of}
+use Rattle.dw_base.specs.FileViews.{ViewSection, bytes_in, section_bytes, view_of}
+use Rattle.dw_base.specs.Forms.{width_size}
 use Rattle.dw_base.specs.Layout.{is_loaded_kind}
+use Rattle.dw_base.specs.LineReadings.{AreTables, LineReading}
+use Rattle.dw_base.specs.MacroOffsets.{OperationRefuses, of_line, of_operation}
+use Rattle.dw_base.specs.NameOffsets.{no_offset}
+use Rattle.dw_base.specs.NameTables.{names_of, string_place}
+use Rattle.dw_base.specs.Numbers.{spelled}
 use Rattle.dw_base.specs.RelocationRows.FieldsFail.{offset as offset_row}
 use Rattle.dw_base.specs.RelocationRows.{moving_sections}
 use Rattle.dw_base.specs.UnitHeaders.{UnitSection, SectionKind}
 use Rattle.dw_base.specs.ViewData.{debug_data, located, macro_sections, unit_kind, unit_section, unit_sections, unit_sections_from}
 use Rattle.dw_base.specs.declared.debug_sections.DebugSection.TheVariants.{StrOffsets, Line, Names}
 use Rattle.dw_base.specs.declared.fault.Refusal.{Refusal}
+use Rattle.dw_base.specs.ViewOffsets.{if_placed, offset_read}
+use Rattle.dw_base.specs.declared.line_tables.TextPlace.{TextPlace}
+use Rattle.dw_base.specs.declared.macro_units.MacroOperation.{MacroOperation}
+use Rattle.dw_base.specs.declared.macro_units.MacroOperation.TheVariants.{End, Inline, Named, Enter, Leave, Bring, Foreign}
+use Rattle.dw_base.specs.declared.shared.Width.{Width}
+use Rattle.dw_base.specs.declared.view_fields.Field.{Field}
+use Rattle.dw_base.specs.declared.view_fields.Field.TheVariants.{Num}
 use Rattle.dw_base.proofs.PlainCellLaws.{IsPlain, plain_cells-plain}
 use Rattle.dw_base.proofs.RelocationRowLaws.{fields-plain, header_offsets-plain}
 use Rattle.dw_base.proofs.RelocationSectionLaws.{relocates_read-loaded, relocations-loaded}
+use Rattle.dw_base.proofs.ViewCellLaws.{field_read-loaded}
 use Rattle.dw_meaning.specs.FileMeanings.{file_data}
-use Rattle.dw_meaning.specs.RelocationFails.{RelocationsAreLoaded, RelocationsFail, ValueRelocationFails}
-use Rattle.dw_meaning.specs.RelocationFails.RelocationsFail.{sections, headers, values, left}
+use Rattle.dw_meaning.specs.RelocationFails.{OffsetsFailIn, RelocationsAreLoaded, RelocationsFail, ValueRelocationFails}
+use Rattle.dw_meaning.specs.RelocationFails.OffsetsFailIn.{names as names_row, macros as macros_row}
+use Rattle.dw_meaning.specs.RelocationFails.RelocationsFail.{sections, headers, values, offsets, left}
 use Rattle.dw_meaning.specs.RelocationFails.ValueRelocationFails.{value}
 use Rattle.dw_meaning.proofs.DataKeptLaws.{EachPlain}
+use Rattle.dw_meaning.proofs.FileBackLaws.{AllAt, SectionBack, bare-cells}
 use Rattle.dw_meaning.proofs.FileKeptLaws.{lines-are, names-are, offsets-are}
+use Rattle.dw_meaning.proofs.LineClearLaws.{EachClear, plain-clear}
+use Rattle.dw_meaning.proofs.LinePathLaws.{AllTake, plain-take}
 use Rattle.dw_meaning.proofs.MacroEditLaws.{AllPlain}
 use Rattle.dw_meaning.proofs.MacroKeptLaws.{macros-plain}
 use Rattle.dw_meaning.proofs.RelocationLaws.{NoRelocations, left-none}
+use Rattle.dw_meaning.proofs.TableKeptLaws.{drop-at, sections-self}
 
--- the unit sections of a view are plain cells
-units-plain : (k : ℕ) (ss : List ViewSection) → EachPlain (unit_sections_from k ss)
-units-plain k [] = tt
-units-plain k (s ∷ ss) = by_section s.has_bytes (unit_kind (debug_section s.name)) (units-plain (suc k) ss)
+-- the unit sections of such a file are plain cells
+units-plain : (b : List ℕ) (k : ℕ) (ss : List ViewSection) → is_loaded_kind b ≡ true → AllAt (SectionBack b (contents_of b)) k ss ss → EachPlain (unit_sections_from k ss)
+units-plain b k [] loaded all = tt
+units-plain b k (s ∷ ss) loaded all = by_section s.has_bytes (unit_kind (debug_section s.name)) (units-plain b (suc k) ss loaded all.1)
   where
     by_section : (full : Bool) (o : Option SectionKind) → EachPlain (unit_sections_from (suc k) ss)
         → EachPlain ((if full then unit_section k s o else []) ++ unit_sections_from (suc k) ss)
     by_section false o rest = rest
     by_section true None rest = rest
-    by_section true (Some kind) rest = (plain_cells-plain (bytes_in s.contents), rest)
+    by_section true (Some kind) rest = (subst IsPlain (sym (bare-cells s (all.0.bare loaded))) (plain_cells-plain (bytes_in s.contents)), rest)
 
-pub file-plain : (b : List ℕ) → EachPlain (file_data b).units
+sections-behind : (b : List ℕ) → AllAt (SectionBack b (contents_of b)) 1 (drop 1 (view_of b).sections) (drop 1 (view_of b).sections)
+sections-behind b = drop-at (SectionBack b (contents_of b)) (view_of b).sections (view_of b).sections (sections-self b)
+
+pub file-plain : (b : List ℕ) → is_loaded_kind b ≡ true → EachPlain (file_data b).units
 unfolding debug_data unit_sections
-file-plain b = units-plain 1 (drop 1 (view_of b).sections)
+file-plain b loaded = units-plain b 1 (drop 1 (view_of b).sections) loaded (sections-behind b)
 
-pub file-macros : (b : List ℕ) → AllPlain (file_data b).macros
+pub file-macros : (b : List ℕ) → is_loaded_kind b ≡ true → AllPlain (file_data b).macros
 unfolding debug_data macro_sections
-file-macros b = macros-plain 1 (drop 1 (view_of b).sections)
+file-macros b loaded = macros-plain b (contents_of b) 1 (drop 1 (view_of b).sections) loaded (sections-behind b)
 
 -- and so are the others
-pub offsets-plain : (b : List ℕ) → IsPlain (file_data b).offsets.contents
-offsets-plain b = subst (λ (z : CellSection). IsPlain z.contents) (sym (offsets-are b)) (plain_cells-plain (located (view_of b) StrOffsets).bytes)
+pub offsets-plain : (b : List ℕ) → is_loaded_kind b ≡ true → IsPlain (file_data b).offsets.contents
+offsets-plain b loaded = subst (λ (z : CellSection). IsPlain z.contents) (sym (offsets-are b loaded)) (plain_cells-plain (located (view_of b) StrOffsets).bytes)
 
-pub lines-plain : (b : List ℕ) → IsPlain (file_data b).lines.contents
-lines-plain b = subst (λ (z : CellSection). IsPlain z.contents) (sym (lines-are b)) (plain_cells-plain (located (view_of b) Line).bytes)
+pub lines-plain : (b : List ℕ) → is_loaded_kind b ≡ true → IsPlain (file_data b).lines.contents
+lines-plain b loaded = subst (λ (z : CellSection). IsPlain z.contents) (sym (lines-are b loaded)) (plain_cells-plain (located (view_of b) Line).bytes)
 
-pub names-plain : (b : List ℕ) → IsPlain (file_data b).names.contents
-names-plain b = subst (λ (z : CellSection). IsPlain z.contents) (sym (names-are b)) (plain_cells-plain (located (view_of b) Names).bytes)
+pub lines-clear : (b : List ℕ) (rs : List LineReading) → is_loaded_kind b ≡ true → AreTables (line_source (file_data b)) rs → EachClear (line_source (file_data b)) rs
+lines-clear b rs loaded tables = plain-clear (line_source (file_data b)) 0 (length (line_source (file_data b)).bytes) rs (lines-plain b loaded) tables
+
+pub lines-take : (b : List ℕ) (places : TextPlace → Option ℕ) (rs : List LineReading) → is_loaded_kind b ≡ true → AllTake (line_source (file_data b)) places rs
+lines-take b places rs loaded = plain-take (line_source (file_data b)) places rs (lines-plain b loaded)
+
+pub names-plain : (b : List ℕ) → is_loaded_kind b ≡ true → IsPlain (file_data b).names.contents
+names-plain b loaded = subst (λ (z : CellSection). IsPlain z.contents) (sym (names-are b loaded)) (plain_cells-plain (located (view_of b) Names).bytes)
 
 -- one of them
 unit-plain : (zs before behind : List UnitSection) (z : UnitSection) → zs ≡ before ++ z ∷ behind → EachPlain zs → IsPlain z.contents
@@ -69,28 +98,56 @@ macro-plain zs before behind z split plain = among before (subst AllPlain split 
     among [] h = h.0
     among (y ∷ ys) h = among ys h.1
 
-no-relocations : (b : List ℕ) → NoRelocations (file_data b)
-no-relocations b = record {
-  units = λ before behind z split. unit-plain (file_data b).units before behind z split (file-plain b);
-  macros = λ before behind z split. macro-plain (file_data b).macros before behind z split (file-macros b);
-  offsets = offsets-plain b;
-  lines = lines-plain b;
-  names = names-plain b;
+no-relocations : (b : List ℕ) → is_loaded_kind b ≡ true → NoRelocations (file_data b)
+no-relocations b loaded = record {
+  units = λ before behind z split. unit-plain (file_data b).units before behind z split (file-plain b loaded);
+  macros = λ before behind z split. macro-plain (file_data b).macros before behind z split (file-macros b loaded);
+  offsets = offsets-plain b loaded;
+  lines = lines-plain b loaded;
+  names = names-plain b loaded;
 }
 
--- so no row of relocations holds of a file that isn't relocatable
-value-none : (b : List ℕ) (r : Refusal) → ValueRelocationFails (file_data b) r → ⊥
-value-none b r (value z h list number a x place v f table has is kind fails) =
+-- so no row of relocations holds of it
+value-none : (b : List ℕ) (r : Refusal) → is_loaded_kind b ≡ true → ValueRelocationFails (file_data b) r → ⊥
+value-none b r loaded (value z h list number a x place v f table has is kind fails) =
     fields-plain (file_data b).base.order z.number z.contents [] (f ∷ []) r
-    (unit-plain (file_data b).units table.unit.before table.unit.behind z table.unit.sections (file-plain b))
+    (unit-plain (file_data b).units table.unit.before table.unit.behind z table.unit.sections (file-plain b loaded))
     (offset_row f (record { before = []; behind = []; is = refl }) kind fails)
+
+-- each offset is read as its number
+read-loaded : (b : List ℕ) (section place n : ℕ) (r : Refusal) → is_loaded_kind b ≡ true → offset_read (view_of b) section place n ≡ Err r → ⊥
+unfolding offset_read
+read-loaded b section place n r loaded e =
+    clash (sym (ap (if_placed section place) (field_read-loaded b section place n loaded)) ∙ e)
+  where
+    clash : ◌≡◌ {A = Result Field Refusal} (Ok (Num (spelled (view_of b).order (section_bytes (view_of b) section) place n))) (Err r) → ⊥
+    clash f = cc
+
+operation-loaded : (b : List ℕ) (section : ℕ) (width : Width) (o : MacroOperation) (r : Refusal) → is_loaded_kind b ≡ true
+    → OperationRefuses (view_of b) section width o r → ⊥
+operation-loaded b section width (Named defines line field) r loaded f = read-loaded b section field (width_size width) r loaded f.is
+operation-loaded b section width (Bring field) r loaded f = read-loaded b section field (width_size width) r loaded f.is
+operation-loaded b section width End r loaded f = f
+operation-loaded b section width (Inline defines line at len) r loaded f = f
+operation-loaded b section width (Enter line file) r loaded f = f
+operation-loaded b section width Leave r loaded f = f
+operation-loaded b section width Foreign r loaded f = f
+
+offsets-loaded : (b : List ℕ) (r : Refusal) → is_loaded_kind b ≡ true → OffsetsFailIn (view_of b) r → ⊥
+offsets-loaded b r loaded (names_row list start t before some is (no_offset i lt texts reads e)) =
+    read-loaded b (names_of (view_of b)).number (string_place t i) (width_size t.width) r loaded e
+offsets-loaded b r loaded (macros_row before behind z list start split units some (of_line h is f)) =
+    read-loaded b z.number h.line_field (width_size h.width) r loaded f.refused.is
+offsets-loaded b r loaded (macros_row before behind z list start split units some (of_operation h place next o is reads there f)) =
+    operation-loaded b z.number h.width o r loaded f
 
 pub relocations_fail-loaded : (b : List ℕ) (r : Refusal) → is_loaded_kind b ≡ true → RelocationsFail b r → ⊥
 relocations_fail-loaded b r loaded (sections f) = relocations-loaded (contents_of b) b r loaded f
 relocations_fail-loaded b r loaded (headers before behind z split f) =
-    header_offsets-plain (file_data b).base z r (unit-plain (file_data b).units before behind z split (file-plain b)) f
-relocations_fail-loaded b r loaded (values f) = value-none b r f
-relocations_fail-loaded b r loaded (left f) = left-none (file_data b) (moving_sections (view_of b)) r (no-relocations b) f
+    header_offsets-plain (file_data b).base z r (unit-plain (file_data b).units before behind z split (file-plain b loaded)) f
+relocations_fail-loaded b r loaded (values f) = value-none b r loaded f
+relocations_fail-loaded b r loaded (offsets f) = offsets-loaded b r loaded f
+relocations_fail-loaded b r loaded (left f) = left-none (file_data b) (moving_sections (view_of b)) r (no-relocations b loaded) f
 
 pub relocations_loaded-none : (b : List ℕ) (i : ℕ) → is_loaded_kind b ≡ true → RelocationsAreLoaded b i → ⊥
 relocations_loaded-none b i loaded h = let none = relocates_read-loaded b i loaded in let some = h.relocates in absurd cc

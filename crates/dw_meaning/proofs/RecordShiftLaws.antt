@@ -47,14 +47,14 @@ begin-none c cs a none = ap (λ (o : Option Relocation). begun_at o a ++ begin_p
 begin-some : (c : Cell) (cs : List Cell) (a : ℕ) (r : Relocation) → c.relocation ≡ Some r → begin_places a (c ∷ cs) ≡ a ∷ begin_places (suc a) cs
 begin-some c cs a r some = ap (λ (o : Option Relocation). begun_at o a ++ begin_places (suc a) cs) some
 
-after-here : (os ns : List ℕ) (a b : ℕ) → place_after (a ∷ os) (b ∷ ns) (a + 0) ≡ b
+pub after-here : (os ns : List ℕ) (a b : ℕ) → place_after (a ∷ os) (b ∷ ns) (a + 0) ≡ b
 after-here os ns a b = by_test (a == a + 0) (eq-eqb a (a + 0) (omega arith))
   where
     by_test : (t : Bool) → t ≡ true → (if t then b else place_after os ns (a + 0)) ≡ b
     by_test true e = refl
     by_test false e = absurd cc
 
-after-further : (os ns : List ℕ) (a b p : ℕ) → place_after (a ∷ os) (b ∷ ns) (a + suc p) ≡ place_after os ns (suc a + p)
+pub after-further : (os ns : List ℕ) (a b p : ℕ) → place_after (a ∷ os) (b ∷ ns) (a + suc p) ≡ place_after os ns (suc a + p)
 after-further os ns a b p = by_test (a == a + suc p) (ne_eqb a (a + suc p) (λ e. omega (arith, e))) ∙ ap (place_after os ns) (omega arith)
   where
     by_test : (t : Bool) → t ≡ false → (if t then b else place_after os ns (a + suc p)) ≡ place_after os ns (a + suc p)
@@ -62,19 +62,19 @@ after-further os ns a b p = by_test (a == a + suc p) (ne_eqb a (a + suc p) (λ e
     by_test false e = refl
 
 -- the new place of a relocation
-abbrev landed : ℕ → ℕ → List Cell → List Cell → ℕ → ℕ
+abbrev pub landed : ℕ → ℕ → List Cell → List Cell → ℕ → ℕ
 landed a b old new p = place_after (begin_places a old) (begin_places b new) (a + p)
 
-landed-old : (c : Cell) (cs ds : List Cell) (a b p : ℕ) → c.relocation ≡ None → landed a b (c ∷ cs) ds (suc p) ≡ landed (suc a) b cs ds p
+pub landed-old : (c : Cell) (cs ds : List Cell) (a b p : ℕ) → c.relocation ≡ None → landed a b (c ∷ cs) ds (suc p) ≡ landed (suc a) b cs ds p
 landed-old c cs ds a b p none =
     let next : a + suc p ≡ suc a + p = omega arith in
     ap (λ (os : List ℕ). place_after os (begin_places b ds) (a + suc p)) (begin-none c cs a none)
     ∙ ap (place_after (begin_places (suc a) cs) (begin_places b ds)) next
 
-landed-new : (d : Cell) (cs ds : List Cell) (a b p : ℕ) → d.relocation ≡ None → landed a b cs (d ∷ ds) p ≡ landed a (suc b) cs ds p
+pub landed-new : (d : Cell) (cs ds : List Cell) (a b p : ℕ) → d.relocation ≡ None → landed a b cs (d ∷ ds) p ≡ landed a (suc b) cs ds p
 landed-new d cs ds a b p none = ap (λ (ns : List ℕ). place_after (begin_places a cs) ns (a + p)) (begin-none d ds b none)
 
-landed-both : (c d : Cell) (cs ds : List Cell) (a b p : ℕ) (r q : Relocation) → c.relocation ≡ Some r → d.relocation ≡ Some q
+pub landed-both : (c d : Cell) (cs ds : List Cell) (a b p : ℕ) (r q : Relocation) → c.relocation ≡ Some r → d.relocation ≡ Some q
     → landed a b (c ∷ cs) (d ∷ ds) p ≡ place_after (a ∷ begin_places (suc a) cs) (b ∷ begin_places (suc b) ds) (a + p)
 landed-both c d cs ds a b p r q has new =
     ap (λ (os : List ℕ). place_after os (begin_places b (d ∷ ds)) (a + p)) (begin-some c cs a r has)

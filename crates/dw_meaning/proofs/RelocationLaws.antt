@@ -13,9 +13,9 @@ use Rattle.dw_base.proofs.PlainCellLaws.{IsPlain}
 use Rattle.dw_base.proofs.RelocationRowLaws.{fields-plain, fields_exclude, header-plain, header_excludes, header_offsets_exclude}
 use Rattle.dw_base.proofs.RelocationSectionLaws.{relocations_exclude as sections-exclude}
 use Rattle.dw_meaning.specs.FileMeanings.{file_data}
-use Rattle.dw_meaning.specs.RelocationFails.{LeftRelocationsFail, LeftRelocationsRead, RelocationsFail, RelocationsRead, ValueRelocationFails, ValueRelocationsRead}
+use Rattle.dw_meaning.specs.RelocationFails.{LeftRelocationsFail, LeftRelocationsRead, OffsetsFailIn, RelocationsFail, RelocationsRead, ValueRelocationFails, ValueRelocationsRead}
 use Rattle.dw_meaning.specs.RelocationFails.LeftRelocationsFail.{units, slots, names, macros, lines, line_header}
-use Rattle.dw_meaning.specs.RelocationFails.RelocationsFail.{sections, headers, values, left}
+use Rattle.dw_meaning.specs.RelocationFails.RelocationsFail.{sections, headers, values, offsets, left}
 use Rattle.dw_meaning.specs.RelocationFails.ValueRelocationFails.{value}
 
 pub left_exclude : (d : DebugData) (moving : List ℕ) (r : Refusal) → LeftRelocationsRead d moving → LeftRelocationsFail d moving r → ⊥
@@ -33,7 +33,7 @@ left_exclude d moving r h (line_header before start t tables reads f) =
     header_excludes d.lines.number t.header.start t.behind d.lines.contents (table_fields (line_source d) t) r
     (h.line_headers before start t tables reads) f
 
-value-excludes : (d : DebugData) (r : Refusal) → ValueRelocationsRead d → ValueRelocationFails d r → ⊥
+pub value-excludes : (d : DebugData) (r : Refusal) → ValueRelocationsRead d → ValueRelocationFails d r → ⊥
 value-excludes d r h (value z u list number a x place v f table has kind is fails) = by_row fails
   where
     reads : OffsetReads d.base.order z.contents f
@@ -43,11 +43,13 @@ value-excludes d r h (value z u list number a x place v f table has kind is fail
     by_row (partly p lies) = reads.whole p lies
     by_row (no_place e) = let placed = reads.placed in absurd cc
 
-pub relocations_exclude : (b : List ℕ) (r : Refusal) → RelocationsRead b → RelocationsFail b r → ⊥
-relocations_exclude b r h (sections f) = sections-exclude (contents_of b) b r h.sections f
-relocations_exclude b r h (headers before behind z split f) = header_offsets_exclude (file_data b).base z r (h.headers before behind z split) f
-relocations_exclude b r h (values f) = value-excludes (file_data b) r h.values f
-relocations_exclude b r h (left f) = left_exclude (file_data b) (moving_sections (view_of b)) r h.left f
+pub relocations_exclude : (b : List ℕ) (r : Refusal) → RelocationsRead b → (OffsetsFailIn (view_of b) r → ⊥) → RelocationsFail b r → ⊥
+relocations_exclude b r h none (sections f) = sections-exclude (contents_of b) b r h.sections f
+relocations_exclude b r h none (headers before behind z split f) =
+    header_offsets_exclude (file_data b).base z r (h.on_data.headers before behind z split) f
+relocations_exclude b r h none (values f) = value-excludes (file_data b) r h.on_data.values f
+relocations_exclude b r h none (offsets f) = none f
+relocations_exclude b r h none (left f) = left_exclude (file_data b) (moving_sections (view_of b)) r h.on_data.left f
 
 -- no relocation begins in the sections of units, of string offsets, line tables, macro units and name tables
 pub record NoRelocations (d : DebugData) : Type 0 where

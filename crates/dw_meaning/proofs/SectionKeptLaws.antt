@@ -8,7 +8,8 @@ use Rattle.dw_base.specs.DebugData.{Around, line_table, units_in, ReadsAll}
 use Rattle.dw_base.specs.Readings.{Readings, EachReading}
 use Rattle.dw_base.specs.DebugSections.{debug_section}
 use Rattle.dw_base.specs.Elf.{section_count, section_name, contents_of}
-use Rattle.dw_base.specs.FileViews.{ViewSection, bytes_in}
+use Rattle.dw_base.specs.FileViews.{ViewSection, bytes_in, cells_of}
+use Rattle.dw_base.specs.Layout.{is_loaded_kind}
 use Rattle.dw_base.specs.Pieces.{Piece, joined, EachPiece}
 use Rattle.dw_base.specs.LineReadings.{starts_from}
 use Rattle.dw_base.specs.Roles.{Role, fixed, offset, inline_path, line_start, role_of}
@@ -17,9 +18,9 @@ use Rattle.dw_base.specs.NewOffsets.{with_offset}
 use Rattle.dw_base.specs.TextChanges.{TableChanges, change_of, mention_at, moved_start, edited_by, edited_all}
 use Rattle.dw_base.specs.UnitHeaders.{UnitBase, UnitSection, SectionKind}
 use Rattle.dw_base.specs.UnitStates.{UnitState}
-use Rattle.dw_base.specs.ViewData.{unit_kind, unit_section, unit_sections_from, cells_in}
+use Rattle.dw_base.specs.ViewData.{unit_kind, unit_section, unit_sections_from}
 use Rattle.dw_meaning.proofs.DataKeptLaws.{edited_readings, edited_sections}
-use Rattle.dw_meaning.proofs.FileBackLaws.{AllAt, SectionBack}
+use Rattle.dw_meaning.proofs.FileBackLaws.{AllAt, SectionBack, bare-cells}
 use Rattle.dw_base.proofs.PlainCellLaws.{IsPlain, plain-parts, plain-append, plain_cells-plain, with_offset-is, length-with_offset}
 use Rattle.dw_meaning.proofs.TextEditLaws.{PlainPiece}
 
@@ -113,20 +114,20 @@ units-skip b bodies base c around i none first k (s ∷ ss) (t ∷ ts) rs all re
         clash : (kind : SectionKind) → Some kind ≡ None → ⊥
         clash kind e = cc
 
--- the unit sections of the output
+-- the unit sections of the output, of a file that isn't relocatable
 pub units-edited : (b : List ℕ) (bodies : ℕ → List ℕ) (base : UnitBase) (c : TableChanges) (around : Around) (first k : ℕ) (ss ts : List ViewSection) (rs : Readings)
-    → AllAt (SectionBack b bodies) k ss ts → ReadsAll base first (unit_sections_from k ss) rs → EachReading PlainPiece rs
+    → is_loaded_kind b ≡ true → AllAt (SectionBack b bodies) k ss ts → ReadsAll base first (unit_sections_from k ss) rs → EachReading PlainPiece rs
     → ((i : ℕ) (kind : SectionKind) → k ≤ i → i < section_count b → unit_kind (debug_section (section_name b i)) ≡ Some kind
     → bodies i ≡ body_in (unit_bodies c around rs) (contents_of b) i)
     → unit_sections_from k ts ≡ edited_sections (unit_sections_from k ss) (edited_readings c around rs)
-units-edited b bodies base c around first k [] [] rs all reads plain holds = refl
-units-edited b bodies base c around first k [] (t ∷ ts) rs all reads plain holds = absurd all
-units-edited b bodies base c around first k (s ∷ ss) [] rs all reads plain holds = absurd all
-units-edited b bodies base c around first k (s ∷ ss) (t ∷ ts) rs all reads plain holds =
+units-edited b bodies base c around first k [] [] rs loaded all reads plain holds = refl
+units-edited b bodies base c around first k [] (t ∷ ts) rs loaded all reads plain holds = absurd all
+units-edited b bodies base c around first k (s ∷ ss) [] rs loaded all reads plain holds = absurd all
+units-edited b bodies base c around first k (s ∷ ss) (t ∷ ts) rs loaded all reads plain holds =
     ap (λ (x : Bool). (if x then unit_section k t (unit_kind (debug_section t.name)) else []) ++ unit_sections_from (suc k) ts) all.0.has_bytes
     ∙ ap (λ (n : List ℕ). (if s.has_bytes then unit_section k t (unit_kind (debug_section n)) else []) ++ unit_sections_from (suc k) ts) all.0.name
     ∙ by_section s.has_bytes (unit_kind (debug_section s.name)) refl rs reads plain holds
-    (λ n qs f p h. units-edited b bodies base c around n (suc k) ss ts qs all.1 f p h)
+    (λ n qs f p h. units-edited b bodies base c around n (suc k) ss ts qs loaded all.1 f p h)
   where
     Holds : ℕ → Readings → Type 0
     Holds n qs = (i : ℕ) (kind : SectionKind) → n ≤ i → i < section_count b → unit_kind (debug_section (section_name b i)) ≡ Some kind
@@ -145,8 +146,8 @@ units-edited b bodies base c around first k (s ∷ ss) (t ∷ ts) rs all reads p
         let some : unit_kind (debug_section (section_name b k)) ≡ Some kind = ap (λ (n : List ℕ). unit_kind (debug_section n)) (sym all.0.named) ∙ is in
         let here : bytes_in t.contents ≡ bytes_of (joined (edited_all c around q.pieces)) =
         all.0.new ∙ h k kind (omega arith) all.0.within some ∙ found_first (eq-eqb k q.number (sym f.0)) in
-        let contents : cells_in t.contents ≡ joined (edited_all c around q.pieces) =
-        ap plain_cells here ∙ sym (all-plain c around q.pieces p.0).plain in
+        let contents : cells_of t ≡ joined (edited_all c around q.pieces) =
+        bare-cells t (all.0.bare loaded) ∙ ap plain_cells here ∙ sym (all-plain c around q.pieces p.0).plain in
         ap (λ (x : List Cell). record { number = k; kind = kind; contents = x } ∷ unit_sections_from (suc k) ts) contents
         ∙ ap (λ (zs : List UnitSection). record { number = k; kind = kind; contents = joined (edited_all c around q.pieces) } ∷ zs)
         (rest (first + units_in q.pieces) qs f.2 p.1 (λ i other le lt e.

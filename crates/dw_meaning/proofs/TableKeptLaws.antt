@@ -24,6 +24,7 @@ use Rattle.dw_base.specs.ViewData.{located, located_at}
 use Rattle.dw_base.specs.declared.debug_sections.DebugSection.{DebugSection}
 use Rattle.dw_meaning.proofs.FileBackLaws.{AllAt, SectionBack, tabulate-at}
 use Rattle.dw_base.proofs.FileViewLaws.{section_bytes-view_of}
+use Rattle.dw_base.proofs.SectionRelocationLaws.{relocations_of-loaded}
 use Rattle.dw_base.proofs.TextLaws.{same_text-true, ends_in-inside}
 
 -- a section that was found by its name has it
@@ -79,7 +80,18 @@ pub data TablePlace (b : List ℕ) (name : List ℕ) (z : Located) : Type 0 wher
 -- the sections of a view by their numbers
 section-self : (b : List ℕ) (i : ℕ) → i < section_count b → SectionBack b (contents_of b) i (view_section b i) (view_section b i)
 unfolding view_section
-section-self b i lt = record { within = lt; named = refl; name = refl; alloc = refl; is_name_table = refl; has_bytes = refl; old = refl; new = refl }
+section-self b i lt = record {
+  within = lt;
+  named = refl;
+  name = refl;
+  alloc = refl;
+  is_name_table = refl;
+  has_bytes = refl;
+  relocates_read = refl;
+  bare = λ loaded. relocations_of-loaded (contents_of b) b i loaded;
+  old = refl;
+  new = refl;
+}
 
 pub sections-self : (b : List ℕ) → AllAt (SectionBack b (contents_of b)) 0 (view_of b).sections (view_of b).sections
 unfolding view_of

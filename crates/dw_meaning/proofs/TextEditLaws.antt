@@ -3,7 +3,7 @@
 use Rattle.std.proofs.Common.{Bool, true, false, ◌≡◌, ℕ, ◌+◌, ◌^◌, ◌<◌, ◌≤◌, List, [], ◌∷◌, ◌++◌, length, drop, get_or, ◌==◌, ◌||◌, Option, IsTrue, not, sym, ap, ◌∙◌, refl, subst, arith, if◌then◌else◌, None, Some, append_assoc}
 use Rattle.std.specs.Bool.{⊤}
 use Rattle.std.proofs.lemmas.List.{length-append, drop_all}
-use Rattle.dw_base.specs.Cells.{Cell, Located, bytes_of, plain_cells, with_bytes, offset_of}
+use Rattle.dw_base.specs.Cells.{Cell, Located, bytes_of, with_bytes, offset_of}
 use Rattle.dw_base.specs.DebugData.{Around, line_table, path_slots, start_number, table_of}
 use Rattle.dw_base.specs.Forms.{TextSection, in_str, in_line_str, ValueKind, number_of, leb_number, signed_leb, block_of, counted, counted_leb, inline_text, text_offset, present, in_abbreviation, form_in_front, supplementary, unlisted, kind_in, width_size}
 use Rattle.dw_base.specs.InlinePaths.{mapped_inline}
@@ -159,9 +159,9 @@ field-moves m order c z path p f = by_asks (c.plan.asks (mention_in order z path
     by_asks true e = moved-asked m order c z path p f e
     by_asks false e = moved-stays m order c z path p f e
 
--- the change of the tables, as a change of what stands around the units: slots of paths are mapped
-abbrev pub shift_of : TableChanges → Around → Shift
-shift_of c around = record {
+-- the change of the tables, as a change of what stands around the units: slots of paths are mapped, and the section of line tables has new cells
+abbrev pub shift_of : TableChanges → Around → List Cell → Shift
+shift_of c around lc = record {
   map = c.map;
   old = around;
   new = record {
@@ -170,7 +170,7 @@ shift_of c around = record {
     line_str = moved_table around.line_str c.line_str;
     slots = mapped_slots c.map (path_slots around) 0 around.slots;
     lines = record { number = around.lines.number; bytes = all_lines c.lines };
-    line_cells = plain_cells (all_lines c.lines);
+    line_cells = lc;
     starts = starts_from 0 c.lines;
   };
   lasting = refl;
@@ -190,9 +190,9 @@ MovesBy line_start around p = IsPlace around.lines.number p
 MovesBy r around p = ⊤
 
 -- a field of an offset
-offset-moves : (table : TextSection) (path : Bool) (c : TableChanges) (around : Around) (p : List Cell) (w : Width) → TablesMove c around
+offset-moves : {lc : List Cell} (table : TextSection) (path : Bool) (c : TableChanges) (around : Around) (p : List Cell) (w : Width) → TablesMove c around
     → MovesBy (offset table path) around p → length p ≡ width_size w → NamesTextBy (offset table path) around p → Provided (offset table path) c around p
-    → Becomes (offset table path) (shift_of c around) p (edited_by (offset table path) c around p)
+    → Becomes (offset table path) (shift_of c around lc) p (edited_by (offset table path) c around p)
 offset-moves in_str path c around p w t place size names there =
     let f = field-moves c.map around.lasting.base.order c.str around.str path p
     (record { map = t.map; moves = t.str; place = place; width = w; size = size; names = names; there = there }) in
@@ -226,8 +226,8 @@ nul-behind : (u : List ℕ) → has_nul u ≡ false → has_nul (u ++ 0 ∷ []) 
 nul-behind u bare = has_nul-append u (0 ∷ []) ∙ rw bare refl
 
 -- a path that stands in its value, mapped in its room
-inline-moves : (c : TableChanges) (around : Around) (s : UnitState) (x : Spec) (p : List Cell) → IsPathMap c.map → IsValue s x inline_text p
-    → InlineFitsBy inline_path c.map p → Rewritten (shift_of c around) p (edited_by inline_path c around p)
+inline-moves : {lc : List Cell} (c : TableChanges) (around : Around) (s : UnitState) (x : Spec) (p : List Cell) → IsPathMap c.map → IsValue s x inline_text p
+    → InlineFitsBy inline_path c.map p → Rewritten (shift_of c around lc) p (edited_by inline_path c around p)
 unfolding value_of
 inline-moves c around s x p is_map f fits =
     let bs : List ℕ = bytes_of p in
@@ -266,12 +266,12 @@ start-fits n v size lt = by_size (n == 4) (n == 8) refl refl size
     by_size false true x y e = subst (λ (k : ℕ). v < 256 ^ k) (sym (eqb-true n 8 y)) (omega (arith, lt))
     by_size false false x y e = absurd cc
 
-start-moves : (c : TableChanges) (around : Around) (p : List Cell) → TablesMove c around → IsPlace around.lines.number p → (length p == 4 || length p == 8) ≡ true → NamesTextBy line_start around p
-    → Restarted (shift_of c around) p (edited_by line_start c around p)
-start-moves c around p t place size names = by_table (line_table around p) refl names
+start-moves : {lc : List Cell} (c : TableChanges) (around : Around) (p : List Cell) → TablesMove c around → IsPlace around.lines.number p → (length p == 4 || length p == 8) ≡ true → NamesTextBy line_start around p
+    → Restarted (shift_of c around lc) p (edited_by line_start c around p)
+start-moves {lc} c around p t place size names = by_table (line_table around p) refl names
   where
     by_table : (o : Option ℕ) → line_table around p ≡ o → IsTrue (is_there o)
-        → Restarted (shift_of c around) p (moved_start (starts_from 0 c.lines) around.lasting.base.order o p)
+        → Restarted (shift_of c around lc) p (moved_start (starts_from 0 c.lines) around.lasting.base.order o p)
     by_table None e some = absurd cc
     by_table (Some k) e some =
         let count = t.lines.count in
@@ -300,12 +300,12 @@ start-size names_line_table SecOffset n e sized = sized
 start-size names_line_table Number n e sized = e
 start-size u class n e sized = absurd cc
 
-number-moves : (b : Bool) (u : Use) (class : ValueClass) (n : ℕ) (c : TableChanges) (around : Around) (s : UnitState) (x : Spec) (p : List Cell) → is_line_start u class n ≡ b
+number-moves : (lc : List Cell) (b : Bool) (u : Use) (class : ValueClass) (n : ℕ) (c : TableChanges) (around : Around) (s : UnitState) (x : Spec) (p : List Cell) → is_line_start u class n ≡ b
     → TablesMove c around → MovesBy (if b then line_start else fixed) around p → is_offset_sized (number_of class n) ≡ true → IsValue s x (number_of class n) p → NamesTextBy (if b then line_start else fixed) around p
-    → Becomes (if b then line_start else fixed) (shift_of c around) p (edited_by (if b then line_start else fixed) c around p)
+    → Becomes (if b then line_start else fixed) (shift_of c around lc) p (edited_by (if b then line_start else fixed) c around p)
 unfolding value_of
-number-moves false u class n c around s x p e t place sized f names = refl
-number-moves true u class n c around s x p e t place sized f names =
+number-moves lc false u class n c around s x p e t place sized f names = refl
+number-moves lc true u class n c around s x p e t place sized f names =
     let size : length p ≡ n = sym f.size ∙ (number-there s.header.params.order (bytes_of p) class n f.value f.is).1 in
     start-moves c around p t place (ap (λ (k : ℕ). k == 4 || k == 8) size ∙ start-size u class n e sized) names
 
@@ -315,23 +315,23 @@ unfolding value_of
 offset-length s x table n p f =
     sym f.size ∙ (number-there s.header.params.order (bytes_of p) (offset_class table) n f.value f.is).1
 
-inline-role : (b : Bool) (c : TableChanges) (around : Around) (s : UnitState) (x : Spec) (p : List Cell) → IsPathMap c.map → IsValue s x inline_text p
+inline-role : (lc : List Cell) (b : Bool) (c : TableChanges) (around : Around) (s : UnitState) (x : Spec) (p : List Cell) → IsPathMap c.map → IsValue s x inline_text p
     → InlineFitsBy (if b then inline_path else fixed) c.map p
-    → Becomes (if b then inline_path else fixed) (shift_of c around) p (edited_by (if b then inline_path else fixed) c around p)
-inline-role true c around s x p is_map f fits = inline-moves c around s x p is_map f fits
-inline-role false c around s x p is_map f fits = refl
+    → Becomes (if b then inline_path else fixed) (shift_of c around lc) p (edited_by (if b then inline_path else fixed) c around p)
+inline-role lc true c around s x p is_map f fits = inline-moves c around s x p is_map f fits
+inline-role lc false c around s x p is_map f fits = refl
 
 -- cells of a value
-value-moves : (k : ValueKind) (u : Use) (c : TableChanges) (around : Around) (s : UnitState) (x : Spec) (p : List Cell) → TablesMove c around → MovesBy (role_of_kind k u) around p
+value-moves : (lc : List Cell) (k : ValueKind) (u : Use) (c : TableChanges) (around : Around) (s : UnitState) (x : Spec) (p : List Cell) → TablesMove c around → MovesBy (role_of_kind k u) around p
     → is_sized s.header.params.width k ≡ true → is_offset_sized k ≡ true → FitsKind k s x p → NamesTextBy (role_of_kind k u) around p → InlineFitsBy (role_of_kind k u) c.map p
-    → Provided (role_of_kind k u) c around p → Becomes (role_of_kind k u) (shift_of c around) p (edited_by (role_of_kind k u) c around p)
-value-moves (number_of class n) u c around s x p t place sized offsets f names fits there =
-    number-moves (is_line_start u class n) u class n c around s x p refl t place offsets f names
-value-moves (text_offset table n) u c around s x p t place sized offsets f names fits there =
+    → Provided (role_of_kind k u) c around p → Becomes (role_of_kind k u) (shift_of c around lc) p (edited_by (role_of_kind k u) c around p)
+value-moves lc (number_of class n) u c around s x p t place sized offsets f names fits there =
+    number-moves lc (is_line_start u class n) u class n c around s x p refl t place offsets f names
+value-moves lc (text_offset table n) u c around s x p t place sized offsets f names fits there =
     offset-moves table (is_path_use u) c around p s.header.params.width t place
     (offset-length s x table n p f ∙ offset-size s.header.params (text_offset table n) table n sized refl) names there
-value-moves inline_text u c around s x p t place sized offsets f names fits there = inline-role (is_path_use u) c around s x p t.map f fits
-value-moves k u c around s x p t place sized offsets f names fits there = refl
+value-moves lc inline_text u c around s x p t place sized offsets f names fits there = inline-role lc (is_path_use u) c around s x p t.map f fits
+value-moves lc k u c around s x p t place sized offsets f names fits there = refl
 
 -- a value whose form was read fits as a value of its kind
 pub chosen-fits : (k : ValueKind) (s : UnitState) (x : Spec) (p : List Cell) → IsValue s x k p → FitsKind k s x p
@@ -354,19 +354,19 @@ chosen-fits supplementary s x p f = f
 chosen-fits unlisted s x p f = f
 
 -- cells of a mode
-mode-moves : (m : Mode) (base : UnitBase) (s : UnitState) (c : TableChanges) (around : Around) (p : List Cell) → TablesMove c around → MovesBy (role_of_mode m s.header.params) around p
+mode-moves : (lc : List Cell) (m : Mode) (base : UnitBase) (s : UnitState) (c : TableChanges) (around : Around) (p : List Cell) → TablesMove c around → MovesBy (role_of_mode m s.header.params) around p
     → FitsMode m base s p → NamesTextBy (role_of_mode m s.header.params) around p → InlineFitsBy (role_of_mode m s.header.params) c.map p
     → Provided (role_of_mode m s.header.params) c around p
-    → Becomes (role_of_mode m s.header.params) (shift_of c around) p (edited_by (role_of_mode m s.header.params) c around p)
-mode-moves at_header base s c around p t place f names fits there = refl
-mode-moves at_code base s c around p t place f names fits there = refl
-mode-moves (at_values n tag []) base s c around p t place f names fits there = refl
-mode-moves (at_values n tag (x ∷ xs)) base s c around p t place f names fits there =
-    value-moves (kind_in s.header.params x.form) (use_of n tag x.name) c around s x p t place (offset_sized s.header.params x.form) (section_offset-sized s.header.params x.form) f names fits there
-mode-moves (at_chosen n tag start x xs) base s c around p t place f names fits there =
-    value-moves (kind_in s.header.params x.form) (use_of n tag x.name) c around s x p t place (offset_sized s.header.params x.form) (section_offset-sized s.header.params x.form)
+    → Becomes (role_of_mode m s.header.params) (shift_of c around lc) p (edited_by (role_of_mode m s.header.params) c around p)
+mode-moves lc at_header base s c around p t place f names fits there = refl
+mode-moves lc at_code base s c around p t place f names fits there = refl
+mode-moves lc (at_values n tag []) base s c around p t place f names fits there = refl
+mode-moves lc (at_values n tag (x ∷ xs)) base s c around p t place f names fits there =
+    value-moves lc (kind_in s.header.params x.form) (use_of n tag x.name) c around s x p t place (offset_sized s.header.params x.form) (section_offset-sized s.header.params x.form) f names fits there
+mode-moves lc (at_chosen n tag start x xs) base s c around p t place f names fits there =
+    value-moves lc (kind_in s.header.params x.form) (use_of n tag x.name) c around s x p t place (offset_sized s.header.params x.form) (section_offset-sized s.header.params x.form)
     (chosen-fits (kind_in s.header.params x.form) s x p f) names fits there
-mode-moves stuck base s c around p t place f names fits there = refl
+mode-moves lc stuck base s c around p t place f names fits there = refl
 
 -- texts after mentions, and after more of them
 texts_after-append : (plan : Plan) (m : PathMap) (ts : List (List ℕ)) (xs ys : List Mention)
@@ -425,13 +425,13 @@ abbrev pub SlotMoves : Shift → Piece UnitState → Type 0
 SlotMoves c x = PieceSlot x.state.mode c x.state x.cells
 
 -- the text law, for the pieces of a section
-pub edited-changed : (base : UnitBase) (c : TableChanges) (around : Around) (ts us : List (List ℕ)) (s : UnitState) (xs : List (Piece UnitState))
+pub edited-changed : (lc : List Cell) (base : UnitBase) (c : TableChanges) (around : Around) (ts us : List (List ℕ)) (s : UnitState) (xs : List (Piece UnitState))
     (ms ns : List Mention) → TablesMove c around → TextsAre c ts us (mentions_of in_str around xs ++ ms) (mentions_of in_line_str around xs ++ ns)
     → Chain (unit_grammar base) s xs → EachPiece (Moves around) xs → EachPiece (NamesText around) xs → EachPiece (InlineFits c.map) xs
-    → EachPiece (SlotMoves (shift_of c around)) xs → UnitsChanged (shift_of c around) xs (edited_all c around xs)
+    → EachPiece (SlotMoves (shift_of c around lc)) xs → UnitsChanged (shift_of c around lc) xs (edited_all c around xs)
 unfolding role_of
-edited-changed base c around ts us s [] ms ns t all chain moves names fits slots = tt
-edited-changed base c around ts us s (x ∷ xs) ms ns t all chain moves names fits slots =
+edited-changed lc base c around ts us s [] ms ns t all chain moves names fits slots = tt
+edited-changed lc base c around ts us s (x ∷ xs) ms ns t all chain moves names fits slots =
     let heres : List Mention = mentions_by (role_of x) in_str around x.cells in
     let lines : List Mention = mentions_by (role_of x) in_line_str around x.cells in
     let rest : TextsAre c ts us (heres ++ (mentions_of in_str around xs ++ ms)) (lines ++ (mentions_of in_line_str around xs ++ ns)) =
@@ -440,8 +440,8 @@ edited-changed base c around ts us s (x ∷ xs) ms ns t all chain moves names fi
       line_str = all.line_str ∙ ap (texts_after c.line_str.plan c.map us) (append_assoc lines (mentions_of in_line_str around xs) ns);
     } in
     let there = provided (role_of x) c around ts us x.cells (mentions_of in_str around xs ++ ms) (mentions_of in_line_str around xs ++ ns) rest in (
-      record { state = refl; cells = (mode-moves x.state.mode base x.state c around x.cells t moves.0 chain.1 names.0 fits.0 there, slots.0) },
-      edited-changed base c around (texts_after c.str.plan c.map ts heres) (texts_after c.line_str.plan c.map us lines)
+      record { state = refl; cells = (mode-moves lc x.state.mode base x.state c around x.cells t moves.0 chain.1 names.0 fits.0 there, slots.0) },
+      edited-changed lc base c around (texts_after c.str.plan c.map ts heres) (texts_after c.line_str.plan c.map us lines)
           ((unit_grammar base).next x.state x.cells) xs ms ns t
           (behind_piece c ts us heres lines (mentions_of in_str around xs ++ ms) (mentions_of in_line_str around xs ++ ns) rest)
           chain.2 moves.1 names.1 fits.1 slots.1,
@@ -464,20 +464,20 @@ CanMove (offset table path) around p = OffsetField table around p
 CanMove inline_path around p = ⊥
 CanMove line_start around p = StartField around p
 
-role-moves : (r : Role) (c : TableChanges) (around : Around) (p : List Cell) → TablesMove c around → CanMove r around p → NamesTextBy r around p
-    → Provided r c around p → Becomes r (shift_of c around) p (edited_by r c around p)
-role-moves fixed c around p t can names there = refl
-role-moves (offset table path) c around p t can names there = offset-moves table path c around p can.width t can.place can.size names there
-role-moves inline_path c around p t can names there = absurd can
-role-moves line_start c around p t can names there = start-moves c around p t can.place can.sized names
+role-moves : (lc : List Cell) (r : Role) (c : TableChanges) (around : Around) (p : List Cell) → TablesMove c around → CanMove r around p → NamesTextBy r around p
+    → Provided r c around p → Becomes r (shift_of c around lc) p (edited_by r c around p)
+role-moves lc fixed c around p t can names there = refl
+role-moves lc (offset table path) c around p t can names there = offset-moves table path c around p can.width t can.place can.size names there
+role-moves lc inline_path c around p t can names there = absurd can
+role-moves lc line_start c around p t can names there = start-moves c around p t can.place can.sized names
 
 -- the text law, for pieces of roles
-pub roles-changed : {S : Type 0} (role : S → Role) (c : TableChanges) (around : Around) (ts us : List (List ℕ)) (xs : List (Piece S)) (ms ns : List Mention)
+pub roles-changed : {S : Type 0} (lc : List Cell) (role : S → Role) (c : TableChanges) (around : Around) (ts us : List (List ℕ)) (xs : List (Piece S)) (ms ns : List Mention)
     → TablesMove c around → TextsAre c ts us (mentions_with role in_str around xs ++ ms) (mentions_with role in_line_str around xs ++ ns)
     → EachPiece (λ x. CanMove (role x.state) around x.cells) xs → EachPiece (λ x. NamesTextBy (role x.state) around x.cells) xs
-    → AllChanged S (λ s p q. Becomes (role s) (shift_of c around) p q) xs (edited_with role c around xs)
-roles-changed role c around ts us [] ms ns t all can names = tt
-roles-changed role c around ts us (x ∷ xs) ms ns t all can names =
+    → AllChanged S (λ s p q. Becomes (role s) (shift_of c around lc) p q) xs (edited_with role c around xs)
+roles-changed lc role c around ts us [] ms ns t all can names = tt
+roles-changed lc role c around ts us (x ∷ xs) ms ns t all can names =
     let heres : List Mention = mentions_by (role x.state) in_str around x.cells in
     let lines : List Mention = mentions_by (role x.state) in_line_str around x.cells in
     let rest : TextsAre c ts us (heres ++ (mentions_with role in_str around xs ++ ms)) (lines ++ (mentions_with role in_line_str around xs ++ ns)) =
@@ -486,8 +486,8 @@ roles-changed role c around ts us (x ∷ xs) ms ns t all can names =
       line_str = all.line_str ∙ ap (texts_after c.line_str.plan c.map us) (append_assoc lines (mentions_with role in_line_str around xs) ns);
     } in
     let there = provided (role x.state) c around ts us x.cells (mentions_with role in_str around xs ++ ms) (mentions_with role in_line_str around xs ++ ns) rest in (
-      record { state = refl; cells = role-moves (role x.state) c around x.cells t can.0 names.0 there },
-      roles-changed role c around (texts_after c.str.plan c.map ts heres) (texts_after c.line_str.plan c.map us lines) xs ms ns t
+      record { state = refl; cells = role-moves lc (role x.state) c around x.cells t can.0 names.0 there },
+      roles-changed lc role c around (texts_after c.str.plan c.map ts heres) (texts_after c.line_str.plan c.map us lines) xs ms ns t
           (behind_piece c ts us heres lines (mentions_with role in_str around xs ++ ms) (mentions_with role in_line_str around xs ++ ns) rest)
           can.1 names.1,
     )

@@ -12,7 +12,7 @@ use Rattle.dw_base.specs.DebugData.{DebugData}
 use Rattle.dw_base.specs.DebugData.{DataReadings}
 use Rattle.dw_base.specs.DebugSections.{debug_section, is_listed}
 use Rattle.dw_base.specs.Elf.{class_of, contents_at, contents_of, e_phentsize, e_phnum, e_phoff, e_shentsize, e_shnum, e_shoff, e_shstrndx, e_type, name_index, name_table, nth_section, nth_segment, order_of, section_at, section_count, section_name, segment_at, segments_of, sections_of}
-use Rattle.dw_base.specs.FileViews.{view_of, view_section, section_after, section_bytes, section_named}
+use Rattle.dw_base.specs.FileViews.{view_of, view_section, section_after, section_bytes, section_named, view_relocations}
 use Rattle.dw_base.specs.Forests.{AttributeMeaning, Forest, no_entries, entry}
 use Rattle.dw_base.specs.Forms.{kind_in, form_rows}
 use Rattle.dw_base.specs.InlinePaths.{mapped_inline}
@@ -39,6 +39,8 @@ use Rattle.dw_meaning.proofs.PlainFiles.{elf_test, file-reads, kept-by, meaning-
 use Rattle.dw_meaning.proofs.PlainUnits.{chain-sound, short_abbreviation, short_pair, short_spec}
 use Rattle.dw_meaning.proofs.WorkedEntries.{lone_data, lone_readings}
 use Rattle.dw_meaning.proofs.WorkedParts.{all_bytes, file_header, numbers, section_header, unit, worked_map}
+use Rattle.dw_base.specs.RelocationSectionFails.{relocates_read}
+use Rattle.dw_base.specs.SectionRelocations.{relocates, relocation_section, relocations_of}
 
 -- the abbreviation of an entry with a name and a directory, both in .debug_str
 abbrev pub paths_abbrevs : List ℕ
@@ -224,12 +226,14 @@ pub one_unit-data : file_data one_unit ≡ old_data Little 8
 unfolding spelled e_type e_phnum e_phoff e_phentsize e_shoff e_shentsize e_shnum e_shstrndx class_of order_of nth_section section_at section_count
     name_index name_table section_name contents_of contents_at text_in ends_in debug_section is_listed view_of view_section section_after
     section_named section_bytes debug_data located unit_sections macro_sections
+    relocations_of relocation_section relocates relocates_read view_relocations
 one_unit-data = refl
 
 pub one_unit_out-data : file_data one_unit_out ≡ new_data Little 8
 unfolding spelled e_type e_phnum e_phoff e_phentsize e_shoff e_shentsize e_shnum e_shstrndx class_of order_of nth_section section_at section_count
     name_index name_table section_name contents_of contents_at text_in ends_in debug_section is_listed view_of view_section section_after
     section_named section_bytes debug_data located unit_sections macro_sections
+    relocations_of relocation_section relocates relocates_read view_relocations
 one_unit_out-data = refl
 
 pub one_unit-reads : FileReads one_unit (old_readings Little 8)
@@ -276,12 +280,14 @@ pub one_unit-others : other_sections (without_id (view_of one_unit).id (view_of 
 unfolding spelled e_type e_phnum e_phoff e_phentsize e_shoff e_shentsize e_shnum e_shstrndx class_of order_of nth_section section_at section_count
     name_index name_table section_name contents_of contents_at text_in ends_in debug_section view_of view_section build_id_of is_id_section id_in
     is_id_note descriptor_at padding
+    relocations_of relocation_section relocates relocates_read
 one_unit-others = refl
 
 pub one_unit_out-others : other_sections (without_id (view_of one_unit_out).id (view_of one_unit_out).sections) ≡ unnamed
 unfolding spelled e_type e_phnum e_phoff e_phentsize e_shoff e_shentsize e_shnum e_shstrndx class_of order_of nth_section section_at section_count
     name_index name_table section_name contents_of contents_at text_in ends_in debug_section view_of view_section build_id_of is_id_section id_in
     is_id_note descriptor_at padding
+    relocations_of relocation_section relocates relocates_read
 one_unit_out-others = refl
 
 pub one_unit-means : Means one_unit (paths_meaning 8)
@@ -329,12 +335,14 @@ pub of_32_bits-data : file_data of_32_bits ≡ old_data Big 4
 unfolding spelled e_type e_phnum e_phoff e_phentsize e_shoff e_shentsize e_shnum e_shstrndx class_of order_of nth_section section_at section_count
     name_index name_table section_name contents_of contents_at text_in ends_in debug_section is_listed view_of view_section section_after
     section_named section_bytes debug_data located unit_sections macro_sections
+    relocations_of relocation_section relocates relocates_read view_relocations
 of_32_bits-data = refl
 
 pub of_32_bits_out-data : file_data of_32_bits_out ≡ new_data Big 4
 unfolding spelled e_type e_phnum e_phoff e_phentsize e_shoff e_shentsize e_shnum e_shstrndx class_of order_of nth_section section_at section_count
     name_index name_table section_name contents_of contents_at text_in ends_in debug_section is_listed view_of view_section section_after
     section_named section_bytes debug_data located unit_sections macro_sections
+    relocations_of relocation_section relocates relocates_read view_relocations
 of_32_bits_out-data = refl
 
 pub of_32_bits-reads : FileReads of_32_bits (old_readings Big 4)
@@ -381,12 +389,14 @@ pub of_32_bits-others : other_sections (without_id (view_of of_32_bits).id (view
 unfolding spelled e_type e_phnum e_phoff e_phentsize e_shoff e_shentsize e_shnum e_shstrndx class_of order_of nth_section section_at section_count
     name_index name_table section_name contents_of contents_at text_in ends_in debug_section view_of view_section build_id_of is_id_section id_in
     is_id_note descriptor_at padding
+    relocations_of relocation_section relocates relocates_read
 of_32_bits-others = refl
 
 pub of_32_bits_out-others : other_sections (without_id (view_of of_32_bits_out).id (view_of of_32_bits_out).sections) ≡ unnamed
 unfolding spelled e_type e_phnum e_phoff e_phentsize e_shoff e_shentsize e_shnum e_shstrndx class_of order_of nth_section section_at section_count
     name_index name_table section_name contents_of contents_at text_in ends_in debug_section view_of view_section build_id_of is_id_section id_in
     is_id_note descriptor_at padding
+    relocations_of relocation_section relocates relocates_read
 of_32_bits_out-others = refl
 
 pub of_32_bits-means : Means of_32_bits (paths_meaning 4)

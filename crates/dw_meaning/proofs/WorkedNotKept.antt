@@ -7,7 +7,7 @@ use Rattle.dw_base.specs.AbbreviationBytes.{abbreviations_at}
 use Rattle.dw_base.specs.Cells.{field_of, offset_of}
 use Rattle.dw_base.specs.DebugSections.{debug_section, is_listed}
 use Rattle.dw_base.specs.Elf.{class_of, contents_at, contents_of, e_phentsize, e_phnum, e_phoff, e_shentsize, e_shnum, e_shoff, e_shstrndx, e_type, name_index, name_table, nth_section, nth_segment, order_of, section_at, section_count, section_name, segment_at, segments_of, sections_of}
-use Rattle.dw_base.specs.FileViews.{view_of, view_section, section_after, section_bytes, section_named}
+use Rattle.dw_base.specs.FileViews.{view_of, view_section, section_after, section_bytes, section_named, view_relocations}
 use Rattle.dw_base.specs.Forests.{AttributeMeaning, Forest, no_entries, entry}
 use Rattle.dw_base.specs.Forms.{kind_in, form_rows}
 use Rattle.dw_base.specs.Layout.{padding}
@@ -32,6 +32,8 @@ use Rattle.dw_meaning.proofs.WorkedFiles.{all_texts, mapped_paths, one_unit, one
 use Rattle.dw_meaning.proofs.WorkedNotes.{with_id, with_id_out}
 use Rattle.dw_meaning.proofs.WorkedParts.{changed, worked_map}
 use Rattle.dw_meaning.proofs.WorkedSections.{data_in, notes_with, readings_in, units_in, with_id-means, with_id-new_reads, with_id-units, with_id_meaning}
+use Rattle.dw_base.specs.RelocationSectionFails.{relocates_read}
+use Rattle.dw_base.specs.SectionRelocations.{relocates, relocation_section, relocations_of}
 
 -- the sum of the bytes of strings, of all that units say, and of what stands under a name
 abbrev value_sum : ValueMeaning → ℕ
@@ -77,6 +79,7 @@ unmapped_directory-data : file_data unmapped_directory ≡ data_in 1 22 13 all_t
 unfolding spelled e_type e_phnum e_phoff e_phentsize e_shoff e_shentsize e_shnum e_shstrndx class_of order_of nth_section section_at section_count
     name_index name_table section_name contents_of contents_at text_in ends_in debug_section is_listed view_of view_section section_after
     section_named section_bytes debug_data located unit_sections macro_sections padding
+    relocations_of relocation_section relocates relocates_read view_relocations
 unmapped_directory-data = refl
 
 unmapped_directory-reads : DataReads (data_in 1 22 13 all_texts) (readings_in 1 22 13 all_texts)
@@ -109,6 +112,7 @@ unmapped_directory-others : other_sections (without_id (view_of unmapped_directo
 unfolding spelled e_type e_phnum e_phoff e_phentsize e_shoff e_shentsize e_shnum e_shstrndx class_of order_of nth_section section_at section_count
     name_index name_table section_name contents_of contents_at text_in ends_in debug_section view_of view_section build_id_of is_id_section id_in
     is_id_note descriptor_at padding
+    relocations_of relocation_section relocates relocates_read
 unmapped_directory-others = refl
 
 unmapped_directory-means : Means unmapped_directory (record { units = units_in 1 unmapped_directory_attributes; slots = []; lines = []; macros = []; names = []; others = bytes_named unnamed })
@@ -135,6 +139,7 @@ other_name-data : file_data other_name ≡ data_in 1 22 43 other_texts
 unfolding spelled e_type e_phnum e_phoff e_phentsize e_shoff e_shentsize e_shnum e_shstrndx class_of order_of nth_section section_at section_count
     name_index name_table section_name contents_of contents_at text_in ends_in debug_section is_listed view_of view_section section_after
     section_named section_bytes debug_data located unit_sections macro_sections padding
+    relocations_of relocation_section relocates relocates_read view_relocations
 other_name-data = refl
 
 other_name-reads : DataReads (data_in 1 22 43 other_texts) (readings_in 1 22 43 other_texts)
@@ -167,6 +172,7 @@ other_name-others : other_sections (without_id (view_of other_name).id (view_of 
 unfolding spelled e_type e_phnum e_phoff e_phentsize e_shoff e_shentsize e_shnum e_shstrndx class_of order_of nth_section section_at section_count
     name_index name_table section_name contents_of contents_at text_in ends_in debug_section view_of view_section build_id_of is_id_section id_in
     is_id_note descriptor_at padding
+    relocations_of relocation_section relocates relocates_read
 other_name-others = refl
 
 other_name-means : Means other_name (record { units = units_in 1 other_name_attributes; slots = []; lines = []; macros = []; names = []; others = bytes_named unnamed })
@@ -195,12 +201,14 @@ other_comment-data : file_data other_comment ≡ data_in 2 22 43 all_texts
 unfolding spelled e_type e_phnum e_phoff e_phentsize e_shoff e_shentsize e_shnum e_shstrndx class_of order_of nth_section section_at section_count
     name_index name_table section_name contents_of contents_at text_in ends_in debug_section is_listed view_of view_section section_after
     section_named section_bytes debug_data located unit_sections macro_sections padding
+    relocations_of relocation_section relocates relocates_read view_relocations
 other_comment-data = refl
 
 other_comment-others : other_sections (without_id (view_of other_comment).id (view_of other_comment).sections) ≡ other_named
 unfolding spelled e_type e_phnum e_phoff e_phentsize e_shoff e_shentsize e_shnum e_shstrndx class_of order_of nth_section section_at section_count
     name_index name_table section_name contents_of contents_at text_in ends_in debug_section view_of view_section build_id_of is_id_section id_in
     is_id_note descriptor_at padding
+    relocations_of relocation_section relocates relocates_read
 other_comment-others = refl
 
 other_comment-means : Means other_comment (record { units = units_in 2 mapped_paths; slots = []; lines = []; macros = []; names = []; others = bytes_named other_named })

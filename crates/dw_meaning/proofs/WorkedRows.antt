@@ -15,7 +15,7 @@ use Rattle.dw_base.specs.ElfFails.DebugFails.{header, table}
 use Rattle.dw_base.specs.ElfFails.HeaderFails.{short}
 use Rattle.dw_base.specs.ElfFails.TableFails.{past as table_past}
 use Rattle.dw_base.specs.EntryScans.{no_values, more_values, starts, no_code, values as values_fail, value as value_fails}
-use Rattle.dw_base.specs.FileViews.{view_of, view_section, section_after, section_bytes, section_named}
+use Rattle.dw_base.specs.FileViews.{view_of, view_section, section_after, section_bytes, section_named, view_relocations}
 use Rattle.dw_base.specs.FormFails.{own, passes_end}
 use Rattle.dw_base.specs.Forms.{text_offset, in_str, form_in_front, supplementary as of_other_file, unlisted, kind_in, form_rows}
 use Rattle.dw_base.specs.Layout.{part_of, is_fixed, fixed_end, padding}
@@ -53,6 +53,8 @@ use Rattle.dw_meaning.proofs.WorkedEntries.{lone_data}
 use Rattle.dw_meaning.proofs.WorkedFiles.{of_32_bits, old_data, old_readings, one-old_reads, one_unit, one_unit-bodies, path_texts, paths-table, paths_abbreviation, paths_abbrevs, paths_bodies}
 use Rattle.dw_meaning.proofs.WorkedSections.{data_in, readings_in, with_a_segment, with_a_segment-old_reads}
 use Rattle.dw_meaning.proofs.WorkedParts.{changed, half, numbers, word, worked_map}
+use Rattle.dw_base.specs.RelocationSectionFails.{relocates_read}
+use Rattle.dw_base.specs.SectionRelocations.{relocates, relocation_section, relocations_of}
 
 -- no bytes; and all but the last, where the section headers pass the end
 pub cut_short-refused :
@@ -297,6 +299,7 @@ data-of :
 unfolding spelled e_type e_phnum e_phoff e_phentsize e_shoff e_shentsize e_shnum e_shstrndx class_of order_of nth_section section_at section_count
     name_index name_table section_name contents_of contents_at text_in ends_in debug_section is_listed view_of view_section section_after
     section_named section_bytes debug_data located unit_sections macro_sections
+    relocations_of relocation_section relocates relocates_read view_relocations
 data-of = (refl, refl, refl, refl, refl, refl, refl)
 
 data_fails : (b : List ℕ) (d : DebugData) (r : Refusal) → file_data b ≡ d → DataFails d r → DataFails (file_data b) r
@@ -334,6 +337,7 @@ all_stays-data : file_data all_stays ≡ old_data Little 8
 unfolding spelled e_type e_phnum e_phoff e_phentsize e_shoff e_shentsize e_shnum e_shstrndx class_of order_of nth_section section_at section_count
     name_index name_table section_name contents_of contents_at text_in ends_in debug_section is_listed view_of view_section section_after
     section_named section_bytes debug_data located unit_sections macro_sections
+    relocations_of relocation_section relocates relocates_read view_relocations
 all_stays-data = refl
 
 all_stays-reads : FileReads all_stays (old_readings Little 8)
@@ -376,6 +380,7 @@ places-data : (file_data in_front ≡ data_in 3 0 13 path_texts) × (file_data c
 unfolding spelled e_type e_phnum e_phoff e_phentsize e_shoff e_shentsize e_shnum e_shstrndx class_of order_of nth_section section_at section_count
     name_index name_table section_name contents_of contents_at text_in ends_in debug_section is_listed view_of view_section section_after
     section_named section_bytes debug_data located unit_sections macro_sections padding
+    relocations_of relocation_section relocates relocates_read view_relocations
 places-data = (refl, refl)
 
 places-reads : FileReads in_front (readings_in 3 0 13 path_texts) × FileReads cut_by_segment (readings_in 3 0 13 path_texts)

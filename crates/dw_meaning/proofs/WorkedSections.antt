@@ -9,7 +9,7 @@ use Rattle.dw_base.specs.DebugData.{DebugData}
 use Rattle.dw_base.specs.DebugData.{DataReadings}
 use Rattle.dw_base.specs.DebugSections.{debug_section, is_listed}
 use Rattle.dw_base.specs.Elf.{class_of, contents_at, contents_of, e_phentsize, e_phnum, e_phoff, e_shentsize, e_shnum, e_shoff, e_shstrndx, e_type, name_index, name_table, nth_section, nth_segment, order_of, section_at, section_count, section_name, segment_at, segments_of, sections_of}
-use Rattle.dw_base.specs.FileViews.{view_of, view_section, section_after, section_bytes, section_named}
+use Rattle.dw_base.specs.FileViews.{view_of, view_section, section_after, section_bytes, section_named, view_relocations}
 use Rattle.dw_base.specs.Forests.{AttributeMeaning, no_entries, entry}
 use Rattle.dw_base.specs.Forms.{kind_in, form_rows}
 use Rattle.dw_base.specs.InlinePaths.{mapped_inline}
@@ -34,6 +34,8 @@ use Rattle.dw_meaning.proofs.PlainUnits.{chain-sound, pieces_from}
 use Rattle.dw_meaning.proofs.WorkedFiles.{all_texts, mapped_paths, path_texts, paths, paths-table, paths_abbrevs, paths_pieces, unit_of, unnamed}
 use Rattle.dw_meaning.proofs.WorkedNotes.{gnu, note, untyped, with_id, with_id_out}
 use Rattle.dw_meaning.proofs.WorkedParts.{all_bytes, changed, numbers, section_header, unit, worked_map}
+use Rattle.dw_base.specs.RelocationSectionFails.{relocates_read}
+use Rattle.dw_base.specs.SectionRelocations.{relocates, relocation_section, relocations_of}
 
 -- debug data like those of the smallest file, with .debug_info in the section of a number, its abbreviations in the next, and
 -- its texts in the one after that: the offsets of the name and of the directory, and the texts
@@ -66,6 +68,7 @@ pub with_id-data : (file_data with_id ≡ data_in 2 0 13 path_texts) × (file_da
 unfolding spelled e_type e_phnum e_phoff e_phentsize e_shoff e_shentsize e_shnum e_shstrndx class_of order_of nth_section section_at section_count
     name_index name_table section_name contents_of contents_at text_in ends_in debug_section is_listed view_of view_section section_after
     section_named section_bytes debug_data located unit_sections macro_sections padding
+    relocations_of relocation_section relocates relocates_read view_relocations
 with_id-data = (refl, refl)
 
 with_id-old_reads : DataReads (data_in 2 0 13 path_texts) (readings_in 2 0 13 path_texts)
@@ -159,6 +162,7 @@ pub with_id-others :
 unfolding spelled e_type e_phnum e_phoff e_phentsize e_shoff e_shentsize e_shnum e_shstrndx class_of order_of nth_section section_at section_count
     name_index name_table section_name contents_of contents_at text_in ends_in debug_section view_of view_section build_id_of is_id_section id_in
     is_id_note descriptor_at padding
+    relocations_of relocation_section relocates relocates_read
 with_id-others = (refl, refl)
 
 abbrev pub with_id_meaning : Meaning
@@ -190,6 +194,7 @@ pub other_id-others : other_sections (without_id (view_of other_id_out).id (view
 unfolding spelled e_type e_phnum e_phoff e_phentsize e_shoff e_shentsize e_shnum e_shstrndx class_of order_of nth_section section_at section_count
     name_index name_table section_name contents_of contents_at text_in ends_in debug_section view_of view_section build_id_of is_id_section id_in
     is_id_note descriptor_at padding
+    relocations_of relocation_section relocates relocates_read
 other_id-others = refl
 
 -- and in a section of another type, which has no build-id, all bytes are meant
@@ -198,6 +203,7 @@ pub untyped-others : other_sections (without_id (view_of untyped).id (view_of un
 unfolding spelled e_type e_phnum e_phoff e_phentsize e_shoff e_shentsize e_shnum e_shstrndx class_of order_of nth_section section_at section_count
     name_index name_table section_name contents_of contents_at text_in ends_in debug_section view_of view_section build_id_of is_id_section id_in
     is_id_note descriptor_at padding
+    relocations_of relocation_section relocates relocates_read
 untyped-others = refl
 
 -- a shared object with a segment, a section in it, and one in memory alone
@@ -232,6 +238,7 @@ pub with_a_segment-data : (file_data with_a_segment ≡ data_in 3 0 13 path_text
 unfolding spelled e_type e_phnum e_phoff e_phentsize e_shoff e_shentsize e_shnum e_shstrndx class_of order_of nth_section section_at section_count
     name_index name_table section_name contents_of contents_at text_in ends_in debug_section is_listed view_of view_section section_after
     section_named section_bytes debug_data located unit_sections macro_sections padding
+    relocations_of relocation_section relocates relocates_read view_relocations
 with_a_segment-data = (refl, refl)
 
 pub with_a_segment-old_reads : DataReads (data_in 3 0 13 path_texts) (readings_in 3 0 13 path_texts)
@@ -313,6 +320,7 @@ pub with_a_segment-others :
 unfolding spelled e_type e_phnum e_phoff e_phentsize e_shoff e_shentsize e_shnum e_shstrndx class_of order_of nth_section section_at section_count
     name_index name_table section_name contents_of contents_at text_in ends_in debug_section view_of view_section build_id_of is_id_section id_in
     is_id_note descriptor_at padding
+    relocations_of relocation_section relocates relocates_read
 with_a_segment-others = (refl, refl)
 
 abbrev pub with_a_segment_meaning : Meaning

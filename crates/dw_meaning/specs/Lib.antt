@@ -9,3 +9,4 @@ pub mod SpelledUnits
 pub mod RelocationFails
 pub mod LineCells
 pub mod RelocatedBodies
+pub mod LineStretches

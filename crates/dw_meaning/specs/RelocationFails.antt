@@ -2,20 +2,23 @@
 -- which a relocation gives no place, or on which one lies in part, refuses what is read up to it (`HeaderOffsetFails` for headers of units);
 -- where a section is read, so does a relocation elsewhere in it that names a place in a section whose places change. Beside the rows of
 -- `DataFails`, `TextFails` and the others.
-use Rattle.std.specs.Prelude.{true, false, ◌≡◌, ℕ, List, [], ◌∷◌, ◌++◌}
+use Rattle.std.specs.Prelude.{true, false, ◌≡◌, ℕ, ◌<◌, List, [], ◌∷◌, ◌++◌, length}
 use Rattle.dw_base.specs.AbbreviationTables.{Abbreviation}
 use Rattle.dw_base.specs.Cells.{CellSection}
 use Rattle.dw_base.specs.DebugData.{DebugData, line_source}
 use Rattle.dw_base.specs.Elf.{contents_of, is_empty_kind, nth_section}
 use Rattle.dw_base.specs.EntryValues.{HasTable, HasValue, bytes_up_to}
-use Rattle.dw_base.specs.FileViews.{view_of}
+use Rattle.dw_base.specs.FileViews.{View, section_bytes, view_of}
 use Rattle.dw_base.specs.Forms.{ValueKind, form_in_front, kind_in}
 use Rattle.dw_base.specs.Layout.{is_alloc}
 use Rattle.dw_base.specs.Lebs.{uleb_at}
 use Rattle.dw_base.specs.LineFields.{line_fields, table_fields}
 use Rattle.dw_base.specs.LineReadings.{AreTables, LineReading, ReadsTable, TablesTo}
+use Rattle.dw_base.specs.MacroOffsets.{UnitsReadUpTo, OffsetRefuses as UnitOffsetRefuses}
 use Rattle.dw_base.specs.MacroPieces.{MacroState, ReadsMacros}
+use Rattle.dw_base.specs.NameOffsets.{ReadUpTo, OffsetRefuses as TableOffsetRefuses}
 use Rattle.dw_base.specs.NamePieces.{NameState, ReadsNames}
+use Rattle.dw_base.specs.NameTables.{IsNameTable, names_of}
 use Rattle.dw_base.specs.OffsetPieces.{OffsetState, ReadsOffsets}
 use Rattle.dw_base.specs.Pieces.{Piece}
 use Rattle.dw_base.specs.RelocationRows.{FieldPlace, FieldsFail, FieldsRead, HeaderFails, HeaderOffsetFails, HeaderOffsetsRead, HeaderReads, OffsetFails, OffsetReads, is_start, kind_field, macro_fields, moving_sections, name_fields, offset_field, slot_fields, unit_fields}
@@ -23,7 +26,10 @@ use Rattle.dw_base.specs.RelocationSectionFails.{RelocationSectionsFail, Relocat
 use Rattle.dw_base.specs.UnitHeaders.{UnitSection}
 use Rattle.dw_base.specs.UnitPieces.{ReadsUnits}
 use Rattle.dw_base.specs.UnitStates.{UnitState, read_value}
+use Rattle.dw_base.specs.ViewData.{debug_data}
 use Rattle.dw_base.specs.declared.fault.Refusal.{Refusal}
+use Rattle.dw_base.specs.declared.macro_units.MacroUnit.{MacroUnit}
+use Rattle.dw_base.specs.declared.name_tables.NameTable.{NameTable}
 use Rattle.dw_base.specs.declared.shared.Params.{Params}
 use Rattle.dw_base.specs.declared.units.UnitHeader.{UnitHeader}
 use Rattle.dw_base.specs.declared.values.Spec.{Spec}
@@ -86,21 +92,36 @@ pub record LeftRelocationsRead (d : DebugData) (moving : List ℕ) : Type 0 wher
   pub line_headers : (before : List LineReading) (start : ℕ) (t : LineReading) → TablesTo (line_source d) 0 before start
       → ReadsTable (line_source d) start t → HeaderReads t.header.start t.behind d.lines.contents (table_fields (line_source d) t)
 
--- the rows of relocations of a file: of its sections; of offsets of abbreviations, and of values; and of those that are left
+-- what holds where debug data have no row of relocations: of offsets of abbreviations, of values, and of those that are left
+pub record RelocationsReadIn (d : DebugData) (moving : List ℕ) : Type 0 where
+  pub headers : (before behind : List UnitSection) (z : UnitSection) → d.units ≡ before ++ z ∷ behind → HeaderOffsetsRead d.base z
+  pub values : ValueRelocationsRead d
+  pub left : LeftRelocationsRead d moving
+
+-- the row of an offset in a name table or a macro unit, behind tables (units) that can be read with their offsets, whatever stands behind it:
+-- the first offset of its table (unit) that can't be read
+pub data OffsetsFailIn (v : View) : Refusal → Type 0 where
+  names : (list : List NameTable) (start : ℕ) (t : NameTable) {r : Refusal} → ReadUpTo v (names_of v).number (names_of v).bytes list start
+      → start < length (names_of v).bytes → IsNameTable v.order (names_of v).bytes start t → TableOffsetRefuses v (names_of v).number t r
+      → OffsetsFailIn v r
+  macros : (before behind : List CellSection) (z : CellSection) (list : List MacroUnit) (start : ℕ) {r : Refusal}
+      → (debug_data v).macros ≡ before ++ z ∷ behind → UnitsReadUpTo v z.number list start → start < length (section_bytes v z.number)
+      → UnitOffsetRefuses v z.number start r → OffsetsFailIn v r
+
+-- the rows of relocations of a file: of its sections; of offsets of abbreviations, of values, of name tables and of macro units; and of those
+-- that are left
 pub data RelocationsFail (b : List ℕ) : Refusal → Type 0 where
   sections : {r : Refusal} → RelocationSectionsFail (contents_of b) b r → RelocationsFail b r
   headers : (before behind : List UnitSection) (z : UnitSection) {r : Refusal} → (file_data b).units ≡ before ++ z ∷ behind
       → HeaderOffsetFails (file_data b).base z r → RelocationsFail b r
   values : {r : Refusal} → ValueRelocationFails (file_data b) r → RelocationsFail b r
+  offsets : {r : Refusal} → OffsetsFailIn (view_of b) r → RelocationsFail b r
   left : {r : Refusal} → LeftRelocationsFail (file_data b) (moving_sections (view_of b)) r → RelocationsFail b r
 
--- and what holds where there is none
+-- and what holds where there is none, of a file whose debug data can be read: no offset of its name tables and macro units is refused then
 pub record RelocationsRead (b : List ℕ) : Type 0 where
   pub sections : RelocationSectionsRead (contents_of b) b
-  pub headers : (before behind : List UnitSection) (z : UnitSection) → (file_data b).units ≡ before ++ z ∷ behind
-      → HeaderOffsetsRead (file_data b).base z
-  pub values : ValueRelocationsRead (file_data b)
-  pub left : LeftRelocationsRead (file_data b) (moving_sections (view_of b))
+  pub on_data : RelocationsReadIn (file_data b) (moving_sections (view_of b))
 
 -- a section of a number holds relocations of one that is read and has bytes, and is ALLOC (gABI ch. 4 "Sections", `sh_flags`)
 pub record RelocationsAreLoaded (b : List ℕ) (i : ℕ) : Type 0 where

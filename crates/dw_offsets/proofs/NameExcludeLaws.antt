@@ -12,7 +12,7 @@ use Rattle.dw_base.specs.declared.shared.Width.{Width}
 use Rattle.dw_base.specs.declared.view_fields.Field.{Field}
 use Rattle.dw_base.proofs.NameRowLaws.{tables-exclude}
 use Rattle.dw_base.proofs.ReachLaws.{Reaches, here, reach-more, Determined, Stops, stops-one}
-use Rattle.dw_offsets.specs.NameOffsets.{OffsetsRead, ReadUpTo, none_read, more_read, OffsetRefuses, no_offset, TablesRefuse, tables, offsets}
+use Rattle.dw_base.specs.NameOffsets.{OffsetsRead, ReadUpTo, none_read, more_read, OffsetRefuses, no_offset, TablesRefuse, tables, offsets}
 use Rattle.dw_base.specs.ViewOffsets.{offset_read}
 use Rattle.dw_offsets.proofs.NameListLaws.{read-tables}
 

@@ -5,7 +5,7 @@ use Rattle.dw_base.specs.declared.fault.Refusal.{Refusal}
 use Rattle.dw_base.specs.NameTables.{TablesUpTo, no_tables, more_tables}
 use Rattle.dw_base.specs.NameTableFails.{one}
 use Rattle.dw_base.specs.declared.name_tables.NameTable.{NameTable}
-use Rattle.dw_offsets.specs.NameOffsets.{ReadUpTo, none_read, more_read, TableRefuses, table_fails, offset_fails, TablesRefuse, tables, offsets}
+use Rattle.dw_base.specs.NameOffsets.{ReadUpTo, none_read, more_read, TableRefuses, table_fails, offset_fails, TablesRefuse, tables, offsets}
 
 -- tables whose string offsets can be read are tables
 pub read-tables : (v : View) (section : ℕ) (bytes : List ℕ) (list : List NameTable) (place : ℕ) → ReadUpTo v section bytes list place

@@ -28,16 +28,16 @@ use Rattle.dw_base.proofs.NameBackLaws.{StringNamesBy}
 use Rattle.dw_base.proofs.ViewCellLaws.{bytes_of-view_cells, length-view_cells, offset_at-cells}
 use Rattle.dw_offsets.proofs.OffsetPieceLaws.{header-length}
 use Rattle.dw_base.proofs.ViewOffsetLaws.{offset-reads, some-named}
-use Rattle.dw_offsets.specs.NameOffsets.{AreRead, OffsetsRead, ReadUpTo, none_read, more_read}
+use Rattle.dw_base.specs.NameOffsets.{AreRead, OffsetsRead, ReadUpTo, none_read, more_read}
 use Rattle.dw_base.proofs.RunLaws.{leads-chain, part-bytes, part-length}
 
 -- the counts of a table are in its front
-field-part : (o : Order) (bs : List ℕ) (a n at k : ℕ) → at + k + 4 ≤ n → spelled o (take n (drop a bs)) (at + k) 4 ≡ spelled o bs (a + at + k) 4
+pub field-part : (o : Order) (bs : List ℕ) (a n at k : ℕ) → at + k + 4 ≤ n → spelled o (take n (drop a bs)) (at + k) 4 ≡ spelled o bs (a + at + k) 4
 field-part o bs a n at k inside =
     let place : a + (at + k) ≡ a + at + k = omega arith in
     spelled-take o (drop a bs) n (at + k) 4 inside ∙ spelled-drop o bs a (at + k) 4 ∙ ap (λ (p : ℕ). spelled o bs p 4) place
 
-counts-part : (o : Order) (bs : List ℕ) (a n at : ℕ) → at + 32 ≤ n → name_counts o (take n (drop a bs)) at ≡ name_counts o bs (a + at)
+pub counts-part : (o : Order) (bs : List ℕ) (a n at : ℕ) → at + 32 ≤ n → name_counts o (take n (drop a bs)) at ≡ name_counts o bs (a + at)
 unfolding name_counts
 counts-part o bs a n at inside =
     rw (
@@ -52,22 +52,22 @@ counts-part o bs a n at inside =
     refl
 
 -- where the parts of a table lie: its counts, and the size of its front
-record Parts (cells : List Cell) (start : ℕ) (t : NameTable) (l : Width × ℕ × ℕ) (counts : NameCounts) (n : ℕ) : Type 0 where
-  size : n ≡ l.2 + 32 + before_strings l.0 counts
-  end : t.end ≡ start + l.2 + l.1
-  width : t.width ≡ l.0
-  names : t.names ≡ counts.names
-  strings : t.strings ≡ start + n
-  within : start + l.2 + l.1 ≤ length cells
-  fits : n + from_strings l.0 counts ≤ l.2 + l.1
+pub record Parts (cells : List Cell) (start : ℕ) (t : NameTable) (l : Width × ℕ × ℕ) (counts : NameCounts) (n : ℕ) : Type 0 where
+  pub size : n ≡ l.2 + 32 + before_strings l.0 counts
+  pub end : t.end ≡ start + l.2 + l.1
+  pub width : t.width ≡ l.0
+  pub names : t.names ≡ counts.names
+  pub strings : t.strings ≡ start + n
+  pub within : start + l.2 + l.1 ≤ length cells
+  pub fits : n + from_strings l.0 counts ≤ l.2 + l.1
 
-abbrev counts_of : Order → List Cell → ℕ → Width × ℕ × ℕ → NameCounts
+abbrev pub counts_of : Order → List Cell → ℕ → Width × ℕ × ℕ → NameCounts
 counts_of order cells start l = name_counts order (bytes_of cells) (start + l.2)
 
-abbrev front_size : Order → List Cell → ℕ → Width × ℕ × ℕ → ℕ
+abbrev pub front_size : Order → List Cell → ℕ → Width × ℕ × ℕ → ℕ
 front_size order cells start l = l.2 + 32 + before_strings l.0 (counts_of order cells start l)
 
-parts-of : (order : Order) (cells : List Cell) (start : ℕ) (t : NameTable) (is : IsNameTable order (bytes_of cells) start t)
+pub parts-of : (order : Order) (cells : List Cell) (start : ℕ) (t : NameTable) (is : IsNameTable order (bytes_of cells) start t)
     → Parts cells start t is.lengths (counts_of order cells start is.lengths) (front_size order cells start is.lengths)
 parts-of order cells start t is =
     let end : t.end ≡ start + is.lengths.2 + is.lengths.1 = ap (λ (x : NameTable). x.end) is.is in
@@ -83,7 +83,7 @@ parts-of order cells start t is =
     }
 
 -- the front of a table is a piece
-front-piece : (order : Order) (cells : List Cell) (start : ℕ) (t : NameTable) (l : Width × ℕ × ℕ) (n : ℕ) → Parts cells start t l (counts_of order cells start l) n
+pub front-piece : (order : Order) (cells : List Cell) (start : ℕ) (t : NameTable) (l : Width × ℕ × ℕ) (n : ℕ) → Parts cells start t l (counts_of order cells start l) n
     → initial_length_at order (bytes_of cells) start ≡ Some l → spelled order (bytes_of cells) (start + l.2) 2 ≡ 5
     → IsTableFront order (names_at (length cells) start at_table) (take n (drop start cells))
 front-piece order cells start t l n parts e version =
@@ -108,7 +108,7 @@ front-piece order cells start t l n parts e version =
     }
 
 -- what follows it
-front-next : (order : Order) (cells : List Cell) (start : ℕ) (t : NameTable) (l : Width × ℕ × ℕ) (n : ℕ) → Parts cells start t l (counts_of order cells start l) n
+pub front-next : (order : Order) (cells : List Cell) (start : ℕ) (t : NameTable) (l : Width × ℕ × ℕ) (n : ℕ) → Parts cells start t l (counts_of order cells start l) n
     → initial_length_at order (bytes_of cells) start ≡ Some l
     → past_names at_table order (names_at (length cells) start at_table) (take n (drop start cells)) ≡ before_strings_of (length cells) t.strings t.width t.names t.end
 front-next order cells start t l n parts e =

@@ -21,7 +21,7 @@ use Rattle.dw_base.specs.declared.view_fields.Field.{Field}
 use Rattle.dw_base.specs.declared.view_fields.Field.TheVariants.{Num, Into, Sym}
 use Rattle.dw_base.specs.NameTables.{texts_in, names_text, string_place, NamesTexts, IsNameTable, IsNamedTable}
 use Rattle.dw_offsets.specs.TextEnds.{IsTexts}
-use Rattle.dw_offsets.specs.NameOffsets.{OffsetsRead, no_offset, TextRefuses, names_none, reads_none, TableRefuses, table_fails, offset_fails}
+use Rattle.dw_base.specs.NameOffsets.{OffsetsRead, no_offset, TextRefuses, names_none, reads_none, TableRefuses, table_fails, offset_fails}
 use Rattle.dw_base.specs.ViewOffsets.{offset_read}
 use Rattle.dw_base.proofs.ViewOffsetLaws.{offset-is}
 use Rattle.dw_base.specs.NameTableFails.{TableFails, no_text, table, texts}

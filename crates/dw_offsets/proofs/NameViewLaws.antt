@@ -9,7 +9,7 @@ use Rattle.dw_base.specs.declared.fault.Fault.{Fault}
 use Rattle.dw_base.specs.declared.fault.Fault.TheVariants.{NoMemory, Refused}
 use Rattle.dw_base.specs.NameTables.{names_of, AreNameTables}
 use Rattle.dw_base.specs.declared.name_tables.NameTable.{NameTable}
-use Rattle.dw_offsets.specs.NameOffsets.{AreRead, NamesRefuse, none_read, ReadUpTo, TablesRefuse}
+use Rattle.dw_base.specs.NameOffsets.{AreRead, NamesRefuse, none_read, ReadUpTo, TablesRefuse}
 use Rattle.dw_offsets.proofs.NameListLaws.{read-tables}
 
 here-is : (v : View) (o : Option ℕ) → o ≡ section_named v (name_of Names) → names_of v ≡ located_at v o

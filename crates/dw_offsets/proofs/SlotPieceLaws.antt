@@ -38,13 +38,13 @@ use Rattle.dw_offsets.specs.SlotMarks.{marked, AreMarks}
 use Rattle.dw_offsets.specs.declared.slot_fields.PathSlot.{PathSlot}
 
 -- the slots among pieces
-abbrev slot_of_size : ℕ → ℕ → Slot
+abbrev pub slot_of_size : ℕ → ℕ → Slot
 slot_of_size place size = record { place = place; size = size }
 
-abbrev slot_piece : Piece OffsetState → Slot
+abbrev pub slot_piece : Piece OffsetState → Slot
 slot_piece x = slot_of_size x.state.place (length x.cells)
 
-abbrev listed_by : OffsetMode → Slot → List Slot
+abbrev pub listed_by : OffsetMode → Slot → List Slot
 listed_by (at_slot w end) s = s ∷ []
 listed_by m s = []
 
@@ -53,7 +53,7 @@ piece_slots [] = []
 piece_slots (x ∷ xs) = listed_by x.state.mode (slot_piece x) ++ piece_slots xs
 
 -- so many slots of a width, from a place on
-abbrev steps : Width → ℕ → ℕ → List Slot
+abbrev pub steps : Width → ℕ → ℕ → List Slot
 steps w zero place = []
 steps w (suc n) place = slot_of_size place (width_size w) ∷ steps w n (place + width_size w)
 
@@ -71,13 +71,13 @@ steps-more w (suc n) place =
     more-size W64 n place = omega arith
 
 -- the slots of a contribution are these
-tabulate-steps : (c : Contribution) (n : ℕ) → tabulate (slot_at c) n ≡ steps c.width n c.base
+pub tabulate-steps : (c : Contribution) (n : ℕ) → tabulate (slot_at c) n ≡ steps c.width n c.base
 tabulate-steps c zero = refl
 tabulate-steps c (suc n) =
     ap (λ (l : List Slot). l ++ slot_at c n ∷ []) (tabulate-steps c n) ∙ sym (steps-more c.width n c.base)
 
 -- what is left of a contribution in front of a piece
-abbrev left_by : OffsetMode → ℕ → List Slot
+abbrev pub left_by : OffsetMode → ℕ → List Slot
 left_by (at_slot w end) place = steps w ((end - place) / width_size w) place
 left_by m place = []
 
@@ -125,7 +125,7 @@ slots-step (at_slot w end) order s p rest list f e =
     ∙ ap (λ (k : ℕ). steps w k s.place ++ slots_of list) (sym (more-left w s.place end fits))
 slots-step no_offsets order s p rest list f e = absurd f
 
-slots-from : (order : Order) (s : OffsetState) (xs : List (Piece OffsetState)) → Chain (offset_grammar order) s xs
+pub slots-from : (order : Order) (s : OffsetState) (xs : List (Piece OffsetState)) → Chain (offset_grammar order) s xs
     → piece_slots xs ≡ left_by s.mode s.place ++ slots_of (contributions_in order xs)
 slots-from order s [] end = ap (λ (m : OffsetMode). left_by m s.place ++ []) (sym end.mode)
 slots-from order s (x ∷ xs) chain =

@@ -3,5 +3,4 @@ pub mod PathSlots
 pub mod SlotMarks
 pub mod SlotSearch
 pub mod TextEnds
-pub mod NameOffsets
 pub mod SlotTables

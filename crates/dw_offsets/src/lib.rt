@@ -20,7 +20,6 @@
 //! ```
 #![tactic(auto)]
 
-mod fields;
 mod name_headers;
 mod name_lists;
 mod name_texts;

@@ -9,7 +9,7 @@ ghost use Rattle.dw_base.specs.FileViews.{section_bytes};
 ghost use Rattle.dw_base.specs.Refusals.{Blames};
 ghost use Rattle.dw_base.specs.declared.fault.Refusal.{Refusal as RefusalOf};
 ghost use Rattle.dw_base.specs.NameTables.{AreNameTables};
-ghost use Rattle.dw_offsets.specs.NameOffsets.{AreRead, NamesRefuse, ReadUpTo, TablesRefuse};
+ghost use Rattle.dw_base.specs.NameOffsets.{AreRead, NamesRefuse, ReadUpTo, TablesRefuse};
 ghost use Rattle.dw_base.specs.declared.name_tables.NameTable.{NameTable as NameTableOf};
 
 use crate::name_texts::{named_table_at, texts_of};

@@ -10,9 +10,8 @@ ghost use Rattle.dw_base.specs.Forms.{width_size};
 ghost use Rattle.dw_base.specs.Texts.{ends_in};
 ghost use Rattle.dw_base.specs.NameTables.{IsNamedTable, NamesTexts, string_place, texts_in};
 ghost use Rattle.dw_offsets.specs.TextEnds.{IsTexts};
-ghost use Rattle.dw_offsets.specs.NameOffsets.{OffsetsRead, TableRefuses, TextRefuses};
+ghost use Rattle.dw_base.specs.NameOffsets.{OffsetsRead, TableRefuses, TextRefuses};
 
-use crate::fields::offset_field;
 use crate::name_headers::table_at;
 use crate::widths::width_size;
 use dw_base::{DebugSection, Field, Kind, NameTable, Refusal, Width, nul_end};
@@ -100,7 +99,7 @@ fn check_texts(view: &View, section: u32, texts: &Texts, table: &NameTable) -> R
     let size = width_size(table.width);
     for i in 0..table.names {
         let place = string_place(table, i);
-        let field = offset_field(view, section, place, size)?;
+        let field = view.offset(section, place, size)?;
         if !names_text(view, texts, field) {
             return Err(Refusal::at(Kind::StringOffset, section, place));
         }

@@ -20,7 +20,6 @@ ghost use Rattle.dw_base.specs.ViewData.{located, string_offsets};
 ghost use Rattle.dw_offsets.specs.PathSlots.{AllLieIn, LiesIn, SlotRefuses, SlotTable, SlotTaken, SlotsRefuse, SlotsTaken, fields_of, slot_offset, as_field, slots_in, table_in};
 ghost use Rattle.dw_offsets.specs.SlotTables.{TableFits};
 
-use crate::fields::offset_field;
 use crate::name_texts::{Texts, names_text, text_start, texts_of};
 use crate::slot_marks::SlotMarks;
 use crate::string_offsets::ContributionList;
@@ -248,7 +247,7 @@ impl<'v, 'f> Table<'v, 'f> {
         ensures reads { OnOk result (OffsetReads self.now.order self.now.cells (as_field (record { place = at; size = size }))) }
         ensures refused { IfErr result (OffsetFails self.now.order self.now.number self.now.cells (as_field (record { place = at; size = size }))) }
     {
-        offset_field(self.view, self.section, at, size)
+        self.view.offset(self.section, at, size)
     }
 
     /// A text that ends begins where a field says.

@@ -1,1 +1,3 @@
 pub mod Patching
+pub mod RecordMoves
+pub mod OffsetLists

@@ -3,9 +3,10 @@
 //!
 //! This layer promises: after `apply` each field that was set reads as its new place, and every byte outside
 //! of those fields is as before; a field is refused only where its new place doesn't fit it, and then what
-//! was set before stays.
-//! It does not promise: anything of relocations, which a file that isn't relocatable hasn't.
-//! Read first: `specs/Patching.antt`.
+//! was set before stays. The records of a section's relocations move with its bytes, and have the addends that make the
+//! offsets of its fields (gABI ch. 4 "Relocation").
+//! It does not promise: that what is set into a field is what its relocation asks for; nothing calls it of a relocatable file yet.
+//! Read first: `specs/Patching.antt`, then `specs/RecordMoves.antt`.
 //!
 //! # Example
 //!
@@ -16,7 +17,14 @@
 //! ```
 #![tactic(auto)]
 
+mod offsets;
 mod patches;
+mod records;
+mod runs;
 
 pub use dw_base::{Fault, Kind, NoMemory, Order, Refusal};
+pub use elf_relocs::RelocSource;
+pub use offsets::Offsets;
 pub use patches::{NewPlace, Patch, Patches};
+pub use records::move_records;
+pub use runs::Run;

@@ -6,7 +6,10 @@ use Rattle.dw_lines.specs.ViewTables.{TablesFound}
 use Rattle.dw_meaning.specs.DataOutput.{Body, DataReads, changes_of, new_bodies, new_lines}
 use Rattle.dw_base.specs.DebugData.{DataReadings, around_of, line_source, table_of}
 use Rattle.dw_base.specs.Cells.{CellSection}
-use Rattle.dw_base.specs.DebugSectionFails.{DebugSectionsFail}
+use Rattle.dw_base.specs.MacroOffsets.{UnitsRefuse, units as units_are_wrong, offsets as offsets_refuse}
+use Rattle.dw_base.specs.NameOffsets.{NamesRefuse, tables as tables_refuse, offsets as names_refuse}
+use Rattle.dw_base.specs.ViewFails.{ViewFails}
+use Rattle.dw_base.specs.ViewFails.ViewFails.{sections as names_fail_row, relocations as relocations_fail}
 use Rattle.dw_base.specs.DebugSections.{name_of}
 use Rattle.dw_meaning.specs.EditRows.{EditFails, IsAccepted}
 use Rattle.dw_meaning.specs.EditRows.EditFails.{file, inline, line_table as line_table_row, output, shared}
@@ -15,7 +18,8 @@ use Rattle.dw_base.specs.ElfFails.{ElfFails, ElfReads}
 use Rattle.dw_meaning.specs.FileFails.{FileFails, UnbuiltFile}
 use Rattle.dw_meaning.specs.FileFails.FileFails.{elf, lines as lines_row, macros as macros_row, starts as starts_row, sections, units as units_row, texts as texts_row, string_tables as string_tables_row, slots as slots_row, name_tables as name_tables_row, relocations as relocations_row}
 use Rattle.dw_meaning.specs.FileFails.UnbuiltFile.{relocatable}
-use Rattle.dw_meaning.specs.RelocationFails.RelocationsFail.{headers, left, values}
+use Rattle.dw_meaning.specs.RelocationFails.RelocationsFail.{headers, left, offsets as offset_rows, sections as section_relocations, values}
+use Rattle.dw_meaning.specs.RelocationFails.OffsetsFailIn.{names as names_before, macros as macros_before}
 use Rattle.dw_meaning.specs.FileMeanings.{FileReads, IsOutput, MeaningKept, file_data, new_body, output_of}
 use Rattle.dw_base.specs.FileViews.{View, view_of}
 use Rattle.dw_base.specs.Forms.{TextSection, in_str, in_line_str}
@@ -43,7 +47,7 @@ use Rattle.dw_base.specs.declared.line_tables.TextPlace.{TextPlace}
 use Rattle.dw_meaning.specs.DataFails.{LinesFail}
 use Rattle.dw_meaning.proofs.DataOneLaws.{data-one}
 use Rattle.dw_meaning.proofs.FileBackLaws.{build_id-back}
-use Rattle.dw_meaning.proofs.FileKeptLaws.{CanMap, body-line, body-lines, body-str, file-back, line-bytes, line-place, lines-are, tables-apart, tables-place}
+use Rattle.dw_meaning.proofs.FileKeptLaws.{CanMap, body-line, body-lines, body-str, file-back, line-bytes, line-place, lines-number, tables-apart, tables-place}
 use Rattle.dw_meaning.proofs.FileMeaningLaws.{file-meaning}
 use Rattle.dw_meaning.proofs.LineSectionLaws.{no-tables}
 use Rattle.dw_base.proofs.LayoutLaws.{fixed_end-within}
@@ -58,10 +62,11 @@ use Rattle.dw_rewrite.specs.Judged.{IsJudged}
 use Rattle.dw_rewrite.specs.Rewritten.{AllStand, IsInFile, body_with, long_fault, long_or, long_refusal, told_refusal}
 use Rattle.dw_find.specs.MacroSections.{SectionUnits, UnitsFailIn, UnitsFoundIn}
 use Rattle.dw_find.specs.MacroSections.UnitsFailIn.{units as units_fail, offsets as offsets_fail}
+use Rattle.dw_find.specs.ViewFields.{HasNoRelocations}
 use Rattle.dw_find.specs.UnitPaths.{UnitPaths}
 use Rattle.dw_find.specs.UnitTexts.UnitsRefuse.{data_fails, header_fails, relocation_fails, text_fails}
-use Rattle.dw_find.proofs.PlainViewLaws.{names-fail, units-fail}
 use Rattle.dw_rewrite.proofs.BodyLaws.{bodies-same, bodies-stand, made-stand}
+use Rattle.dw_rewrite.proofs.NoRelocationLaws.{loaded-none}
 use Rattle.dw_meaning.proofs.LoadedLaws.{loaded-kept}
 use Rattle.dw_rewrite.proofs.WrittenLaws.{fits_same, layout_same, length-moved}
 
@@ -73,9 +78,13 @@ refused_elf m b (Refused r) h = file (elf h)
 pub ruleset rewrite_rules = (refused_elf)
 
 -- one whose sections aren't handled,
-pub refused_view : (m : PathMap) (b : List ℕ) (f : Fault) → ElfReads b → Blames (DebugSectionsFail b) f → Blames (EditFails m b) f
+view_row : (b : List ℕ) (r : Refusal) → ElfReads b → ViewFails b r → FileFails b r
+view_row b r reads (names_fail_row f) = sections reads f
+view_row b r reads (relocations_fail f) = relocations_row reads (section_relocations f)
+
+pub refused_view : (m : PathMap) (b : List ℕ) (f : Fault) → ElfReads b → Blames (ViewFails b) f → Blames (EditFails m b) f
 refused_view m b NoMemory reads h = tt
-refused_view m b (Refused r) reads h = file (sections reads h)
+refused_view m b (Refused r) reads h = file (view_row b r reads h)
 
 -- and one that isn't taken as it was judged.
 pub refused_file : (m : PathMap) (b : List ℕ) (r : Refusal) (f : Fault) → FileFails b r → f ≡ Refused r → Blames (EditFails m b) f
@@ -84,6 +93,10 @@ refused_file m b r f h is = subst (λ (x : Fault). Blames (EditFails m b) x) (sy
 pub ruleset elf_rules = (refused_view, refused_file)
 
 -- What can't be read of debug data, for a relocation or not, paths that would grow, and slots that are shared are rows.
+names_fail : (b : List ℕ) (r : Refusal) → ElfReads b → NamesRefuse (view_of b) r → FileFails b r
+names_fail b r reads (tables_refuse h) = name_tables_row reads h
+names_fail b r reads (names_refuse list start t up some is h) = relocations_row reads (offset_rows (names_before list start t up some is h))
+
 data_fail : (m : PathMap) (b : List ℕ) (r : Refusal) → ElfReads b → PathsRefuse m (view_of b) r → EditFails m b r
 data_fail m b r reads (paths_units (data_fails h)) = file (units_row reads h)
 data_fail m b r reads (paths_units (text_fails h)) = file (texts_row reads h)
@@ -93,7 +106,7 @@ data_fail m b r reads (paths_starts h) = file (starts_row reads h)
 data_fail m b r reads (paths_inline h) = inline reads h
 data_fail m b r reads (paths_string_tables h) = file (string_tables_row reads h)
 data_fail m b r reads (paths_name_tables h) = file (name_tables_row reads h)
-data_fail m b r reads (paths_name_offsets h) = file (name_tables_row reads (names-fail (view_of b) r h))
+data_fail m b r reads (paths_name_offsets h) = file (names_fail b r reads h)
 data_fail m b r reads (paths_relocations h) = file (relocations_row reads (left h))
 data_fail m b r reads (paths_slots h) = file (slots_row reads h)
 data_fail m b r reads (paths_shared readings i h) = shared readings reads i h
@@ -124,9 +137,14 @@ found_tables b v ts is h = subst (λ (w : View). TablesFound w ts) is h
 pub ruleset tables_rules = (refused_tables, found_tables)
 
 -- and macro units.
+units_refuse : (b : List ℕ) (z : CellSection) (before behind : List CellSection) (r : Refusal) → ElfReads b → (file_data b).macros ≡ before ++ z ∷ behind
+    → UnitsRefuse (view_of b) z.number r → FileFails b r
+units_refuse b z before behind r reads split (units_are_wrong h) = macros_row z before behind reads split h
+units_refuse b z before behind r reads split (offsets_refuse list start up some h) = relocations_row reads (offset_rows (macros_before before behind z list start split up some h))
+
 macro_fail : (m : PathMap) (b : List ℕ) (r : Refusal) → ElfReads b → UnitsFailIn (view_of b) r → EditFails m b r
 macro_fail m b r reads (units_fail z before behind split h) = file (macros_row z before behind reads split h)
-macro_fail m b r reads (offsets_fail z before behind split h) = file (macros_row z before behind reads split (units-fail (view_of b) z.number r h))
+macro_fail m b r reads (offsets_fail z before behind split h) = file (units_refuse b z before behind r reads split h)
 
 pub refused_macros : (m : PathMap) (b : List ℕ) (v : View) (f : Fault) → IsJudged b → v ≡ view_of b → Blames (UnitsFailIn v) f → Blames (EditFails m b) f
 refused_macros m b v NoMemory j is h = tt
@@ -177,7 +195,7 @@ lines_body m b r reads some =
     record { within = stand.within some; full = stand.full some; body = by_place (tables-place b) refl }
   where
     same : (located (view_of b) Line).number ≡ (file_data b).lines.number
-    same = sym (ap (λ (z : CellSection). z.number) (lines-are b))
+    same = sym (lines-number b)
 
     by_place : TablePlace b (name_of Line) (located (view_of b) Line) → (file_data b).lines.number ≡ (file_data b).lines.number
         → new_body m b r (file_data b).lines.number ≡ all_lines (new_lines m (around_of (file_data b) r) r)
@@ -239,7 +257,7 @@ some_tables : (b : List ℕ) (r : DataReadings) (before behind : List LineReadin
 some_tables b r before behind t reads split zero_ = by_place (tables-place b)
   where
     same : (located (view_of b) Line).number ≡ (file_data b).lines.number
-    same = sym (ap (λ (z : CellSection). z.number) (lines-are b))
+    same = sym (lines-number b)
 
     size : length r.lines ≡ length before + suc (length behind)
     size = ap (λ (l : List LineReading). length l) split ∙ length-append before (t ∷ behind)
@@ -264,7 +282,10 @@ in_file m b (Refused x) (line_table_of r before behind t reads split fails) =
 pub told_in_file : (m : PathMap) (b : List ℕ) (v : View) (f : Fault) → v ≡ view_of b → Blames (BodiesRefuse m (debug_data v)) f → Blames (IsInFile b) f
 told_in_file m b v f v_is h = in_file m b f (subst (λ (w : View). Blames (BodiesRefuse m (debug_data w)) f) v_is h)
 
-pub ruleset bodies_rules = (seen_paths, seen_macros, made_bodies, refused_bodies, told_in_file)
+pub seen_none : (b : List ℕ) (v : View) → IsJudged b → v ≡ view_of b → HasNoRelocations v
+seen_none b v j is = subst HasNoRelocations (sym is) (loaded-none b j.kind)
+
+pub ruleset bodies_rules = (seen_none, seen_paths, seen_macros, made_bodies, refused_bodies, told_in_file)
 
 -- What was written is the output of a file that is taken.
 unbuilt_none : (b : List ℕ) → IsJudged b → UnbuiltFile b → ⊥

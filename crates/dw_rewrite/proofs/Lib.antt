@@ -21,7 +21,9 @@ pub mod LineWriteLaws
 pub mod LineMentionLaws
 pub mod LineKnownLaws
 pub mod PushLaws
+pub mod NoRelocationLaws
 pub mod NewBodyLaws
 pub mod TableTextLaws
 pub mod MadeBodyLaws
 pub mod BodyRowLaws
+pub mod RecordSayLaws

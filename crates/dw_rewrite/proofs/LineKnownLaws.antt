@@ -23,7 +23,7 @@ use Rattle.dw_find.specs.Fields.{OffsetTable, offset_at}
 use Rattle.dw_rewrite.specs.NewLines.{AllCanWrite, lines_known}
 use Rattle.dw_find.specs.ViewLines.{table_fields, text_field, text_fields}
 use Rattle.dw_find.specs.declared.fields.PathField.{PathField}
-use Rattle.dw_find.proofs.LineTextLaws.{texts_table}
+use Rattle.dw_rewrite.proofs.LineMentionLaws.{texts_table}
 use Rattle.dw_find.proofs.LinePlaceLaws.{EachReads, PathReads, offset-read, table-paths}
 use Rattle.dw_find.proofs.PlaceValueLaws.{EachOf}
 

@@ -13,12 +13,16 @@ use Rattle.dw_base.specs.declared.line_tables.TextPlace.{TextPlace}
 use Rattle.dw_base.specs.declared.shared.Width.{Width}
 use Rattle.dw_base.proofs.PlainCellLaws.{IsPlain}
 use Rattle.dw_lines.specs.ViewTables.{tables_read}
+use Rattle.dw_meaning.proofs.LineColumnLaws.{texts_in}
 use Rattle.dw_find.specs.Fields.{OffsetTable}
 use Rattle.dw_rewrite.specs.Changes.{texts_at}
 use Rattle.dw_find.specs.ViewLines.{table_fields, text_field, text_fields}
 use Rattle.dw_find.specs.declared.fields.PathField.{PathField}
 use Rattle.dw_find.proofs.LinePlaceLaws.{EachReads, PathReads, offset-read, table-paths}
-use Rattle.dw_find.proofs.LineTextLaws.{texts_table}
+
+-- the table of texts that fields of line tables are of
+abbrev pub texts_table : LineSource → TextSection → OffsetTable
+texts_table g table = record { order = g.order; bytes = (texts_in g table).bytes }
 
 texts_after-append : (plan : Plan) (m : PathMap) (ts : List (List ℕ)) (xs ys : List Mention) → texts_after plan m ts (xs ++ ys) ≡ texts_after plan m (texts_after plan m ts xs) ys
 texts_after-append plan m ts [] ys = refl

@@ -18,18 +18,19 @@ use Rattle.dw_base.specs.TextChanges.{TableChanges, edited_by, mention_at, menti
 use Rattle.dw_base.specs.ViewData.{debug_data}
 use Rattle.dw_base.specs.declared.shared.Order.{Order}
 use Rattle.dw_base.proofs.PlainCellLaws.{IsPlain}
-use Rattle.dw_base.proofs.ViewCellLaws.{view_cells-plain}
 use Rattle.dw_base.proofs.UnitEditLaws.{length-bytes_of}
 use Rattle.dw_base.proofs.UnitHeaderLaws.{bytes_of-append}
 use Rattle.dw_meaning.specs.DataOutput.{Body, changes_of, macro_bodies, table_change}
 use Rattle.dw_meaning.proofs.MacroPieceLaws.{CellsOf}
 use Rattle.dw_meaning.proofs.OffsetMoveLaws.{EachCells, cells-plain}
 use Rattle.dw_find.specs.MacroSections.{macro_starts, macros_read, macros_with}
+use Rattle.dw_find.specs.ViewFields.{HasNoRelocations}
 use Rattle.dw_find.specs.UnitPaths.{field_by, inline_by, start_by}
 use Rattle.dw_find.specs.declared.fields.InlinePath.{InlinePath}
 use Rattle.dw_find.specs.declared.fields.PathField.{PathField}
 use Rattle.dw_find.proofs.MacroHaveLaws.{AllCells}
 use Rattle.dw_find.proofs.MacroStartLaws.{all-cells}
+use Rattle.dw_find.proofs.PlainFieldLaws.{view_cells-none}
 use Rattle.dw_find.proofs.PieceFieldLaws.{FieldsFrom, from-less, from-start}
 use Rattle.dw_rewrite.specs.Changes.{start_table, with_all_known}
 use Rattle.dw_rewrite.specs.NewTables.{all_texts_at, bodies_after, section_after}
@@ -151,36 +152,36 @@ macros_written c a order info front s place (x ∷ xs) str line at stands chain 
     ∙ ap (λ (b : List ℕ). front ++ b) (sym (bytes_of-append q (joined (edited_with macro_role c a xs))))
 
 -- the new bytes of a section are those of its edited pieces
-macro-body : (m : PathMap) (v : View) (all : DataReadings) (z : CellSection) (r : MacroReading) → CellsOf v z.number z.contents → r.number ≡ z.number
+macro-body : (m : PathMap) (v : View) (all : DataReadings) (z : CellSection) (r : MacroReading) → HasNoRelocations v → CellsOf v z.number z.contents → r.number ≡ z.number
     → ReadsMacros (debug_data v).base.order z.contents r.pieces
     → section_after m v (table_change m in_str (around_of (debug_data v) all) all).texts (table_change m in_line_str (around_of (debug_data v) all) all).texts (starts_after m v all)
     (macros_with r.number (macro_starts r.pieces))
     ≡ bytes_of (joined (edited_with macro_role (changes_of m (around_of (debug_data v) all) all) (around_of (debug_data v) all) r.pieces))
 unfolding section_after table_change
-macro-body m v all z r cells number reads =
+macro-body m v all z r none cells number reads =
     let start : bytes_of (joined r.pieces) ≡ section_bytes v r.number = ap bytes_of reads.cells ∙ cells.bytes ∙ ap (section_bytes v) (sym number) in
     ap (λ (out : List ℕ). with_all_known (start_table v.order) (section_bytes v r.number) (starts_after m v all) out (macro_starts r.pieces)) (sym start)
     ∙ ap (λ (o : Order). with_all_known (start_table o) (section_bytes v r.number) (starts_after m v all) (bytes_of (joined r.pieces)) (macro_starts r.pieces)) (sym (data-order v))
     ∙ macros_written (changes_of m (around_of (debug_data v) all) all) (around_of (debug_data v) all) (debug_data v).base.order (section_bytes v r.number) [] (macros_at 0 at_unit) 0 r.pieces
-    refl refl refl refl reads.chain start (cells-plain r.pieces (subst IsPlain (sym reads.cells) (subst IsPlain (sym cells.same) (view_cells-plain v z.number))))
+    refl refl refl refl reads.chain start (cells-plain r.pieces (subst IsPlain (sym reads.cells) (subst IsPlain (sym cells.same) (view_cells-none v none z.number))))
 
-all-bodies : (m : PathMap) (v : View) (all : DataReadings) (zs : List CellSection) (rs : List MacroReading) → AllCells v zs → ReadsAllMacros (debug_data v).base.order zs rs
+all-bodies : (m : PathMap) (v : View) (all : DataReadings) (zs : List CellSection) (rs : List MacroReading) → HasNoRelocations v → AllCells v zs → ReadsAllMacros (debug_data v).base.order zs rs
     → bodies_after m v (table_change m in_str (around_of (debug_data v) all) all).texts (table_change m in_line_str (around_of (debug_data v) all) all).texts (starts_after m v all) (macros_read rs)
     ≡ macro_bodies (edited_macros (changes_of m (around_of (debug_data v) all) all) (around_of (debug_data v) all) rs)
-all-bodies m v all [] [] cells reads = refl
-all-bodies m v all [] (r ∷ rs) cells reads = absurd reads
-all-bodies m v all (z ∷ zs) [] cells reads = absurd reads
-all-bodies m v all (z ∷ zs) (r ∷ rs) cells reads =
+all-bodies m v all [] [] none cells reads = refl
+all-bodies m v all [] (r ∷ rs) none cells reads = absurd reads
+all-bodies m v all (z ∷ zs) [] none cells reads = absurd reads
+all-bodies m v all (z ∷ zs) (r ∷ rs) none cells reads =
     let ts : List (List ℕ) = (table_change m in_str (around_of (debug_data v) all) all).texts in
     let ls : List (List ℕ) = (table_change m in_line_str (around_of (debug_data v) all) all).texts in
-    ap (λ (bs : List ℕ). record { number = r.number; bytes = bs } ∷ bodies_after m v ts ls (starts_after m v all) (macros_read rs)) (macro-body m v all z r cells.0 reads.0 reads.1)
+    ap (λ (bs : List ℕ). record { number = r.number; bytes = bs } ∷ bodies_after m v ts ls (starts_after m v all) (macros_read rs)) (macro-body m v all z r none cells.0 reads.0 reads.1)
     ∙ ap (λ (bodies : List Body). record { number = r.number; bytes = bytes_of (joined (edited_with macro_role (changes_of m (around_of (debug_data v) all) all) (around_of (debug_data v) all) r.pieces)) } ∷ bodies)
-    (all-bodies m v all zs rs cells.1 reads.2)
+    (all-bodies m v all zs rs none cells.1 reads.2)
 
-pub macros-bodies : (m : PathMap) (v : View) (all : DataReadings) → ReadsAllMacros (debug_data v).base.order (debug_data v).macros all.macros
+pub macros-bodies : (m : PathMap) (v : View) (all : DataReadings) → HasNoRelocations v → ReadsAllMacros (debug_data v).base.order (debug_data v).macros all.macros
     → bodies_after m v (table_change m in_str (around_of (debug_data v) all) all).texts (table_change m in_line_str (around_of (debug_data v) all) all).texts (starts_after m v all) (macros_read all.macros)
     ≡ macro_bodies (edited_macros (changes_of m (around_of (debug_data v) all) all) (around_of (debug_data v) all) all.macros)
-macros-bodies m v all reads = all-bodies m v all (debug_data v).macros all.macros (all-cells v) reads
+macros-bodies m v all none reads = all-bodies m v all (debug_data v).macros all.macros none (all-cells v) reads
 
 -- there is one of each section
 pub macros-number : (order : Order) (zs : List CellSection) (rs : List MacroReading) → ReadsAllMacros order zs rs → length (macros_read rs) ≡ length zs

@@ -19,7 +19,6 @@ use Rattle.dw_base.specs.UnitHeaders.{UnitSection}
 use Rattle.dw_base.specs.UnitPieces.{ReadsUnits}
 use Rattle.dw_base.specs.UnitStates.{UnitState, before_unit}
 use Rattle.dw_base.specs.ViewData.{cells_located, debug_data, located_at}
-use Rattle.dw_meaning.proofs.DataKeptLaws.{EachPlain}
 use Rattle.dw_meaning.proofs.TextEditLaws.{PlainPiece}
 use Rattle.dw_rewrite.specs.PushedBodies.{kept_body, names_body, one_body}
 use Rattle.dw_find.specs.SlotPaths.{offset_fields, read_fields, slots_by, slots_read, slots_with}
@@ -28,24 +27,19 @@ use Rattle.dw_rewrite.proofs.SlotWrittenLaws.{names-kept, no-offsets, slots_writ
 use Rattle.dw_find.specs.Fields.{OffsetTable}
 use Rattle.dw_rewrite.specs.Changes.{texts_at, patched, start_table, with_all_known}
 use Rattle.dw_base.specs.declared.shared.Order.{Order}
-use Rattle.dw_find.specs.ViewFields.{offsets_of, offsets_in, fields_of, info_of}
+use Rattle.dw_find.specs.ViewFields.{HasNoRelocations, offsets_of, offsets_in, fields_of, info_of}
 use Rattle.dw_rewrite.specs.NewTables.{plan_in, section_texts_at, all_texts_at, IsSectionNoted, Growing, TableMade, change_in, section_after, body_after, bodies_after, section_known, bodies_known}
 use Rattle.dw_find.specs.UnitPaths.{UnitPaths, path_fields, inline_paths, paths_in, paths_of, start_fields}
 use Rattle.dw_rewrite.specs.UnitsAfter.{offset_table, inlined}
 use Rattle.dw_find.specs.declared.fields.PathField.{PathField}
 use Rattle.dw_rewrite.proofs.ChangedLaws.{put_is_patched}
 use Rattle.dw_rewrite.proofs.EditedLaws.{texts_by_fields}
+use Rattle.dw_rewrite.proofs.NoRelocationLaws.{offsets-plain}
 use Rattle.dw_find.proofs.PlaceValueLaws.{EachOf}
 use Rattle.dw_find.proofs.PlacedLaws.{Placed, placed}
-use Rattle.dw_find.proofs.SectionFactLaws.{own-section, own-bytes, own-plain}
+use Rattle.dw_find.proofs.SectionFactLaws.{own-section, own-bytes}
 use Rattle.dw_rewrite.proofs.UnitWrittenLaws.{pieces_written, starts_by}
-use Rattle.dw_find.proofs.OffsetPlaceLaws.{offsets-of, offsets-placed, offsets-plain}
-
--- the sections of a view have plain cells
-pub sections-plain : (v : View) (before zs : List UnitSection) → (debug_data v).units ≡ before ++ zs → EachPlain zs
-sections-plain v before [] split = tt
-sections-plain v before (z ∷ zs) split =
-    (own-plain v z (own-section v before zs z split), sections-plain v (before ++ z ∷ []) zs (split ∙ sym (append_assoc before (z ∷ []) zs)))
+use Rattle.dw_find.proofs.OffsetPlaceLaws.{offsets-of, offsets-placed}
 
 -- the bytes of a section that was read
 reading-bytes : (v : View) (before behind : List UnitSection) (z : UnitSection) (r : Reading) → (debug_data v).units ≡ before ++ z ∷ behind → r.number ≡ z.number
@@ -103,22 +97,22 @@ same-slots : (table : TextSection) (i : ℕ) (d : DebugData) (rs : DataReadings)
 same-slots in_str i d rs = refl
 same-slots in_line_str i d rs = line-fields (path_slots (around_of d rs)) rs.offsets
 
-slots-texts-by : (m : PathMap) (v : View) (rs : DataReadings) (table : TextSection) (ts : List (List ℕ)) (o : Option ℕ) → ReadsOffsets v.order (cells_located v o).contents rs.offsets
+slots-texts-by : (m : PathMap) (v : View) (rs : DataReadings) (table : TextSection) (ts : List (List ℕ)) (o : Option ℕ) → HasNoRelocations v → ReadsOffsets v.order (cells_located v o).contents rs.offsets
     → texts_after (plan_in m v table) m ts (mentions_with (slot_role (path_slots (around_of (debug_data v) rs))) table (around_of (debug_data v) rs) rs.offsets)
     ≡ all_texts_at m v table ts (slots_by o (read_fields (debug_data v) rs))
-slots-texts-by m v rs table ts None r =
+slots-texts-by m v rs table ts None none r =
     ap (λ (xs : List (Piece OffsetState)). texts_after (plan_in m v table) m ts (mentions_with (slot_role (path_slots (around_of (debug_data v) rs))) table (around_of (debug_data v) rs) xs))
     (no-offsets v.order rs.offsets r)
-slots-texts-by m v rs table ts (Some i) r =
+slots-texts-by m v rs table ts (Some i) none r =
     texts_by_slots table (plan_in m v table) m (around_of (debug_data v) rs) (section_bytes v i) ts 0 (path_slots (around_of (debug_data v) rs)) rs.offsets (same-plan m (debug_data v) rs table)
-    (offsets-placed v (Some i) rs.offsets r) (offsets-plain v (Some i) rs.offsets r)
+    (offsets-placed v (Some i) rs.offsets r) (offsets-plain v none (Some i) rs.offsets r)
     ∙ ap (λ (t : OffsetTable). texts_at (plan_in m v table) m t (section_bytes v i) ts (offset_fields table (path_slots (around_of (debug_data v) rs)) rs.offsets)) (same-offset_table (debug_data v) rs table)
     ∙ ap (texts_at (plan_in m v table) m (offsets_in v table) (section_bytes v i) ts) (same-slots table i (debug_data v) rs)
 
-pub slots-texts : (m : PathMap) (v : View) (rs : DataReadings) (table : TextSection) (ts : List (List ℕ)) → ReadsOffsets (debug_data v).base.order (debug_data v).offsets.contents rs.offsets
+pub slots-texts : (m : PathMap) (v : View) (rs : DataReadings) (table : TextSection) (ts : List (List ℕ)) → HasNoRelocations v → ReadsOffsets (debug_data v).base.order (debug_data v).offsets.contents rs.offsets
     → texts_after (plan_in m v table) m ts (mentions_with (slot_role (path_slots (around_of (debug_data v) rs))) table (around_of (debug_data v) rs) rs.offsets)
     ≡ all_texts_at m v table ts (slots_read v rs)
-slots-texts m v rs table ts r = slots-texts-by m v rs table ts (section_named v (name_of StrOffsets)) (offsets-of v rs.offsets r)
+slots-texts m v rs table ts none r = slots-texts-by m v rs table ts (section_named v (name_of StrOffsets)) none (offsets-of v rs.offsets r)
 
 pub all_texts-append : (m : PathMap) (v : View) (table : TextSection) (ts : List (List ℕ)) (us ws : List UnitPaths)
     → all_texts_at m v table ts (us ++ ws) ≡ all_texts_at m v table (all_texts_at m v table ts us) ws
@@ -203,17 +197,17 @@ pub made-noted : (m : PathMap) (v : View) (table : TextSection) (us : List UnitP
 made-noted m v table us pool known t = noted-each m v table known us (λ (k : ℕ) (d : UnitPaths) (lt : k < length us). t.noted.each k d lt lt)
 
 -- the new bytes of string offsets are those of their edited pieces
-slots-body-by : (m : PathMap) (v : View) (rs : DataReadings) (kt : ℕ → Option ℕ) (o : Option ℕ) → ReadsOffsets v.order (cells_located v o).contents rs.offsets
+slots-body-by : (m : PathMap) (v : View) (rs : DataReadings) (kt : ℕ → Option ℕ) (o : Option ℕ) → HasNoRelocations v → ReadsOffsets v.order (cells_located v o).contents rs.offsets
     → one_body (bodies_after m v (table_change m in_str (around_of (debug_data v) rs) rs).texts (table_change m in_line_str (around_of (debug_data v) rs) rs).texts kt (slots_by o (read_fields (debug_data v) rs)))
     ≡ cells_body (cells_located v o).number (joined (offsets_after (changes_of m (around_of (debug_data v) rs) rs) (around_of (debug_data v) rs) rs)) ∷ []
 unfolding section_after table_change
-slots-body-by m v rs kt None r =
+slots-body-by m v rs kt None none r =
     ap (λ (xs : List (Piece OffsetState)). record {
       number = 0;
       bytes = bytes_of (joined (edited_with (slot_role (path_slots (around_of (debug_data v) rs)))
           (changes_of m (around_of (debug_data v) rs) rs) (around_of (debug_data v) rs) xs));
     } ∷ []) (sym (no-offsets v.order rs.offsets r))
-slots-body-by m v rs kt (Some i) r =
+slots-body-by m v rs kt (Some i) none r =
     let a : Around = around_of (debug_data v) rs in
     let paths : List ℕ = path_slots (around_of (debug_data v) rs) in
     let info : List ℕ = section_bytes v i in
@@ -227,13 +221,13 @@ slots-body-by m v rs kt (Some i) r =
     ∙ ap (λ (out : List ℕ). inlined m (section_bytes v i) (patched (change_in m v in_line_str ls) m (offsets_in v in_line_str) (section_bytes v i)
     (patched (change_in m v in_str ts) m (offsets_in v in_str) (section_bytes v i) out fs) (offset_fields in_line_str (path_slots (around_of (debug_data v) rs)) rs.offsets)) []) (sym start)
     ∙ slots_written (changes_of m (around_of (debug_data v) rs) rs) (around_of (debug_data v) rs) (section_bytes v i) [] 0 (path_slots (around_of (debug_data v) rs)) rs.offsets refl refl refl
-    (offsets-placed v (Some i) rs.offsets r) (offsets-plain v (Some i) rs.offsets r))
+    (offsets-placed v (Some i) rs.offsets r) (offsets-plain v none (Some i) rs.offsets r))
 
-pub slots-body : (m : PathMap) (v : View) (rs : DataReadings) (kt : ℕ → Option ℕ) → ReadsOffsets (debug_data v).base.order (debug_data v).offsets.contents rs.offsets
+pub slots-body : (m : PathMap) (v : View) (rs : DataReadings) (kt : ℕ → Option ℕ) → HasNoRelocations v → ReadsOffsets (debug_data v).base.order (debug_data v).offsets.contents rs.offsets
     → one_body (bodies_after m v (table_change m in_str (around_of (debug_data v) rs) rs).texts (table_change m in_line_str (around_of (debug_data v) rs) rs).texts kt (slots_read v rs))
     ≡ cells_body (debug_data v).offsets.number (joined (offsets_after (changes_of m (around_of (debug_data v) rs) rs) (around_of (debug_data v) rs) rs)) ∷ []
 unfolding debug_data
-slots-body m v rs kt r = slots-body-by m v rs kt (section_named v (name_of StrOffsets)) (offsets-of v rs.offsets r)
+slots-body m v rs kt none r = slots-body-by m v rs kt (section_named v (name_of StrOffsets)) none (offsets-of v rs.offsets r)
 
 -- name tables keep their bytes
 names-body-by : (m : PathMap) (v : View) (rs : DataReadings) (o : Option ℕ) → joined rs.names ≡ (cells_located v o).contents

@@ -9,7 +9,7 @@ ghost use Rattle.dw_base.specs.Refusals.{Blames, at};
 ghost use Rattle.dw_base.specs.ViewData.{debug_data};
 ghost use Rattle.dw_base.specs.declared.fault.Fault.TheVariants.{NoMemory};
 ghost use Rattle.dw_rewrite.specs.Changes.{AllFit};
-ghost use Rattle.dw_find.specs.ViewFields.{AllHavePaths, AllRoomsFit};
+ghost use Rattle.dw_find.specs.ViewFields.{AllHavePaths, AllRoomsFit, HasNoRelocations};
 ghost use Rattle.dw_rewrite.specs.NewTables.{bodies_known};
 ghost use Rattle.dw_rewrite.specs.Bodies.{BodiesMade, BodiesRefuse};
 ghost use Rattle.dw_find.specs.FoundPaths.{PathsFound, without_lines};
@@ -42,6 +42,7 @@ pub(crate) fn new_bodies(
     macros: &[MacroSection],
     paths: &[UnitPaths],
 ) -> Result<Vec<Body>, Fault>
+    requires none { HasNoRelocations view.now }
     requires found { PathsFound maps.now view.now paths.now tables.now }
     requires macros { UnitsFoundIn view.now macros.now }
     ensures made { IfOk result (λ bodies. BodiesMade maps.now (debug_data view.now) bodies.items) }

@@ -2,7 +2,7 @@
 use Rattle.std.proofs.Common.{Bool, true, false, ◌≡◌, ◌≢◌, ℕ, ◌+◌, ◌-◌, ◌<◌, ◌≤◌, ◌==◌, ◌||◌, nat_le, ℤ, if◌then◌else◌, List, length, Option, Some, None, refl, sym, ap, ◌∙◌, arith}
 use Rattle.std.specs.Prelude.{Ok, Err, is_some}
 use Rattle.std.proofs.lemmas.Bool.{and_parts, eq-eqb, leb-true, ne_eqb}
-use Rattle.dw_base.specs.Cells.{Cell, Located, field_by}
+use Rattle.dw_base.specs.Cells.{Cell, Located, bytes_of, field_by}
 use Rattle.dw_base.specs.FileViews.{View, field_read, kind_at, section_bytes, view_cells}
 use Rattle.dw_base.specs.Numbers.{spelled}
 use Rattle.dw_base.specs.RelocationFields.{field_in, field_unless, partly_at, relocation_at}
@@ -12,9 +12,9 @@ use Rattle.dw_base.specs.declared.shared.Order.{Order}
 use Rattle.dw_base.specs.declared.values.Value.{Value}
 use Rattle.dw_base.specs.declared.view_fields.Field.{Field}
 use Rattle.dw_base.specs.declared.view_fields.Field.TheVariants.{Num, Into, Sym}
-use Rattle.dw_base.proofs.ViewCellLaws.{field_at-by, field_at-cells, field_read-by}
+use Rattle.dw_base.proofs.ViewCellLaws.{bytes_of-view_cells, field_at-by, field_at-cells, field_read-by}
 use Rattle.dw_entries.specs.Fronts.{IsOfView}
-use Rattle.dw_sources.specs.FieldOffsets.{field_offset, lies_in, offset_with, sized_offset, value_offset}
+use Rattle.dw_sources.specs.FieldOffsets.{field_offset, lies_in, offset_with, sized_offset, spelled_offset, value_offset}
 
 -- by the field
 pub with-num : (t : Located) (number n : ℕ) (f : Field) → f ≡ Num n → number ≡ offset_with t number f
@@ -78,23 +78,54 @@ own-field : (v : View) (i : ℕ) (z : UnitSection) (at n : ℕ) → IsOfView v i
 own-field v i z at n is =
     ap (λ (k : ℕ). field_in v.order k (view_cells v i) at n) (sym is.number) ∙ ap (λ (cs : List Cell). field_in v.order z.number cs at n) (sym is.contents)
 
+pub of-view-read : (v : View) (i : ℕ) (z : UnitSection) → IsOfView v i z → is_some (kind_at v i) ≡ true
+of-view-read v i z is = is.read
+
+pub of-view-there : (v : View) (i : ℕ) (z : UnitSection) → IsOfView v i z → i < length v.sections
+of-view-there v i z is = is.there
+
+-- a value in a field
+spelled-by : (order : Order) (z : UnitSection) (t : Located) (x : Value) (n : ℕ) (b : Bool) → (spelled order (bytes_of z.contents) x.at n == x.number) ≡ b
+    → spelled_offset order z t x n ≡ (if b then field_offset t x.number (field_in order z.number z.contents x.at n) else Some x.number)
+spelled-by order z t x n b e = ap (λ (c : Bool). if c then field_offset t x.number (field_in order z.number z.contents x.at n) else Some x.number) e
+
+bytes-there : (v : View) (i : ℕ) (z : UnitSection) → IsOfView v i z → bytes_of z.contents ≡ section_bytes v i
+bytes-there v i z is = ap bytes_of is.contents ∙ bytes_of-view_cells v i
+
+number-there : (v : View) (i : ℕ) (z : UnitSection) (at n number : ℕ) (bs : List ℕ) → IsOfView v i z → bs ≡ section_bytes v i → number ≡ spelled v.order bs at n
+    → spelled v.order (bytes_of z.contents) at n ≡ number
+number-there v i z at n number bs is same e =
+    sym (e ∙ ap (λ (l : List ℕ). spelled v.order l at n) (same ∙ sym (bytes-there v i z is)))
+
+pub spelled-other : (v : View) (i : ℕ) (z : UnitSection) (t : Located) (x : Value) (n number : ℕ) (bs : List ℕ) → IsOfView v i z → bs ≡ section_bytes v i
+    → number ≡ spelled v.order bs x.at n → number ≢ x.number → Some x.number ≡ spelled_offset v.order z t x n
+spelled-other v i z t x n number bs is same e other =
+    let there = number-there v i z x.at n number bs is same e in
+    sym (spelled-by v.order z t x n false (ne_eqb (spelled v.order (bytes_of z.contents) x.at n) x.number (λ f. other (sym there ∙ f))))
+
+pub spelled-field : (v : View) (i : ℕ) (z : UnitSection) (t : Located) (x : Value) (n number : ℕ) (bs : List ℕ) (o : Option ℕ) → IsOfView v i z → bs ≡ section_bytes v i
+    → number ≡ spelled v.order bs x.at n → number ≡ x.number → o ≡ field_offset t x.number (field_in v.order i (view_cells v i) x.at n)
+    → o ≡ spelled_offset v.order z t x n
+spelled-field v i z t x n number bs o is same e here own =
+    let there = number-there v i z x.at n number bs is same e in
+    own ∙ ap (field_offset t x.number) (own-field v i z x.at n is)
+    ∙ sym (spelled-by v.order z t x n true (eq-eqb (spelled v.order (bytes_of z.contents) x.at n) x.number (there ∙ here)))
+
+pub ruleset spelled_rules = (spelled-other, spelled-field, of-view-read, of-view-there)
+
 pub value-four : (v : View) (i : ℕ) (z : UnitSection) (t : Located) (bytes : List ℕ) (x : Value) (b : Bool) (o : Option ℕ) → IsOfView v i z
-    → b ≡ lies_in bytes x → b ≡ true → x.len ≡ 4 → o ≡ field_offset t x.number (field_in v.order i (view_cells v i) x.at 4)
-    → o ≡ value_offset v.order z t bytes x
-value-four v i z t bytes x b o is e in_it size same =
-    same ∙ ap (field_offset t x.number) (own-field v i z x.at 4 is) ∙ sized v.order z t bytes x b 4 e in_it size
+    → b ≡ lies_in bytes x → b ≡ true → x.len ≡ 4 → o ≡ spelled_offset v.order z t x 4 → o ≡ value_offset v.order z t bytes x
+value-four v i z t bytes x b o is e in_it size same = same ∙ sized v.order z t bytes x b 4 e in_it size
 
 pub value-eight : (v : View) (i : ℕ) (z : UnitSection) (t : Located) (bytes : List ℕ) (x : Value) (b : Bool) (o : Option ℕ) → IsOfView v i z
-    → b ≡ lies_in bytes x → b ≡ true → x.len ≡ 8 → o ≡ field_offset t x.number (field_in v.order i (view_cells v i) x.at 8)
-    → o ≡ value_offset v.order z t bytes x
-value-eight v i z t bytes x b o is e in_it size same =
-    same ∙ ap (field_offset t x.number) (own-field v i z x.at 8 is) ∙ sized v.order z t bytes x b 8 e in_it size
+    → b ≡ lies_in bytes x → b ≡ true → x.len ≡ 8 → o ≡ spelled_offset v.order z t x 8 → o ≡ value_offset v.order z t bytes x
+value-eight v i z t bytes x b o is e in_it size same = same ∙ sized v.order z t bytes x b 8 e in_it size
 
 neither : (order : Order) (z : UnitSection) (t : Located) (x : Value) (n : ℕ) (a b : Bool) → (n == 4) ≡ a → (n == 8) ≡ b → a ≡ false → b ≡ false
     → sized_offset order z t x n ≡ Some x.number
 neither order z t x n a b four eight no_four no_eight =
-    ap (λ (c : Bool). if c || n == 8 then field_offset t x.number (field_in order z.number z.contents x.at n) else Some x.number) (four ∙ no_four)
-    ∙ ap (λ (c : Bool). if c then field_offset t x.number (field_in order z.number z.contents x.at n) else Some x.number) (eight ∙ no_eight)
+    ap (λ (c : Bool). if c || n == 8 then spelled_offset order z t x n else Some x.number) (four ∙ no_four)
+    ∙ ap (λ (c : Bool). if c then spelled_offset order z t x n else Some x.number) (eight ∙ no_eight)
 
 pub value-other : (order : Order) (z : UnitSection) (t : Located) (bytes : List ℕ) (x : Value) (b : Bool) → b ≡ lies_in bytes x → b ≡ true → x.len ≢ 4 → x.len ≢ 8
     → Some x.number ≡ value_offset order z t bytes x
@@ -109,11 +140,5 @@ value-inside bytes whole x b n e in_it size within =
     let long = leb-true x.len (length bytes) both.0 in
     let far = leb-true x.at (length bytes - x.len) both.1 in
     omega (arith, long, far, size, within)
-
-pub of-view-read : (v : View) (i : ℕ) (z : UnitSection) → IsOfView v i z → is_some (kind_at v i) ≡ true
-of-view-read v i z is = is.read
-
-pub of-view-there : (v : View) (i : ℕ) (z : UnitSection) → IsOfView v i z → i < length v.sections
-of-view-there v i z is = is.there
 
 pub ruleset value_rules = (value-outside, value-four, value-eight, value-other, value-inside, of-view-read, of-view-there)

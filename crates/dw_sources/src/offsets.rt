@@ -8,9 +8,9 @@ ghost use Rattle.dw_base.specs.RelocationFields.{field_in};
 ghost use Rattle.dw_base.specs.ViewData.{located};
 ghost use Rattle.dw_entries.specs.Fronts.{IsOfView};
 ghost use Rattle.dw_entries.specs.ViewUnits.{unit_section_at};
-ghost use Rattle.dw_sources.specs.FieldOffsets.{field_offset, lies_in, offset_with, root_offset, value_offset};
+ghost use Rattle.dw_sources.specs.FieldOffsets.{field_offset, lies_in, offset_with, root_offset, spelled_offset, value_offset};
 
-use dw_base::{DebugSection, Field, Value};
+use dw_base::{DebugSection, Field, Value, number_in};
 use dw_view::View;
 
 /// The number of the first section of a kind, 0 where there is none.
@@ -89,6 +89,29 @@ fn lies_in(bytes: &[u8], value: &Value) -> bool
     value.at <= len - value.len
 }
 
+/// The offset that a value of `size` bytes holds into the section of a kind: that of its field, where these bytes spell its
+/// number, and else the number.
+#[tactic(auto, using(crate::proofs::OffsetLaws::spelled_rules))]
+fn spelled_offset(
+    view: &View,
+    section: u32,
+    kind: DebugSection,
+    value: &Value,
+    size: u8,
+) -> Option<u64>
+    requires unit { IsOfView view.now section (unit_section_at view.now section) }
+    requires some { 0 < size }
+    requires wide { size ≤ 8 }
+    requires inside { value.now.at + size ≤ length (section_bytes view.now section) }
+    ensures value { result ≡ spelled_offset view.now.order (unit_section_at view.now section) (located view.now kind) value.now size }
+{
+    let number = number_in(view.order(), view.bytes(section), value.at, size);
+    if number != value.number {
+        return Some(value.number);
+    }
+    field_offset(view, section, value.at, size, kind, value.number)
+}
+
 /// The offset that a value holds into the section of a kind, of a unit with these bytes up to its end.
 #[tactic(auto, using(crate::proofs::OffsetLaws::value_rules))]
 pub(crate) fn value_offset(
@@ -106,11 +129,11 @@ pub(crate) fn value_offset(
         return Some(value.number);
     }
     if value.len == 4 {
-        let offset = field_offset(view, section, value.at, 4, kind, value.number);
+        let offset = spelled_offset(view, section, kind, value, 4);
         return offset;
     }
     if value.len == 8 {
-        let offset = field_offset(view, section, value.at, 8, kind, value.number);
+        let offset = spelled_offset(view, section, kind, value, 8);
         return offset;
     }
     Some(value.number)

@@ -9,3 +9,12 @@ pub mod StandLaws
 pub mod PartLaws
 pub mod PairingLaws
 pub mod FieldLaws
+pub mod PlaceLaws
+pub mod PartlyLaws
+pub mod FirstLaws
+pub mod SourceLaws
+pub mod KeptLaws
+pub mod TableLaws
+pub mod RelocationLaws
+pub mod ViewRelocationLaws
+pub mod MovedLaws

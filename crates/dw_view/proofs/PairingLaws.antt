@@ -1,15 +1,16 @@
 -- Whether two files are a pair.
 use Rattle.std.proofs.Common.{◌≡◌, ◌≢◌, ℕ, zero, suc, ◌+◌, ◌<◌, Bool, true, false, if◌then◌else◌, List, [], ◌∷◌, length, take, refl, sym, ap, ◌∙◌, arith, inl, inr, subst}
 use Rattle.std.proofs.lemmas.Bool.{cases_lt}
-use Rattle.dw_base.specs.DebugSectionFails.{DebugSectionsFail, DebugSectionsRead}
 use Rattle.dw_base.specs.Elf.{contents_of, order_of, section_count, section_name}
 use Rattle.dw_base.specs.Lists.{tabulate}
+use Rattle.dw_base.specs.Refusals.{Blames}
 use Rattle.dw_base.specs.SectionNames.{contents_called, index_in, names_of, section_called}
 use Rattle.dw_base.specs.Texts.{same_text, text}
+use Rattle.dw_base.specs.ViewFails.{ViewFails}
+use Rattle.dw_base.specs.declared.fault.Fault.{Fault}
 use Rattle.dw_base.specs.declared.fault.Fault.TheVariants.{NoMemory, Refused}
 use Rattle.dw_base.specs.declared.fault.Refusal.{Refusal}
 use Rattle.dw_base.specs.declared.shared.Order.{Order}
-use Rattle.dw_base.proofs.DebugSectionFailsLaws.{debug_sections_exclude}
 use Rattle.dw_base.proofs.DebugSectionLaws.{index_in-front, index_in-behind}
 use Rattle.dw_base.proofs.ListLaws.{length-tabulate}
 use Rattle.dw_base.proofs.SectionLaws.{contents_called-none, contents_called-there}
@@ -135,17 +136,20 @@ mismatch-excludes s d name NoLink p h = let no : true ≡ false = sym p.link.hol
 mismatch-excludes s d name (Name x y) p h = h.differs (h.named_is ∙ sym p.link.name_is ∙ sym h.found_is)
 mismatch-excludes s d name (Sum x y) p h = h.differs (h.link.sum_is ∙ sym p.link.sum_is ∙ sym h.found_is)
 
-pub pair-excludes : (s d name : List ℕ) (e : PairErr) → IsPaired s d name → DebugSectionsRead s → DebugSectionsRead d → PairRefused s d name e → ⊥
+pub pair-excludes : (s d name : List ℕ) (e : PairErr) → IsPaired s d name → ((r : Refusal) → ViewFails s r → ⊥) → ((r : Refusal) → ViewFails d r → ⊥)
+    → PairRefused s d name e → ⊥
 pair-excludes s d name (NotAPair m) p rs rd h = mismatch-excludes s d name m p h
 pair-excludes s d name (Stripped NoMemory) p rs rd h = h
-pair-excludes s d name (Stripped (Refused r)) p rs rd h = debug_sections_exclude s r rs h.fails
+pair-excludes s d name (Stripped (Refused r)) p rs rd h = rs r h.fails
 pair-excludes s d name (Debug NoMemory) p rs rd h = h
-pair-excludes s d name (Debug (Refused r)) p rs rd h = debug_sections_exclude d r rd h.fails
+pair-excludes s d name (Debug (Refused r)) p rs rd h = rd r h.fails
 
-pub stripped-fails : (s d name : List ℕ) (r : Refusal) → IsPaired s d name → DebugSectionsFail s r → PairBlames s d name (Stripped (Refused r))
-stripped-fails s d name r p fails = record { paired = p; fails = fails }
+pub stripped-fails : (s d name : List ℕ) (f : Fault) → IsPaired s d name → Blames (ViewFails s) f → PairBlames s d name (Stripped f)
+stripped-fails s d name NoMemory p fails = fails
+stripped-fails s d name (Refused r) p fails = record { paired = p; fails = fails }
 
-pub debug-fails : (s d name : List ℕ) (r : Refusal) → IsPaired s d name → DebugSectionsFail d r → PairBlames s d name (Debug (Refused r))
-debug-fails s d name r p fails = record { paired = p; fails = fails }
+pub debug-fails : (s d name : List ℕ) (f : Fault) → IsPaired s d name → Blames (ViewFails d) f → PairBlames s d name (Debug f)
+debug-fails s d name NoMemory p fails = fails
+debug-fails s d name (Refused r) p fails = record { paired = p; fails = fails }
 
 pub ruleset pair_laws = (pair-excludes, stripped-fails, debug-fails)

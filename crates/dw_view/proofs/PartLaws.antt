@@ -5,8 +5,9 @@ use Rattle.std.proofs.lemmas.Bool.Decides.{nat_tests}
 use Rattle.std.proofs.lemmas.List.{length-take, length-drop}
 use Rattle.std.specs.Prelude.{Option, Some, None, option_map}
 use Rattle.dw_base.specs.Elf.{contents_at, contents_of, is_empty_kind, nth_section, order_of, section_count, section_name}
-use Rattle.dw_base.specs.FileViews.{View, ViewSection, bytes_in, contents_in, is_name_section, section_bytes, view_of, view_section}
+use Rattle.dw_base.specs.FileViews.{View, ViewSection, bytes_in, contents_in, is_name_section, relocations_there, section_bytes, view_of, view_relocations, view_section}
 use Rattle.dw_base.specs.Layout.{is_alloc}
+use Rattle.dw_base.specs.SectionRelocations.{relocations_of}
 use Rattle.dw_base.specs.declared.elf_numbers.TheConstants.{SHT_NOBITS}
 use Rattle.dw_base.specs.declared.records.Section.{Section}
 use Rattle.dw_base.proofs.FileViewLaws.{get_or-view_of, length-view_of, order-view_of, section_bytes-view_of}
@@ -199,6 +200,35 @@ pub stands-length : (d s : List ℕ) (stands : List (Option ℕ)) (i : ℕ) → 
 stands-length d s stands i are lt =
     let size = ap (λ (os : List (Option ℕ)). length os) are ∙ length-tabulate (stand_of d s) (section_count d) in
     omega arith
+
+-- relocations are those of the debug file, whose sections have no more bytes
+relocations-at : (ss : List ViewSection) (i : ℕ) (x : ViewSection) → i < length ss → relocations_there ss i ≡ (get_or ss i x).relocations
+relocations-at [] i x lt = absurd (omega (arith, lt))
+relocations-at (s ∷ ss) zero x lt = refl
+relocations-at (s ∷ ss) (suc i) x lt = relocations-at ss i x (omega (arith, lt))
+
+own-relocations : (d s : List ℕ) (i : ℕ) → (pair_section d s i).relocations ≡ relocations_of (contents_of d) d i
+unfolding pair_section view_section
+own-relocations d s i = by_test (is_elsewhere d i)
+  where
+    by_test : (t : Bool) → (if t then joined_section d s i else view_section d i).relocations ≡ relocations_of (contents_of d) d i
+    by_test true = refl
+    by_test false = refl
+
+pub pair-relocations : (d s : List ℕ) (i : ℕ) → i < section_count d → view_relocations (pair_view d s) i ≡ relocations_of (contents_of d) d i
+unfolding view_relocations
+pair-relocations d s i lt =
+    let size = length-pair d s in
+    relocations-at (pair_view d s).sections i no_section (omega (arith, lt, size))
+    ∙ ap (λ (x : ViewSection). x.relocations) (get_or-pair d s i no_section lt) ∙ own-relocations d s i
+
+pub pair-room : (d s : List ℕ) (i : ℕ) → i < section_count d → length (contents_of d i) ≤ length (section_bytes (pair_view d s) i)
+pair-room d s i lt = elim (cases_Bool (is_elsewhere d i)) [
+  | inl elsewhere ↦
+      let empty = ap length (no-contents d i (nobits-empty (nth_section d i) (elsewhere-kind d i elsewhere))) in
+      omega (arith, empty)
+  | inr here ↦ let same = ap length ((place-view d s i lt here).bytes) in omega (arith, same)
+]
 
 -- no section is longer than the file
 contents-by : (b rest : List ℕ) (size : ℕ) (t : Bool) → length rest ≤ length b → length (if t then [] else take size rest) ≤ length b

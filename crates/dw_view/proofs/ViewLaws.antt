@@ -1,19 +1,28 @@
 -- Laws of a view that was made of a file.
 use Rattle.std.proofs.Common.{◌≡◌, ℕ, zero, suc, ◌<◌, true, ◌==◌, ◌||◌, List, [], ◌∷◌, length, get_or, take, IfSome, Option, Some, None, refl, sym, ap, ◌∙◌, arith}
 use Rattle.dw_base.specs.DebugSections.{debug_section, name_of}
-use Rattle.dw_base.specs.DebugSectionFails.{DebugSectionsRead}
-use Rattle.dw_base.specs.Elf.{e_type, section_count, section_name}
+use Rattle.dw_base.specs.DebugSectionFails.{DebugSectionsFail, DebugSectionsRead}
+use Rattle.dw_base.specs.Elf.{contents_of, e_type, section_count, section_name}
 use Rattle.dw_base.specs.FileViews.{View, ViewSection, kind_at, name_in, section_after, section_named, view_of, view_section}
 use Rattle.dw_base.specs.Layout.{is_loaded_kind}
 use Rattle.dw_base.specs.declared.elf_numbers.TheConstants.{ET_REL}
+use Rattle.dw_base.specs.Refusals.{Blames}
+use Rattle.dw_base.specs.RelocationSectionFails.{RelocationSectionsFail, RelocationSectionsRead}
+use Rattle.dw_base.specs.ViewFails.{ViewFails}
+use Rattle.dw_base.specs.ViewFails.ViewFails.{sections, relocations}
+use Rattle.dw_base.specs.declared.fault.Fault.{Fault}
+use Rattle.dw_base.specs.declared.fault.Fault.TheVariants.{NoMemory, Refused}
+use Rattle.dw_base.specs.declared.fault.Refusal.{Refusal}
 use Rattle.dw_base.specs.declared.debug_sections.DebugSection.{DebugSection}
 use Rattle.dw_base.proofs.DebugSectionFailsLaws.{debug_sections_exclude}
+use Rattle.dw_base.proofs.ViewFailsLaws.{view_excludes}
 use Rattle.dw_base.proofs.DebugSectionLaws.{debug_section-named}
 use Rattle.dw_base.proofs.FileViewLaws.{order-view_of, length-view_of, get_or-view_of, section_bytes-view_of, section_after-within}
 use Rattle.dw_view.specs.NamesFit.{NamesApart, NamesFit, NamesOnce}
+use Rattle.dw_view.specs.PairViews.{pair_view}
 use Rattle.dw_view.specs.SectionParts.{no_section, section_at}
 use Rattle.dw_view.proofs.NameLaws.{debug_section-take}
-use Rattle.dw_view.proofs.PartLaws.{contents-small, length-pair, section_at-is}
+use Rattle.dw_view.proofs.PartLaws.{contents-small, length-pair, name-by, section_at-is}
 
 -- what was found part by part is all that is asked
 pub reads-all : (b : List ℕ) → (e_type b == ET_REL || is_loaded_kind b) ≡ true → NamesFit b → NamesOnce b → NamesApart b → DebugSectionsRead b
@@ -76,5 +85,26 @@ kind_at-view_of b i lt =
     let size = length-view_of b in
     kind_at-is (view_of b) i (omega arith)
     ∙ ap (λ (s : ViewSection). debug_section s.name) (section_at-is (view_of b) i ∙ get_or-view_of b i no_section lt)
+
+pub kind_at-pair : (d s : List ℕ) (i : ℕ) → i < section_count d → kind_at (pair_view d s) i ≡ debug_section (section_name d i)
+kind_at-pair d s i lt =
+    let size = length-pair d s in
+    kind_at-is (pair_view d s) i (omega (arith, lt, size)) ∙ ap debug_section (name-by d (Some s) i lt)
+
+-- what was read of names and of relocations is all that is asked
+pub sections-fail : (b : List ℕ) (r : Refusal) → DebugSectionsFail b r → ViewFails b r
+sections-fail b r f = sections f
+
+pub relocations-fail : (b : List ℕ) (r : Refusal) → RelocationSectionsFail (contents_of b) b r → ViewFails b r
+relocations-fail b r f = relocations f
+
+pub relocations-blame : (b : List ℕ) (f : Fault) → Blames (RelocationSectionsFail (contents_of b) b) f → Blames (ViewFails b) f
+relocations-blame b NoMemory h = h
+relocations-blame b (Refused r) h = relocations h
+
+pub none-fails : (b : List ℕ) (r : Refusal) → DebugSectionsRead b → RelocationSectionsRead (contents_of b) b → ViewFails b r → ⊥
+none-fails b r names read f = view_excludes b r (record { sections = names; relocations = read }) f
+
+pub ruleset read_laws = (sections-fail, relocations-fail, relocations-blame, none-fails)
 
 pub ruleset view_laws = (order-view_of, length-view_of, section_bytes-view_of, contents-small, length-pair)

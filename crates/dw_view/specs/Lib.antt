@@ -4,3 +4,7 @@ pub mod PairViews
 pub mod SectionParts
 pub mod Pairs
 pub mod Standing
+pub mod Places
+pub mod Relocations
+pub mod Firsts
+pub mod Moved

@@ -7,6 +7,8 @@ use Rattle.dw_base.specs.FileViews.{View, ViewSection, is_name_section, plain_co
 use Rattle.dw_base.specs.Layout.{is_alloc}
 use Rattle.dw_base.specs.Lists.{tabulate}
 use Rattle.dw_base.specs.Notes.{BuildId, build_id_of, first_below, or_this}
+use Rattle.dw_base.specs.RelocationSectionFails.{relocates_read}
+use Rattle.dw_base.specs.SectionRelocations.{relocations_of}
 use Rattle.dw_base.specs.Texts.{same_text}
 use Rattle.dw_base.specs.declared.elf_numbers.TheConstants.{SHT_NULL, SHT_NOBITS}
 
@@ -51,7 +53,8 @@ abbrev pub found_bytes : List ℕ → Option ℕ → Bool
 found_bytes b None = false
 found_bytes b (Some i) = not (is_empty_kind (nth_section b i))
 
--- the section of a number with the bytes of that for which it stands
+-- the section of a number with the bytes of that for which it stands. Relocations are those of the debug file: a section that holds
+-- some, and a symbol table, has its bytes there.
 abbrev pub joined_section : List ℕ → List ℕ → ℕ → ViewSection
 joined_section debug stripped i = record {
   name = section_name debug i;
@@ -59,6 +62,8 @@ joined_section debug stripped i = record {
   is_name_table = is_name_section debug i;
   has_bytes = found_bytes stripped (stands_for debug stripped i);
   contents = plain_contents (found_contents stripped (stands_for debug stripped i));
+  relocations = relocations_of (contents_of debug) debug i;
+  relocates_read = relocates_read debug i;
 }
 
 -- the section of a number of a pair

@@ -1,11 +1,11 @@
 -- Whether a stripped file and a debug file are a pair (GNU debugging information in separate files, section `.gnu_debuglink`): the
 -- link of the stripped file has the name and the sum of the debug file. And why there is no view of a pair.
 use Rattle.std.specs.Prelude.{true, false, ◌≡◌, ◌≢◌, ℕ, List}
-use Rattle.dw_base.specs.DebugSectionFails.{DebugSectionsFail}
 use Rattle.dw_base.specs.Elf.{order_of}
 use Rattle.dw_base.specs.Refusals.{Blames}
 use Rattle.dw_base.specs.SectionNames.{contents_called, debug_link}
 use Rattle.dw_base.specs.Texts.{text}
+use Rattle.dw_base.specs.ViewFails.{ViewFails}
 use Rattle.dw_base.specs.declared.fault.Fault.{Fault}
 use Rattle.dw_base.specs.declared.fault.Fault.TheVariants.{NoMemory, Refused}
 use Rattle.dw_base.specs.declared.fault.Refusal.{Refusal}
@@ -56,10 +56,10 @@ NamesOther named found (Stripped NoMemory) = Unit {0}
 NamesOther named found (Stripped (Refused r)) = ⊥
 NamesOther named found (Debug fault) = ⊥
 
--- they are one, and a condition on names and flags of sections, or on the type, holds of one of them
+-- they are one, and a condition on the type, the sections or their relocations holds of one of them
 pub record PairedFails (stripped debug name file : List ℕ) (r : Refusal) : Type 0 where
   pub paired : IsPaired stripped debug name
-  pub fails : DebugSectionsFail file r
+  pub fails : ViewFails file r
 
 -- a refusal of which this holds
 abbrev pub Refuses : (Refusal → Type 0) → Fault → Type 0

@@ -13,7 +13,7 @@ view_by b (Some stripped) = pair_view b stripped
 
 -- the section of a number of a view: one without name and bytes where it has none
 abbrev pub no_section : ViewSection
-no_section = record { name = []; alloc = false; is_name_table = false; has_bytes = false; contents = plain_contents [] }
+no_section = record { name = []; alloc = false; is_name_table = false; has_bytes = false; contents = plain_contents []; relocations = []; relocates_read = false }
 
 unfoldable pub section_at : View → ℕ → ViewSection
 section_at v i = get_or v.sections i no_section

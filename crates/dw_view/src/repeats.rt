@@ -64,7 +64,7 @@ fn may_repeat(elf: &ElfFile, name: &[u8]) -> bool
 
 /// The file is relocatable.
 #[tactic(auto, using(crate::proofs::KindLaws::kind_laws))]
-fn is_relocatable(elf: &ElfFile) -> bool
+pub fn is_relocatable(elf: &ElfFile) -> bool
     ensures { result ≡ (e_type elf.now.bytes.now == ET_REL) }
 {
     match elf.kind {

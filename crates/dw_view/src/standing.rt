@@ -77,9 +77,9 @@ fn is_counted(stripped: &ElfFile, section: u32) -> bool
     !head.is_alloc() && head.kind != SHT_NULL && !is_name_section(stripped, section)
 }
 
-/// Puts the next of its name for the section of a number.
+/// Puts one for the section of a number.
 #[tactic(auto, using(crate::proofs::StandLaws::put_rules))]
-fn put_next(next: &mut Vec<Option<u32>>, section: u32, head: Option<u32>)
+pub fn put_next(next: &mut Vec<Option<u32>>, section: u32, head: Option<u32>)
     requires there { section < length next.old.items }
     ensures put { PlaceSet next.old.items next.new.items section head }
 {
@@ -123,8 +123,8 @@ fn note<'a>(
     Ok(())
 }
 
-/// No section of so many has a next one.
-fn no_next(alloc: Global, count: u32) -> Result<Vec<Option<u32>>, NoMemory>
+/// No section of so many has one yet.
+pub fn no_next(alloc: Global, count: u32) -> Result<Vec<Option<u32>>, NoMemory>
     ensures next { IfOk result (λ next. next.items ≡ replicate count None) }
 {
     let mut next = Vec::new(alloc);

@@ -1,6 +1,6 @@
 //! Absolute relocations: the symbol's value and the addend, in a field of 4 or 8 bytes.
 
-ghost use Rattle.std.specs.Prelude.{◌≡◌, Some, None};
+ghost use Rattle.std.specs.Prelude.{◌≡◌, Some, None, is_some};
 ghost use Rattle.dw_base.specs.AbsoluteTypes.{absolute_types, size_by, absolute_size};
 
 use dw_base::AbsoluteTypes;
@@ -34,6 +34,23 @@ fn size_by(types: AbsoluteTypes, kind: u32) -> Option<u8>
         return Some(8);
     }
     None
+}
+
+/// Whether a machine is listed: its `e_machine`.
+#[tactic(auto, unfolding(dw_base::specs::AbsoluteTypes::absolute_types))]
+pub(crate) fn is_listed(machine: u16) -> bool
+    ensures value { result ≡ is_some (absolute_types machine) }
+{
+    match machine {
+        EM_386 => true,
+        EM_PPC => true,
+        EM_PPC64 => true,
+        EM_S390 => true,
+        EM_ARM => true,
+        EM_X86_64 => true,
+        EM_AARCH64 => true,
+        _ => false,
+    }
 }
 
 /// The row of a machine.

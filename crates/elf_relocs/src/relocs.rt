@@ -17,6 +17,7 @@ use dw_base::{Class, Order, Reloc};
 #[tactic(auto, unfolding(dw_base::specs::Relocs::reloc_at))]
 pub fn reloc_at(class: Class, order: Order, rela: bool, table: &[u8], index: u64) -> Option<Reloc>
     ensures value { result ≡ reloc_at class order rela table.now index }
+    ensures fits { IfSome result (λ r. IfSome r.addend (FitsSigned (word_width class))) }
 {
     match record_place(table, index, reloc_size(class, rela)) {
         Some(place) => Some(reloc_in(class, order, rela, table, place)),
@@ -40,6 +41,7 @@ fn reloc_size(class: Class, rela: bool) -> u8
 fn reloc_in(class: Class, order: Order, rela: bool, table: &[u8], place: u64) -> Reloc
     requires inside { place + reloc_size class rela ≤ length table.now }
     ensures value { result ≡ reloc_in class order rela table.now place }
+    ensures fits { IfSome result.addend (FitsSigned (word_width class)) }
 {
     let offset = class_word(class, order, table, place);
     let info = class_word(class, order, table, info_place(class, place));
@@ -57,6 +59,7 @@ fn reloc_in(class: Class, order: Order, rela: bool, table: &[u8], place: u64) ->
 fn addend_of(class: Class, order: Order, rela: bool, table: &[u8], place: u64) -> Option<i64>
     requires inside { place + reloc_size class rela ≤ length table.now }
     ensures value { result ≡ (if rela then Some (r_addend class order table.now place) else None) }
+    ensures fits { IfSome result (FitsSigned (word_width class)) }
 {
     if !rela {
         return None;
@@ -102,6 +105,7 @@ fn sym_and_type(class: Class, info: u64) -> (u32, u32)
 fn addend_in(class: Class, order: Order, table: &[u8], at: u64) -> i64
     requires inside { at + word_size class ≤ length table.now }
     ensures value { result ≡ cast_signed (word_width class) (spelled order table.now at (word_size class)) }
+    ensures fits { FitsSigned (word_width class) result }
 {
     let word = class_word(class, order, table, at);
     match class {

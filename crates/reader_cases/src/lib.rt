@@ -29,6 +29,8 @@ mod dw_entries_samples;
 #[cfg(test)]
 mod dw_entries_tests;
 #[cfg(test)]
+mod dw_fields_tests;
+#[cfg(test)]
 mod dw_forms_samples;
 #[cfg(test)]
 mod dw_forms_tests;
@@ -54,6 +56,8 @@ mod dw_sources_tests;
 mod dw_strings_tests;
 #[cfg(test)]
 mod dw_view_pair_tests;
+#[cfg(test)]
+mod dw_view_relocation_tests;
 #[cfg(test)]
 mod dw_view_tests;
 #[cfg(test)]

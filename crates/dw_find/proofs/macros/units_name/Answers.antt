@@ -5,8 +5,8 @@ use Rattle.std.proofs.lemmas.Result.{err_from_is_err_and}
 use Rattle.dw_find.proofs.MacroLoopLaws.{line-refused, unit-at, unit-refused, units-more}
 use Rattle.dw_find.proofs.macros.units_name.Goals as goal
 
-pub events_name-requires-clause-unit : goal.events_name-requires-clause-unit
-events_name-requires-clause-unit c = unit-at c.args.view.now c.args.units.now c.loop-unit.unit-index _ (omega arith) c.requires.units
+pub events_name-requires : goal.events_name-requires
+events_name-requires c = record { unit = unit-at c.args.view.now c.args.units.now c.loop-unit.unit-index _ (omega arith) c.requires.units }
 
 pub returns-in_err-line_names-clause-refused : goal.returns-in_err-line_names-clause-refused
 returns-in_err-line_names-clause-refused c =

@@ -2,12 +2,12 @@
 use Rattle.std.proofs.Common.{arith}
 use Rattle.std.proofs.lemmas.Result.{err_from_is_err_and}
 use Rattle.dw_find.proofs.RoomFitLaws.{all-end}
-use Rattle.dw_find.proofs.SectionFactLaws.{paths-at, facts-at, facts-row}
+use Rattle.dw_find.proofs.SectionFactLaws.{places-at, facts-at, facts-row}
 use Rattle.dw_find.proofs.rooms.all_rooms_fit.Goals as goal
 
 pub rooms_fit-requires : goal.rooms_fit-requires
 rooms_fit-requires c = record {
-  paths = paths-at c.args.view.now c.args.paths.now c.loop-found.found-index c.found-item.result c.requires.placed (omega arith)
+  paths = places-at c.args.view.now c.args.paths.now c.loop-found.found-index c.found-item.result c.requires.placed (omega arith)
       c.found-item.is;
 }
 

@@ -7,7 +7,7 @@ use Rattle.dw_entries.proofs.UnitSectionLaws.{is-of-view}
 use Rattle.dw_find.specs.EntryTexts.{Found, no_paths, none_found}
 use Rattle.dw_find.specs.UnitPaths.{UnitPaths}
 use Rattle.dw_find.specs.UnitTexts.{SectionIndexed}
-use Rattle.dw_find.proofs.SectionTextLaws.{section-starts, section-ends}
+use Rattle.dw_find.proofs.SectionTextLaws.{pass-base, section-starts, section-ends}
 use Rattle.dw_find.proofs.UnitRowLaws.{units-tables, units-there, units-more}
 use Rattle.dw_find.proofs.sections.units_texts.Goals as goal
 
@@ -30,7 +30,7 @@ loop-unit-preserved c = record {
 
 pub loop-unit-init : goal.loop-unit-init
 loop-unit-init c = record {
-  passed = section-starts (debug_data c.args.view.now) (unit_section_at c.args.view.now c.args.section) c.args.units.now c.new-found.result c.args.slots.now c.requires.units
+  passed = section-starts (debug_data c.args.view.now) (unit_section_at c.args.view.now c.args.section) c.args.units.now c.new-found.result c.args.slots.now c.requires.headers c.requires.units
       (c.new-found.ensures ∙ ap (λ n. none_found (no_paths n)) (sym (is-of-view c.args.view.now c.args.section c.requires.there).number));
   shared = c.requires.shared;
 }
@@ -41,3 +41,8 @@ returns-clause-taken c =
     (sym (ap (λ (f : Found). f.paths) c.found-2.view_is))
     (section-ends (debug_data c.args.view.now) (unit_section_at c.args.view.now c.args.section) c.args.units.now c.loop-unit.unit-index c.loop-unit.found c.args.slots.now
     c.loop-unit.slots (omega arith) c.loop-unit.invariant.passed)
+
+pub one_unit-requires-clause-none : goal.one_unit-requires-clause-none
+one_unit-requires-clause-none c =
+    pass-base (debug_data c.args.view.now) (unit_section_at c.args.view.now c.args.section) c.args.units.now c.loop-unit.unit-index c.loop-unit.found c.args.slots.now
+    c.loop-unit.slots c.loop-unit.invariant.passed

@@ -12,9 +12,6 @@ section_starts-requires-clause-paths c =
 pub section_starts-requires-clause-rises : goal.section_starts-requires-clause-rises
 section_starts-requires-clause-rises c = starts-rise (debug_data c.args.view.now) c.args.starts.now c.requires.tables
 
-pub section_starts-requires-clause-units : goal.section_starts-requires-clause-units
-section_starts-requires-clause-units c = c.requires.units.rises
-
 pub returns-in_err-section_starts-clause-refused : goal.returns-in_err-section_starts-clause-refused
 returns-in_err-section_starts-clause-refused c =
     let p = err_from_is_err_and c.from_residual.result c.from_residual.ensures.1 in

@@ -1,6 +1,6 @@
 use Rattle.std.proofs.Common.{◌-◌, ◌≤◌, length}
 use Rattle.dw_base.specs.FileViews.{section_bytes}
-use Rattle.dw_macros.specs.MacroOffsets.{UnitsReadUpTo}
+use Rattle.dw_base.specs.MacroOffsets.{UnitsReadUpTo}
 use Rattle.dw_macros.proofs.units.macro_units.Given as goal
 
 -- the units so far stand from the section's start up to this place

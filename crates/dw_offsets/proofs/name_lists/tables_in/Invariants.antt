@@ -1,6 +1,6 @@
 use Rattle.std.proofs.Common.{◌-◌, ◌≤◌, length}
 use Rattle.dw_base.specs.FileViews.{section_bytes}
-use Rattle.dw_offsets.specs.NameOffsets.{ReadUpTo}
+use Rattle.dw_base.specs.NameOffsets.{ReadUpTo}
 use Rattle.dw_offsets.proofs.name_lists.tables_in.Given as goal
 
 -- the tables so far stand from the section's start up to this place

@@ -1,5 +1,5 @@
 use Rattle.dw_base.specs.NameTables.{NamesTexts}
-use Rattle.dw_offsets.specs.NameOffsets.{OffsetsRead}
+use Rattle.dw_base.specs.NameOffsets.{OffsetsRead}
 use Rattle.dw_offsets.proofs.name_texts.check_texts.Given as goal
 
 -- the string offsets so far can be read and name texts

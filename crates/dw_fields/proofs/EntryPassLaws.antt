@@ -1,0 +1,266 @@
+-- Laws of a pass over the fields of entries, while they are scanned.
+use Rattle.std.proofs.Common.{◌≡◌, ℕ, ◌+◌, ◌<◌, ◌≤◌, List, [], ◌∷◌, ◌++◌, length, drop, Option, Some, None, Result, Ok, Err, refl, sym, ap, ◌∙◌, subst, arith}
+use Rattle.std.specs.Option.{IfSome}
+use Rattle.std.proofs.lemmas.List.{length-append}
+use Rattle.dw_base.specs.AbbreviationTables.{Abbreviation, abbreviation_of}
+use Rattle.dw_base.specs.Cells.{Cell}
+use Rattle.dw_base.specs.EntryScans.{AreEntries, EntryFails, IsEntry, Scans, SpellsValues, entry as an_entry, more_values, no_values, null, scanned, starts}
+use Rattle.dw_base.specs.Lebs.{IsSized, uleb_at}
+use Rattle.dw_base.specs.RelocationRows.{FieldPlace}
+use Rattle.dw_base.specs.declared.fault.Refusal.{Refusal}
+use Rattle.dw_base.specs.declared.shared.Params.{Params}
+use Rattle.dw_base.specs.declared.units.Scanned.{Scanned}
+use Rattle.dw_base.specs.declared.units.UnitHeader.{UnitHeader}
+use Rattle.dw_base.specs.declared.values.Spec.{Spec}
+use Rattle.dw_base.proofs.LebLaws.{uleb_at-size}
+use Rattle.dw_meaning.proofs.ValueCutLaws.{uleb-inside}
+use Rattle.dw_forms.proofs.InsideLaws.{value_at-inside}
+use Rattle.dw_entries.specs.ScanStates.{Gives, GivesEntry, GivesNothing, GivesRefusal, HasGiven, ScanState, scan_start}
+use Rattle.dw_fields.specs.FieldWalks.{Goes, Ground, StandsAt}
+use Rattle.dw_fields.specs.UnitFields.{entries_fields, entry_fields, fields_coded, fields_listed, values_end, values_fields}
+use Rattle.dw_fields.specs.UnitPasses.{EntriesPassed, EntriesSo, IsGiven, end_of}
+use Rattle.dw_fields.specs.declared.marks.Marks.{Marks}
+use Rattle.dw_fields.proofs.UnitFieldLaws.{entries_fields-more, spells-end}
+use Rattle.dw_fields.proofs.WalkLaws.{goes-from, goes-more, goes-none, goes-to, stands-on}
+
+-- an entry that was given has a code, with an abbreviation
+pair-once : (a b c d : ℕ) → ◌≡◌ {A = Option (ℕ × ℕ)} (Some (a, b)) (Some (c, d)) → (a ≡ c) × (b ≡ d)
+pair-once a b c d e = (ap (λ (o : Option (ℕ × ℕ)). first o) e, ap (λ (o : Option (ℕ × ℕ)). second o) e)
+  where
+    first : Option (ℕ × ℕ) → ℕ
+    first None = 0
+    first (Some p) = p.0
+
+    second : Option (ℕ × ℕ) → ℕ
+    second None = 0
+    second (Some p) = p.1
+
+pub code-there : (params : Params) (table : List Abbreviation) (bytes : List ℕ) (e : Scanned) → IsGiven params table bytes e → None ≡ uleb_at bytes e.offset → ⊥
+code-there params table bytes e h none = let both = none ∙ h.entry.spells in absurd cc
+
+pub abbreviation-there : (params : Params) (table : List Abbreviation) (bytes : List ℕ) (e : Scanned) (code size : ℕ) (o : Option Abbreviation)
+    → IsGiven params table bytes e → Some (code, size) ≡ uleb_at bytes e.offset → o ≡ abbreviation_of table code → o ≡ None → ⊥
+abbreviation-there params table bytes e code size o h is own none =
+    let same = pair-once h.entry.code h.entry.size code size (sym h.entry.spells ∙ sym is) in
+    let both : Some h.abbreviation ≡ None = sym h.entry.listed ∙ ap (abbreviation_of table) same.0 ∙ sym own ∙ none in
+    absurd cc
+
+some-once : (a b : Abbreviation) → Some a ≡ Some b → a ≡ b
+some-once a b e = cc
+
+pub values-there : (params : Params) (table : List Abbreviation) (bytes : List ℕ) (e : Scanned) (code size : ℕ) (a : Abbreviation) (specs : List Spec)
+    → IsGiven params table bytes e → Some (code, size) ≡ uleb_at bytes e.offset → Some a ≡ abbreviation_of table code → specs ≡ a.specs
+    → values_end params bytes specs (e.offset + size) ≡ Some e.after
+values-there params table bytes e code size a specs h is own list =
+    let same = pair-once h.entry.code h.entry.size code size (sym h.entry.spells ∙ sym is) in
+    let abbrev_is : h.abbreviation ≡ a = some-once h.abbreviation a (sym h.entry.listed ∙ ap (abbreviation_of table) same.0 ∙ sym own) in
+    ap (λ (l : List Spec). values_end params bytes l (e.offset + size)) list
+    ∙ ap (λ (b : Abbreviation). values_end params bytes b.specs (e.offset + size)) (sym abbrev_is)
+    ∙ ap (λ (n : ℕ). values_end params bytes h.abbreviation.specs (e.offset + n)) (sym same.1)
+    ∙ spells-end params bytes (e.offset + h.entry.size) h.abbreviation.specs e.after h.entry.values
+
+pub values-stand : (cells : List Cell) (place size : ℕ) (p : Result Marks Refusal) → StandsAt cells place p → StandsAt cells (place + size) p
+values-stand cells place size p h = stands-on cells place (place + size) p (omega arith) h
+
+fields-coded : (params : Params) (table : List Abbreviation) (bytes : List ℕ) (number : ℕ) (e : Scanned) (code size : ℕ) (a : Abbreviation)
+    → Some (code, size) ≡ uleb_at bytes e.offset → Some a ≡ abbreviation_of table code
+    → values_fields params bytes number a.tag a.specs (e.offset + size) ≡ entry_fields params table bytes number e
+unfolding entry_fields
+fields-coded params table bytes number e code size a is own =
+    ap (fields_listed params bytes number (e.offset + size)) own
+    ∙ ap (fields_coded params table bytes number e.offset) is
+
+pub entry-goes : (g : Ground) (params : Params) (table : List Abbreviation) (bytes : List ℕ) (number : ℕ) (e : Scanned) (code size tag : ℕ) (a : Abbreviation)
+    (specs : List Spec) (p q : Result Marks Refusal) → Some (code, size) ≡ uleb_at bytes e.offset → Some a ≡ abbreviation_of table code → tag ≡ a.tag → specs ≡ a.specs
+    → Goes g (e.offset + size) e.after (values_fields params bytes number tag specs (e.offset + size)) p q
+    → Goes g e.offset e.after (entry_fields params table bytes number e) p q
+entry-goes g params table bytes number e code size tag a specs p q is own t s h =
+    let said : values_fields params bytes number tag specs (e.offset + size) ≡ entry_fields params table bytes number e =
+    ap (λ (n : ℕ). values_fields params bytes number n specs (e.offset + size)) t
+    ∙ ap (λ (l : List Spec). values_fields params bytes number a.tag l (e.offset + size)) s ∙ fields-coded params table bytes number e code size a is own in
+    goes-from g e.offset (e.offset + size) e.after (entry_fields params table bytes number e) p q (omega arith)
+    (subst (λ (fs : List FieldPlace). Goes g (e.offset + size) e.after fs p q) said h)
+
+pub ruleset entry_rules = (code-there, abbreviation-there, values-there, values-stand, entry-goes)
+
+-- where entries end
+end_of-more : (first : ℕ) (items : List Scanned) (e : Scanned) → end_of first (items ++ e ∷ []) ≡ e.after
+end_of-more first [] e = refl
+end_of-more first (x ∷ xs) e = end_of-more x.after xs e
+
+scans-end : (h : UnitHeader) (table : List Abbreviation) (bytes : List ℕ) (items : List Scanned) (place depth : ℕ) → Scans h table bytes items place depth
+    → end_of h.first items ≤ place
+scans-end h table bytes items place depth starts = omega arith
+scans-end h table bytes items z d (null its place depth size s is) = let before = scans-end h table bytes items place depth s in omega (arith, before)
+scans-end h table bytes all z d (an_entry items place depth after a s is root) =
+    let end = end_of-more h.first items (scanned place depth a after) in omega (arith, end)
+
+-- the last of entries that were read, and those before it
+record LastEntry (h : UnitHeader) (table : List Abbreviation) (bytes : List ℕ) (items : List Scanned) (e : Scanned) : Type 0 where
+  abbreviation : Abbreviation
+  depth : ℕ
+  scans : Scans h table bytes items e.offset depth
+  is : IsEntry h.params table bytes e.offset abbreviation e.after
+
+last-same : (xs ys : List Scanned) (x y : Scanned) → xs ++ x ∷ [] ≡ ys ++ y ∷ [] → (xs ≡ ys) × (x ≡ y)
+last-same [] [] x y e = (refl, head-is x y e)
+  where
+    head-is : (x y : Scanned) → x ∷ [] ≡ y ∷ [] → x ≡ y
+    head-is x y e = cc
+last-same [] (z ∷ zs) x y e = absurd (omega (arith, ap length e, length-append zs (y ∷ [])))
+last-same (z ∷ zs) [] x y e = absurd (omega (arith, ap length e, length-append zs (x ∷ [])))
+last-same (w ∷ ws) (z ∷ zs) x y e =
+    let rest = last-same ws zs x y (tail-is w z (ws ++ x ∷ []) (zs ++ y ∷ []) e) in
+    (ap (λ (v : Scanned). v ∷ ws) (head-is w z (ws ++ x ∷ []) (zs ++ y ∷ []) e) ∙ ap (λ (vs : List Scanned). z ∷ vs) rest.0, rest.1)
+  where
+    head-is : (x y : Scanned) (xs ys : List Scanned) → x ∷ xs ≡ y ∷ ys → x ≡ y
+    head-is x y xs ys e = cc
+
+    tail-is : (x y : Scanned) (xs ys : List Scanned) → x ∷ xs ≡ y ∷ ys → xs ≡ ys
+    tail-is x y xs ys e = cc
+
+no-last : (xs : List Scanned) (x : Scanned) → [] ≡ xs ++ x ∷ [] → ⊥
+no-last xs x e = omega (arith, ap length e, length-append xs (x ∷ []))
+
+last-entry : (h : UnitHeader) (table : List Abbreviation) (bytes : List ℕ) (all items : List Scanned) (e : Scanned) (place depth : ℕ)
+    → Scans h table bytes all place depth → all ≡ items ++ e ∷ [] → LastEntry h table bytes items e
+last-entry h table bytes all items e place depth starts same = absurd (no-last items e same)
+last-entry h table bytes all items e z d (null its place depth size s is) same = last-entry h table bytes all items e place depth s same
+last-entry h table bytes all items e z d (an_entry its place depth after a s is root) same =
+    let both = last-same its items (scanned place depth a after) e same in
+    let offset : place ≡ e.offset = ap (λ (x : Scanned). x.offset) both.1 in
+    let behind : after ≡ e.after = ap (λ (x : Scanned). x.after) both.1 in
+    record {
+      abbreviation = a;
+      depth = depth;
+      scans = subst (λ (p : ℕ). Scans h table bytes items p depth) offset (subst (λ (xs : List Scanned). Scans h table bytes xs place depth) both.0 s);
+      is = subst (λ (p : ℕ). IsEntry h.params table bytes p a e.after) offset (subst (IsEntry h.params table bytes place a) behind is);
+    }
+
+-- the scan
+pub scan-starts : (g : Ground) (h : UnitHeader) (table : List Abbreviation) (bytes : List ℕ) (s : ScanState) (p : Result Marks Refusal) → s ≡ scan_start h table bytes
+    → StandsAt g.cells h.first p → EntriesSo g h table bytes s 0 p p
+scan-starts g h table bytes s p is stands =
+    subst (λ (x : ScanState). EntriesSo g h table bytes x 0 p p) (sym is) (record {
+      items = [];
+      given = record { scans = starts; count = refl };
+      unit_is = refl;
+      table_is = refl;
+      bytes_are = refl;
+      running = refl;
+      count = refl;
+      goes = goes-none g h.first h.first p (omega arith) stands;
+    })
+
+-- what a step gave
+pub gave-entry : (s u : ScanState) (r : Result Scanned Refusal) (e : Scanned) → Gives s (Some r) u → r ≡ Ok e → GivesEntry s e u
+gave-entry s u r e g is = subst (λ (x : Result Scanned Refusal). Gives s (Some x) u) is g
+
+pub gave-refusal : (s u : ScanState) (x : Result Scanned Refusal) (r : Refusal) → Gives s (Some x) u → x ≡ Err r → GivesRefusal s r u
+gave-refusal s u x r g is = subst (λ (y : Result Scanned Refusal). Gives s (Some y) u) is g
+
+last-of : (g : Ground) (h : UnitHeader) (table : List Abbreviation) (bytes : List ℕ) (s u : ScanState) (number : ℕ) (e : Scanned) (p q : Result Marks Refusal)
+    → (so : EntriesSo g h table bytes s number p q) → GivesEntry s e u → LastEntry h table bytes so.items e
+last-of g h table bytes s u number e p q so gives =
+    let more : HasGiven u (so.items ++ e ∷ []) = gives.more so.items so.given in
+    let unit : u.unit ≡ h = ap (λ (x : ScanState). x.unit) gives.same ∙ so.unit_is in
+    let list : u.table ≡ table = ap (λ (x : ScanState). x.table) gives.same ∙ so.table_is in
+    let own : u.bytes ≡ bytes = ap (λ (x : ScanState). x.bytes) gives.same ∙ so.bytes_are in
+    let scans : Scans h table bytes (so.items ++ e ∷ []) u.place u.depth =
+    subst (λ (x : UnitHeader). Scans x table bytes (so.items ++ e ∷ []) u.place u.depth) unit
+    (subst (λ (x : List Abbreviation). Scans u.unit x bytes (so.items ++ e ∷ []) u.place u.depth) list
+    (subst (λ (x : List ℕ). Scans u.unit u.table x (so.items ++ e ∷ []) u.place u.depth) own more.scans)) in
+    last-entry h table bytes (so.items ++ e ∷ []) so.items e u.place u.depth scans refl
+
+pub scan-given : (g : Ground) (h : UnitHeader) (table : List Abbreviation) (bytes : List ℕ) (s u : ScanState) (number : ℕ) (e : Scanned) (p q : Result Marks Refusal)
+    → EntriesSo g h table bytes s number p q → GivesEntry s e u → IsGiven h.params table bytes e
+scan-given g h table bytes s u number e p q so gives =
+    let last = last-of g h table bytes s u number e p q so gives in
+    record { abbreviation = last.abbreviation; entry = last.is }
+
+pub scan-stands : (g : Ground) (h : UnitHeader) (table : List Abbreviation) (bytes : List ℕ) (s u : ScanState) (number : ℕ) (e : Scanned) (p q : Result Marks Refusal)
+    → EntriesSo g h table bytes s number p q → GivesEntry s e u → StandsAt g.cells e.offset q
+scan-stands g h table bytes s u number e p q so gives =
+    let last = last-of g h table bytes s u number e p q so gives in
+    stands-on g.cells (end_of h.first so.items) e.offset q (scans-end h table bytes so.items e.offset last.depth last.scans) so.goes.stands
+
+pub scan-more : (g : Ground) (h : UnitHeader) (table : List Abbreviation) (bytes : List ℕ) (s u : ScanState) (number : ℕ) (e : Scanned) (p q r : Result Marks Refusal)
+    → EntriesSo g h table bytes s number p q → GivesEntry s e u → Goes g e.offset e.after (entry_fields h.params table bytes number e) q r
+    → EntriesSo g h table bytes u (number + 1) p r
+scan-more g h table bytes s u number e p q r so gives goes =
+    let last = last-of g h table bytes s u number e p q so gives in
+    let own : Goes g e.offset e.after (entry_fields h.params table bytes (0 + length so.items) e) q r =
+    subst (λ (n : ℕ). Goes g e.offset e.after (entry_fields h.params table bytes n e) q r) (so.count ∙ omega arith) goes in
+    let all = goes-more g h.first (end_of h.first so.items) e.offset e.after (entries_fields h.params table bytes 0 so.items)
+    (entry_fields h.params table bytes (0 + length so.items) e) p q r (scans-end h table bytes so.items e.offset last.depth last.scans) so.goes own in
+    record {
+      items = so.items ++ e ∷ [];
+      given = gives.more so.items so.given;
+      unit_is = ap (λ (x : ScanState). x.unit) gives.same ∙ so.unit_is;
+      table_is = ap (λ (x : ScanState). x.table) gives.same ∙ so.table_is;
+      bytes_are = ap (λ (x : ScanState). x.bytes) gives.same ∙ so.bytes_are;
+      running = ap (λ (x : ScanState). x.over) gives.same ∙ so.running;
+      count = (let before = so.count in omega (arith, before, length-append so.items (e ∷ [])));
+      goes =
+          subst (λ (n : ℕ). Goes g h.first n (entries_fields h.params table bytes 0 (so.items ++ e ∷ [])) p r) (sym (end_of-more h.first so.items e))
+          (subst (λ (fs : List FieldPlace). Goes g h.first e.after fs p r) (sym (entries_fields-more h.params table bytes 0 so.items e)) all);
+    }
+
+pub scan-fails : (g : Ground) (h : UnitHeader) (table : List Abbreviation) (bytes : List ℕ) (s u : ScanState) (number : ℕ) (r : Refusal) (p q : Result Marks Refusal)
+    → EntriesSo g h table bytes s number p q → GivesRefusal s r u → EntryFails h table bytes r
+scan-fails g h table bytes s u number r p q so gives =
+    subst (λ (x : UnitHeader). EntryFails x table bytes r) so.unit_is
+    (subst (λ (x : List Abbreviation). EntryFails s.unit x bytes r) so.table_is
+    (subst (λ (x : List ℕ). EntryFails s.unit s.table x r) so.bytes_are (gives.fails so.items so.given)))
+
+pub scan-ends : (g : Ground) (h : UnitHeader) (table : List Abbreviation) (bytes : List ℕ) (s u : ScanState) (number : ℕ) (p q : Result Marks Refusal)
+    → EntriesSo g h table bytes s number p q → GivesNothing s u → EntriesPassed g h table bytes p q
+scan-ends g h table bytes s u number p q so gives =
+    let entries_ : AreEntries h table bytes so.items =
+    subst (λ (x : UnitHeader). AreEntries x table bytes so.items) so.unit_is
+    (subst (λ (x : List Abbreviation). AreEntries s.unit x bytes so.items) so.table_is
+    (subst (λ (x : List ℕ). AreEntries s.unit s.table x so.items) so.bytes_are (gives.whole so.running so.items so.given))) in
+    record {
+      items = so.items;
+      entries = entries_;
+      goes = goes-to g h.first (end_of h.first so.items) h.end (entries_fields h.params table bytes 0 so.items) p q
+          (scans-end h table bytes so.items h.end 0 entries_) so.goes;
+    }
+
+-- so many entries are few: values end behind where they begin, and each entry has a code
+values-room : (params : Params) (bytes : List ℕ) (start : ℕ) (xs : List Spec) (place : ℕ) → SpellsValues params bytes start xs place → start ≤ length bytes
+    → (start ≤ place) × (place ≤ length bytes)
+values-room params bytes start xs place no_values le = (omega arith, le)
+values-room params bytes start xs z (more_values ys y place v s is) le =
+    let before = values-room params bytes start ys place s le in
+    (omega (arith, before.0), value_at-inside params y bytes place v is)
+
+uleb-some : (bytes : List ℕ) (place code size : ℕ) → uleb_at bytes place ≡ Some (code, size) → 0 < size
+unfolding uleb_at
+uleb-some bytes place code size is = (subst (λ (o : Option (ℕ × ℕ)). IfSome o (IsSized (length (drop place bytes)))) is (uleb_at-size (drop place bytes))).some
+
+scans-room : (h : UnitHeader) (table : List Abbreviation) (bytes : List ℕ) (items : List Scanned) (place depth : ℕ) → Scans h table bytes items place depth
+    → h.first ≤ length bytes → (length items ≤ place) × (place ≤ length bytes)
+scans-room h table bytes items place depth starts le = (omega arith, le)
+scans-room h table bytes items z d (null its place depth size s is) le =
+    let before = scans-room h table bytes items place depth s le in
+    (omega (arith, before.0), uleb-inside bytes place 0 size is)
+scans-room h table bytes all z d (an_entry items place depth after a s is root) le =
+    let before = scans-room h table bytes items place depth s le in
+    let room : place + is.size ≤ length bytes = uleb-inside bytes place is.code is.size is.spells in
+    let some : 0 < is.size = uleb-some bytes place is.code is.size is.spells in
+    let values = values-room h.params bytes (place + is.size) a.specs after is.values room in
+    (omega (arith, before.0, some, values.0, length-append items (scanned place depth a after ∷ [])), values.1)
+
+pub scan-few : (g : Ground) (h : UnitHeader) (table : List Abbreviation) (bytes : List ℕ) (s : ScanState) (number : ℕ) (p q : Result Marks Refusal)
+    → EntriesSo g h table bytes s number p q → h.first ≤ length bytes → number ≤ length bytes
+scan-few g h table bytes s number p q so le =
+    let scans : Scans h table bytes so.items s.place s.depth =
+    subst (λ (x : UnitHeader). Scans x table bytes so.items s.place s.depth) so.unit_is
+    (subst (λ (x : List Abbreviation). Scans s.unit x bytes so.items s.place s.depth) so.table_is
+    (subst (λ (x : List ℕ). Scans s.unit s.table x so.items s.place s.depth) so.bytes_are so.given.scans)) in
+    let room = scans-room h table bytes so.items s.place s.depth scans le in
+    let count = so.count in
+    omega (arith, count, room.0, room.1)
+
+pub ruleset scan_rules = (scan-starts, scan-given, scan-stands, scan-more, scan-fails, scan-ends)

@@ -1,0 +1,10 @@
+pub mod FieldForms
+pub mod FieldRefusals
+pub mod FieldRows
+pub mod FieldWalks
+pub mod HeaderChecks
+pub mod LeftChecks
+pub mod LinePasses
+pub mod MacroFields
+pub mod UnitFields
+pub mod UnitPasses

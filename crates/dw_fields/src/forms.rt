@@ -1,0 +1,98 @@
+//! The field of a value of a form: how many bytes it has, and whether it is an offset into another section (DWARF 5, 7.5.5).
+
+ghost use Rattle.std.specs.Prelude.{◌≡◌, ◌<◌, ◌≤◌, IfSome, IsTrue, true};
+ghost use Rattle.dw_base.specs.Forms.{kind_in, width_size};
+ghost use Rattle.dw_base.specs.RelocationRows.{can_be_offset, use_of_number};
+ghost use Rattle.dw_base.specs.UnitHeaders.{is_address_size};
+ghost use Rattle.dw_fields.specs.FieldForms.{form_by_use, form_of, is_front};
+
+use dw_base::{Params, ValueClass, Width};
+use dw_forms::{FormKind, form_kind};
+
+/// The field of a value.
+#[derive(Clone, Copy, Drop)]
+pub(crate) struct FieldForm {
+    /// How many bytes it has.
+    pub size: u8,
+    /// Whether it is an offset into another section, and no number that is meant as it stands.
+    pub offset: bool,
+}
+
+/// The field of a text's offset, which is as wide as the unit's offsets (DWARF 5, 7.4).
+fn text_form(width: Width) -> FieldForm
+    ensures size { result.size ≡ width_size width }
+    ensures offset { result.offset ≡ true }
+    ensures some { 0 < result.size }
+    ensures few { result.size ≤ 8 }
+{
+    let size = match width {
+        Width::W32 => 4,
+        Width::W64 => 8,
+    };
+    FieldForm { size, offset: true }
+}
+
+/// A number of a class, in so many bytes, can be an offset into another section.
+fn can_be_offset(class: ValueClass, size: u8) -> bool
+    ensures { result ≡ can_be_offset class size }
+{
+    match class {
+        ValueClass::SecOffset => true,
+        ValueClass::Number => size == 4 || size == 8,
+        _ => false,
+    }
+}
+
+/// The field of a number of a class, in so many bytes.
+#[tactic(auto, using(crate::proofs::FormFieldLaws::number_rules))]
+fn number_form(class: ValueClass, size: u8, start: bool) -> Option<FieldForm>
+    ensures form { result ≡ form_by_use size (use_of_number class size start) }
+    ensures size { IfSome result (λ f. f.size ≡ size) }
+{
+    match class {
+        ValueClass::Address => None,
+        ValueClass::GlobalRef => Some(FieldForm { size, offset: true }),
+        _ => Some(FieldForm {
+            size,
+            offset: start && can_be_offset(class, size),
+        }),
+    }
+}
+
+/// The form stands in front of a value.
+#[tactic(auto, using(crate::proofs::FormFieldLaws::front_rules))]
+pub(crate) fn is_front(params: &Params, form: u64) -> bool
+    ensures { result ≡ is_front (kind_in params.now form) }
+{
+    match form_kind(form) {
+        FormKind::FormInFront => true,
+        _ => false,
+    }
+}
+
+/// The field of a value of a form, in a unit of these parameters, where its attribute says where something starts, or doesn't: none of an
+/// address, a block, a text, a number in LEB128.
+#[tactic(auto, using(crate::proofs::FormFieldLaws::form_rules))]
+pub(crate) fn field_form(params: &Params, form: u64, start: bool) -> Option<FieldForm>
+    requires address { IsTrue (is_address_size params.now.address) }
+    ensures form { result ≡ form_of (kind_in params.now form) start }
+    ensures some { IfSome result (λ f. 0 < f.size) }
+    ensures few { IfSome result (λ f. f.size ≤ 8) }
+{
+    match form_kind(form) {
+        FormKind::Number(class, size) => number_form(class, size.bytes(params), start),
+        FormKind::StrOffset => Some(text_form(params.width)),
+        FormKind::LineStrOffset => Some(text_form(params.width)),
+        FormKind::LebNumber(_) => None,
+        FormKind::SignedLeb => None,
+        FormKind::Block(_) => None,
+        FormKind::Counted(_) => None,
+        FormKind::CountedLeb => None,
+        FormKind::InlineText => None,
+        FormKind::Present => None,
+        FormKind::InAbbreviation => None,
+        FormKind::FormInFront => None,
+        FormKind::Supplementary => None,
+        FormKind::Unlisted => None,
+    }
+}

@@ -1,0 +1,186 @@
+//! A pass over the fields of an entry's values.
+//!
+//! Read first: `specs/UnitFields.antt`, then `specs/FieldForms.antt`.
+
+ghost use Rattle.std.specs.Prelude.{◌≡◌, ◌+◌, ◌<◌, ◌≤◌, ◌^◌, Some, true, is_some, length, IfSome, IsTrue};
+ghost use Rattle.dw_base.specs.FileViews.{kind_at, section_bytes, view_cells};
+ghost use Rattle.dw_base.specs.Forms.{kind_in};
+ghost use Rattle.dw_base.specs.RelocationRows.{is_start};
+ghost use Rattle.dw_base.specs.Roles.{is_path};
+ghost use Rattle.dw_base.specs.TextIndexes.{is_base};
+ghost use Rattle.dw_base.specs.UnitHeaders.{is_address_size};
+ghost use Rattle.dw_base.specs.Values.{value_at, value_size};
+ghost use Rattle.dw_fields.specs.FieldForms.{fields_by, form_end, is_front as is_front_kind};
+ghost use Rattle.dw_fields.specs.FieldWalks.{Goes, StandsAt, ground_of};
+ghost use Rattle.dw_fields.specs.UnitFields.{fields_of_kind, values_end, values_fields};
+
+use crate::forms::{FieldForm, field_form, is_front};
+use crate::marks::{Marks, pass_number, pass_offset};
+use dw_base::dwarf_numbers::{
+    DW_AT_GNU_macros, DW_AT_comp_dir, DW_AT_macros, DW_AT_name, DW_AT_stmt_list,
+    DW_AT_str_offsets_base, DW_TAG_compile_unit, DW_TAG_partial_unit, DW_TAG_type_unit,
+};
+use dw_base::{Params, Refusal, Spec, uleb_at};
+use dw_forms::size_at;
+use dw_view::View;
+
+/// An attribute of entry `number`, of a tag, holds a path (DWARF 5, 3.1.1).
+fn is_path(number: u64, tag: u64, name: u64) -> bool
+    ensures { result ≡ is_path number tag name }
+{
+    let is_unit = tag == DW_TAG_compile_unit
+        || tag == DW_TAG_partial_unit
+        || tag == DW_TAG_type_unit;
+    number == 0 && is_unit && (name == DW_AT_name || name == DW_AT_comp_dir)
+}
+
+/// An attribute says the base of its unit's texts by index (DWARF 5, 3.1.1).
+fn is_base(number: u64, name: u64) -> bool
+    ensures { result ≡ is_base number name }
+{
+    number == 0 && name == DW_AT_str_offsets_base
+}
+
+/// An attribute of entry `number`, of a tag, says where something of another section starts: a line table, a macro unit, the unit's
+/// slots.
+#[tactic(auto, using(crate::proofs::ValueFieldLaws::start_rules))]
+fn is_start(number: u64, tag: u64, name: u64) -> bool
+    ensures { result ≡ is_start number tag name }
+{
+    if is_base(number, name) {
+        return true;
+    }
+    if is_path(number, tag, name) {
+        return false;
+    }
+    if name == DW_AT_stmt_list {
+        return true;
+    }
+    name == DW_AT_macros || name == DW_AT_GNU_macros
+}
+
+/// A pass over the field at a place, where there is one.
+#[tactic(auto, using(crate::proofs::ValueFieldLaws::form_rules))]
+fn pass_form(
+    view: &View,
+    section: u32,
+    pass: Result<Marks, Refusal>,
+    form: Option<FieldForm>,
+    place: u64,
+) -> Result<Marks, Refusal>
+    requires there { section < length view.now.sections }
+    requires read { is_some (kind_at view.now section) ≡ true }
+    requires stands { StandsAt (view_cells view.now section) place pass }
+    requires some { IfSome form (λ f. 0 < f.size) }
+    requires few { IfSome form (λ f. f.size ≤ 8) }
+    requires inside { form_end place form ≤ length (section_bytes view.now section) }
+    requires small { length (section_bytes view.now section) ≤ 2 ^ 31 }
+    ensures goes { Goes (ground_of view.now section) place (form_end place form) (fields_by place form) pass result }
+{
+    match form {
+        None => pass,
+        Some(form) => {
+            if form.offset {
+                return pass_offset(view, section, pass, place, form.size);
+            }
+            pass_number(view, section, pass, place, u64::from(form.size))
+        }
+    }
+}
+
+/// A pass over the field of a value at a place, of so many bytes with the form that may stand in front of it.
+#[tactic(auto, using(crate::proofs::ValueFieldLaws::value_rules))]
+fn pass_value(
+    view: &View,
+    section: u32,
+    pass: Result<Marks, Refusal>,
+    params: &Params,
+    bytes: &[u8],
+    start: bool,
+    spec: &Spec,
+    place: u64,
+    size: u64,
+) -> Result<Marks, Refusal>
+    requires there { section < length view.now.sections }
+    requires read { is_some (kind_at view.now section) ≡ true }
+    requires stands { StandsAt (view_cells view.now section) place pass }
+    requires address { IsTrue (is_address_size params.now.address) }
+    requires value { value_size (value_at params.now spec.now bytes.now place) ≡ Some size }
+    requires whole { length bytes.now ≤ length (section_bytes view.now section) }
+    requires small { length (section_bytes view.now section) ≤ 2 ^ 31 }
+    ensures goes { Goes (ground_of view.now section) place (place + size) (fields_of_kind (kind_in params.now spec.now.form) params.now bytes.now start place) pass result }
+{
+    if is_front(params, spec.form) {
+        return pass_chosen(view, section, pass, params, bytes, start, spec, place, size);
+    }
+    let form = field_form(params, spec.form, start);
+    pass_form(view, section, pass, form, place)
+}
+
+/// The same of a value whose form stands in front of it.
+#[tactic(auto, using(crate::proofs::ValueFieldLaws::chosen_rules))]
+fn pass_chosen(
+    view: &View,
+    section: u32,
+    pass: Result<Marks, Refusal>,
+    params: &Params,
+    bytes: &[u8],
+    start: bool,
+    spec: &Spec,
+    place: u64,
+    size: u64,
+) -> Result<Marks, Refusal>
+    requires there { section < length view.now.sections }
+    requires read { is_some (kind_at view.now section) ≡ true }
+    requires stands { StandsAt (view_cells view.now section) place pass }
+    requires address { IsTrue (is_address_size params.now.address) }
+    requires front { is_front_kind (kind_in params.now spec.now.form) ≡ true }
+    requires value { value_size (value_at params.now spec.now bytes.now place) ≡ Some size }
+    requires whole { length bytes.now ≤ length (section_bytes view.now section) }
+    requires small { length (section_bytes view.now section) ≤ 2 ^ 31 }
+    ensures goes { Goes (ground_of view.now section) place (place + size) (fields_of_kind (kind_in params.now spec.now.form) params.now bytes.now start place) pass result }
+{
+    let Some((number, front)) = uleb_at(bytes, place) else {
+        unreachable!()
+    };
+    let form = field_form(params, number, start);
+    pass_form(view, section, pass, form, place + front)
+}
+
+/// A pass over the fields of the values of entry `number`, of a tag and with these attributes, that stand from a place up to another of the
+/// bytes up to the unit's end.
+#[tactic(auto, using(crate::proofs::ValueFieldLaws::values_rules))]
+pub(crate) fn pass_values(
+    view: &View,
+    section: u32,
+    pass: Result<Marks, Refusal>,
+    params: &Params,
+    bytes: &[u8],
+    number: u64,
+    tag: u64,
+    specs: &[Spec],
+    from: u64,
+    after: u64,
+) -> Result<Marks, Refusal>
+    requires there { section < length view.now.sections }
+    requires read { is_some (kind_at view.now section) ≡ true }
+    requires stands { StandsAt (view_cells view.now section) from pass }
+    requires address { IsTrue (is_address_size params.now.address) }
+    requires values { values_end params.now bytes.now specs.now from ≡ Some after }
+    requires whole { length bytes.now ≤ length (section_bytes view.now section) }
+    requires small { length (section_bytes view.now section) ≤ 2 ^ 31 }
+    ensures goes { Goes (ground_of view.now section) from after (values_fields params.now bytes.now number tag specs.now from) pass result }
+{
+    let end = bytes.len() as u64;
+    let mut now = pass;
+    let mut place = from;
+    for spec in specs {
+        let Ok(size) = size_at(spec, params, section, bytes, place, end) else {
+            unreachable!()
+        };
+        let start = is_start(number, tag, spec.name);
+        now = pass_value(view, section, now, params, bytes, start, spec, place, size);
+        place += size;
+    }
+    now
+}

@@ -1,0 +1,10 @@
+-- The records so far are put in.
+use Rattle.std.proofs.Common.{◌≡◌, length}
+use Rattle.dw_patch.specs.RecordMoves.{records_moved}
+use Rattle.dw_patch.proofs.records.move_records.Given as goal
+
+abbrev pub invariant-loop-index : goal.invariant-loop-index
+invariant-loop-index l = record {
+  moved : l.out ≡ records_moved l.source l.runs l.fields l.index;
+  long : length l.out ≡ length l.source.table;
+}

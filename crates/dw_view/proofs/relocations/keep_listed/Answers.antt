@@ -1,0 +1,11 @@
+-- All relocations of the section are kept.
+use Rattle.std.proofs.Common.{length}
+use Rattle.dw_base.specs.Elf.{contents_of}
+use Rattle.dw_view.proofs.RelocationLaws.{listed-keeps}
+use Rattle.dw_view.proofs.relocations.keep_listed.Goals as goal
+
+pub returns-clause-keeps : goal.returns-clause-keeps
+returns-clause-keeps c =
+    listed-keeps c.args.elf.now.bytes.now c.args.section c.args.holder (length (contents_of c.args.elf.now.bytes.now c.args.section)) c.source_of-source.result
+    c.in_ok-places.places.items c.deref.result.now c.listed.result c.requires.holder c.source_of-source.ensures c.listed.ensures.value c.in_ok-places.ensures.lists c.deref.ensures.value
+    c.in_ok-check_list.ensures.rise c.in_ok-check_list.ensures.within
