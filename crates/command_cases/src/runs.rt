@@ -1,5 +1,6 @@
 //! Runs over trees and sinks in memory: a worked file, and each status with its line.
 use dbg_run::run_words;
+use dw_base::elf_numbers::{ET_DYN, ET_EXEC, ET_REL};
 use file_tree::{Blob, MemSink, MemTree, Node, Text, TreeErr};
 use std::alloc::{AllocError, Global};
 use std::process::Abort;
@@ -24,9 +25,8 @@ const USAGE: [&str; 8] = [
 ];
 
 /// A byte of the worked file, what it is set to, and the line of its refusal.
-const REFUSALS: [(usize, u8, &str); 7] = [
+const REFUSALS: [(usize, u8, &str); 6] = [
     (4, 3, "refused: in: header section 0 offset 4\n"),
-    (16, 1, "refused: in: unbuilt section 0 offset 0\n"),
     (16, 4, "refused: in: file type section 0 offset 16\n"),
     (64, 0x11, "refused: in: unit section 1 offset 0\n"),
     (240, 2, "refused: in: fixed section 1 offset 0\n"),
@@ -121,6 +121,14 @@ fn numbered_in_section_0(mut file: Vec<u8>, headers_at: u8) -> Vec<u8> {
         if let Some(byte) = file.get_mut(place) {
             *byte = value;
         }
+    }
+    file
+}
+
+/// The file with another type, which is below 256.
+fn of_type(mut file: Vec<u8>, kind: u16) -> Vec<u8> {
+    if let Some(byte) = file.get_mut(16) {
+        *byte = kind.to_le_bytes()[0];
     }
     file
 }
@@ -339,7 +347,11 @@ fn an_edit_gives_the_worked_file_byte_for_byte(rt: HostRuntime) -> Result<(), Fa
     let alloc = rt.alloc();
     let wanted = installed_file(alloc)?;
     assert_eq!(rt; wanted.len(), 528);
-    assert_edited(&rt, alloc, EDIT, built_file(alloc)?, wanted.as_slice())?;
+    for kind in [ET_REL, ET_EXEC, ET_DYN] {
+        let input = of_type(built_file(alloc)?, kind);
+        let wanted = of_type(installed_file(alloc)?, kind);
+        assert_edited(&rt, alloc, EDIT, input, wanted.as_slice())?;
+    }
     assert_edited(
         &rt,
         alloc,

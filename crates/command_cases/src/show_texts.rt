@@ -1,16 +1,18 @@
 //! What is shown of files with units, line tables and macro units, and which files aren't shown.
 
+use crate::runs::{EDIT, file_of as tree_file_of, run, run_to, tree_with};
 use crate::show_files::{Named, file_of, object_of};
 use crate::show_samples::{BOTH, BOTH_TEXT, SHOWN, UNITS};
 use crate::shown_macros::MACROS_SHOWN;
 use crate::shown_objects::{OBJECTS_REFUSED, OBJECTS_SHOWN, WITH_ADDENDS};
 use crate::shown_units::UNITS_SHOWN;
+use crate::shows::assert_ran;
 use dbg_show::{ShowErr, show};
 use dw_base::{Fault, Kind, OUTPUT_LIMIT, Order, Refusal};
 use dw_view::View;
 use elf_file::ElfFile;
 use file_tree::MemSink;
-use std::alloc::Global;
+use std::alloc::{AllocError, Global};
 use std::process::Abort;
 use std::test::Fail;
 
@@ -42,6 +44,18 @@ fn object_shown(
         Ok(view) => Ok(show(alloc, &view, out)),
         Err(fault) => Ok(Err(ShowErr::Fault(fault))),
     }
+}
+
+/// The text of these pieces, with a folder between each two.
+fn text_with(alloc: Global, pieces: &[&str], folder: &str) -> Result<String, AllocError> {
+    let mut text = String::new(alloc);
+    for i in 0..pieces.len() {
+        if i > 0 {
+            text.push_str(folder)?;
+        }
+        text.push_str(pieces[i])?;
+    }
+    Ok(text)
 }
 
 #[test]
@@ -85,7 +99,24 @@ fn each_object_is_shown_with_the_symbols_of_its_addresses(rt: HostRuntime) -> Re
         let file = object_of(&rt, rt.alloc(), order, machine, sections)?;
         let result = object_shown(&rt, rt.alloc(), &file, &mut out)?;
         assert_eq!(rt; result, Ok(()));
-        assert_eq!(rt; out.bytes(), text.as_bytes());
+        let wanted = text_with(rt.alloc(), text, "/build/p")?;
+        assert_eq!(rt; out.bytes(), wanted.as_bytes());
+    }
+    Ok(())
+}
+
+#[test]
+fn an_object_that_was_edited_is_shown_with_its_new_paths(rt: HostRuntime) -> Result<(), Fail> {
+    let alloc = rt.alloc();
+    for (order, machine, sections, text) in OBJECTS_SHOWN {
+        let file = object_of(&rt, alloc, order, machine, sections)?;
+        let mut tree = tree_with(alloc, "in", tree_file_of(file))?;
+        let ran = run(alloc, EDIT, &mut tree)?;
+        assert_ran(&rt, &ran, 0, "", "");
+        let out = MemSink::new(alloc, 0x1000, None)?;
+        let ran = run_to(alloc, "show out", &mut tree, out)?;
+        let wanted = text_with(alloc, text, "/usr/src/debug/p")?;
+        assert_ran(&rt, &ran, 0, wanted.as_str(), "");
     }
     Ok(())
 }

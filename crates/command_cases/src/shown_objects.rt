@@ -241,19 +241,21 @@ const TWO_MACRO_SECTIONS: &[Part] = &[
     ),
 ];
 
-/// The byte order, the machine, the sections, and the text.
-pub const OBJECTS_SHOWN: [(Order, u64, &[Part], &str); 4] = [
+/// The byte order, the machine, the sections, and the text in pieces; between each two stands the folder of the sources.
+pub const OBJECTS_SHOWN: [(Order, u64, &[Part], &[&str]); 4] = [
     (
         Order::Little,
         62,
         WITH_ADDENDS,
-        "unit 0 .debug_info version 2 bits 32 address 8
+        &[
+            "unit 0 .debug_info version 2 bits 32 address 8
 entry 0 depth 0 tag 0x11
 attr 0x10 lines 0
 attr 0x11 symbol 1 type 1 addend 0
 attr 0x12 symbol 1 type 1 addend 1
 attr 0x3 text \"s.s\"
-attr 0x1b text \"/build/p\"
+attr 0x1b text \"",
+            "\"
 attr 0x25 text \"GNU AS 2.40\"
 attr 0x13 number 32769
 entry 1 depth 1 tag 0x2e
@@ -266,18 +268,21 @@ file 1 dir 0 \"s.s\"
 row 0x0 symbol 1 type 1 op 0 file \"\" \"s.s\" line 5 column 0 flags s isa 0 disc 0
 row 0x1 symbol 1 type 1 op 0 file \"\" \"s.s\" line 5 column 0 flags sx isa 0 disc 0
 ",
+        ],
     ),
     (
         Order::Little,
         62,
         ADDENDS_IN_FIELDS,
-        "unit 0 .debug_info version 2 bits 32 address 8
+        &[
+            "unit 0 .debug_info version 2 bits 32 address 8
 entry 0 depth 0 tag 0x11
 attr 0x10 lines 0
 attr 0x11 symbol 1 type 1 addend 0
 attr 0x12 symbol 1 type 1 addend 1
 attr 0x3 text \"s.s\"
-attr 0x1b text \"/build/p\"
+attr 0x1b text \"",
+            "\"
 attr 0x25 text \"GNU AS 2.40\"
 attr 0x13 number 32769
 entry 1 depth 1 tag 0x2e
@@ -290,18 +295,21 @@ file 1 dir 0 \"s.s\"
 row 0x0 symbol 1 type 1 op 0 file \"\" \"s.s\" line 5 column 0 flags s isa 0 disc 0
 row 0x1 symbol 1 type 1 op 0 file \"\" \"s.s\" line 5 column 0 flags sx isa 0 disc 0
 ",
+        ],
     ),
     (
         Order::Big,
         21,
         BIG_ENDIAN,
-        "unit 0 .debug_info version 5 bits 32 address 8
+        &[
+            "unit 0 .debug_info version 5 bits 32 address 8
 entry 0 depth 0 tag 0x11
 attr 0x10 lines 0
 attr 0x11 symbol 1 type 38 addend 0
 attr 0x12 number 4
 attr 0x3 text \"s.s\"
-attr 0x1b text \"/build/p\"
+attr 0x1b text \"",
+            "\"
 attr 0x25 text \"GNU AS 2.40\"
 attr 0x13 number 32769
 entry 1 depth 1 tag 0x2e
@@ -312,24 +320,30 @@ attr 0x11 symbol 10 type 38 addend 0
 attr 0x12 number 4
 entry 2 depth 1 tag 0x3b
 lines 0 version 5
-dir 0 \"/build/p\"
+dir 0 \"",
+            "\"
 file 0 dir 0 \"s.s\"
 file 1 dir 0 \"s.s\"
-row 0x0 symbol 1 type 38 op 0 file \"/build/p\" \"s.s\" line 5 column 0 flags s isa 0 disc 0
-row 0x4 symbol 1 type 38 op 0 file \"/build/p\" \"s.s\" line 5 column 0 flags sx isa 0 disc 0
+row 0x0 symbol 1 type 38 op 0 file \"",
+            "\" \"s.s\" line 5 column 0 flags s isa 0 disc 0
+row 0x4 symbol 1 type 38 op 0 file \"",
+            "\" \"s.s\" line 5 column 0 flags sx isa 0 disc 0
 ",
+        ],
     ),
     (
         Order::Little,
         62,
         TWO_MACRO_SECTIONS,
-        "unit 0 .debug_info version 4 bits 32 address 8
+        &[
+            "unit 0 .debug_info version 4 bits 32 address 8
 entry 0 depth 0 tag 0x11
 attr 0x10 lines 0
 attr 0x11 symbol 1 type 1 addend 0
 attr 0x12 number 1
 attr 0x3 text \"s.s\"
-attr 0x1b text \"/build/p\"
+attr 0x1b text \"",
+            "\"
 attr 0x25 text \"GNU AS 2.40\"
 attr 0x13 number 32769
 entry 1 depth 1 tag 0x2e
@@ -347,6 +361,7 @@ macros 0 version 4
 import 1
 macros 1 version 4
 ",
+        ],
     ),
 ];
 

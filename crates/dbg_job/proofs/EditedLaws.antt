@@ -64,7 +64,7 @@ anew-means m b out seed new w fits kept is long =
 pub anew-loaded : (m : PathMap) (b out seed new : List ℕ) → IsMapped m b out → IdFits b → MeaningKept m b out → LoadedKept b out → new ≡ with_new_id seed out
     → length new ≡ length out → LoadedKept b new
 anew-loaded m b out seed new w fits kept loaded is long =
-    loaded-kept b out new kept.new.reads.kind (new-id m b out seed new w kept.new.reads.elf (output-id m b out w fits) is long) loaded
+    loaded-kept b out new (new-id m b out seed new w kept.new.reads.elf (output-id m b out w fits) is long) loaded
 
 pub anew-fits : (m : PathMap) (b out seed new : List ℕ) → IsMapped m b out → IdFits b → MeaningKept m b out → new ≡ with_new_id seed out → length new ≡ length out
     → IdFits new

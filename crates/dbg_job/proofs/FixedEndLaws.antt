@@ -12,7 +12,7 @@ use Rattle.dw_base.specs.declared.records.Section.{Section}
 use Rattle.dw_base.specs.declared.records.Segment.{Segment}
 use Rattle.dw_base.specs.declared.shared.Class.{Class}
 use Rattle.dw_base.proofs.ReadsBackLaws.{tabulate-ext}
-use Rattle.dw_meaning.proofs.FileBackLaws.{known_kind, section_name-back}
+use Rattle.dw_meaning.proofs.FileBackLaws.{section_name-back}
 use Rattle.dbg_job.specs.EditedFiles.{IsMapped}
 use Rattle.dbg_job.specs.SameSections.{SameFixed, SameSections, SameShape}
 use Rattle.dbg_job.proofs.IdKeptLaws.{IsLaid, laid-is, phnum-same, phoff-same}
@@ -72,27 +72,37 @@ sections-are b = refl
 laid-stays : (m : PathMap) (b out : List ℕ) (l : IsLaid m b out) (i : ℕ) → i < section_count b → is_fixed b (nth_section b i) ≡ true → nth_section out i ≡ nth_section b i
 laid-stays m b out l i lt fixed = ap (λ (x : List ℕ). nth_section x i) l.is ∙ stays-at b l.bodies i l.written lt fixed
 
-one-end : (m : PathMap) (b out : List ℕ) (l : IsLaid m b out) (i : ℕ) → i < section_count b → alloc_ends (nth_section out i ∷ []) ≡ alloc_ends (nth_section b i ∷ [])
-one-end m b out l i lt = by_alloc (cases_Bool (is_alloc (nth_section b i)))
+one-end : (m : PathMap) (b out : List ℕ) (l : IsLaid m b out) (i : ℕ) → is_loaded_kind b ≡ true → i < section_count b
+    → alloc_ends (nth_section out i ∷ []) ≡ alloc_ends (nth_section b i ∷ [])
+one-end m b out l i loaded lt = by_alloc (cases_Bool (is_alloc (nth_section b i)))
   where
     by_alloc : (is_alloc (nth_section b i) ≡ true) ⊎ (is_alloc (nth_section b i) ≡ false) → alloc_ends (nth_section out i ∷ []) ≡ alloc_ends (nth_section b i ∷ [])
     by_alloc (inl alloc) =
-        ap (λ (s : Section). alloc_ends (s ∷ [])) (laid-stays m b out l i lt (loaded-of b (nth_section b i) l.back.kind alloc))
+        ap (λ (s : Section). alloc_ends (s ∷ [])) (laid-stays m b out l i lt (loaded-of b (nth_section b i) loaded alloc))
     by_alloc (inr free) =
         let flags : is_alloc (nth_section out i) ≡ is_alloc (nth_section b i) = rw (l.back.back.heads i lt).flags refl in
         no-ends (nth_section out i) (flags ∙ free) ∙ sym (no-ends (nth_section b i) free)
 
 laid-end : (m : PathMap) (b out : List ℕ) → IsLaid m b out → fixed_end out ≡ fixed_end b
-laid-end m b out l =
-    let kind : is_loaded_kind out ≡ is_loaded_kind b = rw l.back.back.kind refl in
-    let ends : alloc_ends (sections_of out) ≡ alloc_ends (sections_of b) =
-    ap alloc_ends (sections-are out ∙ ap (λ (n : ℕ). tabulate (nth_section out) n) l.back.back.count)
-    ∙ ends-same (nth_section out) (nth_section b) (section_count b) (λ k lt. one-end m b out l k lt) ∙ ap alloc_ends (sym (sections-are b)) in
-    end-is out
-    ∙ end-same (is_loaded_kind out) (is_loaded_kind b) (class_of out) (class_of b) (e_phnum out) (e_phnum b) (e_phoff out) (e_phoff b) (segments_of out) (segments_of b)
-    (alloc_ends (sections_of out)) (alloc_ends (sections_of b)) kind l.back.back.class (phnum-same m b out l) (phoff-same m b out l)
-    (l.back.back.segments (known_kind b l.back.kind)) ends
-    ∙ sym (end-is b)
+laid-end m b out l = end-is out ∙ by_kind (is_loaded_kind b) refl ∙ sym (end-is b)
+  where
+    kind : is_loaded_kind out ≡ is_loaded_kind b
+    kind = rw l.back.back.kind refl
+
+    by_kind : (t : Bool) → is_loaded_kind b ≡ t
+        → end_by (is_loaded_kind out) (class_of out) (e_phnum out) (e_phoff out) (segments_of out) (alloc_ends (sections_of out))
+        ≡ end_by (is_loaded_kind b) (class_of b) (e_phnum b) (e_phoff b) (segments_of b) (alloc_ends (sections_of b))
+    by_kind true is =
+        let ends : alloc_ends (sections_of out) ≡ alloc_ends (sections_of b) =
+        ap alloc_ends (sections-are out ∙ ap (λ (n : ℕ). tabulate (nth_section out) n) l.back.back.count)
+        ∙ ends-same (nth_section out) (nth_section b) (section_count b) (λ k lt. one-end m b out l k is lt) ∙ ap alloc_ends (sym (sections-are b)) in
+        end-same (is_loaded_kind out) (is_loaded_kind b) (class_of out) (class_of b) (e_phnum out) (e_phnum b) (e_phoff out) (e_phoff b) (segments_of out) (segments_of b)
+        (alloc_ends (sections_of out)) (alloc_ends (sections_of b)) kind l.back.back.class (phnum-same m b out l) (phoff-same m b out l)
+        (l.back.back.segments l.back.names.file_type) ends
+    by_kind false is =
+        ap (λ (t : Bool). end_by t (class_of out) (e_phnum out) (e_phoff out) (segments_of out) (alloc_ends (sections_of out))) (kind ∙ is)
+        ∙ ap ehdr_size l.back.back.class
+        ∙ sym (ap (λ (t : Bool). end_by t (class_of b) (e_phnum b) (e_phoff b) (segments_of b) (alloc_ends (sections_of b))) is)
 
 -- a section that moved isn't one that stays
 not-both : (t : Bool) → t ≡ true → t ≡ false → ⊥

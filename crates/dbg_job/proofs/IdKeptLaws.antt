@@ -1,13 +1,17 @@
 -- Where nothing is wrong with the build-id of a file, nothing is wrong with that of its output: the note is the same, and the output's
 -- sections share no bytes that those of the file don't share.
-use Rattle.std.proofs.Common.{Bool, true, false, ◌≡◌, ◌≢◌, ◌⊎◌, inl, inr, ℕ, zero, suc, ◌+◌, ◌*◌, ◌<◌, ◌≤◌, ◌==◌, ◌&&◌, not, nat_lt, List, length, take, drop, Option, Some, sym, ap, ◌∙◌, refl, subst, arith}
-use Rattle.std.proofs.lemmas.Bool.{cases_Bool, cases_lt}
+use Rattle.std.proofs.Common.{Bool, true, false, ◌≡◌, ◌≢◌, ◌⊎◌, inl, inr, ℕ, zero, suc, ◌+◌, ◌*◌, ◌<◌, ◌≤◌, ◌==◌, ◌&&◌, ◌||◌, not, nat_lt, List, length, take, drop, Option, Some, sym, ap, ◌∙◌, refl, subst, arith}
+use Rattle.std.proofs.lemmas.Bool.{cases_Bool, cases_lt, eqb-true}
 use Rattle.std.proofs.lemmas.Bool.Decides.{nat_tests}
 use Rattle.std.proofs.lemmas.List.{length-take}
-use Rattle.dw_base.specs.Elf.{class_of, contents_at, contents_of, e_phnum, e_phoff, ehdr_size, is_empty_kind, nth_section, order_of, phdr_size, section_count, section_name}
-use Rattle.dw_base.specs.Layout.{fixed_end, is_fixed, with_bodies}
+use Rattle.dw_base.specs.DebugSectionFails.{DebugSectionsRead}
+use Rattle.dw_base.specs.Elf.{class_of, contents_at, contents_of, e_phnum, e_phoff, e_type, ehdr_size, is_empty_kind, nth_section, order_of, phdr_size, section_count, section_name}
+use Rattle.dw_base.specs.ElfFails.{ElfReads}
+use Rattle.dw_base.specs.Layout.{fixed_end, is_fixed, is_loaded_kind, with_bodies}
 use Rattle.dw_base.specs.Notes.{Descriptor, first_below, id_in, is_id_section, or_this}
 use Rattle.dw_base.specs.Paths.{PathMap}
+use Rattle.dw_base.specs.RelocationSectionFails.{relocates_read}
+use Rattle.dw_base.specs.declared.elf_numbers.TheConstants.{ET_REL, SHT_NOTE, SHT_REL, SHT_RELA}
 use Rattle.dw_base.specs.declared.fault.Refusal.{Refusal}
 use Rattle.dw_base.specs.DebugSections.{debug_section}
 use Rattle.dw_base.specs.SectionNames.{note_build_id}
@@ -22,7 +26,7 @@ use Rattle.dw_base.proofs.WrittenHeaders.{e_phnum-same, e_phoff-same}
 use Rattle.dw_base.proofs.WrittenLaws.{IsWritten}
 use Rattle.dw_base.proofs.LayoutLaws.{fixed_end-header}
 use Rattle.dw_meaning.proofs.BuildIdLaws.{first_below-found}
-use Rattle.dw_meaning.proofs.FileBackLaws.{Back, is_read_name, section_name-back}
+use Rattle.dw_meaning.proofs.FileBackLaws.{Back, is_read_name, plain-holder, section_name-back}
 use Rattle.dw_meaning.proofs.LayoutRowLaws.{layout_excludes}
 use Rattle.build_ident.specs.IdFails.{IdFails, IsId, has_bytes, id_place, id_section, overlap}
 use Rattle.build_ident.specs.IdFails.IdFails.{unfit, header, segments, section}
@@ -67,10 +71,17 @@ id-unread : (b : List ℕ) (i : ℕ) → is_id_section b i ≡ true → is_read_
 unfolding is_id_section debug_section
 id-unread b i is = ap is_read_name (same_text-true (section_name b i) note_build_id (and-left (same_text (section_name b i) note_build_id) ((nth_section b i).kind == 7) is))
 
+-- nor does it hold relocations
+id-holder : (b : List ℕ) (i : ℕ) → is_id_section b i ≡ true → relocates_read b i ≡ false
+unfolding is_id_section
+id-holder b i is =
+    plain-holder b i (ap (λ (k : ℕ). k == SHT_REL || k == SHT_RELA)
+    (eqb-true (nth_section b i).kind SHT_NOTE (and-right (same_text (section_name b i) note_build_id) ((nth_section b i).kind == SHT_NOTE) is)))
+
 contents-same : (b out : List ℕ) (bodies : ℕ → List ℕ) (i : ℕ) → Back b bodies out → id_section b ≡ Some i → contents_of out i ≡ contents_of b i
 contents-same b out bodies i k e =
     let found = section-found b i e in
-    k.back.contents i found.0 ∙ k.unread i found.0 (id-unread b i found.1)
+    k.back.contents i found.0 ∙ k.unread i found.0 (id-unread b i found.1) (id-holder b i found.1)
 
 note-same : (b out : List ℕ) (bodies : ℕ → List ℕ) (i : ℕ) → Back b bodies out → id_section b ≡ Some i
     → id_in (order_of out) (contents_of out i) ≡ id_in (order_of b) (contents_of b i)
@@ -197,6 +208,21 @@ header-none m b out l i d fits is (moves there behind) below =
     let here : id_place out i d < ehdr_size (class_of b) = rw l.back.back.class at below in
     omega (arith, here, behind, fixed_end-header b)
 
+-- a file that has program headers is loaded as it stands: a relocatable one has none
+loaded-segments : (b : List ℕ) → ElfReads b → DebugSectionsRead b → e_phnum b ≢ 0 → is_loaded_kind b ≡ true
+loaded-segments b elf names some = by_kind (is_loaded_kind b) refl
+  where
+    or-left : (p q : Bool) → (p || q) ≡ true → q ≡ false → p ≡ true
+    or-left true q h e = refl
+    or-left false q h e = let no : true ≡ false = sym h ∙ e in absurd cc
+
+    is_rel : (n : ℕ) → (n == ET_REL) ≡ true → n ≡ ET_REL
+    is_rel n h = grind (arith, nat_tests)
+
+    by_kind : (t : Bool) → is_loaded_kind b ≡ t → is_loaded_kind b ≡ true
+    by_kind true is = is
+    by_kind false is = absurd (some (elf.debug.shape.rel (is_rel (e_type b) (or-left (e_type b == ET_REL) (is_loaded_kind b) names.file_type is))))
+
 -- that of the program headers
 segments-none : (m : PathMap) (b out : List ℕ) (l : IsLaid m b out) (i : ℕ) (d : Descriptor) → IdFits b → IsId b i d → StandsIn b l.bodies i (nth_section out i)
     → e_phnum b ≢ 0 → overlap (id_place out i d) d.size (e_phoff b) (e_phnum b * phdr_size (class_of b)) ≡ true → ⊥
@@ -205,7 +231,7 @@ segments-none m b out l i d fits is (stays same ends) some over =
     fits.none _ (segments i d is some (subst (λ (n : ℕ). overlap n d.size (e_phoff b) (e_phnum b * phdr_size (class_of b)) ≡ true) place over))
 segments-none m b out l i d fits is (moves there behind) some over =
     let both = overlap-is (id_place out i d) d.size (e_phoff b) (e_phnum b * phdr_size (class_of b)) over in
-    omega (arith, both.0, behind, segments-lie b l.back.kind some)
+    omega (arith, both.0, behind, segments-lie b (loaded-segments b l.back.elf l.back.names some) some)
 
 pub phnum-same : (m : PathMap) (b out : List ℕ) (l : IsLaid m b out) → e_phnum out ≡ e_phnum b
 phnum-same m b out l = ap e_phnum l.is ∙ e_phnum-same b l.bodies l.written

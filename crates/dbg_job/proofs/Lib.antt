@@ -7,6 +7,7 @@ pub mod NewIdLaws
 pub mod NoteKeptLaws
 pub mod OtherIdLaws
 pub mod OtherIdLoadedLaws
+pub mod OtherIdRelocationLaws
 pub mod OtherIdMeaningLaws
 pub mod OutcomeLaws
 pub mod OutcomeOneLaws

@@ -6,7 +6,6 @@ use Rattle.std.proofs.lemmas.List.{get_or-append-add, get_or-drop, get_or-take, 
 use Rattle.std.specs.Prelude.{slice_index}
 use Rattle.dw_base.specs.Elf.{class_of, contents_of, e_phnum, e_phoff, e_shoff, ehdr_size, is_empty_kind, nth_section, order_of, phdr_size, section_count}
 use Rattle.dw_base.specs.ElfFails.{ElfReads}
-use Rattle.dw_base.specs.Layout.{is_loaded_kind}
 use Rattle.dw_base.specs.Notes.{Descriptor, id_in}
 use Rattle.dw_base.specs.Paths.{PathMap}
 use Rattle.dw_base.specs.ViewData.{mapped}
@@ -153,9 +152,9 @@ meaning-new m b out new (other i d apart differs) kept = record {
   new_one = λ x is. means-one new x (mapped m kept.meaning) is (means-same out new i d (mapped m kept.meaning) apart differs kept.new);
 }
 
-pub loaded-kept : (b out new : List ℕ) → is_loaded_kind out ≡ true → NewId out new → LoadedKept b out → LoadedKept b new
-loaded-kept b out new kind (same is) kept = subst (LoadedKept b) (sym is) kept
-loaded-kept b out new kind (other i d apart differs) kept = record { same = loaded-new out new i d kind apart differs ∙ kept.same }
+pub loaded-kept : (b out new : List ℕ) → NewId out new → LoadedKept b out → LoadedKept b new
+loaded-kept b out new (same is) kept = subst (LoadedKept b) (sym is) kept
+loaded-kept b out new (other i d apart differs) kept = record { same = loaded-new out new i d apart differs ∙ kept.same }
 
 -- and nothing is wrong with it
 own-new : (b new : List ℕ) (i : ℕ) (d : Descriptor) → IdApart b i d → OtherId b new i d → IsOwn new i d

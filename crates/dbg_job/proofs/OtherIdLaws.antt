@@ -64,7 +64,7 @@ pub order-new : (b new : List ℕ) (i : ℕ) (d : Descriptor) → IdApart b i d 
 unfolding order_of
 order-new b new i d w s = rw (number-new b new i d Little 5 1 w s (let places = header_places (class_of b) in omega (arith, places.least))) refl
 
-half-new : (b new : List ℕ) (i : ℕ) (d : Descriptor) (place : ℕ) → IdApart b i d → OtherId b new i d → place + 2 ≤ ehdr_size (class_of b) → half_at new place ≡ half_at b place
+pub half-new : (b new : List ℕ) (i : ℕ) (d : Descriptor) (place : ℕ) → IdApart b i d → OtherId b new i d → place + 2 ≤ ehdr_size (class_of b) → half_at new place ≡ half_at b place
 half-new b new i d place w s le =
     ap (λ (o : Order). spelled o new place 2) (order-new b new i d w s) ∙ number-new b new i d (order_of b) place 2 w s le
 

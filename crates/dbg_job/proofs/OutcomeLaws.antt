@@ -16,7 +16,7 @@ use Rattle.dw_base.specs.declared.fault.Fault.TheVariants.{NoMemory, Refused}
 use Rattle.dw_base.specs.declared.fault.Refusal.{Refusal}
 use Rattle.dw_base.specs.declared.shared.Order.TheVariants.{Little}
 use Rattle.dw_base.proofs.ElfLaws.{ehdr_size-least, elf_excludes}
-use Rattle.dw_meaning.specs.FileMeanings.{MeaningKept, new_body}
+use Rattle.dw_meaning.specs.FileMeanings.{MeaningKept, file_body}
 use Rattle.dw_meaning.specs.Loaded.{LoadedKept}
 use Rattle.build_ident.specs.IdFails.{IdFails}
 use Rattle.dbg_split.specs.DebugFile.{debug_file}
@@ -82,7 +82,7 @@ split-excludes s b name file taken w fits kept sections only none r (elf_row beg
 split-excludes s b name file taken w fits kept sections only none r (edit_row is fails) = editable-excludes s b r w fails
 split-excludes s b name file taken w fits kept sections only none r (pair_row is loaded (id_row fails)) = fits.none r fails
 split-excludes s b name file taken w fits kept sections only none r (pair_row is loaded (shape_row fails)) =
-    none r (shape_fails kept.new.reads.elf (rows-on b file (new_body s.maps b w.accepted.readings) r sections loaded taken.reads w.accepted.written fails))
+    none r (shape_fails kept.new.reads.elf (rows-on b file (file_body s.maps b w.accepted.readings) r sections loaded taken.reads w.accepted.written fails))
 split-excludes s b name file taken w fits kept sections only none r (pair_row is loaded (long_row other edited fails)) =
     by_length r (subst (λ (x : List ℕ). PairTooLong x name r) (only other edited) fails)
   where

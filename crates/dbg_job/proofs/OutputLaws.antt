@@ -1,35 +1,25 @@
 -- The output of a file with mapped paths, by its layout: it is the file written with new bodies, of which those of sections that aren't
--- read are their own, and it reads back.
-use Rattle.std.proofs.Common.{Bool, true, false, ◌≡◌, ◌≢◌, ◌⊎◌, inl, inr, ℕ, zero, suc, ◌+◌, ◌<◌, ◌≤◌, ◌==◌, ◌&&◌, not, replicate, List, [], ◌∷◌, ◌++◌, length, take, drop, cond, if◌then◌else◌, Option, Some, None, sym, ap, ◌∙◌, refl, subst, arith}
+-- read and hold no relocations of one that is are their own, and it reads back.
+use Rattle.std.proofs.Common.{Bool, true, false, ◌≡◌, ◌⊎◌, inl, inr, ℕ, zero, suc, ◌+◌, ◌<◌, ◌≤◌, ◌==◌, ◌&&◌, not, replicate, List, [], ◌∷◌, ◌++◌, length, take, cond, if◌then◌else◌, sym, ap, ◌∙◌, refl, subst, arith}
 use Rattle.std.proofs.lemmas.Bool.{cases_Bool}
 use Rattle.dw_base.specs.DebugData.{DataReadings}
-use Rattle.dw_base.specs.DebugSections.{debug_section, name_of}
 use Rattle.dw_base.specs.Elf.{class_of, contents_of, is_empty_kind, nth_section, order_of, section_count, section_name}
-use Rattle.dw_base.specs.ElfFails.{ElfReads}
-use Rattle.dw_base.specs.FileViews.{view_of}
 use Rattle.dw_base.specs.Layout.{Part, extended, fixed_end, is_fixed, laid, laid_out, new_head, new_heads, output_limit, part_of, placed, padding, with_bodies, with_table}
 use Rattle.dw_base.specs.LayoutFails.{LayoutFits}
 use Rattle.dw_base.specs.LayoutReads.{ReadsBack}
 use Rattle.dw_base.specs.Lists.{tabulate}
 use Rattle.dw_base.specs.Paths.{PathMap}
-use Rattle.dw_base.specs.ViewData.{debug_data, is_macro, is_read, unit_kind, unit_sections}
-use Rattle.dw_base.specs.declared.debug_sections.DebugSection.{DebugSection}
-use Rattle.dw_base.specs.declared.debug_sections.DebugSection.TheVariants.{Info, Types, Abbrev, Str, LineStr, StrOffsets, Line, Macro, Names}
+use Rattle.dw_base.specs.RelocationSectionFails.{relocates_read}
 use Rattle.dw_base.specs.declared.records.Section.{Section}
-use Rattle.dw_base.proofs.DebugSectionLaws.{debug_section-name}
-use Rattle.dw_base.proofs.ElfLaws.{e_shoff-some}
 use Rattle.dw_base.proofs.LayoutLaws.{laid-append, new_heads-append}
 use Rattle.dw_base.proofs.ReadsAgainLaws.{reads_back}
 use Rattle.dw_base.proofs.WrittenContents.{contents-empty}
-use Rattle.dw_meaning.specs.DataOutput.{body_in}
-use Rattle.dw_meaning.specs.FileMeanings.{file_data, new_body, output_of}
+use Rattle.dw_meaning.specs.FileMeanings.{file_data, file_body, output_of}
 use Rattle.dbg_job.specs.EditedFiles.{IsMapped}
 use Rattle.dw_meaning.proofs.DataOneLaws.{data-one}
-use Rattle.dw_meaning.proofs.FileBackLaws.{Back, SectionBack, is_read_name}
-use Rattle.dw_meaning.proofs.FileKeptLaws.{CanMap, around_file, body-units, changes_file, named-apart, units_new}
+use Rattle.dw_meaning.proofs.FileBackLaws.{Back, is_read_name}
+use Rattle.dw_meaning.proofs.FileKeptLaws.{CanMap, unread-kept}
 use Rattle.dw_meaning.proofs.LayoutRowLaws.{layout_excludes}
-use Rattle.dw_meaning.proofs.SectionKeptLaws.{units-skip}
-use Rattle.dw_meaning.proofs.TableKeptLaws.{drop-at, sections-self}
 
 -- ### A layout looks at no body of a section that has no bytes
 
@@ -116,9 +106,9 @@ written-same b f g same =
 -- ### The bodies of the output, none for a section without bytes
 
 unfoldable pub full_body : PathMap → List ℕ → DataReadings → ℕ → List ℕ
-full_body m b r i = if is_empty_kind (nth_section b i) then [] else new_body m b r i
+full_body m b r i = if is_empty_kind (nth_section b i) then [] else file_body m b r i
 
-full-is : (m : PathMap) (b : List ℕ) (r : DataReadings) (i : ℕ) → is_empty_kind (nth_section b i) ≡ false → full_body m b r i ≡ new_body m b r i
+full-is : (m : PathMap) (b : List ℕ) (r : DataReadings) (i : ℕ) → is_empty_kind (nth_section b i) ≡ false → full_body m b r i ≡ file_body m b r i
 unfolding full_body
 full-is m b r i full = rw full refl
 
@@ -130,10 +120,10 @@ no-contents : (b : List ℕ) (i : ℕ) → is_empty_kind (nth_section b i) ≡ t
 unfolding contents_of
 no-contents b i empty = contents-empty b (nth_section b i) empty
 
-full-written : (m : PathMap) (b : List ℕ) (r : DataReadings) → with_bodies b (new_body m b r) ≡ with_bodies b (full_body m b r)
-full-written m b r = written-same b (new_body m b r) (full_body m b r) (λ i lt full. sym (full-is m b r i full))
+full-written : (m : PathMap) (b : List ℕ) (r : DataReadings) → with_bodies b (file_body m b r) ≡ with_bodies b (full_body m b r)
+full-written m b r = written-same b (file_body m b r) (full_body m b r) (λ i lt full. sym (full-is m b r i full))
 
-full-fits : (m : PathMap) (b : List ℕ) (r : DataReadings) → LayoutFits b (new_body m b r) → LayoutFits b (full_body m b r)
+full-fits : (m : PathMap) (b : List ℕ) (r : DataReadings) → LayoutFits b (file_body m b r) → LayoutFits b (full_body m b r)
 full-fits m b r ok = record {
   stays = λ i lt fixed. by_kind i lt fixed (cases_Bool (is_empty_kind (nth_section b i)));
   across = ok.across;
@@ -146,70 +136,20 @@ full-fits m b r ok = record {
     by_kind i lt fixed (inl empty) = empty-is m b r i empty ∙ sym (no-contents b i empty)
     by_kind i lt fixed (inr full) = full-is m b r i full ∙ ok.stays i lt fixed
 
--- ### A section that isn't read keeps its own
+-- ### A section that isn't read and holds no relocations of one that is keeps its own
 
-unread-units : (o : Option DebugSection) → is_read o ≡ false → unit_kind o ≡ None
-unread-units None e = refl
-unread-units (Some Info) e = absurd cc
-unread-units (Some Types) e = absurd cc
-unread-units (Some Abbrev) e = refl
-unread-units (Some Str) e = refl
-unread-units (Some LineStr) e = refl
-unread-units (Some StrOffsets) e = refl
-unread-units (Some Line) e = refl
-unread-units (Some Macro) e = refl
-unread-units (Some Names) e = refl
-
-unread-macros : (o : Option DebugSection) → is_read o ≡ false → is_macro o ≡ false
-unread-macros None e = refl
-unread-macros (Some Info) e = refl
-unread-macros (Some Types) e = refl
-unread-macros (Some Abbrev) e = refl
-unread-macros (Some Str) e = refl
-unread-macros (Some LineStr) e = refl
-unread-macros (Some StrOffsets) e = refl
-unread-macros (Some Line) e = refl
-unread-macros (Some Macro) e = absurd cc
-unread-macros (Some Names) e = refl
-
-unread-other : (b : List ℕ) (i : ℕ) (s : DebugSection) → is_read (Some s) ≡ true → is_read_name (section_name b i) ≡ false → section_name b i ≢ name_of s
-unread-other b i s read unread same =
-    let is : is_read_name (section_name b i) ≡ true = ap (λ (n : List ℕ). is_read (debug_section n)) same ∙ ap is_read (debug_section-name s) ∙ read in
-    cc
-
-units-none : (m : PathMap) (b : List ℕ) (r : DataReadings) (i : ℕ) → CanMap m b r → unit_kind (debug_section (section_name b i)) ≡ None
-    → body_in (units_new m b r) (contents_of b) i ≡ contents_of b i
-unfolding debug_data unit_sections
-units-none m b r i w none =
-    units-skip b (contents_of b) (file_data b).base (changes_file m b r) (around_file b r) i none 0 1 (drop 1 (view_of b).sections) (drop 1 (view_of b).sections) r.units
-    (drop-at (SectionBack b (contents_of b)) (view_of b).sections (view_of b).sections (sections-self b)) w.reads.data_reads.units
-
--- a section with bytes isn't section 0
-full-some : (b : List ℕ) (i : ℕ) → ElfReads b → i < section_count b → is_empty_kind (nth_section b i) ≡ false → 0 < i
-full-some b zero reads lt full =
-    let null = reads.debug.index.null (e_shoff-some b 0 lt) in
-    let empty : is_empty_kind (nth_section b 0) ≡ true = rw null refl in
-    absurd cc
-full-some b (suc i) reads lt full = omega arith
-
-unread-kept : (m : PathMap) (b : List ℕ) (r : DataReadings) (i : ℕ) → CanMap m b r → i < section_count b → is_read_name (section_name b i) ≡ false
-    → full_body m b r i ≡ contents_of b i
-unread-kept m b r i w lt unread = by_kind (cases_Bool (is_empty_kind (nth_section b i)))
+full-kept : (m : PathMap) (b : List ℕ) (r : DataReadings) (i : ℕ) → CanMap m b r → i < section_count b → is_read_name (section_name b i) ≡ false
+    → relocates_read b i ≡ false → full_body m b r i ≡ contents_of b i
+full-kept m b r i w lt unread none = by_kind (cases_Bool (is_empty_kind (nth_section b i)))
   where
     by_kind : (is_empty_kind (nth_section b i) ≡ true) ⊎ (is_empty_kind (nth_section b i) ≡ false) → full_body m b r i ≡ contents_of b i
     by_kind (inl empty) = empty-is m b r i empty ∙ sym (no-contents b i empty)
-    by_kind (inr full) =
-        full-is m b r i full
-        ∙ body-units m b r i w
-        (named-apart b i (full-some b i w.reads.elf lt full) (unread-other b i Str refl unread) (unread-other b i LineStr refl unread)
-        (unread-other b i StrOffsets refl unread) (unread-other b i Line refl unread) (unread-other b i Names refl unread))
-        (unread-macros (debug_section (section_name b i)) unread)
-        ∙ units-none m b r i w (unread-units (debug_section (section_name b i)) unread)
+    by_kind (inr full) = full-is m b r i full ∙ unread-kept m b r i w lt unread none
 
 -- ### So the output reads back
 
 can-map : (m : PathMap) (b out : List ℕ) (w : IsMapped m b out) → CanMap m b w.accepted.readings
-can-map m b out w = record { map = w.map; reads = w.accepted.reads; fits = w.accepted.fits }
+can-map m b out w = record { map = w.map; bytes = w.bytes; reads = w.accepted.reads; fits = w.accepted.fits }
 
 -- the bodies of the output
 abbrev pub bodies_of : (m : PathMap) (b out : List ℕ) → IsMapped m b out → ℕ → List ℕ
@@ -219,7 +159,7 @@ pub output-is : (m : PathMap) (b out : List ℕ) (w : IsMapped m b out) → out 
 unfolding output_of
 output-is m b out w =
     w.output.is
-    ∙ ap (λ (r : DataReadings). with_bodies b (new_body m b r)) (data-one (file_data b) w.output.readings w.accepted.readings w.output.reads w.accepted.reads.data_reads)
+    ∙ ap (λ (r : DataReadings). with_bodies b (file_body m b r)) (data-one (file_data b) w.output.readings w.accepted.readings w.output.reads w.accepted.reads.data_reads)
     ∙ full-written m b w.accepted.readings
 
 pub output-fits : (m : PathMap) (b out : List ℕ) (w : IsMapped m b out) → LayoutFits b (bodies_of m b out w)
@@ -240,10 +180,9 @@ output-reads m b out w =
 pub output-back : (m : PathMap) (b out : List ℕ) (w : IsMapped m b out) → Back b (bodies_of m b out w) out
 output-back m b out w = record {
   elf = w.accepted.reads.elf;
-  kind = w.accepted.reads.kind;
   names = w.accepted.reads.names;
   back = output-reads m b out w;
-  unread = λ i lt unread. unread-kept m b w.accepted.readings i (can-map m b out w) lt unread;
+  unread = λ i lt unread none. full-kept m b w.accepted.readings i (can-map m b out w) lt unread none;
 }
 
 pub ruleset output_rules = (output-small)

@@ -1,5 +1,5 @@
 -- Laws on the steps of an edit.
-use Rattle.std.proofs.Common.{◌≡◌, ◌⊎◌, inl, inr, ℕ, true, List, Some, refl, sym, ap, ◌∙◌, subst}
+use Rattle.std.proofs.Common.{◌≡◌, ◌⊎◌, inl, inr, ℕ, true, List, Some, refl, sym, ap, ◌∙◌, subst, arith}
 use Rattle.std.specs.Prelude.{Option, is_some, option_map}
 use Rattle.job_types.specs.Settings.{Settings}
 use Rattle.dbg_job.specs.EditedFiles.{EditedFails, IsEditable, IsEdited}
@@ -13,12 +13,13 @@ use Rattle.file_tree.specs.Seen.{Seen, now_of}
 use Rattle.file_tree.specs.Trees.{TreeMap, stands_at, with_node}
 use Rattle.dbg_ends.specs.declared.end.End.{End}
 use Rattle.dbg_ends.specs.declared.end.End.TheVariants as end
-use Rattle.dbg_ends.specs.Due.{InputDue, IsCut, IsFree, OutputDue}
+use Rattle.dbg_ends.specs.Due.{InputDue, IsCut, IsFree, OutputDue, Where}
+use Rattle.dbg_ends.specs.Due.{Where as where_}
 use Rattle.dbg_ends.specs.Due.IsCut.{tree_fault, no_memory}
 use Rattle.dbg_ends.specs.Ends.{status_of}
 use Rattle.dbg_ends.specs.Steps.{InputEnds, IsSettled, OutputFree, OutputTaken, OutputEnds, OutputsEnd, OnlyAtBoth}
 use Rattle.dbg_ends.specs.Steps.{InputEnds as inputs, OutputTaken as outputs, OutputEnds as written, OutputsEnd as both_written}
-use Rattle.dbg_run.specs.Edits.{EditDone, EditEnds, EditUnopposed, IsListText, Keeps, ListedDone, ListedEnds, ListedUnopposed, RewriteEnds, list_mode}
+use Rattle.dbg_run.specs.Edits.{EditDone, EditDue, EditEnds, EditUnopposed, IsListText, Keeps, ListedDone, ListedEnds, ListedUnopposed, RewriteEnds, list_mode}
 use Rattle.dbg_run.specs.Edits.{EditEnds as edits, ListedEnds as listed, RewriteEnds as rewrites}
 
 -- what is due where no file is there is due whatever files are due
@@ -56,6 +57,25 @@ rewrite_wants path s b e is = subst (RewriteEnds path s b) (sym is) rewrites.mem
 -- what was free in a tree that is as it was is free in it
 pub free_before : (old mid : Seen) (path : List ℕ) → Calm old mid → OutputFree (now_of mid) path → OutputFree (now_of old) path
 free_before old mid path calm free = record { is = λ t tells. free.is t (calm.now ∙ tells) }
+
+-- a tree in which two steps change nothing
+pub calm_then : (old mid new : Seen) → Calm old mid → Calm mid new → Calm old new
+calm_then old mid new one two = record { now = two.now ∙ one.now; later = omega (arith, one.later, two.later) }
+
+-- an edit that ends at the writing of its output
+pub edit_writing : (input output : List ℕ) (s : Settings) (limit : ℕ) (old mid far new : Seen) (b : List ℕ) (mode : ℕ) (e : End)
+    → Stood (now_of old) input limit (found.File b mode) → Calm old mid → OutputFree (now_of mid) output → Calm mid far → IsEditable s b
+    → OutputEnds output far new e → EditEnds input output s limit old new e
+edit_writing input output s limit old mid far new b mode e read calm free still accepted row =
+    edits.writing read (free_before old mid output calm free) accepted (calm_then old mid far calm still) row
+
+-- of a file that is taken, where a file may be put at the output, status 0 is due
+pub edit_due : (input output : List ℕ) (s : Settings) (limit : ℕ) (old mid : Seen) (b : List ℕ) (mode : ℕ) (t : TreeMap)
+    → Stood (now_of old) input limit (found.File b mode) → Calm old mid → OutputFree (now_of mid) output → IsEditable s b → now_of old ≡ Some t
+    → EditDue s (stands_at t input limit) (stands_at t output 0) 0
+edit_due input output s limit old mid b mode t read calm free accepted tells =
+    subst (λ (x : Found). EditDue s x (stands_at t output 0) 0) (sym (read.is t tells))
+    (free_due (stands_at t output 0) 0 (Where (IsEditable s b) (0 ≡ 0) (0 ≡ 3)) ((free_before old mid output calm free).is t tells) (where_.here accepted refl))
 
 -- an edit is done where each of its steps is
 pub edit_done : (input output : List ℕ) (s : Settings) (limit : ℕ) (old mid far new : Seen) (b out : List ℕ) (mode : ℕ)
@@ -100,6 +120,21 @@ listed_done input output list s limit old mid far last new b out text mode read 
       ∙ ap (λ (x : Option TreeMap). option_map (with_node list (node.File text list_mode)) (option_map (with_node output (node.File out mode)) x)) (rest.now ∙ still.now ∙ calm.now);
   settled = λ known. settled (told ∙ tell ∙ tells ∙ known);
 }
+
+-- one that ends for want of memory for the list, or at the writing
+pub listed_wants : (input output list : List ℕ) (s : Settings) (limit : ℕ) (old mid far last : Seen) (b : List ℕ) (mode : ℕ) (e : End)
+    → Stood (now_of old) input limit (found.File b mode) → Calm old mid → OutputFree (now_of mid) output → Calm mid far → OutputFree (now_of far) list
+    → Calm far last → e ≡ end.NoMemory → ListedEnds input output list s limit old last e
+listed_wants input output list s limit old mid far last b mode e read calm free still also rest is =
+    listed.rewriting read (free_before old mid output calm free) (free_before old mid list calm (free_before mid far list still also))
+    (rewrite_wants input s b e is) (calm_then old mid last calm (calm_then mid far last still rest))
+
+pub listed_writing : (input output list : List ℕ) (s : Settings) (limit : ℕ) (old mid far last new : Seen) (b : List ℕ) (mode : ℕ) (e : End)
+    → Stood (now_of old) input limit (found.File b mode) → Calm old mid → OutputFree (now_of mid) output → Calm mid far → OutputFree (now_of far) list
+    → Calm far last → IsEditable s b → OutputsEnd output list last new e → ListedEnds input output list s limit old new e
+listed_writing input output list s limit old mid far last new b mode e read calm free still also rest accepted row =
+    listed.writing read (free_before old mid output calm free) (free_before old mid list calm (free_before mid far list still also)) accepted
+    (calm_then old mid last calm (calm_then mid far last still rest)) row
 
 -- where nothing is against an edit, it ends with no refusal
 pub input_completes : (input : List ℕ) (limit : ℕ) (old new : Seen) (e : End) (t : TreeMap) (b : List ℕ) (mode : ℕ) → now_of old ≡ Some t

@@ -39,7 +39,7 @@ use Rattle.dbg_ends.specs.Ends.{status_of}
 use Rattle.dbg_ends.specs.Steps.{BlamesAt, FaultEnds, InputEnds}
 use Rattle.dbg_ends.specs.Steps.{BlamesAt as blames, FaultEnds as fault_ends, InputEnds as inputs}
 use Rattle.dbg_ends.proofs.StepLaws.{blames_at}
-use Rattle.dbg_run.proofs.EditLaws.{input_completes, same_bytes}
+use Rattle.dbg_run.proofs.EditLaws.{calm_then, input_completes, same_bytes}
 use Rattle.dbg_run.specs.Shows.{AreRead, ErrEnds, HasBegun, IsSeen, IsShowable, ReadingEnds, ShowDone, ShowDue, ShowEnds, ShowFails, ShowUnopposed, Subject, SubjectDue, TextBegins, TextEnds, TextShown, Unseen, ViewEnds, base_name, of_file, of_pair, subject_view, viewed_path}
 use Rattle.dbg_run.specs.Shows.{AreRead as reads, ErrEnds as errs, HasBegun as begun, ReadingEnds as readings, ShowEnds as shows, ShowFails as fails, TextEnds as ends, Unseen as unseen}
 
@@ -151,9 +151,6 @@ pair_shown stripped s debug d c k v heard said at_s at_d is seen shown =
 pub ruleset pair_laws = (stripped_elf, debug_elf, pair_unseen, pair_written, pair_shown)
 
 -- ### The steps
-
-calm_then : (old mid new : Seen) → Calm old mid → Calm mid new → Calm old new
-calm_then old mid new one other = record { now = other.now ∙ one.now; later = omega (arith, one.later, other.later) }
 
 -- what stood in the tree in the middle stood in the first
 stood_before : (old mid : Seen) (path : List ℕ) (what : Found) → Calm old mid → Stood (now_of mid) path most_file what → Stood (now_of old) path most_file what

@@ -17,7 +17,6 @@ use Rattle.dw_base.specs.declared.values.Spec.{Spec}
 use Rattle.dw_entries.specs.ScanStates.{ScanState, GivesRefusal, scan_start}
 use Rattle.dw_entries.specs.ViewUnits.{IsUnitSection, unit_section_at}
 use Rattle.dw_entries.proofs.HasUnitLaws.{unit-of-view, is-unit_section, unit-section}
-use Rattle.dw_entries.proofs.UnitSectionLaws.{above-none}
 use Rattle.dw_find.proofs.ScanTextLaws.{unit-bytes}
 use Rattle.file_tree.specs.Heard.{Heard}
 use Rattle.dbg_show.specs.Printing.{Printed, Cut}
@@ -104,10 +103,7 @@ unit-there v h u =
 pub each-there : (v : View) (tables : List (List Abbreviation)) (u : ListedUnit) → EachReads v tables u → IsUnitSection v u.header.section
 each-there v tables u e = unit-there v u.header e.unit
 
-pub each-above : (v : View) (tables : List (List Abbreviation)) (u : ListedUnit) → EachReads v tables u → 1 ≤ u.header.section
-each-above v tables u e = above-none v u.header.section (unit-there v u.header e.unit)
-
-pub ruleset unit_laws = (each-there, each-above, printed-then, cut-then, cut-more)
+pub ruleset unit_laws = (each-there, printed-then, cut-then, cut-more)
 
 -- its table
 pub table-read : (v : View) (tables : List (List Abbreviation)) (u : ListedUnit) (t : List Abbreviation) → EachReads v tables u → Some t ≡ item_at tables u.table → CanRead v u.header t

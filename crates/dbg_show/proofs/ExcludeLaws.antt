@@ -1,11 +1,8 @@
 -- Debug data that can be shown exclude the refusals of what is read of them.
 use Rattle.dw_base.specs.FileViews.{View}
-use Rattle.dw_base.specs.RelocationRows.{moving_sections}
 use Rattle.dw_base.specs.declared.fault.Refusal.{Refusal}
 use Rattle.dw_find.proofs.ReadDataLaws.{data_read-excludes}
-use Rattle.dw_meaning.proofs.OffsetRowLaws.{offsets-exclude}
 use Rattle.dbg_show.specs.Shows.{ShowReads, ShowRefuses, unreadable}
 
 pub show-excludes : (v : View) (r : Refusal) → ShowReads v → ShowRefuses v r → ⊥
-show-excludes v r reads (unreadable f) = data_read-excludes v reads.readings r reads.reads reads.relocations
-    (offsets-exclude v reads.readings (moving_sections v) r reads.reads reads.relocations.left) f
+show-excludes v r reads (unreadable f) = data_read-excludes v reads.readings r reads.reads reads.relocations f

@@ -7,6 +7,7 @@ use Rattle.dw_base.specs.FileViews.{View, ViewSection}
 use Rattle.dw_base.specs.UnitHeaders.{SectionKind, UnitSection, UnitsUpTo, no_units, more_units}
 use Rattle.dw_base.specs.ViewData.{debug_data, unit_kind, unit_section, unit_sections, unit_sections_from}
 use Rattle.dw_base.specs.declared.units.UnitHeader.{UnitHeader}
+use Rattle.dw_find.specs.UnitPlaces.{place_key}
 use Rattle.dw_find.proofs.HeaderLaws.{header-of}
 use Rattle.dw_meaning.proofs.ScanSectionLaws.{header-placed}
 use Rattle.dbg_show.specs.EntryIndexes.{AreApart, StandApart, end_key, start_key}
@@ -14,7 +15,6 @@ use Rattle.dbg_show.specs.UnitLists.{AreListed, ListsAll, none_listed, more_list
 use Rattle.dbg_show.specs.declared.listed_unit.ListedUnit.{ListedUnit}
 use Rattle.dbg_show.proofs.AllRunLaws.{LastListed, last-listed}
 use Rattle.dbg_show.proofs.UnitStartLaws.{unit-some}
-use Rattle.dbg_show.specs.PlaceKeys.{place_key}
 
 -- units behind units
 apart-lower : (p q : ℕ) (us : List ListedUnit) (r : ℕ) → p ≤ q → AreApart q us r → AreApart p us r

@@ -11,9 +11,9 @@ use Rattle.dw_base.specs.declared.macro_units.MacroUnit.{MacroUnit}
 use Rattle.dw_meaning.proofs.LineReadLaws.{if-some}
 use Rattle.dw_find.specs.MacroNames.{AllUnitsIn, AreUnitsIn}
 use Rattle.dw_find.specs.MacroSections.{SectionUnits}
+use Rattle.dw_find.specs.UnitPlaces.{AllBelow, all_units, place_key, place_limit, unit_keys}
 use Rattle.dw_macros.specs.MacroEvents.{IsUnitIn}
-use Rattle.dbg_show.specs.ShownMacros.{AllBelow, AreMacros, all_units, unit_keys}
-use Rattle.dbg_show.specs.PlaceKeys.{place_key, place_limit}
+use Rattle.dbg_show.specs.ShownMacros.{AreMacros}
 
 -- the units of one section more
 section-front : (ss : List SectionUnits) (s : SectionUnits) (i : ℕ) → i < length ss → drop i ss ≡ get_or ss i s ∷ drop (i + 1) ss

@@ -21,16 +21,17 @@ use Rattle.dw_find.specs.MacroNames.{AreUnitsIn}
 use Rattle.dw_find.specs.MacroSections.{HaveUnits, SectionUnits, UnitsFoundIn}
 use Rattle.dw_find.specs.ReadData.{DataRead}
 use Rattle.dw_find.specs.ViewLines.{starts_of}
+use Rattle.dw_find.specs.UnitPlaces.{AllBelow, all_units, unit_keys, unit_number}
 use Rattle.dw_find.proofs.MacroHaveLaws.{AllBelow as AllUnder, AllCells, numbers-below}
 use Rattle.dw_find.proofs.MacroNameLaws.{units-in}
 use Rattle.dw_find.proofs.MacroStartLaws.{all-cells}
 use Rattle.dw_find.proofs.StartLaws.{starts-rise}
 use Rattle.dw_find.proofs.TableStartLaws.{read-starts}
+use Rattle.dw_find.proofs.UnitKeyLaws.{keys-rise}
 use Rattle.dbg_show.specs.MacroTexts.{events_text, macros_line, macros_text}
-use Rattle.dbg_show.specs.ShownMacros.{AllBelow, AreMacros, MacroSource, MacrosFit, all_units, event_shown, events_shown, line_number, unit_keys, units_shown}
+use Rattle.dbg_show.specs.ShownMacros.{AreMacros, MacroSource, MacrosFit, event_shown, events_shown, line_number, units_shown}
 use Rattle.dbg_show.proofs.MacroListLaws.{all-in}
-use Rattle.dbg_show.proofs.MacroStartLaws.{keys-rise, unit-numbered}
-use Rattle.dbg_show.specs.PlaceKeys.{unit_number}
+use Rattle.dbg_show.proofs.MacroStartLaws.{unit-numbered}
 
 -- the units of all sections mean what their pieces mean
 units-all : (v : View) (g : Around) (zs : List CellSection) (rs : List MacroReading) (ss : List SectionUnits) → Seen v g → g.lasting.base.order ≡ v.order → AllCells v zs

@@ -11,6 +11,7 @@ use Rattle.dw_base.specs.Texts.{text, has_nul, text_in, ends_in}
 use Rattle.dw_base.specs.declared.string_offsets.Contribution.{Contribution}
 use Rattle.dw_base.specs.declared.view_fields.Field.TheVariants.{Num}
 use Rattle.dw_find.specs.LineStarts.{Rises}
+use Rattle.dw_find.specs.UnitPlaces.{place_key}
 use Rattle.dw_offsets.specs.SlotSearch.{BasesRise, HasBase, IsBaseGap, base_at}
 use Rattle.dbg_show.specs.EntryIndexes.{AreBefore, EachRises, entries_at, unit_number, unit_offsets, unit_starts}
 use Rattle.dbg_show.specs.ShownUnits.{UnitSource, lies_in, named_in, number_in, or_behind, slot_in, slot_size}
@@ -18,7 +19,6 @@ use Rattle.dbg_show.specs.UnitReads.{EachReads, AllCanRead, SourceFits}
 use Rattle.dbg_show.specs.declared.listed_unit.ListedUnit.{ListedUnit}
 use Rattle.dbg_show.proofs.IndexEntryLaws.{each-rises, tabled-number}
 use Rattle.dbg_show.proofs.IndexUnitLaws.{here_at, named-first, named-last, starts-length, unit-starts-rise}
-use Rattle.dbg_show.specs.PlaceKeys.{place_key}
 
 -- bytes without a NUL are a text
 whole-text : (bs : List ℕ) → has_nul bs ≡ false → text bs ≡ bs

@@ -23,7 +23,7 @@ use Rattle.dw_base.specs.declared.units.UnitHeader.{UnitHeader}
 use Rattle.dw_base.proofs.ViewCellLaws.{lines-located}
 use Rattle.dw_entries.specs.ViewUnits.{numbered, unit_section_at}
 use Rattle.dw_entries.proofs.HasUnitLaws.{numbered-section}
-use Rattle.dbg_show.specs.PlaceKeys.{unit_number}
+use Rattle.dw_find.specs.UnitPlaces.{unit_number}
 use Rattle.dbg_show.specs.PieceRuns.{all_of, entries_out}
 use Rattle.dbg_show.specs.PieceTexts.{all_said, mark_said}
 use Rattle.dbg_show.specs.ShownUnits.{UnitSource, all_shown, entries_text, first_base, first_macro, header_line, index_shown, info_section, one_shown, shown_unit, tabled_text, unit_bytes, unit_entries}

@@ -28,9 +28,9 @@ use Rattle.dw_base.proofs.LebLaws.{uleb_at-append}
 use Rattle.dw_base.proofs.NumberBytes.{signed-cut, number-cut}
 use Rattle.dw_base.proofs.ViewCellLaws.{bytes_of-view_cells, field_at-cells}
 use Rattle.dw_meaning.proofs.ScanPieceLaws.{part-bytes, before-end, part-length, unit_bytes, NumberPiece, number-piece, bytes_of-drop}
+use Rattle.dw_find.specs.UnitPlaces.{unit_number}
 use Rattle.dw_find.proofs.InlineTextLaws.{text-front}
 use Rattle.dw_find.proofs.ValueRunLaws.{number-at_place}
-use Rattle.dbg_show.specs.PlaceKeys.{unit_number}
 use Rattle.dbg_show.specs.ShownUnits.{ShownUnit, class_shown, entry_shown, has_field, index_shown, info_section, is_leb_form, macro_named, first_macro, macro_shown, reference_shown, signed_of, table_said, table_shown, unit_said, value_address, value_bytes, value_field, value_offset}
 use Rattle.dbg_show.specs.UnitTexts.{bytes_said, class_said, field_said, signed_said, stray_said, text_said, value_said}
 use Rattle.dbg_show.proofs.FieldPlaceLaws.{field-there}

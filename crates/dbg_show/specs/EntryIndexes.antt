@@ -7,7 +7,7 @@ use Rattle.dw_base.specs.LineMeanings.{item_at}
 use Rattle.dw_base.specs.declared.units.Scanned.{Scanned}
 use Rattle.dw_base.specs.declared.units.UnitHeader.{UnitHeader}
 use Rattle.dw_find.specs.LineStarts.{Rises}
-use Rattle.dbg_show.specs.PlaceKeys.{place_key}
+use Rattle.dw_find.specs.UnitPlaces.{place_key}
 use Rattle.dbg_show.specs.ShownUnits.{EntryIndex, number_in, unit_bytes, unit_entries}
 use Rattle.dbg_show.specs.declared.listed_unit.ListedUnit.{ListedUnit}
 

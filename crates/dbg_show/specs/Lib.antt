@@ -5,7 +5,6 @@ pub mod TableLists
 pub mod UnitTexts
 pub mod PieceTexts
 pub mod PieceRuns
-pub mod PlaceKeys
 pub mod ShownUnits
 pub mod EntryIndexes
 pub mod UnitReads

@@ -9,24 +9,14 @@ use Rattle.dw_base.specs.declared.macro_units.MacroUnit.{MacroUnit}
 use Rattle.dw_find.specs.LineStarts.{Rises}
 use Rattle.dw_find.specs.MacroNames.{AreUnitsIn}
 use Rattle.dw_find.specs.MacroSections.{SectionUnits}
+use Rattle.dw_find.specs.UnitPlaces.{AllBelow, all_units, unit_keys, unit_number}
 use Rattle.dw_macros.specs.EventMeanings.{text_bytes}
 use Rattle.dw_macros.specs.MacroEvents.{unit_events}
 use Rattle.dbg_show.specs.MacroTexts.{define_front, undef_front, quoted_line, start_line, end_line, import_line, macros_line}
-use Rattle.dbg_show.specs.PlaceKeys.{place_key, place_limit, unit_number}
-
--- where units start, each as one number: of the units of a view these rise
-abbrev pub unit_keys : List MacroUnit → List ℕ
-unit_keys [] = []
-unit_keys (u ∷ us) = place_key u.section u.start ∷ unit_keys us
 
 -- the number of the line table of a unit
 abbrev pub line_number : List ℕ → Option ℕ → Option ℕ
 line_number starts line = option_and_then (start_number 0 starts) line
-
--- the units of all sections
-abbrev pub all_units : List SectionUnits → List MacroUnit
-all_units [] = []
-all_units (s ∷ ss) = s.units ++ all_units ss
 
 -- what macro units are printed from: the view, where its line tables start, its macro units, and where these start
 pub record MacroSource : Type 0 where
@@ -63,11 +53,6 @@ EventThere v e = ⊤
 abbrev pub EventsThere : View → List MacroEvent → Type 0
 EventsThere v [] = ⊤
 EventsThere v (e ∷ es) = EventThere v e × EventsThere v es
-
--- each unit starts below the limit
-abbrev pub AllBelow : List MacroUnit → Type 0
-AllBelow [] = ⊤
-AllBelow (u ∷ us) = (u.start < place_limit) × AllBelow us
 
 -- the units of a view, and where they start
 pub record AreMacros (v : View) (ss : List SectionUnits) (units : List MacroUnit) (keys : List ℕ) : Type 0 where

@@ -6,10 +6,10 @@ ghost use Rattle.std.specs.Prelude.{◌≡◌, ◌+◌, ◌<◌, ◌^◌, List, 
 ghost use Rattle.dw_base.specs.DebugData.{start_number};
 ghost use Rattle.dw_base.specs.LineMeanings.{item_at};
 ghost use Rattle.dw_find.specs.LineStarts.{HasStart, IsStartGap, Rises};
+ghost use Rattle.dw_find.specs.UnitPlaces.{place_key};
 ghost use Rattle.dbg_show.specs.EntryIndexes.{AreBefore, EachRises, IsIndexed, entries_at, offsets_of, start_key, tabled_offsets};
 ghost use Rattle.dbg_show.specs.ShownUnits.{EntryIndex as EntryIndexOf, unit_bytes, unit_entries};
 ghost use Rattle.dbg_show.specs.UnitReads.{AllCanRead, CanRead, EachReads};
-ghost use Rattle.dbg_show.specs.PlaceKeys.{place_key};
 
 use crate::listed_unit::ListedUnit;
 use dw_abbrev::AbbrevTable;

@@ -6,10 +6,10 @@ ghost use Rattle.std.specs.Prelude.{◌≡◌, ◌+◌, ◌*◌, ◌<◌, ◌++�
 ghost use Rattle.dw_base.specs.DebugData.{start_number};
 ghost use Rattle.dw_find.specs.LineStarts.{Rises};
 ghost use Rattle.dw_find.specs.MacroNames.{AllUnitsIn, AreUnitsIn};
+ghost use Rattle.dw_find.specs.UnitPlaces.{AllBelow, all_units, place_key, place_limit, unit_keys, unit_number};
 ghost use Rattle.dw_macros.specs.EventMeanings.{text_bytes};
 ghost use Rattle.dw_macros.specs.MacroEvents.{IsUnitIn};
-ghost use Rattle.dbg_show.specs.ShownMacros.{AllBelow, AreMacros, MacroSource as MacroSourceOf, all_units, line_number, unit_keys};
-ghost use Rattle.dbg_show.specs.PlaceKeys.{place_key, place_limit, unit_number};
+ghost use Rattle.dbg_show.specs.ShownMacros.{AreMacros, MacroSource as MacroSourceOf, line_number};
 
 use crate::entry_index::place_key;
 use crate::source::part;

@@ -607,18 +607,15 @@ fn unit_base(view: &View, unit: &UnitHeader, table: &AbbrevTable, bytes: &[u8]) 
 }
 
 /// The name of the section of a unit.
+#[tactic(auto, using(crate::proofs::SectionNameLaws::name_laws))]
 fn section_name(view: &View, section: u32) -> &'static str
     requires there { IsUnitSection view.now section }
-    requires above { 1 ≤ section }
     ensures name { result.now ≡ kind_name (unit_section_at view.now section).kind }
 {
-    let Some(types) = view.section(DebugSection::Types.name(), section - 1) else {
-        return ".debug_info";
-    };
-    if types == section {
-        return ".debug_types";
+    match view.kind(section) {
+        Some(DebugSection::Types) => ".debug_types",
+        _ => ".debug_info",
     }
-    ".debug_info"
 }
 
 /// Prints the first line of a unit.
@@ -631,7 +628,6 @@ fn print_head<O: Sink>(
     unit: &UnitHeader,
 ) -> Result<(), ShowErr>
     requires there { IsUnitSection view.now unit.now.section }
-    requires above { 1 ≤ unit.now.section }
     ensures done { OnOk result (Printed (header_line view.now number unit.now) (string_bytes text.old) (O.heard out.old) (O.heard out.new) (string_bytes text.new)) }
     ensures cut { IfErr result (Cut (string_bytes text.old ++ (header_line view.now number unit.now)) (O.heard out.old) (O.heard out.new)) }
 {

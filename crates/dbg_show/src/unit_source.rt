@@ -12,6 +12,7 @@ ghost use Rattle.dw_base.specs.Forms.{width_size};
 ghost use Rattle.dw_base.specs.DebugData.{info_numbers, start_number};
 ghost use Rattle.dw_base.specs.FileViews.{section_bytes, section_named};
 ghost use Rattle.dw_find.specs.LineStarts.{Rises};
+ghost use Rattle.dw_find.specs.UnitPlaces.{place_key};
 ghost use Rattle.dw_base.specs.TextIndexes.{holds_number};
 ghost use Rattle.dw_entries.specs.ViewUnits.{unit_section_at};
 ghost use Rattle.dw_offsets.specs.SlotSearch.{BasesRise, HasBase, IsBaseGap};
@@ -20,7 +21,6 @@ ghost use Rattle.dbg_show.specs.ShownUnits.{UnitSource as UnitSourceOf, index_te
 ghost use Rattle.dbg_show.specs.UnitReads.{SourceFits};
 ghost use Rattle.dw_base.specs.LineMeanings.{item_at};
 ghost use Rattle.dw_base.specs.StringOffsets.{slot_place};
-ghost use Rattle.dbg_show.specs.PlaceKeys.{place_key};
 
 use crate::entry_index::{EntryIndex, place_key, table_at};
 use crate::fields::{has_room, located, offset_into};

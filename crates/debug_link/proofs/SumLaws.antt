@@ -1,11 +1,11 @@
--- Laws of the division by a table: eight bytes at once, and one.
-use Rattle.std.proofs.Common.{◌≡◌, ℕ, suc, ◌+◌, ◌*◌, ◌/◌, ◌%◌, ◌^◌, ◌<◌, ◌≤◌, List, [], ◌∷◌, ◌++◌, length, take, drop, get_or, slice_index, refl, sym, ap, ◌∙◌, arith, bit_xor}
-use Rattle.std.proofs.lemmas.List.{take-append-drop}
+-- Laws of the division by a table: sixteen bytes at once, and one.
+use Rattle.std.proofs.Common.{◌≡◌, ℕ, zero, suc, ◌+◌, ◌*◌, ◌/◌, ◌%◌, ◌^◌, ◌<◌, ◌≤◌, List, [], ◌∷◌, ◌++◌, length, take, drop, get_or, slice_index, refl, sym, ap, ◌∙◌, arith, bit_xor}
+use Rattle.std.proofs.lemmas.List.{length-drop, length-take-le, take-append-drop}
 use Rattle.std.proofs.lemmas.Nat.{mod_below, shr-shr}
 use Rattle.std.specs.Int.{w64, from_le_bytes}
 use Rattle.std.specs.Int.Bits.{xor_assoc, xor_zero_r}
 use Rattle.debug_link.specs.Sums.{with_bits, with_bytes}
-use Rattle.debug_link.specs.Tables.{times, entry, IsTable}
+use Rattle.debug_link.specs.Tables.{little, times, entry, IsTable}
 use Rattle.debug_link.proofs.XorLaws.{digits-xor, times_x-xor, times-xor, times-add, times-more, times-shift, times-split, with_bits-times}
 
 pub ruleset times_rules = (times-more)
@@ -47,7 +47,7 @@ regroup : (a b c d e f g h : ℕ) → bit_xor a (bit_xor b (bit_xor c (bit_xor d
     ≡ bit_xor (bit_xor (bit_xor (bit_xor a b) c) d) (bit_xor (bit_xor (bit_xor e f) g) h)
 regroup a b c d e f g h = simp (xor_assoc) refl
 
-entry-at : (table : List ℕ) (k r next : ℕ) → IsTable 2048 table → k < 8 → r / 256 ≡ next
+entry-at : (table : List ℕ) (k r next : ℕ) → IsTable 4096 table → k < 16 → r / 256 ≡ next
     → times (8 * (k + 1)) r ≡ bit_xor (slice_index table (256 * k + r % 256)) (times (8 * k) next)
 entry-at table k r next t below e =
     let small : r % 256 < 256 = mod_below r 256 (omega arith) in
@@ -55,21 +55,34 @@ entry-at table k r next t below e =
     entry-step k r ∙ ap (λ (x : ℕ). bit_xor x (times (8 * k) (r / 256))) (sym same)
     ∙ ap (λ (x : ℕ). bit_xor (slice_index table (256 * k + r % 256)) (times (8 * k) x)) e
 
-entry-last : (table : List ℕ) (r : ℕ) → IsTable 2048 table → r < 256 → times 8 r ≡ slice_index table (r % 256)
-entry-last table r t small =
+entry-last : (table : List ℕ) (k r : ℕ) → IsTable 4096 table → k < 16 → r < 256 → times (8 * (k + 1)) r ≡ slice_index table (256 * k + r % 256)
+entry-last table k r t below small =
+    let same : r % 256 ≡ r = omega (arith, small) in
+    sym (ap (λ (x : ℕ). slice_index table (256 * k + x)) same ∙ t.entries (256 * k + r) (omega (arith, small, below)) ∙ entry-of k r small)
+
+entry-lowest : (table : List ℕ) (r : ℕ) → IsTable 4096 table → r < 256 → times 8 r ≡ slice_index table (r % 256)
+entry-lowest table r t small =
     let same : r % 256 ≡ r = omega (arith, small) in
     sym (ap (slice_index table) same ∙ t.entries r (omega (arith, small)) ∙ entry-first r small)
 
-pub word-entries : (table : List ℕ) (w : ℕ) → IsTable 2048 table → w < 2 ^ 64
+-- eight bytes, each one's term and then the others'
+grouped : (a b c d e f g h z y x v u s r : ℕ) → z ≡ bit_xor a y → y ≡ bit_xor b x → x ≡ bit_xor c v → v ≡ bit_xor d u → u ≡ bit_xor e s → s ≡ bit_xor f r
+    → (q : ℕ) → r ≡ bit_xor g q → q ≡ h → z ≡ bit_xor (bit_xor (bit_xor (bit_xor a b) c) d) (bit_xor (bit_xor (bit_xor e f) g) h)
+grouped a b c d e f g h z y x v u s r ez ey ex ev eu es q er eq =
+    ez ∙ ap (bit_xor a) (ey ∙ ap (bit_xor b) (ex ∙ ap (bit_xor c) (ev ∙ ap (bit_xor d) (eu ∙ ap (bit_xor e) (es ∙ ap (bit_xor f) (er ∙ ap (bit_xor g) eq))))))
+    ∙ regroup a b c d e f g h
+
+-- eight bytes behind which none stands
+pub near-entries : (table : List ℕ) (w : ℕ) → IsTable 4096 table → w < 2 ^ 64
     → bit_xor
     (bit_xor (bit_xor (bit_xor (slice_index table (1792 + w % 256)) (slice_index table (1536 + w / 256 % 256)))
     (slice_index table (1280 + w / 65536 % 256))) (slice_index table (1024 + w / 16777216 % 256)))
     (bit_xor (bit_xor (bit_xor (slice_index table (768 + w / 4294967296 % 256)) (slice_index table (512 + w / 1099511627776 % 256)))
     (slice_index table (256 + w / 281474976710656 % 256))) (slice_index table (w / 72057594037927936 % 256)))
     ≡ times 64 w
-word-entries table w t small =
+near-entries table w t small =
     let whole : w / 72057594037927936 < 256 = omega (arith, small) in
-    let none = entry-last table (w / 72057594037927936) t whole in
+    let none = entry-lowest table (w / 72057594037927936) t whole in
     let one = entry-at table 1 (w / 281474976710656) (w / 72057594037927936) t (omega arith) (shr-shr w 48 8) in
     let two = entry-at table 2 (w / 1099511627776) (w / 281474976710656) t (omega arith) (shr-shr w 40 8) in
     let three = entry-at table 3 (w / 4294967296) (w / 1099511627776) t (omega arith) (shr-shr w 32 8) in
@@ -78,18 +91,28 @@ word-entries table w t small =
     let six = entry-at table 6 (w / 256) (w / 65536) t (omega arith) (shr-shr w 8 8) in
     let seven = entry-at table 7 w (w / 256) t (omega arith) refl in
     sym (grouped _ _ _ _ _ _ _ _ _ _ _ _ _ _ _ seven six five four three two _ one none)
-  where
-    grouped : (a b c d e f g h z y x v u s r : ℕ) → z ≡ bit_xor a y → y ≡ bit_xor b x → x ≡ bit_xor c v → v ≡ bit_xor d u → u ≡ bit_xor e s → s ≡ bit_xor f r
-        → (q : ℕ) → r ≡ bit_xor g q → q ≡ h → z ≡ bit_xor (bit_xor (bit_xor (bit_xor a b) c) d) (bit_xor (bit_xor (bit_xor e f) g) h)
-    grouped a b c d e f g h z y x v u s r ez ey ex ev eu es q er eq =
-        ez ∙ ap (bit_xor a) (ey ∙ ap (bit_xor b) (ex ∙ ap (bit_xor c) (ev ∙ ap (bit_xor d) (eu ∙ ap (bit_xor e) (es ∙ ap (bit_xor f) (er ∙ ap (bit_xor g) eq))))))
-        ∙ regroup a b c d e f g h
 
--- bytes that are added at once: the number that they spell, the lowest first
-abbrev pub little : List ℕ → ℕ
-little [] = 0
-little (b ∷ bs) = little bs * 256 + b
+-- eight bytes behind which eight stand
+pub far-entries : (table : List ℕ) (w : ℕ) → IsTable 4096 table → w < 2 ^ 64
+    → bit_xor
+    (bit_xor (bit_xor (bit_xor (slice_index table (3840 + w % 256)) (slice_index table (3584 + w / 256 % 256)))
+    (slice_index table (3328 + w / 65536 % 256))) (slice_index table (3072 + w / 16777216 % 256)))
+    (bit_xor (bit_xor (bit_xor (slice_index table (2816 + w / 4294967296 % 256)) (slice_index table (2560 + w / 1099511627776 % 256)))
+    (slice_index table (2304 + w / 281474976710656 % 256))) (slice_index table (2048 + w / 72057594037927936 % 256)))
+    ≡ times 128 w
+far-entries table w t small =
+    let whole : w / 72057594037927936 < 256 = omega (arith, small) in
+    let none = entry-last table 8 (w / 72057594037927936) t (omega arith) whole in
+    let one = entry-at table 9 (w / 281474976710656) (w / 72057594037927936) t (omega arith) (shr-shr w 48 8) in
+    let two = entry-at table 10 (w / 1099511627776) (w / 281474976710656) t (omega arith) (shr-shr w 40 8) in
+    let three = entry-at table 11 (w / 4294967296) (w / 1099511627776) t (omega arith) (shr-shr w 32 8) in
+    let four = entry-at table 12 (w / 16777216) (w / 4294967296) t (omega arith) (shr-shr w 24 8) in
+    let five = entry-at table 13 (w / 65536) (w / 16777216) t (omega arith) (shr-shr w 16 8) in
+    let six = entry-at table 14 (w / 256) (w / 65536) t (omega arith) (shr-shr w 8 8) in
+    let seven = entry-at table 15 w (w / 256) t (omega arith) refl in
+    sym (grouped _ _ _ _ _ _ _ _ _ _ _ _ _ _ _ seven six five four three two _ one none)
 
+-- bytes that are added at once, as the number that they spell
 pub with_bytes-little : (bs : List ℕ) (r : ℕ) → ((k : ℕ) → slice_index bs k < 256) → with_bytes bs r ≡ times (8 * length bs) (bit_xor r (little bs))
 with_bytes-little [] r small = sym (xor_zero_r r)
 with_bytes-little (b ∷ bs) r small =
@@ -105,31 +128,30 @@ with_bytes-little (b ∷ bs) r small =
     ap (with_bytes bs) (with_bits-times 8 b r first) ∙ with_bytes-little bs (times 8 (bit_xor r b)) others ∙ ap (times n) (sym eight)
     ∙ sym (times-add 8 n (bit_xor r (l * 256 + b))) ∙ ap (λ (k : ℕ). times k (bit_xor r (l * 256 + b))) (sym size)
 
--- eight bytes, as the number that they spell
-pub eight-bytes : (xs : List ℕ) (rest word : ℕ) → length xs ≡ 8 → ((k : ℕ) → slice_index xs k < 256)
-    → word ≡ from_le_bytes w64 (get_or xs 0 0 ∷ get_or xs 1 0 ∷ get_or xs 2 0 ∷ get_or xs 3 0 ∷ get_or xs 4 0 ∷ get_or xs 5 0 ∷ get_or xs 6 0 ∷ get_or xs 7 0 ∷ [])
-    → times 64 (bit_xor rest word) ≡ with_bytes xs rest
-eight-bytes (a ∷ b ∷ c ∷ d ∷ e ∷ f ∷ g ∷ h ∷ []) rest word eight small is =
-    let spelled : word ≡ little (a ∷ b ∷ c ∷ d ∷ e ∷ f ∷ g ∷ h ∷ []) = is ∙ (omega arith) in
-    ap (λ (n : ℕ). times 64 (bit_xor rest n)) spelled ∙ sym (with_bytes-little (a ∷ b ∷ c ∷ d ∷ e ∷ f ∷ g ∷ h ∷ []) rest small)
-eight-bytes [] rest word eight small is = absurd (omega arith)
-eight-bytes (a ∷ []) rest word eight small is = absurd (omega arith)
-eight-bytes (a ∷ b ∷ []) rest word eight small is = absurd (omega arith)
-eight-bytes (a ∷ b ∷ c ∷ []) rest word eight small is = absurd (omega arith)
-eight-bytes (a ∷ b ∷ c ∷ d ∷ []) rest word eight small is = absurd (omega arith)
-eight-bytes (a ∷ b ∷ c ∷ d ∷ e ∷ []) rest word eight small is = absurd (omega arith)
-eight-bytes (a ∷ b ∷ c ∷ d ∷ e ∷ f ∷ []) rest word eight small is = absurd (omega arith)
-eight-bytes (a ∷ b ∷ c ∷ d ∷ e ∷ f ∷ g ∷ []) rest word eight small is = absurd (omega arith)
-eight-bytes (a ∷ b ∷ c ∷ d ∷ e ∷ f ∷ g ∷ h ∷ i ∷ more) rest word eight small is = absurd (omega arith)
+-- the number that eight bytes spell
+pub eight-bytes : (xs : List ℕ) → length xs ≡ 8
+    → from_le_bytes w64 (get_or xs 0 0 ∷ get_or xs 1 0 ∷ get_or xs 2 0 ∷ get_or xs 3 0 ∷ get_or xs 4 0 ∷ get_or xs 5 0 ∷ get_or xs 6 0 ∷ get_or xs 7 0 ∷ []) ≡ little xs
+eight-bytes (a ∷ b ∷ c ∷ d ∷ e ∷ f ∷ g ∷ h ∷ []) eight = omega arith
+eight-bytes [] eight = absurd (omega arith)
+eight-bytes (a ∷ []) eight = absurd (omega arith)
+eight-bytes (a ∷ b ∷ []) eight = absurd (omega arith)
+eight-bytes (a ∷ b ∷ c ∷ []) eight = absurd (omega arith)
+eight-bytes (a ∷ b ∷ c ∷ d ∷ []) eight = absurd (omega arith)
+eight-bytes (a ∷ b ∷ c ∷ d ∷ e ∷ []) eight = absurd (omega arith)
+eight-bytes (a ∷ b ∷ c ∷ d ∷ e ∷ f ∷ []) eight = absurd (omega arith)
+eight-bytes (a ∷ b ∷ c ∷ d ∷ e ∷ f ∷ g ∷ []) eight = absurd (omega arith)
+eight-bytes (a ∷ b ∷ c ∷ d ∷ e ∷ f ∷ g ∷ h ∷ i ∷ more) eight = absurd (omega arith)
 
 pub ruleset eight_rules = (eight-bytes)
 
-pub ruleset entry_rules = (word-entries)
+pub ruleset entry_rules = (near-entries)
+
+pub ruleset far_rules = (far-entries)
 
 -- one byte more, by the table
-pub byte-table : (table : List ℕ) (byte r : ℕ) → IsTable 2048 table → byte < 256
+pub byte-table : (table : List ℕ) (byte r : ℕ) → IsTable 4096 table → byte < 256
     → bit_xor (slice_index table (bit_xor r byte % 256)) (bit_xor r byte / 256) ≡ with_bits 8 byte r
-byte-table table byte r t small = byte-entry 2048 table (bit_xor r byte) (omega arith) t ∙ sym (with_bits-times 8 byte r small)
+byte-table table byte r t small = byte-entry 4096 table (bit_xor r byte) (omega arith) t ∙ sym (with_bits-times 8 byte r small)
 
 pub ruleset byte_rules = (byte-table)
 
@@ -143,3 +165,31 @@ with_bytes-split n xs r =
     sym (with_bytes-append (take n xs) (drop n xs) r) ∙ ap (λ (bs : List ℕ). with_bytes bs r) (take-append-drop n xs)
 
 pub ruleset word_rules = (with_bytes-split)
+
+-- what is left or taken of bytes is bytes
+bytes-take : (n : ℕ) (xs : List ℕ) → ((k : ℕ) → slice_index xs k < 256) → (k : ℕ) → slice_index (take n xs) k < 256
+bytes-take zero xs small k = omega arith
+bytes-take (suc n) [] small k = omega arith
+bytes-take (suc n) (x ∷ xs) small zero = small 0
+bytes-take (suc n) (x ∷ xs) small (suc k) = bytes-take n xs (λ j. small (suc j)) k
+
+bytes-drop : (n : ℕ) (xs : List ℕ) → ((k : ℕ) → slice_index xs k < 256) → (k : ℕ) → slice_index (drop n xs) k < 256
+bytes-drop zero xs small k = small k
+bytes-drop (suc n) [] small k = omega arith
+bytes-drop (suc n) (x ∷ xs) small k = bytes-drop n xs (λ j. small (suc j)) k
+
+-- two words at once
+pub two-words : (xs : List ℕ) (rest : ℕ) → length xs ≡ 16 → ((k : ℕ) → slice_index xs k < 256)
+    → bit_xor (times 128 (bit_xor rest (little (take 8 xs)))) (times 64 (little (drop 8 xs))) ≡ with_bytes xs rest
+two-words xs rest two small =
+    let first : ℕ = bit_xor rest (little (take 8 xs)) in
+    let taken : 8 * length (take 8 xs) ≡ 64 = omega (arith, two, length-take-le 8 xs) in
+    let left : 8 * length (drop 8 xs) ≡ 64 = omega (arith, two, length-drop 8 xs) in
+    let one : with_bytes (take 8 xs) rest ≡ times 64 first =
+    with_bytes-little (take 8 xs) rest (bytes-take 8 xs small) ∙ ap (λ (n : ℕ). times n first) taken in
+    let other : (r : ℕ) → with_bytes (drop 8 xs) r ≡ times 64 (bit_xor r (little (drop 8 xs))) =
+    λ r. with_bytes-little (drop 8 xs) r (bytes-drop 8 xs small) ∙ ap (λ (n : ℕ). times n (bit_xor r (little (drop 8 xs)))) left in
+    sym (sym (with_bytes-split 8 xs rest) ∙ ap (with_bytes (drop 8 xs)) one ∙ other (times 64 first)
+    ∙ times-xor 64 (times 64 first) (little (drop 8 xs)) ∙ ap (λ (x : ℕ). bit_xor x (times 64 (little (drop 8 xs)))) (sym (times-add 64 64 first)))
+
+pub ruleset two_rules = (two-words)

@@ -1,4 +1,4 @@
-//! The table by which eight bytes are divided at once, for CRC-32 (ISO 3309; ITU-T V.42, 8.1.1.6.2).
+//! The table by which sixteen bytes are divided at once, for CRC-32 (ISO 3309; ITU-T V.42, 8.1.1.6.2).
 //!
 //! `make_table` makes the defined entries, and takes no memory.
 
@@ -9,8 +9,8 @@ ghost use Rattle.debug_link.specs.Tables.{times, IsTable};
 /// The divisor without its highest term, the lowest term in the highest bit.
 const DIVISOR: u32 = 0xedb8_8320;
 
-/// How many entries the table has: 256 for each of eight bytes.
-pub const ENTRIES: usize = 2048;
+/// How many entries the table has: 256 for each of sixteen bytes.
+pub const ENTRIES: usize = 4096;
 
 /// A remainder times x.
 fn times_x(rest: u32) -> u32
@@ -37,7 +37,7 @@ fn times_x8(rest: u32) -> u32
 
 /// The table: an entry for each byte, and how many bytes stand behind it.
 pub fn make_table() -> [u32; ENTRIES]
-    ensures value { IsTable 2048 result }
+    ensures value { IsTable 4096 result }
 {
     let mut table = [0; ENTRIES];
     put_first(&mut table);
@@ -59,7 +59,7 @@ fn put_first(table: &mut [u32; ENTRIES])
 #[tactic(auto, using(crate::proofs::TableLaws::other_rules))]
 fn put_others(table: &mut [u32; ENTRIES])
     requires first { IsTable 256 table.old }
-    ensures value { IsTable 2048 table.new }
+    ensures value { IsTable 4096 table.new }
 {
     'entries: for i in 256..ENTRIES {
         let before = table[i - 256];

@@ -3,7 +3,7 @@
 -- conclusion has the place that the refusal names; beside each group stands the record of what holds where no row of it does.
 -- A header of type NULL is inactive (gABI ch. 4 "Sections", `sh_type`), so no row speaks of one. Which names are listed is
 -- the table's; that others are refused, and a second section of one name, is this project's profile. Rows that hold only
--- where a file is split are a data of their own, which comes with splitting.
+-- where a file is split are among those of splitting.
 use Rattle.std.specs.Prelude.{Bool, true, false, ◌≡◌, ◌≢◌, ℕ, ◌<◌, ◌==◌, ◌&&◌, ◌||◌, not, nat_eq, bit_and, codes, List, IsTrue, Option, Some, None}
 use Rattle.std.specs.List.{starts_with, ends_with}
 use Rattle.dw_base.specs.DebugSections.{row_of, debug_section, is_listed}

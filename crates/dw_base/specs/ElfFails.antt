@@ -67,7 +67,7 @@ pub record TableReads (b : List ℕ) : Type 0 where
   pub lies : e_shoff b ≢ 0 → e_shoff b + section_count b * shdr_size (class_of b) ≤ length b
 
 -- the sections' number, section 0, and the section of names (gABI ch. 4 "ELF Header", "Sections", "Special Sections").
--- Where a file is to be split, it must also have sections and names; that row comes with splitting.
+-- Where a file is to be split, it must also have sections and names; that row is among those of splitting.
 pub data IndexFails (b : List ℕ) : Refusal → Type 0 where
   none : e_shoff b ≢ 0 → section_count b ≡ 0 → IndexFails b (at Header 0 (shnum_place (class_of b)))
   null : e_shoff b ≢ 0 → (nth_section b 0).kind ≢ SHT_NULL → IndexFails b (at Header 0 (shoff_place (class_of b)))

@@ -61,8 +61,6 @@ pub enum Kind {
     DefinedPath,
     /// A type of file that isn't handled.
     FileType,
-    /// A file of a shape that this version of the program doesn't take.
-    Unbuilt,
 }
 
 /// A refusal: its kind, and the place that it speaks of.

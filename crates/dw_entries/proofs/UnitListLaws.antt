@@ -12,7 +12,7 @@ use Rattle.dw_entries.specs.HeaderRows.{HeadersRefuse, ReadUpTo, UnitRefuses, mo
 use Rattle.dw_entries.specs.ViewUnits.{IsUnitSection, unit_base, unit_section_at}
 use Rattle.dw_entries.proofs.HeaderRowLaws.{offsets-read, read-units, unit-refuses}
 use Rattle.dw_entries.proofs.OffsetLaws.{length-contents}
-use Rattle.dw_entries.proofs.UnitSectionLaws.{above-none, is-of-view}
+use Rattle.dw_entries.proofs.UnitSectionLaws.{is-of-view}
 
 -- the units fill the section
 pub read-all : (v : View) (n start len : ℕ) (list : List UnitHeader) → IsUnitSection v n → ReadUpTo (unit_base v) (unit_section_at v n) list start
@@ -51,4 +51,4 @@ pub table-elsewhere : (v : View) (h : UnitHeader) (number : ℕ) (r : Refusal) �
 table-elsewhere v h number r number_is is there =
     subst (UnitTableFails (unit_base v) h) (sym (is ∙ ap (λ (n : ℕ). at AbbreviationKind n h.abbrevs) number_is)) (other_section there)
 
-pub ruleset list_laws = (is-of-view, above-none, none_read, more_read, units-fill, offsets-fill, unit-within)
+pub ruleset list_laws = (is-of-view, none_read, more_read, units-fill, offsets-fill, unit-within)

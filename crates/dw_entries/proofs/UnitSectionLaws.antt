@@ -4,7 +4,7 @@ use Rattle.std.specs.Prelude.{is_some}
 use Rattle.std.proofs.lemmas.Bool.{eqb-true}
 use Rattle.std.proofs.lemmas.List.{drop-drop}
 use Rattle.dw_base.specs.DebugSections.{debug_section, name_of}
-use Rattle.dw_base.specs.FileViews.{View, ViewSection, cells_of, first_filled, section_after}
+use Rattle.dw_base.specs.FileViews.{View, ViewSection, cells_of, first_filled, kind_at, section_after}
 use Rattle.dw_base.specs.Texts.{same_text}
 use Rattle.dw_base.specs.UnitHeaders.{UnitSection, SectionKind, in_info, in_types}
 use Rattle.dw_base.specs.ViewData.{unit_kind, unit_section, unit_sections_from, unit_sections}
@@ -212,3 +212,25 @@ is-info v n z name o e name_is o_is other = by_kind z.kind refl
 
 pub above-none : (v : View) (n : ℕ) → IsUnitSection v n → 1 ≤ n
 above-none v n e = (found-section v n (unit_section_at v n) e).above
+
+-- which of the two kinds it is, by its name
+kind-by : (v : View) (n : ℕ) → IsUnitSection v n → unit_kind (kind_at v n) ≡ Some (unit_section_at v n).kind
+kind-by v n e =
+    let f = found-section v n (unit_section_at v n) e in
+    ap unit_kind (kind_at-there v n f.section f.rest f.there) ∙ f.kind
+
+pub there-within : (v : View) (n : ℕ) → IsUnitSection v n → n < length v.sections
+there-within v n e = (is-of-view v n e).there
+
+pub named-types : (v : View) (n : ℕ) (o : Option DebugSection) → IsUnitSection v n → o ≡ kind_at v n → o ≡ Some Types → in_types ≡ (unit_section_at v n).kind
+named-types v n o e o_is types =
+    same-kind in_types (unit_section_at v n).kind (unit_kind (kind_at v n)) (ap unit_kind (sym o_is ∙ types)) (kind-by v n e)
+
+pub named-other : (v : View) (n : ℕ) (o : Option DebugSection) → IsUnitSection v n → o ≡ kind_at v n → (o ≡ Some Types → ⊥) → in_info ≡ (unit_section_at v n).kind
+named-other v n o e o_is other = by_kind (unit_section_at v n).kind refl
+  where
+    by_kind : (k : SectionKind) → (unit_section_at v n).kind ≡ k → in_info ≡ (unit_section_at v n).kind
+    by_kind in_info is = sym is
+    by_kind in_types is = absurd (other (o_is ∙ types-only (kind_at v n) (kind-by v n e ∙ ap Some is)))
+
+pub ruleset kind_laws = (there-within, named-types, named-other)

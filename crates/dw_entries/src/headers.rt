@@ -3,7 +3,7 @@
 //! This file promises: the units that are given fill the section, and it is refused only where one of them
 //! can't be read, at that unit, or its offset of abbreviations can't, for its relocation. It takes one look at each header, and none at the entries.
 
-ghost use Rattle.std.specs.Prelude.{true, false, ◌≡◌, ◌≤◌, List, length, IfOk, IfErr, OnOk};
+ghost use Rattle.std.specs.Prelude.{true, false, ◌≡◌, List, length, IfOk, IfErr, OnOk};
 ghost use Rattle.dw_base.specs.Refusals.{Blames};
 ghost use Rattle.dw_base.specs.RelocationRows.{HeaderOffsetsRead};
 ghost use Rattle.dw_base.specs.UnitHeaders.{AreUnits};
@@ -58,18 +58,15 @@ impl UnitHeaders {
 }
 
 /// Which of the two kinds a unit section is.
+#[tactic(auto, using(crate::proofs::UnitSectionLaws::kind_laws))]
 fn kind_of(view: &View, section: u32) -> UnitsOf
     requires there { IsUnitSection view.now section }
-    requires above { 1 ≤ section }
     ensures kind { as_kind result ≡ (unit_section_at view.now section).kind }
 {
-    let Some(types) = view.section(DebugSection::Types.name(), section - 1) else {
-        return UnitsOf::Info;
-    };
-    if types == section {
-        return UnitsOf::Types;
+    match view.kind(section) {
+        Some(DebugSection::Types) => UnitsOf::Types,
+        _ => UnitsOf::Info,
     }
-    UnitsOf::Info
 }
 
 /// The units of the section of a number, a unit section of the view. Refused at the unit exactly where

@@ -94,7 +94,7 @@ use Rattle.dw_entries.specs.HeaderRows.HeadersRefuse.{units as header_units, off
 use Rattle.dw_find.specs.UnitTexts.{data_fails, header_fails}
 use Rattle.dw_meaning.specs.DataFails.DataFails.{unit as unit_row, table as table_row, entries as entry_row}
 use Rattle.dw_find.proofs.MacroListLaws.{units-exclude}
-use Rattle.dw_find.proofs.ValueFieldLaws.{values-read}
+use Rattle.dw_meaning.proofs.LeftRowLaws.{values-left}
 
 -- the fields that a pass over the slots gave are those of the pieces
 field-is : (paths : List ℕ) (m : OffsetMode) (n place size : ℕ) (more : List PathSlot) (fs : List PathField) → as_fields more ≡ fs
@@ -357,8 +357,6 @@ record PathsRead (m : PathMap) (v : View) (us : List UnitPaths) (ts : List LineT
   rooms : AllRoomsFit m v (without_lines v us)
   is : us ≡ ((paths_of readings.units ++ slots_read v readings) ++ macros_read readings.macros) ++ lines_of_view v ts
   tables : ts ≡ tables_read (line_source (debug_data v)) readings.lines
-  name_list : List NameTable
-  names_read : AreRead v name_list
 
 paths-read : (m : PathMap) (v : View) (list : List Contribution) (marks first slice again : List ℕ) (places : UnitPlaces) (tables : List NameTable) (ts : List LineTable) (ss : List SectionUnits)
     (us with_slots with_macros all : List UnitPaths) → AreContributions v.order (string_offsets v) list → AreRead v tables → TablesFound v ts → first ≡ starts_of ts → slice ≡ first
@@ -431,8 +429,6 @@ paths-read m v list marks first slice again places tables ts ss us with_slots wi
       is = all_is ∙ ap (λ (ws : List UnitPaths). ws ++ lines_of_view v ts)
           (is ∙ ap (λ (ws : List UnitPaths). (ws ++ slots_read v (readings_with p.found.readings p.offsets.pieces lines.readings macros.readings p.names.pieces)) ++ macros_read macros.readings) (sym p.found.says));
       tables = lines.is;
-      name_list = tables;
-      names_read = named;
     }
 
 pub paths-found : (m : PathMap) (v : View) (list : List Contribution) (marks first slice again : List ℕ) (places : UnitPlaces) (tables : List NameTable) (ts : List LineTable) (ss : List SectionUnits)
@@ -452,9 +448,7 @@ paths-found m v list marks first slice again places tables ts ss us with_slots w
       rooms = r.rooms;
       is = r.is;
       tables = r.tables;
-      name_list = r.name_list;
-      names_read = r.names_read;
-      relocations = record { headers = found.headers.all; values = values-read v (moving_sections v) r.readings r.reads rest; left = rest };
+      relocations = record { headers = found.headers.all; values = values-left (debug_data v) r.readings (moving_sections v) r.reads rest; left = rest };
     }
 
 -- why nothing was found

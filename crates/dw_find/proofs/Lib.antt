@@ -56,5 +56,4 @@ pub mod FoundUnitLaws
 pub mod MacroPathLaws
 pub mod FoundPathLaws
 pub mod SharedLaws
-pub mod ValueFieldLaws
 pub mod ReadDataLaws

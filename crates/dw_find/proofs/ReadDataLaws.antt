@@ -23,12 +23,13 @@ use Rattle.dw_meaning.specs.DataOutput.{DataReads}
 use Rattle.dw_meaning.proofs.DataRowLaws.{data-excludes}
 use Rattle.dw_meaning.proofs.LineRowLaws.{lines-exclude}
 use Rattle.dw_meaning.proofs.MacroRowLaws.{macros-exclude}
+use Rattle.dw_meaning.proofs.OffsetRowLaws.{offsets-exclude}
 use Rattle.dw_meaning.proofs.RelocationLaws.{left_exclude, value-excludes}
 use Rattle.dw_meaning.proofs.SlotRowLaws.{name_tables-exclude, slot_texts-exclude, string_tables-exclude}
 use Rattle.dw_meaning.proofs.StartRowLaws.{starts-exclude}
 use Rattle.dw_meaning.proofs.ValueRowLaws.{texts-exclude}
 use Rattle.dw_base.specs.MacroOffsets.{UnitsRefuse, units as read_units, offsets as read_offsets}
-use Rattle.dw_base.specs.NameOffsets.{NamesRefuse, AreRead, tables as named_tables, offsets as named_offsets}
+use Rattle.dw_base.specs.NameOffsets.{NamesRefuse, tables as named_tables, offsets as named_offsets}
 use Rattle.dw_find.specs.FoundPaths.{PathsFound, PathsRefuse}
 use Rattle.dw_find.specs.FoundPaths.PathsRefuse.{units as found_units, starts as found_starts, inline as found_inline, string_tables as found_string_tables, name_tables as found_name_tables, name_offsets as found_name_offsets, relocations as found_relocations, slots as found_slots, shared as found_shared}
 use Rattle.dw_find.specs.MacroSections.{SectionUnits, UnitsFailIn, UnitsFoundIn, units as section_fails, offsets as section_offsets}
@@ -37,12 +38,8 @@ use Rattle.dw_find.specs.ReadData.DataRefuses.{units, starts, string_tables, slo
 use Rattle.dw_find.specs.UnitPaths.{UnitPaths}
 use Rattle.dw_find.specs.UnitTexts.{data_fails, header_fails, relocation_fails, text_fails}
 use Rattle.dw_base.proofs.RelocationRowLaws.{header_offsets_exclude}
-use Rattle.dw_meaning.specs.RelocationFails.{OffsetsFailIn, RelocationsReadIn}
+use Rattle.dw_meaning.specs.RelocationFails.{RelocationsReadIn}
 use Rattle.dw_meaning.specs.RelocationFails.OffsetsFailIn.{names as offset_names, macros as offset_macros}
-use Rattle.dw_base.specs.NameTables.{names_of}
-use Rattle.dw_base.specs.declared.name_tables.NameTable.{NameTable}
-use Rattle.dw_offsets.proofs.NameExcludeLaws.{tables-exclude-all}
-use Rattle.dw_find.proofs.MacroListLaws.{units-exclude}
 
 -- such a map leaves each path
 same-path : (m : PathMap) (t : List ℕ) → m.base ≡ m.dest → mapped_path m t ≡ t
@@ -97,8 +94,6 @@ data-read m v us ts slice ss same f units_ = record {
   reads = f.reads;
   tables = sym same ∙ f.tables;
   units = units_;
-  name_list = f.name_list;
-  names_read = f.names_read;
   relocations = f.relocations;
 }
 
@@ -123,45 +118,36 @@ unfolding debug_data
 strings-exclude v rs r reads f =
     string_tables-exclude v.order (debug_data v).offsets rs.offsets r reads.offsets (subst (λ (z : Located). ContributionsFail v.order z r) (sym (offsets-located v)) f)
 
--- rows of offsets in name tables and macro units are rows of their own,
-names-row : (v : View) (rs : DataReadings) (r : Refusal) → DataReads (debug_data v) rs → (OffsetsFailIn v r → ⊥) → NamesRefuse v r → ⊥
-names-row v rs r reads none (named_tables f) = name_tables-exclude v rs r reads f
-names-row v rs r reads none (named_offsets list start t u lt is f) = none (offset_names list start t u lt is f)
+-- rows of offsets in name tables and macro units are rows of their own, which hold of none where relocations may stand where they do
+names-row : (v : View) (rs : DataReadings) (r : Refusal) → DataReads (debug_data v) rs → RelocationsReadIn (debug_data v) (moving_sections v) → NamesRefuse v r → ⊥
+names-row v rs r reads h (named_tables f) = name_tables-exclude v rs r reads f
+names-row v rs r reads h (named_offsets list start t u lt is f) = offsets-exclude v rs (moving_sections v) r reads h.left (offset_names list start t u lt is f)
 
-units-row : (v : View) (rs : DataReadings) (before behind : List CellSection) (z : CellSection) (r : Refusal) → DataReads (debug_data v) rs → (OffsetsFailIn v r → ⊥)
-    → (debug_data v).macros ≡ before ++ z ∷ behind → UnitsRefuse v z.number r → ⊥
-units-row v rs before behind z r reads none split (read_units f) = macros-exclude v rs before behind z r reads split f
-units-row v rs before behind z r reads none split (read_offsets list start u lt f) = none (offset_macros before behind z list start split u lt f)
+units-row : (v : View) (rs : DataReadings) (before behind : List CellSection) (z : CellSection) (r : Refusal) → DataReads (debug_data v) rs
+    → RelocationsReadIn (debug_data v) (moving_sections v) → (debug_data v).macros ≡ before ++ z ∷ behind → UnitsRefuse v z.number r → ⊥
+units-row v rs before behind z r reads h split (read_units f) = macros-exclude v rs before behind z r reads split f
+units-row v rs before behind z r reads h split (read_offsets list start u lt f) =
+    offsets-exclude v rs (moving_sections v) r reads h.left (offset_macros before behind z list start split u lt f)
 
-pub data_read-excludes : (v : View) (rs : DataReadings) (r : Refusal) → DataReads (debug_data v) rs → RelocationsReadIn (debug_data v) (moving_sections v) → (OffsetsFailIn v r → ⊥)
-    → DataRefuses v r → ⊥
-data_read-excludes v rs r reads h none (units (data_fails f)) = data-excludes (debug_data v) rs r reads f
-data_read-excludes v rs r reads h none (units (text_fails f)) = texts-exclude (debug_data v) rs r reads f
-data_read-excludes v rs r reads h none (units (header_fails before behind z split f)) = header_offsets_exclude (debug_data v).base z r (h.headers before behind z split) f
-data_read-excludes v rs r reads h none (units (relocation_fails f)) = value-excludes (debug_data v) r h.values f
-data_read-excludes v rs r reads h none (starts f) = starts-exclude (debug_data v) rs r reads f
-data_read-excludes v rs r reads h none (string_tables f) = strings-exclude v rs r reads f
-data_read-excludes v rs r reads h none (name_offsets f) = names-row v rs r reads none f
-data_read-excludes v rs r reads h none (relocations f) = left_exclude (debug_data v) (moving_sections v) r h.left f
-data_read-excludes v rs r reads h none (slots f) = slot_texts-exclude (debug_data v) rs r reads f
-data_read-excludes v rs r reads h none (name_tables f) = name_tables-exclude v rs r reads f
-data_read-excludes v rs r reads h none (lines f) = lines-exclude (debug_data v) rs.lines r reads.lines f
-data_read-excludes v rs r reads h none (macros (section_fails z before behind split f)) = macros-exclude v rs before behind z r reads split f
-data_read-excludes v rs r reads h none (macros (section_offsets z before behind split f)) = units-row v rs before behind z r reads none split f
-
--- and none of them holds where all were read
-offsets-none : (v : View) (list : List NameTable) (ss : List SectionUnits) (r : Refusal) → AreRead v list → UnitsFoundIn v ss → OffsetsFailIn v r → ⊥
-offsets-none v list ss r are found (offset_names before start t u lt is f) =
-    tables-exclude-all v (names_of v).number (names_of v).bytes list r are (named_offsets before start t u lt is f)
-offsets-none v list ss r are found (offset_macros before behind z us start split u lt f) = units-exclude v ss before behind z r found split (read_offsets us start u lt f)
-
-pub read-offsets : (v : View) (ts : List LineTable) (ss : List SectionUnits) (r : Refusal) → DataRead v ts ss → OffsetsFailIn v r → ⊥
-read-offsets v ts ss r d f = offsets-none v d.name_list ss r d.names_read d.units f
+pub data_read-excludes : (v : View) (rs : DataReadings) (r : Refusal) → DataReads (debug_data v) rs → RelocationsReadIn (debug_data v) (moving_sections v) → DataRefuses v r → ⊥
+data_read-excludes v rs r reads h (units (data_fails f)) = data-excludes (debug_data v) rs r reads f
+data_read-excludes v rs r reads h (units (text_fails f)) = texts-exclude (debug_data v) rs r reads f
+data_read-excludes v rs r reads h (units (header_fails before behind z split f)) = header_offsets_exclude (debug_data v).base z r (h.headers before behind z split) f
+data_read-excludes v rs r reads h (units (relocation_fails f)) = value-excludes (debug_data v) r h.values f
+data_read-excludes v rs r reads h (starts f) = starts-exclude (debug_data v) rs r reads f
+data_read-excludes v rs r reads h (string_tables f) = strings-exclude v rs r reads f
+data_read-excludes v rs r reads h (name_offsets f) = names-row v rs r reads h f
+data_read-excludes v rs r reads h (relocations f) = left_exclude (debug_data v) (moving_sections v) r h.left f
+data_read-excludes v rs r reads h (slots f) = slot_texts-exclude (debug_data v) rs r reads f
+data_read-excludes v rs r reads h (name_tables f) = name_tables-exclude v rs r reads f
+data_read-excludes v rs r reads h (lines f) = lines-exclude (debug_data v) rs.lines r reads.lines f
+data_read-excludes v rs r reads h (macros (section_fails z before behind split f)) = macros-exclude v rs before behind z r reads split f
+data_read-excludes v rs r reads h (macros (section_offsets z before behind split f)) = units-row v rs before behind z r reads h split f
 
 pub read-excludes : (v : View) (ts : List LineTable) (ss : List SectionUnits) (r : Refusal) → DataRead v ts ss → DataRefuses v r → ⊥
-read-excludes v ts ss r d f = data_read-excludes v d.readings r d.reads d.relocations (read-offsets v ts ss r d) f
+read-excludes v ts ss r d f = data_read-excludes v d.readings r d.reads d.relocations f
 
-pub found-excludes : {m : PathMap} {v : View} {us : List UnitPaths} {ts : List LineTable} {ss : List SectionUnits} (r : Refusal) → PathsFound m v us ts → UnitsFoundIn v ss → DataRefuses v r → ⊥
-found-excludes {m} {v} {us} {ts} {ss} r found units_ f = data_read-excludes v found.readings r found.reads found.relocations (offsets-none v found.name_list ss r found.names_read units_) f
+pub found-excludes : {m : PathMap} {v : View} {us : List UnitPaths} {ts : List LineTable} (r : Refusal) → PathsFound m v us ts → DataRefuses v r → ⊥
+found-excludes {m} {v} {us} {ts} r found f = data_read-excludes v found.readings r found.reads found.relocations f
 
 pub ruleset read_rules = (found-fault, lines-fault, macros-fault, data-read, slice-units)

@@ -27,7 +27,8 @@ use Rattle.dw_entries.specs.ViewUnits.{unit_section_at}
 use Rattle.dw_entries.proofs.HasUnitLaws.{IsUnitOfView, unit-of-view}
 use Rattle.dw_find.specs.EntryTexts.{Tables, Found, with_places}
 use Rattle.dw_find.specs.TextPlaces.{entry_places, entries_places}
-use Rattle.dw_find.specs.UnitTexts.{IsGiven, EntryTaken, EntriesTaken, EntryRefuses, ScanTaken, UnitRefuses, entries, entry, tables_of}
+use Rattle.dw_fields.specs.UnitPasses.{IsGiven}
+use Rattle.dw_find.specs.UnitTexts.{EntryTaken, EntriesTaken, EntryRefuses, ScanTaken, UnitRefuses, entries, entry, tables_of}
 use Rattle.dw_find.proofs.EntryRunLaws.{entries_places-more}
 use Rattle.dw_find.proofs.EntryTextLaws.{with_places-more, with_places-none}
 use Rattle.dw_find.proofs.ValueFactLaws.{value-inside}

@@ -1,18 +1,16 @@
 -- The units of a view: what is known of one, and its rows.
-use Rattle.std.proofs.Common.{false, ◌≡◌, ℕ, ◌+◌, ◌<◌, List, [], length, get_or, Option, Some, None, sym, ap, ◌∙◌, subst}
+use Rattle.std.proofs.Common.{false, ◌≡◌, ℕ, ◌+◌, ◌<◌, List, length, get_or, Some, sym, ap, ◌∙◌, subst}
 use Rattle.dw_base.specs.AbbreviationFails.{AbbreviationFails}
 use Rattle.dw_base.specs.AbbreviationTables.{Abbreviation, IsTable}
 use Rattle.dw_meaning.specs.DataFails.DataFails.{unit as unit_fails, table as table_fails}
 use Rattle.dw_base.specs.Cells.{Cell}
 use Rattle.dw_base.specs.DebugData.{DebugData}
-use Rattle.dw_base.specs.DebugSections.{name_of}
 use Rattle.dw_base.specs.EntryValues.{HasUnit, bytes_up_to}
-use Rattle.dw_base.specs.FileViews.{View, section_bytes, section_named, view_cells}
+use Rattle.dw_base.specs.FileViews.{View, view_cells}
 use Rattle.dw_base.specs.Refusals.{Blames}
 use Rattle.dw_base.specs.UnitHeaders.{UnitSection}
 use Rattle.dw_base.specs.UnitTables.{IsUnitTable, UnitTableFails, table_fails as row_fails}
-use Rattle.dw_base.specs.ViewData.{debug_data, located, located_at, unit_sections}
-use Rattle.dw_base.specs.declared.debug_sections.DebugSection.TheVariants.{Abbrev}
+use Rattle.dw_base.specs.ViewData.{debug_data, unit_sections}
 use Rattle.dw_base.specs.declared.fault.Fault.{Fault}
 use Rattle.dw_base.specs.declared.fault.Fault.TheVariants.{NoMemory, Refused}
 use Rattle.dw_base.specs.declared.fault.Refusal.{Refusal}
@@ -21,6 +19,7 @@ use Rattle.dw_entries.specs.Fronts.{IsOfView}
 use Rattle.dw_entries.specs.HeaderRows.{HeadersRefuse, offsets, units}
 use Rattle.dw_entries.specs.ViewUnits.{IsUnitSection, numbered, unit_base, unit_section_at}
 use Rattle.dw_entries.proofs.UnitSectionLaws.{is-of-view}
+use Rattle.dw_fields.proofs.UnitListLaws.{refused-none, refused-some, table-none, table-some}
 use Rattle.dw_find.specs.EntryTexts.{Tables, TextTables, Found, none_found}
 use Rattle.dw_find.specs.NamedSlots.{Slots, TakesIndexes}
 use Rattle.dw_find.specs.TextPlaces.{base_source, number_said}
@@ -51,30 +50,6 @@ pub section-within : (v : View) (i : ℕ) → IsUnitSection v i → i < length v
 section-within v i there = (is-of-view v i there).there
 
 -- the table of abbreviations, where its section was found
-pub table-some : (v : View) (i at : ℕ) (bytes : List ℕ) (t : List Abbreviation) → section_named v (name_of Abbrev) ≡ Some i → bytes ≡ section_bytes v i → IsTable bytes at t
-    → IsTable (debug_data v).base.abbrevs.bytes at t
-unfolding debug_data located
-table-some v i at bytes t found is h =
-    subst (λ (o : Option ℕ). IsTable (located_at v o).bytes at t) (sym found) (subst (λ (bs : List ℕ). IsTable bs at t) is h)
-
-pub table-none : (v : View) (at : ℕ) (t : List Abbreviation) → section_named v (name_of Abbrev) ≡ None → IsTable [] at t
-    → IsTable (debug_data v).base.abbrevs.bytes at t
-unfolding debug_data located
-table-none v at t found h = subst (λ (o : Option ℕ). IsTable (located_at v o).bytes at t) (sym found) h
-
-pub refused-some : (v : View) (i at : ℕ) (bytes : List ℕ) (f : Fault) → section_named v (name_of Abbrev) ≡ Some i → bytes ≡ section_bytes v i
-    → Blames (AbbreviationFails bytes i at) f → Blames (AbbreviationFails (debug_data v).base.abbrevs.bytes (debug_data v).base.abbrevs.number at) f
-unfolding debug_data located
-refused-some v i at bytes f found is h =
-    subst (λ (o : Option ℕ). Blames (AbbreviationFails (located_at v o).bytes (located_at v o).number at) f) (sym found)
-    (subst (λ (bs : List ℕ). Blames (AbbreviationFails bs i at) f) is h)
-
-pub refused-none : (v : View) (at : ℕ) (f : Fault) → section_named v (name_of Abbrev) ≡ None
-    → Blames (AbbreviationFails [] 0 at) f → Blames (AbbreviationFails (debug_data v).base.abbrevs.bytes (debug_data v).base.abbrevs.number at) f
-unfolding debug_data located
-refused-none v at f found h =
-    subst (λ (o : Option ℕ). Blames (AbbreviationFails (located_at v o).bytes (located_at v o).number at) f) (sym found) h
-
 pub ruleset table_rules = (table-some, table-none, refused-some, refused-none)
 
 -- a table that can't be read

@@ -12,7 +12,8 @@ use Rattle.dw_meaning.proofs.ValueCutLaws.{uleb-inside}
 use Rattle.dw_find.specs.EntryTexts.{Tables, AreTaken, ValuesRefuse}
 use Rattle.dw_find.specs.QuietValues.{AreLooked}
 use Rattle.dw_find.specs.TextPlaces.{values_places, places_behind, places_by, entry_places}
-use Rattle.dw_find.specs.UnitTexts.{IsGiven, TakenOf, TakenBy, EntryTaken, EntryRefuses, values}
+use Rattle.dw_fields.specs.UnitPasses.{IsGiven}
+use Rattle.dw_find.specs.UnitTexts.{TakenOf, TakenBy, EntryTaken, EntryRefuses, values}
 use Rattle.dw_find.proofs.QuietLaws.{places-left, taken-left, refuses-left}
 
 -- an entry that was given has a code with an abbreviation

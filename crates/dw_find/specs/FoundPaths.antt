@@ -18,9 +18,8 @@ use Rattle.dw_base.specs.StringOffsetFails.{ContributionsFail}
 use Rattle.dw_base.specs.TextChanges.{InlineFits}
 use Rattle.dw_base.specs.ViewData.{debug_data, string_offsets}
 use Rattle.dw_base.specs.declared.fault.Refusal.{Refusal}
-use Rattle.dw_base.specs.declared.name_tables.NameTable.{NameTable}
 use Rattle.dw_base.specs.declared.string_offsets.Contribution.{Contribution}
-use Rattle.dw_base.specs.NameOffsets.{AreRead, NamesRefuse}
+use Rattle.dw_base.specs.NameOffsets.{NamesRefuse}
 use Rattle.dw_offsets.specs.PathSlots.{SlotsTaken, slots_in}
 use Rattle.dw_offsets.specs.declared.slot_fields.PathSlot.{PathSlot}
 use Rattle.dw_find.specs.IndexedTexts.{TextsRefuse}
@@ -75,8 +74,6 @@ pub record PathsFound (m : PathMap) (v : View) (us : List UnitPaths) (ts : List 
   pub rooms : AllRoomsFit m v (without_lines v us)
   pub is : us ≡ ((paths_of readings.units ++ slots_read v readings) ++ macros_read readings.macros) ++ lines_of_view v ts
   pub tables : ts ≡ tables_read (line_source (debug_data v)) readings.lines
-  pub name_list : List NameTable
-  pub names_read : AreRead v name_list
   pub relocations : RelocationsReadIn (debug_data v) (moving_sections v)
 
 -- why it can't be

@@ -9,12 +9,11 @@ use Rattle.dw_base.specs.RelocationRows.{moving_sections}
 use Rattle.dw_base.specs.StringOffsetFails.{ContributionsFail}
 use Rattle.dw_base.specs.ViewData.{debug_data, string_offsets}
 use Rattle.dw_base.specs.declared.fault.Refusal.{Refusal}
-use Rattle.dw_base.specs.declared.name_tables.NameTable.{NameTable}
 use Rattle.dw_lines.specs.ViewTables.{tables_read}
 use Rattle.dw_meaning.specs.DataFails.{LinesFail, SlotTextFails, StartsFail}
 use Rattle.dw_meaning.specs.DataOutput.{DataReads}
 use Rattle.dw_meaning.specs.RelocationFails.{LeftRelocationsFail, RelocationsReadIn}
-use Rattle.dw_base.specs.NameOffsets.{AreRead, NamesRefuse}
+use Rattle.dw_base.specs.NameOffsets.{NamesRefuse}
 use Rattle.dw_find.specs.MacroSections.{SectionUnits, UnitsFailIn, UnitsFoundIn}
 use Rattle.dw_find.specs.UnitTexts.{UnitsRefuse}
 
@@ -24,8 +23,6 @@ pub record DataRead (v : View) (ts : List LineTable) (ss : List SectionUnits) : 
   pub reads : DataReads (debug_data v) readings
   pub tables : ts ≡ tables_read (line_source (debug_data v)) readings.lines
   pub units : UnitsFoundIn v ss
-  pub name_list : List NameTable
-  pub names_read : AreRead v name_list
   pub relocations : RelocationsReadIn (debug_data v) (moving_sections v)
 
 -- why they can't be: a unit, an entry or an offset of a text in one can't be read; what is to say where a line table or a macro unit starts

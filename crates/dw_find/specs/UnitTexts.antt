@@ -1,6 +1,6 @@
 -- What a pass over the entries of a unit, and over the units of a section, finds of texts and paths; and what it refuses.
 use Rattle.std.specs.Prelude.{◌≡◌, ℕ, ◌+◌, List, [], ◌∷◌, ◌++◌, ⊤, Option, Some, None}
-use Rattle.dw_base.specs.AbbreviationTables.{Abbreviation, abbreviation_of, IsTable}
+use Rattle.dw_base.specs.AbbreviationTables.{Abbreviation, abbreviation_of}
 use Rattle.dw_meaning.specs.DataFails.{DataFails, TextFails}
 use Rattle.dw_meaning.specs.RelocationFails.{ValueRelocationFails}
 use Rattle.dw_base.specs.DebugData.{DebugData}
@@ -18,11 +18,6 @@ use Rattle.dw_find.specs.EntryTexts.{Tables, TextTables, AreTaken, Found, Values
 use Rattle.dw_find.specs.NamedSlots.{Slots, TakesIndexes, TakesUnits}
 use Rattle.dw_find.specs.TextPlaces.{UnitSays, base_source, entries_places, number_said, SectionSays}
 use Rattle.dw_find.specs.UnitPaths.{UnitPaths}
-
--- an entry that a pass gave stands there
-pub record IsGiven (params : Params) (table : List Abbreviation) (bytes : List ℕ) (e : Scanned) : Type 0 where
-  pub abbreviation : Abbreviation
-  pub entry : IsEntry params table bytes e.offset abbreviation e.after
 
 -- the values of an entry, whose code stands at a place, can be taken
 abbrev pub TakenOf : Tables → Params → List ℕ → ℕ → Option Abbreviation → Type 0
@@ -130,7 +125,3 @@ units_taken d (z ∷ zs) (u ∷ us) all = all.0.says.section.units ++ units_take
 pub record AllIndexed (d : DebugData) (zs : List UnitSection) (us : List UnitPaths) (before now : Slots) : Type 0 where
   pub taken : AllTaken d zs us
   pub slots : TakesUnits (base_source d) (units_taken d zs us taken) before now
-
--- the tables of abbreviations that are kept by their offsets are those of the debug data
-pub record AreTables (d : DebugData) (shared : ℕ → Option (List Abbreviation)) : Type 0 where
-  pub each : (at : ℕ) (table : List Abbreviation) → shared at ≡ Some table → IsTable d.base.abbrevs.bytes at table

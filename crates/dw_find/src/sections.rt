@@ -13,9 +13,10 @@ ghost use Rattle.dw_base.specs.RelocationRows.{HeaderOffsetsRead};
 ghost use Rattle.dw_base.specs.UnitHeaders.{AreUnits};
 ghost use Rattle.dw_base.specs.ViewData.{debug_data};
 ghost use Rattle.dw_entries.specs.ViewUnits.{IsUnitSection, unit_section_at};
+ghost use Rattle.dw_fields.specs.UnitPasses.{AreTables};
 ghost use Rattle.dw_find.specs.FieldOffsets.{BaseLies, BaseRefuses};
 ghost use Rattle.dw_find.specs.TextPlaces.{base_source, number_said};
-ghost use Rattle.dw_find.specs.UnitTexts.{AreTables, OneTaken, SectionIndexed, UnitsRefuse, tables_of, texts_of};
+ghost use Rattle.dw_find.specs.UnitTexts.{OneTaken, SectionIndexed, UnitsRefuse, tables_of, texts_of};
 
 use crate::field_offsets::section_offset;
 use crate::fields::TextBase;
@@ -30,8 +31,8 @@ use dw_view::View;
 use std::alloc::Global;
 use std::collections::HashMap;
 
-/// What the units of a unit section of the view say of paths. Refused where they can't be read, name no
-/// text, or aren't taken yet.
+/// What the units of a unit section of the view say of paths. Refused where they can't be read, or name no
+/// text.
 #[tactic(auto, using(crate::proofs::UnitRowLaws::section_rules))]
 pub(crate) fn section_texts(
     alloc: Global,

@@ -9,9 +9,10 @@ ghost use Rattle.dw_base.specs.UnitHeaders.{is_address_size};
 ghost use Rattle.dw_base.specs.ViewData.{debug_data};
 ghost use Rattle.dw_entries.specs.ScanStates.{scan_start};
 ghost use Rattle.dw_entries.specs.ViewUnits.{unit_section_at};
+ghost use Rattle.dw_fields.specs.UnitPasses.{IsGiven};
 ghost use Rattle.dw_find.specs.EntryTexts.{with_places};
 ghost use Rattle.dw_find.specs.TextPlaces.{entry_places};
-ghost use Rattle.dw_find.specs.UnitTexts.{EntryRefuses, EntryTaken, IsGiven, ScanTaken, UnitRefuses, UnitTaken, tables_of};
+ghost use Rattle.dw_find.specs.UnitTexts.{EntryRefuses, EntryTaken, ScanTaken, UnitRefuses, UnitTaken, tables_of};
 
 use crate::found::{Found, SectionTexts};
 use crate::scan_table::ScanTable;
@@ -21,7 +22,7 @@ use dw_entries::EntryScan;
 use dw_view::View;
 
 /// Takes the entries of a unit of the view, with its table of abbreviations: the paths that they say are
-/// noted. Refused where one can't be read, names no text, or isn't taken yet.
+/// noted. Refused where one can't be read, or names no text.
 #[tactic(auto, using(crate::proofs::ScanTextLaws::unit_rules))]
 pub(crate) fn unit_texts(
     view: &View,

@@ -16,3 +16,6 @@ pub mod CanLaws
 pub mod ReadingLaws
 pub mod FieldLaws
 pub mod ViewTableLaws
+pub mod MoveLaws
+pub mod PathMoveLaws
+pub mod TableRunLaws

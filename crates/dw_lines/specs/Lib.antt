@@ -4,3 +4,4 @@ pub mod OffsetRooms
 pub mod ViewTables
 pub mod PlainOpcodes
 pub mod HeaderFields
+pub mod TableMoves

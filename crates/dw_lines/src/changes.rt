@@ -54,7 +54,7 @@ fn str_section(view: &View) -> u32
 }
 
 /// The new place of a text, of those that are known in `.debug_str` and in `.debug_line_str`.
-fn new_place(
+pub(crate) fn new_place(
     view: &View,
     str: &HashMap<u64, u64>,
     line_str: &HashMap<u64, u64>,

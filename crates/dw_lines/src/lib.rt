@@ -29,6 +29,7 @@ mod entries;
 mod fields;
 mod formats;
 mod header;
+mod moves;
 mod old_lists;
 mod opcodes;
 mod parts;
@@ -39,7 +40,9 @@ mod view_tables;
 mod written;
 
 pub use dw_base::{Fault, FilePlace, Kind, Refusal, TextPlace, Width};
+pub use elf_relocs::Run;
 pub use fields::HeaderFields;
+pub use moves::FieldOffset;
 pub use table::LineTable;
 pub use view_tables::line_tables;
 pub use written::WrittenTable;

@@ -40,7 +40,7 @@ pub struct WrittenTable {
 }
 
 /// How many bytes the length of a table takes (DWARF 5, 7.4).
-fn length_size(width: Width) -> u64
+pub(crate) fn length_size(width: Width) -> u64
     ensures size { result ≡ length_size width }
     ensures small { result ≤ 12 }
 {
@@ -51,9 +51,10 @@ fn length_size(width: Width) -> u64
 }
 
 /// Where the length of a header stands.
-fn header_length_place(header: &LineHeader) -> u64
+pub(crate) fn header_length_place(header: &LineHeader) -> u64
     requires small { header.now.start ≤ 2 ^ 31 }
     ensures place { result ≡ header_length_place header.now.start header.now.width header.now.version }
+    ensures behind { header.now.start + length_size header.now.width ≤ result }
     ensures near { result ≤ header.now.start + 16 }
 {
     length_place(
@@ -181,6 +182,7 @@ pub(crate) fn header_of(view: &View, section: u32, start: u64) -> LineHeader
     ensures small { result.start ≤ 2 ^ 31 }
     ensures operands { result.lists ≡ result.operands + (result.opcode_base - 1) }
     ensures lists { result.lists ≤ result.end }
+    ensures near { result.program ≤ 2 ^ 31 }
     ensures within { result.end ≤ length (section_bytes view.now section) }
 {
     match line_header(view.order(), view.bytes(section), start) {

@@ -12,9 +12,11 @@ use Rattle.dw_base.specs.RelocationFields.{reach_of, relocation_at}
 use Rattle.dw_base.specs.WrittenLines.{cells_part, header_length_place, length_bytes, length_size, paths_of}
 use Rattle.dw_base.specs.declared.line_tables.TextPlace.{TextPlace}
 use Rattle.dw_base.proofs.NumberLaws.{length-number_bytes}
+use Rattle.dw_base.proofs.PlainCellLaws.{plain_cells-plain}
+use Rattle.dw_base.proofs.RelocationFieldLaws.{relocation_at-plain}
 use Rattle.dw_meaning.specs.LineCells.{all_path_cells, changed_cells, header_cells, rest_cells, written_cells}
 use Rattle.dw_meaning.proofs.CellRestLaws.{CellRest, drop-front, over-there, part-size, plain-none, plain-size, take-front}
-use Rattle.dw_meaning.proofs.ClearLaws.{Clear, NoneOver, clear-part, relocation-behind, relocation-taken}
+use Rattle.dw_meaning.proofs.ClearLaws.{Clear, NoneOver, clear-join, clear-part, front-clear, relocation-behind, relocation-front, relocation-taken}
 use Rattle.dw_meaning.proofs.LineCellLaws.{cells-split}
 use Rattle.dw_meaning.proofs.LineClearLaws.{TableClear, header-lists}
 use Rattle.dw_meaning.proofs.LineHeaderLaws.{first_place, length-place, sizes_size}
@@ -121,11 +123,83 @@ laid-cells g m places p r cells more start reads clear program end lists_in begi
           over = subst (NoneOver cells) place o4;
         }
 
+-- none begins in front of that
+pub laid-clear : (g : LineSource) (m : PathMap) (places : TextPlace → Option ℕ) (p : ℕ) (r : LineReading) (cells more : List Cell) (start : ℕ) → ReadsTable g p r → TableClear g r
+    → r.header.program ≤ r.header.end → r.header.end ≤ length g.cells → r.header.lists ≤ r.header.program
+    → drop start cells ≡ written_cells g m places (table_read g r) ++ more
+    → Clear cells start (first_place r.header.version (start + length_size r.header.width) r.header.width)
+unfolding written_cells header_cells
+laid-clear g m places p r cells more start reads clear program end lists_in is =
+    go (plain_cells (length_bytes g.order r.header.width (length (rest_cells g (table_read g r) (header_cells g m places (table_read g r))))))
+    (cells_part g.cells (r.header.start + length_size r.header.width) (header_length_place r.header.start r.header.width r.header.version))
+    (plain_cells (number_bytes g.order (width_size r.header.width) (length (header_cells g m places (table_read g r)))))
+    (changed_cells g.cells (first_place r.header.version (r.header.start + length_size r.header.width) r.header.width) r.header.program
+    (all_path_cells g m places r.header.width (paths_of (table_read g r))))
+    (plain-size (length_bytes g.order r.header.width (length (rest_cells g (table_read g r) (header_cells g m places (table_read g r)))))
+    ∙ length-bytes g.order r.header.width (length (rest_cells g (table_read g r) (header_cells g m places (table_read g r)))))
+    (λ i lt. relocation_at-plain (plain_cells (length_bytes g.order r.header.width (length (rest_cells g (table_read g r) (header_cells g m places (table_read g r)))))) i
+    (plain_cells-plain (length_bytes g.order r.header.width (length (rest_cells g (table_read g r) (header_cells g m places (table_read g r)))))))
+    (plain-size (number_bytes g.order (width_size r.header.width) (length (header_cells g m places (table_read g r))))
+    ∙ length-number_bytes g.order (width_size r.header.width) (length (header_cells g m places (table_read g r))))
+    (λ i lt. relocation_at-plain (plain_cells (number_bytes g.order (width_size r.header.width) (length (header_cells g m places (table_read g r))))) i
+    (plain_cells-plain (number_bytes g.order (width_size r.header.width) (length (header_cells g m places (table_read g r))))))
+    front_size
+    (λ i lt. relocation-taken (drop (r.header.start + length_size r.header.width) g.cells)
+    (header_length_place r.header.start r.header.width r.header.version - (r.header.start + length_size r.header.width)) i (omega (arith, lt, front_whole))
+    ∙ relocation-behind g.cells (r.header.start + length_size r.header.width) i
+    ∙ front_clear.none (r.header.start + length_size r.header.width + i) (omega arith) (omega (arith, lt, front_whole))) is
+  where
+    at : header_length_place r.header.start r.header.width r.header.version ≡ r.header.start + length_size r.header.width + sizes_size r.header.version
+    at = length-place r.header.version (r.header.start + length_size r.header.width)
+
+    behind : header_length_place r.header.start r.header.width r.header.version + width_size r.header.width ≤ r.header.lists
+    behind = header-lists g p r reads
+
+    front_whole : length (cells_part g.cells (r.header.start + length_size r.header.width) (header_length_place r.header.start r.header.width r.header.version))
+        ≡ header_length_place r.header.start r.header.width r.header.version - (r.header.start + length_size r.header.width)
+    front_whole =
+        part-size g.cells (r.header.start + length_size r.header.width) (header_length_place r.header.start r.header.width r.header.version) (omega (arith, at))
+        (omega (arith, behind, lists_in, program, end))
+
+    front_size : length (cells_part g.cells (r.header.start + length_size r.header.width) (header_length_place r.header.start r.header.width r.header.version))
+        ≡ sizes_size r.header.version
+    front_size = front_whole ∙ omega (arith, at)
+
+    front_clear : Clear g.cells (r.header.start + length_size r.header.width) (header_length_place r.header.start r.header.width r.header.version)
+    front_clear =
+        clear-part g.cells r.header.start r.header.lists (r.header.start + length_size r.header.width) (header_length_place r.header.start r.header.width r.header.version) clear.front
+        (omega arith) (omega (arith, behind))
+
+    go : (first front number header : List Cell) → length first ≡ length_size r.header.width → ((i : ℕ) → i < length first → relocation_at first i ≡ None)
+        → length number ≡ width_size r.header.width → ((i : ℕ) → i < length number → relocation_at number i ≡ None)
+        → length front ≡ sizes_size r.header.version → ((i : ℕ) → i < length front → relocation_at front i ≡ None)
+        → drop start cells ≡ (first ++ ((front ++ (number ++ header)) ++ cells_part g.cells r.header.program r.header.end)) ++ more
+        → Clear cells start (first_place r.header.version (start + length_size r.header.width) r.header.width)
+    go first front number header first_size first_none number_size number_none front_size front_none is =
+        let lp = length-place r.header.version (start + length_size r.header.width) in
+        let s1 : drop start cells ≡ first ++ (front ++ (number ++ (header ++ (cells_part g.cells r.header.program r.header.end ++ more)))) =
+        is ∙ append_assoc first ((front ++ (number ++ header)) ++ cells_part g.cells r.header.program r.header.end) more
+        ∙ ap (λ (xs : List Cell). first ++ xs)
+        (append_assoc (front ++ (number ++ header)) (cells_part g.cells r.header.program r.header.end) more
+        ∙ append_assoc front (number ++ header) (cells_part g.cells r.header.program r.header.end ++ more)
+        ∙ ap (λ (xs : List Cell). front ++ xs) (append_assoc number header (cells_part g.cells r.header.program r.header.end ++ more))) in
+        let s2 = stand-behind cells first (front ++ (number ++ (header ++ (cells_part g.cells r.header.program r.header.end ++ more)))) start s1 in
+        let s3 = stand-behind cells front (number ++ (header ++ (cells_part g.cells r.header.program r.header.end ++ more))) (start + length first) s2 in
+        let c1 = front-clear cells first (front ++ (number ++ (header ++ (cells_part g.cells r.header.program r.header.end ++ more)))) start s1 first_none in
+        let c2 = front-clear cells front (number ++ (header ++ (cells_part g.cells r.header.program r.header.end ++ more))) (start + length first) s2 front_none in
+        let c3 = front-clear cells number (header ++ (cells_part g.cells r.header.program r.header.end ++ more)) (start + length first + length front) s3 number_none in
+        let place : start + length first + length front + length number ≡ first_place r.header.version (start + length_size r.header.width) r.header.width =
+        omega (arith, first_size, front_size, number_size, lp) in
+        subst (Clear cells start) place
+        (clear-join cells start (start + length first) (start + length first + length front + length number) c1
+        (clear-join cells (start + length first) (start + length first + length front) (start + length first + length front + length number) c2 c3))
+
 -- behind the lists: the cells between them and the program, the program, and that none reaches over the end
 pub record CellsEnd (g : LineSource) (cells : List Cell) (behind program end new_behind new_program new_end : ℕ) : Type 0 where
   pub gap : cells_part (take new_end cells) new_behind new_program ≡ cells_part (take end g.cells) behind program
   pub program_is : drop new_program (take new_end cells) ≡ drop program (take end g.cells)
   pub over : NoneOver g.cells end → NoneOver cells new_end
+  pub same : (i : ℕ) → i < end - behind → relocation_at cells (new_behind + i) ≡ relocation_at g.cells (behind + i)
 
 -- a part of cells that are cut behind it
 cut-part : (cells : List Cell) (e a b : ℕ) → a ≤ b → b ≤ e → cells_part (take e cells) a b ≡ cells_part cells a b
@@ -158,6 +232,10 @@ cells-end g cells more behind program end new_behind new_program new_end h a b c
           ∙ ap (take (length (cells_part g.cells program end))) at_program ∙ take-front (cells_part g.cells program end) more
           ∙ sym (ap (λ (n : ℕ). drop program (take n g.cells)) (sym own_split) ∙ drop-take program (end - program) g.cells);
       over = λ k. subst (NoneOver cells) last (over-there cells (cells_part g.cells behind end) more new_behind whole h.over (λ i r lt e. inside k i r lt e whole_size));
+      same = λ i lt.
+          sym (relocation-behind cells new_behind i) ∙ ap (λ (xs : List Cell). relocation_at xs i) whole
+          ∙ relocation-front (cells_part g.cells behind end) more i (omega (arith, lt, whole_size)) ∙ relocation-taken (drop behind g.cells) (end - behind) i lt
+          ∙ relocation-behind g.cells behind i;
     }
   where
     inside : NoneOver g.cells end → (i : ℕ) (r : Relocation) → i < length (cells_part g.cells behind end) → relocation_at (cells_part g.cells behind end) i ≡ Some r

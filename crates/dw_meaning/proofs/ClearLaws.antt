@@ -1,6 +1,6 @@
 -- Where no relocation begins in a section of line tables: in the columns of directories and files but for offsets, and in the formats and counts in
 -- front of them. And where none reaches over.
-use Rattle.std.proofs.Common.{◌≡◌, ◌≢◌, ℕ, zero, suc, ◌+◌, ◌<◌, ◌≤◌, ◌==◌, ◌||◌, List, [], ◌∷◌, ◌++◌, length, take, drop, Option, Some, None, refl, ap, arith, if◌then◌else◌, inl, inr}
+use Rattle.std.proofs.Common.{◌≡◌, ◌≢◌, ℕ, zero, suc, ◌+◌, ◌<◌, ◌≤◌, ◌==◌, ◌||◌, List, [], ◌∷◌, ◌++◌, length, take, drop, Option, Some, None, refl, ap, arith, if◌then◌else◌, inl, inr, Bool, true, false, sym, subst, ◌∙◌, ◌-◌}
 use Rattle.std.specs.Prelude.{⊤, Ok}
 use Rattle.std.proofs.lemmas.Bool.{cases_lt}
 use Rattle.std.proofs.lemmas.List.{drop-drop}
@@ -86,3 +86,59 @@ relocation-taken [] (suc n) zero lt = refl
 relocation-taken [] (suc n) (suc i) lt = refl
 relocation-taken (x ∷ xs) (suc n) zero lt = refl
 relocation-taken (x ∷ xs) (suc n) (suc i) lt = relocation-taken xs n i (omega (arith, lt))
+
+-- parts in which none begins, one behind another, and what is copied of one
+pub clear-join : (cells : List Cell) (a b c : ℕ) → Clear cells a b → Clear cells b c → Clear cells a c
+clear-join cells a b c h k = record {
+  none = λ p le lt. elim (cases_lt p b) [
+    | inl below ↦ h.none p le below
+    | inr behind ↦ k.none p behind lt
+  ];
+}
+
+-- cells that stand at a place
+pub stands-clear : (new xs : List Cell) (q n o : ℕ) → take n (drop q new) ≡ xs → ((i : ℕ) → o ≤ i → i < n → relocation_at xs i ≡ None) → Clear new (q + o) (q + n)
+stands-clear new xs q n o is h = record {
+  none = λ y at lt.
+      let place : q + (y - q) ≡ y = omega (arith, at) in
+      let lies : y - q < n = omega (arith, at, lt) in
+      ap (relocation_at new) (sym place) ∙ sym (relocation-behind new q (y - q)) ∙ sym (relocation-taken (drop q new) n (y - q) lies)
+      ∙ ap (λ (cs : List Cell). relocation_at cs (y - q)) is ∙ h (y - q) (omega (arith, at)) lies;
+}
+
+pub copied-clear : (old new : List Cell) (p q b o : ℕ) → take (b - p) (drop q new) ≡ take (b - p) (drop p old) → Clear old (p + o) b → Clear new (q + o) (q + (b - p))
+copied-clear old new p q b o same h =
+    stands-clear new (take (b - p) (drop p old)) q (b - p) o same
+    (λ i le lt. relocation-taken (drop p old) (b - p) i lt ∙ relocation-behind old p i ∙ h.none (p + i) (omega (arith, le)) (omega (arith, lt)))
+
+zero-behind : (n : ℕ) → n + 0 ≡ n
+zero-behind n = omega arith
+
+one-behind : (n : ℕ) → n + 1 ≡ suc n
+one-behind n = omega arith
+
+pub whole-clear : (old new : List Cell) (p q b : ℕ) → take (b - p) (drop q new) ≡ take (b - p) (drop p old) → Clear old p b → Clear new q (q + (b - p))
+whole-clear old new p q b same h =
+    subst (λ (i : ℕ). Clear new i (q + (b - p))) (zero-behind q) (copied-clear old new p q b 0 same (subst (λ (i : ℕ). Clear old i b) (sym (zero-behind p)) h))
+
+pub column-clear : (spec : Spec) (old new : List Cell) (p q b : ℕ) → take (b - p) (drop q new) ≡ take (b - p) (drop p old) → Clear old (clear_from spec p) b
+    → Clear new (clear_from spec q) (q + (b - p))
+column-clear spec old new p q b same h = by_form (spec.form == DW_FORM_strp || spec.form == DW_FORM_line_strp) h
+  where
+    by_form : (t : Bool) → Clear old (if t then suc p else p) b → Clear new (if t then suc q else q) (q + (b - p))
+    by_form true k =
+        subst (λ (i : ℕ). Clear new i (q + (b - p))) (one-behind q) (copied-clear old new p q b 1 same (subst (λ (i : ℕ). Clear old i b) (sym (one-behind p)) k))
+    by_form false k = whole-clear old new p q b same k
+
+pub tail-clear : (new xs : List Cell) (q n : ℕ) → take n (drop q new) ≡ xs → ((i : ℕ) → 0 < i → i < n → relocation_at xs i ≡ None) → Clear new (suc q) (q + n)
+tail-clear new xs q n is h =
+    subst (λ (i : ℕ). Clear new i (q + n)) (one-behind q) (stands-clear new xs q n 1 is (λ i le lt. h i (omega (arith, le)) lt))
+
+pub front-clear : (new xs rest : List Cell) (q : ℕ) → drop q new ≡ xs ++ rest → ((i : ℕ) → i < length xs → relocation_at xs i ≡ None) → Clear new q (q + length xs)
+front-clear new xs rest q is h = record {
+  none = λ y at lt.
+      let place : q + (y - q) ≡ y = omega (arith, at) in
+      let lies : y - q < length xs = omega (arith, at, lt) in
+      ap (relocation_at new) (sym place) ∙ sym (relocation-behind new q (y - q)) ∙ ap (λ (cs : List Cell). relocation_at cs (y - q)) is
+      ∙ relocation-front xs rest (y - q) lies ∙ h (y - q) lies;
+}

@@ -6,14 +6,16 @@ use Rattle.dw_base.specs.Cells.{Cell, Located, bytes_of, located_cells}
 use Rattle.dw_base.specs.DebugData.{DebugData, DataReadings, begins_by, units_in, ReadsAll, EntryPlace, place_by, entry_places, all_places, info_number, info_numbers, Lasting, Around, around_of, indexing_of, line_source, path_slots, table_of}
 use Rattle.dw_base.specs.Forms.{TextSection, in_str, in_line_str, ValueKind, number_of, leb_number, signed_leb, block_of, counted, counted_leb, inline_text, text_offset, present, in_abbreviation, form_in_front, supplementary, unlisted, kind_in}
 use Rattle.dw_base.specs.LineChanges.{line_mentions, line_place}
-use Rattle.dw_base.specs.LineReadings.{LineReading, TablesTo, table_starts, starts_from, all_lines}
+use Rattle.dw_base.specs.LineHeaders.{header_with}
+use Rattle.dw_base.specs.LineReadings.{LineReading, ReadsTable, TablesTo, table_starts, starts_from, all_lines}
+use Rattle.dw_base.specs.LineSources.{LineSource}
 use Rattle.dw_base.specs.MacroMeanings.{macro_meanings}
 use Rattle.dw_base.specs.MacroReadings.{MacroReading, EachMacro, MacroStart, MacroPlaces, macro_starts, first_macros}
 use Rattle.dw_base.specs.TableStarts.{HasStartForm, macro_value_by, macro_value_in, NamesUnitIf, NamesMacro, NamesImport}
 use Rattle.dw_base.specs.Texts.{ends_in, laid_texts}
 use Rattle.dw_base.specs.MappedSlots.{unit_slots, mapped_slots}
 use Rattle.dw_base.specs.MappedUnits.{mapped_unit, mapped_units}
-use Rattle.dw_base.specs.NamePieces.{NameState}
+use Rattle.dw_base.specs.NamePieces.{NameState, at_table, names_at}
 use Rattle.dw_base.specs.OffsetPieces.{OffsetState, at_contribution, offsets_at}
 use Rattle.dw_base.specs.Paths.{PathMap, IsPathMap}
 use Rattle.dw_base.specs.Pieces.{Piece, joined, Chain, EachPiece}
@@ -28,6 +30,7 @@ use Rattle.dw_base.specs.UnitHeaders.{UnitBase, UnitSection}
 use Rattle.dw_base.specs.UnitMeanings.{UnitMeaning, unit_meanings, units_read, units_of}
 use Rattle.dw_base.specs.UnitPieces.{ReadsUnits, unit_grammar}
 use Rattle.dw_base.specs.UnitStates.{Mode, at_header, at_code, at_values, at_chosen, stuck, UnitState, before_unit}
+use Rattle.dw_base.specs.declared.line_tables.LineHeader.{LineHeader}
 use Rattle.dw_base.specs.declared.shared.Order.{Order}
 use Rattle.dw_base.specs.declared.shared.Params.{Params}
 use Rattle.dw_base.specs.declared.string_offsets.Contribution.{Contribution}
@@ -43,12 +46,13 @@ use Rattle.dw_meaning.specs.LineCells.{all_written_cells}
 use Rattle.dw_meaning.proofs.LineCellLaws.{all-bytes}
 use Rattle.dw_meaning.proofs.LineClearLaws.{EachClear}
 use Rattle.dw_meaning.proofs.LineColumnLaws.{edited_with, Grows}
-use Rattle.dw_meaning.proofs.LinePathLaws.{AllTake, BothMove}
-use Rattle.dw_meaning.proofs.LineSectionLaws.{EachCan, LinesMoved, TablesApart, section-moved}
-use Rattle.dw_meaning.proofs.MacroEditLaws.{AllMacrosChanged, edited_macro_sections, all-macros-read, all-starts, same-first, all-macros-kept, all-macros-named, all-imports, macros-edited}
-use Rattle.dw_meaning.proofs.OffsetMoveLaws.{RolesChanged, roles-length, names-becomes, roles-named, offsets-reads, names-reads}
+use Rattle.dw_meaning.proofs.LineHeaderLaws.{header-is}
+use Rattle.dw_meaning.proofs.LinePathLaws.{BothMove, makes-take}
+use Rattle.dw_meaning.proofs.LineSectionLaws.{EachCan, LinesMoved, TablesApart, section-moved, some-bytes}
+use Rattle.dw_meaning.proofs.MacroEditLaws.{AllMacrosChanged, all-macros-can, edited_macro_sections, all-macros-read, all-starts, same-first, all-macros-kept, all-macros-named, all-imports, macros-edited}
+use Rattle.dw_meaning.proofs.OffsetMoveLaws.{RolesChanged, names-can, offsets-can, roles-length, names-becomes, roles-named, offsets-reads, names-reads}
 use Rattle.dw_meaning.proofs.SlotMeaningLaws.{units-slots}
-use Rattle.dw_meaning.proofs.TextEditLaws.{CanMove, appending-keeps, LinesMove, TablesMove, TextsAre, behind_piece, Moves, PlainPiece, pieces-move, SlotMoves, edited-changed, roles-changed, shift_of, moved_table}
+use Rattle.dw_meaning.proofs.TextEditLaws.{EachBelow, appending-keeps, LinesMove, TablesMove, TextsAre, behind_piece, Moves, PlainPiece, pieces-move, SlotMoves, edited-changed, roles-changed, shift_of, moved_table}
 use Rattle.dw_meaning.proofs.UnitMeaningLaws.{units-changed}
 
 -- pieces after a change are as long
@@ -130,7 +134,7 @@ AllReadingsChanged c (x ∷ xs) (y ∷ ys) = (y.number ≡ x.number) × UnitsCha
 -- the text law, for all sections
 readings-edited : (lc : List Cell) (base : UnitBase) (c : TableChanges) (around : Around) (ts us : List (List ℕ)) (first : ℕ) (zs : List UnitSection) (rs : Readings) (ms ns : List Mention)
     → TablesMove c around → TextsAre c ts us (all_mentions in_str around rs ++ ms) (all_mentions in_line_str around rs ++ ns) → ReadsAll base first zs rs
-    → EachReading (Moves around) rs → EachReading (NamesText around) rs → EachReading (InlineFits c.map) rs → EachReading (SlotMoves (shift_of c around lc)) rs
+    → EachReading (Moves c around) rs → EachReading (NamesText around) rs → EachReading (InlineFits c.map) rs → EachReading (SlotMoves (shift_of c around lc)) rs
     → AllReadingsChanged (shift_of c around lc) rs (edited_readings c around rs)
 readings-edited lc base c around ts us first zs [] ms ns t all reads moves names fits slots = tt
 readings-edited lc base c around ts us first [] (r ∷ rs) ms ns t all reads moves names fits slots = absurd reads
@@ -224,9 +228,9 @@ readings-plain base first (z ∷ zs) (r ∷ rs) reads plain = (
   readings-plain base (first + units_in r.pieces) zs rs reads.2 plain.1,
 )
 
-pub readings-move : (around : Around) (rs : Readings) → EachReading PlainPiece rs → EachReading (Moves around) rs
-readings-move around [] h = tt
-readings-move around (r ∷ rs) h = (pieces-move around r.pieces h.0, readings-move around rs h.1)
+pub readings-move : (c : TableChanges) (around : Around) (rs : Readings) → EachReading PlainPiece rs → EachReading (Moves c around) rs
+readings-move c around [] h = tt
+readings-move c around (r ∷ rs) h = (pieces-move c around r.pieces h.0, readings-move c around rs h.1)
 
 -- the readings with these changes, and with new readings of line tables
 abbrev pub edited_reads : TableChanges → DebugData → DataReadings → List LineReading → DataReadings
@@ -255,21 +259,16 @@ edited_data c d r = record {
   names = record { number = d.names.number; contents = joined (names_after c (around_of d r) r) };
 }
 
--- debug data that can be read, whose fields can have each offset that fits them, whose paths and slots can be mapped, and tables that stay
--- small
+-- debug data that can be read, whose paths and slots can be mapped, where addends make the new offsets, and tables that stay small; of line
+-- tables no relocation begins in a header but at offsets
 pub record DataMoves (m : PathMap) (d : DebugData) (r : DataReadings) : Type 0 where
   pub map : IsPathMap m
   pub reads : DataReads d r
   pub fits : DataFits m d r
-  pub units_move : EachReading (Moves (around_of d r)) r.units
-  pub slots_move : EachPiece (λ x. CanMove (slot_role (path_slots (around_of d r)) x.state) (around_of d r) x.cells) r.offsets
-  pub macros_move : EachMacro (λ x. CanMove (macro_role x.state) (around_of d r) x.cells) r.macros
-  pub names_move : EachPiece (λ x. CanMove (name_role x.state) (around_of d r) x.cells) r.names
   pub str : length (new_table (table_change m in_str (around_of d r) r).plan (table_change m in_str (around_of d r) r).texts) ≤ 2 ^ 32
   pub line_str : length (new_table (table_change m in_line_str (around_of d r) r).plan (table_change m in_line_str (around_of d r) r).texts) ≤ 2 ^ 32
   pub lines : length (all_lines (new_lines m (around_of d r) r)) ≤ 2 ^ 32
   pub lines_clear : EachClear (line_source d) r.lines
-  pub lines_take : AllTake (line_source d) (line_place m (table_change m in_str (around_of d r) r) (table_change m in_line_str (around_of d r) r) (line_source d)) r.lines
   pub apart : TablesApart (line_source d) r.lines
   pub tables : (at : ℕ) → ends_in d.line_str.bytes at ≡ true → d.line_str.number ≢ d.str.number
 
@@ -372,13 +371,35 @@ lines-data m d r w =
     subst (λ (bs : List ℕ). LinesMoved (line_source d) (edited_with (line_source d) bs (new_line_cells (changes_of m (around_of d r) r) d r) s l) m 0 (length (all_lines (new_lines m (around_of d r) r))) (new_lines m (around_of d r) r) r.lines)
     (sym (new-line-bytes m d r))
     (section-moved (changes_of m (around_of d r) r) (line_source d) (slots_texts m in_str d r) (slots_texts m in_line_str d r) (behind_lines_in in_str d r) (behind_lines_in in_line_str d r) r.lines
-    refl refl w.lines_clear w.lines_take (both-move m d r w) (table-grows m in_str d r) (table-grows m in_line_str d r) w.apart w.tables w.reads.lines
+    refl refl w.lines_clear (makes-take (line_source d) (line_place m (changes_of m (around_of d r) r).str (changes_of m (around_of d r) r).line_str (line_source d)) r.lines w.fits.addends.lines) (both-move m d r w) (table-grows m in_str d r) (table-grows m in_line_str d r) w.apart w.tables w.reads.lines
     (each-can m (changes_of m (around_of d r) r) d r r.lines w.fits.lines) (behind-slots m d r))
+
+-- line tables start in their section
+ends-behind : (g : LineSource) (p e : ℕ) (rs : List LineReading) → TablesTo g p rs e → p ≤ e
+ends-behind g p e [] reads = omega (arith, reads)
+ends-behind g p e (r ∷ rs) reads =
+    let some = some-bytes g p r reads.0 in
+    let below = some.0 in
+    let rest = ends-behind g r.header.end e rs reads.1 in
+    omega (arith, below, rest)
+
+starts-at : (g : LineSource) (p : ℕ) (r : LineReading) → ReadsTable g p r → r.header.start ≡ p
+unfolding header_with
+starts-at g p r reads = ap (λ (h : LineHeader). h.start) (header-is g.order g.bytes p r.header reads.header).is
+
+starts-below : (g : LineSource) (p e : ℕ) (rs : List LineReading) → TablesTo g p rs e → EachBelow e (table_starts rs)
+starts-below g p e [] reads = tt
+starts-below g p e (r ∷ rs) reads =
+    let some = some-bytes g p r reads.0 in
+    let below = some.0 in
+    let here : r.header.start ≡ p = starts-at g p r reads.0 in
+    let rest = ends-behind g r.header.end e rs reads.1 in
+    (omega (arith, here, below, rest), starts-below g r.header.end e rs reads.1)
 
 lines-move : (m : PathMap) (d : DebugData) (r : DataReadings) → DataMoves m d r → LinesMove (changes_of m (around_of d r) r) (around_of d r)
 lines-move m d r w =
     let x : LinesAfter m d r = lines-data m d r w in
-    record { count = x.count; some = x.some; small = w.lines }
+    record { count = x.count; some = x.some; small = w.lines; below = starts-below (line_source d) 0 (length (line_source d).bytes) r.lines w.reads.lines }
 
 -- all readings after the change
 abbrev pub after_reads : (m : PathMap) (d : DebugData) (r : DataReadings) → DataMoves m d r → DataReadings
@@ -404,13 +425,13 @@ data-apart m d r w =
     w.fits.slots refl refl
 
 -- the readings of units, changed
-units-changed-all : (m : PathMap) (d : DebugData) (r : DataReadings) → DataMoves m d r
+pub units-changed-all : (m : PathMap) (d : DebugData) (r : DataReadings) → DataMoves m d r
     → AllReadingsChanged (data_shift m d r) r.units (edited_readings (changes_of m (around_of d r) r) (around_of d r) r.units)
 units-changed-all m d r w =
     readings-edited (new_line_cells (changes_of m (around_of d r) r) d r) d.base (changes_of m (around_of d r) r) (around_of d r) [] [] 0 d.units r.units
     (behind_units_in in_str d r)
     (behind_units_in in_line_str d r)
-    (tables-move m d r w) (texts-are m d r) w.reads.units w.units_move w.reads.texts w.fits.inline
+    (tables-move m d r w) (texts-are m d r) w.reads.units w.fits.addends.units w.reads.texts w.fits.inline
     (slots-move (new_line_cells (changes_of m (around_of d r) r) d r) (changes_of m (around_of d r) r) (around_of d r) r.units (mapped_path-none m w.map) (data-apart m d r w) refl)
 
 -- string offsets and name tables, changed
@@ -419,7 +440,10 @@ offsets-changed : (m : PathMap) (d : DebugData) (r : DataReadings) → DataMoves
 offsets-changed m d r w =
     roles-changed (new_line_cells (changes_of m (around_of d r) r) d r) (slot_role (path_slots (around_of d r))) (changes_of m (around_of d r) r) (around_of d r)
     (units_texts m in_str d r) (units_texts m in_line_str d r) r.offsets (behind_slots_in in_str d r) (behind_slots_in in_line_str d r)
-    (tables-move m d r w) (behind-units m d r) w.slots_move w.reads.slot_texts
+    (tables-move m d r w) (behind-units m d r)
+    (offsets-can (path_slots (around_of d r)) (changes_of m (around_of d r) r) (around_of d r) d.base.order (offsets_at (length d.offsets.contents) 0 0 at_contribution) r.offsets
+    w.reads.offsets.chain w.fits.addends.slots)
+    w.reads.slot_texts
 
 names-changed-all : (m : PathMap) (d : DebugData) (r : DataReadings) → DataMoves m d r
     → RolesChanged name_role (data_shift m d r) r.names (names_after (changes_of m (around_of d r) r) (around_of d r) r)
@@ -431,14 +455,16 @@ names-changed-all m d r w =
       str = all.str ∙ ap (texts_after (changes_of m (around_of d r) r).str.plan m (macros_texts m in_str d r)) (sym (append-nil (names_in in_str d r)));
       line_str = all.line_str ∙ ap (texts_after (changes_of m (around_of d r) r).line_str.plan m (macros_texts m in_line_str d r)) (sym (append-nil (names_in in_line_str d r)));
     })
-    w.names_move w.reads.name_texts
+    (names-can (changes_of m (around_of d r) r) (around_of d r) d.base.order (names_at (length d.names.contents) 0 at_table) r.names w.reads.names.chain w.fits.addends.names)
+    w.reads.name_texts
 
 -- macro units, changed
 pub macros-changed-all : (m : PathMap) (d : DebugData) (r : DataReadings) → DataMoves m d r
     → AllMacrosChanged (data_shift m d r) r.macros (macros_after (changes_of m (around_of d r) r) (around_of d r) r)
 macros-changed-all m d r w =
     macros-edited (new_line_cells (changes_of m (around_of d r) r) d r) d.base.order (changes_of m (around_of d r) r) (around_of d r) (lines_texts m in_str d r) (lines_texts m in_line_str d r) d.macros r.macros
-    (names_in in_str d r) (names_in in_line_str d r) (tables-move m d r w) (behind-lines m d r) w.reads.macros w.macros_move w.reads.macro_texts
+    (names_in in_str d r) (names_in in_line_str d r) (tables-move m d r w) (behind-lines m d r) w.reads.macros
+    (all-macros-can (changes_of m (around_of d r) r) (around_of d r) d.base.order d.macros r.macros w.reads.macros w.fits.addends.macros) w.reads.macro_texts
 
 -- which slots values by index name is as it was
 all-bases : (c : Shift) (order : Order) (z w : Located) (rs qs : Readings) → z.number ≡ w.number → length z.bytes ≡ length w.bytes → AllReadingsChanged c rs qs

@@ -4,6 +4,8 @@ use Rattle.dw_base.specs.LineChanges.{line_place}
 use Rattle.dw_base.specs.LineReadings.{LineReading, TablesTo, table_read}
 use Rattle.dw_base.specs.LineWriteFails.{WriteFails}
 use Rattle.dw_base.specs.TextChanges.{TableChanges}
+use Rattle.dw_base.specs.RelocationRows.{moving_sections}
+use Rattle.dw_meaning.proofs.AddendRowLaws.{addends-exclude}
 use Rattle.dw_meaning.proofs.DataKeptLaws.{each-can}
 use Rattle.dw_meaning.proofs.StartRowLaws.{starts-exclude}
 use Rattle.dw_meaning.proofs.MacroRowLaws.{macros-exclude}
@@ -16,9 +18,10 @@ use Rattle.dw_base.specs.OffsetPieces.{ReadsOffsets}
 use Rattle.dw_base.specs.ViewData.{debug_data}
 use Rattle.dw_meaning.specs.DataOutput.{DataReads, DataFits, changes_of}
 use Rattle.dw_meaning.proofs.SlotRowLaws.{slot_texts-exclude, shared-row, string_tables-exclude, name_tables-exclude}
-use Rattle.dw_meaning.specs.EditRows.{EditFails, file as file_row, inline as inline_row, shared as shared_row, line_table as line_table_row, output as output_row, IsAccepted}
-use Rattle.dw_meaning.specs.FileFails.{FileFails, elf as elf_row, sections as sections_row, loaded as loaded_row, units as units_row, texts as texts_row, unbuilt as unbuilt_row, string_tables as string_tables_row, slots as slots_row, lines as lines_row, macros as macros_row, starts as starts_row, name_tables as name_tables_row, relocations as relocations_row, loaded_relocations as loaded_relocations_row}
-use Rattle.dw_meaning.specs.FileMeanings.{file_data, new_body}
+use Rattle.dw_meaning.specs.EditRows.{EditFails, file as file_row, inline as inline_row, shared as shared_row, line_table as line_table_row, addends as addends_row, output as output_row, IsAccepted}
+use Rattle.dw_meaning.specs.FileFails.{FileFails, elf as elf_row, sections as sections_row, loaded as loaded_row, units as units_row, texts as texts_row, string_tables as string_tables_row, slots as slots_row, lines as lines_row, macros as macros_row, starts as starts_row, name_tables as name_tables_row, relocations as relocations_row, loaded_relocations as loaded_relocations_row}
+use Rattle.dw_meaning.specs.NewAddends.{AddendsFail}
+use Rattle.dw_meaning.specs.FileMeanings.{file_body, file_data}
 use Rattle.dw_base.specs.LayoutFails.{LayoutFails}
 use Rattle.dw_base.specs.Paths.{PathMap}
 use Rattle.dw_base.specs.StringOffsetFails.{ContributionsFail}
@@ -28,7 +31,8 @@ use Rattle.dw_meaning.proofs.DataRowLaws.{data-excludes}
 use Rattle.dw_base.proofs.DebugSectionFailsLaws.{debug_sections_exclude}
 use Rattle.dw_base.proofs.ViewCellLaws.{offsets-located}
 use Rattle.dw_meaning.proofs.LayoutRowLaws.{layout_excludes}
-use Rattle.dw_meaning.proofs.PlainFileLaws.{relocations_fail-loaded, relocations_loaded-none}
+use Rattle.dw_meaning.proofs.OffsetRowLaws.{offsets-exclude}
+use Rattle.dw_meaning.proofs.RelocationLaws.{relocations_exclude}
 use Rattle.dw_base.proofs.ElfLaws.{elf_excludes}
 use Rattle.dw_meaning.proofs.ValueRowLaws.{texts-exclude, inline-excludes}
 
@@ -51,9 +55,10 @@ file-excludes m b r a (lines_row e f) = lines-exclude (file_data b) a.readings.l
 file-excludes m b r a (macros_row z before behind e split f) = macros-exclude (view_of b) a.readings before behind z r a.reads.data_reads split f
 file-excludes m b r a (starts_row e f) = starts-exclude (file_data b) a.readings r a.reads.data_reads f
 file-excludes m b r a (name_tables_row e f) = name_tables-exclude (view_of b) a.readings r a.reads.data_reads f
-file-excludes m b r a (relocations_row e f) = relocations_fail-loaded b r a.reads.kind f
-file-excludes m b r a (loaded_relocations_row i e lt l) = relocations_loaded-none b i a.reads.kind l
-file-excludes m b r a (unbuilt_row u) = a.built u
+file-excludes m b r a (relocations_row e f) =
+    relocations_exclude b r a.reads.relocations
+    (λ f. offsets-exclude (view_of b) a.readings (moving_sections (view_of b)) r a.reads.data_reads a.reads.relocations.on_data.left f) f
+file-excludes m b r a (loaded_relocations_row i e lt l) = a.relocations_unloaded i lt l
 
 -- a file is taken or refused, and never both
 pub edit-excludes : (m : PathMap) (b : List ℕ) (r : Refusal) → IsAccepted m b → EditFails m b r → ⊥
@@ -78,6 +83,10 @@ edit-excludes m b r a (line_table_row readings before behind t reads split f) =
         (each-can m (changes_of m (around_of (file_data b) rs) rs) (file_data b) rs rs.lines fits.lines) in
         write-excludes (line_source (file_data b)) m (line_place m (changes_of m (around_of (file_data b) rs) rs).str (changes_of m (around_of (file_data b) rs) rs).line_str (line_source (file_data b)))
         among.start t r among.reads (can-among (line_source (file_data b)) m (changes_of m (around_of (file_data b) rs) rs) before behind t can) f
+edit-excludes m b r a (addends_row readings reads fits f) =
+    let same : readings ≡ a.readings = data-one (file_data b) readings a.readings reads.data_reads a.reads.data_reads in
+    addends-exclude (changes_of m (around_of (file_data b) a.readings) a.readings) (file_data b) (around_of (file_data b) a.readings) a.readings r a.fits.addends
+    (subst (λ (rs : DataReadings). AddendsFail (changes_of m (around_of (file_data b) rs) rs) (file_data b) (around_of (file_data b) rs) rs r) same f)
 edit-excludes m b r a (output_row readings reads fits f) =
     let same : readings ≡ a.readings = data-one (file_data b) readings a.readings reads.data_reads a.reads.data_reads in
-    layout_excludes b (new_body m b a.readings) r a.written (subst (λ (rs : DataReadings). LayoutFails b (new_body m b rs) r) same f)
+    layout_excludes b (file_body m b a.readings) r a.written (subst (λ (rs : DataReadings). LayoutFails b (file_body m b rs) r) same f)

@@ -22,7 +22,8 @@ use Rattle.dw_base.proofs.OffsetPutLaws.{AddendFits, PutsBy, addend-fits, offset
 use Rattle.dw_base.proofs.RelocationFieldLaws.{field_of-cells_at, first-take, length-cells_at, partly-lies, partly-none}
 use Rattle.dw_base.proofs.TextLaws.{ends_in-inside}
 use Rattle.dw_meaning.proofs.ClearLaws.{NoneOver, relocation-behind, relocation-taken}
-use Rattle.dw_meaning.proofs.FieldPutLaws.{ReachesBy}
+use Rattle.dw_meaning.specs.NewAddends.{Makes}
+use Rattle.dw_meaning.proofs.FieldPutLaws.{ReachesBy, makes-addend}
 
 ok-text : (t u : TextPlace) → ◌≡◌ {A = Result TextPlace Refusal} (Ok t) (Ok u) → t ≡ u
 ok-text t u e = cc
@@ -235,6 +236,14 @@ takes-reached (Some r) size n h = by_target r.target refl
     by_target : (t : Option (ℕ × ℕ)) → r.target ≡ t → TakesBy t r size n
     by_target None e = tt
     by_target (Some (section, v)) e = λ fits. addend-fits r.addend r v size n section e h fits
+
+pub makes-takes : (o : Option Relocation) (size n : ℕ) → Makes o size n → TakesAt o size n
+makes-takes None size n h = tt
+makes-takes (Some r) size n h = by_target r.target refl
+  where
+    by_target : (t : Option (ℕ × ℕ)) → r.target ≡ t → TakesBy t r size n
+    by_target None e = tt
+    by_target (Some (section, v)) e = λ fits. makes-addend r r.addend section v size n e h
 
 -- where cells were read as an offset, they hold it for other bytes of its section
 pub field-kept : (g : LineSource) (z w : Located) (p size n : ℕ) → FieldNames g z p size n → ends_in z.bytes n ≡ true → w.number ≡ z.number

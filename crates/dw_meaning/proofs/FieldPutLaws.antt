@@ -1,5 +1,5 @@
 -- What cells need so that an offset into a section can be put into them: where a relocation begins at them, it is of their size, its symbol
--- is defined in that section, and its addend can make each offset that fits them. What reads has such fields.
+-- is defined in that section, and its addend can make the offset. What reads has such fields.
 use Rattle.std.proofs.Common.{Bool, true, false, ◌≡◌, ℕ, zero, suc, ◌^◌, ◌<◌, ◌≤◌, ◌==◌, ◌||◌, if◌then◌else◌, List, [], ◌∷◌, ◌++◌, length, drop, Option, None, Some, refl, sym, ap, ◌∙◌, subst, arith}
 use Rattle.std.specs.Bool.{⊤}
 use Rattle.std.specs.Prelude.{pos, ℤ, ◌+ℤ◌}
@@ -7,20 +7,21 @@ use Rattle.std.proofs.lemmas.Bool.{eq-eqb, eqb-true}
 use Rattle.dw_base.specs.Cells.{Cell, Located, Relocation, addend_of, bytes_of, field_by, field_of, first_relocation, is_placed, offset_into, offset_of, relocated, symbol_field, targeted, with_bytes, wrapped}
 use Rattle.dw_base.specs.Forms.{width_size}
 use Rattle.dw_base.specs.Numbers.{number_bytes, spelled}
-use Rattle.dw_base.specs.NewOffsets.{by_addend, moved_relocation, symbol_value, with_offset, with_offset_by, with_relocation}
+use Rattle.dw_base.specs.NewOffsets.{by_addend, moved_addend, moved_relocation, symbol_value, with_offset, with_offset_by, with_relocation}
 use Rattle.dw_base.specs.declared.shared.Order.{Order}
 use Rattle.dw_base.specs.declared.shared.Width.{Width}
 use Rattle.dw_base.specs.declared.shared.Width.TheVariants.{W32, W64}
-use Rattle.dw_base.specs.declared.view_fields.Field.TheVariants.{Into}
-use Rattle.dw_base.proofs.OffsetPutLaws.{PutsBy, addend-fits, length-with_bytes, offset-put-any, reaches_all}
+use Rattle.dw_base.specs.declared.view_fields.Field.{Field}
+use Rattle.dw_base.specs.declared.view_fields.Field.TheVariants.{Into, Num, Sym}
+use Rattle.dw_base.proofs.OffsetPutLaws.{AddendFits, PutsBy, addend-fits, length-with_bytes, offset-put-any, reaches_all}
 use Rattle.dw_base.proofs.PlainCellLaws.{IsPlain, first-plain}
 use Rattle.dw_base.proofs.RelocationFieldLaws.{field_by-into}
+use Rattle.dw_meaning.specs.NewAddends.{AddendMakes, Makes}
 
 pub record PlacesIn (r : Relocation) (section size : ℕ) : Type 0 where
   pub value : ℕ
   pub own : r.size ≡ Some size
   pub target : r.target ≡ Some (section, value)
-  pub reaches : reaches_all r.class size ≡ true
 
 abbrev pub PlacesBy : Option Relocation → ℕ → ℕ → Type 0
 PlacesBy None section size = ⊤
@@ -34,14 +35,35 @@ pub plain-place : (section : ℕ) (p : List Cell) → IsPlain p → IsPlace sect
 plain-place section p h = record { by_relocation = subst (λ (o : Option Relocation). PlacesBy o section (length p)) (sym (first-plain p h)) tt }
 
 -- an offset that was put is read back
-pub place-put : (order : Order) (z : Located) (p : List Cell) (n : ℕ) → IsPlace z.number p → 0 < length p → n < 256 ^ length p
+pub makes-addend : (r : Relocation) (o : Option ℤ) (section value size n : ℕ) → r.target ≡ Some (section, value) → AddendMakes o r size n → AddendFits o r value size n
+makes-addend r None section value size n target makes = tt
+makes-addend r (Some a) section value size n target makes =
+    subst (λ (t : Option (ℕ × ℕ)). wrapped (pos (symbol_value t) +ℤ moved_addend r n) size ≡ n) target makes
+
+pub place-put : (order : Order) (z : Located) (p : List Cell) (n : ℕ) → IsPlace z.number p → 0 < length p → n < 256 ^ length p → Makes (first_relocation p) (length p) n
     → offset_of order z (with_offset order p n) ≡ n
-place-put order z p n h some fits =
-    offset-put-any order z p n (record { some = some; fits = fits; by_relocation = puts (first_relocation p) h.by_relocation })
+place-put order z p n h some fits makes =
+    offset-put-any order z p n (record { some = some; fits = fits; by_relocation = puts (first_relocation p) h.by_relocation makes })
   where
-    puts : (o : Option Relocation) → PlacesBy o z.number (length p) → PutsBy o z (length p) n
-    puts None t = tt
-    puts (Some r) t = record { value = t.value; own = t.own; target = t.target; addend = addend-fits r.addend r t.value (length p) n z.number t.target t.reaches fits }
+    puts : (o : Option Relocation) → PlacesBy o z.number (length p) → Makes o (length p) n → PutsBy o z (length p) n
+    puts None t m = tt
+    puts (Some r) t m =
+        record { value = t.value; own = t.own; target = t.target; addend = makes-addend r r.addend z.number t.value (length p) n t.target m }
+
+-- where the addends of a class reach all offsets of a size, they make each that fits it
+abbrev pub ReachesBy : Option Relocation → ℕ → Type 0
+ReachesBy None size = ⊤
+ReachesBy (Some r) size = reaches_all r.class size ≡ true
+
+pub reached-makes : (o : Option Relocation) (section size n : ℕ) → PlacesBy o section size → ReachesBy o size → n < 256 ^ size → Makes o size n
+reached-makes None section size n t reaches fits = tt
+reached-makes (Some r) section size n t reaches fits = own r.addend
+  where
+    own : (a : Option ℤ) → AddendMakes a r size n
+    own None = tt
+    own (Some a) =
+        subst (λ (o : Option (ℕ × ℕ)). wrapped (pos (symbol_value o) +ℤ moved_addend r n) size ≡ n) (sym t.target)
+        (addend-fits (Some a) r t.value size n section t.target reaches fits)
 
 -- the offset is the same whatever the section's bytes are
 into-own : (z : Located) (section n : ℕ) → section ≡ z.number → offset_into z (Into section n) ≡ n
@@ -68,48 +90,51 @@ place-same order z w p h same = by_first (first_relocation p) h.by_relocation
         ∙ into-own w z.number (wrapped (pos t.value +ℤ addend_of r.addend (spelled order (bytes_of p) 0 (length p))) (length p)) (sym same)
         ∙ sym (ap (offset_into z) into ∙ into-own z z.number (wrapped (pos t.value +ℤ addend_of r.addend (spelled order (bytes_of p) 0 (length p))) (length p)) refl)
 
--- A field that reads as an offset which lies in its section is such a place, where the addend of its relocation reaches all offsets of its size.
-abbrev pub ReachesBy : Option Relocation → ℕ → Type 0
-ReachesBy None size = ⊤
-ReachesBy (Some r) size = reaches_all r.class size ≡ true
-
+-- A field that reads as an offset which lies in its section is such a place.
 pub place-read : (order : Order) (z : Located) (p : List Cell) → is_placed (field_of order p) ≡ true → offset_of order z p < length z.bytes
-    → ReachesBy (first_relocation p) (length p) → IsPlace z.number p
+    → IsPlace z.number p
 unfolding offset_of field_of
-place-read order z p placed below reaches =
-    record { by_relocation = by_first (first_relocation p) (spelled order (bytes_of p) 0 (length p)) placed below reaches }
+place-read order z p placed below =
+    record { by_relocation = by_first (first_relocation p) (spelled order (bytes_of p) 0 (length p)) placed below }
   where
-    by_section : (r : Relocation) (section value size n : ℕ) (b : Bool) → r.size ≡ Some size → r.target ≡ Some (section, value) → reaches_all r.class size ≡ true
-        → (section == z.number) ≡ b → (if b then n else length z.bytes) < length z.bytes → PlacesIn r z.number size
-    by_section r section value size n false own target all same below = absurd (omega (arith, below))
-    by_section r section value size n true own target all same below = record {
+    by_section : (r : Relocation) (section value size n : ℕ) (b : Bool) → r.size ≡ Some size → r.target ≡ Some (section, value) → (section == z.number) ≡ b → (if b then n else length z.bytes) < length z.bytes → PlacesIn r z.number size
+    by_section r section value size n false own target same below = absurd (omega (arith, below))
+    by_section r section value size n true own target same below = record {
       value = value;
       own = own;
       target = target ∙ ap (λ (k : ℕ). Some (k, value)) (eqb-true section z.number same);
-      reaches = all;
     }
 
-    by_target : (r : Relocation) (t : Option (ℕ × ℕ)) (size n : ℕ) → r.size ≡ Some size → r.target ≡ t → reaches_all r.class size ≡ true
-        → is_placed (targeted t r size n) ≡ true → offset_into z (targeted t r size n) < length z.bytes → PlacesIn r z.number size
-    by_target r None size n own target all placed below = absurd cc
-    by_target r (Some (section, value)) size n own target all placed below =
-        by_section r section value size (wrapped (pos value +ℤ addend_of r.addend n) size) (section == z.number) own target all refl below
+    by_target : (r : Relocation) (t : Option (ℕ × ℕ)) (size n : ℕ) → r.size ≡ Some size → r.target ≡ t → is_placed (targeted t r size n) ≡ true → offset_into z (targeted t r size n) < length z.bytes → PlacesIn r z.number size
+    by_target r None size n own target placed below = absurd cc
+    by_target r (Some (section, value)) size n own target placed below =
+        by_section r section value size (wrapped (pos value +ℤ addend_of r.addend n) size) (section == z.number) own target refl below
 
-    by_own : (r : Relocation) (k size n : ℕ) (b : Bool) → r.size ≡ Some k → reaches_all r.class size ≡ true → (k == size) ≡ b
+    by_own : (r : Relocation) (k size n : ℕ) (b : Bool) → r.size ≡ Some k → (k == size) ≡ b
         → is_placed (if b then targeted r.target r size n else symbol_field r n) ≡ true
         → offset_into z (if b then targeted r.target r size n else symbol_field r n) < length z.bytes → PlacesIn r z.number size
-    by_own r k size n false own all same placed below = absurd cc
-    by_own r k size n true own all same placed below = by_target r r.target size n (own ∙ ap (λ (m : ℕ). Some m) (eqb-true k size same)) refl all placed below
+    by_own r k size n false own same placed below = absurd cc
+    by_own r k size n true own same placed below = by_target r r.target size n (own ∙ ap (λ (m : ℕ). Some m) (eqb-true k size same)) refl placed below
 
-    by_size : (r : Relocation) (s : Option ℕ) (size n : ℕ) → r.size ≡ s → reaches_all r.class size ≡ true → is_placed (relocated s r size n) ≡ true
+    by_size : (r : Relocation) (s : Option ℕ) (size n : ℕ) → r.size ≡ s → is_placed (relocated s r size n) ≡ true
         → offset_into z (relocated s r size n) < length z.bytes → PlacesIn r z.number size
-    by_size r None size n own all placed below = absurd cc
-    by_size r (Some k) size n own all placed below = by_own r k size n (k == size) own all refl placed below
+    by_size r None size n own placed below = absurd cc
+    by_size r (Some k) size n own placed below = by_own r k size n (k == size) own refl placed below
 
     by_first : (o : Option Relocation) (n : ℕ) → is_placed (field_by o (length p) n) ≡ true → offset_into z (field_by o (length p) n) < length z.bytes
-        → ReachesBy o (length p) → PlacesBy o z.number (length p)
-    by_first None n placed below all = tt
-    by_first (Some r) n placed below all = by_size r r.size (length p) n refl all placed below
+        → PlacesBy o z.number (length p)
+    by_first None n placed below = tt
+    by_first (Some r) n placed below = by_size r r.size (length p) n refl placed below
+
+-- an offset that lies in its section is no symbol
+placed-inside : (z : Located) (f : Field) → offset_into z f < length z.bytes → is_placed f ≡ true
+placed-inside z (Num n) lt = refl
+placed-inside z (Into s n) lt = refl
+placed-inside z (Sym s k a) lt = absurd (omega (arith, lt))
+
+pub place-inside : (order : Order) (z : Located) (p : List Cell) → offset_of order z p < length z.bytes → IsPlace z.number p
+unfolding offset_of
+place-inside order z p below = place-read order z p (placed-inside z (field_of order p) below) below
 
 -- a field keeps its size
 moved-length : (p : List Cell) (q : Relocation) → length (with_relocation p q) ≡ length p

@@ -1,9 +1,9 @@
--- A file that was written with new bodies, where each section that isn't read keeps its bytes: its records read, its
--- sections have their names and kinds, its build-id stays, and what is meant by bytes alone is as it was.
-use Rattle.std.proofs.Common.{◌+◌, Bool, true, false, ◌≡◌, ◌≢◌, ℕ, zero, suc, ◌<◌, ◌==◌, ◌||◌, ◌&&◌, not, List, [], ◌∷◌, ◌++◌, length, IsTrue, cond, sym, ap, ◌∙◌, refl, subst, arith}
+-- A file that was written with new bodies, where each section keeps its bytes that isn't read and holds no relocations of one that is: its
+-- records read, its sections have their names and kinds, its build-id stays, and what is meant by bytes alone is as it was.
+use Rattle.std.proofs.Common.{◌+◌, Bool, true, false, ◌≡◌, ◌≢◌, ℕ, zero, suc, ◌<◌, ◌==◌, ◌||◌, ◌&&◌, not, List, [], ◌∷◌, ◌++◌, length, IsTrue, cond, if◌then◌else◌, sym, ap, ◌∙◌, refl, subst, arith}
 use Rattle.std.specs.Bool.{⊤}
 use Rattle.std.specs.Prelude.{bit_and, Option, Some, None, is_some, nat_lt}
-use Rattle.std.proofs.lemmas.Bool.{ltb-true, ne_eqb}
+use Rattle.std.proofs.lemmas.Bool.{and_parts, eqb-true, ltb-true, ne_eqb}
 use Rattle.dw_base.specs.DebugSectionFails.{NameReads, DebugSectionsRead, is_active, repeats_by}
 use Rattle.dw_base.specs.Cells.{plain_cells}
 use Rattle.dw_base.specs.DebugSections.{debug_section, is_listed, name_of}
@@ -14,12 +14,13 @@ use Rattle.dw_base.specs.Layout.{is_loaded_kind}
 use Rattle.dw_base.specs.LayoutReads.{ReadsBack, NamesEnd, is_known_kind}
 use Rattle.dw_base.specs.Lists.{tabulate}
 use Rattle.dw_base.specs.Notes.{BuildId, zeroed, is_id_section, or_this, first_below, build_id_in, build_id_of}
-use Rattle.dw_base.specs.RelocationSectionFails.{relocates_read}
+use Rattle.dw_base.specs.RelocationRows.{moving_from, moving_sections}
+use Rattle.dw_base.specs.RelocationSectionFails.{is_read_section, moves, relocates_read}
 use Rattle.dw_base.specs.SectionNames.{note_build_id, debug_link}
 use Rattle.dw_base.specs.SectionRelocations.{PlacedRelocation, cells_from, is_relocation_kind, relocates}
 use Rattle.dw_base.specs.Texts.{same_text, text_in, ends_in}
 use Rattle.dw_base.specs.ViewData.{is_read, is_other, NamedBytes, other_sections, zeroed_at, without_id}
-use Rattle.dw_base.specs.declared.elf_numbers.TheConstants.{ET_REL}
+use Rattle.dw_base.specs.declared.elf_numbers.TheConstants.{ET_REL, SHT_REL, SHT_RELA}
 use Rattle.dw_base.specs.declared.debug_sections.DebugSection.{DebugSection}
 use Rattle.dw_base.specs.declared.debug_sections.DebugSection.TheVariants.{Info, Types, Abbrev, Str, LineStr, StrOffsets, Line, Macro, Names}
 use Rattle.dw_meaning.proofs.BuildIdLaws.{first_below-found}
@@ -35,10 +36,9 @@ is_read_name name = is_read (debug_section name)
 -- a file that was written so
 pub record Back (b : List ℕ) (bodies : ℕ → List ℕ) (out : List ℕ) : Type 0 where
   pub elf : ElfReads b
-  pub kind : is_loaded_kind b ≡ true
   pub names : DebugSectionsRead b
   pub back : ReadsBack b bodies out
-  pub unread : (i : ℕ) → i < section_count b → is_read_name (section_name b i) ≡ false → bodies i ≡ contents_of b i
+  pub unread : (i : ℕ) → i < section_count b → is_read_name (section_name b i) ≡ false → relocates_read b i ≡ false → bodies i ≡ contents_of b i
 
 pub known_kind : (b : List ℕ) → is_loaded_kind b ≡ true → is_known_kind b ≡ true
 known_kind b loaded = rw loaded (or_true (e_type b == 1))
@@ -46,6 +46,19 @@ known_kind b loaded = rw loaded (or_true (e_type b == 1))
     or_true : (p : Bool) → (p || true) ≡ true
     or_true true = refl
     or_true false = refl
+
+-- only a section of a kind of its own holds relocations
+pub plain-holder : (b : List ℕ) (i : ℕ) → is_relocation_kind (nth_section b i) ≡ false → relocates_read b i ≡ false
+unfolding relocates_read relocates
+plain-holder b i plain = rw plain (nothing (e_type b == ET_REL))
+  where
+    nothing : (t : Bool) → (t && false && (nth_section b i).info == (nth_section b i).info && is_read_section b (nth_section b i).info) ≡ false
+    nothing true = refl
+    nothing false = refl
+
+pub other-holder : (b : List ℕ) (i : ℕ) → (e_type b == ET_REL) ≡ false → relocates_read b i ≡ false
+unfolding relocates_read relocates
+other-holder b i other = rw other refl
 
 -- a name that is read is listed
 listed-names : (s : DebugSection) → is_listed (name_of s) ≡ true
@@ -79,6 +92,7 @@ unlisted-unread name e = ap is_read (unlisted-none name e)
 names-kept : (b : List ℕ) (bodies : ℕ → List ℕ) (out : List ℕ) → Back b bodies out → name_index b ≢ 0 → bodies (name_index b) ≡ contents_of b (name_index b)
 names-kept b bodies out w some =
     w.unread (name_index b) (w.elf.debug.index.there some) (unlisted-unread (section_name b (name_index b)) (w.names.apart some))
+    (plain-holder b (name_index b) (ap (λ (k : ℕ). k == SHT_REL || k == SHT_RELA) (w.elf.debug.index.strings some)))
 
 name_table-is : (b : List ℕ) → name_index b ≢ 0 → name_table b ≡ contents_of b (name_index b)
 unfolding name_table
@@ -93,10 +107,10 @@ names-end b bodies out w = record {
 
 -- its records read
 pub elf-back : (b : List ℕ) (bodies : ℕ → List ℕ) (out : List ℕ) → Back b bodies out → ElfReads out
-elf-back b bodies out w = w.back.reads (known_kind b w.kind) (names-end b bodies out w)
+elf-back b bodies out w = w.back.reads w.names.file_type (names-end b bodies out w)
 
-pub kind-back : (b : List ℕ) (bodies : ℕ → List ℕ) (out : List ℕ) → Back b bodies out → is_loaded_kind out ≡ true
-kind-back b bodies out w = rw w.back.kind w.kind
+pub loaded-back : (b : List ℕ) (bodies : ℕ → List ℕ) (out : List ℕ) → ReadsBack b bodies out → is_loaded_kind b ≡ true → is_loaded_kind out ≡ true
+loaded-back b bodies out back loaded = rw back.kind loaded
 
 -- its names are as they were
 name_table-back : (b : List ℕ) (bodies : ℕ → List ℕ) (out : List ℕ) → Back b bodies out → name_table out ≡ name_table b
@@ -115,7 +129,7 @@ section_name-back b bodies out i w lt =
     ap (λ (t : List ℕ). text_in t (nth_section out i).name) (name_table-back b bodies out w) ∙ ap (text_in (name_table b)) (w.back.heads i lt).name
 
 -- and its sections hold relocations of those of which they held some
-relocates-back : (b : List ℕ) (bodies : ℕ → List ℕ) (out : List ℕ) (target i : ℕ) → Back b bodies out → i < section_count b
+pub relocates-back : (b : List ℕ) (bodies : ℕ → List ℕ) (out : List ℕ) (target i : ℕ) → Back b bodies out → i < section_count b
     → relocates out target i ≡ relocates b target i
 unfolding relocates
 relocates-back b bodies out target i w lt =
@@ -198,6 +212,12 @@ id-unread b i is = ap is_read_name (same_text-true (section_name b i) note_build
     and_left true q h = refl
     and_left false q h = cc
 
+id-holder : (b : List ℕ) (i : ℕ) → is_id_section b i ≡ true → relocates_read b i ≡ false
+unfolding is_id_section
+id-holder b i is =
+    plain-holder b i (ap (λ (k : ℕ). k == SHT_REL || k == SHT_RELA)
+    (eqb-true (nth_section b i).kind 7 (and_parts (same_text (section_name b i) note_build_id) ((nth_section b i).kind == 7) is).1))
+
 id-section_same : (b : List ℕ) (bodies : ℕ → List ℕ) (out : List ℕ) (i : ℕ) → Back b bodies out → i < section_count b → is_id_section out i ≡ is_id_section b i
 unfolding is_id_section
 id-section_same b bodies out i w lt = rw (section_name-back b bodies out i w lt, (w.back.heads i lt).kind) refl
@@ -214,7 +234,7 @@ build_id-back b bodies out w =
     by_found (Some i) e =
         let found = first_below-found (is_id_section b) (section_count b) i e in
         let bytes : contents_of out i ≡ contents_of b i =
-        w.back.contents i found.0 ∙ w.unread i found.0 (id-unread b i found.1) in
+        w.back.contents i found.0 ∙ w.unread i found.0 (id-unread b i found.1) (id-holder b i found.1) in
         rw (w.back.order, bytes) refl
 
 -- the sections of two views, number by number, each related at its number
@@ -247,6 +267,7 @@ bare-cells t none = ap (λ (rs : List PlacedRelocation). cells_from rs 0 (bytes_
 pub record SectionBack (b : List ℕ) (bodies : ℕ → List ℕ) (i : ℕ) (s t : ViewSection) : Type 0 where
   pub within : i < section_count b
   pub named : s.name ≡ section_name b i
+  pub holder : s.relocates_read ≡ relocates_read b i
   pub name : t.name ≡ s.name
   pub alloc : t.alloc ≡ s.alloc
   pub is_name_table : t.is_name_table ≡ s.is_name_table
@@ -261,12 +282,13 @@ unfolding view_section
 section-back b bodies out i w lt = record {
   within = lt;
   named = refl;
+  holder = refl;
   name = section_name-back b bodies out i w lt;
   alloc = rw (w.back.heads i lt).flags refl;
   is_name_table = rw w.back.names refl;
   has_bytes = rw (w.back.heads i lt).kind refl;
   relocates_read = relocates_read-back b bodies out i w lt;
-  bare = λ loaded. relocations_of-loaded (contents_of out) out i (kind-back b bodies out w);
+  bare = λ loaded. relocations_of-loaded (contents_of out) out i (loaded-back b bodies out w.back loaded);
   old = refl;
   new = w.back.contents i lt;
 }
@@ -277,13 +299,13 @@ sections-back b bodies out w =
     subst (λ (n : ℕ). AllAt (SectionBack b bodies) 0 (tabulate (view_section b) (section_count b)) (tabulate (view_section out) n)) (sym w.back.count)
     (tabulate-at (SectionBack b bodies) (view_section b) (view_section out) (section_count b) (λ i lt. section-back b bodies out i w lt))
 
--- two sections are the same, but for the bytes of one that is read
+-- two sections are the same, but for the bytes of one that is read, or that holds relocations of one that is
 record Alike (s t : ViewSection) : Type 0 where
   name : t.name ≡ s.name
   alloc : t.alloc ≡ s.alloc
   is_name_table : t.is_name_table ≡ s.is_name_table
   relocates_read : t.relocates_read ≡ s.relocates_read
-  contents : is_read_name s.name ≡ false → bytes_in t.contents ≡ bytes_in s.contents
+  contents : is_read_name s.name ≡ false → s.relocates_read ≡ false → bytes_in t.contents ≡ bytes_in s.contents
 
 abbrev AllAlike : List ViewSection → List ViewSection → Type 0
 AllAlike [] [] = ⊤
@@ -301,7 +323,8 @@ alike-back b bodies out k (s ∷ ss) (t ∷ ts) w all = (
     alloc = all.0.alloc;
     is_name_table = all.0.is_name_table;
     relocates_read = all.0.relocates_read;
-    contents = λ unread. all.0.new ∙ w.unread k all.0.within (ap is_read_name (sym all.0.named) ∙ unread) ∙ sym all.0.old;
+    contents = λ unread plain.
+        all.0.new ∙ w.unread k all.0.within (ap is_read_name (sym all.0.named) ∙ unread) (sym all.0.holder ∙ plain) ∙ sym all.0.old;
   },
   alike-back b bodies out (suc k) ss ts w all.1,
 )
@@ -314,7 +337,7 @@ zeroed-alike id s t h = record {
   alloc = h.alloc;
   is_name_table = h.is_name_table;
   relocates_read = h.relocates_read;
-  contents = λ unread. ap (zeroed id.descriptor) (h.contents unread);
+  contents = λ unread plain. ap (zeroed id.descriptor) (h.contents unread plain);
 }
 
 zeroed_at-alike : (i : ℕ) (id : BuildId) (ss ts : List ViewSection) → AllAlike ss ts → AllAlike (zeroed_at i id ss) (zeroed_at i id ts)
@@ -332,14 +355,22 @@ without_id-alike (Some id) ss ts h = zeroed_at-alike id.section id ss ts h
 other-alike : (s t : ViewSection) → Alike s t → is_other t ≡ is_other s
 other-alike s t h = rw (h.name, h.alloc, h.is_name_table, h.relocates_read) refl
 
-other-unread : (s : ViewSection) → is_other s ≡ true → is_read_name s.name ≡ false
-other-unread s is = by_tests s.alloc s.is_name_table (is_read_name s.name) (same_text s.name debug_link) s.relocates_read is
+record IsUnread (s : ViewSection) : Type 0 where
+  name : is_read_name s.name ≡ false
+  holder : s.relocates_read ≡ false
+
+other-unread : (s : ViewSection) → is_other s ≡ true → IsUnread s
+other-unread s is =
+    let both = by_tests s.alloc s.is_name_table (is_read_name s.name) (same_text s.name debug_link) s.relocates_read is in
+    record { name = both.0; holder = both.1 }
   where
-    by_tests : (a n r l h : Bool) → not (a || n || r || l || h) ≡ true → r ≡ false
+    by_tests : (a n r l h : Bool) → not (a || n || r || l || h) ≡ true → (r ≡ false) × (h ≡ false)
     by_tests true n r l h is = let no : false ≡ true = is in cc
     by_tests false true r l h is = let no : false ≡ true = is in cc
     by_tests false false true l h is = let no : false ≡ true = is in cc
-    by_tests false false false l h is = refl
+    by_tests false false false true h is = let no : false ≡ true = is in cc
+    by_tests false false false false true is = let no : false ≡ true = is in cc
+    by_tests false false false false false is = (refl, refl)
 
 abbrev named_bytes : ViewSection → NamedBytes
 named_bytes s = record { name = s.name; bytes = bytes_in s.contents }
@@ -348,7 +379,7 @@ named-alike : (s t : ViewSection) (os : List NamedBytes) (x : Bool) → Alike s 
     → cond x (named_bytes t ∷ os) os ≡ cond x (named_bytes s ∷ os) os
 named-alike s t os true h is =
     ap (λ (n : List ℕ). record { name = n; bytes = bytes_in t.contents } ∷ os) h.name
-    ∙ ap (λ (p : List ℕ). record { name = s.name; bytes = p } ∷ os) (h.contents (other-unread s is))
+    ∙ ap (λ (p : List ℕ). record { name = s.name; bytes = p } ∷ os) (h.contents (other-unread s is).name (other-unread s is).holder)
 named-alike s t os false h is = refl
 
 other_sections-alike : (ss ts : List ViewSection) → AllAlike ss ts → other_sections ts ≡ other_sections ss
@@ -370,3 +401,17 @@ others-back b bodies out w =
     ap (λ (id : Option BuildId). other_sections (without_id id (view_of out).sections)) (id-view out ∙ build_id-back b bodies out w ∙ sym (id-view b))
     ∙ other_sections-alike (without_id (view_of b).id (view_of b).sections) (without_id (view_of b).id (view_of out).sections)
     (without_id-alike (view_of b).id (view_of b).sections (view_of out).sections (alike-back b bodies out 0 (view_of b).sections (view_of out).sections w (sections-back b bodies out w)))
+
+-- the sections whose places change are those of before
+moving-alike : (i : ℕ) (ss ts : List ViewSection) → AllAlike ss ts → moving_from i ts ≡ moving_from i ss
+moving-alike i [] [] h = refl
+moving-alike i [] (t ∷ ts) h = absurd h
+moving-alike i (s ∷ ss) [] h = absurd h
+moving-alike i (s ∷ ss) (t ∷ ts) h =
+    ap (λ (n : List ℕ). if moves (debug_section n) then i ∷ moving_from (i + 1) ts else moving_from (i + 1) ts) h.0.name
+    ∙ ap (λ (l : List ℕ). if moves (debug_section s.name) then i ∷ l else l) (moving-alike (i + 1) ss ts h.1)
+
+pub moving-back : (b : List ℕ) (bodies : ℕ → List ℕ) (out : List ℕ) → Back b bodies out → moving_sections (view_of out) ≡ moving_sections (view_of b)
+unfolding moving_sections
+moving-back b bodies out w =
+    moving-alike 0 (view_of b).sections (view_of out).sections (alike-back b bodies out 0 (view_of b).sections (view_of out).sections w (sections-back b bodies out w))

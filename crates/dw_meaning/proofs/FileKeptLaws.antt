@@ -1,7 +1,8 @@
 -- The file law: the output of a file means what the file means, with each source path mapped.
-use Rattle.std.proofs.Common.{true, false, ◌≡◌, ◌≢◌, ◌⊎◌, inl, inr, ℕ, ◌<◌, List, [], drop, Option, Some, None, Bool, ◌∷◌, ◌++◌, length, true≢false, sym, ap, ◌∙◌, refl, subst, arith, if◌then◌else◌, take}
-use Rattle.std.proofs.lemmas.Bool.{ne_eqb, eq-eqb, cases_eq}
-use Rattle.dw_base.specs.Cells.{Cell, Located, CellSection, bytes_of, plain_cells}
+use Rattle.std.specs.Prelude.{is_some}
+use Rattle.std.proofs.Common.{◌==◌, ◌||◌, slice_index, true, false, ◌≡◌, ◌≢◌, ◌⊎◌, inl, inr, ℕ, ◌<◌, List, [], drop, Option, Some, None, Bool, ◌∷◌, ◌++◌, length, true≢false, sym, ap, ◌∙◌, refl, subst, arith, if◌then◌else◌, take}
+use Rattle.std.proofs.lemmas.Bool.{ne_eqb, eq-eqb, eqb-true, cases_eq, lt-ltb}
+use Rattle.dw_base.specs.Cells.{Cell, Located, bytes_of}
 use Rattle.dw_meaning.specs.DataOutput.{DataFits, table_change, new_lines, changes_of, offsets_after, macros_after, names_after, Body, unit_bodies, macro_bodies, body_in, new_bodies}
 use Rattle.dw_base.specs.DebugData.{Around, DataReadings, around_of, line_source, path_slots}
 use Rattle.dw_base.specs.LineChanges.{line_mentions, lines_after}
@@ -9,11 +10,11 @@ use Rattle.dw_base.specs.LineReadings.{LineReading, TablesTo, all_lines}
 use Rattle.dw_base.specs.MacroReadings.{MacroReading}
 use Rattle.dw_base.specs.Texts.{ends_in}
 use Rattle.dw_base.specs.DebugSections.{debug_section, name_of}
-use Rattle.dw_base.specs.Elf.{e_shoff, nth_section, section_count, section_name, contents_of, contents_at, is_empty_kind}
-use Rattle.dw_meaning.specs.FileMeanings.{file_data, FileReads, new_body}
+use Rattle.dw_base.specs.Elf.{e_shoff, e_type, nth_section, section_count, section_name, contents_of, contents_at, is_empty_kind}
+use Rattle.dw_meaning.specs.FileMeanings.{file_data, file_body, FileReads, new_body}
+use Rattle.dw_meaning.specs.RelocatedBodies.{new_cells, relocated_body}
 use Rattle.dw_base.specs.FileViews.{view_of, section_named, section_after}
 use Rattle.dw_base.specs.Forms.{TextSection, in_str, in_line_str}
-use Rattle.dw_base.specs.Layout.{is_loaded_kind}
 use Rattle.dw_base.specs.LayoutReads.{ReadsBack}
 use Rattle.dw_base.specs.Paths.{PathMap, IsPathMap}
 use Rattle.dw_base.specs.StringTables.{new_table}
@@ -21,28 +22,30 @@ use Rattle.dw_base.specs.TextChanges.{TableChanges, edited_by}
 use Rattle.dw_base.specs.Pieces.{Piece, joined}
 use Rattle.dw_base.specs.Roles.{Role}
 use Rattle.dw_base.specs.SectionTexts.{slot_role, name_role, edited_with}
-use Rattle.dw_base.specs.ViewData.{unit_kind, unit_sections, is_macro, macro_sections, cells_located, located, located_at, debug_data, is_read}
+use Rattle.dw_base.specs.ViewData.{unit_kind, unit_sections, is_macro, macro_sections, located, located_at, debug_data, is_read}
+use Rattle.dw_base.specs.RelocationSectionFails.{is_own_kind, is_read_section, relocates_read}
+use Rattle.dw_base.specs.SectionRelocations.{is_relocation_kind}
+use Rattle.dw_base.specs.declared.elf_numbers.TheConstants.{ET_REL, SHT_SYMTAB, SHT_SYMTAB_SHNDX}
 use Rattle.dw_base.specs.declared.debug_sections.DebugSection.{DebugSection}
 use Rattle.dw_base.specs.declared.debug_sections.DebugSection.TheVariants.{Info, Types, Abbrev, Str, LineStr, StrOffsets, Line, Macro, Names}
 use Rattle.dw_base.proofs.DebugSectionLaws.{debug_section-name}
-use Rattle.dw_meaning.proofs.FileBackLaws.{Back, SectionBack, is_read_name, kind-back, sections-back}
+use Rattle.dw_meaning.proofs.FileBackLaws.{Back, SectionBack, is_read_name, other-holder, plain-holder, sections-back}
 use Rattle.dw_base.proofs.FileViewLaws.{section_bytes-view_of}
-use Rattle.dw_meaning.proofs.MacroEditLaws.{edited_macro_sections}
-use Rattle.dw_meaning.proofs.MacroKeptLaws.{edited-cells, macros-plain, macros-skip, macros-sections}
+use Rattle.dw_meaning.proofs.MacroKeptLaws.{macros-skip}
 use Rattle.dw_meaning.proofs.SectionKeptLaws.{edited-size, units-skip}
-use Rattle.dw_meaning.proofs.OffsetMoveLaws.{EachCells, cells-plain}
-use Rattle.dw_base.proofs.PlainCellLaws.{IsPlain, plain_cells-plain}
 use Rattle.dw_base.proofs.TextLaws.{ends_in-inside}
-use Rattle.dw_base.proofs.ViewCellLaws.{bytes-cells, number-cells, view_cells-loaded}
+use Rattle.dw_base.proofs.ViewCellLaws.{bytes-cells, number-cells}
+use Rattle.dw_base.proofs.UnitEditLaws.{length-bytes_of}
 use Rattle.dw_meaning.proofs.LineColumnLaws.{texts_in}
 use Rattle.dw_meaning.proofs.LinePathLaws.{lines-none}
 use Rattle.dw_meaning.proofs.LineSectionLaws.{TablesApart, no-tables}
 use Rattle.std.proofs.lemmas.List.{length-append}
 use Rattle.dw_meaning.proofs.TableKeptLaws.{FoundAt, found-named, TablePlace, nowhere, lies_at, table-place, new_table-none, drop-at, found-back, sections-self}
 
--- a file that can be read and mapped
+-- a file, a list of bytes, that can be read and mapped
 pub record CanMap (m : PathMap) (b : List ℕ) (r : DataReadings) : Type 0 where
   pub map : IsPathMap m
+  pub bytes : (n : ℕ) → slice_index b n < 256
   pub reads : FileReads b r
   pub fits : DataFits m (file_data b) r
 
@@ -136,26 +139,7 @@ tables-place b = table-place b Line
 pub names-place : (b : List ℕ) → TablePlace b (name_of Names) (located (view_of b) Names)
 names-place b = table-place b Names
 
--- a section that is read as pieces and on which no relocation stands
-abbrev pub plain_section : Located → CellSection
-plain_section z = record { number = z.number; contents = plain_cells z.bytes }
-
-section-plain : (b : List ℕ) (o : Option ℕ) → is_loaded_kind b ≡ true → cells_located (view_of b) o ≡ plain_section (located_at (view_of b) o)
-section-plain b None loaded = refl
-section-plain b (Some i) loaded = ap (λ (p : List Cell). record { number = i; contents = p }) (view_cells-loaded b i loaded)
-
-pub offsets-are : (b : List ℕ) → is_loaded_kind b ≡ true → (file_data b).offsets ≡ plain_section (located (view_of b) StrOffsets)
-unfolding debug_data located
-offsets-are b loaded = section-plain b (section_named (view_of b) (name_of StrOffsets)) loaded
-
-pub lines-are : (b : List ℕ) → is_loaded_kind b ≡ true → (file_data b).lines ≡ plain_section (located (view_of b) Line)
-unfolding debug_data located
-lines-are b loaded = section-plain b (section_named (view_of b) (name_of Line)) loaded
-
-pub names-are : (b : List ℕ) → is_loaded_kind b ≡ true → (file_data b).names ≡ plain_section (located (view_of b) Names)
-unfolding debug_data located
-names-are b loaded = section-plain b (section_named (view_of b) (name_of Names)) loaded
-
+-- the numbers of those that are read as pieces
 pub offsets-number : (b : List ℕ) → (file_data b).offsets.number ≡ (located (view_of b) StrOffsets).number
 unfolding debug_data located
 offsets-number b = number-cells (view_of b) (section_named (view_of b) (name_of StrOffsets))
@@ -213,29 +197,36 @@ length-none : (p : List Cell) → length p ≡ 0 → p ≡ []
 length-none [] e = refl
 length-none (c ∷ cs) e = absurd (omega (arith, e))
 
-edited-length : {S : Type 0} (role : S → Role) (c : TableChanges) (around : Around) (xs : List (Piece S)) → EachCells xs → length (joined (edited_with role c around xs)) ≡ length (joined xs)
-edited-length role c around [] plain = refl
-edited-length role c around (x ∷ xs) plain =
-    let here : length (edited_by (role x.state) c around x.cells) ≡ length x.cells = edited-size (role x.state) c around x.cells plain.0 in
-    let rest : length (joined (edited_with role c around xs)) ≡ length (joined xs) = edited-length role c around xs plain.1 in
+edited-length : {S : Type 0} (role : S → Role) (c : TableChanges) (around : Around) (xs : List (Piece S)) → length (joined (edited_with role c around xs)) ≡ length (joined xs)
+edited-length role c around [] = refl
+edited-length role c around (x ∷ xs) =
+    let here : length (edited_by (role x.state) c around x.cells) ≡ length x.cells = edited-size (role x.state) c around x.cells in
+    let rest : length (joined (edited_with role c around xs)) ≡ length (joined xs) = edited-length role c around xs in
     omega (arith, length-append x.cells (joined xs), length-append (edited_by (role x.state) c around x.cells) (joined (edited_with role c around xs)), here, rest)
 
-edited-none : {S : Type 0} (role : S → Role) (c : TableChanges) (around : Around) (xs : List (Piece S)) (bs : List ℕ) → joined xs ≡ plain_cells bs → bs ≡ []
+pub edited-none : {S : Type 0} (role : S → Role) (c : TableChanges) (around : Around) (xs : List (Piece S)) (cells : List Cell) (bs : List ℕ) → joined xs ≡ cells → bytes_of cells ≡ bs → bs ≡ []
     → joined (edited_with role c around xs) ≡ []
-edited-none role c around xs bs cells none =
-    let empty : joined xs ≡ [] = cells ∙ ap plain_cells none in
-    let plain : EachCells xs = cells-plain xs (subst IsPlain (sym cells) (plain_cells-plain bs)) in
-    length-none (joined (edited_with role c around xs)) (edited-length role c around xs plain ∙ ap length empty)
+edited-none role c around xs cells bs own bytes none =
+    let size : length cells ≡ 0 = sym (length-bytes_of cells) ∙ ap length (bytes ∙ none) in
+    length-none (joined (edited_with role c around xs)) (edited-length role c around xs ∙ ap length own ∙ size)
+
+offsets-bytes : (b : List ℕ) → bytes_of (file_data b).offsets.contents ≡ (located (view_of b) StrOffsets).bytes
+unfolding debug_data located
+offsets-bytes b = bytes-cells (view_of b) (section_named (view_of b) (name_of StrOffsets))
+
+names-bytes : (b : List ℕ) → bytes_of (file_data b).names.contents ≡ (located (view_of b) Names).bytes
+unfolding debug_data located
+names-bytes b = bytes-cells (view_of b) (section_named (view_of b) (name_of Names))
 
 pub offsets-none : (m : PathMap) (b : List ℕ) (r : DataReadings) → CanMap m b r → (located (view_of b) StrOffsets).bytes ≡ [] → new_offsets m b r ≡ []
 offsets-none m b r w none =
-    edited-none (slot_role (path_slots (around_file b r))) (changes_file m b r) (around_file b r) r.offsets (located (view_of b) StrOffsets).bytes
-    (w.reads.data_reads.offsets.cells ∙ ap (λ (z : CellSection). z.contents) (offsets-are b w.reads.kind)) none
+    edited-none (slot_role (path_slots (around_file b r))) (changes_file m b r) (around_file b r) r.offsets (file_data b).offsets.contents (located (view_of b) StrOffsets).bytes
+    w.reads.data_reads.offsets.cells (offsets-bytes b) none
 
 pub names-none : (m : PathMap) (b : List ℕ) (r : DataReadings) → CanMap m b r → (located (view_of b) Names).bytes ≡ [] → new_names m b r ≡ []
 names-none m b r w none =
-    edited-none name_role (changes_file m b r) (around_file b r) r.names (located (view_of b) Names).bytes
-    (w.reads.data_reads.names.cells ∙ ap (λ (z : CellSection). z.contents) (names-are b w.reads.kind)) none
+    edited-none name_role (changes_file m b r) (around_file b r) r.names (file_data b).names.contents (located (view_of b) Names).bytes
+    w.reads.data_reads.names.cells (names-bytes b) none
 
 -- nor line tables
 pub line-bytes : (b : List ℕ) → (line_source (file_data b)).bytes ≡ (located (view_of b) Line).bytes
@@ -248,7 +239,7 @@ tables-none m b r w none =
     (no-tables (line_source (file_data b)) r.lines (line-bytes b ∙ none) w.reads.data_reads.lines)
 
 -- section 0 has no bytes
-section_0 : (m : PathMap) (b : List ℕ) (r : DataReadings) → CanMap m b r → 0 < section_count b → contents_of b 0 ≡ []
+pub section_0 : (m : PathMap) (b : List ℕ) (r : DataReadings) → CanMap m b r → 0 < section_count b → contents_of b 0 ≡ []
 unfolding contents_of contents_at section_count
 section_0 m b r w some = by_table (cases_eq (e_shoff b) 0)
   where
@@ -259,10 +250,10 @@ section_0 m b r w some = by_table (cases_eq (e_shoff b) 0)
     by_table (inr there) = rw (w.reads.elf.debug.index.null there) refl
 
 -- the first body of a list, and the others
-here-body : (x : Body) (xs : List Body) (old : ℕ → List ℕ) (i : ℕ) → i ≡ x.number → body_in (x ∷ xs) old i ≡ x.bytes
+pub here-body : (x : Body) (xs : List Body) (old : ℕ → List ℕ) (i : ℕ) → i ≡ x.number → body_in (x ∷ xs) old i ≡ x.bytes
 here-body x xs old i same = rw (eq-eqb i x.number same) refl
 
-next-body : (x : Body) (xs : List Body) (old : ℕ → List ℕ) (i : ℕ) → i ≢ x.number → body_in (x ∷ xs) old i ≡ body_in xs old i
+pub next-body : (x : Body) (xs : List Body) (old : ℕ → List ℕ) (i : ℕ) → i ≢ x.number → body_in (x ∷ xs) old i ≡ body_in xs old i
 next-body x xs old i other = rw (ne_eqb i x.number other) refl
 
 -- the new body of the first table
@@ -295,6 +286,12 @@ body-names m b r i same str line offsets tables =
     body-open m b r i ∙ next-body (str_new m b r) (behind_str m b r) (contents_of b) i str ∙ next-body (line_new m b r) (behind_line m b r) (contents_of b) i line
     ∙ next-body (offsets_new m b r) (behind_offsets m b r) (contents_of b) i offsets ∙ next-body (tables_new m b r) (behind_lines m b r) (contents_of b) i tables
     ∙ here-body (names_new m b r) (behind_names m b r) (contents_of b) i same
+
+-- of a section that is none of the tables of texts
+pub body-pieces : (m : PathMap) (b : List ℕ) (r : DataReadings) (i : ℕ) → i ≢ (file_data b).str.number → i ≢ (file_data b).line_str.number
+    → new_body m b r i ≡ body_in (offsets_new m b r ∷ tables_new m b r ∷ names_new m b r ∷ (macros_new m b r ++ units_new m b r)) (contents_of b) i
+body-pieces m b r i str line =
+    body-open m b r i ∙ next-body (str_new m b r) (behind_str m b r) (contents_of b) i str ∙ next-body (line_new m b r) (behind_line m b r) (contents_of b) i line
 
 -- the number is that of none of them
 pub record IsApart (b : List ℕ) (i : ℕ) : Type 0 where
@@ -390,9 +387,9 @@ unread-same m b r i s z bytes w lt read unread none (nowhere zero empty) same =
 unread-same m b r i s z bytes w lt read unread none (lies_at there within named own) same =
     absurd (unread-other b i s read unread (ap (section_name b) same ∙ named))
 
-unread-kept : (m : PathMap) (b : List ℕ) (r : DataReadings) (i : ℕ) → CanMap m b r → i < section_count b → is_read_name (section_name b i) ≡ false
+new-kept : (m : PathMap) (b : List ℕ) (r : DataReadings) (i : ℕ) → CanMap m b r → i < section_count b → is_read_name (section_name b i) ≡ false
     → new_body m b r i ≡ contents_of b i
-unread-kept m b r i w lt unread =
+new-kept m b r i w lt unread =
     body-open m b r i
     ∙ keep-body (str_new m b r) (behind_str m b r) (contents_of b) i
     (unread-same m b r i Str (file_data b).str (new_str m b r) w lt refl unread (str-none m b r w) (str-place b))
@@ -410,14 +407,66 @@ unread-kept m b r i w lt unread =
     (macros-none m b r i w (unread-macros (debug_section (section_name b i)) unread)
     ∙ units-none m b r i w (unread-units (debug_section (section_name b i)) unread))))))
 
+-- the body of a section that holds no relocations of one that is read, and of one that does
+pub plain-body : (m : PathMap) (b : List ℕ) (r : DataReadings) (i : ℕ) → relocates_read b i ≡ false → file_body m b r i ≡ new_body m b r i
+unfolding file_body
+plain-body m b r i none = ap (λ (t : Bool). if t then relocated_body b (new_cells m (file_data b) r) i else new_body m b r i) none
+
+pub holder-body : (m : PathMap) (b : List ℕ) (r : DataReadings) (i : ℕ) → relocates_read b i ≡ true → file_body m b r i ≡ relocated_body b (new_cells m (file_data b) r) i
+unfolding file_body
+holder-body m b r i some = ap (λ (t : Bool). if t then relocated_body b (new_cells m (file_data b) r) i else new_body m b r i) some
+
+pub unread-kept : (m : PathMap) (b : List ℕ) (r : DataReadings) (i : ℕ) → CanMap m b r → i < section_count b → is_read_name (section_name b i) ≡ false
+    → relocates_read b i ≡ false → file_body m b r i ≡ contents_of b i
+unread-kept m b r i w lt unread none = plain-body m b r i none ∙ new-kept m b r i w lt unread
+
+-- a section that is read holds no relocations
+pub read-some : (o : Option DebugSection) → is_read o ≡ is_some o
+read-some None = refl
+read-some (Some Info) = refl
+read-some (Some Types) = refl
+read-some (Some Abbrev) = refl
+read-some (Some Str) = refl
+read-some (Some LineStr) = refl
+read-some (Some StrOffsets) = refl
+read-some (Some Line) = refl
+read-some (Some Macro) = refl
+read-some (Some Names) = refl
+
+pub read-section : (b : List ℕ) (i : ℕ) → i < section_count b → is_read_name (section_name b i) ≡ true → is_read_section b i ≡ true
+read-section b i lt read =
+    rw (lt-ltb i (section_count b) lt) (sym (read-some (debug_section (section_name b i))) ∙ read)
+
+pub read-plain : (m : PathMap) (b : List ℕ) (r : DataReadings) (i : ℕ) → CanMap m b r → i < section_count b → is_read_name (section_name b i) ≡ true
+    → relocates_read b i ≡ false
+read-plain m b r i w lt read = by_type (e_type b == ET_REL) refl
+  where
+    own : e_type b ≡ ET_REL → is_own_kind (nth_section b i) ≡ false
+    own rel = (w.reads.relocations.sections.all i (read-section b i lt read)).plain_kind rel
+
+    or_left : (p q t : Bool) → (p || q || t) ≡ false → p ≡ false
+    or_left true true t e = e
+    or_left true false t e = e
+    or_left false q t e = refl
+
+    by_type : (t : Bool) → (e_type b == ET_REL) ≡ t → relocates_read b i ≡ false
+    by_type true e =
+        plain-holder b i (or_left (is_relocation_kind (nth_section b i)) ((nth_section b i).kind == SHT_SYMTAB) ((nth_section b i).kind == SHT_SYMTAB_SHNDX)
+        (own (eqb-true (e_type b) ET_REL e)))
+    by_type false e = other-holder b i e
+
+-- so its body is the new one
+pub read-body : (m : PathMap) (b : List ℕ) (r : DataReadings) (i : ℕ) → CanMap m b r → i < section_count b → is_read_name (section_name b i) ≡ true
+    → file_body m b r i ≡ new_body m b r i
+read-body m b r i w lt read = plain-body m b r i (read-plain m b r i w lt read)
+
 -- so the output is a file that was written with new bodies for what is read
-pub file-back : (m : PathMap) (b : List ℕ) (r : DataReadings) (out : List ℕ) → CanMap m b r → ReadsBack b (new_body m b r) out → Back b (new_body m b r) out
+pub file-back : (m : PathMap) (b : List ℕ) (r : DataReadings) (out : List ℕ) → CanMap m b r → ReadsBack b (file_body m b r) out → Back b (file_body m b r) out
 file-back m b r out w back = record {
   elf = w.reads.elf;
-  kind = w.reads.kind;
   names = w.reads.names;
   back = back;
-  unread = λ i lt unread. unread-kept m b r i w lt unread;
+  unread = λ i lt unread none. unread-kept m b r i w lt unread none;
 }
 
 -- a table in the output: it is nowhere in both files, or in the section of the same number, with its new body
@@ -426,13 +475,24 @@ data LocatedBack (m : PathMap) (b : List ℕ) (r : DataReadings) (name : List �
   stands : 0 < z.number → z.number < section_count b → section_name b z.number ≡ name → z.bytes ≡ contents_of b z.number
       → y ≡ record { number = z.number; bytes = new_body m b r z.number } → LocatedBack m b r name z y
 
-located-back : (m : PathMap) (b : List ℕ) (r : DataReadings) (out : List ℕ) (s : DebugSection) → CanMap m b r → ReadsBack b (new_body m b r) out
+pub all-read : (s : DebugSection) → is_read (Some s) ≡ true
+all-read Info = refl
+all-read Types = refl
+all-read Abbrev = refl
+all-read Str = refl
+all-read LineStr = refl
+all-read StrOffsets = refl
+all-read Line = refl
+all-read Macro = refl
+all-read Names = refl
+
+located-back : (m : PathMap) (b : List ℕ) (r : DataReadings) (out : List ℕ) (s : DebugSection) → CanMap m b r → ReadsBack b (file_body m b r) out
     → LocatedBack m b r (name_of s) (located (view_of b) s) (located (view_of out) s)
 unfolding located section_named section_after
 located-back m b r out s w back =
-    let all = drop-at (SectionBack b (new_body m b r)) (view_of b).sections (view_of out).sections (sections-back b (new_body m b r) out (file-back m b r out w back)) in
+    let all = drop-at (SectionBack b (file_body m b r)) (view_of b).sections (view_of out).sections (sections-back b (file_body m b r) out (file-back m b r out w back)) in
     by_found (section_named (view_of b) (name_of s)) refl (section_named (view_of out) (name_of s))
-    (found-back b (new_body m b r) (name_of s) 1 (drop 1 (view_of b).sections) (drop 1 (view_of out).sections) all)
+    (found-back b (file_body m b r) (name_of s) 1 (drop 1 (view_of b).sections) (drop 1 (view_of out).sections) all)
   where
     found_at : (i : ℕ) → section_named (view_of b) (name_of s) ≡ Some i → FoundAt b (name_of s) 1 i
     found_at i e =
@@ -448,10 +508,11 @@ located-back m b r out s w back =
         let lt : i < section_count out = rw back.count f.within in
         stands (omega arith) f.within f.named (section_bytes-view_of b i f.within)
         (ap (located_at (view_of out)) same
-        ∙ ap (λ (bs : List ℕ). record { number = i; bytes = bs }) (section_bytes-view_of out i lt ∙ back.contents i f.within))
+        ∙ ap (λ (bs : List ℕ). record { number = i; bytes = bs }) (section_bytes-view_of out i lt ∙ back.contents i f.within
+        ∙ read-body m b r i w f.within (ap (λ (n : List ℕ). is_read (debug_section n)) f.named ∙ ap is_read (debug_section-name s) ∙ all-read s)))
 
 -- the two tables have their new bytes
-pub str-back : (m : PathMap) (b : List ℕ) (r : DataReadings) (out : List ℕ) → CanMap m b r → ReadsBack b (new_body m b r) out
+pub str-back : (m : PathMap) (b : List ℕ) (r : DataReadings) (out : List ℕ) → CanMap m b r → ReadsBack b (file_body m b r) out
     → (file_data out).str ≡ record { number = (file_data b).str.number; bytes = new_str m b r }
 unfolding debug_data
 str-back m b r out w back = by_place (located-back m b r out Str w back)
@@ -465,7 +526,7 @@ str-back m b r out w back = by_place (located-back m b r out Str w back)
         is ∙ ap (λ (bs : List ℕ). record { number = (located (view_of b) Str).number; bytes = bs }) (body-str m b r)
 
 -- no two tables of texts are in one section
-pub line-back : (m : PathMap) (b : List ℕ) (r : DataReadings) (out : List ℕ) → CanMap m b r → ReadsBack b (new_body m b r) out
+pub line-back : (m : PathMap) (b : List ℕ) (r : DataReadings) (out : List ℕ) → CanMap m b r → ReadsBack b (file_body m b r) out
     → (file_data out).line_str ≡ record { number = (file_data b).line_str.number; bytes = new_line_str m b r }
 unfolding debug_data
 line-back m b r out w back = by_place (located-back m b r out LineStr w back)
@@ -479,7 +540,7 @@ line-back m b r out w back = by_place (located-back m b r out LineStr w back)
         is ∙ ap (λ (bs : List ℕ). record { number = (located (view_of b) LineStr).number; bytes = bs }) (body-line m b r (tables-apart b there named))
 
 -- a section of a name of its own, not of the five, has the bytes that it had
-pub abbrev-back : (m : PathMap) (b : List ℕ) (r : DataReadings) (out : List ℕ) → CanMap m b r → ReadsBack b (new_body m b r) out
+pub abbrev-back : (m : PathMap) (b : List ℕ) (r : DataReadings) (out : List ℕ) → CanMap m b r → ReadsBack b (file_body m b r) out
     → located (view_of out) Abbrev ≡ located (view_of b) Abbrev
 abbrev-back m b r out w back = by_place (located-back m b r out Abbrev w back)
   where
@@ -510,72 +571,9 @@ abbrev-back m b r out w back = by_place (located-back m b r out Abbrev w back)
             let lacks : is_abbrev (debug_section (name_of s)) ≡ false = ap is_abbrev (debug_section-name s) ∙ none in
             true≢false (sym yes ∙ same ∙ lacks)
 
--- string offsets, and name tables, have their moved fields
-differ : (s t : DebugSection) → name_of s ≡ name_of t → Some s ≡ Some t
+-- names of sections of debug data are different
+pub differ : (s t : DebugSection) → name_of s ≡ name_of t → Some s ≡ Some t
 differ s t e = sym (debug_section-name s) ∙ ap debug_section e ∙ debug_section-name t
-
-offsets-cells : (m : PathMap) (b : List ℕ) (r : DataReadings) → CanMap m b r → IsPlain (new_offsets m b r)
-offsets-cells m b r w =
-    edited-cells (slot_role (path_slots (around_file b r))) (changes_file m b r) (around_file b r) r.offsets
-    (cells-plain r.offsets (subst IsPlain (sym (w.reads.data_reads.offsets.cells ∙ ap (λ (z : CellSection). z.contents) (offsets-are b w.reads.kind))) (plain_cells-plain (located (view_of b) StrOffsets).bytes)))
-
-names-cells : (m : PathMap) (b : List ℕ) (r : DataReadings) → CanMap m b r → IsPlain (new_names m b r)
-names-cells m b r w =
-    edited-cells name_role (changes_file m b r) (around_file b r) r.names
-    (cells-plain r.names (subst IsPlain (sym (w.reads.data_reads.names.cells ∙ ap (λ (z : CellSection). z.contents) (names-are b w.reads.kind))) (plain_cells-plain (located (view_of b) Names).bytes)))
-
-pub offsets-back : (m : PathMap) (b : List ℕ) (r : DataReadings) (out : List ℕ) → CanMap m b r → ReadsBack b (new_body m b r) out
-    → (file_data out).offsets ≡ record { number = (file_data b).offsets.number; contents = new_offsets m b r }
-offsets-back m b r out w back =
-    offsets-are out (kind-back b (new_body m b r) out (file-back m b r out w back)) ∙ by_place (located-back m b r out StrOffsets w back)
-    ∙ ap (λ (n : ℕ). record { number = n; contents = new_offsets m b r }) (sym (offsets-number b))
-  where
-    str_no : Some StrOffsets ≡ Some Str → ⊥
-    str_no e = cc
-
-    line_no : Some StrOffsets ≡ Some LineStr → ⊥
-    line_no e = cc
-
-    by_place : LocatedBack m b r (name_of StrOffsets) (located (view_of b) StrOffsets) (located (view_of out) StrOffsets)
-        → plain_section (located (view_of out) StrOffsets) ≡ record { number = (located (view_of b) StrOffsets).number; contents = new_offsets m b r }
-    by_place (gone zero none is) =
-        ap plain_section is ∙ ap (λ (n : ℕ). record { number = n; contents = [] }) (sym zero)
-        ∙ ap (λ (p : List Cell). record { number = (located (view_of b) StrOffsets).number; contents = p }) (sym (offsets-none m b r w none))
-    by_place (stands there within named bytes is) =
-        let str = name-apart b (name_of Str) (file_data b).str (located (view_of b) StrOffsets).number (str-place b) there (λ e. str_no (differ StrOffsets Str (sym named ∙ e))) in
-        let line = name-apart b (name_of LineStr) (file_data b).line_str (located (view_of b) StrOffsets).number (line-place b) there (λ e. line_no (differ StrOffsets LineStr (sym named ∙ e))) in
-        ap plain_section is
-        ∙ ap (λ (bs : List ℕ). record { number = (located (view_of b) StrOffsets).number; contents = plain_cells bs })
-        (body-offsets m b r (located (view_of b) StrOffsets).number (sym (offsets-number b)) str line)
-        ∙ ap (λ (p : List Cell). record { number = (located (view_of b) StrOffsets).number; contents = p }) (sym (offsets-cells m b r w).plain)
-
-pub tables-back : (m : PathMap) (b : List ℕ) (r : DataReadings) (out : List ℕ) → CanMap m b r → ReadsBack b (new_body m b r) out
-    → (file_data out).lines ≡ record { number = (file_data b).lines.number; contents = plain_cells (new_line_tables m b r) }
-tables-back m b r out w back =
-    lines-are out (kind-back b (new_body m b r) out (file-back m b r out w back)) ∙ by_place (located-back m b r out Line w back)
-    ∙ ap (λ (n : ℕ). record { number = n; contents = plain_cells (new_line_tables m b r) }) (sym (lines-number b))
-  where
-    str_no : Some Line ≡ Some Str → ⊥
-    str_no e = cc
-
-    line_no : Some Line ≡ Some LineStr → ⊥
-    line_no e = cc
-
-    offsets_no : Some Line ≡ Some StrOffsets → ⊥
-    offsets_no e = cc
-
-    by_place : LocatedBack m b r (name_of Line) (located (view_of b) Line) (located (view_of out) Line)
-        → plain_section (located (view_of out) Line) ≡ record { number = (located (view_of b) Line).number; contents = plain_cells (new_line_tables m b r) }
-    by_place (gone zero none is) =
-        ap plain_section is ∙ ap (λ (n : ℕ). record { number = n; contents = [] }) (sym zero)
-        ∙ ap (λ (bs : List ℕ). record { number = (located (view_of b) Line).number; contents = plain_cells bs }) (sym (tables-none m b r w none))
-    by_place (stands there within named bytes is) =
-        let str = name-apart b (name_of Str) (file_data b).str (located (view_of b) Line).number (str-place b) there (λ e. str_no (differ Line Str (sym named ∙ e))) in
-        let line = name-apart b (name_of LineStr) (file_data b).line_str (located (view_of b) Line).number (line-place b) there (λ e. line_no (differ Line LineStr (sym named ∙ e))) in
-        let offsets = name-apart b (name_of StrOffsets) (located (view_of b) StrOffsets) (located (view_of b) Line).number (offsets-place b) there (λ e. offsets_no (differ Line StrOffsets (sym named ∙ e))) in
-        ap plain_section is
-        ∙ ap (λ (bs : List ℕ). record { number = (located (view_of b) Line).number; contents = plain_cells bs })
-        (body-tables m b r (located (view_of b) Line).number (sym (lines-number b)) str line (λ e. offsets (e ∙ offsets-number b)))
 
 pub body-lines : (m : PathMap) (b : List ℕ) (r : DataReadings) → 0 < (located (view_of b) Line).number → section_name b (located (view_of b) Line).number ≡ name_of Line
     → new_body m b r (located (view_of b) Line).number ≡ new_line_tables m b r
@@ -622,56 +620,9 @@ lines-apart m b r w = by_lines r.lines w.reads.data_reads.lines
     by_lines (x ∷ xs) reads =
         subst (λ (n : ℕ). (n ≢ (file_data b).str.number) × (n ≢ (file_data b).line_str.number)) (sym (lines-number b)) (by_place (tables-place b) x xs reads)
 
-pub names-section : (m : PathMap) (b : List ℕ) (r : DataReadings) (out : List ℕ) → CanMap m b r → ReadsBack b (new_body m b r) out
-    → (file_data out).names ≡ record { number = (file_data b).names.number; contents = new_names m b r }
-names-section m b r out w back =
-    names-are out (kind-back b (new_body m b r) out (file-back m b r out w back)) ∙ by_place (located-back m b r out Names w back)
-    ∙ ap (λ (n : ℕ). record { number = n; contents = new_names m b r }) (sym (names-number b))
-  where
-    str_no : Some Names ≡ Some Str → ⊥
-    str_no e = cc
-
-    line_no : Some Names ≡ Some LineStr → ⊥
-    line_no e = cc
-
-    offsets_no : Some Names ≡ Some StrOffsets → ⊥
-    offsets_no e = cc
-
-    tables_no : Some Names ≡ Some Line → ⊥
-    tables_no e = cc
-
-    by_place : LocatedBack m b r (name_of Names) (located (view_of b) Names) (located (view_of out) Names)
-        → plain_section (located (view_of out) Names) ≡ record { number = (located (view_of b) Names).number; contents = new_names m b r }
-    by_place (gone zero none is) =
-        ap plain_section is ∙ ap (λ (n : ℕ). record { number = n; contents = [] }) (sym zero)
-        ∙ ap (λ (p : List Cell). record { number = (located (view_of b) Names).number; contents = p }) (sym (names-none m b r w none))
-    by_place (stands there within named bytes is) =
-        let str = name-apart b (name_of Str) (file_data b).str (located (view_of b) Names).number (str-place b) there (λ e. str_no (differ Names Str (sym named ∙ e))) in
-        let line = name-apart b (name_of LineStr) (file_data b).line_str (located (view_of b) Names).number (line-place b) there (λ e. line_no (differ Names LineStr (sym named ∙ e))) in
-        let offsets = name-apart b (name_of StrOffsets) (located (view_of b) StrOffsets) (located (view_of b) Names).number (offsets-place b) there (λ e. offsets_no (differ Names StrOffsets (sym named ∙ e))) in
-        let tables = name-apart b (name_of Line) (located (view_of b) Line) (located (view_of b) Names).number (tables-place b) there (λ e. tables_no (differ Names Line (sym named ∙ e))) in
-        ap plain_section is
-        ∙ ap (λ (bs : List ℕ). record { number = (located (view_of b) Names).number; contents = plain_cells bs })
-        (body-names m b r (located (view_of b) Names).number (sym (names-number b)) str line (λ e. offsets (e ∙ offsets-number b)) (λ e. tables (e ∙ lines-number b)))
-        ∙ ap (λ (p : List Cell). record { number = (located (view_of b) Names).number; contents = p }) (sym (names-cells m b r w).plain)
-
--- the sections of macro units have their moved fields
-macro-apart : (b : List ℕ) (i : ℕ) (s : DebugSection) → is_macro (Some s) ≡ false → is_macro (debug_section (section_name b i)) ≡ true → section_name b i ≢ name_of s
+-- a section of macro units has no other name
+pub macro-apart : (b : List ℕ) (i : ℕ) (s : DebugSection) → is_macro (Some s) ≡ false → is_macro (debug_section (section_name b i)) ≡ true → section_name b i ≢ name_of s
 macro-apart b i s none some same =
     let other : is_macro (debug_section (section_name b i)) ≡ false =
     ap (λ (n : List ℕ). is_macro (debug_section n)) same ∙ ap is_macro (debug_section-name s) ∙ none in
     true≢false (sym some ∙ other)
-
-pub macros-back : (m : PathMap) (b : List ℕ) (r : DataReadings) (out : List ℕ) → CanMap m b r → ReadsBack b (new_body m b r) out
-    → (file_data out).macros ≡ edited_macro_sections (file_data b).macros (new_macros m b r)
-unfolding debug_data macro_sections
-macros-back m b r out w back =
-    macros-sections b (new_body m b r) (file_data b).base.order (changes_file m b r) (around_file b r) (units_new m b r) 1 (drop 1 (view_of b).sections) (drop 1 (view_of out).sections) r.macros w.reads.kind
-    (drop-at (SectionBack b (new_body m b r)) (view_of b).sections (view_of out).sections (sections-back b (new_body m b r) out (file-back m b r out w back)))
-    w.reads.data_reads.macros
-    (macros-plain b (contents_of b) 1 (drop 1 (view_of b).sections) w.reads.kind
-    (drop-at (SectionBack b (contents_of b)) (view_of b).sections (view_of b).sections (sections-self b)))
-    (λ i le lt some.
-    body-other m b r i
-    (named-apart b i (omega arith) (macro-apart b i Str refl some) (macro-apart b i LineStr refl some) (macro-apart b i StrOffsets refl some)
-    (macro-apart b i Line refl some) (macro-apart b i Names refl some)))

@@ -89,6 +89,7 @@ pub mod OutputCellLaws
 pub mod CellKeptLaws
 pub mod LineClearLaws
 pub mod LineShiftLaws
+pub mod LineOwnLaws
 pub mod ClearLaws
 pub mod CellRestLaws
 pub mod FieldCellLaws
@@ -96,6 +97,15 @@ pub mod CellLaidLaws
 pub mod LineRecordLaws
 pub mod LineStretchLaws
 pub mod ReadAlikeLaws
+pub mod NewCellLaws
+pub mod CellBackLaws
 pub mod NameFieldRowLaws
 pub mod MacroFieldRowLaws
 pub mod OffsetRowLaws
+pub mod AddendRowLaws
+pub mod AlikeCellLaws
+pub mod UnitNumberLaws
+pub mod LeftKeptLaws
+pub mod RecordBackLaws
+pub mod SectionsBackLaws
+pub mod LeftRowLaws

@@ -53,21 +53,21 @@ clear-owned cells fs a b h other = record { none = λ p le lt. by_there p le lt 
         absurd cc
 
 -- fields behind a place, and in front of one
-abbrev FieldsFrom : ℕ → List FieldPlace → Type 0
+abbrev pub FieldsFrom : ℕ → List FieldPlace → Type 0
 FieldsFrom a [] = ⊤
 FieldsFrom a (f ∷ fs) = (a ≤ f.place) × FieldsFrom a fs
 
-abbrev FieldsBelow : ℕ → List FieldPlace → Type 0
+abbrev pub FieldsBelow : ℕ → List FieldPlace → Type 0
 FieldsBelow a [] = ⊤
 FieldsBelow a (f ∷ fs) = (f.place < a) × FieldsBelow a fs
 
-from-further : (a b : ℕ) (fs : List FieldPlace) → a ≤ b → FieldsFrom b fs → FieldsFrom a fs
+pub from-further : (a b : ℕ) (fs : List FieldPlace) → a ≤ b → FieldsFrom b fs → FieldsFrom a fs
 from-further a b [] le h = tt
 from-further a b (f ∷ fs) le h =
     let here = h.0 in
     (omega (arith, le, here), from-further a b fs le h.1)
 
-from-append : (a : ℕ) (xs ys : List FieldPlace) → FieldsFrom a xs → FieldsFrom a ys → FieldsFrom a (xs ++ ys)
+pub from-append : (a : ℕ) (xs ys : List FieldPlace) → FieldsFrom a xs → FieldsFrom a ys → FieldsFrom a (xs ++ ys)
 from-append a [] ys h k = k
 from-append a (x ∷ xs) ys h k = (h.0, from-append a xs ys h.1 k)
 
@@ -78,7 +78,7 @@ other-place f fs p other = by_use (is_offset_use f.use_is) (ne_eqb f.place p oth
     by_use true e = rw e refl
     by_use false e = refl
 
-from-none : (a : ℕ) (fs : List FieldPlace) (p : ℕ) → FieldsFrom a fs → p < a → has_offset_at fs p ≡ false
+pub from-none : (a : ℕ) (fs : List FieldPlace) (p : ℕ) → FieldsFrom a fs → p < a → has_offset_at fs p ≡ false
 from-none a [] p h lt = refl
 from-none a (f ∷ fs) p h lt =
     let here = h.0 in
@@ -88,7 +88,7 @@ from-front : (a : ℕ) (xs ys : List FieldPlace) (p : ℕ) → FieldsFrom a ys �
 from-front a [] ys p h lt = from-none a ys p h lt
 from-front a (x ∷ xs) ys p h lt = ap (λ (b : Bool). if is_offset_use x.use_is && x.place == p then true else b) (from-front a xs ys p h lt)
 
-below-behind : (a : ℕ) (xs ys : List FieldPlace) (p : ℕ) → FieldsBelow a xs → a ≤ p → has_offset_at (xs ++ ys) p ≡ has_offset_at ys p
+pub below-behind : (a : ℕ) (xs ys : List FieldPlace) (p : ℕ) → FieldsBelow a xs → a ≤ p → has_offset_at (xs ++ ys) p ≡ has_offset_at ys p
 below-behind a [] ys p h le = refl
 below-behind a (x ∷ xs) ys p h le =
     let here = h.0 in
@@ -184,13 +184,13 @@ columns-behind g h table (spec ∷ specs) e last plain is =
 ok-column : (a b : Column) → ◌≡◌ {A = Result Column Refusal} (Ok a) (Ok b) → a ≡ b
 ok-column a b e = cc
 
-below-further : (a b : ℕ) (fs : List FieldPlace) → a ≤ b → FieldsBelow a fs → FieldsBelow b fs
+pub below-further : (a b : ℕ) (fs : List FieldPlace) → a ≤ b → FieldsBelow a fs → FieldsBelow b fs
 below-further a b [] le h = tt
 below-further a b (f ∷ fs) le h =
     let here = h.0 in
     (omega (arith, here, le), below-further a b fs le h.1)
 
-below-append : (a : ℕ) (xs ys : List FieldPlace) → FieldsBelow a xs → FieldsBelow a ys → FieldsBelow a (xs ++ ys)
+pub below-append : (a : ℕ) (xs ys : List FieldPlace) → FieldsBelow a xs → FieldsBelow a ys → FieldsBelow a (xs ++ ys)
 below-append a [] ys h k = k
 below-append a (x ∷ xs) ys h k = (h.0, below-append a xs ys h.1 k)
 
@@ -298,7 +298,7 @@ list-fields : (g : LineSource) (h : LineHeader) (table : List ℕ) (p : ℕ) (fo
     → uleb_at table format.1 ≡ Some count → list_fields g h table p ≡ entries_fields g h table format.0 count.0 (format.1 + count.1)
 list-fields g h table p format count at is = ap (fields_formed g h table) at ∙ ap (fields_counted g h table format.0 format.1) is
 
-list-fields-from : (g : LineSource) (h : LineHeader) (table : List ℕ) (p : ℕ) → FieldsFrom p (list_fields g h table p)
+pub list-fields-from : (g : LineSource) (h : LineHeader) (table : List ℕ) (p : ℕ) → FieldsFrom p (list_fields g h table p)
 list-fields-from g h table p = by_format (format_at table p) refl
   where
     by_count : (f : List Spec × ℕ) → format_at table p ≡ Some f → (o : Option (ℕ × ℕ)) → FieldsFrom p (fields_counted g h table f.0 f.1 o)
@@ -312,7 +312,7 @@ list-fields-from g h table p = by_format (format_at table p) refl
     by_format None at = tt
     by_format (Some f) at = by_count f at (uleb_at table f.1)
 
-list-below : (g : LineSource) (h : LineHeader) (table : List ℕ) (p e : ℕ) (fs : List FilePlace) → entries_at g h table p ≡ Ok (fs, e) → FieldsBelow e (list_fields g h table p)
+pub list-below : (g : LineSource) (h : LineHeader) (table : List ℕ) (p e : ℕ) (fs : List FilePlace) → entries_at g h table p ≡ Ok (fs, e) → FieldsBelow e (list_fields g h table p)
 list-below g h table p e fs is =
     let x = list-is g h table p fs e is in
     let place = format-place table p x.format x.format_is in
@@ -435,7 +435,7 @@ header-lists g p r reads =
     let flags = flags-place r.header.version (first_place r.header.version (r.header.start + length_size r.header.width) r.header.width) in
     omega (arith, operands, lists, flags)
 
-header-start : (g : LineSource) (p : ℕ) (r : LineReading) → ReadsTable g p r → r.header.start ≤ r.header.lists
+pub header-start : (g : LineSource) (p : ℕ) (r : LineReading) → ReadsTable g p r → r.header.start ≤ r.header.lists
 header-start g p r reads =
     let first = header-lists g p r reads in
     let place = length-place r.header.version (r.header.start + length_size r.header.width) in

@@ -19,7 +19,7 @@ use Rattle.dw_base.specs.declared.shared.Width.{Width}
 use Rattle.dw_base.specs.declared.values.Spec.{Spec}
 use Rattle.dw_meaning.specs.LineCells.{CellChange, path_cells}
 use Rattle.dw_meaning.proofs.CellRestLaws.{CellRest, cells-copied, same-from}
-use Rattle.dw_meaning.proofs.ClearLaws.{Clear, ColumnsClear, clear_from}
+use Rattle.dw_meaning.proofs.ClearLaws.{Clear, ColumnsClear, clear_from, column-clear}
 use Rattle.dw_meaning.proofs.LineCellLaws.{SameChanges, path-bytes, same-append}
 use Rattle.dw_meaning.proofs.LineChangeLaws.{From, Rest, copied, from-before, from-end, part-length}
 use Rattle.dw_meaning.proofs.LineColumnLaws.{edited_with, SourceMoves, PathMoves, ColumnIs, column-is}
@@ -217,6 +217,7 @@ record StepMoved (g k : LineSource) (m : PathMap) (h : LineHeader) (n : LinePlac
   text : MovedText g k m (text_with (spec.name == DW_LNCT_path) o c.text) (text_with (spec.name == DW_LNCT_path) f column.text)
   rest : Rest old new end (pending g m places h.width (text_with (spec.name == DW_LNCT_path) o c.text) last ++ cs) c.next column.next
   cells : CellRest g.cells k.cells end (pending_cells g m places h.width (text_with (spec.name == DW_LNCT_path) o c.text) last ++ us) tail c.next column.next
+  clear : Clear k.cells (clear_from spec q) column.next
   further : (r s : Bool → ℕ → List LineColumn)
       → s (is_there (text_with (spec.name == DW_LNCT_path) o c.text)) column.next ≡ r (is_there (text_with (spec.name == DW_LNCT_path) o c.text)) c.next
       → column_there k new spec (is_there o) q s (Ok column) ≡ column_there g old spec (is_there o) p r (Ok c)
@@ -256,6 +257,7 @@ step-kept g m bytes cells s l old new h n places end cs us tail spec o f last p 
       cells = subst (λ (vs : List CellChange). CellRest g.cells cells end (vs ++ us) tail c.next kept.column.next)
           (sym (pending_cells-kept g m places h.width (spec.name == DW_LNCT_path) o c.text last none))
           (subst (λ (i : ℕ). CellRest g.cells cells end (pending_cells g m places h.width o last ++ us) tail c.next i) (sym kept.next) d.rest);
+      clear = subst (λ (i : ℕ). Clear cells (clear_from spec q) i) (sym kept.next) (column-clear spec g.cells cells p q c.next d.same clear);
       further = λ r s_ e.
           let there : is_there (text_with (spec.name == DW_LNCT_path) o c.text) ≡ is_there o = there-kept (spec.name == DW_LNCT_path) o c.text none in
           let rest_same : s_ (is_there o) kept.column.next ≡ r (is_there o) c.next =
@@ -307,6 +309,7 @@ step-moved g m bytes cells s l old new h n places end cs us tail spec o f last p
           (subst (λ (x : Option TextPlace). MovedText g (edited_with g bytes cells s l) m (Some t) x) (sym text_new) d.says);
       rest = subst (λ (x : Option TextPlace). Rest old new end (pending g m places h.width x last ++ cs) c.next d.column.next) (sym text_old) d.rest;
       cells = subst (λ (x : Option TextPlace). CellRest g.cells cells end (pending_cells g m places h.width x last ++ us) tail c.next d.column.next) (sym text_old) d.cells;
+      clear = d.clear;
       further = λ r s_ e.
           let same : s_ true d.column.next ≡ r true c.next =
           ap (λ (x : Option TextPlace). s_ (is_there x) d.column.next) (sym text_old) ∙ e ∙ ap (λ (x : Option TextPlace). r (is_there x) c.next) text_old in
@@ -322,6 +325,9 @@ step-moved g m bytes cells s l old new h n places end cs us tail spec o f last p
     taken-test : (a b x y : List LineColumn) (t_ u : Bool) → t_ ≡ true → u ≡ true → a ≡ b → (if t_ then a else x) ≡ (if u then b else y)
     taken-test a b x y t_ u e f_ g_ = rw (e, f_) g_
 
+same-column : (a b : Column) → ◌≡◌ {A = Result Column Refusal} (Ok a) (Ok b) → a ≡ b
+same-column a b e = cc
+
 -- the columns of an entry under an edit
 pub record EntryMoved (g k : LineSource) (m : PathMap) (h : LineHeader) (n : LinePlaces) (old new : List ℕ) (end : ℕ) (cs : List Change)
     (us : List CellChange) (tail : List Cell) (specs : List Spec) (e f last : Entry) : Type 0 where
@@ -331,6 +337,7 @@ pub record EntryMoved (g k : LineSource) (m : PathMap) (h : LineHeader) (n : Lin
   pub text : MovedText g k m last.text entry.text
   pub rest : Rest old new end cs last.next entry.next
   pub cells : CellRest g.cells k.cells end us tail last.next entry.next
+  pub clear : ColumnsClear k (moved_header h n) new specs f.next
   pub further : further_columns k (moved_header h n) new specs (is_there e.text) f.next ≡ further_columns g h old specs (is_there e.text) e.next
 
 pub columns-moved : (g : LineSource) (m : PathMap) (bytes : List ℕ) (cells : List Cell) (s l old new : List ℕ) (h : LineHeader) (n : LinePlaces) (places : TextPlace → Option ℕ) (end : ℕ) (cs : List Change)
@@ -352,6 +359,7 @@ columns-moved g m bytes cells s l old new h n places end cs us tail [] e f last 
       rest = subst (λ (x : Entry). Rest old new end cs x.next f.next) same (subst (λ (ds : List Change). Rest old new end (ds ++ cs) e.next f.next) none rest);
       cells = subst (λ (x : Entry). CellRest g.cells cells end us tail x.next f.next) same
           (subst (λ (vs : List CellChange). CellRest g.cells cells end (vs ++ us) tail e.next f.next) none_cells cell);
+      clear = tt;
       further = refl;
     }
 columns-moved g m bytes cells s l old new h n places end cs us tail (spec ∷ specs) e f last w sides plain is moves dir text rest cell both from clear =
@@ -399,5 +407,8 @@ columns-moved g m bytes cells s l old new h n places end cs us tail (spec ∷ sp
           text = r.text;
           rest = r.rest;
           cells = r.cells;
+          clear = λ d read.
+              subst (λ (y : Column). Clear cells (clear_from spec f.next) y.next × ColumnsClear (edited_with g bytes cells s l) (moved_header h n) new specs y.next)
+              (same-column st.column d (sym st.is ∙ read)) (st.clear, r.clear);
           further = rw (st.is, at) (st.further (λ t_ p_. further_columns g h old specs t_ p_) (λ t_ p_. further_columns (edited_with g bytes cells s l) (moved_header h n) new specs t_ p_) r.further);
         }

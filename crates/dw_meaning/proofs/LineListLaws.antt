@@ -23,7 +23,7 @@ use Rattle.dw_base.specs.declared.values.Spec.{Spec}
 use Rattle.dw_base.proofs.ContributionBackLaws.{StandsAt}
 use Rattle.dw_meaning.specs.LineCells.{CellChange, all_path_cells, path_cells}
 use Rattle.dw_meaning.proofs.CellRestLaws.{CellRest, cells-copied, clear-none, same-from}
-use Rattle.dw_meaning.proofs.ClearLaws.{ColumnsClear, EntriesClear, ListClear}
+use Rattle.dw_meaning.proofs.ClearLaws.{Clear, ColumnsClear, EntriesClear, ListClear, whole-clear}
 use Rattle.dw_meaning.proofs.LineCellLaws.{SameChanges, paths-bytes, same-append}
 use Rattle.dw_meaning.proofs.LineChangeLaws.{From, Rest, copied, from-before, from-end, part-length}
 use Rattle.dw_meaning.proofs.LineColumnLaws.{edited_with, SourceMoves, PathMoves}
@@ -99,6 +99,7 @@ record FileMoved (g k : LineSource) (m : PathMap) (h : LineHeader) (n : LinePlac
   says : place_text k file.text ≡ mapped_path m (place_text g f.text)
   rest : Rest old new end cs next behind
   cells : CellRest g.cells k.cells end us tail next behind
+  clear : ColumnsClear k (moved_header h n) new specs q
   further : further_columns k (moved_header h n) new specs false q ≡ further_columns g h old specs false p
 
 file-from : (g : LineSource) (m : PathMap) (s l old : List ℕ) (h : LineHeader) (places : TextPlace → Option ℕ) (end : ℕ) (cs : List Change) (specs : List Spec) (p : ℕ) (f : FilePlace) (next : ℕ)
@@ -123,15 +124,15 @@ file-moved g m bytes cells s l old new h n places end cs us tail specs p q f nex
     (subst (λ (i : ℕ). From end i cs) (sym x.behind) from) clear in
     by_text r.entry r.entry.text refl r.is r.dir (subst (λ (o : Option TextPlace). MovedText g (edited_with g bytes cells s l) m o r.entry.text) x.text r.text)
     (subst (λ (i : ℕ). Rest old new end cs i r.entry.next) x.behind r.rest)
-    (subst (λ (i : ℕ). CellRest g.cells cells end us tail i r.entry.next) x.behind r.cells) r.further x.dir
+    (subst (λ (i : ℕ). CellRest g.cells cells end us tail i r.entry.next) x.behind r.cells) r.clear r.further x.dir
   where
     by_text : (y : Entry) → (o : Option TextPlace) → y.text ≡ o → columns (edited_with g bytes cells s l) (moved_header h n) new specs (record { text = None; dir = None; next = q }) ≡ Ok y
         → {d : Option ℕ} → y.dir ≡ d → MovedText g (edited_with g bytes cells s l) m (Some f.text) y.text → Rest old new end cs next y.next
-        → CellRest g.cells cells end us tail next y.next
+        → CellRest g.cells cells end us tail next y.next → ColumnsClear (edited_with g bytes cells s l) (moved_header h n) new specs q
         → further_columns (edited_with g bytes cells s l) (moved_header h n) new specs false q ≡ further_columns g h old specs false p → f.dir ≡ unwrap_or d 0
         → FileMoved g (edited_with g bytes cells s l) m h n old new end cs us tail specs p q f next
-    by_text y None t is dir moved r cell_rest further own = absurd (subst (λ (o : Option TextPlace). MovedText g (edited_with g bytes cells s l) m (Some f.text) o) t moved)
-    by_text y (Some u) t is dir moved r cell_rest further own = record {
+    by_text y None t is dir moved r cell_rest none further own = absurd (subst (λ (o : Option TextPlace). MovedText g (edited_with g bytes cells s l) m (Some f.text) o) t moved)
+    by_text y (Some u) t is dir moved r cell_rest none further own = record {
       file = record { text = u; dir = unwrap_or y.dir 0 };
       behind = y.next;
       entry = entry-there (edited_with g bytes cells s l) (moved_header h n) new specs q y u is t;
@@ -139,6 +140,7 @@ file-moved g m bytes cells s l old new h n places end cs us tail specs p q f nex
       says = subst (λ (o : Option TextPlace). MovedText g (edited_with g bytes cells s l) m (Some f.text) o) t moved;
       rest = r;
       cells = cell_rest;
+      clear = none;
       further = further;
     }
 
@@ -153,6 +155,9 @@ files-from g m s l old h places end cs specs p e (f ∷ fs) w plain are from =
     let here = one.1 in
     (subst (From end p) (sym (append_assoc (path_changes g m places h.width f.text) (all_changes g m places h.width (texts_of fs)) cs)) one.0, omega (arith, here, more))
 
+same-next : (f d : FilePlace) (i j : ℕ) → ◌≡◌ {A = Result (FilePlace × ℕ) Refusal} (Ok (f, i)) (Ok (d, j)) → i ≡ j
+same-next f d i j e = ap (λ (y : FilePlace × ℕ). y.1) (ok-pair (f, i) (d, j) e)
+
 record NewMoved (g k : LineSource) (m : PathMap) (h : LineHeader) (n : LinePlaces) (old new : List ℕ) (end : ℕ) (cs : List Change)
     (us : List CellChange) (tail : List Cell) (specs : List Spec) (p q e : ℕ) (fs : List FilePlace) : Type 0 where
   files : List FilePlace
@@ -162,6 +167,7 @@ record NewMoved (g k : LineSource) (m : PathMap) (h : LineHeader) (n : LinePlace
   count : length files ≡ length fs
   rest : Rest old new end cs e behind
   cells : CellRest g.cells k.cells end us tail e behind
+  clear : EntriesClear k (moved_header h n) new specs (length files) q
   further : entries_columns k (moved_header h n) new specs (length fs) q ≡ entries_columns g h old specs (length fs) p
 
 files-moved : (g : LineSource) (m : PathMap) (bytes : List ℕ) (cells : List Cell) (s l old new : List ℕ) (h : LineHeader) (n : LinePlaces) (places : TextPlace → Option ℕ) (end : ℕ) (cs : List Change)
@@ -170,7 +176,7 @@ files-moved : (g : LineSource) (m : PathMap) (bytes : List ℕ) (cells : List Ce
     → SameChanges us cs → From end e cs → EntriesClear g h old specs (length fs) p
     → NewMoved g (edited_with g bytes cells s l) m h n old new end cs us tail specs p q e fs
 files-moved g m bytes cells s l old new h n places end cs us tail specs p q e [] w sides plain are moves rest cell both from clear =
-    record { files = []; behind = q; are = refl; moved = tt; count = refl; rest = subst (λ (i : ℕ). Rest old new end cs i q) are rest; cells = subst (λ (i : ℕ). CellRest g.cells cells end us tail i q) are cell; further = refl }
+    record { files = []; behind = q; are = refl; moved = tt; count = refl; rest = subst (λ (i : ℕ). Rest old new end cs i q) are rest; cells = subst (λ (i : ℕ). CellRest g.cells cells end us tail i q) are cell; clear = tt; further = refl }
 files-moved g m bytes cells s l old new h n places end cs us tail specs p q e (f ∷ fs) w sides plain are moves rest cell both from clear =
     let behind = files-from g m s l old h places end cs specs are.0.next e fs w plain are.1 from in
     let one = file-moved g m bytes cells s l old new h n places end (all_changes g m places h.width (texts_of fs) ++ cs)
@@ -188,6 +194,11 @@ files-moved g m bytes cells s l old new h n places end cs us tail specs p q e (f
       count = ap suc more.count;
       rest = more.rest;
       cells = more.cells;
+      clear = (
+        one.clear,
+        λ d next read.
+            subst (EntriesClear (edited_with g bytes cells s l) (moved_header h n) new specs (length more.files)) (same-next one.file d one.behind next (sym one.entry ∙ read)) more.clear,
+      );
       further = rw (one.entry, are.0.entry) (ap (λ (c : List LineColumn). c ∷ entries_columns (edited_with g bytes cells s l) (moved_header h n) new specs (length fs) one.behind) one.further
           ∙ ap (λ (cs_ : List (List LineColumn)). further_columns g h old specs false p ∷ cs_) more.further);
     }
@@ -366,6 +377,7 @@ pub record ListMoved (g k : LineSource) (m : PathMap) (h : LineHeader) (n : Line
   pub moved : MovedFiles g k m fs files
   pub rest : Rest old new end cs e behind
   pub cells : CellRest g.cells k.cells end us tail e behind
+  pub clear : ListClear k (moved_header h n) new q
   pub further : listed_columns k (moved_header h n) new q ≡ listed_columns g h old p
 
 pub list-from : (g : LineSource) (m : PathMap) (s l old : List ℕ) (h : LineHeader) (places : TextPlace → Option ℕ) (end : ℕ) (cs : List Change) (p e : ℕ) (files : List FilePlace)
@@ -411,6 +423,9 @@ list-moved g m bytes cells s l old new h n places end cs us tail p q e fs w side
     (subst (λ (i : ℕ). CellRest g.cells cells end (all_path_cells g m places h.width (texts_of fs) ++ us) tail (x.format.1 + x.count.1) i) mid d.rest) both from
     (subst (λ (k : ℕ). EntriesClear g h old x.format.0 k (x.format.1 + x.count.1)) (sym x.number) (clear.entries x.format x.count x.format_is x.count_is)) in
     let number : length r.files ≡ x.count.0 = r.count ∙ x.number in
+    let front_clear : Clear cells q (q + (x.format.1 - p) + x.count.1) =
+    subst (Clear cells q) mid
+    (whole-clear g.cells cells p q (x.format.1 + x.count.1) d.same (clear.front x.format x.count x.format_is x.count_is)) in
     let run = entries-run (edited_with g bytes cells s l) (moved_header h n) new x.format.0 (q + (x.format.1 - p) + x.count.1) r.behind [] r.files r.are in
     record {
       files = r.files;
@@ -419,5 +434,17 @@ list-moved g m bytes cells s l old new h n places end cs us tail p q e fs w side
       moved = r.moved;
       rest = r.rest;
       cells = r.cells;
+      clear = record {
+        front = λ format count at count_at.
+            let format_same = some-same (x.format.0, q + (x.format.1 - p)) format (sym format_new ∙ at) in
+            let count_same = some-same x.count count (sym count_new ∙ ap (λ (y : List Spec × ℕ). uleb_at new y.1) format_same ∙ count_at) in
+            subst (λ (y : ℕ × ℕ). Clear cells q (format.1 + y.1)) count_same (subst (λ (y : List Spec × ℕ). Clear cells q (y.1 + x.count.1)) format_same front_clear);
+        entries = λ format count at count_at.
+            let format_same = some-same (x.format.0, q + (x.format.1 - p)) format (sym format_new ∙ at) in
+            let count_same = some-same x.count count (sym count_new ∙ ap (λ (y : List Spec × ℕ). uleb_at new y.1) format_same ∙ count_at) in
+            subst (λ (y : ℕ × ℕ). EntriesClear (edited_with g bytes cells s l) (moved_header h n) new format.0 y.0 (format.1 + y.1)) count_same
+            (subst (λ (y : List Spec × ℕ). EntriesClear (edited_with g bytes cells s l) (moved_header h n) new y.0 x.count.0 (y.1 + x.count.1)) format_same
+            (subst (λ (i : ℕ). EntriesClear (edited_with g bytes cells s l) (moved_header h n) new x.format.0 i (q + (x.format.1 - p) + x.count.1)) number r.clear));
+      };
       further = rw (format_new, count_new, x.format_is, x.count_is, ← x.number) r.further;
     }

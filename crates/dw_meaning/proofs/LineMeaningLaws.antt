@@ -1,8 +1,9 @@
 -- A line table that was written with its paths mapped is read, and means the mapped table.
-use Rattle.std.proofs.Common.{Bool, true, false, ◌≡◌, ℕ, zero, suc, ◌+◌, ◌-◌, ◌≤◌, ◌==◌, List, [], ◌∷◌, ◌++◌, length, take, drop, map, Option, Some, None, refl, sym, ap, ◌∙◌, subst, arith, if◌then◌else◌, append_assoc}
+use Rattle.std.proofs.Common.{Bool, true, false, ◌≡◌, ℕ, zero, suc, ◌+◌, ◌-◌, ◌≤◌, ◌==◌, List, [], ◌∷◌, ◌++◌, length, take, drop, map, Option, Some, None, refl, sym, ap, ◌∙◌, subst, arith, if◌then◌else◌, append_assoc, ◌<◌}
 use Rattle.std.specs.Prelude.{not}
 use Rattle.std.proofs.lemmas.Bool.{eq-eqb, ne_eqb}
 use Rattle.std.proofs.lemmas.List.{append-nil, length-drop, length-take-le, take-append-drop, map-append, take_all}
+use Rattle.dw_base.specs.RelocationFields.{relocation_at}
 use Rattle.dw_base.specs.Cells.{Cell, bytes_of}
 use Rattle.dw_base.specs.LineHeaders.{length_place}
 use Rattle.dw_base.specs.LineMeanings.{place_text, LineColumn, LineEntry, listed_columns, list_end, place_behind, old_columns, dir_columns, file_columns, entries_with, FileText, dir_texts, file_text, file_texts, file_path, ShownFile, item_at, dir_numbered, file_numbered, shown_in, shown_as, shown_file, ShownRow, shown_row, shown_rows, line_params, program_rows, LineMeaning, line_meaning, mapped_entry, mapped_shown, mapped_row, mapped_line}
@@ -23,9 +24,9 @@ use Rattle.dw_base.proofs.ContributionBackLaws.{StandsAt}
 use Rattle.dw_base.proofs.UnitEditLaws.{length-bytes_of}
 use Rattle.dw_base.proofs.PathLaws.{mapped_path-none}
 use Rattle.dw_meaning.specs.LineCells.{CellChange, all_path_cells, written_cells}
-use Rattle.dw_meaning.proofs.CellLaidLaws.{cells-end, laid-cells}
+use Rattle.dw_meaning.proofs.CellLaidLaws.{cells-end, laid-cells, laid-clear}
 use Rattle.dw_meaning.proofs.CellRestLaws.{CellRest, cells-copied, clear-none, same-from}
-use Rattle.dw_meaning.proofs.ClearLaws.{Clear, ListClear, ListsClear, NoneOver, clear-part}
+use Rattle.dw_meaning.proofs.ClearLaws.{Clear, ListClear, ListsClear, NoneOver, clear-part, clear-join, whole-clear}
 use Rattle.dw_meaning.proofs.LineCellLaws.{SameChanges, cells-append, paths-bytes, same-append}
 use Rattle.dw_meaning.proofs.LineClearLaws.{TableClear}
 use Rattle.dw_meaning.proofs.LineChangeLaws.{From, Rest, copied, from-end, part-length, part-none, all-before}
@@ -92,6 +93,7 @@ pub record ListsMoved (g k : LineSource) (m : PathMap) (h : LineHeader) (n : Lin
   pub files_moved : MovedFiles g k m files new_files
   pub rest : Rest old new h.program [] behind new_behind
   pub cells : CellRest g.cells k.cells h.program [] tail behind new_behind
+  pub clear : ListsClear k (moved_header h n) new new_behind
   pub dir_columns_same : (if h.version == 5 then listed_columns k (moved_header h n) new n.lists else []) ≡ (if h.version == 5 then listed_columns g h old h.lists else [])
   pub file_columns_same : (if h.version == 5 then listed_columns k (moved_header h n) new (list_end k (moved_header h n) new n.lists) else map (old_columns new) new_files)
       ≡ (if h.version == 5 then listed_columns g h old (list_end g h old h.lists) else map (old_columns old) files)
@@ -131,6 +133,11 @@ lists-moved g m bytes cells s l old new h n places tail dirs files behind w side
       files_moved = f1.moved;
       rest = f1.rest;
       cells = f1.cells;
+      clear = record {
+        old = λ is. clear-join cells n.lists d1.behind f1.behind d1.clear f1.clear;
+        dirs = λ five. absurd (other five);
+        files = λ five. absurd (other five);
+      };
       dir_columns_same = rw (ne_eqb h.version 5 other) refl;
       file_columns_same = rw (ne_eqb h.version 5 other) f1.further;
     }
@@ -161,6 +168,11 @@ lists-moved g m bytes cells s l old new h n places tail dirs files behind w side
       files_moved = f1.moved;
       rest = f1.rest;
       cells = f1.cells;
+      clear = record {
+        old = λ other. absurd (other five);
+        dirs = λ is. d1.clear;
+        files = λ is. subst (ListClear (edited_with g bytes cells s l) (moved_header h n) new) (sym end_new) f1.clear;
+      };
       dir_columns_same = by_five (h.version == 5) d1.further;
       file_columns_same = rw (eq-eqb h.version 5 five) (ap (listed_columns (edited_with g bytes cells s l) (moved_header h n) new) end_new ∙ f1.further ∙ ap (listed_columns g h old) (sym end_old));
     }
@@ -292,6 +304,11 @@ abbrev files_after : LineSource → LineHeader → LinePlaces → List ℕ → L
 files_after k h n new files =
     if h.version == 5 then listed_columns k (moved_header h n) new (list_end k (moved_header h n) new n.lists) else map (old_columns new) files
 
+-- behind its lists a table has the relocations that it had
+pub record TailStays (g k : LineSource) (r t : LineReading) : Type 0 where
+  pub same : (y : ℕ) → t.behind ≤ y → y < t.header.end → relocation_at k.cells y ≡ relocation_at g.cells (r.behind + (y - t.behind))
+  pub within : (y : ℕ) → t.behind ≤ y → y < t.header.end → r.behind + (y - t.behind) < r.header.end
+
 -- the table after the edit
 pub record TableMoved (g k : LineSource) (m : PathMap) (start size : ℕ) (r : LineReading) : Type 0 where
   pub reading : LineReading
@@ -300,6 +317,8 @@ pub record TableMoved (g k : LineSource) (m : PathMap) (start size : ℕ) (r : L
   pub ends : reading.header.end ≡ start + size
   pub says : line_meaning k reading ≡ mapped_line m (line_meaning g r)
   pub over : NoneOver g.cells r.header.end → NoneOver k.cells (start + size)
+  pub clear : TableClear k reading
+  pub tail : TailStays g k r reading
 
 pub table-moved : (g : LineSource) (m : PathMap) (places : TextPlace → Option ℕ) (bytes : List ℕ) (cells more : List Cell) (s l : List ℕ) (begin start : ℕ) (r : LineReading) → SourceMoves g m s l → ReadsTable g begin r
     → Writable g m places r → EachMoves g m s l r.header.width places (paths_of (table_read g r)) → DefinedStay m (take r.header.end g.bytes) r.defined
@@ -326,7 +345,8 @@ table-moved g m places bytes cells more s l begin start r w reads fits moves sta
     let new_cells : length bytes ≡ length cells = sym (ap length own) ∙ length-bytes_of cells in
     let begins = st.inside in
     let c1 = laid-cells g m places begin r cells more start reads clear hp.program (omega (arith, xw, xe, size_cells)) (omega (arith, lists, before)) (omega (arith, begins, new_cells)) over there_cells in
-    finish (length (written_table g m places (table_read g r))) (length (written_header g m places (table_read g r))) x hp from.0 from.1 l1 c1
+    let c0 = laid-clear g m places begin r cells more start reads clear hp.program (omega (arith, xw, xe, size_cells)) (omega (arith, lists, before)) there_cells in
+    finish (length (written_table g m places (table_read g r))) (length (written_header g m places (table_read g r))) x hp from.0 from.1 l1 c1 c0
   where
     h_ : LineHeader
     h_ = r.header
@@ -336,8 +356,9 @@ table-moved g m places bytes cells more s l begin start r w reads fits moves sta
         → Laid g r.header bytes (all_changes g m places r.header.width (r.dirs ++ texts_of r.files)) start size head
         → CellRest g.cells cells r.header.program (all_path_cells g m places r.header.width (r.dirs ++ texts_of r.files)) (cells_part g.cells r.header.program r.header.end ++ more)
         (first_place r.header.version (r.header.start + length_size r.header.width) r.header.width) (first_place r.header.version (start + length_size r.header.width) r.header.width)
+        → Clear cells start (first_place r.header.version (start + length_size r.header.width) r.header.width)
         → TableMoved g (edited_with g bytes cells s l) m start size r
-    finish size head x hp from behind l1 c1 =
+    finish size head x hp from behind l1 c1 c0 =
         let old : List ℕ = take r.header.end g.bytes in
         let new : List ℕ = take (start + size) bytes in
         let n : LinePlaces = places_of r.header start size head in
@@ -505,4 +526,25 @@ table-moved g m places bytes cells more s l begin start r w reads fits moves sta
               ∙ rows-mapped m r.header.version (dir_texts g r.dirs) (file_texts g r.files ++ file_texts g r.defined)
               (program_rows (line_params g.order r.header) (part (take r.header.end g.bytes) r.header.operands r.header.lists) (drop r.header.program (take r.header.end g.cells))) none);
           over = ce.over;
+          clear = record {
+            front = clear-join cells start (first_place r.header.version (start + length_size r.header.width) r.header.width)
+                (first_place r.header.version (start + length_size r.header.width) r.header.width + (r.header.lists - first_place r.header.version (r.header.start + length_size r.header.width) r.header.width)) c0
+                (whole-clear g.cells cells (first_place r.header.version (r.header.start + length_size r.header.width) r.header.width)
+                (first_place r.header.version (start + length_size r.header.width) r.header.width) r.header.lists kc.same
+                (clear-part g.cells r.header.start r.header.lists (first_place r.header.version (r.header.start + length_size r.header.width) r.header.width) r.header.lists clear.front (omega (arith, lp)) (omega arith)));
+            lists = lm.clear;
+            apart = over;
+          };
+          tail = record {
+            same = λ y at lt.
+                let at_y : lm.new_behind ≤ y = at in
+                let lt_y : y < start + size = lt in
+                let place : lm.new_behind + (y - lm.new_behind) ≡ y = omega (arith, at_y) in
+                ap (relocation_at cells) (sym place) ∙ ce.same (y - lm.new_behind) (omega (arith, at_y, lt_y, ends, program_new, before, program));
+            within = λ y at lt.
+                let at_y : lm.new_behind ≤ y = at in
+                let lt_y : y < start + size = lt in
+                let inside_y : r.behind + (y - lm.new_behind) < r.header.end = omega (arith, at_y, lt_y, ends, program_new, before, program) in
+                inside_y;
+          };
         }

@@ -3,6 +3,7 @@ use Rattle.std.proofs.Common.{Bool, true, false, ◌≡◌, ℕ, zero, suc, ◌+
 use Rattle.std.specs.Prelude.{if◌then◌else◌, Ok, ⊤}
 use Rattle.std.proofs.lemmas.Bool.{eq-eqb, le-leb}
 use Rattle.std.proofs.lemmas.List.{length-append, length-drop, length-take-le}
+use Rattle.dw_base.proofs.PlainCellLaws.{plain_cells-plain}
 use Rattle.dw_base.specs.Cells.{Cell, Relocation, bytes_of, cells_at, offset_of, plain_cells}
 use Rattle.dw_base.specs.Forms.{TextSection, in_str, in_line_str, width_size}
 use Rattle.dw_base.specs.LineEntries.{column_params, offset_column, column_at}
@@ -24,12 +25,12 @@ use Rattle.dw_base.specs.declared.shared.Order.{Order}
 use Rattle.dw_base.specs.declared.values.Spec.{Spec}
 use Rattle.dw_base.specs.declared.values.Value.{Value}
 use Rattle.dw_base.proofs.PathLaws.{has_nul-mapped_path}
-use Rattle.dw_base.proofs.RelocationFieldLaws.{bytes_of-drop, bytes_of-take, length-cells_at}
+use Rattle.dw_base.proofs.RelocationFieldLaws.{bytes_of-drop, bytes_of-take, length-cells_at, relocation_at-plain}
 use Rattle.dw_base.proofs.UnitEditLaws.{length-bytes_of}
 use Rattle.dw_base.proofs.TextLaws.{ends_in-append, text_in-append, ends_in-inside, has_nul-text_in}
-use Rattle.dw_meaning.specs.LineCells.{CellChange, inline_cells, offset_cells, path_cells}
+use Rattle.dw_meaning.specs.LineCells.{CellChange, changed_cells, inline_cells, offset_cells, path_cells}
 use Rattle.dw_meaning.proofs.CellRestLaws.{CellRest, cells-changed, cells-copied, clear-none, plain-none, plain-size, same-from}
-use Rattle.dw_meaning.proofs.ClearLaws.{Clear, NoneOver, clear-part, clear_from}
+use Rattle.dw_meaning.proofs.ClearLaws.{Clear, NoneOver, clear-join, clear-part, clear_from, front-clear, tail-clear, whole-clear}
 use Rattle.dw_meaning.proofs.FieldCellLaws.{FieldNames, cells-own, field-kept, field-names, field-own, field-put, field-there, put-tail, read-tail}
 use Rattle.dw_meaning.proofs.FieldPutLaws.{length-put, width-some}
 use Rattle.dw_meaning.proofs.LineCellLaws.{SameChanges}
@@ -117,6 +118,10 @@ clear-inline spec p e = rw e refl
 
 clear-value : (spec : Spec) (p : ℕ) → (spec.form == DW_FORM_strp) ≡ false → (spec.form == DW_FORM_line_strp) ≡ false → clear_from spec p ≡ p
 clear-value spec p a b = rw (a, b) refl
+
+clear-offset : (spec : Spec) (z : TextSection) (p : ℕ) → spec.form ≡ offset_form z → clear_from spec p ≡ suc p
+clear-offset spec in_str p e = rw e refl
+clear-offset spec in_line_str p e = rw e refl
 
 -- what a column takes
 pub column-place : (g : LineSource) (h : LineHeader) (table : List ℕ) (spec : Spec) (p : ℕ) (c : Column) → is_column spec ≡ true → ColumnIs g h table spec p c
@@ -218,6 +223,7 @@ pub record ColumnMoved (g k : LineSource) (m : PathMap) (h : LineHeader) (old ne
   pub says : place_text k place ≡ mapped_path m (place_text g t)
   pub rest : Rest old new end cs c.next column.next
   pub cells : CellRest g.cells k.cells end us tail c.next column.next
+  pub clear : Clear k.cells (clear_from spec q) column.next
 
 -- a change that stands in the section of line tables, and one of an offset
 pub inline-changes : (g : LineSource) (m : PathMap) (places : TextPlace → Option ℕ) (h : LineHeader) (x : TextPlace) → x.section ≡ g.number
@@ -254,11 +260,15 @@ text-moved g m bytes cells s l old new h places end cs p q w sides ends rest fro
         ap (λ (u : List ℕ). bytes_at g.bytes p (length u)) (sym same) ∙ text-part g.bytes p there ∙ same
 
 -- and its cells
+pub record TextCells (old new : List Cell) (end : ℕ) (us : List CellChange) (tail : List Cell) (p q e : ℕ) : Type 0 where
+  pub rest : CellRest old new end us tail p e
+  pub clear : Clear new q e
+
 pub text-cells : (g : LineSource) (m : PathMap) (cells : List Cell) (s l old : List ℕ) (h : LineHeader) (places : TextPlace → Option ℕ) (end : ℕ) (cs : List Change) (us : List CellChange)
     (tail : List Cell) (p q : ℕ) → SourceMoves g m s l → Grows old g.bytes → ends_in old p ≡ true
     → CellRest g.cells cells end (path_cells g m places h.width (record { section = g.number; at = p; len = length (text_in old p); field = p }) ++ us) tail p q → SameChanges us cs
     → From end (p + length (text_in old p) + 1) cs → Clear g.cells p (p + length (text_in old p) + 1)
-    → CellRest g.cells cells end us tail (p + length (text_in old p) + 1) (q + length (mapped_path m (text_in old p)) + 1)
+    → TextCells g.cells cells end us tail (p + length (text_in old p) + 1) q (q + length (mapped_path m (text_in old p)) + 1)
 text-cells g m cells s l old h places end cs us tail p q w was ends rest same from clear =
     let room : p + length (text_in old p) + 1 ≤ length g.cells = room-cells g.cells g.bytes old (p + length (text_in old p) + 1) w.own was (text-room old p ends) in
     let size : length (cells_at g.cells p (length (text_in old p))) ≡ length (text_in old p) = length-cells_at g.cells p (length (text_in old p)) (omega (arith, room)) in
@@ -279,7 +289,21 @@ text-cells g m cells s l old h places end cs us tail p q w was ends rest same fr
     (clear-none g.cells (p + length (text_in old p)) (p + length (text_in old p) + 1)
     (clear-part g.cells p (p + length (text_in old p) + 1) (p + length (text_in old p)) (p + length (text_in old p) + 1) clear (omega arith) (omega arith))) in
     let place : q + length (mapped_path m (text_in old p)) + (p + length (text_in old p) + 1 - (p + length (text_in old p))) ≡ q + length (mapped_path m (text_in old p)) + 1 = omega arith in
-    subst (λ (i : ℕ). CellRest g.cells cells end us tail (p + length (text_in old p) + 1) i) place k.rest
+    let bytes_clear : Clear cells q (q + length (plain_cells (mapped_path m (bytes_of (cells_at g.cells p (length (text_in old p))))))) =
+    front-clear cells (plain_cells (mapped_path m (bytes_of (cells_at g.cells p (length (text_in old p))))))
+    (changed_cells g.cells (p + length (cells_at g.cells p (length (text_in old p)))) end us ++ tail) q x.behind
+    (λ i lt. relocation_at-plain (plain_cells (mapped_path m (bytes_of (cells_at g.cells p (length (text_in old p)))))) i
+    (plain_cells-plain (mapped_path m (bytes_of (cells_at g.cells p (length (text_in old p))))))) in
+    let last_clear : Clear cells (q + length (mapped_path m (text_in old p)))
+    (q + length (mapped_path m (text_in old p)) + (p + length (text_in old p) + 1 - (p + length (text_in old p)))) =
+    whole-clear g.cells cells (p + length (text_in old p)) (q + length (mapped_path m (text_in old p))) (p + length (text_in old p) + 1) k.same
+    (clear-part g.cells p (p + length (text_in old p) + 1) (p + length (text_in old p)) (p + length (text_in old p) + 1) clear (omega arith) (omega arith)) in
+    record {
+      rest = subst (λ (i : ℕ). CellRest g.cells cells end us tail (p + length (text_in old p) + 1) i) place k.rest;
+      clear = clear-join cells q (q + length (mapped_path m (text_in old p))) (q + length (mapped_path m (text_in old p)) + 1)
+          (subst (λ (i : ℕ). Clear cells q (q + i)) long bytes_clear)
+          (subst (λ (i : ℕ). Clear cells (q + length (mapped_path m (text_in old p))) i) place last_clear);
+    }
   where
     own-text : bytes_of (cells_at g.cells p (length (text_in old p))) ≡ text_in old p
     own-text =
@@ -300,6 +324,7 @@ inline-moved : (g : LineSource) (m : PathMap) (bytes : List ℕ) (cells : List C
     (record { section = g.number; at = p; len = length (text_in old p); field = p })
 inline-moved g m bytes cells s l old new h n places end cs us tail spec p q w sides form ends rest cell same from clear =
     let r = text-moved g m bytes cells s l old new h places end cs p q w sides ends rest from in
+    let d = text-cells g m cells s l old h places end cs us tail p q w sides.was ends cell same from clear in
     record {
       column = record { text = Some (record { section = g.number; at = q; len = length (text_in new q); field = q }); number = 0; next = q + length (text_in new q) + 1 };
       is = inline-column g bytes cells s l new (moved_header h n) spec q form r.ends;
@@ -308,8 +333,9 @@ inline-moved g m bytes cells s l old new h n places end cs us tail spec p q w si
       text = refl;
       says = inline-placed (edited_with g bytes cells s l) new q sides.is r.ends ∙ r.says ∙ ap (mapped_path m) (sym (inline-placed g old p sides.was ends));
       rest = subst (λ (u : List ℕ). Rest old new end cs (p + length (text_in old p) + 1) (q + length u + 1)) (sym r.says) r.rest;
-      cells = subst (λ (u : List ℕ). CellRest g.cells cells end us tail (p + length (text_in old p) + 1) (q + length u + 1)) (sym r.says)
-          (text-cells g m cells s l old h places end cs us tail p q w sides.was ends cell same from clear);
+      cells = subst (λ (u : List ℕ). CellRest g.cells cells end us tail (p + length (text_in old p) + 1) (q + length u + 1)) (sym r.says) d.rest;
+      clear = subst (λ (i : ℕ). Clear cells i (q + length (text_in new q) + 1)) (sym (clear-inline spec q form))
+          (subst (λ (u : List ℕ). Clear cells q (q + length u + 1)) (sym r.says) d.clear);
     }
 
 -- no relocation begins in a field with another offset but at its start
@@ -337,16 +363,20 @@ offset-moved g m bytes cells s l old new h n end cs us tail spec z i p q None w 
     let width : p + width_size h.width - p ≡ width_size h.width = omega arith in
     let kept = offset-kept g m bytes cells s l old new h n spec z i p q w sides form room reads ends (omega (arith, inside, size))
     (ap (λ (j : ℕ). take j (drop q cells)) (sym width) ∙ d.same ∙ ap (λ (j : ℕ). take j (drop p g.cells)) width) cell.over in
-    by_text kept.column.text kept refl k.rest d.rest
+    let tail_clear : Clear cells (suc q) (q + (p + width_size h.width - p)) =
+    tail-clear cells (cells_at g.cells p (width_size h.width)) q (p + width_size h.width - p) (d.same ∙ ap (λ (j : ℕ). take j (drop p g.cells)) width)
+    (λ j a b. read-tail g.cells p (width_size h.width) j field.whole a (omega (arith, b, width))) in
+    by_text kept.column.text kept refl k.rest d.rest (subst (λ (i : ℕ). Clear cells i (q + (p + width_size h.width - p))) (sym (clear-offset spec z q form)) tail_clear)
   where
     by_text : (t : Option TextPlace)
         → (kept : ColumnKept g (edited_with g bytes cells s l) (moved_header h n) new spec p q (record { text = Some (text_of (texts_in g z) i p); number = 0; next = p + width_size h.width }))
         → kept.column.text ≡ t → Rest old new end cs (p + width_size h.width) (q + (p + width_size h.width - p))
         → CellRest g.cells cells end us tail (p + width_size h.width) (q + (p + width_size h.width - p))
+        → Clear cells (clear_from spec q) (q + (p + width_size h.width - p))
         → ColumnMoved g (edited_with g bytes cells s l) m (moved_header h n) old new end cs us tail spec q
         (record { text = Some (text_of (texts_in g z) i p); number = 0; next = p + width_size h.width }) (text_of (texts_in g z) i p)
-    by_text None kept e r d = absurd (subst (λ (x : Option TextPlace). KeptText g (edited_with g bytes cells s l) (Some (text_of (texts_in g z) i p)) x) e kept.text)
-    by_text (Some u) kept e r d = record {
+    by_text None kept e r d none = absurd (subst (λ (x : Option TextPlace). KeptText g (edited_with g bytes cells s l) (Some (text_of (texts_in g z) i p)) x) e kept.text)
+    by_text (Some u) kept e r d none = record {
       column = kept.column;
       is = kept.is;
       number = kept.number;
@@ -357,6 +387,7 @@ offset-moved g m bytes cells s l old new h n end cs us tail spec z i p q None w 
           ∙ offset-text g m s l z i p w ends ∙ sym moves ∙ ap (mapped_path m) (sym (offset-text g m s l z i p w ends));
       rest = subst (λ (k : ℕ). Rest old new end cs (p + width_size h.width) k) (sym kept.next) r;
       cells = subst (λ (k : ℕ). CellRest g.cells cells end us tail (p + width_size h.width) k) (sym kept.next) d;
+      clear = subst (λ (i : ℕ). Clear cells (clear_from spec q) i) (sym kept.next) none;
     }
 offset-moved g m bytes cells s l old new h n end cs us tail spec z i p q (Some to) w sides form room reads ends moves takes rest cell same from =
     let cell_room : p + width_size h.width ≤ length g.cells = room-cells g.cells g.bytes old (p + width_size h.width) w.own sides.was room in
@@ -399,6 +430,9 @@ offset-moved g m bytes cells s l old new h n end cs us tail spec z i p q (Some t
       rest = subst (λ (j : ℕ). Rest old new end cs (p + j) (q + width_size h.width)) old_size (subst (λ (j : ℕ). Rest old new end cs (p + length (bytes_at g.bytes p (width_size h.width))) (q + j)) long x.rest);
       cells = subst (λ (j : ℕ). CellRest g.cells cells end us tail (p + j) (q + width_size h.width)) own_size
           (subst (λ (j : ℕ). CellRest g.cells cells end us tail (p + length (cells_at g.cells p (width_size h.width))) (q + j)) put_size d.rest);
+      clear = subst (λ (i : ℕ). Clear cells i (q + width_size h.width)) (sym (clear-offset spec z q form))
+          (tail-clear cells (with_offset g.order (cells_at g.cells p (width_size h.width)) to) q (width_size h.width)
+          (ap (λ (j : ℕ). take j (drop q cells)) (sym put_size) ∙ d.same) none);
     }
 
 pub column-moved : (g : LineSource) (m : PathMap) (bytes : List ℕ) (cells : List Cell) (s l old new : List ℕ) (h : LineHeader) (n : LinePlaces) (places : TextPlace → Option ℕ) (end : ℕ) (cs : List Change)

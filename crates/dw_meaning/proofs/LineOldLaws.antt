@@ -19,7 +19,7 @@ use Rattle.dw_base.specs.declared.line_tables.TextPlace.{TextPlace}
 use Rattle.dw_base.proofs.PathLaws.{is_prefix-parts}
 use Rattle.dw_meaning.specs.LineCells.{CellChange, all_path_cells, path_cells}
 use Rattle.dw_meaning.proofs.CellRestLaws.{CellRest, cells-copied, clear-none, same-from}
-use Rattle.dw_meaning.proofs.ClearLaws.{Clear, clear-part}
+use Rattle.dw_meaning.proofs.ClearLaws.{Clear, clear-join, clear-part, whole-clear}
 use Rattle.dw_meaning.proofs.LineCellLaws.{SameChanges, paths-bytes, same-append}
 use Rattle.dw_meaning.proofs.LineChangeLaws.{From, Rest, Copied, copied, from-before, from-end, all-before, part-length, text-room}
 use Rattle.dw_meaning.proofs.LineColumnLaws.{edited_with, SourceMoves, inline-placed}
@@ -99,6 +99,7 @@ pub record DirsMoved (g k : LineSource) (m : PathMap) (old new : List ℕ) (end 
   pub moved : MovedTexts g k m ts texts
   pub rest : Rest old new end cs e behind
   pub cells : CellRest g.cells k.cells end us tail e behind
+  pub clear : Clear k.cells q behind
 
 -- a text of a list under an edit
 record NameMoved (g k : LineSource) (m : PathMap) (old new : List ℕ) (end : ℕ) (cs : List Change)
@@ -110,6 +111,7 @@ record NameMoved (g k : LineSource) (m : PathMap) (old new : List ℕ) (end : �
   at : text.at ≡ q
   rest : Rest old new end cs (p + t.len + 1) (q + text.len + 1)
   cells : CellRest g.cells k.cells end us tail (p + t.len + 1) (q + text.len + 1)
+  clear : Clear k.cells q (q + text.len + 1)
 
 name-moved : (g : LineSource) (m : PathMap) (bytes : List ℕ) (cells : List Cell) (s l old new : List ℕ) (h : LineHeader) (places : TextPlace → Option ℕ) (end : ℕ) (cs : List Change)
     (us : List CellChange) (tail : List Cell) (p q : ℕ) (t : TextPlace)
@@ -136,7 +138,8 @@ name-moved g m bytes cells s l old new h places end cs us tail p q t w sides is 
       rest = subst (λ (i : ℕ). Rest old new end cs i (q + length (text_in new q) + 1)) (sym place)
           (subst (λ (i : ℕ). Rest old new end cs (p + length (text_in old p) + 1) (q + i + 1)) (sym size) r.rest);
       cells = subst (λ (i : ℕ). CellRest g.cells cells end us tail i (q + length (text_in new q) + 1)) (sym place)
-          (subst (λ (i : ℕ). CellRest g.cells cells end us tail (p + length (text_in old p) + 1) (q + i + 1)) (sym size) d);
+          (subst (λ (i : ℕ). CellRest g.cells cells end us tail (p + length (text_in old p) + 1) (q + i + 1)) (sym size) d.rest);
+      clear = subst (λ (i : ℕ). Clear cells q (q + i + 1)) (sym size) d.clear;
     }
 
 pub dirs-moved : (g : LineSource) (m : PathMap) (bytes : List ℕ) (cells : List Cell) (s l old new : List ℕ) (h : LineHeader) (places : TextPlace → Option ℕ) (end : ℕ) (cs : List Change)
@@ -158,6 +161,7 @@ dirs-moved g m bytes cells s l old new h places end cs us tail p q e [] w sides 
       moved = tt;
       rest = subst (λ (i : ℕ). Rest old new end cs i (q + 1)) (sym d.3) (subst (λ (i : ℕ). Rest old new end cs (p + 1) i) place k.rest);
       cells = subst (λ (i : ℕ). CellRest g.cells cells end us tail i (q + 1)) (sym d.3) (subst (λ (i : ℕ). CellRest g.cells cells end us tail (p + 1) i) place c.rest);
+      clear = subst (Clear cells q) place (whole-clear g.cells cells p q (p + 1) c.same (subst (Clear g.cells p) d.3 clear));
     }
 dirs-moved g m bytes cells s l old new h places end cs us tail p q e (t ∷ ts) w sides d rest cell both from clear =
     let behind = dirs-from g m places h old end cs (p + t.len + 1) e ts d.2 from in
@@ -168,7 +172,15 @@ dirs-moved g m bytes cells s l old new h places end cs us tail p q e (t ∷ ts) 
     (clear-part g.cells p e p (p + t.len + 1) clear (omega arith) behind.1) in
     let more = dirs-moved g m bytes cells s l old new h places end cs us tail (p + t.len + 1) (q + one.text.len + 1) e ts w sides d.2 one.rest one.cells both from
     (clear-part g.cells p e (p + t.len + 1) e clear (omega arith) (omega arith)) in
-    record { texts = one.text ∷ more.texts; behind = more.behind; are = (one.is, one.some, more.are); moved = (one.says, more.moved); rest = more.rest; cells = more.cells }
+    record {
+      texts = one.text ∷ more.texts;
+      behind = more.behind;
+      are = (one.is, one.some, more.are);
+      moved = (one.says, more.moved);
+      rest = more.rest;
+      cells = more.cells;
+      clear = clear-join cells q (q + one.text.len + 1) more.behind one.clear more.clear;
+    }
 
 -- the numbers behind the name of a file
 abbrev leb_step : ℕ → List ℕ → List ℕ → ℕ → Option (ℕ × ℕ) → List LineColumn
@@ -236,6 +248,7 @@ pub record OldMoved (g k : LineSource) (m : PathMap) (old new : List ℕ) (end :
   pub moved : MovedFiles g k m fs files
   pub rest : Rest old new end cs e behind
   pub cells : CellRest g.cells k.cells end us tail e behind
+  pub clear : Clear k.cells q behind
   pub further : map (old_columns new) files ≡ map (old_columns old) fs
 
 pub files-moved : (g : LineSource) (m : PathMap) (bytes : List ℕ) (cells : List Cell) (s l old new : List ℕ) (h : LineHeader) (places : TextPlace → Option ℕ) (end : ℕ) (cs : List Change)
@@ -257,6 +270,7 @@ files-moved g m bytes cells s l old new h places end cs us tail p q e [] w sides
       moved = tt;
       rest = subst (λ (i : ℕ). Rest old new end cs i (q + 1)) (sym d.3) (subst (λ (i : ℕ). Rest old new end cs (p + 1) i) place k.rest);
       cells = subst (λ (i : ℕ). CellRest g.cells cells end us tail i (q + 1)) (sym d.3) (subst (λ (i : ℕ). CellRest g.cells cells end us tail (p + 1) i) place c.rest);
+      clear = subst (Clear cells q) place (whole-clear g.cells cells p q (p + 1) c.same (subst (Clear g.cells p) d.3 clear));
       further = refl;
     }
 files-moved g m bytes cells s l old new h places end cs us tail p q e (f ∷ fs) w sides d rest cell both from clear =
@@ -295,5 +309,9 @@ files-moved g m bytes cells s l old new h places end cs us tail p q e (f ∷ fs)
       moved = (refl, one.says, more.moved);
       rest = more.rest;
       cells = more.cells;
+      clear = clear-join cells q (q + one.text.len + 1) more.behind one.clear
+          (clear-join cells (q + one.text.len + 1) (q + one.text.len + 1 + (d.0.next - (p + f.text.len + 1))) more.behind
+          (whole-clear g.cells cells (p + f.text.len + 1) (q + one.text.len + 1) d.0.next c.same
+          (clear-part g.cells p e (p + f.text.len + 1) d.0.next clear (omega arith) further_behind)) more.clear);
       further = ap (λ (c : List LineColumn). c ∷ map (old_columns new) more.files) columns ∙ ap (λ (cs_ : List (List LineColumn)). old_columns old f ∷ cs_) more.further;
     }

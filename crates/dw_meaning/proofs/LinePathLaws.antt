@@ -34,7 +34,8 @@ use Rattle.dw_base.specs.declared.shared.Width.TheVariants.{W32, W64}
 use Rattle.dw_base.proofs.OffsetPutLaws.{reaches_all}
 use Rattle.dw_base.proofs.PlainCellLaws.{IsPlain}
 use Rattle.dw_base.proofs.RelocationFieldLaws.{relocation_at-plain}
-use Rattle.dw_meaning.proofs.FieldCellLaws.{TakesAt, takes-reached}
+use Rattle.dw_meaning.specs.NewAddends.{EachPathMakes, EachTableMakes, MakesPath}
+use Rattle.dw_meaning.proofs.FieldCellLaws.{TakesAt, makes-takes, takes-reached}
 use Rattle.dw_meaning.proofs.FieldPutLaws.{ReachesBy}
 use Rattle.dw_meaning.proofs.LineColumnLaws.{texts_in, OffsetMoves, MovesIn, PathMoves, TakesPlace, ColumnIs, inline_is, offset_is, value_is, column-is}
 use Rattle.dw_meaning.proofs.LineEntryLaws.{text_with, column-step, entry-same}
@@ -247,6 +248,20 @@ plain-take g places (r ∷ rs) plain = (each r.header.width (r.dirs ++ texts_of 
     each : (w : Width) (xs : List TextPlace) → EachTakes g places w xs
     each w [] = tt
     each w (x ∷ xs) = (one w x.field (places x) (x.section == g.number), each w xs)
+
+-- where addends make the new places
+pub makes-take : (g : LineSource) (places : TextPlace → Option ℕ) (rs : List LineReading) → EachTableMakes g places rs → AllTake g places rs
+makes-take g places [] h = tt
+makes-take g places (r ∷ rs) h = (each r.header.width (r.dirs ++ texts_of r.files) h.0, makes-take g places rs h.1)
+  where
+    one : (w : Width) (x : TextPlace) (o : Option ℕ) (b : Bool) → MakesPath g w x o b → TakesIn g w x.field o b
+    one w x o true h = tt
+    one w x None false h = tt
+    one w x (Some n) false h = makes-takes (relocation_at g.cells x.field) (width_size w) n h
+
+    each : (w : Width) (xs : List TextPlace) → EachPathMakes g places w xs → EachTakes g places w xs
+    each w [] h = tt
+    each w (x ∷ xs) h = (one w x (places x) (x.section == g.number) h.0, each w xs h.1)
 
 -- and where the addends of relocations reach each offset of a table's width
 pub record WidthReaches (g : LineSource) (w : Width) : Type 0 where

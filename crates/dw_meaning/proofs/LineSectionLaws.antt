@@ -28,7 +28,7 @@ use Rattle.dw_meaning.proofs.LineTableLaws.{header-places}
 use Rattle.dw_meaning.proofs.LineColumnLaws.{edited_with, Grows, SourceMoves}
 use Rattle.dw_meaning.proofs.LineHeaderLaws.{header-is, length-size}
 use Rattle.dw_meaning.proofs.LineLaidLaws.{stands-first, stands-next, length-bytes}
-use Rattle.dw_meaning.proofs.LineMeaningLaws.{table-moved}
+use Rattle.dw_meaning.proofs.LineMeaningLaws.{TailStays, table-moved}
 use Rattle.dw_meaning.proofs.LinePathLaws.{AllTake, BothMove, paths-move}
 use Rattle.dw_meaning.proofs.LineStartLaws.{EachSome}
 use Rattle.dw_meaning.proofs.TextEditLaws.{TextsAre, behind_piece}
@@ -66,6 +66,13 @@ over-if g cells q e p [] clear tables h = tt
 over-if g cells q e p (r ∷ rs) clear tables h =
     h (subst (NoneOver g.cells) (header-places g p r.header (header-is g.order g.bytes p r.header tables.0.header)).0 clear.0.apart)
 
+-- behind the lists of each
+abbrev pub TailsStay : LineSource → LineSource → List LineReading → List LineReading → Type 0
+TailsStay g k [] [] = ⊤
+TailsStay g k [] (t ∷ ts) = ⊥
+TailsStay g k (r ∷ rs) [] = ⊥
+TailsStay g k (r ∷ rs) (t ∷ ts) = TailStays g k r t × TailsStay g k rs ts
+
 -- the tables after the edit
 pub record LinesMoved (g k : LineSource) (m : PathMap) (q e : ℕ) (ts : List (List ℕ)) (rs : List LineReading) : Type 0 where
   pub readings : List LineReading
@@ -74,6 +81,8 @@ pub record LinesMoved (g k : LineSource) (m : PathMap) (q e : ℕ) (ts : List (L
   pub says : line_meanings k readings ≡ mapped_lines m (line_meanings g rs)
   pub some : EachSome ts
   pub count : length ts ≡ length (table_starts rs)
+  pub clear : EachClear k readings
+  pub tails : TailsStay g k rs readings
 
 pub lines-moved : (c : TableChanges) (g : LineSource) (bytes : List ℕ) (cells more_cells : List Cell) (ts us : List (List ℕ)) (ms ns : List Mention) (p e q : ℕ) (rs : List LineReading)
     → SourceMoves g c.map (new_table c.str.plan c.str.texts) (new_table c.line_str.plan c.line_str.texts) → BothMove c g → TablesTo g p rs e → EachCan g c.map c rs
@@ -84,7 +93,7 @@ pub lines-moved : (c : TableChanges) (g : LineSource) (bytes : List ℕ) (cells 
     → LinesMoved g (edited_with g bytes cells (new_table c.str.plan c.str.texts) (new_table c.line_str.plan c.line_str.texts)) c.map q
     (q + length (all_lines (lines_after c.map c.str c.line_str g rs))) (lines_after c.map c.str c.line_str g rs) rs
 lines-moved c g bytes cells more_cells ts us ms ns p e q [] w both reads can all st own there over clear takes =
-    record { readings = []; are = omega arith; starts = refl; says = refl; some = tt; count = refl }
+    record { readings = []; are = omega arith; starts = refl; says = refl; some = tt; count = refl; clear = tt; tails = tt }
 lines-moved c g bytes cells more_cells ts us ms ns p e q (r ∷ rs) w both reads can all st own there over clear takes =
     let s : List ℕ = new_table c.str.plan c.str.texts in
     let l : List ℕ = new_table c.line_str.plan c.line_str.texts in
@@ -125,6 +134,8 @@ lines-moved c g bytes cells more_cells ts us ms ns p e q (r ∷ rs) w both reads
       says = ap (λ (x : LineMeaning). x ∷ line_meanings k more.readings) one.says ∙ ap (λ (ys : List LineMeaning). mapped_line c.map (line_meaning g r) ∷ ys) more.says;
       some = (written-some g c.map c r, more.some);
       count = ap suc more.count;
+      clear = (one.clear, more.clear);
+      tails = (one.tail, more.tails);
     }
 
 -- where there are tables, their section is none of those of texts
@@ -167,7 +178,7 @@ pub section-moved : (c : TableChanges) (g : LineSource) (ts us : List (List ℕ)
     (new_table c.str.plan c.str.texts) (new_table c.line_str.plan c.line_str.texts)) c.map 0 (length (all_lines (lines_after c.map c.str c.line_str g rs)))
     (lines_after c.map c.str c.line_str g rs) rs
 section-moved c g ts us ms ns [] read own clear takes both a b apart tables reads can all =
-    record { readings = []; are = refl; starts = refl; says = refl; some = tt; count = refl }
+    record { readings = []; are = refl; starts = refl; says = refl; some = tt; count = refl; clear = tt; tails = tt }
 section-moved c g ts us ms ns (r ∷ rs) read own clear takes both a b apart tables reads can all =
     subst (λ (e : ℕ). LinesMoved g (edited_with g (all_lines (lines_after c.map c.str c.line_str g (r ∷ rs))) (all_written_cells g c.map (line_place c.map c.str c.line_str g) (r ∷ rs))
     (new_table c.str.plan c.str.texts) (new_table c.line_str.plan c.line_str.texts)) c.map 0 e (lines_after c.map c.str c.line_str g (r ∷ rs)) (r ∷ rs))

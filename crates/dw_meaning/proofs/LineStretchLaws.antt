@@ -355,12 +355,20 @@ lists-placed g m places r ds fs e same apart clear (new_lists dirs files place b
     (ap (λ (cs : List PlacedStretch). all_path_stretches g m places r.header.width (texts_of dirs) ++ cs) (append-nil (all_path_stretches g m places r.header.width (texts_of files)))
     ∙ sym (stretches-append g m places r.header.width (texts_of dirs) (texts_of files))) first
 
-texts-apart : (g : LineSource) (r : LineReading) (rs : List LineReading) → TablesApart g (r ∷ rs) → TextsApart g
+pub texts-apart : (g : LineSource) (r : LineReading) (rs : List LineReading) → TablesApart g (r ∷ rs) → TextsApart g
 texts-apart g r rs h = record { other = by_section }
   where
     by_section : (z : TextSection) → ((texts_in g z).number == g.number) ≡ false
     by_section in_str = ne_eqb g.str.number g.number (λ e. h.0 (sym e))
     by_section in_line_str = ne_eqb g.line_str.number g.number (λ e. h.1 (sym e))
+
+-- the paths of a table stand in their order behind its lengths, and those of the table have no relocations
+pub table-placed : (g : LineSource) (m : PathMap) (places : TextPlace → Option ℕ) (p : ℕ) (r : LineReading) → TextsApart g → TableClear g r → ReadsTable g p r
+    → Placed g.cells r.header.program (behind_lengths r.header.start r.header.width r.header.version) (all_path_stretches g m places r.header.width (paths_of (table_read g r)))
+table-placed g m places p r apart clear reads =
+    placed-before g.cells r.header.program r.header.lists (behind_lengths r.header.start r.header.width r.header.version)
+    (all_path_stretches g m places r.header.width (paths_of (table_read g r))) (header-lists g p r reads)
+    (lists-placed g m places r r.dirs r.files r.behind refl apart clear reads.lists reads.before)
 
 -- the stretches of a table are its cells
 pub table-are : (g : LineSource) (m : PathMap) (places : TextPlace → Option ℕ) (p : ℕ) (r : LineReading) → bytes_of g.cells ≡ g.bytes → TextsApart g → TableClear g r → ReadsTable g p r
@@ -376,10 +384,7 @@ table-are g m places p r own apart clear reads =
     let xw = x.within in
     let xe = x.end_is in
     let size : length g.bytes ≡ length g.cells = sym (ap length own) ∙ length-bytes_of g.cells in
-    let placed : Placed g.cells r.header.program (behind_lengths r.header.start r.header.width r.header.version) (all_path_stretches g m places r.header.width (paths_of (table_read g r))) =
-    placed-before g.cells r.header.program r.header.lists (behind_lengths r.header.start r.header.width r.header.version)
-    (all_path_stretches g m places r.header.width (paths_of (table_read g r))) lists
-    (lists-placed g m places r r.dirs r.files r.behind refl apart clear reads.lists reads.before) in
+    let placed = table-placed g m places p r apart clear reads in
     go r.header.start (length_size r.header.width) (header_length_place r.header.start r.header.width r.header.version) (width_size r.header.width) r.header.program r.header.end
     (length_bytes g.order r.header.width (length (rest_cells g (table_read g r) (header_cells g m places (table_read g r)))))
     (number_bytes g.order (width_size r.header.width) (length (header_cells g m places (table_read g r))))

@@ -1,18 +1,19 @@
 -- What is loaded of a file is as it was in its output.
-use Rattle.std.proofs.Common.{Bool, true, false, ◌≡◌, ◌≢◌, ℕ, zero, suc, ◌+◌, ◌<◌, ◌≤◌, ◌⊎◌, ◌||◌, ◌&&◌, nat_le, List, [], ◌∷◌, length, take, slice_index, cond, sym, ap, ◌∙◌, refl, arith, inl, inr}
+use Rattle.std.proofs.Common.{Bool, true, false, ◌≡◌, ◌≢◌, ℕ, zero, suc, ◌+◌, ◌<◌, ◌≤◌, ◌⊎◌, ◌||◌, ◌&&◌, ◌==◌, not, nat_le, List, [], ◌∷◌, length, take, slice_index, cond, sym, ap, ◌∙◌, refl, arith, inl, inr}
 use Rattle.std.proofs.lemmas.Bool.{cases_lt, cases_Bool, le-leb, lt-ltb}
 use Rattle.std.proofs.lemmas.Bool.Decides.{nat_tests}
 use Rattle.std.proofs.lemmas.List.{get_or-take, length-take-le}
 use Rattle.std.specs.Bool.{⊤}
-use Rattle.std.specs.Prelude.{◌++◌, map, filter, Option, Some, None}
+use Rattle.std.specs.Prelude.{◌++◌, bit_and, map, filter, Option, Some, None}
 use Rattle.dw_base.specs.Elf.{class_of, order_of, word_size, shoff_place, shnum_place, shstrndx_place, e_shoff, nth_section, nth_segment, section_count, segments_of, e_phnum, contents_of, contents_at, is_empty_kind}
 use Rattle.dw_base.specs.Layout.{fixed_end, is_fixed, is_alloc, is_loaded_kind}
 use Rattle.dw_base.specs.LayoutFails.{LiesAcross}
 use Rattle.dw_base.specs.LayoutReads.{ReadsBack, is_known_kind}
 use Rattle.dw_base.specs.Lists.{tabulate}
-use Rattle.dw_meaning.specs.Loaded.{LoadedKept, lies_within, unless_left_out, in_section_field, in_id_at, loaded_byte, segment_image, is_load, loaded_bytes}
+use Rattle.dw_meaning.specs.Loaded.{LoadedKept, lies_within, unless_left_out, in_section_field, in_id_at, is_alloc_number, loaded_byte, section_image, segment_image, is_load, loaded_bytes}
 use Rattle.dw_base.specs.Notes.{BuildId, build_id_of, id_in}
 use Rattle.dw_base.specs.declared.records.Section.{Section}
+use Rattle.dw_base.specs.declared.elf_numbers.TheConstants.{SHF_ALLOC}
 use Rattle.dw_base.specs.declared.records.Segment.{Segment}
 use Rattle.dw_base.specs.ElfFails.{ElfReads}
 use Rattle.dw_base.proofs.FixedPartLaws.{segment-fixed}
@@ -200,4 +201,60 @@ loaded-kept b out bodies elf is_loaded none back id =
           ∙ ap (λ (ss : List Segment). record { segments = ss; images = map (segment_image out) (filter is_load ss) }) (back.segments known)
           ∙ ap (λ (is : List (List (Option ℕ))). record { segments = segments_of b; images = is }) (images-same b out (segments_of b) each)
           ∙ sym (loaded-is b is_loaded);
+    }
+
+-- what is loaded of a relocatable file: its ALLOC sections, where each has the bytes that it had
+abbrev EachNumber : (ℕ → Type 0) → List ℕ → Type 0
+EachNumber P [] = ⊤
+EachNumber P (i ∷ is) = P i × EachNumber P is
+
+number-push : (P : ℕ → Type 0) (is : List ℕ) (i : ℕ) → EachNumber P is → P i → EachNumber P (is ++ i ∷ [])
+number-push P [] i all one = (one, tt)
+number-push P (x ∷ is) i all one = (all.0, number-push P is i all.1 one)
+
+numbers-each : (P : ℕ → Type 0) (n : ℕ) → ((i : ℕ) → i < n → P i) → EachNumber P (tabulate (λ i. i) n)
+numbers-each P zero each = tt
+numbers-each P (suc n) each = number-push P (tabulate (λ i. i) n) n (numbers-each P n (λ i lt. each i (omega arith))) (each n (omega arith))
+
+record ImageStays (b out : List ℕ) (i : ℕ) : Type 0 where
+  alloc : is_alloc_number out i ≡ is_alloc_number b i
+  image : is_alloc_number b i ≡ true → section_image out i ≡ section_image b i
+
+sections-same : (b out is : List ℕ) → EachNumber (ImageStays b out) is → map (section_image out) (filter (is_alloc_number out) is) ≡ map (section_image b) (filter (is_alloc_number b) is)
+sections-same b out [] each = refl
+sections-same b out (i ∷ is) each = by_alloc (is_alloc_number out i) (is_alloc_number b i) each.0.alloc each.0.image (sections-same b out is each.1)
+  where
+    by_alloc : (s t : Bool) → s ≡ t → (t ≡ true → section_image out i ≡ section_image b i)
+        → map (section_image out) (filter (is_alloc_number out) is) ≡ map (section_image b) (filter (is_alloc_number b) is)
+        → map (section_image out) (cond s (i ∷ filter (is_alloc_number out) is) (filter (is_alloc_number out) is))
+        ≡ map (section_image b) (cond t (i ∷ filter (is_alloc_number b) is) (filter (is_alloc_number b) is))
+    by_alloc true true e image rest = rw (image refl, rest) refl
+    by_alloc true false e image rest = absurd cc
+    by_alloc false true e image rest = absurd cc
+    by_alloc false false e image rest = rest
+
+image-stays : (b out : List ℕ) (i : ℕ) → contents_of out i ≡ contents_of b i → build_id_of out ≡ build_id_of b → section_image out i ≡ section_image b i
+unfolding section_image
+image-stays b out i same id = rw (same, id) refl
+
+unloaded-is : (b : List ℕ) → is_loaded_kind b ≡ false
+    → loaded_bytes b ≡ record { segments = []; images = map (section_image b) (filter (is_alloc_number b) (tabulate (λ i. i) (section_count b))) }
+unfolding loaded_bytes
+unloaded-is b kind = rw kind refl
+
+pub relocatable-kept : (b out : List ℕ) (bodies : ℕ → List ℕ) → is_loaded_kind b ≡ false → ReadsBack b bodies out → build_id_of out ≡ build_id_of b
+    → ((i : ℕ) → i < section_count b → is_alloc (nth_section b i) ≡ true → bodies i ≡ contents_of b i) → LoadedKept b out
+relocatable-kept b out bodies unloaded back id stay =
+    let kind : is_loaded_kind out ≡ false = rw back.kind unloaded in
+    let each : EachNumber (ImageStays b out) (tabulate (λ i. i) (section_count b)) =
+    numbers-each (ImageStays b out) (section_count b)
+    (λ i lt. record {
+      alloc = ap (λ (f : ℕ). not (bit_and f SHF_ALLOC == 0)) (back.heads i lt).flags;
+      image = λ alloc. image-stays b out i (back.contents i lt ∙ stay i lt alloc) id;
+    }) in
+    record {
+      same = unloaded-is out kind
+          ∙ ap (λ (n : ℕ). record { segments = []; images = map (section_image out) (filter (is_alloc_number out) (tabulate (λ i. i) n)) }) back.count
+          ∙ ap (λ (is : List (List (Option ℕ))). record { segments = []; images = is }) (sections-same b out (tabulate (λ i. i) (section_count b)) each)
+          ∙ sym (unloaded-is b unloaded);
     }

@@ -20,8 +20,8 @@ use Rattle.dw_base.specs.declared.shared.Width.TheVariants.{W32, W64}
 use Rattle.dw_base.proofs.PieceFrameLaws.{Preserves, chain-changed}
 use Rattle.dw_base.proofs.PlainCellLaws.{IsPlain}
 use Rattle.dw_base.proofs.UnitEditLaws.{Shift, Becomes, length-becomes}
-use Rattle.dw_meaning.proofs.FieldPutLaws.{plain-place}
-use Rattle.dw_meaning.proofs.OffsetMoveLaws.{EachCells, cells-plain, RolesChanged, roles-named}
+use Rattle.dw_meaning.specs.NewAddends.{MakesRole}
+use Rattle.dw_meaning.proofs.OffsetMoveLaws.{RolesChanged, roles-named}
 use Rattle.dw_meaning.proofs.TextEditLaws.{CanMove, TablesMove, TextsAre, behind_piece, roles-changed, shift_of}
 
 -- what a piece of macro units may become
@@ -175,20 +175,21 @@ sized : (width : Width) → (width_size width == 4 || width_size width == 8) ≡
 sized W32 = refl
 sized W64 = refl
 
-macro-can : (m : MacroMode) (around : Around) (order : Order) (p : List Cell) → FitsMacros m order p → IsPlain p → CanMove (macro_role_by m) around p
-macro-can at_unit around order p f plain = tt
-macro-can (at_line width) around order p f plain = record { place = plain-place around.lines.number p plain; sized = ap (λ (n : ℕ). n == 4 || n == 8) f ∙ sized width }
-macro-can (at_operation width) around order p f plain = tt
-macro-can (at_offset width (of_text defines line)) around order p f plain = record { place = plain-place around.str.number p plain; width = width; size = f }
-macro-can (at_offset width of_unit) around order p f plain = tt
-macro-can no_macros around order p f plain = tt
+macro-can : (m : MacroMode) (c : TableChanges) (around : Around) (order : Order) (p : List Cell) → FitsMacros m order p → MakesRole (macro_role_by m) c around p
+    → CanMove (macro_role_by m) c around p
+macro-can at_unit c around order p f makes = tt
+macro-can (at_line width) c around order p f makes = record { moves = makes; sized = ap (λ (n : ℕ). n == 4 || n == 8) f ∙ sized width }
+macro-can (at_operation width) c around order p f makes = tt
+macro-can (at_offset width (of_text defines line)) c around order p f makes = record { moves = makes; width = width; size = f }
+macro-can (at_offset width of_unit) c around order p f makes = tt
+macro-can no_macros c around order p f makes = tt
 
-macros-can : (around : Around) (order : Order) (s : MacroState) (xs : List (Piece MacroState)) → Chain (macro_grammar order) s xs → EachCells xs
-    → EachPiece (λ x. CanMove (macro_role x.state) around x.cells) xs
-macros-can around order s [] chain plain = tt
-macros-can around order s (x ∷ xs) chain plain = (
-  macro-can x.state.mode around order x.cells chain.1 plain.0,
-  macros-can around order ((macro_grammar order).next x.state x.cells) xs chain.2 plain.1,
+macros-can : (c : TableChanges) (around : Around) (order : Order) (s : MacroState) (xs : List (Piece MacroState)) → Chain (macro_grammar order) s xs
+    → EachPiece (λ x. MakesRole (macro_role x.state) c around x.cells) xs → EachPiece (λ x. CanMove (macro_role x.state) c around x.cells) xs
+macros-can c around order s [] chain makes = tt
+macros-can c around order s (x ∷ xs) chain makes = (
+  macro-can x.state.mode c around order x.cells chain.1 makes.0,
+  macros-can c around order ((macro_grammar order).next x.state x.cells) xs chain.2 makes.1,
 )
 
 -- the contents of each section are plain cells
@@ -196,20 +197,20 @@ abbrev pub AllPlain : List CellSection → Type 0
 AllPlain [] = ⊤
 AllPlain (z ∷ zs) = IsPlain z.contents × AllPlain zs
 
--- then each field can be moved
-pub all-macros-can : (around : Around) (order : Order) (zs : List CellSection) (rs : List MacroReading) → ReadsAllMacros order zs rs → AllPlain zs
-    → EachMacro (λ x. CanMove (macro_role x.state) around x.cells) rs
-all-macros-can around order zs [] reads plain = tt
-all-macros-can around order [] (r ∷ rs) reads plain = absurd reads
-all-macros-can around order (z ∷ zs) (r ∷ rs) reads plain = (
-  macros-can around order (macros_at 0 at_unit) r.pieces reads.1.chain (cells-plain r.pieces (subst IsPlain (sym reads.1.cells) plain.0)),
-  all-macros-can around order zs rs reads.2 plain.1,
+-- where addends make the new offsets, each field can be moved
+pub all-macros-can : (c : TableChanges) (around : Around) (order : Order) (zs : List CellSection) (rs : List MacroReading) → ReadsAllMacros order zs rs
+    → EachMacro (λ x. MakesRole (macro_role x.state) c around x.cells) rs → EachMacro (λ x. CanMove (macro_role x.state) c around x.cells) rs
+all-macros-can c around order zs [] reads makes = tt
+all-macros-can c around order [] (r ∷ rs) reads makes = absurd reads
+all-macros-can c around order (z ∷ zs) (r ∷ rs) reads makes = (
+  macros-can c around order (macros_at 0 at_unit) r.pieces reads.1.chain makes.0,
+  all-macros-can c around order zs rs reads.2 makes.1,
 )
 
 -- the text law, for all sections
 pub macros-edited : (lc : List Cell) (order : Order) (c : TableChanges) (around : Around) (ts us : List (List ℕ)) (zs : List CellSection) (rs : List MacroReading) (ms ns : List Mention)
     → TablesMove c around → TextsAre c ts us (macro_mentions in_str around rs ++ ms) (macro_mentions in_line_str around rs ++ ns) → ReadsAllMacros order zs rs
-    → EachMacro (λ x. CanMove (macro_role x.state) around x.cells) rs → EachMacro (λ x. NamesTextBy (macro_role x.state) around x.cells) rs
+    → EachMacro (λ x. CanMove (macro_role x.state) c around x.cells) rs → EachMacro (λ x. NamesTextBy (macro_role x.state) around x.cells) rs
     → AllMacrosChanged (shift_of c around lc) rs (edited_macros c around rs)
 macros-edited lc order c around ts us zs [] ms ns t all reads moves names = tt
 macros-edited lc order c around ts us [] (r ∷ rs) ms ns t all reads moves names = absurd reads

@@ -1,6 +1,6 @@
 -- Macro units whose offsets read as fields of their section: none that a reader meets is refused, wherever it stops.
 use Rattle.std.specs.Bool.{⊤}
-use Rattle.std.proofs.Common.{Bool, true, false, ◌≡◌, ℕ, ◌+◌, ◌<◌, ◌≤◌, nat_le, if◌then◌else◌, List, [], ◌∷◌, ◌++◌, length, drop, slice_index, Option, Some, None, refl, sym, ap, ◌∙◌, subst, arith, append_assoc}
+use Rattle.std.proofs.Common.{Bool, true, false, ◌≡◌, ℕ, ◌+◌, ◌<◌, ◌≤◌, nat_le, if◌then◌else◌, List, [], ◌∷◌, ◌++◌, length, drop, slice_index, Option, Some, None, refl, sym, ap, ◌∙◌, subst, arith}
 use Rattle.std.specs.Prelude.{Result, Ok, Err}
 use Rattle.std.proofs.lemmas.Bool.{leb-true}
 use Rattle.std.proofs.lemmas.List.{length-drop}
@@ -29,7 +29,7 @@ use Rattle.dw_base.proofs.UnitEditLaws.{length-bytes_of}
 use Rattle.dw_base.proofs.ViewCellLaws.{bytes_of-view_cells, length-view_cells}
 use Rattle.dw_meaning.proofs.MacroBackLaws.{byte-at, header-lined, header-plain, spelled-at}
 use Rattle.dw_meaning.proofs.MacroReadLaws.{WholeAt, front-there, moved_operation}
-use Rattle.dw_meaning.proofs.NameFieldRowLaws.{FieldHere, field-behind, here-read}
+use Rattle.dw_meaning.proofs.NameFieldRowLaws.{FieldHere, field-behind, front-field, here-read}
 
 -- pieces from a place on, before a mode, whose fields read
 record PiecesAt (v : View) (section : ℕ) (mode : MacroMode) (place : ℕ) : Type 0 where
@@ -47,13 +47,6 @@ record FirstPiece (v : View) (section : ℕ) (mode : MacroMode) (place : ℕ) : 
   room : place + length cells ≤ length (view_cells v section)
   own : (f : FieldPlace) → IsField (macro_field mode place) f → OffsetReads v.order (view_cells v section) f
   next : PiecesAt v section (mode_behind mode (bytes_of cells)) (place + length cells)
-
-front-field : (fs gs : List FieldPlace) (f : FieldPlace) → IsField fs f → IsField (fs ++ gs) f
-front-field fs gs f h = record {
-  before = h.before;
-  behind = h.behind ++ gs;
-  is = ap (λ (l : List FieldPlace). l ++ gs) h.is ∙ append_assoc h.before (f ∷ h.behind) gs;
-}
 
 first-piece : (v : View) (section : ℕ) (mode : MacroMode) (place : ℕ) → PiecesAt v section mode place → (mode ≡ at_unit → place < length (view_cells v section))
     → FirstPiece v section mode place

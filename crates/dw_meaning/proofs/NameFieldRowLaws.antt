@@ -1,5 +1,5 @@
 -- Name tables whose string offsets read as fields of their section: none that a reader meets is refused, wherever it stops.
-use Rattle.std.proofs.Common.{◌≡◌, ℕ, zero, suc, ◌+◌, ◌*◌, ◌<◌, ◌≤◌, List, [], ◌∷◌, ◌++◌, length, drop, Option, Some, refl, sym, ap, ◌∙◌, subst, arith}
+use Rattle.std.proofs.Common.{◌≡◌, ℕ, zero, suc, ◌+◌, ◌*◌, ◌<◌, ◌≤◌, List, [], ◌∷◌, ◌++◌, length, drop, Option, Some, refl, sym, ap, ◌∙◌, subst, arith, append_assoc}
 use Rattle.std.specs.Prelude.{Result, Ok, Err}
 use Rattle.dw_base.specs.Cells.{Cell, bytes_of}
 use Rattle.dw_base.specs.FileViews.{View, field_at, section_bytes, view_cells}
@@ -35,6 +35,13 @@ field-behind [] gs f h = h
 field-behind (x ∷ xs) gs f h =
     let rest = field-behind xs gs f h in
     record { before = x ∷ rest.before; behind = rest.behind; is = ap (λ (l : List FieldPlace). x ∷ l) rest.is }
+
+pub front-field : (fs gs : List FieldPlace) (f : FieldPlace) → IsField fs f → IsField (fs ++ gs) f
+front-field fs gs f h = record {
+  before = h.before;
+  behind = h.behind ++ gs;
+  is = ap (λ (l : List FieldPlace). l ++ gs) h.is ∙ append_assoc h.before (f ∷ h.behind) gs;
+}
 
 -- a field that reads, and lies in the section
 pub record FieldHere (order : Order) (cells : List Cell) (place size : ℕ) : Type 0 where

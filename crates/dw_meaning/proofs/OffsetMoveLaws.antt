@@ -8,13 +8,13 @@ use Rattle.dw_base.specs.OffsetPieces.{OffsetMode, at_contribution, at_slot, no_
 use Rattle.dw_base.specs.Pieces.{Piece, joined, Chain, EachPiece}
 use Rattle.dw_base.specs.Roles.{Role, fixed, offset, inline_path, line_start}
 use Rattle.dw_base.specs.SectionTexts.{offset_role, slot_role, name_role_by, name_role}
-use Rattle.dw_base.specs.TextChanges.{NamesTextBy}
+use Rattle.dw_base.specs.TextChanges.{NamesTextBy, TableChanges}
 use Rattle.dw_base.specs.declared.shared.Order.{Order}
 use Rattle.dw_base.proofs.OffsetChangeLaws.{OffsetChange, offsets_preserve, NameChange, names_preserve}
 use Rattle.dw_base.proofs.PieceFrameLaws.{AllChanged, chain-changed}
 use Rattle.dw_base.proofs.PlainCellLaws.{IsPlain, plain-parts}
 use Rattle.dw_base.proofs.UnitEditLaws.{Shift, Becomes, length-becomes}
-use Rattle.dw_meaning.proofs.FieldPutLaws.{plain-place}
+use Rattle.dw_meaning.specs.NewAddends.{MakesRole}
 use Rattle.dw_meaning.proofs.TextEditLaws.{CanMove}
 
 -- pieces of plain cells
@@ -28,32 +28,33 @@ cells-plain (x ∷ xs) h =
     (both.0, cells-plain xs both.1)
 
 -- each field can be moved: it has the size of an offset
-offset-can : (m : OffsetMode) (paths : List ℕ) (n : ℕ) (around : Around) (order : Order) (s : OffsetState) (p : List Cell) → FitsOffsets m order s p → IsPlain p
-    → CanMove (offset_role paths m n) around p
-offset-can at_contribution paths n around order s p f plain = tt
-offset-can (at_slot width end) paths n around order s p f plain = record { place = plain-place around.str.number p plain; width = width; size = f.size }
-offset-can no_offsets paths n around order s p f plain = tt
+offset-can : (m : OffsetMode) (paths : List ℕ) (n : ℕ) (c : TableChanges) (around : Around) (order : Order) (s : OffsetState) (p : List Cell) → FitsOffsets m order s p
+    → MakesRole (offset_role paths m n) c around p → CanMove (offset_role paths m n) c around p
+offset-can at_contribution paths n c around order s p f makes = tt
+offset-can (at_slot width end) paths n c around order s p f makes = record { moves = makes; width = width; size = f.size }
+offset-can no_offsets paths n c around order s p f makes = tt
 
-pub offsets-can : (paths : List ℕ) (around : Around) (order : Order) (s : OffsetState) (xs : List (Piece OffsetState)) → Chain (offset_grammar order) s xs → EachCells xs
-    → EachPiece (λ x. CanMove (slot_role paths x.state) around x.cells) xs
-offsets-can paths around order s [] chain plain = tt
-offsets-can paths around order s (x ∷ xs) chain plain = (
-  offset-can x.state.mode paths x.state.slot around order x.state x.cells chain.1 plain.0,
-  offsets-can paths around order ((offset_grammar order).next x.state x.cells) xs chain.2 plain.1,
+pub offsets-can : (paths : List ℕ) (c : TableChanges) (around : Around) (order : Order) (s : OffsetState) (xs : List (Piece OffsetState)) → Chain (offset_grammar order) s xs
+    → EachPiece (λ x. MakesRole (slot_role paths x.state) c around x.cells) xs → EachPiece (λ x. CanMove (slot_role paths x.state) c around x.cells) xs
+offsets-can paths c around order s [] chain makes = tt
+offsets-can paths c around order s (x ∷ xs) chain makes = (
+  offset-can x.state.mode paths x.state.slot c around order x.state x.cells chain.1 makes.0,
+  offsets-can paths c around order ((offset_grammar order).next x.state x.cells) xs chain.2 makes.1,
 )
 
-name-can : (m : NameMode) (around : Around) (order : Order) (s : NameState) (p : List Cell) → FitsNames m order s p → IsPlain p → CanMove (name_role_by m) around p
-name-can at_table around order s p f plain = tt
-name-can (at_string width left end) around order s p f plain = record { place = plain-place around.str.number p plain; width = width; size = f.size }
-name-can (at_rest end) around order s p f plain = tt
-name-can no_names around order s p f plain = tt
+name-can : (m : NameMode) (c : TableChanges) (around : Around) (order : Order) (s : NameState) (p : List Cell) → FitsNames m order s p → MakesRole (name_role_by m) c around p
+    → CanMove (name_role_by m) c around p
+name-can at_table c around order s p f makes = tt
+name-can (at_string width left end) c around order s p f makes = record { moves = makes; width = width; size = f.size }
+name-can (at_rest end) c around order s p f makes = tt
+name-can no_names c around order s p f makes = tt
 
-pub names-can : (around : Around) (order : Order) (s : NameState) (xs : List (Piece NameState)) → Chain (name_grammar order) s xs → EachCells xs
-    → EachPiece (λ x. CanMove (name_role x.state) around x.cells) xs
-names-can around order s [] chain plain = tt
-names-can around order s (x ∷ xs) chain plain = (
-  name-can x.state.mode around order x.state x.cells chain.1 plain.0,
-  names-can around order ((name_grammar order).next x.state x.cells) xs chain.2 plain.1,
+pub names-can : (c : TableChanges) (around : Around) (order : Order) (s : NameState) (xs : List (Piece NameState)) → Chain (name_grammar order) s xs
+    → EachPiece (λ x. MakesRole (name_role x.state) c around x.cells) xs → EachPiece (λ x. CanMove (name_role x.state) c around x.cells) xs
+names-can c around order s [] chain makes = tt
+names-can c around order s (x ∷ xs) chain makes = (
+  name-can x.state.mode c around order x.state x.cells chain.1 makes.0,
+  names-can c around order ((name_grammar order).next x.state x.cells) xs chain.2 makes.1,
 )
 
 -- pieces of roles after a change

@@ -32,19 +32,19 @@ first-same f g (suc n) same =
     ∙ ap (or_this (first_below g n) n) (same n (omega arith))
 
 -- which section holds the relocations of another
-relocates-back : (b : List ℕ) (bodies : ℕ → List ℕ) (out : List ℕ) (target i : ℕ) → WrittenWith b bodies out → i < section_count b
+relocates-back : (b : List ℕ) (bodies : ℕ → List ℕ) (out : List ℕ) (target i : ℕ) → ReadsBack b bodies out → i < section_count b
     → relocates out target i ≡ relocates b target i
 unfolding relocates
 relocates-back b bodies out target i w lt =
-    ap (λ (t : ℕ). t == ET_REL && is_relocation_kind (nth_section out i) && (nth_section out i).info == target) w.back.kind
-    ∙ ap (λ (t : Bool). e_type b == ET_REL && t && (nth_section out i).info == target) (rw (w.back.heads i lt).kind refl)
-    ∙ ap (λ (n : ℕ). e_type b == ET_REL && is_relocation_kind (nth_section b i) && n == target) (w.back.heads i lt).info
+    ap (λ (t : ℕ). t == ET_REL && is_relocation_kind (nth_section out i) && (nth_section out i).info == target) w.kind
+    ∙ ap (λ (t : Bool). e_type b == ET_REL && t && (nth_section out i).info == target) (rw (w.heads i lt).kind refl)
+    ∙ ap (λ (n : ℕ). e_type b == ET_REL && is_relocation_kind (nth_section b i) && n == target) (w.heads i lt).info
 
-pub relocation_section-back : (b : List ℕ) (bodies : ℕ → List ℕ) (out : List ℕ) (target : ℕ) → WrittenWith b bodies out
+pub relocation_section-back : (b : List ℕ) (bodies : ℕ → List ℕ) (out : List ℕ) (target : ℕ) → ReadsBack b bodies out
     → relocation_section out target ≡ relocation_section b target
 unfolding relocation_section
 relocation_section-back b bodies out target w =
-    ap (first_below (relocates out target)) w.back.count
+    ap (first_below (relocates out target)) w.count
     ∙ first-same (relocates out target) (relocates b target) (section_count b) (λ i lt. relocates-back b bodies out target i w lt)
 
 -- the section that it is of is the one that its info names, and it is there
@@ -62,7 +62,7 @@ holds-of b i k is =
     }
 
 -- symbols
-symbol_table-back : (b : List ℕ) (bodies : ℕ → List ℕ) (out : List ℕ) (i : ℕ) → WrittenWith b bodies out → is_symbol_table out i ≡ is_symbol_table b i
+pub symbol_table-back : (b : List ℕ) (bodies : ℕ → List ℕ) (out : List ℕ) (i : ℕ) → WrittenWith b bodies out → is_symbol_table out i ≡ is_symbol_table b i
 unfolding is_symbol_table
 symbol_table-back b bodies out i w =
     ap (λ (n : ℕ). nat_lt i n && (nth_section out i).kind == SHT_SYMTAB) w.back.count ∙ by_test (nat_lt i (section_count b)) refl
@@ -162,17 +162,17 @@ output-cells b bodies out cells i k w lt is records bytes can =
     let table : contents_of out k ≡ relocation_body (relocation_source (contents_of b) b k) (old_contents b i) (new_contents b cells i) =
     w.back.contents k h.there ∙ records
     ∙ ap (λ (j : ℕ). relocation_body (relocation_source (contents_of b) b k) (old_contents b j) (new_contents b cells j)) h.info in
-    ap (λ (o : Option ℕ). cells_from (relocations_by (contents_of out) out o) 0 (contents_of out i)) (relocation_section-back b bodies out i w ∙ is)
+    ap (λ (o : Option ℕ). cells_from (relocations_by (contents_of out) out o) 0 (contents_of out i)) (relocation_section-back b bodies out i w.back ∙ is)
     ∙ ap (cells_from (relocations_in (relocation_source (contents_of out) out k)) 0) (w.back.contents i lt ∙ bytes)
     ∙ ap (λ (g : RelocationSource). cells_from (relocations_in g) 0 (bytes_of (new_contents b cells i)))
     (source-back b bodies out k w h.there ∙ ap (with_table (relocation_source (contents_of b) b k)) table)
     ∙ moved-back (relocation_source (contents_of b) b k) (old_contents b i) (new_contents b cells i) can
 
 -- and where it has none
-pub output-plain : (b : List ℕ) (bodies : ℕ → List ℕ) (out : List ℕ) (cells : List CellBody) (i : ℕ) → WrittenWith b bodies out → i < section_count b
+pub output-plain : (b : List ℕ) (bodies : ℕ → List ℕ) (out : List ℕ) (cells : List CellBody) (i : ℕ) → ReadsBack b bodies out → i < section_count b
     → relocation_section b i ≡ None → bodies i ≡ bytes_of (new_contents b cells i) → IsPlain (new_contents b cells i)
     → section_cells (contents_of out) out i ≡ new_contents b cells i
 unfolding section_cells relocations_of
 output-plain b bodies out cells i w lt is bytes plain =
     ap (λ (o : Option ℕ). cells_from (relocations_by (contents_of out) out o) 0 (contents_of out i)) (relocation_section-back b bodies out i w ∙ is)
-    ∙ cells_from-none 0 (contents_of out i) ∙ ap plain_cells (w.back.contents i lt ∙ bytes) ∙ sym plain.plain
+    ∙ cells_from-none 0 (contents_of out i) ∙ ap plain_cells (w.contents i lt ∙ bytes) ∙ sym plain.plain

@@ -1,49 +1,81 @@
 -- No relocation begins in the debug data of a file that isn't relocatable; so no row of relocations holds of it.
-use Rattle.std.proofs.Common.{Bool, true, false, ◌≡◌, ℕ, suc, List, [], ◌∷◌, ◌++◌, length, drop, Option, Some, None, sym, refl, subst, if◌then◌else◌, ap, ◌∙◌}
+use Rattle.std.proofs.Common.{Bool, true, false, ◌≡◌, ℕ, suc, List, [], ◌∷◌, ◌++◌, length, drop, Option, Some, None, sym, refl, subst, if◌then◌else◌, ◌==◌, ap, ◌∙◌}
 use Rattle.std.specs.Prelude.{Result, Ok, Err}
-use Rattle.dw_base.specs.Cells.{CellSection}
-use Rattle.dw_base.specs.DebugData.{line_source}
-use Rattle.dw_base.specs.DebugSections.{debug_section}
+use Rattle.dw_base.specs.Cells.{Cell, CellSection, Located, Relocation, plain_cells}
+use Rattle.dw_base.specs.DebugData.{Around, DataReadings, line_source, path_slots}
+use Rattle.dw_base.specs.DebugSections.{debug_section, name_of}
 use Rattle.dw_base.specs.Elf.{contents_of}
-use Rattle.dw_base.specs.FileViews.{ViewSection, bytes_in, section_bytes, view_of}
+use Rattle.dw_base.specs.FileViews.{ViewSection, bytes_in, section_bytes, section_named, view_of}
 use Rattle.dw_base.specs.Forms.{width_size}
 use Rattle.dw_base.specs.Layout.{is_loaded_kind}
-use Rattle.dw_base.specs.LineReadings.{AreTables, LineReading}
+use Rattle.dw_base.specs.LineReadings.{AreTables, LineReading, table_read}
+use Rattle.dw_base.specs.LineSources.{LineSource}
 use Rattle.dw_base.specs.MacroOffsets.{OperationRefuses, of_line, of_operation}
+use Rattle.dw_base.specs.MacroReadings.{EachMacro, MacroReading, ReadsAllMacros}
 use Rattle.dw_base.specs.NameOffsets.{no_offset}
 use Rattle.dw_base.specs.NameTables.{names_of, string_place}
 use Rattle.dw_base.specs.Numbers.{spelled}
+use Rattle.dw_base.specs.Pieces.{EachPiece, Piece}
 use Rattle.dw_base.specs.RelocationRows.FieldsFail.{offset as offset_row}
 use Rattle.dw_base.specs.RelocationRows.{moving_sections}
+use Rattle.dw_base.specs.Roles.{Role}
+use Rattle.dw_base.specs.SectionTexts.{macro_role, name_role, slot_role}
+use Rattle.dw_base.specs.TextChanges.{TableChanges}
 use Rattle.dw_base.specs.UnitHeaders.{UnitSection, SectionKind}
-use Rattle.dw_base.specs.ViewData.{debug_data, located, macro_sections, unit_kind, unit_section, unit_sections, unit_sections_from}
+use Rattle.dw_base.specs.ViewData.{cells_located, debug_data, located, located_at, macro_sections, unit_kind, unit_section, unit_sections, unit_sections_from}
+use Rattle.dw_base.specs.WrittenLines.{paths_of}
 use Rattle.dw_base.specs.declared.debug_sections.DebugSection.TheVariants.{StrOffsets, Line, Names}
 use Rattle.dw_base.specs.declared.fault.Refusal.{Refusal}
 use Rattle.dw_base.specs.ViewOffsets.{if_placed, offset_read}
 use Rattle.dw_base.specs.declared.line_tables.TextPlace.{TextPlace}
 use Rattle.dw_base.specs.declared.macro_units.MacroOperation.{MacroOperation}
 use Rattle.dw_base.specs.declared.macro_units.MacroOperation.TheVariants.{End, Inline, Named, Enter, Leave, Bring, Foreign}
+use Rattle.dw_base.specs.declared.shared.Order.{Order}
 use Rattle.dw_base.specs.declared.shared.Width.{Width}
 use Rattle.dw_base.specs.declared.view_fields.Field.{Field}
 use Rattle.dw_base.specs.declared.view_fields.Field.TheVariants.{Num}
 use Rattle.dw_base.proofs.PlainCellLaws.{IsPlain, plain_cells-plain}
+use Rattle.dw_base.proofs.RelocationFieldLaws.{relocation_at-plain}
 use Rattle.dw_base.proofs.RelocationRowLaws.{fields-plain, header_offsets-plain}
-use Rattle.dw_base.proofs.RelocationSectionLaws.{relocates_read-loaded, relocations-loaded}
-use Rattle.dw_base.proofs.ViewCellLaws.{field_read-loaded}
+use Rattle.dw_base.proofs.RelocationSectionLaws.{relocates_read-loaded, relocations-loaded, relocations_read-loaded}
+use Rattle.dw_base.proofs.ViewCellLaws.{field_read-loaded, view_cells-loaded}
+use Rattle.dw_meaning.specs.DataOutput.{DataReads}
 use Rattle.dw_meaning.specs.FileMeanings.{file_data}
-use Rattle.dw_meaning.specs.RelocationFails.{OffsetsFailIn, RelocationsAreLoaded, RelocationsFail, ValueRelocationFails}
+use Rattle.dw_meaning.specs.NewAddends.{AddendsFit, EachPathMakes, EachTableMakes, Makes, MakesPath, MakesRole, new_offset, places_by}
+use Rattle.dw_meaning.specs.RelocationFails.{OffsetsFailIn, RelocationsAreLoaded, RelocationsFail, RelocationsRead, ValueRelocationFails}
 use Rattle.dw_meaning.specs.RelocationFails.OffsetsFailIn.{names as names_row, macros as macros_row}
 use Rattle.dw_meaning.specs.RelocationFails.RelocationsFail.{sections, headers, values, offsets, left}
 use Rattle.dw_meaning.specs.RelocationFails.ValueRelocationFails.{value}
-use Rattle.dw_meaning.proofs.DataKeptLaws.{EachPlain}
+use Rattle.dw_meaning.proofs.DataKeptLaws.{EachPlain, readings-move, readings-plain}
 use Rattle.dw_meaning.proofs.FileBackLaws.{AllAt, SectionBack, bare-cells}
-use Rattle.dw_meaning.proofs.FileKeptLaws.{lines-are, names-are, offsets-are}
 use Rattle.dw_meaning.proofs.LineClearLaws.{EachClear, plain-clear}
 use Rattle.dw_meaning.proofs.LinePathLaws.{AllTake, plain-take}
 use Rattle.dw_meaning.proofs.MacroEditLaws.{AllPlain}
 use Rattle.dw_meaning.proofs.MacroKeptLaws.{macros-plain}
-use Rattle.dw_meaning.proofs.RelocationLaws.{NoRelocations, left-none}
+use Rattle.dw_meaning.proofs.OffsetMoveLaws.{EachCells, cells-plain}
+use Rattle.dw_meaning.proofs.RelocationLaws.{NoRelocations, left-none, plain-reads}
 use Rattle.dw_meaning.proofs.TableKeptLaws.{drop-at, sections-self}
+use Rattle.dw_meaning.proofs.TextEditLaws.{plain-makes}
+
+-- a section that is read as pieces and on which no relocation stands
+abbrev pub plain_section : Located → CellSection
+plain_section z = record { number = z.number; contents = plain_cells z.bytes }
+
+section-plain : (b : List ℕ) (o : Option ℕ) → is_loaded_kind b ≡ true → cells_located (view_of b) o ≡ plain_section (located_at (view_of b) o)
+section-plain b None loaded = refl
+section-plain b (Some i) loaded = ap (λ (p : List Cell). record { number = i; contents = p }) (view_cells-loaded b i loaded)
+
+pub offsets-are : (b : List ℕ) → is_loaded_kind b ≡ true → (file_data b).offsets ≡ plain_section (located (view_of b) StrOffsets)
+unfolding debug_data located
+offsets-are b loaded = section-plain b (section_named (view_of b) (name_of StrOffsets)) loaded
+
+pub lines-are : (b : List ℕ) → is_loaded_kind b ≡ true → (file_data b).lines ≡ plain_section (located (view_of b) Line)
+unfolding debug_data located
+lines-are b loaded = section-plain b (section_named (view_of b) (name_of Line)) loaded
+
+pub names-are : (b : List ℕ) → is_loaded_kind b ≡ true → (file_data b).names ≡ plain_section (located (view_of b) Names)
+unfolding debug_data located
+names-are b loaded = section-plain b (section_named (view_of b) (name_of Names)) loaded
 
 -- the unit sections of such a file are plain cells
 units-plain : (b : List ℕ) (k : ℕ) (ss : List ViewSection) → is_loaded_kind b ≡ true → AllAt (SectionBack b (contents_of b)) k ss ss → EachPlain (unit_sections_from k ss)
@@ -151,3 +183,48 @@ relocations_fail-loaded b r loaded (left f) = left-none (file_data b) (moving_se
 
 pub relocations_loaded-none : (b : List ℕ) (i : ℕ) → is_loaded_kind b ≡ true → RelocationsAreLoaded b i → ⊥
 relocations_loaded-none b i loaded h = let none = relocates_read-loaded b i loaded in let some = h.relocates in absurd cc
+
+pub relocations-read : (b : List ℕ) → is_loaded_kind b ≡ true → RelocationsRead b
+relocations-read b loaded = record {
+  sections = relocations_read-loaded (contents_of b) b loaded;
+  on_data = plain-reads (file_data b) (moving_sections (view_of b)) (no-relocations b loaded);
+}
+
+-- and no addend has to make an offset
+pieces-make : {S : Type 0} (role : S → Role) (c : TableChanges) (around : Around) (xs : List (Piece S)) → EachCells xs
+    → EachPiece (λ x. MakesRole (role x.state) c around x.cells) xs
+pieces-make role c around [] plain = tt
+pieces-make role c around (x ∷ xs) plain =
+    (plain-makes (new_offset (role x.state) c around x.cells) x.cells plain.0, pieces-make role c around xs plain.1)
+
+macros-make : (order : Order) (c : TableChanges) (around : Around) (zs : List CellSection) (rs : List MacroReading) → ReadsAllMacros order zs rs → AllPlain zs
+    → EachMacro (λ x. MakesRole (macro_role x.state) c around x.cells) rs
+macros-make order c around zs [] reads plain = tt
+macros-make order c around [] (r ∷ rs) reads plain = absurd reads
+macros-make order c around (z ∷ zs) (r ∷ rs) reads plain = (
+  pieces-make macro_role c around r.pieces (cells-plain r.pieces (subst IsPlain (sym reads.1.cells) plain.0)),
+  macros-make order c around zs rs reads.2 plain.1,
+)
+
+lines-make : (g : LineSource) (places : TextPlace → Option ℕ) (rs : List LineReading) → IsPlain g.cells → EachTableMakes g places rs
+lines-make g places [] plain = tt
+lines-make g places (r ∷ rs) plain = (each (table_read g r).width (paths_of (table_read g r)), lines-make g places rs plain)
+  where
+    one : (w : Width) (x : TextPlace) (o : Option ℕ) (own : Bool) → MakesPath g w x o own
+    one w x None own = tt
+    one w x (Some n) true = tt
+    one w x (Some n) false = subst (λ (o : Option Relocation). Makes o (width_size w) n) (sym (relocation_at-plain g.cells x.field plain)) tt
+
+    each : (w : Width) (xs : List TextPlace) → EachPathMakes g places w xs
+    each w [] = tt
+    each w (x ∷ xs) = (one w x (places x) (x.section == g.number), each w xs)
+
+pub file-addends : (c : TableChanges) (b : List ℕ) (around : Around) (r : DataReadings) → is_loaded_kind b ≡ true → DataReads (file_data b) r
+    → AddendsFit c (file_data b) around r
+file-addends c b around r loaded reads = record {
+  units = readings-move c around r.units (readings-plain (file_data b).base 0 (file_data b).units r.units reads.units (file-plain b loaded));
+  slots = pieces-make (slot_role (path_slots around)) c around r.offsets (cells-plain r.offsets (subst IsPlain (sym reads.offsets.cells) (offsets-plain b loaded)));
+  macros = macros-make (file_data b).base.order c around (file_data b).macros r.macros reads.macros (file-macros b loaded);
+  names = pieces-make name_role c around r.names (cells-plain r.names (subst IsPlain (sym reads.names.cells) (names-plain b loaded)));
+  lines = lines-make (line_source (file_data b)) (places_by c (file_data b)) r.lines (lines-plain b loaded);
+}

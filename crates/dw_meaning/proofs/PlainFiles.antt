@@ -31,8 +31,11 @@ use Rattle.dw_base.specs.Paths.{PathMap}
 use Rattle.dw_base.specs.UnitMeanings.{UnitMeaning, units_of}
 use Rattle.dw_base.specs.ViewData.{NamedBytes, Meaning, other_sections, without_id, bytes_named, meaning_of, mapped}
 use Rattle.dw_meaning.specs.DataOutput.{DataReads, Body, new_bodies, body_in}
-use Rattle.dw_meaning.specs.FileMeanings.{file_data, FileReads, Means, MeaningKept, new_body, output_of}
+use Rattle.dw_meaning.specs.FileMeanings.{file_body, file_data, FileReads, Means, MeaningKept, new_body, output_of}
 use Rattle.dw_meaning.proofs.DataOneLaws.{means-one}
+use Rattle.dw_meaning.proofs.PlainFileLaws.{relocations-read}
+use Rattle.dw_meaning.proofs.RelocatedBodyLaws.{file_body-loaded}
+use Rattle.dw_base.proofs.ReadsBackLaws.{with_bodies-same}
 use Rattle.dw_base.proofs.TextLaws.{same_text-from}
 use Rattle.dw_meaning.proofs.PlainTests.{passes, AllTrue, passes-true, all_below, is_plain_alignment, differs, below-true, align-sound, other-true, unless_zero, where_true}
 
@@ -216,17 +219,18 @@ pub file-reads : (b : List ℕ) (d : DebugData) (r : DataReadings) → file_data
     → DataReads d r → FileReads b r
 file-reads b d r same elf kind names reads = record {
   elf = elf-sound b elf;
-  kind = kind;
   names = names-sound b names;
+  relocations = relocations-read b kind;
   data_reads = subst (λ (x : DebugData). DataReads x r) (sym same) reads;
 }
 
 -- its output has these bodies
-pub output-is : (m : PathMap) (b : List ℕ) (d : DebugData) (r : DataReadings) (bodies : List Body) → file_data b ≡ d → new_bodies m d r ≡ bodies
+pub output-is : (m : PathMap) (b : List ℕ) (d : DebugData) (r : DataReadings) (bodies : List Body) → is_loaded_kind b ≡ true → file_data b ≡ d → new_bodies m d r ≡ bodies
     → output_of m b r ≡ with_bodies b (body_in bodies (contents_of b))
 unfolding output_of new_body
-output-is m b d r bodies same is =
-    ap (λ (x : DebugData). with_bodies b (body_in (new_bodies m x r) (contents_of b))) same
+output-is m b d r bodies loaded same is =
+    with_bodies-same b (file_body m b r) (new_body m b r) (λ i lt. file_body-loaded m b r i loaded)
+    ∙ ap (λ (x : DebugData). with_bodies b (body_in (new_bodies m x r) (contents_of b))) same
     ∙ ap (λ (xs : List Body). with_bodies b (body_in xs (contents_of b))) is
 
 -- it means these units, and these bytes by name, where nothing else is read

@@ -10,8 +10,8 @@ use Rattle.dw_base.specs.SectionRelocations.{cells_from, relocation_source, relo
 use Rattle.dw_base.proofs.RelocationBodyLaws.{CanMove, moved-back}
 use Rattle.dw_base.proofs.RelocationSectionLaws.{relocates_read-loaded}
 use Rattle.dw_base.proofs.RelocationTieLaws.{with_table}
-use Rattle.dw_meaning.specs.FileMeanings.{file_data, new_body}
-use Rattle.dw_meaning.specs.RelocatedBodies.{CellBody, file_body, new_cells, new_contents, old_contents, relocated_body}
+use Rattle.dw_meaning.specs.FileMeanings.{file_body, file_data, new_body}
+use Rattle.dw_meaning.specs.RelocatedBodies.{CellBody, new_cells, new_contents, old_contents, relocated_body}
 
 -- a file that isn't relocatable
 pub file_body-loaded : (m : PathMap) (b : List ℕ) (r : DataReadings) (k : ℕ) → is_loaded_kind b ≡ true → file_body m b r k ≡ new_body m b r k

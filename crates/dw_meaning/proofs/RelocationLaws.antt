@@ -1,19 +1,23 @@
 -- What reads of the relocations on debug data excludes each row, and where no relocation begins there is no row.
-use Rattle.std.proofs.Common.{◌≡◌, ℕ, List, ◌∷◌, ◌++◌}
-use Rattle.dw_base.specs.Cells.{CellSection}
+use Rattle.std.proofs.Common.{◌≡◌, ℕ, List, ◌∷◌, ◌++◌, drop, take, Some, sym, subst}
+use Rattle.std.proofs.lemmas.List.{take-append-drop}
+use Rattle.dw_base.specs.Cells.{Cell, CellSection, Relocation, cells_at}
 use Rattle.dw_base.specs.DebugData.{DebugData, line_source}
 use Rattle.dw_base.specs.Elf.{contents_of}
 use Rattle.dw_base.specs.FileViews.{view_of}
 use Rattle.dw_base.specs.LineFields.{line_fields, table_fields}
-use Rattle.dw_base.specs.RelocationRows.{OffsetFails, OffsetReads, macro_fields, moving_sections, name_fields, slot_fields, unit_fields}
+use Rattle.dw_base.specs.RelocationFields.{relocation_at}
+use Rattle.dw_base.specs.RelocationRows.{FieldPlace, FieldsRead, OffsetFails, OffsetReads, macro_fields, moving_sections, name_fields, slot_fields, unit_fields}
 use Rattle.dw_base.specs.RelocationRows.OffsetFails.{partly, no_place}
 use Rattle.dw_base.specs.UnitHeaders.{UnitSection}
 use Rattle.dw_base.specs.declared.fault.Refusal.{Refusal}
-use Rattle.dw_base.proofs.PlainCellLaws.{IsPlain}
-use Rattle.dw_base.proofs.RelocationRowLaws.{fields-plain, fields_exclude, header-plain, header_excludes, header_offsets_exclude}
+use Rattle.dw_base.specs.declared.shared.Order.{Order}
+use Rattle.dw_base.proofs.PlainCellLaws.{IsPlain, plain-parts}
+use Rattle.dw_base.proofs.RelocationFieldLaws.{relocation_at-plain}
+use Rattle.dw_base.proofs.RelocationRowLaws.{fields-plain, fields_exclude, header-plain, header_excludes, header_offsets_exclude, placed-plain}
 use Rattle.dw_base.proofs.RelocationSectionLaws.{relocations_exclude as sections-exclude}
 use Rattle.dw_meaning.specs.FileMeanings.{file_data}
-use Rattle.dw_meaning.specs.RelocationFails.{LeftRelocationsFail, LeftRelocationsRead, OffsetsFailIn, RelocationsFail, RelocationsRead, ValueRelocationFails, ValueRelocationsRead}
+use Rattle.dw_meaning.specs.RelocationFails.{LeftRelocationsFail, LeftRelocationsRead, OffsetsFailIn, RelocationsFail, RelocationsRead, RelocationsReadIn, ValueRelocationFails, ValueRelocationsRead}
 use Rattle.dw_meaning.specs.RelocationFails.LeftRelocationsFail.{units, slots, names, macros, lines, line_header}
 use Rattle.dw_meaning.specs.RelocationFails.RelocationsFail.{sections, headers, values, offsets, left}
 use Rattle.dw_meaning.specs.RelocationFails.ValueRelocationFails.{value}
@@ -70,3 +74,44 @@ left-none d moving r h (lines ts reads f) =
     fields-plain d.base.order d.lines.number d.lines.contents moving (line_fields (line_source d) ts) r h.lines f
 left-none d moving r h (line_header before start t tables reads f) =
     header-plain d.lines.number t.header.start t.behind d.lines.contents (table_fields (line_source d) t) r h.lines f
+
+-- so all reads that is asked of relocations
+none-begins : (cells : List Cell) (p : ℕ) (r : Relocation) → IsPlain cells → relocation_at cells p ≡ Some r → ⊥
+none-begins cells p r plain e = let none = relocation_at-plain cells p plain in absurd cc
+
+part-plain : (cells : List Cell) (at n : ℕ) → IsPlain cells → IsPlain (cells_at cells at n)
+part-plain cells at n h =
+    let behind : IsPlain (drop at cells) = (plain-parts (take at cells) (drop at cells) (subst IsPlain (sym (take-append-drop at cells)) h)).1 in
+    (plain-parts (take n (drop at cells)) (drop n (drop at cells)) (subst IsPlain (sym (take-append-drop n (drop at cells))) behind)).0
+
+offset-reads : (order : Order) (cells : List Cell) (f : FieldPlace) → IsPlain cells → OffsetReads order cells f
+offset-reads order cells f plain = record {
+  whole = λ p lies. none-begins cells p lies.relocation plain lies.begins;
+  placed = placed-plain order (cells_at cells f.place f.size) (part-plain cells f.place f.size plain);
+}
+
+fields-read : (order : Order) (cells : List Cell) (moving : List ℕ) (fs : List FieldPlace) → IsPlain cells → FieldsRead order cells moving fs
+fields-read order cells moving fs plain = record {
+  offsets = λ f is own. offset-reads order cells f plain;
+  numbers = λ f p r is own begins before behind. none-begins cells p r plain begins;
+  kept = λ p r begins lies. absurd (none-begins cells p r plain begins);
+}
+
+pub plain-reads : (d : DebugData) (moving : List ℕ) → NoRelocations d → RelocationsReadIn d moving
+plain-reads d moving h = record {
+  headers = λ before behind z split. record { all = λ list u start f units is there. offset-reads d.base.order z.contents f (h.units before behind z split) };
+  values = record {
+    all = λ z u list number a x place v f table has kind is. offset-reads d.base.order z.contents f (h.units table.unit.before table.unit.behind z table.unit.sections);
+  };
+  left = record {
+    units = λ before behind z first xs split reads. fields-read d.base.order z.contents moving (unit_fields d.base.order xs) (h.units before behind z split);
+    slots = λ xs reads. fields-read d.base.order d.offsets.contents moving (slot_fields xs) h.offsets;
+    names = λ xs reads. fields-read d.base.order d.names.contents moving (name_fields xs) h.names;
+    macros = λ before behind z xs split reads. fields-read d.base.order z.contents moving (macro_fields xs) (h.macros before behind z split);
+    lines = λ ts tables. fields-read d.base.order d.lines.contents moving (line_fields (line_source d) ts) h.lines;
+    line_headers = λ before start t tables reads. record {
+      own = λ p r begins from below. absurd (none-begins d.lines.contents p r h.lines begins);
+      apart = λ p r begins below. absurd (none-begins d.lines.contents p r h.lines begins);
+    };
+  };
+}

@@ -43,34 +43,44 @@ pub record HeaderPlaced (z : UnitSection) (start : ℕ) (h : UnitHeader) : Type 
   pub inside : h.first ≤ start + length (drop start z.contents)
 
 -- the header is a piece
-pub header-run : (base : UnitBase) (z : UnitSection) (start unit : ℕ) (h : UnitHeader) (table : List Abbreviation) → IsUnit base z start h
-    → HeaderPlaced z start h → IsUnitTable base h table
-    → Run base z.contents (before z start unit) (between (in_headed base z start unit h) h.first 0 0) start h.first
-header-run base z start unit h table u placed t =
-    let n : ℕ = h.first - start in
-    let p : List Cell = take (h.first - start) (drop start z.contents) in
+pub record HeaderPiece (base : UnitBase) (z : UnitSection) (start unit : ℕ) (h : UnitHeader) : Type 0 where
+  pub found : unit_header base z.kind z.number start (take (h.first - start) (drop start z.contents)) ≡ Some h
+  pub fits : IsHeader base (before z start unit) (take (h.first - start) (drop start z.contents))
+  pub next : after_header base (before z start unit) (start + length (take (h.first - start) (drop start z.contents)))
+      (unit_header base z.kind z.number start (take (h.first - start) (drop start z.contents))) ≡ between (in_headed base z start unit h) h.first 0 0
+  pub end : start + (h.first - start) ≡ h.first
+
+pub header-piece : (base : UnitBase) (z : UnitSection) (start unit : ℕ) (h : UnitHeader) (table : List Abbreviation) → IsUnit base z start h
+    → HeaderPlaced z start h → IsUnitTable base h table → HeaderPiece base z start unit h
+header-piece base z start unit h table u placed t =
     let size : length (take (h.first - start) (drop start z.contents)) ≡ h.first - start =
     length-take-le (h.first - start) (drop start z.contents) (omega (arith, placed.inside, placed.behind)) in
     let whole : start + length (take (h.first - start) (drop start z.contents)) ≡ h.first = omega (arith, size, placed.behind) in
     let found : unit_header base z.kind z.number start (take (h.first - start) (drop start z.contents)) ≡ Some h =
     header-cut base z.kind z.number start (take (h.first - start) (drop start z.contents)) (drop (h.first - start) (drop start z.contents)) h
     (ap (unit_header base z.kind z.number start) (take-append-drop (h.first - start) (drop start z.contents)) ∙ u.header) (omega (arith, whole)) in
-    let fits : IsHeader base (before z start unit) (take (h.first - start) (drop start z.contents)) =
     record {
-      header = h;
-      is = found;
-      size = whole;
-      own = u.whole;
-      within = u.within;
-      table = subst (λ (list : List Abbreviation). IsUnitTable base h list) (sym (table-found base.abbrevs.bytes h.abbrevs table t.is)) t;
-    } in
-    let next : after_header base (before z start unit) (start + length (take (h.first - start) (drop start z.contents)))
-    (unit_header base z.kind z.number start (take (h.first - start) (drop start z.contents))) ≡ between (in_headed base z start unit h) h.first 0 0 =
-    ap (after_header base (before z start unit) (start + length (take (h.first - start) (drop start z.contents)))) found
-    ∙ ap (λ (m : ℕ). between (in_headed base z start unit h) m 0 0) whole in
-    let end : start + (h.first - start) ≡ h.first = omega (arith, placed.behind) in
-    subst (λ (m : ℕ). Run base z.contents (before z start unit) (between (in_headed base z start unit h) h.first 0 0) start m) end
-    (run-one base z.contents (before z start unit) (between (in_headed base z start unit h) h.first 0 0) start (h.first - start) fits next)
+      found = found;
+      fits = record {
+        header = h;
+        is = found;
+        size = whole;
+        own = u.whole;
+        within = u.within;
+        table = subst (λ (list : List Abbreviation). IsUnitTable base h list) (sym (table-found base.abbrevs.bytes h.abbrevs table t.is)) t;
+      };
+      next = ap (after_header base (before z start unit) (start + length (take (h.first - start) (drop start z.contents)))) found
+          ∙ ap (λ (m : ℕ). between (in_headed base z start unit h) m 0 0) whole;
+      end = omega (arith, placed.behind);
+    }
+
+pub header-run : (base : UnitBase) (z : UnitSection) (start unit : ℕ) (h : UnitHeader) (table : List Abbreviation) → IsUnit base z start h
+    → HeaderPlaced z start h → IsUnitTable base h table
+    → Run base z.contents (before z start unit) (between (in_headed base z start unit h) h.first 0 0) start h.first
+header-run base z start unit h table u placed t =
+    let p : HeaderPiece base z start unit h = header-piece base z start unit h table u placed t in
+    subst (λ (m : ℕ). Run base z.contents (before z start unit) (between (in_headed base z start unit h) h.first 0 0) start m) p.end
+    (run-one base z.contents (before z start unit) (between (in_headed base z start unit h) h.first 0 0) start (h.first - start) p.fits p.next)
 
 -- behind the last entry comes the next unit
 unit-ends : (s : UnitState) (e : ℕ) → between s s.header.end e 0 ≡ before_unit s.section s.kind s.whole s.header.end (s.unit + 1)

@@ -1,28 +1,23 @@
 -- The unit sections of an output are those of the file, edited.
-use Rattle.std.proofs.Common.{Bool, true, false, ◌≡◌, ◌≢◌, ℕ, suc, ◌+◌, ◌<◌, ◌≤◌, List, [], ◌∷◌, ◌++◌, length, Option, Some, None, sym, ap, ◌∙◌, refl, subst, arith, if◌then◌else◌, get_or}
-use Rattle.std.specs.Prelude.{◌==◌}
-use Rattle.std.proofs.lemmas.Bool.{ne_eqb, eq-eqb}
-use Rattle.dw_base.specs.Cells.{Cell, bytes_of, plain_cells, with_bytes}
+use Rattle.std.proofs.Common.{Bool, true, false, ◌≡◌, ◌≢◌, ℕ, suc, ◌+◌, List, [], ◌∷◌, ◌++◌, length, Option, Some, None, sym, ap, ◌∙◌, refl, subst, if◌then◌else◌, get_or}
+use Rattle.std.proofs.lemmas.Bool.{ne_eqb}
+use Rattle.dw_base.specs.Cells.{Cell, with_bytes}
 use Rattle.dw_meaning.specs.DataOutput.{Body, unit_body, unit_bodies, body_in}
 use Rattle.dw_base.specs.DebugData.{Around, line_table, units_in, ReadsAll}
-use Rattle.dw_base.specs.Readings.{Readings, EachReading}
+use Rattle.dw_base.specs.Readings.{Readings}
 use Rattle.dw_base.specs.DebugSections.{debug_section}
-use Rattle.dw_base.specs.Elf.{section_count, section_name, contents_of}
-use Rattle.dw_base.specs.FileViews.{ViewSection, bytes_in, cells_of}
-use Rattle.dw_base.specs.Layout.{is_loaded_kind}
-use Rattle.dw_base.specs.Pieces.{Piece, joined, EachPiece}
+use Rattle.dw_base.specs.Elf.{section_name, contents_of}
+use Rattle.dw_base.specs.FileViews.{ViewSection}
 use Rattle.dw_base.specs.LineReadings.{starts_from}
-use Rattle.dw_base.specs.Roles.{Role, fixed, offset, inline_path, line_start, role_of}
+use Rattle.dw_base.specs.Roles.{Role, fixed, offset, inline_path, line_start}
 use Rattle.dw_base.specs.StringTables.{new_place}
 use Rattle.dw_base.specs.NewOffsets.{with_offset}
-use Rattle.dw_base.specs.TextChanges.{TableChanges, change_of, mention_at, moved_start, edited_by, edited_all}
-use Rattle.dw_base.specs.UnitHeaders.{UnitBase, UnitSection, SectionKind}
-use Rattle.dw_base.specs.UnitStates.{UnitState}
+use Rattle.dw_base.specs.TextChanges.{TableChanges, change_of, mention_at, moved_start, edited_by}
+use Rattle.dw_base.specs.UnitHeaders.{UnitBase, SectionKind}
 use Rattle.dw_base.specs.ViewData.{unit_kind, unit_section, unit_sections_from}
-use Rattle.dw_meaning.proofs.DataKeptLaws.{edited_readings, edited_sections}
-use Rattle.dw_meaning.proofs.FileBackLaws.{AllAt, SectionBack, bare-cells}
-use Rattle.dw_base.proofs.PlainCellLaws.{IsPlain, plain-parts, plain-append, plain_cells-plain, with_offset-is, length-with_offset}
-use Rattle.dw_meaning.proofs.TextEditLaws.{PlainPiece}
+use Rattle.dw_meaning.proofs.FileBackLaws.{AllAt, SectionBack}
+use Rattle.dw_base.proofs.PlainCellLaws.{IsPlain, plain-parts, plain-append, plain_cells-plain, with_offset-is}
+use Rattle.dw_meaning.proofs.FieldPutLaws.{length-put}
 
 -- plain cells with other bytes are plain
 with_bytes-keeps : (p : List Cell) (bs : List ℕ) → IsPlain p → IsPlain (with_bytes p bs)
@@ -60,27 +55,20 @@ length-with_bytes [] bs = refl
 length-with_bytes (c ∷ cs) [] = refl
 length-with_bytes (c ∷ cs) (b ∷ bs) = ap suc (length-with_bytes cs bs)
 
-pub edited-size : (r : Role) (c : TableChanges) (around : Around) (p : List Cell) → IsPlain p → length (edited_by r c around p) ≡ length p
-edited-size fixed c around p h = refl
-edited-size inline_path c around p h = length-with_bytes p _
-edited-size (offset table path) c around p h = by_asks ((change_of c table).plan.asks (mention_at around table path p))
+pub edited-size : (r : Role) (c : TableChanges) (around : Around) (p : List Cell) → length (edited_by r c around p) ≡ length p
+edited-size fixed c around p = refl
+edited-size inline_path c around p = length-with_bytes p _
+edited-size (offset table path) c around p = by_asks ((change_of c table).plan.asks (mention_at around table path p))
   where
     by_asks : (b : Bool) → length (if b then with_offset around.lasting.base.order p
         (new_place (change_of c table).plan c.map (change_of c table).texts (mention_at around table path p)) else p) ≡ length p
-    by_asks true = length-with_offset around.lasting.base.order p _ h
+    by_asks true = length-put around.lasting.base.order p _
     by_asks false = refl
-edited-size line_start c around p h = by_table (line_table around p)
+edited-size line_start c around p = by_table (line_table around p)
   where
     by_table : (o : Option ℕ) → length (moved_start (starts_from 0 c.lines) around.lasting.base.order o p) ≡ length p
     by_table None = refl
-    by_table (Some k) = length-with_offset around.lasting.base.order p (get_or (starts_from 0 c.lines) k 0) h
-
-all-plain : (c : TableChanges) (around : Around) (xs : List (Piece UnitState)) → EachPiece PlainPiece xs → IsPlain (joined (edited_all c around xs))
-unfolding role_of
-all-plain c around [] h = record { plain = refl }
-all-plain c around (x ∷ xs) h =
-    plain-append (edited_by (role_of x) c around x.cells) (joined (edited_all c around xs))
-    (edited-plain (role_of x) c around x.cells h.0.plain) (all-plain c around xs h.1)
+    by_table (Some k) = length-put around.lasting.base.order p (get_or (starts_from 0 c.lines) k 0)
 
 -- a section of a number that isn't one of units keeps its bytes
 is_units : List ℕ → ℕ → Option SectionKind
@@ -113,49 +101,3 @@ units-skip b bodies base c around i none first k (s ∷ ss) (t ∷ ts) rs all re
       where
         clash : (kind : SectionKind) → Some kind ≡ None → ⊥
         clash kind e = cc
-
--- the unit sections of the output, of a file that isn't relocatable
-pub units-edited : (b : List ℕ) (bodies : ℕ → List ℕ) (base : UnitBase) (c : TableChanges) (around : Around) (first k : ℕ) (ss ts : List ViewSection) (rs : Readings)
-    → is_loaded_kind b ≡ true → AllAt (SectionBack b bodies) k ss ts → ReadsAll base first (unit_sections_from k ss) rs → EachReading PlainPiece rs
-    → ((i : ℕ) (kind : SectionKind) → k ≤ i → i < section_count b → unit_kind (debug_section (section_name b i)) ≡ Some kind
-    → bodies i ≡ body_in (unit_bodies c around rs) (contents_of b) i)
-    → unit_sections_from k ts ≡ edited_sections (unit_sections_from k ss) (edited_readings c around rs)
-units-edited b bodies base c around first k [] [] rs loaded all reads plain holds = refl
-units-edited b bodies base c around first k [] (t ∷ ts) rs loaded all reads plain holds = absurd all
-units-edited b bodies base c around first k (s ∷ ss) [] rs loaded all reads plain holds = absurd all
-units-edited b bodies base c around first k (s ∷ ss) (t ∷ ts) rs loaded all reads plain holds =
-    ap (λ (x : Bool). (if x then unit_section k t (unit_kind (debug_section t.name)) else []) ++ unit_sections_from (suc k) ts) all.0.has_bytes
-    ∙ ap (λ (n : List ℕ). (if s.has_bytes then unit_section k t (unit_kind (debug_section n)) else []) ++ unit_sections_from (suc k) ts) all.0.name
-    ∙ by_section s.has_bytes (unit_kind (debug_section s.name)) refl rs reads plain holds
-    (λ n qs f p h. units-edited b bodies base c around n (suc k) ss ts qs loaded all.1 f p h)
-  where
-    Holds : ℕ → Readings → Type 0
-    Holds n qs = (i : ℕ) (kind : SectionKind) → n ≤ i → i < section_count b → unit_kind (debug_section (section_name b i)) ≡ Some kind
-        → bodies i ≡ body_in (unit_bodies c around qs) (contents_of b) i
-
-    by_section : (full : Bool) (o : Option SectionKind) → unit_kind (debug_section s.name) ≡ o → (qs : Readings)
-        → ReadsAll base first ((if full then unit_section k s o else []) ++ unit_sections_from (suc k) ss) qs → EachReading PlainPiece qs → Holds k qs
-        → ((n : ℕ) (ps : Readings) → ReadsAll base n (unit_sections_from (suc k) ss) ps → EachReading PlainPiece ps → Holds (suc k) ps
-        → unit_sections_from (suc k) ts ≡ edited_sections (unit_sections_from (suc k) ss) (edited_readings c around ps))
-        → (if full then unit_section k t o else []) ++ unit_sections_from (suc k) ts
-        ≡ edited_sections ((if full then unit_section k s o else []) ++ unit_sections_from (suc k) ss) (edited_readings c around qs)
-    by_section false o is qs f p h rest = rest first qs f p (λ i kind le lt e. h i kind (omega arith) lt e)
-    by_section true None is qs f p h rest = rest first qs f p (λ i kind le lt e. h i kind (omega arith) lt e)
-    by_section true (Some kind) is [] f p h rest = absurd f
-    by_section true (Some kind) is (q ∷ qs) f p h rest =
-        let some : unit_kind (debug_section (section_name b k)) ≡ Some kind = ap (λ (n : List ℕ). unit_kind (debug_section n)) (sym all.0.named) ∙ is in
-        let here : bytes_in t.contents ≡ bytes_of (joined (edited_all c around q.pieces)) =
-        all.0.new ∙ h k kind (omega arith) all.0.within some ∙ found_first (eq-eqb k q.number (sym f.0)) in
-        let contents : cells_of t ≡ joined (edited_all c around q.pieces) =
-        bare-cells t (all.0.bare loaded) ∙ ap plain_cells here ∙ sym (all-plain c around q.pieces p.0).plain in
-        ap (λ (x : List Cell). record { number = k; kind = kind; contents = x } ∷ unit_sections_from (suc k) ts) contents
-        ∙ ap (λ (zs : List UnitSection). record { number = k; kind = kind; contents = joined (edited_all c around q.pieces) } ∷ zs)
-        (rest (first + units_in q.pieces) qs f.2 p.1 (λ i other le lt e.
-        h i other (omega arith) lt e
-        ∙ skip-other (unit_body c around q) (unit_bodies c around qs) (contents_of b) i (λ (same : i ≡ q.number). not_here i le (same ∙ f.0))))
-      where
-        found_first : (k == q.number) ≡ true → body_in (unit_body c around q ∷ unit_bodies c around qs) (contents_of b) k ≡ bytes_of (joined (edited_all c around q.pieces))
-        found_first e = rw e refl
-
-        not_here : (i : ℕ) → suc k ≤ i → i ≡ k → ⊥
-        not_here i le e = omega arith

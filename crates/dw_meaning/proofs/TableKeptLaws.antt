@@ -83,6 +83,7 @@ unfolding view_section
 section-self b i lt = record {
   within = lt;
   named = refl;
+  holder = refl;
   name = refl;
   alloc = refl;
   is_name_table = refl;

@@ -27,7 +27,7 @@ if-false false x y e = refl
 among-further : (x : PlacedRelocation) (xs : List PlacedRelocation) (r : PlacedRelocation) → IsAmong xs r → IsAmong (x ∷ xs) r
 among-further x xs r h = record { before = x ∷ h.before; behind = h.behind; is = ap (λ (l : List PlacedRelocation). x ∷ l) h.is }
 
-among-record : (g : RelocationSource) (rs : List Reloc) (i : ℕ) (d : Reloc) → i < length rs → is_none_type g.machine (get_or rs i d).kind ≡ false
+pub among-record : (g : RelocationSource) (rs : List Reloc) (i : ℕ) (d : Reloc) → i < length rs → is_none_type g.machine (get_or rs i d).kind ≡ false
     → IsAmong (relocations_among g rs) (placed g (get_or rs i d))
 among-record g [] i d lt counts = absurd (omega (arith, lt))
 among-record g (x ∷ xs) zero d lt counts = record {

@@ -3,8 +3,8 @@
 use Rattle.std.proofs.Common.{Bool, true, false, ◌≡◌, ℕ, ◌+◌, ◌^◌, ◌<◌, ◌≤◌, List, [], ◌∷◌, ◌++◌, length, drop, get_or, ◌==◌, ◌||◌, Option, IsTrue, not, sym, ap, ◌∙◌, refl, subst, arith, if◌then◌else◌, None, Some, append_assoc}
 use Rattle.std.specs.Bool.{⊤}
 use Rattle.std.proofs.lemmas.List.{length-append, drop_all}
-use Rattle.dw_base.specs.Cells.{Cell, Located, bytes_of, with_bytes, offset_of}
-use Rattle.dw_base.specs.DebugData.{Around, line_table, path_slots, start_number, table_of}
+use Rattle.dw_base.specs.Cells.{Cell, Located, Relocation, bytes_of, first_relocation, with_bytes, offset_of}
+use Rattle.dw_base.specs.DebugData.{Around, line_table, path_slots, start_number}
 use Rattle.dw_base.specs.Forms.{TextSection, in_str, in_line_str, ValueKind, number_of, leb_number, signed_leb, block_of, counted, counted_leb, inline_text, text_offset, present, in_abbreviation, form_in_front, supplementary, unlisted, kind_in, width_size}
 use Rattle.dw_base.specs.InlinePaths.{mapped_inline}
 use Rattle.dw_base.specs.MappedSlots.{mapped_slots}
@@ -30,13 +30,14 @@ use Rattle.dw_base.specs.LineMeanings.{is_there}
 use Rattle.dw_base.specs.LineReadings.{starts_from, all_lines}
 use Rattle.std.proofs.lemmas.Bool.{eqb-true}
 use Rattle.dw_base.specs.declared.values.ValueClass.{ValueClass}
-use Rattle.dw_meaning.proofs.FieldPutLaws.{IsPlace, front-bytes, length-put, place-put, place-same, plain-place, sized-some, width-some}
+use Rattle.dw_meaning.specs.NewAddends.{Makes, MakesNew, MakesRole, new_offset, start_place}
+use Rattle.dw_meaning.proofs.FieldPutLaws.{IsPlace, front-bytes, length-put, place-inside, place-put, place-same, sized-some, width-some}
 use Rattle.dw_meaning.proofs.LineStartLaws.{EachSome, start-end, start-found, number-below}
 use Rattle.dw_base.proofs.FormSizeLaws.{is_sized, offset_sized, offset-size, is_offset_sized, section_offset-sized}
 use Rattle.dw_base.proofs.InlineLaws.{has_nul-mapped_inline, length-mapped_inline}
 use Rattle.dw_base.proofs.PathLaws.{has_nul-mapped_path}
 use Rattle.dw_base.proofs.PieceFrameLaws.{AllChanged}
-use Rattle.dw_base.proofs.PlainCellLaws.{IsPlain}
+use Rattle.dw_base.proofs.PlainCellLaws.{IsPlain, first-plain}
 use Rattle.dw_base.proofs.TableLaws.{is_in-texts_after, is_in-with_mention}
 use Rattle.dw_base.proofs.TextLaws.{has_nul-append, text-append_nul, has_nul-text, drop-text, has_nul-text_in, same_text-true, text_in-append, ends_in-append, ends_in-inside, text_in-place_in, ends_in-place_in, place_in-lt}
 use Rattle.dw_base.proofs.UnitEditLaws.{Shift, Restarted, Rewritten, Becomes, PieceSlot, UnitsChanged, length-bytes_of, number-there}
@@ -81,11 +82,18 @@ pub record TableMoves (m : PathMap) (c : TableChange) (z : Located) : Type 0 whe
   pub keeps : KeepsTexts c.plan m z.bytes
   pub small : length (new_table c.plan c.texts) ≤ 2 ^ 32
 
--- what holds of the new line tables: there are as many, each has a byte at least, and all have at most 2^32 bytes
+-- each of a list is below a number
+abbrev pub EachBelow : ℕ → List ℕ → Type 0
+EachBelow n [] = ⊤
+EachBelow n (s ∷ ss) = (s < n) × EachBelow n ss
+
+-- what holds of the new line tables: there are as many, each has a byte at least, and all have at most 2^32 bytes; the old ones start in their
+-- section
 pub record LinesMove (c : TableChanges) (around : Around) : Type 0 where
   pub count : length c.lines ≡ length around.starts
   pub some : EachSome c.lines
   pub small : length (all_lines c.lines) ≤ 2 ^ 32
+  pub below : EachBelow (length around.lines.bytes) around.starts
 
 -- and of the changes of all tables
 pub record TablesMove (c : TableChanges) (around : Around) : Type 0 where
@@ -102,17 +110,22 @@ mention_in order z path p = record { path = path; text = text_in z.bytes (offset
 record FieldMoves (m : PathMap) (order : Order) (c : TableChange) (z : Located) (path : Bool) (p : List Cell) : Type 0 where
   map : IsPathMap m
   moves : TableMoves m c z
-  place : IsPlace z.number p
   width : Width
   size : length p ≡ width_size width
   names : IsTrue (ends_in z.bytes (offset_of order z p))
   there : c.plan.asks (mention_in order z path p) ≡ true → is_in c.texts (new_text m (mention_in order z path p)) ≡ true
+  makes : c.plan.asks (mention_in order z path p) ≡ true
+      → Makes (first_relocation p) (length p) (new_place c.plan m c.texts (mention_in order z path p))
 
 -- it is another field of the same size, which names the new text in the new table
 record FieldRenamed (m : PathMap) (order : Order) (c : TableChange) (z : Located) (path : Bool) (p q : List Cell) : Type 0 where
   size : length q ≡ length p
   says : text_in (new_table c.plan c.texts) (offset_of order (moved_table z c) q) ≡ new_text m (mention_in order z path p)
   ends : IsTrue (ends_in (new_table c.plan c.texts) (offset_of order (moved_table z c) q))
+
+-- where the text ends in its table, the field is a place there
+field-place : (m : PathMap) (order : Order) (c : TableChange) (z : Located) (path : Bool) (p : List Cell) → FieldMoves m order c z path p → IsPlace z.number p
+field-place m order c z path p f = place-inside order z p (ends_in-inside z.bytes (offset_of order z p) f.names)
 
 moved-asked : (m : PathMap) (order : Order) (c : TableChange) (z : Located) (path : Bool) (p : List Cell) → FieldMoves m order c z path p
     → c.plan.asks (mention_in order z path p) ≡ true
@@ -126,8 +139,8 @@ moved-asked m order c z path p f asks =
     let within = place_in-lt c.texts t here in
     let below : n < length (new_table c.plan c.texts) = omega arith in
     let back : offset_of order (moved_table z c) (with_offset order p n) ≡ n =
-    place-put order (moved_table z c) p n f.place (omega (arith, f.size, width-some f.width))
-    (offset-fits f.width (length p) n (length (new_table c.plan c.texts)) f.size below f.moves.small) in
+    place-put order (moved_table z c) p n (field-place m order c z path p f) (omega (arith, f.size, width-some f.width))
+    (offset-fits f.width (length p) n (length (new_table c.plan c.texts)) f.size below f.moves.small) (f.makes asks) in
     record {
       size = length-put order p n;
       says = ap (text_in (new_table c.plan c.texts)) back ∙ text_in-place_in c.plan.kept c.texts t here bare;
@@ -141,7 +154,7 @@ moved-stays m order c z path p f none =
     let same : new_table c.plan c.texts ≡ z.bytes ++ laid_texts c.texts =
     ap (λ (k : List ℕ). k ++ laid_texts c.texts) (f.moves.keeps.kept (mention_in order z path p) none) in
     let inside : at < length z.bytes = ends_in-inside z.bytes at f.names in
-    let moved : offset_of order (moved_table z c) p ≡ at = place-same order z (moved_table z c) p f.place refl in
+    let moved : offset_of order (moved_table z c) p ≡ at = place-same order z (moved_table z c) p (field-place m order c z path p f) refl in
     record {
       size = refl;
       says = ap (text_in (new_table c.plan c.texts)) moved ∙ ap (λ (t : List ℕ). text_in t at) same
@@ -183,23 +196,40 @@ Provided (offset table path) c around p =
     → is_in (change_of c table).texts (new_text c.map (mention_at around table path p)) ≡ true
 Provided r c around p = ⊤
 
--- a field that an edit may move can have each offset that fits it
-abbrev pub MovesBy : Role → Around → List Cell → Type 0
-MovesBy (offset table path) around p = IsPlace (table_of around table).number p
-MovesBy line_start around p = IsPlace around.lines.number p
-MovesBy r around p = ⊤
+-- where one is asked for, the addend makes it
+asked-makes : (asks : Bool) (n : ℕ) (p : List Cell) → MakesNew (if asks then Some n else None) p → asks ≡ true → Makes (first_relocation p) (length p) n
+asked-makes true n p h e = h
+asked-makes false n p h e = absurd cc
 
 -- a field of an offset
 offset-moves : {lc : List Cell} (table : TextSection) (path : Bool) (c : TableChanges) (around : Around) (p : List Cell) (w : Width) → TablesMove c around
-    → MovesBy (offset table path) around p → length p ≡ width_size w → NamesTextBy (offset table path) around p → Provided (offset table path) c around p
+    → MakesRole (offset table path) c around p → length p ≡ width_size w → NamesTextBy (offset table path) around p → Provided (offset table path) c around p
     → Becomes (offset table path) (shift_of c around lc) p (edited_by (offset table path) c around p)
 offset-moves in_str path c around p w t place size names there =
     let f = field-moves c.map around.lasting.base.order c.str around.str path p
-    (record { map = t.map; moves = t.str; place = place; width = w; size = size; names = names; there = there }) in
+    (record {
+      map = t.map;
+      moves = t.str;
+      width = w;
+      size = size;
+      names = names;
+      there = there;
+      makes = asked-makes (c.str.plan.asks (mention_in around.lasting.base.order around.str path p))
+          (new_place c.str.plan c.map c.str.texts (mention_in around.lasting.base.order around.str path p)) p place;
+    }) in
     record { size = f.size; says = f.says; ends = f.ends }
 offset-moves in_line_str path c around p w t place size names there =
     let f = field-moves c.map around.lasting.base.order c.line_str around.line_str path p
-    (record { map = t.map; moves = t.line_str; place = place; width = w; size = size; names = names; there = there }) in
+    (record {
+      map = t.map;
+      moves = t.line_str;
+      width = w;
+      size = size;
+      names = names;
+      there = there;
+      makes = asked-makes (c.line_str.plan.asks (mention_in around.lasting.base.order around.line_str path p))
+          (new_place c.line_str.plan c.map c.line_str.texts (mention_in around.lasting.base.order around.line_str path p)) p place;
+    }) in
     record { size = f.size; says = f.says; ends = f.ends }
 
 -- a text that stands in its value
@@ -266,24 +296,35 @@ start-fits n v size lt = by_size (n == 4) (n == 8) refl refl size
     by_size false true x y e = subst (λ (k : ℕ). v < 256 ^ k) (sym (eqb-true n 8 y)) (omega (arith, lt))
     by_size false false x y e = absurd cc
 
-start-moves : {lc : List Cell} (c : TableChanges) (around : Around) (p : List Cell) → TablesMove c around → IsPlace around.lines.number p → (length p == 4 || length p == 8) ≡ true → NamesTextBy line_start around p
-    → Restarted (shift_of c around lc) p (edited_by line_start c around p)
-start-moves {lc} c around p t place size names = by_table (line_table around p) refl names
+-- it lies in the section
+start-inside : (o n k most : ℕ) (starts : List ℕ) → EachBelow most starts → start_number n starts o ≡ Some k → o < most
+start-inside o n k most [] h e = absurd cc
+start-inside o n k most (s ∷ ss) h e = by_test (s == o) refl e (start-inside o (n + 1) k most ss h.1)
   where
-    by_table : (o : Option ℕ) → line_table around p ≡ o → IsTrue (is_there o)
+    by_test : (b : Bool) → (s == o) ≡ b → (if b then Some n else start_number (n + 1) ss o) ≡ Some k → (start_number (n + 1) ss o ≡ Some k → o < most) → o < most
+    by_test true same e rest = subst (λ (i : ℕ). i < most) (eqb-true s o same) h.0
+    by_test false same e rest = rest e
+
+start-moves : {lc : List Cell} (c : TableChanges) (around : Around) (p : List Cell) → TablesMove c around → MakesRole line_start c around p → (length p == 4 || length p == 8) ≡ true → NamesTextBy line_start around p
+    → Restarted (shift_of c around lc) p (edited_by line_start c around p)
+start-moves {lc} c around p t makes_it size names = by_table (line_table around p) refl names makes_it
+  where
+    by_table : (o : Option ℕ) → line_table around p ≡ o → IsTrue (is_there o) → MakesNew (start_place (starts_from 0 c.lines) o) p
         → Restarted (shift_of c around lc) p (moved_start (starts_from 0 c.lines) around.lasting.base.order o p)
-    by_table None e some = absurd cc
-    by_table (Some k) e some =
+    by_table None e some makes = absurd cc
+    by_table (Some k) e some makes =
         let count = t.lines.count in
         let small = t.lines.small in
         let below : k < 0 + length around.starts = number-below 0 around.starts (offset_of around.lasting.base.order around.lines p) k e in
         let here : k < length c.lines = omega (arith, below, count) in
+        let place : IsPlace around.lines.number p = place-inside around.lasting.base.order around.lines p
+        (start-inside (offset_of around.lasting.base.order around.lines p) 0 k (length around.lines.bytes) around.starts t.lines.below e) in
         let v : ℕ = get_or (starts_from 0 c.lines) k 0 in
         let last = start-end 0 k c.lines t.lines.some here in
         let reads : offset_of around.lasting.base.order (record { number = around.lines.number; bytes = all_lines c.lines })
         (with_offset around.lasting.base.order p (get_or (starts_from 0 c.lines) k 0)) ≡ get_or (starts_from 0 c.lines) k 0 =
         place-put around.lasting.base.order (record { number = around.lines.number; bytes = all_lines c.lines }) p (get_or (starts_from 0 c.lines) k 0) place
-        (sized-some (length p) size) (start-fits (length p) (get_or (starts_from 0 c.lines) k 0) size (omega (arith, last, small))) in
+        (sized-some (length p) size) (start-fits (length p) (get_or (starts_from 0 c.lines) k 0) size (omega (arith, last, small))) makes in
         let zero_ : 0 + k ≡ k = omega arith in
         let found : start_number 0 (starts_from 0 c.lines) (offset_of around.lasting.base.order (record { number = around.lines.number; bytes = all_lines c.lines })
         (with_offset around.lasting.base.order p (get_or (starts_from 0 c.lines) k 0))) ≡ Some k =
@@ -301,7 +342,7 @@ start-size names_line_table Number n e sized = e
 start-size u class n e sized = absurd cc
 
 number-moves : (lc : List Cell) (b : Bool) (u : Use) (class : ValueClass) (n : ℕ) (c : TableChanges) (around : Around) (s : UnitState) (x : Spec) (p : List Cell) → is_line_start u class n ≡ b
-    → TablesMove c around → MovesBy (if b then line_start else fixed) around p → is_offset_sized (number_of class n) ≡ true → IsValue s x (number_of class n) p → NamesTextBy (if b then line_start else fixed) around p
+    → TablesMove c around → MakesRole (if b then line_start else fixed) c around p → is_offset_sized (number_of class n) ≡ true → IsValue s x (number_of class n) p → NamesTextBy (if b then line_start else fixed) around p
     → Becomes (if b then line_start else fixed) (shift_of c around lc) p (edited_by (if b then line_start else fixed) c around p)
 unfolding value_of
 number-moves lc false u class n c around s x p e t place sized f names = refl
@@ -322,7 +363,7 @@ inline-role lc true c around s x p is_map f fits = inline-moves c around s x p i
 inline-role lc false c around s x p is_map f fits = refl
 
 -- cells of a value
-value-moves : (lc : List Cell) (k : ValueKind) (u : Use) (c : TableChanges) (around : Around) (s : UnitState) (x : Spec) (p : List Cell) → TablesMove c around → MovesBy (role_of_kind k u) around p
+value-moves : (lc : List Cell) (k : ValueKind) (u : Use) (c : TableChanges) (around : Around) (s : UnitState) (x : Spec) (p : List Cell) → TablesMove c around → MakesRole (role_of_kind k u) c around p
     → is_sized s.header.params.width k ≡ true → is_offset_sized k ≡ true → FitsKind k s x p → NamesTextBy (role_of_kind k u) around p → InlineFitsBy (role_of_kind k u) c.map p
     → Provided (role_of_kind k u) c around p → Becomes (role_of_kind k u) (shift_of c around lc) p (edited_by (role_of_kind k u) c around p)
 value-moves lc (number_of class n) u c around s x p t place sized offsets f names fits there =
@@ -354,7 +395,7 @@ chosen-fits supplementary s x p f = f
 chosen-fits unlisted s x p f = f
 
 -- cells of a mode
-mode-moves : (lc : List Cell) (m : Mode) (base : UnitBase) (s : UnitState) (c : TableChanges) (around : Around) (p : List Cell) → TablesMove c around → MovesBy (role_of_mode m s.header.params) around p
+mode-moves : (lc : List Cell) (m : Mode) (base : UnitBase) (s : UnitState) (c : TableChanges) (around : Around) (p : List Cell) → TablesMove c around → MakesRole (role_of_mode m s.header.params) c around p
     → FitsMode m base s p → NamesTextBy (role_of_mode m s.header.params) around p → InlineFitsBy (role_of_mode m s.header.params) c.map p
     → Provided (role_of_mode m s.header.params) c around p
     → Becomes (role_of_mode m s.header.params) (shift_of c around lc) p (edited_by (role_of_mode m s.header.params) c around p)
@@ -402,23 +443,24 @@ behind_piece c ts us heres lines ms ns all = record {
   line_str = all.line_str ∙ texts_after-append c.line_str.plan c.map us lines ns;
 }
 
--- a piece that an edit may move can have each offset that fits it
-abbrev pub Moves : Around → Piece UnitState → Type 0
-Moves around x = MovesBy (role_of x) around x.cells
+-- a piece that an edit may move can have the offset that it gets
+abbrev pub Moves : TableChanges → Around → Piece UnitState → Type 0
+Moves c around x = MakesRole (role_of x) c around x.cells
 
 -- no relocation begins in a piece: then it can
 pub record PlainPiece (x : Piece UnitState) : Type 0 where
   pub plain : IsPlain x.cells
 
-plain-moves : (r : Role) (around : Around) (p : List Cell) → IsPlain p → MovesBy r around p
-plain-moves fixed around p h = tt
-plain-moves (offset table path) around p h = plain-place (table_of around table).number p h
-plain-moves inline_path around p h = tt
-plain-moves line_start around p h = plain-place around.lines.number p h
+pub plain-makes : (o : Option ℕ) (p : List Cell) → IsPlain p → MakesNew o p
+plain-makes None p h = tt
+plain-makes (Some n) p h = subst (λ (f : Option Relocation). Makes f (length p) n) (sym (first-plain p h)) tt
 
-pub pieces-move : (around : Around) (xs : List (Piece UnitState)) → EachPiece PlainPiece xs → EachPiece (Moves around) xs
-pieces-move around [] h = tt
-pieces-move around (x ∷ xs) h = (plain-moves (role_of x) around x.cells h.0.plain, pieces-move around xs h.1)
+plain-moves : (r : Role) (c : TableChanges) (around : Around) (p : List Cell) → IsPlain p → MakesRole r c around p
+plain-moves r c around p h = plain-makes (new_offset r c around p) p h
+
+pub pieces-move : (c : TableChanges) (around : Around) (xs : List (Piece UnitState)) → EachPiece PlainPiece xs → EachPiece (Moves c around) xs
+pieces-move c around [] h = tt
+pieces-move c around (x ∷ xs) h = (plain-moves (role_of x) c around x.cells h.0.plain, pieces-move c around xs h.1)
 
 -- where the piece is a value by index, its slot has the new text
 abbrev pub SlotMoves : Shift → Piece UnitState → Type 0
@@ -427,7 +469,7 @@ SlotMoves c x = PieceSlot x.state.mode c x.state x.cells
 -- the text law, for the pieces of a section
 pub edited-changed : (lc : List Cell) (base : UnitBase) (c : TableChanges) (around : Around) (ts us : List (List ℕ)) (s : UnitState) (xs : List (Piece UnitState))
     (ms ns : List Mention) → TablesMove c around → TextsAre c ts us (mentions_of in_str around xs ++ ms) (mentions_of in_line_str around xs ++ ns)
-    → Chain (unit_grammar base) s xs → EachPiece (Moves around) xs → EachPiece (NamesText around) xs → EachPiece (InlineFits c.map) xs
+    → Chain (unit_grammar base) s xs → EachPiece (Moves c around) xs → EachPiece (NamesText around) xs → EachPiece (InlineFits c.map) xs
     → EachPiece (SlotMoves (shift_of c around lc)) xs → UnitsChanged (shift_of c around lc) xs (edited_all c around xs)
 unfolding role_of
 edited-changed lc base c around ts us s [] ms ns t all chain moves names fits slots = tt
@@ -448,33 +490,33 @@ edited-changed lc base c around ts us s (x ∷ xs) ms ns t all chain moves names
     )
 
 -- cells of a role that an edit may move, outside of units: a field of an offset that names a text, of the size of an offset
-pub record OffsetField (table : TextSection) (around : Around) (p : List Cell) : Type 0 where
-  pub place : IsPlace (table_of around table).number p
+pub record OffsetField (table : TextSection) (path : Bool) (c : TableChanges) (around : Around) (p : List Cell) : Type 0 where
+  pub moves : MakesRole (offset table path) c around p
   pub width : Width
   pub size : length p ≡ width_size width
 
 -- or a field of the start of a line table
-pub record StartField (around : Around) (p : List Cell) : Type 0 where
-  pub place : IsPlace around.lines.number p
+pub record StartField (c : TableChanges) (around : Around) (p : List Cell) : Type 0 where
+  pub moves : MakesRole line_start c around p
   pub sized : (length p == 4 || length p == 8) ≡ true
 
-abbrev pub CanMove : Role → Around → List Cell → Type 0
-CanMove fixed around p = ⊤
-CanMove (offset table path) around p = OffsetField table around p
-CanMove inline_path around p = ⊥
-CanMove line_start around p = StartField around p
+abbrev pub CanMove : Role → TableChanges → Around → List Cell → Type 0
+CanMove fixed c around p = ⊤
+CanMove (offset table path) c around p = OffsetField table path c around p
+CanMove inline_path c around p = ⊥
+CanMove line_start c around p = StartField c around p
 
-role-moves : (lc : List Cell) (r : Role) (c : TableChanges) (around : Around) (p : List Cell) → TablesMove c around → CanMove r around p → NamesTextBy r around p
+role-moves : (lc : List Cell) (r : Role) (c : TableChanges) (around : Around) (p : List Cell) → TablesMove c around → CanMove r c around p → NamesTextBy r around p
     → Provided r c around p → Becomes r (shift_of c around lc) p (edited_by r c around p)
 role-moves lc fixed c around p t can names there = refl
-role-moves lc (offset table path) c around p t can names there = offset-moves table path c around p can.width t can.place can.size names there
+role-moves lc (offset table path) c around p t can names there = offset-moves table path c around p can.width t can.moves can.size names there
 role-moves lc inline_path c around p t can names there = absurd can
-role-moves lc line_start c around p t can names there = start-moves c around p t can.place can.sized names
+role-moves lc line_start c around p t can names there = start-moves c around p t can.moves can.sized names
 
 -- the text law, for pieces of roles
 pub roles-changed : {S : Type 0} (lc : List Cell) (role : S → Role) (c : TableChanges) (around : Around) (ts us : List (List ℕ)) (xs : List (Piece S)) (ms ns : List Mention)
     → TablesMove c around → TextsAre c ts us (mentions_with role in_str around xs ++ ms) (mentions_with role in_line_str around xs ++ ns)
-    → EachPiece (λ x. CanMove (role x.state) around x.cells) xs → EachPiece (λ x. NamesTextBy (role x.state) around x.cells) xs
+    → EachPiece (λ x. CanMove (role x.state) c around x.cells) xs → EachPiece (λ x. NamesTextBy (role x.state) around x.cells) xs
     → AllChanged S (λ s p q. Becomes (role s) (shift_of c around lc) p q) xs (edited_with role c around xs)
 roles-changed lc role c around ts us [] ms ns t all can names = tt
 roles-changed lc role c around ts us (x ∷ xs) ms ns t all can names =

@@ -1,18 +1,38 @@
 -- The piece in which a value stands: its role and its cells.
-use Rattle.std.proofs.Common.{true, ◌≡◌, ◌⊎◌, inl, inr, ℕ, ◌+◌, List, [], ◌∷◌, ◌++◌, take, drop, Some, refl, sym, ap, ◌∙◌, subst, arith}
+use Rattle.std.proofs.Common.{true, ◌≡◌, ◌⊎◌, inl, inr, ℕ, ◌+◌, List, [], ◌∷◌, ◌++◌, take, drop, Option, Some, refl, sym, ap, ◌∙◌, subst, arith}
 use Rattle.dw_base.specs.Cells.{Cell}
-use Rattle.dw_base.specs.Forms.{ValueKind, form_in_front, kind_in}
+use Rattle.dw_base.specs.Forms.{ValueKind, number_of, leb_number, signed_leb, block_of, counted, counted_leb, inline_text, text_offset, present, in_abbreviation, form_in_front, supplementary, unlisted, kind_in}
 use Rattle.dw_base.specs.Pieces.{Piece, joined, Leads}
+use Rattle.dw_base.specs.RelocationRows.{is_start, kind_field, unit_field}
 use Rattle.dw_base.specs.Roles.{role_of, role_of_kind, use_of}
 use Rattle.dw_base.specs.UnitHeaders.{UnitBase}
 use Rattle.dw_base.specs.UnitPieces.{unit_grammar}
-use Rattle.dw_base.specs.UnitStates.{at_values, at_chosen, UnitState, in_unit, inside, of_chosen}
+use Rattle.dw_base.specs.UnitStates.{at_values, at_chosen, UnitState, in_unit, inside, of_chosen, read_value}
 use Rattle.dw_base.specs.Values.{value_of, value_at}
+use Rattle.dw_base.specs.declared.shared.Order.{Order}
+use Rattle.dw_base.specs.declared.shared.Params.{Params}
 use Rattle.dw_base.specs.declared.values.Spec.{Spec}
 use Rattle.dw_base.specs.declared.values.Value.{Value}
+use Rattle.dw_meaning.specs.RelocationFails.{behind_front}
 use Rattle.dw_base.proofs.ClassLaws.{is_proper, form-proper}
 use Rattle.dw_base.proofs.FormLaws.{value_by-own}
 use Rattle.dw_meaning.proofs.ScanPieceLaws.{run-more, run-one, unit_bytes, is_front, own-run, front-run, chosen-run, Chosen, chosen-read}
+
+-- a kind that stands in front of none is its own
+own-kind : (k : ValueKind) (params : Params) (bytes : List ℕ) (place : ℕ) → (k ≡ form_in_front → ⊥) → behind_front k params bytes place ≡ k
+own-kind form_in_front params bytes place other = absurd (other refl)
+own-kind (number_of class n) params bytes place other = refl
+own-kind (leb_number class) params bytes place other = refl
+own-kind signed_leb params bytes place other = refl
+own-kind (block_of n) params bytes place other = refl
+own-kind (counted n) params bytes place other = refl
+own-kind counted_leb params bytes place other = refl
+own-kind inline_text params bytes place other = refl
+own-kind (text_offset table n) params bytes place other = refl
+own-kind present params bytes place other = refl
+own-kind in_abbreviation params bytes place other = refl
+own-kind supplementary params bytes place other = refl
+own-kind unlisted params bytes place other = refl
 
 -- the pieces of a value: a form in front of it, or nothing; and its own, with its role and its cells
 pub record ValuePiece (base : UnitBase) (cells : List Cell) (s : UnitState) (place e d n tag : ℕ) (x : Spec) (xs : List Spec) (v : Value) : Type 0 where
@@ -30,6 +50,8 @@ pub record ValuePiece (base : UnitBase) (cells : List Cell) (s : UnitState) (pla
   pub class : value.class ≡ v.class
   pub at : value.at ≡ v.at
   pub len : value.len ≡ v.len
+  pub kind_is : kind ≡ behind_front (kind_in s.header.params x.form) s.header.params (unit_bytes s cells) place
+  pub fields : (order : Order) → unit_field last.state.mode order last.state last.cells ≡ kind_field kind field (is_start n tag x.name)
 
 pub value-pieces : (base : UnitBase) (cells : List Cell) (s : UnitState) (place e d n tag : ℕ) (x : Spec) (xs : List Spec) (v : Value)
     → value_at s.header.params x (unit_bytes s cells) place ≡ Some v → ValuePiece base cells s place e d n tag x xs v
@@ -56,6 +78,8 @@ value-pieces base cells s place e d n tag x xs v is = by_front (is_front (kind_i
           class = refl;
           at = refl;
           len = refl;
+          kind_is = sym (own-kind (kind_in s.header.params x.form) s.header.params (unit_bytes s cells) place other);
+          fields = λ order. refl;
         }
     by_front (inl front) =
         let c : Chosen s.header.params x (unit_bytes s cells) place v = chosen-read s.header.params x (unit_bytes s cells) place v front is in
@@ -79,4 +103,7 @@ value-pieces base cells s place e d n tag x xs v is = by_front (is_front (kind_i
           class = sym (ap (λ (w : Value). w.class) c.parts);
           at = sym (ap (λ (w : Value). w.at) c.parts);
           len = sym (ap (λ (w : Value). w.len) c.parts);
+          kind_is = sym (ap (λ (k : ValueKind). behind_front k s.header.params (unit_bytes s cells) place) front
+              ∙ ap (λ (o : Option (ℕ × ℕ)). kind_in s.header.params (read_value o)) c.spells);
+          fields = λ order. refl;
         }

@@ -57,7 +57,7 @@ each-last P [] x h = h.0
 each-last P (y ∷ ys) x h = each-last P ys x h.1
 
 -- what holds of each piece of a section holds of those that are met in it
-each-met : (base : UnitBase) (z : UnitSection) (P : Piece UnitState → Type 0) (r : SectionRead base z P) (t : UnitState) (xs : List (Piece UnitState)) (x : Piece UnitState) (place : ℕ)
+pub each-met : (base : UnitBase) (z : UnitSection) (P : Piece UnitState → Type 0) (r : SectionRead base z P) (t : UnitState) (xs : List (Piece UnitState)) (x : Piece UnitState) (place : ℕ)
     → Leads (unit_grammar base) (before z 0 r.first) (xs ++ x ∷ []) t → joined (xs ++ x ∷ []) ++ drop place z.contents ≡ z.contents → P x
 each-met base z P r t xs x place leads covers =
     let g : Grammar = unit_grammar base in
@@ -101,14 +101,12 @@ not_split d rs z h list number a x place v reads t y = by_split (is_split_root (
         (subst (λ (xs : List Abbreviation). Scans h xs (bytes_up_to z h) w.items h.end 0) same w.entries)
         (split_row y.items y.start y.depth y.code y.size a y.scans y.spells y.some y.listed is))
 
-pub value-met : (d : DebugData) (rs : DataReadings) (z : UnitSection) (h : UnitHeader) (list : List Abbreviation) (number : ℕ) (a : Abbreviation) (x : Spec) (place : ℕ) (v : Value)
-    (P : Piece UnitState → Type 0) → DataReads d rs → EachReading P rs.units → HasTable d z h list → HasValue h list (bytes_up_to z h) number a x place v
+pub value-met-in : (d : DebugData) (rs : DataReadings) (z : UnitSection) (h : UnitHeader) (list : List Abbreviation) (number : ℕ) (a : Abbreviation) (x : Spec) (place : ℕ) (v : Value)
+    (P : Piece UnitState → Type 0) → DataReads d rs → SectionRead d.base z P → HasTable d z h list → HasValue h list (bytes_up_to z h) number a x place v
     → MetValue d.base z h number a x place v P
-value-met d rs z h list number a x place v P reads each t y =
+value-met-in d rs z h list number a x place v P reads r t y =
     let u : HasUnit d z h = t.unit in
     let w : WholeUnit d.base z t.unit.start h = unit-whole d rs z h reads t.unit in
-    let r : SectionRead d.base z P =
-    section-among d.base P 0 t.unit.before t.unit.behind z rs.units (subst (λ (zs : List UnitSection). ReadsAll d.base 0 zs rs.units) t.unit.sections reads.units) each in
     let unit : ℕ = r.first + length w.list in
     let s : UnitState = in_headed d.base z t.unit.start (r.first + length w.list) h in
     let found : abbreviations_at d.base.abbrevs.bytes h.abbrevs ≡ list = table-found d.base.abbrevs.bytes h.abbrevs list t.declares.is in
@@ -155,8 +153,15 @@ value-met d rs z h list number a x place v P reads each t y =
         subst (λ (k : ℕ). MetValue d.base z h k a x place v P) same
         (record { start = start; unit = unit; e = e; d = dd; behind = behind_; piece = p; holds = met })
 
+pub value-met : (d : DebugData) (rs : DataReadings) (z : UnitSection) (h : UnitHeader) (list : List Abbreviation) (number : ℕ) (a : Abbreviation) (x : Spec) (place : ℕ) (v : Value)
+    (P : Piece UnitState → Type 0) → DataReads d rs → EachReading P rs.units → HasTable d z h list → HasValue h list (bytes_up_to z h) number a x place v
+    → MetValue d.base z h number a x place v P
+value-met d rs z h list number a x place v P reads each t y =
+    value-met-in d rs z h list number a x place v P reads
+    (section-among d.base P 0 t.unit.before t.unit.behind z rs.units (subst (λ (zs : List UnitSection). ReadsAll d.base 0 zs rs.units) t.unit.sections reads.units) each) t y
+
 -- the parts of a value that is a number of so many bytes
-number-parts : (class : ValueClass) (at n : ℕ) (o : Option ℕ) (v : Value) → number_value class at n o ≡ Some v → (v.at ≡ at) × (v.len ≡ v.size)
+pub number-parts : (class : ValueClass) (at n : ℕ) (o : Option ℕ) (v : Value) → number_value class at n o ≡ Some v → (v.at ≡ at) × (v.len ≡ v.size)
 number-parts class at n None v e = absurd cc
 number-parts class at n (Some x) v e =
     let same : record { class = class; number = x; at = at; len = n; size = n } ≡ v = once _ v e in
@@ -165,7 +170,7 @@ number-parts class at n (Some x) v e =
     once : (w v : Value) → Some w ≡ Some v → w ≡ v
     once w v e = cc
 
-offset-parts : (table : TextSection) (n : ℕ) (o : Order) (bytes : List ℕ) (at : ℕ) (i : ℤ) (v : Value) → value_of (text_offset table n) o bytes at i ≡ Some v → (v.at ≡ at) × (v.len ≡ v.size)
+pub offset-parts : (table : TextSection) (n : ℕ) (o : Order) (bytes : List ℕ) (at : ℕ) (i : ℤ) (v : Value) → value_of (text_offset table n) o bytes at i ≡ Some v → (v.at ≡ at) × (v.len ≡ v.size)
 unfolding value_of
 offset-parts table n o bytes at i v e = number-parts (offset_class table) at n (number_at o bytes at n) v e
 

@@ -16,7 +16,7 @@ use Rattle.dw_base.specs.FileViews.{view_of, view_section, section_after, sectio
 use Rattle.dw_base.specs.Forests.{AttributeMeaning, Forest, no_entries, entry}
 use Rattle.dw_base.specs.Forms.{kind_in, form_rows}
 use Rattle.dw_base.specs.InlinePaths.{mapped_inline}
-use Rattle.dw_base.specs.Layout.{part_of, is_fixed, fixed_end, padding, with_bodies, placed, new_head, shdr_bytes, before_table, with_table, laid_out}
+use Rattle.dw_base.specs.Layout.{is_loaded_kind, part_of, is_fixed, fixed_end, padding, with_bodies, placed, new_head, shdr_bytes, before_table, with_table, laid_out}
 use Rattle.dw_base.specs.Lebs.{uleb_at, initial_length_at}
 use Rattle.dw_base.specs.Notes.{build_id_of, descriptor_at, id_in, is_id_note, is_id_section}
 use Rattle.dw_base.specs.Numbers.{spelled, number_at, with_number}
@@ -41,6 +41,7 @@ use Rattle.dw_meaning.proofs.WorkedEntries.{lone_data, lone_readings}
 use Rattle.dw_meaning.proofs.WorkedParts.{all_bytes, file_header, numbers, section_header, unit, worked_map}
 use Rattle.dw_base.specs.RelocationSectionFails.{relocates_read}
 use Rattle.dw_base.specs.SectionRelocations.{relocates, relocation_section, relocations_of}
+use Rattle.dw_meaning.proofs.PlainFileLaws.{file-addends}
 
 -- the abbreviation of an entry with a name and a directory, both in .debug_str
 abbrev pub paths_abbrevs : List ℕ
@@ -258,13 +259,17 @@ unfolding spelled e_type e_phnum e_phoff e_phentsize e_shoff e_shentsize e_shnum
     nth_segment segment_at sections_of with_bodies placed new_head shdr_bytes before_table with_table laid_out with_number
 one_unit-written = refl
 
+one_unit-kind : is_loaded_kind one_unit ≡ true
+unfolding spelled e_type order_of
+one_unit-kind = refl
+
 pub one_unit-output : IsOutput worked_map one_unit one_unit_out
 unfolding unit_header initial_length_at number_at spelled between after_code kind_in form_rows abbreviations_at uleb_at role_of offset_of field_of
 one_unit-output = record {
   readings = old_readings Little 8;
   reads = one_unit-reads.data_reads;
-  fits = record { inline = ((tt, (tt, (tt, (tt, tt)))), tt); slots = tt; lines = tt };
-  is = sym (output-is worked_map one_unit (old_data Little 8) (old_readings Little 8) (paths_bodies Little 8) one_unit-data one_unit-bodies ∙ one_unit-written);
+  fits = record { inline = ((tt, (tt, (tt, (tt, tt)))), tt); slots = tt; lines = tt; addends = file-addends _ one_unit _ _ one_unit-kind one_unit-reads.data_reads };
+  is = sym (output-is worked_map one_unit (old_data Little 8) (old_readings Little 8) (paths_bodies Little 8) one_unit-kind one_unit-data one_unit-bodies ∙ one_unit-written);
 }
 
 -- what both mean
@@ -367,13 +372,17 @@ unfolding spelled e_type e_phnum e_phoff e_phentsize e_shoff e_shentsize e_shnum
     nth_segment segment_at sections_of with_bodies placed new_head shdr_bytes before_table with_table laid_out with_number
 of_32_bits-written = refl
 
+of_32_bits-kind : is_loaded_kind of_32_bits ≡ true
+unfolding spelled e_type order_of
+of_32_bits-kind = refl
+
 pub of_32_bits-output : IsOutput worked_map of_32_bits of_32_bits_out
 unfolding unit_header initial_length_at number_at spelled between after_code kind_in form_rows abbreviations_at uleb_at role_of offset_of field_of
 of_32_bits-output = record {
   readings = old_readings Big 4;
   reads = of_32_bits-reads.data_reads;
-  fits = record { inline = ((tt, (tt, (tt, (tt, tt)))), tt); slots = tt; lines = tt };
-  is = sym (output-is worked_map of_32_bits (old_data Big 4) (old_readings Big 4) (paths_bodies Big 4) of_32_bits-data of_32_bits-bodies ∙ of_32_bits-written);
+  fits = record { inline = ((tt, (tt, (tt, (tt, tt)))), tt); slots = tt; lines = tt; addends = file-addends _ of_32_bits _ _ of_32_bits-kind of_32_bits-reads.data_reads };
+  is = sym (output-is worked_map of_32_bits (old_data Big 4) (old_readings Big 4) (paths_bodies Big 4) of_32_bits-kind of_32_bits-data of_32_bits-bodies ∙ of_32_bits-written);
 }
 
 -- what both mean

@@ -1,6 +1,6 @@
 -- Files that are refused, each made of the smallest one, and the row that holds of it; and which of them mean nothing. The kinds
 -- and places are those that an independent program gives.
-use Rattle.std.proofs.Common.{false, ◌≡◌, ◌≢◌, ℕ, List, [], ◌∷◌, ◌++◌, codes, take, length, slice_index, refl, sym, ap, subst, ◌∙◌}
+use Rattle.std.proofs.Common.{true, false, ◌≡◌, ◌≢◌, ℕ, List, [], ◌∷◌, ◌++◌, codes, take, length, slice_index, refl, sym, ap, subst, ◌∙◌}
 use Rattle.std.proofs.lemmas.Bool.{ltb-true, leb-true, eqb-false}
 use Rattle.std.specs.Prelude.{pos}
 use Rattle.dw_base.specs.AbbreviationBytes.{abbreviations_at}
@@ -18,7 +18,7 @@ use Rattle.dw_base.specs.EntryScans.{no_values, more_values, starts, no_code, va
 use Rattle.dw_base.specs.FileViews.{view_of, view_section, section_after, section_bytes, section_named, view_relocations}
 use Rattle.dw_base.specs.FormFails.{own, passes_end}
 use Rattle.dw_base.specs.Forms.{text_offset, in_str, form_in_front, supplementary as of_other_file, unlisted, kind_in, form_rows}
-use Rattle.dw_base.specs.Layout.{part_of, is_fixed, fixed_end, padding}
+use Rattle.dw_base.specs.Layout.{is_loaded_kind, part_of, is_fixed, fixed_end, padding}
 use Rattle.dw_base.specs.LayoutFails.{section as section_row, changed as changed_row, across, in_header}
 use Rattle.dw_base.specs.Lebs.{uleb_at, initial_length_at}
 use Rattle.dw_base.specs.Numbers.{spelled, number_at}
@@ -30,7 +30,7 @@ use Rattle.dw_base.specs.UnitHeaders.{UnitSection, unit_header, in_info, no_unit
 use Rattle.dw_base.specs.UnitStates.{after_code, between}
 use Rattle.dw_base.specs.Values.{value_of, value_at}
 use Rattle.dw_base.specs.ViewData.{Meaning, debug_data, located, macro_sections, unit_sections}
-use Rattle.dw_base.specs.declared.fault.Kind.TheVariants.{Header, Range, Fixed, FileType, Unbuilt, Supplementary, UnknownDebug, Twice, Compressed, Unit as UnitKind, Entry, StringOffset}
+use Rattle.dw_base.specs.declared.fault.Kind.TheVariants.{Header, Range, Fixed, FileType, Supplementary, UnknownDebug, Twice, Compressed, Unit as UnitKind, Entry, StringOffset}
 use Rattle.dw_base.specs.declared.fault.Refusal.{Refusal}
 use Rattle.dw_base.specs.declared.shared.Order.{Order}
 use Rattle.dw_base.specs.declared.shared.Order.TheVariants.{Little, Big}
@@ -42,8 +42,9 @@ use Rattle.dw_base.specs.declared.values.ValueClass.TheVariants.{StrOffset}
 use Rattle.dw_meaning.specs.DataFails.{DataFails, unit as unit_row, entries as entries_row, TextFails, no_text}
 use Rattle.dw_meaning.specs.DataOutput.{Body, body_in, new_bodies}
 use Rattle.dw_meaning.specs.EditRows.{EditFails, file, output}
-use Rattle.dw_meaning.specs.FileFails.{elf, sections, loaded, units, texts, unbuilt, relocatable}
-use Rattle.dw_meaning.specs.FileMeanings.{FileReads, Means, file_data, new_body}
+use Rattle.dw_meaning.specs.FileFails.{elf, sections, loaded, units, texts}
+use Rattle.dw_meaning.specs.FileMeanings.{FileReads, Means, file_body, file_data, new_body}
+use Rattle.dw_meaning.proofs.RelocatedBodyLaws.{file_body-loaded}
 use Rattle.dw_base.proofs.DebugSectionFailsLaws.{debug_sections_exclude}
 use Rattle.dw_meaning.proofs.DataRowLaws.{data-excludes}
 use Rattle.dw_meaning.proofs.ValueRowLaws.{texts-exclude}
@@ -72,20 +73,18 @@ cut_short-refused = (
   file (elf (debug (table (header_reads-sound _ (passes-true (ident_rules (take 487 one_unit)) refl)) (table_past (eqb-false _ _ refl) (ltb-true _ _ refl))))),
 )
 
--- the type is none of a file that is loaded: 4, and that of a relocatable file
+-- the type is none of a file that is loaded
 pub type-fails : DebugSectionsFail (changed 16 (4 ∷ []) one_unit) (at FileType 0 16)
 unfolding spelled e_type e_phnum e_phoff e_phentsize e_shoff e_shentsize e_shnum e_shstrndx class_of order_of nth_section section_at section_count
     name_index name_table section_name contents_of contents_at text_in ends_in debug_section is_listed elf_test names_test segments_of
     nth_segment segment_at sections_of part_of is_fixed fixed_end padding
 type-fails = file_type (eqb-false _ _ refl) refl
 
-pub type-refused :
-    EditFails worked_map (changed 16 (4 ∷ []) one_unit) (at FileType 0 16)
-    × EditFails worked_map (changed 16 (1 ∷ []) one_unit) (at Unbuilt 0 0)
+pub type-refused : EditFails worked_map (changed 16 (4 ∷ []) one_unit) (at FileType 0 16)
 unfolding spelled e_type e_phnum e_phoff e_phentsize e_shoff e_shentsize e_shnum e_shstrndx class_of order_of nth_section section_at section_count
     name_index name_table section_name contents_of contents_at text_in ends_in debug_section is_listed elf_test names_test segments_of
     nth_segment segment_at sections_of part_of is_fixed fixed_end padding
-type-refused = (file (sections (elf-sound _ refl) type-fails), file (unbuilt (relocatable (elf-sound _ refl).debug.header refl)))
+type-refused = file (sections (elf-sound _ refl) type-fails)
 
 -- a section that is read is loaded
 pub loaded-refused : EditFails worked_map (changed 240 (2 ∷ []) one_unit) (at Fixed 1 0)
@@ -346,10 +345,15 @@ unfolding spelled e_type e_phnum e_phoff e_phentsize e_shoff e_shentsize e_shnum
     nth_segment segment_at sections_of part_of is_fixed fixed_end padding
 all_stays-reads = file-reads all_stays (old_data Little 8) (old_readings Little 8) all_stays-data refl refl refl one-old_reads
 
-all_stays-body : (i : ℕ) → new_body worked_map all_stays (old_readings Little 8) i ≡ body_in (paths_bodies Little 8) (contents_of all_stays) i
+all_stays-kind : is_loaded_kind all_stays ≡ true
+unfolding spelled e_type order_of
+all_stays-kind = refl
+
+all_stays-body : (i : ℕ) → file_body worked_map all_stays (old_readings Little 8) i ≡ body_in (paths_bodies Little 8) (contents_of all_stays) i
 unfolding new_body
 all_stays-body i =
-    ap (λ (d : DebugData). body_in (new_bodies worked_map d (old_readings Little 8)) (contents_of all_stays) i) all_stays-data
+    file_body-loaded worked_map all_stays (old_readings Little 8) i all_stays-kind
+    ∙ ap (λ (d : DebugData). body_in (new_bodies worked_map d (old_readings Little 8)) (contents_of all_stays) i) all_stays-data
     ∙ ap (λ (xs : List Body). body_in xs (contents_of all_stays) i) one_unit-bodies
 
 pub output-refused : EditFails worked_map all_stays (at Fixed 1 0) × EditFails worked_map all_stays (at Fixed 3 0)

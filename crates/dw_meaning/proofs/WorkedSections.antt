@@ -2,7 +2,7 @@
 -- loaded; and a shared object with a segment. Each can be read; its output is this one; the output means what the file means,
 -- mapped. The outputs are those that an independent program gives.
 use Rattle.dw_meaning.proofs.PlainUnits.{no_section, units_alone, none-offsets, none-names}
-use Rattle.std.proofs.Common.{ℕ, suc, ◌≡◌, List, [], ◌∷◌, ◌++◌, replicate, codes, refl, sym, ◌∙◌}
+use Rattle.std.proofs.Common.{true, ℕ, suc, ◌≡◌, List, [], ◌∷◌, ◌++◌, replicate, codes, refl, sym, ◌∙◌}
 use Rattle.dw_base.specs.AbbreviationBytes.{abbreviations_at}
 use Rattle.dw_base.specs.Cells.{plain_cells, field_of, offset_of}
 use Rattle.dw_base.specs.DebugData.{DebugData}
@@ -13,7 +13,7 @@ use Rattle.dw_base.specs.FileViews.{view_of, view_section, section_after, sectio
 use Rattle.dw_base.specs.Forests.{AttributeMeaning, no_entries, entry}
 use Rattle.dw_base.specs.Forms.{kind_in, form_rows}
 use Rattle.dw_base.specs.InlinePaths.{mapped_inline}
-use Rattle.dw_base.specs.Layout.{part_of, is_fixed, fixed_end, padding, with_bodies, placed, new_head, shdr_bytes, before_table, with_table, laid_out}
+use Rattle.dw_base.specs.Layout.{is_loaded_kind, part_of, is_fixed, fixed_end, padding, with_bodies, placed, new_head, shdr_bytes, before_table, with_table, laid_out}
 use Rattle.dw_base.specs.Lebs.{uleb_at, initial_length_at}
 use Rattle.dw_base.specs.Notes.{build_id_of, descriptor_at, id_in, is_id_note, is_id_section}
 use Rattle.dw_base.specs.Numbers.{spelled, number_at, with_number}
@@ -36,6 +36,7 @@ use Rattle.dw_meaning.proofs.WorkedNotes.{gnu, note, untyped, with_id, with_id_o
 use Rattle.dw_meaning.proofs.WorkedParts.{all_bytes, changed, numbers, section_header, unit, worked_map}
 use Rattle.dw_base.specs.RelocationSectionFails.{relocates_read}
 use Rattle.dw_base.specs.SectionRelocations.{relocates, relocation_section, relocations_of}
+use Rattle.dw_meaning.proofs.PlainFileLaws.{file-addends}
 
 -- debug data like those of the smallest file, with .debug_info in the section of a number, its abbreviations in the next, and
 -- its texts in the one after that: the offsets of the name and of the directory, and the texts
@@ -130,13 +131,17 @@ unfolding spelled e_type e_phnum e_phoff e_phentsize e_shoff e_shentsize e_shnum
     nth_segment segment_at sections_of with_bodies placed new_head shdr_bytes before_table with_table laid_out with_number
 with_id-written = refl
 
+with_id-kind : is_loaded_kind with_id ≡ true
+unfolding spelled e_type order_of
+with_id-kind = refl
+
 pub with_id-output : IsOutput worked_map with_id with_id_out
 unfolding unit_header initial_length_at number_at spelled between after_code kind_in form_rows abbreviations_at uleb_at role_of offset_of field_of
 with_id-output = record {
   readings = (readings_in 2 0 13 path_texts);
   reads = with_id-reads.data_reads;
-  fits = record { inline = ((tt, (tt, (tt, (tt, tt)))), tt); slots = tt; lines = tt };
-  is = sym (output-is worked_map with_id (data_in 2 0 13 path_texts) (readings_in 2 0 13 path_texts) (bodies_in 2) with_id-data.0 with_id-bodies ∙ with_id-written);
+  fits = record { inline = ((tt, (tt, (tt, (tt, tt)))), tt); slots = tt; lines = tt; addends = file-addends _ with_id _ _ with_id-kind with_id-reads.data_reads };
+  is = sym (output-is worked_map with_id (data_in 2 0 13 path_texts) (readings_in 2 0 13 path_texts) (bodies_in 2) with_id-kind with_id-data.0 with_id-bodies ∙ with_id-written);
 }
 
 pub with_id-units : (units_of (data_in 2 0 13 path_texts) (readings_in 2 0 13 path_texts) ≡ units_in 2 paths) × (units_of (data_in 2 22 43 all_texts) (readings_in 2 22 43 all_texts) ≡ units_in 2 mapped_paths)
@@ -300,13 +305,17 @@ unfolding spelled e_type e_phnum e_phoff e_phentsize e_shoff e_shentsize e_shnum
     nth_segment segment_at sections_of with_bodies placed new_head shdr_bytes before_table with_table laid_out with_number
 with_a_segment-written = refl
 
+with_a_segment-kind : is_loaded_kind with_a_segment ≡ true
+unfolding spelled e_type order_of
+with_a_segment-kind = refl
+
 pub with_a_segment-output : IsOutput worked_map with_a_segment with_a_segment_out
 unfolding unit_header initial_length_at number_at spelled between after_code kind_in form_rows abbreviations_at uleb_at role_of offset_of field_of
 with_a_segment-output = record {
   readings = (readings_in 3 0 13 path_texts);
   reads = with_a_segment-reads.data_reads;
-  fits = record { inline = ((tt, (tt, (tt, (tt, tt)))), tt); slots = tt; lines = tt };
-  is = sym (output-is worked_map with_a_segment (data_in 3 0 13 path_texts) (readings_in 3 0 13 path_texts) (bodies_in 3) with_a_segment-data.0 with_a_segment-bodies ∙ with_a_segment-written);
+  fits = record { inline = ((tt, (tt, (tt, (tt, tt)))), tt); slots = tt; lines = tt; addends = file-addends _ with_a_segment _ _ with_a_segment-kind with_a_segment-reads.data_reads };
+  is = sym (output-is worked_map with_a_segment (data_in 3 0 13 path_texts) (readings_in 3 0 13 path_texts) (bodies_in 3) with_a_segment-kind with_a_segment-data.0 with_a_segment-bodies ∙ with_a_segment-written);
 }
 
 pub with_a_segment-units : (units_of (data_in 3 0 13 path_texts) (readings_in 3 0 13 path_texts) ≡ units_in 3 paths) × (units_of (data_in 3 22 43 all_texts) (readings_in 3 22 43 all_texts) ≡ units_in 3 mapped_paths)

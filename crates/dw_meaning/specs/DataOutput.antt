@@ -10,6 +10,7 @@ use Rattle.dw_base.specs.LineReadings.{LineReading, AreTables, all_lines, table_
 use Rattle.dw_base.specs.LineWriteFails.{CanWrite}
 use Rattle.dw_base.specs.MacroReadings.{MacroReading, ReadsAllMacros, EachMacro}
 use Rattle.dw_base.specs.NamePieces.{NameState, ReadsNames}
+use Rattle.dw_meaning.specs.NewAddends.{AddendsFit}
 use Rattle.dw_base.specs.OffsetPieces.{OffsetState, ReadsOffsets}
 use Rattle.dw_base.specs.Paths.{PathMap}
 use Rattle.dw_base.specs.Pieces.{Piece, EachPiece, joined}
@@ -64,11 +65,12 @@ pub record PathsFit (m : PathMap) (d : DebugData) (r : DataReadings) : Type 0 wh
   pub inline : EachReading (InlineFits m) r.units
   pub slots : EachPiece (SlotFits m (around_of d r)) r.offsets
 
--- and so can all: each line table can be written too
+-- and so can all: each line table can be written too, and the addends of relocations make the new offsets
 pub record DataFits (m : PathMap) (d : DebugData) (r : DataReadings) : Type 0 where
   pub inline : EachReading (InlineFits m) r.units
   pub slots : EachPiece (SlotFits m (around_of d r)) r.offsets
   pub lines : EachWritable m (changes_of m (around_of d r) r) (around_of d r) r.lines
+  pub addends : AddendsFit (changes_of m (around_of d r) r) d (around_of d r) r
 
 -- a section and its new bytes
 pub record Body : Type 0 where

@@ -6,8 +6,10 @@ use Rattle.dw_base.specs.DebugData.{DataReadings, around_of, line_source}
 use Rattle.dw_base.specs.IndexFails.{SharedFails}
 use Rattle.dw_base.specs.Elf.{section_count}
 use Rattle.dw_base.specs.ElfFails.{ElfReads}
-use Rattle.dw_meaning.specs.FileFails.{ReadIsLoaded, UnbuiltFile, FileFails}
-use Rattle.dw_meaning.specs.FileMeanings.{file_data, FileReads, new_body}
+use Rattle.dw_meaning.specs.FileFails.{ReadIsLoaded, FileFails}
+use Rattle.dw_meaning.specs.FileMeanings.{file_data, file_body, FileReads}
+use Rattle.dw_meaning.specs.NewAddends.{AddendsFail}
+use Rattle.dw_meaning.specs.RelocationFails.{RelocationsAreLoaded}
 use Rattle.dw_base.specs.LayoutFails.{LayoutFails, LayoutFits}
 use Rattle.dw_base.specs.LineChanges.{line_place}
 use Rattle.dw_base.specs.LineReadings.{LineReading, table_read}
@@ -16,7 +18,7 @@ use Rattle.dw_base.specs.Paths.{PathMap}
 use Rattle.dw_base.specs.declared.fault.Refusal.{Refusal}
 
 -- every row: those of the file; a path that stands in its value would grow; a slot is named by a path whose text changes and by a
--- value that isn't a path; a line table can't be written with its paths mapped; and the output can be too long, or a section lie
+-- value that isn't a path; a line table can't be written with its paths mapped; the addend of a relocation doesn't make a new offset; and the output can be too long, or a section lie
 -- across the end of the part that stays, begin in the file header, or stay and have to change
 pub data EditFails (m : PathMap) (b : List ℕ) : Refusal → Type 0 where
   file : {r : Refusal} → FileFails b r → EditFails m b r
@@ -26,15 +28,18 @@ pub data EditFails (m : PathMap) (b : List ℕ) : Refusal → Type 0 where
   line_table : (readings : DataReadings) (before behind : List LineReading) (t : LineReading) {r : Refusal} → FileReads b readings → readings.lines ≡ before ++ t ∷ behind
       → WriteFails (line_source (file_data b)) m (line_place m (changes_of m (around_of (file_data b) readings) readings).str
       (changes_of m (around_of (file_data b) readings) readings).line_str (line_source (file_data b))) (table_read (line_source (file_data b)) t) r → EditFails m b r
+  addends : (readings : DataReadings) {r : Refusal} → FileReads b readings → PathsFit m (file_data b) readings
+      → AddendsFail (changes_of m (around_of (file_data b) readings) readings) (file_data b) (around_of (file_data b) readings) readings r → EditFails m b r
   output : (readings : DataReadings) {r : Refusal} → FileReads b readings → PathsFit m (file_data b) readings
-      → LayoutFails b (new_body m b readings) r → EditFails m b r
+      → LayoutFails b (file_body m b readings) r → EditFails m b r
 
--- the file is taken: it can be read, its paths fit the rooms in which they stand, its slots are fit to be mapped and its line tables can be written, no section that is read is loaded, it is of
--- a shape that is taken, and its output can be written
+-- the file is taken: it can be read, its paths fit the rooms in which they stand, its slots are fit to be mapped, its line tables can be written
+-- and addends make the new offsets; no section that is read is loaded, nor one that holds relocations of such a section; and its output can be
+-- written
 pub record IsAccepted (m : PathMap) (b : List ℕ) : Type 0 where
   pub readings : DataReadings
   pub reads : FileReads b readings
   pub fits : DataFits m (file_data b) readings
   pub unloaded : (i : ℕ) → i < section_count b → ReadIsLoaded b i → ⊥
-  pub built : UnbuiltFile b → ⊥
-  pub written : LayoutFits b (new_body m b readings)
+  pub relocations_unloaded : (i : ℕ) → i < section_count b → RelocationsAreLoaded b i → ⊥
+  pub written : LayoutFits b (file_body m b readings)

@@ -1,12 +1,12 @@
--- Why a file isn't edited, whatever the map: its records, its sections, and its debug data; and shapes of files that this
--- version of the program doesn't take. Each row names a condition that holds, and its place.
+-- Why a file isn't edited, whatever the map: its records, its sections, and its debug data. Each row names a condition that holds, and its
+-- place.
 use Rattle.std.specs.Prelude.{true, false, ◌≡◌, ℕ, ◌<◌, List, ◌∷◌, ◌++◌, IsTrue}
 use Rattle.dw_meaning.specs.DataFails.{DataFails, TextFails, SlotTextFails, LinesFail, StartsFail}
 use Rattle.dw_base.specs.Cells.{CellSection}
 use Rattle.dw_base.specs.DebugSectionFails.{DebugSectionsFail}
 use Rattle.dw_base.specs.DebugSections.{debug_section}
-use Rattle.dw_base.specs.Elf.{e_type, nth_section, section_count, section_name, is_empty_kind}
-use Rattle.dw_base.specs.ElfFails.{HeaderReads, ElfFails, ElfReads}
+use Rattle.dw_base.specs.Elf.{nth_section, section_count, section_name, is_empty_kind}
+use Rattle.dw_base.specs.ElfFails.{ElfFails, ElfReads}
 use Rattle.dw_meaning.specs.FileMeanings.{file_data}
 use Rattle.dw_meaning.specs.RelocationFails.{RelocationsAreLoaded, RelocationsFail}
 use Rattle.dw_base.specs.FileViews.{view_of}
@@ -16,19 +16,14 @@ use Rattle.dw_base.specs.NameTableFails.{NameTablesFail}
 use Rattle.dw_base.specs.Refusals.{at}
 use Rattle.dw_base.specs.StringOffsetFails.{ContributionsFail}
 use Rattle.dw_base.specs.ViewData.{is_read, string_offsets}
-use Rattle.dw_base.specs.declared.fault.Kind.TheVariants.{Fixed, Unbuilt}
+use Rattle.dw_base.specs.declared.fault.Kind.TheVariants.{Fixed}
 use Rattle.dw_base.specs.declared.fault.Refusal.{Refusal}
-use Rattle.dw_base.specs.declared.elf_numbers.TheConstants.{ET_REL}
 
 -- a section that is read, of a number, is ALLOC and has bytes (gABI ch. 4 "Sections", `sh_flags`)
 pub record ReadIsLoaded (b : List ℕ) (i : ℕ) : Type 0 where
   pub read : IsTrue (is_read (debug_section (section_name b i)))
   pub bytes : is_empty_kind (nth_section b i) ≡ false
   pub alloc : is_alloc (nth_section b i) ≡ true
-
--- a shape of files that isn't taken yet
-pub data UnbuiltFile (b : List ℕ) : Type 0 where
-  relocatable : HeaderReads b → e_type b ≡ ET_REL → UnbuiltFile b
 
 -- every row that doesn't ask for the map
 pub data FileFails (b : List ℕ) : Refusal → Type 0 where
@@ -46,4 +41,3 @@ pub data FileFails (b : List ℕ) : Refusal → Type 0 where
   name_tables : {r : Refusal} → ElfReads b → NameTablesFail (view_of b) r → FileFails b r
   relocations : {r : Refusal} → ElfReads b → RelocationsFail b r → FileFails b r
   loaded_relocations : (i : ℕ) → ElfReads b → i < section_count b → RelocationsAreLoaded b i → FileFails b (at Fixed i 0)
-  unbuilt : UnbuiltFile b → FileFails b (at Unbuilt 0 0)

@@ -1,25 +1,28 @@
 -- What a file means, its output, and that an output means what the file meant, mapped.
-use Rattle.std.specs.Prelude.{true, ◌≡◌, ℕ, List}
+use Rattle.std.specs.Prelude.{◌≡◌, ℕ, if◌then◌else◌, List}
 use Rattle.dw_meaning.specs.DataOutput.{DataReads, DataFits, body_in, new_bodies}
 use Rattle.dw_base.specs.DebugData.{DebugData, DataReadings}
 use Rattle.dw_base.specs.DebugSectionFails.{DebugSectionsRead}
 use Rattle.dw_base.specs.Elf.{contents_of}
 use Rattle.dw_base.specs.ElfFails.{ElfReads}
 use Rattle.dw_base.specs.FileViews.{view_of}
-use Rattle.dw_base.specs.Layout.{is_loaded_kind, with_bodies}
+use Rattle.dw_base.specs.Layout.{with_bodies}
 use Rattle.dw_base.specs.Paths.{PathMap}
+use Rattle.dw_base.specs.RelocationSectionFails.{relocates_read}
 use Rattle.dw_base.specs.ViewData.{debug_data, Meaning, meaning_of, mapped}
+use Rattle.dw_meaning.specs.RelocatedBodies.{new_cells, relocated_body}
+use Rattle.dw_meaning.specs.RelocationFails.{RelocationsRead}
 
 -- the debug data of a file
 abbrev pub file_data : List ℕ → DebugData
 file_data b = debug_data (view_of b)
 
--- a file can be read: its records, its type (a relocatable file's relocations aren't in its view yet), the names of its
--- sections, and its debug data, which are these pieces
+-- a file can be read: its records, its type and the names of its sections, the relocations of those that are read, and its debug data, which
+-- are these pieces
 pub record FileReads (b : List ℕ) (r : DataReadings) : Type 0 where
   pub elf : ElfReads b
-  pub kind : is_loaded_kind b ≡ true
   pub names : DebugSectionsRead b
+  pub relocations : RelocationsRead b
   pub data_reads : DataReads (file_data b) r
 
 -- it can be read, and means this
@@ -28,15 +31,20 @@ pub record Means (b : List ℕ) (x : Meaning) : Type 0 where
   pub reads : FileReads b readings
   pub says : meaning_of (view_of b) readings ≡ x
 
--- the body of the section of a number in the output
+-- the body of the section of a number in the output, where it holds no relocations of one that is read
 unfoldable pub new_body : PathMap → List ℕ → DataReadings → ℕ → List ℕ
 new_body m b r i = body_in (new_bodies m (file_data b) r) (contents_of b) i
 
+-- that of any section
+unfoldable pub file_body : PathMap → List ℕ → DataReadings → ℕ → List ℕ
+file_body m b r k = if relocates_read b k then relocated_body b (new_cells m (file_data b) r) k else new_body m b r k
+
 -- the output file, for these readings
 unfoldable pub output_of : PathMap → List ℕ → DataReadings → List ℕ
-output_of m b r = with_bodies b (new_body m b r)
+output_of m b r = with_bodies b (file_body m b r)
 
--- this is the output file: its paths fit the rooms in which they stand, and its slots are fit to be mapped
+-- this is the output file: its paths fit the rooms in which they stand, its slots are fit to be mapped, its line tables can be written, and
+-- addends make the new offsets
 pub record IsOutput (m : PathMap) (b out : List ℕ) : Type 0 where
   pub readings : DataReadings
   pub reads : DataReads (file_data b) readings

@@ -10,3 +10,4 @@ pub mod RelocationFails
 pub mod LineCells
 pub mod RelocatedBodies
 pub mod LineStretches
+pub mod NewAddends

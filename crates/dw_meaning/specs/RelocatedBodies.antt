@@ -10,11 +10,9 @@ use Rattle.dw_base.specs.Paths.{PathMap}
 use Rattle.dw_base.specs.Pieces.{joined}
 use Rattle.dw_base.specs.Readings.{Readings}
 use Rattle.dw_base.specs.RelocationBodies.{relocation_body}
-use Rattle.dw_base.specs.RelocationSectionFails.{relocates_read}
 use Rattle.dw_base.specs.SectionRelocations.{relocation_source, section_cells}
 use Rattle.dw_base.specs.TextChanges.{TableChanges, edited_all}
 use Rattle.dw_meaning.specs.DataOutput.{changes_of, macros_after, names_after, offsets_after}
-use Rattle.dw_meaning.specs.FileMeanings.{file_data, new_body}
 use Rattle.dw_meaning.specs.LineCells.{all_written_cells}
 
 -- a section and its new contents
@@ -62,7 +60,3 @@ new_contents b bodies i = cells_of_number bodies (old_contents b i) i
 unfoldable pub relocated_body : List ℕ → List CellBody → ℕ → List ℕ
 relocated_body b bodies k =
     relocation_body (relocation_source (contents_of b) b k) (old_contents b (nth_section b k).info) (new_contents b bodies (nth_section b k).info)
-
--- the body of the section of a number in the output, relocatable or not
-unfoldable pub file_body : PathMap → List ℕ → DataReadings → ℕ → List ℕ
-file_body m b r k = if relocates_read b k then relocated_body b (new_cells m (file_data b) r) k else new_body m b r k

@@ -34,7 +34,6 @@ use Rattle.dw_base.specs.declared.shared.Params.{Params}
 use Rattle.dw_base.specs.declared.units.UnitHeader.{UnitHeader}
 use Rattle.dw_base.specs.declared.values.Spec.{Spec}
 use Rattle.dw_base.specs.declared.values.Value.{Value}
-use Rattle.dw_meaning.specs.FileMeanings.{file_data}
 
 -- the kind of a value whose form may stand in front of it, at a place
 abbrev pub behind_front : ValueKind → Params → List ℕ → ℕ → ValueKind
@@ -112,16 +111,16 @@ pub data OffsetsFailIn (v : View) : Refusal → Type 0 where
 -- that are left
 pub data RelocationsFail (b : List ℕ) : Refusal → Type 0 where
   sections : {r : Refusal} → RelocationSectionsFail (contents_of b) b r → RelocationsFail b r
-  headers : (before behind : List UnitSection) (z : UnitSection) {r : Refusal} → (file_data b).units ≡ before ++ z ∷ behind
-      → HeaderOffsetFails (file_data b).base z r → RelocationsFail b r
-  values : {r : Refusal} → ValueRelocationFails (file_data b) r → RelocationsFail b r
+  headers : (before behind : List UnitSection) (z : UnitSection) {r : Refusal} → (debug_data (view_of b)).units ≡ before ++ z ∷ behind
+      → HeaderOffsetFails (debug_data (view_of b)).base z r → RelocationsFail b r
+  values : {r : Refusal} → ValueRelocationFails (debug_data (view_of b)) r → RelocationsFail b r
   offsets : {r : Refusal} → OffsetsFailIn (view_of b) r → RelocationsFail b r
-  left : {r : Refusal} → LeftRelocationsFail (file_data b) (moving_sections (view_of b)) r → RelocationsFail b r
+  left : {r : Refusal} → LeftRelocationsFail (debug_data (view_of b)) (moving_sections (view_of b)) r → RelocationsFail b r
 
 -- and what holds where there is none, of a file whose debug data can be read: no offset of its name tables and macro units is refused then
 pub record RelocationsRead (b : List ℕ) : Type 0 where
   pub sections : RelocationSectionsRead (contents_of b) b
-  pub on_data : RelocationsReadIn (file_data b) (moving_sections (view_of b))
+  pub on_data : RelocationsReadIn (debug_data (view_of b)) (moving_sections (view_of b))
 
 -- a section of a number holds relocations of one that is read and has bytes, and is ALLOC (gABI ch. 4 "Sections", `sh_flags`)
 pub record RelocationsAreLoaded (b : List ℕ) (i : ℕ) : Type 0 where

@@ -6,9 +6,10 @@ use Rattle.dw_base.specs.RelocationBodies.{record_after, record_moved, records_a
 use Rattle.dw_base.specs.RelocChanges.{with_reloc}
 use Rattle.dw_base.specs.SectionRelocations.{RelocationSource, is_none_type, records_in}
 use Rattle.dw_base.proofs.RelocationBodyLaws.{CanMove, new_addend, new_place}
-use Rattle.dw_patch.specs.RecordMoves.{PlacesFit, addend_after, moved_table, nth_record, place_by, record_put, record_step, records_moved}
+use Rattle.dw_patch.specs.RecordMoves.{PlacesFit, addend_after, moved_table, nth_record, record_put, record_step, records_moved}
+use Rattle.elf_relocs.specs.Runs.{place_by}
 use Rattle.dw_patch.specs.declared.patches.Patch.{Patch}
-use Rattle.dw_patch.specs.declared.runs.Run.{Run}
+use Rattle.elf_relocs.specs.declared.runs.Run.{Run}
 
 -- each relocation comes to stand where its run says, with the addend that makes the offset of its field
 pub record Says (g : RelocationSource) (old new : List Cell) (runs : List Run) (fields : List Patch) : Type 0 where

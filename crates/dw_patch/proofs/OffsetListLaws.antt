@@ -10,9 +10,10 @@ use Rattle.std.proofs.lemmas.List.Sorted.{Contains-permutation, IsPermutation-sy
 use Rattle.dw_base.specs.RelocChanges.{with_reloc}
 use Rattle.dw_base.specs.SectionRelocations.{RelocationSource, is_none_type, records_in}
 use Rattle.dw_patch.specs.OffsetLists.{OffsetsFit, count_at}
-use Rattle.dw_patch.specs.RecordMoves.{AllSized, FieldsRise, addend_if, field_start, moved_table, no_field, nth_record, patch_for, place_by, record_put, record_step, records_moved}
+use Rattle.dw_patch.specs.RecordMoves.{AllSized, FieldsRise, addend_if, field_start, moved_table, no_field, nth_record, patch_for, record_put, record_step, records_moved}
+use Rattle.elf_relocs.specs.Runs.{place_by}
 use Rattle.dw_patch.specs.declared.patches.Patch.{Patch}
-use Rattle.dw_patch.specs.declared.runs.Run.{Run}
+use Rattle.elf_relocs.specs.declared.runs.Run.{Run}
 
 -- none
 pub fit-none : (list : List Patch) → list ≡ [] → OffsetsFit list

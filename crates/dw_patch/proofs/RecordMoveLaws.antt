@@ -16,9 +16,10 @@ use Rattle.dw_base.proofs.NumberLaws.{spelled-lt}
 use Rattle.dw_base.proofs.RelocLaws.{length-with_reloc}
 use Rattle.dw_base.proofs.RelocationTieLaws.{count-has, get_or-records, length-records, record-some, record-there}
 use Rattle.elf_relocs.specs.FieldOffsets.{offset_addend}
-use Rattle.dw_patch.specs.RecordMoves.{AllSized, FieldsRise, RunsRise, HasKey, IsGap, PlacesFit, addend_after, addend_if, field_start, moved_table, no_field, nth_record, patch_for, place_by, record_put, record_step, records_moved}
+use Rattle.dw_patch.specs.RecordMoves.{AllSized, FieldsRise, HasKey, IsGap, PlacesFit, addend_after, addend_if, field_start, moved_table, no_field, nth_record, patch_for, record_put, record_step, records_moved}
+use Rattle.elf_relocs.specs.Runs.{RunsRise, place_by}
 use Rattle.dw_patch.specs.declared.patches.Patch.{Patch}
-use Rattle.dw_patch.specs.declared.runs.Run.{Run}
+use Rattle.elf_relocs.specs.declared.runs.Run.{Run}
 
 -- the table so far
 pub moved-none : (g : RelocationSource) (runs : List Run) (fields : List Patch) (out : List ℕ) → out ≡ g.table → out ≡ records_moved g runs fields 0

@@ -8,8 +8,9 @@ use Rattle.std.proofs.lemmas.Bool.Decides.{nat_tests}
 use Rattle.std.proofs.lemmas.Cmp.{ranked}
 use Rattle.std.proofs.lemmas.List.Sorted.{IsNonDecreasingBy-from_default}
 use Rattle.std.proofs.lemmas.List.{get_or_default}
-use Rattle.dw_patch.specs.RecordMoves.{HasKey, IsGap, RunsRise, SplitsRuns, no_run, place_by, place_from, run_start}
-use Rattle.dw_patch.specs.declared.runs.Run.{Run}
+use Rattle.dw_patch.specs.RecordMoves.{HasKey, IsGap, SplitsRuns}
+use Rattle.elf_relocs.specs.Runs.{RunsRise, no_run, place_by, place_from, run_start}
+use Rattle.elf_relocs.specs.declared.runs.Run.{Run}
 
 -- one search
 comparisons-rise : {E : Type 0} (key : E → ℕ) (none : E) (list : List E) (place : ℕ)

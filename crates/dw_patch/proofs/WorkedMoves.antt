@@ -10,7 +10,7 @@ use Rattle.dw_base.specs.Symbols.{symbol_at}
 use Rattle.dw_base.proofs.WorkedRelocations.{record_of, rel_object, rel_records, rela_object, source_of}
 use Rattle.dw_patch.specs.RecordMoves.{moved_table}
 use Rattle.dw_patch.specs.declared.patches.Patch.{Patch}
-use Rattle.dw_patch.specs.declared.runs.Run.{Run}
+use Rattle.elf_relocs.specs.declared.runs.Run.{Run}
 
 abbrev field : ℕ → ℕ → Patch
 field at value = record { at = at; size = 4; value = value }

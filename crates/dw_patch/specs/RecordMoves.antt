@@ -1,6 +1,6 @@
 -- The records of a section's relocations when its bytes move, and some of its fields say other offsets (gABI ch. 4 "Relocation"): each moves with
 -- the byte at which its relocation begins, and has the addend that makes the offset of its field.
-use Rattle.std.specs.Prelude.{◌≡◌, ◌⊎◌, ℕ, ℤ, zero, suc, ◌+◌, ◌-◌, ◌*◌, ◌^◌, ◌<◌, ◌≤◌, ◌==◌, false, nat_le, if◌then◌else◌, List, [], ◌∷◌, length, slice_index_or, Option, Some, None}
+use Rattle.std.specs.Prelude.{◌≡◌, ◌⊎◌, ℕ, ℤ, zero, suc, ◌*◌, ◌^◌, ◌<◌, ◌≤◌, ◌==◌, false, if◌then◌else◌, List, [], ◌∷◌, length, slice_index_or, Option, Some, None}
 use Rattle.dw_base.specs.Elf.{word_size}
 use Rattle.dw_base.specs.RelocChanges.{with_reloc}
 use Rattle.dw_base.specs.Relocs.{reloc_in, reloc_size}
@@ -8,25 +8,17 @@ use Rattle.dw_base.specs.SectionRelocations.{RelocationSource, is_none_type, rec
 use Rattle.dw_base.specs.declared.relocations.Reloc.{Reloc}
 use Rattle.elf_relocs.specs.FieldOffsets.{offset_addend}
 use Rattle.dw_patch.specs.declared.patches.Patch.{Patch}
-use Rattle.dw_patch.specs.declared.runs.Run.{Run}
+use Rattle.elf_relocs.specs.Runs.{no_run, place_by, run_start}
+use Rattle.elf_relocs.specs.declared.runs.Run.{Run}
 
--- where a run begins, and where a field does
-abbrev pub run_start : Run → ℕ
-run_start r = r.old
-
+-- where a field begins
 abbrev pub field_start : Patch → ℕ
 field_start f = f.at
-
-abbrev pub no_run : Run
-no_run = record { old = 0; new = 0 }
 
 abbrev pub no_field : Patch
 no_field = record { at = 0; size = 0; value = 0 }
 
--- runs stand in the order in which they begin, no two at one place, and so do fields
-pub record RunsRise (list : List Run) : Type 0 where
-  pub rise : (i j : ℕ) → i < j → j < length list → run_start (slice_index_or list i no_run) < run_start (slice_index_or list j no_run)
-
+-- fields stand in the order in which they begin, no two at one place
 pub record FieldsRise (list : List Patch) : Type 0 where
   pub rise : (i j : ℕ) → i < j → j < length list → field_start (slice_index_or list i no_field) < field_start (slice_index_or list j no_field)
 
@@ -45,14 +37,6 @@ pub record SplitsRuns (list : List Run) (place count : ℕ) : Type 0 where
   pub inside : count ≤ length list
   pub before : (k : ℕ) → k < count → run_start (slice_index_or list k no_run) ≤ place
   pub behind : (k : ℕ) → count ≤ k → k < length list → place < run_start (slice_index_or list k no_run)
-
--- where the byte at a place comes to stand: by the last run that begins there or before it; before all of them it stays
-abbrev pub place_from : ℕ → List Run → ℕ → ℕ
-place_from now [] place = now
-place_from now (r ∷ rs) place = place_from (if nat_le r.old place then r.new + (place - r.old) else now) rs place
-
-abbrev pub place_by : List Run → ℕ → ℕ
-place_by runs place = place_from place runs place
 
 -- the field that begins at a place
 abbrev pub patch_for : List Patch → ℕ → Option Patch

@@ -5,7 +5,7 @@
 //! of those fields is as before; a field is refused only where its new place doesn't fit it, and then what
 //! was set before stays. The records of a section's relocations move with its bytes, and have the addends that make the
 //! offsets of its fields (gABI ch. 4 "Relocation").
-//! It does not promise: that what is set into a field is what its relocation asks for; nothing calls it of a relocatable file yet.
+//! It does not promise: that what is set into a field is what its relocation asks for. Who sets it has that number of the view.
 //! Read first: `specs/Patching.antt`, then `specs/RecordMoves.antt`.
 //!
 //! # Example
@@ -23,8 +23,7 @@ mod records;
 mod runs;
 
 pub use dw_base::{Fault, Kind, NoMemory, Order, Refusal};
-pub use elf_relocs::RelocSource;
+pub use elf_relocs::{RelocSource, Run};
 pub use offsets::Offsets;
 pub use patches::{NewPlace, Patch, Patches};
 pub use records::move_records;
-pub use runs::Run;

@@ -7,14 +7,14 @@
 ghost use Rattle.std.specs.Prelude.{[], ◌≡◌, ◌⊎◌, ◌∷◌, ◌++◌, List, None, OnErr, OnOk};
 ghost use Rattle.std.specs.List.Sorted.{IsNonDecreasingBy, IsPermutation};
 ghost use Rattle.dw_patch.specs.OffsetLists.{OffsetsFit};
-ghost use Rattle.dw_patch.specs.RecordMoves.{PlacesFit, RunsRise, field_start, moved_table, patch_for};
+ghost use Rattle.dw_patch.specs.RecordMoves.{PlacesFit, field_start, moved_table, patch_for};
+ghost use Rattle.elf_relocs.specs.Runs.{RunsRise};
 ghost use Rattle.dw_patch.specs.declared.patches.Patch.{Patch as PatchOf};
 
 use crate::patches::Patch;
 use crate::records::move_records;
-use crate::runs::Run;
 use dw_base::NoMemory;
-use elf_relocs::RelocSource;
+use elf_relocs::{RelocSource, Run};
 use std::alloc::Global;
 use std::marker::Model;
 

@@ -1,18 +1,12 @@
-//! Where the bytes of a section come to stand: runs of bytes that stay together.
+//! Where the bytes of a section come to stand, by runs of bytes that stay together.
 //!
-//! Read first: `specs/RecordMoves.antt`.
+//! Read first: `specs/Runs.antt` of `elf_relocs`, then `specs/RecordMoves.antt`.
 
 ghost use Rattle.std.specs.Prelude.{◌≡◌, ◌+◌, ◌-◌, ◌<◌, ◌≤◌, ◌^◌, IfErr, IfOk};
-ghost use Rattle.dw_patch.specs.RecordMoves.{HasKey, IsGap, RunsRise, SplitsRuns, place_by, run_start};
+ghost use Rattle.dw_patch.specs.RecordMoves.{HasKey, IsGap, SplitsRuns};
+ghost use Rattle.elf_relocs.specs.Runs.{RunsRise, place_by, run_start};
 
-/// Bytes that stay together: from `old` on they come to stand from `new` on, in bytes from the section's start, up to the next run.
-#[derive(Clone, Copy, Debug, PartialEq, Eq, Drop)]
-pub struct Run {
-    /// Where the first of them stands.
-    pub old: u64,
-    /// Where it comes to stand.
-    pub new: u64,
-}
+use elf_relocs::Run;
 
 /// Where the byte at a place comes to stand: before the first run it stays. It is found in a time that grows with the logarithm of the
 /// number of runs.

@@ -148,11 +148,6 @@ asks_none base dest t same = by_under (lies_under base t) refl
         rw (same_text-from (dest ++ drop (length base) t) t back) refl
     by_under false h = rw (same_text-from t t refl) refl
 
--- what lies at the front of a table from a place on
-pub asks_front : (base dest table : List ℕ) (offset : ℕ) → (base ≡ dest → ⊥)
-    → lies_under base (text (drop offset table)) ≡ not (same_text (mapped_path (record { base = base; dest = dest }) (text (drop offset table))) (text (drop offset table)))
-asks_front base dest table offset differ = asks_under base dest (text (drop offset table)) differ
-
 pub ruleset ask_rules = (asks_under, asks_none)
 
 -- the base of a map has no NUL

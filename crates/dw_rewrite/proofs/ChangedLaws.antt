@@ -1,26 +1,26 @@
 -- New texts one place after another, and the new offsets of fields.
-use Rattle.std.proofs.Common.{Bool, true, false, ◌≡◌, ℕ, zero, suc, ◌+◌, ◌^◌, ◌<◌, ◌≤◌, List, [], ◌∷◌, ◌++◌, length, get_or, drop, Option, Some, None, is_some, cond, sym, ap, ◌∙◌, refl, subst, arith, inl, inr}
+use Rattle.std.proofs.Common.{Bool, true, false, ◌≡◌, ℕ, zero, suc, ◌+◌, ◌<◌, ◌≤◌, List, [], ◌∷◌, ◌++◌, length, get_or, take, drop, Option, Some, None, is_some, cond, sym, ap, ◌∙◌, refl, subst, arith, inl, inr}
 use Rattle.std.proofs.lemmas.Bool.{cases_lt}
 use Rattle.std.proofs.Math.Seq.{drop-cons}
-use Rattle.std.proofs.lemmas.List.{length-append}
-use Rattle.dw_base.specs.Layout.{output_limit}
+use Rattle.std.proofs.lemmas.List.{length-append, length-drop, length-take-le}
 use Rattle.dw_base.specs.LayoutFails.{TooLong}
 use Rattle.dw_base.specs.LayoutFails.TooLong.{long}
-use Rattle.dw_base.specs.Numbers.{with_number}
+use Rattle.dw_base.specs.Cells.{cells_at}
+use Rattle.dw_base.specs.NewOffsets.{with_offset}
 use Rattle.dw_base.specs.Paths.{PathMap}
 use Rattle.dw_base.specs.Refusals.{Blames}
 use Rattle.dw_base.specs.StringTables.{Mention, Plan, new_place, new_text, with_mention, with_text, table_bytes}
 use Rattle.dw_base.specs.Texts.{is_in, laid_texts}
-use Rattle.dw_base.specs.declared.shared.Order.{Order}
 use Rattle.dw_base.specs.declared.fault.Fault.{Fault}
 use Rattle.dw_base.specs.declared.fault.Fault.TheVariants.{NoMemory, Refused}
-use Rattle.dw_base.proofs.NumberLaws.{length-with_number}
-use Rattle.dw_base.proofs.TextLaws.{laid_texts-append, place_in-lt}
-use Rattle.std.specs.Option.{ForSome}
+use Rattle.dw_base.proofs.RelocationFieldLaws.{length-cells_at}
+use Rattle.dw_base.proofs.TextLaws.{laid_texts-append}
+use Rattle.dw_base.proofs.UnitEditLaws.{length-bytes_of}
+use Rattle.dw_meaning.proofs.FieldPutLaws.{length-put}
 use Rattle.dw_rewrite.proofs.KnownLaws.{remembers_all}
 use Rattle.dw_find.specs.declared.fields.PathField.{PathField}
-use Rattle.dw_find.specs.Fields.{OffsetTable, offset_at, ArePathFields, IsPathField}
-use Rattle.dw_rewrite.specs.Changes.{path_of, path_at, texts_at, patched, patched_at, KnownPlace, Knows, IsNoted, Remembers, AreNoted, AllFit, with_known, with_all_known}
+use Rattle.dw_find.specs.Fields.{AreOffsetFields, IsOffsetField}
+use Rattle.dw_rewrite.specs.Changes.{AreFieldsOf, AreNoted, FieldSource, IsFieldOf, IsNoted, Knows, Remembers, offset_at, offset_bytes, path_at, path_of, patched, patched_at, put_at, texts_at, with_all_known, with_known}
 
 -- one field more of a list
 pub field_front : (fields : List PathField) (d : PathField) (i : ℕ) → i < length fields → drop i fields ≡ get_or fields i d ∷ drop (i + 1) fields
@@ -45,32 +45,32 @@ length-with_mention plan m ts x = by_asks (plan.asks x)
     by_asks false = omega arith
 
 -- nor do more of them
-pub length-texts_at : (plan : Plan) (m : PathMap) (table : OffsetTable) (info : List ℕ) (ts : List (List ℕ)) (fields : List PathField)
-    → length (laid_texts ts) ≤ length (laid_texts (texts_at plan m table info ts fields))
-length-texts_at plan m table info ts [] = omega arith
-length-texts_at plan m table info ts (f ∷ fs) =
-    omega (arith, length-with_mention plan m ts (path_at table info f), length-texts_at plan m table info (with_mention plan m ts (path_at table info f)) fs)
+pub length-texts_at : (plan : Plan) (m : PathMap) (s : FieldSource) (ts : List (List ℕ)) (fields : List PathField)
+    → length (laid_texts ts) ≤ length (laid_texts (texts_at plan m s ts fields))
+length-texts_at plan m s ts [] = omega arith
+length-texts_at plan m s ts (f ∷ fs) =
+    omega (arith, length-with_mention plan m ts (path_at s f), length-texts_at plan m s (with_mention plan m ts (path_at s f)) fs)
 
 -- the texts of the fields that are left, from one on
-pub texts_step : (plan : Plan) (m : PathMap) (table : OffsetTable) (info : List ℕ) (ts : List (List ℕ)) (fields : List PathField) (i : ℕ) (f : PathField)
+pub texts_step : (plan : Plan) (m : PathMap) (s : FieldSource) (ts : List (List ℕ)) (fields : List PathField) (i : ℕ) (f : PathField)
     → i < length fields → f ≡ get_or fields i f
-    → texts_at plan m table info (with_mention plan m ts (path_at table info f)) (drop (i + 1) fields) ≡ texts_at plan m table info ts (drop i fields)
-texts_step plan m table info ts fields i f lt is =
-    sym (ap (texts_at plan m table info ts) (field_front fields f i lt ∙ ap (λ (g : PathField). g ∷ drop (i + 1) fields) (sym is)))
+    → texts_at plan m s (with_mention plan m ts (path_at s f)) (drop (i + 1) fields) ≡ texts_at plan m s ts (drop i fields)
+texts_step plan m s ts fields i f lt is =
+    sym (ap (texts_at plan m s ts) (field_front fields f i lt ∙ ap (λ (g : PathField). g ∷ drop (i + 1) fields) (sym is)))
 
 -- a table that is too long at a field is too long at the end
-pub refused_at : (plan : Plan) (m : PathMap) (table : OffsetTable) (info str : List ℕ) (ts first : List (List ℕ)) (fields : List PathField) (i : ℕ) (f : PathField) (fault : Fault)
+pub refused_at : (plan : Plan) (m : PathMap) (s : FieldSource) (str : List ℕ) (ts first : List (List ℕ)) (fields : List PathField) (i : ℕ) (f : PathField) (fault : Fault)
     → i < length fields → f ≡ get_or fields i f
-    → texts_at plan m table info ts (drop i fields) ≡ texts_at plan m table info first fields
-    → Blames (TooLong (length (table_bytes (record { kept = str; texts = with_mention plan m ts (path_at table info f) })))) fault
-    → Blames (TooLong (length (table_bytes (record { kept = str; texts = texts_at plan m table info first fields })))) fault
-refused_at plan m table info str ts first fields i f NoMemory lt is same b = tt
-refused_at plan m table info str ts first fields i f (Refused _) lt is same (long over) =
-    let next : List (List ℕ) = with_mention plan m ts (path_at table info f) in
-    let whole : texts_at plan m table info next (drop (i + 1) fields) ≡ texts_at plan m table info first fields = texts_step plan m table info ts fields i f lt is ∙ same in
-    let longer : length (laid_texts next) ≤ length (laid_texts (texts_at plan m table info first fields)) =
-    subst (λ (us : List (List ℕ)). length (laid_texts next) ≤ length (laid_texts us)) whole (length-texts_at plan m table info next (drop (i + 1) fields)) in
-    long (omega (arith, longer, over, length-append str (laid_texts next), length-append str (laid_texts (texts_at plan m table info first fields))))
+    → texts_at plan m s ts (drop i fields) ≡ texts_at plan m s first fields
+    → Blames (TooLong (length (table_bytes (record { kept = str; texts = with_mention plan m ts (path_at s f) })))) fault
+    → Blames (TooLong (length (table_bytes (record { kept = str; texts = texts_at plan m s first fields })))) fault
+refused_at plan m s str ts first fields i f NoMemory lt is same b = tt
+refused_at plan m s str ts first fields i f (Refused _) lt is same (long over) =
+    let next : List (List ℕ) = with_mention plan m ts (path_at s f) in
+    let whole : texts_at plan m s next (drop (i + 1) fields) ≡ texts_at plan m s first fields = texts_step plan m s ts fields i f lt is ∙ same in
+    let longer : length (laid_texts next) ≤ length (laid_texts (texts_at plan m s first fields)) =
+    subst (λ (us : List (List ℕ)). length (laid_texts next) ≤ length (laid_texts us)) whole (length-texts_at plan m s next (drop (i + 1) fields)) in
+    long (omega (arith, longer, over, length-append str (laid_texts next), length-append str (laid_texts (texts_at plan m s first fields))))
 
 -- the default is not asked for inside a list
 get_or-any : (fields : List PathField) (i : ℕ) (d f : PathField) → i < length fields → get_or fields i d ≡ get_or fields i f
@@ -79,81 +79,82 @@ get_or-any (g ∷ gs) zero d f lt = refl
 get_or-any (g ∷ gs) (suc i) d f lt = get_or-any gs i d f (omega arith)
 
 -- one more field is noted
-pub noted_step : (plan : Plan) (table : OffsetTable) (info : List ℕ) (fields : List PathField) (i : ℕ) (f : PathField) (old new : ℕ → Option ℕ)
-    → f ≡ get_or fields i f → AreNoted plan table info fields i old
-    → Remembers old new → IsNoted plan table new (offset_at table info f) → AreNoted plan table info fields (i + 1) new
-noted_step plan table info fields i f old new is noted remembers here = record {
+pub noted_step : (plan : Plan) (s : FieldSource) (fields : List PathField) (i : ℕ) (f : PathField) (old new : ℕ → Option ℕ)
+    → f ≡ get_or fields i f → AreNoted plan s fields i old
+    → Remembers old new → IsNoted plan s.table.bytes new (offset_at s f) → AreNoted plan s fields (i + 1) new
+noted_step plan s fields i f old new is noted remembers here = record {
   each = λ (k : ℕ) (d : PathField) (lt : k < i + 1) (within : k < length fields). elim (cases_lt k i) [
-    | inl below ↦ record { noted = λ asks. remembers.each (offset_at table info (get_or fields k d)) ((noted.each k d below within).noted asks) }
+    | inl below ↦ record { noted = λ asks. remembers.each (offset_at s (get_or fields k d)) ((noted.each k d below within).noted asks) }
     | inr past ↦
         let same : i ≡ k = omega arith in
         let field : f ≡ get_or fields k d = is ∙ get_or-any fields i f d (omega arith) ∙ ap (λ (n : ℕ). get_or fields n d) same in
-        subst (λ (g : PathField). IsNoted plan table new (offset_at table info g)) field here
+        subst (λ (g : PathField). IsNoted plan s.table.bytes new (offset_at s g)) field here
   ];
 }
 
 -- none is noted
-pub noted_start : (plan : Plan) (table : OffsetTable) (info : List ℕ) (fields : List PathField) (known : ℕ → Option ℕ) → AreNoted plan table info fields 0 known
-noted_start plan table info fields known = record { each = λ (k : ℕ) (d : PathField) (lt : k < 0) within. absurd (omega arith) }
+pub noted_start : (plan : Plan) (s : FieldSource) (fields : List PathField) (known : ℕ → Option ℕ) → AreNoted plan s fields 0 known
+noted_start plan s fields known = record { each = λ (k : ℕ) (d : PathField) (lt : k < 0) within. absurd (omega arith) }
 
 -- nothing was forgotten on the way
 pub remembers_on : (first old new : ℕ → Option ℕ) → Remembers first old → Remembers old new → Remembers first new
 remembers_on first old new a b = record { each = λ (o : ℕ) is. b.each o (a.each o is) }
 
 -- a field of a list of them
-pub path_there : (table : OffsetTable) (info : List ℕ) (fields : List PathField) (i : ℕ) (f : PathField) → ArePathFields table info fields → i < length fields
-    → f ≡ get_or fields i f → IsPathField table info f
-path_there table info fields i f all lt is = subst (IsPathField table info) (sym is) (all.each i f lt)
+pub path_there : (s : FieldSource) (fields : List PathField) (i : ℕ) (f : PathField) → AreOffsetFields s.order s.table s.cells fields → i < length fields
+    → f ≡ get_or fields i f → IsOffsetField s.order s.table s.cells f
+path_there s fields i f all lt is = subst (IsOffsetField s.order s.table s.cells) (sym is) (all.each i f lt)
+
+-- and of those that are fields alone
+pub field_there : (s : FieldSource) (fields : List PathField) (i : ℕ) (f : PathField) → AreFieldsOf s fields → i < length fields → f ≡ get_or fields i f → IsFieldOf s f
+field_there s fields i f all lt is = subst (IsFieldOf s) (sym is) (all.each i f lt)
 
 pub ruleset note_all_rules = (texts_step, noted_step, noted_start, remembers_all, remembers_on, path_there)
 
 -- a field keeps the length of the bytes
-pub length-with_known : (order : Order) (out : List ℕ) (f : PathField) (known : Option ℕ) → f.at + f.size ≤ length out → length (with_known order out f known) ≡ length out
-length-with_known order out f None room = refl
-length-with_known order out f (Some new) room = length-with_number order out f.at f.size new room
+length-put_at : (out : List ℕ) (place n : ℕ) (bytes : List ℕ) → length bytes ≡ n → place + n ≤ length out → length (put_at out place n bytes) ≡ length out
+length-put_at out place n bytes size room =
+    let front : length (take place out) ≡ place = length-take-le place out (omega (arith, room)) in
+    omega (
+      arith,
+      room,
+      size,
+      front,
+      length-append (take place out ++ bytes) (drop (place + n) out),
+      length-append (take place out) bytes,
+      length-drop (place + n) out,
+    )
 
--- what is known fits
-pub fits_known : (known : ℕ → Option ℕ) (offset : ℕ) → AllFit known → ForSome (known offset) (λ (place : ℕ). place < 2 ^ 32)
-fits_known known offset fits = fits.each offset
+pub length-offset_bytes : (s : FieldSource) (f : PathField) (new : ℕ) → f.at + f.size ≤ length s.cells → length (offset_bytes s f new) ≡ f.size
+length-offset_bytes s f new inside =
+    length-bytes_of (with_offset s.order (cells_at s.cells f.at f.size) new) ∙ length-put s.order (cells_at s.cells f.at f.size) new
+    ∙ length-cells_at s.cells f.at f.size inside
 
--- the places that are known are below the end of the table
-pub known_fit : (plan : Plan) (m : PathMap) (table : OffsetTable) (ts : List (List ℕ)) (known : ℕ → Option ℕ) → length (plan.kept ++ laid_texts ts) ≤ output_limit
-    → Knows plan m table ts known → AllFit known
-known_fit plan m table ts known small knows = record {
-  each = λ (offset place : ℕ) is.
-      let k : KnownPlace plan m table ts offset place = knows.each offset place is in
-      omega (arith, k.place_is, small, length-append plan.kept (laid_texts ts), place_in-lt ts (new_text m (path_of table offset)) k.there);
-}
+pub length-with_known : (s : FieldSource) (out : List ℕ) (f : PathField) (known : Option ℕ) → f.at + f.size ≤ length s.cells → f.at + f.size ≤ length out
+    → length (with_known s out f known) ≡ length out
+length-with_known s out f None inside room = refl
+length-with_known s out f (Some new) inside room = length-put_at out f.at f.size (offset_bytes s f new) (length-offset_bytes s f new inside) room
 
 -- what is put where a place is known is what its path asks for
-put_is : (asks : Bool) (order : Order) (out : List ℕ) (f : PathField) (new : ℕ) (known : Option ℕ) → ((v : ℕ) → known ≡ Some v → (asks ≡ true) × (v ≡ new))
-    → (asks ≡ true → is_some known ≡ true) → with_known order out f known ≡ cond asks (with_number order out f.at f.size new) out
-put_is true order out f new None right noted = let gone : false ≡ true = noted refl in absurd cc
-put_is true order out f new (Some v) right noted = ap (with_number order out f.at f.size) (right v refl).1
-put_is false order out f new None right noted = refl
-put_is false order out f new (Some v) right noted = let gone : false ≡ true = (right v refl).0 in absurd cc
+put_is : (asks : Bool) (s : FieldSource) (out : List ℕ) (f : PathField) (new : ℕ) (known : Option ℕ) → ((v : ℕ) → known ≡ Some v → (asks ≡ true) × (v ≡ new))
+    → (asks ≡ true → is_some known ≡ true) → with_known s out f known ≡ cond asks (put_at out f.at f.size (offset_bytes s f new)) out
+put_is true s out f new None right noted = let gone : false ≡ true = noted refl in absurd cc
+put_is true s out f new (Some v) right noted = ap (λ (n : ℕ). put_at out f.at f.size (offset_bytes s f n)) (right v refl).1
+put_is false s out f new None right noted = refl
+put_is false s out f new (Some v) right noted = let gone : false ≡ true = (right v refl).0 in absurd cc
 
 -- so the known places make the patched bytes
-pub put_is_patched : (plan : Plan) (m : PathMap) (table : OffsetTable) (ts : List (List ℕ)) (info out : List ℕ) (fields : List PathField) (known : ℕ → Option ℕ) → Knows plan m table ts known
-    → AreNoted plan table info fields (length fields) known
-    → with_all_known table info known out fields ≡ patched (record { plan = plan; texts = ts }) m table info out fields
-put_is_patched plan m table ts info out [] known knows noted = refl
-put_is_patched plan m table ts info out (f ∷ fs) known knows noted =
-    let offset : ℕ = offset_at table info f in
-    let first : IsNoted plan table known (offset_at table info f) = noted.each 0 f (omega arith) (omega arith) in
-    let here : with_known table.order out f (known offset) ≡ patched_at (record { plan = plan; texts = ts }) m table info out f =
-    put_is (plan.asks (path_of table offset)) table.order out f (new_place plan m ts (path_of table offset)) (known offset)
+pub put_is_patched : (plan : Plan) (m : PathMap) (s : FieldSource) (ts : List (List ℕ)) (out : List ℕ) (fields : List PathField) (known : ℕ → Option ℕ)
+    → Knows plan m s.table.bytes ts known → AreNoted plan s fields (length fields) known
+    → with_all_known s known out fields ≡ patched (record { plan = plan; texts = ts }) m s out fields
+put_is_patched plan m s ts out [] known knows noted = refl
+put_is_patched plan m s ts out (f ∷ fs) known knows noted =
+    let offset : ℕ = offset_at s f in
+    let first : IsNoted plan s.table.bytes known (offset_at s f) = noted.each 0 f (omega arith) (omega arith) in
+    let here : with_known s out f (known offset) ≡ patched_at (record { plan = plan; texts = ts }) m s out f =
+    put_is (plan.asks (path_of s.table.bytes offset)) s out f (new_place plan m ts (path_of s.table.bytes offset)) (known offset)
     (λ (v : ℕ) is. ((knows.each offset v is).asks, (knows.each offset v is).place_is)) first.noted in
-    let rest : AreNoted plan table info fs (length fs) known =
+    let rest : AreNoted plan s fs (length fs) known =
     record { each = λ (k : ℕ) (d : PathField) (lt : k < length fs) (within : k < length fs). noted.each (suc k) d (omega arith) (omega arith) } in
-    ap (λ (b : List ℕ). with_all_known table info known b fs) here
-    ∙ put_is_patched plan m table ts info (patched_at (record { plan = plan; texts = ts }) m table info out f) fs known knows rest
-
--- nothing is known at first
-pub knows_nothing : (plan : Plan) (m : PathMap) (table : OffsetTable) (ts : List (List ℕ)) (known : ℕ → Option ℕ) → ((o : ℕ) → known o ≡ None) → Knows plan m table ts known
-knows_nothing plan m table ts known none = record {
-  each = λ (o p : ℕ) is.
-      let here : is_some (known o) ≡ true = ap is_some is in
-      let absent : is_some (known o) ≡ false = ap is_some (none o) in
-      absurd cc;
-}
+    ap (λ (b : List ℕ). with_all_known s known b fs) here
+    ∙ put_is_patched plan m s ts (patched_at (record { plan = plan; texts = ts }) m s out f) fs known knows rest

@@ -1,13 +1,10 @@
 -- The places of new texts, one more at a time.
-use Rattle.std.proofs.Common.{Bool, true, false, ◌≡◌, ◌≢◌, ℕ, ◌+◌, ◌≤◌, ◌<◌, ◌==◌, List, length, Option, Some, None, is_some, sym, ap, ◌∙◌, refl, subst, arith, inl, inr}
+use Rattle.std.proofs.Common.{Bool, true, false, ◌≡◌, ◌≢◌, ℕ, ◌+◌, ◌≤◌, ◌==◌, List, length, Option, Some, None, is_some, sym, ap, ◌∙◌, refl, subst, arith}
 use Rattle.std.proofs.lemmas.Bool.Decides.{nat_tests}
-use Rattle.dw_base.specs.Paths.{PathMap, IsPathMap, mapped_path}
+use Rattle.dw_base.specs.Paths.{PathMap, mapped_path}
 use Rattle.dw_base.specs.StringTables.{Plan, TextTable, appending, with_mention, with_text, place_in, with_added, text_place}
-use Rattle.dw_base.specs.Texts.{is_in, text_in, ends_in, has_nul}
+use Rattle.dw_base.specs.Texts.{is_in, text_in, ends_in}
 use Rattle.dw_base.proofs.TextLaws.{is_in-with_text, is_in-with_text_kept, place_in-with_text, has_nul-text_in, ends_in-inside}
-use Rattle.dw_base.proofs.PathLaws.{has_nul-mapped_path}
-use Rattle.dw_find.specs.declared.fields.PathField.{PathField}
-use Rattle.dw_find.specs.Fields.{OffsetTable, IsPathField}
 use Rattle.dw_rewrite.specs.Changes.{path_of, KnownPlace, Knows, IsNoted, Remembers, Adds, place_after}
 
 -- the place of a text that was added
@@ -16,10 +13,6 @@ place_added table t place e =
     let there : is_in (with_text table.texts t) t ≡ true = is_in-with_text table.texts t in
     let same : Some (place_after table t) ≡ Some place = sym (rw there refl) ∙ e in
     cc
-
--- a text of a table has no NUL, and neither has the mapped one
-pub mapped_plain : (m : PathMap) (table : List ℕ) (offset : ℕ) → IsPathMap m → has_nul (mapped_path m (text_in table offset)) ≡ false
-mapped_plain m table offset ok = has_nul-mapped_path m (text_in table offset) ok (has_nul-text_in table offset)
 
 pub ruleset add_rules = (place_added, has_nul-text_in)
 
@@ -33,7 +26,7 @@ some_is None h = absurd cc
 some_is (Some x) h = (x, refl)
 
 -- a path whose place is known adds no text
-pub met_before : (plan : Plan) (m : PathMap) (table : OffsetTable) (ts : List (List ℕ)) (known : ℕ → Option ℕ) (offset : ℕ) → Knows plan m table ts known
+pub met_before : (plan : Plan) (m : PathMap) (table : List ℕ) (ts : List (List ℕ)) (known : ℕ → Option ℕ) (offset : ℕ) → Knows plan m table ts known
     → is_some (known offset) ≡ true → with_mention plan m ts (path_of table offset) ≡ ts
 met_before plan m table ts known offset knows some =
     let v = some_is (known offset) some in
@@ -41,16 +34,16 @@ met_before plan m table ts known offset knows some =
     rw (place.asks, place.there) refl
 
 -- and is noted
-pub noted_before : (plan : Plan) (table : OffsetTable) (known : ℕ → Option ℕ) (offset : ℕ) → is_some (known offset) ≡ true → IsNoted plan table known offset
+pub noted_before : (plan : Plan) (table : List ℕ) (known : ℕ → Option ℕ) (offset : ℕ) → is_some (known offset) ≡ true → IsNoted plan table known offset
 noted_before plan table known offset some = record { noted = λ asks. some }
 
 -- a path that asks for no place adds no text
-pub not_asked : (plan : Plan) (m : PathMap) (table : OffsetTable) (ts : List (List ℕ)) (offset : ℕ) → plan.asks (path_of table offset) ≡ false
+pub not_asked : (plan : Plan) (m : PathMap) (table : List ℕ) (ts : List (List ℕ)) (offset : ℕ) → plan.asks (path_of table offset) ≡ false
     → with_mention plan m ts (path_of table offset) ≡ ts
 not_asked plan m table ts offset none = rw none refl
 
 -- and needs no note
-pub note_not_asked : (plan : Plan) (table : OffsetTable) (known : ℕ → Option ℕ) (offset : ℕ) → plan.asks (path_of table offset) ≡ false → IsNoted plan table known offset
+pub note_not_asked : (plan : Plan) (table : List ℕ) (known : ℕ → Option ℕ) (offset : ℕ) → plan.asks (path_of table offset) ≡ false → IsNoted plan table known offset
 note_not_asked plan table known offset none = record { noted = λ asks. absurd cc }
 
 -- nothing was forgotten
@@ -58,52 +51,61 @@ pub remembers_all : (known : ℕ → Option ℕ) → Remembers known known
 remembers_all known = record { each = λ (o : ℕ) h. h }
 
 -- one text more
-pub asked : (m : PathMap) (table : OffsetTable) (ts : List (List ℕ)) (offset : ℕ) → (appending m table.bytes).asks (path_of table offset) ≡ true
-    → with_text ts (mapped_path m (text_in table.bytes offset)) ≡ with_mention (appending m table.bytes) m ts (path_of table offset)
+pub asked : (m : PathMap) (table : List ℕ) (ts : List (List ℕ)) (offset : ℕ) → (appending m table).asks (path_of table offset) ≡ true
+    → with_text ts (mapped_path m (text_in table offset)) ≡ with_mention (appending m table) m ts (path_of table offset)
 asked m table ts offset yes_ = rw yes_ refl
 
 -- one place more
-pub knows_more : (m : PathMap) (table : OffsetTable) (ts : List (List ℕ)) (old new : ℕ → Option ℕ) (offset : ℕ)
-    → (appending m table.bytes).asks (path_of table offset) ≡ true → Knows (appending m table.bytes) m table ts old
-    → Adds old new offset (place_after (record { kept = table.bytes; texts = ts }) (mapped_path m (text_in table.bytes offset)))
-    → Knows (appending m table.bytes) m table (with_text ts (mapped_path m (text_in table.bytes offset))) new
+pub knows_more : (m : PathMap) (table : List ℕ) (ts : List (List ℕ)) (old new : ℕ → Option ℕ) (offset : ℕ)
+    → (appending m table).asks (path_of table offset) ≡ true → Knows (appending m table) m table ts old
+    → Adds old new offset (place_after (record { kept = table; texts = ts }) (mapped_path m (text_in table offset)))
+    → Knows (appending m table) m table (with_text ts (mapped_path m (text_in table offset))) new
 knows_more m table ts old new offset asks knows adds = record { each = λ (o p : ℕ) is. by_offset o p is (o == offset) refl }
   where
     by_offset : (o p : ℕ) → new o ≡ Some p → (same : Bool) → (o == offset) ≡ same
-        → KnownPlace (appending m table.bytes) m table (with_text ts (mapped_path m (text_in table.bytes offset))) o p
+        → KnownPlace (appending m table) m table (with_text ts (mapped_path m (text_in table offset))) o p
     by_offset o p is true test =
         let o_is : o ≡ offset = grind (arith, nat_tests) in
-        let both : Some (place_after (record { kept = table.bytes; texts = ts }) (mapped_path m (text_in table.bytes offset))) ≡ Some p =
+        let both : Some (place_after (record { kept = table; texts = ts }) (mapped_path m (text_in table offset))) ≡ Some p =
         sym adds.here ∙ ap new (sym o_is) ∙ is in
-        let p_is : p ≡ place_after (record { kept = table.bytes; texts = ts }) (mapped_path m (text_in table.bytes offset)) = cc in
-        subst (λ (z : ℕ). KnownPlace (appending m table.bytes) m table (with_text ts (mapped_path m (text_in table.bytes offset))) z p) (sym o_is)
-        (record { asks = asks; there = is_in-with_text ts (mapped_path m (text_in table.bytes offset)); place_is = p_is })
+        let p_is : p ≡ place_after (record { kept = table; texts = ts }) (mapped_path m (text_in table offset)) = cc in
+        subst (λ (z : ℕ). KnownPlace (appending m table) m table (with_text ts (mapped_path m (text_in table offset))) z p) (sym o_is)
+        (record { asks = asks; there = is_in-with_text ts (mapped_path m (text_in table offset)); place_is = p_is })
     by_offset o p is false test =
         let other : o ≢ offset = λ e. (let same : (o == offset) ≡ true = grind (arith, nat_tests) in cc) in
         let before : old o ≡ Some p = sym (adds.others o other) ∙ is in
-        let k : KnownPlace (appending m table.bytes) m table ts o p = knows.each o p before in
+        let k : KnownPlace (appending m table) m table ts o p = knows.each o p before in
         record {
           asks = k.asks;
-          there = is_in-with_text_kept ts (mapped_path m (text_in table.bytes offset)) (mapped_path m (text_in table.bytes o)) k.there;
-          place_is = k.place_is ∙ ap (λ (n : ℕ). length table.bytes + n) (sym (place_in-with_text ts (mapped_path m (text_in table.bytes offset)) (mapped_path m (text_in table.bytes o)) k.there));
+          there = is_in-with_text_kept ts (mapped_path m (text_in table offset)) (mapped_path m (text_in table o)) k.there;
+          place_is = k.place_is ∙ ap (λ (n : ℕ). length table + n) (sym (place_in-with_text ts (mapped_path m (text_in table offset)) (mapped_path m (text_in table o)) k.there));
         }
 
 -- one place more, in a table that grew
-pub knows_added : (m : PathMap) (table : OffsetTable) (first grown : TextTable) (old new : ℕ → Option ℕ) (offset : ℕ) → first.kept ≡ table.bytes
-    → (appending m table.bytes).asks (path_of table offset) ≡ true → Knows (appending m table.bytes) m table first.texts old
-    → grown ≡ with_added first (mapped_path m (text_in table.bytes offset))
-    → Adds old new offset (place_after first (mapped_path m (text_in table.bytes offset)))
-    → Knows (appending m table.bytes) m table grown.texts new
+pub knows_added : (m : PathMap) (table : List ℕ) (first grown : TextTable) (old new : ℕ → Option ℕ) (offset : ℕ) → first.kept ≡ table
+    → (appending m table).asks (path_of table offset) ≡ true → Knows (appending m table) m table first.texts old
+    → grown ≡ with_added first (mapped_path m (text_in table offset))
+    → Adds old new offset (place_after first (mapped_path m (text_in table offset)))
+    → Knows (appending m table) m table grown.texts new
 knows_added m table first grown old new offset kept asks knows is adds =
-    let t : List ℕ = mapped_path m (text_in table.bytes offset) in
-    let here : place_after first t ≡ place_after (record { kept = table.bytes; texts = first.texts }) t =
+    let t : List ℕ = mapped_path m (text_in table offset) in
+    let here : place_after first t ≡ place_after (record { kept = table; texts = first.texts }) t =
     ap (λ (k : List ℕ). length k + place_in (with_text first.texts t) t) kept in
-    let more : Knows (appending m table.bytes) m table (with_text first.texts t) new =
+    let more : Knows (appending m table) m table (with_text first.texts t) new =
     knows_more m table first.texts old new offset asks knows (subst (Adds old new offset) here adds) in
-    subst (λ (g : TextTable). Knows (appending m table.bytes) m table g.texts new) (sym is) more
+    subst (λ (g : TextTable). Knows (appending m table) m table g.texts new) (sym is) more
+
+pub knows_there : (m : PathMap) (table here : List ℕ) (first grown : TextTable) (old new : ℕ → Option ℕ) (offset : ℕ) → here ≡ table → first.kept ≡ table
+    → (appending m here).asks (path_of here offset) ≡ true → Knows (appending m table) m table first.texts old
+    → grown ≡ with_added first (mapped_path m (text_in here offset))
+    → Adds old new offset (place_after first (mapped_path m (text_in here offset)))
+    → Knows (appending m table) m table grown.texts new
+knows_there m table here first grown old new offset same kept asks knows is adds =
+    subst (λ (t : List ℕ). Knows (appending m t) m t grown.texts new) same
+    (knows_added m here first grown old new offset (kept ∙ sym same) asks (subst (λ (t : List ℕ). Knows (appending m t) m t first.texts old) (sym same) knows) is adds)
 
 -- which is noted
-pub noted_more : (plan : Plan) (table : OffsetTable) (old new : ℕ → Option ℕ) (offset place : ℕ) → Adds old new offset place → IsNoted plan table new offset
+pub noted_more : (plan : Plan) (table : List ℕ) (old new : ℕ → Option ℕ) (offset place : ℕ) → Adds old new offset place → IsNoted plan table new offset
 noted_more plan table old new offset place adds = record { noted = λ asks. ap is_some adds.here }
 
 -- and nothing is forgotten
@@ -117,14 +119,5 @@ remembers_more old new offset place adds = record { each = λ (o : ℕ) h. by_of
     by_offset o h false test =
         let other : o ≢ offset = λ e. (let same : (o == offset) ≡ true = grind (arith, nat_tests) in cc) in
         ap is_some (adds.others o other) ∙ h
-
--- a field of a path has a size
-pub field_some : (table : OffsetTable) (info : List ℕ) (f : PathField) → IsPathField table info f → 0 < f.size
-field_some table info f p = elim p.sized [ inl four ↦ omega (arith, four) | inr eight ↦ omega (arith, eight) ]
-
-pub field_wide : (table : OffsetTable) (info : List ℕ) (f : PathField) → IsPathField table info f → f.size ≤ 8
-field_wide table info f p = elim p.sized [ inl four ↦ omega (arith, four) | inr eight ↦ omega (arith, eight) ]
-
-pub ruleset field_rules = (field_some, field_wide)
 
 pub ruleset note_rules = (ends_inside, met_before, noted_before, not_asked, note_not_asked, remembers_all, asked, knows_added, noted_more, remembers_more)

@@ -8,7 +8,6 @@ use Rattle.dw_base.specs.LineReadings.{LineReading, TablesTo, table_read}
 use Rattle.dw_base.specs.LineSources.{LineSource}
 use Rattle.dw_base.specs.LineTables.{LineTable}
 use Rattle.dw_base.specs.LineWriteFails.{CanWrite, WriteFails, wide, wide_table, wide_header, wide_offset, program, length_limit}
-use Rattle.dw_base.specs.Numbers.{spelled}
 use Rattle.dw_base.specs.Paths.{PathMap}
 use Rattle.dw_base.specs.StringTables.{Plan, new_place as text_place}
 use Rattle.dw_base.specs.TextChanges.{TableChange}
@@ -16,15 +15,13 @@ use Rattle.dw_base.specs.WrittenLines.{Change, all_changes, inline_change, new_p
 use Rattle.dw_base.specs.declared.fault.Refusal.{Refusal}
 use Rattle.dw_base.specs.declared.line_tables.TextPlace.{TextPlace}
 use Rattle.dw_base.specs.declared.shared.Width.{Width}
-use Rattle.dw_base.proofs.PlainCellLaws.{IsPlain}
 use Rattle.dw_lines.specs.ViewTables.{tables_read}
-use Rattle.dw_rewrite.specs.Changes.{IsNoted, Knows, path_of}
-use Rattle.dw_find.specs.Fields.{OffsetTable, offset_at}
+use Rattle.dw_rewrite.specs.Changes.{FieldSource, IsNoted, Knows, offset_at, path_of}
 use Rattle.dw_rewrite.specs.NewLines.{AllCanWrite, lines_known}
-use Rattle.dw_find.specs.ViewLines.{table_fields, text_field, text_fields}
+use Rattle.dw_find.specs.ViewLines.{is_text_of, table_fields, text_field, text_fields}
 use Rattle.dw_find.specs.declared.fields.PathField.{PathField}
-use Rattle.dw_rewrite.proofs.LineMentionLaws.{texts_table}
-use Rattle.dw_find.proofs.LinePlaceLaws.{EachReads, PathReads, offset-read, table-paths}
+use Rattle.dw_rewrite.proofs.LineMentionLaws.{IsWhole, line_texts, text-offset}
+use Rattle.dw_find.proofs.LinePlaceLaws.{EachReads, PathReads, table-paths}
 use Rattle.dw_find.proofs.PlaceValueLaws.{EachOf}
 
 -- the new places of paths that stand elsewhere are the same
@@ -88,7 +85,7 @@ fails-same g m p q t r a (wide_offset (wide x place here other is far)) =
 fails-same g m p q t r a (program h e f) = program h e f
 
 -- the place of a path that is known is the one that it asks for
-pub known-asked : (plan : Plan) (m : PathMap) (table : OffsetTable) (ts : List (List ℕ)) (known : ℕ → Option ℕ) (o : ℕ) → Knows plan m table ts known → IsNoted plan table known o
+pub known-asked : (plan : Plan) (m : PathMap) (table : List ℕ) (ts : List (List ℕ)) (known : ℕ → Option ℕ) (o : ℕ) → Knows plan m table ts known → IsNoted plan table known o
     → known o ≡ (if plan.asks (path_of table o) then Some (text_place plan m ts (path_of table o)) else None)
 known-asked plan m table ts known o knows noted = by (known o) refl (plan.asks (path_of table o)) refl
   where
@@ -99,62 +96,61 @@ known-asked plan m table ts known o knows noted = by (known o) refl (plan.asks (
     by (Some n) e false a = absurd (true≢false (sym (knows.each o n e).asks ∙ a))
 
 -- of the paths of a table
-abbrev pub NotedIn : Plan → OffsetTable → List ℕ → (ℕ → Option ℕ) → PathField → Type 0
-NotedIn plan table info known f = IsNoted plan table known (offset_at table info f)
+abbrev pub NotedIn : Plan → FieldSource → (ℕ → Option ℕ) → PathField → Type 0
+NotedIn plan s known f = IsNoted plan s.table.bytes known (offset_at s f)
 
-one-agrees : (g : LineSource) (m : PathMap) (str line_str : TableChange) (ks kl : ℕ → Option ℕ) (w : Width) (x : TextPlace) → IsPlain g.cells → PathReads g w x
-    → Knows str.plan m (texts_table g in_str) str.texts ks → Knows line_str.plan m (texts_table g in_line_str) line_str.texts kl
-    → EachOf (NotedIn str.plan (texts_table g in_str) g.bytes ks) (text_field g.number g.str.number in_str w x)
-    → EachOf (NotedIn line_str.plan (texts_table g in_line_str) g.bytes kl) (text_field g.number g.str.number in_line_str w x)
+one-agrees : (g : LineSource) (m : PathMap) (str line_str : TableChange) (ks kl : ℕ → Option ℕ) (w : Width) (x : TextPlace) → IsWhole g → PathReads g w x
+    → Knows str.plan m g.str.bytes str.texts ks → Knows line_str.plan m g.line_str.bytes line_str.texts kl
+    → EachOf (NotedIn str.plan (line_texts g in_str) ks) (text_field g.number g.str.number in_str w x)
+    → EachOf (NotedIn line_str.plan (line_texts g in_line_str) kl) (text_field g.number g.str.number in_line_str w x)
     → (x.section == g.number) ≡ false → new_place g ks kl x ≡ line_place m str line_str g x
-one-agrees g m str line_str ks kl w x plain reads s l ns nl other = by (x.section == g.number) (x.section == g.str.number) other ns nl
+one-agrees g m str line_str ks kl w x whole reads s l ns nl other = by (x.section == g.number) (x.section == g.str.number) refl refl other ns nl
   where
-    at : x.at ≡ spelled g.order g.bytes x.field (width_size w)
-    at = offset-read g w x plain reads other
-
-    by : (a b : Bool) → a ≡ false
-        → EachOf (NotedIn str.plan (texts_table g in_str) g.bytes ks) (if (not a && b) then record { at = x.field; size = width_size w } ∷ [] else [])
-        → EachOf (NotedIn line_str.plan (texts_table g in_line_str) g.bytes kl) (if (not a && not b) then record { at = x.field; size = width_size w } ∷ [] else [])
+    by : (a b : Bool) → (x.section == g.number) ≡ a → (x.section == g.str.number) ≡ b → a ≡ false
+        → EachOf (NotedIn str.plan (line_texts g in_str) ks) (if (not a && b) then record { at = x.field; size = width_size w } ∷ [] else [])
+        → EachOf (NotedIn line_str.plan (line_texts g in_line_str) kl) (if (not a && not b) then record { at = x.field; size = width_size w } ∷ [] else [])
         → (if b then ks x.at else kl x.at) ≡ (if b then asked_place str m (path_in g.str.bytes x) else asked_place line_str m (path_in g.line_str.bytes x))
-    by true b e ns nl = absurd (true≢false e)
-    by false true e ns nl =
-        known-asked str.plan m (texts_table g in_str) str.texts ks x.at s (subst (IsNoted str.plan (texts_table g in_str) ks) (sym at) ns.0)
-    by false false e ns nl =
-        known-asked line_str.plan m (texts_table g in_line_str) line_str.texts kl x.at l (subst (IsNoted line_str.plan (texts_table g in_line_str) kl) (sym at) nl.0)
+    by true b e f is ns nl = absurd (true≢false is)
+    by false true e f is ns nl =
+        let says : is_text_of g.number g.str.number in_str x ≡ true = rw (e, f) refl in
+        known-asked str.plan m g.str.bytes str.texts ks x.at s (subst (IsNoted str.plan g.str.bytes ks) (text-offset g in_str w x whole reads says) ns.0)
+    by false false e f is ns nl =
+        let says : is_text_of g.number g.str.number in_line_str x ≡ true = rw (e, f) refl in
+        known-asked line_str.plan m g.line_str.bytes line_str.texts kl x.at l (subst (IsNoted line_str.plan g.line_str.bytes kl) (text-offset g in_line_str w x whole reads says) nl.0)
 
 each-parts : {X : Type 0} (P : X → Type 0) (xs ys : List X) → EachOf P (xs ++ ys) → EachOf P xs × EachOf P ys
 each-parts P [] ys h = (tt, h)
 each-parts P (x ∷ xs) ys h = let rest = each-parts P xs ys h.1 in ((h.0, rest.0), rest.1)
 
-paths-agree : (g : LineSource) (m : PathMap) (str line_str : TableChange) (ks kl : ℕ → Option ℕ) (w : Width) (xs : List TextPlace) → IsPlain g.cells → EachReads g w xs
-    → Knows str.plan m (texts_table g in_str) str.texts ks → Knows line_str.plan m (texts_table g in_line_str) line_str.texts kl
-    → EachOf (NotedIn str.plan (texts_table g in_str) g.bytes ks) (text_fields g.number g.str.number in_str w xs)
-    → EachOf (NotedIn line_str.plan (texts_table g in_line_str) g.bytes kl) (text_fields g.number g.str.number in_line_str w xs)
+paths-agree : (g : LineSource) (m : PathMap) (str line_str : TableChange) (ks kl : ℕ → Option ℕ) (w : Width) (xs : List TextPlace) → IsWhole g → EachReads g w xs
+    → Knows str.plan m g.str.bytes str.texts ks → Knows line_str.plan m g.line_str.bytes line_str.texts kl
+    → EachOf (NotedIn str.plan (line_texts g in_str) ks) (text_fields g.number g.str.number in_str w xs)
+    → EachOf (NotedIn line_str.plan (line_texts g in_line_str) kl) (text_fields g.number g.str.number in_line_str w xs)
     → EachAgree g (new_place g ks kl) (line_place m str line_str g) xs
-paths-agree g m str line_str ks kl w [] plain reads s l ns nl = tt
-paths-agree g m str line_str ks kl w (x ∷ xs) plain reads s l ns nl =
-    let a = each-parts (NotedIn str.plan (texts_table g in_str) g.bytes ks) (text_field g.number g.str.number in_str w x) (text_fields g.number g.str.number in_str w xs) ns in
-    let b = each-parts (NotedIn line_str.plan (texts_table g in_line_str) g.bytes kl) (text_field g.number g.str.number in_line_str w x) (text_fields g.number g.str.number in_line_str w xs) nl in
-    (one-agrees g m str line_str ks kl w x plain reads.0 s l a.0 b.0, paths-agree g m str line_str ks kl w xs plain reads.1 s l a.1 b.1)
+paths-agree g m str line_str ks kl w [] whole reads s l ns nl = tt
+paths-agree g m str line_str ks kl w (x ∷ xs) whole reads s l ns nl =
+    let a = each-parts (NotedIn str.plan (line_texts g in_str) ks) (text_field g.number g.str.number in_str w x) (text_fields g.number g.str.number in_str w xs) ns in
+    let b = each-parts (NotedIn line_str.plan (line_texts g in_line_str) kl) (text_field g.number g.str.number in_line_str w x) (text_fields g.number g.str.number in_line_str w xs) nl in
+    (one-agrees g m str line_str ks kl w x whole reads.0 s l a.0 b.0, paths-agree g m str line_str ks kl w xs whole reads.1 s l a.1 b.1)
 
 -- of all tables
 abbrev pub TablesAgree : LineSource → (TextPlace → Option ℕ) → (TextPlace → Option ℕ) → List LineReading → Type 0
 TablesAgree g p q [] = ⊤
 TablesAgree g p q (r ∷ rs) = EachAgree g p q (paths_of (table_read g r)) × TablesAgree g p q rs
 
-pub tables-agree : (g : LineSource) (m : PathMap) (str line_str : TableChange) (ks kl : ℕ → Option ℕ) (p e : ℕ) (rs : List LineReading) → IsPlain g.cells → TablesTo g p rs e
-    → Knows str.plan m (texts_table g in_str) str.texts ks → Knows line_str.plan m (texts_table g in_line_str) line_str.texts kl
-    → EachOf (NotedIn str.plan (texts_table g in_str) g.bytes ks) (table_fields g.number g.str.number in_str (tables_read g rs))
-    → EachOf (NotedIn line_str.plan (texts_table g in_line_str) g.bytes kl) (table_fields g.number g.str.number in_line_str (tables_read g rs))
+pub tables-agree : (g : LineSource) (m : PathMap) (str line_str : TableChange) (ks kl : ℕ → Option ℕ) (p e : ℕ) (rs : List LineReading) → IsWhole g → TablesTo g p rs e
+    → Knows str.plan m g.str.bytes str.texts ks → Knows line_str.plan m g.line_str.bytes line_str.texts kl
+    → EachOf (NotedIn str.plan (line_texts g in_str) ks) (table_fields g.number g.str.number in_str (tables_read g rs))
+    → EachOf (NotedIn line_str.plan (line_texts g in_line_str) kl) (table_fields g.number g.str.number in_line_str (tables_read g rs))
     → TablesAgree g (new_place g ks kl) (line_place m str line_str g) rs
-tables-agree g m str line_str ks kl p e [] plain reads s l ns nl = tt
-tables-agree g m str line_str ks kl p e (r ∷ rs) plain reads s l ns nl =
-    let a = each-parts (NotedIn str.plan (texts_table g in_str) g.bytes ks) (text_fields g.number g.str.number in_str r.header.width (paths_of (table_read g r)))
+tables-agree g m str line_str ks kl p e [] whole reads s l ns nl = tt
+tables-agree g m str line_str ks kl p e (r ∷ rs) whole reads s l ns nl =
+    let a = each-parts (NotedIn str.plan (line_texts g in_str) ks) (text_fields g.number g.str.number in_str r.header.width (paths_of (table_read g r)))
     (table_fields g.number g.str.number in_str (tables_read g rs)) ns in
-    let b = each-parts (NotedIn line_str.plan (texts_table g in_line_str) g.bytes kl) (text_fields g.number g.str.number in_line_str r.header.width (paths_of (table_read g r)))
+    let b = each-parts (NotedIn line_str.plan (line_texts g in_line_str) kl) (text_fields g.number g.str.number in_line_str r.header.width (paths_of (table_read g r)))
     (table_fields g.number g.str.number in_line_str (tables_read g rs)) nl in (
-      paths-agree g m str line_str ks kl r.header.width (paths_of (table_read g r)) plain (table-paths g p r reads.0) s l a.0 b.0,
-      tables-agree g m str line_str ks kl r.header.end e rs plain reads.1 s l a.1 b.1,
+      paths-agree g m str line_str ks kl r.header.width (paths_of (table_read g r)) whole (table-paths g p r reads.0) s l a.0 b.0,
+      tables-agree g m str line_str ks kl r.header.end e rs whole reads.1 s l a.1 b.1,
     )
 
 -- the new tables

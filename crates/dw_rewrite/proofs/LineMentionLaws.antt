@@ -1,77 +1,116 @@
 -- The texts that line tables mention are those of the fields of their paths.
-use Rattle.std.proofs.Common.{Bool, true, false, ◌≡◌, ℕ, ◌==◌, ◌&&◌, not, List, [], ◌∷◌, ◌++◌, if◌then◌else◌, refl, sym, ap, ◌∙◌}
+use Rattle.std.proofs.Common.{Bool, true, false, ◌≡◌, ℕ, ◌==◌, ◌&&◌, not, List, [], ◌∷◌, ◌++◌, length, if◌then◌else◌, refl, sym, ap, ◌∙◌}
+use Rattle.std.proofs.lemmas.Bool.{eq-eqb, ne_eqb, true≢false}
+use Rattle.dw_base.specs.Cells.{bytes_of, cells_at, offset_of}
 use Rattle.dw_base.specs.Forms.{TextSection, in_str, in_line_str, width_size}
 use Rattle.dw_base.specs.LineChanges.{path_in, mention_in, paths_mentions, line_mentions}
 use Rattle.dw_base.specs.LineReadings.{LineReading, TablesTo, table_read}
 use Rattle.dw_base.specs.LineSources.{LineSource}
-use Rattle.dw_base.specs.Numbers.{spelled}
 use Rattle.dw_base.specs.Paths.{PathMap}
 use Rattle.dw_base.specs.StringTables.{Mention, Plan, with_mention, texts_after}
-use Rattle.dw_base.specs.Texts.{text_in}
+use Rattle.dw_base.specs.Texts.{ends_in, text_in}
 use Rattle.dw_base.specs.WrittenLines.{paths_of}
 use Rattle.dw_base.specs.declared.line_tables.TextPlace.{TextPlace}
 use Rattle.dw_base.specs.declared.shared.Width.{Width}
-use Rattle.dw_base.proofs.PlainCellLaws.{IsPlain}
 use Rattle.dw_lines.specs.ViewTables.{tables_read}
+use Rattle.dw_meaning.proofs.FieldPutLaws.{width-some}
 use Rattle.dw_meaning.proofs.LineColumnLaws.{texts_in}
-use Rattle.dw_find.specs.Fields.{OffsetTable}
-use Rattle.dw_rewrite.specs.Changes.{texts_at}
-use Rattle.dw_find.specs.ViewLines.{table_fields, text_field, text_fields}
+use Rattle.dw_rewrite.specs.Changes.{FieldSource, offset_at, path_at, texts_at}
+use Rattle.dw_find.specs.ViewLines.{is_text_of, table_fields, text_field, text_fields}
 use Rattle.dw_find.specs.declared.fields.PathField.{PathField}
-use Rattle.dw_find.proofs.LinePlaceLaws.{EachReads, PathReads, offset-read, table-paths}
+use Rattle.dw_find.proofs.LinePlaceLaws.{EachReads, PathReads, named_there, stands_there, table-paths}
+use Rattle.dw_find.proofs.LineTextLaws.{TextsApart, named-offset}
 
--- the table of texts that fields of line tables are of
-abbrev pub texts_table : LineSource → TextSection → OffsetTable
-texts_table g table = record { order = g.order; bytes = (texts_in g table).bytes }
+-- where fields of line tables hold offsets into a table of texts
+abbrev pub line_texts : LineSource → TextSection → FieldSource
+line_texts g table = record { order = g.order; cells = g.cells; table = texts_in g table }
+
+-- texts of the second table lie in a section of their own, and the bytes of the section are those of its cells
+pub record IsWhole (g : LineSource) : Type 0 where
+  pub apart : TextsApart g
+  pub own : bytes_of g.cells ≡ g.bytes
 
 texts_after-append : (plan : Plan) (m : PathMap) (ts : List (List ℕ)) (xs ys : List Mention) → texts_after plan m ts (xs ++ ys) ≡ texts_after plan m (texts_after plan m ts xs) ys
 texts_after-append plan m ts [] ys = refl
 texts_after-append plan m ts (x ∷ xs) ys = texts_after-append plan m (with_mention plan m ts x) xs ys
 
-pub texts_at-append : (plan : Plan) (m : PathMap) (table : OffsetTable) (info : List ℕ) (ts : List (List ℕ)) (fs gs : List PathField)
-    → texts_at plan m table info ts (fs ++ gs) ≡ texts_at plan m table info (texts_at plan m table info ts fs) gs
-texts_at-append plan m table info ts [] gs = refl
-texts_at-append plan m table info ts (f ∷ fs) gs =
-    texts_at-append plan m table info (with_mention plan m ts (record { path = true; text = text_in table.bytes (spelled table.order info f.at f.size) })) fs gs
+pub texts_at-append : (plan : Plan) (m : PathMap) (s : FieldSource) (ts : List (List ℕ)) (fs gs : List PathField)
+    → texts_at plan m s ts (fs ++ gs) ≡ texts_at plan m s (texts_at plan m s ts fs) gs
+texts_at-append plan m s ts [] gs = refl
+texts_at-append plan m s ts (f ∷ fs) gs = texts_at-append plan m s (with_mention plan m ts (path_at s f)) fs gs
+
+-- the offset that the field of a path in a table of texts holds is the path's place
+no-both : (a : Bool) → (not a && false) ≡ true → ⊥
+no-both true e = true≢false (sym e)
+no-both false e = true≢false (sym e)
+
+pub text-offset : (g : LineSource) (table : TextSection) (w : Width) (x : TextPlace) → IsWhole g → PathReads g w x → is_text_of g.number g.str.number table x ≡ true
+    → offset_at (line_texts g table) (record { at = x.field; size = width_size w }) ≡ x.at
+text-offset g table w x whole (stands_there y is) e = absurd (by_table table e)
+  where
+    here : (x.section == g.number) ≡ true
+    here = eq-eqb x.section g.number is
+
+    by_table : (t : TextSection) → is_text_of g.number g.str.number t x ≡ true → ⊥
+    by_table in_str e = true≢false (sym e ∙ ap (λ (a : Bool). not a && x.section == g.str.number) here)
+    by_table in_line_str e = true≢false (sym e ∙ ap (λ (a : Bool). not a && not (x.section == g.str.number)) here)
+text-offset g table w x whole (named_there z n field room reads ends) e =
+    by_table table z (named-offset g (texts_in g z) field (width_size w) n whole.own (width-some w) room reads) ends e
+  where
+    by_table : (t u : TextSection) → offset_of g.order (texts_in g u) (cells_at g.cells field (width_size w)) ≡ n → ends_in (texts_in g u).bytes n ≡ true
+        → is_text_of g.number g.str.number t (record { section = (texts_in g u).number; at = n; len = length (text_in (texts_in g u).bytes n); field = field }) ≡ true
+        → offset_of g.order (texts_in g t) (cells_at g.cells field (width_size w)) ≡ n
+    by_table in_str in_str number ends e = number
+    by_table in_line_str in_line_str number ends e = number
+    by_table in_str in_line_str number ends e =
+        let other : (g.line_str.number == g.str.number) ≡ false = ne_eqb g.line_str.number g.str.number (whole.apart n ends) in
+        absurd (no-both (g.line_str.number == g.number) (ap (λ (b : Bool). not (g.line_str.number == g.number) && b) (sym other) ∙ e))
+    by_table in_line_str in_str number ends e =
+        let same : (g.str.number == g.str.number) ≡ true = eq-eqb g.str.number g.str.number refl in
+        absurd (no-both (g.str.number == g.number) (ap (λ (b : Bool). not (g.str.number == g.number) && not b) (sym same) ∙ e))
 
 -- the text of a path
-path-texts : (g : LineSource) (table : TextSection) (w : Width) (plan : Plan) (m : PathMap) (ts : List (List ℕ)) (x : TextPlace) → IsPlain g.cells → PathReads g w x
-    → texts_after plan m ts (mention_in g table x) ≡ texts_at plan m (texts_table g table) g.bytes ts (text_field g.number g.str.number table w x)
-path-texts g in_str w plan m ts x plain reads = by (x.section == g.number) (x.section == g.str.number) refl
+path-texts : (g : LineSource) (table : TextSection) (w : Width) (plan : Plan) (m : PathMap) (ts : List (List ℕ)) (x : TextPlace) → IsWhole g → PathReads g w x
+    → texts_after plan m ts (mention_in g table x) ≡ texts_at plan m (line_texts g table) ts (text_field g.number g.str.number table w x)
+path-texts g in_str w plan m ts x whole reads = by (x.section == g.number) (x.section == g.str.number) refl refl
   where
-    by : (a b : Bool) → (x.section == g.number) ≡ a
+    by : (a b : Bool) → (x.section == g.number) ≡ a → (x.section == g.str.number) ≡ b
         → texts_after plan m ts (if a then [] else (if b then path_in g.str.bytes x ∷ [] else []))
-        ≡ texts_at plan m (texts_table g in_str) g.bytes ts (if (not a && b) then record { at = x.field; size = width_size w } ∷ [] else [])
-    by true b e = refl
-    by false false e = refl
-    by false true e = ap (λ (n : ℕ). with_mention plan m ts (record { path = true; text = text_in g.str.bytes n })) (offset-read g w x plain reads e)
-path-texts g in_line_str w plan m ts x plain reads = by (x.section == g.number) (x.section == g.str.number) refl
+        ≡ texts_at plan m (line_texts g in_str) ts (if (not a && b) then record { at = x.field; size = width_size w } ∷ [] else [])
+    by true b e f = refl
+    by false false e f = refl
+    by false true e f =
+        let says : is_text_of g.number g.str.number in_str x ≡ true = rw (e, f) refl in
+        ap (λ (n : ℕ). with_mention plan m ts (record { path = true; text = text_in g.str.bytes n })) (sym (text-offset g in_str w x whole reads says))
+path-texts g in_line_str w plan m ts x whole reads = by (x.section == g.number) (x.section == g.str.number) refl refl
   where
-    by : (a b : Bool) → (x.section == g.number) ≡ a
+    by : (a b : Bool) → (x.section == g.number) ≡ a → (x.section == g.str.number) ≡ b
         → texts_after plan m ts (if a then [] else (if b then [] else path_in g.line_str.bytes x ∷ []))
-        ≡ texts_at plan m (texts_table g in_line_str) g.bytes ts (if (not a && not b) then record { at = x.field; size = width_size w } ∷ [] else [])
-    by true b e = refl
-    by false true e = refl
-    by false false e = ap (λ (n : ℕ). with_mention plan m ts (record { path = true; text = text_in g.line_str.bytes n })) (offset-read g w x plain reads e)
+        ≡ texts_at plan m (line_texts g in_line_str) ts (if (not a && not b) then record { at = x.field; size = width_size w } ∷ [] else [])
+    by true b e f = refl
+    by false true e f = refl
+    by false false e f =
+        let says : is_text_of g.number g.str.number in_line_str x ≡ true = rw (e, f) refl in
+        ap (λ (n : ℕ). with_mention plan m ts (record { path = true; text = text_in g.line_str.bytes n })) (sym (text-offset g in_line_str w x whole reads says))
 
-paths-texts : (g : LineSource) (table : TextSection) (w : Width) (plan : Plan) (m : PathMap) (ts : List (List ℕ)) (xs : List TextPlace) → IsPlain g.cells → EachReads g w xs
-    → texts_after plan m ts (paths_mentions g table xs) ≡ texts_at plan m (texts_table g table) g.bytes ts (text_fields g.number g.str.number table w xs)
-paths-texts g table w plan m ts [] plain reads = refl
-paths-texts g table w plan m ts (x ∷ xs) plain reads =
+paths-texts : (g : LineSource) (table : TextSection) (w : Width) (plan : Plan) (m : PathMap) (ts : List (List ℕ)) (xs : List TextPlace) → IsWhole g → EachReads g w xs
+    → texts_after plan m ts (paths_mentions g table xs) ≡ texts_at plan m (line_texts g table) ts (text_fields g.number g.str.number table w xs)
+paths-texts g table w plan m ts [] whole reads = refl
+paths-texts g table w plan m ts (x ∷ xs) whole reads =
     texts_after-append plan m ts (mention_in g table x) (paths_mentions g table xs)
-    ∙ ap (λ (us : List (List ℕ)). texts_after plan m us (paths_mentions g table xs)) (path-texts g table w plan m ts x plain reads.0)
-    ∙ paths-texts g table w plan m (texts_at plan m (texts_table g table) g.bytes ts (text_field g.number g.str.number table w x)) xs plain reads.1
-    ∙ sym (texts_at-append plan m (texts_table g table) g.bytes ts (text_field g.number g.str.number table w x) (text_fields g.number g.str.number table w xs))
+    ∙ ap (λ (us : List (List ℕ)). texts_after plan m us (paths_mentions g table xs)) (path-texts g table w plan m ts x whole reads.0)
+    ∙ paths-texts g table w plan m (texts_at plan m (line_texts g table) ts (text_field g.number g.str.number table w x)) xs whole reads.1
+    ∙ sym (texts_at-append plan m (line_texts g table) ts (text_field g.number g.str.number table w x) (text_fields g.number g.str.number table w xs))
 
 -- those of tables
-pub lines-texts : (g : LineSource) (table : TextSection) (plan : Plan) (m : PathMap) (ts : List (List ℕ)) (p e : ℕ) (rs : List LineReading) → IsPlain g.cells → TablesTo g p rs e
+pub lines-texts : (g : LineSource) (table : TextSection) (plan : Plan) (m : PathMap) (ts : List (List ℕ)) (p e : ℕ) (rs : List LineReading) → IsWhole g → TablesTo g p rs e
     → texts_after plan m ts (line_mentions g table rs)
-    ≡ texts_at plan m (texts_table g table) g.bytes ts (table_fields g.number g.str.number table (tables_read g rs))
-lines-texts g table plan m ts p e [] plain reads = refl
-lines-texts g table plan m ts p e (r ∷ rs) plain reads =
+    ≡ texts_at plan m (line_texts g table) ts (table_fields g.number g.str.number table (tables_read g rs))
+lines-texts g table plan m ts p e [] whole reads = refl
+lines-texts g table plan m ts p e (r ∷ rs) whole reads =
     let xs : List TextPlace = paths_of (table_read g r) in
     texts_after-append plan m ts (paths_mentions g table xs) (line_mentions g table rs)
-    ∙ ap (λ (us : List (List ℕ)). texts_after plan m us (line_mentions g table rs)) (paths-texts g table r.header.width plan m ts (paths_of (table_read g r)) plain (table-paths g p r reads.0))
-    ∙ lines-texts g table plan m (texts_at plan m (texts_table g table) g.bytes ts (text_fields g.number g.str.number table r.header.width (paths_of (table_read g r)))) r.header.end e rs plain reads.1
-    ∙ sym (texts_at-append plan m (texts_table g table) g.bytes ts (text_fields g.number g.str.number table r.header.width (paths_of (table_read g r)))
+    ∙ ap (λ (us : List (List ℕ)). texts_after plan m us (line_mentions g table rs)) (paths-texts g table r.header.width plan m ts (paths_of (table_read g r)) whole (table-paths g p r reads.0))
+    ∙ lines-texts g table plan m (texts_at plan m (line_texts g table) ts (text_fields g.number g.str.number table r.header.width (paths_of (table_read g r)))) r.header.end e rs whole reads.1
+    ∙ sym (texts_at-append plan m (line_texts g table) ts (text_fields g.number g.str.number table r.header.width (paths_of (table_read g r)))
     (table_fields g.number g.str.number table (tables_read g rs)))

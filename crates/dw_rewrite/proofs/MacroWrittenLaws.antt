@@ -5,7 +5,7 @@ use Rattle.std.proofs.Math.Seq.{drop-append_seam}
 use Rattle.std.proofs.lemmas.List.{drop-drop, length-append}
 use Rattle.dw_base.specs.Cells.{Cell, CellSection, bytes_of}
 use Rattle.dw_base.specs.DebugData.{Around, DataReadings, around_of, table_of}
-use Rattle.dw_base.specs.FileViews.{View, section_bytes}
+use Rattle.dw_base.specs.FileViews.{View, section_bytes, view_cells}
 use Rattle.dw_base.specs.Forms.{TextSection, in_str, in_line_str}
 use Rattle.dw_base.specs.MacroPieces.{of_text, of_unit, MacroMode, at_unit, at_line, at_operation, at_offset, no_macros, MacroState, ReadsMacros, macros_at, macro_grammar}
 use Rattle.dw_base.specs.MacroReadings.{MacroReading, ReadsAllMacros}
@@ -17,24 +17,22 @@ use Rattle.dw_base.specs.StringTables.{Mention, Plan, appending, texts_after, wi
 use Rattle.dw_base.specs.TextChanges.{TableChanges, edited_by, mention_at, mentions_by, InlineFitsBy}
 use Rattle.dw_base.specs.ViewData.{debug_data}
 use Rattle.dw_base.specs.declared.shared.Order.{Order}
-use Rattle.dw_base.proofs.PlainCellLaws.{IsPlain}
 use Rattle.dw_base.proofs.UnitEditLaws.{length-bytes_of}
 use Rattle.dw_base.proofs.UnitHeaderLaws.{bytes_of-append}
+use Rattle.dw_base.proofs.ViewCellLaws.{bytes_of-view_cells}
 use Rattle.dw_meaning.specs.DataOutput.{Body, changes_of, macro_bodies, table_change}
 use Rattle.dw_meaning.proofs.MacroPieceLaws.{CellsOf}
-use Rattle.dw_meaning.proofs.OffsetMoveLaws.{EachCells, cells-plain}
 use Rattle.dw_find.specs.MacroSections.{macro_starts, macros_read, macros_with}
-use Rattle.dw_find.specs.ViewFields.{HasNoRelocations}
 use Rattle.dw_find.specs.UnitPaths.{field_by, inline_by, start_by}
 use Rattle.dw_find.specs.declared.fields.InlinePath.{InlinePath}
 use Rattle.dw_find.specs.declared.fields.PathField.{PathField}
 use Rattle.dw_find.proofs.MacroHaveLaws.{AllCells}
 use Rattle.dw_find.proofs.MacroStartLaws.{all-cells}
-use Rattle.dw_find.proofs.PlainFieldLaws.{view_cells-none}
 use Rattle.dw_find.proofs.PieceFieldLaws.{FieldsFrom, from-less, from-start}
-use Rattle.dw_rewrite.specs.Changes.{start_table, with_all_known}
+use Rattle.dw_rewrite.specs.Changes.{FieldSource, with_all_known}
+use Rattle.dw_rewrite.specs.UnitsAfter.{start_source}
 use Rattle.dw_rewrite.specs.NewTables.{all_texts_at, bodies_after, section_after}
-use Rattle.dw_rewrite.proofs.NewBodyLaws.{data-order, starts_after}
+use Rattle.dw_rewrite.proofs.NewBodyLaws.{starts_after}
 use Rattle.dw_rewrite.proofs.UnitWrittenLaws.{length-edited, piece_written, unit_by}
 
 -- macro units add no text
@@ -76,7 +74,7 @@ macros-say m v in_str ts (r ∷ rs) = macros-say m v in_str ts rs
 macros-say m v in_line_str ts (r ∷ rs) = macros-say m v in_line_str ts rs
 
 -- none of their pieces holds a path
-no-path : (table : TextSection) (mode : MacroMode) (place size : ℕ) → field_by table (macro_role_by mode) place size ≡ []
+pub no-path : (table : TextSection) (mode : MacroMode) (place size : ℕ) → field_by table (macro_role_by mode) place size ≡ []
 no-path in_str at_unit place size = refl
 no-path in_line_str at_unit place size = refl
 no-path in_str (at_line width) place size = refl
@@ -107,7 +105,7 @@ fits-inline (at_offset width of_unit) map p = tt
 fits-inline no_macros map p = tt
 
 -- their fields stand from where they begin on
-from-macros : (order : Order) (s : MacroState) (place : ℕ) (xs : List (Piece MacroState)) → s.place ≡ place → Chain (macro_grammar order) s xs → FieldsFrom place (macro_starts xs)
+pub from-macros : (order : Order) (s : MacroState) (place : ℕ) (xs : List (Piece MacroState)) → s.place ≡ place → Chain (macro_grammar order) s xs → FieldsFrom place (macro_starts xs)
 from-macros order s place [] at c = tt
 from-macros order s place (x ∷ xs) at c =
     let here : x.state.place ≡ place = ap (λ (z : MacroState). z.place) c.0 ∙ at in
@@ -117,71 +115,70 @@ from-macros order s place (x ∷ xs) at c =
     (from-macros order ((macro_grammar order).next x.state x.cells) (place + length x.cells) xs (ap (λ (i : ℕ). i + length x.cells) here) c.2)))
 
 -- what their pieces become
-macros_written : (c : TableChanges) (a : Around) (order : Order) (info front : List ℕ) (s : MacroState) (place : ℕ) (xs : List (Piece MacroState))
+macros_written : (c : TableChanges) (a : Around) (order : Order) (cells : List Cell) (front : List ℕ) (s : MacroState) (place : ℕ) (xs : List (Piece MacroState))
     → c.str.plan ≡ appending c.map a.str.bytes → c.line_str.plan ≡ appending c.map a.line_str.bytes → length front ≡ place → s.place ≡ place
-    → Chain (macro_grammar order) s xs → bytes_of (joined xs) ≡ drop place info → EachCells xs
-    → unit_by c a info [] [] (macro_starts xs) [] (front ++ bytes_of (joined xs)) ≡ front ++ bytes_of (joined (edited_with macro_role c a xs))
-macros_written c a order info front s place [] str line at stands chain e plain = refl
-macros_written c a order info front s place (x ∷ xs) str line at stands chain e plain =
+    → Chain (macro_grammar order) s xs → joined xs ≡ drop place cells
+    → unit_by c a cells [] [] (macro_starts xs) [] (front ++ bytes_of (joined xs)) ≡ front ++ bytes_of (joined (edited_with macro_role c a xs))
+macros_written c a order cells front s place [] str line at stands chain e = refl
+macros_written c a order cells front s place (x ∷ xs) str line at stands chain e =
     let r : Role = macro_role x.state in
     let q : List Cell = edited_by (macro_role x.state) c a x.cells in
     let rest : List ℕ = bytes_of (joined xs) in
     let hs : List PathField = macro_starts xs in
     let here : x.state.place ≡ place = ap (λ (z : MacroState). z.place) chain.0 ∙ stands in
     let next : x.state.place + length x.cells ≡ place + length x.cells = ap (λ (i : ℕ). i + length x.cells) here in
-    let parts : bytes_of x.cells ++ bytes_of (joined xs) ≡ drop place info = sym (bytes_of-append x.cells (joined xs)) ∙ e in
-    let behind : bytes_of (joined xs) ≡ drop (place + length x.cells) info =
-    sym (drop-append_seam (bytes_of x.cells) (bytes_of (joined xs))) ∙ ap (λ (n : ℕ). drop n (bytes_of x.cells ++ bytes_of (joined xs))) (length-bytes_of x.cells)
-    ∙ ap (drop (length x.cells)) parts ∙ drop-drop (length x.cells) place info in
+    let behind : joined xs ≡ drop (place + length x.cells) cells =
+    sym (drop-append_seam x.cells (joined xs)) ∙ ap (drop (length x.cells)) e ∙ drop-drop (length x.cells) place cells in
     let fits : InlineFitsBy (macro_role x.state) c.map x.cells = fits-inline x.state.mode c.map x.cells in
-    let size : length q ≡ length x.cells = length-edited (macro_role x.state) c a x.cells plain.0 fits in
+    let size : length q ≡ length x.cells = length-edited (macro_role x.state) c a x.cells in
     let long : length (front ++ bytes_of q) ≡ place + length x.cells = length-append front (bytes_of q) ∙ omega (arith, at, size, length-bytes_of q) in
-    ap (λ (i : ℕ). unit_by c a info [] [] (start_by (macro_role x.state) i (length x.cells) ++ hs) [] (front ++ bytes_of (x.cells ++ joined xs))) here
-    ∙ ap (λ (b : List ℕ). unit_by c a info [] [] (start_by (macro_role x.state) place (length x.cells) ++ hs) [] (front ++ b)) (bytes_of-append x.cells (joined xs))
-    ∙ ap (λ (fs : List PathField). unit_by c a info (fs ++ []) [] (start_by (macro_role x.state) place (length x.cells) ++ hs) [] (front ++ (bytes_of x.cells ++ rest)))
+    ap (λ (i : ℕ). unit_by c a cells [] [] (start_by (macro_role x.state) i (length x.cells) ++ hs) [] (front ++ bytes_of (x.cells ++ joined xs))) here
+    ∙ ap (λ (b : List ℕ). unit_by c a cells [] [] (start_by (macro_role x.state) place (length x.cells) ++ hs) [] (front ++ b)) (bytes_of-append x.cells (joined xs))
+    ∙ ap (λ (fs : List PathField). unit_by c a cells (fs ++ []) [] (start_by (macro_role x.state) place (length x.cells) ++ hs) [] (front ++ (bytes_of x.cells ++ rest)))
     (sym (no-path in_str x.state.mode place (length x.cells)))
-    ∙ ap (λ (gs : List PathField). unit_by c a info (field_by in_str (macro_role x.state) place (length x.cells) ++ []) (gs ++ []) (start_by (macro_role x.state) place (length x.cells) ++ hs) []
+    ∙ ap (λ (gs : List PathField). unit_by c a cells (field_by in_str (macro_role x.state) place (length x.cells) ++ []) (gs ++ []) (start_by (macro_role x.state) place (length x.cells) ++ hs) []
     (front ++ (bytes_of x.cells ++ rest))) (sym (no-path in_line_str x.state.mode place (length x.cells)))
-    ∙ ap (λ (is : List InlinePath). unit_by c a info (field_by in_str (macro_role x.state) place (length x.cells) ++ []) (field_by in_line_str (macro_role x.state) place (length x.cells) ++ [])
+    ∙ ap (λ (is : List InlinePath). unit_by c a cells (field_by in_str (macro_role x.state) place (length x.cells) ++ []) (field_by in_line_str (macro_role x.state) place (length x.cells) ++ [])
     (start_by (macro_role x.state) place (length x.cells) ++ hs) (is ++ []) (front ++ (bytes_of x.cells ++ rest))) (sym (no-inline x.state.mode place x.cells))
-    ∙ piece_written (macro_role x.state) c a info front x.cells rest place [] [] hs [] str line at plain.0 parts fits tt tt
+    ∙ piece_written (macro_role x.state) c a cells front x.cells (joined xs) rest place [] [] hs [] str line at e fits tt tt
     (from-macros order ((macro_grammar order).next x.state x.cells) (place + length x.cells) xs next chain.2)
-    ∙ ap (unit_by c a info [] [] hs []) (sym (append_assoc front (bytes_of q) rest))
-    ∙ macros_written c a order info (front ++ bytes_of q) ((macro_grammar order).next x.state x.cells) (place + length x.cells) xs str line long next chain.2 behind plain.1
+    ∙ ap (unit_by c a cells [] [] hs []) (sym (append_assoc front (bytes_of q) rest))
+    ∙ macros_written c a order cells (front ++ bytes_of q) ((macro_grammar order).next x.state x.cells) (place + length x.cells) xs str line long next chain.2 behind
     ∙ append_assoc front (bytes_of q) (bytes_of (joined (edited_with macro_role c a xs)))
     ∙ ap (λ (b : List ℕ). front ++ b) (sym (bytes_of-append q (joined (edited_with macro_role c a xs))))
 
 -- the new bytes of a section are those of its edited pieces
-macro-body : (m : PathMap) (v : View) (all : DataReadings) (z : CellSection) (r : MacroReading) → HasNoRelocations v → CellsOf v z.number z.contents → r.number ≡ z.number
+macro-body : (m : PathMap) (v : View) (all : DataReadings) (z : CellSection) (r : MacroReading) → CellsOf v z.number z.contents → r.number ≡ z.number
     → ReadsMacros (debug_data v).base.order z.contents r.pieces
     → section_after m v (table_change m in_str (around_of (debug_data v) all) all).texts (table_change m in_line_str (around_of (debug_data v) all) all).texts (starts_after m v all)
     (macros_with r.number (macro_starts r.pieces))
     ≡ bytes_of (joined (edited_with macro_role (changes_of m (around_of (debug_data v) all) all) (around_of (debug_data v) all) r.pieces))
-unfolding section_after table_change
-macro-body m v all z r none cells number reads =
-    let start : bytes_of (joined r.pieces) ≡ section_bytes v r.number = ap bytes_of reads.cells ∙ cells.bytes ∙ ap (section_bytes v) (sym number) in
-    ap (λ (out : List ℕ). with_all_known (start_table v.order) (section_bytes v r.number) (starts_after m v all) out (macro_starts r.pieces)) (sym start)
-    ∙ ap (λ (o : Order). with_all_known (start_table o) (section_bytes v r.number) (starts_after m v all) (bytes_of (joined r.pieces)) (macro_starts r.pieces)) (sym (data-order v))
-    ∙ macros_written (changes_of m (around_of (debug_data v) all) all) (around_of (debug_data v) all) (debug_data v).base.order (section_bytes v r.number) [] (macros_at 0 at_unit) 0 r.pieces
-    refl refl refl refl reads.chain start (cells-plain r.pieces (subst IsPlain (sym reads.cells) (subst IsPlain (sym cells.same) (view_cells-none v none z.number))))
+unfolding section_after table_change debug_data
+macro-body m v all z r of number reads =
+    let cells : joined r.pieces ≡ view_cells v r.number = reads.cells ∙ of.same ∙ ap (view_cells v) (sym number) in
+    let start : bytes_of (joined r.pieces) ≡ section_bytes v r.number = ap bytes_of cells ∙ bytes_of-view_cells v r.number in
+    let s : FieldSource = start_source (around_of (debug_data v) all) (view_cells v r.number) in
+    ap (λ (out : List ℕ). with_all_known s (starts_after m v all) out (macro_starts r.pieces)) (sym start)
+    ∙ macros_written (changes_of m (around_of (debug_data v) all) all) (around_of (debug_data v) all) (debug_data v).base.order (view_cells v r.number) [] (macros_at 0 at_unit) 0 r.pieces
+    refl refl refl refl reads.chain cells
 
-all-bodies : (m : PathMap) (v : View) (all : DataReadings) (zs : List CellSection) (rs : List MacroReading) → HasNoRelocations v → AllCells v zs → ReadsAllMacros (debug_data v).base.order zs rs
+all-bodies : (m : PathMap) (v : View) (all : DataReadings) (zs : List CellSection) (rs : List MacroReading) → AllCells v zs → ReadsAllMacros (debug_data v).base.order zs rs
     → bodies_after m v (table_change m in_str (around_of (debug_data v) all) all).texts (table_change m in_line_str (around_of (debug_data v) all) all).texts (starts_after m v all) (macros_read rs)
     ≡ macro_bodies (edited_macros (changes_of m (around_of (debug_data v) all) all) (around_of (debug_data v) all) rs)
-all-bodies m v all [] [] none cells reads = refl
-all-bodies m v all [] (r ∷ rs) none cells reads = absurd reads
-all-bodies m v all (z ∷ zs) [] none cells reads = absurd reads
-all-bodies m v all (z ∷ zs) (r ∷ rs) none cells reads =
+all-bodies m v all [] [] cells reads = refl
+all-bodies m v all [] (r ∷ rs) cells reads = absurd reads
+all-bodies m v all (z ∷ zs) [] cells reads = absurd reads
+all-bodies m v all (z ∷ zs) (r ∷ rs) cells reads =
     let ts : List (List ℕ) = (table_change m in_str (around_of (debug_data v) all) all).texts in
     let ls : List (List ℕ) = (table_change m in_line_str (around_of (debug_data v) all) all).texts in
-    ap (λ (bs : List ℕ). record { number = r.number; bytes = bs } ∷ bodies_after m v ts ls (starts_after m v all) (macros_read rs)) (macro-body m v all z r none cells.0 reads.0 reads.1)
+    ap (λ (bs : List ℕ). record { number = r.number; bytes = bs } ∷ bodies_after m v ts ls (starts_after m v all) (macros_read rs)) (macro-body m v all z r cells.0 reads.0 reads.1)
     ∙ ap (λ (bodies : List Body). record { number = r.number; bytes = bytes_of (joined (edited_with macro_role (changes_of m (around_of (debug_data v) all) all) (around_of (debug_data v) all) r.pieces)) } ∷ bodies)
-    (all-bodies m v all zs rs none cells.1 reads.2)
+    (all-bodies m v all zs rs cells.1 reads.2)
 
-pub macros-bodies : (m : PathMap) (v : View) (all : DataReadings) → HasNoRelocations v → ReadsAllMacros (debug_data v).base.order (debug_data v).macros all.macros
+pub macros-bodies : (m : PathMap) (v : View) (all : DataReadings) → ReadsAllMacros (debug_data v).base.order (debug_data v).macros all.macros
     → bodies_after m v (table_change m in_str (around_of (debug_data v) all) all).texts (table_change m in_line_str (around_of (debug_data v) all) all).texts (starts_after m v all) (macros_read all.macros)
     ≡ macro_bodies (edited_macros (changes_of m (around_of (debug_data v) all) all) (around_of (debug_data v) all) all.macros)
-macros-bodies m v all none reads = all-bodies m v all (debug_data v).macros all.macros none (all-cells v) reads
+macros-bodies m v all reads = all-bodies m v all (debug_data v).macros all.macros (all-cells v) reads
 
 -- there is one of each section
 pub macros-number : (order : Order) (zs : List CellSection) (rs : List MacroReading) → ReadsAllMacros order zs rs → length (macros_read rs) ≡ length zs

@@ -5,7 +5,7 @@ use Rattle.std.proofs.lemmas.List.{length-append}
 use Rattle.dw_base.specs.Cells.{CellSection}
 use Rattle.dw_base.specs.DebugData.{DebugData, DataReadings, around_of, line_source}
 use Rattle.dw_base.specs.DebugSections.{name_of}
-use Rattle.dw_base.specs.FileViews.{View, section_bytes, section_named}
+use Rattle.dw_base.specs.FileViews.{View, section_named}
 use Rattle.dw_base.specs.Forms.{TextSection, in_str, in_line_str}
 use Rattle.dw_base.specs.Layout.{output_limit}
 use Rattle.dw_base.specs.LineChanges.{line_place}
@@ -22,31 +22,29 @@ use Rattle.dw_base.specs.WrittenLines.{new_place, written_table}
 use Rattle.dw_base.specs.declared.debug_sections.DebugSection.TheVariants.{Line, StrOffsets}
 use Rattle.dw_lines.specs.ViewTables.{TablesFound}
 use Rattle.dw_meaning.specs.DataOutput.{Body, DataFits, EachWritable, cells_body, changes_of, lines_body, macro_bodies, macros_after, names_after, new_bodies, new_lines, offsets_after, table_change, unit_bodies}
-use Rattle.dw_meaning.proofs.DataKeptLaws.{readings-plain}
+use Rattle.dw_meaning.specs.NewAddends.{AddendsFit}
 use Rattle.dw_find.specs.FoundPaths.{PathsFound, without_lines}
 use Rattle.dw_find.specs.MacroSections.{HaveUnits, SectionUnits, UnitsFoundIn, macros_read}
-use Rattle.dw_rewrite.specs.Bodies.{BodiesMade}
-use Rattle.dw_rewrite.specs.Changes.{AllFit, Knows, start_known}
-use Rattle.dw_rewrite.specs.NewStarts.{StartChange, StartsFit, known_starts}
-use Rattle.dw_find.specs.ViewFields.{AllHaveFields, AllHavePaths, AllRoomsFit, HasNoRelocations, fields_of, info_of, offsets_in, table_number}
-use Rattle.dw_rewrite.specs.NewTables.{IsSectionNoted, TableMade, bodies_after, bodies_known, plan_in, table_body_of}
+use Rattle.dw_rewrite.specs.Changes.{FieldSource, Knows, start_known}
+use Rattle.dw_rewrite.specs.NewStarts.{StartsFit}
+use Rattle.dw_find.specs.ViewFields.{AllHaveOffsets, AllHavePlaces, AllRoomsFit, fields_of, table_number}
+use Rattle.dw_rewrite.specs.NewTables.{IsSectionNoted, TableMade, bodies_after, bodies_known, plan_in, source_in, table_body_of, texts_of}
 use Rattle.dw_find.specs.SlotPaths.{count_of, lines_count, read_fields, slots_by, slots_of_view, slots_read}
 use Rattle.dw_rewrite.specs.PushedBodies.{macros_count, names_body, one_body, pushed_bodies, slots_count, some_sections, without_slots, slots_among as slots_in}
 use Rattle.dw_find.specs.UnitPaths.{UnitPaths, paths_of}
 use Rattle.dw_rewrite.specs.NewLines.{AllCanWrite, LinesWritten, lines_known}
 use Rattle.dw_find.specs.ViewLines.{lines_by, lines_of_view, lines_with, starts_of, table_fields}
 use Rattle.dw_find.specs.declared.fields.PathField.{PathField}
-use Rattle.dw_rewrite.proofs.ChangedLaws.{known_fit}
 use Rattle.dw_rewrite.proofs.LineKnownLaws.{EachCanWrite, NotedIn, TablesAgree, all-can, lines-same, tables-agree}
 use Rattle.dw_rewrite.proofs.MacroWrittenLaws.{macros-bodies, macros-number}
 use Rattle.dw_find.proofs.TableStartLaws.{read-starts}
 use Rattle.dw_rewrite.proofs.NewBodyLaws.{known-bodies, made-noted, names-body, readings-bodies, slots-body, starts_after}
-use Rattle.dw_rewrite.proofs.NoRelocationLaws.{sections-plain}
-use Rattle.dw_find.proofs.PlainFieldLaws.{found-fields, found-have, lines-plain}
 use Rattle.dw_find.proofs.PlaceValueLaws.{EachOf}
 use Rattle.dw_find.proofs.StartLaws.{starts-rise}
-use Rattle.dw_find.proofs.FoundUnitLaws.{bytes-some, front-is, lines-number, without-is}
-use Rattle.dw_rewrite.proofs.TableTextLaws.{lines-none, made-table, same-lines, table-bytes}
+use Rattle.dw_find.proofs.FoundUnitLaws.{front-is, lines-number, without-is}
+use Rattle.dw_rewrite.proofs.TableTextLaws.{lines-none, lines-whole, made-table, same-lines, same-texts, table-bytes}
+use Rattle.dw_rewrite.proofs.LineMentionLaws.{line_texts}
+use Rattle.dw_rewrite.proofs.PushLaws.{offsets-front}
 
 back-is : {X : Type 0} (xs ys : List X) (n : ℕ) → length ys ≡ n → drop (length (xs ++ ys) - n) (xs ++ ys) ≡ ys
 back-is xs ys n e =
@@ -57,7 +55,7 @@ slots-number : (o : Option ℕ) (fields : List PathField) → length (slots_by o
 slots-number None fields = refl
 slots-number (Some i) fields = refl
 
-found-without : (m : PathMap) (v : View) (us : List UnitPaths) (ts : List LineTable) (f : PathsFound m v us ts)
+pub found-without : (m : PathMap) (v : View) (us : List UnitPaths) (ts : List LineTable) (f : PathsFound m v us ts)
     → without_lines v us ≡ (paths_of f.readings.units ++ slots_read v f.readings) ++ macros_read f.readings.macros
 found-without m v us ts f = without-is v us ((paths_of f.readings.units ++ slots_read v f.readings) ++ macros_read f.readings.macros) ts f.is
 
@@ -87,14 +85,14 @@ each-parts P [] ys h = (tt, h)
 each-parts P (x ∷ xs) ys h = let rest = each-parts P xs ys h.1 in ((h.0, rest.0), rest.1)
 
 -- the known places make the bodies of some of the sections
-known-parts : (m : PathMap) (v : View) (us part : List UnitPaths) (ts : List LineTable) (ps pl : TextTable) (ks kl kt : ℕ → Option ℕ) → HasNoRelocations v → (f : PathsFound m v us ts) → TableMade m v in_str us ps ks
+known-parts : (m : PathMap) (v : View) (us part : List UnitPaths) (ts : List LineTable) (ps pl : TextTable) (ks kl kt : ℕ → Option ℕ) (f : PathsFound m v us ts) → TableMade m v in_str us ps ks
     → TableMade m v in_line_str us pl kl → EachOf (λ u. IsSectionNoted m v in_str u ks) part → EachOf (λ u. IsSectionNoted m v in_line_str u kl) part
     → bodies_known m v ks kl kt part ≡ bodies_after m v (table_change m in_str (around_of (debug_data v) f.readings) f.readings).texts
     (table_change m in_line_str (around_of (debug_data v) f.readings) f.readings).texts kt part
-known-parts m v us part ts ps pl ks kl kt none f s l ns nl =
+known-parts m v us part ts ps pl ks kl kt f s l ns nl =
     known-bodies m v ps pl ks kl kt part s.grown l.grown ns nl
-    ∙ ap (λ (x : List (List ℕ)). bodies_after m v x pl.texts kt part) (made-table m v in_str us ts ps ks none f s)
-    ∙ ap (λ (x : List (List ℕ)). bodies_after m v (table_change m in_str (around_of (debug_data v) f.readings) f.readings).texts x kt part) (made-table m v in_line_str us ts pl kl none f l)
+    ∙ ap (λ (x : List (List ℕ)). bodies_after m v x pl.texts kt part) (made-table m v in_str us ts ps ks f s)
+    ∙ ap (λ (x : List (List ℕ)). bodies_after m v (table_change m in_str (around_of (debug_data v) f.readings) f.readings).texts x kt part) (made-table m v in_line_str us ts pl kl f l)
 
 -- the places of paths of line tables are known
 abbrev pub change_of_table : PathMap → View → DataReadings → TextSection → TableChange
@@ -106,48 +104,48 @@ each-from P (x ∷ xs) f = (f 0 x (omega arith), each-from P xs (λ (k : ℕ) d 
 
 noted-lines : (m : PathMap) (v : View) (table : TextSection) (i : ℕ) (ts : List LineTable) (known : ℕ → Option ℕ) → Some i ≡ section_named v (name_of Line)
     → IsSectionNoted m v table (lines_with (line_source (debug_data v)) ts) known
-    → EachOf (NotedIn (plan_in m v table) (offsets_in v table) (line_source (debug_data v)).bytes known)
+    → EachOf (NotedIn (plan_in m v table) (line_texts (line_source (debug_data v)) table) known)
     (table_fields (line_source (debug_data v)).number (line_source (debug_data v)).str.number table ts)
 noted-lines m v table i ts known e noted =
-    let all : EachOf (NotedIn (plan_in m v table) (offsets_in v table) (info_of v (lines_with (line_source (debug_data v)) ts)) known) (fields_of table (lines_with (line_source (debug_data v)) ts)) =
-    each-from (NotedIn (plan_in m v table) (offsets_in v table) (info_of v (lines_with (line_source (debug_data v)) ts)) known) (fields_of table (lines_with (line_source (debug_data v)) ts))
+    let all : EachOf (NotedIn (plan_in m v table) (source_in v (line_source (debug_data v)).number table) known) (fields_of table (lines_with (line_source (debug_data v)) ts)) =
+    each-from (NotedIn (plan_in m v table) (source_in v (line_source (debug_data v)).number table) known) (fields_of table (lines_with (line_source (debug_data v)) ts))
     (λ k d lt. noted.each k d lt lt) in
-    subst (λ (bs : List ℕ). EachOf (NotedIn (plan_in m v table) (offsets_in v table) bs known)
-    (table_fields (line_source (debug_data v)).number (line_source (debug_data v)).str.number table ts)) (sym (bytes-some v i e))
-    (subst (EachOf (NotedIn (plan_in m v table) (offsets_in v table) (section_bytes v (line_source (debug_data v)).number) known))
+    subst (λ (s : FieldSource). EachOf (NotedIn (plan_in m v table) s known)
+    (table_fields (line_source (debug_data v)).number (line_source (debug_data v)).str.number table ts)) (sym (same-texts v table i e))
+    (subst (EachOf (NotedIn (plan_in m v table) (source_in v (line_source (debug_data v)).number table) known))
     (sym (same-lines (line_source (debug_data v)) table ts)) all)
 
-table-knows : (m : PathMap) (v : View) (table : TextSection) (us : List UnitPaths) (ts : List LineTable) (pool : TextTable) (known : ℕ → Option ℕ) → HasNoRelocations v → (f : PathsFound m v us ts)
+table-knows : (m : PathMap) (v : View) (table : TextSection) (us : List UnitPaths) (ts : List LineTable) (pool : TextTable) (known : ℕ → Option ℕ) (f : PathsFound m v us ts)
     → TableMade m v table us pool known
-    → Knows (plan_in m v table) m (offsets_in v table) (table_change m table (around_of (debug_data v) f.readings) f.readings).texts known
-table-knows m v table us ts pool known none f t =
-    subst (λ (xs : List (List ℕ)). Knows (plan_in m v table) m (offsets_in v table) xs known) (made-table m v table us ts pool known none f t) t.grown.knows
+    → Knows (plan_in m v table) m (texts_of v table).bytes (table_change m table (around_of (debug_data v) f.readings) f.readings).texts known
+table-knows m v table us ts pool known f t =
+    subst (λ (xs : List (List ℕ)). Knows (plan_in m v table) m (texts_of v table).bytes xs known) (made-table m v table us ts pool known f t) t.grown.knows
 
-lines-agree-by : (m : PathMap) (v : View) (us : List UnitPaths) (ts : List LineTable) (ps pl : TextTable) (ks kl : ℕ → Option ℕ) → HasNoRelocations v → (f : PathsFound m v us ts) → TableMade m v in_str us ps ks
+lines-agree-by : (m : PathMap) (v : View) (us : List UnitPaths) (ts : List LineTable) (ps pl : TextTable) (ks kl : ℕ → Option ℕ) (f : PathsFound m v us ts) → TableMade m v in_str us ps ks
     → TableMade m v in_line_str us pl kl → (o : Option ℕ) → o ≡ section_named v (name_of Line)
     → EachOf (λ u. IsSectionNoted m v in_str u ks) (lines_by o (line_source (debug_data v)) ts) → EachOf (λ u. IsSectionNoted m v in_line_str u kl) (lines_by o (line_source (debug_data v)) ts)
     → TablesAgree (line_source (debug_data v)) (new_place (line_source (debug_data v)) ks kl)
     (line_place m (change_of_table m v f.readings in_str) (change_of_table m v f.readings in_line_str) (line_source (debug_data v))) f.readings.lines
 unfolding table_change
-lines-agree-by m v us ts ps pl ks kl none f s l None e ns nl =
+lines-agree-by m v us ts ps pl ks kl f s l None e ns nl =
     subst (TablesAgree (line_source (debug_data v)) (new_place (line_source (debug_data v)) ks kl)
     (line_place m (change_of_table m v f.readings in_str) (change_of_table m v f.readings in_line_str) (line_source (debug_data v)))) (sym (lines-none v f.readings.lines e f.reads.lines)) tt
-lines-agree-by m v us ts ps pl ks kl none f s l (Some i) e ns nl =
+lines-agree-by m v us ts ps pl ks kl f s l (Some i) e ns nl =
     tables-agree (line_source (debug_data v)) m (change_of_table m v f.readings in_str) (change_of_table m v f.readings in_line_str) ks kl 0 (length (line_source (debug_data v)).bytes)
-    f.readings.lines (lines-plain v none) f.reads.lines (table-knows m v in_str us ts ps ks none f s) (table-knows m v in_line_str us ts pl kl none f l)
-    (subst (λ (us_ : List LineTable). EachOf (NotedIn (plan_in m v in_str) (offsets_in v in_str) (line_source (debug_data v)).bytes ks)
+    f.readings.lines (lines-whole v) f.reads.lines (table-knows m v in_str us ts ps ks f s) (table-knows m v in_line_str us ts pl kl f l)
+    (subst (λ (us_ : List LineTable). EachOf (NotedIn (plan_in m v in_str) (line_texts (line_source (debug_data v)) in_str) ks)
     (table_fields (line_source (debug_data v)).number (line_source (debug_data v)).str.number in_str us_)) f.tables (noted-lines m v in_str i ts ks e ns.0))
-    (subst (λ (us_ : List LineTable). EachOf (NotedIn (plan_in m v in_line_str) (offsets_in v in_line_str) (line_source (debug_data v)).bytes kl)
+    (subst (λ (us_ : List LineTable). EachOf (NotedIn (plan_in m v in_line_str) (line_texts (line_source (debug_data v)) in_line_str) kl)
     (table_fields (line_source (debug_data v)).number (line_source (debug_data v)).str.number in_line_str us_)) f.tables (noted-lines m v in_line_str i ts kl e nl.0))
 
 -- what is noted of all sections
-record NotedParts (m : PathMap) (v : View) (table : TextSection) (rs : DataReadings) (ts : List LineTable) (known : ℕ → Option ℕ) : Type 0 where
-  units : EachOf (λ u. IsSectionNoted m v table u known) (paths_of rs.units)
-  slots : EachOf (λ u. IsSectionNoted m v table u known) (slots_read v rs)
-  macros : EachOf (λ u. IsSectionNoted m v table u known) (macros_read rs.macros)
-  lines : EachOf (λ u. IsSectionNoted m v table u known) (lines_of_view v ts)
+pub record NotedParts (m : PathMap) (v : View) (table : TextSection) (rs : DataReadings) (ts : List LineTable) (known : ℕ → Option ℕ) : Type 0 where
+  pub units : EachOf (λ u. IsSectionNoted m v table u known) (paths_of rs.units)
+  pub slots : EachOf (λ u. IsSectionNoted m v table u known) (slots_read v rs)
+  pub macros : EachOf (λ u. IsSectionNoted m v table u known) (macros_read rs.macros)
+  pub lines : EachOf (λ u. IsSectionNoted m v table u known) (lines_of_view v ts)
 
-noted-parts : (m : PathMap) (v : View) (table : TextSection) (us : List UnitPaths) (ts : List LineTable) (pool : TextTable) (known : ℕ → Option ℕ) (f : PathsFound m v us ts)
+pub noted-parts : (m : PathMap) (v : View) (table : TextSection) (us : List UnitPaths) (ts : List LineTable) (pool : TextTable) (known : ℕ → Option ℕ) (f : PathsFound m v us ts)
     → TableMade m v table us pool known → NotedParts m v table f.readings ts known
 noted-parts m v table us ts pool known f t =
     let all = each-parts (λ u. IsSectionNoted m v table u known) ((paths_of f.readings.units ++ slots_read v f.readings) ++ macros_read f.readings.macros) (lines_of_view v ts)
@@ -156,20 +154,20 @@ noted-parts m v table us ts pool known f t =
     let first = each-parts (λ u. IsSectionNoted m v table u known) (paths_of f.readings.units) (slots_read v f.readings) front.0 in
     record { units = first.0; slots = first.1; macros = front.1; lines = all.1 }
 
-pub lines-agree : (m : PathMap) (v : View) (us : List UnitPaths) (ts : List LineTable) (ps pl : TextTable) (ks kl : ℕ → Option ℕ) → HasNoRelocations v → (f : PathsFound m v us ts) → TableMade m v in_str us ps ks
+pub lines-agree : (m : PathMap) (v : View) (us : List UnitPaths) (ts : List LineTable) (ps pl : TextTable) (ks kl : ℕ → Option ℕ) (f : PathsFound m v us ts) → TableMade m v in_str us ps ks
     → TableMade m v in_line_str us pl kl
     → TablesAgree (line_source (debug_data v)) (new_place (line_source (debug_data v)) ks kl)
     (line_place m (change_of_table m v f.readings in_str) (change_of_table m v f.readings in_line_str) (line_source (debug_data v))) f.readings.lines
-lines-agree m v us ts ps pl ks kl none f s l =
-    lines-agree-by m v us ts ps pl ks kl none f s l (section_named v (name_of Line)) refl (noted-parts m v in_str us ts ps ks f s).lines (noted-parts m v in_line_str us ts pl kl f l).lines
+lines-agree m v us ts ps pl ks kl f s l =
+    lines-agree-by m v us ts ps pl ks kl f s l (section_named v (name_of Line)) refl (noted-parts m v in_str us ts ps ks f s).lines (noted-parts m v in_line_str us ts pl kl f l).lines
 
 -- so the new line tables are these
-pub known-lines : (m : PathMap) (v : View) (us : List UnitPaths) (ts : List LineTable) (ps pl : TextTable) (ks kl : ℕ → Option ℕ) → HasNoRelocations v → (f : PathsFound m v us ts) → TableMade m v in_str us ps ks
+pub known-lines : (m : PathMap) (v : View) (us : List UnitPaths) (ts : List LineTable) (ps pl : TextTable) (ks kl : ℕ → Option ℕ) (f : PathsFound m v us ts) → TableMade m v in_str us ps ks
     → TableMade m v in_line_str us pl kl → lines_known m (line_source (debug_data v)) ks kl ts ≡ new_lines m (around_of (debug_data v) f.readings) f.readings
-known-lines m v us ts ps pl ks kl none f s l =
+known-lines m v us ts ps pl ks kl f s l =
     ap (lines_known m (line_source (debug_data v)) ks kl) f.tables
     ∙ lines-same (line_source (debug_data v)) m (change_of_table m v f.readings in_str) (change_of_table m v f.readings in_line_str) ks kl f.readings.lines
-    (lines-agree m v us ts ps pl ks kl none f s l)
+    (lines-agree m v us ts ps pl ks kl f s l)
 
 -- each can be written
 each-writable : (m : PathMap) (d : DebugData) (rs : DataReadings) (xs : List LineReading)
@@ -178,23 +176,26 @@ each-writable : (m : PathMap) (d : DebugData) (rs : DataReadings) (xs : List Lin
 each-writable m d rs [] can = tt
 each-writable m d rs (x ∷ xs) can = (can.0, each-writable m d rs xs can.1)
 
-pub made-fits : (m : PathMap) (v : View) (us : List UnitPaths) (ts : List LineTable) (ps pl : TextTable) (ks kl : ℕ → Option ℕ) (bs ns : List ℕ) → HasNoRelocations v → (f : PathsFound m v us ts)
-    → TableMade m v in_str us ps ks → TableMade m v in_line_str us pl kl → LinesWritten m (line_source (debug_data v)) ks kl ts bs ns → DataFits m (debug_data v) f.readings
-made-fits m v us ts ps pl ks kl bs ns none f s l w = record {
+pub made-fits : (m : PathMap) (v : View) (us : List UnitPaths) (ts : List LineTable) (ps pl : TextTable) (ks kl : ℕ → Option ℕ) (bs ns : List ℕ) (f : PathsFound m v us ts)
+    → TableMade m v in_str us ps ks → TableMade m v in_line_str us pl kl → LinesWritten m (line_source (debug_data v)) ks kl ts bs ns
+    → AddendsFit (changes_of m (around_of (debug_data v) f.readings) f.readings) (debug_data v) (around_of (debug_data v) f.readings) f.readings
+    → DataFits m (debug_data v) f.readings
+made-fits m v us ts ps pl ks kl bs ns f s l w addends = record {
   inline = f.inline;
   slots = f.slots;
   lines = each-writable m (debug_data v) f.readings f.readings.lines
       (all-can (line_source (debug_data v)) m (change_of_table m v f.readings in_str) (change_of_table m v f.readings in_line_str) ks kl f.readings.lines
-      (lines-agree m v us ts ps pl ks kl none f s l) (subst (AllCanWrite m (line_source (debug_data v)) ks kl) f.tables w.can));
+      (lines-agree m v us ts ps pl ks kl f s l) (subst (AllCanWrite m (line_source (debug_data v)) ks kl) f.tables w.can));
+  addends = addends;
 }
 
 -- the starts that are known
-known-starts : (m : PathMap) (v : View) (us : List UnitPaths) (ts : List LineTable) (ps pl : TextTable) (ks kl : ℕ → Option ℕ) (bs ns : List ℕ) → HasNoRelocations v → (f : PathsFound m v us ts)
+pub known-starts : (m : PathMap) (v : View) (us : List UnitPaths) (ts : List LineTable) (ps pl : TextTable) (ks kl : ℕ → Option ℕ) (bs ns : List ℕ) (f : PathsFound m v us ts)
     → TableMade m v in_str us ps ks → TableMade m v in_line_str us pl kl → LinesWritten m (line_source (debug_data v)) ks kl ts bs ns
     → start_known (starts_of ts) ns ≡ starts_after m v f.readings
-known-starts m v us ts ps pl ks kl bs ns none f s l w =
+known-starts m v us ts ps pl ks kl bs ns f s l w =
     ap (λ (xs : List ℕ). start_known xs ns) (ap starts_of f.tables ∙ read-starts (line_source (debug_data v)) f.readings.lines)
-    ∙ ap (start_known (table_starts f.readings.lines)) (w.starts ∙ ap (starts_from 0) (known-lines m v us ts ps pl ks kl none f s l))
+    ∙ ap (start_known (table_starts f.readings.lines)) (w.starts ∙ ap (starts_from 0) (known-lines m v us ts ps pl ks kl f s l))
 
 -- bodies behind the tables of texts, part by part
 parts-are : {slots macros units ms us : List Body} {lines names first ls ns : Body} → slots ≡ first ∷ [] → lines ≡ ls → names ≡ ns → macros ≡ ms → units ≡ us
@@ -202,40 +203,39 @@ parts-are : {slots macros units ms us : List Body} {lines names first ls ns : Bo
 parts-are a b c d e = rw (a, b, c, d, e) refl
 
 -- all new bodies
-made-is : (m : PathMap) (v : View) (us : List UnitPaths) (ts : List LineTable) (ps pl : TextTable) (ks kl : ℕ → Option ℕ) (bs ns : List ℕ) → HasNoRelocations v → (f : PathsFound m v us ts)
+pub made-is : (m : PathMap) (v : View) (us : List UnitPaths) (ts : List LineTable) (ps pl : TextTable) (ks kl : ℕ → Option ℕ) (bs ns : List ℕ) (f : PathsFound m v us ts)
     → TableMade m v in_str us ps ks → TableMade m v in_line_str us pl kl → LinesWritten m (line_source (debug_data v)) ks kl ts bs ns
     → table_body_of v in_str ps ∷ table_body_of v in_line_str pl
     ∷ pushed_bodies m v ks kl (start_known (starts_of ts) ns) (record { number = (debug_data v).lines.number; bytes = bs }) (without_lines v us)
     ≡ new_bodies m (debug_data v) f.readings
 unfolding new_bodies table_change
-made-is m v us ts ps pl ks kl bs ns none f s l w =
+made-is m v us ts ps pl ks kl bs ns f s l w =
     let kt : ℕ → Option ℕ = start_known (starts_of ts) ns in
     let text_s : List (List ℕ) = (table_change m in_str (around_of (debug_data v) f.readings) f.readings).texts in
     let text_l : List (List ℕ) = (table_change m in_line_str (around_of (debug_data v) f.readings) f.readings).texts in
-    let plain = readings-plain (debug_data v).base 0 (debug_data v).units f.readings.units f.reads.units (sections-plain v none [] (debug_data v).units refl) in
     let a = noted-parts m v in_str us ts ps ks f s in
     let b = noted-parts m v in_line_str us ts pl kl f l in
-    let starts = known-starts m v us ts ps pl ks kl bs ns none f s l w in
+    let starts = known-starts m v us ts ps pl ks kl bs ns f s l w in
     let lines : Body = record { number = (debug_data v).lines.number; bytes = bs } in
     let line_is : record { number = (debug_data v).lines.number; bytes = bs } ≡ lines_body (changes_of m (around_of (debug_data v) f.readings) f.readings) (debug_data v) =
-    ap (λ (x : List ℕ). record { number = (debug_data v).lines.number; bytes = x }) (w.bytes ∙ ap all_lines (known-lines m v us ts ps pl ks kl none f s l)) in
+    ap (λ (x : List ℕ). record { number = (debug_data v).lines.number; bytes = x }) (w.bytes ∙ ap all_lines (known-lines m v us ts ps pl ks kl f s l)) in
     let units : bodies_known m v ks kl (start_known (starts_of ts) ns) (paths_of f.readings.units)
     ≡ unit_bodies (changes_of m (around_of (debug_data v) f.readings) f.readings) (around_of (debug_data v) f.readings) f.readings.units =
-    known-parts m v us (paths_of f.readings.units) ts ps pl ks kl (start_known (starts_of ts) ns) none f s l a.units b.units
+    known-parts m v us (paths_of f.readings.units) ts ps pl ks kl (start_known (starts_of ts) ns) f s l a.units b.units
     ∙ ap (λ (k : ℕ → Option ℕ). bodies_after m v (table_change m in_str (around_of (debug_data v) f.readings) f.readings).texts
     (table_change m in_line_str (around_of (debug_data v) f.readings) f.readings).texts k (paths_of f.readings.units)) starts
-    ∙ readings-bodies m v f.readings [] (debug_data v).units 0 f.readings.units refl f.reads.units plain f.inline in
+    ∙ readings-bodies m v f.readings [] (debug_data v).units 0 f.readings.units refl f.reads.units f.inline in
     let slots : one_body (bodies_known m v ks kl (start_known (starts_of ts) ns) (slots_read v f.readings))
     ≡ cells_body (debug_data v).offsets.number (joined (offsets_after (changes_of m (around_of (debug_data v) f.readings) f.readings) (around_of (debug_data v) f.readings) f.readings)) ∷ [] =
-    ap one_body (known-parts m v us (slots_read v f.readings) ts ps pl ks kl (start_known (starts_of ts) ns) none f s l a.slots b.slots)
-    ∙ slots-body m v f.readings (start_known (starts_of ts) ns) none f.reads.offsets in
+    ap one_body (known-parts m v us (slots_read v f.readings) ts ps pl ks kl (start_known (starts_of ts) ns) f s l a.slots b.slots)
+    ∙ slots-body m v f.readings (start_known (starts_of ts) ns) f.reads.offsets in
     let names = names-body m v f.readings f.reads.names.cells in
     let macros : bodies_known m v ks kl (start_known (starts_of ts) ns) (macros_read f.readings.macros)
     ≡ macro_bodies (macros_after (changes_of m (around_of (debug_data v) f.readings) f.readings) (around_of (debug_data v) f.readings) f.readings) =
-    known-parts m v us (macros_read f.readings.macros) ts ps pl ks kl (start_known (starts_of ts) ns) none f s l a.macros b.macros
+    known-parts m v us (macros_read f.readings.macros) ts ps pl ks kl (start_known (starts_of ts) ns) f s l a.macros b.macros
     ∙ ap (λ (k : ℕ → Option ℕ). bodies_after m v (table_change m in_str (around_of (debug_data v) f.readings) f.readings).texts
     (table_change m in_line_str (around_of (debug_data v) f.readings) f.readings).texts k (macros_read f.readings.macros)) starts
-    ∙ macros-bodies m v f.readings none f.reads.macros in
+    ∙ macros-bodies m v f.readings f.reads.macros in
     let rest : pushed_bodies m v ks kl (start_known (starts_of ts) ns) (record { number = (debug_data v).lines.number; bytes = bs }) (without_lines v us)
     ≡ cells_body (debug_data v).offsets.number (joined (offsets_after (changes_of m (around_of (debug_data v) f.readings) f.readings) (around_of (debug_data v) f.readings) f.readings))
     ∷ lines_body (changes_of m (around_of (debug_data v) f.readings) f.readings) (debug_data v)
@@ -246,29 +246,11 @@ made-is m v us ts ps pl ks kl bs ns none f s l w =
     (macros_read f.readings.macros) (read_fields (debug_data v) f.readings) (found-without m v us ts f) (macros-many m v us ts f)
     ∙ parts-are slots line_is names macros units in
     ap (λ (x : List ℕ). record { number = (debug_data v).str.number; bytes = x } ∷ table_body_of v in_line_str pl ∷ pushed_bodies m v ks kl kt lines (without_lines v us))
-    (table-bytes m v in_str us ts ps ks none f s)
+    (table-bytes m v in_str us ts ps ks f s)
     ∙ ap (λ (x : List ℕ). record { number = (debug_data v).str.number; bytes = (debug_data v).str.bytes ++ laid_texts text_s }
-    ∷ record { number = (debug_data v).line_str.number; bytes = x } ∷ pushed_bodies m v ks kl kt lines (without_lines v us)) (table-bytes m v in_line_str us ts pl kl none f l)
+    ∷ record { number = (debug_data v).line_str.number; bytes = x } ∷ pushed_bodies m v ks kl kt lines (without_lines v us)) (table-bytes m v in_line_str us ts pl kl f l)
     ∙ ap (λ (xs : List Body). record { number = (debug_data v).str.number; bytes = (debug_data v).str.bytes ++ laid_texts text_s }
     ∷ record { number = (debug_data v).line_str.number; bytes = (debug_data v).line_str.bytes ++ laid_texts text_l } ∷ xs) rest
-
-pub made : (m : PathMap) (v : View) (us part : List UnitPaths) (ts : List LineTable) (ps pl : TextTable) (ks kl : ℕ → Option ℕ) (bs ns old : List ℕ) (starts : StartChange) (lines : Body)
-    (bodies : List Body) → HasNoRelocations v → PathsFound m v us ts → TableMade m v in_str us ps ks → TableMade m v in_line_str us pl kl → LinesWritten m (line_source (debug_data v)) ks kl ts bs ns
-    → old ≡ starts_of ts → starts ≡ record { old = old; new = ns } → lines ≡ record { number = (debug_data v).lines.number; bytes = bs } → part ≡ without_lines v us
-    → bodies ≡ table_body_of v in_str ps ∷ table_body_of v in_line_str pl ∷ pushed_bodies m v ks kl (λ o. known_starts starts o) lines part → BodiesMade m (debug_data v) bodies
-made m v us part ts ps pl ks kl bs ns old starts lines bodies none found s l w old_is starts_are lines_are part_is is =
-    let same : starts ≡ record { old = starts_of ts; new = ns } = starts_are ∙ ap (λ (xs : List ℕ). record { old = xs; new = ns }) old_is in
-    let front : List Body = table_body_of v in_str ps ∷ table_body_of v in_line_str pl ∷ [] in
-    record {
-      readings = found.readings;
-      reads = found.reads;
-      fits = made-fits m v us ts ps pl ks kl bs ns none found s l w;
-      is = is ∙ ap (λ (x : StartChange). table_body_of v in_str ps ∷ table_body_of v in_line_str pl ∷ pushed_bodies m v ks kl (λ o. known_starts x o) lines part) same
-          ∙ ap (λ (x : Body). table_body_of v in_str ps ∷ table_body_of v in_line_str pl ∷ pushed_bodies m v ks kl (start_known (starts_of ts) ns) x part) lines_are
-          ∙ ap (λ (x : List UnitPaths). table_body_of v in_str ps ∷ table_body_of v in_line_str pl
-          ∷ pushed_bodies m v ks kl (start_known (starts_of ts) ns) (record { number = (debug_data v).lines.number; bytes = bs }) x) part_is
-          ∙ made-is m v us ts ps pl ks kl bs ns none found s l w;
-    }
 
 -- the section of string offsets and those of macro units are among them, and that of line tables
 pub some-among : (m : PathMap) (v : View) (us part : List UnitPaths) (ts : List LineTable) → PathsFound m v us ts → part ≡ without_lines v us → some_sections v ≤ length part
@@ -303,14 +285,8 @@ lines-among m v us ts f =
     let size : length us ≡ length (((paths_of f.readings.units ++ slots_read v f.readings) ++ macros_read f.readings.macros) ++ lines_of_view v ts) = ap (λ (l : List UnitPaths). length l) f.is in
     omega (arith, number, size, length-append ((paths_of f.readings.units ++ slots_read v f.readings) ++ macros_read f.readings.macros) (lines_of_view v ts))
 
--- the places that are known fit
-pub made-fit : (m : PathMap) (v : View) (table : TextSection) (us : List UnitPaths) (pool : TextTable) (known : ℕ → Option ℕ) → TableMade m v table us pool known → AllFit known
-made-fit m v table us pool known t =
-    known_fit (plan_in m v table) m (offsets_in v table) pool.texts known
-    (subst (λ (k : List ℕ). length (k ++ laid_texts pool.texts) ≤ output_limit) t.grown.kept t.grown.small) t.grown.knows
-
-pub all-fields : (m : PathMap) (v : View) (us : List UnitPaths) (ts : List LineTable) → HasNoRelocations v → PathsFound m v us ts → AllHaveFields v us
-all-fields m v us ts none f = found-fields m v us ts none f
+pub all-offsets : (m : PathMap) (v : View) (us : List UnitPaths) (ts : List LineTable) → PathsFound m v us ts → AllHaveOffsets v us
+all-offsets m v us ts f = f.offsets
 
 -- the new starts fit
 start-within : (n k : ℕ) (ts : List (List ℕ)) → k < length (starts_from n ts) → get_or (starts_from n ts) k 0 ≤ n + length (all_lines ts)
@@ -349,16 +325,18 @@ pub table-body : (v : View) (table : TextSection) (pool : TextTable) (n : ℕ) (
 table-body v table pool n bytes number is =
     ap (λ (k : ℕ). record { number = k; bytes = bytes }) number ∙ ap (λ (b : List ℕ). record { number = table_number (debug_data v) table; bytes = b }) is
 
--- two bodies, and more behind them
-pub two-pushed : (none one_ two_ all rest : List Body) (a b x y : Body) → none ≡ [] → one_ ≡ none ++ a ∷ [] → two_ ≡ one_ ++ b ∷ [] → all ≡ two_ ++ rest → a ≡ x → b ≡ y
-    → all ≡ x ∷ y ∷ rest
-two-pushed none one_ two_ all rest a b x y e f g h i j =
+-- two bodies
+pub two-pushed : (none one_ two_ : List Body) (a b x y : Body) → none ≡ [] → one_ ≡ none ++ a ∷ [] → two_ ≡ one_ ++ b ∷ [] → a ≡ x → b ≡ y → two_ ≡ x ∷ y ∷ []
+two-pushed none one_ two_ a b x y e f g i j =
     let first : one_ ≡ a ∷ [] = f ∙ ap (λ (bs : List Body). bs ++ a ∷ []) e in
     let second : two_ ≡ a ∷ b ∷ [] = g ∙ ap (λ (bs : List Body). bs ++ b ∷ []) first in
-    h ∙ ap (λ (bs : List Body). bs ++ rest) second ∙ ap (λ (z : Body). z ∷ b ∷ rest) i ∙ ap (λ (z : Body). x ∷ z ∷ rest) j
+    second ∙ ap (λ (z : Body). z ∷ b ∷ []) i ∙ ap (λ (z : Body). x ∷ z ∷ []) j
 
-pub have-paths : (m : PathMap) (v : View) (us part : List UnitPaths) (ts : List LineTable) → HasNoRelocations v → PathsFound m v us ts → part ≡ without_lines v us → AllHavePaths v part
-have-paths m v us part ts none f is = subst (AllHavePaths v) (sym is) (found-have m v us ts none f)
+pub have-places : (m : PathMap) (v : View) (us part : List UnitPaths) (ts : List LineTable) → PathsFound m v us ts → part ≡ without_lines v us → AllHavePlaces v part
+have-places m v us part ts f is = subst (AllHavePlaces v) (sym is) f.places
+
+pub have-offsets : (m : PathMap) (v : View) (us part : List UnitPaths) (ts : List LineTable) → PathsFound m v us ts → part ≡ without_lines v us → AllHaveOffsets v part
+have-offsets m v us part ts f is = offsets-front v (length us - lines_count v) us part is f.offsets
 
 pub rooms-fit : (m : PathMap) (v : View) (us part : List UnitPaths) (ts : List LineTable) → PathsFound m v us ts → part ≡ without_lines v us → AllRoomsFit m v part
 rooms-fit m v us part ts f is = subst (AllRoomsFit m v) (sym is) f.rooms
@@ -366,4 +344,4 @@ rooms-fit m v us part ts f is = subst (AllRoomsFit m v) (sym is) f.rooms
 pub found-tables : (m : PathMap) (v : View) (us : List UnitPaths) (ts : List LineTable) → PathsFound m v us ts → TablesFound v ts
 found-tables m v us ts f = record { readings = f.readings.lines; reads = f.reads.lines; is = f.tables }
 
-pub ruleset body_rules = (all-fields, made-fit, some-among, macros-among, lines-among, have-paths, rooms-fit, found-tables)
+pub ruleset body_rules = (all-offsets, some-among, macros-among, lines-among, have-places, have-offsets, rooms-fit, found-tables)

@@ -1,6 +1,6 @@
 -- The new bodies are those of the readings of debug data.
 use Rattle.std.proofs.Common.{◌≡◌, ℕ, suc, ◌+◌, ◌<◌, List, [], ◌∷◌, ◌++◌, length, get_or, Option, Some, None, refl, sym, ap, ◌∙◌, arith, append_assoc}
-use Rattle.dw_base.specs.Cells.{bytes_of}
+use Rattle.dw_base.specs.Cells.{Cell, bytes_of}
 use Rattle.dw_base.specs.DebugSections.{name_of}
 use Rattle.dw_base.specs.OffsetPieces.{OffsetState, ReadsOffsets}
 use Rattle.dw_base.specs.SectionTexts.{edited_with, mentions_with, slot_role}
@@ -9,7 +9,7 @@ use Rattle.dw_base.proofs.ViewCellLaws.{bytes-cells, bytes_of-view_cells}
 use Rattle.dw_meaning.specs.DataOutput.{Body, cells_body, table_change, changes_of, names_after, offsets_after, unit_body, unit_bodies}
 use Rattle.dw_base.specs.DebugData.{DebugData, DataReadings, Around, around_of, path_slots, table_of, units_in, ReadsAll}
 use Rattle.dw_base.specs.Readings.{Reading, Readings, EachReading}
-use Rattle.dw_base.specs.FileViews.{View, section_bytes, section_named}
+use Rattle.dw_base.specs.FileViews.{View, section_bytes, section_named, view_cells}
 use Rattle.dw_base.specs.Forms.{TextSection, in_str, in_line_str}
 use Rattle.dw_base.specs.Paths.{PathMap}
 use Rattle.dw_base.specs.Pieces.{Piece, joined, EachPiece}
@@ -19,46 +19,44 @@ use Rattle.dw_base.specs.UnitHeaders.{UnitSection}
 use Rattle.dw_base.specs.UnitPieces.{ReadsUnits}
 use Rattle.dw_base.specs.UnitStates.{UnitState, before_unit}
 use Rattle.dw_base.specs.ViewData.{cells_located, debug_data, located_at}
-use Rattle.dw_meaning.proofs.TextEditLaws.{PlainPiece}
 use Rattle.dw_rewrite.specs.PushedBodies.{kept_body, names_body, one_body}
 use Rattle.dw_find.specs.SlotPaths.{offset_fields, read_fields, slots_by, slots_read, slots_with}
 use Rattle.dw_find.proofs.SlotPlaceLaws.{line-fields}
 use Rattle.dw_rewrite.proofs.SlotWrittenLaws.{names-kept, no-offsets, slots_written, texts_by_slots}
-use Rattle.dw_find.specs.Fields.{OffsetTable}
-use Rattle.dw_rewrite.specs.Changes.{texts_at, patched, start_table, with_all_known}
-use Rattle.dw_base.specs.declared.shared.Order.{Order}
-use Rattle.dw_find.specs.ViewFields.{HasNoRelocations, offsets_of, offsets_in, fields_of, info_of}
-use Rattle.dw_rewrite.specs.NewTables.{plan_in, section_texts_at, all_texts_at, IsSectionNoted, Growing, TableMade, change_in, section_after, body_after, bodies_after, section_known, bodies_known}
+use Rattle.dw_rewrite.specs.Changes.{FieldSource, patched, texts_at, with_all_known}
+use Rattle.dw_find.specs.ViewFields.{fields_of, info_of}
+use Rattle.dw_rewrite.specs.NewTables.{plan_in, section_texts_at, all_texts_at, IsSectionNoted, Growing, TableMade, change_in, section_after, body_after, bodies_after, section_known, bodies_known, source_in, starts_in}
 use Rattle.dw_find.specs.UnitPaths.{UnitPaths, path_fields, inline_paths, paths_in, paths_of, start_fields}
-use Rattle.dw_rewrite.specs.UnitsAfter.{offset_table, inlined}
+use Rattle.dw_rewrite.specs.UnitsAfter.{inlined, text_source}
 use Rattle.dw_find.specs.declared.fields.PathField.{PathField}
 use Rattle.dw_rewrite.proofs.ChangedLaws.{put_is_patched}
 use Rattle.dw_rewrite.proofs.EditedLaws.{texts_by_fields}
-use Rattle.dw_rewrite.proofs.NoRelocationLaws.{offsets-plain}
 use Rattle.dw_find.proofs.PlaceValueLaws.{EachOf}
-use Rattle.dw_find.proofs.PlacedLaws.{Placed, placed}
-use Rattle.dw_find.proofs.SectionFactLaws.{own-section, own-bytes}
+use Rattle.dw_find.proofs.PlacedLaws.{PlacedCells, placed-cells}
+use Rattle.dw_find.proofs.SectionFactLaws.{own-section}
 use Rattle.dw_rewrite.proofs.UnitWrittenLaws.{pieces_written, starts_by}
-use Rattle.dw_find.proofs.OffsetPlaceLaws.{offsets-of, offsets-placed}
+use Rattle.dw_find.proofs.OffsetPlaceLaws.{offsets-in, offsets-of}
 
--- the bytes of a section that was read
-reading-bytes : (v : View) (before behind : List UnitSection) (z : UnitSection) (r : Reading) → (debug_data v).units ≡ before ++ z ∷ behind → r.number ≡ z.number
-    → bytes_of z.contents ≡ section_bytes v r.number
-reading-bytes v before behind z r split number = own-bytes v z (own-section v before behind z split) ∙ ap (section_bytes v) (sym number)
+-- the cells of a section that was read
+reading-cells : (v : View) (before behind : List UnitSection) (z : UnitSection) (r : Reading) → (debug_data v).units ≡ before ++ z ∷ behind → r.number ≡ z.number
+    → z.contents ≡ view_cells v r.number
+reading-cells v before behind z r split number = (own-section v before behind z split).contents ∙ ap (view_cells v) (sym number)
 
 -- its pieces stand in it
-reading-placed : (d : DebugData) (z : UnitSection) (first : ℕ) (xs : List (Piece UnitState)) → ReadsUnits d.base z first xs → Placed (bytes_of z.contents) 0 xs
-reading-placed d z first xs r =
-    placed d.base (bytes_of z.contents) (before_unit z.number z.kind (length z.contents) 0 first) 0 xs refl r.chain (ap bytes_of r.cells)
+reading-placed : (d : DebugData) (z : UnitSection) (first : ℕ) (xs : List (Piece UnitState)) (cells : List Cell) → ReadsUnits d.base z first xs → z.contents ≡ cells
+    → PlacedCells cells 0 xs
+reading-placed d z first xs cells r same =
+    placed-cells d.base cells (before_unit z.number z.kind (length z.contents) 0 first) 0 xs refl r.chain (r.cells ∙ same)
 
 -- the tables around readings
-pub same-offset_table : (d : DebugData) (rs : DataReadings) (table : TextSection) → offset_table (around_of d rs) table ≡ offsets_of d table
-same-offset_table d rs in_str = refl
-same-offset_table d rs in_line_str = refl
+pub same-source : (v : View) (rs : DataReadings) (section : ℕ) (table : TextSection) → text_source (around_of (debug_data v) rs) (view_cells v section) table ≡ source_in v section table
+unfolding debug_data
+same-source v rs section in_str = refl
+same-source v rs section in_line_str = refl
 
-pub same-plan : (m : PathMap) (d : DebugData) (rs : DataReadings) (table : TextSection) → appending m (offsets_of d table).bytes ≡ appending m (table_of (around_of d rs) table).bytes
-same-plan m d rs in_str = refl
-same-plan m d rs in_line_str = refl
+pub same-plan : (m : PathMap) (v : View) (rs : DataReadings) (table : TextSection) → plan_in m v table ≡ appending m (table_of (around_of (debug_data v) rs) table).bytes
+same-plan m v rs in_str = refl
+same-plan m v rs in_line_str = refl
 
 same-fields : (table : TextSection) (r : Reading) → path_fields table r.pieces ≡ fields_of table (paths_in r)
 same-fields in_str r = refl
@@ -70,49 +68,48 @@ texts_after-append plan m ts (x ∷ xs) ys = texts_after-append plan m (with_men
 
 -- the new texts of a section are those of its fields
 reading-texts : (m : PathMap) (v : View) (all : DataReadings) (table : TextSection) (ts : List (List ℕ)) (before behind : List UnitSection) (z : UnitSection) (first : ℕ) (r : Reading)
-    → (debug_data v).units ≡ before ++ z ∷ behind → r.number ≡ z.number → ReadsUnits (debug_data v).base z first r.pieces → EachPiece PlainPiece r.pieces
+    → (debug_data v).units ≡ before ++ z ∷ behind → r.number ≡ z.number → ReadsUnits (debug_data v).base z first r.pieces
     → texts_after (plan_in m v table) m ts (mentions_of table (around_of (debug_data v) all) r.pieces) ≡ section_texts_at m v table ts (paths_in r)
-reading-texts m v all table ts before behind z first r split number reads plain =
-    texts_by_fields table (plan_in m v table) m (around_of (debug_data v) all) (bytes_of z.contents) ts 0 r.pieces (same-plan m (debug_data v) all table)
-    (reading-placed (debug_data v) z first r.pieces reads) plain
-    ∙ ap (λ (o : OffsetTable). texts_at (plan_in m v table) m o (bytes_of z.contents) ts (path_fields table r.pieces)) (same-offset_table (debug_data v) all table)
-    ∙ ap (λ (bs : List ℕ). texts_at (plan_in m v table) m (offsets_in v table) bs ts (path_fields table r.pieces)) (reading-bytes v before behind z r split number)
-    ∙ ap (texts_at (plan_in m v table) m (offsets_in v table) (section_bytes v r.number) ts) (same-fields table r)
+reading-texts m v all table ts before behind z first r split number reads =
+    texts_by_fields table (plan_in m v table) m (around_of (debug_data v) all) (view_cells v r.number) ts 0 r.pieces (same-plan m v all table)
+    (reading-placed (debug_data v) z first r.pieces (view_cells v r.number) reads (reading-cells v before behind z r split number))
+    ∙ ap (λ (s : FieldSource). texts_at (plan_in m v table) m s ts (path_fields table r.pieces)) (same-source v all r.number table)
+    ∙ ap (texts_at (plan_in m v table) m (source_in v r.number table) ts) (same-fields table r)
 
 pub readings-texts : (m : PathMap) (v : View) (all : DataReadings) (table : TextSection) (ts : List (List ℕ)) (before zs : List UnitSection) (first : ℕ) (rs : Readings)
-    → (debug_data v).units ≡ before ++ zs → ReadsAll (debug_data v).base first zs rs → EachReading PlainPiece rs
+    → (debug_data v).units ≡ before ++ zs → ReadsAll (debug_data v).base first zs rs
     → texts_after (plan_in m v table) m ts (all_mentions table (around_of (debug_data v) all) rs) ≡ all_texts_at m v table ts (paths_of rs)
-readings-texts m v all table ts before [] first [] split reads plain = refl
-readings-texts m v all table ts before [] first (r ∷ rs) split reads plain = absurd reads
-readings-texts m v all table ts before (z ∷ zs) first [] split reads plain = absurd reads
-readings-texts m v all table ts before (z ∷ zs) first (r ∷ rs) split reads plain =
+readings-texts m v all table ts before [] first [] split reads = refl
+readings-texts m v all table ts before [] first (r ∷ rs) split reads = absurd reads
+readings-texts m v all table ts before (z ∷ zs) first [] split reads = absurd reads
+readings-texts m v all table ts before (z ∷ zs) first (r ∷ rs) split reads =
     texts_after-append (plan_in m v table) m ts (mentions_of table (around_of (debug_data v) all) r.pieces) (all_mentions table (around_of (debug_data v) all) rs)
     ∙ ap (λ (us : List (List ℕ)). texts_after (plan_in m v table) m us (all_mentions table (around_of (debug_data v) all) rs))
-    (reading-texts m v all table ts before zs z first r split reads.0 reads.1 plain.0)
+    (reading-texts m v all table ts before zs z first r split reads.0 reads.1)
     ∙ readings-texts m v all table (section_texts_at m v table ts (paths_in r)) (before ++ z ∷ []) zs (first + units_in r.pieces) rs
-    (split ∙ sym (append_assoc before (z ∷ []) zs)) reads.2 plain.1
+    (split ∙ sym (append_assoc before (z ∷ []) zs)) reads.2
 
 -- the same of string offsets
 same-slots : (table : TextSection) (i : ℕ) (d : DebugData) (rs : DataReadings) → offset_fields table (path_slots (around_of d rs)) rs.offsets ≡ fields_of table (slots_with i (read_fields d rs))
 same-slots in_str i d rs = refl
 same-slots in_line_str i d rs = line-fields (path_slots (around_of d rs)) rs.offsets
 
-slots-texts-by : (m : PathMap) (v : View) (rs : DataReadings) (table : TextSection) (ts : List (List ℕ)) (o : Option ℕ) → HasNoRelocations v → ReadsOffsets v.order (cells_located v o).contents rs.offsets
+slots-texts-by : (m : PathMap) (v : View) (rs : DataReadings) (table : TextSection) (ts : List (List ℕ)) (o : Option ℕ) → ReadsOffsets v.order (cells_located v o).contents rs.offsets
     → texts_after (plan_in m v table) m ts (mentions_with (slot_role (path_slots (around_of (debug_data v) rs))) table (around_of (debug_data v) rs) rs.offsets)
     ≡ all_texts_at m v table ts (slots_by o (read_fields (debug_data v) rs))
-slots-texts-by m v rs table ts None none r =
+slots-texts-by m v rs table ts None r =
     ap (λ (xs : List (Piece OffsetState)). texts_after (plan_in m v table) m ts (mentions_with (slot_role (path_slots (around_of (debug_data v) rs))) table (around_of (debug_data v) rs) xs))
     (no-offsets v.order rs.offsets r)
-slots-texts-by m v rs table ts (Some i) none r =
-    texts_by_slots table (plan_in m v table) m (around_of (debug_data v) rs) (section_bytes v i) ts 0 (path_slots (around_of (debug_data v) rs)) rs.offsets (same-plan m (debug_data v) rs table)
-    (offsets-placed v (Some i) rs.offsets r) (offsets-plain v none (Some i) rs.offsets r)
-    ∙ ap (λ (t : OffsetTable). texts_at (plan_in m v table) m t (section_bytes v i) ts (offset_fields table (path_slots (around_of (debug_data v) rs)) rs.offsets)) (same-offset_table (debug_data v) rs table)
-    ∙ ap (texts_at (plan_in m v table) m (offsets_in v table) (section_bytes v i) ts) (same-slots table i (debug_data v) rs)
+slots-texts-by m v rs table ts (Some i) r =
+    texts_by_slots table (plan_in m v table) m (around_of (debug_data v) rs) (view_cells v i) ts 0 (path_slots (around_of (debug_data v) rs)) rs.offsets (same-plan m v rs table)
+    (offsets-in v (Some i) rs.offsets r)
+    ∙ ap (λ (s : FieldSource). texts_at (plan_in m v table) m s ts (offset_fields table (path_slots (around_of (debug_data v) rs)) rs.offsets)) (same-source v rs i table)
+    ∙ ap (texts_at (plan_in m v table) m (source_in v i table) ts) (same-slots table i (debug_data v) rs)
 
-pub slots-texts : (m : PathMap) (v : View) (rs : DataReadings) (table : TextSection) (ts : List (List ℕ)) → HasNoRelocations v → ReadsOffsets (debug_data v).base.order (debug_data v).offsets.contents rs.offsets
+pub slots-texts : (m : PathMap) (v : View) (rs : DataReadings) (table : TextSection) (ts : List (List ℕ)) → ReadsOffsets (debug_data v).base.order (debug_data v).offsets.contents rs.offsets
     → texts_after (plan_in m v table) m ts (mentions_with (slot_role (path_slots (around_of (debug_data v) rs))) table (around_of (debug_data v) rs) rs.offsets)
     ≡ all_texts_at m v table ts (slots_read v rs)
-slots-texts m v rs table ts none r = slots-texts-by m v rs table ts (section_named v (name_of StrOffsets)) none (offsets-of v rs.offsets r)
+slots-texts m v rs table ts r = slots-texts-by m v rs table ts (section_named v (name_of StrOffsets)) (offsets-of v rs.offsets r)
 
 pub all_texts-append : (m : PathMap) (v : View) (table : TextSection) (ts : List (List ℕ)) (us ws : List UnitPaths)
     → all_texts_at m v table ts (us ++ ws) ≡ all_texts_at m v table (all_texts_at m v table ts us) ws
@@ -123,60 +120,54 @@ all_texts-append m v table ts (u ∷ us) ws = all_texts-append m v table (sectio
 abbrev pub starts_after : PathMap → View → DataReadings → ℕ → Option ℕ
 starts_after m v all = starts_by (changes_of m (around_of (debug_data v) all) all) (around_of (debug_data v) all)
 
-pub data-order : (v : View) → (debug_data v).base.order ≡ v.order
-unfolding debug_data
-data-order v = refl
-
 -- the new bytes of a section are those of its edited pieces
 reading-body : (m : PathMap) (v : View) (all : DataReadings) (before behind : List UnitSection) (z : UnitSection) (first : ℕ) (r : Reading)
-    → (debug_data v).units ≡ before ++ z ∷ behind → r.number ≡ z.number → ReadsUnits (debug_data v).base z first r.pieces → EachPiece PlainPiece r.pieces
-    → EachPiece (InlineFits m) r.pieces
+    → (debug_data v).units ≡ before ++ z ∷ behind → r.number ≡ z.number → ReadsUnits (debug_data v).base z first r.pieces → EachPiece (InlineFits m) r.pieces
     → section_after m v (table_change m in_str (around_of (debug_data v) all) all).texts (table_change m in_line_str (around_of (debug_data v) all) all).texts (starts_after m v all) (paths_in r)
     ≡ bytes_of (joined (edited_all (changes_of m (around_of (debug_data v) all) all) (around_of (debug_data v) all) r.pieces))
-unfolding section_after table_change
-reading-body m v all before behind z first r split number reads plain fits =
+unfolding section_after table_change debug_data
+reading-body m v all before behind z first r split number reads fits =
     let a : Around = around_of (debug_data v) all in
-    let ts : List (List ℕ) = (table_change m in_str (around_of (debug_data v) all) all).texts in
-    let ls : List (List ℕ) = (table_change m in_line_str (around_of (debug_data v) all) all).texts in
-    let fs : List PathField = path_fields in_str r.pieces in
-    let gs : List PathField = path_fields in_line_str r.pieces in
-    let hs : List PathField = start_fields r.pieces in
-    ap (λ (bs : List ℕ). inlined m bs (with_all_known (start_table v.order) bs (starts_after m v all) (patched (change_in m v in_line_str ls) m (offsets_in v in_line_str) bs
-    (patched (change_in m v in_str ts) m (offsets_in v in_str) bs bs fs) gs) hs) (inline_paths r.pieces)) (sym (reading-bytes v before behind z r split number))
-    ∙ ap (λ (out : List ℕ). inlined m (bytes_of z.contents) (with_all_known (start_table v.order) (bytes_of z.contents) (starts_after m v all)
-    (patched (change_in m v in_line_str ls) m (offsets_in v in_line_str) (bytes_of z.contents)
-    (patched (change_in m v in_str ts) m (offsets_in v in_str) (bytes_of z.contents) out fs) gs) hs) (inline_paths r.pieces)) (sym (ap bytes_of reads.cells))
-    ∙ ap (λ (o : Order). inlined m (bytes_of z.contents) (with_all_known (start_table o) (bytes_of z.contents) (starts_after m v all)
-    (patched (change_in m v in_line_str ls) m (offsets_in v in_line_str) (bytes_of z.contents)
-    (patched (change_in m v in_str ts) m (offsets_in v in_str) (bytes_of z.contents) (bytes_of (joined r.pieces)) fs) gs) hs) (inline_paths r.pieces)) (sym (data-order v))
-    ∙ pieces_written (changes_of m (around_of (debug_data v) all) all) (around_of (debug_data v) all) (bytes_of z.contents) [] 0 r.pieces refl refl refl
-    (reading-placed (debug_data v) z first r.pieces reads) plain fits
+    let cells : List Cell = view_cells v r.number in
+    let same : z.contents ≡ view_cells v r.number = reading-cells v before behind z r split number in
+    let own : bytes_of (view_cells v r.number) ≡ section_bytes v r.number = bytes_of-view_cells v r.number in
+    let start : bytes_of (joined r.pieces) ≡ section_bytes v r.number = ap bytes_of (reads.cells ∙ same) ∙ own in
+    ap (λ (bs : List ℕ). inlined m bs (with_all_known (starts_in v r.number) (starts_after m v all)
+    (patched (change_in m v in_line_str (table_change m in_line_str (around_of (debug_data v) all) all).texts) m (source_in v r.number in_line_str)
+    (patched (change_in m v in_str (table_change m in_str (around_of (debug_data v) all) all).texts) m (source_in v r.number in_str) (section_bytes v r.number) (path_fields in_str r.pieces))
+    (path_fields in_line_str r.pieces)) (start_fields r.pieces)) (inline_paths r.pieces)) (sym own)
+    ∙ ap (λ (out : List ℕ). inlined m (bytes_of (view_cells v r.number)) (with_all_known (starts_in v r.number) (starts_after m v all)
+    (patched (change_in m v in_line_str (table_change m in_line_str (around_of (debug_data v) all) all).texts) m (source_in v r.number in_line_str)
+    (patched (change_in m v in_str (table_change m in_str (around_of (debug_data v) all) all).texts) m (source_in v r.number in_str) out (path_fields in_str r.pieces))
+    (path_fields in_line_str r.pieces)) (start_fields r.pieces)) (inline_paths r.pieces)) (sym start)
+    ∙ pieces_written (changes_of m (around_of (debug_data v) all) all) (around_of (debug_data v) all) (view_cells v r.number) [] 0 r.pieces refl refl refl
+    (reading-placed (debug_data v) z first r.pieces (view_cells v r.number) reads same) fits
 
 pub readings-bodies : (m : PathMap) (v : View) (all : DataReadings) (before zs : List UnitSection) (first : ℕ) (rs : Readings) → (debug_data v).units ≡ before ++ zs
-    → ReadsAll (debug_data v).base first zs rs → EachReading PlainPiece rs → EachReading (InlineFits m) rs
+    → ReadsAll (debug_data v).base first zs rs → EachReading (InlineFits m) rs
     → bodies_after m v (table_change m in_str (around_of (debug_data v) all) all).texts (table_change m in_line_str (around_of (debug_data v) all) all).texts (starts_after m v all) (paths_of rs)
     ≡ unit_bodies (changes_of m (around_of (debug_data v) all) all) (around_of (debug_data v) all) rs
-readings-bodies m v all before [] first [] split reads plain fits = refl
-readings-bodies m v all before [] first (r ∷ rs) split reads plain fits = absurd reads
-readings-bodies m v all before (z ∷ zs) first [] split reads plain fits = absurd reads
-readings-bodies m v all before (z ∷ zs) first (r ∷ rs) split reads plain fits =
+readings-bodies m v all before [] first [] split reads fits = refl
+readings-bodies m v all before [] first (r ∷ rs) split reads fits = absurd reads
+readings-bodies m v all before (z ∷ zs) first [] split reads fits = absurd reads
+readings-bodies m v all before (z ∷ zs) first (r ∷ rs) split reads fits =
     let ts : List (List ℕ) = (table_change m in_str (around_of (debug_data v) all) all).texts in
     let ls : List (List ℕ) = (table_change m in_line_str (around_of (debug_data v) all) all).texts in
-    ap (λ (bs : List ℕ). record { number = r.number; bytes = bs } ∷ bodies_after m v ts ls (starts_after m v all) (paths_of rs)) (reading-body m v all before zs z first r split reads.0 reads.1 plain.0 fits.0)
+    ap (λ (bs : List ℕ). record { number = r.number; bytes = bs } ∷ bodies_after m v ts ls (starts_after m v all) (paths_of rs)) (reading-body m v all before zs z first r split reads.0 reads.1 fits.0)
     ∙ ap (λ (bodies : List Body). unit_body (changes_of m (around_of (debug_data v) all) all) (around_of (debug_data v) all) r ∷ bodies)
-    (readings-bodies m v all (before ++ z ∷ []) zs (first + units_in r.pieces) rs (split ∙ sym (append_assoc before (z ∷ []) zs)) reads.2 plain.1 fits.1)
+    (readings-bodies m v all (before ++ z ∷ []) zs (first + units_in r.pieces) rs (split ∙ sym (append_assoc before (z ∷ []) zs)) reads.2 fits.1)
 
 -- the known places make the new bytes of a section
 known-section : (m : PathMap) (v : View) (ps pl : TextTable) (ks kl kt : ℕ → Option ℕ) (u : UnitPaths) → Growing m v in_str ps ks → Growing m v in_line_str pl kl
     → IsSectionNoted m v in_str u ks → IsSectionNoted m v in_line_str u kl → section_known m v ks kl kt u ≡ section_after m v ps.texts pl.texts kt u
 unfolding section_known section_after
 known-section m v ps pl ks kl kt u gs gl ns nl =
-    let first = put_is_patched (plan_in m v in_str) m (offsets_in v in_str) ps.texts (info_of v u) (info_of v u) u.str ks gs.knows ns in
-    ap (λ (out : List ℕ). inlined m (info_of v u) (with_all_known (start_table v.order) (info_of v u) kt (with_all_known (offsets_in v in_line_str) (info_of v u) kl out u.line_str) u.starts)
+    let first = put_is_patched (plan_in m v in_str) m (source_in v u.number in_str) ps.texts (info_of v u) u.str ks gs.knows ns in
+    ap (λ (out : List ℕ). inlined m (info_of v u) (with_all_known (starts_in v u.number) kt (with_all_known (source_in v u.number in_line_str) kl out u.line_str) u.starts)
     u.inline) first
-    ∙ ap (λ (out : List ℕ). inlined m (info_of v u) (with_all_known (start_table v.order) (info_of v u) kt out u.starts) u.inline)
-    (put_is_patched (plan_in m v in_line_str) m (offsets_in v in_line_str) pl.texts (info_of v u)
-    (patched (change_in m v in_str ps.texts) m (offsets_in v in_str) (info_of v u) (info_of v u) u.str) u.line_str kl gl.knows nl)
+    ∙ ap (λ (out : List ℕ). inlined m (info_of v u) (with_all_known (starts_in v u.number) kt out u.starts) u.inline)
+    (put_is_patched (plan_in m v in_line_str) m (source_in v u.number in_line_str) pl.texts
+    (patched (change_in m v in_str ps.texts) m (source_in v u.number in_str) (info_of v u) u.str) u.line_str kl gl.knows nl)
 
 pub known-bodies : (m : PathMap) (v : View) (ps pl : TextTable) (ks kl kt : ℕ → Option ℕ) (us : List UnitPaths) → Growing m v in_str ps ks → Growing m v in_line_str pl kl
     → EachOf (λ u. IsSectionNoted m v in_str u ks) us → EachOf (λ u. IsSectionNoted m v in_line_str u kl) us
@@ -197,37 +188,35 @@ pub made-noted : (m : PathMap) (v : View) (table : TextSection) (us : List UnitP
 made-noted m v table us pool known t = noted-each m v table known us (λ (k : ℕ) (d : UnitPaths) (lt : k < length us). t.noted.each k d lt lt)
 
 -- the new bytes of string offsets are those of their edited pieces
-slots-body-by : (m : PathMap) (v : View) (rs : DataReadings) (kt : ℕ → Option ℕ) (o : Option ℕ) → HasNoRelocations v → ReadsOffsets v.order (cells_located v o).contents rs.offsets
+slots-body-by : (m : PathMap) (v : View) (rs : DataReadings) (kt : ℕ → Option ℕ) (o : Option ℕ) → ReadsOffsets v.order (cells_located v o).contents rs.offsets
     → one_body (bodies_after m v (table_change m in_str (around_of (debug_data v) rs) rs).texts (table_change m in_line_str (around_of (debug_data v) rs) rs).texts kt (slots_by o (read_fields (debug_data v) rs)))
     ≡ cells_body (cells_located v o).number (joined (offsets_after (changes_of m (around_of (debug_data v) rs) rs) (around_of (debug_data v) rs) rs)) ∷ []
-unfolding section_after table_change
-slots-body-by m v rs kt None none r =
+unfolding section_after table_change debug_data
+slots-body-by m v rs kt None r =
     ap (λ (xs : List (Piece OffsetState)). record {
       number = 0;
       bytes = bytes_of (joined (edited_with (slot_role (path_slots (around_of (debug_data v) rs)))
           (changes_of m (around_of (debug_data v) rs) rs) (around_of (debug_data v) rs) xs));
     } ∷ []) (sym (no-offsets v.order rs.offsets r))
-slots-body-by m v rs kt (Some i) none r =
-    let a : Around = around_of (debug_data v) rs in
+slots-body-by m v rs kt (Some i) r =
     let paths : List ℕ = path_slots (around_of (debug_data v) rs) in
-    let info : List ℕ = section_bytes v i in
-    let ts : List (List ℕ) = (table_change m in_str (around_of (debug_data v) rs) rs).texts in
-    let ls : List (List ℕ) = (table_change m in_line_str (around_of (debug_data v) rs) rs).texts in
-    let fs : List PathField = offset_fields in_str (path_slots (around_of (debug_data v) rs)) rs.offsets in
-    let start : bytes_of (joined rs.offsets) ≡ section_bytes v i = ap bytes_of r.cells ∙ bytes_of-view_cells v i in
+    let own : bytes_of (view_cells v i) ≡ section_bytes v i = bytes_of-view_cells v i in
+    let start : bytes_of (joined rs.offsets) ≡ section_bytes v i = ap bytes_of r.cells ∙ own in
     ap (λ (bs : List ℕ). record { number = i; bytes = bs } ∷ [])
-    (ap (λ (gs : List PathField). inlined m (section_bytes v i) (patched (change_in m v in_line_str ls) m (offsets_in v in_line_str) (section_bytes v i)
-    (patched (change_in m v in_str ts) m (offsets_in v in_str) (section_bytes v i) (section_bytes v i) fs) gs) []) (sym (line-fields paths rs.offsets))
-    ∙ ap (λ (out : List ℕ). inlined m (section_bytes v i) (patched (change_in m v in_line_str ls) m (offsets_in v in_line_str) (section_bytes v i)
-    (patched (change_in m v in_str ts) m (offsets_in v in_str) (section_bytes v i) out fs) (offset_fields in_line_str (path_slots (around_of (debug_data v) rs)) rs.offsets)) []) (sym start)
-    ∙ slots_written (changes_of m (around_of (debug_data v) rs) rs) (around_of (debug_data v) rs) (section_bytes v i) [] 0 (path_slots (around_of (debug_data v) rs)) rs.offsets refl refl refl
-    (offsets-placed v (Some i) rs.offsets r) (offsets-plain v none (Some i) rs.offsets r))
+    (ap (λ (gs : List PathField). patched (change_in m v in_line_str (table_change m in_line_str (around_of (debug_data v) rs) rs).texts) m (source_in v i in_line_str)
+    (patched (change_in m v in_str (table_change m in_str (around_of (debug_data v) rs) rs).texts) m (source_in v i in_str) (section_bytes v i)
+    (offset_fields in_str (path_slots (around_of (debug_data v) rs)) rs.offsets)) gs) (sym (line-fields paths rs.offsets))
+    ∙ ap (λ (out : List ℕ). patched (change_in m v in_line_str (table_change m in_line_str (around_of (debug_data v) rs) rs).texts) m (source_in v i in_line_str)
+    (patched (change_in m v in_str (table_change m in_str (around_of (debug_data v) rs) rs).texts) m (source_in v i in_str) out
+    (offset_fields in_str (path_slots (around_of (debug_data v) rs)) rs.offsets)) (offset_fields in_line_str (path_slots (around_of (debug_data v) rs)) rs.offsets)) (sym start)
+    ∙ slots_written (changes_of m (around_of (debug_data v) rs) rs) (around_of (debug_data v) rs) (view_cells v i) [] 0 (path_slots (around_of (debug_data v) rs)) rs.offsets refl refl refl
+    (offsets-in v (Some i) rs.offsets r))
 
-pub slots-body : (m : PathMap) (v : View) (rs : DataReadings) (kt : ℕ → Option ℕ) → HasNoRelocations v → ReadsOffsets (debug_data v).base.order (debug_data v).offsets.contents rs.offsets
+pub slots-body : (m : PathMap) (v : View) (rs : DataReadings) (kt : ℕ → Option ℕ) → ReadsOffsets (debug_data v).base.order (debug_data v).offsets.contents rs.offsets
     → one_body (bodies_after m v (table_change m in_str (around_of (debug_data v) rs) rs).texts (table_change m in_line_str (around_of (debug_data v) rs) rs).texts kt (slots_read v rs))
     ≡ cells_body (debug_data v).offsets.number (joined (offsets_after (changes_of m (around_of (debug_data v) rs) rs) (around_of (debug_data v) rs) rs)) ∷ []
 unfolding debug_data
-slots-body m v rs kt none r = slots-body-by m v rs kt (section_named v (name_of StrOffsets)) none (offsets-of v rs.offsets r)
+slots-body m v rs kt r = slots-body-by m v rs kt (section_named v (name_of StrOffsets)) (offsets-of v rs.offsets r)
 
 -- name tables keep their bytes
 names-body-by : (m : PathMap) (v : View) (rs : DataReadings) (o : Option ℕ) → joined rs.names ≡ (cells_located v o).contents

@@ -6,9 +6,7 @@ use Rattle.dw_base.specs.DebugSections.{name_of}
 use Rattle.dw_base.specs.FileViews.{View, section_bytes, section_named}
 use Rattle.dw_base.specs.Paths.{PathMap}
 use Rattle.dw_base.specs.declared.debug_sections.DebugSection.TheVariants.{Line, Names, StrOffsets}
-use Rattle.dw_base.specs.declared.fault.Fault.{Fault}
-use Rattle.dw_base.specs.declared.fault.Fault.TheVariants.{NoMemory}
-use Rattle.dw_find.specs.ViewFields.{AllHavePaths, AllRoomsFit}
+use Rattle.dw_find.specs.ViewFields.{AllHaveOffsets, AllHavePlaces, AllRoomsFit}
 use Rattle.dw_rewrite.specs.NewTables.{bodies_known}
 use Rattle.dw_find.specs.SlotPaths.{count_of, lines_count}
 use Rattle.dw_rewrite.specs.PushedBodies.{kept_body, macros_among, macros_count, names_body, one_body, pushed_bodies, slots_among, slots_count, some_sections, without_macros, without_slots}
@@ -61,22 +59,34 @@ names-pushed v old new x is e = e ∙ ap (λ (b : Body). old ++ b ∷ []) is
 
 pub ruleset name_rules = (names-some, names-none, names-pushed)
 
--- parts of sections that have paths have them
-have-parts : (v : View) (xs ys : List UnitPaths) → AllHavePaths v (xs ++ ys) → AllHavePaths v xs × AllHavePaths v ys
+-- parts of sections that have places and offsets have them
+have-parts : (v : View) (xs ys : List UnitPaths) → AllHavePlaces v (xs ++ ys) → AllHavePlaces v xs × AllHavePlaces v ys
 have-parts v [] ys h = (tt, h)
 have-parts v (x ∷ xs) ys h = let rest = have-parts v xs ys h.1 in ((h.0, rest.0), rest.1)
+
+offsets-parts : (v : View) (xs ys : List UnitPaths) → AllHaveOffsets v (xs ++ ys) → AllHaveOffsets v xs × AllHaveOffsets v ys
+offsets-parts v [] ys h = (tt, h)
+offsets-parts v (x ∷ xs) ys h = let rest = offsets-parts v xs ys h.1 in ((h.0, rest.0), rest.1)
 
 rooms-parts : (m : PathMap) (v : View) (xs ys : List UnitPaths) → AllRoomsFit m v (xs ++ ys) → AllRoomsFit m v xs × AllRoomsFit m v ys
 rooms-parts m v [] ys h = (tt, h)
 rooms-parts m v (x ∷ xs) ys h = let rest = rooms-parts m v xs ys h.1 in ((h.0, rest.0), rest.1)
 
-pub have-front : (v : View) (n : ℕ) (us part : List UnitPaths) → part ≡ take n us → AllHavePaths v us → AllHavePaths v part
+pub have-front : (v : View) (n : ℕ) (us part : List UnitPaths) → part ≡ take n us → AllHavePlaces v us → AllHavePlaces v part
 have-front v n us part e h =
-    subst (AllHavePaths v) (sym e) (have-parts v (take n us) (drop n us) (subst (AllHavePaths v) (sym (take-append-drop n us)) h)).0
+    subst (AllHavePlaces v) (sym e) (have-parts v (take n us) (drop n us) (subst (AllHavePlaces v) (sym (take-append-drop n us)) h)).0
 
-pub have-back : (v : View) (n : ℕ) (us part : List UnitPaths) → part ≡ drop n us → AllHavePaths v us → AllHavePaths v part
+pub have-back : (v : View) (n : ℕ) (us part : List UnitPaths) → part ≡ drop n us → AllHavePlaces v us → AllHavePlaces v part
 have-back v n us part e h =
-    subst (AllHavePaths v) (sym e) (have-parts v (take n us) (drop n us) (subst (AllHavePaths v) (sym (take-append-drop n us)) h)).1
+    subst (AllHavePlaces v) (sym e) (have-parts v (take n us) (drop n us) (subst (AllHavePlaces v) (sym (take-append-drop n us)) h)).1
+
+pub offsets-front : (v : View) (n : ℕ) (us part : List UnitPaths) → part ≡ take n us → AllHaveOffsets v us → AllHaveOffsets v part
+offsets-front v n us part e h =
+    subst (AllHaveOffsets v) (sym e) (offsets-parts v (take n us) (drop n us) (subst (AllHaveOffsets v) (sym (take-append-drop n us)) h)).0
+
+pub offsets-back : (v : View) (n : ℕ) (us part : List UnitPaths) → part ≡ drop n us → AllHaveOffsets v us → AllHaveOffsets v part
+offsets-back v n us part e h =
+    subst (AllHaveOffsets v) (sym e) (offsets-parts v (take n us) (drop n us) (subst (AllHaveOffsets v) (sym (take-append-drop n us)) h)).1
 
 pub rooms-front : (m : PathMap) (v : View) (n : ℕ) (us part : List UnitPaths) → part ≡ take n us → AllRoomsFit m v us → AllRoomsFit m v part
 rooms-front m v n us part e h =
@@ -127,7 +137,4 @@ slots-within v us front k n f many some among =
     let all : slots_count v + macros_count v ≤ length us = among in
     omega (arith, size, many, some, all, length-take (length us - k) us)
 
-pub memory-only : (f g : Fault) → f ≡ NoMemory → g ≡ f → g ≡ NoMemory
-memory-only f g a b = b ∙ a
-
-pub ruleset all_rules = (have-front, have-back, rooms-front, rooms-back, all-pushed, macros-within, slots-within)
+pub ruleset all_rules = (have-front, have-back, offsets-front, offsets-back, rooms-front, rooms-back, all-pushed, macros-within, slots-within)

@@ -1,17 +1,21 @@
 -- Records of relocations where fields say other offsets, and the section's bytes stay at their places or move by runs: the table that is written is the
 -- one of the new contents.
-use Rattle.std.proofs.Common.{◌≡◌, ℕ, zero, suc, ◌+◌, ◌<◌, false, List, [], ◌∷◌, ◌++◌, length, Option, Some, None, refl, sym, ap, ◌∙◌, subst, arith}
+use Rattle.std.proofs.Common.{◌≡◌, ℕ, zero, suc, ◌+◌, ◌^◌, ◌<◌, ◌≤◌, false, List, [], ◌∷◌, ◌++◌, length, Option, Some, None, refl, sym, ap, ◌∙◌, subst, arith}
 use Rattle.dw_base.specs.Cells.{Cell, Relocation}
+use Rattle.dw_base.specs.Elf.{word_size}
 use Rattle.dw_base.specs.RelocationBodies.{addend_there, begin_places, place_after, relocation_body}
 use Rattle.dw_base.specs.RelocationFields.{relocation_at}
 use Rattle.dw_base.specs.SectionRelocations.{RelocationSource, cells_from, is_none_type, records_in, relocation_of, relocations_in}
 use Rattle.dw_base.specs.declared.relocations.Reloc.{Reloc}
+use Rattle.dw_base.specs.declared.shared.Class.{Class}
+use Rattle.dw_base.specs.declared.shared.Class.TheVariants.{C32, C64}
 use Rattle.dw_base.proofs.RelocationBodyLaws.{new_place}
 use Rattle.dw_meaning.proofs.RecordMoveLaws.{RecordsApart, record-begins}
 use Rattle.dw_meaning.proofs.RecordShiftLaws.{after-further, after-here, landed, landed-both, landed-new, landed-old}
-use Rattle.dw_patch.specs.RecordMoves.{addend_if, moved_table, nth_record, patch_for, place_by}
+use Rattle.dw_patch.specs.RecordMoves.{PlacesFit, addend_if, moved_table, nth_record, patch_for}
+use Rattle.elf_relocs.specs.Runs.{place_by}
 use Rattle.dw_patch.specs.declared.patches.Patch.{Patch}
-use Rattle.dw_patch.specs.declared.runs.Run.{Run}
+use Rattle.elf_relocs.specs.declared.runs.Run.{Run}
 use Rattle.dw_patch.proofs.MovedTableLaws.{Says, moved_table-is}
 use Rattle.dw_patch.proofs.SaidCellLaws.{SaidAll, by_field, said}
 
@@ -162,10 +166,33 @@ pub carried-table : (g : RelocationSource) (bytes : List ℕ) (new : List Cell) 
 carried-table g bytes new runs fields apart m =
     moved_table-is g (cells_from (relocations_in g) 0 bytes) new runs fields (carried-say g bytes new runs fields apart m)
 
+-- each place fits a word, where the new contents are small
+at-inside : (cs : List Cell) (p : ℕ) (r : Relocation) → relocation_at cs p ≡ Some r → p < length cs
+at-inside [] zero r e = absurd cc
+at-inside [] (suc p) r e = absurd cc
+at-inside (c ∷ cs) zero r e = omega arith
+at-inside (c ∷ cs) (suc p) r e =
+    let more = at-inside cs p r e in
+    omega (arith, more)
+
+below-word : (c : Class) (n : ℕ) → n < 2 ^ 32 → n < 256 ^ word_size c
+below-word C32 n lt = omega (arith, lt)
+below-word C64 n lt = omega (arith, lt)
+
+pub carried-fit : (g : RelocationSource) (bytes : List ℕ) (new : List Cell) (runs : List Run) (fields : List Patch) → RecordsApart g bytes
+    → Carried runs fields 0 0 (cells_from (relocations_in g) 0 bytes) new → length new ≤ 2 ^ 32 → PlacesFit g runs
+carried-fit g bytes new runs fields apart m small = record {
+  each = λ i lt counts.
+      let s : Stand runs fields new 0 0 (cells_from (relocations_in g) 0 bytes) (nth_record g i).offset (relocation_of g (nth_record g i)) =
+      stands runs fields 0 0 (cells_from (relocations_in g) 0 bytes) new m (nth_record g i).offset (relocation_of g (nth_record g i)) (record-begins g bytes i apart lt counts) in
+      let inside = at-inside new s.place (by_field (relocation_of g (nth_record g i)) (patch_for fields (0 + (nth_record g i).offset))) s.is in
+      let own : (nth_record g i).offset ≡ 0 + (nth_record g i).offset = omega arith in
+      let lands : place_by runs (nth_record g i).offset ≡ 0 + s.place = ap (place_by runs) own ∙ s.by_runs in
+      below-word g.class (place_by runs (nth_record g i).offset) (omega (arith, inside, lands, small));
+}
+
 -- and where they stay at their places
 pub stays-table : (g : RelocationSource) (bytes : List ℕ) (new : List Cell) (fields : List Patch) → RecordsApart g bytes
     → SaidAll fields 0 (cells_from (relocations_in g) 0 bytes) new → moved_table g [] fields ≡ relocation_body g (cells_from (relocations_in g) 0 bytes) new
 stays-table g bytes new fields apart h =
     carried-table g bytes new [] fields apart (said-carried [] fields 0 0 (cells_from (relocations_in g) 0 bytes) new h (λ k lt. refl))
-
-pub ruleset say_rules = (carried-table, stays-table)

@@ -16,16 +16,15 @@ use Rattle.dw_base.specs.TextChanges.{TableChanges, edited_by, mention_at, menti
 use Rattle.dw_base.specs.declared.shared.Order.{Order}
 use Rattle.dw_base.proofs.UnitEditLaws.{length-bytes_of}
 use Rattle.dw_base.proofs.UnitHeaderLaws.{bytes_of-append}
-use Rattle.dw_meaning.proofs.OffsetMoveLaws.{EachCells}
 use Rattle.dw_rewrite.specs.Changes.{texts_at}
 use Rattle.dw_find.specs.SlotPaths.{offset_fields}
 use Rattle.dw_find.specs.UnitPaths.{field_by, inline_by}
-use Rattle.dw_rewrite.specs.UnitsAfter.{offset_table}
+use Rattle.dw_rewrite.specs.UnitsAfter.{text_source}
 use Rattle.dw_find.specs.declared.fields.InlinePath.{InlinePath}
 use Rattle.dw_find.specs.declared.fields.PathField.{PathField}
-use Rattle.dw_rewrite.proofs.EditedLaws.{piece_texts}
+use Rattle.dw_rewrite.proofs.EditedLaws.{bytes-there, piece_texts}
 use Rattle.dw_rewrite.proofs.UnitWrittenLaws.{length-edited, no_path-asks, piece_written, unit_by}
-use Rattle.dw_find.proofs.SlotPlaceLaws.{SlotsPlaced, from-place, no-start}
+use Rattle.dw_find.proofs.SlotPlaceLaws.{SlotsIn, SlotsPlaced, from-place, no-start}
 
 -- a section of no cells has no pieces
 pub no-offsets : (order : Order) (xs : List (Piece OffsetState)) → ReadsOffsets order [] xs → xs ≡ []
@@ -38,14 +37,14 @@ no-offsets order (x ∷ xs) r =
     absurd (omega (arith, header.size, whole, size))
 
 -- the texts of pieces are those of their fields
-pub texts_by_slots : (table : TextSection) (plan : Plan) (m : PathMap) (around : Around) (info : List ℕ) (ts : List (List ℕ)) (place : ℕ) (paths : List ℕ) (xs : List (Piece OffsetState))
-    → plan ≡ appending m (table_of around table).bytes → SlotsPlaced info place xs → EachCells xs
-    → texts_after plan m ts (mentions_with (slot_role paths) table around xs) ≡ texts_at plan m (offset_table around table) info ts (offset_fields table paths xs)
-texts_by_slots table plan m around info ts place paths [] is l plain = refl
-texts_by_slots table plan m around info ts place paths (x ∷ xs) is l plain =
-    piece_texts (slot_role paths x.state) table plan m around info ts x.cells (bytes_of (joined xs)) place (mentions_with (slot_role paths) table around xs) (offset_fields table paths xs) is
-    plain.0 l.1 (λ (us : List (List ℕ)). texts_by_slots table plan m around info us (place + length x.cells) paths xs is l.2 plain.1)
-    ∙ ap (λ (i : ℕ). texts_at plan m (offset_table around table) info ts (field_by table (slot_role paths x.state) i (length x.cells) ++ offset_fields table paths xs)) (sym l.0)
+pub texts_by_slots : (table : TextSection) (plan : Plan) (m : PathMap) (around : Around) (cells : List Cell) (ts : List (List ℕ)) (place : ℕ) (paths : List ℕ) (xs : List (Piece OffsetState))
+    → plan ≡ appending m (table_of around table).bytes → SlotsIn cells place xs
+    → texts_after plan m ts (mentions_with (slot_role paths) table around xs) ≡ texts_at plan m (text_source around cells table) ts (offset_fields table paths xs)
+texts_by_slots table plan m around cells ts place paths [] is l = refl
+texts_by_slots table plan m around cells ts place paths (x ∷ xs) is l =
+    piece_texts (slot_role paths x.state) table plan m around cells ts x.cells (joined xs) place (mentions_with (slot_role paths) table around xs) (offset_fields table paths xs) is
+    l.1 (λ (us : List (List ℕ)). texts_by_slots table plan m around cells us (place + length x.cells) paths xs is l.2)
+    ∙ ap (λ (i : ℕ). texts_at plan m (text_source around cells table) ts (field_by table (slot_role paths x.state) i (length x.cells) ++ offset_fields table paths xs)) (sym l.0)
 
 -- and none a path
 no-inline : (paths : List ℕ) (m : OffsetMode) (n place : ℕ) (p : List Cell) → inline_by (offset_role paths m n) place p ≡ []
@@ -58,35 +57,41 @@ fits-inline paths at_contribution n map p = tt
 fits-inline paths (at_slot w end) n map p = tt
 fits-inline paths no_offsets n map p = tt
 
+-- pieces that stand in cells stand in their bytes
+pub slots-bytes : (cells : List Cell) (place : ℕ) (xs : List (Piece OffsetState)) → SlotsIn cells place xs → SlotsPlaced (bytes_of cells) place xs
+slots-bytes cells place [] l = tt
+slots-bytes cells place (x ∷ xs) l = (l.0, bytes-there x.cells (joined xs) cells place l.1, slots-bytes cells (place + length x.cells) xs l.2)
+
 -- what pieces become
-pub slots_written : (c : TableChanges) (a : Around) (info front : List ℕ) (place : ℕ) (paths : List ℕ) (xs : List (Piece OffsetState))
-    → c.str.plan ≡ appending c.map a.str.bytes → c.line_str.plan ≡ appending c.map a.line_str.bytes → length front ≡ place → SlotsPlaced info place xs → EachCells xs
-    → unit_by c a info (offset_fields in_str paths xs) (offset_fields in_line_str paths xs) [] [] (front ++ bytes_of (joined xs))
+pub slots_written : (c : TableChanges) (a : Around) (cells : List Cell) (front : List ℕ) (place : ℕ) (paths : List ℕ) (xs : List (Piece OffsetState))
+    → c.str.plan ≡ appending c.map a.str.bytes → c.line_str.plan ≡ appending c.map a.line_str.bytes → length front ≡ place → SlotsIn cells place xs
+    → unit_by c a cells (offset_fields in_str paths xs) (offset_fields in_line_str paths xs) [] [] (front ++ bytes_of (joined xs))
     ≡ front ++ bytes_of (joined (edited_with (slot_role paths) c a xs))
-slots_written c a info front place paths [] str line at l plain = refl
-slots_written c a info front place paths (x ∷ xs) str line at l plain =
+slots_written c a cells front place paths [] str line at l = refl
+slots_written c a cells front place paths (x ∷ xs) str line at l =
     let r : Role = slot_role paths x.state in
     let q : List Cell = edited_by (slot_role paths x.state) c a x.cells in
     let rest : List ℕ = bytes_of (joined xs) in
     let fs : List PathField = offset_fields in_str paths xs in
     let gs : List PathField = offset_fields in_line_str paths xs in
     let fits : InlineFitsBy (slot_role paths x.state) c.map x.cells = fits-inline paths x.state.mode x.state.slot c.map x.cells in
-    let size : length q ≡ length x.cells = length-edited (slot_role paths x.state) c a x.cells plain.0 fits in
+    let size : length q ≡ length x.cells = length-edited (slot_role paths x.state) c a x.cells in
     let next : length (front ++ bytes_of q) ≡ place + length x.cells = length-append front (bytes_of q) ∙ omega (arith, at, size, length-bytes_of q) in
-    ap (λ (i : ℕ). unit_by c a info (field_by in_str (slot_role paths x.state) i (length x.cells) ++ fs) (field_by in_line_str (slot_role paths x.state) i (length x.cells) ++ gs) [] []
+    ap (λ (i : ℕ). unit_by c a cells (field_by in_str (slot_role paths x.state) i (length x.cells) ++ fs) (field_by in_line_str (slot_role paths x.state) i (length x.cells) ++ gs) [] []
     (front ++ bytes_of (x.cells ++ joined xs))) l.0
-    ∙ ap (λ (b : List ℕ). unit_by c a info (field_by in_str (slot_role paths x.state) place (length x.cells) ++ fs)
+    ∙ ap (λ (b : List ℕ). unit_by c a cells (field_by in_str (slot_role paths x.state) place (length x.cells) ++ fs)
     (field_by in_line_str (slot_role paths x.state) place (length x.cells) ++ gs) [] [] (front ++ b)) (bytes_of-append x.cells (joined xs))
-    ∙ ap (λ (is : List InlinePath). unit_by c a info (field_by in_str (slot_role paths x.state) place (length x.cells) ++ fs)
+    ∙ ap (λ (is : List InlinePath). unit_by c a cells (field_by in_str (slot_role paths x.state) place (length x.cells) ++ fs)
     (field_by in_line_str (slot_role paths x.state) place (length x.cells) ++ gs) [] (is ++ []) (front ++ (bytes_of x.cells ++ rest)))
     (sym (no-inline paths x.state.mode x.state.slot place x.cells))
-    ∙ ap (λ (hs : List PathField). unit_by c a info (field_by in_str (slot_role paths x.state) place (length x.cells) ++ fs)
+    ∙ ap (λ (hs : List PathField). unit_by c a cells (field_by in_str (slot_role paths x.state) place (length x.cells) ++ fs)
     (field_by in_line_str (slot_role paths x.state) place (length x.cells) ++ gs) (hs ++ []) (inline_by (slot_role paths x.state) place x.cells ++ []) (front ++ (bytes_of x.cells ++ rest)))
     (sym (no-start paths x.state.mode x.state.slot place (length x.cells)))
-    ∙ piece_written (slot_role paths x.state) c a info front x.cells rest place fs gs [] [] str line at plain.0 l.1 fits
-    (from-place in_str info (place + length x.cells) paths xs l.2) (from-place in_line_str info (place + length x.cells) paths xs l.2) tt
-    ∙ ap (unit_by c a info fs gs [] []) (sym (append_assoc front (bytes_of q) rest))
-    ∙ slots_written c a info (front ++ bytes_of q) (place + length x.cells) paths xs str line next l.2 plain.1
+    ∙ piece_written (slot_role paths x.state) c a cells front x.cells (joined xs) rest place fs gs [] [] str line at l.1 fits
+    (from-place in_str (bytes_of cells) (place + length x.cells) paths xs (slots-bytes cells (place + length x.cells) xs l.2))
+    (from-place in_line_str (bytes_of cells) (place + length x.cells) paths xs (slots-bytes cells (place + length x.cells) xs l.2)) tt
+    ∙ ap (unit_by c a cells fs gs [] []) (sym (append_assoc front (bytes_of q) rest))
+    ∙ slots_written c a cells (front ++ bytes_of q) (place + length x.cells) paths xs str line next l.2
     ∙ append_assoc front (bytes_of q) (bytes_of (joined (edited_with (slot_role paths) c a xs)))
     ∙ ap (λ (b : List ℕ). front ++ b) (sym (bytes_of-append q (joined (edited_with (slot_role paths) c a xs))))
 

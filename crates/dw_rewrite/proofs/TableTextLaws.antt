@@ -1,8 +1,9 @@
 -- What becomes of a table of texts is told by the fields of all sections.
 use Rattle.std.proofs.Common.{◌≡◌, ℕ, List, [], ◌++◌, length, Option, Some, None, refl, sym, ap, ◌∙◌}
+use Rattle.dw_base.specs.Cells.{Cell}
 use Rattle.dw_base.specs.DebugData.{DataReadings, around_of, line_source, path_slots, ReadsAll}
 use Rattle.dw_base.specs.DebugSections.{name_of}
-use Rattle.dw_base.specs.FileViews.{View, section_bytes, section_named}
+use Rattle.dw_base.specs.FileViews.{View, section_named}
 use Rattle.dw_base.specs.Forms.{TextSection, in_str, in_line_str}
 use Rattle.dw_base.specs.LineChanges.{line_mentions}
 use Rattle.dw_base.specs.LineReadings.{LineReading, AreTables}
@@ -19,51 +20,52 @@ use Rattle.dw_base.specs.declared.debug_sections.DebugSection.TheVariants.{Line}
 use Rattle.dw_lines.specs.ViewTables.{tables_read}
 use Rattle.dw_lines.proofs.ViewTableLaws.{source-none}
 use Rattle.dw_meaning.specs.DataOutput.{table_change}
-use Rattle.dw_meaning.proofs.DataKeptLaws.{readings-plain}
 use Rattle.dw_meaning.proofs.LineSectionLaws.{no-tables}
 use Rattle.dw_find.specs.FoundPaths.{PathsFound}
 use Rattle.dw_find.specs.MacroSections.{macros_read}
-use Rattle.dw_find.specs.Fields.{OffsetTable}
-use Rattle.dw_rewrite.specs.Changes.{texts_at}
-use Rattle.dw_find.specs.ViewFields.{HasNoRelocations, fields_of, offsets_in}
-use Rattle.dw_rewrite.specs.NewTables.{TableMade, all_texts_at, plan_in}
+use Rattle.dw_rewrite.specs.Changes.{FieldSource, texts_at}
+use Rattle.dw_find.specs.ViewFields.{fields_of}
+use Rattle.dw_rewrite.specs.NewTables.{TableMade, all_texts_at, plan_in, source_in, texts_of}
 use Rattle.dw_find.specs.SlotPaths.{slots_read}
 use Rattle.dw_find.specs.UnitPaths.{UnitPaths, paths_of}
 use Rattle.dw_find.specs.ViewLines.{lines_by, lines_of_view, lines_with, table_fields}
-use Rattle.dw_rewrite.proofs.LineMentionLaws.{lines-texts, texts_table}
+use Rattle.dw_rewrite.proofs.LineMentionLaws.{IsWhole, line_texts, lines-texts}
 use Rattle.dw_rewrite.proofs.MacroWrittenLaws.{macros-say, macros-texts}
 use Rattle.dw_rewrite.proofs.NewBodyLaws.{all_texts-append, readings-texts, same-plan, slots-texts, texts_after-append}
-use Rattle.dw_rewrite.proofs.NoRelocationLaws.{sections-plain}
-use Rattle.dw_find.proofs.PlainFieldLaws.{lines-plain}
 use Rattle.dw_rewrite.proofs.SlotWrittenLaws.{names-texts}
-use Rattle.dw_find.proofs.FoundUnitLaws.{bytes-some}
+use Rattle.dw_find.proofs.FoundUnitLaws.{cells-some, view-apart}
 
 pub lines-none : (v : View) (rs : List LineReading) → None ≡ section_named v (name_of Line) → AreTables (line_source (debug_data v)) rs → rs ≡ []
 lines-none v rs e are = no-tables (line_source (debug_data v)) rs (source-none v e) are
 
-same-texts : (v : View) (table : TextSection) → texts_table (line_source (debug_data v)) table ≡ offsets_in v table
-same-texts v in_str = refl
-same-texts v in_line_str = refl
+-- the section of line tables and its cells
+pub lines-whole : (v : View) → IsWhole (line_source (debug_data v))
+unfolding debug_data
+lines-whole v = record { apart = view-apart v; own = refl }
+
+pub same-texts : (v : View) (table : TextSection) (i : ℕ) → Some i ≡ section_named v (name_of Line)
+    → line_texts (line_source (debug_data v)) table ≡ source_in v (line_source (debug_data v)).number table
+unfolding debug_data
+same-texts v in_str i e = ap (λ (cells : List Cell). record { order = v.order; cells = cells; table = texts_of v in_str }) (cells-some v i e)
+same-texts v in_line_str i e = ap (λ (cells : List Cell). record { order = v.order; cells = cells; table = texts_of v in_line_str }) (cells-some v i e)
 
 pub same-lines : (g : LineSource) (table : TextSection) (ts : List LineTable) → table_fields g.number g.str.number table ts ≡ fields_of table (lines_with g ts)
 same-lines g in_str ts = refl
 same-lines g in_line_str ts = refl
 
 -- their texts
-lines-texts-by : (m : PathMap) (v : View) (table : TextSection) (ts : List (List ℕ)) (rs : List LineReading) (o : Option ℕ) → HasNoRelocations v → o ≡ section_named v (name_of Line)
+lines-texts-by : (m : PathMap) (v : View) (table : TextSection) (ts : List (List ℕ)) (rs : List LineReading) (o : Option ℕ) → o ≡ section_named v (name_of Line)
     → AreTables (line_source (debug_data v)) rs
     → texts_after (plan_in m v table) m ts (line_mentions (line_source (debug_data v)) table rs)
     ≡ all_texts_at m v table ts (lines_by o (line_source (debug_data v)) (tables_read (line_source (debug_data v)) rs))
-lines-texts-by m v table ts rs None none e are =
+lines-texts-by m v table ts rs None e are =
     ap (λ (xs : List LineReading). texts_after (plan_in m v table) m ts (line_mentions (line_source (debug_data v)) table xs)) (lines-none v rs e are)
-lines-texts-by m v table ts rs (Some i) none e are =
+lines-texts-by m v table ts rs (Some i) e are =
     let us : List LineTable = tables_read (line_source (debug_data v)) rs in
-    lines-texts (line_source (debug_data v)) table (plan_in m v table) m ts 0 (length (line_source (debug_data v)).bytes) rs (lines-plain v none) are
-    ∙ ap (λ (t : OffsetTable). texts_at (plan_in m v table) m t (line_source (debug_data v)).bytes ts
-    (table_fields (line_source (debug_data v)).number (line_source (debug_data v)).str.number table (tables_read (line_source (debug_data v)) rs))) (same-texts v table)
-    ∙ ap (λ (bs : List ℕ). texts_at (plan_in m v table) m (offsets_in v table) bs ts
-    (table_fields (line_source (debug_data v)).number (line_source (debug_data v)).str.number table (tables_read (line_source (debug_data v)) rs))) (bytes-some v i e)
-    ∙ ap (texts_at (plan_in m v table) m (offsets_in v table) (section_bytes v (line_source (debug_data v)).number) ts)
+    lines-texts (line_source (debug_data v)) table (plan_in m v table) m ts 0 (length (line_source (debug_data v)).bytes) rs (lines-whole v) are
+    ∙ ap (λ (s : FieldSource). texts_at (plan_in m v table) m s ts
+    (table_fields (line_source (debug_data v)).number (line_source (debug_data v)).str.number table (tables_read (line_source (debug_data v)) rs))) (same-texts v table i e)
+    ∙ ap (texts_at (plan_in m v table) m (source_in v (line_source (debug_data v)).number table) ts)
     (same-lines (line_source (debug_data v)) table (tables_read (line_source (debug_data v)) rs))
 
 -- those of all sections, of which macro units say none
@@ -78,13 +80,13 @@ parts-texts m v table rs ls =
     ∙ all_texts-append m v table [] (paths_of rs.units) (slots_read v rs))
 
 -- what becomes of a table is told by the fields of all sections
-pub table-texts : (m : PathMap) (v : View) (rs : DataReadings) (ts : List LineTable) (table : TextSection) → HasNoRelocations v → ReadsAll (debug_data v).base 0 (debug_data v).units rs.units
+pub table-texts : (m : PathMap) (v : View) (rs : DataReadings) (ts : List LineTable) (table : TextSection) → ReadsAll (debug_data v).base 0 (debug_data v).units rs.units
     → ReadsOffsets (debug_data v).base.order (debug_data v).offsets.contents rs.offsets → AreTables (line_source (debug_data v)) rs.lines
     → ts ≡ tables_read (line_source (debug_data v)) rs.lines
     → (table_change m table (around_of (debug_data v) rs) rs).texts
     ≡ all_texts_at m v table [] (((paths_of rs.units ++ slots_read v rs) ++ macros_read rs.macros) ++ lines_of_view v ts)
 unfolding table_change
-table-texts m v rs ts table none reads offsets lines is =
+table-texts m v rs ts table reads offsets lines is =
     let us : List Mention = all_mentions table (around_of (debug_data v) rs) rs.units in
     let ss : List Mention = mentions_with (slot_role (path_slots (around_of (debug_data v) rs))) table (around_of (debug_data v) rs) rs.offsets in
     let ls : List Mention = line_mentions (line_source (debug_data v)) table rs.lines in
@@ -93,31 +95,30 @@ table-texts m v rs ts table none reads offsets lines is =
     let units : List (List ℕ) = all_texts_at m v table [] (paths_of rs.units) in
     let slots : List (List ℕ) = all_texts_at m v table (all_texts_at m v table [] (paths_of rs.units)) (slots_read v rs) in
     let lined : List (List ℕ) = all_texts_at m v table slots (lines_of_view v (tables_read (line_source (debug_data v)) rs.lines)) in
-    ap (λ (p : Plan). texts_after p m [] (file_mentions table (around_of (debug_data v) rs) rs)) (sym (same-plan m (debug_data v) rs table))
+    ap (λ (p : Plan). texts_after p m [] (file_mentions table (around_of (debug_data v) rs) rs)) (sym (same-plan m v rs table))
     ∙ texts_after-append (plan_in m v table) m [] us (ss ++ (ls ++ (ms ++ ns)))
     ∙ ap (λ (xs : List (List ℕ)). texts_after (plan_in m v table) m xs (ss ++ (ls ++ (ms ++ ns))))
-    (readings-texts m v rs table [] [] (debug_data v).units 0 rs.units refl reads
-    (readings-plain (debug_data v).base 0 (debug_data v).units rs.units reads (sections-plain v none [] (debug_data v).units refl)))
+    (readings-texts m v rs table [] [] (debug_data v).units 0 rs.units refl reads)
     ∙ texts_after-append (plan_in m v table) m units ss (ls ++ (ms ++ ns))
-    ∙ ap (λ (xs : List (List ℕ)). texts_after (plan_in m v table) m xs (ls ++ (ms ++ ns))) (slots-texts m v rs table units none offsets)
+    ∙ ap (λ (xs : List (List ℕ)). texts_after (plan_in m v table) m xs (ls ++ (ms ++ ns))) (slots-texts m v rs table units offsets)
     ∙ texts_after-append (plan_in m v table) m slots ls (ms ++ ns)
-    ∙ ap (λ (xs : List (List ℕ)). texts_after (plan_in m v table) m xs (ms ++ ns)) (lines-texts-by m v table slots rs.lines (section_named v (name_of Line)) none refl lines)
+    ∙ ap (λ (xs : List (List ℕ)). texts_after (plan_in m v table) m xs (ms ++ ns)) (lines-texts-by m v table slots rs.lines (section_named v (name_of Line)) refl lines)
     ∙ texts_after-append (plan_in m v table) m lined ms ns
     ∙ ap (λ (xs : List (List ℕ)). texts_after (plan_in m v table) m xs ns)
-    (macros-texts table (plan_in m v table) m (around_of (debug_data v) rs) lined rs.macros (same-plan m (debug_data v) rs table))
-    ∙ names-texts table (plan_in m v table) m (around_of (debug_data v) rs) lined rs.names (same-plan m (debug_data v) rs table)
+    (macros-texts table (plan_in m v table) m (around_of (debug_data v) rs) lined rs.macros (same-plan m v rs table))
+    ∙ names-texts table (plan_in m v table) m (around_of (debug_data v) rs) lined rs.names (same-plan m v rs table)
     ∙ sym (parts-texts m v table rs (lines_of_view v (tables_read (line_source (debug_data v)) rs.lines)))
     ∙ ap (λ (ts_ : List LineTable). all_texts_at m v table [] (((paths_of rs.units ++ slots_read v rs) ++ macros_read rs.macros) ++ lines_of_view v ts_)) (sym is)
 
 -- the table after the paths of all sections
-pub made-table : (m : PathMap) (v : View) (table : TextSection) (us : List UnitPaths) (ts : List LineTable) (pool : TextTable) (known : ℕ → Option ℕ) → HasNoRelocations v → (f : PathsFound m v us ts)
+pub made-table : (m : PathMap) (v : View) (table : TextSection) (us : List UnitPaths) (ts : List LineTable) (pool : TextTable) (known : ℕ → Option ℕ) (f : PathsFound m v us ts)
     → TableMade m v table us pool known → pool.texts ≡ (table_change m table (around_of (debug_data v) f.readings) f.readings).texts
-made-table m v table us ts pool known none f t =
-    t.texts ∙ ap (all_texts_at m v table []) f.is ∙ sym (table-texts m v f.readings ts table none f.reads.units f.reads.offsets f.reads.lines f.tables)
+made-table m v table us ts pool known f t =
+    t.texts ∙ ap (all_texts_at m v table []) f.is ∙ sym (table-texts m v f.readings ts table f.reads.units f.reads.offsets f.reads.lines f.tables)
 
-pub table-bytes : (m : PathMap) (v : View) (table : TextSection) (us : List UnitPaths) (ts : List LineTable) (pool : TextTable) (known : ℕ → Option ℕ) → HasNoRelocations v → (f : PathsFound m v us ts)
+pub table-bytes : (m : PathMap) (v : View) (table : TextSection) (us : List UnitPaths) (ts : List LineTable) (pool : TextTable) (known : ℕ → Option ℕ) (f : PathsFound m v us ts)
     → TableMade m v table us pool known
-    → table_bytes pool ≡ (offsets_in v table).bytes ++ laid_texts (table_change m table (around_of (debug_data v) f.readings) f.readings).texts
-table-bytes m v table us ts pool known none f t =
+    → table_bytes pool ≡ (texts_of v table).bytes ++ laid_texts (table_change m table (around_of (debug_data v) f.readings) f.readings).texts
+table-bytes m v table us ts pool known f t =
     ap (λ (k : List ℕ). k ++ laid_texts pool.texts) t.grown.kept
-    ∙ ap (λ (xs : List (List ℕ)). (offsets_in v table).bytes ++ laid_texts xs) (made-table m v table us ts pool known none f t)
+    ∙ ap (λ (xs : List (List ℕ)). (texts_of v table).bytes ++ laid_texts xs) (made-table m v table us ts pool known f t)

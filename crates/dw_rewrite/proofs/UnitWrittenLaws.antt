@@ -1,6 +1,6 @@
 -- New offsets in the fields of a unit section, and its paths mapped in their rooms, make the bytes of its edited pieces.
-use Rattle.std.proofs.Common.{Bool, true, false, ◌≡◌, ℕ, ◌+◌, ◌≤◌, List, [], ◌∷◌, ◌++◌, length, drop, get_or, cond, Option, Some, None, sym, ap, ◌∙◌, refl, arith, append_assoc}
-use Rattle.std.proofs.lemmas.List.{length-append, length-drop}
+use Rattle.std.proofs.Common.{Bool, true, false, ◌≡◌, ℕ, ◌+◌, List, [], ◌∷◌, ◌++◌, length, drop, get_or, cond, Option, Some, None, sym, ap, ◌∙◌, refl, arith, append_assoc}
+use Rattle.std.proofs.lemmas.List.{length-append}
 use Rattle.dw_base.specs.Cells.{Cell, bytes_of}
 use Rattle.dw_base.specs.DebugData.{Around, line_table}
 use Rattle.dw_base.specs.LineReadings.{starts_from}
@@ -15,58 +15,49 @@ use Rattle.dw_base.specs.TextChanges.{TableChanges, mention_at, moved_start, cha
 use Rattle.dw_base.specs.Texts.{text}
 use Rattle.dw_base.specs.UnitStates.{UnitState}
 use Rattle.dw_base.specs.declared.shared.Order.{Order}
-use Rattle.dw_base.proofs.InlineLaws.{length-mapped_inline}
-use Rattle.dw_base.proofs.PlainCellLaws.{IsPlain, length-with_offset, with_bytes-is, length-plain_cells}
-use Rattle.dw_meaning.proofs.TextEditLaws.{PlainPiece}
+use Rattle.dw_base.proofs.OffsetPutLaws.{length-with_bytes}
+use Rattle.dw_meaning.proofs.FieldPutLaws.{length-put}
 use Rattle.dw_base.proofs.UnitEditLaws.{length-bytes_of}
 use Rattle.dw_base.proofs.UnitHeaderLaws.{bytes_of-append}
-use Rattle.dw_find.specs.Fields.{offset_at}
-use Rattle.dw_rewrite.specs.Changes.{patched, patched_at, start_known, start_table, with_known, with_all_known}
+use Rattle.dw_rewrite.specs.Changes.{offset_at, patched, patched_at, start_known, with_all_known, with_known}
 use Rattle.dw_find.specs.UnitPaths.{field_by, path_fields, inline_by, inline_paths, start_by, start_fields}
-use Rattle.dw_rewrite.specs.UnitsAfter.{offset_table, inlined_at, inlined}
+use Rattle.dw_rewrite.specs.UnitsAfter.{inlined, inlined_at, start_source, text_source}
 use Rattle.dw_find.specs.declared.fields.InlinePath.{InlinePath}
 use Rattle.dw_find.specs.declared.fields.PathField.{PathField}
-use Rattle.dw_find.proofs.PlacedLaws.{Placed}
-use Rattle.dw_rewrite.proofs.EditedLaws.{patched_turns, inlined_turns, start_turns, Behind, known-behind, patched-behind, swap}
+use Rattle.dw_find.proofs.PlacedLaws.{Placed, PlacedCells}
+use Rattle.dw_rewrite.proofs.EditedLaws.{bytes-there, patched_turns, inlined_turns, start_turns, Behind, known-behind, patched-behind, swap}
 use Rattle.dw_find.proofs.PieceFieldLaws.{FieldsFrom, from-place, from-starts}
 use Rattle.dw_find.proofs.InlineTextLaws.{text-front, text-length}
 
 -- an edited piece is as long
-length-asked : (asks : Bool) (o : Order) (p : List Cell) (x : ℕ) → IsPlain p → length (cond asks (with_offset o p x) p) ≡ length p
-length-asked true o p x plain = length-with_offset o p x plain
-length-asked false o p x plain = refl
+length-asked : (asks : Bool) (o : Order) (p : List Cell) (x : ℕ) → length (cond asks (with_offset o p x) p) ≡ length p
+length-asked true o p x = length-put o p x
+length-asked false o p x = refl
 
-pub length-edited : (r : Role) (changes : TableChanges) (around : Around) (p : List Cell) → IsPlain p → InlineFitsBy r changes.map p
-    → length (edited_by r changes around p) ≡ length p
-length-edited fixed changes around p plain fits = refl
-length-edited (offset table path) changes around p plain fits =
+pub length-edited : (r : Role) (changes : TableChanges) (around : Around) (p : List Cell) → length (edited_by r changes around p) ≡ length p
+length-edited fixed changes around p = refl
+length-edited (offset table path) changes around p =
     length-asked ((change_of changes table).plan.asks (mention_at around table path p)) around.lasting.base.order p
-    (new_place (change_of changes table).plan changes.map (change_of changes table).texts (mention_at around table path p)) plain
-length-edited line_start changes around p plain fits = by_number (line_table around p)
+    (new_place (change_of changes table).plan changes.map (change_of changes table).texts (mention_at around table path p))
+length-edited line_start changes around p = by_number (line_table around p)
   where
     by_number : (o : Option ℕ) → length (moved_start (starts_from 0 changes.lines) around.lasting.base.order o p) ≡ length p
     by_number None = refl
-    by_number (Some k) = length-with_offset around.lasting.base.order p (get_or (starts_from 0 changes.lines) k 0) plain
-length-edited inline_path changes around p plain fits =
-    let q : List ℕ = mapped_inline changes.map (text (bytes_of p)) in
-    let size : length (mapped_inline changes.map (text (bytes_of p))) ≡ length (text (bytes_of p)) = length-mapped_inline changes.map (text (bytes_of p)) fits in
-    let short : length (text (bytes_of p)) ≤ length (bytes_of p) = text-length (bytes_of p) in
-    let cells : length (bytes_of p) ≡ length p = length-bytes_of p in
-    ap length (with_bytes-is p q plain (omega (arith, size, short, cells))) ∙ length-plain_cells (q ++ drop (length q) (bytes_of p))
-    ∙ omega (arith, length-append q (drop (length q) (bytes_of p)), length-drop (length q) (bytes_of p), size, short, cells)
+    by_number (Some k) = length-put around.lasting.base.order p (get_or (starts_from 0 changes.lines) k 0)
+length-edited inline_path changes around p = length-with_bytes p (mapped_inline changes.map (text (bytes_of p)))
 
 -- where the table that started at a place starts anew
 abbrev pub starts_by : TableChanges → Around → ℕ → Option ℕ
 starts_by c a = start_known a.starts (starts_from 0 c.lines)
 
 -- the new starts of line tables in these fields
-abbrev pub started : TableChanges → Around → List ℕ → List ℕ → List PathField → List ℕ
-started c a info out hs = with_all_known (start_table a.lasting.base.order) info (starts_by c a) out hs
+abbrev pub started : TableChanges → Around → List Cell → List ℕ → List PathField → List ℕ
+started c a cells out hs = with_all_known (start_source a cells) (starts_by c a) out hs
 
 -- a section with new offsets in these fields, and these paths mapped
-abbrev pub unit_by : TableChanges → Around → List ℕ → List PathField → List PathField → List PathField → List InlinePath → List ℕ → List ℕ
-unit_by c a info fs gs hs is out =
-    inlined c.map info (started c a info (patched c.line_str c.map (offset_table a in_line_str) info (patched c.str c.map (offset_table a in_str) info out fs) gs) hs) is
+abbrev pub unit_by : TableChanges → Around → List Cell → List PathField → List PathField → List PathField → List InlinePath → List ℕ → List ℕ
+unit_by c a cells fs gs hs is out =
+    inlined c.map (bytes_of cells) (started c a cells (patched c.line_str c.map (text_source a cells in_line_str) (patched c.str c.map (text_source a cells in_str) out fs) gs) hs) is
 
 -- one pass after another
 behind-both : (F G : List ℕ → List ℕ) (n : ℕ) (rest : List ℕ) → Behind F n rest → ((r : List ℕ) → Behind G n r) → Behind (λ out. G (F out)) n rest
@@ -80,90 +71,97 @@ pub no_path-asks : (m : PathMap) (table : List ℕ) (plan : Plan) (t : List ℕ)
 no_path-asks m table plan t is = ap (λ (q : Plan). q.asks (record { path = false; text = t })) is
 
 -- both tables' offsets, one after another
-both-behind : (c : TableChanges) (a : Around) (info : List ℕ) (n : ℕ) (fs gs : List PathField) (rest : List ℕ) → FieldsFrom n fs → FieldsFrom n gs
-    → Behind (λ out. patched c.line_str c.map (offset_table a in_line_str) info (patched c.str c.map (offset_table a in_str) info out fs) gs) n rest
-both-behind c a info n fs gs rest from_fs from_gs =
-    behind-both (λ out. patched c.str c.map (offset_table a in_str) info out fs) (λ out. patched c.line_str c.map (offset_table a in_line_str) info out gs) n rest
-    (patched-behind c.str c.map (offset_table a in_str) info n fs rest from_fs)
-    (λ (r : List ℕ). patched-behind c.line_str c.map (offset_table a in_line_str) info n gs r from_gs)
+both-behind : (c : TableChanges) (a : Around) (cells : List Cell) (n : ℕ) (fs gs : List PathField) (rest : List ℕ) → FieldsFrom n fs → FieldsFrom n gs
+    → Behind (λ out. patched c.line_str c.map (text_source a cells in_line_str) (patched c.str c.map (text_source a cells in_str) out fs) gs) n rest
+both-behind c a cells n fs gs rest from_fs from_gs =
+    behind-both (λ out. patched c.str c.map (text_source a cells in_str) out fs) (λ out. patched c.line_str c.map (text_source a cells in_line_str) out gs) n rest
+    (patched-behind c.str c.map (text_source a cells in_str) n fs rest from_fs)
+    (λ (r : List ℕ). patched-behind c.line_str c.map (text_source a cells in_line_str) n gs r from_gs)
 
-all-behind : (c : TableChanges) (a : Around) (info : List ℕ) (n : ℕ) (fs gs hs : List PathField) (rest : List ℕ) → FieldsFrom n fs → FieldsFrom n gs → FieldsFrom n hs
-    → Behind (λ out. started c a info (patched c.line_str c.map (offset_table a in_line_str) info (patched c.str c.map (offset_table a in_str) info out fs) gs) hs) n rest
-all-behind c a info n fs gs hs rest from_fs from_gs from_hs =
-    behind-both (λ out. patched c.line_str c.map (offset_table a in_line_str) info (patched c.str c.map (offset_table a in_str) info out fs) gs) (λ out. started c a info out hs) n rest
-    (both-behind c a info n fs gs rest from_fs from_gs)
-    (λ (r : List ℕ). known-behind (start_table a.lasting.base.order) info (starts_by c a) n hs r from_hs)
+all-behind : (c : TableChanges) (a : Around) (cells : List Cell) (n : ℕ) (fs gs hs : List PathField) (rest : List ℕ) → FieldsFrom n fs → FieldsFrom n gs → FieldsFrom n hs
+    → Behind (λ out. started c a cells (patched c.line_str c.map (text_source a cells in_line_str) (patched c.str c.map (text_source a cells in_str) out fs) gs) hs) n rest
+all-behind c a cells n fs gs hs rest from_fs from_gs from_hs =
+    behind-both (λ out. patched c.line_str c.map (text_source a cells in_line_str) (patched c.str c.map (text_source a cells in_str) out fs) gs) (λ out. started c a cells out hs) n rest
+    (both-behind c a cells n fs gs rest from_fs from_gs)
+    (λ (r : List ℕ). known-behind (start_source a cells) (starts_by c a) n hs r from_hs)
 
 -- what a piece becomes, where it stands behind bytes of so many
-pub piece_written : (r : Role) (c : TableChanges) (a : Around) (info front : List ℕ) (p : List Cell) (rest : List ℕ) (place : ℕ) (fs gs hs : List PathField) (is : List InlinePath)
-    → c.str.plan ≡ appending c.map a.str.bytes → c.line_str.plan ≡ appending c.map a.line_str.bytes → length front ≡ place → IsPlain p
-    → bytes_of p ++ rest ≡ drop place info → InlineFitsBy r c.map p → FieldsFrom (place + length p) fs → FieldsFrom (place + length p) gs → FieldsFrom (place + length p) hs
-    → unit_by c a info (field_by in_str r place (length p) ++ fs) (field_by in_line_str r place (length p) ++ gs) (start_by r place (length p) ++ hs) (inline_by r place p ++ is)
+pub piece_written : (r : Role) (c : TableChanges) (a : Around) (cells : List Cell) (front : List ℕ) (p behind : List Cell) (rest : List ℕ) (place : ℕ) (fs gs hs : List PathField) (is : List InlinePath)
+    → c.str.plan ≡ appending c.map a.str.bytes → c.line_str.plan ≡ appending c.map a.line_str.bytes → length front ≡ place
+    → p ++ behind ≡ drop place cells → InlineFitsBy r c.map p → FieldsFrom (place + length p) fs → FieldsFrom (place + length p) gs → FieldsFrom (place + length p) hs
+    → unit_by c a cells (field_by in_str r place (length p) ++ fs) (field_by in_line_str r place (length p) ++ gs) (start_by r place (length p) ++ hs) (inline_by r place p ++ is)
     (front ++ (bytes_of p ++ rest))
-    ≡ unit_by c a info fs gs hs is (front ++ (bytes_of (edited_by r c a p) ++ rest))
-piece_written fixed c a info front p rest place fs gs hs is str line at plain e fits from_fs from_gs from_hs = refl
-piece_written (offset in_str false) c a info front p rest place fs gs hs is str line at plain e fits from_fs from_gs from_hs =
+    ≡ unit_by c a cells fs gs hs is (front ++ (bytes_of (edited_by r c a p) ++ rest))
+piece_written fixed c a cells front p behind rest place fs gs hs is str line at e fits from_fs from_gs from_hs = refl
+piece_written (offset in_str false) c a cells front p behind rest place fs gs hs is str line at e fits from_fs from_gs from_hs =
     let none = no_path-asks c.map a.str.bytes c.str.plan (mention_at a in_str false p).text str in
     let kept : edited_by (offset in_str false) c a p ≡ p = rw none refl in
-    ap (λ (q : List Cell). unit_by c a info fs gs hs is (front ++ (bytes_of q ++ rest))) (sym kept)
-piece_written (offset in_line_str false) c a info front p rest place fs gs hs is str line at plain e fits from_fs from_gs from_hs =
+    ap (λ (q : List Cell). unit_by c a cells fs gs hs is (front ++ (bytes_of q ++ rest))) (sym kept)
+piece_written (offset in_line_str false) c a cells front p behind rest place fs gs hs is str line at e fits from_fs from_gs from_hs =
     let none = no_path-asks c.map a.line_str.bytes c.line_str.plan (mention_at a in_line_str false p).text line in
     let kept : edited_by (offset in_line_str false) c a p ≡ p = rw none refl in
-    ap (λ (q : List Cell). unit_by c a info fs gs hs is (front ++ (bytes_of q ++ rest))) (sym kept)
-piece_written (offset in_str true) c a info front p rest place fs gs hs is str line at plain e fits from_fs from_gs from_hs =
-    ap (unit_by c a info fs gs hs is) (patched_turns in_str c a info front p place rest at plain e rest)
-piece_written (offset in_line_str true) c a info front p rest place fs gs hs is str line at plain e fits from_fs from_gs from_hs =
+    ap (λ (q : List Cell). unit_by c a cells fs gs hs is (front ++ (bytes_of q ++ rest))) (sym kept)
+piece_written (offset in_str true) c a cells front p behind rest place fs gs hs is str line at e fits from_fs from_gs from_hs =
+    ap (unit_by c a cells fs gs hs is) (patched_turns in_str c a cells front p behind place at e rest)
+piece_written (offset in_line_str true) c a cells front p behind rest place fs gs hs is str line at e fits from_fs from_gs from_hs =
     let q : List ℕ = bytes_of (edited_by (offset in_line_str true) c a p) in
-    let size : length q ≡ length p = length-bytes_of (edited_by (offset in_line_str true) c a p) ∙ length-edited (offset in_line_str true) c a p plain tt in
+    let size : length q ≡ length p = length-bytes_of (edited_by (offset in_line_str true) c a p) ∙ length-edited (offset in_line_str true) c a p in
     let f : PathField = record { at = place; size = length p } in
-    ap (λ (out : List ℕ). inlined c.map info (started c a info (patched c.line_str c.map (offset_table a in_line_str) info out gs) hs) is)
-    (swap (λ out. patched_at c.line_str c.map (offset_table a in_line_str) info out f) (λ out. patched c.str c.map (offset_table a in_str) info out fs)
-    front (bytes_of p) q rest (place + length p) (patched_turns in_line_str c a info front p place rest at plain e)
-    (patched-behind c.str c.map (offset_table a in_str) info (place + length p) fs rest from_fs)
+    ap (λ (out : List ℕ). inlined c.map (bytes_of cells) (started c a cells (patched c.line_str c.map (text_source a cells in_line_str) out gs) hs) is)
+    (swap (λ out. patched_at c.line_str c.map (text_source a cells in_line_str) out f) (λ out. patched c.str c.map (text_source a cells in_str) out fs)
+    front (bytes_of p) q rest (place + length p) (patched_turns in_line_str c a cells front p behind place at e)
+    (patched-behind c.str c.map (text_source a cells in_str) (place + length p) fs rest from_fs)
     (length-append front (bytes_of p) ∙ omega (arith, at, length-bytes_of p)) (length-append front q ∙ omega (arith, at, size)))
-piece_written line_start c a info front p rest place fs gs hs is str line at plain e fits from_fs from_gs from_hs =
+piece_written line_start c a cells front p behind rest place fs gs hs is str line at e fits from_fs from_gs from_hs =
     let q : List ℕ = bytes_of (edited_by line_start c a p) in
-    let size : length q ≡ length p = length-bytes_of (edited_by line_start c a p) ∙ length-edited line_start c a p plain tt in
+    let size : length q ≡ length p = length-bytes_of (edited_by line_start c a p) ∙ length-edited line_start c a p in
     let f : PathField = record { at = place; size = length p } in
-    ap (λ (out : List ℕ). inlined c.map info (started c a info out hs) is)
-    (swap (λ out. with_known a.lasting.base.order out f (starts_by c a (offset_at (start_table a.lasting.base.order) info f)))
-    (λ out. patched c.line_str c.map (offset_table a in_line_str) info (patched c.str c.map (offset_table a in_str) info out fs) gs)
-    front (bytes_of p) q rest (place + length p) (start_turns c a info front p place rest at plain e)
-    (both-behind c a info (place + length p) fs gs rest from_fs from_gs)
+    ap (λ (out : List ℕ). inlined c.map (bytes_of cells) (started c a cells out hs) is)
+    (swap (λ out. with_known (start_source a cells) out f (starts_by c a (offset_at (start_source a cells) f)))
+    (λ out. patched c.line_str c.map (text_source a cells in_line_str) (patched c.str c.map (text_source a cells in_str) out fs) gs)
+    front (bytes_of p) q rest (place + length p) (start_turns c a cells front p behind place at e)
+    (both-behind c a cells (place + length p) fs gs rest from_fs from_gs)
     (length-append front (bytes_of p) ∙ omega (arith, at, length-bytes_of p)) (length-append front q ∙ omega (arith, at, size)))
-piece_written inline_path c a info front p rest place fs gs hs is str line at plain e fits from_fs from_gs from_hs =
+piece_written inline_path c a cells front p behind rest place fs gs hs is str line at e fits from_fs from_gs from_hs =
     let q : List ℕ = bytes_of (edited_by inline_path c a p) in
-    let size : length q ≡ length p = length-bytes_of (edited_by inline_path c a p) ∙ length-edited inline_path c a p plain fits in
+    let size : length q ≡ length p = length-bytes_of (edited_by inline_path c a p) ∙ length-edited inline_path c a p in
     let i : InlinePath = record { at = place; len = length (text (bytes_of p)) } in
-    ap (λ (out : List ℕ). inlined c.map info out is)
-    (swap (λ out. inlined_at c.map info out i)
-    (λ out. started c a info (patched c.line_str c.map (offset_table a in_line_str) info (patched c.str c.map (offset_table a in_str) info out fs) gs) hs)
-    front (bytes_of p) q rest (place + length p) (inlined_turns c a info front p place rest at plain e fits (text-length (bytes_of p)) (text-front (bytes_of p)))
-    (all-behind c a info (place + length p) fs gs hs rest from_fs from_gs from_hs)
+    ap (λ (out : List ℕ). inlined c.map (bytes_of cells) out is)
+    (swap (λ out. inlined_at c.map (bytes_of cells) out i)
+    (λ out. started c a cells (patched c.line_str c.map (text_source a cells in_line_str) (patched c.str c.map (text_source a cells in_str) out fs) gs) hs)
+    front (bytes_of p) q rest (place + length p) (inlined_turns c a cells front p behind place at e fits (text-length (bytes_of p)) (text-front (bytes_of p)))
+    (all-behind c a cells (place + length p) fs gs hs rest from_fs from_gs from_hs)
     (length-append front (bytes_of p) ∙ omega (arith, at, length-bytes_of p)) (length-append front q ∙ omega (arith, at, size)))
 
+-- pieces that stand in cells stand in their bytes
+pub placed-bytes : (cells : List Cell) (place : ℕ) (xs : List (Piece UnitState)) → PlacedCells cells place xs → Placed (bytes_of cells) place xs
+placed-bytes cells place [] l = tt
+placed-bytes cells place (x ∷ xs) l = (l.0, bytes-there x.cells (joined xs) cells place l.1, placed-bytes cells (place + length x.cells) xs l.2)
+
 -- what pieces become
-pub pieces_written : (c : TableChanges) (a : Around) (info front : List ℕ) (place : ℕ) (xs : List (Piece UnitState))
-    → c.str.plan ≡ appending c.map a.str.bytes → c.line_str.plan ≡ appending c.map a.line_str.bytes → length front ≡ place → Placed info place xs
-    → EachPiece PlainPiece xs → EachPiece (InlineFits c.map) xs
-    → unit_by c a info (path_fields in_str xs) (path_fields in_line_str xs) (start_fields xs) (inline_paths xs) (front ++ bytes_of (joined xs))
+pub pieces_written : (c : TableChanges) (a : Around) (cells : List Cell) (front : List ℕ) (place : ℕ) (xs : List (Piece UnitState))
+    → c.str.plan ≡ appending c.map a.str.bytes → c.line_str.plan ≡ appending c.map a.line_str.bytes → length front ≡ place → PlacedCells cells place xs
+    → EachPiece (InlineFits c.map) xs
+    → unit_by c a cells (path_fields in_str xs) (path_fields in_line_str xs) (start_fields xs) (inline_paths xs) (front ++ bytes_of (joined xs))
     ≡ front ++ bytes_of (joined (edited_all c a xs))
-pieces_written c a info front place [] str line at l plain fits = refl
-pieces_written c a info front place (x ∷ xs) str line at l plain fits =
+pieces_written c a cells front place [] str line at l fits = refl
+pieces_written c a cells front place (x ∷ xs) str line at l fits =
     let q : List Cell = edited_by (role_of x) c a x.cells in
     let rest : List ℕ = bytes_of (joined xs) in
     let fs : List PathField = path_fields in_str xs in
     let gs : List PathField = path_fields in_line_str xs in
     let hs : List PathField = start_fields xs in
-    let size : length q ≡ length x.cells = length-edited (role_of x) c a x.cells plain.0.plain fits.0 in
+    let size : length q ≡ length x.cells = length-edited (role_of x) c a x.cells in
     let next : length (front ++ bytes_of q) ≡ place + length x.cells = length-append front (bytes_of q) ∙ omega (arith, at, size, length-bytes_of q) in
-    ap (λ (i : ℕ). unit_by c a info (field_by in_str (role_of x) i (length x.cells) ++ fs) (field_by in_line_str (role_of x) i (length x.cells) ++ gs) (start_by (role_of x) i (length x.cells) ++ hs)
+    ap (λ (i : ℕ). unit_by c a cells (field_by in_str (role_of x) i (length x.cells) ++ fs) (field_by in_line_str (role_of x) i (length x.cells) ++ gs) (start_by (role_of x) i (length x.cells) ++ hs)
     (inline_by (role_of x) i x.cells ++ inline_paths xs) (front ++ bytes_of (x.cells ++ joined xs))) l.0
-    ∙ ap (λ (b : List ℕ). unit_by c a info (field_by in_str (role_of x) place (length x.cells) ++ fs) (field_by in_line_str (role_of x) place (length x.cells) ++ gs) (start_by (role_of x) place (length x.cells) ++ hs)
+    ∙ ap (λ (b : List ℕ). unit_by c a cells (field_by in_str (role_of x) place (length x.cells) ++ fs) (field_by in_line_str (role_of x) place (length x.cells) ++ gs) (start_by (role_of x) place (length x.cells) ++ hs)
     (inline_by (role_of x) place x.cells ++ inline_paths xs) (front ++ b)) (bytes_of-append x.cells (joined xs))
-    ∙ piece_written (role_of x) c a info front x.cells rest place fs gs hs (inline_paths xs) str line at plain.0.plain l.1 fits.0
-    (from-place in_str info (place + length x.cells) xs l.2) (from-place in_line_str info (place + length x.cells) xs l.2) (from-starts info (place + length x.cells) xs l.2)
-    ∙ ap (unit_by c a info fs gs hs (inline_paths xs)) (sym (append_assoc front (bytes_of q) rest))
-    ∙ pieces_written c a info (front ++ bytes_of q) (place + length x.cells) xs str line next l.2 plain.1 fits.1
+    ∙ piece_written (role_of x) c a cells front x.cells (joined xs) rest place fs gs hs (inline_paths xs) str line at l.1 fits.0
+    (from-place in_str (bytes_of cells) (place + length x.cells) xs (placed-bytes cells (place + length x.cells) xs l.2))
+    (from-place in_line_str (bytes_of cells) (place + length x.cells) xs (placed-bytes cells (place + length x.cells) xs l.2))
+    (from-starts (bytes_of cells) (place + length x.cells) xs (placed-bytes cells (place + length x.cells) xs l.2))
+    ∙ ap (unit_by c a cells fs gs hs (inline_paths xs)) (sym (append_assoc front (bytes_of q) rest))
+    ∙ pieces_written c a cells (front ++ bytes_of q) (place + length x.cells) xs str line next l.2 fits.1
     ∙ append_assoc front (bytes_of q) (bytes_of (joined (edited_all c a xs)))
     ∙ ap (λ (b : List ℕ). front ++ b) (sym (bytes_of-append q (joined (edited_all c a xs))))

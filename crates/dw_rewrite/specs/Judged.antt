@@ -1,22 +1,37 @@
--- What is judged of a file by its records, its type and its sections.
-use Rattle.std.specs.Prelude.{true, ◌≡◌, ℕ, ◌<◌, List}
+-- What is judged of a file by its records, its relocations and its sections.
+use Rattle.std.specs.Prelude.{false, ◌≡◌, ℕ, ◌<◌, List, IsTrue, Some, slice_index}
 use Rattle.dw_base.specs.DebugSectionFails.{DebugSectionsRead}
-use Rattle.dw_base.specs.Elf.{section_count}
+use Rattle.dw_base.specs.DebugSections.{debug_section}
+use Rattle.dw_base.specs.Elf.{contents_of, is_empty_kind, nth_section, section_count, section_name}
 use Rattle.dw_base.specs.ElfFails.{ElfReads}
+use Rattle.dw_base.specs.Layout.{is_alloc}
+use Rattle.dw_base.specs.RelocationSectionFails.{RelocationSectionsRead}
+use Rattle.dw_base.specs.SectionRelocations.{relocation_section}
+use Rattle.dw_base.specs.ViewData.{is_read}
 use Rattle.dw_meaning.specs.FileFails.{ReadIsLoaded}
-use Rattle.dw_base.specs.Layout.{is_loaded_kind}
 
--- the section of a number isn't loaded where it is read
+-- the section of a number is read, and has bytes
+pub record IsFilled (b : List ℕ) (i : ℕ) : Type 0 where
+  pub read : IsTrue (is_read (debug_section (section_name b i)))
+  pub bytes : is_empty_kind (nth_section b i) ≡ false
+
+-- the section that holds the relocations of the one of a number isn't loaded
+pub record HolderFits (b : List ℕ) (i : ℕ) : Type 0 where
+  pub unloaded : (k : ℕ) → relocation_section b i ≡ Some k → is_alloc (nth_section b k) ≡ false
+
+-- the section of a number isn't loaded where it is read, and where it has bytes, neither is the one that holds its relocations
 pub record SectionFits (b : List ℕ) (i : ℕ) : Type 0 where
   pub unloaded : ReadIsLoaded b i → ⊥
+  pub holder : IsFilled b i → HolderFits b i
 
 -- the same of each section
 pub record AllFit (b : List ℕ) : Type 0 where
   pub each : (i : ℕ) → i < section_count b → SectionFits b i
 
--- nothing is wrong with the records of the file and its sections, and its type is taken
+-- nothing is wrong with the records of the file, its type, its relocations as far as its sections say, and where its sections stand
 pub record IsJudged (b : List ℕ) : Type 0 where
   pub elf : ElfReads b
-  pub kind : is_loaded_kind b ≡ true
+  pub bytes : (n : ℕ) → slice_index b n < 256
   pub names : DebugSectionsRead b
+  pub relocations : RelocationSectionsRead (contents_of b) b
   pub fits : AllFit b

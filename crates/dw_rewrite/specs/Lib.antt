@@ -1,9 +1,12 @@
 pub mod Changes
 pub mod UnitsAfter
+pub mod NewOffsets
 pub mod NewTables
 pub mod NewStarts
 pub mod NewLines
+pub mod LineOffsets
 pub mod PushedBodies
 pub mod Bodies
 pub mod Judged
 pub mod Rewritten
+pub mod OffsetAddends

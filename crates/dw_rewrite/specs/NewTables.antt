@@ -2,7 +2,8 @@
 -- section, from what is new of the tables.
 use Rattle.std.specs.Prelude.{◌≡◌, ◌≢◌, ℕ, ◌≤◌, ◌<◌, List, [], ◌∷◌, length, get_or, Option}
 use Rattle.dw_meaning.specs.DataOutput.{Body}
-use Rattle.dw_base.specs.FileViews.{View}
+use Rattle.dw_base.specs.Cells.{Located, located_cells}
+use Rattle.dw_base.specs.FileViews.{View, view_cells}
 use Rattle.dw_base.specs.Forms.{TextSection, in_str, in_line_str}
 use Rattle.dw_base.specs.Layout.{output_limit}
 use Rattle.dw_base.specs.Paths.{PathMap}
@@ -14,17 +15,28 @@ use Rattle.dw_base.specs.declared.fault.Fault.{Fault}
 use Rattle.dw_base.specs.declared.fault.Fault.TheVariants.{NoMemory, Refused}
 use Rattle.dw_base.specs.declared.fault.Kind.TheVariants.{TooLarge}
 use Rattle.dw_base.specs.declared.fault.Refusal.{Refusal}
-use Rattle.dw_rewrite.specs.Changes.{AreNoted, Knows, Remembers, texts_at, patched, start_table, with_all_known}
+use Rattle.dw_rewrite.specs.Changes.{AreNoted, FieldSource, Knows, Remembers, patched, texts_at, with_all_known}
 use Rattle.dw_find.specs.UnitPaths.{UnitPaths}
 use Rattle.dw_rewrite.specs.UnitsAfter.{inlined}
-use Rattle.dw_find.specs.ViewFields.{fields_of, info_of, offsets_in, table_number}
+use Rattle.dw_find.specs.ViewFields.{fields_of, info_of, table_number, texts_in}
+
+-- a table of texts of a view
+abbrev pub texts_of : View → TextSection → Located
+texts_of v table = texts_in (debug_data v) table
 
 abbrev pub plan_in : PathMap → View → TextSection → Plan
-plan_in m v table = appending m (offsets_in v table).bytes
+plan_in m v table = appending m (texts_of v table).bytes
+
+-- where the fields of the section of a number hold offsets into a table of texts, and into the line tables
+abbrev pub source_in : View → ℕ → TextSection → FieldSource
+source_in v section table = record { order = v.order; cells = view_cells v section; table = texts_of v table }
+
+abbrev pub starts_in : View → ℕ → FieldSource
+starts_in v section = record { order = v.order; cells = view_cells v section; table = located_cells (debug_data v).lines }
 
 -- the new texts of a table after the paths of a section, and of sections
 abbrev pub section_texts_at : PathMap → View → TextSection → List (List ℕ) → UnitPaths → List (List ℕ)
-section_texts_at m v table ts u = texts_at (plan_in m v table) m (offsets_in v table) (info_of v u) ts (fields_of table u)
+section_texts_at m v table ts u = texts_at (plan_in m v table) m (source_in v u.number table) ts (fields_of table u)
 
 abbrev pub all_texts_at : PathMap → View → TextSection → List (List ℕ) → List UnitPaths → List (List ℕ)
 all_texts_at m v table ts [] = ts
@@ -32,16 +44,16 @@ all_texts_at m v table ts (u ∷ us) = all_texts_at m v table (section_texts_at 
 
 -- the new places of the paths of a section are noted, and of so many sections
 abbrev pub IsSectionNoted : PathMap → View → TextSection → UnitPaths → (ℕ → Option ℕ) → Type 0
-IsSectionNoted m v table u known = AreNoted (plan_in m v table) (offsets_in v table) (info_of v u) (fields_of table u) (length (fields_of table u)) known
+IsSectionNoted m v table u known = AreNoted (plan_in m v table) (source_in v u.number table) (fields_of table u) (length (fields_of table u)) known
 
 pub record AllNoted (m : PathMap) (v : View) (table : TextSection) (us : List UnitPaths) (count : ℕ) (known : ℕ → Option ℕ) : Type 0 where
   pub each : (k : ℕ) (d : UnitPaths) → k < count → k < length us → IsSectionNoted m v table (get_or us k d) known
 
 -- a table that grows, with the new places of paths that are known
 pub record Growing (m : PathMap) (v : View) (table : TextSection) (pool : TextTable) (known : ℕ → Option ℕ) : Type 0 where
-  pub kept : pool.kept ≡ (offsets_in v table).bytes
+  pub kept : pool.kept ≡ (texts_of v table).bytes
   pub small : length (table_bytes pool) ≤ output_limit
-  pub knows : Knows (plan_in m v table) m (offsets_in v table) pool.texts known
+  pub knows : Knows (plan_in m v table) m (texts_of v table).bytes pool.texts known
 
 -- it has grown by the paths of a section
 pub record GrownBy (m : PathMap) (v : View) (table : TextSection) (u : UnitPaths) (old new : TextTable) (was known : ℕ → Option ℕ) : Type 0 where
@@ -58,7 +70,7 @@ pub record TableMade (m : PathMap) (v : View) (table : TextSection) (us : List U
 
 -- the table with these texts behind its old bytes
 abbrev pub table_with : View → TextSection → List (List ℕ) → TextTable
-table_with v table ts = record { kept = (offsets_in v table).bytes; texts = ts }
+table_with v table ts = record { kept = (texts_of v table).bytes; texts = ts }
 
 -- what becomes of a table
 abbrev pub change_in : PathMap → View → TextSection → List (List ℕ) → TableChange
@@ -67,9 +79,9 @@ change_in m v table ts = record { plan = plan_in m v table; texts = ts }
 -- the new bytes of a section, where these are the new texts of the two tables, and the new starts of line tables by their old ones
 unfoldable pub section_after : PathMap → View → List (List ℕ) → List (List ℕ) → (ℕ → Option ℕ) → UnitPaths → List ℕ
 section_after m v ts ls kt u =
-    let with_str = patched (change_in m v in_str ts) m (offsets_in v in_str) (info_of v u) (info_of v u) u.str in
-    let with_both = patched (change_in m v in_line_str ls) m (offsets_in v in_line_str) (info_of v u) with_str u.line_str in
-    inlined m (info_of v u) (with_all_known (start_table v.order) (info_of v u) kt with_both u.starts) u.inline
+    let with_str = patched (change_in m v in_str ts) m (source_in v u.number in_str) (info_of v u) u.str in
+    let with_both = patched (change_in m v in_line_str ls) m (source_in v u.number in_line_str) with_str u.line_str in
+    inlined m (info_of v u) (with_all_known (starts_in v u.number) kt with_both u.starts) u.inline
 
 abbrev pub body_after : PathMap → View → List (List ℕ) → List (List ℕ) → (ℕ → Option ℕ) → UnitPaths → Body
 body_after m v ts ls kt u = record { number = u.number; bytes = section_after m v ts ls kt u }
@@ -91,15 +103,15 @@ pub data LongTable (m : PathMap) (v : View) (table : TextSection) (us : List Uni
 -- the same from the new places that are known
 unfoldable pub section_known : PathMap → View → (ℕ → Option ℕ) → (ℕ → Option ℕ) → (ℕ → Option ℕ) → UnitPaths → List ℕ
 section_known m v ks kl kt u =
-    let with_str = with_all_known (offsets_in v in_str) (info_of v u) ks (info_of v u) u.str in
-    let with_both = with_all_known (offsets_in v in_line_str) (info_of v u) kl with_str u.line_str in
-    inlined m (info_of v u) (with_all_known (start_table v.order) (info_of v u) kt with_both u.starts) u.inline
+    let with_str = with_all_known (source_in v u.number in_str) ks (info_of v u) u.str in
+    let with_both = with_all_known (source_in v u.number in_line_str) kl with_str u.line_str in
+    inlined m (info_of v u) (with_all_known (starts_in v u.number) kt with_both u.starts) u.inline
 
 -- the bytes of a section with the new offsets that are known in its fields of both tables, and the new starts of line tables
 abbrev pub fields_known : View → (ℕ → Option ℕ) → (ℕ → Option ℕ) → (ℕ → Option ℕ) → UnitPaths → List ℕ → List ℕ
 fields_known v ks kl kt u out =
-    with_all_known (start_table v.order) (info_of v u) kt
-    (with_all_known (offsets_in v in_line_str) (info_of v u) kl (with_all_known (offsets_in v in_str) (info_of v u) ks out u.str) u.line_str) u.starts
+    with_all_known (starts_in v u.number) kt
+    (with_all_known (source_in v u.number in_line_str) kl (with_all_known (source_in v u.number in_str) ks out u.str) u.line_str) u.starts
 
 abbrev pub body_known : PathMap → View → (ℕ → Option ℕ) → (ℕ → Option ℕ) → (ℕ → Option ℕ) → UnitPaths → Body
 body_known m v ks kl kt u = record { number = u.number; bytes = section_known m v ks kl kt u }

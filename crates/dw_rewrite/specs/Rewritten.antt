@@ -71,6 +71,6 @@ abbrev pub long_fault : List ℕ → Fault → Fault
 long_fault b NoMemory = NoMemory
 long_fault b (Refused r) = Refused (told_refusal b r)
 
--- what is refused stands in a section of the file
+-- what is refused as too long is a section of the file
 pub record IsInFile (b : List ℕ) (r : Refusal) : Type 0 where
-  pub within : r.section < section_count b
+  pub within : r.kind ≡ TooLarge → r.section < section_count b

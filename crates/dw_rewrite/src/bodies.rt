@@ -1,51 +1,70 @@
 //! The new bytes of the sections that an edit changes: the tables of texts, string offsets, line tables, macro units, and
-//! the unit sections.
+//! the unit sections; and of those that hold relocations of them.
 //!
 //! Read first: `specs/Bodies.antt`.
 
 ghost use Rattle.std.specs.HashMap.{get};
-ghost use Rattle.std.specs.Prelude.{[], ◌≡◌, ◌∷◌, ◌++◌, ◌≤◌, length, nat_eq, IfErr, IfOk, OnOk};
+ghost use Rattle.std.specs.Prelude.{[], ◌≡◌, ◌⊎◌, ◌∷◌, ◌++◌, ◌<◌, ◌≤◌, ℕ, length, nat_eq, slice_index, IfErr, IfOk, OnOk};
+ghost use Rattle.dw_base.specs.DebugData.{line_source};
+ghost use Rattle.dw_base.specs.DebugSections.{name_of};
+ghost use Rattle.dw_base.specs.Elf.{contents_of};
+ghost use Rattle.dw_base.specs.FileViews.{section_named, view_of};
+ghost use Rattle.dw_base.specs.Forms.{in_line_str, in_str};
 ghost use Rattle.dw_base.specs.Refusals.{Blames, at};
+ghost use Rattle.dw_base.specs.RelocationRows.{moving_sections};
+ghost use Rattle.dw_base.specs.RelocationSectionFails.{RelocationSectionsRead};
 ghost use Rattle.dw_base.specs.ViewData.{debug_data};
+ghost use Rattle.dw_base.specs.declared.debug_sections.DebugSection.TheVariants.{Line};
 ghost use Rattle.dw_base.specs.declared.fault.Fault.TheVariants.{NoMemory};
-ghost use Rattle.dw_rewrite.specs.Changes.{AllFit};
-ghost use Rattle.dw_find.specs.ViewFields.{AllHavePaths, AllRoomsFit, HasNoRelocations};
-ghost use Rattle.dw_rewrite.specs.NewTables.{bodies_known};
-ghost use Rattle.dw_rewrite.specs.Bodies.{BodiesMade, BodiesRefuse};
+ghost use Rattle.dw_lines.specs.ViewTables.{TablesFound};
+ghost use Rattle.dw_meaning.specs.RelocationFails.{LeftRelocationsRead};
+ghost use Rattle.dw_find.specs.ViewFields.{AllHaveOffsets, AllHavePlaces, AllRoomsFit};
+ghost use Rattle.dw_rewrite.specs.NewTables.{bodies_known, table_body_of};
+ghost use Rattle.dw_rewrite.specs.Bodies.{BodiesRefuse, FileBodiesMade};
 ghost use Rattle.dw_find.specs.FoundPaths.{PathsFound, without_lines};
 ghost use Rattle.dw_rewrite.specs.NewStarts.{known_starts};
 ghost use Rattle.dw_find.specs.SlotPaths.{lines_count};
 ghost use Rattle.dw_find.specs.MacroSections.{UnitsFoundIn};
 ghost use Rattle.dw_rewrite.specs.PushedBodies.{macros_count, names_body, one_body, pushed_bodies, slots_count, some_sections};
+ghost use Rattle.dw_rewrite.specs.LineOffsets.{OffsetMisses, OffsetsMake, StartsKnown, line_offsets, line_record};
+ghost use Rattle.dw_rewrite.specs.NewOffsets.{AllPlacesFit, records_known};
+ghost use Rattle.dw_rewrite.specs.OffsetAddends.{AllMake, AllMiss};
 
+use crate::line_records::push_line_record;
 use crate::lines::{NewLines, new_lines};
 use crate::new_sections::{Body, new_sections};
+use crate::records::push_records;
 use crate::starts::NewStarts;
 use crate::tables::{NewTable, new_table};
 use dw_base::{DebugSection, Fault, Kind, OUTPUT_LIMIT, Refusal};
 use dw_find::{MacroSection, TextsOf, UnitPaths, starts_of, table_number};
 use dw_lines::LineTable;
 use dw_paths::Maps;
-use dw_view::View;
+use dw_strings::Pool;
+use dw_view::{RelocationSources, View};
 use std::alloc::{AllocError, Global};
 use std::collections::HashMap;
 
 /// The sections with new bytes: the tables of texts, string offsets, line tables and name tables, then the sections of macro
-/// units and the unit sections, each in the order of their numbers. Refused as `TooLarge`, at the section, where a table of texts or the line
-/// tables would be longer than a file that is written, and where a line table can't be written.
-#[tactic(auto, using(crate::proofs::MadeBodyLaws::body_rules))]
+/// units and the unit sections, each in the order of their numbers, and those that hold relocations of them. Refused as `TooLarge`, at the section,
+/// where a table of texts or the line tables would be longer than a file that is written, where a line table can't be written, and as `TooWide`
+/// where the addend of a relocation can't make the new offset of its field, at the field.
+#[tactic(auto, using(crate::proofs::MadeBodyLaws::body_rules, crate::proofs::FileMadeLaws::end_rules))]
 pub(crate) fn new_bodies(
     alloc: Global,
     view: &View,
+    sources: &RelocationSources,
     maps: &Maps,
     tables: &[LineTable],
     macros: &[MacroSection],
     paths: &[UnitPaths],
 ) -> Result<Vec<Body>, Fault>
-    requires none { HasNoRelocations view.now }
+    requires view { view.now ≡ view_of sources.now }
+    requires relocations { RelocationSectionsRead (contents_of sources.now) sources.now }
+    requires bytes { (k : ℕ) → slice_index sources.now k < 256 }
     requires found { PathsFound maps.now view.now paths.now tables.now }
     requires macros { UnitsFoundIn view.now macros.now }
-    ensures made { IfOk result (λ bodies. BodiesMade maps.now (debug_data view.now) bodies.items) }
+    ensures made { IfOk result (λ bodies. FileBodiesMade maps.now sources.now bodies.items) }
     ensures refused { IfErr result (Blames (BodiesRefuse maps.now (debug_data view.now))) }
 {
     let old = starts_of(alloc, tables)?;
@@ -60,19 +79,8 @@ pub(crate) fn new_bodies(
     }
     let NewLines { bytes, starts: new } = lines;
     let starts = NewStarts::new(old.as_slice(), new.as_slice());
-    let mut bodies = Vec::new(alloc);
-    bodies.push(Body {
-        section: table_number(view, TextsOf::Str),
-        bytes: pool.into_bytes(),
-    })?;
-    bodies.push(Body {
-        section: table_number(view, TextsOf::LineStr),
-        bytes: line_pool.into_bytes(),
-    })?;
-    let lines = Body {
-        section: lines_number(view),
-        bytes,
-    };
+    let mut bodies = table_bodies(alloc, view, pool, line_pool)?;
+    let lines = lines_body(view, bytes);
     let sections = without_lines(view, paths);
     push_bodies(
         alloc,
@@ -86,7 +94,51 @@ pub(crate) fn new_bodies(
         sections,
         &mut bodies,
     )?;
+    push_relocations(
+        alloc,
+        view,
+        sources,
+        maps,
+        &known,
+        &line_known,
+        &starts,
+        new.as_slice(),
+        tables,
+        sections,
+        &mut bodies,
+    )?;
     Ok(bodies)
+}
+
+/// The tables of texts with their new bytes.
+fn table_bodies(
+    alloc: Global,
+    view: &View,
+    pool: Pool,
+    line_pool: Pool,
+) -> Result<Vec<Body>, AllocError>
+    ensures bodies { IfOk result (λ b. b.items ≡ table_body_of view.now in_str pool ∷ table_body_of view.now in_line_str line_pool ∷ []) }
+{
+    let mut bodies = Vec::new(alloc);
+    bodies.push(Body {
+        section: table_number(view, TextsOf::Str),
+        bytes: pool.into_bytes(),
+    })?;
+    bodies.push(Body {
+        section: table_number(view, TextsOf::LineStr),
+        bytes: line_pool.into_bytes(),
+    })?;
+    Ok(bodies)
+}
+
+/// The section of line tables with these bytes.
+fn lines_body(view: &View, bytes: Vec<u8>) -> Body
+    ensures { result ≡ record { number = (debug_data view.now).lines.number; bytes = bytes.items } }
+{
+    Body {
+        section: lines_number(view),
+        bytes,
+    }
 }
 
 /// The number of the section of line tables; 0 where there is none.
@@ -142,12 +194,11 @@ fn push_bodies(
     paths: &[UnitPaths],
     bodies: &mut Vec<Body>,
 ) -> Result<(), Fault>
-    requires have { AllHavePaths view.now paths.now }
+    requires offsets { AllHaveOffsets view.now paths.now }
+    requires places { AllHavePlaces view.now paths.now }
     requires rooms { AllRoomsFit maps.now view.now paths.now }
     requires macros { macro_count ≡ macros_count view.now }
     requires among { some_sections view.now ≤ length paths.now }
-    requires str { AllFit (λ o. get nat_eq str.now o) }
-    requires line_str { AllFit (λ o. get nat_eq line_str.now o) }
     ensures bodies { OnOk result (bodies.new.items ≡ bodies.old.items ++ pushed_bodies maps.now view.now (λ o. get nat_eq str.now o) (λ o. get nat_eq line_str.now o) (λ o. known_starts starts.now o) lines paths.now) }
     ensures only { IfErr result (λ f. f ≡ NoMemory) }
 {
@@ -158,6 +209,41 @@ fn push_bodies(
     push_names(alloc, view, bodies)?;
     new_sections(alloc, view, maps, str, line_str, starts, macros, bodies)?;
     new_sections(alloc, view, maps, str, line_str, starts, units, bodies)?;
+    Ok(())
+}
+
+/// Appends the sections that hold relocations of sections that say something of paths, and of line tables, with their records as they are when
+/// these say their new offsets. Refused as `TooWide`, at the field, where the addend of a field's relocation can't make its new offset.
+fn push_relocations(
+    alloc: Global,
+    view: &View,
+    sources: &RelocationSources,
+    maps: &Maps,
+    str: &HashMap<u64, u64>,
+    line_str: &HashMap<u64, u64>,
+    starts: &NewStarts,
+    new: &[u64],
+    tables: &[LineTable],
+    paths: &[UnitPaths],
+    bodies: &mut Vec<Body>,
+) -> Result<(), Fault>
+    requires view { view.now ≡ view_of sources.now }
+    requires relocations { RelocationSectionsRead (contents_of sources.now) sources.now }
+    requires left { LeftRelocationsRead (debug_data view.now) (moving_sections view.now) }
+    requires offsets { AllHaveOffsets view.now paths.now }
+    requires places { AllHavePlaces view.now paths.now }
+    requires fit { AllPlacesFit sources.now }
+    requires tables { TablesFound view.now tables.now }
+    requires starts { StartsKnown maps.now (line_source (debug_data view.now)) (λ o. get nat_eq str.now o) (λ o. get nat_eq line_str.now o) tables.now new.now }
+    ensures bodies { OnOk result (bodies.new.items ≡ (bodies.old.items ++ records_known sources.now view.now (λ o. get nat_eq str.now o) (λ o. get nat_eq line_str.now o) (λ o. known_starts starts.now o) paths.now) ++ line_record sources.now maps.now (line_source (debug_data view.now)) (λ o. get nat_eq str.now o) (λ o. get nat_eq line_str.now o) tables.now (section_named view.now (name_of Line))) }
+    ensures makes { OnOk result (AllMake view.now (λ o. get nat_eq str.now o) (λ o. get nat_eq line_str.now o) (λ o. known_starts starts.now o) paths.now) }
+    ensures line_makes { OnOk result (OffsetsMake (line_source (debug_data view.now)).cells (line_offsets maps.now (line_source (debug_data view.now)) (λ o. get nat_eq str.now o) (λ o. get nat_eq line_str.now o) tables.now)) }
+    ensures refused { IfErr result (Blames (λ r. AllMiss view.now (λ o. get nat_eq str.now o) (λ o. get nat_eq line_str.now o) (λ o. known_starts starts.now o) paths.now r ⊎ OffsetMisses (line_source (debug_data view.now)).number (line_source (debug_data view.now)).cells (line_offsets maps.now (line_source (debug_data view.now)) (λ o. get nat_eq str.now o) (λ o. get nat_eq line_str.now o) tables.now) r)) }
+{
+    push_records(alloc, view, sources, str, line_str, starts, paths, bodies)?;
+    push_line_record(
+        alloc, view, sources, maps, str, line_str, new, tables, bodies,
+    )?;
     Ok(())
 }
 
@@ -184,10 +270,9 @@ fn push_slots_body(
     slots: &[UnitPaths],
     bodies: &mut Vec<Body>,
 ) -> Result<(), Fault>
-    requires have { AllHavePaths view.now slots.now }
+    requires offsets { AllHaveOffsets view.now slots.now }
+    requires places { AllHavePlaces view.now slots.now }
     requires rooms { AllRoomsFit maps.now view.now slots.now }
-    requires str { AllFit (λ o. get nat_eq str.now o) }
-    requires line_str { AllFit (λ o. get nat_eq line_str.now o) }
     ensures body { OnOk result (bodies.new.items ≡ bodies.old.items ++ one_body (bodies_known maps.now view.now (λ o. get nat_eq str.now o) (λ o. get nat_eq line_str.now o) (λ o. known_starts starts.now o) slots.now)) }
     ensures only { IfErr result (λ f. f ≡ NoMemory) }
 {

@@ -2,19 +2,19 @@
 //!
 //! Read first: `dw_meaning/specs/EditRows.antt` and `dw_meaning/specs/FileMeanings.antt`, then `specs/Rewritten.antt`.
 
-ghost use Rattle.std.specs.Prelude.{◌≡◌, ◌≢◌, ◌<◌, ◌≤◌, ℕ, List, [], length, OnOk, IfOk, IfErr};
+ghost use Rattle.std.specs.Prelude.{◌≡◌, ◌≢◌, ◌<◌, ◌≤◌, ℕ, List, [], length, slice_index, OnOk, IfOk, IfErr};
 ghost use Rattle.dw_lines.specs.ViewTables.{TablesFound};
 ghost use Rattle.dw_meaning.specs.EditRows.{EditFails, IsAccepted};
 ghost use Rattle.dw_base.specs.Elf.{section_count};
 ghost use Rattle.dw_base.specs.ElfFails.{ElfReads, SegmentsRead};
-ghost use Rattle.dw_meaning.specs.FileMeanings.{IsOutput, MeaningKept, file_data};
+ghost use Rattle.dw_meaning.specs.FileMeanings.{IsOutput, MeaningKept};
 ghost use Rattle.dw_base.specs.FileViews.{view_of};
 ghost use Rattle.dw_base.specs.Layout.{output_limit, with_bodies};
 ghost use Rattle.dw_base.specs.LayoutFails.{LayoutFails, LayoutFits};
 ghost use Rattle.dw_base.specs.LayoutReads.{ReadsBack};
 ghost use Rattle.dw_meaning.specs.Loaded.{LoadedKept};
 ghost use Rattle.dw_base.specs.Refusals.{Blames};
-ghost use Rattle.dw_rewrite.specs.Bodies.{BodiesMade};
+ghost use Rattle.dw_rewrite.specs.Bodies.{FileBodiesMade};
 ghost use Rattle.dw_find.specs.FoundPaths.{PathsFound};
 ghost use Rattle.dw_find.specs.MacroSections.{UnitsFoundIn};
 ghost use Rattle.dw_rewrite.specs.Judged.{IsJudged};
@@ -28,7 +28,7 @@ use dw_base::{Fault, Kind, Refusal};
 use dw_find::{MacroSection, UnitPaths, found_paths, macro_sections};
 use dw_lines::{LineTable, line_tables};
 use dw_paths::Maps;
-use dw_view::View;
+use dw_view::{RelocationSources, View};
 use elf_file::ElfFile;
 use elf_layout::emit;
 use std::alloc::{AllocError, Global};
@@ -57,6 +57,7 @@ pub fn rewrite(alloc: Global, bytes: &[u8], maps: &Maps) -> Result<Vec<u8>, Faul
 #[tactic(auto, using(crate::proofs::ExitLaws::elf_rules))]
 fn rewrite_elf(alloc: Global, elf: &ElfFile, maps: &Maps) -> Result<Vec<u8>, Fault>
     requires small { length elf.now.bytes.now ≤ output_limit }
+    requires bytes { (k : ℕ) → slice_index elf.now.bytes.now k < 256 }
     requires reads { ElfReads elf.now.bytes.now }
     ensures accepted { OnOk result (IsAccepted maps.now elf.now.bytes.now) }
     ensures output { IfOk result (λ out. IsOutput maps.now elf.now.bytes.now out.items) }
@@ -66,16 +67,24 @@ fn rewrite_elf(alloc: Global, elf: &ElfFile, maps: &Maps) -> Result<Vec<u8>, Fau
     ensures refused { IfErr result (Blames (EditFails maps.now elf.now.bytes.now)) }
 {
     let view = View::one(elf)?;
-    judge(elf, &view)?;
-    rewrite_judged(alloc, elf, &view, maps)
+    let sources = RelocationSources::read(elf)?;
+    judge(elf, &view, &sources)?;
+    rewrite_judged(alloc, elf, &view, &sources, maps)
 }
 
 /// The file rewritten, where it was judged.
 #[tactic(auto, using(crate::proofs::ExitLaws::judged_rules))]
-fn rewrite_judged(alloc: Global, elf: &ElfFile, view: &View, maps: &Maps) -> Result<Vec<u8>, Fault>
+fn rewrite_judged(
+    alloc: Global,
+    elf: &ElfFile,
+    view: &View,
+    sources: &RelocationSources,
+    maps: &Maps,
+) -> Result<Vec<u8>, Fault>
     requires small { length elf.now.bytes.now ≤ output_limit }
     requires judged { IsJudged elf.now.bytes.now }
     requires view { view.now ≡ view_of elf.now.bytes.now }
+    requires sources { sources.now ≡ elf.now.bytes.now }
     ensures accepted { OnOk result (IsAccepted maps.now elf.now.bytes.now) }
     ensures output { IfOk result (λ out. IsOutput maps.now elf.now.bytes.now out.items) }
     ensures only { IfOk result (λ out. (o : List ℕ) → IsOutput maps.now elf.now.bytes.now o → o ≡ out.items) }
@@ -85,23 +94,30 @@ fn rewrite_judged(alloc: Global, elf: &ElfFile, view: &View, maps: &Maps) -> Res
 {
     // What a map obeys is known where one of its fields is used: no text that it makes has a NUL.
     let _ = &maps.base;
-    let bodies = made_bodies(alloc, elf, view, maps)?;
+    let bodies = made_bodies(alloc, elf, view, sources, maps)?;
     let out = written(alloc, elf, bodies)?;
     Ok(out)
 }
 
 /// The new bytes of the sections that change.
-fn made_bodies(alloc: Global, elf: &ElfFile, view: &View, maps: &Maps) -> Result<Vec<Body>, Fault>
+fn made_bodies(
+    alloc: Global,
+    elf: &ElfFile,
+    view: &View,
+    sources: &RelocationSources,
+    maps: &Maps,
+) -> Result<Vec<Body>, Fault>
     requires small { length elf.now.bytes.now ≤ output_limit }
     requires judged { IsJudged elf.now.bytes.now }
     requires view { view.now ≡ view_of elf.now.bytes.now }
-    ensures made { IfOk result (λ bodies. BodiesMade maps.now (file_data elf.now.bytes.now) bodies.items) }
+    requires sources { sources.now ≡ elf.now.bytes.now }
+    ensures made { IfOk result (λ bodies. FileBodiesMade maps.now elf.now.bytes.now bodies.items) }
     ensures refused { IfErr result (Blames (EditFails maps.now elf.now.bytes.now)) }
 {
     let tables = tables_in(alloc, elf, view, maps)?;
     let macros = macros_in(alloc, elf, view, maps)?;
     let paths = paths_in(alloc, elf, view, maps, &tables, &macros)?;
-    bodies_in(alloc, elf, view, maps, &tables, &macros, &paths)
+    bodies_in(alloc, elf, view, sources, maps, &tables, &macros, &paths)
 }
 
 /// The line tables of the file.
@@ -165,6 +181,7 @@ fn bodies_in(
     alloc: Global,
     elf: &ElfFile,
     view: &View,
+    sources: &RelocationSources,
     maps: &Maps,
     tables: &[LineTable],
     macros: &[MacroSection],
@@ -173,12 +190,13 @@ fn bodies_in(
     requires small { length elf.now.bytes.now ≤ output_limit }
     requires judged { IsJudged elf.now.bytes.now }
     requires view { view.now ≡ view_of elf.now.bytes.now }
+    requires sources { sources.now ≡ elf.now.bytes.now }
     requires macros { UnitsFoundIn (view_of elf.now.bytes.now) macros.now }
     requires found { PathsFound maps.now (view_of elf.now.bytes.now) paths.now tables.now }
-    ensures made { IfOk result (λ bodies. BodiesMade maps.now (file_data elf.now.bytes.now) bodies.items) }
+    ensures made { IfOk result (λ bodies. FileBodiesMade maps.now elf.now.bytes.now bodies.items) }
     ensures refused { IfErr result (Blames (EditFails maps.now elf.now.bytes.now)) }
 {
-    match new_bodies(alloc, view, maps, tables, macros, paths) {
+    match new_bodies(alloc, view, sources, maps, tables, macros, paths) {
         Ok(bodies) => Ok(bodies),
         Err(fault) => Err(long_fault(elf, fault)),
     }
@@ -199,7 +217,7 @@ fn long_fault(elf: &ElfFile, fault: Fault) -> Fault
 /// What refuses them, by what refused them in their section.
 fn told_refusal(elf: &ElfFile, refusal: Refusal) -> Refusal
     requires segments { SegmentsRead elf.now.bytes.now }
-    requires there { refusal.section < section_count elf.now.bytes.now }
+    requires there { IsInFile elf.now.bytes.now refusal }
     ensures { result ≡ told_refusal elf.now.bytes.now refusal }
 {
     match refusal.kind {

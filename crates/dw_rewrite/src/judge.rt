@@ -1,83 +1,93 @@
-//! Whether a file may be edited, as far as its type and its sections go (gABI ch. 4 "ELF Header", "Sections").
+//! Whether a file may be edited, as far as its sections go (gABI ch. 4 "Sections").
 //!
-//! This layer promises: a file that is judged is of type EXEC or DYN, and no section that is read is loaded; a file is
-//! refused only by a condition that holds in it, at its place. The cost is linear in the number of sections.
+//! This layer promises: of a file that is judged no section that is read and has bytes is loaded, nor one that holds
+//! relocations of such a section; a file is refused only by a condition that holds in it, at its place. The cost is linear in
+//! the number of sections.
 //! It does not promise: anything of what the sections hold.
 //! Read first: `dw_meaning/specs/FileFails.antt`, then `specs/Judged.antt`.
 
-ghost use Rattle.std.specs.Prelude.{true, ◌≡◌, ◌<◌, ◌&&◌, not, IfErr, OnOk};
-ghost use Rattle.dw_base.specs.DebugSectionFails.{DebugSectionsRead};
+ghost use Rattle.std.specs.Prelude.{◌≡◌, ◌<◌, ◌&&◌, not, IfErr, OnOk};
 ghost use Rattle.dw_base.specs.Elf.{is_empty_kind, section_count};
 ghost use Rattle.dw_base.specs.ElfFails.{ElfReads};
 ghost use Rattle.dw_meaning.specs.FileFails.{FileFails};
 ghost use Rattle.dw_base.specs.FileViews.{view_of};
-ghost use Rattle.dw_base.specs.Layout.{is_alloc, is_loaded_kind};
 ghost use Rattle.dw_base.specs.ViewData.{is_read};
-ghost use Rattle.dw_rewrite.specs.Judged.{AllFit, IsJudged, SectionFits};
+ghost use Rattle.dw_rewrite.specs.Judged.{AllFit, HolderFits, IsFilled, SectionFits};
 
-use crate::refusal::{fixed, unbuilt};
+use crate::refusal::fixed;
 use dw_base::{DebugSection, Refusal, Section};
-use dw_view::View;
+use dw_view::{RelocationSources, View};
 use elf_file::ElfFile;
 
-/// The file is of a type that is taken, and its sections stand where they may. Refused by the type of the file, or by a
-/// section.
-#[tactic(auto, using(crate::proofs::JudgeLaws::judge_laws))]
-pub(crate) fn judge(elf: &ElfFile, view: &View) -> Result<(), Refusal>
-    requires reads { ElfReads elf.now.bytes.now }
-    requires names { DebugSectionsRead elf.now.bytes.now }
-    requires view { view.now ≡ view_of elf.now.bytes.now }
-    ensures judged { OnOk result (IsJudged elf.now.bytes.now) }
-    ensures refused { IfErr result (FileFails elf.now.bytes.now) }
-{
-    kind_fits(elf)?;
-    all_fit(elf, view)?;
-    Ok(())
-}
-
-/// The file is of type EXEC or DYN. A relocatable file is refused as `Unbuilt` (gABI ch. 4 "ELF Header").
-#[tactic(auto, using(crate::proofs::JudgeLaws::kind_laws))]
-fn kind_fits(elf: &ElfFile) -> Result<(), Refusal>
-    requires reads { ElfReads elf.now.bytes.now }
-    requires names { DebugSectionsRead elf.now.bytes.now }
-    ensures loaded { OnOk result (is_loaded_kind elf.now.bytes.now ≡ true) }
-    ensures refused { IfErr result (FileFails elf.now.bytes.now) }
-{
-    if !elf.is_loaded_kind() {
-        return Err(unbuilt());
-    }
-    Ok(())
-}
-
-/// Each section stands where it may.
+/// The sections of the file stand where they may. Refused as `Fixed` at one that is loaded.
 #[tactic(auto, using(crate::proofs::JudgeLaws::fit_laws))]
-fn all_fit(elf: &ElfFile, view: &View) -> Result<(), Refusal>
+pub(crate) fn judge(elf: &ElfFile, view: &View, sources: &RelocationSources) -> Result<(), Refusal>
     requires reads { ElfReads elf.now.bytes.now }
     requires view { view.now ≡ view_of elf.now.bytes.now }
+    requires sources { sources.now ≡ elf.now.bytes.now }
     ensures fit { OnOk result (AllFit elf.now.bytes.now) }
     ensures refused { IfErr result (FileFails elf.now.bytes.now) }
 {
     for index in 0..elf.section_count() {
-        section_fits(elf, view, index)?;
+        section_fits(elf, view, sources, index)?;
     }
     Ok(())
 }
 
-/// The section of a number isn't loaded where it is read. One that is loaded is refused as `Fixed` at its number.
+/// The section of a number isn't loaded where it is read and has bytes, nor is the one that holds its relocations. One that is
+/// loaded is refused as `Fixed` at its number.
 #[tactic(auto, using(crate::proofs::JudgeLaws::section_laws))]
-fn section_fits(elf: &ElfFile, view: &View, index: u32) -> Result<(), Refusal>
+fn section_fits(
+    elf: &ElfFile,
+    view: &View,
+    sources: &RelocationSources,
+    index: u32,
+) -> Result<(), Refusal>
     requires reads { ElfReads elf.now.bytes.now }
     requires view { view.now ≡ view_of elf.now.bytes.now }
+    requires sources { sources.now ≡ elf.now.bytes.now }
     requires there { index < section_count elf.now.bytes.now }
     ensures fits { OnOk result (SectionFits elf.now.bytes.now index) }
     ensures refused { IfErr result (FileFails elf.now.bytes.now) }
 {
     let kind = view.kind(index);
     let section = elf.section(index);
-    if is_read(kind) && is_loaded(&section) {
+    if !is_filled(kind, &section) {
+        return Ok(());
+    }
+    if section.is_alloc() {
         return Err(fixed(index));
     }
+    holder_fits(elf, sources, index)?;
     Ok(())
+}
+
+/// The section that holds the relocations of the one of a number, which is read and has bytes, isn't loaded. One that is loaded
+/// is refused as `Fixed` at its number.
+#[tactic(auto, using(crate::proofs::JudgeLaws::holder_laws))]
+fn holder_fits(elf: &ElfFile, sources: &RelocationSources, index: u32) -> Result<(), Refusal>
+    requires reads { ElfReads elf.now.bytes.now }
+    requires sources { sources.now ≡ elf.now.bytes.now }
+    requires there { index < section_count elf.now.bytes.now }
+    requires filled { IsFilled elf.now.bytes.now index }
+    ensures fits { OnOk result (HolderFits elf.now.bytes.now index) }
+    ensures refused { IfErr result (FileFails elf.now.bytes.now) }
+{
+    let Some(holder) = sources.holder(index) else {
+        return Ok(());
+    };
+    let section = elf.section(holder);
+    if section.is_alloc() {
+        return Err(fixed(holder));
+    }
+    Ok(())
+}
+
+/// A section whose bytes are read, and that has some in the file.
+fn is_filled(kind: Option<DebugSection>, section: &Section) -> bool
+    ensures { result ≡ (is_read kind && not (is_empty_kind section.now)) }
+{
+    is_read(kind) && !section.takes_no_room()
 }
 
 /// A section whose bytes are read.
@@ -96,11 +106,4 @@ fn is_read(kind: Option<DebugSection>) -> bool
         Some(DebugSection::Names) => true,
         _ => false,
     }
-}
-
-/// The section is loaded, and has room in the file.
-fn is_loaded(section: &Section) -> bool
-    ensures { result ≡ (is_alloc section.now && not (is_empty_kind section.now)) }
-{
-    section.is_alloc() && !section.takes_no_room()
 }

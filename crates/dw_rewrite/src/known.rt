@@ -11,12 +11,13 @@ ghost use Rattle.dw_base.specs.Paths.{mapped_path};
 ghost use Rattle.dw_base.specs.Refusals.{Blames};
 ghost use Rattle.dw_base.specs.StringTables.{appending, table_bytes, with_added, with_mention};
 ghost use Rattle.dw_base.specs.Texts.{ends_in, text_in};
-ghost use Rattle.dw_rewrite.specs.Changes.{Adds, IsNoted, Knows, Remembers, path_at, place_after};
-ghost use Rattle.dw_find.specs.Fields.{IsPathField, offset_at};
+ghost use Rattle.dw_rewrite.specs.Changes.{Adds, IsNoted, Knows, Remembers, offset_at, path_at, place_after};
+ghost use Rattle.dw_find.specs.Fields.{IsOffsetField};
 
 use crate::asks::asks;
 use crate::refusal::too_large;
-use dw_base::{Fault, OUTPUT_LIMIT, Order, number_in};
+use crate::sources::FieldSource;
+use dw_base::{Fault, OUTPUT_LIMIT};
 use dw_find::PathField;
 use dw_paths::{Maps, map_path};
 use dw_strings::{Pool, text_at};
@@ -28,27 +29,26 @@ use std::collections::HashMap;
 #[tactic(auto, using(crate::proofs::Rows::long_rows, crate::proofs::KnownLaws::note_rules))]
 pub(crate) fn note_path(
     alloc: Global,
-    order: Order,
-    info: &[u8],
-    table: &[u8],
+    source: &FieldSource,
     maps: &Maps,
     field: PathField,
     pool: &mut Pool,
     known: &mut HashMap<u64, u64>,
 ) -> Result<(), Fault>
-    requires path { IsPathField (record { order = order; bytes = table.now }) info.now field }
-    requires kept { pool.old.kept ≡ table.now }
+    requires path { IsOffsetField source.now.order source.now.table source.now.cells field }
+    requires kept { pool.old.kept ≡ source.now.table.bytes }
     requires small { length (table_bytes pool.old) ≤ output_limit }
-    requires knows { Knows (appending maps.now table.now) maps.now (record { order = order; bytes = table.now }) pool.old.texts (λ o. get nat_eq known.old o) }
-    ensures kept { OnOk result (pool.new.kept ≡ table.now) }
-    ensures texts { OnOk result (pool.new.texts ≡ with_mention (appending maps.now table.now) maps.now pool.old.texts (path_at (record { order = order; bytes = table.now }) info.now field)) }
-    ensures knows { OnOk result (Knows (appending maps.now table.now) maps.now (record { order = order; bytes = table.now }) pool.new.texts (λ o. get nat_eq known.new o)) }
-    ensures noted { OnOk result (IsNoted (appending maps.now table.now) (record { order = order; bytes = table.now }) (λ o. get nat_eq known.new o) (offset_at (record { order = order; bytes = table.now }) info.now field)) }
+    requires knows { Knows (appending maps.now source.now.table.bytes) maps.now source.now.table.bytes pool.old.texts (λ o. get nat_eq known.old o) }
+    ensures kept { OnOk result (pool.new.kept ≡ source.now.table.bytes) }
+    ensures texts { OnOk result (pool.new.texts ≡ with_mention (appending maps.now source.now.table.bytes) maps.now pool.old.texts (path_at source.now field)) }
+    ensures knows { OnOk result (Knows (appending maps.now source.now.table.bytes) maps.now source.now.table.bytes pool.new.texts (λ o. get nat_eq known.new o)) }
+    ensures noted { OnOk result (IsNoted (appending maps.now source.now.table.bytes) source.now.table.bytes (λ o. get nat_eq known.new o) (offset_at source.now field)) }
     ensures small { OnOk result (length (table_bytes pool.new) ≤ output_limit) }
     ensures remembers { OnOk result (Remembers (λ o. get nat_eq known.old o) (λ o. get nat_eq known.new o)) }
-    ensures refused { IfErr result (Blames (TooLong (length (table_bytes (record { kept = table.now; texts = with_mention (appending maps.now table.now) maps.now pool.old.texts (path_at (record { order = order; bytes = table.now }) info.now field) }))))) }
+    ensures refused { IfErr result (Blames (TooLong (length (table_bytes (record { kept = source.now.table.bytes; texts = with_mention (appending maps.now source.now.table.bytes) maps.now pool.old.texts (path_at source.now field) }))))) }
 {
-    let offset = offset_in(order, info, table, field);
+    let table = source.table();
+    let offset = path_offset(source, field);
     if known.contains_key(&offset) {
         return Ok(());
     }
@@ -59,14 +59,26 @@ pub(crate) fn note_path(
     Ok(())
 }
 
-/// The offset that a field of a path holds.
-#[tactic(auto, using(crate::proofs::KnownLaws::field_rules))]
-pub(crate) fn offset_in(order: Order, info: &[u8], table: &[u8], field: PathField) -> u64
-    requires path { IsPathField (record { order = order; bytes = table.now }) info.now field }
-    ensures value { result ≡ offset_at (record { order = order; bytes = table.now }) info.now field }
-    ensures ends { ends_in table.now result ≡ true }
+/// The new offset that is known for the old one in a field.
+pub(crate) fn known_offset(
+    source: &FieldSource,
+    field: PathField,
+    known: &HashMap<u64, u64>,
+) -> Option<u64>
+    requires path { IsOffsetField source.now.order source.now.table source.now.cells field }
+    ensures value { result ≡ get nat_eq known.now (offset_at source.now field) }
 {
-    number_in(order, info, field.at, field.size)
+    let offset = path_offset(source, field);
+    known.get(&offset).copied()
+}
+
+/// The offset that a field of a path holds.
+fn path_offset(source: &FieldSource, field: PathField) -> u64
+    requires path { IsOffsetField source.now.order source.now.table source.now.cells field }
+    ensures value { result ≡ offset_at source.now field }
+    ensures ends { ends_in source.now.table.bytes result ≡ true }
+{
+    source.offset(field)
 }
 
 /// Adds the mapped text of the path at an offset, which asks for a new place, and notes the place.

@@ -25,9 +25,12 @@ mod file;
 mod inline;
 mod judge;
 mod known;
+mod line_records;
 mod lines;
 mod new_sections;
+mod records;
 mod refusal;
+mod sources;
 mod starts;
 mod tables;
 

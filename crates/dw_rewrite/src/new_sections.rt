@@ -3,23 +3,24 @@
 //!
 //! Read first: `specs/NewTables.antt`.
 
-ghost use Rattle.std.specs.Prelude.{◌≡◌, ◌++◌, length, nat_eq, IfErr, IfOk, OnOk};
+ghost use Rattle.std.specs.Prelude.{◌≡◌, ◌++◌, ◌<◌, length, nat_eq, IfErr, IfOk, OnOk};
 ghost use Rattle.std.specs.HashMap.{get};
 ghost use Rattle.dw_meaning.specs.DataOutput.{Body as BodyOf};
 ghost use Rattle.dw_base.specs.Refusals.{Blames};
 ghost use Rattle.dw_base.specs.declared.fault.Fault.TheVariants.{NoMemory};
-ghost use Rattle.dw_rewrite.specs.Changes.{AllFit, AreFree, AreSet, known_patches, start_table};
+ghost use Rattle.dw_rewrite.specs.Changes.{AreFree, AreSet};
 ghost use Rattle.dw_find.specs.InlineRooms.{Grows};
 ghost use Rattle.dw_rewrite.specs.NewStarts.{known_starts};
-ghost use Rattle.dw_find.specs.ViewFields.{AllHavePaths, AllRoomsFit, HasPaths, as_table, fields_of, info_of, offsets_in};
-ghost use Rattle.dw_rewrite.specs.NewTables.{bodies_known, body_known, fields_known, section_known};
+ghost use Rattle.dw_find.specs.ViewFields.{AllHaveOffsets, AllHavePlaces, AllRoomsFit, HasOffsets, HasPlaces, as_table, fields_of, info_of};
+ghost use Rattle.dw_rewrite.specs.NewTables.{bodies_known, body_known, fields_known, section_known, source_in, starts_in};
 
 use crate::change::{set_fields, set_starts};
 use crate::inline::map_rooms;
+use crate::sources::FieldSource;
 use crate::starts::NewStarts;
-use crate::tables::fields_of;
-use dw_base::Fault;
-use dw_find::{TextsOf, UnitPaths, table_texts};
+use crate::tables::{fields_of, text_source};
+use dw_base::{DebugSection, Fault};
+use dw_find::{TextsOf, UnitPaths};
 use dw_patch::Patches;
 use dw_paths::Maps;
 use dw_view::View;
@@ -55,10 +56,9 @@ pub(crate) fn new_sections(
     paths: &[UnitPaths],
     bodies: &mut Vec<Body>,
 ) -> Result<(), Fault>
-    requires paths { AllHavePaths view.now paths.now }
+    requires offsets { AllHaveOffsets view.now paths.now }
+    requires places { AllHavePlaces view.now paths.now }
     requires rooms { AllRoomsFit maps.now view.now paths.now }
-    requires str { AllFit (λ o. get nat_eq str.now o) }
-    requires line_str { AllFit (λ o. get nat_eq line_str.now o) }
     ensures bodies { OnOk result (bodies.new.items ≡ bodies.old.items ++ bodies_known maps.now view.now (λ o. get nat_eq str.now o) (λ o. get nat_eq line_str.now o) (λ o. known_starts starts.now o) paths.now) }
     ensures only { IfErr result (λ f. f ≡ NoMemory) }
 {
@@ -80,9 +80,8 @@ fn new_section(
     starts: &NewStarts,
     found: &UnitPaths,
 ) -> Result<Body, Fault>
-    requires paths { HasPaths view.now found.now }
-    requires str { AllFit (λ o. get nat_eq str.now o) }
-    requires line_str { AllFit (λ o. get nat_eq line_str.now o) }
+    requires offsets { HasOffsets view.now found.now }
+    requires places { HasPlaces view.now found.now }
     ensures body { IfOk result (λ b. b ≡ body_known maps.now view.now (λ o. get nat_eq str.now o) (λ o. get nat_eq line_str.now o) (λ o. known_starts starts.now o) found.now) }
     ensures refused { IfErr result (Blames (Grows maps.now found.now.number (info_of view.now found.now) found.now.inline)) }
 {
@@ -106,9 +105,8 @@ fn write_section(
     found: &UnitPaths,
     out: &mut [u8],
 ) -> Result<(), Fault>
-    requires paths { HasPaths view.now found.now }
-    requires str { AllFit (λ o. get nat_eq str.now o) }
-    requires line_str { AllFit (λ o. get nat_eq line_str.now o) }
+    requires offsets { HasOffsets view.now found.now }
+    requires places { HasPlaces view.now found.now }
     requires start { out.old ≡ info_of view.now found.now }
     ensures out { OnOk result (out.new ≡ section_known maps.now view.now (λ o. get nat_eq str.now o) (λ o. get nat_eq line_str.now o) (λ o. known_starts starts.now o) found.now) }
     ensures long { OnOk result (length out.new ≡ length (info_of view.now found.now)) }
@@ -137,10 +135,9 @@ fn put_fields(
     found: &UnitPaths,
     out: &mut [u8],
 ) -> Result<(), Fault>
-    requires paths { HasPaths view.now found.now }
+    requires offsets { HasOffsets view.now found.now }
+    requires places { HasPlaces view.now found.now }
     requires long { length out.old ≡ length (info_of view.now found.now) }
-    requires str { AllFit (λ o. get nat_eq str.now o) }
-    requires line_str { AllFit (λ o. get nat_eq line_str.now o) }
     ensures out { OnOk result (out.new ≡ fields_known view.now (λ o. get nat_eq str.now o) (λ o. get nat_eq line_str.now o) (λ o. known_starts starts.now o) found.now out.old) }
     ensures long { OnOk result (length out.new ≡ length (info_of view.now found.now)) }
     ensures only { IfErr result (λ f. f ≡ NoMemory) }
@@ -161,23 +158,16 @@ fn set_section(
     known: &HashMap<u64, u64>,
     patches: &mut Patches,
 ) -> Result<(), Fault>
-    requires paths { HasPaths view.now found.now }
+    requires offsets { HasOffsets view.now found.now }
+    requires places { HasPlaces view.now found.now }
     requires size { patches.old.size ≡ length (info_of view.now found.now) }
-    requires fits { AllFit (λ o. get nat_eq known.now o) }
     requires free { AreFree patches.old.list (fields_of (as_table texts) found.now) }
-    ensures set { OnOk result (AreSet patches.old patches.new (known_patches (offsets_in view.now (as_table texts)) (info_of view.now found.now) (λ o. get nat_eq known.now o) (fields_of (as_table texts) found.now))) }
+    ensures set { OnOk result (AreSet (source_in view.now found.now.number (as_table texts)) (λ o. get nat_eq known.now o) (fields_of (as_table texts) found.now) patches.old patches.new) }
     ensures only { IfErr result (λ f. f ≡ NoMemory) }
 {
-    let info = view.bytes(found.section);
+    let source = text_source(view, texts, found.section);
     let fields = fields_of(found, texts);
-    set_fields(
-        view.order(),
-        info,
-        table_texts(view, texts),
-        fields,
-        known,
-        patches,
-    )?;
+    set_fields(&source, fields, known, patches)?;
     Ok(())
 }
 
@@ -188,13 +178,26 @@ fn set_section_starts(
     starts: &NewStarts,
     patches: &mut Patches,
 ) -> Result<(), Fault>
-    requires paths { HasPaths view.now found.now }
+    requires offsets { HasOffsets view.now found.now }
+    requires places { HasPlaces view.now found.now }
     requires size { patches.old.size ≡ length (info_of view.now found.now) }
     requires free { AreFree patches.old.list found.now.starts }
-    ensures set { OnOk result (AreSet patches.old patches.new (known_patches (start_table view.now.order) (info_of view.now found.now) (λ o. known_starts starts.now o) found.now.starts)) }
+    ensures set { OnOk result (AreSet (starts_in view.now found.now.number) (λ o. known_starts starts.now o) found.now.starts patches.old patches.new) }
     ensures only { IfErr result (λ f. f ≡ NoMemory) }
 {
-    let info = view.bytes(found.section);
-    set_starts(view.order(), info, found.starts.as_slice(), starts, patches)?;
+    let source = start_source(view, found.section);
+    set_starts(&source, found.starts.as_slice(), starts, patches)?;
     Ok(())
+}
+
+/// Where the fields of the section of a number hold offsets into the line tables.
+#[tactic(auto, using(crate::proofs::GrowthLaws::start_rules))]
+pub(crate) fn start_source<'v, 'f>(view: &'v View<'f>, section: u32) -> FieldSource<'v, 'f, 'v>
+    requires there { section < length view.now.sections }
+    ensures { result ≡ starts_in view.now section }
+{
+    match view.first(DebugSection::Line) {
+        Some(lines) => FieldSource::new(view, section, lines, view.bytes(lines)),
+        None => FieldSource::new(view, section, 0, b""),
+    }
 }

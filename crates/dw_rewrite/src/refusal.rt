@@ -5,13 +5,6 @@ ghost use Rattle.dw_base.specs.Refusals.{at};
 
 use dw_base::{Kind, Refusal};
 
-/// The file has not the shape that this version takes.
-pub(crate) fn unbuilt() -> Refusal
-    ensures { result ≡ at Kind.Unbuilt 0 0 }
-{
-    Refusal::of_file(Kind::Unbuilt)
-}
-
 /// The file would be longer than one that is written.
 pub(crate) fn too_large() -> Refusal
     ensures { result ≡ at Kind.TooLarge 0 0 }

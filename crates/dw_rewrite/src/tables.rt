@@ -2,15 +2,16 @@
 //!
 //! Read first: `specs/NewTables.antt`.
 
-ghost use Rattle.std.specs.Prelude.{◌≡◌, length, nat_eq, IfErr, IfOk, OnOk, []};
+ghost use Rattle.std.specs.Prelude.{◌≡◌, ◌<◌, length, nat_eq, IfErr, IfOk, OnOk, []};
 ghost use Rattle.std.specs.HashMap.{get};
 ghost use Rattle.dw_base.specs.LayoutFails.{TooLong};
 ghost use Rattle.dw_base.specs.Refusals.{Blames};
 ghost use Rattle.dw_base.specs.StringTables.{table_bytes};
-ghost use Rattle.dw_find.specs.ViewFields.{AllHaveFields, HasFields, as_table, fields_of, offsets_in, table_number};
-ghost use Rattle.dw_rewrite.specs.NewTables.{GrownBy, Growing, LongTable, TableMade, all_texts_at, fault_at, section_texts_at, table_with};
+ghost use Rattle.dw_find.specs.ViewFields.{AllHaveOffsets, HasOffsets, as_table, fields_of, table_number};
+ghost use Rattle.dw_rewrite.specs.NewTables.{GrownBy, Growing, LongTable, TableMade, all_texts_at, fault_at, section_texts_at, source_in, table_with};
 
 use crate::change::note_fields;
+use crate::sources::FieldSource;
 use dw_base::{Fault, Refusal};
 use dw_find::{PathField, TextsOf, UnitPaths, table_number, table_texts};
 use dw_paths::Maps;
@@ -27,6 +28,24 @@ pub(crate) fn fields_of(paths: &UnitPaths, texts: TextsOf) -> &[PathField]
         TextsOf::Str => &paths.str,
         TextsOf::LineStr => &paths.line_str,
     }
+}
+
+/// Where the fields of the section of a number hold offsets into a table of texts.
+#[tactic(auto, using(crate::proofs::GrowthLaws::source_rules))]
+pub(crate) fn text_source<'v, 'f>(
+    view: &'v View<'f>,
+    texts: TextsOf,
+    section: u32,
+) -> FieldSource<'v, 'f, 'v>
+    requires there { section < length view.now.sections }
+    ensures { result ≡ source_in view.now section (as_table texts) }
+{
+    FieldSource::new(
+        view,
+        section,
+        table_number(view, texts),
+        table_texts(view, texts),
+    )
 }
 
 /// A table of texts that has grown, and the new places of the paths in it by their old offsets.
@@ -48,7 +67,7 @@ pub(crate) fn new_table(
     texts: TextsOf,
     paths: &[UnitPaths],
 ) -> Result<NewTable, Fault>
-    requires paths { AllHaveFields view.now paths.now }
+    requires paths { AllHaveOffsets view.now paths.now }
     ensures made { IfOk result (λ t. TableMade maps.now view.now (as_table texts) paths.now t.pool (λ o. get nat_eq t.known o)) }
     ensures refused { IfErr result (Blames (LongTable maps.now view.now (as_table texts) paths.now)) }
 {
@@ -67,7 +86,7 @@ fn grown_table(
     texts: TextsOf,
     paths: &[UnitPaths],
 ) -> Result<NewTable, Fault>
-    requires paths { AllHaveFields view.now paths.now }
+    requires paths { AllHaveOffsets view.now paths.now }
     ensures made { IfOk result (λ t. TableMade maps.now view.now (as_table texts) paths.now t.pool (λ o. get nat_eq t.known o)) }
     ensures refused { IfErr result (Blames (TooLong (length (table_bytes (table_with view.now (as_table texts) (all_texts_at maps.now view.now (as_table texts) [] paths.now)))))) }
 {
@@ -75,9 +94,7 @@ fn grown_table(
     let mut pool = Pool::new(alloc, table)?;
     let mut known = HashMap::new(alloc);
     for found in paths {
-        note_section(
-            alloc, view, maps, texts, table, found, &mut pool, &mut known,
-        )?;
+        note_section(alloc, view, maps, texts, found, &mut pool, &mut known)?;
     }
     Ok(NewTable { pool, known })
 }
@@ -89,20 +106,18 @@ fn note_section(
     view: &View,
     maps: &Maps,
     texts: TextsOf,
-    table: &[u8],
     found: &UnitPaths,
     pool: &mut Pool,
     known: &mut HashMap<u64, u64>,
 ) -> Result<(), Fault>
-    requires table { table.now ≡ (offsets_in view.now (as_table texts)).bytes }
-    requires paths { HasFields view.now found.now }
+    requires paths { HasOffsets view.now found.now }
     requires growing { Growing maps.now view.now (as_table texts) pool.old (λ o. get nat_eq known.old o) }
     ensures grown { OnOk result (GrownBy maps.now view.now (as_table texts) found.now pool.old pool.new (λ o. get nat_eq known.old o) (λ o. get nat_eq known.new o)) }
     ensures refused { IfErr result (Blames (TooLong (length (table_bytes (table_with view.now (as_table texts) (section_texts_at maps.now view.now (as_table texts) pool.old.texts found.now)))))) }
 {
-    let info = view.bytes(found.section);
+    let source = text_source(view, texts, found.section);
     let fields = fields_of(found, texts);
-    note_fields(alloc, view.order(), info, table, maps, fields, pool, known)?;
+    note_fields(alloc, &source, maps, fields, pool, known)?;
     Ok(())
 }
 

@@ -16,5 +16,6 @@ pub mod SourceLaws
 pub mod KeptLaws
 pub mod TableLaws
 pub mod RelocationLaws
+pub mod RelocationSourceLaws
 pub mod ViewRelocationLaws
 pub mod MovedLaws

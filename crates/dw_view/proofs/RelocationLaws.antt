@@ -126,6 +126,10 @@ unfolding relocation_section
 holder-there b holders i k d o h lt is some =
     (first_below-passes (relocates b i) (section_count b) k (holder-of b holders i d o h lt is ∙ some)).0
 
+pub first_there : (b : List ℕ) (i k : ℕ) → relocation_section b i ≡ Some k → k < section_count b
+unfolding relocation_section
+first_there b i k is = (first_below-passes (relocates b i) (section_count b) k is).0
+
 pub holder-room : (b : List ℕ) (holders : List (Option ℕ)) (i : ℕ) → AreFirsts (relocates b) (section_count b) (section_count b) holders → i < section_count b
     → i < length holders
 holder-room b holders i h lt = let size = h.size in omega (arith, lt, size)
@@ -308,7 +312,7 @@ no-rel : (b : List ℕ) (t i : ℕ) → (e_type b == ET_REL) ≡ false → reloc
 unfolding relocates
 no-rel b t i other = rw other refl
 
-no-holder : (b : List ℕ) (i : ℕ) → (e_type b == ET_REL) ≡ false → relocation_section b i ≡ None
+pub no-holder : (b : List ℕ) (i : ℕ) → (e_type b == ET_REL) ≡ false → relocation_section b i ≡ None
 unfolding relocation_section
 no-holder b i other = first_below-none (relocates b i) (section_count b) (λ k lt. no-rel b i k other)
 

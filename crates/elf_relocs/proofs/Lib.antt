@@ -1,2 +1,3 @@
 pub mod SourceLaws
 pub mod OffsetLaws
+pub mod RunPlaceLaws

@@ -1,1 +1,2 @@
 pub mod FieldOffsets
+pub mod Runs

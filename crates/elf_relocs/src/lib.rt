@@ -25,12 +25,14 @@ mod absolute_types;
 mod offsets;
 mod records;
 mod relocs;
+mod runs;
 mod source;
 mod symbols;
 
 pub use absolute_types::absolute_size;
 pub use dw_base::{Class, Order, Reloc, Symbol, relocation_numbers};
-pub use offsets::{field_number, offset_addend};
+pub use offsets::{addend_makes, field_number, offset_addend};
 pub use relocs::{reloc_at, set_reloc};
+pub use runs::Run;
 pub use source::{RelocSource, is_none_type, record, record_count};
 pub use symbols::symbol_at;

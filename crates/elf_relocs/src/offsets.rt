@@ -3,7 +3,7 @@
 //!
 //! Read first: `specs/FieldOffsets.antt`.
 
-ghost use Rattle.std.specs.Prelude.{◌≡◌, ◌⊎◌, ◌+ℤ◌, ◌-ℤ◌, pos, IfSome};
+ghost use Rattle.std.specs.Prelude.{◌≡◌, ◌⊎◌, ◌==◌, ◌+ℤ◌, ◌-ℤ◌, pos, IfSome};
 ghost use Rattle.std.specs.Int.{cast_signed, w64};
 ghost use Rattle.std.specs.Int.RustNames.{FitsSigned};
 ghost use Rattle.dw_base.specs.Cells.{wrapped};
@@ -74,6 +74,15 @@ fn addend_by(class: Class, addend: Option<i64>, value: u64, size: u8, offset: u6
         }
         None => None,
     }
+}
+
+/// Whether an addend can make an offset of the value of a symbol in a field of `size` bytes, 4 or 8: an addend is a signed word of the
+/// class, so false comes only of a field of 8 bytes in a file of 32 bits.
+pub fn addend_makes(class: Class, value: u64, size: u8, offset: u64) -> bool
+    requires size { (size ≡ 4) ⊎ (size ≡ 8) }
+    ensures makes { result ≡ (wrapped (pos value +ℤ cast_signed (word_width class) (wrapped (pos offset -ℤ pos value) (word_size class))) size == offset) }
+{
+    sum(value, moved_addend(class, value, offset), size) == offset
 }
 
 /// The addend that makes an offset of a symbol's value, as a signed word of the class.

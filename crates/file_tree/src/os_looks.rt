@@ -47,7 +47,9 @@ fn read_file<R: Files + AllocGlobal>(
     if found.len() > limit {
         return Ok(Found::TooLarge { size: found.len() });
     }
-    let mut bytes = Vec::with_capacity(rt.alloc(), found.len() as usize)?;
+    // A byte more than the file has: its end is met without moving what was read to a larger place.
+    let room = (found.len() as usize).saturating_add(1);
+    let mut bytes = Vec::with_capacity(rt.alloc(), room)?;
     fs::open(rt, path)?
         .take(limit.saturating_add(1))
         .read_to_end(&mut bytes)?;

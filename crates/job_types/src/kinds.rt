@@ -36,6 +36,5 @@ pub fn kind_name(kind: Kind) -> &'static str
         Kind::TooLarge => "too large",
         Kind::DefinedPath => "defined path",
         Kind::FileType => "file type",
-        Kind::Unbuilt => "unbuilt",
     }
 }

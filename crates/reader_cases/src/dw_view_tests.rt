@@ -7,8 +7,8 @@ use dw_base::elf_numbers::{
 };
 use dw_base::{DebugSection, Fault, Field, Kind, Order, Refusal};
 use dw_view::View;
-use elf_file::ElfFile;
 use std::alloc::{AllocError, Global};
+use std::process::Abort;
 use std::test::Fail;
 
 /// A file: its type, its sections from number 1 on, the name of its section name table, which is the last
@@ -270,27 +270,50 @@ const KINDS: [(u32, Option<DebugSection>); 4] = [
     (7, None),
 ];
 
+/// Sections are found by name and number.
+fn check_found(rt: &impl Abort, view: &View) {
+    for (name, after, section) in FOUND.iter() {
+        assert_eq!(rt; view.section(name, *after), *section, "{after}");
+    }
+}
+
+/// Sections of numbers are those that are read, or others.
+fn check_kinds(rt: &impl Abort, view: &View) {
+    for (section, kind) in KINDS.iter() {
+        assert!(rt; *section < view.section_count());
+        assert_eq!(rt; view.kind(*section), *kind, "{section}");
+    }
+}
+
+/// Fields of the section of units, by place, size and number.
+const FIELDS: [(u64, u8, u64); 3] = [(0, 4, 16), (4, 2, 4), (16, 4, 13)];
+
+/// The fields of the section of a number.
+fn check_fields(rt: &impl Abort, view: &View, section: u32) {
+    assert!(rt; section < view.section_count());
+    assert_eq!(rt; view.bytes(section).len(), 20);
+    for (at, size, number) in FIELDS.iter() {
+        assert!(rt; *at <= 16);
+        assert!(rt; *size == 2 || *size == 4);
+        assert_eq!(rt;
+            view.field(section, *at, *size),
+            Ok(Field::Num(*number)),
+            "{at}"
+        );
+    }
+}
+
 #[test]
-#[tactic(auto, using(dw_view::proofs::ViewLaws::view_laws))]
 fn sections_and_fields_are_those_of_the_file(rt: HostRuntime) -> Result<(), Fail> {
     let file = case_file(rt.alloc(), &ONE_UNIT)?;
-    assert!(rt; file.len() <= 0x8000_0000);
-    let elf = ElfFile::read(rt.alloc(), &file)?;
+    let elf = records(rt.alloc(), &file)?;
     let view = View::one(&elf)?;
     assert_eq!(rt; view.order(), Order::Little);
-    for (name, after, section) in FOUND {
-        assert_eq!(rt; view.section(name, after), section, "{after}");
-    }
+    assert_eq!(rt; view.first(DebugSection::Info), Some(1));
     assert_eq!(rt; view.first(DebugSection::Str), Some(6));
     assert_eq!(rt; view.first(DebugSection::LineStr), None);
-    for (section, kind) in KINDS {
-        assert!(rt; section < elf.section_count());
-        assert_eq!(rt; view.kind(section), kind, "{section}");
-    }
-    let info = view.first(DebugSection::Info).ok_or("no section")?;
-    assert_eq!(rt; view.bytes(info).len(), 20);
-    assert_eq!(rt; view.field(info, 0, 4), Ok(Field::Num(16)));
-    assert_eq!(rt; view.field(info, 4, 2), Ok(Field::Num(4)));
-    assert_eq!(rt; view.field(info, 16, 4), Ok(Field::Num(13)));
+    check_found(&rt, &view);
+    check_kinds(&rt, &view);
+    check_fields(&rt, &view, 1);
     Ok(())
 }

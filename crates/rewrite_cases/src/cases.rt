@@ -1,5 +1,5 @@
 //! Worked examples: what becomes of files, and what refuses them. The expected bytes and places are those of another
-//! program, written from the same rules; what isn't taken yet that program doesn't say.
+//! program, written from the same rules.
 
 use crate::fixtures::{Change, Row, Shape};
 use dw_base::elf_numbers::{ET_EXEC, ET_REL, SHF_ALLOC, SHF_COMPRESSED};
@@ -25,24 +25,28 @@ pub(crate) const EXEC: Shape = Shape {
     class: Class::C64,
     order: Order::Little,
     kind: ET_EXEC,
+    machine: 62,
 };
 
-const REL: Shape = Shape {
+pub(crate) const REL: Shape = Shape {
     class: Class::C64,
     order: Order::Little,
     kind: ET_REL,
+    machine: 62,
 };
 
 const CORE: Shape = Shape {
     class: Class::C64,
     order: Order::Little,
     kind: 4,
+    machine: 62,
 };
 
 pub(crate) const BIG_32: Shape = Shape {
     class: Class::C32,
     order: Order::Big,
     kind: ET_EXEC,
+    machine: 20,
 };
 
 pub(crate) const MAPS: (&[u8], &[u8]) = (b"/build/p", b"/usr/src/debug/p");
@@ -51,7 +55,7 @@ pub(crate) const INFO: &[u8] = b".debug_info";
 
 pub(crate) const ABBREV: &[u8] = b".debug_abbrev";
 
-const STR: &[u8] = b".debug_str";
+pub(crate) const STR: &[u8] = b".debug_str";
 
 /// A unit of version 4 with one entry, its name and its directory; the table of its abbreviation; and their texts.
 pub(crate) const ONE_UNIT: Row = (INFO, 0, &[UNIT_4, ROOT_4]);
@@ -62,9 +66,9 @@ pub(crate) const TWO_TEXTS: Row = (STR, 0, &[TEXTS]);
 
 pub(crate) const UNIT_4: &[u8] = b"\x10\0\0\0\x04\0\0\0\0\0\x08";
 
-const ROOT_4: &[u8] = b"\x01\0\0\0\0\x0d\0\0\0";
+pub(crate) const ROOT_4: &[u8] = b"\x01\0\0\0\0\x0d\0\0\0";
 
-const TABLE: &[u8] = b"\x01\x11\0\x03\x0e\x1b\x0e\0\0\0";
+pub(crate) const TABLE: &[u8] = b"\x01\x11\0\x03\x0e\x1b\x0e\0\0\0";
 
 pub(crate) const TEXTS: &[u8] = b"/build/p/a.c\0/build/p\0";
 
@@ -523,11 +527,11 @@ pub(crate) const CASES: [Case; 28] = [
         result: Err((Kind::FileType, 0, 16)),
     },
     Case {
-        shows: "a relocatable file",
+        shows: "the fields of a relocatable file without relocations are offsets as they stand",
         shape: REL,
         sections: &[ONE_UNIT, ONE_TABLE, TWO_TEXTS],
         maps: MAPS,
-        result: Err((Kind::Unbuilt, 0, 0)),
+        result: Ok(&[(1, &[UNIT_4, NEW_ROOT_4]), (3, &[TEXTS, NEW_TEXTS])]),
     },
     Case {
         shows: ".debug_info that is loaded",

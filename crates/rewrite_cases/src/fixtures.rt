@@ -13,6 +13,8 @@ pub struct Shape {
     pub order: Order,
     /// `e_type`.
     pub kind: u16,
+    /// `e_machine`.
+    pub machine: u16,
 }
 
 /// A section: its name, its flags, and its bytes in parts.
@@ -21,16 +23,16 @@ pub type Row = (&'static [u8], u64, &'static [&'static [u8]]);
 /// The new bytes of the section of a number, in parts.
 pub type Change = (usize, &'static [&'static [u8]]);
 
-/// The sizes that a class has: of a word, of the file header, and of a section header; and a machine of it.
-fn sizes(class: Class) -> (usize, u64, u64, u64) {
+/// The sizes that a class has: of a word, of the file header, and of a section header.
+fn sizes(class: Class) -> (usize, u64, u64) {
     match class {
-        Class::C32 => (4, 52, 40, 20),
-        Class::C64 => (8, 64, 64, 62),
+        Class::C32 => (4, 52, 40),
+        Class::C64 => (8, 64, 64),
     }
 }
 
 /// Numbers, each of so many bytes.
-fn push_numbers(
+pub fn push_numbers(
     order: Order,
     bytes: &mut Vec<u8>,
     numbers: &[(usize, u64)],
@@ -56,17 +58,21 @@ fn push_numbers(
     Ok(())
 }
 
-/// A section header: where its name is, its type and flags, where its bytes are and how many.
+/// What a section header says of its section beside where its name and its bytes are: its type and flags, and the sections
+/// that its link and its info name.
+pub type Head = (u32, u64, u32, u32);
+
+/// A section header: where its name is, what it says, where its bytes are and how many.
 fn push_header(
     shape: Shape,
     headers: &mut Vec<u8>,
     name: usize,
-    kind: u32,
-    flags: u64,
+    head: Head,
     place: usize,
     size: usize,
 ) -> Result<(), AllocError> {
-    let (word, _, _, _) = sizes(shape.class);
+    let (word, _, _) = sizes(shape.class);
+    let (kind, flags, link, info) = head;
     push_numbers(
         shape.order,
         headers,
@@ -77,7 +83,11 @@ fn push_header(
         headers,
         &[(word, 0), (word, place as u64), (word, size as u64)],
     )?;
-    push_numbers(shape.order, headers, &[(4, 0), (4, 0)])?;
+    push_numbers(
+        shape.order,
+        headers,
+        &[(4, u64::from(link)), (4, u64::from(info))],
+    )?;
     push_numbers(
         shape.order,
         headers,
@@ -99,42 +109,57 @@ fn parts_of(
     parts
 }
 
-/// A section, with its bytes at the end of the file, and its name and header behind those that are there.
-fn push_section(
+/// What a file is made of so far: its bytes, and the names and headers of its sections.
+#[derive(Drop)]
+pub struct Parts {
+    pub file: Vec<u8>,
+    names: Vec<u8>,
+    headers: Vec<u8>,
+}
+
+/// The name and the header of the section whose bytes are those of the file from a place on.
+pub fn push_named(
     shape: Shape,
-    file: &mut Vec<u8>,
-    names: &mut Vec<u8>,
-    headers: &mut Vec<u8>,
-    row: &Row,
+    parts: &mut Parts,
+    name: &[u8],
+    head: Head,
+    start: usize,
 ) -> Result<(), AllocError> {
-    let &(name, flags, parts) = row;
-    let at = names.len();
-    names.extend_from_slice(name)?;
-    names.push(0)?;
-    let start = file.len();
-    for part in parts {
-        file.extend_from_slice(part)?;
+    let at = parts.names.len();
+    parts.names.extend_from_slice(name)?;
+    parts.names.push(0)?;
+    let size = parts.file.len().saturating_sub(start);
+    push_header(shape, &mut parts.headers, at, head, start, size)
+}
+
+/// A section, with its bytes at the end of the file.
+fn push_section(shape: Shape, parts: &mut Parts, row: &Row) -> Result<(), AllocError> {
+    let &(name, flags, pieces) = row;
+    let start = parts.file.len();
+    for piece in pieces {
+        parts.file.extend_from_slice(piece)?;
     }
-    let size = file.len().saturating_sub(start);
-    push_header(shape, headers, at, SHT_PROGBITS, flags, start, size)
+    push_named(shape, parts, name, (SHT_PROGBITS, flags, 0, 0), start)
 }
 
 /// The section name table behind the sections.
-fn push_names(
-    shape: Shape,
-    file: &mut Vec<u8>,
-    names: &mut Vec<u8>,
-    headers: &mut Vec<u8>,
-) -> Result<(), AllocError> {
-    let at = names.len();
-    names.extend_from_slice(b".shstrtab\0")?;
-    push_header(shape, headers, at, SHT_STRTAB, 0, file.len(), names.len())?;
-    file.extend_from_slice(names)
+fn push_names(shape: Shape, parts: &mut Parts) -> Result<(), AllocError> {
+    let at = parts.names.len();
+    parts.names.extend_from_slice(b".shstrtab\0")?;
+    push_header(
+        shape,
+        &mut parts.headers,
+        at,
+        (SHT_STRTAB, 0, 0, 0),
+        parts.file.len(),
+        parts.names.len(),
+    )?;
+    parts.file.extend_from_slice(&parts.names)
 }
 
 /// The file header, with zeros for what it says of the section headers.
 fn push_front(shape: Shape, file: &mut Vec<u8>) -> Result<(), AllocError> {
-    let (word, size, section, machine) = sizes(shape.class);
+    let (word, size, section) = sizes(shape.class);
     let class = match shape.class {
         Class::C32 => 1,
         Class::C64 => 2,
@@ -148,7 +173,11 @@ fn push_front(shape: Shape, file: &mut Vec<u8>) -> Result<(), AllocError> {
     push_numbers(
         shape.order,
         file,
-        &[(2, u64::from(shape.kind)), (2, machine), (4, 1)],
+        &[
+            (2, u64::from(shape.kind)),
+            (2, u64::from(shape.machine)),
+            (4, 1),
+        ],
     )?;
     push_numbers(shape.order, file, &[(word, 0), (word, 0), (word, 0)])?;
     push_numbers(
@@ -182,30 +211,43 @@ fn put_table(shape: Shape, file: &mut [u8], place: u64, count: u64) {
     let _ = put_number(shape.order, file, shstrndx, 2, count.saturating_sub(1));
 }
 
-/// The file of these sections, some of them with other bytes: a file header, the sections' bytes one behind
-/// another, the section name table, and the section headers at a multiple of a word.
+/// A file without sections but number 0.
+pub fn begun(alloc: Global, shape: Shape) -> Result<Parts, AllocError> {
+    let mut parts = Parts {
+        file: Vec::new(alloc),
+        names: Vec::new(alloc),
+        headers: Vec::new(alloc),
+    };
+    push_front(shape, &mut parts.file)?;
+    parts.names.push(0)?;
+    push_header(shape, &mut parts.headers, 0, (SHT_NULL, 0, 0, 0), 0, 0)?;
+    Ok(parts)
+}
+
+/// The file of so many sections: a file header, the sections' bytes one behind another, the section name table, and the
+/// section headers at a multiple of a word.
+pub fn ended(shape: Shape, mut parts: Parts, count: usize) -> Result<Vec<u8>, AllocError> {
+    push_names(shape, &mut parts)?;
+    push_padding(shape, &mut parts.file)?;
+    let place = parts.file.len() as u64;
+    parts.file.extend_from_slice(&parts.headers)?;
+    let count = (count as u64).saturating_add(2);
+    put_table(shape, &mut parts.file, place, count);
+    Ok(parts.file)
+}
+
+/// The file of these sections, some of them with other bytes.
 pub fn file_of(
     alloc: Global,
     shape: Shape,
     rows: &[Row],
     changes: &[Change],
 ) -> Result<Vec<u8>, AllocError> {
-    let mut file = Vec::new(alloc);
-    let mut names = Vec::new(alloc);
-    let mut headers = Vec::new(alloc);
-    push_front(shape, &mut file)?;
-    names.push(0)?;
-    push_header(shape, &mut headers, 0, SHT_NULL, 0, 0, 0)?;
+    let mut parts = begun(alloc, shape)?;
     for i in 0..rows.len() {
-        let (name, flags, parts) = rows[i];
-        let row = (name, flags, parts_of(i + 1, parts, changes));
-        push_section(shape, &mut file, &mut names, &mut headers, &row)?;
+        let (name, flags, bytes) = rows[i];
+        let row = (name, flags, parts_of(i + 1, bytes, changes));
+        push_section(shape, &mut parts, &row)?;
     }
-    push_names(shape, &mut file, &mut names, &mut headers)?;
-    push_padding(shape, &mut file)?;
-    let place = file.len() as u64;
-    let count = (rows.len() as u64).saturating_add(2);
-    file.extend_from_slice(&headers)?;
-    put_table(shape, &mut file, place, count);
-    Ok(file)
+    ended(shape, parts, rows.len())
 }

@@ -25,6 +25,10 @@ mod line_cases;
 #[cfg(test)]
 mod macro_cases;
 #[cfg(test)]
+mod object_cases;
+#[cfg(test)]
+mod objects;
+#[cfg(test)]
 mod patch_tests;
 #[cfg(test)]
 mod tests;

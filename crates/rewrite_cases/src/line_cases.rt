@@ -10,7 +10,7 @@ use dw_base::elf_numbers::SHF_ALLOC;
 
 pub(crate) const LINE: &[u8] = b".debug_line";
 
-const LINE_STR: &[u8] = b".debug_line_str";
+pub(crate) const LINE_STR: &[u8] = b".debug_line_str";
 
 /// A unit of version 2 in the other byte order, its entry's code, and where its line table starts.
 pub(crate) const BIG_UNIT: &[u8] = b"\0\0\0\x0c\0\x02\0\0\0\0\x04\x01";

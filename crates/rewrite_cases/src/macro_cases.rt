@@ -9,7 +9,7 @@ use crate::line_cases::{
 use dw_base::Kind;
 use dw_base::elf_numbers::SHF_ALLOC;
 
-const MACRO: &[u8] = b".debug_macro";
+pub(crate) const MACRO: &[u8] = b".debug_macro";
 
 /// Two units of version 4 with variables, their abbreviations and texts, each with a line table of its own.
 const TWO_UNITS: Row = (
@@ -37,16 +37,16 @@ const VARIABLE_TABLE: Row = (
 
 const FIVE_TEXTS: &[u8] = b"/build/p/u0.c\0/build/p\0v0\0v1\0/build/p/u1.c\0";
 
-const LINES_4: &[u8] = b"\x01\x01\x01\xfb\x0e\x0d\0\x01\x01\x01\x01\0\0\0\x01\0\0\x01";
+pub(crate) const LINES_4: &[u8] = b"\x01\x01\x01\xfb\x0e\x0d\0\x01\x01\x01\x01\0\0\0\x01\0\0\x01";
 
-const TABLE_67: &[u8] = b"?\0\0\0\x04\0)\0\0\0";
+pub(crate) const TABLE_67: &[u8] = b"?\0\0\0\x04\0)\0\0\0";
 
 const FIRST_REST: &[u8] = b"/inc\0\0u0.c\0\0\0\0\0\0\x09\x02\0\x10\0\0\0\0\0\0!!\0\x01\x01";
 
 const SECOND_REST_4: &[u8] = b"/inc\0\0u1.c\0\0\0\0\0\0\x09\x02\0 \0\0\0\0\0\0!!\0\x01\x01";
 
 /// The same table, where its folder is mapped.
-const TABLE_75: &[u8] = b"G\0\0\0\x04\x001\0\0\0";
+pub(crate) const TABLE_75: &[u8] = b"G\0\0\0\x04\x001\0\0\0";
 
 /// What a macro unit of version 5 says behind the start of its line table: a file, and a definition whose text stands at an
 /// offset.

@@ -25,6 +25,7 @@ fn file_of_one(alloc: Global) -> Result<Vec<u8>, AllocError> {
         class: Class::C64,
         order: Order::Little,
         kind: ET_EXEC,
+        machine: 62,
     };
     file_of(alloc, shape, &[(b".debug_info", 0, &[&OLD])], &[])
 }

@@ -2,11 +2,13 @@
 
 ghost use Rattle.dw_entries.specs.ViewUnits.{IsUnitSection};
 
-use crate::cases::{CASES, Case};
+use crate::cases::{CASES, Case, MAPS, REL};
 use crate::fixtures::file_of;
 use crate::index_cases::INDEX_CASES;
 use crate::line_cases::LINE_CASES;
 use crate::macro_cases::MACRO_CASES;
+use crate::object_cases::{OBJECT_CASES, OBJECTS_REFUSED, ObjectCase, WITH_FOUR_RECORDS};
+use crate::objects::object_of;
 use crate::rewritten;
 use dw_abbrev::AbbrevTable;
 use dw_base::{DebugSection, Fault, Refusal};
@@ -67,6 +69,56 @@ fn so_is_each_file_with_line_tables(rt: HostRuntime) -> Result<(), Fail> {
 #[test]
 fn so_is_each_file_with_macro_units(rt: HostRuntime) -> Result<(), Fail> {
     each_ends_as_it_says(&rt, rt.alloc(), &MACRO_CASES)
+}
+
+/// What becomes of the file of a relocatable file's case.
+fn object_wanted(alloc: Global, case: &ObjectCase) -> Result<Vec<u8>, Fault> {
+    match case.result {
+        Ok(renewed) => Ok(object_of(alloc, case.shape, case.sections, renewed)?),
+        Err((kind, section, offset)) => { Err(Fault::Refused(Refusal::at(kind, section, offset))) }
+    }
+}
+
+/// The relocatable file of a case is rewritten or refused as the case says.
+fn object_ends_as_it_says(rt: &impl Abort, alloc: Global, case: &ObjectCase) -> Result<(), Fail> {
+    let file = object_of(alloc, case.shape, case.sections, &[])?;
+    assert_eq!(rt;
+        rewritten(alloc, &file, case.maps),
+        object_wanted(alloc, case),
+        "{}",
+        case.shows
+    );
+    Ok(())
+}
+
+/// So is the relocatable file of each case.
+fn each_object_ends_as_it_says(
+    rt: &impl Abort,
+    alloc: Global,
+    cases: &[ObjectCase],
+) -> Result<(), Fail> {
+    for case in cases {
+        object_ends_as_it_says(rt, alloc, case)?;
+    }
+    Ok(())
+}
+
+#[test]
+fn so_is_each_relocatable_file(rt: HostRuntime) -> Result<(), Fail> {
+    each_object_ends_as_it_says(&rt, rt.alloc(), &OBJECT_CASES)
+}
+
+#[test]
+fn a_relocation_that_isn_t_handled_is_refused_at_its_place(rt: HostRuntime) -> Result<(), Fail> {
+    for (place, byte, kind, section, offset) in OBJECTS_REFUSED {
+        let mut file = object_of(rt.alloc(), REL, WITH_FOUR_RECORDS, &[])?;
+        if let Some(old) = file.get_mut(place) {
+            *old = byte;
+        }
+        let refused = Fault::Refused(Refusal::at(kind, section, offset));
+        assert_eq!(rt; rewritten(rt.alloc(), &file, MAPS), Err(refused), "{place}");
+    }
+    Ok(())
 }
 
 /// Appends place, depth and code of each entry of the units of a section.

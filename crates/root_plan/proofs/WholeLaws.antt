@@ -137,7 +137,6 @@ kind-bare kinds.NameTable = refl
 kind-bare kinds.TooLarge = refl
 kind-bare kinds.DefinedPath = refl
 kind-bare kinds.FileType = refl
-kind-bare kinds.Unbuilt = refl
 
 -- a text, a number and what follows
 part-bare : (t : List ℕ) (n : ℕ) (rest : List ℕ) → has_nul t ≡ false → has_nul rest ≡ false → has_nul (t ++ (decimal n ++ rest)) ≡ false

@@ -1,7 +1,7 @@
 -- The steps of an edit, one after another.
 use Rattle.std.proofs.Common.{arith}
 use Rattle.std.proofs.lemmas.Result.{err_from_is_err_and}
-use Rattle.dbg_run.proofs.EditLaws.{edit_done}
+use Rattle.dbg_run.proofs.EditLaws.{edit_done, edit_due, edit_writing}
 use Rattle.dbg_run.proofs.edit.edit_steps.Goals as goal
 
 pub returns-clause-done : goal.returns-clause-done
@@ -18,3 +18,18 @@ returns-in_err-write_output-clause-fault g c =
     let p = err_from_is_err_and c.from_residual-in_err-write_output.result c.from_residual-in_err-write_output.ensures.1 in
     rw (p.1, p.2) (λ is.
     let rose = c.in_err-write_output.ensures.fault is in omega (arith, c.in_ok-bytes.ensures.kept.later, c.in_ok-free_output.ensures.kept.later, rose))
+
+-- where the writing ends the edit, all before it was done
+pub returns-in_err-write_output-clause-ends : goal.returns-in_err-write_output-clause-ends
+returns-in_err-write_output-clause-ends g c =
+    let p = err_from_is_err_and c.from_residual-in_err-write_output.result c.from_residual-in_err-write_output.ensures.1 in
+    rw (p.1, p.2)
+    (edit_writing c.args.input.now c.args.output.now c.args.options.now c.args.limit (g.T.Tree.seen c.args.tree.now) (g.T.Tree.seen c.read_input.new.tree)
+    (g.T.Tree.seen c.free_output.new.tree) (g.T.Tree.seen c.write_output.new.tree) c.in_ok-bytes.bytes.items c.in_ok-bytes.mode _ c.in_ok-bytes.ensures.done
+    c.in_ok-bytes.ensures.kept c.in_ok-free_output.ensures.done c.in_ok-free_output.ensures.kept c.in_ok-out.ensures.accepted c.in_err-write_output.ensures.ends)
+
+pub returns-clause-due_done : goal.returns-clause-due_done
+returns-clause-due_done g c = λ t tells.
+    edit_due c.args.input.now c.args.output.now c.args.options.now c.args.limit (g.T.Tree.seen c.args.tree.now) (g.T.Tree.seen c.read_input.new.tree)
+    c.in_ok-bytes.bytes.items c.in_ok-bytes.mode t c.in_ok-bytes.ensures.done c.in_ok-bytes.ensures.kept c.in_ok-free_output.ensures.done
+    c.in_ok-out.ensures.accepted tells

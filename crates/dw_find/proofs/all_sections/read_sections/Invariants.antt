@@ -1,7 +1,7 @@
 use Rattle.std.specs.HashMap.{get}
 use Rattle.std.specs.Prelude.{nat_eq}
 use Rattle.dw_base.specs.ViewData.{debug_data}
-use Rattle.dw_find.specs.UnitTexts.{AreTables}
+use Rattle.dw_fields.specs.UnitPasses.{AreTables}
 use Rattle.dw_find.proofs.SectionListLaws.{SectionsPass}
 use Rattle.dw_find.proofs.all_sections.read_sections.Given as goal
 

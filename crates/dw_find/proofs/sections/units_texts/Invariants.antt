@@ -2,7 +2,7 @@ use Rattle.std.specs.HashMap.{get}
 use Rattle.std.specs.Prelude.{nat_eq}
 use Rattle.dw_base.specs.ViewData.{debug_data}
 use Rattle.dw_entries.specs.ViewUnits.{unit_section_at}
-use Rattle.dw_find.specs.UnitTexts.{AreTables}
+use Rattle.dw_fields.specs.UnitPasses.{AreTables}
 use Rattle.dw_find.proofs.SectionTextLaws.{SectionPass}
 use Rattle.dw_find.proofs.sections.units_texts.Given as goal
 

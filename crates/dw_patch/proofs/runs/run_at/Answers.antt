@@ -1,7 +1,7 @@
 -- A search among runs.
 use Rattle.std.proofs.Common.{rules}
 use Rattle.std.proofs.lemmas.List.Sorted.{answers_always}
-use Rattle.dw_patch.specs.RecordMoves.{no_run, run_start}
+use Rattle.elf_relocs.specs.Runs.{no_run, run_start}
 use Rattle.dw_patch.proofs.RunLaws.{searched}
 use Rattle.dw_patch.proofs.runs.run_at.Goals as goal
 

@@ -3,24 +3,25 @@ use Rattle.std.proofs.Common.{ℕ, List, ap, ◌∙◌, ◌<◌, ◌≤◌, leng
 use Rattle.std.proofs.lemmas.Result.{err_from_is_err_and}
 use Rattle.dw_base.specs.Forms.{in_str, in_line_str}
 use Rattle.dw_base.specs.Layout.{output_limit}
-use Rattle.dw_rewrite.proofs.BodyRowLaws.{lines-fault, long-fault, long-lines}
-use Rattle.dw_rewrite.proofs.MadeBodyLaws.{all-fields, have-paths, lines-among, made, made-fit, slices-fit, some-among, table-body, two-pushed}
+use Rattle.dw_rewrite.proofs.BodyRowLaws.{lines-fault, long-fault, long-lines, relocations-fault}
+use Rattle.dw_rewrite.proofs.FileMadeLaws.{known-here, made, pushed-behind}
+use Rattle.dw_rewrite.proofs.MadeBodyLaws.{have-offsets, lines-among, slices-fit, some-among}
 use Rattle.dw_rewrite.proofs.bodies.new_bodies.Goals as goal
 
 pub returns-in_err-pool-clause-refused : goal.returns-in_err-pool-clause-refused
 returns-in_err-pool-clause-refused c =
     let p = err_from_is_err_and c.from_residual-in_err-pool.result c.from_residual-in_err-pool.ensures.1 in
-    rw (p.1, p.2) (long-fault c.args.maps.now c.args.view.now in_str c.args.paths.now c.args.tables.now c.in_err-pool.field-0.0 c.requires.none c.requires.found c.in_err-pool.ensures.refused)
+    rw (p.1, p.2) (long-fault c.args.maps.now c.args.view.now in_str c.args.paths.now c.args.tables.now c.in_err-pool.field-0.0 c.requires.found c.in_err-pool.ensures.refused)
 
 pub returns-in_err-line_pool-clause-refused : goal.returns-in_err-line_pool-clause-refused
 returns-in_err-line_pool-clause-refused c =
     let p = err_from_is_err_and c.from_residual-in_err-line_pool.result c.from_residual-in_err-line_pool.ensures.1 in
-    rw (p.1, p.2) (long-fault c.args.maps.now c.args.view.now in_line_str c.args.paths.now c.args.tables.now c.in_err-line_pool.field-0.0 c.requires.none c.requires.found c.in_err-line_pool.ensures.refused)
+    rw (p.1, p.2) (long-fault c.args.maps.now c.args.view.now in_line_str c.args.paths.now c.args.tables.now c.in_err-line_pool.field-0.0 c.requires.found c.in_err-line_pool.ensures.refused)
 
 pub returns-in_err-lines-clause-refused : goal.returns-in_err-lines-clause-refused
 returns-in_err-lines-clause-refused c =
     let p = err_from_is_err_and c.from_residual-in_err-lines.result c.from_residual-in_err-lines.ensures.1 in
-    rw (p.1, p.2) (lines-fault c.args.maps.now c.args.view.now c.args.paths.now c.args.tables.now _ _ _ _ c.in_err-lines.field-0.0 c.requires.none c.requires.found c.in_ok-pool.ensures.made
+    rw (p.1, p.2) (lines-fault c.args.maps.now c.args.view.now c.args.paths.now c.args.tables.now _ _ _ _ c.in_err-lines.field-0.0 c.requires.found c.in_ok-pool.ensures.made
     c.in_ok-line_pool.ensures.made c.in_err-lines.ensures.refused)
 
 pub returns-then-len-gt-OUTPUT_LIMIT-clause-refused :
@@ -28,7 +29,7 @@ pub returns-then-len-gt-OUTPUT_LIMIT-clause-refused :
 returns-then-len-gt-OUTPUT_LIMIT-clause-refused c =
     let over : output_limit < length c.in_ok-lines.lines.bytes.items = omega (arith, c.len.ensures, c.in_ok-lines.lines.bytes.ok.0) in
     long-lines c.args.maps.now c.args.view.now c.args.paths.now c.args.tables.now _ _ _ _ c.in_ok-lines.lines.bytes.items c.in_ok-lines.lines.starts.items c.long_lines.result
-    c.requires.none c.requires.found c.in_ok-pool.ensures.made c.in_ok-line_pool.ensures.made c.in_ok-lines.ensures.written over c.long_lines.ensures
+    c.requires.found c.in_ok-pool.ensures.made c.in_ok-line_pool.ensures.made c.in_ok-lines.ensures.written over c.long_lines.ensures
 
 pub new-starts-requires : goal.new-starts-requires
 new-starts-requires c =
@@ -45,29 +46,37 @@ pub push_bodies-requires-clause-among : goal.push_bodies-requires-clause-among
 push_bodies-requires-clause-among c =
     some-among c.args.maps.now c.args.view.now c.args.paths.now c.without_lines-sections.result.now c.args.tables.now c.requires.found c.without_lines-sections.ensures
 
-pub push_bodies-requires-clause-str : goal.push_bodies-requires-clause-str
-push_bodies-requires-clause-str c = made-fit _ _ _ _ _ _ c.in_ok-pool.ensures.made
+pub push_bodies-requires-clause-offsets : goal.push_bodies-requires-clause-offsets
+push_bodies-requires-clause-offsets c =
+    have-offsets c.args.maps.now c.args.view.now c.args.paths.now c.without_lines-sections.result.now c.args.tables.now c.requires.found c.without_lines-sections.ensures
 
-pub push_bodies-requires-clause-line_str : goal.push_bodies-requires-clause-line_str
-push_bodies-requires-clause-line_str c = made-fit _ _ _ _ _ _ c.in_ok-line_pool.ensures.made
+pub push_relocations-requires-clause-offsets : goal.push_relocations-requires-clause-offsets
+push_relocations-requires-clause-offsets c =
+    have-offsets c.args.maps.now c.args.view.now c.args.paths.now c.without_lines-sections.result.now c.args.tables.now c.requires.found c.without_lines-sections.ensures
+
+pub push_relocations-requires-clause-left : goal.push_relocations-requires-clause-left
+push_relocations-requires-clause-left c = c.requires.found.relocations.left
+
+pub push_relocations-requires-clause-starts : goal.push_relocations-requires-clause-starts
+push_relocations-requires-clause-starts c =
+    let small : length c.in_ok-lines.lines.bytes.items ≤ output_limit = omega (arith, c.len.ensures, c.in_ok-lines.lines.bytes.ok.0) in
+    known-here c.args.maps.now _ _ _ c.args.tables.now c.in_ok-lines.lines.bytes.items c.in_ok-lines.lines.starts.items c.as_slice-3.result.now c.in_ok-lines.ensures.written
+    small c.as_slice-3.ensures.value
+
+pub returns-in_err-push_relocations-clause-refused : goal.returns-in_err-push_relocations-clause-refused
+returns-in_err-push_relocations-clause-refused c =
+    let p = err_from_is_err_and c.from_residual-in_err-push_relocations.result c.from_residual-in_err-push_relocations.ensures.1 in
+    rw (p.1, p.2) (relocations-fault c.args.maps.now c.args.sources.now c.args.view.now c.args.paths.now c.without_lines-sections.result.now c.args.tables.now _ _ _ _
+    c.in_ok-lines.lines.bytes.items c.in_ok-lines.lines.starts.items c.as_slice.result.now c.new-starts.result c.in_err-push_relocations.field-0.0 c.requires.view c.requires.found
+    c.in_ok-pool.ensures.made c.in_ok-line_pool.ensures.made c.in_ok-lines.ensures.written (c.as_slice.ensures.value ∙ c.in_ok-old.ensures)
+    (c.new-starts.ensures ∙ ap (λ (xs : List ℕ). record { old = c.as_slice.result.now; new = xs }) c.as_slice-2.ensures.value) c.without_lines-sections.ensures
+    c.in_err-push_relocations.ensures.refused)
 
 pub returns-clause-made : goal.returns-clause-made
 returns-clause-made c =
-    made c.args.maps.now c.args.view.now c.args.paths.now c.without_lines-sections.result.now c.args.tables.now _ _ _ _ c.in_ok-lines.lines.bytes.items c.in_ok-lines.lines.starts.items
-    c.as_slice.result.now c.new-starts.result _ _ c.requires.none c.requires.found c.in_ok-pool.ensures.made c.in_ok-line_pool.ensures.made c.in_ok-lines.ensures.written
-    (c.as_slice.ensures.value ∙ c.in_ok-old.ensures)
-    (c.new-starts.ensures ∙ ap (λ (xs : List ℕ). record { old = c.as_slice.result.now; new = xs }) c.as_slice-2.ensures.value)
-    (ap (λ (n : ℕ). record { number = n; bytes = c.in_ok-lines.lines.bytes.items }) c.lines_number.ensures) c.without_lines-sections.ensures
-    (two-pushed _ _ _ _ _ _ _ _ _ c.new-bodies.ensures.items c.in_ok-push.ensures.items c.in_ok-push-2.ensures.items c.in_ok-push_bodies.ensures.bodies
-    (table-body c.args.view.now in_str _ _ _ c.table_number.ensures c.into_bytes.ensures.value)
-    (table-body c.args.view.now in_line_str _ _ _ c.table_number-2.ensures c.into_bytes-2.ensures.value))
-
-pub new_table-requires : goal.new_table-requires
-new_table-requires c = record { paths = all-fields c.args.maps.now c.args.view.now c.args.paths.now c.args.tables.now c.requires.none c.requires.found }
-
-pub new_table-requires-2 : goal.new_table-requires-2
-new_table-requires-2 c = record { paths = all-fields c.args.maps.now c.args.view.now c.args.paths.now c.args.tables.now c.requires.none c.requires.found }
-
-pub push_bodies-requires-clause-have : goal.push_bodies-requires-clause-have
-push_bodies-requires-clause-have c =
-    have-paths c.args.maps.now c.args.view.now c.args.paths.now c.without_lines-sections.result.now c.args.tables.now c.requires.none c.requires.found c.without_lines-sections.ensures
+    made c.args.maps.now c.args.sources.now c.args.view.now c.args.paths.now c.without_lines-sections.result.now c.args.tables.now _ _ _ _ c.in_ok-lines.lines.bytes.items
+    c.in_ok-lines.lines.starts.items c.as_slice.result.now c.new-starts.result _ _ c.requires.view c.requires.relocations c.requires.found c.in_ok-pool.ensures.made
+    c.in_ok-line_pool.ensures.made c.in_ok-lines.ensures.written (c.as_slice.ensures.value ∙ c.in_ok-old.ensures)
+    (c.new-starts.ensures ∙ ap (λ (xs : List ℕ). record { old = c.as_slice.result.now; new = xs }) c.as_slice-2.ensures.value) c.lines_body-lines.ensures
+    c.without_lines-sections.ensures c.in_ok-push_relocations.ensures.makes c.in_ok-push_relocations.ensures.line_makes
+    (pushed-behind _ _ _ _ _ _ _ c.in_ok-bodies.ensures.bodies c.in_ok-push_bodies.ensures.bodies c.in_ok-push_relocations.ensures.bodies)

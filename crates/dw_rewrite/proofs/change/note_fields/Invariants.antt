@@ -8,11 +8,11 @@ use Rattle.dw_rewrite.proofs.change.note_fields.Given as goal
 
 abbrev pub invariant-loop-at : goal.invariant-loop-at
 invariant-loop-at l = record {
-  kept : l.pool.kept ≡ l.table;
+  kept : l.pool.kept ≡ l.source.table.bytes;
   small : length (table_bytes l.pool) ≤ output_limit;
-  texts : texts_at (appending l.maps l.table) l.maps (record { order = l.order; bytes = l.table }) l.info l.pool.texts (drop l.at-index l.fields)
-      ≡ texts_at (appending l.maps l.table) l.maps (record { order = l.order; bytes = l.table }) l.info l.fn.pool.texts l.fields;
-  knows : Knows (appending l.maps l.table) l.maps (record { order = l.order; bytes = l.table }) l.pool.texts (λ o. get nat_eq l.known o);
-  noted : AreNoted (appending l.maps l.table) (record { order = l.order; bytes = l.table }) l.info l.fields l.at-index (λ o. get nat_eq l.known o);
+  texts : texts_at (appending l.maps l.source.table.bytes) l.maps l.source l.pool.texts (drop l.at-index l.fields)
+      ≡ texts_at (appending l.maps l.source.table.bytes) l.maps l.source l.fn.pool.texts l.fields;
+  knows : Knows (appending l.maps l.source.table.bytes) l.maps l.source.table.bytes l.pool.texts (λ o. get nat_eq l.known o);
+  noted : AreNoted (appending l.maps l.source.table.bytes) l.source l.fields l.at-index (λ o. get nat_eq l.known o);
   remembers : Remembers (λ o. get nat_eq l.fn.known o) (λ o. get nat_eq l.known o);
 }

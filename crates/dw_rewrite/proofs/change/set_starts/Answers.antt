@@ -1,18 +1,21 @@
 -- A field that is set was free, and the others stay so.
 use Rattle.std.proofs.Common.{ℕ, ap, ◌∙◌, arith}
 use Rattle.std.proofs.lemmas.List.{get_or_default}
-use Rattle.dw_rewrite.specs.Changes.{start_table}
 use Rattle.dw_rewrite.specs.NewStarts.{known_starts}
-use Rattle.dw_rewrite.proofs.FieldSetLaws.{pass-free, pass-more}
+use Rattle.dw_rewrite.proofs.FieldSetLaws.{pass-end, pass-free, pass-more}
 use Rattle.dw_rewrite.proofs.change.set_starts.Goals as goal
 
 pub set_known-requires-clause-free : goal.set_known-requires-clause-free
 set_known-requires-clause-free c =
-    pass-free (start_table c.args.order) c.args.info.now (λ o. known_starts c.args.starts.now o) c.args.fields.now c.args.patches.now c.loop-at.patches
+    pass-free c.args.source.now (λ o. known_starts c.args.starts.now o) c.args.fields.now c.args.patches.now c.loop-at.patches
     c.loop-at.at-index _ c.loop-at.invariant (omega arith) (get_or_default c.args.fields.now c.loop-at.at-index _ _ (omega arith))
 
 pub loop-at-preserved : goal.loop-at-preserved
 loop-at-preserved c =
-    pass-more (start_table c.args.order) c.args.info.now (λ o. known_starts c.args.starts.now o) c.args.fields.now c.args.patches.now c.loop-at.patches
+    pass-more c.args.source.now (λ o. known_starts c.args.starts.now o) c.args.fields.now c.args.patches.now c.loop-at.patches
     c.set_known.new.patches c.loop-at.at-index _ c.get-new.result c.loop-at.invariant (omega arith)
-    (get_or_default c.args.fields.now c.loop-at.at-index _ _ (omega arith)) (c.get-new.ensures.value ∙ ap (λ (n : ℕ). known_starts c.args.starts.now n) c.start_in-start.ensures) c.in_ok-set_known.ensures.set
+    (get_or_default c.args.fields.now c.loop-at.at-index _ _ (omega arith)) (c.get-new.ensures.value ∙ ap (λ (n : ℕ). known_starts c.args.starts.now n) c.offset-start.ensures.value) c.in_ok-set_known.ensures.set
+
+pub returns-clause-set : goal.returns-clause-set
+returns-clause-set c =
+    pass-end c.args.source.now (λ o. known_starts c.args.starts.now o) c.args.fields.now c.args.patches.now c.loop-at.patches c.loop-at.at-index c.loop-at.invariant (omega arith)

@@ -18,13 +18,13 @@ set_section-requires-clause-free c = none-free c.args.view.now c.args.found.now 
 
 pub set_section-requires-2-clause-free : goal.set_section-requires-2-clause-free
 set_section-requires-2-clause-free c =
-    line-free c.args.view.now c.args.found.now c.in_ok-patches.patches c.set_section.new.patches (λ o. get nat_eq c.args.str.now o) _ _ c.requires.paths c.in_ok-patches.ensures.none
+    line-free c.args.view.now c.args.found.now c.in_ok-patches.patches c.set_section.new.patches (λ o. get nat_eq c.args.str.now o) _ _ c.requires.places c.in_ok-patches.ensures.none
     c.in_ok-set_section.ensures.set
 
 pub set_section_starts-requires-clause-free : goal.set_section_starts-requires-clause-free
 set_section_starts-requires-clause-free c =
     start-free c.args.view.now c.args.found.now c.in_ok-patches.patches c.set_section.new.patches c.set_section-2.new.patches (λ o. get nat_eq c.args.str.now o)
-    (λ o. get nat_eq c.args.line_str.now o) _ _ c.requires.paths c.in_ok-patches.ensures.none c.in_ok-set_section.ensures.set c.in_ok-set_section-2.ensures.set
+    (λ o. get nat_eq c.args.line_str.now o) _ _ c.requires.places c.in_ok-patches.ensures.none c.in_ok-set_section.ensures.set c.in_ok-set_section-2.ensures.set
 
 pub returns-clause-out : goal.returns-clause-out
 returns-clause-out c =
@@ -35,7 +35,7 @@ returns-clause-out c =
 pub returns-clause-long : goal.returns-clause-long
 returns-clause-long c =
     fields-long c.args.view.now c.args.found.now c.args.out.now c.apply.new.bytes (λ o. get nat_eq c.args.str.now o) (λ o. get nat_eq c.args.line_str.now o)
-    (λ o. known_starts c.args.starts.now o) c.requires.paths c.requires.long
+    (λ o. known_starts c.args.starts.now o) c.requires.offsets c.requires.places c.requires.long
     (fields-put c.args.view.now c.args.found.now (λ o. get nat_eq c.args.str.now o) (λ o. get nat_eq c.args.line_str.now o) (λ o. known_starts c.args.starts.now o) c.args.out.now
     c.apply.new.bytes c.in_ok-patches.patches c.set_section.new.patches c.set_section-2.new.patches c.set_section_starts.new.patches _ _ c.in_ok-patches.ensures.none
     c.in_ok-set_section.ensures.set c.in_ok-set_section-2.ensures.set c.in_ok-set_section_starts.ensures.set c.apply.ensures.put)

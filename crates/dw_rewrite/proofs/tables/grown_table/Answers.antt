@@ -2,12 +2,12 @@
 use Rattle.std.proofs.Common.{arith}
 use Rattle.std.proofs.lemmas.Result.{err_from_is_err_and}
 use Rattle.dw_find.specs.ViewFields.{as_table}
-use Rattle.dw_rewrite.proofs.GrowthLaws.{fields-at, pass-more, pass-refused}
+use Rattle.dw_rewrite.proofs.GrowthLaws.{offsets-at, pass-more, pass-refused}
 use Rattle.dw_rewrite.proofs.tables.grown_table.Goals as goal
 
 pub note_section-requires-clause-paths : goal.note_section-requires-clause-paths
 note_section-requires-clause-paths c =
-    fields-at c.args.view.now c.args.paths.now c.loop-found.found-index c.found-item.result c.requires.paths (omega arith)
+    offsets-at c.args.view.now c.args.paths.now c.loop-found.found-index c.found-item.result c.requires.paths (omega arith)
     c.found-item.is
 
 pub returns-in_err-note_section-clause-refused : goal.returns-in_err-note_section-clause-refused

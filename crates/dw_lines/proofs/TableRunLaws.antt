@@ -1,0 +1,278 @@
+-- Laws of the runs and offsets of a table: between its lengths, up to the last path, and behind it; they are those of its stretches.
+use Rattle.std.proofs.Common.{◌≡◌, ℕ, ◌+◌, ◌-◌, ◌<◌, ◌≤◌, ◌^◌, List, [], ◌∷◌, ◌++◌, length, Option, refl, sym, ap, ◌∙◌, subst, arith, append_assoc}
+use Rattle.std.proofs.lemmas.List.{append-nil}
+use Rattle.dw_base.specs.Cells.{Cell, bytes_of}
+use Rattle.dw_base.specs.Forms.{width_size}
+use Rattle.dw_base.specs.LineReadings.{LineReading, ReadsTable, table_read}
+use Rattle.dw_base.specs.LineSources.{LineSource}
+use Rattle.dw_base.specs.LineTables.{LineTable, table_with, texts_of}
+use Rattle.dw_base.specs.Numbers.{number_bytes}
+use Rattle.dw_base.specs.Paths.{PathMap}
+use Rattle.dw_base.specs.WrittenLines.{behind_lengths, header_length_place, length_bytes, length_size, written_table}
+use Rattle.dw_base.specs.declared.line_tables.FilePlace.{FilePlace}
+use Rattle.dw_base.specs.declared.line_tables.LineHeader.{LineHeader}
+use Rattle.dw_base.specs.declared.line_tables.TextPlace.{TextPlace}
+use Rattle.dw_base.proofs.NumberLaws.{length-number_bytes}
+use Rattle.dw_base.proofs.UnitEditLaws.{length-bytes_of}
+use Rattle.dw_meaning.specs.LineCells.{header_cells, rest_cells, written_cells}
+use Rattle.dw_meaning.specs.LineStretches.{PlacedStretch, Stretch, all_path_stretches, kept_stretch, line_stretches, other_stretch, stretch_size, stretches_between, stretches_end, table_stretches}
+use Rattle.dw_meaning.proofs.LineClearLaws.{TableClear}
+use Rattle.dw_meaning.proofs.LineCellLaws.{written-bytes}
+use Rattle.dw_meaning.proofs.LineHeaderLaws.{header-is, length-place}
+use Rattle.dw_meaning.proofs.LineLaidLaws.{length-bytes}
+use Rattle.dw_meaning.proofs.LineStretchLaws.{Placed, TextsApart, end-append, table-are, table-placed}
+use Rattle.elf_relocs.specs.declared.runs.Run.{Run}
+use Rattle.dw_lines.specs.TableMoves.{InOrder, PathsInOrder, behind_placed, header_runs, header_start, kept_run, new_end, offsets_from, passed, passed_runs, placed_offsets, placed_runs, runs_from, stretch_new, stretch_offset, stretch_run}
+use Rattle.dw_lines.specs.declared.moves.FieldOffset.{FieldOffset}
+use Rattle.dw_lines.proofs.MoveLaws.{new-append, new-length, offsets-append, runs-append}
+use Rattle.dw_lines.proofs.PathMoveLaws.{order-end, passed-behind, runs-appended}
+
+pub ruleset last_laws = (runs-appended)
+
+-- what stands between paths is kept, so the stretches up to a place are what was passed and the rest
+between-runs : (s : Run) (end : ℕ) (cs : List PlacedStretch) → InOrder s.old end cs
+    → runs_from s.old s.new (stretches_between s.old end cs) ≡ passed_runs s cs ++ kept_run (passed s cs).old (passed s cs).new (end - (passed s cs).old)
+between-runs s end [] h = append-nil (kept_run s.old s.new (end - s.old))
+between-runs s end (c ∷ cs) h =
+    let here = h.0 in
+    let at : s.old + (c.at - s.old) ≡ c.at = omega (arith, here) in
+    ap (λ (i : ℕ). kept_run s.old s.new (c.at - s.old) ++ (stretch_run i (s.new + (c.at - s.old)) c.stretch
+    ++ runs_from (i + stretch_size c.stretch) (s.new + (c.at - s.old) + stretch_new c.stretch) (stretches_between (c.at + stretch_size c.stretch) end cs))) at
+    ∙ sym (append_assoc (kept_run s.old s.new (c.at - s.old)) (stretch_run c.at (s.new + (c.at - s.old)) c.stretch)
+    (runs_from (c.at + stretch_size c.stretch) (s.new + (c.at - s.old) + stretch_new c.stretch) (stretches_between (c.at + stretch_size c.stretch) end cs)))
+    ∙ ap (λ (rs : List Run). placed_runs s c ++ rs) (between-runs (behind_placed s c) end cs h.1)
+    ∙ sym (append_assoc (placed_runs s c) (passed_runs (behind_placed s c) cs)
+    (kept_run (passed (behind_placed s c) cs).old (passed (behind_placed s c) cs).new (end - (passed (behind_placed s c) cs).old)))
+
+between-offsets : (from end : ℕ) (cs : List PlacedStretch) → InOrder from end cs → offsets_from from (stretches_between from end cs) ≡ placed_offsets cs
+between-offsets from end [] h = refl
+between-offsets from end (c ∷ cs) h =
+    let here = h.0 in
+    let at : from + (c.at - from) ≡ c.at = omega (arith, here) in
+    ap (λ (i : ℕ). stretch_offset i c.stretch ++ offsets_from (i + stretch_size c.stretch) (stretches_between (c.at + stretch_size c.stretch) end cs)) at
+    ∙ ap (λ (fs : List FieldOffset). stretch_offset c.at c.stretch ++ fs) (between-offsets (c.at + stretch_size c.stretch) end cs h.1)
+
+between-new : (s : Run) (end : ℕ) (cs : List PlacedStretch) → new_end s.new (stretches_between s.old end cs) ≡ (passed s cs).new + (end - (passed s cs).old)
+between-new s end [] = refl
+between-new s end (c ∷ cs) = between-new (behind_placed s c) end cs
+
+between-end : (from end : ℕ) (cs : List PlacedStretch) → InOrder from end cs → stretches_end from (stretches_between from end cs) ≡ end
+between-end from end [] h = omega (arith, h)
+between-end from end (c ∷ cs) h =
+    let here = h.0 in
+    let at : from + (c.at - from) ≡ c.at = omega (arith, here) in
+    ap (λ (i : ℕ). stretches_end (i + stretch_size c.stretch) (stretches_between (c.at + stretch_size c.stretch) end cs)) at
+    ∙ between-end (c.at + stretch_size c.stretch) end cs h.1
+
+-- a table of such parts
+abbrev parts_of : ℕ → ℕ → ℕ → ℕ → ℕ → ℕ → List ℕ → List ℕ → List PlacedStretch → List Stretch
+parts_of start n number w program end lb nb cs =
+    other_stretch n lb ∷ kept_stretch (number - (start + n)) ∷ other_stretch w nb ∷ (stretches_between (number + w) program cs ++ kept_stretch (end - program) ∷ [])
+
+abbrev first_of : ℕ → ℕ → ℕ → ℕ → Run
+first_of start number w new = record { old = number + w; new = new + (number + w - start) }
+
+first-new : (start n number w new : ℕ) (lb nb : List ℕ) → length lb ≡ n → length nb ≡ w → start + n ≤ number
+    → new + length lb + (number - (start + n)) + length nb ≡ new + (number + w - start)
+first-new start n number w new lb nb a b le = omega (arith, a, b, le)
+
+parts-runs : (start n number w program end new : ℕ) (lb nb : List ℕ) (cs : List PlacedStretch) → length lb ≡ n → length nb ≡ w → start + n ≤ number → InOrder (number + w) program cs
+    → runs_from start new (parts_of start n number w program end lb nb cs)
+    ≡ kept_run (start + n) (new + n) (number - (start + n))
+    ++ (passed_runs (first_of start number w new) cs
+    ++ (kept_run (passed (first_of start number w new) cs).old (passed (first_of start number w new) cs).new (program - (passed (first_of start number w new) cs).old)
+    ++ kept_run program ((passed (first_of start number w new) cs).new + (program - (passed (first_of start number w new) cs).old)) (end - program)))
+parts-runs start n number w program end new lb nb cs a b le order =
+    ap (λ (k : ℕ). kept_run (start + n) (new + k) (number - (start + n))
+    ++ runs_from (start + n + (number - (start + n)) + w) (new + length lb + (number - (start + n)) + length nb) (stretches_between (number + w) program cs ++ kept_stretch (end - program) ∷ [])) a
+    ∙ ap (λ (rs : List Run). kept_run (start + n) (new + n) (number - (start + n)) ++ rs)
+    (ap (λ (i : ℕ). runs_from (i + w) (new + length lb + (number - (start + n)) + length nb) (stretches_between (number + w) program cs ++ kept_stretch (end - program) ∷ [])) at
+    ∙ ap (λ (j : ℕ). runs_from (number + w) j (stretches_between (number + w) program cs ++ kept_stretch (end - program) ∷ [])) (first-new start n number w new lb nb a b le)
+    ∙ rest (first_of start number w new) order)
+  where
+    at : start + n + (number - (start + n)) ≡ number
+    at = omega (arith, le)
+
+    rest : (s : Run) → InOrder s.old program cs → runs_from s.old s.new (stretches_between s.old program cs ++ kept_stretch (end - program) ∷ [])
+        ≡ passed_runs s cs ++ (kept_run (passed s cs).old (passed s cs).new (program - (passed s cs).old)
+        ++ kept_run program ((passed s cs).new + (program - (passed s cs).old)) (end - program))
+    rest s h =
+        runs-append s.old s.new (stretches_between s.old program cs) (kept_stretch (end - program) ∷ [])
+        ∙ ap (λ (rs : List Run). rs ++ runs_from (stretches_end s.old (stretches_between s.old program cs)) (new_end s.new (stretches_between s.old program cs)) (kept_stretch (end - program) ∷ []))
+        (between-runs s program cs h)
+        ∙ append_assoc (passed_runs s cs) (kept_run (passed s cs).old (passed s cs).new (program - (passed s cs).old))
+        (runs_from (stretches_end s.old (stretches_between s.old program cs)) (new_end s.new (stretches_between s.old program cs)) (kept_stretch (end - program) ∷ []))
+        ∙ ap (λ (rs : List Run). passed_runs s cs ++ (kept_run (passed s cs).old (passed s cs).new (program - (passed s cs).old) ++ rs))
+        (ap (λ (i : ℕ). runs_from i (new_end s.new (stretches_between s.old program cs)) (kept_stretch (end - program) ∷ [])) (between-end s.old program cs h)
+        ∙ ap (λ (j : ℕ). runs_from program j (kept_stretch (end - program) ∷ [])) (between-new s program cs)
+        ∙ append-nil (kept_run program ((passed s cs).new + (program - (passed s cs).old)) (end - program)))
+
+parts-offsets : (start n number w program end : ℕ) (lb nb : List ℕ) (cs : List PlacedStretch) → start + n ≤ number → InOrder (number + w) program cs
+    → offsets_from start (parts_of start n number w program end lb nb cs) ≡ placed_offsets cs
+parts-offsets start n number w program end lb nb cs le order =
+    let at : start + n + (number - (start + n)) ≡ number = omega (arith, le) in
+    ap (λ (i : ℕ). offsets_from (i + w) (stretches_between (number + w) program cs ++ kept_stretch (end - program) ∷ [])) at
+    ∙ offsets-append (number + w) (stretches_between (number + w) program cs) (kept_stretch (end - program) ∷ [])
+    ∙ append-nil (offsets_from (number + w) (stretches_between (number + w) program cs))
+    ∙ between-offsets (number + w) program cs order
+
+parts-new : (start n number w program end new : ℕ) (lb nb : List ℕ) (cs : List PlacedStretch) → length lb ≡ n → length nb ≡ w → start + n ≤ number
+    → new_end new (parts_of start n number w program end lb nb cs)
+    ≡ (passed (first_of start number w new) cs).new + (program - (passed (first_of start number w new) cs).old) + (end - program)
+parts-new start n number w program end new lb nb cs a b le =
+    ap (λ (j : ℕ). new_end j (stretches_between (number + w) program cs ++ kept_stretch (end - program) ∷ [])) (first-new start n number w new lb nb a b le)
+    ∙ new-append (new + (number + w - start)) (stretches_between (number + w) program cs) (kept_stretch (end - program) ∷ [])
+    ∙ ap (λ (j : ℕ). j + (end - program)) (between-new (first_of start number w new) program cs)
+
+-- so it is with the table of a header
+number-behind : (h : LineHeader) → h.start + length_size h.width ≤ header_length_place h.start h.width h.version
+number-behind h =
+    let place = length-place h.version (h.start + length_size h.width) in
+    omega (arith, place)
+
+header-runs : (g : LineSource) (m : PathMap) (places : TextPlace → Option ℕ) (h : LineHeader) (dirs : List TextPlace) (files defined : List FilePlace) (new : ℕ)
+    → PathsInOrder g m places (table_with g.number h dirs files defined)
+    → runs_from h.start new (table_stretches g m places (table_with g.number h dirs files defined))
+    ≡ header_runs h new (all_path_stretches g m places h.width (dirs ++ texts_of files))
+unfolding table_stretches
+header-runs g m places h dirs files defined new order =
+    parts-runs h.start (length_size h.width) (header_length_place h.start h.width h.version) (width_size h.width) h.program h.end new
+    (length_bytes g.order h.width (length (rest_cells g (table_with g.number h dirs files defined) (header_cells g m places (table_with g.number h dirs files defined)))))
+    (number_bytes g.order (width_size h.width) (length (header_cells g m places (table_with g.number h dirs files defined))))
+    (all_path_stretches g m places h.width (dirs ++ texts_of files))
+    (length-bytes g.order h.width (length (rest_cells g (table_with g.number h dirs files defined) (header_cells g m places (table_with g.number h dirs files defined)))))
+    (length-number_bytes g.order (width_size h.width) (length (header_cells g m places (table_with g.number h dirs files defined)))) (number-behind h) order
+
+header-offsets : (g : LineSource) (m : PathMap) (places : TextPlace → Option ℕ) (h : LineHeader) (dirs : List TextPlace) (files defined : List FilePlace)
+    → PathsInOrder g m places (table_with g.number h dirs files defined)
+    → offsets_from h.start (table_stretches g m places (table_with g.number h dirs files defined)) ≡ placed_offsets (all_path_stretches g m places h.width (dirs ++ texts_of files))
+unfolding table_stretches
+header-offsets g m places h dirs files defined order =
+    parts-offsets h.start (length_size h.width) (header_length_place h.start h.width h.version) (width_size h.width) h.program h.end
+    (length_bytes g.order h.width (length (rest_cells g (table_with g.number h dirs files defined) (header_cells g m places (table_with g.number h dirs files defined)))))
+    (number_bytes g.order (width_size h.width) (length (header_cells g m places (table_with g.number h dirs files defined))))
+    (all_path_stretches g m places h.width (dirs ++ texts_of files)) (number-behind h) order
+
+header-new : (g : LineSource) (m : PathMap) (places : TextPlace → Option ℕ) (h : LineHeader) (dirs : List TextPlace) (files defined : List FilePlace) (new : ℕ)
+    → (passed (header_start h new) (all_path_stretches g m places h.width (dirs ++ texts_of files))).new
+    ≤ new_end new (table_stretches g m places (table_with g.number h dirs files defined))
+unfolding table_stretches
+header-new g m places h dirs files defined new =
+    let is = parts-new h.start (length_size h.width) (header_length_place h.start h.width h.version) (width_size h.width) h.program h.end new
+    (length_bytes g.order h.width (length (rest_cells g (table_with g.number h dirs files defined) (header_cells g m places (table_with g.number h dirs files defined)))))
+    (number_bytes g.order (width_size h.width) (length (header_cells g m places (table_with g.number h dirs files defined))))
+    (all_path_stretches g m places h.width (dirs ++ texts_of files))
+    (length-bytes g.order h.width (length (rest_cells g (table_with g.number h dirs files defined) (header_cells g m places (table_with g.number h dirs files defined)))))
+    (length-number_bytes g.order (width_size h.width) (length (header_cells g m places (table_with g.number h dirs files defined)))) (number-behind h) in
+    subst (λ (e : ℕ). (passed (header_start h new) (all_path_stretches g m places h.width (dirs ++ texts_of files))).new ≤ e) (sym is) (omega arith)
+
+-- and of one that was read
+pub table-runs : (g : LineSource) (m : PathMap) (places : TextPlace → Option ℕ) (h : LineHeader) (dirs ps : List TextPlace) (files : List FilePlace) (t : LineTable) (new : ℕ)
+    (runs more : List Run) → t ≡ table_with g.number h dirs files t.defined → ps ≡ dirs ++ texts_of files → PathsInOrder g m places t
+    → more ≡ runs ++ header_runs h new (all_path_stretches g m places h.width ps) → more ≡ runs ++ runs_from t.start new (table_stretches g m places t)
+table-runs g m places h dirs ps files t new runs more e p order is =
+    is ∙ ap (λ (rs : List Run). runs ++ rs)
+    (ap (λ (xs : List TextPlace). header_runs h new (all_path_stretches g m places h.width xs)) p
+    ∙ sym (header-runs g m places h dirs files t.defined new (subst (PathsInOrder g m places) e order))
+    ∙ ap (λ (x : LineTable). runs_from x.start new (table_stretches g m places x)) (sym e))
+
+pub table-offsets : (g : LineSource) (m : PathMap) (places : TextPlace → Option ℕ) (h : LineHeader) (dirs ps : List TextPlace) (files : List FilePlace) (t : LineTable)
+    (offsets more : List FieldOffset) → t ≡ table_with g.number h dirs files t.defined → ps ≡ dirs ++ texts_of files → PathsInOrder g m places t
+    → more ≡ offsets ++ placed_offsets (all_path_stretches g m places h.width ps) → more ≡ offsets ++ offsets_from t.start (table_stretches g m places t)
+table-offsets g m places h dirs ps files t offsets more e p order is =
+    is ∙ ap (λ (fs : List FieldOffset). offsets ++ fs)
+    (ap (λ (xs : List TextPlace). placed_offsets (all_path_stretches g m places h.width xs)) p
+    ∙ sym (header-offsets g m places h dirs files t.defined (subst (PathsInOrder g m places) e order))
+    ∙ ap (λ (x : LineTable). offsets_from x.start (table_stretches g m places x)) (sym e))
+
+pub table-order : (g : LineSource) (m : PathMap) (places : TextPlace → Option ℕ) (h : LineHeader) (dirs ps : List TextPlace) (files : List FilePlace) (t : LineTable)
+    → t ≡ table_with g.number h dirs files t.defined → ps ≡ dirs ++ texts_of files → PathsInOrder g m places t
+    → InOrder (behind_lengths h.start h.width h.version) h.program (all_path_stretches g m places h.width ps)
+table-order g m places h dirs ps files t e p order =
+    subst (λ (xs : List TextPlace). InOrder (behind_lengths h.start h.width h.version) h.program (all_path_stretches g m places h.width xs)) (sym p) (subst (PathsInOrder g m places) e order)
+
+pub table-fits : (g : LineSource) (m : PathMap) (places : TextPlace → Option ℕ) (h : LineHeader) (dirs ps : List TextPlace) (files : List FilePlace) (t : LineTable) (new : ℕ)
+    → t ≡ table_with g.number h dirs files t.defined → ps ≡ dirs ++ texts_of files → h.program ≤ 2 ^ 31 → new_end new (table_stretches g m places t) < 2 ^ 63
+    → (passed (header_start h new) (all_path_stretches g m places h.width ps)).new + h.program < 2 ^ 64
+table-fits g m places h dirs ps files t new e p small fits =
+    let last = header-new g m places h dirs files t.defined new in
+    let same : new_end new (table_stretches g m places t) ≡ new_end new (table_stretches g m places (table_with g.number h dirs files t.defined)) =
+    ap (λ (x : LineTable). new_end new (table_stretches g m places x)) e in
+    subst (λ (xs : List TextPlace). (passed (header_start h new) (all_path_stretches g m places h.width xs)).new + h.program < 2 ^ 64) (sym p) (omega (arith, last, same, small, fits))
+
+pub ruleset table_laws = (table-runs, table-offsets, table-order, table-fits)
+
+-- paths of a table whose header is clear stand in their order
+placed-order : (cells : List Cell) (end from : ℕ) (cs : List PlacedStretch) → Placed cells end from cs → InOrder from end cs
+placed-order cells end from [] h = h
+placed-order cells end from (c ∷ cs) h = (h.0, placed-order cells end (c.at + stretch_size c.stretch) cs h.2)
+
+pub clear-order : (g : LineSource) (m : PathMap) (places : TextPlace → Option ℕ) (p : ℕ) (r : LineReading) → TextsApart g → TableClear g r → ReadsTable g p r
+    → PathsInOrder g m places (table_read g r)
+clear-order g m places p r apart clear reads =
+    placed-order g.cells r.header.program (behind_lengths r.header.start r.header.width r.header.version)
+    (all_path_stretches g m places r.header.width (r.dirs ++ texts_of r.files)) (table-placed g m places p r apart clear reads)
+
+-- the new table ends where its bytes do
+pub table-end : (g : LineSource) (m : PathMap) (places : TextPlace → Option ℕ) (p new : ℕ) (r : LineReading) → bytes_of g.cells ≡ g.bytes → TextsApart g → TableClear g r → ReadsTable g p r
+    → new_end new (table_stretches g m places (table_read g r)) ≡ new + length (written_table g m places (table_read g r))
+table-end g m places p new r own apart clear reads =
+    let s = table-are g m places p r own apart clear reads in
+    let x = header-is g.order g.bytes p r.header reads.header in
+    let within = x.within in
+    let end = x.end_is in
+    let ends = s.ends in
+    let size : length g.bytes ≡ length g.cells = sym (ap length own) ∙ length-bytes_of g.cells in
+    new-length g.order g.cells r.header.start new (table_stretches g m places (table_read g r)) (omega (arith, ends, within, end, size))
+    ∙ ap (λ (cs : List Cell). new + length cs) s.cells
+    ∙ ap (λ (n : ℕ). new + n) (sym (length-bytes_of (written_cells g m places (table_read g r))) ∙ ap length (written-bytes g m places (table_read g r) own))
+
+-- tables one behind another
+pub record TablesMoved (g : LineSource) (m : PathMap) (places : TextPlace → Option ℕ) (rs : List LineReading) (place new : ℕ) (runs : List Run) (offsets : List FieldOffset) : Type 0 where
+  pub runs_are : runs ≡ runs_from 0 0 (line_stretches g m places rs)
+  pub offsets_are : offsets ≡ offsets_from 0 (line_stretches g m places rs)
+  pub ends : stretches_end 0 (line_stretches g m places rs) ≡ place
+  pub new_ends : new_end 0 (line_stretches g m places rs) ≡ new
+
+pub tables-none : (g : LineSource) (m : PathMap) (places : TextPlace → Option ℕ) → TablesMoved g m places [] 0 0 [] []
+tables-none g m places = record { runs_are = refl; offsets_are = refl; ends = refl; new_ends = refl }
+
+lines-append : (g : LineSource) (m : PathMap) (places : TextPlace → Option ℕ) (rs : List LineReading) (r : LineReading)
+    → line_stretches g m places (rs ++ r ∷ []) ≡ line_stretches g m places rs ++ table_stretches g m places (table_read g r)
+lines-append g m places [] r = append-nil (table_stretches g m places (table_read g r))
+lines-append g m places (x ∷ xs) r =
+    ap (λ (l : List Stretch). table_stretches g m places (table_read g x) ++ l) (lines-append g m places xs r)
+    ∙ sym (append_assoc (table_stretches g m places (table_read g x)) (line_stretches g m places xs) (table_stretches g m places (table_read g r)))
+
+pub tables-more : (g : LineSource) (m : PathMap) (places : TextPlace → Option ℕ) (rs : List LineReading) (r : LineReading) (place new : ℕ) (runs more : List Run)
+    (offsets fields : List FieldOffset) → TablesMoved g m places rs place new runs offsets → more ≡ runs ++ runs_from place new (table_stretches g m places (table_read g r))
+    → fields ≡ offsets ++ offsets_from place (table_stretches g m places (table_read g r))
+    → TablesMoved g m places (rs ++ r ∷ []) (stretches_end place (table_stretches g m places (table_read g r))) (new_end new (table_stretches g m places (table_read g r))) more fields
+tables-more g m places rs r place new runs more offsets fields so e f =
+    let lines = lines-append g m places rs r in
+    record {
+      runs_are = e ∙ ap (λ (l : List Run). l ++ runs_from place new (table_stretches g m places (table_read g r))) so.runs_are
+          ∙ ap (λ (i : ℕ). runs_from 0 0 (line_stretches g m places rs) ++ runs_from i new (table_stretches g m places (table_read g r))) (sym so.ends)
+          ∙ ap (λ (j : ℕ). runs_from 0 0 (line_stretches g m places rs)
+          ++ runs_from (stretches_end 0 (line_stretches g m places rs)) j (table_stretches g m places (table_read g r))) (sym so.new_ends)
+          ∙ sym (runs-append 0 0 (line_stretches g m places rs) (table_stretches g m places (table_read g r))) ∙ ap (runs_from 0 0) (sym lines);
+      offsets_are = f ∙ ap (λ (l : List FieldOffset). l ++ offsets_from place (table_stretches g m places (table_read g r))) so.offsets_are
+          ∙ ap (λ (i : ℕ). offsets_from 0 (line_stretches g m places rs) ++ offsets_from i (table_stretches g m places (table_read g r))) (sym so.ends)
+          ∙ sym (offsets-append 0 (line_stretches g m places rs) (table_stretches g m places (table_read g r))) ∙ ap (offsets_from 0) (sym lines);
+      ends = ap (stretches_end 0) lines ∙ end-append 0 (line_stretches g m places rs) (table_stretches g m places (table_read g r))
+          ∙ ap (λ (i : ℕ). stretches_end i (table_stretches g m places (table_read g r))) so.ends;
+      new_ends = ap (new_end 0) lines ∙ new-append 0 (line_stretches g m places rs) (table_stretches g m places (table_read g r))
+          ∙ ap (λ (j : ℕ). new_end j (table_stretches g m places (table_read g r))) so.new_ends;
+    }
+
+-- the parts of a header's table
+pub order-further : (from end far : ℕ) (cs : List PlacedStretch) → end ≤ far → InOrder from end cs → InOrder from far cs
+order-further from end far [] le h = omega (arith, le, h)
+order-further from end far (c ∷ cs) le h = (h.0, order-further (c.at + stretch_size c.stretch) end far cs le h.1)
+
+pub runs-three : (a b c d p q r : List Run) → b ≡ a ++ p → c ≡ b ++ q → d ≡ c ++ r → d ≡ a ++ (p ++ (q ++ r))
+runs-three a b c d p q r e f g =
+    g ∙ ap (λ (xs : List Run). xs ++ r) (f ∙ ap (λ (xs : List Run). xs ++ q) e)
+    ∙ append_assoc (a ++ p) q r ∙ append_assoc a p (q ++ r)
+
+pub ruleset header_laws = (order-further, runs-three, order-end, passed-behind)

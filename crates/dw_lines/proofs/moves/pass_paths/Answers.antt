@@ -1,0 +1,27 @@
+-- One more path.
+use Rattle.std.specs.HashMap.{get}
+use Rattle.std.specs.Prelude.{nat_eq}
+use Rattle.dw_base.specs.WrittenLines.{new_place}
+use Rattle.dw_lines.specs.ViewSources.{view_source}
+use Rattle.dw_lines.proofs.PathMoveLaws.{paths-fit, paths-more, paths-order}
+use Rattle.dw_lines.proofs.moves.pass_paths.Goals as goal
+
+pub pass_path-requires-clause-order : goal.pass_path-requires-clause-order
+pass_path-requires-clause-order c =
+    paths-order (view_source c.args.view.now c.args.section) c.args.maps.now (new_place (view_source c.args.view.now c.args.section) (λ o. get nat_eq c.args.str.now o) (λ o. get nat_eq c.args.line_str.now o))
+    c.args.width c.args.paths.now c.args.start c.loop-path.at c.args.runs.now.items c.loop-path.runs.items c.args.offsets.now.items c.loop-path.offsets.items c.loop-path.path-index _
+    c.loop-path.invariant.so c.loop-path-test.true
+
+pub pass_path-requires-clause-fits : goal.pass_path-requires-clause-fits
+pass_path-requires-clause-fits c =
+    paths-fit (view_source c.args.view.now c.args.section) c.args.maps.now (new_place (view_source c.args.view.now c.args.section) (λ o. get nat_eq c.args.str.now o) (λ o. get nat_eq c.args.line_str.now o))
+    c.args.width c.args.paths.now c.args.start c.loop-path.at c.args.runs.now.items c.loop-path.runs.items c.args.offsets.now.items c.loop-path.offsets.items c.loop-path.path-index _
+    c.loop-path.invariant.so c.loop-path-test.true c.requires.fits
+
+pub loop-path-preserved : goal.loop-path-preserved
+loop-path-preserved c = record {
+  so = paths-more (view_source c.args.view.now c.args.section) c.args.maps.now (new_place (view_source c.args.view.now c.args.section) (λ o. get nat_eq c.args.str.now o) (λ o. get nat_eq c.args.line_str.now o))
+      c.args.width c.args.paths.now c.args.start c.loop-path.at c.in_ok-at.at c.args.runs.now.items c.loop-path.runs.items c.pass_path.new.runs.items c.args.offsets.now.items
+      c.loop-path.offsets.items c.pass_path.new.offsets.items c.loop-path.path-index _ c.loop-path.invariant.so c.loop-path-test.true c.in_ok-at.ensures.next c.in_ok-at.ensures.runs
+      c.in_ok-at.ensures.offsets;
+}

@@ -1,0 +1,61 @@
+-- The records of relocations of a section that is edited, as the code makes them, are those of its new contents.
+use Rattle.std.proofs.Common.{◌≡◌, ℕ, suc, ◌<◌, List, [], ◌∷◌, ◌++◌, length, Option, refl, ap, ◌∙◌, arith}
+use Rattle.dw_base.specs.Cells.{Cell}
+use Rattle.dw_base.specs.DebugData.{DataReadings, around_of}
+use Rattle.dw_base.specs.FileViews.{View, view_cells}
+use Rattle.dw_base.specs.Forms.{TextSection, in_str, in_line_str}
+use Rattle.dw_base.specs.Paths.{PathMap}
+use Rattle.dw_base.specs.RelocationBodies.{relocation_body}
+use Rattle.dw_base.specs.SectionRelocations.{RelocationSource, cells_from, relocations_in}
+use Rattle.dw_base.specs.StringTables.{Plan, TextTable}
+use Rattle.dw_base.specs.ViewData.{debug_data}
+use Rattle.dw_meaning.specs.DataOutput.{changes_of, table_change}
+use Rattle.dw_meaning.proofs.RecordMoveLaws.{RecordsApart}
+use Rattle.dw_patch.specs.RecordMoves.{moved_table}
+use Rattle.dw_patch.specs.declared.patches.Patch.{Patch}
+use Rattle.dw_patch.proofs.SaidCellLaws.{SaidAll}
+use Rattle.dw_find.specs.UnitPaths.{UnitPaths}
+use Rattle.dw_find.specs.declared.fields.PathField.{PathField}
+use Rattle.dw_rewrite.specs.Changes.{AreNoted, FieldSource, Knows, offset_at}
+use Rattle.dw_rewrite.specs.NewOffsets.{asked, offset_by, offsets_after, offsets_in, offsets_known}
+use Rattle.dw_rewrite.specs.NewTables.{Growing, IsSectionNoted, change_in, plan_in, source_in, starts_in, texts_of}
+use Rattle.dw_rewrite.proofs.LineKnownLaws.{known-asked}
+use Rattle.dw_rewrite.proofs.NewBodyLaws.{starts_after}
+use Rattle.dw_rewrite.proofs.RecordSayLaws.{stays-table}
+
+-- what is known of new places is what paths ask for
+offsets-asked : (plan : Plan) (m : PathMap) (s : FieldSource) (ts : List (List ℕ)) (fields : List PathField) (known : ℕ → Option ℕ) → Knows plan m s.table.bytes ts known
+    → AreNoted plan s fields (length fields) known → offsets_known s known fields ≡ offsets_known s (asked (record { plan = plan; texts = ts }) m s.table.bytes) fields
+offsets-asked plan m s ts [] known knows noted = refl
+offsets-asked plan m s ts (f ∷ fs) known knows noted =
+    let rest : AreNoted plan s fs (length fs) known =
+    record { each = λ (k : ℕ) (d : PathField) (lt : k < length fs) (within : k < length fs). noted.each (suc k) d (omega arith) (omega arith) } in
+    ap (λ (o : Option ℕ). offset_by f o ++ offsets_known s known fs)
+    (known-asked plan m s.table.bytes ts known (offset_at s f) knows (noted.each 0 f (omega arith) (omega arith)))
+    ∙ ap (λ (ps : List Patch). offset_by f (asked (record { plan = plan; texts = ts }) m s.table.bytes (offset_at s f)) ++ ps) (offsets-asked plan m s ts fs known knows rest)
+
+-- the offsets of a section's fields
+abbrev pub asked_in : PathMap → View → TextSection → List (List ℕ) → ℕ → Option ℕ
+asked_in m v table ts = asked (change_in m v table ts) m (texts_of v table).bytes
+
+pub section-asked : (m : PathMap) (v : View) (ps pl : TextTable) (ks kl kt : ℕ → Option ℕ) (u : UnitPaths) → Growing m v in_str ps ks → Growing m v in_line_str pl kl
+    → IsSectionNoted m v in_str u ks → IsSectionNoted m v in_line_str u kl
+    → offsets_in v ks kl kt u ≡ offsets_in v (asked_in m v in_str ps.texts) (asked_in m v in_line_str pl.texts) kt u
+section-asked m v ps pl ks kl kt u gs gl ns nl =
+    ap (λ (l : List Patch). l ++ (offsets_known (source_in v u.number in_line_str) kl u.line_str ++ offsets_known (starts_in v u.number) kt u.starts))
+    (offsets-asked (plan_in m v in_str) m (source_in v u.number in_str) ps.texts u.str ks gs.knows ns)
+    ∙ ap (λ (l : List Patch). offsets_known (source_in v u.number in_str) (asked_in m v in_str ps.texts) u.str ++ (l ++ offsets_known (starts_in v u.number) kt u.starts))
+    (offsets-asked (plan_in m v in_line_str) m (source_in v u.number in_line_str) pl.texts u.line_str kl gl.knows nl)
+
+-- those are what the edit says
+pub section-after : (m : PathMap) (v : View) (all : DataReadings) (u : UnitPaths)
+    → offsets_in v (asked_in m v in_str (table_change m in_str (around_of (debug_data v) all) all).texts)
+    (asked_in m v in_line_str (table_change m in_line_str (around_of (debug_data v) all) all).texts) (starts_after m v all) u
+    ≡ offsets_after (changes_of m (around_of (debug_data v) all) all) (around_of (debug_data v) all) (view_cells v u.number) u.str u.line_str u.starts
+unfolding table_change debug_data
+section-after m v all u = refl
+
+-- so the table that is written is the one of the new contents
+pub moved-records : (g : RelocationSource) (bytes : List ℕ) (new : List Cell) (offs told : List Patch) → RecordsApart g bytes → told ≡ offs
+    → SaidAll offs 0 (cells_from (relocations_in g) 0 bytes) new → moved_table g [] told ≡ relocation_body g (cells_from (relocations_in g) 0 bytes) new
+moved-records g bytes new offs told apart same h = ap (moved_table g []) same ∙ stays-table g bytes new offs apart h

@@ -1,0 +1,404 @@
+-- The addends at the pieces of a section of units, of string offsets and of macro units make their new offsets where those at the section's fields
+-- do; and a field whose addend doesn't is a piece whose doesn't.
+use Rattle.std.proofs.Common.{true, false, ◌≡◌, ◌⊎◌, inl, inr, ℕ, zero, suc, ◌+◌, ◌<◌, List, [], ◌∷◌, ◌++◌, length, get_or, drop, Option, Some, None, refl, sym, ap, ◌∙◌, subst, arith}
+use Rattle.std.specs.Bool.{⊤}
+use Rattle.std.proofs.Math.Seq.{drop-append_seam}
+use Rattle.std.proofs.lemmas.List.{drop-drop}
+use Rattle.dw_base.specs.Cells.{Cell, Relocation, first_relocation, offset_of}
+use Rattle.dw_base.specs.DebugData.{Around, start_number, table_of}
+use Rattle.dw_base.specs.Forms.{TextSection, in_str, in_line_str}
+use Rattle.dw_base.specs.LineReadings.{starts_from}
+use Rattle.dw_base.specs.MacroPieces.{MacroState, macro_grammar}
+use Rattle.dw_base.specs.NamePieces.{NameMode, NameState, at_string, at_table, at_rest, no_names}
+use Rattle.dw_base.specs.OffsetPieces.{OffsetState}
+use Rattle.dw_base.specs.Pieces.{Chain, EachPiece, Piece, joined}
+use Rattle.dw_base.specs.Refusals.{at}
+use Rattle.dw_base.specs.RelocationFields.{relocation_at}
+use Rattle.dw_base.specs.Roles.{Role, fixed, offset, inline_path, line_start, role_of}
+use Rattle.dw_base.specs.SectionTexts.{macro_role, name_role, name_role_by, slot_role}
+use Rattle.dw_base.specs.StringTables.{appending}
+use Rattle.dw_base.specs.TextChanges.{TableChanges, change_of, mention_at}
+use Rattle.dw_base.specs.UnitStates.{UnitState}
+use Rattle.dw_base.specs.declared.fault.Kind.TheVariants.{TooWide}
+use Rattle.dw_base.specs.declared.fault.Refusal.{Refusal}
+use Rattle.dw_base.specs.declared.shared.Order.{Order}
+use Rattle.dw_meaning.specs.NewAddends.{Makes, MakesNew, MakesRole, Misses, PieceMisses, new_offset, start_place}
+use Rattle.dw_find.specs.MacroSections.{macro_starts}
+use Rattle.dw_find.specs.SlotPaths.{offset_fields}
+use Rattle.dw_find.specs.UnitPaths.{field_by, path_fields, start_by, start_fields}
+use Rattle.dw_find.specs.declared.fields.PathField.{PathField}
+use Rattle.dw_find.proofs.PlacedLaws.{PlacedCells}
+use Rattle.dw_find.proofs.SlotPlaceLaws.{SlotsIn, no-start}
+use Rattle.dw_rewrite.specs.Changes.{FieldSource, new_start, offset_at, start_known}
+use Rattle.dw_rewrite.specs.NewOffsets.{asked}
+use Rattle.dw_rewrite.specs.OffsetAddends.{FieldMakes, FieldMisses, FieldsMake, FieldsMiss}
+use Rattle.dw_rewrite.specs.OffsetAddends.FieldMisses.{misses_new}
+use Rattle.dw_rewrite.specs.OffsetAddends.FieldsMiss.{one_field}
+use Rattle.dw_rewrite.specs.UnitsAfter.{start_source, text_source}
+use Rattle.dw_rewrite.proofs.EditedLaws.{piece-there}
+use Rattle.dw_rewrite.proofs.MacroWrittenLaws.{no-path}
+use Rattle.dw_rewrite.proofs.SaidLaws.{Sized}
+use Rattle.dw_rewrite.proofs.UnitWrittenLaws.{no_path-asks}
+
+-- the row of one of some fields, by the list
+abbrev pub AnyMisses : FieldSource → (ℕ → Option ℕ) → ℕ → List PathField → Refusal → Type 0
+AnyMisses s known number [] r = ⊥
+AnyMisses s known number (f ∷ fs) r = FieldMisses s number f (known (offset_at s f)) r ⊎ AnyMisses s known number fs r
+
+any-at : (s : FieldSource) (known : ℕ → Option ℕ) (number : ℕ) (fs : List PathField) (i : ℕ) (f : PathField) (r : Refusal) → i < length fs → f ≡ get_or fs i f
+    → FieldMisses s number f (known (offset_at s f)) r → AnyMisses s known number fs r
+any-at s known number [] i f r lt is h = absurd (omega (arith, lt))
+any-at s known number (g ∷ gs) zero f r lt is h = inl (subst (λ (x : PathField). FieldMisses s number x (known (offset_at s x)) r) is h)
+any-at s known number (g ∷ gs) (suc i) f r lt is h = inr (any-at s known number gs i f r (omega (arith, lt)) is h)
+
+pub any-of : (s : FieldSource) (known : ℕ → Option ℕ) (number : ℕ) (fs : List PathField) (r : Refusal) → FieldsMiss s known number fs r → AnyMisses s known number fs r
+any-of s known number fs r (one_field i f lt is h) = any-at s known number fs i f _ lt is h
+
+-- parts of fields
+makes-parts : (s : FieldSource) (known : ℕ → Option ℕ) (fs gs : List PathField) → FieldsMake s known (fs ++ gs) → FieldsMake s known fs × FieldsMake s known gs
+makes-parts s known [] gs h = (tt, h)
+makes-parts s known (f ∷ fs) gs h = let rest = makes-parts s known fs gs h.1 in ((h.0, rest.0), rest.1)
+
+any-parts : (s : FieldSource) (known : ℕ → Option ℕ) (number : ℕ) (fs gs : List PathField) (r : Refusal) → AnyMisses s known number (fs ++ gs) r
+    → AnyMisses s known number fs r ⊎ AnyMisses s known number gs r
+any-parts s known number [] gs r h = inr h
+any-parts s known number (f ∷ fs) gs r (inl h) = inl (inl h)
+any-parts s known number (f ∷ fs) gs r (inr h) = by (any-parts s known number fs gs r h)
+  where
+    by : AnyMisses s known number fs r ⊎ AnyMisses s known number gs r → AnyMisses s known number (f ∷ fs) r ⊎ AnyMisses s known number gs r
+    by (inl x) = inl (inr x)
+    by (inr x) = inr x
+
+sized-parts : (fs gs : List PathField) → Sized (fs ++ gs) → Sized fs × Sized gs
+sized-parts [] gs h = (tt, h)
+sized-parts (f ∷ fs) gs h = let rest = sized-parts fs gs h.1 in ((h.0, rest.0), rest.1)
+
+-- the relocation that begins at a piece
+first-here : (p behind cells : List Cell) (place : ℕ) → p ++ behind ≡ drop place cells → 0 < length p → relocation_at cells place ≡ first_relocation p
+first-here [] behind cells place e some = absurd (omega (arith, some))
+first-here (x ∷ xs) behind cells place e some = ap first_relocation (sym e)
+
+-- a piece and the field that it is
+one-makes : (s : FieldSource) (p behind : List Cell) (place : ℕ) (new : Option ℕ) → p ++ behind ≡ drop place s.cells
+    → FieldMakes s (record { at = place; size = length p }) new → MakesNew new p
+one-makes s p behind place None e h = tt
+one-makes s [] behind place (Some n) e h = tt
+one-makes s (x ∷ xs) behind place (Some n) e h =
+    subst (λ (r : Option Relocation). Makes r (suc (length xs)) n) (first-here (x ∷ xs) behind s.cells place e (omega arith)) h
+
+-- its addend doesn't make the offset that the edit puts there
+pub record RoleMisses (r : Role) (c : TableChanges) (a : Around) (p : List Cell) (number place : ℕ) (x : Refusal) : Type 0 where
+  pub new : ℕ
+  pub put : new_offset r c a p ≡ Some new
+  pub misses : Misses (first_relocation p) (length p) new
+  pub is : x ≡ at TooWide number place
+
+one-misses : (r : Role) (c : TableChanges) (a : Around) (s : FieldSource) (p behind : List Cell) (number place : ℕ) (new : Option ℕ) (x : Refusal) → p ++ behind ≡ drop place s.cells
+    → 0 < length p → new ≡ new_offset r c a p → FieldMisses s number (record { at = place; size = length p }) new x → RoleMisses r c a p number place x
+one-misses r c a s p behind number place new x e some same (misses_new n known m) = record {
+  new = n;
+  put = sym same ∙ known;
+  misses = subst (λ (o : Option Relocation). Misses o (length p) n) (first-here p behind s.cells place e some) m;
+  is = refl;
+}
+
+-- the new offset of the field of a path, and of one that says where a line table starts
+path-new : (table : TextSection) (c : TableChanges) (a : Around) (cells p behind : List Cell) (place : ℕ) → p ++ behind ≡ drop place cells
+    → asked (change_of c table) c.map (table_of a table).bytes (offset_at (text_source a cells table) (record { at = place; size = length p })) ≡ new_offset (offset table true) c a p
+path-new table c a cells p behind place e =
+    ap (λ (q : List Cell). asked (change_of c table) c.map (table_of a table).bytes (offset_of a.lasting.base.order (table_of a table) q)) (piece-there p behind cells place e)
+
+start-new : (c : TableChanges) (a : Around) (cells p behind : List Cell) (place : ℕ) → p ++ behind ≡ drop place cells
+    → start_known a.starts (starts_from 0 c.lines) (offset_at (start_source a cells) (record { at = place; size = length p })) ≡ new_offset line_start c a p
+start-new c a cells p behind place e =
+    ap (λ (q : List Cell). new_start (starts_from 0 c.lines) (start_number 0 a.starts (offset_of a.lasting.base.order a.lines q))) (piece-there p behind cells place e)
+    ∙ by (start_number 0 a.starts (offset_of a.lasting.base.order a.lines p))
+  where
+    by : (o : Option ℕ) → new_start (starts_from 0 c.lines) o ≡ start_place (starts_from 0 c.lines) o
+    by None = refl
+    by (Some k) = refl
+
+-- what is known of the new offsets of a section's fields
+abbrev pub str_asked : TableChanges → Around → ℕ → Option ℕ
+str_asked c a = asked c.str c.map a.str.bytes
+
+abbrev pub line_str_asked : TableChanges → Around → ℕ → Option ℕ
+line_str_asked c a = asked c.line_str c.map a.line_str.bytes
+
+abbrev pub starts_asked : TableChanges → Around → ℕ → Option ℕ
+starts_asked c a = start_known a.starts (starts_from 0 c.lines)
+
+-- a piece by its role
+role-makes : (r : Role) (c : TableChanges) (a : Around) (cells p behind : List Cell) (place : ℕ) → c.str.plan ≡ appending c.map a.str.bytes
+    → c.line_str.plan ≡ appending c.map a.line_str.bytes → p ++ behind ≡ drop place cells
+    → FieldsMake (text_source a cells in_str) (str_asked c a) (field_by in_str r place (length p))
+    → FieldsMake (text_source a cells in_line_str) (line_str_asked c a) (field_by in_line_str r place (length p))
+    → FieldsMake (start_source a cells) (starts_asked c a) (start_by r place (length p)) → MakesRole r c a p
+role-makes fixed c a cells p behind place str line e hs hl ht = tt
+role-makes inline_path c a cells p behind place str line e hs hl ht = tt
+role-makes (offset in_str false) c a cells p behind place str line e hs hl ht =
+    let none = no_path-asks c.map a.str.bytes c.str.plan (mention_at a in_str false p).text str in
+    rw none tt
+role-makes (offset in_line_str false) c a cells p behind place str line e hs hl ht =
+    let none = no_path-asks c.map a.line_str.bytes c.line_str.plan (mention_at a in_line_str false p).text line in
+    rw none tt
+role-makes (offset in_str true) c a cells p behind place str line e hs hl ht =
+    subst (λ (o : Option ℕ). MakesNew o p) (path-new in_str c a cells p behind place e)
+    (one-makes (text_source a cells in_str) p behind place (str_asked c a (offset_at (text_source a cells in_str) (record { at = place; size = length p }))) e hs.0)
+role-makes (offset in_line_str true) c a cells p behind place str line e hs hl ht =
+    subst (λ (o : Option ℕ). MakesNew o p) (path-new in_line_str c a cells p behind place e)
+    (one-makes (text_source a cells in_line_str) p behind place (line_str_asked c a (offset_at (text_source a cells in_line_str) (record { at = place; size = length p }))) e hl.0)
+role-makes line_start c a cells p behind place str line e hs hl ht =
+    subst (λ (o : Option ℕ). MakesNew o p) (start-new c a cells p behind place e)
+    (one-makes (start_source a cells) p behind place (starts_asked c a (offset_at (start_source a cells) (record { at = place; size = length p }))) e ht.0)
+
+-- the same of one that misses, from what a piece of each role is in a list of fields
+abbrev pub MissesBy : (Role → ℕ → ℕ → List PathField) → TableChanges → Around → FieldSource → (ℕ → Option ℕ) → Type 0
+MissesBy by c a s known =
+    (r : Role) (p behind : List Cell) (number place : ℕ) (x : Refusal) → p ++ behind ≡ drop place s.cells → Sized (by r place (length p))
+    → AnyMisses s known number (by r place (length p)) x → RoleMisses r c a p number place x
+
+str-misses : (c : TableChanges) (a : Around) (cells : List Cell) → MissesBy (field_by in_str) c a (text_source a cells in_str) (str_asked c a)
+str-misses c a cells fixed p behind number place x e sized h = absurd h
+str-misses c a cells inline_path p behind number place x e sized h = absurd h
+str-misses c a cells line_start p behind number place x e sized h = absurd h
+str-misses c a cells (offset in_str false) p behind number place x e sized h = absurd h
+str-misses c a cells (offset in_line_str path) p behind number place x e sized h = absurd h
+str-misses c a cells (offset in_str true) p behind number place x e sized (inr h) = absurd h
+str-misses c a cells (offset in_str true) p behind number place x e sized (inl h) =
+    one-misses (offset in_str true) c a (text_source a cells in_str) p behind number place
+    (str_asked c a (offset_at (text_source a cells in_str) (record { at = place; size = length p }))) x e sized.0 (path-new in_str c a cells p behind place e) h
+
+line_str-misses : (c : TableChanges) (a : Around) (cells : List Cell) → MissesBy (field_by in_line_str) c a (text_source a cells in_line_str) (line_str_asked c a)
+line_str-misses c a cells fixed p behind number place x e sized h = absurd h
+line_str-misses c a cells inline_path p behind number place x e sized h = absurd h
+line_str-misses c a cells line_start p behind number place x e sized h = absurd h
+line_str-misses c a cells (offset in_str path) p behind number place x e sized h = absurd h
+line_str-misses c a cells (offset in_line_str false) p behind number place x e sized h = absurd h
+line_str-misses c a cells (offset in_line_str true) p behind number place x e sized (inr h) = absurd h
+line_str-misses c a cells (offset in_line_str true) p behind number place x e sized (inl h) =
+    one-misses (offset in_line_str true) c a (text_source a cells in_line_str) p behind number place
+    (line_str_asked c a (offset_at (text_source a cells in_line_str) (record { at = place; size = length p }))) x e sized.0 (path-new in_line_str c a cells p behind place e) h
+
+start-misses : (c : TableChanges) (a : Around) (cells : List Cell) → MissesBy start_by c a (start_source a cells) (starts_asked c a)
+start-misses c a cells fixed p behind number place x e sized h = absurd h
+start-misses c a cells inline_path p behind number place x e sized h = absurd h
+start-misses c a cells (offset table path) p behind number place x e sized h = absurd h
+start-misses c a cells line_start p behind number place x e sized (inr h) = absurd h
+start-misses c a cells line_start p behind number place x e sized (inl h) =
+    one-misses line_start c a (start_source a cells) p behind number place (starts_asked c a (offset_at (start_source a cells) (record { at = place; size = length p }))) x e sized.0
+    (start-new c a cells p behind place e) h
+
+-- pieces stand one behind another, each where its state says
+abbrev pub StandFrom : {S : Type 0} → (S → ℕ) → List Cell → ℕ → List (Piece S) → Type 0
+StandFrom placed cells place [] = ⊤
+StandFrom placed cells place (x ∷ xs) = (placed x.state ≡ place) × (x.cells ++ joined xs ≡ drop place cells) × StandFrom placed cells (place + length x.cells) xs
+
+-- the fields that pieces are
+abbrev pub fields_in : {S : Type 0} → (Role → ℕ → ℕ → List PathField) → (Piece S → Role) → (S → ℕ) → List (Piece S) → List PathField
+fields_in by role placed [] = []
+fields_in by role placed (x ∷ xs) = by (role x) (placed x.state) (length x.cells) ++ fields_in by role placed xs
+
+pieces-make : {S : Type 0} (role : Piece S → Role) (placed : S → ℕ) (c : TableChanges) (a : Around) (cells : List Cell) (place : ℕ) (xs : List (Piece S))
+    → c.str.plan ≡ appending c.map a.str.bytes → c.line_str.plan ≡ appending c.map a.line_str.bytes → StandFrom placed cells place xs
+    → FieldsMake (text_source a cells in_str) (str_asked c a) (fields_in (field_by in_str) role placed xs)
+    → FieldsMake (text_source a cells in_line_str) (line_str_asked c a) (fields_in (field_by in_line_str) role placed xs)
+    → FieldsMake (start_source a cells) (starts_asked c a) (fields_in start_by role placed xs) → EachPiece (λ x. MakesRole (role x) c a x.cells) xs
+pieces-make role placed c a cells place [] str line stand hs hl ht = tt
+pieces-make role placed c a cells place (x ∷ xs) str line stand hs hl ht =
+    let s = makes-parts (text_source a cells in_str) (str_asked c a) (field_by in_str (role x) (placed x.state) (length x.cells)) (fields_in (field_by in_str) role placed xs) hs in
+    let l = makes-parts (text_source a cells in_line_str) (line_str_asked c a) (field_by in_line_str (role x) (placed x.state) (length x.cells))
+    (fields_in (field_by in_line_str) role placed xs) hl in
+    let t = makes-parts (start_source a cells) (starts_asked c a) (start_by (role x) (placed x.state) (length x.cells)) (fields_in start_by role placed xs) ht in
+    let e : x.cells ++ joined xs ≡ drop (placed x.state) cells = stand.1 ∙ ap (λ (n : ℕ). drop n cells) (sym stand.0) in (
+      role-makes (role x) c a cells x.cells (joined xs) (placed x.state) str line e s.0 l.0 t.0,
+      pieces-make role placed c a cells (place + length x.cells) xs str line stand.2 s.1 l.1 t.1,
+    )
+
+-- a piece among others
+pub record PieceFails {S : Type 0} (role : Piece S → Role) (placed : S → ℕ) (c : TableChanges) (a : Around) (number : ℕ) (xs : List (Piece S)) (x : Refusal) : Type 0 where
+  pub piece : Piece S
+  pub misses : PieceMisses role c a xs piece
+  pub is : x ≡ at TooWide number (placed piece.state)
+
+fails-here : {S : Type 0} (role : Piece S → Role) (placed : S → ℕ) (c : TableChanges) (a : Around) (number : ℕ) (x : Piece S) (xs : List (Piece S)) (r : Refusal)
+    → RoleMisses (role x) c a x.cells number (placed x.state) r → PieceFails role placed c a number (x ∷ xs) r
+fails-here role placed c a number x xs r h = record {
+  piece = x;
+  misses = record { before = []; behind = xs; among = refl; place = h.new; put = h.put; misses = h.misses };
+  is = h.is;
+}
+
+fails-later : {S : Type 0} (role : Piece S → Role) (placed : S → ℕ) (c : TableChanges) (a : Around) (number : ℕ) (x : Piece S) (xs : List (Piece S)) (r : Refusal)
+    → PieceFails role placed c a number xs r → PieceFails role placed c a number (x ∷ xs) r
+fails-later {S} role placed c a number x xs r h = record {
+  piece = h.piece;
+  misses = record {
+    before = x ∷ h.misses.before;
+    behind = h.misses.behind;
+    among = ap (λ (ys : List (Piece S)). x ∷ ys) h.misses.among;
+    place = h.misses.place;
+    put = h.misses.put;
+    misses = h.misses.misses;
+  };
+  is = h.is;
+}
+
+pieces-miss : {S : Type 0} (by : Role → ℕ → ℕ → List PathField) (role : Piece S → Role) (placed : S → ℕ) (c : TableChanges) (a : Around) (s : FieldSource) (known : ℕ → Option ℕ)
+    (number place : ℕ) (xs : List (Piece S)) (r : Refusal) → MissesBy by c a s known → StandFrom placed s.cells place xs → Sized (fields_in by role placed xs)
+    → AnyMisses s known number (fields_in by role placed xs) r → PieceFails role placed c a number xs r
+pieces-miss by role placed c a s known number place [] r one stand sized h = absurd h
+pieces-miss by role placed c a s known number place (x ∷ xs) r one stand sized h =
+    let parts = sized-parts (by (role x) (placed x.state) (length x.cells)) (fields_in by role placed xs) sized in
+    let e : x.cells ++ joined xs ≡ drop (placed x.state) s.cells = stand.1 ∙ ap (λ (n : ℕ). drop n s.cells) (sym stand.0) in
+    choose parts.0 e (any-parts s known number (by (role x) (placed x.state) (length x.cells)) (fields_in by role placed xs) r h)
+    (λ g. pieces-miss by role placed c a s known number (place + length x.cells) xs r one stand.2 parts.1 g)
+  where
+    choose : Sized (by (role x) (placed x.state) (length x.cells)) → x.cells ++ joined xs ≡ drop (placed x.state) s.cells
+        → AnyMisses s known number (by (role x) (placed x.state) (length x.cells)) r ⊎ AnyMisses s known number (fields_in by role placed xs) r
+        → (AnyMisses s known number (fields_in by role placed xs) r → PieceFails role placed c a number xs r) → PieceFails role placed c a number (x ∷ xs) r
+    choose some e (inl g) rest = fails-here role placed c a number x xs r (one (role x) x.cells (joined xs) number (placed x.state) r e some g)
+    choose some e (inr g) rest = fails-later role placed c a number x xs r (rest g)
+
+-- units
+abbrev pub unit_place : UnitState → ℕ
+unit_place s = s.place
+
+units-stand : (cells : List Cell) (place : ℕ) (xs : List (Piece UnitState)) → PlacedCells cells place xs → StandFrom unit_place cells place xs
+units-stand cells place [] l = tt
+units-stand cells place (x ∷ xs) l = (l.0, l.1, units-stand cells (place + length x.cells) xs l.2)
+
+units-text : (table : TextSection) (xs : List (Piece UnitState)) → path_fields table xs ≡ fields_in (field_by table) role_of unit_place xs
+units-text table [] = refl
+units-text table (x ∷ xs) = ap (λ (fs : List PathField). field_by table (role_of x) x.state.place (length x.cells) ++ fs) (units-text table xs)
+
+units-start : (xs : List (Piece UnitState)) → start_fields xs ≡ fields_in start_by role_of unit_place xs
+units-start [] = refl
+units-start (x ∷ xs) = ap (λ (fs : List PathField). start_by (role_of x) x.state.place (length x.cells) ++ fs) (units-start xs)
+
+pub make-units : (c : TableChanges) (a : Around) (cells : List Cell) (xs : List (Piece UnitState)) → c.str.plan ≡ appending c.map a.str.bytes
+    → c.line_str.plan ≡ appending c.map a.line_str.bytes → PlacedCells cells 0 xs → FieldsMake (text_source a cells in_str) (str_asked c a) (path_fields in_str xs)
+    → FieldsMake (text_source a cells in_line_str) (line_str_asked c a) (path_fields in_line_str xs) → FieldsMake (start_source a cells) (starts_asked c a) (start_fields xs)
+    → EachPiece (λ x. MakesRole (role_of x) c a x.cells) xs
+make-units c a cells xs str line l hs hl ht =
+    pieces-make role_of unit_place c a cells 0 xs str line (units-stand cells 0 xs l)
+    (subst (FieldsMake (text_source a cells in_str) (str_asked c a)) (units-text in_str xs) hs)
+    (subst (FieldsMake (text_source a cells in_line_str) (line_str_asked c a)) (units-text in_line_str xs) hl)
+    (subst (FieldsMake (start_source a cells) (starts_asked c a)) (units-start xs) ht)
+
+pub miss-units-str : (c : TableChanges) (a : Around) (cells : List Cell) (number : ℕ) (xs : List (Piece UnitState)) (r : Refusal) → PlacedCells cells 0 xs
+    → Sized (path_fields in_str xs) → AnyMisses (text_source a cells in_str) (str_asked c a) number (path_fields in_str xs) r → PieceFails role_of unit_place c a number xs r
+miss-units-str c a cells number xs r l sized h =
+    pieces-miss (field_by in_str) role_of unit_place c a (text_source a cells in_str) (str_asked c a) number 0 xs r (str-misses c a cells) (units-stand cells 0 xs l)
+    (subst Sized (units-text in_str xs) sized)
+    (subst (λ (fs : List PathField). AnyMisses (text_source a cells in_str) (str_asked c a) number fs r) (units-text in_str xs) h)
+
+pub miss-units-line_str : (c : TableChanges) (a : Around) (cells : List Cell) (number : ℕ) (xs : List (Piece UnitState)) (r : Refusal) → PlacedCells cells 0 xs
+    → Sized (path_fields in_line_str xs) → AnyMisses (text_source a cells in_line_str) (line_str_asked c a) number (path_fields in_line_str xs) r
+    → PieceFails role_of unit_place c a number xs r
+miss-units-line_str c a cells number xs r l sized h =
+    pieces-miss (field_by in_line_str) role_of unit_place c a (text_source a cells in_line_str) (line_str_asked c a) number 0 xs r (line_str-misses c a cells) (units-stand cells 0 xs l)
+    (subst Sized (units-text in_line_str xs) sized)
+    (subst (λ (fs : List PathField). AnyMisses (text_source a cells in_line_str) (line_str_asked c a) number fs r) (units-text in_line_str xs) h)
+
+pub miss-units-start : (c : TableChanges) (a : Around) (cells : List Cell) (number : ℕ) (xs : List (Piece UnitState)) (r : Refusal) → PlacedCells cells 0 xs
+    → Sized (start_fields xs) → AnyMisses (start_source a cells) (starts_asked c a) number (start_fields xs) r → PieceFails role_of unit_place c a number xs r
+miss-units-start c a cells number xs r l sized h =
+    pieces-miss start_by role_of unit_place c a (start_source a cells) (starts_asked c a) number 0 xs r (start-misses c a cells) (units-stand cells 0 xs l)
+    (subst Sized (units-start xs) sized)
+    (subst (λ (fs : List PathField). AnyMisses (start_source a cells) (starts_asked c a) number fs r) (units-start xs) h)
+
+-- string offsets
+abbrev pub slot_place : OffsetState → ℕ
+slot_place s = s.place
+
+abbrev pub slot_piece_role : List ℕ → Piece OffsetState → Role
+slot_piece_role paths x = slot_role paths x.state
+
+slots-stand : (cells : List Cell) (place : ℕ) (xs : List (Piece OffsetState)) → SlotsIn cells place xs → StandFrom slot_place cells place xs
+slots-stand cells place [] l = tt
+slots-stand cells place (x ∷ xs) l = (l.0, l.1, slots-stand cells (place + length x.cells) xs l.2)
+
+slots-text : (table : TextSection) (paths : List ℕ) (xs : List (Piece OffsetState)) → offset_fields table paths xs ≡ fields_in (field_by table) (slot_piece_role paths) slot_place xs
+slots-text table paths [] = refl
+slots-text table paths (x ∷ xs) = ap (λ (fs : List PathField). field_by table (slot_role paths x.state) x.state.place (length x.cells) ++ fs) (slots-text table paths xs)
+
+slots-start : (paths : List ℕ) (xs : List (Piece OffsetState)) → fields_in start_by (slot_piece_role paths) slot_place xs ≡ []
+slots-start paths [] = refl
+slots-start paths (x ∷ xs) =
+    ap (λ (fs : List PathField). fs ++ fields_in start_by (slot_piece_role paths) slot_place xs) (no-start paths x.state.mode x.state.slot x.state.place (length x.cells))
+    ∙ slots-start paths xs
+
+pub make-slots : (c : TableChanges) (a : Around) (cells : List Cell) (paths : List ℕ) (xs : List (Piece OffsetState)) → c.str.plan ≡ appending c.map a.str.bytes
+    → c.line_str.plan ≡ appending c.map a.line_str.bytes → SlotsIn cells 0 xs → FieldsMake (text_source a cells in_str) (str_asked c a) (offset_fields in_str paths xs)
+    → FieldsMake (text_source a cells in_line_str) (line_str_asked c a) (offset_fields in_line_str paths xs)
+    → EachPiece (λ x. MakesRole (slot_role paths x.state) c a x.cells) xs
+make-slots c a cells paths xs str line l hs hl =
+    pieces-make (slot_piece_role paths) slot_place c a cells 0 xs str line (slots-stand cells 0 xs l)
+    (subst (FieldsMake (text_source a cells in_str) (str_asked c a)) (slots-text in_str paths xs) hs)
+    (subst (FieldsMake (text_source a cells in_line_str) (line_str_asked c a)) (slots-text in_line_str paths xs) hl)
+    (subst (FieldsMake (start_source a cells) (starts_asked c a)) (sym (slots-start paths xs)) tt)
+
+pub miss-slots : (c : TableChanges) (a : Around) (cells : List Cell) (paths : List ℕ) (number : ℕ) (xs : List (Piece OffsetState)) (r : Refusal) → SlotsIn cells 0 xs
+    → Sized (offset_fields in_str paths xs) → AnyMisses (text_source a cells in_str) (str_asked c a) number (offset_fields in_str paths xs) r
+    → PieceFails (slot_piece_role paths) slot_place c a number xs r
+miss-slots c a cells paths number xs r l sized h =
+    pieces-miss (field_by in_str) (slot_piece_role paths) slot_place c a (text_source a cells in_str) (str_asked c a) number 0 xs r (str-misses c a cells) (slots-stand cells 0 xs l)
+    (subst Sized (slots-text in_str paths xs) sized)
+    (subst (λ (fs : List PathField). AnyMisses (text_source a cells in_str) (str_asked c a) number fs r) (slots-text in_str paths xs) h)
+
+-- macro units
+abbrev pub macro_place : MacroState → ℕ
+macro_place s = s.place
+
+abbrev pub macro_piece_role : Piece MacroState → Role
+macro_piece_role x = macro_role x.state
+
+macros-stand : (order : Order) (cells : List Cell) (s : MacroState) (place : ℕ) (xs : List (Piece MacroState)) → s.place ≡ place → Chain (macro_grammar order) s xs
+    → joined xs ≡ drop place cells → StandFrom macro_place cells place xs
+macros-stand order cells s place [] stands chain e = tt
+macros-stand order cells s place (x ∷ xs) stands chain e =
+    let own : x.state.place ≡ place = ap (λ (z : MacroState). z.place) chain.0 ∙ stands in
+    let next : x.state.place + length x.cells ≡ place + length x.cells = ap (λ (i : ℕ). i + length x.cells) own in
+    let behind : joined xs ≡ drop (place + length x.cells) cells =
+    sym (drop-append_seam x.cells (joined xs)) ∙ ap (drop (length x.cells)) e ∙ drop-drop (length x.cells) place cells in
+    (own, e, macros-stand order cells ((macro_grammar order).next x.state x.cells) (place + length x.cells) xs next chain.2 behind)
+
+macros-start : (xs : List (Piece MacroState)) → macro_starts xs ≡ fields_in start_by macro_piece_role macro_place xs
+macros-start [] = refl
+macros-start (x ∷ xs) = ap (λ (fs : List PathField). start_by (macro_role x.state) x.state.place (length x.cells) ++ fs) (macros-start xs)
+
+macros-text : (table : TextSection) (xs : List (Piece MacroState)) → fields_in (field_by table) macro_piece_role macro_place xs ≡ []
+macros-text table [] = refl
+macros-text table (x ∷ xs) =
+    ap (λ (fs : List PathField). fs ++ fields_in (field_by table) macro_piece_role macro_place xs) (no-path table x.state.mode x.state.place (length x.cells)) ∙ macros-text table xs
+
+pub make-macros : (c : TableChanges) (a : Around) (order : Order) (cells : List Cell) (s : MacroState) (xs : List (Piece MacroState)) → c.str.plan ≡ appending c.map a.str.bytes
+    → c.line_str.plan ≡ appending c.map a.line_str.bytes → s.place ≡ 0 → Chain (macro_grammar order) s xs → joined xs ≡ cells
+    → FieldsMake (start_source a cells) (starts_asked c a) (macro_starts xs) → EachPiece (λ x. MakesRole (macro_role x.state) c a x.cells) xs
+make-macros c a order cells s xs str line stands chain e ht =
+    pieces-make macro_piece_role macro_place c a cells 0 xs str line (macros-stand order cells s 0 xs stands chain e)
+    (subst (FieldsMake (text_source a cells in_str) (str_asked c a)) (sym (macros-text in_str xs)) tt)
+    (subst (FieldsMake (text_source a cells in_line_str) (line_str_asked c a)) (sym (macros-text in_line_str xs)) tt)
+    (subst (FieldsMake (start_source a cells) (starts_asked c a)) (macros-start xs) ht)
+
+pub miss-macros : (c : TableChanges) (a : Around) (order : Order) (cells : List Cell) (s : MacroState) (number : ℕ) (xs : List (Piece MacroState)) (r : Refusal) → s.place ≡ 0
+    → Chain (macro_grammar order) s xs → joined xs ≡ cells → Sized (macro_starts xs) → AnyMisses (start_source a cells) (starts_asked c a) number (macro_starts xs) r
+    → PieceFails macro_piece_role macro_place c a number xs r
+miss-macros c a order cells s number xs r stands chain e sized h =
+    pieces-miss start_by macro_piece_role macro_place c a (start_source a cells) (starts_asked c a) number 0 xs r (start-misses c a cells)
+    (macros-stand order cells s 0 xs stands chain e) (subst Sized (macros-start xs) sized)
+    (subst (λ (fs : List PathField). AnyMisses (start_source a cells) (starts_asked c a) number fs r) (macros-start xs) h)
+
+-- the string offsets of name tables aren't those of paths
+name-makes : (mode : NameMode) (c : TableChanges) (a : Around) (p : List Cell) → c.str.plan ≡ appending c.map a.str.bytes → MakesRole (name_role_by mode) c a p
+name-makes at_table c a p str = tt
+name-makes (at_rest end) c a p str = tt
+name-makes no_names c a p str = tt
+name-makes (at_string width left end) c a p str =
+    let none = no_path-asks c.map a.str.bytes c.str.plan (mention_at a in_str false p).text str in
+    rw none tt
+
+pub make-names : (c : TableChanges) (a : Around) (xs : List (Piece NameState)) → c.str.plan ≡ appending c.map a.str.bytes → EachPiece (λ x. MakesRole (name_role x.state) c a x.cells) xs
+make-names c a [] str = tt
+make-names c a (x ∷ xs) str = (name-makes x.state.mode c a x.cells str, make-names c a xs str)

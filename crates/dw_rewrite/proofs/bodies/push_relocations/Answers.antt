@@ -1,0 +1,14 @@
+-- Those of the one kind, and behind them that of the other.
+use Rattle.std.proofs.lemmas.Result.{err_from_is_err_and}
+use Rattle.dw_rewrite.proofs.BodyRowLaws.{either-first, either-second}
+use Rattle.dw_rewrite.proofs.bodies.push_relocations.Goals as goal
+
+pub returns-in_err-push_records-clause-refused : goal.returns-in_err-push_records-clause-refused
+returns-in_err-push_records-clause-refused c =
+    let p = err_from_is_err_and c.from_residual.result c.from_residual.ensures.1 in
+    rw (p.1, p.2) (either-first _ _ c.in_err-push_records.field-0.0 c.in_err-push_records.ensures.refused)
+
+pub returns-in_err-push_line_record-clause-refused : goal.returns-in_err-push_line_record-clause-refused
+returns-in_err-push_line_record-clause-refused c =
+    let p = err_from_is_err_and c.from_residual-in_err-push_line_record.result c.from_residual-in_err-push_line_record.ensures.1 in
+    rw (p.1, p.2) (either-second _ _ c.in_err-push_line_record.field-0.0 c.in_err-push_line_record.ensures.refused)
