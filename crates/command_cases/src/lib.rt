@@ -9,7 +9,7 @@ ghost use Rattle.std.specs.Prelude.{◌≤◌, length, OnOk};
 ghost use Rattle.dw_base.specs.Layout.{output_limit};
 
 use dbg_job::{Options, Outcome, outcome};
-use dbg_split::{Pair, split};
+use dbg_split::split;
 use dw_base::{Fault, OUTPUT_LIMIT};
 use std::alloc::Global;
 
@@ -54,14 +54,28 @@ mod splits;
 #[cfg(test)]
 mod words;
 
+/// The two files of a split, each in one vector.
+#[derive(Debug, Drop)]
+pub struct TwoFiles {
+    /// The stripped file.
+    pub stripped: Vec<u8>,
+    /// The debug file.
+    pub debug: Vec<u8>,
+}
+
 /// The two files of a split, of which the debug file has this name; no memory where the file is longer than any that is written.
-pub fn parted(alloc: Global, bytes: &[u8], name: &[u8]) -> Result<Pair, Fault>
+pub fn parted(alloc: Global, bytes: &[u8], name: &[u8]) -> Result<TwoFiles, Fault>
     ensures small { OnOk result (length bytes.now ≤ output_limit) }
 {
     if bytes.len() as u64 > OUTPUT_LIMIT {
         return Err(Fault::NoMemory);
     }
-    split(alloc, bytes, name)
+    let pair = split(alloc, bytes, name)?;
+    let debug = pair.debug.joined(alloc)?;
+    Ok(TwoFiles {
+        stripped: pair.stripped,
+        debug,
+    })
 }
 
 /// What becomes of a file, of which the debug file has this name; no memory where the file is longer than any that is written.

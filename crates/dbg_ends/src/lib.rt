@@ -18,5 +18,5 @@ pub mod telling;
 pub use end::End;
 pub use fault::fault_end;
 pub use input::read_input;
-pub use output::{free_output, write_output, write_outputs};
+pub use output::{free_output, write_output, write_outputs, write_pieces};
 pub use telling::tell;

@@ -1,8 +1,9 @@
 -- The sources of a file that is taken can be read.
-use Rattle.std.proofs.Common.{◌≡◌, ℕ, List, refl, ap, ◌∙◌, subst}
+use Rattle.std.proofs.Common.{◌≡◌, ℕ, List, refl, sym, ap, ◌∙◌, subst}
 use Rattle.dw_base.specs.ViewFails.{ViewFails}
 use Rattle.dw_base.specs.ElfFails.{ElfFails}
 use Rattle.dw_base.specs.FileViews.{View, view_of}
+use Rattle.dw_base.specs.LineTables.{LineTable}
 use Rattle.dw_base.specs.Paths.{PathMap}
 use Rattle.dw_base.specs.Refusals.{Blames}
 use Rattle.dw_base.specs.ViewData.{debug_data}
@@ -11,6 +12,7 @@ use Rattle.dw_base.specs.declared.fault.Fault.TheVariants.{NoMemory, Refused}
 use Rattle.dw_base.proofs.RelocationRowLaws.{header_offsets_exclude}
 use Rattle.dw_base.proofs.ViewFailsLaws.{view_excludes}
 use Rattle.dw_base.proofs.ElfLaws.{elf_excludes}
+use Rattle.dw_lines.specs.ViewTables.{TablesFound}
 use Rattle.dw_meaning.specs.EditRows.{IsAccepted}
 use Rattle.dw_meaning.specs.FileMeanings.{file_data}
 use Rattle.dw_sources.specs.Sources.{AreSources, IsWant}
@@ -36,4 +38,8 @@ sources_want m b c v f a same is want =
 pub sources_of_file : (b c base : List ℕ) (v : View) (names : List (List ℕ)) → c ≡ b → v ≡ view_of c → AreSources (debug_data v) base names → AreSources (file_data b) base names
 sources_of_file b c base v names same is are = let P : View → Type 0 = λ x. AreSources (debug_data x) base names in subst P (is ∙ ap view_of same) are
 
-pub ruleset name_rules = (elf_wants, sections_want, sources_want, sources_of_file)
+-- the line tables of a file are those of its view
+pub tables_of_file : (b c : List ℕ) (v : View) (ts : List LineTable) → c ≡ b → v ≡ view_of c → TablesFound (view_of b) ts → TablesFound v ts
+tables_of_file b c v ts same is found = let P : View → Type 0 = λ x. TablesFound x ts in subst P (sym (is ∙ ap view_of same)) found
+
+pub ruleset name_rules = (elf_wants, sections_want, sources_want, sources_of_file, tables_of_file)

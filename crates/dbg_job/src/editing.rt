@@ -4,8 +4,10 @@
 
 ghost use Rattle.std.specs.Prelude.{◌≡◌, ◌≤◌, ◌<◌, ℕ, List, length, slice_index, true, false, IfErr, IfOk, OnOk};
 ghost use Rattle.dw_base.specs.ElfFails.{ElfReads};
+ghost use Rattle.dw_base.specs.FileViews.{view_of};
 ghost use Rattle.dw_base.specs.Layout.{output_limit};
 ghost use Rattle.dw_base.specs.Refusals.{Blames};
+ghost use Rattle.dw_lines.specs.ViewTables.{TablesFound};
 ghost use Rattle.dw_meaning.specs.EditRows.{EditFails};
 ghost use Rattle.dw_meaning.specs.FileMeanings.{IsOutput, MeaningKept};
 ghost use Rattle.dw_meaning.specs.Loaded.{LoadedKept};
@@ -16,19 +18,20 @@ ghost use Rattle.dbg_job.specs.NewIds.{IdFits, with_new_id};
 use crate::new_ids::{id_fits, with_new_id};
 use dw_base::Fault;
 use dw_paths::Maps;
-use dw_rewrite::rewrite;
+use dw_rewrite::{Rewritten, rewrite};
 use elf_file::ElfFile;
 use job_types::Options;
 use std::alloc::Global;
 
 /// The file with each source path mapped, and what is known of it.
 #[tactic(auto, using(crate::proofs::EditedLaws::mapped_rules))]
-fn mapped_file(alloc: Global, bytes: &[u8], maps: &Maps) -> Result<Vec<u8>, Fault>
+fn mapped_file(alloc: Global, bytes: &[u8], maps: &Maps) -> Result<Rewritten, Fault>
     requires small { length bytes.now ≤ output_limit }
-    ensures mapped { IfOk result (λ out. IsMapped maps.now bytes.now out.items) }
-    ensures only { IfOk result (λ out. (o : List ℕ) → IsOutput maps.now bytes.now o → o ≡ out.items) }
-    ensures meaning { IfOk result (λ out. MeaningKept maps.now bytes.now out.items) }
-    ensures loaded { IfOk result (λ out. LoadedKept bytes.now out.items) }
+    ensures mapped { IfOk result (λ out. IsMapped maps.now bytes.now out.file.items) }
+    ensures only { IfOk result (λ out. (o : List ℕ) → IsOutput maps.now bytes.now o → o ≡ out.file.items) }
+    ensures meaning { IfOk result (λ out. MeaningKept maps.now bytes.now out.file.items) }
+    ensures loaded { IfOk result (λ out. LoadedKept bytes.now out.file.items) }
+    ensures tables { IfOk result (λ out. TablesFound (view_of bytes.now) out.tables.items) }
     ensures refused { IfErr result (Blames (EditFails maps.now bytes.now)) }
 {
     // What a map obeys is known where one of its fields is used.
@@ -51,58 +54,62 @@ fn id_fits_in(alloc: Global, bytes: &[u8]) -> Result<(), Fault>
 
 /// The file with each source path mapped, and a new build-id made of a seed.
 #[tactic(auto, using(crate::proofs::EditedLaws::anew_rules))]
-fn mapped_anew(alloc: Global, bytes: &[u8], maps: &Maps, seed: &[u8]) -> Result<Vec<u8>, Fault>
+fn mapped_anew(alloc: Global, bytes: &[u8], maps: &Maps, seed: &[u8]) -> Result<Rewritten, Fault>
     requires small { length bytes.now ≤ output_limit }
     requires fits { IdFits bytes.now }
-    ensures edited { IfOk result (λ new. IsAnew maps.now seed.now bytes.now new.items) }
-    ensures meaning { IfOk result (λ new. MeaningKept maps.now bytes.now new.items) }
-    ensures loaded { IfOk result (λ new. LoadedKept bytes.now new.items) }
-    ensures fits { IfOk result (λ new. IdFits new.items) }
-    ensures sections { IfOk result (λ new. SameSections bytes.now new.items) }
+    ensures edited { IfOk result (λ new. IsAnew maps.now seed.now bytes.now new.file.items) }
+    ensures meaning { IfOk result (λ new. MeaningKept maps.now bytes.now new.file.items) }
+    ensures loaded { IfOk result (λ new. LoadedKept bytes.now new.file.items) }
+    ensures fits { IfOk result (λ new. IdFits new.file.items) }
+    ensures sections { IfOk result (λ new. SameSections bytes.now new.file.items) }
+    ensures tables { IfOk result (λ new. TablesFound (view_of bytes.now) new.tables.items) }
     ensures refused { IfErr result (Blames (EditFails maps.now bytes.now)) }
 {
     let out = mapped_file(alloc, bytes, maps)?;
-    let new = with_new_id(alloc, out, seed)?;
-    Ok(new)
+    let Rewritten { file, tables } = out;
+    let new = with_new_id(alloc, file, seed)?;
+    Ok(Rewritten { file: new, tables })
 }
 
 /// The edited file where build-ids stay.
 #[tactic(auto, using(crate::proofs::EditedLaws::plain_rules))]
-fn edited_plain(alloc: Global, bytes: &[u8], options: &Options) -> Result<Vec<u8>, Fault>
+fn edited_plain(alloc: Global, bytes: &[u8], options: &Options) -> Result<Rewritten, Fault>
     requires small { length bytes.now ≤ output_limit }
     requires plain { options.now.build_id ≡ false }
     ensures accepted { OnOk result (IsEditable options.now bytes.now) }
-    ensures edited { IfOk result (λ file. IsEdited options.now bytes.now file.items) }
-    ensures only { IfOk result (λ file. (o : List ℕ) → IsEdited options.now bytes.now o → o ≡ file.items) }
-    ensures meaning { IfOk result (λ file. MeaningKept options.now.maps bytes.now file.items) }
-    ensures loaded { IfOk result (λ file. LoadedKept bytes.now file.items) }
-    ensures small { IfOk result (λ file. length file.items ≤ output_limit) }
-    ensures fits { IfOk result (λ file. IdFits bytes.now → IdFits file.items) }
-    ensures sections { IfOk result (λ file. SameSections bytes.now file.items) }
+    ensures edited { IfOk result (λ out. IsEdited options.now bytes.now out.file.items) }
+    ensures only { IfOk result (λ out. (o : List ℕ) → IsEdited options.now bytes.now o → o ≡ out.file.items) }
+    ensures meaning { IfOk result (λ out. MeaningKept options.now.maps bytes.now out.file.items) }
+    ensures loaded { IfOk result (λ out. LoadedKept bytes.now out.file.items) }
+    ensures small { IfOk result (λ out. length out.file.items ≤ output_limit) }
+    ensures fits { IfOk result (λ out. IdFits bytes.now → IdFits out.file.items) }
+    ensures sections { IfOk result (λ out. SameSections bytes.now out.file.items) }
+    ensures tables { IfOk result (λ out. TablesFound (view_of bytes.now) out.tables.items) }
     ensures refused { IfErr result (Blames (EditedFails options.now bytes.now)) }
 {
-    let file = mapped_file(alloc, bytes, &options.maps)?;
-    Ok(file)
+    let out = mapped_file(alloc, bytes, &options.maps)?;
+    Ok(out)
 }
 
 /// The edited file where they are made anew.
 #[tactic(auto, using(crate::proofs::EditedLaws::edited_rules))]
-fn edited_anew(alloc: Global, bytes: &[u8], options: &Options) -> Result<Vec<u8>, Fault>
+fn edited_anew(alloc: Global, bytes: &[u8], options: &Options) -> Result<Rewritten, Fault>
     requires small { length bytes.now ≤ output_limit }
     requires anew { options.now.build_id ≡ true }
     ensures accepted { OnOk result (IsEditable options.now bytes.now) }
-    ensures edited { IfOk result (λ file. IsEdited options.now bytes.now file.items) }
-    ensures only { IfOk result (λ file. (o : List ℕ) → IsEdited options.now bytes.now o → o ≡ file.items) }
-    ensures meaning { IfOk result (λ file. MeaningKept options.now.maps bytes.now file.items) }
-    ensures loaded { IfOk result (λ file. LoadedKept bytes.now file.items) }
-    ensures small { IfOk result (λ file. length file.items ≤ output_limit) }
-    ensures fits { IfOk result (λ file. IdFits bytes.now → IdFits file.items) }
-    ensures sections { IfOk result (λ file. SameSections bytes.now file.items) }
+    ensures edited { IfOk result (λ out. IsEdited options.now bytes.now out.file.items) }
+    ensures only { IfOk result (λ out. (o : List ℕ) → IsEdited options.now bytes.now o → o ≡ out.file.items) }
+    ensures meaning { IfOk result (λ out. MeaningKept options.now.maps bytes.now out.file.items) }
+    ensures loaded { IfOk result (λ out. LoadedKept bytes.now out.file.items) }
+    ensures small { IfOk result (λ out. length out.file.items ≤ output_limit) }
+    ensures fits { IfOk result (λ out. IdFits bytes.now → IdFits out.file.items) }
+    ensures sections { IfOk result (λ out. SameSections bytes.now out.file.items) }
+    ensures tables { IfOk result (λ out. TablesFound (view_of bytes.now) out.tables.items) }
     ensures refused { IfErr result (Blames (EditedFails options.now bytes.now)) }
 {
     id_fits_in(alloc, bytes)?;
-    let file = mapped_anew(alloc, bytes, &options.maps, options.seed.as_slice())?;
-    Ok(file)
+    let out = mapped_anew(alloc, bytes, &options.maps, options.seed.as_slice())?;
+    Ok(out)
 }
 
 /// The edited file: each source path is mapped, and where build-ids are made anew, its build-id is the first bytes of the
@@ -112,16 +119,18 @@ fn edited_anew(alloc: Global, bytes: &[u8], options: &Options) -> Result<Vec<u8>
 /// bytes belong to something else too. Where none holds, it is edited, or there was not enough memory. What it means is what the
 /// file means, with each source path mapped, and what is loaded of it is as it was. It isn't too long to be read, nothing is wrong
 /// with its build-id where nothing is wrong with that of the file, and it has the file's sections, but for place, size and contents.
-pub fn edited(alloc: Global, bytes: &[u8], options: &Options) -> Result<Vec<u8>, Fault>
+/// Beside it stand the line tables of the file as it was, which were read for it.
+pub fn edited(alloc: Global, bytes: &[u8], options: &Options) -> Result<Rewritten, Fault>
     requires small { length bytes.now ≤ output_limit }
     ensures accepted { OnOk result (IsEditable options.now bytes.now) }
-    ensures edited { IfOk result (λ file. IsEdited options.now bytes.now file.items) }
-    ensures only { IfOk result (λ file. (o : List ℕ) → IsEdited options.now bytes.now o → o ≡ file.items) }
-    ensures meaning { IfOk result (λ file. MeaningKept options.now.maps bytes.now file.items) }
-    ensures loaded { IfOk result (λ file. LoadedKept bytes.now file.items) }
-    ensures small { IfOk result (λ file. length file.items ≤ output_limit) }
-    ensures fits { IfOk result (λ file. IdFits bytes.now → IdFits file.items) }
-    ensures sections { IfOk result (λ file. SameSections bytes.now file.items) }
+    ensures edited { IfOk result (λ out. IsEdited options.now bytes.now out.file.items) }
+    ensures only { IfOk result (λ out. (o : List ℕ) → IsEdited options.now bytes.now o → o ≡ out.file.items) }
+    ensures meaning { IfOk result (λ out. MeaningKept options.now.maps bytes.now out.file.items) }
+    ensures loaded { IfOk result (λ out. LoadedKept bytes.now out.file.items) }
+    ensures small { IfOk result (λ out. length out.file.items ≤ output_limit) }
+    ensures fits { IfOk result (λ out. IdFits bytes.now → IdFits out.file.items) }
+    ensures sections { IfOk result (λ out. SameSections bytes.now out.file.items) }
+    ensures tables { IfOk result (λ out. TablesFound (view_of bytes.now) out.tables.items) }
     ensures refused { IfErr result (Blames (EditedFails options.now bytes.now)) }
 {
     if options.build_id {

@@ -17,7 +17,8 @@ use crate::leaving::{begins_as_elf, why_left};
 use crate::naming::source_names;
 use crate::new_ids::{id_bytes, id_fits};
 use dbg_split::{Pair, split};
-use dw_base::Fault;
+use dw_base::{Fault, NoMemory};
+use dw_rewrite::Rewritten;
 use elf_file::ElfFile;
 use file_tree::Blob;
 use job_types::{LeftWhy, Options, Outcome, Sources};
@@ -38,7 +39,8 @@ fn edited_outcome(
     ensures none { OnOk result ((r : Refusal) → OutcomeFails options.now elf.now.bytes.now debug_name.now r → ⊥) }
     ensures refused { IfErr result (Blames (OutcomeFails options.now elf.now.bytes.now debug_name.now)) }
 {
-    let file = edited(alloc, elf.bytes, options)?;
+    let out = edited(alloc, elf.bytes, options)?;
+    let Rewritten { file, .. } = out;
     let sources = source_names(alloc, elf.bytes, &options.maps)?;
     let bytes = Blob::new(file);
     Ok(Outcome::Edited { bytes, sources })
@@ -60,24 +62,27 @@ fn split_outcome(
     ensures refused { IfErr result (Blames (OutcomeFails options.now elf.now.bytes.now debug_name.now)) }
 {
     id_fits(elf)?;
-    let file = edited(alloc, elf.bytes, options)?;
+    let out = edited(alloc, elf.bytes, options)?;
+    let Rewritten { file, .. } = out;
     let pair = split(alloc, file.as_slice(), debug_name)?;
     let id = id_bytes(alloc, file.as_slice())?;
     let sources = source_names(alloc, elf.bytes, &options.maps)?;
-    Ok(both(pair, id, sources))
+    let outcome = both(alloc, pair, id, sources)?;
+    Ok(outcome)
 }
 
 /// The outcome of a pair.
-fn both(pair: Pair, id: Option<Blob>, sources: Sources) -> Outcome
-    ensures value { result ≡ outcome.Split pair.stripped.items pair.debug.items id sources }
+fn both(alloc: Global, pair: Pair, id: Option<Blob>, sources: Sources) -> Result<Outcome, NoMemory>
+    ensures value { IfOk result (λ o. o ≡ outcome.Split pair.entry.stripped.items pair.entry.debug id sources) }
 {
     let Pair { stripped, debug } = pair;
-    Outcome::Split {
+    let debug = debug.joined(alloc)?;
+    Ok(Outcome::Split {
         stripped: Blob::new(stripped),
         debug: Blob::new(debug),
         id,
         sources,
-    }
+    })
 }
 
 /// What becomes of a file whose records were read.

@@ -23,7 +23,8 @@ mod leaving;
 mod naming;
 mod new_ids;
 
+pub use dw_rewrite::Rewritten;
 pub use editing::edited;
 pub use job_types::{LeftWhy, Options, Outcome, Sources};
 pub use judging::outcome;
-pub use naming::source_names;
+pub use naming::{source_names, source_names_by_tables};

@@ -1,16 +1,19 @@
 //! The names of the sources of a file that is edited.
 
 ghost use Rattle.std.specs.Prelude.{◌≡◌, ◌≤◌, length, map, IfErr, IfOk};
+ghost use Rattle.dw_base.specs.FileViews.{view_of};
 ghost use Rattle.dw_base.specs.Layout.{output_limit};
 ghost use Rattle.dw_base.specs.declared.fault.Fault.TheVariants as fault;
+ghost use Rattle.dw_lines.specs.ViewTables.{TablesFound};
 ghost use Rattle.dw_meaning.specs.EditRows.{IsAccepted};
 ghost use Rattle.dw_meaning.specs.FileMeanings.{file_data};
 ghost use Rattle.dw_sources.specs.KeptNames.{bytes_of};
 ghost use Rattle.dw_sources.specs.Sources.{AreSources};
 
 use dw_base::{Fault, NoMemory};
+use dw_lines::LineTable;
 use dw_paths::Maps;
-use dw_sources::sources;
+use dw_sources::{sources, sources_by_tables};
 use dw_view::View;
 use elf_file::ElfFile;
 use job_types::Sources;
@@ -40,5 +43,43 @@ fn names_below(alloc: Global, bytes: &[u8], maps: &Maps) -> Result<Vec<Vec<u8>>,
     let elf = ElfFile::read(alloc, bytes)?;
     let view = View::one(&elf)?;
     let names = sources(alloc, &view, maps.base.as_slice())?;
+    Ok(names)
+}
+
+/// The same where the line tables of the file were read already: they aren't read again.
+pub fn source_names_by_tables(
+    alloc: Global,
+    bytes: &[u8],
+    maps: &Maps,
+    tables: Vec<LineTable>,
+) -> Result<Sources, NoMemory>
+    requires small { length bytes.now ≤ output_limit }
+    requires accepted { IsAccepted maps.now bytes.now }
+    requires tables { TablesFound (view_of bytes.now) tables.items }
+    ensures sources { IfOk result (λ names. AreSources (file_data bytes.now) maps.now.base names) }
+{
+    match names_by_tables(alloc, bytes, maps, tables) {
+        Ok(names) => Ok(Sources::new(names)),
+        Err(_) => Err(NoMemory),
+    }
+}
+
+/// These names in a vector.
+#[tactic(auto, using(crate::proofs::SourceLaws::name_rules))]
+fn names_by_tables(
+    alloc: Global,
+    bytes: &[u8],
+    maps: &Maps,
+    tables: Vec<LineTable>,
+) -> Result<Vec<Vec<u8>>, Fault>
+    requires small { length bytes.now ≤ output_limit }
+    requires accepted { IsAccepted maps.now bytes.now }
+    requires tables { TablesFound (view_of bytes.now) tables.items }
+    ensures sources { IfOk result (λ names. AreSources (file_data bytes.now) maps.now.base (map bytes_of names.items)) }
+    ensures memory { IfErr result (λ f. f ≡ fault.NoMemory) }
+{
+    let elf = ElfFile::read(alloc, bytes)?;
+    let view = View::one(&elf)?;
+    let names = sources_by_tables(alloc, &view, maps.base.as_slice(), tables)?;
     Ok(names)
 }

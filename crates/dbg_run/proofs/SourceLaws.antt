@@ -3,8 +3,11 @@ use Rattle.std.proofs.Common.{◌≡◌, ℕ, ◌≤◌, ◌<◌, ◌+◌, add-o
 use Rattle.std.specs.declared.alloc.Global.{Global}
 use Rattle.std.specs.List.{flat_map}
 use Rattle.std.proofs.lemmas.List.{append_assoc, append-nil, drop_all}
+use Rattle.dw_base.specs.FileViews.{view_of}
+use Rattle.dw_base.specs.LineTables.{LineTable}
 use Rattle.dw_base.specs.Paths.{PathMap}
 use Rattle.dw_base.specs.Texts.{laid_texts}
+use Rattle.dw_lines.specs.ViewTables.{TablesFound}
 use Rattle.dw_meaning.specs.FileMeanings.{file_data}
 use Rattle.dw_sources.specs.KeptNames.{bytes_of}
 use Rattle.dw_sources.specs.Sources.{AreSources}
@@ -37,4 +40,8 @@ pub listed : (m : PathMap) (b c text : List ℕ) (names : List (List ℕ)) → c
 listed m b c text names same are is =
     record { names = names; sources = subst (λ (x : List ℕ). AreSources (file_data x) m.base names) same are; is = is }
 
-pub ruleset list_rules = (listed)
+-- line tables of the same bytes
+pub tables_same : (b c : List ℕ) (ts : List LineTable) → c ≡ b → TablesFound (view_of b) ts → TablesFound (view_of c) ts
+tables_same b c ts same found = subst (λ (x : List ℕ). TablesFound (view_of x) ts) (sym same) found
+
+pub ruleset list_rules = (listed, tables_same)

@@ -24,7 +24,7 @@ use Rattle.dbg_ends.specs.Due.{Where, IsCut}
 use Rattle.dbg_ends.specs.Due.IsCut.{no_memory}
 use Rattle.dbg_ends.specs.Due.Where.{elsewhere}
 use Rattle.dbg_ends.specs.Ends.{status_of}
-use Rattle.dbg_ends.specs.Steps.{BlamesAt, FaultEnds, IsSettled, OutputFree}
+use Rattle.dbg_ends.specs.Steps.{BlamesAt, FaultEnds, IsSettled, OnlyAtBoth, OutputFree}
 use Rattle.dbg_ends.specs.Steps.{BlamesAt as blames, OutputsEnd as both_written}
 use Rattle.dbg_ends.proofs.StepLaws.{blames_at}
 use Rattle.dbg_run.specs.Shows.{base_name}
@@ -38,6 +38,10 @@ use Rattle.dbg_run.proofs.ShowLaws.{shows_alike}
 use Rattle.dbg_run.proofs.EditLaws.{both_completes, calm_both, free_before, free_due, input_completes, output_completes, same_both, same_bytes}
 
 -- ### The two files
+
+-- where nothing changed, nothing but the two paths changed
+pub both_same : (path beside : List ℕ) (tree : Option TreeMap) → OnlyAtBoth path beside tree tree
+both_same path beside tree = same_both path beside tree tree refl
 
 -- a file that no condition refuses can be split
 pub is_splittable : (b name x n : List ℕ) → x ≡ b → n ≡ name → ((r : Refusal) → SplitFails x n r → ⊥) → IsSplittable b name

@@ -1,7 +1,9 @@
 //! The command `edit`: a file with each source path in its debug data mapped, and the list of its sources where one is asked for.
 ghost use Rattle.std.specs.Prelude.{◌≡◌, ◌≢◌, ◌⊎◌, ◌≤◌, ℕ, List, length, IfOk, IfErr, OnOk};
 ghost use Rattle.std.specs.Option.{ForSome};
+ghost use Rattle.dw_base.specs.FileViews.{view_of};
 ghost use Rattle.dw_base.specs.Layout.{output_limit};
+ghost use Rattle.dw_lines.specs.ViewTables.{TablesFound};
 ghost use Rattle.dbg_job.specs.EditedFiles.{IsEditable, IsEdited};
 ghost use Rattle.file_tree.specs.Seen.{now_of};
 ghost use Rattle.file_tree.specs.Trees.{stands_at};
@@ -13,7 +15,7 @@ ghost use Rattle.dbg_run.specs.Edits.{Keeps, RewriteEnds, EditDone, EditEnds, Ed
 
 use crate::sources::list_text;
 use dbg_ends::{End, free_output, read_input, write_output, write_outputs};
-use dbg_job::edited;
+use dbg_job::{Rewritten, edited};
 use dw_base::Fault;
 use file_tree::{Text, Tree};
 use job_types::Options;
@@ -22,7 +24,8 @@ use std::alloc::Global;
 /// The mode of a list: its owner may write it, and all may read it.
 const LIST_MODE: u32 = 0o644;
 
-/// The bytes of the file at the path with each source path mapped, and with a new build-id where one is asked for. Refused only where a
+/// The bytes of the file at the path with each source path mapped, and with a new build-id where one is asked for, and the line tables of
+/// the file as it was. Refused only where a
 /// condition holds of the file, or of its output, of that kind and at that place.
 #[tactic(auto, using(crate::proofs::Rows::rewrite_rows))]
 fn edited_bytes(
@@ -30,12 +33,13 @@ fn edited_bytes(
     path: &str,
     bytes: &Vec<u8>,
     options: &Options,
-) -> Result<Vec<u8>, End>
+) -> Result<Rewritten, End>
     requires small { length bytes.now.items ≤ output_limit }
     ensures accepted { OnOk result (IsEditable options.now bytes.now.items) }
-    ensures output { IfOk result (λ out. IsEdited options.now bytes.now.items out.items) }
-    ensures only { IfOk result (λ out. (o : List ℕ) → IsEdited options.now bytes.now.items o → o ≡ out.items) }
-    ensures keeps { IfOk result (λ out. Keeps options.now.maps bytes.now.items out.items) }
+    ensures output { IfOk result (λ out. IsEdited options.now bytes.now.items out.file.items) }
+    ensures only { IfOk result (λ out. (o : List ℕ) → IsEdited options.now bytes.now.items o → o ≡ out.file.items) }
+    ensures keeps { IfOk result (λ out. Keeps options.now.maps bytes.now.items out.file.items) }
+    ensures tables { IfOk result (λ out. TablesFound (view_of bytes.now.items) out.tables.items) }
     ensures ends { IfErr result (RewriteEnds path.now options.now bytes.now.items) }
     ensures due { IfErr result (λ e. Where (IsEditable options.now bytes.now.items) (status_of e ≡ 0) (status_of e ≡ 3) ⊎ IsCut (status_of e)) }
     ensures not_done { IfErr result (λ e. 0 ≢ status_of e) }
@@ -79,7 +83,7 @@ fn edit_steps<T: Tree>(
     let (bytes, mode) = read_input(alloc, input, limit, tree)?;
     free_output(alloc, output, tree)?;
     let out = edited_bytes(alloc, input, &bytes, options)?;
-    write_output(output, out, mode, tree)?;
+    write_output(output, out.file, mode, tree)?;
     Ok(())
 }
 
@@ -136,8 +140,9 @@ fn listed_steps<T: Tree>(
     free_output(alloc, output, tree)?;
     free_output(alloc, list, tree)?;
     let rewritten = edited_bytes(alloc, input, &file, options)?;
-    let names = list_text(alloc, &file, options)?;
-    write_outputs(output, rewritten, mode, list, names, LIST_MODE, tree)?;
+    let Rewritten { file: out, tables } = rewritten;
+    let names = list_text(alloc, &file, options, tables)?;
+    write_outputs(output, out, mode, list, names, LIST_MODE, tree)?;
     Ok(())
 }
 

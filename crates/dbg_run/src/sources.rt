@@ -1,14 +1,17 @@
 //! The list of a file's sources.
 ghost use Rattle.std.specs.Prelude.{◌≡◌, ◌≤◌, ◌++◌, ◌∷◌, [], length, map, IfErr, IfOk, OnOk};
+ghost use Rattle.dw_base.specs.FileViews.{view_of};
 ghost use Rattle.dw_base.specs.Layout.{output_limit};
 ghost use Rattle.dw_base.specs.Texts.{laid_texts};
+ghost use Rattle.dw_lines.specs.ViewTables.{TablesFound};
 ghost use Rattle.dw_sources.specs.KeptNames.{bytes_of};
 ghost use Rattle.dbg_job.specs.EditedFiles.{IsEditable};
 ghost use Rattle.dbg_ends.specs.declared.end.End.TheVariants as end;
 ghost use Rattle.dbg_run.specs.Edits.{IsListText};
 
 use dbg_ends::End;
-use dbg_job::source_names;
+use dbg_job::source_names_by_tables;
+use dw_lines::LineTable;
 use job_types::Options;
 use std::alloc::{AllocError, Global};
 
@@ -33,16 +36,22 @@ fn names_text(alloc: Global, names: &[Vec<u8>]) -> Result<Vec<u8>, AllocError>
     Ok(text)
 }
 
-/// The list of the sources of a file that is edited: their names below the map's base, each ended by a NUL. Want of memory alone is in
-/// the way.
+/// The list of the sources of a file that is edited, by its line tables: their names below the map's base, each ended by a NUL. Want of
+/// memory alone is in the way.
 #[tactic(auto, using(crate::proofs::SourceLaws::list_rules))]
-pub(crate) fn list_text(alloc: Global, bytes: &Vec<u8>, options: &Options) -> Result<Vec<u8>, End>
+pub(crate) fn list_text(
+    alloc: Global,
+    bytes: &Vec<u8>,
+    options: &Options,
+    tables: Vec<LineTable>,
+) -> Result<Vec<u8>, End>
     requires small { length bytes.now.items ≤ output_limit }
     requires editable { IsEditable options.now bytes.now.items }
+    requires tables { TablesFound (view_of bytes.now.items) tables.items }
     ensures text { IfOk result (λ text. IsListText options.now.maps bytes.now.items text.items) }
     ensures memory { IfErr result (λ e. e ≡ end.NoMemory) }
 {
-    match source_names(alloc, bytes.as_slice(), &options.maps) {
+    match source_names_by_tables(alloc, bytes.as_slice(), &options.maps, tables) {
         Ok(names) => Ok(names_text(alloc, names.as_slice())?),
         Err(_) => Err(End::NoMemory),
     }

@@ -1,5 +1,5 @@
 //! The command `split`: a file in two, one without debug data and symbols that still runs, and a debug file to which it links.
-ghost use Rattle.std.specs.Prelude.{◌≡◌, ◌≢◌, ◌⊎◌, ◌≤◌, length, IfOk, IfErr, OnOk};
+ghost use Rattle.std.specs.Prelude.{◌≡◌, ◌≢◌, ◌⊎◌, ◌≤◌, true, length, IfOk, IfErr, OnOk, option_map};
 ghost use Rattle.std.specs.Option.{ForSome};
 ghost use Rattle.dw_base.specs.Layout.{output_limit};
 ghost use Rattle.dbg_split.specs.DebugFile.{debug_file};
@@ -7,16 +7,17 @@ ghost use Rattle.dbg_split.specs.SplitFails.{SplitFails};
 ghost use Rattle.dbg_split.specs.StrippedFile.{stripped_file};
 ghost use Rattle.job_types.specs.Settings.{most_file};
 ghost use Rattle.file_tree.specs.Seen.{now_of};
-ghost use Rattle.file_tree.specs.Trees.{stands_at};
+ghost use Rattle.file_tree.specs.declared.node.Node.TheVariants as node;
+ghost use Rattle.file_tree.specs.Trees.{stands_at, with_node};
 ghost use Rattle.file_tree.specs.Causes.{Rose};
 ghost use Rattle.dbg_ends.specs.Ends.{status_of};
 ghost use Rattle.dbg_ends.specs.Due.{Where, IsCut, IsRefusal};
-ghost use Rattle.dbg_ends.specs.Steps.{BlamesAt, OnlyAtBoth};
+ghost use Rattle.dbg_ends.specs.Steps.{BlamesAt, IsSettled, OnlyAtBoth, OutputsEnd};
 ghost use Rattle.dbg_run.specs.Shows.{base_name};
 ghost use Rattle.dbg_run.specs.Splits.{IsSplittable, Parts, SplitDone, SplitDue, SplitEnds, not_executable};
 
 use crate::views::base_name;
-use dbg_ends::{End, fault_end, free_output, read_input, write_outputs};
+use dbg_ends::{End, fault_end, free_output, read_input, write_pieces};
 use dbg_split::{Pair, split as split_bytes};
 use file_tree::Tree;
 use job_types::MOST_FILE;
@@ -35,12 +36,17 @@ fn not_executable(mode: u32) -> u32
 /// The two files into which the file at the path is split, of which the second is to be put at this path. Refused only where a
 /// condition holds of the file, of that kind and at that place.
 #[tactic(auto, using(crate::proofs::Rows::parting_rows))]
-fn split_file(alloc: Global, path: &str, bytes: &Vec<u8>, debug: &str) -> Result<Pair, End>
+fn split_file<'a>(
+    alloc: Global,
+    path: &str,
+    bytes: &'a Vec<u8>,
+    debug: &str,
+) -> Result<Pair<'a>, End>
     requires small { length bytes.now.items ≤ output_limit }
     ensures splittable { OnOk result (IsSplittable bytes.now.items (base_name debug.now)) }
     ensures stripped { IfOk result (λ pair. pair.stripped.items ≡ stripped_file bytes.now.items (base_name debug.now)) }
-    ensures debug { IfOk result (λ pair. pair.debug.items ≡ debug_file bytes.now.items) }
-    ensures parts { IfOk result (λ pair. Parts bytes.now.items (base_name debug.now) pair.stripped.items pair.debug.items) }
+    ensures debug { IfOk result (λ pair. pair.debug ≡ debug_file bytes.now.items) }
+    ensures parts { IfOk result (λ pair. Parts bytes.now.items (base_name debug.now) pair.stripped.items pair.debug) }
     ensures ends { IfErr result (BlamesAt (SplitFails bytes.now.items (base_name debug.now)) path.now) }
     ensures due { IfErr result (λ e. Where (IsSplittable bytes.now.items (base_name debug.now)) (status_of e ≡ 0) (status_of e ≡ 3) ⊎ IsCut (status_of e)) }
     ensures not_done { IfErr result (λ e. 0 ≢ status_of e) }
@@ -52,6 +58,38 @@ fn split_file(alloc: Global, path: &str, bytes: &Vec<u8>, debug: &str) -> Result
         Ok(pair) => Ok(pair),
         Err(fault) => Err(fault_end(alloc, path, fault)),
     }
+}
+
+/// Sets a path to the debug file of a pair, with this mode, then a second one to its stripped file, with its mode, and then settles
+/// the tree.
+#[tactic(auto, using(crate::proofs::Rows::pair_rows))]
+fn write_pair<T: Tree>(
+    alloc: Global,
+    pair: Pair,
+    debug: &str,
+    debug_mode: u32,
+    stripped: &str,
+    mode: u32,
+    tree: &mut T,
+) -> Result<(), End>
+    ensures done { OnOk result (now_of (T.seen tree.new) ≡ option_map (with_node stripped.now (node.File pair.entry.stripped.items mode)) (option_map (with_node debug.now (node.File pair.entry.debug debug_mode)) (now_of (T.seen tree.old)))) }
+    ensures ends { IfErr result (OutputsEnd debug.now stripped.now (T.seen tree.old) (T.seen tree.new)) }
+    ensures due { IfErr result (λ e. IsCut (status_of e)) }
+    ensures settled { (T.seen tree.old).tells ≡ true → OnOk result (IsSettled (T.seen tree.new).past) }
+    ensures not_done { IfErr result (λ e. 0 ≢ status_of e) }
+    ensures not_usage { IfErr result (λ e. 2 ≢ status_of e) }
+    ensures not_output { IfErr result (λ e. 7 ≢ status_of e) }
+    ensures fault { IfErr result (λ e. status_of e ≡ 6 → Rose (T.seen tree.old).faults (T.seen tree.new).faults) }
+    ensures others { OnlyAtBoth debug.now stripped.now (now_of (T.seen tree.old)) (now_of (T.seen tree.new)) }
+    ensures tells { (T.seen tree.new).tells ≡ (T.seen tree.old).tells }
+{
+    let Pair {
+        stripped: bytes,
+        debug: pieces,
+    } = pair;
+    let slices = pieces.slices(alloc)?;
+    write_pieces(debug, &slices, debug_mode, stripped, bytes, mode, tree)?;
+    Ok(())
 }
 
 /// Reads the input, looks whether the two files may be put, splits the input, and writes the debug file and then the stripped file.
@@ -79,12 +117,12 @@ fn split_steps<T: Tree>(
     free_output(alloc, stripped, tree)?;
     free_output(alloc, debug, tree)?;
     let pair = split_file(alloc, input, &bytes, debug)?;
-    write_outputs(
+    write_pair(
+        alloc,
+        pair,
         debug,
-        pair.debug,
         not_executable(mode),
         stripped,
-        pair.stripped,
         mode,
         tree,
     )?;

@@ -1,7 +1,7 @@
 //! The debug file: all sections under their numbers, of which those that the stripped file keeps have no
 //! bytes (gABI ch. 4 "ELF Header", "Sections"; ch. 5 "Program Header"; this project's profile).
 
-ghost use Rattle.std.specs.Prelude.{◌≡◌, ◌+◌, ◌*◌, ◌<◌, ◌≤◌, ◌^◌, ◌≢◌, length, vec_len, IfOk, OnOk, IfErr};
+ghost use Rattle.std.specs.Prelude.{◌≡◌, ◌+◌, ◌++◌, ◌*◌, ◌<◌, ◌≤◌, ◌^◌, ◌≢◌, length, vec_len, IfOk, OnOk, IfErr};
 ghost use Rattle.dw_base.specs.Elf.{e_phnum, e_phoff, e_shoff, ehdr_size, phdr_size, phoff_place, section_count, word_size};
 ghost use Rattle.dw_base.specs.Layout.{output_limit, extended, laid, new_head, new_heads};
 ghost use Rattle.dw_base.specs.LayoutFails.{TooLong};
@@ -15,7 +15,7 @@ ghost use Rattle.dbg_split.specs.Droppable.{is_droppable};
 use dw_base::elf_numbers::{SHT_NOBITS, SHT_NOTE, SHT_NULL};
 use dw_base::{Class, Fault, Order, Section, number_in, put_number};
 use elf_file::ElfFile;
-use elf_layout::{append_table, lay};
+use elf_layout::{Pieces, join_table, lay_lent};
 use std::alloc::{AllocError, Global};
 
 /// The place of `p_filesz` in a program header.
@@ -160,62 +160,69 @@ fn debug_head(elf: &ElfFile, section: u32, dropped: bool) -> Section
     head
 }
 
-/// Lays out a section of the debug file, where it has bytes there; its new header.
+/// Lays out a section of the debug file behind its front and the pieces so far, where it has bytes there; its new header.
 #[tactic(auto, unfolding(crate::specs::DebugFile::debug_part))]
-fn lay_section(
-    elf: &ElfFile,
+fn lay_section<'a>(
+    alloc: Global,
+    elf: &ElfFile<'a>,
     section: u32,
     dropped: bool,
-    out: &mut Vec<u8>,
+    front: &[u8],
+    out: &mut Pieces<'a>,
 ) -> Result<Section, Fault>
     requires there { section < section_count elf.now.bytes.now }
     requires dropped { dropped ≡ is_droppable elf.now.bytes.now section }
-    requires small { vec_len out.old ≤ output_limit }
-    ensures laid { OnOk result (out.new.items ≡ extended out.old.items (debug_part elf.now.bytes.now section)) }
-    ensures head { IfOk result (λ head. head ≡ new_head (length out.old.items) (debug_part elf.now.bytes.now section)) }
-    ensures small { OnOk result (vec_len out.new ≤ output_limit) }
-    ensures longer { OnOk result (vec_len out.old ≤ vec_len out.new) }
-    ensures refused { IfErr result (Blames (TooLong (length (extended out.old.items (debug_part elf.now.bytes.now section))))) }
+    requires small { length front.now + length out.old ≤ output_limit }
+    ensures laid { OnOk result (front.now ++ out.new ≡ extended (front.now ++ out.old) (debug_part elf.now.bytes.now section)) }
+    ensures head { IfOk result (λ head. head ≡ new_head (length (front.now ++ out.old)) (debug_part elf.now.bytes.now section)) }
+    ensures small { OnOk result (length front.now + length out.new ≤ output_limit) }
+    ensures refused { IfErr result (Blames (TooLong (length (extended (front.now ++ out.old) (debug_part elf.now.bytes.now section))))) }
 {
     let head = debug_head(elf, section, dropped);
-    lay(out, &head, !head.takes_no_room(), elf.contents(section))
+    let moves = !head.takes_no_room();
+    lay_lent(alloc, front, out, &head, moves, elf.contents(section))
 }
 
-/// Lays out the sections of the debug file; the new headers of all.
+/// The sections of the debug file, laid out behind its front, and the new headers of all.
 #[tactic(auto, using(elf_layout::proofs::Rows::laid_rows, crate::proofs::Rows::section_rows))]
-fn lay_sections(
+fn lay_sections<'a>(
     alloc: Global,
-    elf: &ElfFile,
+    elf: &ElfFile<'a>,
     dropped: &[bool],
-    out: &mut Vec<u8>,
-) -> Result<Vec<Section>, Fault>
+    front: &[u8],
+) -> Result<(Pieces<'a>, Vec<Section>), Fault>
     requires dropped { dropped.now ≡ tabulate (is_droppable elf.now.bytes.now) (section_count elf.now.bytes.now) }
-    requires small { vec_len out.old ≤ output_limit }
-    ensures laid { OnOk result (out.new.items ≡ laid out.old.items (tabulate (debug_part elf.now.bytes.now) (section_count elf.now.bytes.now))) }
-    ensures heads { IfOk result (λ heads. heads.items ≡ new_heads out.old.items (tabulate (debug_part elf.now.bytes.now) (section_count elf.now.bytes.now))) }
-    ensures small { OnOk result (vec_len out.new ≤ output_limit) }
-    ensures longer { OnOk result (vec_len out.old ≤ vec_len out.new) }
-    ensures refused { IfErr result (Blames (TooLong (length (laid out.old.items (tabulate (debug_part elf.now.bytes.now) (section_count elf.now.bytes.now)))))) }
+    requires small { length front.now ≤ output_limit }
+    ensures laid { IfOk result (λ l. front.now ++ l.0 ≡ laid front.now (tabulate (debug_part elf.now.bytes.now) (section_count elf.now.bytes.now))) }
+    ensures heads { IfOk result (λ l. l.1.items ≡ new_heads front.now (tabulate (debug_part elf.now.bytes.now) (section_count elf.now.bytes.now))) }
+    ensures small { IfOk result (λ l. length front.now + length l.0 ≤ output_limit) }
+    ensures refused { IfErr result (Blames (TooLong (length (laid front.now (tabulate (debug_part elf.now.bytes.now) (section_count elf.now.bytes.now)))))) }
 {
+    let mut out = Pieces::new(alloc);
     let mut heads = Vec::with_capacity(alloc, elf.sections.len())?;
     for section in 0..elf.section_count() {
-        heads.push(lay_section(elf, section, dropped[section as usize], out)?)?;
+        let drops = dropped[section as usize];
+        heads.push(lay_section(alloc, elf, section, drops, front, &mut out)?)?;
     }
-    Ok(heads)
+    Ok((out, heads))
 }
 
-/// The debug file; `dropped` says which sections the stripped file doesn't keep. Refused as `TooLarge`
-/// only where it would pass the limit.
+/// The debug file, of which the sections lend their bytes; `dropped` says which sections the stripped file doesn't keep. Refused as
+/// `TooLarge` only where it would pass the limit.
 #[tactic(auto, unfolding(crate::specs::DebugFile::debug_file, dw_base::specs::Layout::laid_out), using(elf_layout::proofs::PartRows::file_rows))]
-pub fn debug_file(alloc: Global, elf: &ElfFile, dropped: &[bool]) -> Result<Vec<u8>, Fault>
+pub fn debug_file<'a>(
+    alloc: Global,
+    elf: &ElfFile<'a>,
+    dropped: &[bool],
+) -> Result<Pieces<'a>, Fault>
     requires some { e_shoff elf.now.bytes.now ≢ 0 }
     requires dropped { dropped.now ≡ tabulate (is_droppable elf.now.bytes.now) (section_count elf.now.bytes.now) }
-    ensures file { IfOk result (λ file. file.items ≡ debug_file elf.now.bytes.now) }
+    ensures file { IfOk result (λ file. file ≡ debug_file elf.now.bytes.now) }
     ensures none { OnOk result ((r : Refusal) → TooLong (length (debug_file elf.now.bytes.now)) r → ⊥) }
     ensures refused { IfErr result (Blames (TooLong (length (debug_file elf.now.bytes.now)))) }
 {
-    let mut out = debug_front(alloc, elf)?;
-    let heads = lay_sections(alloc, elf, dropped, &mut out)?;
-    let file = append_table(out, elf.class, elf.order, &heads)?;
+    let front = debug_front(alloc, elf)?;
+    let (behind, heads) = lay_sections(alloc, elf, dropped, &front)?;
+    let file = join_table(alloc, front, behind, elf.class, elf.order, &heads)?;
     Ok(file)
 }

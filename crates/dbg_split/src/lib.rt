@@ -12,6 +12,7 @@
 //! ```rust
 //! // bytes.len() as u64 <= OUTPUT_LIMIT
 //! let pair = split(alloc, bytes, b"prog.debug")?;
+//! // pair.debug.slices(alloc)? are the bytes of the debug file, one slice behind another
 //! ```
 #![tactic(auto)]
 
@@ -25,6 +26,7 @@ mod splitting;
 mod stripping;
 
 pub use dropping::droppable;
+pub use elf_layout::Pieces;
 pub use marking::droppables;
 pub use names::{is_named, is_named_from};
 pub use splitting::{Pair, split};

@@ -5,6 +5,7 @@ ghost use Rattle.dw_base.specs.ElfFails.{ElfReads};
 ghost use Rattle.dw_base.specs.Layout.{output_limit};
 ghost use Rattle.dw_base.specs.Refusals.{Blames};
 ghost use Rattle.dw_base.specs.declared.fault.Refusal.{Refusal};
+ghost use Rattle.debug_link.specs.Sums.{crc32};
 ghost use Rattle.dw_meaning.specs.Loaded.{LoadedKept};
 ghost use Rattle.dbg_split.specs.DebugFile.{debug_file};
 ghost use Rattle.dbg_split.specs.DebugFileReads.{ReadsDebug};
@@ -19,25 +20,34 @@ use crate::debug_file::debug_file;
 use crate::judging::{can_be_split, file_fits};
 use crate::marking::droppables;
 use crate::stripping::stripped_file;
-use debug_link::{crc32, link_bytes};
-use dw_base::Fault;
+use debug_link::{crc32_of, link_bytes};
+use dw_base::{Fault, NoMemory};
 use elf_file::ElfFile;
+use elf_layout::Pieces;
 use std::alloc::Global;
 
 /// The two files that a file is split into.
 #[derive(Debug, Drop)]
-pub struct Pair {
+pub struct Pair<'a> {
     /// The file without debug data and symbols, with a link to the debug file.
     pub stripped: Vec<u8>,
-    /// The debug file.
-    pub debug: Vec<u8>,
+    /// The debug file, of which the file that is split lends the sections.
+    pub debug: Pieces<'a>,
+}
+
+/// The CRC-32 of bytes in pieces.
+fn sum_of(alloc: Global, pieces: &Pieces) -> Result<u32, NoMemory>
+    ensures value { IfOk result (λ sum. sum ≡ crc32 pieces.now) }
+{
+    let slices = pieces.slices(alloc)?;
+    Ok(crc32_of(&slices))
 }
 
 /// The two files of a file that was read.
 #[tactic(auto, unfolding(crate::specs::StrippedFile::stripped_file), using(crate::proofs::Rows::split_rows))]
-fn split_file(alloc: Global, elf: &ElfFile, debug_name: &[u8]) -> Result<Pair, Fault>
+fn split_file<'a>(alloc: Global, elf: &ElfFile<'a>, debug_name: &[u8]) -> Result<Pair<'a>, Fault>
     requires reads { ElfReads elf.now.bytes.now }
-    ensures debug { IfOk result (λ pair. pair.debug.items ≡ debug_file elf.now.bytes.now) }
+    ensures debug { IfOk result (λ pair. pair.debug ≡ debug_file elf.now.bytes.now) }
     ensures stripped { IfOk result (λ pair. pair.stripped.items ≡ stripped_file elf.now.bytes.now debug_name.now) }
     ensures none { OnOk result ((r : Refusal) → SplitFails elf.now.bytes.now debug_name.now r → ⊥) }
     ensures refused { IfErr result (Blames (SplitFails elf.now.bytes.now debug_name.now)) }
@@ -47,16 +57,16 @@ fn split_file(alloc: Global, elf: &ElfFile, debug_name: &[u8]) -> Result<Pair, F
     let end = elf.fixed_end();
     can_be_split(elf, end, &dropped)?;
     let debug = debug_file(alloc, elf, &dropped)?;
-    let link = link_bytes(alloc, elf.order, debug_name, crc32(&debug))?;
+    let link = link_bytes(alloc, elf.order, debug_name, sum_of(alloc, &debug)?)?;
     let stripped = stripped_file(alloc, elf, end, &dropped, link)?;
     Ok(Pair { stripped, debug })
 }
 
 /// What `split` gives, byte for byte, and what is known of the file then.
 #[tactic(auto, using(crate::proofs::Rows::split_rows, crate::proofs::KeptLaws::kept_rules))]
-fn split_bytes(alloc: Global, bytes: &[u8], debug_name: &[u8]) -> Result<Pair, Fault>
+fn split_bytes<'a>(alloc: Global, bytes: &'a [u8], debug_name: &[u8]) -> Result<Pair<'a>, Fault>
     requires small { length bytes.now ≤ output_limit }
-    ensures debug { IfOk result (λ pair. pair.debug.items ≡ debug_file bytes.now) }
+    ensures debug { IfOk result (λ pair. pair.debug ≡ debug_file bytes.now) }
     ensures stripped { IfOk result (λ pair. pair.stripped.items ≡ stripped_file bytes.now debug_name.now) }
     ensures kept { IfOk result (λ pair. KeepsFront bytes.now pair.stripped.items) }
     ensures reads { OnOk result (ElfReads bytes.now) }
@@ -70,8 +80,8 @@ fn split_bytes(alloc: Global, bytes: &[u8], debug_name: &[u8]) -> Result<Pair, F
 }
 
 /// The two files that a file of type EXEC or DYN is split into: the stripped file, with a link to a
-/// debug file of this base name, and that debug file. Refused as `Header` or `Range` where the file
-/// can't be read, or has no sections or no section name table; as `FileType` at (0, 16) where it is of
+/// debug file of this base name, and that debug file, in pieces, of which the file lends those that stay. Refused
+/// as `Header` or `Range` where the file can't be read, or has no sections or no section name table; as `FileType` at (0, 16) where it is of
 /// another type; as `Fixed` at (a section, 0) where that section lies across the fixed end, begins in
 /// the file header, would change and can't, is read for debug data and ALLOC, or is ALLOC and stands
 /// behind a droppable one; as `Twice` at (a section, 0) where that is a debug link; as `TooLarge` where
@@ -85,16 +95,16 @@ fn split_bytes(alloc: Global, bytes: &[u8], debug_name: &[u8]) -> Result<Pair, F
 /// k-th section of a name without bytes in the debug file is the k-th of that name in the stripped one. So the
 /// debug data of the two are those of the file, and they mean what the file means, wherever it means something.
 /// They are a pair by that name, where it has no NUL, and each can be read for its sections where the file can.
-pub fn split(alloc: Global, bytes: &[u8], debug_name: &[u8]) -> Result<Pair, Fault>
+pub fn split<'a>(alloc: Global, bytes: &'a [u8], debug_name: &[u8]) -> Result<Pair<'a>, Fault>
     requires small { length bytes.now ≤ output_limit }
-    ensures debug { IfOk result (λ pair. pair.debug.items ≡ debug_file bytes.now) }
+    ensures debug { IfOk result (λ pair. pair.debug ≡ debug_file bytes.now) }
     ensures stripped { IfOk result (λ pair. pair.stripped.items ≡ stripped_file bytes.now debug_name.now) }
     ensures kept { IfOk result (λ pair. KeepsFront bytes.now pair.stripped.items) }
-    ensures debug_reads { IfOk result (λ pair. ReadsDebug bytes.now pair.debug.items) }
+    ensures debug_reads { IfOk result (λ pair. ReadsDebug bytes.now pair.debug) }
     ensures stripped_reads { IfOk result (λ pair. ReadsStripped bytes.now debug_name.now pair.stripped.items) }
-    ensures joins { IfOk result (λ pair. JoinsTo bytes.now pair.debug.items pair.stripped.items) }
-    ensures meaning { IfOk result (λ pair. MeansAsOne bytes.now pair.debug.items pair.stripped.items) }
-    ensures reads { IfOk result (λ pair. ReadAsOne bytes.now debug_name.now pair.debug.items pair.stripped.items) }
+    ensures joins { IfOk result (λ pair. JoinsTo bytes.now pair.debug pair.stripped.items) }
+    ensures meaning { IfOk result (λ pair. MeansAsOne bytes.now pair.debug pair.stripped.items) }
+    ensures reads { IfOk result (λ pair. ReadAsOne bytes.now debug_name.now pair.debug pair.stripped.items) }
     ensures loaded { IfOk result (λ pair. LoadedKept bytes.now pair.stripped.items) }
     ensures none { OnOk result ((r : Refusal) → SplitFails bytes.now debug_name.now r → ⊥) }
     ensures refused { IfErr result (Blames (SplitFails bytes.now debug_name.now)) }

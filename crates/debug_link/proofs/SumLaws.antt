@@ -1,6 +1,7 @@
 -- Laws of the division by a table: sixteen bytes at once, and one.
-use Rattle.std.proofs.Common.{◌≡◌, ℕ, zero, suc, ◌+◌, ◌*◌, ◌/◌, ◌%◌, ◌^◌, ◌<◌, ◌≤◌, List, [], ◌∷◌, ◌++◌, length, take, drop, get_or, slice_index, refl, sym, ap, ◌∙◌, arith, bit_xor}
-use Rattle.std.proofs.lemmas.List.{length-drop, length-take-le, take-append-drop}
+use Rattle.std.proofs.Common.{◌≡◌, ℕ, zero, suc, ◌+◌, ◌*◌, ◌/◌, ◌%◌, ◌^◌, ◌<◌, ◌≤◌, List, [], ◌∷◌, ◌++◌, length, take, drop, get_or, slice_index, refl, sym, ap, ◌∙◌, arith, bit_xor, Bor}
+use Rattle.std.proofs.lemmas.List.{drop_more, length-drop, length-take-le, take-append-drop}
+use Rattle.std.specs.List.{flat_map}
 use Rattle.std.proofs.lemmas.Nat.{mod_below, shr-shr}
 use Rattle.std.specs.Int.{w64, from_le_bytes}
 use Rattle.std.specs.Int.Bits.{xor_assoc, xor_zero_r}
@@ -159,6 +160,14 @@ pub ruleset byte_rules = (byte-table)
 pub with_bytes-append : (xs ys : List ℕ) (r : ℕ) → with_bytes (xs ++ ys) r ≡ with_bytes ys (with_bytes xs r)
 with_bytes-append [] ys r = refl
 with_bytes-append (x ∷ xs) ys r = with_bytes-append xs ys (with_bits 8 x r)
+
+-- of the pieces that are left: the bytes of one, and those of the pieces behind it
+pub pieces-next : (ps : List (Bor (List ℕ))) (i : ℕ) (d : Bor (List ℕ)) (r rest whole : ℕ) → i < length ps → rest ≡ with_bytes (get_or ps i d).now r
+    → with_bytes (flat_map (λ piece. piece.now) (drop i ps)) r ≡ whole → with_bytes (flat_map (λ piece. piece.now) (drop (i + 1) ps)) rest ≡ whole
+pieces-next ps i d r rest whole lt is same =
+    ap (with_bytes (flat_map (λ (piece : Bor (List ℕ)). piece.now) (drop (i + 1) ps))) is
+    ∙ sym (with_bytes-append (get_or ps i d).now (flat_map (λ (piece : Bor (List ℕ)). piece.now) (drop (i + 1) ps)) r)
+    ∙ ap (λ (qs : List (Bor (List ℕ))). with_bytes (flat_map (λ (piece : Bor (List ℕ)). piece.now) qs) r) (sym (drop_more ps i d lt)) ∙ same
 
 pub with_bytes-split : (n : ℕ) (xs : List ℕ) (r : ℕ) → with_bytes (drop n xs) (with_bytes (take n xs) r) ≡ with_bytes xs r
 with_bytes-split n xs r =

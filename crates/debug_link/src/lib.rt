@@ -9,6 +9,7 @@
 //!
 //! ```
 //! let sum = crc32(&debug_file);
+//! // crc32_of(&[front, back]) is the sum of a file in two pieces
 //! let section = link_bytes(alloc, Order::Little, b"prog.debug", sum)?;
 //! assert_eq!(read_link(Order::Little, &section), Some((b"prog.debug", sum)));
 //! ```
@@ -20,4 +21,4 @@ mod table;
 
 pub use dw_base::{NoMemory, Order};
 pub use link::{link_bytes, read_link};
-pub use sum::crc32;
+pub use sum::{crc32, crc32_of};

@@ -1,8 +1,8 @@
 //! CRC-32 (ISO 3309; ITU-T V.42, 8.1.1.6.2), sixteen bytes at a time by a table.
 //!
-//! `crc32` is the sum of the bitwise division, and takes no memory.
+//! `crc32` is the sum of the bitwise division, and takes no memory; `crc32_of` is that of bytes in pieces.
 
-ghost use Rattle.std.specs.Prelude.{◌≡◌, length};
+ghost use Rattle.std.specs.Prelude.{◌≡◌, flat_map, length};
 ghost use Rattle.debug_link.specs.Sums.{with_bits, with_bytes, crc32};
 ghost use Rattle.debug_link.specs.Tables.{little, times, IsTable};
 
@@ -16,6 +16,27 @@ pub fn crc32(bytes: &[u8]) -> u32
     let table = make_table();
     let rest = divide_words(&table, u32::MAX, bytes);
     !rest
+}
+
+/// The CRC-32 of the bytes of some pieces, one behind another.
+#[tactic(auto, unfolding(crate::specs::Sums::crc32))]
+pub fn crc32_of(pieces: &[&[u8]]) -> u32
+    ensures value { result ≡ crc32 (flat_map (λ piece. piece.now) pieces.now) }
+{
+    let table = make_table();
+    !divide_pieces(&table, u32::MAX, pieces)
+}
+
+/// The remainder with the bytes of some pieces more.
+fn divide_pieces(table: &[u32; ENTRIES], start: u32, pieces: &[&[u8]]) -> u32
+    requires table { IsTable 4096 table.now }
+    ensures value { result ≡ with_bytes (flat_map (λ piece. piece.now) pieces.now) start }
+{
+    let mut rest = start;
+    'pieces: for piece in pieces {
+        rest = divide_words(table, rest, piece);
+    }
+    rest
 }
 
 /// The remainder with the bytes more, sixteen at a time.

@@ -15,7 +15,7 @@ use crate::attributes::Specs;
 use crate::stopped::Stopped;
 use dw_base::dwarf_numbers::DW_FORM_implicit_const;
 use dw_base::{Spec, sleb_at, uleb_at};
-use std::alloc::Global;
+use std::alloc::{AllocError, Global};
 
 /// The name and the form of an attribute, and the place behind them.
 #[derive(Clone, Copy)]
@@ -86,23 +86,39 @@ fn spec_of(bytes: &[u8], at: u64, pair: &Pair) -> Option<(Spec, u64)>
     Some((spec, pair.next + size))
 }
 
+/// A copy of attributes, with room for no more.
+fn copied(alloc: Global, specs: &[Spec]) -> Result<Vec<Spec>, AllocError>
+    ensures copied { IfOk result (λ copy. copy.items ≡ specs.now) }
+{
+    let mut copy = Vec::with_capacity(alloc, specs.len())?;
+    copy.extend_from_slice(specs)?;
+    Ok(copy)
+}
+
 /// The attributes at a place, up to behind the pair of zeros that ends them. Stopped only where none
-/// stands behind some of them, or for want of memory.
+/// stands behind some of them, or for want of memory. They are read into a vector that serves all abbreviations, and are
+/// copied once their number is known.
 #[tactic(auto, using(crate::proofs::Rows::specs_rows))]
-fn specs_at(alloc: Global, bytes: &[u8], at: u64) -> Result<(Specs, u64), Stopped>
+fn specs_at(
+    alloc: Global,
+    bytes: &[u8],
+    at: u64,
+    specs: &mut Vec<Spec>,
+) -> Result<(Specs, u64), Stopped>
     requires inside { at ≤ length bytes.now }
     ensures found { IfOk result (λ s. SpecsEnd bytes.now at s.0 s.1) }
     ensures further { IfOk result (λ s. at < s.1) }
     ensures within { IfOk result (λ s. s.1 ≤ length bytes.now) }
     ensures stopped { IfErr result (StopsFor (SpecsFail bytes.now at)) }
 {
-    let mut specs = Vec::new(alloc);
+    specs.clear();
     let mut place = at;
     'specs: loop {
         let Some(pair) = pair_at(bytes, place) else {
             return Err(Stopped::Unspelled);
         };
         if pair.name == 0 && pair.form == 0 {
+            let specs = copied(alloc, specs)?;
             return Ok((Specs::new(specs), pair.next));
         }
         let Some((spec, next)) = spec_of(bytes, place, &pair) else {
@@ -147,7 +163,7 @@ fn head_at(bytes: &[u8], at: u64, code: u64, size: u64) -> Option<Head>
 }
 
 /// The abbreviation whose code was read at a place, and the place behind it. Stopped only where none
-/// stands there, or for want of memory.
+/// stands there, or for want of memory. Attributes are read into `scratch`.
 #[tactic(auto, using(crate::proofs::Rows::abbrev_rows))]
 pub(crate) fn abbrev_at(
     alloc: Global,
@@ -155,6 +171,7 @@ pub(crate) fn abbrev_at(
     at: u64,
     code: u64,
     size: u64,
+    scratch: &mut Vec<Spec>,
 ) -> Result<(Abbrev, u64), Stopped>
     requires code { uleb_at bytes.now at ≡ Some (code, size) }
     requires inside { at + size ≤ length bytes.now }
@@ -171,7 +188,7 @@ pub(crate) fn abbrev_at(
     if head.flag > 1 {
         return Err(Stopped::Unspelled);
     }
-    let (specs, next) = specs_at(alloc, bytes, head.next)?;
+    let (specs, next) = specs_at(alloc, bytes, head.next, scratch)?;
     let abbrev = Abbrev {
         code,
         tag: head.tag,

@@ -12,7 +12,7 @@ ghost use Rattle.dw_abbrev.specs.Spelled.{DeclaresOne, StopsFor, TableFails};
 use crate::abbrev::Abbrev;
 use crate::spelled::abbrev_at;
 use crate::stopped::Stopped;
-use dw_base::{Fault, Kind, Refusal, uleb_at};
+use dw_base::{Fault, Kind, Refusal, Spec, uleb_at};
 use indexmap::IndexSet;
 use std::alloc::Global;
 use std::marker::Model;
@@ -35,7 +35,7 @@ impl Model for AbbrevTable {
 }
 
 /// Appends the abbreviation whose code was read at a place, and gives the place behind it. Stopped only
-/// where none stands there, its code is one of the list, or for want of memory.
+/// where none stands there, its code is one of the list, or for want of memory. Attributes are read into `scratch`.
 #[tactic(auto, using(crate::proofs::Rows::declare_rows, crate::proofs::CodedLaws::coded_laws))]
 fn declare(
     alloc: Global,
@@ -45,6 +45,7 @@ fn declare(
     size: u64,
     list: &mut Vec<Abbrev>,
     codes: &mut IndexSet<u64>,
+    scratch: &mut Vec<Spec>,
 ) -> Result<u64, Stopped>
     requires code { uleb_at bytes.now at ≡ Some (code, size) }
     requires inside { at + size ≤ length bytes.now }
@@ -60,7 +61,7 @@ fn declare(
     if !added {
         return Err(Stopped::Unspelled);
     }
-    let (abbrev, next) = abbrev_at(alloc, bytes, at, code, size)?;
+    let (abbrev, next) = abbrev_at(alloc, bytes, at, code, size, scratch)?;
     list.push(abbrev)?;
     Ok(next)
 }
@@ -74,6 +75,7 @@ fn table_at(alloc: Global, bytes: &[u8], at: u64) -> Result<AbbrevTable, Stopped
 {
     let mut list = Vec::new(alloc);
     let mut codes = IndexSet::new(alloc);
+    let mut scratch = Vec::new(alloc);
     let mut place = at;
     'table: loop {
         let Some((code, size)) = uleb_at(bytes, place) else {
@@ -82,7 +84,16 @@ fn table_at(alloc: Global, bytes: &[u8], at: u64) -> Result<AbbrevTable, Stopped
         if code == 0 {
             return Ok(AbbrevTable { list, codes });
         }
-        place = declare(alloc, bytes, place, code, size, &mut list, &mut codes)?;
+        place = declare(
+            alloc,
+            bytes,
+            place,
+            code,
+            size,
+            &mut list,
+            &mut codes,
+            &mut scratch,
+        )?;
     }
 }
 

@@ -19,6 +19,15 @@ uleb-more xs i lt high = rw (drop_more xs i 0 lt, not_below (slice_index xs i) 1
 pub uleb-last : (xs : List ℕ) (i : ℕ) → i < length xs → slice_index xs i < 128 → uleb (drop i xs) ≡ Some (slice_index xs i, 1)
 uleb-last xs i lt low = rw (drop_more xs i 0 lt, below (slice_index xs i) 128 low) refl
 
+-- where the bytes end there is no number; one byte below 128 is one
+pub uleb-past : (xs : List ℕ) (i : ℕ) → length xs ≤ i → None ≡ uleb_within (uleb (drop i xs))
+uleb-past xs i le = rw (drop_all i xs le) refl
+
+pub uleb-byte : (xs : List ℕ) (i : ℕ) → i < length xs → slice_index xs i < 128 → Some (slice_index xs i, 1) ≡ uleb_within (uleb (drop i xs))
+uleb-byte xs i lt low = rw (uleb-last xs i lt low, below (slice_index xs i) (2 ^ 64) (omega (arith, low))) refl
+
+pub ruleset byte_rules = (uleb-past, uleb-byte)
+
 -- a value that is too large
 uleb_within-none : (v n : ℕ) → uleb_within (Some (v, n)) ≡ None → 2 ^ 64 ≤ v
 uleb_within-none v n e = grind arith

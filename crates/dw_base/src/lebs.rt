@@ -2,7 +2,7 @@
 //!
 //! This layer promises: value and length are those that the bytes spell, longer spellings of a value
 //! too, and `None` comes exactly where no number ends in the bytes or the value needs more than 64
-//! bits. The bytes are read twice: forward to the last one, and back.
+//! bits. An unsigned number of one byte is given at once; the bytes of others are read twice: forward to the last one, and back.
 //! Read first: `specs/Lebs.antt`.
 
 ghost use Rattle.std.specs.Prelude.{◌≡◌, ◌<◌, ◌+◌, ◌%◌, ◌≤◌, pos, ◌+ℤ◌, ◌*ℤ◌, false, length, IfSome, MatchOption};
@@ -16,14 +16,18 @@ pub const FIRST_RESERVED_LENGTH: u64 = 0xffff_fff0;
 
 /// The unsigned LEB128 number at `at`, in bytes from the front: its value, and how many bytes it has.
 /// `None` exactly where no byte below 0x80 follows, or the value needs more than 64 bits.
-#[tactic(auto, unfolding(crate::specs::Lebs::uleb_at))]
+#[tactic(auto, using(crate::proofs::LebLaws::byte_rules), unfolding(crate::specs::Lebs::uleb_at))]
 pub fn uleb_at(bytes: &[u8], at: u64) -> Option<(u64, u64)>
     ensures value { result ≡ uleb_at bytes.now at }
     ensures some { IfSome result (λ read. 0 < read.1) }
     ensures inside { IfSome result (λ read. at + read.1 ≤ length bytes.now) }
 {
-    if at > bytes.len() as u64 {
+    if at >= bytes.len() as u64 {
         return None;
+    }
+    let first = bytes[at as usize];
+    if first < 0x80 {
+        return Some((u64::from(first), 1));
     }
     uleb_of(&bytes[at as usize..])
 }

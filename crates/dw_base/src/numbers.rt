@@ -2,7 +2,8 @@
 
 ghost use Rattle.std.specs.Prelude.{◌≡◌, ◌<◌, ◌≤◌, ◌+◌, ◌^◌, ◌↔◌, length, IsTrue, IfSome, OnSome};
 ghost use Rattle.std.specs.Bool.{OnTrue, OnFalse};
-ghost use Rattle.dw_base.specs.Numbers.{number_at, spelled, with_number, NumberFits};
+ghost use Rattle.dw_base.specs.Numbers.{number_at, number_of, spelled, with_number, NumberFits};
+ghost use Rattle.dw_base.specs.declared.shared.Order.TheVariants.{Little, Big};
 
 use crate::shared::Order;
 use byteorder::{BigEndian, ByteOrder, LittleEndian};
@@ -38,8 +39,40 @@ pub fn number_in(order: Order, bytes: &[u8], at: u64, size: u8) -> u64
 {
     let field = &bytes[at as usize..];
     match order {
-        Order::Little => LittleEndian::read_uint(field, size as usize),
-        Order::Big => BigEndian::read_uint(field, size as usize),
+        Order::Little => lowest_first(field, size),
+        Order::Big => highest_first(field, size),
+    }
+}
+
+/// The number that the first `size` bytes spell, the lowest first. The usual sizes are read at once.
+fn lowest_first(field: &[u8], size: u8) -> u64
+    requires some { 0 < size }
+    requires wide { size ≤ 8 }
+    requires inside { size ≤ length field.now }
+    ensures value { result ≡ number_of Little size field.now }
+{
+    match size {
+        1 => u64::from(field[0]),
+        2 => u64::from(LittleEndian::read_u16(field)),
+        4 => u64::from(LittleEndian::read_u32(field)),
+        8 => LittleEndian::read_u64(field),
+        _ => LittleEndian::read_uint(field, size as usize),
+    }
+}
+
+/// The number that the first `size` bytes spell, the highest first. The usual sizes are read at once.
+fn highest_first(field: &[u8], size: u8) -> u64
+    requires some { 0 < size }
+    requires wide { size ≤ 8 }
+    requires inside { size ≤ length field.now }
+    ensures value { result ≡ number_of Big size field.now }
+{
+    match size {
+        1 => u64::from(field[0]),
+        2 => u64::from(BigEndian::read_u16(field)),
+        4 => u64::from(BigEndian::read_u32(field)),
+        8 => BigEndian::read_u64(field),
+        _ => BigEndian::read_uint(field, size as usize),
     }
 }
 

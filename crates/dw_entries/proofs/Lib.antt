@@ -4,6 +4,7 @@ pub mod SizedLaws
 pub mod WalkLaws
 pub mod StepLaws
 pub mod ScanLaws
+pub mod CodeLaws
 pub mod HeaderLaws
 pub mod HeaderRowLaws
 pub mod FrontLaws

@@ -30,7 +30,7 @@ some-room : (bytes : List ℕ) (place n : ℕ) → place + n ≤ length bytes �
 some-room bytes place n le = rw (le-leb (place + n) (length bytes) le) refl
 
 -- one value of a known size
-sized-value : (params : Params) (x : Spec) (bytes : List ℕ) (place n : ℕ) → fixed_size (kind_in params x.form) ≡ Some n → place + n ≤ length bytes
+pub sized-value : (params : Params) (x : Spec) (bytes : List ℕ) (place n : ℕ) → fixed_size (kind_in params x.form) ≡ Some n → place + n ≤ length bytes
     → HasSize params x bytes place n
 sized-value params x bytes place n e le =
     let fixed = fixed-is params x n e in
@@ -60,3 +60,5 @@ pub sized-values : (params : Params) (bytes : List ℕ) (from n : ℕ) (specs : 
 sized-values params bytes from n specs e le = values-from params bytes from from n [] specs no_values e le
 
 pub ruleset sized_rules = (sized-values)
+
+pub ruleset one_rules = (sized-value)

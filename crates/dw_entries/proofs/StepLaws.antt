@@ -55,8 +55,6 @@ values-stop h table bytes place depth number code size a specs r c listed same f
       (subst (λ (xs : List Spec). ValuesFail h.params bytes h.section (place + size) xs r) same f);
 }
 
-pub ruleset entry_rules = (stands-here, no_code-stops, split-stops)
-
 -- behind codes of 0 stands an entry
 pub comes-next : (h : UnitHeader) (table : List Abbreviation) (bytes : List ℕ) (from depth number place lists behind : ℕ) (e : Scanned)
     → Nulls bytes from depth place lists → StandsHere h table bytes number e behind → e.offset ≡ place → e.depth ≡ lists

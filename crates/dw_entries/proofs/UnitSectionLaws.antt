@@ -3,16 +3,13 @@ use Rattle.std.proofs.Common.{Bool, true, false, ◌≡◌, ℕ, zero, suc, ◌+
 use Rattle.std.specs.Prelude.{is_some}
 use Rattle.std.proofs.lemmas.Bool.{eqb-true}
 use Rattle.std.proofs.lemmas.List.{drop-drop}
-use Rattle.dw_base.specs.DebugSections.{debug_section, name_of}
+use Rattle.dw_base.specs.DebugSections.{debug_section}
 use Rattle.dw_base.specs.FileViews.{View, ViewSection, cells_of, first_filled, kind_at, section_after}
 use Rattle.dw_base.specs.Texts.{same_text}
 use Rattle.dw_base.specs.UnitHeaders.{UnitSection, SectionKind, in_info, in_types}
 use Rattle.dw_base.specs.ViewData.{unit_kind, unit_section, unit_sections_from, unit_sections}
 use Rattle.dw_base.specs.declared.debug_sections.DebugSection.{DebugSection}
 use Rattle.dw_base.specs.declared.debug_sections.DebugSection.TheVariants.{Info, Types, Abbrev, Str, LineStr, StrOffsets, Line, Macro, Names}
-use Rattle.dw_base.proofs.DebugSectionLaws.{debug_section-name, debug_section-named}
-use Rattle.dw_base.proofs.FileViewLaws.{section_after-within}
-use Rattle.dw_base.proofs.TextLaws.{same_text-true, same_text-refl}
 use Rattle.dw_base.proofs.ViewCellLaws.{view_cells-there}
 use Rattle.dw_base.proofs.ViewOffsetLaws.{kind_at-there}
 use Rattle.dw_entries.specs.Fronts.{IsOfView}
@@ -148,11 +145,6 @@ after-here v n z name f =
     ap (λ (k : ℕ). first_filled name k (drop k v.sections)) number ∙ ap (first_filled name n) f.there
     ∙ ap (λ (ss : List ViewSection). if f.section.has_bytes && same_text f.section.name name then Some n else first_filled name (suc n) ss) (sym tail)
 
-here-or-after : (v : View) (n : ℕ) (z : UnitSection) (name : List ℕ) → (f : FoundSection v n z)
-    → section_after v name (n - 1) ≡ (if same_text f.section.name name then Some n else section_after v name n)
-here-or-after v n z name f =
-    after-here v n z name f ∙ ap (λ (b : Bool). if b && same_text f.section.name name then Some n else section_after v name n) f.has
-
 types-only : (o : Option DebugSection) → unit_kind o ≡ Some in_types → o ≡ Some Types
 types-only None e = absurd cc
 types-only (Some Info) e = absurd (other (some-kind in_info in_types e))
@@ -173,45 +165,6 @@ types-only (Some Names) e = absurd cc
 
 same-kind : (a b : SectionKind) (o : Option SectionKind) → o ≡ Some a → o ≡ Some b → a ≡ b
 same-kind a b o e f = cc
-
--- the number was found
-pub is-types : (v : View) (n : ℕ) (z : UnitSection) (name : List ℕ) (found : ℕ) → numbered (unit_sections v) n ≡ Some z → name ≡ name_of Types
-    → Some found ≡ section_after v name (n - 1) → found ≡ n → in_types ≡ z.kind
-is-types v n z name found e name_is found_is same =
-    let f = found-section v n z e in
-    by_name f (same_text f.section.name (name_of Types)) refl
-    (sym (here-or-after v n z (name_of Types) f) ∙ ap (λ (t : List ℕ). section_after v t (n - 1)) (sym name_is) ∙ sym found_is ∙ ap Some same)
-  where
-    after-itself : section_after v (name_of Types) n ≡ Some n → ⊥
-    after-itself e = let above = (section_after-within v (name_of Types) n n e).0 in omega (arith, above)
-
-    by_name : (f : FoundSection v n z) (b : Bool) → same_text f.section.name (name_of Types) ≡ b
-        → (if same_text f.section.name (name_of Types) then Some n else section_after v (name_of Types) n) ≡ Some n → in_types ≡ z.kind
-    by_name f true is g =
-        same-kind in_types z.kind (unit_kind (debug_section f.section.name))
-        (ap (λ (t : List ℕ). unit_kind (debug_section t)) (same_text-true f.section.name (name_of Types) is) ∙ ap unit_kind (debug_section-name Types)) f.kind
-    by_name f false is g =
-        absurd (after-itself (ap (λ (b : Bool). if b then Some n else section_after v (name_of Types) n) (sym is) ∙ g))
-
--- it wasn't
-pub is-info : (v : View) (n : ℕ) (z : UnitSection) (name : List ℕ) (o : Option ℕ) → numbered (unit_sections v) n ≡ Some z → name ≡ name_of Types
-    → o ≡ section_after v name (n - 1) → (o ≡ Some n → ⊥) → in_info ≡ z.kind
-is-info v n z name o e name_is o_is other = by_kind z.kind refl
-  where
-    f : FoundSection v n z
-    f = found-section v n z e
-
-    by_kind : (k : SectionKind) → z.kind ≡ k → in_info ≡ z.kind
-    by_kind in_info is = sym is
-    by_kind in_types is =
-        let found : debug_section f.section.name ≡ Some Types = types-only (debug_section f.section.name) (f.kind ∙ ap Some is) in
-        let same : same_text f.section.name (name_of Types) ≡ true =
-        ap (λ (t : List ℕ). same_text t (name_of Types)) (debug_section-named f.section.name Types found) ∙ same_text-refl (name_of Types) in
-        absurd (other (o_is ∙ ap (λ (t : List ℕ). section_after v t (n - 1)) name_is ∙ here-or-after v n z (name_of Types) f
-        ∙ ap (λ (b : Bool). if b then Some n else section_after v (name_of Types) n) same))
-
-pub above-none : (v : View) (n : ℕ) → IsUnitSection v n → 1 ≤ n
-above-none v n e = (found-section v n (unit_section_at v n) e).above
 
 -- which of the two kinds it is, by its name
 kind-by : (v : View) (n : ℕ) → IsUnitSection v n → unit_kind (kind_at v n) ≡ Some (unit_section_at v n).kind

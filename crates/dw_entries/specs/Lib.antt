@@ -1,5 +1,6 @@
 pub mod Passes
 pub mod ScanStates
+pub mod CodedEntries
 pub mod ViewUnits
 pub mod Fronts
 pub mod HeaderRows

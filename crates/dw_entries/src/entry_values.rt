@@ -10,6 +10,7 @@ ghost use Rattle.dw_base.specs.FormFails.{FormFails};
 ghost use Rattle.dw_base.specs.UnitHeaders.{is_address_size};
 ghost use Rattle.dw_entries.specs.Passes.{HasSize};
 
+use crate::plain::plain_len;
 use dw_abbrev::Specs;
 use dw_base::{Params, Refusal, Spec};
 use dw_forms::size_at;
@@ -40,6 +41,7 @@ pub(crate) fn values_end(
 }
 
 /// The same place, found value by value.
+#[inline(never)]
 #[tactic(auto, using(crate::proofs::ValueLaws::value_rules))]
 fn walked_end(
     params: &Params,
@@ -77,6 +79,9 @@ fn value_len(
     ensures within { IfOk result (λ size. place + size ≤ length bytes.now) }
     ensures refused { IfErr result (FormFails params.now spec.now bytes.now section place) }
 {
+    if let Some(size) = plain_len(params, bytes, spec, place) {
+        return Ok(size);
+    }
     let size = size_at(spec, params, section, bytes, place, bytes.len() as u64)?;
     Ok(size)
 }

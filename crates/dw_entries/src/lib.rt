@@ -32,6 +32,7 @@ mod header;
 mod headers;
 mod nulls;
 mod places;
+mod plain;
 mod scan;
 mod sections;
 mod step;
@@ -40,6 +41,7 @@ mod values;
 
 pub use dw_base::{Fault, Kind, NoMemory, Params, Refusal, Scanned, Spec, UnitHeader, Value};
 pub use headers::{UnitHeaders, table_offset, unit_headers};
-pub use scan::EntryScan;
+pub use plain::plain_len;
+pub use scan::{Coded, CodedScan, EntryScan};
 pub use sections::unit_sections;
 pub use values::EntryValues;

@@ -3,14 +3,18 @@
 //! This file promises: behind any entries up to a place, a step finds the one that comes next, or that
 //! they are all of the unit's, and is refused only where the unit can't be read further, at that place.
 
-ghost use Rattle.std.specs.Prelude.{◌≡◌, ◌≤◌, ◌<◌, ◌+◌, ◌^◌, length, IfOk, IfErr, IfSome, IfNone, IsTrue};
+ghost use Rattle.std.specs.Prelude.{◌≡◌, ◌≤◌, ◌<◌, ◌+◌, ◌^◌, length, IfOk, IfErr, IfSome, IfNone, IsTrue, Some, None};
+ghost use Rattle.dw_abbrev.specs.Coded.{index_of_code};
+ghost use Rattle.dw_base.specs.AbbreviationTables.{abbreviation_of};
 ghost use Rattle.dw_base.specs.EntryScans.{depth_behind, has_attribute, is_split_entry, is_split_root};
 ghost use Rattle.dw_base.specs.Refusals.{at};
 ghost use Rattle.dw_base.specs.UnitHeaders.{is_address_size};
+ghost use Rattle.dw_entries.specs.CodedEntries.{HasCode};
 ghost use Rattle.dw_entries.specs.Passes.{ComesNext, IsCode, IsWhole, StandsHere, StopsHere};
 
 use crate::entry_values::values_end;
 use crate::nulls::behind_nulls;
+use crate::scan::Coded;
 use dw_abbrev::{Abbrev, AbbrevTable};
 use dw_base::dwarf_numbers::{DW_AT_GNU_dwo_name, DW_AT_dwo_name, DW_TAG_skeleton_unit};
 use dw_base::{Kind, Refusal, Scanned, Spec, UnitHeader};
@@ -30,8 +34,8 @@ pub(crate) struct Stand {
 /// An entry, and how many lists of children are open behind it.
 #[derive(Clone, Copy)]
 pub(crate) struct Step {
-    /// The entry.
-    pub item: Scanned,
+    /// The entry, with what was read of its code.
+    pub coded: Coded,
     /// How many lists are open behind it.
     pub depth: u32,
 }
@@ -84,8 +88,21 @@ fn depth_behind(abbrev: &Abbrev, depth: u32) -> u32
     if abbrev.children { depth + 1 } else { depth }
 }
 
+/// The number of the abbreviation of a code in the table, and the abbreviation. `None` exactly where the table hasn't the code.
+#[tactic(auto, using(crate::proofs::CodeLaws::listed_rules))]
+fn listed(table: &AbbrevTable, code: u64) -> Option<(usize, &Abbrev)>
+    ensures number { IfSome result (λ l. index_of_code table.now code ≡ Some l.0) }
+    ensures value { IfSome result (λ l. Some l.1.now ≡ abbreviation_of table.now code) }
+    ensures none { IfNone result (None ≡ abbreviation_of table.now code) }
+{
+    let Some(index) = table.index_of(code) else {
+        return None;
+    };
+    Some((index, &table.abbrevs()[index]))
+}
+
 /// The entry whose code was read at a place.
-#[tactic(auto, using(crate::proofs::StepLaws::entry_rules))]
+#[tactic(auto, using(crate::proofs::CodeLaws::entry_rules))]
 fn entry_at(
     unit: &UnitHeader,
     table: &AbbrevTable,
@@ -100,15 +117,16 @@ fn entry_at(
     requires room { here.place + size ≤ length bytes.now }
     requires depth { here.depth ≤ here.place }
     requires small { length bytes.now ≤ 2 ^ 31 }
-    ensures item { IfOk result (λ s. StandsHere unit.now table.now bytes.now here.number s.item s.depth) }
-    ensures place { IfOk result (λ s. s.item.offset ≡ here.place) }
-    ensures depth { IfOk result (λ s. s.item.depth ≡ here.depth) }
-    ensures further { IfOk result (λ s. here.place < s.item.after) }
-    ensures within { IfOk result (λ s. s.item.after ≤ length bytes.now) }
+    ensures item { IfOk result (λ s. StandsHere unit.now table.now bytes.now here.number s.coded.entry s.depth) }
+    ensures place { IfOk result (λ s. s.coded.entry.offset ≡ here.place) }
+    ensures depth { IfOk result (λ s. s.coded.entry.depth ≡ here.depth) }
+    ensures code { IfOk result (λ s. HasCode table.now bytes.now s.coded.entry s.coded.index s.coded.from) }
+    ensures further { IfOk result (λ s. here.place < s.coded.entry.after) }
+    ensures within { IfOk result (λ s. s.coded.entry.after ≤ length bytes.now) }
     ensures deep { IfOk result (λ s. s.depth ≤ here.depth + 1) }
     ensures refused { IfErr result (StopsHere unit.now table.now bytes.now here.place here.depth here.number) }
 {
-    let Some(abbrev) = table.get(code) else {
+    let Some((index, abbrev)) = listed(table, code) else {
         return Err(refused(Kind::Entry, unit, here.place));
     };
     if is_split_root(here.number, abbrev) {
@@ -116,19 +134,21 @@ fn entry_at(
     }
     let from = here.place + size;
     let after = values_end(&unit.params, unit.section, bytes, &abbrev.specs, from)?;
-    let item = Scanned {
+    let entry = Scanned {
         offset: here.place,
         depth: here.depth,
-        code: abbrev.code,
+        code,
         after,
     };
+    let coded = Coded { entry, index, from };
     Ok(Step {
-        item,
+        coded,
         depth: depth_behind(abbrev, here.depth),
     })
 }
 
 /// The entry that comes next, none where the unit ends.
+#[inline(always)]
 #[tactic(auto, using(crate::proofs::StepLaws::step_rules))]
 pub(crate) fn next_step(
     unit: &UnitHeader,
@@ -141,10 +161,11 @@ pub(crate) fn next_step(
     requires inside { here.place ≤ length bytes.now }
     requires depth { here.depth ≤ here.place }
     requires small { length bytes.now ≤ 2 ^ 31 }
-    ensures item { IfOk result (λ o. IfSome o (λ s. ComesNext unit.now table.now bytes.now here.place here.depth here.number s.item s.depth)) }
+    ensures item { IfOk result (λ o. IfSome o (λ s. ComesNext unit.now table.now bytes.now here.place here.depth here.number s.coded.entry s.depth)) }
     ensures whole { IfOk result (λ o. IfNone o (IsWhole unit.now table.now bytes.now here.place here.depth)) }
-    ensures further { IfOk result (λ o. IfSome o (λ s. here.place < s.item.after)) }
-    ensures within { IfOk result (λ o. IfSome o (λ s. s.item.after ≤ length bytes.now)) }
+    ensures code { IfOk result (λ o. IfSome o (λ s. HasCode table.now bytes.now s.coded.entry s.coded.index s.coded.from)) }
+    ensures further { IfOk result (λ o. IfSome o (λ s. here.place < s.coded.entry.after)) }
+    ensures within { IfOk result (λ o. IfSome o (λ s. s.coded.entry.after ≤ length bytes.now)) }
     ensures deep { IfOk result (λ o. IfSome o (λ s. s.depth ≤ here.depth + 1)) }
     ensures refused { IfErr result (StopsHere unit.now table.now bytes.now here.place here.depth here.number) }
 {

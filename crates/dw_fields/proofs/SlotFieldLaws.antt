@@ -96,10 +96,6 @@ contributions-from order bytes all end (more_contributions list c start u is) =
     from-more (length bytes) list c 0 start (contributions-from order bytes list start u) (omega (arith, base)) is.header (fill c.width c.base c.end is.header is.whole)
     is.within
 
--- the section of a view
-pub slots-read : (v : View) (i : ℕ) → Some i ≡ section_named v (name_of StrOffsets) → cells_located v (section_named v (name_of StrOffsets)) ≡ cells_located v (Some i)
-slots-read v i e = ap (cells_located v) (sym e)
-
 upto-there : (v : View) (i : ℕ) (list : List Contribution) → Some i ≡ section_named v (name_of StrOffsets) → AreContributions v.order (string_offsets v) list
     → ContributionsUpTo v.order (section_bytes v i) list (length (section_bytes v i))
 unfolding located

@@ -87,9 +87,6 @@ section-fails v i p q r there start passed fails =
     (subst (λ (o : _). FieldsFail o i (view_cells v i) (moving_sections v) passed.fs r) (sym (order-is v))
     (fails.all passed.fs (walked-all v i passed.fs p q there start passed.goes)))))))
 
-base-is : (v : View) → unit_base v ≡ (debug_data v).base
-base-is v = refl
-
 pub headers-fault : (v : View) (i : ℕ) (f : Fault) → IsUnitSection v i → Blames (HeadersRefuse (unit_base v) (unit_section_at v i)) f → Blames (FieldsRefuse v) f
 headers-fault v i NoMemory there b = tt
 headers-fault v i (Refused r) there b = let s = stands-view v i there in headers s.before s.behind (unit_section_at v i) s.is b

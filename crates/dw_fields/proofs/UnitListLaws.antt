@@ -25,14 +25,10 @@ use Rattle.dw_meaning.proofs.ScanSectionLaws.{header-placed}
 use Rattle.dw_fields.specs.FieldRefusals.{FieldsRefuse, entries, table}
 use Rattle.dw_fields.specs.FieldWalks.{Goes, Ground, StandsAt, ground_of}
 use Rattle.dw_fields.specs.UnitFields.{UnitsFields, more_fields, none_fields, one_fields}
-use Rattle.dw_fields.specs.UnitPasses.{AreTables, OnePassed, UnitPassed, UnitsFrom, UnitsPassed, UnitsSo}
+use Rattle.dw_fields.specs.UnitPasses.{AreTables, OnePassed, UnitsFrom, UnitsPassed, UnitsSo}
 use Rattle.dw_fields.specs.declared.marks.Marks.{Marks}
 use Rattle.dw_fields.proofs.WalkLaws.{goes-more, goes-none}
 use Rattle.dw_fields.proofs.ListItemLaws.{front-at}
-
--- tables by their offsets: none at first, one more, and one of them
-pub none-shared : (d : DebugData) (shared : ℕ → Option (List Abbreviation)) → ((at : ℕ) → shared at ≡ None) → AreTables d shared
-none-shared d shared none = record { each = λ (at : ℕ) (t : List Abbreviation) e. (let gone : None ≡ Some t = sym (none at) ∙ e in absurd cc) }
 
 pub one-shared : (d : DebugData) (old new : ℕ → Option (List Abbreviation)) (at : ℕ) (own : List Abbreviation) → AreTables d old → IsTable d.base.abbrevs.bytes at own
     → ((o : ℕ) → new o ≡ (if o == at then Some own else old o)) → AreTables d new
@@ -98,10 +94,6 @@ table-row v h at (Refused r) u same b =
 pub entry-row : (v : View) (h : UnitHeader) (own : List Abbreviation) (r : Refusal) → HasUnit (debug_data v) (unit_section_at v h.section) h
     → IsUnitTable (debug_data v).base h own → EntryFails h own (bytes_up_to (unit_section_at v h.section) h) r → FieldsRefuse v r
 entry-row v h own r u is f = entries (unit_section_at v h.section) h own (record { unit = u; declares = is }) f
-
-pub one-passed : (g : Ground) (base : UnitBase) (z : UnitSection) (h : UnitHeader) (own : List Abbreviation) (p q : Result Marks Refusal) → IsUnitTable base h own
-    → UnitPassed g base z h own p q → OnePassed g base z h p q
-one-passed g base z h own p q is passed = record { table = own; is = is; passed = passed }
 
 pub ruleset one_rules = (elsewhere-row)
 

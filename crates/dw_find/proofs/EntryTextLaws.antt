@@ -22,7 +22,7 @@ use Rattle.dw_base.specs.declared.values.Value.{Value}
 use Rattle.dw_base.specs.declared.values.ValueClass.{ValueClass}
 use Rattle.dw_base.specs.declared.values.ValueClass.TheVariants.{StrOffset, LineStrOffset}
 use Rattle.dw_find.specs.EntryTexts.{Tables, Found, OffsetLies, OffsetNames, OffsetRefuses, OffsetSized, no_text, offset, offset_in, relocation, StartSized, with_base, with_paths, with_places, with_stray, TakenBehind, AreTaken, ValueRefuses, OneRefuses, none, some, ValuesRefuse, fails, table_by, value, ValueTaken}
-use Rattle.dw_find.specs.TextPlaces.{TextPlace, Indexed, no_index, no_start, unit_start, unit_base, base_offset, said_base, said_of, text_index, base_in, base_or, fields_in, index_at, indexes_in, indexed_at, inline_in, is_macros, is_start, is_start_form, line_at, macros_in, own_form, said_places, said_value, start_at, starts_in, stray_in, stray_or, line_places, class_places, unit_start_at, value_places, value_places_behind, values_places}
+use Rattle.dw_find.specs.TextPlaces.{TextPlace, Indexed, no_index, no_start, unit_start, unit_base, base_offset, said_of, text_index, base_in, base_or, fields_in, index_at, indexes_in, indexed_at, inline_in, is_macros, is_start, is_start_form, line_at, macros_in, own_form, said_places, said_value, start_at, starts_in, stray_in, stray_or, line_places, class_places, unit_start_at, value_places, value_places_behind, values_places}
 use Rattle.dw_find.specs.UnitPaths.{UnitPaths}
 use Rattle.dw_find.specs.declared.fields.InlinePath.{InlinePath}
 use Rattle.dw_find.specs.declared.fields.PathField.{PathField}
@@ -244,10 +244,6 @@ pub base-none : (field : Bool) (v : Value) → field ≡ false → BaseNumber v.
 base-none field v e = sym (ap (λ (x : Bool). said_of x v) e)
 
 pub ruleset base_rules = (base-some, base-none)
-
-base-place : (field : Bool) (place : ℕ) (v : Value) → base_in (said_base field place v.at v.len v.number) ≡ Some (said_of field v)
-base-place true place v = refl
-base-place false place v = refl
 
 -- where it says a start it is a field of four bytes or eight
 pub start-sized : (x : Spec) (bytes : List ℕ) (place n : ℕ) (line says : Bool) → StartSized (own_form x bytes place) n → says ≡ (line && is_start_form (own_form x bytes place))

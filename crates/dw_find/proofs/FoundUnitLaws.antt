@@ -6,7 +6,7 @@ use Rattle.std.proofs.lemmas.List.{length-append}
 use Rattle.dw_base.specs.Cells.{Cell, Located}
 use Rattle.dw_base.specs.DebugData.{DebugData, line_source}
 use Rattle.dw_base.specs.DebugSections.{name_of}
-use Rattle.dw_base.specs.FileViews.{View, ViewSection, first_filled, is_filled, section_after, section_bytes, section_named, view_cells}
+use Rattle.dw_base.specs.FileViews.{View, ViewSection, first_filled, is_filled, section_after, section_named, view_cells}
 use Rattle.dw_base.specs.Forms.{TextSection, in_str, in_line_str}
 use Rattle.dw_base.specs.LineReadings.{LineReading, AreTables}
 use Rattle.dw_base.specs.LineSources.{LineSource}
@@ -39,10 +39,6 @@ use Rattle.dw_find.proofs.SectionFactLaws.{taken-placed}
 use Rattle.dw_find.specs.UnitPlaces.{UnitPlaces}
 use Rattle.dw_base.specs.RelocationRows.{HeaderOffsetsRead}
 use Rattle.dw_base.specs.UnitHeaders.{UnitSection}
-
--- The line tables of a view. Their section is the one of a number, or there are none.
-pub bytes-some : (v : View) (i : ℕ) → Some i ≡ section_named v (name_of Line) → (line_source (debug_data v)).bytes ≡ section_bytes v (line_source (debug_data v)).number
-bytes-some v i e = subst (λ (g : LineSource). g.bytes ≡ section_bytes v g.number) (sym (source-is v i e)) refl
 
 -- of two names that one section has, both are its name
 first-above : (name : List ℕ) (k i : ℕ) (ss : List ViewSection) → first_filled name k ss ≡ Some i → k ≤ i

@@ -16,6 +16,7 @@ pub mod TextFieldLaws
 pub mod EntryTextLaws
 pub mod StrValueLaws
 pub mod QuietLaws
+pub mod LaterLaws
 pub mod UnitTextLaws
 pub mod ScanTextLaws
 pub mod TakenLaws
@@ -24,7 +25,6 @@ pub mod RowLaws
 pub mod SectionTextLaws
 pub mod UnitRowLaws
 pub mod ValueTextLaws
-pub mod PlainFieldLaws
 pub mod PlaceValueLaws
 pub mod SectionListLaws
 pub mod IndexedLaws

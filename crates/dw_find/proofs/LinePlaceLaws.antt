@@ -1,8 +1,8 @@
 -- The paths of line tables that were read: each stands in the section, or a field of the section holds its offset into a table of texts,
 -- in which it ends.
-use Rattle.std.proofs.Common.{Bool, true, false, ◌≡◌, ℕ, ◌+◌, ◌≤◌, ◌==◌, List, [], ◌∷◌, ◌++◌, length, Option, Some, None, refl, sym, ap, ◌∙◌, subst, arith}
+use Rattle.std.proofs.Common.{Bool, true, false, ◌≡◌, ℕ, ◌+◌, ◌≤◌, ◌==◌, List, [], ◌∷◌, ◌++◌, length, Option, Some, None, refl, ap, subst, arith}
 use Rattle.std.specs.Prelude.{⊤, Ok}
-use Rattle.std.proofs.lemmas.Bool.{eq-eqb, true≢false}
+use Rattle.std.proofs.lemmas.Bool.{true≢false}
 use Rattle.std.proofs.lemmas.List.{length-take}
 use Rattle.dw_base.specs.Forms.{TextSection, width_size}
 use Rattle.dw_base.specs.LineEntries.{first_of, with_column, columns}
@@ -10,7 +10,6 @@ use Rattle.dw_base.specs.LineReadings.{LineReading, ReadsTable}
 use Rattle.dw_base.specs.LineSources.{LineSource}
 use Rattle.dw_base.specs.LineTables.{HasLists, old_lists, new_lists, table_bytes, texts_of}
 use Rattle.dw_base.specs.LineTexts.{inline_text, named_text, text_of}
-use Rattle.dw_base.specs.Numbers.{spelled}
 use Rattle.dw_base.specs.Texts.{ends_in}
 use Rattle.dw_base.specs.declared.line_numbers.TheConstants.{DW_LNCT_path}
 use Rattle.dw_base.specs.declared.line_tables.Column.{Column}
@@ -20,8 +19,7 @@ use Rattle.dw_base.specs.declared.line_tables.LineHeader.{LineHeader}
 use Rattle.dw_base.specs.declared.line_tables.TextPlace.{TextPlace}
 use Rattle.dw_base.specs.declared.shared.Width.{Width}
 use Rattle.dw_base.specs.declared.values.Spec.{Spec}
-use Rattle.dw_base.proofs.PlainCellLaws.{IsPlain}
-use Rattle.dw_meaning.proofs.LineColumnLaws.{texts_in, ColumnIs, inline_is, named-number, offset_is, value_is, column-is}
+use Rattle.dw_meaning.proofs.LineColumnLaws.{texts_in, ColumnIs, inline_is, offset_is, value_is, column-is}
 use Rattle.dw_meaning.proofs.LineEntryLaws.{text_with, column-step, entry-same}
 use Rattle.dw_meaning.proofs.LineListLaws.{entry-is, list-is}
 use Rattle.dw_meaning.proofs.LineReadLaws.{inline-inside}
@@ -104,13 +102,3 @@ pub table-paths : (g : LineSource) (p : ℕ) (r : LineReading) → ReadsTable g 
 table-paths g p r reads =
     let cut : length (table_bytes g r.header) ≤ length g.bytes = omega (arith, length-take r.header.end g.bytes) in
     lists-paths g r.header (table_bytes g r.header) r.dirs r.files r.behind cut reads.lists
-
--- the place of a text that an offset names is what its field holds, where no relocation begins in the section
-pub offset-read : (g : LineSource) (w : Width) (x : TextPlace) → IsPlain g.cells → PathReads g w x → (x.section == g.number) ≡ false → x.at ≡ spelled g.order g.bytes x.field (width_size w)
-offset-read g w x plain (stands_there y is) other = absurd (true≢false (sym (eq-eqb x.section g.number is) ∙ other))
-offset-read g w x plain (named_there z n field room reads ends) other = named-number g (texts_in g z) field (width_size w) n plain reads
-
--- which lies in the section
-pub offset-inside : (g : LineSource) (w : Width) (x : TextPlace) → PathReads g w x → (x.section == g.number) ≡ false → x.field + width_size w ≤ length g.bytes
-offset-inside g w x (stands_there y is) other = absurd (true≢false (sym (eq-eqb x.section g.number is) ∙ other))
-offset-inside g w x (named_there z n field room reads ends) other = room

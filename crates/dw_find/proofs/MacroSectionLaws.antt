@@ -1,5 +1,5 @@
 -- The macro units of a view, section by section: the fields of the offsets of their line tables.
-use Rattle.std.proofs.Common.{◌≡◌, ℕ, suc, ◌+◌, ◌<◌, ◌≤◌, List, [], ◌∷◌, ◌++◌, length, get_or, drop, Option, Some, None, sym, ap, ◌∙◌, arith, append_assoc, append-nil}
+use Rattle.std.proofs.Common.{◌≡◌, ℕ, suc, ◌+◌, ◌<◌, ◌≤◌, List, [], ◌∷◌, ◌++◌, length, get_or, drop, Option, None, sym, ap, ◌∙◌, arith, append_assoc, append-nil}
 use Rattle.std.proofs.Math.Seq.{drop-cons}
 use Rattle.std.proofs.lemmas.List.{drop_all}
 use Rattle.dw_base.specs.declared.macro_units.MacroUnit.{MacroUnit}
@@ -20,12 +20,6 @@ fields-pushed us u i old new lt is before more =
     ap (λ (fs : List PathField). fs ++ line_fields (drop (i + 1) us)) more
     ∙ append_assoc old (line_field u.line u.line_field u.width) (line_fields (drop (i + 1) us))
     ∙ ap (λ (xs : List MacroUnit). old ++ line_fields xs) (sym (unit-front us u i lt is)) ∙ before
-
-pub field-some : (us : List MacroUnit) (u : MacroUnit) (i n size : ℕ) (old new : List PathField) → i < length us → u ≡ get_or us i u
-    → old ++ line_fields (drop i us) ≡ line_fields us → u.line ≡ Some n → new ≡ old ++ line_field (Some n) u.line_field u.width
-    → new ++ line_fields (drop (i + 1) us) ≡ line_fields us
-field-some us u i n size old new lt is before some more =
-    fields-pushed us u i old new lt is before (more ∙ ap (λ (o : Option ℕ). old ++ line_field o u.line_field u.width) (sym some))
 
 pub field-none : (us : List MacroUnit) (u : MacroUnit) (i : ℕ) (old : List PathField) → i < length us → u ≡ get_or us i u
     → old ++ line_fields (drop i us) ≡ line_fields us → u.line ≡ None → old ++ line_fields (drop (i + 1) us) ≡ line_fields us

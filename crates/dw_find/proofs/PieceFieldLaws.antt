@@ -1,22 +1,13 @@
 -- Fields of pieces that stand one after another: the number in each, and where those behind a place stand.
-use Rattle.std.proofs.Common.{true, ◌≡◌, ℕ, ◌+◌, ◌≤◌, List, [], ◌∷◌, ◌++◌, length, drop, sym, ap, ◌∙◌, arith, subst}
+use Rattle.std.proofs.Common.{true, ℕ, ◌+◌, ◌≤◌, List, [], ◌∷◌, ◌++◌, length, sym, arith, subst}
 use Rattle.std.specs.Bool.{⊤}
 use Rattle.dw_base.specs.Forms.{TextSection, in_str, in_line_str}
-use Rattle.dw_base.specs.Numbers.{spelled}
 use Rattle.dw_base.specs.Pieces.{Piece}
 use Rattle.dw_base.specs.Roles.{Role, offset, line_start, role_of}
 use Rattle.dw_base.specs.UnitStates.{UnitState}
-use Rattle.dw_base.specs.declared.shared.Order.{Order}
-use Rattle.dw_base.proofs.NumberLaws.{spelled-append, spelled-drop}
 use Rattle.dw_find.specs.UnitPaths.{field_by, path_fields, start_by, start_fields}
 use Rattle.dw_find.specs.declared.fields.PathField.{PathField}
 use Rattle.dw_find.proofs.PlacedLaws.{Placed}
-
--- the bytes of a piece are the number at its place
-pub piece_number : (o : Order) (p rest info : List ℕ) (place n : ℕ) → p ++ rest ≡ drop place info → length p ≡ n → spelled o p 0 n ≡ spelled o info place n
-piece_number o p rest info place n e size =
-    sym (spelled-append o p rest 0 n (omega (arith, size))) ∙ ap (λ (x : List ℕ). spelled o x 0 n) e
-    ∙ spelled-drop o info place 0 n ∙ ap (λ (i : ℕ). spelled o info i n) (omega arith)
 
 -- fields that stand from a place on
 abbrev pub FieldsFrom : ℕ → List PathField → Type 0

@@ -5,7 +5,7 @@ use Rattle.std.proofs.Math.Seq.{take-suc, drop-cons}
 use Rattle.std.proofs.lemmas.Bool.{and_parts, eqb-true}
 use Rattle.std.proofs.lemmas.List.{drop_all, take_all, take-append-drop}
 use Rattle.dw_abbrev.specs.Coded.{index_of_code}
-use Rattle.dw_abbrev.proofs.CodedLaws.{get-here, get-none}
+use Rattle.dw_abbrev.proofs.CodedLaws.{get-here, index-within}
 use Rattle.dw_base.specs.AbbreviationTables.{Abbreviation, abbreviation_of}
 use Rattle.dw_base.specs.Forms.{ValueKind, number_of, leb_number, signed_leb, block_of, counted, counted_leb, inline_text, text_offset, present, in_abbreviation, form_in_front, supplementary, unlisted, FormRow, form_rows, kind_by, kind_in}
 use Rattle.dw_base.specs.Roles.{is_path, is_unit_tag}
@@ -26,7 +26,7 @@ use Rattle.dw_find.specs.QuietValues.{AllQuiet, AreCounts, AreLooked, IsCount, S
 use Rattle.dw_find.specs.TextPlaces.{TextPlace, class_places, is_macros, is_start, line_places, own_form, said_places, value_places, value_places_behind, values_places, is_start_form}
 
 -- the class of a text, or of what names one
-abbrev is_text_class : ValueClass → Bool
+abbrev pub is_text_class : ValueClass → Bool
 is_text_class StrOffset = true
 is_text_class LineStrOffset = true
 is_text_class StrIndex = true
@@ -96,7 +96,7 @@ not-front k quiet front =
     let other : is_quiet_kind k ≡ false = ap is_quiet_kind front in
     cc
 
-value-quiet : (params : Params) (x : Spec) (bytes : List ℕ) (place : ℕ) (v : Value) → is_text_form x.form ≡ false → value_at params x bytes place ≡ Some v
+pub value-quiet : (params : Params) (x : Spec) (bytes : List ℕ) (place : ℕ) (v : Value) → is_text_form x.form ≡ false → value_at params x bytes place ≡ Some v
     → is_text_class v.class ≡ false
 unfolding value_at
 value-quiet params x bytes place v plain is =
@@ -123,7 +123,7 @@ class-none GlobalRef field place v e = refl
 class-none Signature field place v e = refl
 class-none SecOffset field place v e = refl
 
-class-names : (t : Tables) (c : ValueClass) (v : Value) → is_text_class c ≡ false → OffsetNames t c v
+pub class-names : (t : Tables) (c : ValueClass) (v : Value) → is_text_class c ≡ false → OffsetNames t c v
 class-names t Address v e = tt
 class-names t Number v e = tt
 class-names t Signed v e = tt
@@ -141,12 +141,12 @@ class-names t Signature v e = tt
 class-names t SecOffset v e = tt
 
 -- what a quiet attribute isn't
-record Quiet (x : Spec) : Type 0 where
-  form : is_text_form x.form ≡ false
-  line : (x.name == DW_AT_stmt_list) ≡ false
-  start : is_start x.name ≡ false
+pub record Quiet (x : Spec) : Type 0 where
+  pub form : is_text_form x.form ≡ false
+  pub line : (x.name == DW_AT_stmt_list) ≡ false
+  pub start : is_start x.name ≡ false
 
-or-parts : (a b : Bool) → (a || b) ≡ false → (a ≡ false) × (b ≡ false)
+pub or-parts : (a b : Bool) → (a || b) ≡ false → (a ≡ false) × (b ≡ false)
 or-parts true b e = absurd cc
 or-parts false b e = (refl, e)
 
@@ -164,14 +164,14 @@ number-other number other = by_test (number == 0) refl
     by_test true e = absurd (other (eqb-true number 0 e))
     by_test false e = e
 
-path-none : (number tag name : ℕ) → number ≢ 0 → is_path number tag name ≡ false
+pub path-none : (number tag name : ℕ) → number ≢ 0 → is_path number tag name ≡ false
 path-none number tag name other =
     ap (λ (b : Bool). b && is_unit_tag tag && (name == DW_AT_name || name == DW_AT_comp_dir)) (number-other number other)
 
-base-none : (number name : ℕ) → number ≢ 0 → is_base number name ≡ false
+pub base-none : (number name : ℕ) → number ≢ 0 → is_base number name ≡ false
 base-none number name other = ap (λ (b : Bool). b && name == DW_AT_str_offsets_base) (number-other number other)
 
-places-none : (number tag : ℕ) (x : Spec) (bytes : List ℕ) (place : ℕ) (v : Value) → number ≢ 0 → Quiet x → is_text_class v.class ≡ false
+pub places-none : (number tag : ℕ) (x : Spec) (bytes : List ℕ) (place : ℕ) (v : Value) → number ≢ 0 → Quiet x → is_text_class v.class ≡ false
     → value_places number tag x bytes place v ≡ []
 places-none number tag x bytes place v other q class =
     ap (λ (b : Bool). line_places b (own_form x bytes place) v ++ (class_places v.class (is_path number tag x.name) (is_base number x.name) (is_start_form (own_form x bytes place)) place v
@@ -314,24 +314,24 @@ counts-at (b ∷ ls) (m ∷ ns) zero a n all lt here is = subst (λ (x : ℕ). I
 counts-at (b ∷ ls) (m ∷ ns) (suc i) a n all lt here is = counts-at ls ns i a n all.1 (omega (arith, lt)) here is
 
 -- the attributes of an entry that are looked at, of the abbreviation at the index of its code
-pub look-all : (ls : List Abbreviation) (code number i tag : ℕ) (a : Abbreviation) → Some i ≡ index_of_code ls code → i < length ls → a ≡ get_or ls i a
+pub look-all : (ls : List Abbreviation) (code number i tag : ℕ) (a : Abbreviation) → index_of_code ls code ≡ Some i → i < length ls → a ≡ get_or ls i a
     → tag ≡ a.tag → AreLooked ls code number tag a.specs
 look-all ls code number i tag a at lt here tag_is = record {
   abbreviation = a;
-  listed = sym (get-here ls code i a at lt here);
+  listed = sym (get-here ls code i a (sym at) lt here);
   tag_is = tag_is;
   rest = [];
   specs_are = sym (append-nil a.specs);
   left = none_left;
 }
 
-pub look-front : (ls : List Abbreviation) (ns : List ℕ) (code number i tag n : ℕ) (a : Abbreviation) (specs : List Spec) → AreCounts ls ns → Some i ≡ index_of_code ls code
+pub look-front : (ls : List Abbreviation) (ns : List ℕ) (code number i tag n : ℕ) (a : Abbreviation) (specs : List Spec) → AreCounts ls ns → index_of_code ls code ≡ Some i
     → i < length ls → a ≡ get_or ls i a → n ≡ get_or ns i n → tag ≡ a.tag → number ≢ 0 → specs ≡ take n a.specs → AreLooked ls code number tag specs
 look-front ls ns code number i tag n a specs all at lt here is tag_is other specs_is =
     let c : IsCount a n = counts-at ls ns i a n all lt here is in
     record {
       abbreviation = a;
-      listed = sym (get-here ls code i a at lt here);
+      listed = sym (get-here ls code i a (sym at) lt here);
       tag_is = tag_is;
       rest = drop n a.specs;
       specs_are = sym (ap (λ (xs : List Spec). xs ++ drop n a.specs) specs_is ∙ take-append-drop n a.specs);
@@ -345,7 +345,7 @@ look-within ls ns i n a all lt here is = (counts-at ls ns i a n all lt here is).
 pub look-there : (ls : List Abbreviation) (ns : List ℕ) (i : ℕ) → AreCounts ls ns → i < length ls → i < length ns
 look-there ls ns i all lt = omega (arith, counts-long ls ns all, lt)
 
-pub look-none : (ls : List Abbreviation) (code : ℕ) → None ≡ index_of_code ls code → abbreviation_of ls code ≡ None
-look-none ls code e = sym (get-none ls code e)
+pub look-inside : (ls : List Abbreviation) (code i : ℕ) → index_of_code ls code ≡ Some i → i < length ls
+look-inside ls code i at = index-within ls code i (sym at)
 
-pub ruleset look_rules = (look-all, look-front, look-within, look-there, look-none)
+pub ruleset look_rules = (look-all, look-front, look-within, look-there, look-inside)

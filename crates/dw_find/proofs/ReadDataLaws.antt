@@ -144,9 +144,6 @@ data_read-excludes v rs r reads h (lines f) = lines-exclude (debug_data v) rs.li
 data_read-excludes v rs r reads h (macros (section_fails z before behind split f)) = macros-exclude v rs before behind z r reads split f
 data_read-excludes v rs r reads h (macros (section_offsets z before behind split f)) = units-row v rs before behind z r reads h split f
 
-pub read-excludes : (v : View) (ts : List LineTable) (ss : List SectionUnits) (r : Refusal) → DataRead v ts ss → DataRefuses v r → ⊥
-read-excludes v ts ss r d f = data_read-excludes v d.readings r d.reads d.relocations f
-
 pub found-excludes : {m : PathMap} {v : View} {us : List UnitPaths} {ts : List LineTable} (r : Refusal) → PathsFound m v us ts → DataRefuses v r → ⊥
 found-excludes {m} {v} {us} {ts} r found f = data_read-excludes v found.readings r found.reads found.relocations f
 

@@ -1,5 +1,5 @@
 -- Paths that stand in their values are tested against their rooms, one after another.
-use Rattle.std.proofs.Common.{true, false, ◌≡◌, ℕ, suc, ◌+◌, ◌≤◌, ◌<◌, List, [], ◌∷◌, length, take, drop, get_or, refl, sym, ap, ◌∙◌, subst, arith}
+use Rattle.std.proofs.Common.{true, false, ◌≡◌, ℕ, suc, ◌+◌, ◌≤◌, ◌<◌, List, [], ◌∷◌, length, drop, get_or, refl, sym, ap, ◌∙◌, subst, arith}
 use Rattle.std.specs.Prelude.{nat_le}
 use Rattle.std.proofs.Math.Seq.{drop-cons}
 use Rattle.std.proofs.lemmas.List.{drop_all}
@@ -17,10 +17,6 @@ use Rattle.dw_find.specs.UnitPaths.{UnitPaths, inline_text}
 use Rattle.dw_find.specs.declared.fields.InlinePath.{InlinePath}
 use Rattle.dw_find.proofs.PlaceValueLaws.{EachOf}
 use Rattle.dw_find.proofs.SectionFactLaws.{FitsIn, all-fit}
-
--- the text of a path in its room
-pub room-text : (info : List ℕ) (p : InlinePath) (k : ℕ) (t : List ℕ) → k ≡ p.len → t ≡ take k (drop p.at info) → t ≡ inline_text info p
-room-text info p k t size is = is ∙ ap (λ (n : ℕ). take n (drop p.at info)) size
 
 pub fits-same : (m : PathMap) (info : List ℕ) (p : InlinePath) (t : List ℕ) → t ≡ inline_text info p → nat_le (length (mapped_path m t)) (length t) ≡ inline_fits m (inline_text info p)
 fits-same m info p t is = ap (inline_fits m) is

@@ -22,12 +22,13 @@ use Rattle.dw_base.specs.declared.values.Spec.{Spec}
 use Rattle.dw_base.proofs.LebLaws.{uleb_at-size}
 use Rattle.dw_base.proofs.UnitEditLaws.{length-bytes_of}
 use Rattle.dw_meaning.proofs.ValueCutLaws.{uleb-inside}
-use Rattle.dw_entries.specs.ScanStates.{ScanState, scan_start, HasGiven, GivesEntry, GivesRefusal, GivesNothing, Gives}
+use Rattle.dw_entries.specs.CodedEntries.{GivesCode, GivesCoded, HasCode}
+use Rattle.dw_entries.specs.ScanStates.{ScanState, scan_start, HasGiven, GivesEntry, GivesRefusal, GivesNothing}
 use Rattle.dw_entries.specs.ViewUnits.{unit_section_at}
+use Rattle.dw_entries.specs.declared.scan.Coded.{Coded}
 use Rattle.dw_entries.proofs.HasUnitLaws.{IsUnitOfView, unit-of-view}
 use Rattle.dw_find.specs.EntryTexts.{Tables, Found, with_places}
 use Rattle.dw_find.specs.TextPlaces.{entry_places, entries_places}
-use Rattle.dw_fields.specs.UnitPasses.{IsGiven}
 use Rattle.dw_find.specs.UnitTexts.{EntryTaken, EntriesTaken, EntryRefuses, ScanTaken, UnitRefuses, entries, entry, tables_of}
 use Rattle.dw_find.proofs.EntryRunLaws.{entries_places-more}
 use Rattle.dw_find.proofs.EntryTextLaws.{with_places-more, with_places-none}
@@ -184,11 +185,12 @@ last-of t h table bytes old now s u number e p g =
     (subst (λ (x : List ℕ). Scans u.unit u.table x (p.items ++ e ∷ []) u.place u.depth) own more.scans)) in
     last-entry h table bytes (p.items ++ e ∷ []) p.items e u.place u.depth scans refl
 
-pub pass-given : (t : Tables) (h : UnitHeader) (table : List Abbreviation) (bytes : List ℕ) (old now : Found) (s u : ScanState) (number : ℕ) (e : Scanned)
-    → PassStands t h table bytes old now s number → GivesEntry s e u → IsGiven h.params table bytes e
-pass-given t h table bytes old now s u number e p g =
-    let last : LastEntry h table bytes p.items e = last-of t h table bytes old now s u number e p g in
-    record { abbreviation = last.abbreviation; entry = last.is }
+-- and its code
+pub pass-code : (t : Tables) (h : UnitHeader) (table : List Abbreviation) (bytes : List ℕ) (old now : Found) (s u : ScanState) (number : ℕ) (c : Coded)
+    → PassStands t h table bytes old now s number → GivesCode s c u → HasCode table bytes c.entry c.index c.from
+pass-code t h table bytes old now s u number c p g =
+    subst (λ (x : List Abbreviation). HasCode x bytes c.entry c.index c.from) p.table_is
+    (subst (λ (x : List ℕ). HasCode s.table x c.entry c.index c.from) p.bytes_are g.has)
 
 -- an entry that can't be taken
 pub pass-refused : (t : Tables) (h : UnitHeader) (table : List Abbreviation) (bytes : List ℕ) (old now : Found) (s u : ScanState) (number : ℕ) (e : Scanned) (f : Fault)
@@ -220,13 +222,18 @@ pass-ends t h table bytes old now s u number p g = record {
 }
 
 -- what a step gave
-pub gave-entry : (s u : ScanState) (r : Result Scanned Refusal) (e : Scanned) → Gives s (Some r) u → r ≡ Ok e → GivesEntry s e u
-gave-entry s u r e g is = subst (λ (x : Result Scanned Refusal). Gives s (Some x) u) is g
+pub gave-code : (s u : ScanState) (r : Result Coded Refusal) (c : Coded) → GivesCoded s (Some r) u → r ≡ Ok c → GivesCode s c u
+gave-code s u r c g is = subst (λ (x : Result Coded Refusal). GivesCoded s (Some x) u) is g
 
-pub gave-refusal : (s u : ScanState) (x : Result Scanned Refusal) (r : Refusal) → Gives s (Some x) u → x ≡ Err r → GivesRefusal s r u
-gave-refusal s u x r g is = subst (λ (y : Result Scanned Refusal). Gives s (Some y) u) is g
+pub gave-refusal : (s u : ScanState) (x : Result Coded Refusal) (r : Refusal) → GivesCoded s (Some x) u → x ≡ Err r → GivesRefusal s r u
+gave-refusal s u x r g is = subst (λ (y : Result Coded Refusal). GivesCoded s (Some y) u) is g
 
-pub ruleset scan_rules = (pass-starts, pass-more, pass-given, pass-refused, pass-fails, pass-ends)
+pub pass-one : (t : Tables) (h : UnitHeader) (table : List Abbreviation) (bytes : List ℕ) (old now new : Found) (s u : ScanState) (number : ℕ) (c : Coded)
+    → PassStands t h table bytes old now s number → GivesCode s c u → new ≡ with_places now (entry_places h.params table bytes number c.entry)
+    → EntryTaken t h.params table bytes c.entry → PassStands t h table bytes old new u (number + 1)
+pass-one t h table bytes old now new s u number c p g found taken = pass-more t h table bytes old now new s u number c.entry p g.gives found taken
+
+pub ruleset scan_rules = (pass-starts, pass-one, pass-fails, pass-ends)
 
 -- the unit of a view
 pub unit-there : (v : View) (h : UnitHeader) → HasUnit (debug_data v) (unit_section_at v h.section) h → h.section < length v.sections

@@ -14,9 +14,9 @@ use Rattle.dw_base.proofs.ViewCellLaws.{bytes_of-view_cells}
 use Rattle.dw_entries.specs.Fronts.{IsOfView}
 use Rattle.dw_entries.proofs.HasUnitLaws.{section-at, is-unit_section}
 use Rattle.dw_entries.proofs.UnitSectionLaws.{is-of-view}
-use Rattle.dw_find.specs.Fields.{AreOffsetFields, ArePathFields, AreStartFields}
+use Rattle.dw_find.specs.Fields.{AreOffsetFields, AreStartFields}
 use Rattle.dw_find.specs.InlineRooms.{AreRooms, Grows}
-use Rattle.dw_find.specs.ViewFields.{HasOffsets, HasPaths, fields_of, info_of, offsets_in, texts_in, HasPlaces}
+use Rattle.dw_find.specs.ViewFields.{HasOffsets, fields_of, info_of, texts_in, HasPlaces}
 use Rattle.dw_find.specs.TextPlaces.{InlinesFit, AllFitRooms, SectionSays, AllPlaced, fields_in}
 use Rattle.dw_find.specs.UnitPaths.{UnitPaths}
 use Rattle.dw_find.specs.UnitTexts.{AllTaken}
@@ -98,10 +98,6 @@ has-places v u f = record {
   rooms = subst (λ (bs : List ℕ). AreRooms bs u.inline) (says-bytes v f.before f.behind f.section u f.split f.says)
       (inline-rooms (debug_data v) f.section u.inline (facts-inline v u f));
 }
-
-pub paths-fields : (v : View) (u : UnitPaths) (table : TextSection) → HasPaths v u → ArePathFields (offsets_in v table) (info_of v u) (fields_of table u)
-paths-fields v u in_str h = h.str
-paths-fields v u in_line_str h = h.line_str
 
 -- a path that would grow is a row
 pub facts-row : (m : PathMap) (v : View) (u : UnitPaths) (r : Refusal) → SectionFacts v u → Grows m u.number (info_of v u) u.inline r → InlineFails m (debug_data v) r

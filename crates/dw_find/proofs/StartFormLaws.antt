@@ -5,7 +5,7 @@ use Rattle.std.proofs.lemmas.Bool.{and_parts, eqb-true, ne_eqb}
 use Rattle.dw_base.specs.Forms.{ValueKind, number_of, form_in_front, FormRow, form_rows, kind_by, kind_in, width_size}
 use Rattle.dw_base.specs.Lebs.{uleb_at}
 use Rattle.dw_base.specs.Roles.{Use, names_path, names_line_table, names_macro_unit, names_other, is_line_start, is_macro_start, is_path, use_of, is_unit_tag}
-use Rattle.dw_base.specs.TableStarts.{can_start, can_start_unit, macro_value_by, start_form_by}
+use Rattle.dw_base.specs.TableStarts.{can_start, macro_value_by, start_form_by}
 use Rattle.dw_base.specs.UnitStates.{read_value}
 use Rattle.dw_base.specs.declared.dwarf_numbers.TheConstants.{DW_AT_stmt_list, DW_AT_macros, DW_AT_GNU_macros, DW_FORM_data4, DW_FORM_data8, DW_FORM_indirect, DW_FORM_sec_offset}
 use Rattle.dw_base.specs.declared.shared.Params.{Params}
@@ -223,10 +223,6 @@ same-class : (class : ValueClass) (n : ℕ) → is_macro_start names_macro_unit 
 same-class SecOffset n = refl
 same-class Number n = refl
 same-class class n = refl
-
-same-start : (k : ValueKind) → can_start_unit k ≡ can_start k
-same-start (number_of class n) = same-class class n
-same-start k = refl
 
 pub macro-starts : (k : ValueKind) → k ≢ form_in_front → start_form_by k names_macro_unit ≡ can_start k
 macro-starts form_in_front other = absurd (other refl)

@@ -217,16 +217,6 @@ pub section-stray : (v : View) (starts : List ℕ) (places : UnitPlaces) (u : Un
 section-stray v starts places u n place r en some same =
     subst (SectionStrays v starts places u) (sym (same ∙ ap (λ (k : ℕ). at Stray k place) en)) (other_form place some)
 
-pub section-said : (v : View) (starts : List ℕ) (places : UnitPlaces) (u : UnitPaths) (n : ℕ) (fields units : List PathField) → n ≡ u.number → u.stray ≡ None → fields ≡ u.starts → units ≡ u.macros
-    → FieldsSay (says_start v.order (located v Line) starts) (view_cells v n) fields → FieldsSay (says_unit v.order places) (view_cells v n) units → SectionStarts v starts places u
-section-said v starts places u n fields units en none ef eu lines macros = record {
-  all_say = none;
-  there = subst (λ (k : ℕ). FieldsSay (says_start v.order (located v Line) starts) (view_cells v k) u.starts) en
-      (subst (FieldsSay (says_start v.order (located v Line) starts) (view_cells v n)) ef lines);
-  units = subst (λ (k : ℕ). FieldsSay (says_unit v.order places) (view_cells v k) u.macros) en
-      (subst (FieldsSay (says_unit v.order places) (view_cells v n)) eu macros);
-}
-
 pub ruleset section_rules = (section-there, section-fields, unit-fields)
 
 -- no piece leaves the section

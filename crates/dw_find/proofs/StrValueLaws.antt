@@ -1,5 +1,5 @@
 -- The value of an attribute whose form is an offset of a text in `.debug_str`.
-use Rattle.std.proofs.Common.{◌≡◌, ℕ, List, length, Some, refl, sym, ap, ◌∙◌}
+use Rattle.std.proofs.Common.{◌≡◌, ℕ, List, Some, refl, sym, ap, ◌∙◌}
 use Rattle.dw_base.specs.Forms.{ValueKind, form_rows, in_str, kind_in, text_offset, width_size}
 use Rattle.dw_base.specs.Numbers.{number_at}
 use Rattle.dw_base.specs.Values.{number_value, value_at, value_by, value_of}
@@ -8,17 +8,13 @@ use Rattle.dw_base.specs.declared.shared.Params.{Params}
 use Rattle.dw_base.specs.declared.values.Spec.{Spec}
 use Rattle.dw_base.specs.declared.values.Value.{Value}
 use Rattle.dw_base.specs.declared.values.ValueClass.TheVariants.{StrOffset}
-use Rattle.dw_find.specs.EntryTexts.{IsStrValue, OffsetLies, OffsetSized, StartSized}
-use Rattle.dw_find.specs.TextPlaces.{own_form}
-use Rattle.dw_find.proofs.ValueFactLaws.{start-read, value-lies, value-sized}
+use Rattle.dw_find.specs.EntryTexts.{IsStrValue}
 
 pub str-read : (params : Params) (bytes : List ℕ) (place size n : ℕ) → size ≡ width_size params.width → Some n ≡ number_at params.order bytes place size
     → IsStrValue params bytes place (record { class = StrOffset; number = n; at = place; len = size; size = size })
 str-read params bytes place size n is e = record {
   is = sym (ap (λ (m : ℕ). number_value StrOffset place m (number_at params.order bytes place m)) is) ∙ ap (number_value StrOffset place size) (sym e);
 }
-
-pub ruleset str_rules = (str-read)
 
 str-kind : (params : Params) → kind_in params DW_FORM_strp ≡ text_offset in_str (width_size params.width)
 unfolding kind_in form_rows
@@ -30,18 +26,3 @@ unfolding value_at value_of
 str-value params x bytes place v form s =
     ap (λ (n : ℕ). value_by (kind_in params n) params x bytes place) form
     ∙ ap (λ (k : ValueKind). value_by k params x bytes place) (str-kind params) ∙ s.is
-
-pub str-sized : (params : Params) (x : Spec) (bytes : List ℕ) (place : ℕ) (v : Value) → x.form ≡ DW_FORM_strp → IsStrValue params bytes place v
-    → OffsetSized v.class v.len
-str-sized params x bytes place v form s = value-sized params x bytes place v (str-value params x bytes place v form s)
-
-pub str-start : (params : Params) (x : Spec) (bytes : List ℕ) (place : ℕ) (v : Value) → x.form ≡ DW_FORM_strp → IsStrValue params bytes place v
-    → StartSized (own_form x bytes place) v.len
-str-start params x bytes place v form s =
-    record { sized = λ is. (start-read params x bytes place v (str-value params x bytes place v form s) is).sized }
-
-pub str-lies : (params : Params) (x : Spec) (bytes : List ℕ) (place : ℕ) (v : Value) → x.form ≡ DW_FORM_strp → IsStrValue params bytes place v
-    → OffsetLies (length bytes) v.class v
-str-lies params x bytes place v form s = value-lies params x bytes place v (str-value params x bytes place v form s)
-
-pub ruleset in_rules = (str-value, str-sized, str-lies, str-start)

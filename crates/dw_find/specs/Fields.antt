@@ -1,7 +1,6 @@
 -- Fields that hold the offsets of paths, or say where line tables start; and that no two have a byte in common.
 use Rattle.std.specs.Prelude.{true, ◌≡◌, ◌⊎◌, ℕ, ◌+◌, ◌<◌, ◌≤◌, List, length, get_or, [], ◌∷◌, ⊤}
 use Rattle.dw_base.specs.Cells.{Cell, Located, cells_at, offset_of}
-use Rattle.dw_base.specs.Numbers.{spelled}
 use Rattle.dw_base.specs.Texts.{ends_in}
 use Rattle.dw_base.specs.declared.shared.Order.{Order}
 use Rattle.dw_find.specs.declared.fields.PathField.{PathField}
@@ -11,26 +10,14 @@ pub record OffsetTable : Type 0 where
   pub order : Order
   pub bytes : List ℕ
 
--- the offset in a field
-abbrev pub offset_at : OffsetTable → List ℕ → PathField → ℕ
-offset_at table info f = spelled table.order info f.at f.size
-
--- a field holds the offset of a path: it has the size of an offset and lies in the section, and the text ends in the table
-pub record IsPathField (table : OffsetTable) (info : List ℕ) (f : PathField) : Type 0 where
-  pub sized : (f.size ≡ 4) ⊎ (f.size ≡ 8)
-  pub inside : f.at + f.size ≤ length info
-  pub ends : ends_in table.bytes (offset_at table info f) ≡ true
-
--- each of these fields does
-pub record ArePathFields (table : OffsetTable) (info : List ℕ) (fields : List PathField) : Type 0 where
-  pub each : (k : ℕ) (d : PathField) → k < length fields → IsPathField table info (get_or fields k d)
-
--- the same by the cells of the section: the offset that the field holds names a text of a table
+-- a field holds the offset of a path, by the cells of the section: it has the size of an offset and lies in the section, and the offset names a
+-- text of a table
 pub record IsOffsetField (order : Order) (table : Located) (cells : List Cell) (f : PathField) : Type 0 where
   pub sized : (f.size ≡ 4) ⊎ (f.size ≡ 8)
   pub inside : f.at + f.size ≤ length cells
   pub ends : ends_in table.bytes (offset_of order table (cells_at cells f.at f.size)) ≡ true
 
+-- each of these fields does
 pub record AreOffsetFields (order : Order) (table : Located) (cells : List Cell) (fields : List PathField) : Type 0 where
   pub each : (k : ℕ) (d : PathField) → k < length fields → IsOffsetField order table cells (get_or fields k d)
 

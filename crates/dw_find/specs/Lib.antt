@@ -7,6 +7,7 @@ pub mod NamedStarts
 pub mod EntryTexts
 pub mod NamedSlots
 pub mod QuietValues
+pub mod LaterValues
 pub mod UnitTexts
 pub mod IndexedTexts
 pub mod InlineRooms

@@ -1,14 +1,14 @@
 -- Fields and rooms of paths in the sections of a view, and the tables of texts that they name.
-use Rattle.std.specs.Prelude.{◌≡◌, ℕ, ◌<◌, List, [], ◌∷◌, ◌++◌, length, ⊤}
+use Rattle.std.specs.Prelude.{ℕ, ◌<◌, List, [], ◌∷◌, ◌++◌, length, ⊤}
 use Rattle.dw_base.specs.Cells.{Located}
 use Rattle.dw_base.specs.DebugData.{DebugData}
-use Rattle.dw_base.specs.FileViews.{View, section_bytes, view_cells, view_relocations}
+use Rattle.dw_base.specs.FileViews.{View, section_bytes, view_cells}
 use Rattle.dw_base.specs.Forms.{TextSection, in_str, in_line_str}
 use Rattle.dw_base.specs.Paths.{PathMap}
 use Rattle.dw_base.specs.ViewData.{debug_data}
 use Rattle.dw_base.specs.declared.debug_sections.DebugSection.{DebugSection}
 use Rattle.dw_base.specs.declared.debug_sections.DebugSection.TheVariants.{Str as str_section, LineStr as line_str_section}
-use Rattle.dw_find.specs.Fields.{OffsetTable, AllApart, AreOffsetFields, ArePathFields, AreStartFields}
+use Rattle.dw_find.specs.Fields.{OffsetTable, AllApart, AreOffsetFields, AreStartFields}
 use Rattle.dw_find.specs.InlineRooms.{AreRooms}
 use Rattle.dw_find.specs.TextPlaces.{InlinesFit}
 use Rattle.dw_find.specs.UnitPaths.{UnitPaths}
@@ -73,38 +73,6 @@ pub record HasPlaces (v : View) (u : UnitPaths) : Type 0 where
 abbrev pub AllHavePlaces : View → List UnitPaths → Type 0
 AllHavePlaces v [] = ⊤
 AllHavePlaces v (u ∷ us) = HasPlaces v u × AllHavePlaces v us
-
--- no relocation begins in a section of the view, as in none of a file that isn't relocatable: there the offsets are the numbers that the fields
--- hold
-pub record HasNoRelocations (v : View) : Type 0 where
-  pub each : (i : ℕ) → view_relocations v i ≡ []
-
--- a section of a view: it is there, its fields of paths and of line tables are fields of which no two have a byte in common, those of macro
--- units are fields, and its paths that stand in their values have rooms
-pub record HasPaths (v : View) (u : UnitPaths) : Type 0 where
-  pub there : u.number < length v.sections
-  pub str : ArePathFields (offsets_in v in_str) (info_of v u) u.str
-  pub line_str : ArePathFields (offsets_in v in_line_str) (info_of v u) u.line_str
-  pub starts : AreStartFields (info_of v u) u.starts
-  pub macros : AreStartFields (info_of v u) u.macros
-  pub apart : AllApart (u.str ++ (u.line_str ++ u.starts))
-  pub rooms : AreRooms (info_of v u) u.inline
-
--- its fields of paths' offsets are fields
-pub record HasFields (v : View) (u : UnitPaths) : Type 0 where
-  pub there : u.number < length v.sections
-  pub str : ArePathFields (offsets_in v in_str) (info_of v u) u.str
-  pub line_str : ArePathFields (offsets_in v in_line_str) (info_of v u) u.line_str
-
--- those of all of these are
-abbrev pub AllHaveFields : View → List UnitPaths → Type 0
-AllHaveFields v [] = ⊤
-AllHaveFields v (u ∷ us) = HasFields v u × AllHaveFields v us
-
--- so have all of these
-abbrev pub AllHavePaths : View → List UnitPaths → Type 0
-AllHavePaths v [] = ⊤
-AllHavePaths v (u ∷ us) = HasPaths v u × AllHavePaths v us
 
 -- each path that stands in its value fits its room when it is mapped
 abbrev pub AllRoomsFit : PathMap → View → List UnitPaths → Type 0

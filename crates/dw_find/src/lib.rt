@@ -20,6 +20,7 @@ mod all_sections;
 mod field_offsets;
 mod fields;
 mod found;
+mod later;
 mod lines;
 mod macros;
 mod paths;

@@ -3,8 +3,9 @@
 //!
 //! Read first: `specs/QuietValues.antt`.
 
-ghost use Rattle.std.specs.Prelude.{◌≡◌, ◌≤◌, List, None, length, drop, take, IfNone, IfOk, IfSome};
-ghost use Rattle.dw_base.specs.AbbreviationTables.{Abbreviation, abbreviation_of};
+ghost use Rattle.std.specs.Prelude.{◌≡◌, ◌≤◌, List, Some, length, drop, take, IfOk};
+ghost use Rattle.dw_abbrev.specs.Coded.{index_of_code};
+ghost use Rattle.dw_base.specs.AbbreviationTables.{Abbreviation};
 ghost use Rattle.dw_find.specs.QuietValues.{AllQuiet, AreCounts, AreLooked, IsCount, is_quiet, is_text_form};
 ghost use Rattle.dw_find.specs.TextPlaces.{is_start};
 
@@ -14,6 +15,7 @@ use dw_base::dwarf_numbers::{
     DW_AT_GNU_macros, DW_AT_macros, DW_AT_stmt_list, DW_FORM_indirect, DW_FORM_line_strp,
     DW_FORM_strp, DW_FORM_strx, DW_FORM_strx1, DW_FORM_strx2, DW_FORM_strx3, DW_FORM_strx4,
 };
+use dw_entries::Coded;
 use std::alloc::{AllocError, Global};
 use std::marker::Model;
 
@@ -50,21 +52,19 @@ impl ScanTable {
         &self.table
     }
 
-    /// The tag of entry `number` of a unit, of a code, and its attributes whose values are looked at: in a unit's first
-    /// entry all. `None` exactly where the table hasn't the code.
+    /// The tag of an entry that a pass gave, entry `number` of its unit, and its attributes whose values are looked at: in a
+    /// unit's first entry all.
     #[tactic(auto, using(crate::proofs::QuietLaws::look_rules))]
-    pub(crate) fn look(&self, code: u64, number: u64) -> Option<(u64, &[Spec])>
-        ensures looked { IfSome result (λ l. AreLooked self.now code number l.0 l.1.now) }
-        ensures none { IfNone result (abbreviation_of self.now code ≡ None) }
+    pub(crate) fn look(&self, entry: &Coded, number: u64) -> (u64, &[Spec])
+        requires listed { index_of_code self.now entry.now.entry.code ≡ Some entry.now.index }
+        ensures looked { AreLooked self.now entry.now.entry.code number result.0 result.1.now }
     {
-        let Some(index) = self.table.index_of(code) else {
-            return None;
-        };
+        let index = entry.index;
         let abbrev = &self.table.abbrevs()[index];
         if number == 0 {
-            return Some((tag_of(abbrev), specs_of(abbrev)));
+            return (tag_of(abbrev), specs_of(abbrev));
         }
-        Some((tag_of(abbrev), front_of(abbrev, self.counts[index])))
+        (tag_of(abbrev), front_of(abbrev, self.counts[index]))
     }
 }
 
@@ -133,14 +133,14 @@ fn is_quiet(spec: &Spec) -> bool
 }
 
 /// An attribute that says where a line table or a macro unit starts.
-fn is_start(name: u64) -> bool
+pub(crate) fn is_start(name: u64) -> bool
     ensures value { result ≡ is_start name }
 {
     name == DW_AT_stmt_list || name == DW_AT_macros || name == DW_AT_GNU_macros
 }
 
 /// A form whose values name texts, or stand behind their own form.
-fn is_text_form(form: u64) -> bool
+pub(crate) fn is_text_form(form: u64) -> bool
     ensures value { result ≡ is_text_form form }
 {
     form == DW_FORM_strp

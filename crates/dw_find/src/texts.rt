@@ -3,9 +3,8 @@
 //!
 //! Read first: `specs/TextPlaces.antt`, then `specs/EntryTexts.antt`.
 
-ghost use Rattle.std.specs.Prelude.{◌≡◌, ◌⊎◌, ◌+◌, ◌^◌, ◌≤◌, ◌<◌, ◌==◌, ◌&&◌, true, false, length, IsTrue, IfErr, IfOk, OnOk, Some, not, IfSome};
+ghost use Rattle.std.specs.Prelude.{◌≡◌, ◌⊎◌, ◌+◌, ◌^◌, ◌≤◌, ◌<◌, ◌==◌, ◌&&◌, true, false, length, IsTrue, IfErr, IfOk, OnOk, Some, not};
 ghost use Rattle.dw_base.specs.FormFails.{FormFails};
-ghost use Rattle.dw_base.specs.Forms.{width_size};
 ghost use Rattle.dw_base.specs.Values.{value_at};
 ghost use Rattle.dw_base.specs.Refusals.{Blames, at};
 ghost use Rattle.dw_base.specs.Roles.{is_path};
@@ -13,19 +12,18 @@ ghost use Rattle.dw_base.specs.TextIndexes.{is_base};
 ghost use Rattle.dw_base.specs.Texts.{ends_in};
 ghost use Rattle.dw_base.specs.UnitHeaders.{is_address_size};
 ghost use Rattle.dw_base.specs.declared.dwarf_numbers.TheConstants.{DW_AT_stmt_list};
-ghost use Rattle.dw_find.specs.EntryTexts.{AreTaken, OffsetLies, OffsetNames, OffsetRefuses, OffsetSized, OneRefuses, offset_in, StartSized, ValueRefuses, ValuesRefuse, ValueTaken, with_places, IsStrValue};
+ghost use Rattle.dw_find.specs.EntryTexts.{AreTaken, OffsetLies, OffsetNames, OffsetRefuses, OffsetSized, OneRefuses, offset_in, StartSized, ValueRefuses, ValuesRefuse, ValueTaken, with_places};
 ghost use Rattle.dw_find.specs.TextPlaces.{class_places, indexed_at, is_macros, is_start, is_start_form, line_at, no_start, own_form, said_of, said_places, said_value, values_places};
 
 use crate::fields::{InlinePath, PathField, TextBase, TextIndex};
 use crate::found::{Found, SectionTexts, TextTable};
+use crate::later::later_len;
 use dw_base::dwarf_numbers::{
     DW_AT_GNU_macros, DW_AT_comp_dir, DW_AT_macros, DW_AT_name, DW_AT_stmt_list,
     DW_AT_str_offsets_base, DW_FORM_data4, DW_FORM_data8, DW_FORM_indirect, DW_FORM_sec_offset,
-    DW_FORM_strp, DW_TAG_compile_unit, DW_TAG_partial_unit, DW_TAG_type_unit,
+    DW_TAG_compile_unit, DW_TAG_partial_unit, DW_TAG_type_unit,
 };
-use dw_base::{
-    Fault, Kind, Params, Refusal, Spec, UnitHeader, Value, ValueClass, Width, number_at, uleb_at,
-};
+use dw_base::{Fault, Kind, Refusal, Spec, UnitHeader, Value, ValueClass, uleb_at};
 use dw_forms::value_at;
 use std::alloc::AllocError;
 
@@ -58,8 +56,41 @@ pub(crate) fn entry_texts(
 }
 
 /// Takes the value of an attribute at a place, and gives its size.
-#[tactic(auto, using(crate::proofs::EntryTextLaws::value_rules))]
+#[tactic(auto, using(crate::proofs::LaterLaws::taken_rules))]
 fn value_text(
+    texts: &SectionTexts,
+    unit: &UnitHeader,
+    bytes: &[u8],
+    number: u64,
+    tag: u64,
+    spec: &Spec,
+    place: u64,
+    found: &mut Found,
+) -> Result<u64, Fault>
+    requires address { IsTrue (is_address_size unit.now.params.address) }
+    requires inside { place ≤ length bytes.now }
+    requires small { length bytes.now ≤ 2 ^ 31 }
+    requires within { length bytes.now ≤ length texts.now.cells }
+    ensures taken { IfOk result (λ size. ValueTaken texts.now unit.now.params bytes.now number tag spec.now place size found.old found.new) }
+    ensures within { IfOk result (λ size. place + size ≤ length bytes.now) }
+    ensures refused { IfErr result (Blames (OneRefuses texts.now unit.now.params bytes.now unit.now.section place spec.now)) }
+{
+    if number == 0 {
+        let size = noted_text(texts, unit, bytes, number, tag, spec, place, found)?;
+        return Ok(size);
+    }
+    let later = later_len(texts, unit, bytes, spec, place)?;
+    if let Some(size) = later {
+        return Ok(size);
+    }
+    let size = noted_text(texts, unit, bytes, number, tag, spec, place, found)?;
+    Ok(size)
+}
+
+/// The same where it is read.
+#[inline(never)]
+#[tactic(auto, using(crate::proofs::EntryTextLaws::value_rules))]
+fn noted_text(
     texts: &SectionTexts,
     unit: &UnitHeader,
     bytes: &[u8],
@@ -85,58 +116,9 @@ fn value_text(
     Ok(value.size)
 }
 
-/// The value of an attribute at a place of the bytes up to the unit's end. Most of those that are looked at are offsets of names in
-/// `.debug_str`, which are read here.
-#[tactic(auto, using(crate::proofs::StrValueLaws::in_rules))]
-fn value_in(unit: &UnitHeader, bytes: &[u8], spec: &Spec, place: u64) -> Result<Value, Refusal>
-    requires address { IsTrue (is_address_size unit.now.params.address) }
-    ensures value { IfOk result (λ v. value_at unit.now.params spec.now bytes.now place ≡ Some v) }
-    ensures sized { IfOk result (λ v. OffsetSized v.class v.len) }
-    ensures lies { IfOk result (λ v. OffsetLies (length bytes.now) v.class v) }
-    ensures start { IfOk result (λ v. StartSized (own_form spec.now bytes.now place) v.len) }
-    ensures within { IfOk result (λ v. place + v.size ≤ length bytes.now) }
-    ensures refused { IfErr result (FormFails unit.now.params spec.now bytes.now unit.now.section place) }
-{
-    if spec.form == DW_FORM_strp {
-        if let Some(value) = str_value(&unit.params, bytes, place) {
-            return Ok(value);
-        }
-    }
-    any_value(unit, bytes, spec, place)
-}
-
-/// The offset of a text in `.debug_str` at a place; none where it passes the bytes.
-#[tactic(auto, using(crate::proofs::StrValueLaws::str_rules))]
-fn str_value(params: &Params, bytes: &[u8], place: u64) -> Option<Value>
-    ensures value { IfSome result (IsStrValue params.now bytes.now place) }
-    ensures within { IfSome result (λ v. place + v.size ≤ length bytes.now) }
-{
-    let size = width_size(params.width);
-    let number = number_at(params.order, bytes, place, size)?;
-    Some(Value {
-        class: ValueClass::StrOffset,
-        number,
-        at: place,
-        len: u64::from(size),
-        size: u64::from(size),
-    })
-}
-
-/// How many bytes an offset has (DWARF 5, 7.4).
-fn width_size(width: Width) -> u8
-    ensures size { result ≡ width_size width }
-    ensures some { 0 < result }
-    ensures few { result ≤ 8 }
-{
-    match width {
-        Width::W32 => 4,
-        Width::W64 => 8,
-    }
-}
-
-/// The value of an attribute of any form.
+/// The value of an attribute at a place of the bytes up to the unit's end.
 #[tactic(auto, using(crate::proofs::EntryTextLaws::read_rules))]
-fn any_value(unit: &UnitHeader, bytes: &[u8], spec: &Spec, place: u64) -> Result<Value, Refusal>
+fn value_in(unit: &UnitHeader, bytes: &[u8], spec: &Spec, place: u64) -> Result<Value, Refusal>
     requires address { IsTrue (is_address_size unit.now.params.address) }
     ensures value { IfOk result (λ v. value_at unit.now.params spec.now bytes.now place ≡ Some v) }
     ensures sized { IfOk result (λ v. OffsetSized v.class v.len) }
@@ -365,7 +347,11 @@ fn field_of(value: &Value) -> PathField
 
 /// Tests that the offset that a value is names a text of a table.
 #[tactic(auto, using(crate::proofs::EntryTextLaws::offset_rules))]
-fn offset_names(texts: &SectionTexts, table: &TextTable, value: &Value) -> Result<(), Refusal>
+pub(crate) fn offset_names(
+    texts: &SectionTexts,
+    table: &TextTable,
+    value: &Value,
+) -> Result<(), Refusal>
     requires sized { (value.now.len ≡ 4) ⊎ (value.now.len ≡ 8) }
     requires lies { value.now.at + value.now.len ≤ length texts.now.cells }
     ensures names { OnOk result (IsTrue (ends_in table.now.bytes (offset_in texts.now table.now value.now))) }

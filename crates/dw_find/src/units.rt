@@ -7,9 +7,9 @@ ghost use Rattle.dw_base.specs.EntryValues.{HasUnit, bytes_up_to};
 ghost use Rattle.dw_base.specs.Refusals.{Blames};
 ghost use Rattle.dw_base.specs.UnitHeaders.{is_address_size};
 ghost use Rattle.dw_base.specs.ViewData.{debug_data};
+ghost use Rattle.dw_entries.specs.CodedEntries.{HasCode};
 ghost use Rattle.dw_entries.specs.ScanStates.{scan_start};
 ghost use Rattle.dw_entries.specs.ViewUnits.{unit_section_at};
-ghost use Rattle.dw_fields.specs.UnitPasses.{IsGiven};
 ghost use Rattle.dw_find.specs.EntryTexts.{with_places};
 ghost use Rattle.dw_find.specs.TextPlaces.{entry_places};
 ghost use Rattle.dw_find.specs.UnitTexts.{EntryRefuses, EntryTaken, ScanTaken, UnitRefuses, UnitTaken, tables_of};
@@ -17,8 +17,8 @@ ghost use Rattle.dw_find.specs.UnitTexts.{EntryRefuses, EntryTaken, ScanTaken, U
 use crate::found::{Found, SectionTexts};
 use crate::scan_table::ScanTable;
 use crate::texts::entry_texts;
-use dw_base::{Fault, Scanned, UnitHeader, uleb_at};
-use dw_entries::EntryScan;
+use dw_base::{Fault, UnitHeader};
+use dw_entries::{Coded, CodedScan};
 use dw_view::View;
 
 /// Takes the entries of a unit of the view, with its table of abbreviations: the paths that they say are
@@ -36,7 +36,7 @@ pub(crate) fn unit_texts(
     ensures taken { OnOk result (UnitTaken texts.now (unit_section_at view.now unit.now.section) unit.now table.now found.old found.new) }
     ensures refused { IfErr result (Blames (UnitRefuses texts.now unit.now table.now (bytes_up_to (unit_section_at view.now unit.now.section) unit.now))) }
 {
-    let scan = EntryScan::new(view, unit, table.abbrevs());
+    let scan = CodedScan::new(view, unit, table.abbrevs());
     let bytes = &view.bytes(unit.section)[..unit.end as usize];
     scan_texts(texts, unit, table, bytes, scan, found)
 }
@@ -48,7 +48,7 @@ fn scan_texts(
     unit: &UnitHeader,
     table: &ScanTable,
     bytes: &[u8],
-    scan: EntryScan,
+    scan: CodedScan,
     found: &mut Found,
 ) -> Result<(), Fault>
     requires start { scan ≡ scan_start unit.now table.now bytes.now }
@@ -76,23 +76,17 @@ fn scanned_texts(
     table: &ScanTable,
     bytes: &[u8],
     number: u64,
-    entry: &Scanned,
+    entry: &Coded,
     found: &mut Found,
 ) -> Result<(), Fault>
     requires address { IsTrue (is_address_size unit.now.params.address) }
     requires small { length bytes.now ≤ 2 ^ 31 }
     requires within { length bytes.now ≤ length texts.now.cells }
-    requires given { IsGiven unit.now.params table.now bytes.now entry.now }
-    ensures found { OnOk result (found.new ≡ with_places found.old (entry_places unit.now.params table.now bytes.now number entry.now)) }
-    ensures taken { OnOk result (EntryTaken texts.now unit.now.params table.now bytes.now entry.now) }
-    ensures refused { IfErr result (Blames (EntryRefuses texts.now unit.now.params table.now bytes.now unit.now.section entry.now)) }
+    requires given { HasCode table.now bytes.now entry.now.entry entry.now.index entry.now.from }
+    ensures found { OnOk result (found.new ≡ with_places found.old (entry_places unit.now.params table.now bytes.now number entry.now.entry)) }
+    ensures taken { OnOk result (EntryTaken texts.now unit.now.params table.now bytes.now entry.now.entry) }
+    ensures refused { IfErr result (Blames (EntryRefuses texts.now unit.now.params table.now bytes.now unit.now.section entry.now.entry)) }
 {
-    let Some((code, size)) = uleb_at(bytes, entry.offset) else {
-        unreachable!()
-    };
-    let Some((tag, specs)) = table.look(code, number) else {
-        unreachable!()
-    };
-    let from = entry.offset + size;
-    entry_texts(texts, unit, bytes, number, tag, specs, from, found)
+    let (tag, specs) = table.look(entry, number);
+    entry_texts(texts, unit, bytes, number, tag, specs, entry.from, found)
 }

@@ -24,11 +24,6 @@ some-size u v e = ap size_in e
     size_in None = 0
     size_in (Some w) = w.size
 
--- a value by a test of the room that it needs
-room-inside : (test : Bool) (u v : Value) (m n : ℕ) → (test ≡ true → m ≤ n) → (if test then Some u else None) ≡ Some v → (test ≡ true) × (u.size ≡ v.size)
-room-inside true u v m n h e = (refl, some-size u v e)
-room-inside false u v m n h e = absurd cc
-
 number-inside : (class : ValueClass) (order : Order) (bytes : List ℕ) (place n : ℕ) (v : Value) → number_value class place n (number_at order bytes place n) ≡ Some v
     → place + v.size ≤ length bytes
 unfolding number_at

@@ -1,9 +1,10 @@
 //! What a value of a form is: the table of forms (DWARF 5, table 7.6), each form once.
 
-ghost use Rattle.std.specs.Prelude.{◌≡◌, ◌<◌, ◌≤◌, IsTrue};
+ghost use Rattle.std.specs.Prelude.{◌≡◌, ◌<◌, ◌≤◌, Some, IfSome, IsTrue};
 ghost use Rattle.dw_base.specs.Forms.{kind_in, reference_size, width_size};
 ghost use Rattle.dw_base.specs.UnitHeaders.{is_address_size};
 ghost use Rattle.dw_base.specs.declared.shared.Params.{Params as ParamsOf};
+ghost use Rattle.dw_forms.specs.Fixed.{fixed_size};
 ghost use Rattle.dw_forms.specs.Kinds.{as_kind, field_size, refused_as, HasFields, HasRoom};
 
 use dw_base::dwarf_numbers::{
@@ -169,5 +170,23 @@ pub(crate) fn refused_kind(kind: FormKind, params: &Params) -> Kind
         FormKind::Unlisted => Kind::Form,
         FormKind::Supplementary => Kind::Supplementary,
         _ => Kind::Entry,
+    }
+}
+
+/// How many bytes a value of a form takes in a unit of these parameters, by the form alone. `None` of forms that few values have,
+/// whatever they say.
+#[tactic(auto, unfolding(dw_base::specs::Forms::kind_in, dw_base::specs::Forms::form_rows))]
+pub fn plain_size(params: &Params, form: u64) -> Option<u64>
+    ensures size { IfSome result (λ n. fixed_size (kind_in params.now form) ≡ Some n) }
+{
+    match form {
+        DW_FORM_flag_present | DW_FORM_implicit_const => Some(0),
+        DW_FORM_data1 | DW_FORM_flag => Some(1),
+        DW_FORM_data2 => Some(2),
+        DW_FORM_data4 | DW_FORM_ref4 => Some(4),
+        DW_FORM_data8 => Some(8),
+        DW_FORM_strp | DW_FORM_sec_offset => Some(u64::from(width_size(params.width))),
+        DW_FORM_addr => Some(u64::from(params.address)),
+        _ => None,
     }
 }

@@ -29,6 +29,6 @@ mod value;
 
 pub use dw_base::{Kind, Order, Params, Refusal, Spec, Value, ValueClass, Width};
 pub use fixed::{FixedSize, fixed_size};
-pub use kinds::{FieldSize, FormKind, form_kind};
+pub use kinds::{FieldSize, FormKind, form_kind, plain_size};
 pub use size::size_at;
 pub use value::value_at;

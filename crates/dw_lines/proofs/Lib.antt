@@ -3,6 +3,8 @@ pub mod TextLaws
 pub mod OldListLaws
 pub mod ProgramLaws
 pub mod PlainLaws
+pub mod ShortLaws
+pub mod DiscriminatorLaws
 pub mod FormatLaws
 pub mod EntryLaws
 pub mod WalkLaws

@@ -29,13 +29,6 @@ offsets-append at (x ∷ xs) ys =
     ap (λ (fs : List FieldOffset). stretch_offset at x ++ fs) (offsets-append (at + stretch_size x) xs ys)
     ∙ sym (append_assoc (stretch_offset at x) (offsets_from (at + stretch_size x) xs) (offsets_from (stretches_end (at + stretch_size x) xs) ys))
 
--- the new bytes only grow
-pub new-behind : (new : ℕ) (xs : List Stretch) → new ≤ new_end new xs
-new-behind new [] = omega arith
-new-behind new (x ∷ xs) =
-    let more = new-behind (new + stretch_new x) xs in
-    omega (arith, more)
-
 stretches-behind : (p : ℕ) (xs : List Stretch) → p ≤ stretches_end p xs
 stretches-behind p [] = omega arith
 stretches-behind p (x ∷ xs) =

@@ -1,5 +1,5 @@
 -- Plain opcodes: each is a step that defines no file, and a run of them is a walk.
-use Rattle.std.proofs.Common.{true, false, ◌≡◌, ℕ, ◌+◌, ◌≤◌, ◌<◌, ◌==◌, nat_le, List, [], Option, Some, None, refl, sym, arith, length}
+use Rattle.std.proofs.Common.{true, false, ◌≡◌, ◌≢◌, ℕ, ◌+◌, ◌≤◌, ◌<◌, ◌==◌, nat_le, List, [], Option, Some, None, refl, sym, arith, length}
 use Rattle.std.specs.Prelude.{slice_index}
 use Rattle.std.proofs.lemmas.Bool.Decides.{nat_tests}
 use Rattle.dw_base.specs.LinePrograms.{if_ranged, next_opcode, opcode_at, standard_end, with_file}
@@ -10,17 +10,20 @@ use Rattle.dw_base.specs.declared.line_tables.Opcode.{Opcode}
 use Rattle.dw_lines.specs.PlainOpcodes.{IsPlain, PassesPlain}
 use Rattle.dw_lines.proofs.ProgramLaws.{DefinedUpTo, defined-more, defined-start, opcode-more}
 
-at-most : (m n : ℕ) → m ≤ n → nat_le m n ≡ true
+pub at-most : (m n : ℕ) → m ≤ n → nat_le m n ≡ true
 at-most m n le = grind (arith, nat_tests)
 
-more-than : (m n : ℕ) → n < m → nat_le m n ≡ false
+pub more-than : (m n : ℕ) → n < m → nat_le m n ≡ false
 more-than m n lt = grind (arith, nat_tests)
 
+no-zero : (n : ℕ) → n ≢ 0 → (n == 0) ≡ false
+no-zero n some = grind (arith, nat_tests)
+
 -- a special opcode
-pub special-plain : (h : LineHeader) (table : List ℕ) (place next opcode : ℕ) → opcode ≡ slice_index table place → h.opcode_base ≤ opcode
-    → Some next ≡ if_ranged h (place + 1) → IsPlain h table place next
-unfolding opcode_at
-special-plain h table place next opcode is le e = record { each = λ (section : ℕ). rw (sym is, at-most h.opcode_base opcode le, sym e) refl }
+pub special-plain : (h : LineHeader) (table : List ℕ) (place opcode : ℕ) → opcode ≡ slice_index table place → h.opcode_base ≤ opcode → h.line_range ≢ 0
+    → IsPlain h table place (place + 1)
+unfolding opcode_at if_ranged
+special-plain h table place opcode is le some = record { each = λ (section : ℕ). rw (sym is, at-most h.opcode_base opcode le, no-zero h.line_range some) refl }
 
 -- a standard one
 pub standard-plain : (h : LineHeader) (table : List ℕ) (place next opcode : ℕ) → opcode ≡ slice_index table place → opcode < h.opcode_base → (opcode == 0) ≡ false

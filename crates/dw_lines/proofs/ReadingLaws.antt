@@ -45,9 +45,6 @@ table-back g start t r reads e = record {
 pub reading-end : (g : LineSource) (start : ℕ) (t : LineTable) (is : IsLineTable g start t) → (reading_of is).header.end ≡ t.end
 reading-end g start t is = sym (ap (λ (x : LineTable). x.end) is.is)
 
-pub reading-start : (g : LineSource) (start : ℕ) (t : LineTable) (is : IsLineTable g start t) → (reading_of is).header.start ≡ t.start
-reading-start g start t is = sym (ap (λ (x : LineTable). x.start) is.is)
-
 -- a section of a name has it
 and-second : (a b : Bool) → (a && b) ≡ true → b ≡ true
 and-second true b e = e

@@ -3,7 +3,7 @@
 //! This file promises: the numbers that are given are those of the table at the place; there are none exactly
 //! where no table of a version from 2 to 5 begins there whose numbers fit one another.
 
-ghost use Rattle.std.specs.Prelude.{◌≡◌, ◌+◌, ◌-◌, ◌≤◌, ◌<◌, ◌^◌, length, take, IfSome};
+ghost use Rattle.std.specs.Prelude.{◌≡◌, ◌+◌, ◌-◌, ◌≤◌, ◌<◌, ◌^◌, length, take, IfSome, IsTrue};
 ghost use Rattle.std.specs.Bool.{OnTrue};
 ghost use Rattle.dw_base.specs.Forms.{width_size};
 ghost use Rattle.dw_base.specs.Numbers.{spelled};
@@ -129,6 +129,7 @@ fn is_header(table: &[u8], header: &LineHeader) -> bool
     requires lists { header.now.lists ≡ header.now.operands + (header.now.opcode_base - 1) }
     ensures fits { result ≡ is_header table.now header.now }
     ensures some { OnTrue result (0 < header.now.opcode_base) }
+    ensures standard { OnTrue result (IsTrue (has_standard_operands table.now header.now)) }
     ensures lists { OnTrue result (header.now.lists ≤ header.now.end) }
 {
     if header.opcode_base == 0 {
@@ -163,6 +164,7 @@ fn header_of_length(
     requires behind { first < flags }
     ensures header { result ≡ header_of_length table.now start width version at first flags header_length }
     ensures fits { IfSome result (HeaderFits start (length table.now)) }
+    ensures standard { IfSome result (λ h. IsTrue (has_standard_operands table.now h)) }
 {
     if header_length > table.len() as u64 - first {
         return None;
@@ -203,6 +205,7 @@ fn header_at(
     requires behind { place + width_size width < flags }
     ensures header { result ≡ header_at order table.now start width version at place flags }
     ensures fits { IfSome result (HeaderFits start (length table.now)) }
+    ensures standard { IfSome result (λ h. IsTrue (has_standard_operands table.now h)) }
 {
     if flags + 4 > table.len() as u64 {
         return None;
@@ -237,6 +240,7 @@ fn header_of_version(
     requires inside { at ≤ length table.now }
     ensures header { result ≡ header_of_version order table.now start width at version }
     ensures fits { IfSome result (HeaderFits start (length table.now)) }
+    ensures standard { IfSome result (λ h. IsTrue (has_standard_operands table.now h)) }
 {
     if !is_line_version(version) {
         return None;
@@ -254,6 +258,7 @@ fn header_in(order: Order, table: &[u8], start: u64, width: Width, at: u64) -> O
     requires inside { at ≤ length table.now }
     ensures header { result ≡ header_in order table.now start width at }
     ensures fits { IfSome result (HeaderFits start (length table.now)) }
+    ensures standard { IfSome result (λ h. IsTrue (has_standard_operands table.now h)) }
 {
     match number_at(order, table, at, 2) {
         Some(version) => header_of_version(order, table, start, width, at, version),
@@ -267,6 +272,7 @@ pub(crate) fn line_header(order: Order, bytes: &[u8], start: u64) -> Option<Line
     requires small { length bytes.now ≤ 2 ^ 31 }
     ensures header { result ≡ line_header order bytes.now start }
     ensures fits { IfSome result (λ h. HeaderFits start h.end h) }
+    ensures standard { IfSome result (λ h. IsTrue (has_standard_operands (take h.end bytes.now) h)) }
     ensures further { IfSome result (λ h. start < h.end) }
     ensures within { IfSome result (λ h. h.end ≤ length bytes.now) }
 {

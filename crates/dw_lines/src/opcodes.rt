@@ -3,14 +3,17 @@
 //! This file promises: an opcode that is given stands at the place, and none is given only where none that
 //! a table may have ends in the bytes. A program isn't run.
 
-ghost use Rattle.std.specs.Prelude.{◌≡◌, ◌+◌, ◌-◌, ◌≤◌, ◌<◌, ◌^◌, length, take, IfSome};
-ghost use Rattle.dw_lines.specs.PlainOpcodes.{IsPlain};
+ghost use Rattle.std.specs.Prelude.{◌≡◌, ◌≢◌, ◌+◌, ◌-◌, ◌≤◌, ◌<◌, ◌^◌, length, slice_index, take, IfSome, IsTrue};
+ghost use Rattle.dw_lines.specs.PlainOpcodes.{has_leb, is_bare, IsPlain, IsShort};
+ghost use Rattle.dw_base.specs.LineHeaders.{has_standard_operands};
 ghost use Rattle.dw_base.specs.LinePrograms.{plain_opcode, defined_file, extended_at, extended_in, extended_operands, if_ranged, opcode_at, standard_end};
 
 use crate::texts::{file_numbers, inline_text, skip_lebs};
 use dw_base::line_numbers::{
     DW_LNE_define_file, DW_LNE_set_address, DW_LNE_set_discriminator, DW_LNS_advance_line,
-    DW_LNS_const_add_pc, DW_LNS_fixed_advance_pc,
+    DW_LNS_advance_pc, DW_LNS_const_add_pc, DW_LNS_copy, DW_LNS_fixed_advance_pc,
+    DW_LNS_negate_stmt, DW_LNS_set_basic_block, DW_LNS_set_column, DW_LNS_set_epilogue_begin,
+    DW_LNS_set_file, DW_LNS_set_isa, DW_LNS_set_prologue_end,
 };
 use dw_base::line_tables::Opcode;
 use dw_base::{FilePlace, LineHeader, sleb_at, uleb_at};
@@ -176,12 +179,104 @@ pub(crate) fn opcode_at(
     plain_opcode(standard_end(header, table, opcode, place + 1))
 }
 
-/// The place behind a plain opcode at a place: a special one or a standard one. `None` for an extended one, and for one that can't be
-/// had.
-#[tactic(auto, using(crate::proofs::PlainLaws::next_laws))]
+/// Whether an opcode has no operands in every table, and divides by nothing (DWARF 5, 6.2.5.2).
+fn is_bare(opcode: u8) -> bool
+    ensures { result ≡ is_bare opcode }
+{
+    opcode == DW_LNS_copy
+        || opcode == DW_LNS_negate_stmt
+        || opcode == DW_LNS_set_basic_block
+        || opcode == DW_LNS_set_prologue_end
+        || opcode == DW_LNS_set_epilogue_begin
+}
+
+/// Whether an opcode has one number of LEB128 in every table (DWARF 5, 6.2.5.2).
+fn has_leb(opcode: u8) -> bool
+    ensures { result ≡ has_leb opcode }
+{
+    opcode == DW_LNS_advance_pc
+        || opcode == DW_LNS_advance_line
+        || opcode == DW_LNS_set_file
+        || opcode == DW_LNS_set_column
+        || opcode == DW_LNS_set_isa
+}
+
+/// The place behind a number of LEB128 of one or two bytes, where two bytes stand at its place.
+#[tactic(auto, using(crate::proofs::ShortLaws::short_laws))]
+fn behind_short(table: &[u8], place: u64) -> Option<u64>
+    requires small { length table.now ≤ 2 ^ 31 }
+    requires inside { place ≤ length table.now }
+    ensures short { IfSome result (IsShort table.now place) }
+    ensures behind { IfSome result (λ next. place < next) }
+    ensures within { IfSome result (λ next. next ≤ length table.now) }
+{
+    if place + 2 > table.len() as u64 {
+        return None;
+    }
+    if table[place as usize] < 128 {
+        return Some(place + 1);
+    }
+    if table[place as usize + 1] < 128 {
+        return Some(place + 2);
+    }
+    None
+}
+
+/// Where an opcode with one number of LEB128 ends whose number stands at a place.
+#[tactic(auto, using(crate::proofs::ShortLaws::leb_laws))]
+fn behind_leb(header: &LineHeader, table: &[u8], opcode: u8, place: u64) -> Option<u64>
+    requires small { length table.now ≤ 2 ^ 31 }
+    requires inside { place ≤ length table.now }
+    requires some { 0 < opcode }
+    requires below { opcode < header.now.opcode_base }
+    requires leb { IsTrue (has_leb opcode) }
+    requires standard { IsTrue (has_standard_operands table.now header.now) }
+    requires operands { header.now.lists ≡ header.now.operands + (header.now.opcode_base - 1) }
+    requires lists { header.now.lists ≤ length table.now }
+    ensures end { result ≡ standard_end header.now table.now opcode place }
+    ensures behind { IfSome result (λ next. place ≤ next) }
+    ensures within { IfSome result (λ next. next ≤ length table.now) }
+{
+    if let Some(next) = behind_short(table, place) {
+        return Some(next);
+    }
+    standard_end(header, table, opcode, place)
+}
+
+/// The place behind an extended opcode at a place that sets the discriminator to a number of one byte (DWARF 5, 6.2.5.3).
+#[tactic(auto, using(crate::proofs::DiscriminatorLaws::discriminator_laws))]
+fn behind_discriminator(header: &LineHeader, table: &[u8], place: u64) -> Option<u64>
+    requires small { length table.now ≤ 2 ^ 31 }
+    requires inside { place < length table.now }
+    requires extended { slice_index table.now place ≡ 0 }
+    requires below { 0 < header.now.opcode_base }
+    ensures plain { IfSome result (IsPlain header.now table.now place) }
+    ensures behind { IfSome result (λ next. place < next) }
+    ensures within { IfSome result (λ next. next ≤ length table.now) }
+{
+    if place + 4 > table.len() as u64 {
+        return None;
+    }
+    if table[place as usize + 1] != 2 {
+        return None;
+    }
+    if table[place as usize + 2] != DW_LNE_set_discriminator {
+        return None;
+    }
+    if table[place as usize + 3] >= 128 {
+        return None;
+    }
+    Some(place + 4)
+}
+
+/// The place behind a plain opcode at a place: a special one, a standard one, or one that sets a discriminator. `None` for another extended one, and
+/// for one that can't be had. The standard opcodes that are met most are told by their numbers, since the header gives each the operands of the standard.
+#[tactic(auto, using(crate::proofs::PlainLaws::next_laws, crate::proofs::ShortLaws::bare_laws))]
 pub(crate) fn plain_next(header: &LineHeader, table: &[u8], place: u64) -> Option<u64>
     requires small { length table.now ≤ 2 ^ 31 }
     requires inside { place < length table.now }
+    requires ranged { header.now.line_range ≢ 0 }
+    requires standard { IsTrue (has_standard_operands table.now header.now) }
     requires operands { header.now.lists ≡ header.now.operands + (header.now.opcode_base - 1) }
     requires lists { header.now.lists ≤ length table.now }
     ensures plain { IfSome result (IsPlain header.now table.now place) }
@@ -190,10 +285,16 @@ pub(crate) fn plain_next(header: &LineHeader, table: &[u8], place: u64) -> Optio
 {
     let opcode = table[place as usize];
     if opcode >= header.opcode_base {
-        return if_ranged(header, place + 1);
+        return Some(place + 1);
+    }
+    if is_bare(opcode) {
+        return Some(place + 1);
     }
     if opcode == 0 {
-        return None;
+        return behind_discriminator(header, table, place);
+    }
+    if has_leb(opcode) {
+        return behind_leb(header, table, opcode, place + 1);
     }
     standard_end(header, table, opcode, place + 1)
 }

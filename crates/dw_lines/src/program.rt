@@ -3,8 +3,9 @@
 //! This file promises: the files that are given are those of the program, in the order of their places; the
 //! program is refused only where one of its opcodes passes its end or can't be had.
 
-ghost use Rattle.std.specs.Prelude.{◌≡◌, ◌+◌, ◌-◌, ◌≤◌, ◌^◌, [], length, IfOk, IfErr, OnOk};
+ghost use Rattle.std.specs.Prelude.{◌≡◌, ◌+◌, ◌-◌, ◌≤◌, ◌^◌, [], length, IfOk, IfErr, IsTrue, OnOk};
 ghost use Rattle.dw_base.specs.Refusals.{Blames};
+ghost use Rattle.dw_base.specs.LineHeaders.{has_standard_operands};
 ghost use Rattle.dw_base.specs.LinePrograms.{next_opcode, with_file};
 ghost use Rattle.dw_base.specs.Walks.{Breaks, ComesTo, Since};
 ghost use Rattle.dw_lines.specs.PlainOpcodes.{PassesPlain};
@@ -24,6 +25,7 @@ pub(crate) fn defined_files(
     refusal: Refusal,
 ) -> Result<Vec<FilePlace>, Fault>
     requires small { length table.now ≤ 2 ^ 31 }
+    requires standard { IsTrue (has_standard_operands table.now header.now) }
     requires operands { header.now.lists ≡ header.now.operands + (header.now.opcode_base - 1) }
     requires lists { header.now.lists ≤ length table.now }
     ensures read { IfOk result (λ files. ComesTo (next_opcode section header.now table.now) ([], header.now.program) files.items) }
@@ -52,15 +54,20 @@ fn push_file(files: &mut Vec<FilePlace>, file: Option<FilePlace>) -> Result<(), 
     Ok(())
 }
 
-/// The place behind plain opcodes that stand one after another from a place on.
+/// The place behind plain opcodes that stand one after another from a place on: none are passed where the line range is 0, so that
+/// special ones have none.
 #[tactic(auto, using(crate::proofs::PlainLaws::run_laws))]
 fn behind_plain(header: &LineHeader, table: &[u8], from: u64) -> u64
     requires small { length table.now ≤ 2 ^ 31 }
+    requires standard { IsTrue (has_standard_operands table.now header.now) }
     requires operands { header.now.lists ≡ header.now.operands + (header.now.opcode_base - 1) }
     requires lists { header.now.lists ≤ length table.now }
     ensures passed { PassesPlain header.now table.now from result }
     ensures further { from ≤ result }
 {
+    if header.line_range == 0 {
+        return from;
+    }
     let end = table.len() as u64;
     let mut place = from;
     'opcodes: while place < end {

@@ -16,8 +16,7 @@ use Rattle.dw_base.specs.declared.fault.Kind.TheVariants.{StringTable}
 use Rattle.dw_base.specs.declared.fault.Refusal.{Refusal}
 use Rattle.dw_base.specs.declared.shared.Order.{Order}
 use Rattle.dw_base.specs.declared.shared.Width.{Width}
-use Rattle.dw_base.specs.declared.shared.Width.TheVariants.{W32}
-use Rattle.dw_base.specs.StringOffsets.{contribution_from, IsContribution, ContributionsUpTo, no_contributions, more_contributions, AreContributions}
+use Rattle.dw_base.specs.StringOffsets.{IsContribution, ContributionsUpTo, no_contributions, more_contributions, AreContributions}
 use Rattle.dw_offsets.specs.SlotSearch.{BasesRise, base_at}
 use Rattle.dw_base.specs.StringOffsetFails.{ContributionFails, no_length, passes, no_version, other_version, cut_slot, SectionFails, contribution, ContributionsFail}
 use Rattle.dw_base.specs.declared.string_offsets.Contribution.{Contribution}
@@ -80,10 +79,6 @@ pub contributions-fill : (order : Order) (bytes : List ℕ) (start : ℕ) (list 
 contributions-fill order bytes start list u within far = subst (λ (k : ℕ). ContributionsUpTo order bytes list k) (omega (arith, within, far)) u
 
 pub ruleset list_laws = (no_contributions, more_contributions, section-fails, contributions-fill)
-
--- the bases of contributions that stand one after another rise
-no_contribution : Contribution
-no_contribution = record { start = 0; base = 0; end = 0; width = W32 }
 
 base_at-front : (list : List Contribution) (c : Contribution) (i : ℕ) → i < length list → base_at (list ++ c ∷ []) i ≡ base_at list i
 base_at-front [] c i lt = absurd (omega (arith, lt))

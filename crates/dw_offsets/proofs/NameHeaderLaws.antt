@@ -56,15 +56,6 @@ at-no_room order bytes section start extent size before behind width counts e in
     no_room (width, extent, size) (sym e) (omega (arith, inside, within, some))
     (subst (λ (n : NameCounts). extent < 32 + before_strings width n + from_strings width n) c (omega (arith, short, b, f)))
 
--- the parts as one record of what was read
-pub record HasRead (order : Order) (bytes : List ℕ) (start extent size before : ℕ) (width : Width) (counts : NameCounts) : Type 0 where
-  pub length_is : Some (width, extent, size) ≡ initial_length_at order bytes start
-  pub inside : start + size ≤ length bytes
-  pub within : extent ≤ length bytes - start - size
-  pub some : 32 ≤ extent
-  pub counts_are : counts ≡ name_counts order bytes (start + size)
-  pub before_is : before ≡ before_strings width counts
-
 pub at-table : (order : Order) (bytes : List ℕ) (start extent size before behind version : ℕ) (width : Width) (counts : NameCounts)
     → Some (width, extent, size) ≡ initial_length_at order bytes start → start + size ≤ length bytes → extent ≤ length bytes - start - size → 32 ≤ extent
     → version ≡ spelled order bytes (start + size) 2 → version ≡ 5 → counts ≡ name_counts order bytes (start + size) → before ≡ before_strings width counts

@@ -1,5 +1,5 @@
 -- Laws of marks: a mark more, and the slots that are marked with one value more.
-use Rattle.std.proofs.Common.{Bool, true, false, ◌≡◌, ◌⊎◌, inl, inr, ℕ, zero, ◌+◌, ◌/◌, ◌%◌, ◌<◌, ◌≤◌, nat_lt, ◌==◌, ◌&&◌, ◌||◌, List, [], ◌∷◌, ◌++◌, length, get_or, replicate, slice_set, Option, Some, Fits, w8, refl, sym, ap, ◌∙◌, arith}
+use Rattle.std.proofs.Common.{Bool, true, false, ◌≡◌, ◌⊎◌, inl, inr, ℕ, zero, ◌+◌, ◌/◌, ◌%◌, ◌<◌, ◌≤◌, nat_lt, ◌==◌, ◌&&◌, ◌||◌, List, [], ◌∷◌, ◌++◌, length, get_or, replicate, slice_set, Fits, w8, refl, sym, ap, ◌∙◌, arith}
 use Rattle.std.proofs.lemmas.Bool.{cases_eq, eq-eqb, ne_eqb}
 use Rattle.std.proofs.lemmas.Bool.Decides.{nat_tests}
 use Rattle.std.proofs.lemmas.List.{length-set, get_or-set_same, get_or-set_other, get_or-replicate, get_or_past, length-replicate}
@@ -133,13 +133,3 @@ names-more path g (x ∷ xs) u place =
     or-assoc : (a b c : Bool) → (a || (b || c)) ≡ ((a || b) || c)
     or-assoc true b c = refl
     or-assoc false b c = refl
-
-pub marks-more : (old new : List ℕ) (g : Indexing) (uses : List IndexUse) (u : IndexUse) (at : ℕ) → AreMarks old g uses
-    → IsMarked old new u.path at → use_place g u ≡ Some at → AreMarks new g (uses ++ u ∷ [])
-marks-more old new g uses u at are more e = record {
-  each = λ path place.
-      more.each path place
-      ∙ ap (λ (b : Bool). b || (is_kind path u.path && at == place)) (are.each path place)
-      ∙ ap (λ (o : Option ℕ). names_place path g uses place || (is_kind path u.path && is_place o place)) (sym e)
-      ∙ sym (names-more path g uses u place);
-}

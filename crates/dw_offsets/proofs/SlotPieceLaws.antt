@@ -14,7 +14,7 @@ use Rattle.dw_base.specs.OffsetPieces.{OffsetMode, at_contribution, at_slot, no_
 use Rattle.dw_base.specs.Paths.{PathMap, mapped_path}
 use Rattle.dw_base.specs.Pieces.{Piece, EachPiece, Chain, joined}
 use Rattle.dw_base.specs.Refusals.{at}
-use Rattle.dw_base.specs.RelocationRows.{FieldPlace, IsField, OffsetFails, OffsetReads, field_place, offset_field, slot_field as field_by_mode, slot_fields as offset_fields}
+use Rattle.dw_base.specs.RelocationRows.{FieldPlace, IsField, OffsetFails, field_place, offset_field, slot_field as field_by_mode, slot_fields as offset_fields}
 use Rattle.dw_base.specs.SectionTexts.{offset_role, slot_role, NameTexts}
 use Rattle.dw_base.specs.SlotTexts.{contribution_by, begun_by, contributions_in, field_text}
 use Rattle.dw_base.specs.Slots.{Slot, slot_at, slot_total, slots_of, slot_number}
@@ -418,11 +418,6 @@ all-known around t cells xs marks a = each xs (piece-facts t.order cells xs a.re
     each [] h = tt
     each (y ∷ ys) h = (known-by y.state.mode around t cells xs marks y a h.0, each ys h.1)
 
--- slots that were taken name texts, are fit to be mapped, and have these fields
-record PieceTaken (m : PathMap) (around : Around) (x : Piece OffsetState) : Type 0 where
-  names : NamesTextBy (slot_role (path_slots around) x.state) around x.cells
-  fits : SlotFits m around x
-
 rest-taken : (P : Slot → Type 0) (mode : OffsetMode) (s : Slot) (rest : List Slot) → EachSlot P (listed_by mode s ++ rest) → EachSlot P rest
 rest-taken P at_contribution s rest h = h
 rest-taken P (at_slot w end) s rest h = h.1
@@ -519,34 +514,6 @@ places-are order s (x ∷ xs) chain =
 places-append : (xs ys : List Slot) → slot_places (xs ++ ys) ≡ slot_places xs ++ slot_places ys
 places-append [] ys = refl
 places-append (x ∷ xs) ys = ap (λ (l : List FieldPlace). as_field x ∷ l) (places-append xs ys)
-
-first-field : (f g : FieldPlace) (fs gs : List FieldPlace) → f ∷ fs ≡ g ∷ gs → f ≡ g
-first-field f g fs gs e = cc
-
-rest-fields : (f g : FieldPlace) (fs gs : List FieldPlace) → f ∷ fs ≡ g ∷ gs → fs ≡ gs
-rest-fields f g fs gs e = cc
-
-no-field : (before behind : List FieldPlace) (f : FieldPlace) → [] ≡ before ++ f ∷ behind → ⊥
-no-field [] behind f e = cc
-no-field (b ∷ bs) behind f e = cc
-
-each-place : (P : FieldPlace → Type 0) (ss : List Slot) (before behind : List FieldPlace) (f : FieldPlace) → EachSlot (λ s. P (as_field s)) ss
-    → slot_places ss ≡ before ++ f ∷ behind → P f
-each-place P [] before behind f h e = absurd (no-field before behind f e)
-each-place P (s ∷ ss) [] behind f h e = subst P (first-field (as_field s) f (slot_places ss) behind e) h.0
-each-place P (s ∷ ss) (b ∷ bs) behind f h e = each-place P ss bs behind f h.1 (rest-fields (as_field s) b (slot_places ss) (bs ++ f ∷ behind) e)
-
--- no relocation refuses a slot of those that were taken
-pub slots-offsets : (m : PathMap) (around : Around) (t : SlotTable) (cells : List Cell) (xs : List (Piece OffsetState)) (marks : List ℕ) (fields : List PathSlot)
-    (f : FieldPlace) → SlotsAround around t cells xs marks → SlotsTaken m t marks (slots_of around.lasting.indexing.contributions) [] fields
-    → IsField (offset_fields xs) f → OffsetReads t.order cells f
-slots-offsets m around t cells xs marks fields f a h is =
-    let all : piece_slots xs ≡ slots_of around.lasting.indexing.contributions = slots-are t.order cells xs a.reads ∙ ap slots_of a.list in
-    let taken : EachSlot (SlotTaken m t marks) (piece_slots xs) = subst (λ (l : List Slot). EachSlot (SlotTaken m t marks) l) (sym all) h.taken in
-    subst (λ (cs : List Cell). OffsetReads t.order cs f) (sym a.same)
-    (each-place (OffsetReads t.order t.cells) (piece_slots xs) is.before is.behind f
-    (each-from (SlotTaken m t marks) (λ s. OffsetReads t.order t.cells (as_field s)) (piece_slots xs) (λ s one. one.reads) taken)
-    (sym (places-are t.order (offsets_at (length cells) 0 0 at_contribution) xs a.reads.chain) ∙ is.is))
 
 -- and what it refuses is refused at a piece
 pub data SlotsFail (m : PathMap) (t : SlotTable) (around : Around) (xs : List (Piece OffsetState)) : Refusal → Type 0 where

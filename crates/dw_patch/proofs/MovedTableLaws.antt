@@ -8,7 +8,7 @@ use Rattle.dw_base.specs.SectionRelocations.{RelocationSource, is_none_type, rec
 use Rattle.dw_base.proofs.RelocationBodyLaws.{CanMove, new_addend, new_place}
 use Rattle.dw_patch.specs.RecordMoves.{PlacesFit, addend_after, moved_table, nth_record, record_put, record_step, records_moved}
 use Rattle.elf_relocs.specs.Runs.{place_by}
-use Rattle.dw_patch.specs.declared.patches.Patch.{Patch}
+use Rattle.elf_layout.specs.declared.patch.Patch.{Patch}
 use Rattle.elf_relocs.specs.declared.runs.Run.{Run}
 
 -- each relocation comes to stand where its run says, with the addend that makes the offset of its field
@@ -47,5 +47,3 @@ pub places-fit : (g : RelocationSource) (old new : List Cell) (runs : List Run) 
 places-fit g old new runs fields h can = record {
   each = λ i lt counts. subst (λ (p : ℕ). p < 256 ^ word_size g.class) (sym (h.place i lt counts)) (can.place_fits i lt counts);
 }
-
-pub ruleset moved_rules = (moved_table-is, places-fit)

@@ -12,7 +12,7 @@ use Rattle.dw_base.specs.SectionRelocations.{RelocationSource, is_none_type, rec
 use Rattle.dw_patch.specs.OffsetLists.{OffsetsFit, count_at}
 use Rattle.dw_patch.specs.RecordMoves.{AllSized, FieldsRise, addend_if, field_start, moved_table, no_field, nth_record, patch_for, record_put, record_step, records_moved}
 use Rattle.elf_relocs.specs.Runs.{place_by}
-use Rattle.dw_patch.specs.declared.patches.Patch.{Patch}
+use Rattle.elf_layout.specs.declared.patch.Patch.{Patch}
 use Rattle.elf_relocs.specs.declared.runs.Run.{Run}
 
 -- none
@@ -30,10 +30,6 @@ count-append [] ys place = omega arith
 count-append (x ∷ xs) ys place =
     let rest = count-append xs ys place in
     omega (arith, rest)
-
-if-false : (b : Bool) (x y : Option Patch) → b ≡ false → (if b then x else y) ≡ y
-if-false true x y e = absurd cc
-if-false false x y e = refl
 
 count-none : (xs : List Patch) (place : ℕ) → patch_for xs place ≡ None → count_at xs place ≡ 0
 count-none [] place e = refl

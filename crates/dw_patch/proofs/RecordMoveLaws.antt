@@ -1,5 +1,5 @@
 -- Laws of records that are moved: one after another they are those of the new table.
-use Rattle.std.proofs.Common.{◌≡◌, ◌≢◌, ◌⊎◌, ◌↔◌, ℕ, ℤ, zero, suc, ◌+◌, ◌*◌, ◌^◌, ◌<◌, ◌≤◌, ◌==◌, Bool, true, false, if◌then◌else◌, List, [], ◌∷◌, length, Option, Some, None, inl, inr, refl, sym, ap, ◌∙◌, subst, arith, get_or, Fits, w8}
+use Rattle.std.proofs.Common.{◌≡◌, ◌≢◌, ◌⊎◌, ◌↔◌, ℕ, ℤ, zero, suc, ◌+◌, ◌*◌, ◌^◌, ◌<◌, ◌≤◌, ◌==◌, Bool, true, false, if◌then◌else◌, List, [], ◌∷◌, length, Option, Some, None, inl, inr, refl, sym, ap, ◌∙◌, subst, arith}
 use Rattle.std.specs.Bool.{MatchBool, ⊤}
 use Rattle.std.specs.Prelude.{IfSome, slice_index_or}
 use Rattle.std.specs.Int.RustNames.{FitsSigned}
@@ -12,13 +12,12 @@ use Rattle.dw_base.specs.SectionRelocations.{RelocationSource, is_none_type, rec
 use Rattle.dw_base.specs.declared.relocations.Reloc.{Reloc}
 use Rattle.dw_base.specs.declared.shared.Class.{Class}
 use Rattle.dw_base.specs.declared.shared.Class.TheVariants.{C32, C64}
-use Rattle.dw_base.proofs.NumberLaws.{spelled-lt}
 use Rattle.dw_base.proofs.RelocLaws.{length-with_reloc}
 use Rattle.dw_base.proofs.RelocationTieLaws.{count-has, get_or-records, length-records, record-some, record-there}
 use Rattle.elf_relocs.specs.FieldOffsets.{offset_addend}
 use Rattle.dw_patch.specs.RecordMoves.{AllSized, FieldsRise, HasKey, IsGap, PlacesFit, addend_after, addend_if, field_start, moved_table, no_field, nth_record, patch_for, record_put, record_step, records_moved}
-use Rattle.elf_relocs.specs.Runs.{RunsRise, place_by}
-use Rattle.dw_patch.specs.declared.patches.Patch.{Patch}
+use Rattle.elf_relocs.specs.Runs.{place_by}
+use Rattle.elf_layout.specs.declared.patch.Patch.{Patch}
 use Rattle.elf_relocs.specs.declared.runs.Run.{Run}
 
 -- the table so far
@@ -173,14 +172,3 @@ field-absent fields place i gap = sym (for-absent fields place (λ k lt e. by_or
     ]
 
 pub ruleset field_rules = (field-found, field-absent)
-
--- a section whose bytes stay
-pub no-runs : (list : List Run) → list ≡ [] → RunsRise list
-no-runs list none = subst RunsRise (sym none) (record { rise = λ i j below lt. absurd (omega (arith, lt)) })
-
-pub places-stay : (g : RelocationSource) (runs : List Run) → runs ≡ [] → ((k : ℕ) → Fits w8 (get_or g.table k 0)) → PlacesFit g runs
-places-stay g runs none bytes = subst (PlacesFit g) (sym none) (record {
-  each = λ i lt counts. spelled-lt g.order g.table (i * reloc_size g.class g.rela) (word_size g.class) (λ k. (bytes k).fits);
-})
-
-pub ruleset stay_rules = (no-runs, places-stay)

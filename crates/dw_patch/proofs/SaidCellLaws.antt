@@ -1,6 +1,6 @@
 -- Contents in which fields say other offsets: each relocation is at its byte, with the addend that makes the offset of its field. It is shown cell
 -- by cell, from the pieces of which the contents are made.
-use Rattle.std.proofs.Common.{◌≡◌, ℕ, zero, suc, ◌+◌, ◌<◌, List, [], ◌∷◌, ◌++◌, length, Option, Some, None, refl, sym, ap, ◌∙◌, subst, arith}
+use Rattle.std.proofs.Common.{◌≡◌, ℕ, suc, ◌+◌, ◌<◌, List, [], ◌∷◌, ◌++◌, length, Option, Some, None, refl, sym, ap, ◌∙◌, subst, arith}
 use Rattle.std.specs.Bool.{⊤}
 use Rattle.dw_base.specs.Cells.{Cell, Relocation, first_relocation}
 use Rattle.dw_base.specs.NewOffsets.{with_offset}
@@ -9,7 +9,7 @@ use Rattle.dw_base.specs.declared.shared.Order.{Order}
 use Rattle.elf_relocs.specs.FieldOffsets.{offset_addend}
 use Rattle.elf_relocs.proofs.OffsetLaws.{SameBehind, SameRelocations, behind-put, first-put, none-put}
 use Rattle.dw_patch.specs.RecordMoves.{patch_for}
-use Rattle.dw_patch.specs.declared.patches.Patch.{Patch}
+use Rattle.elf_layout.specs.declared.patch.Patch.{Patch}
 
 -- the relocation that begins at a place, when the fields say their offsets
 abbrev pub by_field : Relocation → Option Patch → Relocation
@@ -78,28 +78,3 @@ said-put fields place order c cs f begins size none =
     let h : SameBehind c cs (with_offset order (c ∷ cs) f.value) = behind-put order c cs f.value in
     let first : h.first.relocation ≡ said fields place c.relocation = ap first_relocation (sym h.is) ∙ said-first fields place order (c ∷ cs) f begins size in
     subst (SaidAll fields place (c ∷ cs)) (sym h.is) (first, said-kept fields (suc place) cs h.rest none h.same)
-
--- so it is at each place, and there are as many cells
-said-at : (fields : List Patch) (place : ℕ) (old new : List Cell) (p : ℕ) → SaidAll fields place old new → relocation_at new p ≡ said fields (place + p) (relocation_at old p)
-said-at fields place [] [] zero h = refl
-said-at fields place [] [] (suc p) h = refl
-said-at fields place [] (d ∷ ds) p h = absurd h
-said-at fields place (c ∷ cs) [] p h = absurd h
-said-at fields place (c ∷ cs) (d ∷ ds) zero h =
-    let here : place ≡ place + 0 = omega arith in
-    h.0 ∙ ap (λ (k : ℕ). said fields k c.relocation) here
-said-at fields place (c ∷ cs) (d ∷ ds) (suc p) h =
-    let next : suc place + p ≡ place + suc p = omega arith in
-    said-at fields (suc place) cs ds p h.1 ∙ ap (λ (k : ℕ). said fields k (relocation_at cs p)) next
-
-said-length : (fields : List Patch) (place : ℕ) (old new : List Cell) → SaidAll fields place old new → length new ≡ length old
-said-length fields place [] [] h = refl
-said-length fields place [] (d ∷ ds) h = absurd h
-said-length fields place (c ∷ cs) [] h = absurd h
-said-length fields place (c ∷ cs) (d ∷ ds) h = ap suc (said-length fields (suc place) cs ds h.1)
-
-pub fields-say : (fields : List Patch) (old new : List Cell) → SaidAll fields 0 old new → FieldsSay fields old new
-fields-say fields old new h = record {
-  size = said-length fields 0 old new h;
-  each = λ p. let none : 0 + p ≡ p = omega arith in said-at fields 0 old new p h ∙ ap (λ (k : ℕ). said fields k (relocation_at old p)) none;
-}

@@ -9,7 +9,7 @@ use Rattle.dw_base.specs.SectionRelocations.{extends, is_none_type, is_symbol_ta
 use Rattle.dw_base.specs.Symbols.{symbol_at}
 use Rattle.dw_base.proofs.WorkedRelocations.{record_of, rel_object, rel_records, rela_object, source_of}
 use Rattle.dw_patch.specs.RecordMoves.{moved_table}
-use Rattle.dw_patch.specs.declared.patches.Patch.{Patch}
+use Rattle.elf_layout.specs.declared.patch.Patch.{Patch}
 use Rattle.elf_relocs.specs.declared.runs.Run.{Run}
 
 abbrev field : ℕ → ℕ → Patch

@@ -1,7 +1,7 @@
 -- Fields of a section with the offsets that they are to say, in any order.
 use Rattle.std.specs.Prelude.{ℕ, ◌+◌, ◌≤◌, ◌==◌, if◌then◌else◌, List, [], ◌∷◌}
 use Rattle.dw_patch.specs.RecordMoves.{AllSized}
-use Rattle.dw_patch.specs.declared.patches.Patch.{Patch}
+use Rattle.elf_layout.specs.declared.patch.Patch.{Patch}
 
 -- how many of them begin at a place
 abbrev pub count_at : List Patch → ℕ → ℕ

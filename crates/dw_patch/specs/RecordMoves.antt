@@ -7,7 +7,7 @@ use Rattle.dw_base.specs.Relocs.{reloc_in, reloc_size}
 use Rattle.dw_base.specs.SectionRelocations.{RelocationSource, is_none_type, records_in, relocation_of}
 use Rattle.dw_base.specs.declared.relocations.Reloc.{Reloc}
 use Rattle.elf_relocs.specs.FieldOffsets.{offset_addend}
-use Rattle.dw_patch.specs.declared.patches.Patch.{Patch}
+use Rattle.elf_layout.specs.declared.patch.Patch.{Patch}
 use Rattle.elf_relocs.specs.Runs.{no_run, place_by, run_start}
 use Rattle.elf_relocs.specs.declared.runs.Run.{Run}
 

@@ -23,7 +23,8 @@ mod records;
 mod runs;
 
 pub use dw_base::{Fault, Kind, NoMemory, Order, Refusal};
+pub use elf_layout::{NewBody, Patch};
 pub use elf_relocs::{RelocSource, Run};
 pub use offsets::Offsets;
-pub use patches::{NewPlace, Patch, Patches};
+pub use patches::{NewPlace, Patches};
 pub use records::move_records;

@@ -9,11 +9,11 @@ ghost use Rattle.std.specs.List.Sorted.{IsNonDecreasingBy, IsPermutation};
 ghost use Rattle.dw_patch.specs.OffsetLists.{OffsetsFit};
 ghost use Rattle.dw_patch.specs.RecordMoves.{PlacesFit, field_start, moved_table, patch_for};
 ghost use Rattle.elf_relocs.specs.Runs.{RunsRise};
-ghost use Rattle.dw_patch.specs.declared.patches.Patch.{Patch as PatchOf};
+ghost use Rattle.elf_layout.specs.declared.patch.Patch.{Patch as PatchOf};
 
-use crate::patches::Patch;
 use crate::records::move_records;
 use dw_base::NoMemory;
+use elf_layout::Patch;
 use elf_relocs::{RelocSource, Run};
 use std::alloc::Global;
 use std::marker::Model;

@@ -5,12 +5,14 @@
 
 ghost use Rattle.std.specs.Prelude.{[], ◌≡◌, ◌↔◌, ◌+◌, ◌^◌, ◌≤◌, ◌<◌, length, IfErr, IfOk, IsTrue, OnErr, OnOk};
 ghost use Rattle.dw_base.specs.FileViews.{section_bytes};
-ghost use Rattle.dw_base.specs.Numbers.{with_number};
 ghost use Rattle.dw_base.specs.Refusals.{Blames};
-ghost use Rattle.dw_patch.specs.Patching.{IsFree, IsPatched, PatchFits, PatchList, PatchedUpTo, PatchesFit, SetFails, no_patches, number_of, patches_of, with_patch, with_patches};
+ghost use Rattle.elf_layout.specs.Given.{body_bytes};
+ghost use Rattle.elf_layout.specs.Patched.{PatchesFit, with_patches};
+ghost use Rattle.dw_patch.specs.Patching.{IsFree, IsPatched, PatchList, SetFails, no_patches, number_of, patches_of, with_patch};
 
-use dw_base::{Fault, Kind, NoMemory, Order, Refusal, put_number};
+use dw_base::{Fault, Kind, NoMemory, Order, Refusal};
 use dw_view::View;
+use elf_layout::{NewBody, Patch, put_patches};
 use std::alloc::Global;
 use std::marker::Model;
 
@@ -19,17 +21,6 @@ use std::marker::Model;
 pub enum NewPlace {
     /// A place, in bytes from the start of the section that the field is of.
     Offset(u64),
-}
-
-/// A field of a section, and its new number.
-#[derive(Clone, Copy, Debug, PartialEq, Eq, Drop)]
-pub struct Patch {
-    /// Where the field is, in bytes from the section's start.
-    pub at: u64,
-    /// How many bytes it has.
-    pub size: u8,
-    /// What it is to read as.
-    pub value: u64,
 }
 
 /// The patches of a section.
@@ -96,31 +87,20 @@ impl Patches {
         requires size { length bytes.old ≡ self.now.size }
         ensures patched { IsPatched self.now bytes.old bytes.new }
         ensures put { bytes.new ≡ with_patches self.now.order bytes.old self.now.list }
+        ensures long { length bytes.new ≡ length bytes.old }
     {
-        apply_all(self.order, self.size, &self.list, bytes);
+        put_patches(self.order, &self.list, bytes);
     }
-}
 
-/// Puts the new numbers of fields into bytes, one after another.
-#[tactic(auto, using(crate::proofs::PatchLaws::put_laws))]
-fn apply_all(order: Order, size: u64, list: &[Patch], bytes: &mut [u8])
-    requires fit { PatchesFit size list.now }
-    requires size { length bytes.old ≡ size }
-    ensures patched { PatchedUpTo order list.now (length list.now) bytes.old bytes.new }
-    ensures put { bytes.new ≡ with_patches order bytes.old list.now }
-{
-    for patch in list {
-        put(order, patch, bytes);
+    /// The new body of the section with these bytes, which aren't copied. No memory.
+    #[tactic(auto, using(crate::proofs::PatchLaws::apply_laws))]
+    pub fn onto<'a>(self, bytes: &'a [u8]) -> NewBody<'a>
+        requires size { length bytes.now ≡ self.size }
+        ensures bytes { body_bytes result ≡ with_patches self.order bytes.now self.list }
+    {
+        let Patches { order, list, .. } = self;
+        NewBody::patched(bytes, order, list)
     }
-}
-
-/// Puts the new number of a field into bytes.
-fn put(order: Order, patch: &Patch, bytes: &mut [u8])
-    requires fits { PatchFits (length bytes.old) patch.now }
-    ensures put { bytes.new ≡ with_number order bytes.old patch.now.at patch.now.size patch.now.value }
-{
-    let Patch { at, size, value } = *patch;
-    let _put = put_number(order, bytes, at, size, value);
 }
 
 /// Whether a number fits so many bytes.

@@ -14,9 +14,9 @@ ghost use Rattle.dw_base.specs.SectionRelocations.{records_in};
 ghost use Rattle.dw_patch.specs.RecordMoves.{AllSized, FieldsRise, HasKey, IsGap, PlacesFit, addend_after, field_start, moved_table, nth_record, patch_for, record_step};
 ghost use Rattle.elf_relocs.specs.Runs.{RunsRise, place_by};
 
-use crate::patches::Patch;
 use crate::runs::place_by;
 use dw_base::Reloc;
+use elf_layout::Patch;
 use elf_relocs::{RelocSource, Run, is_none_type, offset_addend, record, record_count, set_reloc};
 
 /// Puts into `out`, which is a copy of the table of the relocations of a section, the records as they are when the bytes of the section

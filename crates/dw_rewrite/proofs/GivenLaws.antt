@@ -2,15 +2,13 @@
 use Rattle.std.proofs.Common.{◌≡◌, ◌≢◌, ℕ, suc, ◌<◌, ◌⊎◌, inl, inr, ◌==◌, Bool, false, if◌then◌else◌, List, [], ◌∷◌, ◌++◌, length, take, drop, replicate, slice_set, Option, Some, None, refl, sym, ap, ◌∙◌, arith, subst, length-append}
 use Rattle.std.proofs.lemmas.Bool.{eq-eqb, ne_eqb, cases_eq}
 use Rattle.std.proofs.lemmas.List.{append-nil, drop_all, take_all, get_or-replicate, get_or-set_other, get_or-set_same, length-replicate, length-set}
-use Rattle.std.specs.declared.alloc.Global.{Global}
-use Rattle.std.specs.declared.vec.Vec.{Vec}
 use Rattle.dw_meaning.specs.DataOutput.{Body}
 use Rattle.dw_base.specs.Elf.{section_count}
-use Rattle.elf_layout.specs.Given.{item_of}
+use Rattle.elf_layout.specs.Given.{NewBody, body_bytes, item_of}
 use Rattle.dw_rewrite.specs.Rewritten.{AllStand, AreGiven, IsGiven, Stands, is_of, item_bytes}
 
 abbrev Items : Type 0
-Items = List (Option (Vec ℕ Global))
+Items = List (Option NewBody)
 
 -- A body of no section is given to none.
 of_none : (x : Body) (i : ℕ) → x.number ≡ 0 → is_of x i ≡ false
@@ -27,7 +25,7 @@ given-none old new x same none = record {
 of_some : (x : Body) (i : ℕ) → x.number ≢ 0 → is_of x i ≡ (i == x.number)
 of_some x i some = rw (ne_eqb x.number 0 some) refl
 
-pub given-some : (old new : Items) (x : Body) (v : Vec ℕ Global) → new ≡ slice_set old x.number (Some v) → v.items ≡ x.bytes → x.number ≢ 0
+pub given-some : (old new : Items) (x : Body) (v : NewBody) → new ≡ slice_set old x.number (Some v) → body_bytes v ≡ x.bytes → x.number ≢ 0
     → x.number < length old → IsGiven old new x
 given-some old new x v is bytes some lt = record {
   size = ap (λ (l : Items). length l) is ∙ length-set old x.number (Some v);

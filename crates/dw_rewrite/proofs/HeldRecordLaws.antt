@@ -38,7 +38,7 @@ use Rattle.dw_meaning.proofs.FileBackLaws.{AllAt}
 use Rattle.dw_meaning.proofs.FileKeptLaws.{IsApart, around_file, changes_file, macro-apart, named-apart, read-section}
 use Rattle.dw_meaning.proofs.TableKeptLaws.{drop-at}
 use Rattle.dw_patch.specs.RecordMoves.{moved_table}
-use Rattle.dw_patch.specs.declared.patches.Patch.{Patch}
+use Rattle.elf_layout.specs.declared.patch.Patch.{Patch}
 use Rattle.dw_find.specs.MacroSections.{macro_starts, macros_read, macros_with}
 use Rattle.dw_find.specs.SlotPaths.{read_fields, slots_by, slots_read, slots_with}
 use Rattle.dw_find.specs.UnitPaths.{UnitPaths, paths_in, paths_of}

@@ -9,7 +9,7 @@ use Rattle.dw_base.specs.declared.fault.Refusal.{Refusal}
 use Rattle.dw_meaning.specs.LineStretches.{Stretch, kept_stretch, offset_stretch, other_stretch, stretch_size, stretches_end}
 use Rattle.dw_meaning.specs.NewAddends.{Makes, Misses}
 use Rattle.dw_patch.specs.RecordMoves.{patch_for}
-use Rattle.dw_patch.specs.declared.patches.Patch.{Patch}
+use Rattle.elf_layout.specs.declared.patch.Patch.{Patch}
 use Rattle.dw_lines.specs.TableMoves.{offsets_from}
 use Rattle.dw_lines.specs.declared.moves.FieldOffset.{FieldOffset}
 use Rattle.dw_rewrite.specs.LineOffsets.{OffsetMisses, OffsetsInside, OffsetsMake, OffsetsRise, OffsetsSized, said_field, said_fields}

@@ -39,7 +39,7 @@ use Rattle.dw_meaning.proofs.LineStretchLaws.{section-are}
 use Rattle.dw_meaning.proofs.TableKeptLaws.{FoundAt, drop-at, found-named, sections-self}
 use Rattle.dw_meaning.proofs.TableMoveLaws.{reads-apart, section-source}
 use Rattle.dw_patch.specs.RecordMoves.{PlacesFit, moved_table}
-use Rattle.dw_patch.specs.declared.patches.Patch.{Patch}
+use Rattle.elf_layout.specs.declared.patch.Patch.{Patch}
 use Rattle.dw_view.specs.Firsts.{held_source}
 use Rattle.dw_lines.specs.TableMoves.{offsets_from, runs_from}
 use Rattle.dw_lines.specs.ViewSources.{view_source}

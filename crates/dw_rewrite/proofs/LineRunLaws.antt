@@ -33,7 +33,7 @@ use Rattle.elf_relocs.specs.declared.runs.Run.{Run}
 use Rattle.elf_relocs.proofs.OffsetLaws.{same-self}
 use Rattle.elf_relocs.proofs.RunPlaceLaws.{BeginFrom, place-here, rise-begin}
 use Rattle.dw_patch.specs.RecordMoves.{moved_table, patch_for}
-use Rattle.dw_patch.specs.declared.patches.Patch.{Patch}
+use Rattle.elf_layout.specs.declared.patch.Patch.{Patch}
 use Rattle.dw_patch.proofs.SaidCellLaws.{NoneBegin, said-kept, said-put}
 use Rattle.dw_lines.specs.TableMoves.{kept_run, offsets_from, runs_from, stretch_new, stretch_offset, stretch_run}
 use Rattle.dw_lines.specs.ViewTables.{tables_read}

@@ -12,7 +12,7 @@ use Rattle.dw_base.specs.declared.fault.Fault.TheVariants.{NoMemory, Refused}
 use Rattle.dw_base.specs.declared.fault.Kind.TheVariants.{TooWide}
 use Rattle.dw_meaning.specs.NewAddends.{Makes, Misses}
 use Rattle.dw_patch.specs.RecordMoves.{patch_for}
-use Rattle.dw_patch.specs.declared.patches.Patch.{Patch}
+use Rattle.elf_layout.specs.declared.patch.Patch.{Patch}
 use Rattle.dw_find.specs.Fields.{AllApart, AreApart, IsApartFrom, IsOffsetField}
 use Rattle.dw_find.specs.UnitPaths.{UnitPaths}
 use Rattle.dw_find.specs.ViewFields.{HasOffsets, HasPlaces}

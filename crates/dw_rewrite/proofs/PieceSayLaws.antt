@@ -15,7 +15,7 @@ use Rattle.dw_base.specs.StringTables.{appending}
 use Rattle.dw_base.specs.TextChanges.{TableChanges, edited_all, edited_by}
 use Rattle.dw_base.specs.UnitStates.{UnitState}
 use Rattle.dw_base.specs.declared.shared.Order.{Order}
-use Rattle.dw_patch.specs.declared.patches.Patch.{Patch}
+use Rattle.elf_layout.specs.declared.patch.Patch.{Patch}
 use Rattle.dw_patch.proofs.SaidCellLaws.{SaidAll, said-append}
 use Rattle.dw_rewrite.proofs.MacroWrittenLaws.{from-macros, no-path}
 use Rattle.dw_rewrite.proofs.SaidLaws.{FromHere, SaidStep, Sized, said-step}

@@ -22,7 +22,7 @@ use Rattle.dw_find.specs.declared.fields.PathField.{PathField}
 use Rattle.dw_meaning.specs.DataOutput.{Body}
 use Rattle.dw_meaning.specs.NewAddends.{Makes}
 use Rattle.dw_patch.specs.RecordMoves.{PlacesFit, moved_table}
-use Rattle.dw_patch.specs.declared.patches.Patch.{Patch}
+use Rattle.elf_layout.specs.declared.patch.Patch.{Patch}
 use Rattle.dw_rewrite.specs.Changes.{FieldSource, offset_at}
 use Rattle.dw_rewrite.specs.NewOffsets.{AllPlacesFit, offsets_in, record_body, records_known}
 use Rattle.dw_rewrite.specs.NewTables.{source_in, starts_in}

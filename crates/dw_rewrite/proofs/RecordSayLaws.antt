@@ -14,7 +14,7 @@ use Rattle.dw_meaning.proofs.RecordMoveLaws.{RecordsApart, record-begins}
 use Rattle.dw_meaning.proofs.RecordShiftLaws.{after-further, after-here, landed, landed-both, landed-new, landed-old}
 use Rattle.dw_patch.specs.RecordMoves.{PlacesFit, addend_if, moved_table, nth_record, patch_for}
 use Rattle.elf_relocs.specs.Runs.{place_by}
-use Rattle.dw_patch.specs.declared.patches.Patch.{Patch}
+use Rattle.elf_layout.specs.declared.patch.Patch.{Patch}
 use Rattle.elf_relocs.specs.declared.runs.Run.{Run}
 use Rattle.dw_patch.proofs.MovedTableLaws.{Says, moved_table-is}
 use Rattle.dw_patch.proofs.SaidCellLaws.{SaidAll, by_field, said}

@@ -15,7 +15,7 @@ use Rattle.dw_base.specs.Texts.{text}
 use Rattle.dw_base.specs.declared.shared.Order.{Order}
 use Rattle.elf_relocs.proofs.OffsetLaws.{same-bytes, same-self}
 use Rattle.dw_patch.specs.RecordMoves.{patch_for}
-use Rattle.dw_patch.specs.declared.patches.Patch.{Patch}
+use Rattle.elf_layout.specs.declared.patch.Patch.{Patch}
 use Rattle.dw_patch.proofs.SaidCellLaws.{NoneBegin, SaidAll, said-kept, said-put}
 use Rattle.dw_rewrite.specs.Changes.{FieldSource, new_start, offset_at, start_known}
 use Rattle.dw_rewrite.specs.NewOffsets.{asked, offset_by, offsets_after, offsets_known}

@@ -1,5 +1,6 @@
 -- The new bytes of unit sections, from the new places that are known.
-use Rattle.std.proofs.Common.{true, ◌≡◌, ℕ, zero, suc, ◌+◌, ◌≤◌, ◌<◌, List, [], ◌∷◌, ◌++◌, length, drop, get_or, Option, IsTrue, refl, sym, ap, ◌∙◌, subst, arith, append_assoc, append-nil}
+use Rattle.std.proofs.Common.{Bool, true, ◌==◌, ◌≡◌, ℕ, zero, suc, ◌+◌, ◌≤◌, ◌<◌, List, [], ◌∷◌, ◌++◌, length, drop, get_or, Option, IsTrue, refl, sym, ap, ◌∙◌, subst, arith, append_assoc, append-nil}
+use Rattle.std.proofs.lemmas.Bool.{ne_eqb, true≢false}
 use Rattle.std.proofs.lemmas.List.{drop_all}
 use Rattle.dw_meaning.specs.DataOutput.{Body}
 use Rattle.dw_base.specs.FileViews.{View, view_cells}
@@ -10,8 +11,10 @@ use Rattle.dw_base.specs.Refusals.{Blames}
 use Rattle.dw_base.specs.declared.fault.Fault.{Fault}
 use Rattle.dw_base.specs.declared.fault.Fault.TheVariants.{NoMemory, Refused}
 use Rattle.dw_base.specs.declared.fault.Refusal.{Refusal}
-use Rattle.dw_patch.specs.Patching.{PatchList, no_patches, with_patches}
-use Rattle.dw_patch.specs.declared.patches.Patch.{Patch}
+use Rattle.dw_base.specs.declared.shared.Order.{Order}
+use Rattle.dw_patch.specs.Patching.{PatchList, no_patches}
+use Rattle.elf_layout.specs.Patched.{with_patches}
+use Rattle.elf_layout.specs.declared.patch.Patch.{Patch}
 use Rattle.dw_find.specs.Fields.{AllApart, AreOffsetFields, IsOffsetField, IsStartField}
 use Rattle.dw_rewrite.specs.Changes.{AreFieldsOf, AreFree, AreSet, FieldSource, IsFieldOf, offset_at, with_all_known, with_known}
 use Rattle.dw_find.specs.InlineRooms.{grows, Grows, one}
@@ -30,31 +33,6 @@ use Rattle.dw_rewrite.proofs.GrowthLaws.{moved}
 use Rattle.dw_find.proofs.PlaceValueLaws.{EachOf, each-get}
 use Rattle.dw_find.proofs.SectionFactLaws.{FitsIn}
 
--- fields keep the length of the bytes
-rest-fields : (s : FieldSource) (f : PathField) (fs : List PathField) → AreOffsetFields s.order s.table s.cells (f ∷ fs) → AreOffsetFields s.order s.table s.cells fs
-rest-fields s f fs are = record { each = λ (k : ℕ) (d : PathField) (lt : k < length fs). are.each (suc k) d (omega arith) }
-
-length-known : (s : FieldSource) (n : ℕ) (out : List ℕ) (known : ℕ → Option ℕ) (fields : List PathField) → AreOffsetFields s.order s.table s.cells fields → length s.cells ≡ n
-    → length out ≡ n → length (with_all_known s known out fields) ≡ n
-length-known s n out known [] are whole long = long
-length-known s n out known (f ∷ fs) are whole long =
-    let first : IsOffsetField s.order s.table s.cells f = are.each 0 f (omega arith) in
-    let inside : f.at + f.size ≤ length s.cells = first.inside in
-    let room : f.at + f.size ≤ length out = omega (arith, long, whole, inside) in
-    length-known s n (with_known s out f (known (offset_at s f))) known fs (rest-fields s f fs are) whole
-    (length-with_known s out f (known (offset_at s f)) inside room ∙ long)
-
-length-starts : (s : FieldSource) (n : ℕ) (out : List ℕ) (known : ℕ → Option ℕ) (fields : List PathField) → AreFieldsOf s fields → length s.cells ≡ n → length out ≡ n
-    → length (with_all_known s known out fields) ≡ n
-length-starts s n out known [] are whole long = long
-length-starts s n out known (f ∷ fs) are whole long =
-    let first : IsFieldOf s f = are.each 0 f (omega arith) in
-    let inside : f.at + f.size ≤ length s.cells = first.inside in
-    let room : f.at + f.size ≤ length out = omega (arith, long, whole, inside) in
-    length-starts s n (with_known s out f (known (offset_at s f))) known fs
-    (record { each = λ (k : ℕ) (d : PathField) (lt : k < length fs). are.each (suc k) d (omega arith) }) whole
-    (length-with_known s out f (known (offset_at s f)) inside room ∙ long)
-
 -- fields of line tables are fields of the cells
 pub start-fields : (v : View) (u : UnitPaths) → HasPlaces v u → AreFieldsOf (starts_in v u.number) u.starts
 start-fields v u h = record {
@@ -64,16 +42,6 @@ start-fields v u h = record {
       let size : length (view_cells v u.number) ≡ length (info_of v u) = length-view_cells v u.number in
       record { sized = one.sized; inside = omega (arith, inside, size) };
 }
-
-pub fields-long : (v : View) (u : UnitPaths) (out new : List ℕ) (ks kl kt : ℕ → Option ℕ) → HasOffsets v u → HasPlaces v u → length out ≡ length (info_of v u)
-    → new ≡ fields_known v ks kl kt u out → length new ≡ length (info_of v u)
-fields-long v u out new ks kl kt h p long is =
-    ap length is
-    ∙ length-starts (starts_in v u.number) (length (info_of v u))
-    (with_all_known (source_in v u.number in_line_str) kl (with_all_known (source_in v u.number in_str) ks out u.str) u.line_str) kt u.starts (start-fields v u p)
-    (length-view_cells v u.number)
-    (length-known (source_in v u.number in_line_str) (length (info_of v u)) (with_all_known (source_in v u.number in_str) ks out u.str) kl u.line_str h.line_str (length-view_cells v u.number)
-    (length-known (source_in v u.number in_str) (length (info_of v u)) out ks u.str h.str (length-view_cells v u.number) long))
 
 -- as many cells as bytes
 pub size-source : (v : View) (u : UnitPaths) (t : TextSection) (n : ℕ) (s : FieldSource) → n ≡ length (info_of v u) → s ≡ source_in v u.number t → n ≡ length s.cells
@@ -167,17 +135,39 @@ fit-each m v (u ∷ us) fits = (fits.0, fit-each m v us fits.1)
 pub fit-at : (m : PathMap) (v : View) (us : List UnitPaths) (i : ℕ) (u : UnitPaths) → AllRoomsFit m v us → i < length us → u ≡ get_or us i u → FitsIn m v u
 fit-at m v us i u fits lt is = subst (FitsIn m v) (sym is) (each-get (FitsIn m v) us i u lt (fit-each m v us fits))
 
--- the bytes of a section, one change after another
-section-made : (m : PathMap) (v : View) (ks kl kt : ℕ → Option ℕ) (u : UnitPaths) (info second third : List ℕ) → info ≡ info_of v u → second ≡ fields_known v ks kl kt u (info_of v u)
-    → third ≡ inlined m info second u.inline → third ≡ section_known m v ks kl kt u
-unfolding section_known
-section-made m v ks kl kt u info second third is two_ three_ =
-    three_ ∙ ap (λ (bs : List ℕ). inlined m bs second u.inline) is ∙ ap (λ (out : List ℕ). inlined m (info_of v u) out u.inline) two_
+-- what is written into the bytes of a section
+pub room-written : (m : PathMap) (info here out second third : List ℕ) (ps qs : List InlinePath) (o : Order) (list : List Patch) → here ≡ info → out ≡ info
+    → second ≡ with_patches o out list → third ≡ inlined m here second qs → qs ≡ ps → third ≡ inlined m info (with_patches o info list) ps
+room-written m info here out second third ps qs o list here_is out_is put is same =
+    is ∙ ap (λ (bs : List ℕ). inlined m bs second qs) here_is ∙ ap (λ (bs : List ℕ). inlined m info bs qs) (put ∙ ap (λ (bs : List ℕ). with_patches o bs list) out_is)
+    ∙ ap (inlined m info (with_patches o info list)) same
 
-pub section-written : (m : PathMap) (v : View) (ks kl kt : ℕ → Option ℕ) (u : UnitPaths) (info start second third : List ℕ) (ps : List InlinePath) → start ≡ info_of v u
-    → info ≡ info_of v u → second ≡ fields_known v ks kl kt u start → third ≡ inlined m info second ps → ps ≡ u.inline → third ≡ section_known m v ks kl kt u
-section-written m v ks kl kt u info start second third ps begin is two_ three_ paths =
-    section-made m v ks kl kt u info second third is (two_ ∙ ap (fields_known v ks kl kt u) begin) (three_ ∙ ap (inlined m info second) paths)
+-- are its new bytes
+pub section-written : (m : PathMap) (v : View) (ks kl kt : ℕ → Option ℕ) (u : UnitPaths) (o : Order) (list : List Patch) (new : List ℕ)
+    → with_patches o (info_of v u) list ≡ fields_known v ks kl kt u (info_of v u) → new ≡ inlined m (info_of v u) (with_patches o (info_of v u) list) u.inline
+    → new ≡ section_known m v ks kl kt u
+unfolding section_known
+section-written m v ks kl kt u o list new put is = is ∙ ap (λ (bs : List ℕ). inlined m (info_of v u) bs u.inline) put
+
+-- where no path stands in its value, the numbers of the fields are all that is new
+pub body-patched : (m : PathMap) (v : View) (ks kl kt : ℕ → Option ℕ) (u : UnitPaths) (n : ℕ) (o : Order) (list : List Patch) (old : List ℕ) (b : Body)
+    → b ≡ record { number = n; bytes = with_patches o old list } → n ≡ u.number → old ≡ info_of v u
+    → with_patches o (info_of v u) list ≡ fields_known v ks kl kt u (info_of v u) → u.inline ≡ [] → b ≡ body_known m v ks kl kt u
+unfolding section_known
+body-patched m v ks kl kt u n o list old b is number same put none =
+    is ∙ ap (λ (k : ℕ). record { number = k; bytes = with_patches o old list }) number
+    ∙ ap (λ (bs : List ℕ). record { number = u.number; bytes = bs })
+    (ap (λ (bs : List ℕ). with_patches o bs list) same ∙ put ∙ sym (ap (inlined m (info_of v u) (fields_known v ks kl kt u (info_of v u))) none))
+
+-- no path stands in its value
+none-long : (ps : List InlinePath) → (length ps == 0) ≡ true → ps ≡ []
+none-long [] e = refl
+none-long (p ∷ ps) e = absurd (true≢false (sym e ∙ ne_eqb (length (p ∷ ps)) 0 (λ (same : length (p ∷ ps) ≡ 0). omega (arith, same))))
+
+pub no-rooms : (u : UnitPaths) (ps : List InlinePath) (t : Bool) → t ≡ (length ps == 0) → ps ≡ u.inline → t ≡ true → u.inline ≡ []
+no-rooms u ps t is same holds = sym same ∙ none-long ps (sym is ∙ holds)
+
+pub ruleset room_rules = (no-rooms)
 
 -- the section with those bytes
 pub body-is : (m : PathMap) (v : View) (ks kl kt : ℕ → Option ℕ) (u : UnitPaths) (n : ℕ) (bytes new : List ℕ) → n ≡ u.number → bytes ≡ new → new ≡ section_known m v ks kl kt u

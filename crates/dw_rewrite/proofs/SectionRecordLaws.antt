@@ -23,7 +23,7 @@ use Rattle.dw_meaning.specs.DataOutput.{changes_of, table_change}
 use Rattle.dw_meaning.proofs.MacroPieceLaws.{CellsOf}
 use Rattle.dw_meaning.proofs.RecordMoveLaws.{RecordsApart}
 use Rattle.dw_patch.specs.RecordMoves.{moved_table}
-use Rattle.dw_patch.specs.declared.patches.Patch.{Patch}
+use Rattle.elf_layout.specs.declared.patch.Patch.{Patch}
 use Rattle.dw_patch.proofs.SaidCellLaws.{SaidAll}
 use Rattle.dw_find.specs.MacroSections.{macro_starts, macros_with}
 use Rattle.dw_find.specs.SlotPaths.{offset_fields, read_fields, slots_with}

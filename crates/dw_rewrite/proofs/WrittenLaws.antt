@@ -3,8 +3,6 @@ use Rattle.std.proofs.Common.{Bool, true, false, ◌≡◌, ◌≢◌, ℕ, suc,
 use Rattle.std.proofs.lemmas.Bool.{and_parts, true≢false}
 use Rattle.std.proofs.lemmas.List.{length-append, length-take}
 use Rattle.std.proofs.lemmas.Bool.Decides.{nat_tests}
-use Rattle.std.specs.declared.alloc.Global.{Global}
-use Rattle.std.specs.declared.vec.Vec.{Vec}
 use Rattle.dw_meaning.specs.DataOutput.{Body}
 use Rattle.dw_base.specs.Elf.{class_of, contents_of, order_of, ehdr_size, is_empty_kind, nth_section, section_count}
 use Rattle.dw_base.specs.ElfFails.{ElfReads}
@@ -22,7 +20,7 @@ use Rattle.dw_base.specs.declared.fault.Refusal.{Refusal}
 use Rattle.dw_meaning.proofs.LayoutRowLaws.{layout_fits}
 use Rattle.dw_base.proofs.LayoutLaws.{laid-append, laid_tabulate-longer, length-with_table, fixed_end-header}
 use Rattle.dw_base.proofs.ReadsBackLaws.{reads_back-same, with_bodies-same}
-use Rattle.elf_layout.specs.Given.{AreContents, body_given, given_or, item_of}
+use Rattle.elf_layout.specs.Given.{AreContents, NewBody, body_given, given_or, item_of}
 use Rattle.dw_rewrite.specs.Rewritten.{AllStand, AreGiven, bytes_given, bytes_or, body_with, is_of, item_bytes}
 
 -- What stands in the way of a layout depends on the bodies of the sections alone.
@@ -42,11 +40,11 @@ fits_same b f g same ok = record {
 }
 
 -- The body that is given for a section is that of its item.
-bytes_of_item : (o : Option (Vec ℕ Global)) (own : List ℕ) → given_or o own ≡ bytes_or (item_bytes o) own
+bytes_of_item : (o : Option NewBody) (own : List ℕ) → given_or o own ≡ bytes_or (item_bytes o) own
 bytes_of_item None own = refl
 bytes_of_item (Some v) own = refl
 
-given_same : (b : List ℕ) (items : List (Option (Vec ℕ Global))) (bodies : List Body) → AreGiven b items bodies → (i : ℕ) → i < section_count b
+given_same : (b : List ℕ) (items : List (Option NewBody)) (bodies : List Body) → AreGiven b items bodies → (i : ℕ) → i < section_count b
     → body_given b items i ≡ body_with b bodies i
 unfolding body_given
 given_same b items bodies g i lt =
@@ -69,45 +67,45 @@ none_at b (x ∷ xs) i stand empty = by_number (is_of x i) refl (none_at b xs i 
         absurd (true≢false (sym empty ∙ ap (λ (k : ℕ). is_empty_kind (nth_section b k)) same ∙ full))
     by_number false e rest = rest
 
-no_item : (o : Option (Vec ℕ Global)) → item_bytes o ≡ None → o ≡ None
+no_item : (o : Option NewBody) → item_bytes o ≡ None → o ≡ None
 no_item None e = refl
 no_item (Some v) e = absurd cc
 
-pub given_contents : (b : List ℕ) (now items : List (Option (Vec ℕ Global))) (bodies : List Body) → AllStand b bodies → now ≡ items → AreGiven b items bodies
+pub given_contents : (b : List ℕ) (now items : List (Option NewBody)) (bodies : List Body) → AllStand b bodies → now ≡ items → AreGiven b items bodies
     → AreContents b now
-given_contents b now items bodies stand same g = subst (λ (l : List (Option (Vec ℕ Global))). AreContents b l) (sym same) (record {
+given_contents b now items bodies stand same g = subst (λ (l : List (Option NewBody)). AreContents b l) (sym same) (record {
   each = g.each;
   none = λ i lt empty. no_item (item_of items i) (g.given i lt ∙ none_at b bodies i stand empty);
 })
 
 -- a layout that is refused
-pub refused_layout : (b : List ℕ) (now items : List (Option (Vec ℕ Global))) (bodies : List Body) (f : Fault) → now ≡ items → AreGiven b items bodies
+pub refused_layout : (b : List ℕ) (now items : List (Option NewBody)) (bodies : List Body) (f : Fault) → now ≡ items → AreGiven b items bodies
     → Blames (LayoutFails b (body_given b now)) f → Blames (LayoutFails b (body_with b bodies)) f
 refused_layout b now items bodies NoMemory same g h = tt
 refused_layout b now items bodies (Refused r) same g h =
     layout_same b (body_given b items) (body_with b bodies) r (given_same b items bodies g)
-    (subst (λ (l : List (Option (Vec ℕ Global))). LayoutFails b (body_given b l) r) same h)
+    (subst (λ (l : List (Option NewBody)). LayoutFails b (body_given b l) r) same h)
 
 -- what was written
-pub written_file : (b : List ℕ) (now items : List (Option (Vec ℕ Global))) (bodies : List Body) (out : List ℕ) → now ≡ items → AreGiven b items bodies
+pub written_file : (b : List ℕ) (now items : List (Option NewBody)) (bodies : List Body) (out : List ℕ) → now ≡ items → AreGiven b items bodies
     → out ≡ with_bodies b (body_given b now) → out ≡ with_bodies b (body_with b bodies)
 written_file b now items bodies out same g made =
-    made ∙ ap (λ (l : List (Option (Vec ℕ Global))). with_bodies b (body_given b l)) same
+    made ∙ ap (λ (l : List (Option NewBody)). with_bodies b (body_given b l)) same
     ∙ with_bodies-same b (body_given b items) (body_with b bodies) (given_same b items bodies g)
 
 -- reads back
-pub written_back : (b : List ℕ) (now items : List (Option (Vec ℕ Global))) (bodies : List Body) (out : List ℕ) → ElfReads b → now ≡ items
+pub written_back : (b : List ℕ) (now items : List (Option NewBody)) (bodies : List Body) (out : List ℕ) → ElfReads b → now ≡ items
     → AreGiven b items bodies → ReadsBack b (body_given b now) out → ReadsBack b (body_with b bodies) out
 written_back b now items bodies out reads same g back =
     reads_back-same b out (body_given b items) (body_with b bodies) (given_same b items bodies g) reads.debug.index.there
-    (subst (λ (l : List (Option (Vec ℕ Global))). ReadsBack b (body_given b l) out) same back)
+    (subst (λ (l : List (Option NewBody)). ReadsBack b (body_given b l) out) same back)
 
 -- and fits
-pub written_fits : (b : List ℕ) (now items : List (Option (Vec ℕ Global))) (bodies : List Body) → now ≡ items → AreGiven b items bodies
+pub written_fits : (b : List ℕ) (now items : List (Option NewBody)) (bodies : List Body) → now ≡ items → AreGiven b items bodies
     → ((r : Refusal) → LayoutFails b (body_given b now) r → ⊥) → LayoutFits b (body_with b bodies)
 written_fits b now items bodies same g none =
     fits_same b (body_given b items) (body_with b bodies) (given_same b items bodies g)
-    (subst (λ (l : List (Option (Vec ℕ Global))). LayoutFits b (body_given b l)) same (layout_fits b (body_given b now) none))
+    (subst (λ (l : List (Option NewBody)). LayoutFits b (body_given b l)) same (layout_fits b (body_given b now) none))
 
 pub ruleset written_rules = (given_contents, refused_layout, written_file, written_back, written_fits)
 

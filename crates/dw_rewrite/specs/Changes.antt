@@ -10,7 +10,7 @@ use Rattle.dw_base.specs.TextChanges.{TableChange}
 use Rattle.dw_base.specs.Texts.{text_in, is_in}
 use Rattle.dw_base.specs.declared.shared.Order.{Order}
 use Rattle.dw_patch.specs.Patching.{IsFree, PatchList}
-use Rattle.dw_patch.specs.declared.patches.Patch.{Patch}
+use Rattle.elf_layout.specs.declared.patch.Patch.{Patch}
 use Rattle.dw_find.specs.declared.fields.PathField.{PathField}
 
 -- where fields hold offsets into a table: the byte order, the cells of their section, and the table

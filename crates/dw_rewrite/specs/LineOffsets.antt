@@ -19,7 +19,7 @@ use Rattle.dw_meaning.specs.LineStretches.{Stretch, stretches_end, table_stretch
 use Rattle.dw_meaning.specs.NewAddends.{Makes, Misses}
 use Rattle.elf_relocs.specs.declared.runs.Run.{Run}
 use Rattle.dw_patch.specs.RecordMoves.{PlacesFit, moved_table}
-use Rattle.dw_patch.specs.declared.patches.Patch.{Patch}
+use Rattle.elf_layout.specs.declared.patch.Patch.{Patch}
 use Rattle.dw_lines.specs.TableMoves.{PathsInOrder, new_end, offsets_from, runs_from}
 use Rattle.dw_lines.specs.declared.moves.FieldOffset.{FieldOffset}
 use Rattle.dw_rewrite.specs.NewLines.{StandsIn, lines_known}

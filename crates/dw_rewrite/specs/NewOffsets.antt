@@ -13,7 +13,7 @@ use Rattle.dw_base.specs.SectionRelocations.{relocation_section, relocation_sour
 use Rattle.dw_base.specs.TextChanges.{TableChange, TableChanges}
 use Rattle.dw_meaning.specs.DataOutput.{Body}
 use Rattle.dw_patch.specs.RecordMoves.{PlacesFit, moved_table, patch_for}
-use Rattle.dw_patch.specs.declared.patches.Patch.{Patch}
+use Rattle.elf_layout.specs.declared.patch.Patch.{Patch}
 use Rattle.dw_rewrite.specs.Changes.{FieldSource, offset_at, path_of, start_known}
 use Rattle.dw_rewrite.specs.NewTables.{source_in, starts_in}
 use Rattle.dw_rewrite.specs.UnitsAfter.{start_source, text_source}

@@ -1,7 +1,5 @@
 -- A file written with new bytes for some of its sections.
 use Rattle.std.specs.Prelude.{Bool, false, ◌≡◌, ◌≢◌, ℕ, ◌<◌, ◌==◌, ◌&&◌, not, List, [], ◌∷◌, length, if◌then◌else◌, ⊤, Option, Some, None}
-use Rattle.std.specs.declared.alloc.Global.{Global}
-use Rattle.std.specs.declared.vec.Vec.{Vec}
 use Rattle.dw_meaning.specs.DataOutput.{Body}
 use Rattle.dw_base.specs.Elf.{contents_of, is_empty_kind, nth_section, section_count}
 use Rattle.dw_base.specs.Layout.{is_fixed}
@@ -11,7 +9,7 @@ use Rattle.dw_base.specs.declared.fault.Fault.TheVariants.{NoMemory, Refused}
 use Rattle.dw_base.specs.declared.fault.Kind.{Kind}
 use Rattle.dw_base.specs.declared.fault.Kind.TheVariants.{Fixed, TooLarge}
 use Rattle.dw_base.specs.declared.fault.Refusal.{Refusal}
-use Rattle.elf_layout.specs.Given.{item_of}
+use Rattle.elf_layout.specs.Given.{NewBody, body_bytes, item_of}
 
 -- the body is that of the section of a number. A body of number 0 is that of no section.
 abbrev pub is_of : Body → ℕ → Bool
@@ -40,17 +38,17 @@ AllStand b [] = ⊤
 AllStand b (x ∷ xs) = Stands b x × AllStand b xs
 
 -- the bytes of an item
-abbrev pub item_bytes : Option (Vec ℕ Global) → Option (List ℕ)
+abbrev pub item_bytes : Option NewBody → Option (List ℕ)
 item_bytes None = None
-item_bytes (Some v) = Some v.items
+item_bytes (Some v) = Some (body_bytes v)
 
 -- there is one item for each section, with the bytes that are given for it
-pub record AreGiven (b : List ℕ) (items : List (Option (Vec ℕ Global))) (bodies : List Body) : Type 0 where
+pub record AreGiven (b : List ℕ) (items : List (Option NewBody)) (bodies : List Body) : Type 0 where
   pub each : length items ≡ section_count b
   pub given : (i : ℕ) → i < section_count b → item_bytes (item_of items i) ≡ bytes_given bodies i
 
 -- the items with one more body given
-pub record IsGiven (old new : List (Option (Vec ℕ Global))) (x : Body) : Type 0 where
+pub record IsGiven (old new : List (Option NewBody)) (x : Body) : Type 0 where
   pub size : length new ≡ length old
   pub given : (i : ℕ) → i < length old → item_bytes (item_of new i) ≡ (if is_of x i then Some x.bytes else item_bytes (item_of old i))
 

@@ -42,6 +42,7 @@ use dw_lines::LineTable;
 use dw_paths::Maps;
 use dw_strings::Pool;
 use dw_view::{RelocationSources, View};
+use elf_layout::NewBody;
 use std::alloc::{AllocError, Global};
 use std::collections::HashMap;
 
@@ -50,15 +51,15 @@ use std::collections::HashMap;
 /// where a table of texts or the line tables would be longer than a file that is written, where a line table can't be written, and as `TooWide`
 /// where the addend of a relocation can't make the new offset of its field, at the field.
 #[tactic(auto, using(crate::proofs::MadeBodyLaws::body_rules, crate::proofs::FileMadeLaws::end_rules))]
-pub(crate) fn new_bodies(
+pub(crate) fn new_bodies<'v>(
     alloc: Global,
-    view: &View,
+    view: &'v View,
     sources: &RelocationSources,
     maps: &Maps,
     tables: &[LineTable],
     macros: &[MacroSection],
     paths: &[UnitPaths],
-) -> Result<Vec<Body>, Fault>
+) -> Result<Vec<Body<'v>>, Fault>
     requires view { view.now ≡ view_of sources.now }
     requires relocations { RelocationSectionsRead (contents_of sources.now) sources.now }
     requires bytes { (k : ℕ) → slice_index sources.now k < 256 }
@@ -80,7 +81,7 @@ pub(crate) fn new_bodies(
     let NewLines { bytes, starts: new } = lines;
     let starts = NewStarts::new(old.as_slice(), new.as_slice());
     let mut bodies = table_bodies(alloc, view, pool, line_pool)?;
-    let lines = lines_body(view, bytes);
+    let lines = lines_body(alloc, view, bytes);
     let sections = without_lines(view, paths);
     push_bodies(
         alloc,
@@ -111,33 +112,33 @@ pub(crate) fn new_bodies(
 }
 
 /// The tables of texts with their new bytes.
-fn table_bodies(
+fn table_bodies<'v>(
     alloc: Global,
     view: &View,
     pool: Pool,
     line_pool: Pool,
-) -> Result<Vec<Body>, AllocError>
+) -> Result<Vec<Body<'v>>, AllocError>
     ensures bodies { IfOk result (λ b. b.items ≡ table_body_of view.now in_str pool ∷ table_body_of view.now in_line_str line_pool ∷ []) }
 {
     let mut bodies = Vec::new(alloc);
     bodies.push(Body {
         section: table_number(view, TextsOf::Str),
-        bytes: pool.into_bytes(),
+        bytes: NewBody::whole(alloc, pool.into_bytes()),
     })?;
     bodies.push(Body {
         section: table_number(view, TextsOf::LineStr),
-        bytes: line_pool.into_bytes(),
+        bytes: NewBody::whole(alloc, line_pool.into_bytes()),
     })?;
     Ok(bodies)
 }
 
 /// The section of line tables with these bytes.
-fn lines_body(view: &View, bytes: Vec<u8>) -> Body
+fn lines_body<'v>(alloc: Global, view: &View, bytes: Vec<u8>) -> Body<'v>
     ensures { result ≡ record { number = (debug_data view.now).lines.number; bytes = bytes.items } }
 {
     Body {
         section: lines_number(view),
-        bytes,
+        bytes: NewBody::whole(alloc, bytes),
     }
 }
 
@@ -182,24 +183,24 @@ fn lines_count(view: &View) -> usize
 /// Appends string offsets, line tables, name tables, as many sections of macro units and the unit sections with their new
 /// bytes, from the new places of paths that are known of each table, and the starts of line tables.
 #[tactic(auto, using(crate::proofs::PushLaws::all_rules))]
-fn push_bodies(
+fn push_bodies<'v>(
     alloc: Global,
-    view: &View,
+    view: &'v View,
     maps: &Maps,
     str: &HashMap<u64, u64>,
     line_str: &HashMap<u64, u64>,
     starts: &NewStarts,
-    lines: Body,
+    lines: Body<'v>,
     macro_count: usize,
     paths: &[UnitPaths],
-    bodies: &mut Vec<Body>,
+    bodies: &mut Vec<Body<'v>>,
 ) -> Result<(), Fault>
     requires offsets { AllHaveOffsets view.now paths.now }
     requires places { AllHavePlaces view.now paths.now }
     requires rooms { AllRoomsFit maps.now view.now paths.now }
     requires macros { macro_count ≡ macros_count view.now }
     requires among { some_sections view.now ≤ length paths.now }
-    ensures bodies { OnOk result (bodies.new.items ≡ bodies.old.items ++ pushed_bodies maps.now view.now (λ o. get nat_eq str.now o) (λ o. get nat_eq line_str.now o) (λ o. known_starts starts.now o) lines paths.now) }
+    ensures bodies { OnOk result (bodies.new.items ≡ bodies.old.items ++ pushed_bodies maps.now view.now (λ o. get nat_eq str.now o) (λ o. get nat_eq line_str.now o) (λ o. known_starts starts.now o) lines.entry paths.now) }
     ensures only { IfErr result (λ f. f ≡ NoMemory) }
 {
     let (front, macros) = paths.split_at(paths.len() - macro_count);
@@ -260,15 +261,15 @@ fn slots_count(view: &View) -> usize
 
 /// Appends the section of string offsets with its new bytes; a body of no section where there is none.
 #[tactic(auto, using(crate::proofs::PushLaws::slot_rules))]
-fn push_slots_body(
+fn push_slots_body<'v>(
     alloc: Global,
-    view: &View,
+    view: &'v View,
     maps: &Maps,
     str: &HashMap<u64, u64>,
     line_str: &HashMap<u64, u64>,
     starts: &NewStarts,
     slots: &[UnitPaths],
-    bodies: &mut Vec<Body>,
+    bodies: &mut Vec<Body<'v>>,
 ) -> Result<(), Fault>
     requires offsets { AllHaveOffsets view.now slots.now }
     requires places { AllHavePlaces view.now slots.now }
@@ -279,7 +280,7 @@ fn push_slots_body(
     if slots.is_empty() {
         bodies.push(Body {
             section: 0,
-            bytes: Vec::new(alloc),
+            bytes: NewBody::whole(alloc, Vec::new(alloc)),
         })?;
         return Ok(());
     }
@@ -299,17 +300,20 @@ fn push_names(alloc: Global, view: &View, bodies: &mut Vec<Body>) -> Result<(), 
 
 /// The section of name tables with its bytes.
 #[tactic(auto, using(crate::proofs::PushLaws::name_rules))]
-fn names_body(alloc: Global, view: &View) -> Result<Body, AllocError>
+fn names_body<'v>(alloc: Global, view: &View) -> Result<Body<'v>, AllocError>
     ensures body { IfOk result (λ b. b ≡ names_body view.now) }
 {
     match view.first(DebugSection::Names) {
-        Some(section) => Ok(Body {
-            section,
-            bytes: Vec::from_slice(alloc, view.bytes(section))?,
-        }),
+        Some(section) => {
+            let bytes = Vec::from_slice(alloc, view.bytes(section))?;
+            Ok(Body {
+                section,
+                bytes: NewBody::whole(alloc, bytes),
+            })
+        }
         None => Ok(Body {
             section: 0,
-            bytes: Vec::new(alloc),
+            bytes: NewBody::whole(alloc, Vec::new(alloc)),
         }),
     }
 }

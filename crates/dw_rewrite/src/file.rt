@@ -30,23 +30,35 @@ use dw_lines::{LineTable, line_tables};
 use dw_paths::Maps;
 use dw_view::{RelocationSources, View};
 use elf_file::ElfFile;
-use elf_layout::emit;
+use elf_layout::{NewBody, emit};
 use std::alloc::{AllocError, Global};
+
+/// A file that was rewritten, with what was read of it for that.
+#[derive(Debug, Drop)]
+pub struct Rewritten {
+    /// The file with each source path mapped.
+    pub file: Vec<u8>,
+    /// The line tables of the file as it was, in the order of their places.
+    pub tables: Vec<LineTable>,
+}
 
 /// The file with each source path mapped: each field of a path's text names the mapped text, which stands behind the
 /// old bytes of its table where it differs; each path that stands in its value is mapped there; and the file is laid
-/// out anew. Refused only by a condition that holds in the file, at its place; where none holds, it is rewritten, or
-/// there was not enough memory.
+/// out anew. Beside it stand the line tables that were read for that. Refused only by a condition that holds in the file, at
+/// its place; where none holds, it is rewritten, or there was not enough memory.
 #[tactic(auto, using(crate::proofs::ExitLaws::rewrite_rules))]
-pub fn rewrite(alloc: Global, bytes: &[u8], maps: &Maps) -> Result<Vec<u8>, Fault>
+pub fn rewrite(alloc: Global, bytes: &[u8], maps: &Maps) -> Result<Rewritten, Fault>
     requires small { length bytes.now ≤ output_limit }
     ensures accepted { OnOk result (IsAccepted maps.now bytes.now) }
-    ensures output { IfOk result (λ out. IsOutput maps.now bytes.now out.items) }
-    ensures only { IfOk result (λ out. (o : List ℕ) → IsOutput maps.now bytes.now o → o ≡ out.items) }
+    ensures output { IfOk result (λ out. IsOutput maps.now bytes.now out.file.items) }
+    ensures only { IfOk result (λ out. (o : List ℕ) → IsOutput maps.now bytes.now o → o ≡ out.file.items) }
 
     // What it means is what the file means, with each source path mapped, and what is loaded of it is as it was.
-    ensures meaning { IfOk result (λ out. MeaningKept maps.now bytes.now out.items) }
-    ensures loaded { IfOk result (λ out. LoadedKept bytes.now out.items) }
+    ensures meaning { IfOk result (λ out. MeaningKept maps.now bytes.now out.file.items) }
+    ensures loaded { IfOk result (λ out. LoadedKept bytes.now out.file.items) }
+
+    // The line tables are those of the file as it was.
+    ensures tables { IfOk result (λ out. TablesFound (view_of bytes.now) out.tables.items) }
     ensures refused { IfErr result (Blames (EditFails maps.now bytes.now)) }
 {
     let elf = ElfFile::read(alloc, bytes)?;
@@ -55,15 +67,16 @@ pub fn rewrite(alloc: Global, bytes: &[u8], maps: &Maps) -> Result<Vec<u8>, Faul
 
 /// The file rewritten, where its records were read.
 #[tactic(auto, using(crate::proofs::ExitLaws::elf_rules))]
-fn rewrite_elf(alloc: Global, elf: &ElfFile, maps: &Maps) -> Result<Vec<u8>, Fault>
+fn rewrite_elf(alloc: Global, elf: &ElfFile, maps: &Maps) -> Result<Rewritten, Fault>
     requires small { length elf.now.bytes.now ≤ output_limit }
     requires bytes { (k : ℕ) → slice_index elf.now.bytes.now k < 256 }
     requires reads { ElfReads elf.now.bytes.now }
     ensures accepted { OnOk result (IsAccepted maps.now elf.now.bytes.now) }
-    ensures output { IfOk result (λ out. IsOutput maps.now elf.now.bytes.now out.items) }
-    ensures only { IfOk result (λ out. (o : List ℕ) → IsOutput maps.now elf.now.bytes.now o → o ≡ out.items) }
-    ensures meaning { IfOk result (λ out. MeaningKept maps.now elf.now.bytes.now out.items) }
-    ensures loaded { IfOk result (λ out. LoadedKept elf.now.bytes.now out.items) }
+    ensures output { IfOk result (λ out. IsOutput maps.now elf.now.bytes.now out.file.items) }
+    ensures only { IfOk result (λ out. (o : List ℕ) → IsOutput maps.now elf.now.bytes.now o → o ≡ out.file.items) }
+    ensures meaning { IfOk result (λ out. MeaningKept maps.now elf.now.bytes.now out.file.items) }
+    ensures loaded { IfOk result (λ out. LoadedKept elf.now.bytes.now out.file.items) }
+    ensures tables { IfOk result (λ out. TablesFound (view_of elf.now.bytes.now) out.tables.items) }
     ensures refused { IfErr result (Blames (EditFails maps.now elf.now.bytes.now)) }
 {
     let view = View::one(elf)?;
@@ -80,44 +93,47 @@ fn rewrite_judged(
     view: &View,
     sources: &RelocationSources,
     maps: &Maps,
-) -> Result<Vec<u8>, Fault>
+) -> Result<Rewritten, Fault>
     requires small { length elf.now.bytes.now ≤ output_limit }
     requires judged { IsJudged elf.now.bytes.now }
     requires view { view.now ≡ view_of elf.now.bytes.now }
     requires sources { sources.now ≡ elf.now.bytes.now }
     ensures accepted { OnOk result (IsAccepted maps.now elf.now.bytes.now) }
-    ensures output { IfOk result (λ out. IsOutput maps.now elf.now.bytes.now out.items) }
-    ensures only { IfOk result (λ out. (o : List ℕ) → IsOutput maps.now elf.now.bytes.now o → o ≡ out.items) }
-    ensures meaning { IfOk result (λ out. MeaningKept maps.now elf.now.bytes.now out.items) }
-    ensures loaded { IfOk result (λ out. LoadedKept elf.now.bytes.now out.items) }
+    ensures output { IfOk result (λ out. IsOutput maps.now elf.now.bytes.now out.file.items) }
+    ensures only { IfOk result (λ out. (o : List ℕ) → IsOutput maps.now elf.now.bytes.now o → o ≡ out.file.items) }
+    ensures meaning { IfOk result (λ out. MeaningKept maps.now elf.now.bytes.now out.file.items) }
+    ensures loaded { IfOk result (λ out. LoadedKept elf.now.bytes.now out.file.items) }
+    ensures tables { IfOk result (λ out. TablesFound (view_of elf.now.bytes.now) out.tables.items) }
     ensures refused { IfErr result (Blames (EditFails maps.now elf.now.bytes.now)) }
 {
     // What a map obeys is known where one of its fields is used: no text that it makes has a NUL.
     let _ = &maps.base;
-    let bodies = made_bodies(alloc, elf, view, sources, maps)?;
-    let out = written(alloc, elf, bodies)?;
-    Ok(out)
+    let tables = tables_in(alloc, elf, view, maps)?;
+    let bodies = made_bodies(alloc, elf, view, sources, maps, tables.as_slice())?;
+    let file = written(alloc, elf, bodies)?;
+    Ok(Rewritten { file, tables })
 }
 
-/// The new bytes of the sections that change.
-fn made_bodies(
+/// The new bytes of the sections that change, by the file's line tables.
+fn made_bodies<'v>(
     alloc: Global,
     elf: &ElfFile,
-    view: &View,
+    view: &'v View,
     sources: &RelocationSources,
     maps: &Maps,
-) -> Result<Vec<Body>, Fault>
+    tables: &[LineTable],
+) -> Result<Vec<Body<'v>>, Fault>
     requires small { length elf.now.bytes.now ≤ output_limit }
     requires judged { IsJudged elf.now.bytes.now }
     requires view { view.now ≡ view_of elf.now.bytes.now }
     requires sources { sources.now ≡ elf.now.bytes.now }
+    requires tables { TablesFound (view_of elf.now.bytes.now) tables.now }
     ensures made { IfOk result (λ bodies. FileBodiesMade maps.now elf.now.bytes.now bodies.items) }
     ensures refused { IfErr result (Blames (EditFails maps.now elf.now.bytes.now)) }
 {
-    let tables = tables_in(alloc, elf, view, maps)?;
     let macros = macros_in(alloc, elf, view, maps)?;
-    let paths = paths_in(alloc, elf, view, maps, &tables, &macros)?;
-    bodies_in(alloc, elf, view, sources, maps, &tables, &macros, &paths)
+    let paths = paths_in(alloc, elf, view, maps, tables, &macros)?;
+    bodies_in(alloc, elf, view, sources, maps, tables, &macros, &paths)
 }
 
 /// The line tables of the file.
@@ -177,16 +193,16 @@ fn paths_in(
 
 /// The new bytes of the sections that change, by what was found of paths.
 #[tactic(auto, using(crate::proofs::ExitLaws::bodies_rules))]
-fn bodies_in(
+fn bodies_in<'v>(
     alloc: Global,
     elf: &ElfFile,
-    view: &View,
+    view: &'v View,
     sources: &RelocationSources,
     maps: &Maps,
     tables: &[LineTable],
     macros: &[MacroSection],
     paths: &[UnitPaths],
-) -> Result<Vec<Body>, Fault>
+) -> Result<Vec<Body<'v>>, Fault>
     requires small { length elf.now.bytes.now ≤ output_limit }
     requires judged { IsJudged elf.now.bytes.now }
     requires view { view.now ≡ view_of elf.now.bytes.now }
@@ -244,10 +260,10 @@ fn long_refusal(elf: &ElfFile, section: u32) -> Refusal
 fn written(alloc: Global, elf: &ElfFile, bodies: Vec<Body>) -> Result<Vec<u8>, Fault>
     requires reads { ElfReads elf.now.bytes.now }
     requires stand { AllStand elf.now.bytes.now bodies.items }
-    ensures file { IfOk result (λ out. out.items ≡ with_bodies elf.now.bytes.now (body_with elf.now.bytes.now bodies.items)) }
-    ensures back { IfOk result (λ out. ReadsBack elf.now.bytes.now (body_with elf.now.bytes.now bodies.items) out.items) }
-    ensures fits { OnOk result (LayoutFits elf.now.bytes.now (body_with elf.now.bytes.now bodies.items)) }
-    ensures refused { IfErr result (Blames (LayoutFails elf.now.bytes.now (body_with elf.now.bytes.now bodies.items))) }
+    ensures file { IfOk result (λ out. out.items ≡ with_bodies elf.now.bytes.now (body_with elf.now.bytes.now bodies.entry.items)) }
+    ensures back { IfOk result (λ out. ReadsBack elf.now.bytes.now (body_with elf.now.bytes.now bodies.entry.items) out.items) }
+    ensures fits { OnOk result (LayoutFits elf.now.bytes.now (body_with elf.now.bytes.now bodies.entry.items)) }
+    ensures refused { IfErr result (Blames (LayoutFails elf.now.bytes.now (body_with elf.now.bytes.now bodies.entry.items))) }
 {
     let contents = contents_of(alloc, elf, bodies)?;
     let out = emit(alloc, elf, &contents)?;
@@ -256,13 +272,13 @@ fn written(alloc: Global, elf: &ElfFile, bodies: Vec<Body>) -> Result<Vec<u8>, F
 
 /// An item for each section: its new bytes, where some are given.
 #[tactic(auto, using(crate::proofs::GivenLaws::given_rules))]
-fn contents_of(
+fn contents_of<'v>(
     alloc: Global,
     elf: &ElfFile,
-    mut bodies: Vec<Body>,
-) -> Result<Vec<Option<Vec<u8>>>, AllocError>
+    mut bodies: Vec<Body<'v>>,
+) -> Result<Vec<Option<NewBody<'v>>>, AllocError>
     requires stand { AllStand elf.now.bytes.now bodies.items }
-    ensures { IfOk result (λ items. AreGiven elf.now.bytes.now items.items bodies.items) }
+    ensures { IfOk result (λ items. AreGiven elf.now.bytes.now items.items bodies.entry.items) }
 {
     let mut items = no_contents(alloc, elf)?;
     while let Some(body) = bodies.pop() {
@@ -273,7 +289,7 @@ fn contents_of(
 
 /// An item for each section, none given.
 #[tactic(auto, using(crate::proofs::GivenLaws::none_rules))]
-fn no_contents(alloc: Global, elf: &ElfFile) -> Result<Vec<Option<Vec<u8>>>, AllocError>
+fn no_contents<'v>(alloc: Global, elf: &ElfFile) -> Result<Vec<Option<NewBody<'v>>>, AllocError>
     ensures { IfOk result (λ items. AreGiven elf.now.bytes.now items.items []) }
 {
     let count = elf.section_count();
@@ -286,9 +302,9 @@ fn no_contents(alloc: Global, elf: &ElfFile) -> Result<Vec<Option<Vec<u8>>>, All
 
 /// Gives the bytes of a body to its section.
 #[tactic(auto, using(crate::proofs::GivenLaws::give_rules))]
-fn give(items: &mut [Option<Vec<u8>>], body: Body)
+fn give<'v>(items: &mut [Option<NewBody<'v>>], body: Body<'v>)
     requires there { body.number ≢ 0 → body.number < length items.old }
-    ensures given { IsGiven items.old items.new body }
+    ensures given { IsGiven items.old items.new body.entry }
 {
     let Body { section, bytes } = body;
     if section != 0 {

@@ -13,7 +13,7 @@
 //! ```
 //! // The prefix of the build's paths, and the one where the sources are installed.
 //! if let Some(maps) = Maps::new(alloc, b"/build/p", b"/usr/src/debug/p")? {
-//!     let out = rewrite(alloc, &bytes, &maps)?;
+//!     let Rewritten { file, .. } = rewrite(alloc, &bytes, &maps)?;
 //! }
 //! ```
 #![tactic(auto)]
@@ -34,4 +34,4 @@ mod sources;
 mod starts;
 mod tables;
 
-pub use file::rewrite;
+pub use file::{Rewritten, rewrite};

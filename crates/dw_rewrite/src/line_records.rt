@@ -38,6 +38,7 @@ use dw_lines::{FieldOffset, LineTable, Run};
 use dw_patch::{Offsets, RelocSource};
 use dw_paths::Maps;
 use dw_view::{RelocationSources, View};
+use elf_layout::NewBody;
 use std::alloc::{AllocError, Global};
 use std::collections::HashMap;
 
@@ -116,7 +117,7 @@ fn push_held_lines(
 
 /// The section of a number that holds the relocations of these line tables of another, with its records moved.
 #[tactic(auto, using(crate::proofs::LineRecordLaws::body_rules))]
-fn moved_body(
+fn moved_body<'v>(
     alloc: Global,
     view: &View,
     maps: &Maps,
@@ -127,7 +128,7 @@ fn moved_body(
     section: u32,
     holder: u32,
     source: &RelocSource,
-) -> Result<Body, Fault>
+) -> Result<Body<'v>, Fault>
     requires there { section < length view.now.sections }
     requires moves { AllMove maps.now (view_source view.now section) (λ o. get nat_eq str.now o) (λ o. get nat_eq line_str.now o) 0 0 tables.now starts.now }
     requires inside { OffsetsInside (length (view_cells view.now section)) (line_offsets maps.now (view_source view.now section) (λ o. get nat_eq str.now o) (λ o. get nat_eq line_str.now o) tables.now) }
@@ -143,7 +144,7 @@ fn moved_body(
     offsets.move_records(source, moves.runs.as_slice(), &mut bytes);
     Ok(Body {
         section: holder,
-        bytes,
+        bytes: NewBody::whole(alloc, bytes),
     })
 }
 

@@ -3,16 +3,20 @@
 //!
 //! Read first: `specs/NewTables.antt`.
 
-ghost use Rattle.std.specs.Prelude.{◌≡◌, ◌++◌, ◌<◌, length, nat_eq, IfErr, IfOk, OnOk};
+ghost use Rattle.std.specs.Prelude.{[], ◌≡◌, ◌++◌, ◌<◌, length, nat_eq, IfErr, IfOk, OnOk};
+ghost use Rattle.std.specs.Bool.{OnTrue};
 ghost use Rattle.std.specs.HashMap.{get};
 ghost use Rattle.dw_meaning.specs.DataOutput.{Body as BodyOf};
 ghost use Rattle.dw_base.specs.Refusals.{Blames};
 ghost use Rattle.dw_base.specs.declared.fault.Fault.TheVariants.{NoMemory};
 ghost use Rattle.dw_rewrite.specs.Changes.{AreFree, AreSet};
+ghost use Rattle.elf_layout.specs.Given.{body_bytes};
+ghost use Rattle.elf_layout.specs.Patched.{with_patches};
 ghost use Rattle.dw_find.specs.InlineRooms.{Grows};
 ghost use Rattle.dw_rewrite.specs.NewStarts.{known_starts};
 ghost use Rattle.dw_find.specs.ViewFields.{AllHaveOffsets, AllHavePlaces, AllRoomsFit, HasOffsets, HasPlaces, as_table, fields_of, info_of};
-ghost use Rattle.dw_rewrite.specs.NewTables.{bodies_known, body_known, fields_known, section_known, source_in, starts_in};
+ghost use Rattle.dw_rewrite.specs.NewTables.{bodies_known, body_known, fields_known, source_in, starts_in};
+ghost use Rattle.dw_rewrite.specs.UnitsAfter.{inlined};
 
 use crate::change::{set_fields, set_starts};
 use crate::inline::map_rooms;
@@ -24,37 +28,38 @@ use dw_find::{TextsOf, UnitPaths};
 use dw_patch::Patches;
 use dw_paths::Maps;
 use dw_view::View;
+use elf_layout::NewBody;
 use std::alloc::Global;
 use std::collections::HashMap;
 use std::marker::Model;
 
 /// A section and its new bytes.
 #[derive(Drop)]
-pub(crate) struct Body {
+pub(crate) struct Body<'a> {
     /// The section's number; 0 for a table of texts that isn't there.
     pub section: u32,
     /// Its new bytes.
-    pub bytes: Vec<u8>,
+    pub bytes: NewBody<'a>,
 }
 
-impl Model for Body {
+impl<'a> Model for Body<'a> {
     ghost Value = { BodyOf };
 
-    ghost view = { λ b. record { number = b.section; bytes = b.bytes.items } };
+    ghost view = { λ b. record { number = b.section; bytes = body_bytes b.bytes } };
 }
 
 /// Appends sections with their new bytes, from the new places of paths that are known of each table, and the new
 /// starts of line tables.
 #[tactic(auto, using(crate::proofs::SectionBytesLaws::all_rules))]
-pub(crate) fn new_sections(
+pub(crate) fn new_sections<'v>(
     alloc: Global,
-    view: &View,
+    view: &'v View,
     maps: &Maps,
     str: &HashMap<u64, u64>,
     line_str: &HashMap<u64, u64>,
     starts: &NewStarts,
     paths: &[UnitPaths],
-    bodies: &mut Vec<Body>,
+    bodies: &mut Vec<Body<'v>>,
 ) -> Result<(), Fault>
     requires offsets { AllHaveOffsets view.now paths.now }
     requires places { AllHavePlaces view.now paths.now }
@@ -69,28 +74,52 @@ pub(crate) fn new_sections(
     Ok(())
 }
 
-/// A section with its new bytes.
+/// A section with its new bytes: old ones with new numbers in their fields, where no path stands in its value.
 #[tactic(auto, using(crate::proofs::SectionBytesLaws::one_rules))]
-fn new_section(
+fn new_section<'v>(
     alloc: Global,
-    view: &View,
+    view: &'v View,
     maps: &Maps,
     str: &HashMap<u64, u64>,
     line_str: &HashMap<u64, u64>,
     starts: &NewStarts,
     found: &UnitPaths,
-) -> Result<Body, Fault>
+) -> Result<Body<'v>, Fault>
     requires offsets { HasOffsets view.now found.now }
     requires places { HasPlaces view.now found.now }
     ensures body { IfOk result (λ b. b ≡ body_known maps.now view.now (λ o. get nat_eq str.now o) (λ o. get nat_eq line_str.now o) (λ o. known_starts starts.now o) found.now) }
     ensures refused { IfErr result (Blames (Grows maps.now found.now.number (info_of view.now found.now) found.now.inline)) }
 {
-    let mut bytes = Vec::from_slice(alloc, view.bytes(found.section))?;
-    write_section(alloc, view, maps, str, line_str, starts, found, &mut bytes)?;
+    let patches = new_fields(alloc, view, str, line_str, starts, found)?;
+    let old = view.bytes(found.section);
+    if has_no_rooms(found) {
+        return Ok(patched_section(found.section, old, patches));
+    }
+    let mut bytes = Vec::from_slice(alloc, old)?;
+    write_section(alloc, view, maps, &patches, found, &mut bytes)?;
     Ok(Body {
         section: found.section,
-        bytes,
+        bytes: NewBody::whole(alloc, bytes),
     })
+}
+
+/// No path of a section stands in its value.
+#[tactic(auto, using(crate::proofs::SectionBytesLaws::room_rules))]
+fn has_no_rooms(found: &UnitPaths) -> bool
+    ensures none { OnTrue result (found.now.inline ≡ []) }
+{
+    found.inline.as_slice().is_empty()
+}
+
+/// The section of a number with its old bytes and new numbers in their fields.
+fn patched_section<'v>(section: u32, old: &'v [u8], patches: Patches) -> Body<'v>
+    requires size { length old.now ≡ patches.size }
+    ensures body { result ≡ record { number = section; bytes = with_patches patches.order old.now patches.list } }
+{
+    Body {
+        section,
+        bytes: patches.onto(old),
+    }
 }
 
 /// Writes what is new into the bytes of a section.
@@ -99,20 +128,18 @@ fn write_section(
     alloc: Global,
     view: &View,
     maps: &Maps,
-    str: &HashMap<u64, u64>,
-    line_str: &HashMap<u64, u64>,
-    starts: &NewStarts,
+    patches: &Patches,
     found: &UnitPaths,
     out: &mut [u8],
 ) -> Result<(), Fault>
-    requires offsets { HasOffsets view.now found.now }
     requires places { HasPlaces view.now found.now }
     requires start { out.old ≡ info_of view.now found.now }
-    ensures out { OnOk result (out.new ≡ section_known maps.now view.now (λ o. get nat_eq str.now o) (λ o. get nat_eq line_str.now o) (λ o. known_starts starts.now o) found.now) }
+    requires size { patches.now.size ≡ length (info_of view.now found.now) }
+    ensures out { OnOk result (out.new ≡ inlined maps.now (info_of view.now found.now) (with_patches patches.now.order (info_of view.now found.now) patches.now.list) found.now.inline) }
     ensures long { OnOk result (length out.new ≡ length (info_of view.now found.now)) }
     ensures refused { IfErr result (Blames (Grows maps.now found.now.number (info_of view.now found.now) found.now.inline)) }
 {
-    put_fields(alloc, view, str, line_str, starts, found, out)?;
+    patches.apply(out);
     let info = view.bytes(found.section);
     map_rooms(
         alloc,
@@ -125,29 +152,27 @@ fn write_section(
     Ok(())
 }
 
-/// Puts the new offsets into the fields of a section's paths, and the new starts of line tables, all at once.
-fn put_fields(
+/// The new offsets of the fields of a section's paths, and the new starts of line tables.
+#[tactic(auto, using(crate::proofs::SectionBytesLaws::one_rules))]
+fn new_fields(
     alloc: Global,
     view: &View,
     str: &HashMap<u64, u64>,
     line_str: &HashMap<u64, u64>,
     starts: &NewStarts,
     found: &UnitPaths,
-    out: &mut [u8],
-) -> Result<(), Fault>
+) -> Result<Patches, Fault>
     requires offsets { HasOffsets view.now found.now }
     requires places { HasPlaces view.now found.now }
-    requires long { length out.old ≡ length (info_of view.now found.now) }
-    ensures out { OnOk result (out.new ≡ fields_known view.now (λ o. get nat_eq str.now o) (λ o. get nat_eq line_str.now o) (λ o. known_starts starts.now o) found.now out.old) }
-    ensures long { OnOk result (length out.new ≡ length (info_of view.now found.now)) }
+    ensures put { IfOk result (λ p. with_patches p.order (info_of view.now found.now) p.list ≡ fields_known view.now (λ o. get nat_eq str.now o) (λ o. get nat_eq line_str.now o) (λ o. known_starts starts.now o) found.now (info_of view.now found.now)) }
+    ensures size { IfOk result (λ p. p.size ≡ length (info_of view.now found.now)) }
     ensures only { IfErr result (λ f. f ≡ NoMemory) }
 {
     let mut patches = Patches::new(alloc, view, found.section)?;
     set_section(view, TextsOf::Str, found, str, &mut patches)?;
     set_section(view, TextsOf::LineStr, found, line_str, &mut patches)?;
     set_section_starts(view, found, starts, &mut patches)?;
-    patches.apply(out);
-    Ok(())
+    Ok(patches)
 }
 
 /// Sets the fields of a table's paths in a section to their new offsets.

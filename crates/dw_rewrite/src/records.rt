@@ -26,6 +26,7 @@ use dw_base::{Fault, Kind, Refusal};
 use dw_find::{PathField, TextsOf, UnitPaths};
 use dw_patch::{Offsets, RelocSource};
 use dw_view::{RelocationSources, View};
+use elf_layout::NewBody;
 use std::alloc::Global;
 use std::collections::HashMap;
 
@@ -86,7 +87,7 @@ fn push_record(
 /// The section of a number that holds the relocations of a section, with its records as they are when the section's fields say their
 /// new offsets.
 #[tactic(auto, using(crate::proofs::OffsetAddLaws::body_rules))]
-fn records_body(
+fn records_body<'v>(
     alloc: Global,
     view: &View,
     str: &HashMap<u64, u64>,
@@ -95,7 +96,7 @@ fn records_body(
     found: &UnitPaths,
     holder: u32,
     source: &RelocSource,
-) -> Result<Body, Fault>
+) -> Result<Body<'v>, Fault>
     requires offsets { HasOffsets view.now found.now }
     requires places { HasPlaces view.now found.now }
     requires fit { PlacesFit source.now [] }
@@ -108,7 +109,7 @@ fn records_body(
     offsets.move_records(source, &[], &mut bytes);
     Ok(Body {
         section: holder,
-        bytes,
+        bytes: NewBody::whole(alloc, bytes),
     })
 }
 

@@ -18,4 +18,4 @@ mod texts;
 mod units;
 
 pub use dw_base::{Fault, Kind, Refusal};
-pub use listing::sources;
+pub use listing::{sources, sources_by_tables};

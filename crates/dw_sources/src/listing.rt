@@ -4,6 +4,7 @@ ghost use Rattle.std.specs.Prelude.{◌≡◌, map, IfErr, IfOk, OnOk};
 ghost use Rattle.dw_base.specs.Refusals.{Blames};
 ghost use Rattle.dw_base.specs.ViewData.{debug_data};
 ghost use Rattle.dw_base.specs.declared.fault.Refusal.{Refusal as RefusalOf};
+ghost use Rattle.dw_lines.specs.ViewTables.{TablesFound};
 ghost use Rattle.dw_sources.specs.KeptNames.{bytes_of};
 ghost use Rattle.dw_sources.specs.Sources.{AreSources, IsWant, SourcesFail};
 
@@ -11,6 +12,7 @@ use crate::names::{front_of, in_order, none_found};
 use crate::tables::tables_by_start;
 use crate::units::add_all;
 use dw_base::Fault;
+use dw_lines::{LineTable, line_tables};
 use dw_offsets::contributions;
 use dw_view::View;
 use std::alloc::Global;
@@ -21,9 +23,26 @@ fn names_below(alloc: Global, view: &View, base: &[u8]) -> Result<Vec<Vec<u8>>, 
     ensures sources { IfOk result (λ names. AreSources (debug_data view.now) base.now (map bytes_of names.items)) }
     ensures refused { IfErr result (Blames (SourcesFail (debug_data view.now))) }
 {
+    let tables = line_tables(alloc, view)?;
+    let names = names_by_tables(alloc, view, base, tables)?;
+    Ok(names)
+}
+
+/// The same by the view's line tables.
+#[tactic(auto, using(crate::proofs::SourceLaws::source_rules))]
+fn names_by_tables(
+    alloc: Global,
+    view: &View,
+    base: &[u8],
+    tables: Vec<LineTable>,
+) -> Result<Vec<Vec<u8>>, Fault>
+    requires tables { TablesFound view.now tables.items }
+    ensures sources { IfOk result (λ names. AreSources (debug_data view.now) base.now (map bytes_of names.items)) }
+    ensures refused { IfErr result (Blames (SourcesFail (debug_data view.now))) }
+{
     let front = front_of(alloc, base)?;
     let list = contributions(alloc, view)?;
-    let tables = tables_by_start(alloc, view)?;
+    let tables = tables_by_start(alloc, view, tables)?;
     let mut found = none_found(alloc);
     add_all(alloc, view, &list, &tables, &front, &mut found)?;
     let names = in_order(alloc, found.names)?;
@@ -44,6 +63,26 @@ pub fn sources(alloc: Global, view: &View, base: &[u8]) -> Result<Vec<Vec<u8>>, 
     ensures completes { IfErr result (IsWant (debug_data view.now)) }
 {
     match names_below(alloc, view, base) {
+        Ok(names) => Ok(names),
+        Err(fault) => Err(fault),
+    }
+}
+
+/// The same where the view's line tables were read already: they aren't read again.
+#[tactic(auto, using(crate::proofs::ExcludeLaws::want_rules))]
+pub fn sources_by_tables(
+    alloc: Global,
+    view: &View,
+    base: &[u8],
+    tables: Vec<LineTable>,
+) -> Result<Vec<Vec<u8>>, Fault>
+    requires tables { TablesFound view.now tables.items }
+    ensures sources { IfOk result (λ names. AreSources (debug_data view.now) base.now (map bytes_of names.items)) }
+    ensures none { OnOk result ((r : RefusalOf) → SourcesFail (debug_data view.now) r → ⊥) }
+    ensures refused { IfErr result (Blames (SourcesFail (debug_data view.now))) }
+    ensures completes { IfErr result (IsWant (debug_data view.now)) }
+{
+    match names_by_tables(alloc, view, base, tables) {
         Ok(names) => Ok(names),
         Err(fault) => Err(fault),
     }

@@ -1,25 +1,27 @@
 //! The line tables of a view, by the places where they start (DWARF 5, 6.2.4): each is read once.
 
-ghost use Rattle.std.specs.Prelude.{◌≡◌, [], nat_eq, IfOk, IfErr, OnOk};
+ghost use Rattle.std.specs.Prelude.{◌≡◌, [], nat_eq, IfOk, OnOk};
 ghost use Rattle.std.specs.HashMap.{get};
-ghost use Rattle.dw_base.specs.Refusals.{Blames};
 ghost use Rattle.dw_base.specs.ViewData.{debug_data};
-ghost use Rattle.dw_meaning.specs.DataFails.{LinesFail};
+ghost use Rattle.dw_lines.specs.ViewTables.{TablesFound};
 ghost use Rattle.dw_sources.specs.Sources.{AreKept, KeepsOne, KeepsRest};
 
-use dw_base::{Fault, NoMemory};
-use dw_lines::{LineTable, line_tables};
+use dw_base::NoMemory;
+use dw_lines::LineTable;
 use dw_view::View;
 use std::alloc::Global;
 use std::collections::HashMap;
 
-/// The line tables of the view; none where it has no section of them. Refused at the first that can't be read.
+/// The line tables of the view, by the places where they start.
 #[tactic(auto, using(crate::proofs::TableLaws::kept_rules))]
-pub(crate) fn tables_by_start(alloc: Global, view: &View) -> Result<HashMap<u64, LineTable>, Fault>
+pub(crate) fn tables_by_start(
+    alloc: Global,
+    view: &View,
+    tables: Vec<LineTable>,
+) -> Result<HashMap<u64, LineTable>, NoMemory>
+    requires tables { TablesFound view.now tables.items }
     ensures tables { IfOk result (λ m. AreKept (debug_data view.now) (λ at. get nat_eq m at)) }
-    ensures refused { IfErr result (Blames (LinesFail (debug_data view.now))) }
 {
-    let tables = line_tables(alloc, view)?;
     let kept = by_start(alloc, tables)?;
     Ok(kept)
 }

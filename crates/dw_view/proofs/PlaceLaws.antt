@@ -175,8 +175,6 @@ pub ruleset add_rules = (add-absent, add-none, add-one)
 pub count-is : (g : RelocationSource) (n size : ℕ) → size ≡ reloc_size g.class g.rela → n ≡ length g.table / size → n ≡ length (records_in g)
 count-is g n size e is = is ∙ ap (λ (k : ℕ). length g.table / k) e ∙ sym (length-records g)
 
-pub ruleset count_rules = (count-is)
-
 -- an item, whatever stands for one that isn't there
 pub place-is : (list : List PlacedRecord) (i : ℕ) (d : PlacedRecord) → i < length list → (slice_index_or list i d).place ≡ place_at list i
 place-is list i d lt = ap (λ (e : PlacedRecord). e.place) (get_or_default list i d no_item lt)

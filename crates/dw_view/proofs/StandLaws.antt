@@ -33,9 +33,6 @@ and-fails true true h = absurd (h refl refl)
 and-fails true false h = refl
 and-fails false y h = refl
 
-self-eq : (xs : List ℕ) → bytes_eq xs xs ≡ true
-self-eq xs = (bytes_eq-Decides xs xs).1 refl
-
 -- the names of two texts are the same exactly where they are
 other-name : (xs ys : List ℕ) → bytes_eq xs ys ≡ false → xs ≢ ys
 other-name xs ys differ same =

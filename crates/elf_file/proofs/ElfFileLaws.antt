@@ -35,12 +35,6 @@ pub section-here : (b : List ℕ) (sections : List Section) (i : ℕ) (s : Secti
 section-here b sections i s are lt e =
     e ∙ ap (λ (xs : List Section). get_or xs i s) are ∙ get_or-sections_of b i s lt
 
--- the same of a segment
-pub segment-here : (b : List ℕ) (segments : List Segment) (i : ℕ) (s : Segment) → segments ≡ segments_of b → i < e_phnum b
-    → s ≡ get_or segments i s → s ≡ nth_segment b i
-segment-here b segments i s are lt e =
-    e ∙ ap (λ (xs : List Segment). get_or xs i s) are ∙ get_or-segments_of b i s lt
-
 -- the bytes of a section are in the file
 pub section-lies : (b : List ℕ) (i : ℕ) → DebugReads b → i < section_count b → is_empty_kind (nth_section b i) ≡ false
     → (nth_section b i).size ≢ 0 → (nth_section b i).offset + (nth_section b i).size ≤ length b

@@ -86,7 +86,7 @@ fn file_of<'a>(alloc: Global, bytes: &'a [u8], header: &FileHeader) -> Result<El
     })
 }
 
-impl ElfFile<'_> {
+impl<'a> ElfFile<'a> {
     /// How many sections there are.
     #[tactic(auto, using(crate::proofs::ElfFileLaws::number_laws))]
     pub fn section_count(&self) -> u32
@@ -117,7 +117,7 @@ impl ElfFile<'_> {
 
     /// The bytes of the section of a number, none of type NULL and NOBITS.
     #[tactic(auto, using(crate::proofs::ElfFileLaws::file_laws), unfolding(dw_base::specs::Elf::contents_of))]
-    pub fn contents(&self, section: u32) -> &[u8]
+    pub fn contents(&self, section: u32) -> &'a [u8]
         requires there { section < section_count self.now.bytes.now }
         ensures contents { result.now ≡ contents_of self.now.bytes.now section }
     {

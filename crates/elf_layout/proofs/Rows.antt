@@ -12,9 +12,7 @@ use Rattle.dw_base.specs.Refusals.{at, Blames}
 use Rattle.dw_base.specs.declared.fault.Fault.{Fault}
 use Rattle.dw_base.specs.declared.fault.Fault.TheVariants.{NoMemory, Refused}
 use Rattle.dw_base.proofs.WrittenContents.{contents-empty}
-use Rattle.elf_layout.specs.Given.{AreContents, body_given}
-use Rattle.std.specs.declared.alloc.Global.{Global}
-use Rattle.std.specs.declared.vec.Vec.{Vec}
+use Rattle.elf_layout.specs.Given.{AreContents, NewBody, body_given}
 use Rattle.elf_layout.proofs.ByteLaws.{appended_ten}
 use Rattle.dw_base.specs.declared.fault.Kind.TheVariants.{TooLarge}
 use Rattle.dw_base.specs.declared.fault.Refusal.{Refusal}
@@ -74,7 +72,12 @@ section_stays_excludes b bodies i r not_across not_in_header not_changed (change
 section_stays_excludes b bodies i r not_across not_in_header not_changed (across h) = not_across h
 section_stays_excludes b bodies i r not_across not_in_header not_changed (in_header h) = not_in_header h
 
-pub ruleset stays_rows = (changed, across, in_header, section, section_stays_excludes)
+-- one that can't be written refuses the layout
+pub blamed-section : (b : List ℕ) (bodies : ℕ → List ℕ) (i : ℕ) (x : Fault) → i < section_count b → Blames (SectionStays b bodies i) x → Blames (LayoutFails b bodies) x
+blamed-section b bodies i NoMemory lt h = tt
+blamed-section b bodies i (Refused r) lt h = section i lt h
+
+pub ruleset stays_rows = (changed, across, in_header, section, section_stays_excludes, blamed-section)
 
 -- one section more is laid
 pub laid-next : (out : List ℕ) (f : ℕ → Part) (i : ℕ) → laid out (tabulate f (i + 1)) ≡ extended (laid out (tabulate f i)) (f i)
@@ -118,7 +121,7 @@ layout_excludes b bodies r small fit (large (long passes)) = omega arith
 pub ruleset emit_rows = (section, large, layout_excludes, fixed_end-header, fixed_end-within)
 
 -- no body is given for a section of type NULL or NOBITS, nor has it one
-pub given-none : (b : List ℕ) (contents : List (Option (Vec ℕ Global))) → AreContents b contents
+pub given-none : (b : List ℕ) (contents : List (Option NewBody)) → AreContents b contents
     → (i : ℕ) → i < section_count b → is_empty_kind (nth_section b i) ≡ true → body_given b contents i ≡ []
 unfolding body_given contents_of
 given-none b contents are i lt empty =

@@ -9,6 +9,9 @@ use Rattle.dw_base.specs.declared.fault.Fault.{Fault}
 use Rattle.dw_base.specs.declared.fault.Fault.TheVariants.{Refused}
 use Rattle.dw_base.specs.declared.fault.Kind.TheVariants.{TooLarge}
 use Rattle.dw_base.specs.declared.records.Section.{Section}
+use Rattle.dw_base.specs.declared.shared.Order.{Order}
+use Rattle.elf_layout.specs.Patched.{with_patches}
+use Rattle.elf_layout.specs.declared.patch.Patch.{Patch}
 
 -- a section to be written, of its header, whether it is laid out anew, and its body
 abbrev pub part : Section → Bool → List ℕ → Part
@@ -18,20 +21,35 @@ part head moves body = record { head = head; moves = moves; body = body }
 abbrev pub refused_length : Fault
 refused_length = Refused (at TooLarge 0 0)
 
--- the bytes of a vector, where one is given, else others
-abbrev pub given_or : Option (Vec ℕ Global) → List ℕ → List ℕ
+-- the bytes of a vector, where there is one, else others
+abbrev pub own_or : Option (Vec ℕ Global) → List ℕ → List ℕ
+own_or None old = old
+own_or (Some v) old = v.items
+
+-- a new body of a section: bytes, and the new numbers of some of their fields
+pub record NewBody : Type 0 where
+  pub order : Order
+  pub start : List ℕ
+  pub fields : List Patch
+
+-- its bytes
+abbrev pub body_bytes : NewBody → List ℕ
+body_bytes x = with_patches x.order x.start x.fields
+
+-- the bytes of a new body, where one is given, else others
+abbrev pub given_or : Option NewBody → List ℕ → List ℕ
 given_or None own = own
-given_or (Some v) own = v.items
+given_or (Some x) own = body_bytes x
 
 -- the item that is given for a section
-abbrev pub item_of : List (Option (Vec ℕ Global)) → ℕ → Option (Vec ℕ Global)
+abbrev pub item_of : List (Option NewBody) → ℕ → Option NewBody
 item_of contents i = slice_index_or contents i None
 
 -- the body of the section of a number: the given one, else its own contents
-unfoldable pub body_given : List ℕ → List (Option (Vec ℕ Global)) → ℕ → List ℕ
+unfoldable pub body_given : List ℕ → List (Option NewBody) → ℕ → List ℕ
 body_given b contents i = given_or (item_of contents i) (contents_of b i)
 
 -- there is one item for each section, and none is given for sections of type NULL and NOBITS
-pub record AreContents (b : List ℕ) (contents : List (Option (Vec ℕ Global))) : Type 0 where
+pub record AreContents (b : List ℕ) (contents : List (Option NewBody)) : Type 0 where
   pub each : length contents ≡ section_count b
   pub none : (i : ℕ) → i < section_count b → is_empty_kind (nth_section b i) ≡ true → item_of contents i ≡ None

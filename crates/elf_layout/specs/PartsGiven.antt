@@ -4,12 +4,12 @@ use Rattle.dw_base.specs.Elf.{ehdr_size, is_empty_kind}
 use Rattle.dw_base.specs.Layout.{Part}
 use Rattle.dw_base.specs.declared.elf_numbers.TheConstants.{SHT_NULL}
 use Rattle.dw_base.specs.declared.shared.Class.{Class}
-use Rattle.elf_layout.specs.Given.{given_or, part}
+use Rattle.elf_layout.specs.Given.{own_or, part}
 use Rattle.elf_layout.specs.declared.part.Part.{Part as GivenPart}
 
 -- a part: it is laid out anew where it is neither kept nor of type NULL or NOBITS
 abbrev pub part_given : GivenPart → Part
-part_given p = part p.head (not p.kept && not (is_empty_kind p.head)) (given_or p.body [])
+part_given p = part p.head (not p.kept && not (is_empty_kind p.head)) (own_or p.body [])
 
 -- parts, in order
 abbrev pub parts_given : List GivenPart → List Part

@@ -6,7 +6,8 @@
 //! the limit as `TooLarge`, each only where its condition holds, and nothing else is refused. A file
 //! with new bodies reads where its names end; a file of parts where its front reads, its alignments
 //! are such, and its names end. The steps of writing (`lay`, `append_table`) and the tests of what may
-//! stay (`lies_across`, `begins_in_header`) are the defined ones, for further layouts.
+//! stay (`lies_across`, `begins_in_header`) are the defined ones, for further layouts. A body that is the old one with new
+//! numbers in some of its fields isn't copied before it is written (`NewBody`).
 //! It does not promise: anything of what the bodies mean.
 //! Read first: `dw_base/specs/Layout.antt`, then `LayoutFails.antt`, `LayoutReads.antt`, `Parts.antt`.
 //!
@@ -15,7 +16,7 @@
 //! // One item for each section: a new body, or none where it keeps its own.
 //! let mut contents = Vec::new(alloc);
 //! for section in 0..elf.section_count() {
-//!     contents.push(if section == 3 { Some(Vec::from_slice(alloc, b"a.c\0")?) } else { None })?;
+//!     contents.push(if section == 3 { Some(NewBody::whole(alloc, Vec::from_slice(alloc, b"a.c\0")?)) } else { None })?;
 //! }
 //! let file = emit(alloc, &elf, &contents)?;
 //! ```
@@ -23,14 +24,22 @@
 
 mod bodies;
 mod fixed;
+mod in_pieces;
 mod laying;
+mod new_body;
 mod part;
 mod parts;
+mod patch;
+mod pieces;
 mod section_headers;
 
 pub use bodies::emit;
 pub use fixed::{begins_in_header, lies_across};
+pub use in_pieces::{join_table, lay_lent};
 pub use laying::lay;
+pub use new_body::NewBody;
 pub use part::Part;
 pub use parts::write_parts;
+pub use patch::{Patch, put_patches};
+pub use pieces::Pieces;
 pub use section_headers::append_table;

@@ -8,7 +8,6 @@ ghost use Rattle.dw_base.specs.Parts.{FitParts, PartsReadBack, in_header, in_sec
 ghost use Rattle.dw_base.specs.Refusals.{Blames};
 ghost use Rattle.dw_base.specs.declared.fault.Refusal.{Refusal};
 ghost use Rattle.dw_base.specs.declared.elf_numbers.TheConstants.{SHT_NULL};
-ghost use Rattle.elf_layout.specs.Given.{given_or};
 ghost use Rattle.elf_layout.specs.declared.part.Part.{Part as GivenPart};
 ghost use Rattle.elf_layout.specs.PartsGiven.{ArePartsFor, part_given, parts_given};
 

@@ -78,7 +78,7 @@ fn push_shdr(out: &mut Vec<u8>, class: Class, order: Order, s: &Section) -> Resu
 }
 
 /// Appends section headers, one after another.
-fn push_shdrs(
+pub(crate) fn push_shdrs(
     out: &mut Vec<u8>,
     class: Class,
     order: Order,
@@ -112,7 +112,7 @@ fn pad_to_word(out: &mut Vec<u8>, class: Class) -> Result<(), Fault>
 }
 
 /// Puts the place of the section headers into the file header.
-fn put_shoff(file: &mut [u8], class: Class, order: Order, place: u64)
+pub(crate) fn put_shoff(file: &mut [u8], class: Class, order: Order, place: u64)
     requires header { ehdr_size class ≤ length file.old }
     requires small { place ≤ output_limit }
     ensures put { file.new ≡ with_number order file.old (shoff_place class) (word_size class) place }

@@ -16,10 +16,6 @@ pub begin-further : (p q : ℕ) (rs : List Run) → p ≤ q → BeginFrom q rs �
 begin-further p q [] le h = tt
 begin-further p q (r ∷ rs) le h = let here = h.0 in (omega (arith, le, here), begin-further p q rs le h.1)
 
-pub begin-append : (p : ℕ) (xs ys : List Run) → BeginFrom p xs → BeginFrom p ys → BeginFrom p (xs ++ ys)
-begin-append p [] ys h k = k
-begin-append p (x ∷ xs) ys h k = (h.0, begin-append p xs ys h.1 k)
-
 pub place-append : (now : ℕ) (xs ys : List Run) (p : ℕ) → place_from now (xs ++ ys) p ≡ place_from (place_from now xs p) ys p
 place-append now [] ys p = refl
 place-append now (x ∷ xs) ys p = place-append (if nat_le x.old p then x.new + (p - x.old) else now) xs ys p

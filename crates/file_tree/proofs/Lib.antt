@@ -1,3 +1,4 @@
+pub mod PieceLaws
 pub mod PlaceLaws
 pub mod TreeLaws
 pub mod PastLaws

@@ -2,7 +2,8 @@
 //!
 //! This layer promises: the meanings of `Tree` in full; a call fails only where it is set to.
 //! Read first: `specs/Logs.antt`, `specs/MemTrees.antt`.
-ghost use Rattle.std.specs.Prelude.{◌≡◌, ◌+◌, ◌-◌, ◌^◌, ◌<◌, ◌≤◌, true, [], min, vec_len, vec_capacity, Some, None, IfOk, OnOk, IsErrOf, IsOkUnless, option_map, map};
+ghost use Rattle.std.specs.Prelude.{◌≡◌, ◌+◌, ◌-◌, ◌^◌, ◌<◌, ◌≤◌, true, [], min, flat_map, vec_len, vec_capacity, Some, None, IfOk, OnOk, IsErrOf, IsOkUnless, option_map, map};
+ghost use Rattle.file_tree.specs.declared.node.Node.TheVariants as node;
 ghost use Rattle.file_tree.specs.Trees.{with_node, without, moved};
 ghost use Rattle.file_tree.specs.Seen.{now_of, map_now, adds, calls_of, settles_of};
 ghost use Rattle.file_tree.specs.Images.{Image, state_of, image_at};
@@ -18,7 +19,7 @@ use crate::node::{Found, Listed, Node, TreeErr};
 use crate::places::{move_node, put_node, take_node};
 use crate::sorts::{copies, sorted};
 use crate::stops::leave;
-use crate::text::Text;
+use crate::text::{Blob, Text};
 use crate::tree::Tree;
 use std::alloc::{AllocError, Global};
 
@@ -234,6 +235,20 @@ impl Tree for MemTree {
         }
         put_node(&mut self.nodes, place, node);
         self.log.add(call, Effect::Changed(change));
+        Ok(())
+    }
+
+    fn put_pieces(&mut self, path: &str, pieces: &[&[u8]], mode: u32) -> Result<(), TreeErr>
+        ensures done { (seen_of self.old).tells ≡ true → OnOk result ((seen_of self.new).past ≡ adds (seen_of self.old).past (Call.Put path.now) (Effect.Changed (Change.Put path.now (node.File (flat_map (λ piece. piece.now) pieces.now) mode)))) }
+        ensures failed { (seen_of self.old).tells ≡ true → IsErrOf result TreeErr.Failed → Fails (seen_of self.old).past (seen_of self.new).past (Call.Put path.now) (PutFails path.now) }
+        ensures now { OnOk result (now_of (seen_of self.new) ≡ option_map (with_node path.now (node.File (flat_map (λ piece. piece.now) pieces.now) mode)) (now_of (seen_of self.old))) }
+        ensures others { OnlyAt path.now (now_of (seen_of self.old)) (now_of (seen_of self.new)) }
+        ensures cause { HasCause (seen_of self.old) (seen_of self.new) result }
+        ensures tells { (seen_of self.new).tells ≡ (seen_of self.old).tells }
+        ensures set { FailsAsSet self.old self.new result }
+    {
+        let bytes = Blob::joined(self.alloc, pieces)?;
+        self.put(path, &Node::File { bytes, mode })?;
         Ok(())
     }
 

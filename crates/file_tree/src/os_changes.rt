@@ -89,14 +89,16 @@ fn clear_path<R: Files>(rt: &R, path: &str) -> io::Result<()> {
     }
 }
 
-/// Writes a new file, with exactly this mode. It isn't stored yet.
-fn write_file<R: Files>(rt: &R, path: &str, bytes: &[u8], mode: u32) -> io::Result<R::File> {
+/// Writes a new file of these pieces, with exactly this mode. It isn't stored yet.
+fn write_file<R: Files>(rt: &R, path: &str, pieces: &[&[u8]], mode: u32) -> io::Result<R::File> {
     let mut file = OpenOptions::new()
         .write(true)
         .create_new(true)
         .mode(0o600)
         .open(rt, path)?;
-    file.write_all(bytes)?;
+    for piece in pieces {
+        file.write_all(piece)?;
+    }
     file.set_permissions(Permissions::from_mode(mode))?;
     Ok(file)
 }
@@ -112,10 +114,23 @@ pub(crate) fn put_at<R: Files + AllocGlobal>(
     clear_path(rt, path)?;
     match node {
         Node::File { bytes, mode } => {
-            unstored.add_file(write_file(rt, path, bytes.as_slice(), *mode)?)
+            unstored.add_file(write_file(rt, path, &[bytes.as_slice()], *mode)?)
         }
         Node::Link { target } => std::os::unix::fs::symlink(rt, target.as_str(), path),
     }
+}
+
+/// Sets the path to a file of these pieces.
+pub(crate) fn put_file_at<R: Files + AllocGlobal>(
+    rt: &R,
+    path: &str,
+    pieces: &[&[u8]],
+    mode: u32,
+    unstored: &mut Unstored<R>,
+) -> io::Result<()> {
+    make_folders(rt, path, unstored)?;
+    clear_path(rt, path)?;
+    unstored.add_file(write_file(rt, path, pieces, mode)?)
 }
 
 /// Moves what is at the one path to the other; where no file or link is there, nothing is to do. Where

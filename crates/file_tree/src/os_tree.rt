@@ -7,7 +7,7 @@ ghost use Rattle.file_tree.specs.Seen.{no_past};
 ghost use Rattle.file_tree.specs.Causes.{Rose};
 
 use crate::node::{Found, Listed, Node, TreeErr};
-use crate::os_changes::{put_at, remove_at, rename_at};
+use crate::os_changes::{put_at, put_file_at, remove_at, rename_at};
 use crate::os_looks::{list_at, read_at};
 use crate::os_stores::Unstored;
 use crate::tree::Tree;
@@ -90,6 +90,12 @@ impl<R: Files + AllocGlobal + Clone + Drop> Tree for OsTree<R> {
     fn put(&mut self, path: &str, node: &Node) -> Result<(), TreeErr> {
         self.unstored.note_name(self.rt.alloc(), path)?;
         let put = put_at(&self.rt, path, node, &mut self.unstored);
+        self.done(put)
+    }
+
+    fn put_pieces(&mut self, path: &str, pieces: &[&[u8]], mode: u32) -> Result<(), TreeErr> {
+        self.unstored.note_name(self.rt.alloc(), path)?;
+        let put = put_file_at(&self.rt, path, pieces, mode, &mut self.unstored);
         self.done(put)
     }
 

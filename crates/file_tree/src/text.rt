@@ -1,7 +1,7 @@
 //! Bytes, texts and lists of paths, which contracts see as lists.
 //!
 //! Each is made from a vector, and gives it back, without taking memory.
-ghost use Rattle.std.specs.Prelude.{◌≡◌, ℕ, List, map, length, IfOk};
+ghost use Rattle.std.specs.Prelude.{◌≡◌, ℕ, List, flat_map, map, length, IfOk};
 ghost use Rattle.std.specs.String.{string_bytes};
 
 use std::alloc::{AllocError, Global};
@@ -35,6 +35,14 @@ impl Blob {
         Ok(Blob { bytes })
     }
 
+    /// A copy of the bytes of these pieces, one behind another.
+    pub fn joined(alloc: Global, pieces: &[&[u8]]) -> Result<Blob, AllocError>
+        ensures value { IfOk result (λ b. b ≡ flat_map (λ piece. piece.now) pieces.now) }
+    {
+        let bytes = joined(alloc, pieces)?;
+        Ok(Blob { bytes })
+    }
+
     /// The bytes, as a vector.
     pub fn into_vec(self) -> Vec<u8>
         ensures value { result.items ≡ self }
@@ -63,6 +71,18 @@ impl Blob {
     {
         Blob::from_slice(alloc, self.as_slice())
     }
+}
+
+/// The bytes of these pieces, one behind another.
+#[tactic(auto, using(crate::proofs::PieceLaws::piece_laws))]
+fn joined(alloc: Global, pieces: &[&[u8]]) -> Result<Vec<u8>, AllocError>
+    ensures value { IfOk result (λ bytes. bytes.items ≡ flat_map (λ piece. piece.now) pieces.now) }
+{
+    let mut bytes = Vec::new(alloc);
+    'pieces: for piece in pieces {
+        bytes.extend_from_slice(piece)?;
+    }
+    Ok(bytes)
 }
 
 /// A path, or what a link leads to.

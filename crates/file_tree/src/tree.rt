@@ -4,7 +4,8 @@
 //! what each finds. A tree tells by its past, a list of all its calls with what they did; so what a
 //! stop at any moment may leave is a matter of that list alone.
 //! Read first: `specs/Seen.antt`, `specs/Causes.antt`; for stops `specs/Images.antt`.
-ghost use Rattle.std.specs.Prelude.{◌≡◌, true, IfOk, OnOk, IsErrOf, option_map};
+ghost use Rattle.std.specs.Prelude.{◌≡◌, true, flat_map, IfOk, OnOk, IsErrOf, option_map};
+ghost use Rattle.file_tree.specs.declared.node.Node.TheVariants as node;
 ghost use Rattle.file_tree.specs.Trees.{with_node, without, moved};
 ghost use Rattle.file_tree.specs.Seen.{Seen, now_of, adds};
 ghost use Rattle.file_tree.specs.Causes.{HasCause, Stood, Lay, IsWithin, IsListed, OnlyAt, MadeOrNot, Fails, PutFails, MoveFails, TakeFails};
@@ -44,6 +45,15 @@ pub trait Tree {
         ensures done { (seen self.old).tells ≡ true → OnOk result ((seen self.new).past ≡ adds (seen self.old).past (Call.Put path.now) (Effect.Changed (Change.Put path.now node.now))) }
         ensures failed { (seen self.old).tells ≡ true → IsErrOf result TreeErr.Failed → Fails (seen self.old).past (seen self.new).past (Call.Put path.now) (PutFails path.now) }
         ensures now { OnOk result (now_of (seen self.new) ≡ option_map (with_node path.now node.now) (now_of (seen self.old))) }
+        ensures others { OnlyAt path.now (now_of (seen self.old)) (now_of (seen self.new)) }
+        ensures cause { HasCause (seen self.old) (seen self.new) result }
+        ensures tells { (seen self.new).tells ≡ (seen self.old).tells };
+
+    /// Sets the path to a file of this mode and of the bytes of these pieces, one behind another, as `put` sets it to a node.
+    fn put_pieces(&mut self, path: &str, pieces: &[&[u8]], mode: u32) -> Result<(), TreeErr>
+        ensures done { (seen self.old).tells ≡ true → OnOk result ((seen self.new).past ≡ adds (seen self.old).past (Call.Put path.now) (Effect.Changed (Change.Put path.now (node.File (flat_map (λ piece. piece.now) pieces.now) mode)))) }
+        ensures failed { (seen self.old).tells ≡ true → IsErrOf result TreeErr.Failed → Fails (seen self.old).past (seen self.new).past (Call.Put path.now) (PutFails path.now) }
+        ensures now { OnOk result (now_of (seen self.new) ≡ option_map (with_node path.now (node.File (flat_map (λ piece. piece.now) pieces.now) mode)) (now_of (seen self.old))) }
         ensures others { OnlyAt path.now (now_of (seen self.old)) (now_of (seen self.new)) }
         ensures cause { HasCause (seen self.old) (seen self.new) result }
         ensures tells { (seen self.new).tells ≡ (seen self.old).tells };

@@ -10,6 +10,7 @@ use std::{fs, io};
 #[derive(Drop)]
 enum Step {
     Put(&'static str, u32, &'static str),
+    Pieces(&'static str, u32, &'static str, &'static str),
     Link(&'static str, &'static str),
     Read(&'static str, u64),
     List(&'static str, u64),
@@ -74,6 +75,18 @@ fn link(alloc: Global, target: &str) -> Result<Node, AllocError> {
     Ok(Node::Link { target })
 }
 
+fn put_pieces<T: Tree>(
+    alloc: Global,
+    tree: &mut T,
+    path: &str,
+    mode: u32,
+    front: &str,
+    back: &str,
+) -> Result<String, AllocError> {
+    let pieces = [front.as_bytes(), "".as_bytes(), back.as_bytes()];
+    done_text(alloc, tree.put_pieces(path, &pieces, mode))
+}
+
 fn put<T: Tree>(alloc: Global, tree: &mut T, path: &str, node: Node) -> Result<String, AllocError> {
     done_text(alloc, tree.put(path, &node))
 }
@@ -82,6 +95,9 @@ fn put<T: Tree>(alloc: Global, tree: &mut T, path: &str, node: Node) -> Result<S
 fn answer<T: Tree>(alloc: Global, tree: &mut T, step: &Step) -> Result<String, AllocError> {
     match step {
         Step::Put(path, mode, text) => put(alloc, tree, path, file(alloc, *mode, text)?),
+        Step::Pieces(path, mode, front, back) => {
+            put_pieces(alloc, tree, path, *mode, front, back)
+        }
         Step::Link(path, target) => put(alloc, tree, path, link(alloc, target)?),
         Step::Read(path, limit) => found_text(alloc, tree.read(path, *limit)),
         Step::List(folder, limit) => listed_text(alloc, tree.list(folder, *limit)),
@@ -106,7 +122,7 @@ fn try_steps<T: Tree>(
 }
 
 /// Calls that every tree answers alike, below a folder that isn't there at first.
-const COMMON: [(Step, &str); 22] = [
+const COMMON: [(Step, &str); 26] = [
     (Step::List("tree_test", 9), "paths"),
     (Step::Read("tree_test/a", 9), "absent"),
     (Step::Put("tree_test/a/c", 0o4666, "first"), "ok"),
@@ -129,6 +145,10 @@ const COMMON: [(Step, &str); 22] = [
     (Step::Remove("tree_test/missing"), "ok"),
     (Step::Put("tree_test/a/c", 0o444, "third"), "ok"),
     (Step::Read("tree_test/a/c", 9), "file 444 third"),
+    (Step::Pieces("tree_test/a.b", 0o640, "in ", "pieces"), "ok"),
+    (Step::Read("tree_test/a.b", 9), "file 640 in pieces"),
+    (Step::Pieces("tree_test/a.b", 0o444, "", ""), "ok"),
+    (Step::Read("tree_test/a.b", 0), "file 444 "),
     (Step::Remove("tree_test/a.b"), "ok"),
     (Step::Settle, "ok"),
     (Step::List("tree_test", u64::MAX), "paths tree_test/a/c"),

@@ -12,17 +12,17 @@ use crate::files::{Sample, built};
 use dw_base::elf_numbers::SHT_NULL;
 use dw_base::{Fault, Kind, OUTPUT_LIMIT, Refusal, Section};
 use elf_file::ElfFile;
-use elf_layout::{Part, emit, write_parts};
+use elf_layout::{NewBody, Part, emit, write_parts};
 use std::alloc::{AllocError, Global};
 use std::test::Fail;
 
 /// The item of a section: a body, where it takes room and one is given.
-fn item_for(
+fn item_for<'a>(
     alloc: Global,
     head: &Section,
     given: bool,
     body: &[u8],
-) -> Result<Option<Vec<u8>>, AllocError>
+) -> Result<Option<NewBody<'a>>, AllocError>
     ensures none { IfOk result (λ item. is_empty_kind head.now ≡ true → item ≡ None) }
 {
     if head.takes_no_room() {
@@ -31,17 +31,17 @@ fn item_for(
     if !given {
         return Ok(None);
     }
-    let body = Vec::from_slice(alloc, body)?;
-    Ok(Some(body))
+    let bytes = Vec::from_slice(alloc, body)?;
+    Ok(Some(NewBody::whole(alloc, bytes)))
 }
 
 /// The items of all sections, of which one is given a body.
-fn contents_with(
+fn contents_with<'a>(
     alloc: Global,
     elf: &ElfFile,
     changed: u32,
     body: &[u8],
-) -> Result<Vec<Option<Vec<u8>>>, AllocError>
+) -> Result<Vec<Option<NewBody<'a>>>, AllocError>
     ensures items { IfOk result (λ items. AreContents elf.now.bytes.now items.items) }
 {
     let mut items = Vec::new(alloc);

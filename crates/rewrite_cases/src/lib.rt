@@ -43,5 +43,6 @@ pub fn rewritten(alloc: Global, bytes: &[u8], maps: (&[u8], &[u8])) -> Result<Ve
     let Some(maps) = Maps::new(alloc, maps.0, maps.1)? else {
         return Err(Fault::NoMemory);
     };
-    rewrite(alloc, bytes, &maps)
+    let out = rewrite(alloc, bytes, &maps)?;
+    Ok(out.file)
 }

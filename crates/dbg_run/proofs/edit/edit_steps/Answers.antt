@@ -7,7 +7,7 @@ use Rattle.dbg_run.proofs.edit.edit_steps.Goals as goal
 pub returns-clause-done : goal.returns-clause-done
 returns-clause-done g c =
     edit_done c.args.input.now c.args.output.now c.args.options.now c.args.limit (g.T.Tree.seen c.args.tree.now) (g.T.Tree.seen c.read_input.new.tree)
-    (g.T.Tree.seen c.free_output.new.tree) (g.T.Tree.seen c.write_output.new.tree) c.in_ok-bytes.bytes.items c.in_ok-out.out.items c.in_ok-bytes.mode
+    (g.T.Tree.seen c.free_output.new.tree) (g.T.Tree.seen c.write_output.new.tree) c.in_ok-bytes.bytes.items c.in_ok-out.out.file.items c.in_ok-bytes.mode
     c.in_ok-bytes.ensures.done c.in_ok-bytes.ensures.kept c.in_ok-bytes.ensures.tells c.in_ok-free_output.ensures.done c.in_ok-free_output.ensures.kept
     c.in_ok-free_output.ensures.tells c.in_ok-out.ensures.accepted c.in_ok-out.ensures.output c.in_ok-out.ensures.only c.in_ok-out.ensures.keeps
     c.in_ok-write_output.ensures.done c.in_ok-write_output.ensures.settled

@@ -8,7 +8,7 @@ pub returns-clause-done : goal.returns-clause-done
 returns-clause-done g c =
     listed_done c.args.input.now c.args.output.now c.args.list.now c.args.options.now c.args.limit (g.T.Tree.seen c.args.tree.now) (g.T.Tree.seen c.read_input.new.tree)
     (g.T.Tree.seen c.free_output.new.tree) (g.T.Tree.seen c.free_output-2.new.tree) (g.T.Tree.seen c.write_outputs.new.tree) c.in_ok-file.file.items
-    c.in_ok-rewritten.rewritten.items c.in_ok-names.names.items c.in_ok-file.mode
+    c.in_ok-rewritten.rewritten.file.items c.in_ok-names.names.items c.in_ok-file.mode
     c.in_ok-file.ensures.done c.in_ok-file.ensures.kept c.in_ok-file.ensures.tells c.in_ok-free_output.ensures.done c.in_ok-free_output.ensures.kept
     c.in_ok-free_output.ensures.tells c.in_ok-free_output-2.ensures.done c.in_ok-free_output-2.ensures.kept c.in_ok-free_output-2.ensures.tells
     c.in_ok-rewritten.ensures.accepted c.in_ok-rewritten.ensures.output c.in_ok-rewritten.ensures.only c.in_ok-rewritten.ensures.keeps c.in_ok-names.ensures.text

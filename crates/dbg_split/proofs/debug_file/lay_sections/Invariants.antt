@@ -1,5 +1,5 @@
 -- What is laid, and the new headers, are those of the sections so far.
-use Rattle.std.proofs.Common.{◌≡◌, ◌≤◌, vec_len}
+use Rattle.std.proofs.Common.{◌≡◌, ◌+◌, ◌++◌, ◌≤◌, length}
 use Rattle.dw_base.specs.Layout.{output_limit, laid, new_heads}
 use Rattle.dw_base.specs.Lists.{tabulate}
 use Rattle.dbg_split.specs.DebugFile.{debug_part}
@@ -7,8 +7,7 @@ use Rattle.dbg_split.proofs.debug_file.lay_sections.Given as goal
 
 abbrev pub invariant-loop-section : goal.invariant-loop-section
 invariant-loop-section l = record {
-  small : vec_len l.out ≤ output_limit;
-  longer : vec_len l.initial.out ≤ vec_len l.out;
-  bytes : l.out.items ≡ laid l.initial.out.items (tabulate (debug_part l.elf.bytes.now) l.section);
-  heads : l.heads.items ≡ new_heads l.initial.out.items (tabulate (debug_part l.elf.bytes.now) l.section);
+  small : length l.front + length l.out ≤ output_limit;
+  bytes : l.front ++ l.out ≡ laid l.front (tabulate (debug_part l.elf.bytes.now) l.section);
+  heads : l.heads.items ≡ new_heads l.front (tabulate (debug_part l.elf.bytes.now) l.section);
 }

@@ -10,7 +10,7 @@ returns-clause-stripped_reads c =
 pub returns-clause-debug_reads : goal.returns-clause-debug_reads
 returns-clause-debug_reads c =
     let made = c.in_ok-pair.ensures in
-    debug-back c.args.bytes.now c.args.debug_name.now c.in_ok-pair.pair.debug.items c.requires.small made.reads made.bytes made.none made.debug
+    debug-back c.args.bytes.now c.args.debug_name.now c.in_ok-pair.pair.debug c.requires.small made.reads made.bytes made.none made.debug
 
 pub returns-clause-loaded : goal.returns-clause-loaded
 returns-clause-loaded c =
@@ -20,17 +20,17 @@ returns-clause-loaded c =
 pub returns-clause-joins : goal.returns-clause-joins
 returns-clause-joins c =
     let made = c.in_ok-pair.ensures in
-    joins-back c.args.bytes.now c.args.debug_name.now c.in_ok-pair.pair.debug.items c.in_ok-pair.pair.stripped.items c.requires.small made.reads made.bytes made.none
+    joins-back c.args.bytes.now c.args.debug_name.now c.in_ok-pair.pair.debug c.in_ok-pair.pair.stripped.items c.requires.small made.reads made.bytes made.none
     made.debug made.stripped
 
 pub returns-clause-meaning : goal.returns-clause-meaning
 returns-clause-meaning c =
     let made = c.in_ok-pair.ensures in
-    means-back c.args.bytes.now c.args.debug_name.now c.in_ok-pair.pair.debug.items c.in_ok-pair.pair.stripped.items c.requires.small made.reads made.bytes made.none
+    means-back c.args.bytes.now c.args.debug_name.now c.in_ok-pair.pair.debug c.in_ok-pair.pair.stripped.items c.requires.small made.reads made.bytes made.none
     made.debug made.stripped
 
 pub returns-clause-reads : goal.returns-clause-reads
 returns-clause-reads c =
     let made = c.in_ok-pair.ensures in
-    reads-back c.args.bytes.now c.args.debug_name.now c.in_ok-pair.pair.debug.items c.in_ok-pair.pair.stripped.items c.requires.small made.reads made.bytes made.none
+    reads-back c.args.bytes.now c.args.debug_name.now c.in_ok-pair.pair.debug c.in_ok-pair.pair.stripped.items c.requires.small made.reads made.bytes made.none
     made.kept made.debug made.stripped

@@ -8,7 +8,7 @@ use Rattle.dw_entries.proofs.step.entry_at.Goals as goal
 pub returns-in_default-clause-refused : goal.returns-in_default-clause-refused
 returns-in_default-clause-refused c =
     no_code-stops c.args.unit.now c.args.table.now c.args.bytes.now c.args.here.place c.args.here.depth c.args.here.number c.args.code c.args.size
-    c.refused.result c.refused.ensures c.requires.code c.in_default.ensures.value
+    c.refused.result c.refused.ensures c.requires.code c.in_default.ensures.none
 
 pub returns-then-is_split_root-clause-refused : goal.returns-then-is_split_root-clause-refused
 returns-then-is_split_root-clause-refused c =

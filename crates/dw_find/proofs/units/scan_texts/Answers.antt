@@ -1,7 +1,7 @@
 -- What the pass gives is taken from where it stands.
 use Rattle.std.proofs.Common.{arith}
 use Rattle.std.proofs.lemmas.Result.{err_from_is_err_and}
-use Rattle.dw_find.proofs.ScanTextLaws.{pass-given, pass-refused, pass-fails, pass-few, gave-entry, gave-refusal}
+use Rattle.dw_find.proofs.ScanTextLaws.{pass-code, pass-one, pass-refused, pass-fails, pass-few, gave-code, gave-refusal}
 use Rattle.dw_find.proofs.units.scan_texts.Goals as goal
 
 pub returns-in_err-entry-clause-refused : goal.returns-in_err-entry-clause-refused
@@ -13,16 +13,23 @@ returns-in_err-entry-clause-refused c =
 
 pub scanned_texts-requires-clause-given : goal.scanned_texts-requires-clause-given
 scanned_texts-requires-clause-given c =
-    pass-given c.args.texts.now c.args.unit.now c.args.table.now c.args.bytes.now c.args.found.now c.loop-entry.found c.loop-entry.entry-iterator c.next.new.self
+    pass-code c.args.texts.now c.args.unit.now c.args.table.now c.args.bytes.now c.args.found.now c.loop-entry.found c.loop-entry.entry-iterator c.next.new.self
     c.loop-entry.number c.in_ok-entry.entry c.loop-entry.invariant
-    (gave-entry c.loop-entry.entry-iterator c.next.new.self c.in-Some.entry c.in_ok-entry.entry c.in-Some.ensures.steps c.in_ok-entry.was)
+    (gave-code c.loop-entry.entry-iterator c.next.new.self c.in-Some.entry c.in_ok-entry.entry c.in-Some.ensures.steps c.in_ok-entry.was)
 
 pub returns-in_err-scanned_texts-clause-refused : goal.returns-in_err-scanned_texts-clause-refused
 returns-in_err-scanned_texts-clause-refused c =
     let p = err_from_is_err_and c.from_residual-in_err-scanned_texts.result c.from_residual-in_err-scanned_texts.ensures.1 in
     rw (p.1, p.2) (pass-refused c.args.texts.now c.args.unit.now c.args.table.now c.args.bytes.now c.args.found.now c.loop-entry.found c.loop-entry.entry-iterator c.next.new.self
-    c.loop-entry.number c.in_ok-entry.entry c.in_err-scanned_texts.field-0.0 c.loop-entry.invariant
-    (gave-entry c.loop-entry.entry-iterator c.next.new.self c.in-Some.entry c.in_ok-entry.entry c.in-Some.ensures.steps c.in_ok-entry.was) c.in_err-scanned_texts.ensures.refused)
+    c.loop-entry.number c.in_ok-entry.entry.entry c.in_err-scanned_texts.field-0.0 c.loop-entry.invariant
+    (gave-code c.loop-entry.entry-iterator c.next.new.self c.in-Some.entry c.in_ok-entry.entry c.in-Some.ensures.steps c.in_ok-entry.was).gives c.in_err-scanned_texts.ensures.refused)
+
+pub loop-entry-preserved : goal.loop-entry-preserved
+loop-entry-preserved c =
+    pass-one c.args.texts.now c.args.unit.now c.args.table.now c.args.bytes.now c.args.found.now c.loop-entry.found c.scanned_texts.new.found c.loop-entry.entry-iterator
+    c.next.new.self c.loop-entry.number c.in_ok-entry.entry c.loop-entry.invariant
+    (gave-code c.loop-entry.entry-iterator c.next.new.self c.in-Some.entry c.in_ok-entry.entry c.in-Some.ensures.steps c.in_ok-entry.was)
+    c.in_ok-scanned_texts.ensures.found c.in_ok-scanned_texts.ensures.taken
 
 pub overflow_add-number : goal.overflow_add-number
 overflow_add-number c =

@@ -7,10 +7,10 @@ use Rattle.dw_rewrite.proofs.file.rewrite_judged.Goals as goal
 pub returns-clause-only : goal.returns-clause-only
 returns-clause-only c =
     one_output _ _ _
-    (made_output c.args.maps.now c.args.elf.now.bytes.now c.in_ok-bodies.bodies.items c.in_ok-out.out.items (subst IsPathMap c.maps.view_is c.maps.invariant)
-    c.requires.judged c.in_ok-bodies.ensures.made c.in_ok-out.ensures.file)
+    (made_output c.args.maps.now c.args.elf.now.bytes.now c.in_ok-bodies.bodies.items c.in_ok-file.file.items (subst IsPathMap c.maps.view_is c.maps.invariant)
+    c.requires.judged c.in_ok-bodies.ensures.made c.in_ok-file.ensures.file)
 
 pub returns-clause-meaning : goal.returns-clause-meaning
 returns-clause-meaning c =
-    made_meaning c.args.maps.now c.args.elf.now.bytes.now c.in_ok-bodies.bodies.items c.in_ok-out.out.items (subst IsPathMap c.maps.view_is c.maps.invariant)
-    c.requires.judged c.in_ok-bodies.ensures.made c.in_ok-out.ensures.fits c.in_ok-out.ensures.file c.in_ok-out.ensures.back
+    made_meaning c.args.maps.now c.args.elf.now.bytes.now c.in_ok-bodies.bodies.items c.in_ok-file.file.items (subst IsPathMap c.maps.view_is c.maps.invariant)
+    c.requires.judged c.in_ok-bodies.ensures.made c.in_ok-file.ensures.fits c.in_ok-file.ensures.file c.in_ok-file.ensures.back

@@ -1,0 +1,155 @@
+-- Values of which nothing is noted, though they aren't read.
+use Rattle.std.proofs.Common.{Bool, true, false, ◌≡◌, ◌≢◌, ℕ, ◌+◌, ◌≤◌, ◌==◌, List, [], ◌∷◌, ◌++◌, length, IsTrue, Option, Some, None, refl, sym, ap, ◌∙◌, subst, arith, append-nil, nat_le}
+use Rattle.std.specs.Prelude.{◌||◌}
+use Rattle.std.specs.Option.{IfSome}
+use Rattle.std.proofs.lemmas.Bool.{le-leb}
+use Rattle.dw_base.specs.Cells.{Located}
+use Rattle.dw_base.specs.Forms.{in_str, width_size}
+use Rattle.dw_base.specs.Numbers.{number_at, spelled}
+use Rattle.dw_base.specs.Roles.{Role, is_path, offset}
+use Rattle.dw_base.specs.TextIndexes.{is_base}
+use Rattle.dw_base.specs.Texts.{ends_in}
+use Rattle.dw_base.specs.Values.{value_at}
+use Rattle.dw_base.specs.declared.dwarf_numbers.TheConstants.{DW_AT_stmt_list, DW_FORM_strp}
+use Rattle.dw_base.specs.declared.fault.Refusal.{Refusal}
+use Rattle.dw_base.specs.declared.shared.Params.{Params}
+use Rattle.dw_base.specs.declared.values.Spec.{Spec}
+use Rattle.dw_base.specs.declared.values.Value.{Value}
+use Rattle.dw_base.specs.declared.values.ValueClass.TheVariants.{StrOffset}
+use Rattle.dw_entries.specs.Passes.{HasSize}
+use Rattle.dw_find.specs.EntryTexts.{Found, IsTaken, OffsetRefuses, OneRefuses, Tables, ValueTaken, no_text, offset as offset_refuses, offset_in, relocation, some, with_base, with_paths, with_places, with_stray}
+use Rattle.dw_find.specs.LaterValues.{IsLater, IsNamed, str_field}
+use Rattle.dw_find.specs.QuietValues.{is_text_form}
+use Rattle.dw_find.specs.TextPlaces.{TextPlace, class_places, is_macros, is_start, is_start_form, line_places, no_index, own_form, said_places, value_places}
+use Rattle.dw_find.specs.UnitPaths.{UnitPaths}
+use Rattle.dw_find.specs.declared.fields.TextBase.{TextBase}
+use Rattle.dw_find.specs.declared.fields.TextIndex.{TextIndex}
+use Rattle.dw_find.proofs.EntryTextLaws.{with_base-none, with_places-none, with_stray-none}
+use Rattle.dw_find.proofs.FoundLaws.{paths-same}
+use Rattle.dw_find.proofs.QuietLaws.{Quiet, base-none, class-names, or-parts, path-none, places-none, value-quiet}
+use Rattle.dw_find.proofs.StrValueLaws.{str-read, str-value}
+
+-- the place of an offset that is no path's: nothing is noted of it
+abbrev plain_place : ℕ → ℕ → TextPlace
+plain_place at len = record { role = offset in_str false; at = at; len = len; says = no_index }
+
+stray-plain : (o : Option ℕ) (at len : ℕ) → with_stray o (plain_place at len ∷ []) ≡ o
+stray-plain None at len = refl
+stray-plain (Some n) at len = refl
+
+base-plain : (b : Option TextBase) (at len : ℕ) → with_base b (plain_place at len ∷ []) ≡ b
+base-plain None at len = refl
+base-plain (Some n) at len = refl
+
+paths-plain : (u : UnitPaths) (at len : ℕ) → with_paths u (plain_place at len ∷ []) ≡ u
+unfolding with_paths
+paths-plain u at len =
+    paths-same u.number (u.str ++ []) u.str (u.line_str ++ []) u.line_str (u.inline ++ []) u.inline (u.starts ++ []) u.starts (u.macros ++ []) u.macros
+    (with_stray u.stray (plain_place at len ∷ [])) u.stray
+    (append-nil u.str) (append-nil u.line_str) (append-nil u.inline) (append-nil u.starts) (append-nil u.macros) (stray-plain u.stray at len)
+
+places-plain : (f : Found) (at len : ℕ) → with_places f (plain_place at len ∷ []) ≡ f
+unfolding with_places
+places-plain f at len =
+    ap (λ (u : UnitPaths). record { paths = u; base = with_base f.base (plain_place at len ∷ []); indexes = f.indexes ++ [] }) (paths-plain f.paths at len)
+    ∙ ap (λ (b : Option TextBase). record { paths = f.paths; base = b; indexes = f.indexes ++ [] }) (base-plain f.base at len)
+    ∙ ap (λ (xs : List TextIndex). record { paths = f.paths; base = f.base; indexes = xs }) (append-nil f.indexes)
+
+-- an attribute of a name that says no start
+no-line : (name : ℕ) → is_start name ≡ false → (name == DW_AT_stmt_list) ≡ false
+no-line name e = (or-parts (name == DW_AT_stmt_list) (is_macros name) e).0
+
+str-nothing : (number tag : ℕ) (x : Spec) (bytes : List ℕ) (place size n : ℕ) (f : Found) → number ≢ 0 → is_start x.name ≡ false
+    → f ≡ with_places f (value_places number tag x bytes place (str_field place size n))
+str-nothing number tag x bytes place size n f other start =
+    sym (ap (λ (b : Bool). with_places f (line_places b (own_form x bytes place) (str_field place size n)
+    ++ (class_places StrOffset (is_path number tag x.name) (is_base number x.name) (is_start_form (own_form x bytes place)) place (str_field place size n)
+    ++ said_places (is_start x.name) (is_macros x.name) (own_form x bytes place) place (str_field place size n)))) (no-line x.name start)
+    ∙ ap (λ (b : Bool). with_places f (class_places StrOffset (is_path number tag x.name) (is_base number x.name) (is_start_form (own_form x bytes place)) place (str_field place size n)
+    ++ said_places b (is_macros x.name) (own_form x bytes place) place (str_field place size n))) start
+    ∙ ap (λ (b : Bool). with_places f (record { role = offset in_str b; at = place; len = size; says = no_index } ∷ [])) (path-none number tag x.name other)
+    ∙ places-plain f place size)
+
+-- a number of so many bytes stands there
+number-there : (params : Params) (bytes : List ℕ) (place size : ℕ) → place + size ≤ length bytes
+    → Some (spelled params.order bytes place size) ≡ number_at params.order bytes place size
+unfolding number_at
+number-there params bytes place size le = rw (le-leb (place + size) (length bytes) le) refl
+
+str-there : (params : Params) (x : Spec) (bytes : List ℕ) (place size : ℕ) → x.form ≡ DW_FORM_strp → size ≡ width_size params.width → place + size ≤ length bytes
+    → value_at params x bytes place ≡ Some (str_field place size (spelled params.order bytes place size))
+str-there params x bytes place size form is le =
+    str-value params x bytes place (str_field place size (spelled params.order bytes place size)) form
+    (str-read params bytes place size (spelled params.order bytes place size) is (number-there params bytes place size le))
+
+-- it names what the field of any number names
+named-later : (t : Tables) (params : Params) (x : Spec) (bytes : List ℕ) (place size : ℕ) (start : Bool) → x.form ≡ DW_FORM_strp → start ≡ is_start x.name → start ≡ false
+    → IsNamed t params bytes place size → IsLater t params bytes x place size
+named-later t params x bytes place size start form is none n = record {
+  value = str_field place size (spelled params.order bytes place size);
+  is = str-there params x bytes place size form n.size_is n.inside;
+  size_is = refl;
+  taken = record { names = n.names };
+  nothing = λ number tag f other. str-nothing number tag x bytes place size (spelled params.order bytes place size) f other (sym is ∙ none);
+}
+
+pub is-named : (t : Tables) (z : Located) (params : Params) (bytes : List ℕ) (place size : ℕ) → z ≡ t.str → size ≡ width_size params.width
+    → place + size ≤ length bytes → IsTrue (ends_in z.bytes (offset_in t z (str_field place size 0))) → IsNamed t params bytes place size
+is-named t z params bytes place size own size_is le names = record {
+  size_is = size_is;
+  inside = le;
+  names = subst (λ (y : Located). IsTrue (ends_in y.bytes (offset_in t y (str_field place size 0)))) own names;
+}
+
+-- what refuses the field of a number refuses that of another
+same-refuses : (t : Tables) (z : Located) (place size m n : ℕ) (r : Refusal) → OffsetRefuses t z (str_field place size m) r → OffsetRefuses t z (str_field place size n) r
+same-refuses t z place size m n r (relocation f) = relocation f
+same-refuses t z place size m n r (no_text e) = no_text e
+
+pub named-refused : (t : Tables) (z : Located) (params : Params) (x : Spec) (bytes : List ℕ) (section place size : ℕ) (r : Refusal) → z ≡ t.str
+    → x.form ≡ DW_FORM_strp → size ≡ width_size params.width → place + size ≤ length bytes → OffsetRefuses t z (str_field place size 0) r
+    → OneRefuses t params bytes section place x r
+named-refused t z params x bytes section place size r own form size_is le f =
+    some (str_field place size (spelled params.order bytes place size)) (str-there params x bytes place size form size_is le)
+    (offset_refuses t.str refl (same-refuses t t.str place size 0 (spelled params.order bytes place size) r
+    (subst (λ (y : Located). OffsetRefuses t y (str_field place size 0) r) own f)))
+
+pub ruleset named_rules = (is-named, named-refused)
+
+-- a value that says nothing by its form and its name
+plain-later : (t : Tables) (params : Params) (x : Spec) (bytes : List ℕ) (place size : ℕ) (start text : Bool) → start ≡ is_start x.name → start ≡ false
+    → text ≡ is_text_form x.form → text ≡ false → HasSize params x bytes place size → IsLater t params bytes x place size
+plain-later t params x bytes place size start text start_is no_start text_is no_text_ h =
+    let plain : is_text_form x.form ≡ false = sym text_is ∙ no_text_ in
+    let other : is_start x.name ≡ false = sym start_is ∙ no_start in
+    let quiet : Quiet x = record { form = plain; line = no-line x.name other; start = other } in
+    record {
+      value = h.value;
+      is = h.is;
+      size_is = sym h.size_is;
+      taken = record { names = class-names t h.value.class h.value (value-quiet params x bytes place h.value plain h.is) };
+      nothing = λ number tag f numbered.
+          sym (ap (with_places f) (places-none number tag x bytes place h.value numbered quiet (value-quiet params x bytes place h.value plain h.is)) ∙ with_places-none f);
+    }
+
+-- where one was found
+pub named-found : (t : Tables) (params : Params) (x : Spec) (bytes : List ℕ) (place : ℕ) (o : Option ℕ) (start : Bool) → x.form ≡ DW_FORM_strp → start ≡ is_start x.name → start ≡ false
+    → IfSome o (IsNamed t params bytes place) → IfSome o (IsLater t params bytes x place)
+named-found t params x bytes place None start form is none h = tt
+named-found t params x bytes place (Some n) start form is none h = named-later t params x bytes place n start form is none h
+
+pub plain-found : (t : Tables) (params : Params) (x : Spec) (bytes : List ℕ) (place : ℕ) (o : Option ℕ) (start text : Bool) → start ≡ is_start x.name → start ≡ false
+    → text ≡ is_text_form x.form → text ≡ false → IfSome o (HasSize params x bytes place) → IfSome o (IsLater t params bytes x place)
+plain-found t params x bytes place None start text start_is no_start text_is no_text_ h = tt
+plain-found t params x bytes place (Some n) start text start_is no_start text_is no_text_ h =
+    plain-later t params x bytes place n start text start_is no_start text_is no_text_ h
+
+pub ruleset later_rules = (named-found, plain-found)
+
+-- such a value is taken
+pub later-taken : (t : Tables) (params : Params) (bytes : List ℕ) (number tag : ℕ) (x : Spec) (place size : ℕ) (f : Found) → number ≢ 0
+    → IsLater t params bytes x place size → ValueTaken t params bytes number tag x place size f f
+later-taken t params bytes number tag x place size f other l =
+    record { value = l.value; is = l.is; size_is = l.size_is; taken = l.taken; found = l.nothing number tag f other }
+
+pub ruleset taken_rules = (later-taken)

@@ -1,0 +1,12 @@
+-- The front with the place of the table, what is laid behind it, and the table are the file.
+use Rattle.std.proofs.Common.{rules, ◌+◌, arith}
+use Rattle.elf_layout.proofs.PieceLaws.{joined-table, shoff-put}
+use Rattle.elf_layout.proofs.in_pieces.join_table.Goals as goal
+
+pub returns-clause-file : goal.returns-clause-file
+returns-clause-file c =
+    joined-table c.args.class c.args.order c.args.front.items c.args.behind c.in_ok-table.table.items _ c.push.new.self c.put_front.new.self
+    (c.len.result + c.len-2.result) (c.len.result + c.len-2.result + c.padding_at.result) c.args.heads.now (search rules) (search rules) (search rules)
+    (search rules) (shoff-put c.args.class c.args.order c.args.front.items _ c.put_shoff.new.file _ _ (search rules) (omega arith) c.deref_mut.ensures.value
+    c.put_shoff.ensures.put)
+    (search rules) c.in_ok-put_front.ensures.put
