@@ -3,3 +3,4 @@ pub mod TextLaws
 pub mod SectionLaws
 pub mod OwnLaws
 pub mod IdLaws
+pub mod PieceLaws

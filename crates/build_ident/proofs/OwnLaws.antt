@@ -48,12 +48,6 @@ shared-more b i d n here before = record {
 
 pub ruleset shared_rules = (shared-start, shared-more)
 
--- one section
-pub shares-own : (b : List ℕ) (i : ℕ) (d : Descriptor) (j : ℕ) → j ≡ i → j ≢ i → shares b i d j ≡ false
-shares-own b i d j same other = absurd (other same)
-
-pub ruleset other_rules = (shares-own)
-
 -- refusals
 pub fails-header : (b : List ℕ) (i place : ℕ) (d : Descriptor) (r : Refusal) → IsId b i d → place ≡ id_place b i d → place < ehdr_size (class_of b)
     → r ≡ at BuildId i 0 → IdFails b r

@@ -1,32 +1,16 @@
 -- Laws of the search for the section of the build-id.
-use Rattle.std.proofs.Common.{◌≡◌, ◌≢◌, ℕ, zero, suc, ◌+◌, ◌-◌, ◌*◌, ◌^◌, ◌<◌, ◌≤◌, ◌==◌, ◌&&◌, Bool, true, false, if◌then◌else◌, List, length, Option, Some, None, refl, sym, ap, ◌∙◌, arith, add-one, inl, inr}
-use Rattle.std.proofs.lemmas.Bool.{cases_eq, ne_eqb}
-use Rattle.dw_base.specs.Elf.{class_of, shdr_size, e_shoff, nth_section, section_count, section_name, name_index, name_table, contents_of}
+use Rattle.std.proofs.Common.{◌≡◌, ◌≢◌, ℕ, zero, suc, ◌+◌, ◌-◌, ◌<◌, ◌==◌, ◌&&◌, Bool, true, false, if◌then◌else◌, List, Option, Some, None, refl, sym, ap, ◌∙◌, arith, add-one}
+use Rattle.std.proofs.lemmas.Bool.{ne_eqb}
+use Rattle.dw_base.specs.Elf.{nth_section, section_count, section_name, name_index, name_table, contents_of}
 use Rattle.dw_base.specs.ElfFails.{DebugReads}
 use Rattle.dw_base.specs.Notes.{first_below, or_this, is_id_section}
 use Rattle.dw_base.specs.SectionNames.{note_build_id}
 use Rattle.dw_base.specs.Texts.{same_text, text_in}
 use Rattle.dw_base.specs.declared.records.Section.{Section}
-use Rattle.dw_base.specs.declared.shared.Class.{Class}
-use Rattle.dw_base.specs.declared.shared.Class.TheVariants.{C32, C64}
 use Rattle.dw_base.specs.declared.elf_numbers.TheConstants.{SHT_NOTE}
-use Rattle.dw_base.proofs.ElfLaws.{section_count-none}
 use Rattle.elf_file.proofs.ElfFileLaws.{names-there, text_in-nil}
 use Rattle.build_ident.specs.IdFails.{id_section}
 use Rattle.build_ident.specs.Searches.{NoneBelow}
-
--- there are no more sections than fit the file
-few : (c : Class) (n start len : ℕ) → start + n * shdr_size c ≤ len → len ≤ 2 ^ 31 → n < 2 ^ 31
-few C32 n start len lies small = omega arith
-few C64 n start len lies small = omega arith
-
-pub count-few : (b : List ℕ) → DebugReads b → length b ≤ 2 ^ 31 → section_count b < 2 ^ 31
-count-few b reads small = elim (cases_eq (e_shoff b) 0) [
-  | inl none ↦ omega (arith, section_count-none b none)
-  | inr some ↦ few (class_of b) (section_count b) (e_shoff b) (length b) (reads.table.lies some) small
-]
-
-pub ruleset count_rules = (count-few)
 
 -- the search, from section to section
 pub none-start : (b : List ℕ) → NoneBelow b 0

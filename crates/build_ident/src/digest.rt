@@ -1,8 +1,8 @@
 //! What a build-id is: the first bytes of the SHA-1 of a seed and the file (this project's profile).
 //!
-//! `set_id` puts the defined id and takes no memory. `id_text` prints an id.
+//! `set_id` puts the defined id and takes no memory; `digest_of_pieces` is what it is made of, for a file in pieces. `id_text` prints an id.
 
-ghost use Rattle.std.specs.Prelude.{◌≡◌, ◌≤◌, ◌+◌, ◌++◌, length, IfOk};
+ghost use Rattle.std.specs.Prelude.{◌≡◌, ◌≤◌, ◌+◌, ◌++◌, flat_map, length, IfOk};
 ghost use Rattle.std.specs.String.{string_bytes};
 ghost use Rattle.hex.specs.Hex.{encode_lower};
 ghost use Rattle.sha1.specs.Sha1.{sha1};
@@ -37,6 +37,20 @@ fn digest_of(seed: &[u8], bytes: &[u8]) -> [u8; 20]
     let mut hasher = Sha1::new();
     hasher.update(seed);
     hasher.update(bytes);
+    hasher.finalize()
+}
+
+/// The SHA-1 of a seed and of the bytes of some pieces, one behind another. The first bytes of it are the build-id of a file of these pieces, in
+/// which the bytes of the id are zeros.
+#[tactic(auto, using(crate::proofs::PieceLaws::piece_rules))]
+pub fn digest_of_pieces(seed: &[u8], pieces: &[&[u8]]) -> [u8; 20]
+    ensures value { result ≡ sha1 (seed.now ++ flat_map (λ piece. piece.now) pieces.now) }
+{
+    let mut hasher = Sha1::new();
+    hasher.update(seed);
+    'pieces: for piece in pieces {
+        hasher.update(piece);
+    }
     hasher.finalize()
 }
 

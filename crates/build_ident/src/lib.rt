@@ -21,6 +21,6 @@ mod notes;
 mod own;
 mod place;
 
-pub use digest::{id_text, set_id};
+pub use digest::{digest_of_pieces, id_text, set_id};
 pub use dw_base::{Kind, NoMemory, Refusal};
 pub use place::{IdPlace, find_id};

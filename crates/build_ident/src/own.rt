@@ -8,9 +8,8 @@ ghost use Rattle.build_ident.specs.IdFails.{id_place, overlap, has_bytes, shares
 ghost use Rattle.build_ident.specs.Searches.{NoneShared};
 
 use crate::notes::Field;
-use crate::place::{refusal, section_count, section_of};
 use dw_base::elf_numbers::{SHT_NOBITS, SHT_NULL};
-use dw_base::{Class, Refusal, Section, number_in};
+use dw_base::{Class, Kind, Refusal, Section, number_in};
 use elf_file::ElfFile;
 
 /// The bytes of the id, which begin at `place` in the file, belong to nothing else. Refused as `BuildId`
@@ -29,13 +28,13 @@ pub(crate) fn own_bytes(
     ensures refused { IfErr result (IdFails elf.now.bytes.now) }
 {
     if place < header_size(elf.class) {
-        return Err(refusal(section));
+        return Err(Refusal::at(Kind::BuildId, section, 0));
     }
     if shares_segments(elf, place, field.size) {
-        return Err(refusal(section));
+        return Err(Refusal::at(Kind::BuildId, section, 0));
     }
     match sharing_section(elf, section, field, place) {
-        Some(_) => Err(refusal(section)),
+        Some(_) => Err(Refusal::at(Kind::BuildId, section, 0)),
         None => Ok(()),
     }
 }
@@ -110,7 +109,7 @@ fn sharing_section(elf: &ElfFile, section: u32, field: Field, place: u64) -> Opt
     ensures found { IfSome result (IsShared elf.now.bytes.now section (record { place = field.place; size = field.size })) }
     ensures none { IsNone result → NoneShared elf.now.bytes.now section (record { place = field.place; size = field.size }) (section_count elf.now.bytes.now) }
 {
-    let count = section_count(elf);
+    let count = elf.section_count();
     for index in 0..count {
         if is_shared(elf, section, index, field, place) {
             return Some(index);
@@ -140,7 +139,7 @@ fn shares(elf: &ElfFile, index: u32, place: u64, size: u64) -> bool
     requires inside { place + size ≤ length elf.now.bytes.now }
     ensures value { result ≡ (has_bytes (nth_section elf.now.bytes.now index) && overlap place size (nth_section elf.now.bytes.now index).offset (nth_section elf.now.bytes.now index).size) }
 {
-    let section = section_of(elf, index);
+    let section = elf.section(index);
     has_bytes(&section) && overlap(place, size, section.offset, section.size)
 }
 

@@ -3,18 +3,16 @@
 
 ghost use Rattle.std.specs.Prelude.{◌≡◌, ◌≤◌, ◌<◌, ◌+◌, false, length, IfErr, IfOk, IfNone, IfSome, OnOk, MatchOption};
 ghost use Rattle.dw_base.specs.Elf.{nth_section, order_of, contents_of, section_count, name_table};
-ghost use Rattle.dw_base.specs.Refusals.{at};
 ghost use Rattle.dw_base.specs.Notes.{id_in, is_id_section};
 ghost use Rattle.dw_base.specs.SectionNames.{note_build_id};
 ghost use Rattle.dw_base.specs.Texts.{has_nul, same_text, text, text_in};
 ghost use Rattle.dw_base.specs.declared.fault.Refusal.{Refusal};
-ghost use Rattle.dw_base.specs.declared.fault.Kind.TheVariants.{BuildId};
 ghost use Rattle.build_ident.specs.IdFails.{id_section, IdFails, IsIdPlace};
 
 use crate::notes::{Field, id_in};
 use crate::own::own_bytes;
 use dw_base::elf_numbers::SHT_NOTE;
-use dw_base::{Kind, Refusal, Section};
+use dw_base::{Kind, Refusal};
 use elf_file::ElfFile;
 
 /// The name of the section with the note of the build-id.
@@ -62,9 +60,9 @@ fn found(elf: &ElfFile, section: u32) -> Result<IdPlace, Refusal>
     ensures wide { IfOk result (λ place. place.len ≤ 20) }
 {
     let Some(field) = id_field(elf, section) else {
-        return Err(refusal(section));
+        return Err(Refusal::at(Kind::BuildId, section, 0));
     };
-    let place = section_of(elf, section).offset + field.place;
+    let place = elf.section(section).offset + field.place;
     own_bytes(elf, section, field, place)?;
     Ok(IdPlace {
         at: place,
@@ -85,40 +83,13 @@ fn id_field(elf: &ElfFile, section: u32) -> Option<Field>
     Some(field)
 }
 
-/// The refusal of the note in a section.
-pub(crate) fn refusal(section: u32) -> Refusal
-    ensures value { result ≡ at BuildId section 0 }
-{
-    Refusal {
-        kind: Kind::BuildId,
-        section,
-        offset: 0,
-    }
-}
-
-/// How many sections there are.
-#[tactic(auto, using(crate::proofs::SectionLaws::count_rules))]
-pub(crate) fn section_count(elf: &ElfFile) -> u32
-    ensures value { result ≡ section_count elf.now.bytes.now }
-{
-    elf.sections.len() as u32
-}
-
-/// The section of a number.
-pub(crate) fn section_of(elf: &ElfFile, index: u32) -> Section
-    requires there { index < section_count elf.now.bytes.now }
-    ensures value { result ≡ nth_section elf.now.bytes.now index }
-{
-    elf.sections[index as usize]
-}
-
 /// The first section that may have the note of the build-id.
 #[tactic(auto, using(crate::proofs::SectionLaws::search_rules), unfolding(crate::specs::IdFails::id_section))]
 fn id_section(elf: &ElfFile) -> Option<u32>
     ensures value { MatchOption result (id_section elf.now.bytes.now ≡ None) (λ i. id_section elf.now.bytes.now ≡ Some i) }
     ensures there { IfSome result (λ i. i < section_count elf.now.bytes.now) }
 {
-    let count = section_count(elf);
+    let count = elf.section_count();
     for index in 0..count {
         if is_id_section(elf, index) {
             return Some(index);
@@ -133,7 +104,7 @@ fn is_id_section(elf: &ElfFile, index: u32) -> bool
     requires there { index < section_count elf.now.bytes.now }
     ensures value { result ≡ is_id_section elf.now.bytes.now index }
 {
-    let section = section_of(elf, index);
+    let section = elf.section(index);
     if section.kind != SHT_NOTE {
         return false;
     }

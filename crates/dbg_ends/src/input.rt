@@ -1,5 +1,5 @@
 //! The step that reads an input.
-ghost use Rattle.std.specs.Prelude.{◌≡◌, ◌≢◌, ◌≤◌, ⊤, ◌⊎◌, length, IfOk, IfErr, OnOk};
+ghost use Rattle.std.specs.Prelude.{◌≡◌, ◌≢◌, ◌≤◌, ◌⊎◌, length, IfOk, IfErr};
 ghost use Rattle.std.specs.Option.{ForSome};
 ghost use Rattle.file_tree.specs.declared.node.Found.TheVariants as found;
 ghost use Rattle.file_tree.specs.Seen.{now_of};

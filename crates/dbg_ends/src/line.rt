@@ -41,6 +41,14 @@ fn mismatch_name(mismatch: &Mismatch) -> &'static str
     }
 }
 
+/// The line where there was not enough memory.
+#[tactic(auto, unfolding(crate::specs::Ends::line_of))]
+pub(crate) fn no_memory_line() -> &'static str
+    ensures text { result.now ≡ line_of end.NoMemory }
+{
+    "no memory\n"
+}
+
 /// The line of an end; nothing where the command is done.
 #[tactic(auto, unfolding(crate::specs::Ends::line_of))]
 pub fn line(alloc: Global, end: &End) -> Result<String, AllocError>
@@ -73,6 +81,6 @@ pub fn line(alloc: Global, end: &End) -> Result<String, AllocError>
         }
         End::TreeFault => String::from_str(alloc, "tree fault\n"),
         End::OutputFault => String::from_str(alloc, "output fault\n"),
-        End::NoMemory => String::from_str(alloc, "no memory\n"),
+        End::NoMemory => String::from_str(alloc, no_memory_line()),
     }
 }

@@ -43,7 +43,7 @@ pub fn free_output<T: Tree>(alloc: Global, path: &str, tree: &mut T) -> Result<(
 
 /// Sets the path to a file of these bytes and this mode, and then settles the tree.
 #[tactic(auto, using(crate::proofs::Rows::output_rows))]
-pub fn write_output<T: Tree>(path: &str, bytes: Vec<u8>, mode: u32, tree: &mut T) -> Result<(), End>
+fn write_output<T: Tree>(path: &str, bytes: Vec<u8>, mode: u32, tree: &mut T) -> Result<(), End>
     ensures done { OnOk result (now_of (T.seen tree.new) ≡ option_map (with_node path.now (node.File bytes.items mode)) (now_of (T.seen tree.old))) }
     ensures ends { IfErr result (OutputEnds path.now (T.seen tree.old) (T.seen tree.new)) }
     ensures due { IfErr result (λ e. IsCut (status_of e)) }
@@ -100,32 +100,27 @@ fn put_pieces<T: Tree>(path: &str, pieces: &[&[u8]], mode: u32, tree: &mut T) ->
     Ok(())
 }
 
-/// Sets the path to a file of these bytes and this mode, then a second path to a file of its bytes and its mode, and then
-/// settles the tree.
-#[tactic(auto, using(crate::proofs::Rows::outputs_rows))]
-pub fn write_outputs<T: Tree>(
+/// Sets the path to a file of the bytes of these pieces, one behind another, and this mode, and then settles the tree.
+#[tactic(auto, using(crate::proofs::Rows::output_rows))]
+pub fn write_in_pieces<T: Tree>(
     path: &str,
-    bytes: Vec<u8>,
+    pieces: &[&[u8]],
     mode: u32,
-    beside: &str,
-    more: Vec<u8>,
-    more_mode: u32,
     tree: &mut T,
 ) -> Result<(), End>
-    ensures done { OnOk result (now_of (T.seen tree.new) ≡ option_map (with_node beside.now (node.File more.items more_mode)) (option_map (with_node path.now (node.File bytes.items mode)) (now_of (T.seen tree.old)))) }
-    ensures ends { IfErr result (OutputsEnd path.now beside.now (T.seen tree.old) (T.seen tree.new)) }
+    ensures done { OnOk result (now_of (T.seen tree.new) ≡ option_map (with_node path.now (node.File (flat_map (λ piece. piece.now) pieces.now) mode)) (now_of (T.seen tree.old))) }
+    ensures ends { IfErr result (OutputEnds path.now (T.seen tree.old) (T.seen tree.new)) }
     ensures due { IfErr result (λ e. IsCut (status_of e)) }
     ensures settled { (T.seen tree.old).tells ≡ true → OnOk result (IsSettled (T.seen tree.new).past) }
     ensures not_done { IfErr result (λ e. 0 ≢ status_of e) }
     ensures not_usage { IfErr result (λ e. 2 ≢ status_of e) }
     ensures not_output { IfErr result (λ e. 7 ≢ status_of e) }
     ensures fault { IfErr result (λ e. status_of e ≡ 6 → Rose (T.seen tree.old).faults (T.seen tree.new).faults) }
-    ensures others { OnlyAtBoth path.now beside.now (now_of (T.seen tree.old)) (now_of (T.seen tree.new)) }
+    ensures others { OnlyAt path.now (now_of (T.seen tree.old)) (now_of (T.seen tree.new)) }
     ensures tells { (T.seen tree.new).tells ≡ (T.seen tree.old).tells }
 {
-    put_output(path, bytes, mode, tree)?;
-    write_output(beside, more, more_mode, tree)?;
-    Ok(())
+    put_pieces(path, pieces, mode, tree)?;
+    Ok(tree.settle()?)
 }
 
 /// Sets the path to a file of the bytes of these pieces, one behind another, and this mode, then a second path to a file of its

@@ -4,7 +4,7 @@ ghost use Rattle.dbg_ends.specs.Ends.{status_of};
 ghost use Rattle.dbg_ends.specs.Told.{Told};
 
 use crate::end::{End, status};
-use crate::line::line;
+use crate::line::{line, no_memory_line};
 use file_tree::Sink;
 use std::alloc::Global;
 
@@ -24,8 +24,8 @@ pub fn tell<E: Sink>(alloc: Global, end: &End, err: &mut E) -> u8
             status(end)
         }
         Err(_) => {
-            let _ = err.write(b"no memory\n");
-            13
+            let _ = err.write(no_memory_line().as_bytes());
+            status(&End::NoMemory)
         }
     }
 }

@@ -48,9 +48,6 @@ pub ruleset id_rules = (refused-elf, refused-id)
 pub output-reads : (m : PathMap) (b out : List ℕ) → MeaningKept m b out → ElfReads out
 output-reads m b out kept = kept.new.reads.elf
 
-pub output-fits : (m : PathMap) (b out : List ℕ) → IsMapped m b out → IdFits b → IdFits out
-output-fits m b out w fits = output-id m b out w fits
-
 -- and keeps what it means and what is loaded
 pub anew-is : (m : PathMap) (seed b out new : List ℕ) → IsMapped m b out → ((o : List ℕ) → IsOutput m b o → o ≡ out) → new ≡ with_new_id seed out
     → length new ≡ length out → IsAnew m seed b new

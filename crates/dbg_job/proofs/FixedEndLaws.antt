@@ -104,11 +104,6 @@ laid-end m b out l = end-is out ∙ by_kind (is_loaded_kind b) refl ∙ sym (end
         ∙ ap ehdr_size l.back.back.class
         ∙ sym (ap (λ (t : Bool). end_by t (class_of b) (e_phnum b) (e_phoff b) (segments_of b) (alloc_ends (sections_of b))) is)
 
--- a section that moved isn't one that stays
-not-both : (t : Bool) → t ≡ true → t ≡ false → ⊥
-not-both true e f = cc
-not-both false e f = cc
-
 laid-fixed : (m : PathMap) (b out : List ℕ) → IsLaid m b out → SameFixed b out
 laid-fixed m b out l = record {
   end = laid-end m b out l;
@@ -218,5 +213,3 @@ output-sections m b out w = record { shape = output-shape m b out w; fixed = out
 
 pub new-sections : (m : PathMap) (b out new : List ℕ) → IsMapped m b out → NewId out new → SameSections b new
 new-sections m b out new w n = record { shape = new-shape m b out new w n; fixed = new-fixed m b out new w n }
-
-pub ruleset fixed_rules = (output-sections)

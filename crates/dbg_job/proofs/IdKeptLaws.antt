@@ -56,7 +56,7 @@ is_id-same : (b out : List ℕ) (bodies : ℕ → List ℕ) (i : ℕ) → Back b
 unfolding is_id_section
 is_id-same b out bodies i k lt = rw (section_name-back b bodies out i k lt, (k.back.heads i lt).kind) refl
 
-section-same : (b out : List ℕ) (bodies : ℕ → List ℕ) → Back b bodies out → id_section out ≡ id_section b
+pub section-same : (b out : List ℕ) (bodies : ℕ → List ℕ) → Back b bodies out → id_section out ≡ id_section b
 unfolding id_section
 section-same b out bodies k =
     ap (λ (n : ℕ). first_below (is_id_section out) n) k.back.count
@@ -83,7 +83,7 @@ contents-same b out bodies i k e =
     let found = section-found b i e in
     k.back.contents i found.0 ∙ k.unread i found.0 (id-unread b i found.1) (id-holder b i found.1)
 
-note-same : (b out : List ℕ) (bodies : ℕ → List ℕ) (i : ℕ) → Back b bodies out → id_section b ≡ Some i
+pub note-same : (b out : List ℕ) (bodies : ℕ → List ℕ) (i : ℕ) → Back b bodies out → id_section b ≡ Some i
     → id_in (order_of out) (contents_of out i) ≡ id_in (order_of b) (contents_of b i)
 note-same b out bodies i k e =
     ap (λ (o : Order). id_in o (contents_of out i)) k.back.order ∙ ap (id_in (order_of b)) (contents-same b out bodies i k e)
@@ -92,6 +92,9 @@ id-back : (b out : List ℕ) (bodies : ℕ → List ℕ) (i : ℕ) (d : Descript
 id-back b out bodies i d k is =
     let there : id_section b ≡ Some i = sym (section-same b out bodies k) ∙ is.section in
     record { section = there; descriptor = sym (note-same b out bodies i k there) ∙ is.descriptor }
+
+pub id-forth : (b out : List ℕ) (bodies : ℕ → List ℕ) (i : ℕ) (d : Descriptor) → Back b bodies out → IsId b i d → IsId out i d
+id-forth b out bodies i d k is = record { section = section-same b out bodies k ∙ is.section; descriptor = note-same b out bodies i k is.section ∙ is.descriptor }
 
 -- so its section has bytes, and the id lies in them
 pub record IdLies (b : List ℕ) (i : ℕ) (d : Descriptor) : Type 0 where
@@ -193,7 +196,7 @@ stands-in m b out l i lt full =
 pub kind-same : (b out : List ℕ) (bodies : ℕ → List ℕ) (j : ℕ) → Back b bodies out → j < section_count b → is_empty_kind (nth_section out j) ≡ is_empty_kind (nth_section b j)
 kind-same b out bodies j k lt = empty-same (nth_section b j) (nth_section out j) (k.back.heads j lt).kind
 
-count-some : (b : List ℕ) (i : ℕ) → i < section_count b → section_count b ≢ 0
+pub count-some : (b : List ℕ) (i : ℕ) → i < section_count b → section_count b ≢ 0
 count-some b i lt none = omega (arith, lt, none)
 
 -- the header's row
@@ -313,5 +316,3 @@ output-id m b out w fits = record { none = by_row }
         ∙ not-true (is_empty_kind (nth_section out j)) (and-left (not (is_empty_kind (nth_section out j))) (not ((nth_section out j).size == 0)) bytes) in
         section-none m b out l i j d fits old (id-lies out i d is) lt shared.other (stands-in m b out l i lies.within lies.full) (stands-in m b out l j lt full) bytes
         (and-right (has_bytes (nth_section out j)) (overlap (id_place out i d) d.size (nth_section out j).offset (nth_section out j).size) shared.shares)
-
-pub ruleset kept_rules = (output-id)

@@ -16,3 +16,4 @@ pub mod PlaceLaws
 pub mod ShapeLaws
 pub mod SourceLaws
 pub mod SplitRowLaws
+pub mod StayingIdLaws

@@ -169,5 +169,3 @@ own-new b new i d w s =
 pub fits-new : (b new : List ℕ) → NewId b new → IdFits b → IdFits new
 fits-new b new (same is) fits = subst IdFits (sym is) fits
 fits-new b new (other i d apart differs) fits = record { none = own-excludes new i d (id-new b new i d apart differs) (own-new b new i d apart differs) }
-
-pub ruleset new_id_rules = (meaning-new, loaded-kept)

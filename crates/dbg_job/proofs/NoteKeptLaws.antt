@@ -1,6 +1,6 @@
 -- The build-id among the notes of a section: it lies in the section, behind all that is looked at to find it; so other bytes in its place
 -- are the build-id as well.
-use Rattle.std.proofs.Common.{Bool, true, false, ◌≡◌, ℕ, zero, suc, ◌+◌, ◌<◌, ◌≤◌, ◌==◌, ◌&&◌, nat_le, codes, List, length, take, drop, slice_index, cond, if◌then◌else◌, Option, Some, None, sym, ap, ◌∙◌, refl, subst, arith}
+use Rattle.std.proofs.Common.{Bool, true, false, ◌≡◌, ℕ, zero, suc, ◌+◌, ◌<◌, ◌≤◌, ◌==◌, ◌&&◌, nat_le, codes, List, length, take, drop, slice_index, cond, if◌then◌else◌, Some, None, sym, ap, ◌∙◌, refl, subst, arith}
 use Rattle.std.proofs.lemmas.Bool.Decides.{nat_tests}
 use Rattle.std.proofs.lemmas.List.{get_or-take, get_or-drop, get_or_default, length-take, length-drop, same_lists}
 use Rattle.dw_base.specs.Layout.{padding}
@@ -33,9 +33,6 @@ record IsFound (xs : List ℕ) (at : ℕ) (d : Descriptor) : Type 0 where
   inside : d.place + d.size ≤ length xs
   some : 2 ≤ d.size
   wide : d.size ≤ 20
-
-same-descriptor : (o : Option Descriptor) (d e : Descriptor) → o ≡ Some d → o ≡ Some e → d ≡ e
-same-descriptor o d e f g = cc
 
 if_id-is : (xs : List ℕ) (c d : Descriptor) → if_id xs c ≡ Some d → (c ≡ d) × ((nat_le (c.place + c.size) (length xs) && (nat_le 2 c.size && nat_le c.size 20)) ≡ true)
 if_id-is xs c d e = by_test (nat_le (c.place + c.size) (length xs) && (nat_le 2 c.size && nat_le c.size 20)) refl e
@@ -144,9 +141,6 @@ unfolding descriptor_at
 descriptor-same order old new place at s le =
     rw (number-same order old new place at 4 s (omega (arith, le)), number-same order old new place (at + 4) 4 s (omega (arith, le))) refl
 
-if_id-same : (old new : List ℕ) (d : Descriptor) → length new ≡ length old → if_id new d ≡ if_id old d
-if_id-same old new d long = rw long refl
-
 among-kept : (n : ℕ) (order : Order) (old new : List ℕ) (at : ℕ) (d : Descriptor) → id_among n order old at ≡ Some d → SameBefore d.place old new → id_among n order new at ≡ Some d
 among-kept zero order old new at d e s = cc
 among-kept (suc n) order old new at d e s =
@@ -165,5 +159,3 @@ among-kept (suc n) order old new at d e s =
 pub id_in-kept : (order : Order) (old new : List ℕ) (d : Descriptor) → id_in order old ≡ Some d → SameBefore d.place old new → id_in order new ≡ Some d
 unfolding id_in
 id_in-kept order old new d e s = ap (λ (n : ℕ). id_among n order new 0) s.long ∙ among-kept (length old) order old new 0 d e s
-
-pub ruleset note_rules = (id_in-inside)

@@ -387,5 +387,3 @@ elf-new b new i d w s = record {
   };
   segments = segments-read b new i d w s;
 }
-
-pub ruleset other_rules = (elf-new)

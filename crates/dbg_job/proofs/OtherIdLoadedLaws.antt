@@ -177,5 +177,3 @@ loaded-new b new i d w s = by_kind (is_loaded_kind b) refl
         ∙ ap (λ (xs : List (List (Option ℕ))). record { segments = []; images = xs })
         (sections-same b new i d numbers w s (filter-under (section_count b) (is_alloc_number b) (tabulate (λ i. i) (section_count b)) (numbers-under (section_count b) (section_count b) (omega arith))))
         ∙ sym (unloaded-is b is)
-
-pub ruleset loaded_rules = (loaded-new)

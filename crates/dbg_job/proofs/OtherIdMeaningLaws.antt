@@ -240,5 +240,3 @@ means-same b new i d x w s is = record {
   };
   says = meaning-same b new i d is.readings w s ∙ is.says;
 }
-
-pub ruleset meaning_rules = (means-same, relocations-read-new)

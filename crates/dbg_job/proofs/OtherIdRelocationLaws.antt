@@ -210,5 +210,3 @@ sections-read-new b new i d w s h = record {
       let was : is_read_section b t ≡ true = sym (is_read-new b new i t d w s) ∙ read in
       section-reads-new b new i t d w s (lt-is t (section_count b) (and-left (nat_lt t (section_count b)) (is_some (debug_section (section_name b t))) was)) (h.all t was);
 }
-
-pub ruleset relocation_rules = (relocations-new, relocates_read-new, sections-read-new)

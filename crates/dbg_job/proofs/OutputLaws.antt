@@ -184,5 +184,3 @@ output-back m b out w = record {
   back = output-reads m b out w;
   unread = λ i lt unread none. full-kept m b w.accepted.readings i (can-map m b out w) lt unread none;
 }
-
-pub ruleset output_rules = (output-small)

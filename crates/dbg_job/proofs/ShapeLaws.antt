@@ -8,7 +8,7 @@ use Rattle.dw_base.specs.Layout.{is_alloc, is_loaded_kind}
 use Rattle.dw_base.specs.LayoutReads.{SameButPlace}
 use Rattle.dw_base.specs.Lists.{tabulate}
 use Rattle.dw_base.specs.declared.records.Section.{Section}
-use Rattle.dbg_split.specs.Droppable.{drops_along, drops_itself, is_droppable, links_symbols, may_drop, names_dropped, names_symbols}
+use Rattle.dbg_split.specs.Droppable.{drops_along, drops_itself, is_droppable, links_symbols, names_dropped, names_symbols}
 use Rattle.dbg_job.specs.SameSections.{SameShape}
 use Rattle.dbg_split.specs.SplitFails.{drops_before, is_link, is_loaded_behind, is_loaded_data}
 
@@ -51,9 +51,6 @@ unfolding names_symbols sections_of
 symbols-same b c i s =
     ap (λ (n : ℕ). list_any (links_symbols i) (tabulate (nth_section c) n)) s.count
     ∙ any-same (links_symbols i) (nth_section c) (nth_section b) (section_count b) (λ k lt. links-same i (nth_section b k) (nth_section c k) (s.heads k lt))
-
-may-same : (b c : List ℕ) (i : ℕ) → SameShape b c → i < section_count b → may_drop c i ≡ may_drop b i
-may-same b c i s lt = rw ((s.heads i lt).flags, s.index) refl
 
 itself-same : (b c : List ℕ) (i : ℕ) → SameShape b c → i < section_count b → drops_itself c i ≡ drops_itself b i
 unfolding drops_itself
@@ -102,5 +99,3 @@ behind-same b c i s lt = rw ((s.heads i lt).flags, before-same b c i s (omega (a
 pub link-same : (b c : List ℕ) (i : ℕ) → SameShape b c → i < section_count b → is_link c i ≡ is_link b i
 unfolding is_link
 link-same b c i s lt = rw (s.names i lt) refl
-
-pub ruleset shape_rules = (link-same)

@@ -164,5 +164,3 @@ rows-on b c bodies r s kind reads fits (names_stay some fixed) =
     (subst (λ (n : ℕ). is_fixed c (nth_section c n) ≡ true) (sym s.shape.index) (fixed-on b c (name_index b) s (reads.debug.index.there some) fixed)))
 rows-on b c bodies r s kind reads fits (section i lt bars) =
     section i (rw s.shape.count lt) (section-on b c bodies i r s fits lt bars)
-
-pub ruleset row_rules = (rows-back, rows-on)

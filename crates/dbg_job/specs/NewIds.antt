@@ -1,10 +1,11 @@
 -- A file with its build-id made anew (gABI ch. 5 "Note Section"; the GNU build-id note). What an id is made of is this
 -- project's profile: a seed, and the whole file with the bytes of the id as zeros.
-use Rattle.std.specs.Prelude.{ℕ, ◌+◌, List, take, drop, Option, Some, None}
+use Rattle.std.specs.Prelude.{◌≡◌, ℕ, ◌+◌, ◌<◌, List, take, drop, Option, Some, None}
 use Rattle.dw_base.specs.Elf.{nth_section}
+use Rattle.dw_base.specs.Layout.{fixed_end}
 use Rattle.dw_base.specs.Notes.{BuildId, build_id_of}
 use Rattle.dw_base.specs.declared.fault.Refusal.{Refusal}
-use Rattle.build_ident.specs.IdFails.{IdFails}
+use Rattle.build_ident.specs.IdFails.{IdFails, IsIdPlace, id_section}
 use Rattle.build_ident.specs.Ids.{with_id}
 
 -- where the build-id of a file begins in it
@@ -31,3 +32,8 @@ id_bytes b = id_bytes_in b (build_id_of b)
 -- and its bytes belong to nothing else
 pub record IdFits (b : List ℕ) : Type 0 where
   pub none : (r : Refusal) → IdFails b r → ⊥
+
+-- another file has a build-id where this one does: none where this one has none, and at the same place where it lies in the part that stays
+pub record KeepsId (b out : List ℕ) : Type 0 where
+  pub none : id_section b ≡ None → id_section out ≡ None
+  pub stays : (place n : ℕ) → IsIdPlace b place n → place < fixed_end b → IsIdPlace out place n

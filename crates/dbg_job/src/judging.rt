@@ -40,8 +40,9 @@ fn edited_outcome(
     ensures refused { IfErr result (Blames (OutcomeFails options.now elf.now.bytes.now debug_name.now)) }
 {
     let out = edited(alloc, elf.bytes, options)?;
-    let Rewritten { file, .. } = out;
-    let sources = source_names(alloc, elf.bytes, &options.maps)?;
+    let Rewritten { file, tables } = out;
+    let file = file.joined(alloc)?;
+    let sources = source_names(alloc, elf.bytes, &options.maps, tables)?;
     let bytes = Blob::new(file);
     Ok(Outcome::Edited { bytes, sources })
 }
@@ -63,10 +64,11 @@ fn split_outcome(
 {
     id_fits(elf)?;
     let out = edited(alloc, elf.bytes, options)?;
-    let Rewritten { file, .. } = out;
+    let Rewritten { file, tables } = out;
+    let file = file.joined(alloc)?;
     let pair = split(alloc, file.as_slice(), debug_name)?;
     let id = id_bytes(alloc, file.as_slice())?;
-    let sources = source_names(alloc, elf.bytes, &options.maps)?;
+    let sources = source_names(alloc, elf.bytes, &options.maps, tables)?;
     let outcome = both(alloc, pair, id, sources)?;
     Ok(outcome)
 }
@@ -124,15 +126,16 @@ fn taken_outcome(
     edited_outcome(alloc, elf, options, debug_name)
 }
 
-/// What becomes of a file of a build root whose debug file has this base name. It is left where a rule applies, the first
-/// that does: it doesn't begin as an ELF file does; its type is neither REL nor EXEC nor DYN; it has a link to a debug file;
-/// or it has nothing for a job to do: of EXEC and DYN no section that a debug file takes, of REL none of debug data. Else it is
-/// edited (`edited`), and one of type EXEC or DYN is split then (`dbg_split::split`); beside the two files stand the build-id of
-/// the edited file, where it has one, and the names of the sources, as they were before. Refused only by a condition that holds:
-/// where its records can't be read as `Header` or `Range`; where it isn't left, by those of `edited`, and, of one that is split, by
-/// those of its build-id, by those that keep the file from being split, or as `TooLarge` where one of the two files would pass the
-/// limit. Where none holds, something becomes of it, or there was not enough memory. The outputs mean what the file means, with each source path mapped,
-/// and what is loaded of it is as it was; a stripped file and its debug file are a pair.
+/// What becomes of a file of a build root whose debug file has this base name. It is left where a rule applies, the
+/// first that does: it doesn't begin as an ELF file does; its type is neither REL nor EXEC nor DYN; it has a link to
+/// a debug file; or it has nothing for a job to do: of EXEC and DYN no section that a debug file takes, of REL none
+/// of debug data. Else it is edited (`edited`), and one of type EXEC or DYN is split then (`dbg_split::split`);
+/// beside the two files stand the build-id of the edited file, where it has one, and the names of the sources, as
+/// they were before. Refused only by a condition that holds: where its records can't be read as `Header` or `Range`;
+/// where it isn't left, by those of `edited`, and, of one that is split, by those of its build-id, by those that keep
+/// the file from being split, or as `TooLarge` where one of the two files would pass the limit. Where none holds,
+/// something becomes of it, or there was not enough memory. The outputs mean what the file means, with each source
+/// path mapped, and what is loaded of it is as it was; a stripped file and its debug file are a pair.
 #[tactic(auto, using(crate::proofs::OutcomeLaws::whole_rules, crate::proofs::OutcomeOneLaws::only_rules))]
 pub fn outcome(
     alloc: Global,

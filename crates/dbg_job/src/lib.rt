@@ -3,7 +3,8 @@
 //! This layer promises: the edited file is the defined one, with mapped paths and, where it is asked for, a new
 //! build-id; a file is left exactly where a rule says so, and else edited, and split where it is one that is
 //! loaded; it is refused only by a row that holds, at its place, and never where none does, want of memory
-//! aside. The outputs mean what the file means, with each source path mapped once, and what is loaded is kept.
+//! aside. The outputs mean what the file means, with each source path mapped once, and what is loaded is kept. Beside an
+//! edited file stand the line tables that were read for it, of which the list of its sources is made.
 //! It does not promise: that an id tells two files apart.
 //! Read first: `specs/EditedFiles.antt`, `specs/NewIds.antt`, then `specs/Leaving.antt`, `specs/Outcomes.antt`.
 //!
@@ -27,4 +28,4 @@ pub use dw_rewrite::Rewritten;
 pub use editing::edited;
 pub use job_types::{LeftWhy, Options, Outcome, Sources};
 pub use judging::outcome;
-pub use naming::{source_names, source_names_by_tables};
+pub use naming::source_names;

@@ -13,41 +13,16 @@ ghost use Rattle.dw_sources.specs.Sources.{AreSources};
 use dw_base::{Fault, NoMemory};
 use dw_lines::LineTable;
 use dw_paths::Maps;
-use dw_sources::{sources, sources_by_tables};
+use dw_sources::sources_by_tables;
 use dw_view::View;
 use elf_file::ElfFile;
 use job_types::Sources;
 use std::alloc::Global;
 
 /// The names of the sources of a file that is taken with a prefix map: those below the map's base that its debug data name,
-/// before they are mapped, with the base cut off, in byte order and each once. Want of memory alone is in the way.
-pub fn source_names(alloc: Global, bytes: &[u8], maps: &Maps) -> Result<Sources, NoMemory>
-    requires small { length bytes.now ≤ output_limit }
-    requires accepted { IsAccepted maps.now bytes.now }
-    ensures sources { IfOk result (λ names. AreSources (file_data bytes.now) maps.now.base names) }
-{
-    match names_below(alloc, bytes, maps) {
-        Ok(names) => Ok(Sources::new(names)),
-        Err(_) => Err(NoMemory),
-    }
-}
-
-/// These names in a vector.
-#[tactic(auto, using(crate::proofs::SourceLaws::name_rules))]
-fn names_below(alloc: Global, bytes: &[u8], maps: &Maps) -> Result<Vec<Vec<u8>>, Fault>
-    requires small { length bytes.now ≤ output_limit }
-    requires accepted { IsAccepted maps.now bytes.now }
-    ensures sources { IfOk result (λ names. AreSources (file_data bytes.now) maps.now.base (map bytes_of names.items)) }
-    ensures memory { IfErr result (λ f. f ≡ fault.NoMemory) }
-{
-    let elf = ElfFile::read(alloc, bytes)?;
-    let view = View::one(&elf)?;
-    let names = sources(alloc, &view, maps.base.as_slice())?;
-    Ok(names)
-}
-
-/// The same where the line tables of the file were read already: they aren't read again.
-pub fn source_names_by_tables(
+/// before they are mapped, with the base cut off, in byte order and each once. The line tables of the file are those that
+/// `edited` gives beside its output; they aren't read again. Want of memory alone is in the way.
+pub fn source_names(
     alloc: Global,
     bytes: &[u8],
     maps: &Maps,
@@ -58,7 +33,7 @@ pub fn source_names_by_tables(
     requires tables { TablesFound (view_of bytes.now) tables.items }
     ensures sources { IfOk result (λ names. AreSources (file_data bytes.now) maps.now.base names) }
 {
-    match names_by_tables(alloc, bytes, maps, tables) {
+    match names_below(alloc, bytes, maps, tables) {
         Ok(names) => Ok(Sources::new(names)),
         Err(_) => Err(NoMemory),
     }
@@ -66,7 +41,7 @@ pub fn source_names_by_tables(
 
 /// These names in a vector.
 #[tactic(auto, using(crate::proofs::SourceLaws::name_rules))]
-fn names_by_tables(
+fn names_below(
     alloc: Global,
     bytes: &[u8],
     maps: &Maps,

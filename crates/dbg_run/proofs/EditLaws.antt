@@ -8,7 +8,7 @@ use Rattle.dw_base.specs.declared.fault.Refusal.{Refusal}
 use Rattle.file_tree.specs.declared.node.Found.{Found}
 use Rattle.file_tree.specs.declared.node.Found.TheVariants as found
 use Rattle.file_tree.specs.declared.node.Node.TheVariants as node
-use Rattle.file_tree.specs.Causes.{Calm, Stood}
+use Rattle.file_tree.specs.Causes.{Calm, OnlyAt, Stood}
 use Rattle.file_tree.specs.Seen.{Seen, now_of}
 use Rattle.file_tree.specs.Trees.{TreeMap, stands_at, with_node}
 use Rattle.dbg_ends.specs.declared.end.End.{End}
@@ -19,7 +19,7 @@ use Rattle.dbg_ends.specs.Due.IsCut.{tree_fault, no_memory}
 use Rattle.dbg_ends.specs.Ends.{status_of}
 use Rattle.dbg_ends.specs.Steps.{InputEnds, IsSettled, OutputFree, OutputTaken, OutputEnds, OutputsEnd, OnlyAtBoth}
 use Rattle.dbg_ends.specs.Steps.{InputEnds as inputs, OutputTaken as outputs, OutputEnds as written, OutputsEnd as both_written}
-use Rattle.dbg_run.specs.Edits.{EditDone, EditDue, EditEnds, EditUnopposed, IsListText, Keeps, ListedDone, ListedEnds, ListedUnopposed, RewriteEnds, list_mode}
+use Rattle.dbg_run.specs.Edits.{EditDone, EditDue, EditEnds, EditUnopposed, IsListText, Keeps, ListedDone, ListedDue, ListedEnds, ListedUnopposed, RewriteEnds, list_mode}
 use Rattle.dbg_run.specs.Edits.{EditEnds as edits, ListedEnds as listed, RewriteEnds as rewrites}
 
 -- what is due where no file is there is due whatever files are due
@@ -129,6 +129,16 @@ listed_wants input output list s limit old mid far last b mode e read calm free 
     listed.rewriting read (free_before old mid output calm free) (free_before old mid list calm (free_before mid far list still also))
     (rewrite_wants input s b e is) (calm_then old mid last calm (calm_then mid far last still rest))
 
+-- of a file that is taken, where files may be put at the output and at the list, status 0 is due
+pub listed_due : (input output list : List ℕ) (s : Settings) (limit : ℕ) (old mid far : Seen) (b : List ℕ) (mode : ℕ) (t : TreeMap)
+    → Stood (now_of old) input limit (found.File b mode) → Calm old mid → OutputFree (now_of mid) output → Calm mid far → OutputFree (now_of far) list
+    → IsEditable s b → now_of old ≡ Some t → ListedDue s (stands_at t input limit) (stands_at t output 0) (stands_at t list 0) 0
+listed_due input output list s limit old mid far b mode t read calm free still also accepted tells =
+    subst (λ (x : Found). ListedDue s x (stands_at t output 0) (stands_at t list 0) 0) (sym (read.is t tells))
+    (free_due (stands_at t output 0) 0 (OutputDue (stands_at t list 0) 0 (Where (IsEditable s b) (0 ≡ 0) (0 ≡ 3))) ((free_before old mid output calm free).is t tells)
+    (free_due (stands_at t list 0) 0 (Where (IsEditable s b) (0 ≡ 0) (0 ≡ 3)) ((free_before old mid list calm (free_before mid far list still also)).is t tells)
+    (where_.here accepted refl)))
+
 pub listed_writing : (input output list : List ℕ) (s : Settings) (limit : ℕ) (old mid far last new : Seen) (b : List ℕ) (mode : ℕ) (e : End)
     → Stood (now_of old) input limit (found.File b mode) → Calm old mid → OutputFree (now_of mid) output → Calm mid far → OutputFree (now_of far) list
     → Calm far last → IsEditable s b → OutputsEnd output list last new e → ListedEnds input output list s limit old new e
@@ -200,6 +210,13 @@ listed_completes input output list s limit old new e t tells is (listed.writing 
     inr (both_completes output list mid new e row)
 listed_completes input output list s limit old new e t tells is (listed.memory at) = inr (no_memory refl)
 listed_completes input output list s limit old new e t tells is (listed.done d) = inl refl
+
+-- a map that is as it was differs at no path
+pub same_one : (path : List ℕ) (tree : Option TreeMap) → OnlyAt path tree tree
+same_one path tree = record {
+  tells = refl;
+  others = λ t u q of_old of_new other. let same : Some u ≡ Some t = sym of_new ∙ of_old in cc;
+}
 
 -- a map that is as it was differs at no path beside two
 pub same_both : (path beside : List ℕ) (old new : Option TreeMap) → new ≡ old → OnlyAtBoth path beside old new

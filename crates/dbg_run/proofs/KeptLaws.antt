@@ -12,6 +12,7 @@ use Rattle.std.proofs.lemmas.Cmp.{eq_by_cmp_equiv}
 use Rattle.dw_meaning.specs.Loaded.{LoadedKept}
 use Rattle.dw_meaning.specs.FileMeanings.{MeaningKept}
 use Rattle.dw_base.specs.Paths.{PathMap}
+use Rattle.job_types.specs.Modes.{not_executable}
 use Rattle.job_types.specs.Settings.{Settings, most_file}
 use Rattle.dbg_split.specs.DebugFile.{debug_file}
 use Rattle.dbg_split.specs.PairMeanings.{MeansAsOne}
@@ -30,7 +31,7 @@ use Rattle.dbg_run.specs.Built.{built}
 use Rattle.dbg_run.specs.Edits.{EditDone, ListedDone, OfFiles, Keeps, list_mode}
 use Rattle.dbg_run.specs.Edits.Keeps.{both}
 use Rattle.dbg_run.specs.Shows.{base_name}
-use Rattle.dbg_run.specs.Splits.{OfParts, Parts, SplitDone, not_executable}
+use Rattle.dbg_run.specs.Splits.{OfParts, Parts, SplitDone}
 use Rattle.dbg_run.specs.Splits.Parts.{all}
 use Rattle.dbg_run.specs.Runs.{Done, KeepsMeaning, KeepsLoaded}
 

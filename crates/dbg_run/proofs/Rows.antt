@@ -3,7 +3,8 @@ use Rattle.dbg_ends.specs.Due.IsCut.{tree_fault, no_memory}
 use Rattle.dbg_ends.specs.Due.{Where as where_}
 use Rattle.dbg_run.proofs.EditLaws.{input_due, taken_due, free_due, not_accepted, rewrite_wants}
 use Rattle.dbg_run.proofs.RunLaws.{cuts_memory}
-use Rattle.dbg_ends.specs.Steps.{OutputsEnd as outputs}
+use Rattle.dbg_ends.specs.Steps.{OutputEnds as output, OutputsEnd as outputs}
+use Rattle.dbg_run.proofs.EditLaws.{same_one}
 use Rattle.dbg_run.proofs.SplitLaws.{are_parts, blames_due, both_same, is_splittable, split_blames}
 use Rattle.dbg_run.specs.Runs.{Ends as ends}
 use Rattle.dbg_run.specs.Splits.{SplitEnds as split}
@@ -16,6 +17,8 @@ pub ruleset edit_rows = (edit.reading, edit.taking, edit.rewriting, edit.writing
 pub ruleset listed_rows = (listed.reading, listed.taking, listed.list_taking, listed.rewriting, listed.writing, listed.done, where_.here, where_.elsewhere, input_due, taken_due, free_due, rewrite_wants)
 
 pub ruleset parting_rows = (is_splittable, are_parts, split_blames, blames_due)
+
+pub ruleset written_rows = (output.memory, no_memory, same_one)
 
 pub ruleset pair_rows = (outputs.memory, no_memory, both_same)
 

@@ -9,7 +9,6 @@ use Rattle.dw_base.specs.RelocationRows.{moving_sections}
 use Rattle.dw_base.specs.ViewData.{debug_data}
 use Rattle.dw_base.specs.declared.fault.Fault.{Fault}
 use Rattle.dw_base.specs.declared.fault.Fault.TheVariants.{NoMemory, Refused}
-use Rattle.dw_base.specs.declared.fault.Refusal.{Refusal}
 use Rattle.dw_base.proofs.ViewFailsLaws.{view_excludes}
 use Rattle.dw_base.proofs.ElfLaws.{debug_excludes, elf_excludes}
 use Rattle.dw_meaning.specs.DataOutput.{DataReads}
@@ -40,7 +39,7 @@ use Rattle.dbg_ends.specs.Steps.{BlamesAt, FaultEnds, InputEnds}
 use Rattle.dbg_ends.specs.Steps.{BlamesAt as blames, FaultEnds as fault_ends, InputEnds as inputs}
 use Rattle.dbg_ends.proofs.StepLaws.{blames_at}
 use Rattle.dbg_run.proofs.EditLaws.{calm_then, input_completes, same_bytes}
-use Rattle.dbg_run.specs.Shows.{AreRead, ErrEnds, HasBegun, IsSeen, IsShowable, ReadingEnds, ShowDone, ShowDue, ShowEnds, ShowFails, ShowUnopposed, Subject, SubjectDue, TextBegins, TextEnds, TextShown, Unseen, ViewEnds, base_name, of_file, of_pair, subject_view, viewed_path}
+use Rattle.dbg_run.specs.Shows.{AreRead, ErrEnds, HasBegun, IsSeen, IsShowable, ReadingEnds, ShowDone, ShowDue, ShowEnds, ShowFails, ShowUnopposed, Subject, SubjectDue, TextEnds, TextShown, Unseen, ViewEnds, base_name, of_file, of_pair, subject_view, viewed_path}
 use Rattle.dbg_run.specs.Shows.{AreRead as reads, ErrEnds as errs, HasBegun as begun, ReadingEnds as readings, ShowEnds as shows, ShowFails as fails, TextEnds as ends, Unseen as unseen}
 
 pub ruleset elf_laws = (blames_at)

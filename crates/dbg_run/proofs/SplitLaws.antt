@@ -17,6 +17,7 @@ use Rattle.file_tree.specs.declared.node.Node.TheVariants as node
 use Rattle.file_tree.specs.Causes.{Calm, Stood}
 use Rattle.file_tree.specs.Seen.{Seen, now_of}
 use Rattle.file_tree.specs.Trees.{TreeMap, stands_at, with_node}
+use Rattle.job_types.specs.Modes.{not_executable}
 use Rattle.job_types.specs.Settings.{most_file}
 use Rattle.dbg_ends.specs.declared.end.End.{End}
 use Rattle.dbg_ends.specs.declared.end.End.TheVariants as end
@@ -28,7 +29,7 @@ use Rattle.dbg_ends.specs.Steps.{BlamesAt, FaultEnds, IsSettled, OnlyAtBoth, Out
 use Rattle.dbg_ends.specs.Steps.{BlamesAt as blames, OutputsEnd as both_written}
 use Rattle.dbg_ends.proofs.StepLaws.{blames_at}
 use Rattle.dbg_run.specs.Shows.{base_name}
-use Rattle.dbg_run.specs.Splits.{IsSplittable, Parts, SplitDone, SplitDue, SplitEnds, SplitUnopposed, not_executable}
+use Rattle.dbg_run.specs.Splits.{IsSplittable, Parts, SplitDone, SplitDue, SplitEnds, SplitUnopposed}
 use Rattle.dbg_run.specs.Splits.{Parts as parts, SplitEnds as splits}
 use Rattle.dw_base.specs.FileViews.{view_of}
 use Rattle.dw_view.specs.PairViews.{pair_view}

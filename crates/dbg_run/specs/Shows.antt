@@ -1,6 +1,6 @@
 -- The command `show`, of one file or of a stripped file and its debug file: what refuses them, what goes to the output, how it may
 -- end, and which status is due.
-use Rattle.std.specs.Prelude.{◌≡◌, true, ℕ, List, Option, Some, None, unwrap_or, ⊤}
+use Rattle.std.specs.Prelude.{◌≡◌, ℕ, List, Option, Some, None, unwrap_or, ⊤}
 use Rattle.std.specs.Path.{path_file_name}
 use Rattle.dw_base.specs.ViewFails.{ViewFails, ViewReads}
 use Rattle.dw_base.specs.ElfFails.{DebugFails, DebugReads, ElfFails, ElfReads}

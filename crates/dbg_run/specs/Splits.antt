@@ -1,5 +1,5 @@
 -- The command `split`: how each of its steps may end, when it is done, and which status is due.
-use Rattle.std.specs.Prelude.{◌≡◌, ℕ, true, bit_and, List, Option, Some, option_map}
+use Rattle.std.specs.Prelude.{◌≡◌, ℕ, true, List, Option, Some, option_map}
 use Rattle.std.specs.FinMap as fin
 use Rattle.dw_base.specs.declared.fault.Refusal.{Refusal}
 use Rattle.dw_meaning.specs.Loaded.{LoadedKept}
@@ -14,16 +14,13 @@ use Rattle.file_tree.specs.declared.node.Node.TheVariants as node
 use Rattle.file_tree.specs.Trees.{TreeMap, with_node}
 use Rattle.file_tree.specs.Seen.{Seen, now_of}
 use Rattle.file_tree.specs.Causes.{Stood, Calm}
+use Rattle.job_types.specs.Modes.{not_executable}
 use Rattle.job_types.specs.Settings.{most_file}
 use Rattle.dbg_ends.specs.declared.end.End.{End}
 use Rattle.dbg_ends.specs.declared.end.End.TheVariants as end
 use Rattle.dbg_ends.specs.Due.{Where, InputDue, IsFree, OutputDue}
 use Rattle.dbg_ends.specs.Steps.{BlamesAt, InputEnds, OutputTaken, OutputFree, OutputsEnd, OnlyAtBoth, IsSettled}
 use Rattle.dbg_run.specs.Shows.{base_name}
-
--- a mode with the bits of 0o111 cleared: no one may execute the file
-abbrev pub not_executable : ℕ → ℕ
-not_executable mode = bit_and mode 4294967222
 
 -- no condition refuses the file, where its debug file has this name
 pub record IsSplittable (b name : List ℕ) : Type 0 where

@@ -1,22 +1,25 @@
-//! The command `edit`: a file with each source path in its debug data mapped, and the list of its sources where one is asked for.
-ghost use Rattle.std.specs.Prelude.{◌≡◌, ◌≢◌, ◌⊎◌, ◌≤◌, ℕ, List, length, IfOk, IfErr, OnOk};
+//! The command `edit`: a file with each source path in its debug data mapped, and the list of its sources where one
+//! is asked for.
+ghost use Rattle.std.specs.Prelude.{◌≡◌, ◌≢◌, ◌⊎◌, ◌≤◌, ℕ, List, true, length, option_map, IfOk, IfErr, OnOk};
 ghost use Rattle.std.specs.Option.{ForSome};
 ghost use Rattle.dw_base.specs.FileViews.{view_of};
 ghost use Rattle.dw_base.specs.Layout.{output_limit};
 ghost use Rattle.dw_lines.specs.ViewTables.{TablesFound};
 ghost use Rattle.dbg_job.specs.EditedFiles.{IsEditable, IsEdited};
 ghost use Rattle.file_tree.specs.Seen.{now_of};
-ghost use Rattle.file_tree.specs.Trees.{stands_at};
+ghost use Rattle.file_tree.specs.declared.node.Node.TheVariants as node;
+ghost use Rattle.file_tree.specs.Trees.{stands_at, with_node};
 ghost use Rattle.file_tree.specs.Causes.{Rose, OnlyAt};
 ghost use Rattle.dbg_ends.specs.Ends.{status_of};
 ghost use Rattle.dbg_ends.specs.Due.{Where, IsCut, IsRefusal};
-ghost use Rattle.dbg_ends.specs.Steps.{OnlyAtBoth};
-ghost use Rattle.dbg_run.specs.Edits.{Keeps, RewriteEnds, EditDone, EditEnds, EditDue, ListedDone, ListedEnds, ListedDue};
+ghost use Rattle.dbg_ends.specs.Steps.{IsSettled, OnlyAtBoth, OutputEnds, OutputsEnd};
+ghost use Rattle.dbg_run.specs.Edits.{Keeps, RewriteEnds, EditDone, EditEnds, EditDue, ListedDone, ListedEnds, ListedDue, list_mode};
 
 use crate::sources::list_text;
-use dbg_ends::{End, free_output, read_input, write_output, write_outputs};
+use dbg_ends::{End, free_output, read_input, write_in_pieces, write_pieces};
 use dbg_job::{Rewritten, edited};
 use dw_base::Fault;
+use elf_layout::Pieces;
 use file_tree::{Text, Tree};
 use job_types::Options;
 use std::alloc::Global;
@@ -24,21 +27,21 @@ use std::alloc::Global;
 /// The mode of a list: its owner may write it, and all may read it.
 const LIST_MODE: u32 = 0o644;
 
-/// The bytes of the file at the path with each source path mapped, and with a new build-id where one is asked for, and the line tables of
-/// the file as it was. Refused only where a
-/// condition holds of the file, or of its output, of that kind and at that place.
+/// The bytes of the file at the path with each source path mapped, and with a new build-id where one is asked for,
+/// and the line tables of the file as it was. Refused only where a condition holds of the file, or of its output, of
+/// that kind and at that place.
 #[tactic(auto, using(crate::proofs::Rows::rewrite_rows))]
-fn edited_bytes(
+fn edited_bytes<'a>(
     alloc: Global,
     path: &str,
-    bytes: &Vec<u8>,
+    bytes: &'a Vec<u8>,
     options: &Options,
-) -> Result<Rewritten, End>
+) -> Result<Rewritten<'a>, End>
     requires small { length bytes.now.items ≤ output_limit }
     ensures accepted { OnOk result (IsEditable options.now bytes.now.items) }
-    ensures output { IfOk result (λ out. IsEdited options.now bytes.now.items out.file.items) }
-    ensures only { IfOk result (λ out. (o : List ℕ) → IsEdited options.now bytes.now.items o → o ≡ out.file.items) }
-    ensures keeps { IfOk result (λ out. Keeps options.now.maps bytes.now.items out.file.items) }
+    ensures output { IfOk result (λ out. IsEdited options.now bytes.now.items out.file) }
+    ensures only { IfOk result (λ out. (o : List ℕ) → IsEdited options.now bytes.now.items o → o ≡ out.file) }
+    ensures keeps { IfOk result (λ out. Keeps options.now.maps bytes.now.items out.file) }
     ensures tables { IfOk result (λ out. TablesFound (view_of bytes.now.items) out.tables.items) }
     ensures ends { IfErr result (RewriteEnds path.now options.now bytes.now.items) }
     ensures due { IfErr result (λ e. Where (IsEditable options.now bytes.now.items) (status_of e ≡ 0) (status_of e ≡ 3) ⊎ IsCut (status_of e)) }
@@ -55,6 +58,58 @@ fn edited_bytes(
         }),
         Err(Fault::NoMemory) => Err(End::NoMemory),
     }
+}
+
+/// Sets a path to a file of these pieces, one behind another, and this mode, and then settles the tree.
+#[tactic(auto, using(crate::proofs::Rows::written_rows))]
+fn write_file<T: Tree>(
+    alloc: Global,
+    path: &str,
+    file: &Pieces,
+    mode: u32,
+    tree: &mut T,
+) -> Result<(), End>
+    ensures done { OnOk result (now_of (T.seen tree.new) ≡ option_map (with_node path.now (node.File file.now mode)) (now_of (T.seen tree.old))) }
+    ensures ends { IfErr result (OutputEnds path.now (T.seen tree.old) (T.seen tree.new)) }
+    ensures due { IfErr result (λ e. IsCut (status_of e)) }
+    ensures settled { (T.seen tree.old).tells ≡ true → OnOk result (IsSettled (T.seen tree.new).past) }
+    ensures not_done { IfErr result (λ e. 0 ≢ status_of e) }
+    ensures not_usage { IfErr result (λ e. 2 ≢ status_of e) }
+    ensures not_output { IfErr result (λ e. 7 ≢ status_of e) }
+    ensures fault { IfErr result (λ e. status_of e ≡ 6 → Rose (T.seen tree.old).faults (T.seen tree.new).faults) }
+    ensures others { OnlyAt path.now (now_of (T.seen tree.old)) (now_of (T.seen tree.new)) }
+    ensures tells { (T.seen tree.new).tells ≡ (T.seen tree.old).tells }
+{
+    let slices = file.slices(alloc)?;
+    write_in_pieces(path, &slices, mode, tree)?;
+    Ok(())
+}
+
+/// Sets a path to a file of these pieces and this mode, then a second path to a list, and then settles the tree.
+#[tactic(auto, using(crate::proofs::Rows::pair_rows))]
+fn write_listed<T: Tree>(
+    alloc: Global,
+    path: &str,
+    file: &Pieces,
+    mode: u32,
+    list: &str,
+    names: Vec<u8>,
+    tree: &mut T,
+) -> Result<(), End>
+    ensures done { OnOk result (now_of (T.seen tree.new) ≡ option_map (with_node list.now (node.File names.items list_mode)) (option_map (with_node path.now (node.File file.now mode)) (now_of (T.seen tree.old)))) }
+    ensures ends { IfErr result (OutputsEnd path.now list.now (T.seen tree.old) (T.seen tree.new)) }
+    ensures due { IfErr result (λ e. IsCut (status_of e)) }
+    ensures settled { (T.seen tree.old).tells ≡ true → OnOk result (IsSettled (T.seen tree.new).past) }
+    ensures not_done { IfErr result (λ e. 0 ≢ status_of e) }
+    ensures not_usage { IfErr result (λ e. 2 ≢ status_of e) }
+    ensures not_output { IfErr result (λ e. 7 ≢ status_of e) }
+    ensures fault { IfErr result (λ e. status_of e ≡ 6 → Rose (T.seen tree.old).faults (T.seen tree.new).faults) }
+    ensures others { OnlyAtBoth path.now list.now (now_of (T.seen tree.old)) (now_of (T.seen tree.new)) }
+    ensures tells { (T.seen tree.new).tells ≡ (T.seen tree.old).tells }
+{
+    let slices = file.slices(alloc)?;
+    write_pieces(path, &slices, mode, list, names, LIST_MODE, tree)?;
+    Ok(())
 }
 
 /// Reads the input, looks whether the output may be put, rewrites the input, and writes the output.
@@ -83,7 +138,7 @@ fn edit_steps<T: Tree>(
     let (bytes, mode) = read_input(alloc, input, limit, tree)?;
     free_output(alloc, output, tree)?;
     let out = edited_bytes(alloc, input, &bytes, options)?;
-    write_output(output, out.file, mode, tree)?;
+    write_file(alloc, output, &out.file, mode, tree)?;
     Ok(())
 }
 
@@ -142,12 +197,12 @@ fn listed_steps<T: Tree>(
     let rewritten = edited_bytes(alloc, input, &file, options)?;
     let Rewritten { file: out, tables } = rewritten;
     let names = list_text(alloc, &file, options, tables)?;
-    write_outputs(output, out, mode, list, names, LIST_MODE, tree)?;
+    write_listed(alloc, output, &out, mode, list, names, tree)?;
     Ok(())
 }
 
-/// How the edit with a list of sources ends. The output is set to the rewritten input, with the input's mode, and then the list's path
-/// to the list.
+/// How the edit with a list of sources ends. The output is set to the rewritten input, with the input's mode, and
+/// then the list's path to the list.
 #[tactic(auto, using(crate::proofs::Rows::listed_rows))]
 pub fn edit_listed<T: Tree>(
     alloc: Global,

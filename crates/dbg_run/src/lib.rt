@@ -5,6 +5,16 @@
 //! written is said.
 //! It does not promise: what a real file system or terminal does (`file_tree`).
 //! Read first: `specs/Built.antt`, `specs/Edits.antt`, `specs/Splits.antt`, `specs/Shows.antt`, `specs/Runs.antt`.
+//!
+//! # Example
+//!
+//! ```
+//! // What `show in` prints of the file `in` of a tree in memory, and the status of that.
+//! let mut tree = MemTree::new(alloc, nodes)?;
+//! let mut out = MemSink::new(alloc, 1000, None)?;
+//! let mut err = MemSink::new(alloc, 1000, None)?;
+//! let status = run_words(alloc, &words, &mut tree, &mut out, &mut err);
+//! ```
 #![tactic(auto)]
 
 pub mod built;

@@ -4,7 +4,7 @@ ghost use Rattle.std.specs.Option.{ForSome};
 ghost use Rattle.dw_base.specs.ElfFails.{DebugFails, DebugReads, ElfFails, ElfReads};
 ghost use Rattle.dw_base.specs.Layout.{output_limit};
 ghost use Rattle.dbg_show.specs.Shows.{IsShown};
-ghost use Rattle.file_tree.specs.Causes.{Rose, Calm};
+ghost use Rattle.file_tree.specs.Causes.{Rose};
 ghost use Rattle.file_tree.specs.Seen.{now_of};
 ghost use Rattle.dbg_ends.specs.Due.{IsCut};
 ghost use Rattle.dbg_ends.specs.Ends.{status_of};
@@ -75,8 +75,8 @@ fn write_file<O: Sink>(alloc: Global, path: &str, bytes: &[u8], out: &mut O) -> 
     Ok(())
 }
 
-/// The text of the stripped file and the debug file at the paths, which have these bytes, goes to the output. Refused before its first
-/// byte does.
+/// The text of the stripped file and the debug file at the paths, which have these bytes, goes to the output. Refused
+/// before its first byte does.
 #[tactic(auto, using(crate::proofs::ShowLaws::pair_laws))]
 fn write_pair<O: Sink>(
     alloc: Global,

@@ -10,7 +10,7 @@ ghost use Rattle.dbg_ends.specs.declared.end.End.TheVariants as end;
 ghost use Rattle.dbg_run.specs.Edits.{IsListText};
 
 use dbg_ends::End;
-use dbg_job::source_names_by_tables;
+use dbg_job::source_names;
 use dw_lines::LineTable;
 use job_types::Options;
 use std::alloc::{AllocError, Global};
@@ -36,8 +36,8 @@ fn names_text(alloc: Global, names: &[Vec<u8>]) -> Result<Vec<u8>, AllocError>
     Ok(text)
 }
 
-/// The list of the sources of a file that is edited, by its line tables: their names below the map's base, each ended by a NUL. Want of
-/// memory alone is in the way.
+/// The list of the sources of a file that is edited, by its line tables: their names below the map's base, each ended
+/// by a NUL. Want of memory alone is in the way.
 #[tactic(auto, using(crate::proofs::SourceLaws::list_rules))]
 pub(crate) fn list_text(
     alloc: Global,
@@ -51,7 +51,7 @@ pub(crate) fn list_text(
     ensures text { IfOk result (λ text. IsListText options.now.maps bytes.now.items text.items) }
     ensures memory { IfErr result (λ e. e ≡ end.NoMemory) }
 {
-    match source_names_by_tables(alloc, bytes.as_slice(), &options.maps, tables) {
+    match source_names(alloc, bytes.as_slice(), &options.maps, tables) {
         Ok(names) => Ok(names_text(alloc, names.as_slice())?),
         Err(_) => Err(End::NoMemory),
     }

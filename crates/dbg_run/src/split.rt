@@ -5,6 +5,7 @@ ghost use Rattle.dw_base.specs.Layout.{output_limit};
 ghost use Rattle.dbg_split.specs.DebugFile.{debug_file};
 ghost use Rattle.dbg_split.specs.SplitFails.{SplitFails};
 ghost use Rattle.dbg_split.specs.StrippedFile.{stripped_file};
+ghost use Rattle.job_types.specs.Modes.{not_executable};
 ghost use Rattle.job_types.specs.Settings.{most_file};
 ghost use Rattle.file_tree.specs.Seen.{now_of};
 ghost use Rattle.file_tree.specs.declared.node.Node.TheVariants as node;
@@ -14,24 +15,14 @@ ghost use Rattle.dbg_ends.specs.Ends.{status_of};
 ghost use Rattle.dbg_ends.specs.Due.{Where, IsCut, IsRefusal};
 ghost use Rattle.dbg_ends.specs.Steps.{BlamesAt, IsSettled, OnlyAtBoth, OutputsEnd};
 ghost use Rattle.dbg_run.specs.Shows.{base_name};
-ghost use Rattle.dbg_run.specs.Splits.{IsSplittable, Parts, SplitDone, SplitDue, SplitEnds, not_executable};
+ghost use Rattle.dbg_run.specs.Splits.{IsSplittable, Parts, SplitDone, SplitDue, SplitEnds};
 
 use crate::views::base_name;
 use dbg_ends::{End, fault_end, free_output, read_input, write_pieces};
 use dbg_split::{Pair, split as split_bytes};
 use file_tree::Tree;
-use job_types::MOST_FILE;
+use job_types::{MOST_FILE, not_executable};
 use std::alloc::Global;
-
-/// The bits of a mode by which a file may be executed.
-const EXECUTABLE: u32 = 0o111;
-
-/// A mode, of which no one may execute the file.
-fn not_executable(mode: u32) -> u32
-    ensures value { result ≡ not_executable mode }
-{
-    mode & !EXECUTABLE
-}
 
 /// The two files into which the file at the path is split, of which the second is to be put at this path. Refused only where a
 /// condition holds of the file, of that kind and at that place.
@@ -60,8 +51,8 @@ fn split_file<'a>(
     }
 }
 
-/// Sets a path to the debug file of a pair, with this mode, then a second one to its stripped file, with its mode, and then settles
-/// the tree.
+/// Sets a path to the debug file of a pair, with this mode, then a second one to its stripped file, with its mode,
+/// and then settles the tree.
 #[tactic(auto, using(crate::proofs::Rows::pair_rows))]
 fn write_pair<T: Tree>(
     alloc: Global,
@@ -92,7 +83,8 @@ fn write_pair<T: Tree>(
     Ok(())
 }
 
-/// Reads the input, looks whether the two files may be put, splits the input, and writes the debug file and then the stripped file.
+/// Reads the input, looks whether the two files may be put, splits the input, and writes the debug file and then the
+/// stripped file.
 #[tactic(auto, using(crate::proofs::Rows::split_rows))]
 fn split_steps<T: Tree>(
     alloc: Global,
@@ -129,8 +121,8 @@ fn split_steps<T: Tree>(
     Ok(())
 }
 
-/// How the split ends. The debug file's path is set to the debug file, with the input's mode but for the bits by which a file may be
-/// executed, and then the stripped file's to the stripped file, with the input's mode.
+/// How the split ends. The debug file's path is set to the debug file, with the input's mode but for the bits by
+/// which a file may be executed, and then the stripped file's to the stripped file, with the input's mode.
 #[tactic(auto, using(crate::proofs::Rows::split_rows))]
 pub fn split<T: Tree>(alloc: Global, input: &str, stripped: &str, debug: &str, tree: &mut T) -> End
     ensures ends { SplitEnds input.now stripped.now debug.now (T.seen tree.old) (T.seen tree.new) result }

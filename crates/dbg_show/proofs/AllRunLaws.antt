@@ -263,5 +263,3 @@ pub all-hold : (d : DebugData) (tables : List (List Abbreviation)) (P : ListedUn
 all-hold d tables P us rs holds l reads =
     let o : Owned d tables d.units us = all-owned d tables d.units us l in
     subst (EachUnit P) (sym o.is) (owns-hold d tables P 0 [] d.units o.owns rs holds refl o.each reads)
-
-pub ruleset all_laws = (all-said-out, all-hold)

@@ -177,5 +177,3 @@ pub all-based : (g : UnitSource) (rs : Readings) → ListsAll (debug_data g.view
 all-based g rs l reads =
     each-base g.view g.tables (all_bases (debug_data g.view).base.order (offsets_in g.view) rs) 0 g.units
     (λ k le. ap (λ (t : List SaidBase). base_of t k) (bases-are g rs l reads))
-
-pub ruleset own_base_laws = (all-based, in-shown)

@@ -268,5 +268,3 @@ unit-base unit v h table bytes (e ∷ es) rest =
         → base_of (coded_out no_base (base_says v h bytes unit) h.params table bytes 0 e o ++ rest) unit ≡ or_base (coded_base v h table bytes e.offset o) (base_of rest unit)
     by_code None = refl
     by_code (Some (code, size)) = by_listed (e.offset + size) (abbreviation_of table code)
-
-pub ruleset base_run_laws = (unit-bases, unit-base, bases-all)

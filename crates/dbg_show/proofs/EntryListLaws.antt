@@ -208,5 +208,3 @@ gave-entry s u r e g is = subst (λ (x : Result Scanned Refusal). Gives s (Some 
 
 pub gave-refusal : (s u : ScanState) (x : Result Scanned Refusal) (r : Refusal) → Gives s (Some x) u → x ≡ Err r → GivesRefusal s r u
 gave-refusal s u x r g is = subst (λ (y : Result Scanned Refusal). Gives s (Some y) u) is g
-
-pub ruleset list_laws = (entries-are, pass-reads)

@@ -172,5 +172,3 @@ number-lies h place end items all first short = by_start (nat_le h.start place) 
         let le : h.end ≤ place = grind (arith, f) in
         sym (number-behind 0 place h.first end items all (omega (arith, le, short)))
     by_start true e true f = refl
-
-pub ruleset place_laws = (places-out, found-listed, found-elsewhere, number-lies)

@@ -381,5 +381,3 @@ all-said base around zs (w ∷ ws) first (r ∷ rs) e reads =
     (chain-count base r.number around (before_unit w.number w.kind (length w.contents) 0 first) r.pieces e reads.1.chain)
     ∙ ap (λ (t : List ℕ). t ++ units_text zs (first + units_in r.pieces) (units_read around rs)) (sym (section-said base r.number first around zs w r.pieces e reads.1))
     ∙ ap (λ (t : List ℕ). pieces_said zs r.number around r.pieces ++ t) (all-said base around zs ws (first + units_in r.pieces) rs e reads.2)
-
-pub ruleset said_laws = (all-said)

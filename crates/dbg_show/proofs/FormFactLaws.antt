@@ -300,5 +300,3 @@ text-plain table n form f = by_test (is_leb_form form) f.leb
     by_test : (b : Bool) → not b ≡ true → b ≡ false
     by_test true e = absurd cc
     by_test false e = refl
-
-pub ruleset form_fact_laws = (form-facts, number-plain, text-plain)

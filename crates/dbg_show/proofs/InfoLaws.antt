@@ -157,5 +157,3 @@ info-none v n some e =
     ∙ ap (holds_number (info_numbers (debug_data v).units)) (sym own)
 
 pub ruleset number_laws = (info-zero, info-found, info-none)
-
-pub ruleset info_laws = (info-is)

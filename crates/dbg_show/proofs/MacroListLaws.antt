@@ -1,5 +1,5 @@
 -- The macro units of a view in one list, with where they start.
-use Rattle.std.proofs.Common.{◌≡◌, ℕ, zero, suc, ◌+◌, ◌^◌, ◌<◌, ◌≤◌, List, [], ◌∷◌, ◌++◌, length, get_or, slice_index, drop, nat_le, Some, refl, sym, ap, ◌∙◌, subst, arith, append_assoc, append-nil}
+use Rattle.std.proofs.Common.{◌≡◌, ℕ, zero, suc, ◌+◌, ◌<◌, ◌≤◌, List, [], ◌∷◌, ◌++◌, length, get_or, slice_index, drop, nat_le, Some, refl, sym, ap, ◌∙◌, subst, arith, append_assoc, append-nil}
 use Rattle.std.proofs.Math.Seq.{drop-cons}
 use Rattle.std.proofs.lemmas.Bool.{leb-true}
 use Rattle.std.proofs.lemmas.List.{drop_all}
@@ -40,15 +40,6 @@ header-inside v section start h e =
     (if-some (nat_le (start + 3) (length (section_bytes v section)))
     (header_of (section_bytes v section) (spelled v.order (section_bytes v section) start 2) (slice_index (section_bytes v section) (start + 2)) (start + 3)) h e).0
 
-pub start-below : (v : View) (u : MacroUnit) (bytes : List ℕ) → IsUnitIn v u → bytes ≡ section_bytes v u.section → length bytes ≤ 2 ^ 31 → u.start < place_limit
-start-below v u bytes is same small =
-    let inside = header-inside v u.section is.start is.is.header is.is.header_is in
-    let size : length bytes ≡ length (section_bytes v u.section) = ap length same in
-    let own : u.start ≡ is.start = ap (λ (x : MacroUnit). x.start) is.is.is in
-    omega (arith, inside, size, own, small)
-
-pub ruleset start_laws = (start-below)
-
 -- where units start that were looked at
 pub record KeysOf (units : List MacroUnit) (i : ℕ) (keys : List ℕ) : Type 0 where
   pub are : keys ++ unit_keys (drop i units) ≡ unit_keys units
@@ -82,8 +73,6 @@ pub unit-in : (v : View) (us : List MacroUnit) (i : ℕ) (d : MacroUnit) → Are
 unit-in v [] i d all lt = absurd (omega (arith, lt))
 unit-in v (u ∷ us) zero d all lt = all.0
 unit-in v (u ∷ us) (suc i) d all lt = unit-in v us i d all.1 (omega (arith, lt))
-
-pub ruleset key_laws = (keys-start, keys-more, keys-all, keys-below, unit-in)
 
 -- the units of all sections are of the view
 in-append : (v : View) (us ws : List MacroUnit) → AreUnitsIn v us → AreUnitsIn v ws → AreUnitsIn v (us ++ ws)

@@ -130,10 +130,6 @@ unit-there v u is s = events-there v u.section u.width u.first u.end (unit_event
 
 pub ruleset unit_laws = (unit-there)
 
--- events, by those that are left
-pub events-start : (total before : List ℕ) (h : Heard) → Goes total total before h h before
-events-start total before h = goes-start total before h
-
 pub events-more : (g : MacroSource) (e : MacroEvent) (left rest : List MacroEvent) (total before between behind : List ℕ) (old mid new : Heard)
     → Goes total (events_shown g left) before old mid between → left ≡ e ∷ rest → Printed (event_shown g e) between mid new behind → Goes total (events_shown g rest) before old new behind
 events-more g e left rest total before between behind old mid new goes is p =

@@ -399,5 +399,3 @@ unit-run {T} F E V base z start unit h table items out u t entries head says =
     (said-more F base z.contents (before z start unit) (between (in_headed base z start unit h) h.first 0 0) (before z h.end (unit + 1)) start h.first h.end out
     (entries_out E V h.params (abbreviations_at base.abbrevs.bytes h.abbrevs) (bytes_up_to z h) 0 items)
     (header-run F base z start unit h table out u (header-placed base z start h u.header) t head) scan)
-
-pub ruleset run_laws = (unit-run)

@@ -147,5 +147,3 @@ entries-shown g rs section place offset l reads =
     by_named : (o : Option (ℕ × ℕ)) → value_said (named o offset) ≡ reference_said o offset
     by_named None = refl
     by_named (Some e) = refl
-
-pub ruleset place_run_laws = (entries-shown)

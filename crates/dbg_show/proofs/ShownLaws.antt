@@ -67,10 +67,6 @@ value-there params x bytes place end v is =
 
 pub ruleset read_laws = (value-there)
 
--- values, printed from the front
-abbrev pub values_left : ShownUnit → List Spec → ℕ → ℕ → List ℕ
-values_left u xs i place = values_shown u (drop i xs) place
-
 values-one : (u : ShownUnit) (xs : List Spec) (i place : ℕ) (d : Spec) → i < length xs
     → values_shown u (drop i xs) place ≡ values_behind (λ p. values_shown u (drop (i + 1) xs) p) u (get_or xs i d) place (value_at u.header.params (get_or xs i d) u.bytes place)
 values-one u xs i place d lt =

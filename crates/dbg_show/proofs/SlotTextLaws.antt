@@ -227,5 +227,3 @@ index-text v cells xs (Some base) index path p reads offsets = by_slot (slot_num
         ap (λ (o : Option ℕ). value_said (indexed (slot_texts v.order (located v Str) xs) path o p)) e
         ∙ ap text_said (text ∙ own)
         ∙ sym (ap (λ (o : Option ℕ). indexed_said (option_map (λ place. slot_text v place (slot_size (contributions_in v.order xs) base)) o) (bytes_of p)) (stands.place ∙ ap (λ (t : Slot). Some t.place) there))
-
-pub ruleset slot_text_laws = (index-text)

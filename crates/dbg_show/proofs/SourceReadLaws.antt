@@ -108,5 +108,3 @@ pub source-text : (g : UnitSource) (ts : List LineTable) (ss : List SectionUnits
     → AreContributions g.view.order (string_offsets g.view) g.contributions → g.starts ≡ starts_of ts → AreMacros g.view ss macros g.keys
     → all_shown g 0 g.units ≡ units_text (debug_data g.view).units 0 (units_of (debug_data g.view) d.readings)
 source-text g ts ss d macros listed are starts list = units-shown g d.readings (source-is g ts ss d macros listed are starts list)
-
-pub ruleset source_text_laws = (source-fits, source-text, units-read)

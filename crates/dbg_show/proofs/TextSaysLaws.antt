@@ -483,5 +483,3 @@ entries-texts u n (e ∷ es) =
 pub said-all : (zs : List UnitSection) (section : ℕ) (around : Around) (xs : List (Piece UnitState)) → pieces_said zs section around xs ≡ all_of (says_of zs section around) xs
 said-all zs section around [] = refl
 said-all zs section around (x ∷ xs) = ap (λ (t : List ℕ). mark_said zs section x.state (mark_of around x) ++ t) (said-all zs section around xs)
-
-pub ruleset says_laws = (unit-says, entries-texts, said-all)

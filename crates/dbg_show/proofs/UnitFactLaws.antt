@@ -112,5 +112,3 @@ unit-reads v tables z start list h u table items among units is t entries listed
     subst-unit e own es short there =
         with-table u table there (subst (λ (x : UnitHeader). HasUnit (debug_data v) (unit_section_at v x.section) x) (sym e) own)
         (subst (λ (x : UnitHeader). AreEntries x table (unit_bytes v x) items) (sym e) es) (subst (λ (x : UnitHeader). x.end ≤ 2 ^ 31) (sym e) short)
-
-pub ruleset fact_laws = (unit-facts, unit-reads)

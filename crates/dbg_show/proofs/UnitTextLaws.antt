@@ -154,5 +154,3 @@ units-shown g r i =
     (all-based g r.units i.listed i.units) i.listed i.units)
     ∙ sym (said-pieces (debug_data g.view).units (around_of (debug_data g.view) r) r.units)
     ∙ sym (all-said (debug_data g.view).base (around_of (debug_data g.view) r) (debug_data g.view).units (debug_data g.view).units 0 r.units refl i.units)
-
-pub ruleset unit_text_laws = (units-shown)

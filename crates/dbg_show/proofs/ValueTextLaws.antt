@@ -504,5 +504,3 @@ counted-leb-said u cells s place form v i e = by_count (uleb_at (unit_bytes s ce
         ∙ front-number (unit_bytes s cells) place k m v.size is (let f = r.size_is in omega (arith, f)) (omega (arith, inside, length-drop place (unit_bytes s cells))) in
         ap (λ (q : Option (ℕ × ℕ)). bytes_said (bytes_of (drop (read_size q) (take v.size (drop place cells))))) front
         ∙ block-said u cells s place m k form v i r
-
-pub ruleset value_text_laws = (sized-said, start-said, macro-said, leb-said, offset-said)

@@ -31,5 +31,3 @@ address_at-cells v i place n some inside =
     ∙ ap (address_by (relocation_at (view_cells v i) place)) (number-cells_at v.order (view_cells v i) place n (omega (arith, inside, size))
     ∙ ap (λ (bs : List ℕ). spelled v.order bs place n) (bytes_of-view_cells v i))
     ∙ sym (address_at-by v i place n)
-
-pub ruleset view_part_laws = (offsets-there, offsets-none, address_at-cells)

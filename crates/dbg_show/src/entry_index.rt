@@ -15,6 +15,7 @@ use crate::listed_unit::ListedUnit;
 use dw_abbrev::AbbrevTable;
 use dw_base::UnitHeader;
 use dw_entries::EntryScan;
+use dw_find::{place_key, with_start};
 use dw_view::View;
 use std::alloc::{AllocError, Global};
 use std::marker::Model;
@@ -42,14 +43,6 @@ impl Model for EntryIndex {
     ghost Value = { EntryIndexOf };
 
     ghost view = { λ x. record { starts = x.starts.items; entries = x.entries.items } };
-}
-
-/// One number for a place of a section, larger in a later section.
-pub(crate) fn place_key(section: u32, place: u64) -> u64
-    requires small { place < 2 ^ 32 }
-    ensures key { result ≡ place_key section place }
-{
-    section as u64 * 0x1_0000_0000 + place
 }
 
 /// A table of a number.
@@ -121,15 +114,6 @@ fn starts_before(starts: &[u64], key: u64) -> usize
         Ok(at) => at + 1,
         Err(at) => at,
     }
-}
-
-/// Which of these starts is one, or where it would stand.
-fn with_start(starts: &[u64], start: u64) -> Result<usize, usize>
-    requires rises { Rises starts.now }
-    ensures found { IfOk result (HasStart starts.now start) }
-    ensures absent { IfErr result (IsStartGap starts.now start) }
-{
-    starts.binary_search(&start)
 }
 
 /// Which of these places is one, or where it would stand.

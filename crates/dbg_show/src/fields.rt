@@ -2,19 +2,18 @@
 //!
 //! Read first: `specs/ShownUnits.antt`.
 
-ghost use Rattle.std.specs.Prelude.{◌≡◌, ◌+◌, ◌<◌, ◌≤◌, length, nat_le, true};
+ghost use Rattle.std.specs.Prelude.{◌≡◌, ◌+◌, ◌<◌, length, nat_le, true};
 ghost use Rattle.dw_base.specs.Cells.{Located as LocatedOf, offset_into};
-ghost use Rattle.dw_base.specs.FileViews.{address_at, field_at, section_bytes};
+ghost use Rattle.dw_base.specs.FileViews.{address_at, field_at};
 ghost use Rattle.dw_base.specs.ViewData.{located};
-ghost use Rattle.dw_find.specs.TextPlaces.{is_start_form, own_form};
 ghost use Rattle.dbg_show.specs.ShownUnits.{address_field, has_field, is_leb_form, number_field};
 ghost use Rattle.dbg_show.specs.UnitReads.{BytesFit};
 
 use dw_base::dwarf_numbers::{
-    DW_FORM_addrx, DW_FORM_data4, DW_FORM_data8, DW_FORM_indirect, DW_FORM_loclistx,
-    DW_FORM_ref_udata, DW_FORM_rnglistx, DW_FORM_sec_offset, DW_FORM_strx, DW_FORM_udata,
+    DW_FORM_addrx, DW_FORM_loclistx, DW_FORM_ref_udata, DW_FORM_rnglistx, DW_FORM_strx,
+    DW_FORM_udata,
 };
-use dw_base::{DebugSection, Field, Spec, Value, uleb_at};
+use dw_base::{DebugSection, Field, Value};
 use dw_view::View;
 use std::marker::Model;
 
@@ -111,26 +110,6 @@ fn is_leb_form(form: u64) -> bool
         || form == DW_FORM_addrx
         || form == DW_FORM_loclistx
         || form == DW_FORM_rnglistx
-}
-
-/// A form that can say where a line table starts (DWARF 5, 3.1.1); before version 4 it is a number of 4 or 8 bytes.
-pub(crate) fn is_start_form(form: u64) -> bool
-    ensures { result ≡ is_start_form form }
-{
-    form == DW_FORM_sec_offset || form == DW_FORM_data4 || form == DW_FORM_data8
-}
-
-/// The form of a value at a place: its attribute's, or the one in front of it (DWARF 5, 7.5.3).
-pub(crate) fn own_form(spec: &Spec, bytes: &[u8], place: u64) -> u64
-    ensures { result ≡ own_form spec.now bytes.now place }
-{
-    if spec.form != DW_FORM_indirect {
-        return spec.form;
-    }
-    match uleb_at(bytes, place) {
-        Some((form, _)) => form,
-        None => 0,
-    }
 }
 
 /// What the field of a value reads as, which has one in these bytes.

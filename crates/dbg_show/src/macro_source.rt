@@ -2,19 +2,17 @@
 //!
 //! Read first: `specs/ShownMacros.antt`.
 
-ghost use Rattle.std.specs.Prelude.{◌≡◌, ◌+◌, ◌*◌, ◌<◌, ◌++◌, length, IfOk, OnOk};
+ghost use Rattle.std.specs.Prelude.{◌≡◌, ◌<◌, length, IfOk, OnOk};
 ghost use Rattle.dw_base.specs.DebugData.{start_number};
 ghost use Rattle.dw_find.specs.LineStarts.{Rises};
 ghost use Rattle.dw_find.specs.MacroNames.{AllUnitsIn, AreUnitsIn};
-ghost use Rattle.dw_find.specs.UnitPlaces.{AllBelow, all_units, place_key, place_limit, unit_keys, unit_number};
+ghost use Rattle.dw_find.specs.UnitPlaces.{AllBelow, all_units, place_key, unit_keys, unit_number};
 ghost use Rattle.dw_macros.specs.EventMeanings.{text_bytes};
-ghost use Rattle.dw_macros.specs.MacroEvents.{IsUnitIn};
 ghost use Rattle.dbg_show.specs.ShownMacros.{AreMacros, MacroSource as MacroSourceOf, line_number};
 
-use crate::entry_index::place_key;
 use crate::source::part;
 use dw_base::TextPlace;
-use dw_find::{MacroSection, start_number};
+use dw_find::{MacroSection, place_key, start_key, start_number};
 use dw_macros::MacroUnit;
 use dw_view::View;
 use std::alloc::{AllocError, Global};
@@ -64,19 +62,7 @@ fn all_units(alloc: Global, macros: &[MacroSection]) -> Result<Vec<MacroUnit>, A
     Ok(units)
 }
 
-/// Where a unit starts, as one number.
-#[tactic(auto, using(crate::proofs::MacroListLaws::start_laws))]
-fn start_key(view: &View, unit: &MacroUnit) -> u64
-    requires unit { IsUnitIn view.now unit.now }
-    ensures key { result ≡ place_key unit.now.section unit.now.start }
-    ensures below { unit.now.start < place_limit }
-{
-    let _ = view.bytes(unit.section);
-    place_key(unit.section, unit.start)
-}
-
 /// Where units start, each as one number.
-#[tactic(auto, using(crate::proofs::MacroListLaws::key_laws))]
 fn unit_keys(alloc: Global, view: &View, units: &[MacroUnit]) -> Result<Vec<u64>, AllocError>
     requires units { AreUnitsIn view.now units.now }
     ensures keys { IfOk result (λ keys. keys.items ≡ unit_keys units.now) }

@@ -19,7 +19,7 @@ ghost use Rattle.dw_entries.specs.ScanStates.{scan_start};
 ghost use Rattle.dw_entries.specs.ViewUnits.{IsUnitSection, unit_section_at};
 ghost use Rattle.dw_find.specs.LineStarts.{Rises};
 
-use crate::fields::{address_field, is_start_form, number_field, offset_into, own_form};
+use crate::fields::{address_field, number_field, offset_into};
 use crate::listed_unit::ListedUnit;
 use crate::printing::write_full;
 use crate::show_err::ShowErr;
@@ -35,7 +35,7 @@ use dw_base::dwarf_numbers::{
 };
 use dw_base::{DebugSection, Field, Scanned, Spec, UnitHeader, Value, ValueClass, uleb_at};
 use dw_entries::EntryScan;
-use dw_find::start_number;
+use dw_find::{is_start_form, own_form, start_number};
 use dw_forms::value_at;
 use dw_view::View;
 use file_tree::Sink;

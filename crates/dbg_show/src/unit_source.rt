@@ -2,33 +2,31 @@
 //!
 //! Read first: `specs/ShownUnits.antt`.
 
-ghost use Rattle.std.specs.Prelude.{◌≡◌, ◌+◌, ◌<◌, ◌≤◌, ◌^◌, drop, length, nat_le, option_map, IfErr, IfOk};
-ghost use Rattle.dw_base.specs.EntryValues.{HasUnit};
+ghost use Rattle.std.specs.Prelude.{◌≡◌, ◌<◌, ◌≤◌, ◌^◌, drop, length, option_map};
 ghost use Rattle.dw_base.specs.Texts.{text_in};
 ghost use Rattle.dw_base.specs.ViewData.{debug_data, located};
 ghost use Rattle.dw_base.specs.DebugSections.{name_of};
 ghost use Rattle.dw_base.specs.declared.debug_sections.DebugSection.TheVariants.{StrOffsets};
-ghost use Rattle.dw_base.specs.Forms.{width_size};
-ghost use Rattle.dw_base.specs.DebugData.{info_numbers, start_number};
-ghost use Rattle.dw_base.specs.FileViews.{section_bytes, section_named};
+ghost use Rattle.dw_base.specs.DebugData.{info_numbers};
+ghost use Rattle.dw_base.specs.FileViews.{section_named};
 ghost use Rattle.dw_find.specs.LineStarts.{Rises};
 ghost use Rattle.dw_find.specs.UnitPlaces.{place_key};
 ghost use Rattle.dw_base.specs.TextIndexes.{holds_number};
-ghost use Rattle.dw_entries.specs.ViewUnits.{unit_section_at};
-ghost use Rattle.dw_offsets.specs.SlotSearch.{BasesRise, HasBase, IsBaseGap};
+ghost use Rattle.dw_offsets.specs.SlotSearch.{BasesRise};
 ghost use Rattle.dbg_show.specs.EntryIndexes.{AreBefore, unit_number, unit_starts};
 ghost use Rattle.dbg_show.specs.ShownUnits.{UnitSource as UnitSourceOf, index_text, info_section, lies_in, macro_named, first_macro, named_at, named_in, slot_field, slot_in, slot_size, slot_text};
 ghost use Rattle.dbg_show.specs.UnitReads.{SourceFits};
 ghost use Rattle.dw_base.specs.LineMeanings.{item_at};
 ghost use Rattle.dw_base.specs.StringOffsets.{slot_place};
 
-use crate::entry_index::{EntryIndex, place_key, table_at};
+use crate::entry_index::{EntryIndex, table_at};
 use crate::fields::{has_room, located, offset_into};
 use crate::listed_unit::ListedUnit;
 use crate::macro_source::unit_number;
 use dw_abbrev::AbbrevTable;
-use dw_base::{Contribution, DebugSection, Field, UnitHeader, Width};
-use dw_offsets::{ContributionList, slot_place};
+use dw_base::{Contribution, DebugSection, Field, UnitHeader};
+use dw_find::place_key;
+use dw_offsets::{ContributionList, slot_place, with_base};
 use dw_strings::text_at;
 use dw_view::View;
 use std::marker::Model;
@@ -241,27 +239,6 @@ pub(crate) fn text_of<'v>(view: &'v View, table: DebugSection, at: u64) -> &'v [
     text_from(located(view, table).bytes, at)
 }
 
-/// How many bytes an offset has (DWARF 5, 7.4).
-fn width_size(width: Width) -> u8
-    ensures size { result ≡ width_size width }
-    ensures some { 0 < result }
-    ensures wide { result ≤ 8 }
-{
-    match width {
-        Width::W32 => 4,
-        Width::W64 => 8,
-    }
-}
-
-/// Which contribution has a base, or where it would stand. Their bases rise.
-fn with_base(list: &[Contribution], base: u64) -> Result<usize, usize>
-    requires rising { BasesRise list.now }
-    ensures found { IfOk result (HasBase list.now base) }
-    ensures absent { IfErr result (IsBaseGap list.now base) }
-{
-    list.binary_search_by_key(&base, |contribution| contribution.base)
-}
-
 /// How many bytes the slots of the contribution of a base have.
 #[tactic(auto, using(crate::proofs::SourceLaws::size_laws))]
 fn slot_size(list: &[Contribution], base: u64) -> u8
@@ -271,7 +248,7 @@ fn slot_size(list: &[Contribution], base: u64) -> u8
     ensures wide { result ≤ 8 }
 {
     match with_base(list, base) {
-        Ok(at) => width_size(list[at].width),
+        Ok(at) => list[at].width.offset_size(),
         Err(_) => 4,
     }
 }

@@ -5,20 +5,18 @@
 ghost use Rattle.std.specs.Prelude.{◌≡◌, ◌++◌, ◌∷◌, [], length, nat_eq, IfErr, IfOk, OnOk};
 ghost use Rattle.std.specs.HashMap.{get};
 ghost use Rattle.dw_base.specs.AbbreviationFails.{AbbreviationFails};
-ghost use Rattle.dw_base.specs.AbbreviationTables.{IsTable};
 ghost use Rattle.dw_base.specs.EntryValues.{HasUnit};
 ghost use Rattle.dw_base.specs.Refusals.{Blames};
 ghost use Rattle.dw_base.specs.UnitHeaders.{AreUnits};
 ghost use Rattle.dw_base.specs.ViewData.{debug_data};
-ghost use Rattle.dw_entries.specs.SectionOrder.{AreSections};
 ghost use Rattle.dw_entries.specs.ViewUnits.{IsUnitSection, unit_section_at};
 ghost use Rattle.dw_find.specs.ReadData.{DataRefuses};
 ghost use Rattle.dbg_show.specs.UnitLists.{Adds, AddsSection, AllShort, AreKnown, Grows, HasTableAt, KeepsNumber, ListsAll};
 
 use crate::listed_unit::ListedUnit;
 use dw_abbrev::AbbrevTable;
-use dw_base::{DebugSection, Fault, UnitHeader};
-use dw_entries::{table_offset, unit_headers, unit_sections};
+use dw_base::{Fault, UnitHeader};
+use dw_entries::{abbreviations_at, table_offset, unit_headers, unit_sections};
 use dw_view::View;
 use std::alloc::{AllocError, Global};
 use std::collections::HashMap;
@@ -28,18 +26,6 @@ use std::collections::HashMap;
 pub(crate) struct UnitList {
     pub units: Vec<ListedUnit>,
     pub tables: Vec<AbbrevTable>,
-}
-
-/// The table of abbreviations at an offset of the view's `.debug_abbrev`.
-#[tactic(auto, using(dw_find::proofs::UnitRowLaws::table_rules))]
-fn table_at(alloc: Global, view: &View, at: u64) -> Result<AbbrevTable, Fault>
-    ensures table { IfOk result (λ t. IsTable (debug_data view.now).base.abbrevs.bytes at t) }
-    ensures refused { IfErr result (Blames (AbbreviationFails (debug_data view.now).base.abbrevs.bytes (debug_data view.now).base.abbrevs.number at)) }
-{
-    match view.first(DebugSection::Abbrev) {
-        Some(section) => AbbrevTable::read(alloc, section, view.bytes(section), at),
-        None => AbbrevTable::read(alloc, 0, b"", at),
-    }
 }
 
 /// Keeps the number of the table at an offset.
@@ -78,7 +64,7 @@ fn table_number(
     if let Some(number) = numbers.get(&at) {
         return Ok(*number);
     }
-    let table = table_at(alloc, view, at)?;
+    let table = abbreviations_at(alloc, view, at)?;
     let number = push_table(tables, table)?;
     keep_number(numbers, at, number)?;
     Ok(number)

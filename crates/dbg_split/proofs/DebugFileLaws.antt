@@ -1,15 +1,18 @@
 -- The debug file.
-use Rattle.std.proofs.Common.{◌≡◌, ◌≢◌, ℕ, zero, suc, ◌+◌, ◌-◌, ◌*◌, ◌^◌, ◌<◌, ◌≤◌, ◌==◌, Bool, true, false, List, [], ◌∷◌, ◌++◌, length, take, drop, refl, sym, ap, ◌∙◌, add-one, arith}
-use Rattle.std.proofs.lemmas.List.{length-append, length-take-le, length-drop}
-use Rattle.dw_base.specs.Elf.{class_of, ehdr_size, phdr_size, word_size, phoff_place, e_phoff, e_phnum, e_shoff}
+use Rattle.std.proofs.Common.{◌≡◌, ◌≢◌, ℕ, zero, suc, ◌+◌, ◌-◌, ◌*◌, ◌^◌, ◌<◌, ◌≤◌, List, [], ◌∷◌, ◌++◌, length, take, drop, refl, sym, ap, ◌∙◌, add-one, arith}
+use Rattle.std.proofs.lemmas.List.{length-append}
+use Rattle.dw_base.specs.Elf.{class_of, ehdr_size, phdr_size, word_size, phoff_place, e_phoff, e_phnum, e_shoff, section_count}
 use Rattle.dw_base.specs.ElfFails.{DebugReads}
-use Rattle.dw_base.specs.Layout.{output_limit}
+use Rattle.dw_base.specs.Layout.{extended, laid, new_head, new_heads, output_limit}
+use Rattle.dw_base.specs.Lists.{tabulate}
 use Rattle.dw_base.specs.Numbers.{with_number}
+use Rattle.dw_base.specs.declared.records.Section.{Section}
 use Rattle.dw_base.specs.declared.shared.Class.{Class}
 use Rattle.dw_base.specs.declared.shared.Class.TheVariants.{C32, C64}
 use Rattle.dw_base.specs.declared.shared.Order.{Order}
 use Rattle.dw_base.proofs.NumberLaws.{length-with_number}
-use Rattle.dbg_split.specs.DebugFile.{filesz_place, phdr_table, without_bytes}
+use Rattle.elf_layout.proofs.Rows.{laid-next, new_heads-next}
+use Rattle.dbg_split.specs.DebugFile.{debug_part, filesz_place, phdr_table, without_bytes}
 
 -- the file header lies in the file
 pub header_lies : (b : List ℕ) (c : Class) → DebugReads b → c ≡ class_of b → ehdr_size c ≤ length b
@@ -103,3 +106,27 @@ pub ruleset emptied_laws = (emptied-next, product-next)
 
 -- with the program headers the front is no longer than the file
 pub ruleset front_laws = (length-append)
+
+-- one section more is laid, and has its new header
+pub laid-more : (b front so_far now : List ℕ) (i : ℕ) → so_far ≡ laid front (tabulate (debug_part b) i) → now ≡ extended so_far (debug_part b i)
+    → now ≡ laid front (tabulate (debug_part b) (i + 1))
+laid-more b front so_far now i so_far_is is =
+    is ∙ ap (λ (o : List ℕ). extended o (debug_part b i)) so_far_is ∙ sym (laid-next front (debug_part b) i)
+
+pub heads-more : (b front so_far : List ℕ) (i : ℕ) (heads more : List Section) (head : Section) → so_far ≡ laid front (tabulate (debug_part b) i)
+    → heads ≡ new_heads front (tabulate (debug_part b) i) → head ≡ new_head (length so_far) (debug_part b i) → more ≡ heads ++ head ∷ []
+    → more ≡ new_heads front (tabulate (debug_part b) (i + 1))
+heads-more b front so_far i heads more head so_far_is heads_are head_is is =
+    is ∙ ap (λ (hs : List Section). hs ++ head ∷ []) heads_are
+    ∙ ap (λ (h : Section). new_heads front (tabulate (debug_part b) i) ++ h ∷ [])
+    (head_is ∙ ap (λ (o : List ℕ). new_head (length o) (debug_part b i)) so_far_is)
+    ∙ sym (new_heads-next front (debug_part b) i)
+
+-- and all are
+pub laid-done : (b front now : List ℕ) (i : ℕ) → now ≡ laid front (tabulate (debug_part b) i) → i ≡ section_count b
+    → now ≡ laid front (tabulate (debug_part b) (section_count b))
+laid-done b front now i is same = is ∙ ap (λ (n : ℕ). laid front (tabulate (debug_part b) n)) same
+
+pub heads-done : (b front : List ℕ) (i : ℕ) (heads : List Section) → heads ≡ new_heads front (tabulate (debug_part b) i) → i ≡ section_count b
+    → heads ≡ new_heads front (tabulate (debug_part b) (section_count b))
+heads-done b front i heads is same = is ∙ ap (λ (n : ℕ). new_heads front (tabulate (debug_part b) n)) same

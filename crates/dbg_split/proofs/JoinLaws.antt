@@ -129,14 +129,6 @@ pub kind-debug : (b name d s : List ℕ) (i : ℕ) → IsPair b name d s → i <
 kind-debug b name d s i p lt = (p.debug.heads i lt).kind ∙ head-kind b i
 
 -- which sections have no bytes in the debug file
-nobits-by : (a n m r : Bool) → r ≡ false → a ≡ false → ((((not r) && not n) && not m) && not (a && true)) ≡ (not n && not m)
-nobits-by a n m r kept plain = rw (kept, plain) (and-end n m)
-  where
-    and-end : (n m : Bool) → (((true && not n) && not m) && true) ≡ (not n && not m)
-    and-end true m = refl
-    and-end false true = refl
-    and-end false false = refl
-
 and-last : (n m x : Bool) → x ≡ false → (((true && not n) && not m) && not x) ≡ (not n && not m)
 and-last true m x e = refl
 and-last false true x e = refl
@@ -290,9 +282,6 @@ tests-agree b name d s called p unnamed = record {
 }
 
 -- so a kept section stands for itself
-or-some : (i n : ℕ) (t : Bool) → or_this (Some i) n t ≡ Some i
-or-some i n t = refl
-
 own-name : (d : List ℕ) (i : ℕ) → is_elsewhere d i ≡ true → is_elsewhere_named d (section_name d i) i ≡ true
 unfolding is_elsewhere_named
 own-name d i elsewhere = rw (elsewhere, same_text-from (section_name d i) (section_name d i) refl) refl

@@ -38,8 +38,8 @@ laid_of front f n = laid front (tabulate f n)
 abbrev pub heads_of : List ℕ → (ℕ → Part) → ℕ → List Section
 heads_of front f n = new_heads front (tabulate f n)
 
-abbrev pub table_of : Class → List ℕ → (ℕ → Part) → ℕ → ℕ
-table_of c front f n = length (before_table c (laid_of front f n))
+abbrev pub table_place : Class → List ℕ → (ℕ → Part) → ℕ → ℕ
+table_place c front f n = length (before_table c (laid_of front f n))
 
 out-is : (c : Class) (o : Order) (front : List ℕ) (f : ℕ → Part) (n : ℕ) → file_of c o front f n ≡ with_table c o (laid_of front f n) (heads_of front f n)
 unfolding laid_out
@@ -49,9 +49,9 @@ out-is c o front f n = refl
 pub record Lengths (c : Class) (o : Order) (front : List ℕ) (f : ℕ → Part) (n : ℕ) : Type 0 where
   pub header : ehdr_size c ≤ length front
   pub laid : length front ≤ length (laid_of front f n)
-  pub table : length (laid_of front f n) ≤ table_of c front f n
+  pub table : length (laid_of front f n) ≤ table_place c front f n
   pub heads : length (heads_of front f n) ≡ n
-  pub out : length (file_of c o front f n) ≡ table_of c front f n + n * shdr_size c
+  pub out : length (file_of c o front f n) ≡ table_place c front f n + n * shdr_size c
   pub small : length (file_of c o front f n) ≤ output_limit
 
 pub lengths : (c : Class) (o : Order) (front : List ℕ) (f : ℕ → Part) (n : ℕ) → IsLaid c o front f n → Lengths c o front f n
@@ -109,7 +109,7 @@ pub order-same : (c : Class) (o : Order) (front : List ℕ) (f : ℕ → Part) (
 order-same c o front f n w = order-front c o front f n w ∙ w.order_is
 
 -- where the section headers stand
-pub shoff-is : (c : Class) (o : Order) (front : List ℕ) (f : ℕ → Part) (n : ℕ) → IsLaid c o front f n → e_shoff (file_of c o front f n) ≡ table_of c front f n
+pub shoff-is : (c : Class) (o : Order) (front : List ℕ) (f : ℕ → Part) (n : ℕ) → IsLaid c o front f n → e_shoff (file_of c o front f n) ≡ table_place c front f n
 unfolding e_shoff with_table
 shoff-is c o front f n w =
     let size = lengths c o front f n w in
@@ -117,7 +117,7 @@ shoff-is c o front f n w =
     let both = length-append (before_table c (laid_of front f n)) (shdrs_bytes c o (heads_of front f n)) in
     rw (class-same c o front f n w, order-same c o front f n w, out-is c o front f n)
     (spelled-with_number o (before_table c (laid_of front f n) ++ shdrs_bytes c o (heads_of front f n))
-    (shoff_place c) (word_size c) (table_of c front f n) (omega arith) (limit-fits c (table_of c front f n) (omega arith)))
+    (shoff_place c) (word_size c) (table_place c front f n) (omega arith) (limit-fits c (table_place c front f n) (omega arith)))
 
 pub table-there : (c : Class) (o : Order) (front : List ℕ) (f : ℕ → Part) (n : ℕ) → IsLaid c o front f n → e_shoff (file_of c o front f n) ≢ 0
 table-there c o front f n w none =
@@ -140,7 +140,7 @@ unfolding nth_section
 nth-is c o front f n i w lt =
     let size = lengths c o front f n w in
     let out = file_of c o front f n in
-    let table = table_of c front f n in
+    let table = table_place c front f n in
     let before = before_of front f i in
     let head = new_head (length before) (f i) in
     let stands : get_or (heads_of front f n) i head ≡ head = new_heads-at front f n i head lt in

@@ -86,9 +86,6 @@ no-link-before b name s j w r lt =
     ∙ ap (λ (t : List ℕ). same_text t debug_link) (r.names of.old (record { there = of.below; kept = of.kept }))
     ∙ no-link b of.old w of.below
 
-link-is : (s : List ℕ) (bytes : List ℕ) → bytes ≡ link_in s → link_in s ≡ bytes
-link-is s bytes is = sym is
-
 link-found : (b name s : List ℕ) → IsSplit b → ReadsStripped b name s → link_in s ≡ link_of (order_of b) name (crc32 (debug_file b))
 unfolding link_in
 link-found b name s w r =

@@ -28,7 +28,7 @@ use Rattle.dw_base.proofs.TextLaws.{same_text-true}
 use Rattle.dw_base.proofs.WrittenHeaders.{header_places}
 use Rattle.dw_meaning.proofs.BuildIdLaws.{first_below-found}
 use Rattle.dw_meaning.specs.Loaded.{LoadedKept, in_id_at, in_section_field, is_load, lies_within, loaded_byte, loaded_bytes, segment_image, unless_left_out}
-use Rattle.dbg_split.specs.Droppable.{drops_along, drops_itself, is_debug_only_name, is_droppable, may_drop, names_dropped, names_symbols}
+use Rattle.dbg_split.specs.Droppable.{drops_along, drops_itself, is_droppable, may_drop, names_dropped, names_symbols}
 use Rattle.dbg_split.specs.KeptFront.{IsOutside, KeepsFront}
 use Rattle.dbg_split.specs.SplitFails.SectionBars.{across}
 use Rattle.dbg_split.specs.StrippedFile.{kept_before}
@@ -36,9 +36,6 @@ use Rattle.dbg_split.specs.StrippedReads.{IsKept, ReadsStripped}
 use Rattle.dbg_split.proofs.StrippedFitLaws.{IsSplit, names-there}
 
 -- the section of the build-id is kept: its name is none of debug data, and its type none of those that are dropped
-note_name-stays : is_debug_only_name note_build_id ≡ false
-note_name-stays = refl
-
 no-self : (m s : Bool) → (m && ((false || false) || (false && s))) ≡ false
 no-self true s = refl
 no-self false s = refl

@@ -1,9 +1,11 @@
 -- The stripped file.
-use Rattle.std.proofs.Common.{◌≡◌, ◌≢◌, ℕ, zero, suc, ◌+◌, ◌^◌, ◌<◌, ◌≤◌, ◌&&◌, not, Bool, true, false, List, [], ◌∷◌, ◌++◌, length, take, get_or, if◌then◌else◌, refl, sym, ap, ◌∙◌, add-one, arith}
+use Rattle.std.proofs.Common.{◌≡◌, ◌≢◌, ℕ, zero, suc, ◌+◌, ◌^◌, ◌<◌, ◌≤◌, ◌&&◌, nat_lt, not, Bool, true, false, List, [], ◌∷◌, ◌++◌, length, take, get_or, if◌then◌else◌, refl, sym, ap, ◌∙◌, add-one, arith}
+use Rattle.std.proofs.lemmas.Bool.{lt-ltb, ltb-true}
 use Rattle.std.proofs.lemmas.List.{length-append, length-take-le, length-map, get_or_append_left}
 use Rattle.dw_base.specs.Elf.{class_of, contents_of, ehdr_size, is_empty_kind, name_index, nth_section, section_count}
 use Rattle.dw_base.specs.ElfFails.{DebugReads, SegmentsRead}
 use Rattle.dw_base.specs.Layout.{Part, fixed_end, is_fixed, is_loaded_kind, output_limit}
+use Rattle.dw_base.specs.Lists.{tabulate}
 use Rattle.dw_base.specs.declared.elf_numbers.TheConstants.{SHT_NULL}
 use Rattle.dw_base.specs.declared.records.Section.{Section}
 use Rattle.elf_layout.specs.Given.{part}
@@ -15,7 +17,7 @@ use Rattle.elf_layout.specs.PartsGiven.{ArePartsFor, part_given, parts_given}
 use Rattle.elf_layout.specs.declared.part.Part.{Part as GivenPart}
 use Rattle.dbg_split.specs.Droppable.{drops_along, drops_itself, is_droppable}
 use Rattle.dbg_split.proofs.NameLaws.{table_there}
-use Rattle.dbg_split.specs.StrippedFile.{kept_before, kept_parts, link_part, stripped_body, stripped_part, stripped_parts, stripped_head}
+use Rattle.dbg_split.specs.StrippedFile.{kept_before, kept_parts, link_part, new_number, stripped_body, stripped_part, stripped_parts, stripped_head}
 
 -- one section more is kept, or isn't
 pub kept-next : (b : List ℕ) (i kept now : ℕ) (here : Bool) → kept ≡ kept_before b i → here ≡ is_droppable b i
@@ -27,7 +29,50 @@ kept-next b i kept now here kept_is here_is is =
     ∙ ap (λ (t : Bool). if t then kept_before b i else kept_before b i + 1) here_is
     ∙ sym (ap (kept_before b) next)
 
-pub ruleset count_laws = (kept-next, get_or-tabulate, length-tabulate)
+pub counts-next : (b : List ℕ) (i kept : ℕ) (counts more : List ℕ) → kept ≡ kept_before b i → counts ≡ tabulate (kept_before b) i → more ≡ counts ++ kept ∷ []
+    → more ≡ tabulate (kept_before b) (i + 1)
+counts-next b i kept counts more kept_is counts_are is =
+    let next : i + 1 ≡ suc i = omega arith in
+    is
+    ∙ ap (λ (l : List ℕ). l ++ kept ∷ []) counts_are
+    ∙ ap (λ (k : ℕ). tabulate (kept_before b) i ++ k ∷ []) kept_is
+    ∙ sym (ap (tabulate (kept_before b)) next)
+
+pub counts-done : (b : List ℕ) (i n : ℕ) (counts : List ℕ) → counts ≡ tabulate (kept_before b) i → n ≡ section_count b → i ≡ n
+    → counts ≡ tabulate (kept_before b) (section_count b)
+counts-done b i n counts is n_is same = is ∙ ap (tabulate (kept_before b)) (same ∙ n_is)
+
+-- what a list of all sections says of one
+pub dropped-of : (b : List ℕ) (dropped : List Bool) (i : ℕ) (d : Bool) → dropped ≡ tabulate (is_droppable b) (section_count b) → i < section_count b
+    → get_or dropped i d ≡ is_droppable b i
+dropped-of b dropped i d is lt = ap (λ (l : List Bool). get_or l i d) is ∙ get_or-tabulate (is_droppable b) (section_count b) i d lt
+
+pub ruleset size_laws = (length-tabulate)
+
+-- the new number of a section
+pub number-past : (b : List ℕ) (n count : ℕ) → count ≡ section_count b → count ≤ n → n ≡ new_number b n
+unfolding new_number
+number-past b n count is le = sym (by_test (nat_lt n (section_count b)) refl)
+  where
+    by_test : (t : Bool) → nat_lt n (section_count b) ≡ t → ◌≡◌ {A = ℕ} (if t then (if is_droppable b n then 0 else kept_before b n) else n) n
+    by_test true e = let lt = ltb-true n (section_count b) e in absurd (omega (arith, lt, is, le))
+    by_test false e = refl
+
+number-there : (b : List ℕ) (n : ℕ) (t : Bool) → n < section_count b → t ≡ is_droppable b n → ◌≡◌ {A = ℕ} (if t then 0 else kept_before b n) (new_number b n)
+unfolding new_number
+number-there b n t lt is =
+    ap (λ (x : Bool). if x then 0 else kept_before b n) is
+    ∙ sym (ap (λ (x : Bool). if x then (if is_droppable b n then 0 else kept_before b n) else n) (lt-ltb n (section_count b) lt))
+
+pub number-dropped : (b : List ℕ) (n : ℕ) (dropped : List Bool) (d : Bool) → dropped ≡ tabulate (is_droppable b) (section_count b) → n < section_count b
+    → get_or dropped n d ≡ true → 0 ≡ new_number b n
+number-dropped b n dropped d is lt yes_ = number-there b n true lt (sym yes_ ∙ dropped-of b dropped n d is lt)
+
+pub number-kept : (b : List ℕ) (n : ℕ) (dropped : List Bool) (d : Bool) (counts : List ℕ) (e : ℕ) → dropped ≡ tabulate (is_droppable b) (section_count b)
+    → counts ≡ tabulate (kept_before b) (section_count b) → n < section_count b → get_or dropped n d ≡ false → get_or counts n e ≡ new_number b n
+number-kept b n dropped d counts e is counts_are lt no_ =
+    ap (λ (l : List ℕ). get_or l n e) counts_are ∙ get_or-tabulate (kept_before b) (section_count b) n e lt
+    ∙ number-there b n false lt (sym no_ ∙ dropped-of b dropped n d is lt)
 
 parts_given-push : (ps : List GivenPart) (p : GivenPart) → parts_given (ps ++ p ∷ []) ≡ parts_given ps ++ part_given p ∷ []
 parts_given-push [] p = refl
@@ -82,8 +127,6 @@ part-moves b i head own kept body head_is own_is kept_is no_ full body_is =
     let whole : head ≡ stripped_head b (nth_section b i) = head_is ∙ ap (stripped_head b) own_is in
     let moves : is_fixed b (nth_section b i) ≡ false = sym kept_is ∙ no_ in
     rw (same, some, no_, moves, whole, body_is) refl
-
-pub ruleset one_laws = (part-stays, part-empty, part-moves)
 
 -- the end of the names is a name of 32 bits
 pub names-short : (b : List ℕ) (n : ℕ) → length b ≤ output_limit → length (contents_of b n) < 2 ^ 32
@@ -165,7 +208,5 @@ pub parts-all : (b link : List ℕ) (ps all : List GivenPart) (p : GivenPart) �
     → part_given p ≡ link_part b link → all ≡ ps ++ p ∷ [] → parts_given all ≡ stripped_parts b link
 unfolding stripped_parts
 parts-all b link ps all p ps_are p_is all_is = ap parts_given all_is ∙ parts_given-push ps p ∙ rw (ps_are, p_is) refl
-
-pub ruleset file_laws = (parts-fit, parts-all)
 
 pub ruleset whole_laws = (named-there)

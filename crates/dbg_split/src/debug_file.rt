@@ -184,7 +184,7 @@ fn lay_section<'a>(
 }
 
 /// The sections of the debug file, laid out behind its front, and the new headers of all.
-#[tactic(auto, using(elf_layout::proofs::Rows::laid_rows, crate::proofs::Rows::section_rows))]
+#[tactic(auto, using(crate::proofs::Rows::section_rows))]
 fn lay_sections<'a>(
     alloc: Global,
     elf: &ElfFile<'a>,
@@ -207,8 +207,8 @@ fn lay_sections<'a>(
     Ok((out, heads))
 }
 
-/// The debug file, of which the sections lend their bytes; `dropped` says which sections the stripped file doesn't keep. Refused as
-/// `TooLarge` only where it would pass the limit.
+/// The debug file, of which the sections lend their bytes; `dropped` says which sections the stripped file doesn't
+/// keep. Refused as `TooLarge` only where it would pass the limit.
 #[tactic(auto, unfolding(crate::specs::DebugFile::debug_file, dw_base::specs::Layout::laid_out), using(elf_layout::proofs::PartRows::file_rows))]
 pub fn debug_file<'a>(
     alloc: Global,

@@ -1,16 +1,13 @@
 //! Which sections are in the debug file alone: this project's profile.
 
-ghost use Rattle.std.specs.Prelude.{◌≡◌, ◌<◌, ◌≤◌, ◌==◌, ◌||◌, ◌&&◌, true, false, IsTrue, length, slice_index_or, vec_len, IfOk};
-ghost use Rattle.std.specs.List.{list_any};
-ghost use Rattle.dw_base.specs.Elf.{nth_section, section_count, section_name, sections_of};
-ghost use Rattle.dw_base.specs.Lists.{tabulate};
-ghost use Rattle.dbg_split.specs.Droppable.{drops_along, drops_itself, is_debug_only_name, is_droppable, is_relocations, is_symbol_strings, links_symbols, may_drop, names_dropped, names_symbols, speaks_of_dropped};
+ghost use Rattle.std.specs.Prelude.{◌≡◌, ◌<◌, ◌==◌, ◌||◌, ◌&&◌, true, false};
+ghost use Rattle.dw_base.specs.Elf.{nth_section, section_count, section_name};
+ghost use Rattle.dbg_split.specs.Droppable.{drops_along, drops_itself, is_debug_only_name, is_droppable, is_relocations, is_symbol_strings, links_symbols, may_drop, names_dropped, names_symbols};
 
 use crate::names::{is_named, is_named_from};
+use dw_base::Section;
 use dw_base::elf_numbers::{SHT_REL, SHT_RELA, SHT_STRTAB, SHT_SYMTAB, SHT_SYMTAB_SHNDX};
-use dw_base::{NoMemory, Section};
 use elf_file::ElfFile;
-use std::alloc::Global;
 
 /// What the name of each section of debug data begins with.
 const DEBUG_PREFIX: &[u8] = b".debug_";

@@ -1,13 +1,13 @@
 //! What keeps a file from being split: this project's profile.
 
-ghost use Rattle.std.specs.Prelude.{◌≡◌, ◌≢◌, ◌<◌, ◌≤◌, ◌&&◌, ◌||◌, ℕ, true, false, IsTrue, OnOk, IfErr};
-ghost use Rattle.dw_base.specs.Elf.{nth_section, section_count, name_index};
-ghost use Rattle.dw_base.specs.ElfFails.{ElfReads, SegmentsRead};
+ghost use Rattle.std.specs.Prelude.{◌≡◌, ◌≢◌, ◌<◌, ◌&&◌, ◌||◌, ℕ, true, false, OnOk, IfErr};
+ghost use Rattle.dw_base.specs.Elf.{section_count, name_index};
+ghost use Rattle.dw_base.specs.ElfFails.{SegmentsRead};
 ghost use Rattle.dw_base.specs.Layout.{fixed_end, is_loaded_kind};
 ghost use Rattle.dw_base.specs.Lists.{tabulate};
 ghost use Rattle.dw_base.specs.declared.fault.Refusal.{Refusal};
 ghost use Rattle.dbg_split.specs.Droppable.{is_droppable};
-ghost use Rattle.dbg_split.specs.SplitFails.{SectionBars, Unsplittable, drops_before, is_link, is_loaded_behind, is_loaded_data};
+ghost use Rattle.dbg_split.specs.SplitFails.{SectionBars, Unsplittable, drops_before, is_link, is_loaded_data};
 
 use crate::names::is_named;
 use crate::read_names::is_read;
@@ -41,7 +41,7 @@ fn is_link(elf: &ElfFile, section: u32) -> bool
 /// A section doesn't keep the file from being split; `behind` says that a droppable one stands before
 /// it. Refused as `Fixed` or `Twice` at (its number, 0) exactly where a condition of these holds.
 #[tactic(auto, using(crate::proofs::Rows::bar_rows))]
-fn section_fits(elf: &ElfFile, end: u64, section: u32, behind: bool) -> Result<(), Refusal>
+fn section_can_be_split(elf: &ElfFile, end: u64, section: u32, behind: bool) -> Result<(), Refusal>
     requires end { end ≡ fixed_end elf.now.bytes.now }
     requires there { section < section_count elf.now.bytes.now }
     requires behind { behind ≡ drops_before elf.now.bytes.now section }
@@ -69,7 +69,7 @@ fn section_fits(elf: &ElfFile, end: u64, section: u32, behind: bool) -> Result<(
 
 /// No section keeps the file from being split; `dropped` says which are droppable.
 #[tactic(auto, using(crate::proofs::Rows::section_rows))]
-fn sections_fit(elf: &ElfFile, end: u64, dropped: &[bool]) -> Result<(), Refusal>
+fn sections_can_be_split(elf: &ElfFile, end: u64, dropped: &[bool]) -> Result<(), Refusal>
     requires end { end ≡ fixed_end elf.now.bytes.now }
     requires dropped { dropped.now ≡ tabulate (is_droppable elf.now.bytes.now) (section_count elf.now.bytes.now) }
     ensures none { OnOk result ((i : ℕ) (r : Refusal) → i < section_count elf.now.bytes.now → SectionBars elf.now.bytes.now i r → ⊥) }
@@ -77,7 +77,7 @@ fn sections_fit(elf: &ElfFile, end: u64, dropped: &[bool]) -> Result<(), Refusal
 {
     let mut behind = false;
     for section in 0..elf.section_count() {
-        section_fits(elf, end, section, behind)?;
+        section_can_be_split(elf, end, section, behind)?;
         behind = behind || dropped[section as usize];
     }
     Ok(())
@@ -115,6 +115,6 @@ pub fn can_be_split(elf: &ElfFile, end: u64, dropped: &[bool]) -> Result<(), Ref
     if elf.is_fixed_by(elf.names, end) {
         return Err(Refusal::at(Kind::Fixed, elf.names, 0));
     }
-    sections_fit(elf, end, dropped)?;
+    sections_can_be_split(elf, end, dropped)?;
     Ok(())
 }

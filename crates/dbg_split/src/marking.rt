@@ -1,6 +1,6 @@
 //! The droppable sections of a file, all at once: this project's profile.
 
-ghost use Rattle.std.specs.Prelude.{◌≡◌, ◌<◌, ◌||◌, ◌&&◌, ℕ, false, List, length, vec_len, replicate, slice_index_or, IfOk};
+ghost use Rattle.std.specs.Prelude.{◌≡◌, ◌<◌, ◌||◌, ◌&&◌, ℕ, false, length, vec_len, replicate, slice_index_or, IfOk};
 ghost use Rattle.std.specs.List.{list_any};
 ghost use Rattle.dw_base.specs.Elf.{section_count};
 ghost use Rattle.dw_base.specs.Lists.{tabulate};

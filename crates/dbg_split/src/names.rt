@@ -1,7 +1,7 @@
 //! Tests of section names that look no further than the name that is asked for (gABI ch. 4 "String
 //! Table").
 
-ghost use Rattle.std.specs.Prelude.{◌≡◌, ◌<◌, ◌==◌, false, nat_eq, drop, length, slice_index};
+ghost use Rattle.std.specs.Prelude.{◌≡◌, ◌<◌, ◌==◌, false, nat_eq, slice_index};
 ghost use Rattle.std.specs.List.{starts_with};
 ghost use Rattle.dw_base.specs.Elf.{section_count, section_name};
 ghost use Rattle.dw_base.specs.Texts.{has_nul, same_text, text};

@@ -1,6 +1,6 @@
 //! A file split in two: this project's profile.
 
-ghost use Rattle.std.specs.Prelude.{◌≡◌, ◌≢◌, ◌<◌, ◌≤◌, ℕ, length, slice_index, IfOk, OnOk, IfErr};
+ghost use Rattle.std.specs.Prelude.{◌≡◌, ◌<◌, ◌≤◌, ℕ, length, slice_index, IfOk, OnOk, IfErr};
 ghost use Rattle.dw_base.specs.ElfFails.{ElfReads};
 ghost use Rattle.dw_base.specs.Layout.{output_limit};
 ghost use Rattle.dw_base.specs.Refusals.{Blames};
@@ -44,7 +44,7 @@ fn sum_of(alloc: Global, pieces: &Pieces) -> Result<u32, NoMemory>
 }
 
 /// The two files of a file that was read.
-#[tactic(auto, unfolding(crate::specs::StrippedFile::stripped_file), using(crate::proofs::Rows::split_rows))]
+#[tactic(auto, using(crate::proofs::Rows::shape_rows))]
 fn split_file<'a>(alloc: Global, elf: &ElfFile<'a>, debug_name: &[u8]) -> Result<Pair<'a>, Fault>
     requires reads { ElfReads elf.now.bytes.now }
     ensures debug { IfOk result (λ pair. pair.debug ≡ debug_file elf.now.bytes.now) }
@@ -79,22 +79,22 @@ fn split_bytes<'a>(alloc: Global, bytes: &'a [u8], debug_name: &[u8]) -> Result<
     Ok(pair)
 }
 
-/// The two files that a file of type EXEC or DYN is split into: the stripped file, with a link to a
-/// debug file of this base name, and that debug file, in pieces, of which the file lends those that stay. Refused
-/// as `Header` or `Range` where the file can't be read, or has no sections or no section name table; as `FileType` at (0, 16) where it is of
-/// another type; as `Fixed` at (a section, 0) where that section lies across the fixed end, begins in
-/// the file header, would change and can't, is read for debug data and ALLOC, or is ALLOC and stands
-/// behind a droppable one; as `Twice` at (a section, 0) where that is a debug link; as `TooLarge` where
-/// one of the two would pass the limit; and only so. Where none of these holds it is split, or memory is
-/// short. What is loaded is kept: the program headers and the bytes of each segment are as they were in the
-/// stripped file, and so is each byte before the fixed end, but in `e_shoff`, `e_shnum` and `e_shstrndx`.
-/// The stripped file reads as an ELF file, and has each section that isn't droppable, with its name and
-/// contents, and the link behind them. The debug file reads as one of debug data, and has each section under
-/// its number, with its name, and with its contents but for those that the stripped file keeps. Together they
-/// have each section of the file, with its name and contents, of ALLOC sections with bytes the name alone: the
-/// k-th section of a name without bytes in the debug file is the k-th of that name in the stripped one. So the
-/// debug data of the two are those of the file, and they mean what the file means, wherever it means something.
-/// They are a pair by that name, where it has no NUL, and each can be read for its sections where the file can.
+/// The two files that a file of type EXEC or DYN is split into: the stripped file, with a link to a debug file of
+/// this base name, and that debug file, in pieces, of which the file lends those that stay. Refused as `Header` or
+/// `Range` where the file can't be read, or has no sections or no section name table; as `FileType` at (0, 16) where
+/// it is of another type; as `Fixed` at (a section, 0) where that section lies across the fixed end, begins in the
+/// file header, would change and can't, is read for debug data and ALLOC, or is ALLOC and stands behind a droppable
+/// one; as `Twice` at (a section, 0) where that is a debug link; as `TooLarge` where one of the two would pass the
+/// limit; and only so. Where none of these holds it is split, or memory is short. What is loaded is kept: the program
+/// headers and the bytes of each segment are as they were in the stripped file, and so is each byte before the fixed
+/// end, but in `e_shoff`, `e_shnum` and `e_shstrndx`. The stripped file reads as an ELF file, and has each section
+/// that isn't droppable, with its name and contents, and the link behind them. The debug file reads as one of debug
+/// data, and has each section under its number, with its name, and with its contents but for those that the stripped
+/// file keeps. Together they have each section of the file, with its name and contents, of ALLOC sections with bytes
+/// the name alone: the k-th section of a name without bytes in the debug file is the k-th of that name in the
+/// stripped one. So the debug data of the two are those of the file, and they mean what the file means, wherever it
+/// means something. They are a pair by that name, where it has no NUL, and each can be read for its sections where
+/// the file can.
 pub fn split<'a>(alloc: Global, bytes: &'a [u8], debug_name: &[u8]) -> Result<Pair<'a>, Fault>
     requires small { length bytes.now ≤ output_limit }
     ensures debug { IfOk result (λ pair. pair.debug ≡ debug_file bytes.now) }

@@ -25,7 +25,7 @@ use std::alloc::{AllocError, Global};
 const LINK_NAME: &[u8] = b".gnu_debuglink\0";
 
 /// How many sections before each one are kept.
-#[tactic(auto, using(crate::proofs::StrippedLaws::count_laws))]
+#[tactic(auto, using(crate::proofs::StrippedLaws::size_laws))]
 fn kept_before(alloc: Global, elf: &ElfFile, dropped: &[bool]) -> Result<Vec<u32>, AllocError>
     requires dropped { dropped.now ≡ tabulate (is_droppable elf.now.bytes.now) (section_count elf.now.bytes.now) }
     ensures counts { IfOk result (λ counts. counts.items ≡ tabulate (kept_before elf.now.bytes.now) (section_count elf.now.bytes.now)) }
@@ -49,7 +49,7 @@ fn counted(kept: u32, dropped: bool) -> u32
 }
 
 /// The new number of a section: 0 of one that is dropped; a number that names no section stays.
-#[tactic(auto, unfolding(crate::specs::StrippedFile::new_number), using(crate::proofs::Rows::section_rows))]
+#[tactic(auto, using(crate::proofs::StrippedLaws::size_laws))]
 fn new_number(elf: &ElfFile, dropped: &[bool], counts: &[u32], number: u32) -> u32
     requires dropped { dropped.now ≡ tabulate (is_droppable elf.now.bytes.now) (section_count elf.now.bytes.now) }
     requires counts { counts.now ≡ tabulate (kept_before elf.now.bytes.now) (section_count elf.now.bytes.now) }
@@ -126,7 +126,6 @@ fn with_body(head: Section, kept: bool, body: Vec<u8>) -> Part
 }
 
 /// A kept section; its bytes where it moves.
-#[tactic(auto, using(crate::proofs::StrippedLaws::one_laws))]
 fn stripped_part(
     alloc: Global,
     elf: &ElfFile,
@@ -211,7 +210,6 @@ fn link_of(elf: &ElfFile, link: Vec<u8>) -> Part
 }
 
 /// All sections of the stripped file.
-#[tactic(auto, using(crate::proofs::StrippedLaws::file_laws))]
 fn stripped_parts(
     alloc: Global,
     elf: &ElfFile,

@@ -7,7 +7,7 @@ use Rattle.std.proofs.lemmas.Slice.Eq.{bytes_eq-Decides}
 use Rattle.clap.specs.Kinds.{Kinds, or_else}
 use Rattle.clap.specs.Faults.{built_fault, check_fault, defaults_fault, entered_fault, fault_of, settle_fault, walk_fault}
 use Rattle.clap.specs.Simple.{App, entered, matches_of, names_of}
-use Rattle.clap.specs.Walk.{Row, Rule, Text, Waiting, Walk, all_of, first_of, has_row, idle, more_values, nothing_held, rows_after, settled_rows, walk, walked, with_default}
+use Rattle.clap.specs.Walk.{Row, Rule, Text, Walk, first_of, has_row, idle, more_values, nothing_held, rows_after, settled_rows, walked, with_default}
 use Rattle.clap.specs.declared.builder.value_parser.Reading.TheVariants.{AsWritten}
 use Rattle.clap.specs.declared.parser.matches.ValueSource.TheVariants.{DefaultValue}
 use Rattle.dw_base.specs.Texts.{is_in}

@@ -28,10 +28,6 @@ abbrev pub or_first : Option Row → Option Row → Option Row
 or_first None b = b
 or_first (Some r) b = Some r
 
-or_first-assoc : (a b c : Option Row) → or_first (or_first a b) c ≡ or_first a (or_first b c)
-or_first-assoc None b c = refl
-or_first-assoc (Some r) b c = refl
-
 pub or_first-none : (a : Option Row) → or_first a None ≡ a
 or_first-none None = refl
 or_first-none (Some r) = refl

@@ -23,15 +23,15 @@ path_arg = record (new_rule (codes "path")) { action = Some Append }
 abbrev pub without_help : App → App
 without_help app = on_top (λ s. record s { disable_help_flag = true }) app
 
+abbrev pub edit_options_app : App
+edit_options_app =
+    with_rule (with_rule (with_rule (without_help (new_app (codes "deilmuko"))) (valued_arg (codes "base-dir"))) (valued_arg (codes "dest-dir"))) (valued_arg (codes "seed"))
+
 abbrev pub options_app : App
 options_app =
     with_rule
     (with_rule
-    (with_rule
-    (with_rule
-    (with_rule (with_rule (without_help (new_app (codes "deilmuko"))) (valued_arg (codes "base-dir"))) (valued_arg (codes "dest-dir")))
-    (valued_arg (codes "seed")))
-    (valued_arg (codes "list-file")))
+    (with_rule edit_options_app (valued_arg (codes "list-file")))
     (valued_arg (codes "max-file")))
     (valued_arg (codes "jobs"))
 

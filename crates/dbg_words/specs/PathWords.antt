@@ -36,12 +36,12 @@ abbrev pub is_parent : List ℕ → Bool
 is_parent part = same_text part (codes "..")
 
 -- a word that names a path: something is left of it, no component of it is `..`, and its cleaned form is within the limit
-unfoldable pub is_path : List ℕ → Bool
-is_path word =
+unfoldable pub is_path_word : List ℕ → Bool
+is_path_word word =
     not (list_any is_parent (components word))
     && not (nat_eq (length (kept_components word)) 0)
     && nat_le (length (cleaned word)) path_word_limit
 
 -- the path that a word names, if it names one
 abbrev pub path_named : List ℕ → Option (List ℕ)
-path_named word = if is_path word then Some (cleaned word) else None
+path_named word = if is_path_word word then Some (cleaned word) else None

@@ -2,7 +2,7 @@
 ghost use Rattle.std.specs.Prelude.{◌≡◌, ◌≢◌, false, IfOk, None, [], option_map, unwrap_or, map, codes};
 ghost use Rattle.clap.specs.Words.{app_of, found_of, rows_of, rule_of, first_of, all_of, kind_of};
 ghost use Rattle.clap.specs.declared.error.kind.ErrorKind.TheVariants.{OutOfMemory};
-ghost use Rattle.dbg_words.specs.Matches.{valued_arg, flag_arg, path_arg, options_app, program_app, line_of_rows, is_true_text, taken_line};
+ghost use Rattle.dbg_words.specs.Matches.{valued_arg, flag_arg, path_arg, edit_options_app, options_app, program_app, line_of_rows, is_true_text, taken_line};
 ghost use Rattle.dbg_words.specs.Words.{texts};
 
 use crate::line::Line;
@@ -39,15 +39,23 @@ fn paths<'a>(alloc: Global) -> Arg<'a>
     Arg::new(alloc, "path").action(ArgAction::Append)
 }
 
-/// The program with the options that take a value.
-fn options<'a>(alloc: Global) -> Result<Command<'a>, AllocError>
-    ensures app { IfOk result (λ c. app_of c ≡ options_app) }
+/// The program with the options of an edit's paths and build-id that take a value.
+fn edit_options<'a>(alloc: Global) -> Result<Command<'a>, AllocError>
+    ensures app { IfOk result (λ c. app_of c ≡ edit_options_app) }
 {
     let command = Command::new(alloc, "deilmuko")
         .disable_help_flag(true)
         .arg(valued(alloc, "base-dir"))?
         .arg(valued(alloc, "dest-dir"))?
-        .arg(valued(alloc, "seed"))?
+        .arg(valued(alloc, "seed"))?;
+    Ok(command)
+}
+
+/// The program with the options that take a value.
+fn options<'a>(alloc: Global) -> Result<Command<'a>, AllocError>
+    ensures app { IfOk result (λ c. app_of c ≡ options_app) }
+{
+    let command = edit_options(alloc)?
         .arg(valued(alloc, "list-file"))?
         .arg(valued(alloc, "max-file"))?
         .arg(valued(alloc, "jobs"))?;

@@ -1,6 +1,6 @@
 //! Each command, of the command line behind its name.
 ghost use Rattle.std.specs.Prelude.{◌≡◌, IfOk, option_map, map};
-ghost use Rattle.dbg_words.specs.Words.{edit_listed, edit_named, edit_of, edit_paths, exercise_named, exercise_of, exercise_seeded, is_bare, list_path, run_below, run_named, run_of, run_settled, show_named, show_of, show_one, show_two, split_named, split_of, split_paths, two_of};
+ghost use Rattle.dbg_words.specs.Words.{edit_listed, edit_named, edit_of, edit_paths, exercise_named, exercise_of, is_bare, list_path, run_below, run_named, run_of, show_named, show_of, show_one, show_two, split_named, split_of, split_paths, two_of};
 
 use crate::command::Command;
 use crate::decimals::number_within;

@@ -81,7 +81,7 @@ fn path_of(alloc: Global, rooted: bool, parts: &[&str]) -> Result<String, AllocE
 }
 
 /// The path that a word names, cleaned, if it names one.
-#[tactic(auto, unfolding(crate::specs::PathWords::is_path, crate::specs::PathWords::cleaned))]
+#[tactic(auto, unfolding(crate::specs::PathWords::is_path_word, crate::specs::PathWords::cleaned))]
 pub fn path_named(alloc: Global, word: &str) -> Result<Option<Text>, NoMemory>
     ensures value { IfOk result (λ path. path ≡ path_named word.now) }
 {

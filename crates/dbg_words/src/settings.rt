@@ -1,6 +1,5 @@
 //! What is wanted of files, as the options say it.
 ghost use Rattle.std.specs.Prelude.{◌≡◌, ◌≤◌, IfOk, IfSome, option_map};
-ghost use Rattle.job_types.specs.Settings.{most_file};
 ghost use Rattle.dbg_words.specs.Words.{maps_named, number_or, settings_mapped, settings_of};
 
 use crate::decimals::number_within;

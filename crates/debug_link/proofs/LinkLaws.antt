@@ -59,7 +59,7 @@ link-read_back order name bytes sum e small bare =
       sum_is = sym (ap (λ (k : ℕ). spelled order (link_of order name sum) k 4) place ∙ at_place);
     })
 
-pub ruleset written_rules = (append_assoc)
+pub ruleset contents_rules = (append_assoc)
 
 -- whether bytes hold a link, by the length of the name and the padding behind it
 and-right-false : (a b : Bool) → b ≡ false → (a && b) ≡ false

@@ -7,7 +7,7 @@ use Rattle.std.specs.Int.{w64, from_le_bytes}
 use Rattle.std.specs.Int.Bits.{xor_assoc, xor_zero_r}
 use Rattle.debug_link.specs.Sums.{with_bits, with_bytes}
 use Rattle.debug_link.specs.Tables.{little, times, entry, IsTable}
-use Rattle.debug_link.proofs.XorLaws.{digits-xor, times_x-xor, times-xor, times-add, times-more, times-shift, times-split, with_bits-times}
+use Rattle.debug_link.proofs.XorLaws.{digits-xor, times-xor, times-add, times-more, times-shift, times-split, with_bits-times}
 
 pub ruleset times_rules = (times-more)
 

@@ -3,13 +3,13 @@
 //! `link_bytes` writes the defined bytes. `read_link` answers name and sum, and `None` exactly where the
 //! bytes hold no link; it takes no memory.
 
-ghost use Rattle.std.specs.Prelude.{◌≡◌, ◌↔◌, ◌+◌, ◌++◌, ◌<◌, ◌≤◌, false, true, length, position, ◌==◌, IsTrue, IsSome, IfOk, OnOk, IfSome, MatchOption};
+ghost use Rattle.std.specs.Prelude.{◌≡◌, ◌↔◌, ◌+◌, ◌++◌, ◌<◌, ◌≤◌, false, true, length, ◌==◌, IsTrue, IsSome, IfOk, OnOk, IfSome, MatchOption};
 ghost use Rattle.dw_base.specs.Layout.{padding};
 ghost use Rattle.dw_base.specs.Numbers.{number_bytes};
 ghost use Rattle.dw_base.specs.Texts.{has_nul, text};
 ghost use Rattle.debug_link.specs.Links.{link_of, holds_link, IsLink};
 
-use dw_base::{NoMemory, Order, number_in};
+use dw_base::{NoMemory, Order, nul_in, number_in};
 use std::alloc::Global;
 
 /// The contents of a link to a debug file of this base name and this CRC-32: the name, a NUL, zeros up
@@ -18,13 +18,13 @@ pub fn link_bytes(alloc: Global, order: Order, name: &[u8], sum: u32) -> Result<
     ensures value { IfOk result (λ bytes. bytes.items ≡ link_of order name.now sum) }
     ensures read_back { has_nul name.now ≡ false → IfOk result (λ bytes. IsLink order bytes.items name.now sum) }
 {
-    let bytes = written(alloc, order, name, sum)?;
+    let bytes = link_contents(alloc, order, name, sum)?;
     Ok(bytes)
 }
 
 /// The bytes of a link.
-#[tactic(auto, using(crate::proofs::LinkLaws::written_rules), unfolding(crate::specs::Links::link_of))]
-fn written(alloc: Global, order: Order, name: &[u8], sum: u32) -> Result<Vec<u8>, NoMemory>
+#[tactic(auto, using(crate::proofs::LinkLaws::contents_rules), unfolding(crate::specs::Links::link_of))]
+fn link_contents(alloc: Global, order: Order, name: &[u8], sum: u32) -> Result<Vec<u8>, NoMemory>
     ensures value { IfOk result (λ bytes. bytes.items ≡ link_of order name.now sum) }
 {
     let mut bytes = Vec::from_slice(alloc, name)?;
@@ -96,11 +96,4 @@ fn name_len(bytes: &[u8]) -> Option<usize>
         Some(len) => Some(len),
         None => None,
     }
-}
-
-/// Where the first NUL stands.
-fn nul_in(bytes: &[u8]) -> Option<usize>
-    ensures value { result ≡ position (λ b. b == 0) bytes.now }
-{
-    bytes.iter().position(|b| *b == 0)
 }

@@ -3,16 +3,12 @@
 //! It does not promise what the system does with files and streams; all else is `dbg_run`'s.
 #![tactic(auto)]
 
+use dbg_ends::{End, tell};
 use dbg_run::run_words;
-use file_tree::{OsSink, OsTree, Sink};
+use file_tree::{OsSink, OsTree};
 use std::process::ExitCode;
 use std::rt::Env;
 use std::{env, io};
-
-/// The status where there is no memory for the words.
-const NO_MEMORY: u8 = 13;
-/// The line of that status.
-const NO_MEMORY_LINE: &[u8] = b"no memory\n";
 
 /// The words behind the program's name.
 fn words<R: Env + AllocGlobal>(rt: &R) -> io::Result<Vec<String>> {
@@ -31,8 +27,7 @@ fn main(rt: HostRuntime) -> ExitCode {
     let words = match words(&rt) {
         Ok(words) => words,
         Err(e) if e.kind() == io::ErrorKind::OutOfMemory => {
-            let _is_told = err.write(NO_MEMORY_LINE);
-            return ExitCode::from(NO_MEMORY);
+            return ExitCode::from(tell(alloc, &End::NoMemory, &mut err));
         }
         Err(_) => Vec::new(alloc),
     };

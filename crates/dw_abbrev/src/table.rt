@@ -104,11 +104,7 @@ fn fault_of(bytes: &[u8], section: u32, at: u64, stopped: Stopped) -> Fault
     ensures fault { Blames (AbbreviationFails bytes.now section at) result }
 {
     match stopped {
-        Stopped::Unspelled => Fault::Refused(Refusal {
-            kind: Kind::Abbreviation,
-            section,
-            offset: at,
-        }),
+        Stopped::Unspelled => Fault::Refused(Refusal::at(Kind::Abbreviation, section, at)),
         Stopped::NoMemory => Fault::NoMemory,
     }
 }

@@ -1,6 +1,6 @@
 -- Laws of the view of a file: its sections are the file's, and a section of a name is found by going through them in order.
-use Rattle.std.proofs.Common.{◌≡◌, ℕ, zero, suc, ◌+◌, ◌<◌, ◌≤◌, Bool, true, false, if◌then◌else◌, List, [], ◌∷◌, length, get_or, drop, Option, Some, None, refl, ap, ◌∙◌, arith, subst}
-use Rattle.std.proofs.lemmas.List.{drop_more, drop_all, length-drop}
+use Rattle.std.proofs.Common.{◌≡◌, ℕ, zero, suc, ◌+◌, ◌<◌, ◌≤◌, Bool, true, false, if◌then◌else◌, List, [], ◌∷◌, length, get_or, drop, Option, Some, refl, ap, ◌∙◌, arith, subst}
+use Rattle.std.proofs.lemmas.List.{length-drop}
 use Rattle.dw_base.specs.Elf.{order_of, section_count, contents_of}
 use Rattle.dw_base.specs.FileViews.{View, ViewSection, view_of, view_section, contents_in, section_bytes, is_filled, first_filled, section_after}
 use Rattle.dw_base.proofs.ListLaws.{length-tabulate, get_or-tabulate}
@@ -29,38 +29,6 @@ unfolding section_bytes view_section
 section_bytes-view_of b i lt =
     contents_in-get_or (view_of b).sections i (view_section b i) (omega (arith, length-view_of b))
     ∙ ap (λ (s : ViewSection). s.contents) (get_or-view_of b i (view_section b i) lt)
-
--- One section further, in search for one that has a name and bytes.
-found_by : (t : Bool) (i : ℕ) (rest : Option ℕ) → t ≡ true → (if t then Some i else rest) ≡ Some i
-found_by true i rest e = refl
-found_by false i rest e = absurd cc
-
-passed_by : (t : Bool) (i : ℕ) (rest : Option ℕ) → t ≡ false → (if t then Some i else rest) ≡ rest
-passed_by true i rest e = absurd cc
-passed_by false i rest e = refl
-
--- the sections from a number on are the section of that number and those behind it
-sections-drop : (b : List ℕ) (i : ℕ) → i < section_count b → drop i (view_of b).sections ≡ view_section b i ∷ drop (i + 1) (view_of b).sections
-sections-drop b i lt =
-    drop_more (view_of b).sections i (view_section b i) (omega (arith, length-view_of b))
-    ∙ ap (λ (s : ViewSection). s ∷ drop (i + 1) (view_of b).sections) (get_or-view_of b i (view_section b i) lt)
-
-pub first_filled-here : (b name : List ℕ) (i : ℕ) → i < section_count b → is_filled name (view_section b i) ≡ true
-    → first_filled name i (drop i (view_of b).sections) ≡ Some i
-first_filled-here b name i lt filled =
-    ap (first_filled name i) (sections-drop b i lt)
-    ∙ found_by (is_filled name (view_section b i)) i (first_filled name (suc i) (drop (i + 1) (view_of b).sections)) filled
-
-pub first_filled-further : (b name : List ℕ) (i : ℕ) → i < section_count b → is_filled name (view_section b i) ≡ false
-    → first_filled name i (drop i (view_of b).sections) ≡ first_filled name (i + 1) (drop (i + 1) (view_of b).sections)
-first_filled-further b name i lt other =
-    let next : suc i ≡ i + 1 = omega arith in
-    ap (first_filled name i) (sections-drop b i lt)
-    ∙ passed_by (is_filled name (view_section b i)) i (first_filled name (suc i) (drop (i + 1) (view_of b).sections)) other
-    ∙ ap (λ (k : ℕ). first_filled name k (drop (i + 1) (view_of b).sections)) next
-
-pub first_filled-end : (b name : List ℕ) (i : ℕ) → section_count b ≤ i → first_filled name i (drop i (view_of b).sections) ≡ None
-first_filled-end b name i end = ap (first_filled name i) (drop_all i (view_of b).sections (omega (arith, length-view_of b)))
 
 -- What was found is one of the sections, above the number, with the name and bytes.
 -- a section, of a number in a list whose first section has another, is one of the list with the name and bytes

@@ -1,6 +1,6 @@
 -- Laws of numbers at places: a number depends only on its own bytes, and what is put there reads back.
 use Rattle.std.proofs.Common.{◌≡◌, ℕ, zero, suc, ◌+◌, ◌-◌, ◌*◌, ◌^◌, ◌<◌, ◌≤◌, ◌⊎◌, ◌/◌, ◌%◌, List, [], ◌++◌, length, take, drop, get_or, slice_index, refl, sym, ap, ◌∙◌, arith, inl, inr, subst, Fits, w8}
-use Rattle.std.proofs.lemmas.List.{get_or-take, get_or-drop, get_or_append_left, get_or-append-add, length-append, length-take-le, length-drop, drop_at, drop-drop, take_at, take-append-le, take_rest, take-take, same_lists, get_or_default, append-nil, append_assoc}
+use Rattle.std.proofs.lemmas.List.{get_or-take, get_or-drop, get_or_append_left, get_or-append-add, length-append, length-take-le, length-drop, drop_at, drop-drop, take-append-le, take_rest, take-take, same_lists, get_or_default, append-nil, append_assoc}
 use Rattle.std.proofs.lemmas.Nat.{mod-mul-add, div-mul-add}
 use Rattle.std.proofs.lemmas.Bool.{cases_lt}
 use Rattle.std.proofs.Math.Nat.{mod-lt}
@@ -224,12 +224,6 @@ drop-with_number o bytes at n x k inside behind =
     ∙ ap (drop (k - (at + n))) (drop_at (take at bytes ++ number_bytes o n x) (drop (at + n) bytes) (at + n) size)
     ∙ drop-drop (k - (at + n)) (at + n) bytes
     ∙ ap (λ (j : ℕ). drop j bytes) split
-
-pub between-with_number : (o : Order) (bytes : List ℕ) (at n x : ℕ) → at + n ≤ length bytes → take n (drop at (with_number o bytes at n x)) ≡ number_bytes o n x
-unfolding with_number
-between-with_number o bytes at n x inside =
-    rw (append_assoc, drop_at (take at bytes) (number_bytes o n x ++ drop (at + n) bytes) at (length-take-le at bytes (omega arith)))
-    (take_at (number_bytes o n x) (drop (at + n) bytes) n (length-number_bytes o n x))
 
 -- a number that was read from the front of a slice of bytes is below 256 to the power of its size
 pub little_read-lt : (x n at : ℕ) (xs : List ℕ) → x ≡ little_number n (take (length xs - at) (drop at xs)) → ((k : ℕ) → Fits w8 (get_or xs k 0)) → x < 256 ^ n

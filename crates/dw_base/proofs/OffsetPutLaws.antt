@@ -1,16 +1,11 @@
 -- An offset that is put into a field reads back, with a relocation and without one.
-use Rattle.std.proofs.Common.{◌≡◌, ℕ, ℤ, zero, suc, pos, negsuc, ◌+◌, ◌-◌, ◌*◌, ◌/◌, ◌%◌, ◌^◌, ◌<◌, ◌≤◌, Bool, true, false, ◌==◌, nat_lt, if◌then◌else◌, subst, List, [], ◌∷◌, length, Option, Some, None, refl, sym, ap, ◌∙◌, arith}
-use Rattle.std.specs.Prelude.{◌+ℤ◌, ◌-ℤ◌, ⊤, ◌||◌}
-use Rattle.std.specs.Int.{w32, w64, cast_signed}
+use Rattle.std.proofs.Common.{◌≡◌, ℕ, ℤ, zero, suc, pos, negsuc, ◌+◌, ◌-◌, ◌*◌, ◌/◌, ◌%◌, ◌^◌, ◌<◌, ◌≤◌, Bool, true, false, ◌==◌, nat_lt, if◌then◌else◌, List, [], ◌∷◌, length, Option, Some, None, refl, sym, ap, ◌∙◌, arith}
+use Rattle.std.specs.Prelude.{◌+ℤ◌, ◌-ℤ◌, ⊤}
 use Rattle.std.proofs.lemmas.Bool.{eqb-true, eq-eqb, ltb-true, ltb-false}
 use Rattle.std.proofs.lemmas.List.{append-nil}
 use native.Mathlib.Nat.{add-mod-mod, add-mod_right, add-mul-mod_self_right, div-add-mod', mod-eq_of_lt, mod-lt}
 use Rattle.dw_base.specs.Cells.{Cell, Relocation, Located, addend_of, bytes_of, field_by, field_of, first_relocation, offset_into, offset_of, with_bytes, wrapped}
-use Rattle.dw_base.specs.Elf.{word_size}
 use Rattle.dw_base.specs.Numbers.{number_bytes, spelled}
-use Rattle.dw_base.specs.Relocs.{word_width}
-use Rattle.dw_base.specs.declared.shared.Class.{Class}
-use Rattle.dw_base.specs.declared.shared.Class.TheVariants.{C32, C64}
 use Rattle.dw_base.specs.NewOffsets.{by_addend, moved_addend, moved_relocation, symbol_value, with_offset, with_offset_by, with_relocation}
 use Rattle.dw_base.specs.declared.shared.Order.{Order}
 use Rattle.dw_base.specs.declared.view_fields.Field.TheVariants.{Into}
@@ -115,10 +110,6 @@ moved-first : (p : List Cell) (r q : Relocation) → first_relocation p ≡ Some
 moved-first [] r q e = absurd cc
 moved-first (c ∷ cs) r q e = refl
 
-moved-bytes : (p : List Cell) (q : Relocation) → bytes_of (with_relocation p q) ≡ bytes_of p
-moved-bytes [] q = refl
-moved-bytes (c ∷ cs) q = refl
-
 moved-length : (p : List Cell) (q : Relocation) → length (with_relocation p q) ≡ length p
 moved-length [] q = refl
 moved-length (c ∷ cs) q = refl
@@ -178,111 +169,3 @@ offset-put-any o z p n h = by_first (first_relocation p) refl h.by_relocation
     by_first : (f : Option Relocation) → first_relocation p ≡ f → PutsBy f z (length p) n → offset_into z (field_of o (with_offset_by f o p n)) ≡ n
     by_first None e t = ap (offset_into z) (put-field o p n h.fits ∙ ap (λ (f : Option Relocation). field_by f (length p) n) e)
     by_first (Some r) e t = by_record r r.addend refl e t t.addend
-
--- and a field that gives an offset already stays as it is, where its relocation has an addend
-pub offset-stays : (o : Order) (p : List Cell) (n v section : ℕ) (r : Relocation) (a : ℤ) → first_relocation p ≡ Some r → r.addend ≡ Some a → r.target ≡ Some (section, v)
-    → wrapped (pos v +ℤ a) (length p) ≡ n → with_offset o p n ≡ p
-unfolding with_offset
-offset-stays o p n v section r a e a_is target same =
-    ap (λ (f : Option Relocation). with_offset_by f o p n) e
-    ∙ ap (λ (b : Option ℤ). by_addend b o r p n) a_is
-    ∙ own (wrapped (pos (symbol_value r.target) +ℤ a) (length p) == n)
-    (eq-eqb (wrapped (pos (symbol_value r.target) +ℤ a) (length p)) n (ap (λ (t : Option (ℕ × ℕ)). wrapped (pos (symbol_value t) +ℤ a) (length p)) target ∙ same))
-  where
-    own : (b : Bool) → b ≡ true → (if b then p else with_relocation p (moved_relocation r n)) ≡ p
-    own true e = refl
-    own false e = absurd cc
-
--- A signed addend is added modulo 256^size as the number of its word is.
-neg-four : (v k : ℕ) → k < 2 ^ 63 → (v + (2 ^ 64 - suc k)) % 256 ^ 4 ≡ wrapped (pos v +ℤ negsuc k) 4
-neg-four v k small = own (nat_lt v (suc k)) refl
-  where
-    own : (t : Bool) → nat_lt v (suc k) ≡ t → (v + (2 ^ 64 - suc k)) % 256 ^ 4 ≡ wrapped (if t then negsuc (suc k - suc v) else pos (v - suc k)) 4
-    own true e = let lt = ltb-true v (suc k) e in omega (arith, lt, small)
-    own false e = let le = ltb-false v (suc k) e in omega (arith, le, small)
-
-neg-eight : (v k : ℕ) → k < 2 ^ 63 → (v + (2 ^ 64 - suc k)) % 256 ^ 8 ≡ wrapped (pos v +ℤ negsuc k) 8
-neg-eight v k small = own (nat_lt v (suc k)) refl
-  where
-    own : (t : Bool) → nat_lt v (suc k) ≡ t → (v + (2 ^ 64 - suc k)) % 256 ^ 8 ≡ wrapped (if t then negsuc (suc k - suc v) else pos (v - suc k)) 8
-    own true e = let lt = ltb-true v (suc k) e in omega (arith, lt, small)
-    own false e = let le = ltb-false v (suc k) e in omega (arith, le, small)
-
-neg-word : (v k : ℕ) → k < 2 ^ 31 → (v + (2 ^ 32 - suc k)) % 256 ^ 4 ≡ wrapped (pos v +ℤ negsuc k) 4
-neg-word v k small = own (nat_lt v (suc k)) refl
-  where
-    own : (t : Bool) → nat_lt v (suc k) ≡ t → (v + (2 ^ 32 - suc k)) % 256 ^ 4 ≡ wrapped (if t then negsuc (suc k - suc v) else pos (v - suc k)) 4
-    own true e = let lt = ltb-true v (suc k) e in omega (arith, lt, small)
-    own false e = let le = ltb-false v (suc k) e in omega (arith, le, small)
-
--- a word of 8 bytes that is read as signed
-signed-four : (v x : ℕ) → x < 2 ^ 64 → wrapped (pos v +ℤ cast_signed w64 x) 4 ≡ (v + x) % 256 ^ 4
-signed-four v x small = own (nat_lt x (2 ^ 63)) refl
-  where
-    own : (t : Bool) → nat_lt x (2 ^ 63) ≡ t → wrapped (pos v +ℤ (if t then pos x else negsuc (2 ^ 64 - suc x))) 4 ≡ (v + x) % 256 ^ 4
-    own true e = refl
-    own false e =
-        let high = ltb-false x (2 ^ 63) e in
-        let back : 2 ^ 64 - suc (2 ^ 64 - suc x) ≡ x = omega (arith, small) in
-        sym (neg-four v (2 ^ 64 - suc x) (omega (arith, high, small))) ∙ ap (λ (k : ℕ). (v + k) % 256 ^ 4) back
-
-signed-eight : (v x : ℕ) → x < 2 ^ 64 → wrapped (pos v +ℤ cast_signed w64 x) 8 ≡ (v + x) % 256 ^ 8
-signed-eight v x small = own (nat_lt x (2 ^ 63)) refl
-  where
-    own : (t : Bool) → nat_lt x (2 ^ 63) ≡ t → wrapped (pos v +ℤ (if t then pos x else negsuc (2 ^ 64 - suc x))) 8 ≡ (v + x) % 256 ^ 8
-    own true e = refl
-    own false e =
-        let high = ltb-false x (2 ^ 63) e in
-        let back : 2 ^ 64 - suc (2 ^ 64 - suc x) ≡ x = omega (arith, small) in
-        sym (neg-eight v (2 ^ 64 - suc x) (omega (arith, high, small))) ∙ ap (λ (k : ℕ). (v + k) % 256 ^ 8) back
-
-signed-word : (v x : ℕ) → x < 2 ^ 32 → wrapped (pos v +ℤ cast_signed w32 x) 4 ≡ (v + x) % 256 ^ 4
-signed-word v x small = own (nat_lt x (2 ^ 31)) refl
-  where
-    own : (t : Bool) → nat_lt x (2 ^ 31) ≡ t → wrapped (pos v +ℤ (if t then pos x else negsuc (2 ^ 32 - suc x))) 4 ≡ (v + x) % 256 ^ 4
-    own true e = refl
-    own false e =
-        let high = ltb-false x (2 ^ 31) e in
-        let back : 2 ^ 32 - suc (2 ^ 32 - suc x) ≡ x = omega (arith, small) in
-        sym (neg-word v (2 ^ 32 - suc x) (omega (arith, high, small))) ∙ ap (λ (k : ℕ). (v + k) % 256 ^ 4) back
-
--- So an addend can make each offset that fits the field, but for one of 8 bytes in a file of 32 bits.
-makes-four : (v n : ℕ) → n < 256 ^ 4 → wrapped (pos v +ℤ cast_signed w64 (wrapped (pos n -ℤ pos v) 8)) 4 ≡ n
-makes-four v n fits =
-    let x : ℕ = wrapped (pos n -ℤ pos v) 8 in
-    let small : wrapped (pos n -ℤ pos v) 8 < 256 ^ 8 = wrapped-lt (pos n -ℤ pos v) 8 (omega arith) in
-    let whole : (v + wrapped (pos n -ℤ pos v) 8) % 256 ^ 8 ≡ n = wrapped-back n v 8 (omega (arith, fits)) in
-    signed-four v (wrapped (pos n -ℤ pos v) 8) small ∙ omega (arith, whole, fits)
-
-makes-eight : (v n : ℕ) → n < 256 ^ 8 → wrapped (pos v +ℤ cast_signed w64 (wrapped (pos n -ℤ pos v) 8)) 8 ≡ n
-makes-eight v n fits =
-    let small : wrapped (pos n -ℤ pos v) 8 < 256 ^ 8 = wrapped-lt (pos n -ℤ pos v) 8 (omega arith) in
-    signed-eight v (wrapped (pos n -ℤ pos v) 8) small ∙ wrapped-back n v 8 fits
-
-makes-word : (v n : ℕ) → n < 256 ^ 4 → wrapped (pos v +ℤ cast_signed w32 (wrapped (pos n -ℤ pos v) 4)) 4 ≡ n
-makes-word v n fits =
-    let small : wrapped (pos n -ℤ pos v) 4 < 256 ^ 4 = wrapped-lt (pos n -ℤ pos v) 4 (omega arith) in
-    signed-word v (wrapped (pos n -ℤ pos v) 4) small ∙ wrapped-back n v 4 fits
-
--- the sizes of fields that an addend of a class always reaches
-abbrev pub reaches_all : Class → ℕ → Bool
-reaches_all C64 n = n == 4 || n == 8
-reaches_all C32 n = n == 4
-
-makes-by : (c : Class) (v n size : ℕ) → reaches_all c size ≡ true → n < 256 ^ size
-    → wrapped (pos v +ℤ cast_signed (word_width c) (wrapped (pos n -ℤ pos v) (word_size c))) size ≡ n
-makes-by C32 v n size e fits = let four : size ≡ 4 = eqb-true size 4 e in rw four (makes-word v n (subst (λ (k : ℕ). n < 256 ^ k) four fits))
-makes-by C64 v n size e fits = by_size (size == 4) refl (size == 8) refl e
-  where
-    by_size : (s : Bool) → (size == 4) ≡ s → (t : Bool) → (size == 8) ≡ t → (s || t) ≡ true
-        → wrapped (pos v +ℤ cast_signed w64 (wrapped (pos n -ℤ pos v) 8)) size ≡ n
-    by_size true s_is t t_is e = let four : size ≡ 4 = eqb-true size 4 s_is in rw four (makes-four v n (subst (λ (k : ℕ). n < 256 ^ k) four fits))
-    by_size false s_is true t_is e = let eight : size ≡ 8 = eqb-true size 8 t_is in rw eight (makes-eight v n (subst (λ (k : ℕ). n < 256 ^ k) eight fits))
-    by_size false s_is false t_is e = absurd cc
-
-pub addend-fits : (a : Option ℤ) (r : Relocation) (v size n section : ℕ) → r.target ≡ Some (section, v) → reaches_all r.class size ≡ true → n < 256 ^ size
-    → AddendFits a r v size n
-addend-fits None r v size n section target all fits = tt
-addend-fits (Some a) r v size n section target all fits =
-    ap (λ (t : Option (ℕ × ℕ)). wrapped (pos v +ℤ cast_signed (word_width r.class) (wrapped (pos n -ℤ pos (symbol_value t)) (word_size r.class))) size) target
-    ∙ makes-by r.class v n size all fits

@@ -1,21 +1,15 @@
 -- Laws of the operations of line programs over cells: addresses by the relocations that begin at them, in what is left of a program and in its
 -- section; and without relocations.
 use Rattle.std.proofs.Common.{◌≡◌, ℕ, zero, suc, ◌+◌, ◌-◌, ◌<◌, ◌≤◌, List, [], ◌∷◌, length, take, drop, Option, refl, sym, ap, ◌∙◌, arith}
-use Rattle.std.proofs.lemmas.List.{drop-drop, length-drop, length-take-le}
-use Rattle.dw_base.specs.Cells.{Cell, Relocation, address_by, bytes_of, first_relocation}
+use Rattle.std.proofs.lemmas.List.{length-drop, length-take-le}
+use Rattle.dw_base.specs.Cells.{Cell, Relocation, address_by, bytes_of}
 use Rattle.dw_base.specs.Numbers.{spelled}
 use Rattle.dw_base.specs.RelocationFields.{relocation_at}
 use Rattle.dw_base.specs.ValueMeanings.{address_of}
 use Rattle.dw_base.specs.declared.shared.Order.{Order}
-use Rattle.dw_base.specs.declared.view_fields.Field.TheVariants.{Num}
 use Rattle.dw_base.proofs.NumberLaws.{spelled-drop, spelled-take}
-use Rattle.dw_base.proofs.PlainCellLaws.{IsPlain, first-plain}
 use Rattle.dw_base.proofs.RelocationFieldLaws.{bytes_of-drop, bytes_of-take}
 use Rattle.dw_base.proofs.UnitEditLaws.{length-bytes_of}
-
--- relocations in parts of cells
-pub relocation_at-drop : (cells : List Cell) (n place : ℕ) → relocation_at (drop n cells) place ≡ relocation_at cells (n + place)
-relocation_at-drop cells n place = ap first_relocation (drop-drop place n cells)
 
 pub relocation_at-take : (cells : List Cell) (n place : ℕ) → place < n → relocation_at (take n cells) place ≡ relocation_at cells place
 relocation_at-take cells zero place lt = absurd (omega (arith, lt))
@@ -49,9 +43,3 @@ address-body order cells end place lt inside =
     ∙ ap (λ (n : ℕ). address_by (relocation_at cells place) (spelled order (bytes_of (take end cells)) place (n - place))) size
     ∙ ap (λ (bs : List ℕ). address_by (relocation_at cells place) (spelled order bs place (end - place))) (bytes_of-take end cells)
     ∙ ap (address_by (relocation_at cells place)) (spelled-take order (bytes_of cells) end place (end - place) within)
-
--- an address at which no relocation begins
-pub address-plain : (order : Order) (cells : List Cell) → IsPlain cells → address_of order cells ≡ Num (spelled order (bytes_of cells) 0 (length cells))
-unfolding address_of
-address-plain order cells plain =
-    ap (λ (o : Option Relocation). address_by o (spelled order (bytes_of cells) 0 (length cells))) (first-plain cells plain)

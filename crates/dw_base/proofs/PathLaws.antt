@@ -8,7 +8,7 @@ use Rattle.std.proofs.lemmas.List.{length-append, length-drop}
 use Rattle.std.specs.List.{starts_with}
 use Rattle.dw_base.specs.Texts.{has_nul}
 use Rattle.dw_base.proofs.TextLaws.{has_nul-append_false, has_nul-drop}
-use Rattle.dw_base.specs.Paths.{slash, prefix_limit, kept_front, without_end_slashes, is_prefix, path_map, PathMap, IsPathMap, mapped_path, lies_under}
+use Rattle.dw_base.specs.Paths.{slash, prefix_limit, kept_front, without_end_slashes, is_prefix, PathMap, IsPathMap, mapped_path, lies_under}
 
 -- a slash at the end is cut off
 pub without_end_slashes-slash : (xs : List ℕ) → without_end_slashes (xs ++ slash ∷ []) ≡ without_end_slashes xs
@@ -112,11 +112,6 @@ IsPathMap-made base dest b d base_is dest_is base_fit dest_fit = record {
   base_cut = rw base_is (without_end_slashes-again base);
   dest_cut = rw dest_is (without_end_slashes-again dest);
 }
-
-pub IsPathMap-path_map : (base dest : List ℕ) → IsTrue (is_prefix base) → IsTrue (is_prefix dest) → IsPathMap (path_map base dest)
-unfolding path_map
-IsPathMap-path_map base dest base_fit dest_fit =
-    IsPathMap-made base dest (without_end_slashes base) (without_end_slashes dest) refl refl base_fit dest_fit
 
 -- base and destination of a map are no longer than the limit
 pub IsPathMap-base : (m : PathMap) → IsPathMap m → length m.base ≤ prefix_limit

@@ -1,11 +1,11 @@
 -- Cells without relocations: those of a file that isn't relocatable.
-use Rattle.std.proofs.Common.{suc, ◌≡◌, ℕ, ◌^◌, ◌<◌, ◌≤◌, List, [], ◌∷◌, ◌++◌, length, drop, Option, None, sym, ap, ◌∙◌, refl, arith}
+use Rattle.std.proofs.Common.{◌≡◌, ℕ, ◌≤◌, List, [], ◌∷◌, ◌++◌, length, drop, Option, None, sym, ap, ◌∙◌, refl, arith}
 use Rattle.std.proofs.lemmas.List.{append-nil, drop_all}
-use Rattle.dw_base.specs.Cells.{Cell, Relocation, Located, bytes_of, plain_cells, with_bytes, first_relocation, field_of, offset_of}
-use Rattle.dw_base.specs.Numbers.{spelled, number_bytes}
+use Rattle.dw_base.specs.Cells.{Cell, Relocation, bytes_of, plain_cells, with_bytes, first_relocation}
+use Rattle.dw_base.specs.Numbers.{number_bytes}
 use Rattle.dw_base.specs.NewOffsets.{with_offset_by, with_offset}
 use Rattle.dw_base.specs.declared.shared.Order.{Order}
-use Rattle.dw_base.proofs.NumberLaws.{length-number_bytes, spelled-number_bytes}
+use Rattle.dw_base.proofs.NumberLaws.{length-number_bytes}
 use Rattle.dw_base.proofs.UnitEditLaws.{length-bytes_of}
 use Rattle.dw_base.proofs.UnitHeaderLaws.{bytes_of-append}
 
@@ -52,11 +52,6 @@ pub first-plain : (p : List Cell) → IsPlain p → first_relocation p ≡ None
 first-plain [] h = refl
 first-plain (c ∷ cs) h = ap first_relocation h.plain
 
--- the offset in a field is the number that its bytes spell
-pub offset_of-plain : (order : Order) (z : Located) (p : List Cell) → IsPlain p → offset_of order z p ≡ spelled order (bytes_of p) 0 (length p)
-unfolding offset_of field_of
-offset_of-plain order z p h = rw (first-plain p h) refl
-
 -- cells with other bytes at their front
 with_bytes-plain : (cs bs : List ℕ) → length bs ≤ length cs → with_bytes (plain_cells cs) bs ≡ plain_cells (bs ++ drop (length bs) cs)
 with_bytes-plain [] [] h = refl
@@ -78,22 +73,3 @@ with_offset-is order p n h =
     ∙ ap (λ (bs : List ℕ). plain_cells (number_bytes order (length p) n ++ bs))
     (drop_all (length (number_bytes order (length p) n)) (bytes_of p) (omega (arith, size, whole)))
     ∙ ap plain_cells (append-nil (number_bytes order (length p) n))
-
-pub length-plain_cells : (bs : List ℕ) → length (plain_cells bs) ≡ length bs
-length-plain_cells [] = refl
-length-plain_cells (b ∷ bs) = ap suc (length-plain_cells bs)
-
-pub length-with_offset : (order : Order) (p : List Cell) (n : ℕ) → IsPlain p → length (with_offset order p n) ≡ length p
-length-with_offset order p n h =
-    ap length (with_offset-is order p n h) ∙ length-plain_cells (number_bytes order (length p) n) ∙ length-number_bytes order (length p) n
-
--- an offset that was put is read back
-pub offset-put : (order : Order) (z : Located) (p : List Cell) (n : ℕ) → IsPlain p → n < 256 ^ length p → offset_of order z (with_offset order p n) ≡ n
-offset-put order z p n h fits =
-    let bs : List ℕ = number_bytes order (length p) n in
-    let size : length (plain_cells (number_bytes order (length p) n)) ≡ length p = length-plain_cells (number_bytes order (length p) n) ∙ length-number_bytes order (length p) n in
-    ap (offset_of order z) (with_offset-is order p n h)
-    ∙ offset_of-plain order z (plain_cells (number_bytes order (length p) n)) (plain_cells-plain (number_bytes order (length p) n))
-    ∙ ap (λ (k : ℕ). spelled order (bytes_of (plain_cells (number_bytes order (length p) n))) 0 k) size
-    ∙ ap (λ (q : List ℕ). spelled order q 0 (length p)) (bytes_of-plain (number_bytes order (length p) n) ∙ sym (append-nil (number_bytes order (length p) n)))
-    ∙ spelled-number_bytes order (length p) n [] fits

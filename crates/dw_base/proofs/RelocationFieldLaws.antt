@@ -1,17 +1,15 @@
 -- Laws of fields over cells: a field is refused exactly where a relocation lies on it only in part, it reads by the relocation that begins
 -- at it, and without one it is its number.
 use Rattle.std.proofs.Common.{◌≡◌, ◌≢◌, ℕ, zero, suc, ◌+◌, ◌<◌, ◌≤◌, Bool, true, false, ◌==◌, ◌&&◌, not, nat_lt, if◌then◌else◌, List, [], ◌∷◌, length, take, drop, Option, Some, None, refl, sym, ap, ◌∙◌, arith, subst, inl, inr}
-use Rattle.std.specs.Prelude.{Ok, Err, pos, ◌+ℤ◌}
+use Rattle.std.specs.Prelude.{Ok, pos, ◌+ℤ◌}
 use Rattle.std.proofs.lemmas.Bool.{eqb-false, ltb-true, lt-ltb, eq-eqb, ne_eqb, cases_lt}
 use Rattle.std.proofs.lemmas.List.{length-take, length-drop}
 use Rattle.dw_base.specs.Cells.{Cell, Relocation, bytes_of, first_relocation, cells_at, field_of, field_by, relocated, targeted, symbol_field, wrapped, addend_of}
 use Rattle.dw_base.specs.Notes.{first_below, or_this}
 use Rattle.dw_base.specs.Numbers.{spelled}
 use Rattle.dw_base.specs.RelocationFields.{relocation_at, reach_of, meets_partly, LiesPartly, partly_at, field_unless, field_in}
-use Rattle.dw_base.specs.Refusals.{at}
-use Rattle.dw_base.specs.declared.fault.Kind.TheVariants.{Relocation as RelocationKind}
 use Rattle.dw_base.specs.declared.shared.Order.{Order}
-use Rattle.dw_base.specs.declared.view_fields.Field.TheVariants.{Num, Into}
+use Rattle.dw_base.specs.declared.view_fields.Field.TheVariants.{Into}
 use Rattle.dw_base.proofs.NumberLaws.{spelled-take, spelled-drop}
 use Rattle.dw_base.proofs.PlainCellLaws.{IsPlain, plain-parts, first-plain}
 use Rattle.dw_base.proofs.SectionRelocationLaws.{first_below-none}
@@ -131,11 +129,6 @@ field_in-reads order section cells place n some inside whole =
     ap (λ (o : Option ℕ). field_unless o section (field_of order (cells_at cells place n))) whole
     ∙ ap Ok (field_of-cells_at order cells place n some inside)
 
-pub field_in-refused : (order : Order) (section : ℕ) (cells : List Cell) (place n p : ℕ) → partly_at cells place n ≡ Some p
-    → field_in order section cells place n ≡ Err (at RelocationKind section p)
-unfolding field_in
-field_in-refused order section cells place n p met = ap (λ (o : Option ℕ). field_unless o section (field_of order (cells_at cells place n))) met
-
 -- a field at which a relocation begins: of its own size, of a symbol that is defined in a section, it is a place there
 pub field_by-into : (r : Relocation) (t : ℕ × ℕ) (n x : ℕ) → r.size ≡ Some n → r.target ≡ Some t
     → field_by (Some r) n x ≡ Into t.0 (wrapped (pos t.1 +ℤ addend_of r.addend x) n)
@@ -158,9 +151,3 @@ unfolding partly_at
 partly-plain cells place n plain =
     first_below-none (λ q. meets_partly place n q (relocation_at cells q)) (place + n)
     (λ i lt. ap (meets_partly place n i) (relocation_at-plain cells i plain))
-
-pub field_in-plain : (order : Order) (section : ℕ) (cells : List Cell) (place n : ℕ) → IsPlain cells → 0 < n → place + n ≤ length cells
-    → field_in order section cells place n ≡ Ok (Num (spelled order (bytes_of cells) place n))
-field_in-plain order section cells place n plain some inside =
-    field_in-reads order section cells place n some inside (partly-plain cells place n plain)
-    ∙ ap (λ (o : Option Relocation). Ok (field_by o n (spelled order (bytes_of cells) place n))) (relocation_at-plain cells place plain)

@@ -1,11 +1,10 @@
--- What reads of the relocations on fields excludes each row; where no relocation begins there is no row; and rows of a worked unit.
-use Rattle.std.proofs.Common.{◌≡◌, ℕ, true, List, [], ◌∷◌, length, drop, take, Option, Some, refl, sym, ap, arith, subst}
+-- What reads of the relocations on fields excludes each row; and rows of a worked unit.
+use Rattle.std.proofs.Common.{◌≡◌, ℕ, true, List, [], ◌∷◌, length, Option, Some, refl, ap, arith}
 use Rattle.std.proofs.lemmas.Bool.{ltb-true}
 use Rattle.dw_base.specs.AbsoluteTypes.{absolute_size, absolute_types}
-use Rattle.dw_base.specs.Cells.{Cell, Relocation, bytes_of, cells_at, field_by, field_of, is_placed}
+use Rattle.dw_base.specs.Cells.{Cell, Relocation, bytes_of, field_by, field_of, is_placed}
 use Rattle.dw_base.specs.Numbers.{number_at, spelled}
 use Rattle.dw_base.specs.Refusals.{at}
-use Rattle.dw_base.specs.RelocationFields.{relocation_at}
 use Rattle.dw_base.specs.RelocationRows.{FieldPlace, FieldsFail, FieldsRead, HeaderFails, HeaderOffsetFails, HeaderOffsetsRead, HeaderReads, OffsetFails, OffsetReads, field_place, header_field, offset_field}
 use Rattle.dw_base.specs.RelocationRows.FieldsFail.{offset, inside, elsewhere}
 use Rattle.dw_base.specs.RelocationRows.HeaderFails.{other_field, reaches}
@@ -18,13 +17,11 @@ use Rattle.dw_base.specs.declared.fault.Kind.TheVariants.{Relocation as Relocati
 use Rattle.dw_base.specs.declared.fault.Refusal.{Refusal}
 use Rattle.dw_base.specs.declared.shared.Order.{Order}
 use Rattle.dw_base.specs.declared.shared.Order.TheVariants.{Little}
-use Rattle.dw_base.proofs.PlainCellLaws.{IsPlain, plain-parts, first-plain}
-use Rattle.dw_base.proofs.RelocationFieldLaws.{relocation_at-plain}
+use Rattle.dw_base.proofs.PlainCellLaws.{IsPlain, first-plain}
 use Rattle.dw_base.proofs.WorkedRelocations.{cells_by, record_of, rela_info, word_of}
 use Rattle.dw_base.specs.Lebs.{initial_length_at}
 use Rattle.dw_base.specs.declared.shared.Class.TheVariants.{C64}
 use Rattle.std.specs.Prelude.{pos}
-use Rattle.std.proofs.lemmas.List.{take-append-drop}
 
 offset-excludes : (o : Order) (s : ℕ) (cells : List Cell) (f : FieldPlace) (r : Refusal) → OffsetReads o cells f → OffsetFails o s cells f r → ⊥
 offset-excludes o s cells f r h (partly p lies) = h.whole p lies
@@ -45,37 +42,9 @@ pub header_offsets_exclude : (base : UnitBase) (z : UnitSection) (r : Refusal) �
 header_offsets_exclude base z r h (header list u start f units is there fails) =
     offset-excludes base.order z.number z.contents f r (h.all list u start f units is there) fails
 
--- no relocation, no row
-none-begins : (cells : List Cell) (p : ℕ) (r : Relocation) → IsPlain cells → relocation_at cells p ≡ Some r → ⊥
-none-begins cells p r plain e = let none = relocation_at-plain cells p plain in absurd cc
-
-take-plain : (n : ℕ) (p : List Cell) → IsPlain p → IsPlain (take n p)
-take-plain n p h = (plain-parts (take n p) (drop n p) (subst IsPlain (sym (take-append-drop n p)) h)).0
-
-drop-plain : (n : ℕ) (p : List Cell) → IsPlain p → IsPlain (drop n p)
-drop-plain n p h = (plain-parts (take n p) (drop n p) (subst IsPlain (sym (take-append-drop n p)) h)).1
-
 pub placed-plain : (o : Order) (p : List Cell) → IsPlain p → is_placed (field_of o p) ≡ true
 unfolding field_of
 placed-plain o p h = ap (λ (r : Option Relocation). is_placed (field_by r (length p) (spelled o (bytes_of p) 0 (length p)))) (first-plain p h)
-
-offset-plain : (o : Order) (s : ℕ) (cells : List Cell) (f : FieldPlace) (r : Refusal) → IsPlain cells → OffsetFails o s cells f r → ⊥
-offset-plain o s cells f r plain (partly p lies) = none-begins cells p lies.relocation plain lies.begins
-offset-plain o s cells f r plain (no_place e) =
-    let placed = placed-plain o (cells_at cells f.place f.size) (take-plain f.size (drop f.place cells) (drop-plain f.place cells plain)) in absurd cc
-
-pub fields-plain : (o : Order) (s : ℕ) (cells : List Cell) (moving : List ℕ) (fs : List FieldPlace) (r : Refusal) → IsPlain cells
-    → FieldsFail o s cells moving fs r → ⊥
-fields-plain o s cells moving fs r plain (offset f is u f_fails) = offset-plain o s cells f r plain f_fails
-fields-plain o s cells moving fs r plain (inside f p x is u begins before behind) = none-begins cells p x plain begins
-fields-plain o s cells moving fs r plain (elsewhere p x begins lies other) = none-begins cells p x plain begins
-
-pub header_offsets-plain : (base : UnitBase) (z : UnitSection) (r : Refusal) → IsPlain z.contents → HeaderOffsetFails base z r → ⊥
-header_offsets-plain base z r plain (header list u start f units is there fails) = offset-plain base.order z.number z.contents f r plain fails
-
-pub header-plain : (s start behind : ℕ) (cells : List Cell) (fs : List FieldPlace) (r : Refusal) → IsPlain cells → HeaderFails s start behind cells fs r → ⊥
-header-plain s start behind cells fs r plain (other_field p x begins from below none) = none-begins cells p x plain begins
-header-plain s start behind cells fs r plain (reaches p x begins before behind_is) = none-begins cells p x plain begins
 
 -- the fields of the worked unit: the offsets of its abbreviations, name and directory
 abbrev worked_fields : List FieldPlace

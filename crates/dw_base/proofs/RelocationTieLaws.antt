@@ -1,17 +1,13 @@
--- The records of a table, one by one: each that stands there is the one that a call reads by its number, and one that is written
--- is the only one that changes.
-use Rattle.std.proofs.Common.{◌≡◌, ◌≢◌, ℕ, ℤ, zero, suc, ◌==◌, ◌+◌, ◌*◌, ◌/◌, ◌<◌, ◌≤◌, Bool, true, false, if◌then◌else◌, List, [], ◌∷◌, ◌++◌, length, get_or, Option, Some, None, refl, sym, ap, ◌∙◌, arith, nat_le, inl, inr}
-use Rattle.std.specs.Prelude.{option_map}
+-- The records of a table, one by one: each that stands there is the one that a call reads by its number.
+use Rattle.std.proofs.Common.{◌≡◌, ℕ, zero, suc, ◌==◌, ◌+◌, ◌*◌, ◌/◌, ◌<◌, ◌≤◌, Bool, true, false, if◌then◌else◌, List, [], ◌∷◌, length, get_or, Some, None, refl, sym, ap, ◌∙◌, arith, nat_le, inl, inr}
 use Rattle.std.proofs.lemmas.Bool.{cases_lt, eq-eqb, eqb-true, le-leb, lt-leb}
 use Rattle.dw_base.specs.Cells.{Relocation}
 use Rattle.dw_base.specs.Relocs.{reloc_at, reloc_in, reloc_size}
-use Rattle.dw_base.specs.RelocChanges.{RelocFits, moved, with_reloc}
-use Rattle.dw_base.specs.SectionRelocations.{PlacedRelocation, RelocationSource, is_none_type, placed, records_in, relocation_in, relocation_of, relocations_among}
+use Rattle.dw_base.specs.SectionRelocations.{RelocationSource, is_none_type, placed, records_in, relocation_in, relocation_of, relocations_among}
 use Rattle.dw_base.specs.declared.relocations.Reloc.{Reloc}
 use Rattle.dw_base.specs.declared.shared.Class.{Class}
 use Rattle.dw_base.specs.declared.shared.Class.TheVariants.{C32, C64}
 use Rattle.dw_base.proofs.ListLaws.{length-tabulate, get_or-tabulate}
-use Rattle.dw_base.proofs.RelocLaws.{reads_back, others_stay}
 
 -- so many whole records are there
 pub count-has : (c : Class) (rela : Bool) (k n : ℕ) → k < n / reloc_size c rela → k * reloc_size c rela + reloc_size c rela ≤ n
@@ -71,29 +67,9 @@ record-some g k r d e = elim (cases_lt k (length (records_in g))) [
   | inr le ↦ let none = record-none g k le in absurd cc
 ]
 
--- relocations among records, one more at a time
-pub among-append : (g : RelocationSource) (xs ys : List Reloc) → relocations_among g (xs ++ ys) ≡ relocations_among g xs ++ relocations_among g ys
-among-append g [] ys = refl
-among-append g (x ∷ xs) ys = by_type (is_none_type g.machine x.kind) (among-append g xs ys)
-  where
-    by_type : (t : Bool) → relocations_among g (xs ++ ys) ≡ relocations_among g xs ++ relocations_among g ys
-        → (if t then relocations_among g (xs ++ ys) else placed g x ∷ relocations_among g (xs ++ ys))
-        ≡ (if t then relocations_among g xs else placed g x ∷ relocations_among g xs) ++ relocations_among g ys
-    by_type true rest = rest
-    by_type false rest = ap (λ (l : List PlacedRelocation). placed g x ∷ l) rest
-
--- a record that is written is the only one that changes
+-- records in another table
 abbrev pub with_table : RelocationSource → List ℕ → RelocationSource
 with_table g bytes = record g { table = bytes }
-
-pub record-written : (g : RelocationSource) (index offset : ℕ) (addend : Option ℤ) → RelocFits g.class g.rela g.table index offset addend
-    → reloc_at g.class g.order g.rela (with_reloc g.class g.order g.rela g.table index offset addend) index
-    ≡ option_map (moved offset addend) (reloc_at g.class g.order g.rela g.table index)
-record-written g index offset addend fits = reads_back g.class g.order g.rela g.table index offset addend fits
-
-pub record-stays : (g : RelocationSource) (index offset : ℕ) (addend : Option ℤ) (k : ℕ) → RelocFits g.class g.rela g.table index offset addend → k ≢ index
-    → reloc_at g.class g.order g.rela (with_reloc g.class g.order g.rela g.table index offset addend) k ≡ reloc_at g.class g.order g.rela g.table k
-record-stays g index offset addend k fits other = others_stay g.class g.order g.rela g.table index offset addend fits k other
 
 -- What is found among records is the first that counts at the place.
 pub record FirstAt (g : RelocationSource) (rs : List Reloc) (place : ℕ) (r : Relocation) : Type 0 where

@@ -12,14 +12,6 @@ use Rattle.dw_base.proofs.TextLaws.{same_text-from, same_text-true}
 pub same_text-other : (t u : List ℕ) → t ≢ u → same_text t u ≡ false
 same_text-other t u other = false_from_ne_true (same_text t u) (λ e. other (same_text-true t u e))
 
--- the first of a list that is this text
-pub index_in-found : (us : List (List ℕ)) (i : ℕ) (t d : List ℕ) → i < length us → get_or us i d ≡ t → ((k : ℕ) → k < i → get_or us k d ≢ t)
-    → index_in us t ≡ i
-index_in-found [] i t d lt e none = absurd (omega arith)
-index_in-found (u ∷ us) zero t d lt e none = rw (same_text-from u t e) refl
-index_in-found (u ∷ us) (suc i) t d lt e none =
-    rw (same_text-other u t (none 0 (omega arith)), index_in-found us i t d (omega arith) e (λ k below. none (suc k) (omega arith))) refl
-
 is_in-found : (us : List (List ℕ)) (i : ℕ) (t d : List ℕ) → i < length us → get_or us i d ≡ t → is_in us t ≡ true
 is_in-found [] i t d lt e = absurd (omega arith)
 is_in-found (u ∷ us) zero t d lt e = rw (same_text-from u t e) refl
@@ -37,17 +29,6 @@ length-names_of b = length-tabulate (section_name b) (section_count b)
 get_or-names_of : (b : List ℕ) (i : ℕ) → i < section_count b → get_or (names_of b) i [] ≡ section_name b i
 unfolding names_of
 get_or-names_of b i lt = get_or-tabulate (section_name b) (section_count b) i [] lt
-
--- its number is that of the first section of its name
-pub section_called-only : (b name : List ℕ) (i : ℕ) → i < section_count b → section_name b i ≡ name
-    → ((k : ℕ) → k < section_count b → section_name b k ≡ name → k ≡ i) → i ≡ section_called b name
-unfolding section_called
-section_called-only b name i within named only =
-    sym (index_in-found (names_of b) i name [] (omega (arith, length-names_of b)) (get_or-names_of b i within ∙ named)
-    (λ k below e.
-    let lt : k < section_count b = omega arith in
-    let same : k ≡ i = only k lt (sym (get_or-names_of b k lt) ∙ e) in
-    omega arith))
 
 -- the bytes of a section are no more than those of the file
 pub length-contents : (b : List ℕ) (i : ℕ) → length (contents_of b i) ≤ length b
@@ -99,10 +80,3 @@ pub contents_called-none : (b name : List ℕ) → section_count b ≤ section_c
 unfolding contents_called
 contents_called-none b name le =
     rw (index_in-past (names_of b) name (omega (arith, length-names_of b, section_called-is b name, le))) refl
-
-pub section_called-other : (b name : List ℕ) (k : ℕ) → section_count b ≤ section_called b name → k < section_count b → section_name b k ≢ name
-section_called-other b name k le lt is =
-    let there : is_in (names_of b) name ≡ true = is_in-found (names_of b) k name [] (omega (arith, length-names_of b)) (get_or-names_of b k lt ∙ is) in
-    let none : is_in (names_of b) name ≡ false = index_in-past (names_of b) name (omega (arith, length-names_of b, section_called-is b name, le)) in
-    let no : true ≡ false = sym there ∙ none in
-    cc

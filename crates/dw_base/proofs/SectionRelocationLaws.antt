@@ -1,16 +1,14 @@
 -- Laws of contents as cells: their bytes are the section's, a relocation begins where its record says, and a file that isn't relocatable
 -- has none.
-use Rattle.std.proofs.Common.{◌≡◌, ℕ, zero, suc, ◌+◌, ◌<◌, Bool, true, false, ◌==◌, ◌&&◌, ◌||◌, if◌then◌else◌, List, [], ◌∷◌, length, Option, Some, None, refl, sym, ap, ◌∙◌, arith, subst}
-use Rattle.std.proofs.lemmas.Bool.{eqb-true, ne_eqb}
-use Rattle.dw_base.specs.Cells.{Cell, Relocation, bytes_of, plain_cells}
+use Rattle.std.proofs.Common.{◌≡◌, ℕ, zero, suc, ◌+◌, ◌<◌, Bool, true, false, ◌==◌, ◌&&◌, ◌||◌, List, [], ◌∷◌, length, Option, None, refl, ap, ◌∙◌, arith}
+use Rattle.std.proofs.lemmas.Bool.{ne_eqb}
+use Rattle.dw_base.specs.Cells.{Cell, bytes_of, plain_cells}
 use Rattle.dw_base.specs.Elf.{e_type, nth_section, section_count}
 use Rattle.dw_base.specs.Layout.{is_loaded_kind}
 use Rattle.dw_base.specs.Notes.{first_below, or_this}
 use Rattle.dw_base.specs.RelocationFields.{relocation_at}
-use Rattle.dw_base.specs.RelocationSectionFails.{IsAmong}
-use Rattle.dw_base.specs.SectionRelocations.{PlacedRelocation, cells_from, is_relocation_kind, relocates, relocation_in, relocation_section, relocations_by, relocations_of, section_cells}
+use Rattle.dw_base.specs.SectionRelocations.{PlacedRelocation, cells_from, is_relocation_kind, relocates, relocation_in, relocation_section, relocations_by, relocations_of}
 use Rattle.dw_base.specs.declared.elf_numbers.TheConstants.{ET_REL, ET_EXEC, ET_DYN}
-use Rattle.dw_base.proofs.PlainCellLaws.{IsPlain, plain_cells-plain}
 
 -- the bytes of the cells
 pub bytes_of-cells_from : (rs : List PlacedRelocation) (place : ℕ) (bytes : List ℕ) → bytes_of (cells_from rs place bytes) ≡ bytes
@@ -21,14 +19,6 @@ pub length-cells_from : (rs : List PlacedRelocation) (place : ℕ) (bytes : List
 length-cells_from rs place [] = refl
 length-cells_from rs place (b ∷ bs) = ap suc (length-cells_from rs (suc place) bs)
 
-pub bytes_of-section_cells : (contents : ℕ → List ℕ) (b : List ℕ) (i : ℕ) → bytes_of (section_cells contents b i) ≡ contents i
-unfolding section_cells
-bytes_of-section_cells contents b i = bytes_of-cells_from (relocations_of contents b i) 0 (contents i)
-
-pub length-section_cells : (contents : ℕ → List ℕ) (b : List ℕ) (i : ℕ) → length (section_cells contents b i) ≡ length (contents i)
-unfolding section_cells
-length-section_cells contents b i = length-cells_from (relocations_of contents b i) 0 (contents i)
-
 -- the relocation that begins in a cell is the first of the list at its place
 pub relocation_at-from : (rs : List PlacedRelocation) (place p : ℕ) (bytes : List ℕ) → p < length bytes → relocation_at (cells_from rs place bytes) p ≡ relocation_in rs (place + p)
 relocation_at-from rs place p [] lt = absurd (omega arith)
@@ -36,35 +26,6 @@ relocation_at-from rs place zero (b ∷ bs) lt = let same : place ≡ place + 0 
 relocation_at-from rs place (suc p) (b ∷ bs) lt =
     let same : suc place + p ≡ place + suc p = omega arith in
     relocation_at-from rs (suc place) p bs (omega arith) ∙ ap (relocation_in rs) same
-
-pub relocation_at-section : (contents : ℕ → List ℕ) (b : List ℕ) (i p : ℕ) → p < length (contents i)
-    → relocation_at (section_cells contents b i) p ≡ relocation_in (relocations_of contents b i) p
-unfolding section_cells
-relocation_at-section contents b i p lt =
-    let same : 0 + p ≡ p = omega arith in
-    relocation_at-from (relocations_of contents b i) 0 p (contents i) lt ∙ ap (relocation_in (relocations_of contents b i)) same
-
--- what is found is one of the list
-further : (x : PlacedRelocation) (xs : List PlacedRelocation) (r : PlacedRelocation) → IsAmong xs r → IsAmong (x ∷ xs) r
-further x xs r h = record { before = x ∷ h.before; behind = h.behind; is = ap (λ (l : List PlacedRelocation). x ∷ l) h.is }
-
-pub relocation_in-among : (rs : List PlacedRelocation) (place : ℕ) (r : Relocation) → relocation_in rs place ≡ Some r
-    → IsAmong rs (record { place = place; relocation = r })
-relocation_in-among [] place r e = absurd cc
-relocation_in-among (x ∷ xs) place r e = by_place (x.place == place) refl (relocation_in-among xs place r) e
-  where
-    by_place : (t : Bool) → (x.place == place) ≡ t → (relocation_in xs place ≡ Some r → IsAmong xs (record { place = place; relocation = r }))
-        → (if t then Some x.relocation else relocation_in xs place) ≡ Some r → IsAmong (x ∷ xs) (record { place = place; relocation = r })
-    by_place true t_is rest e =
-        let here : x.place ≡ place = eqb-true x.place place t_is in
-        let same : x.relocation ≡ r = cc in
-        record {
-          before = [];
-          behind = xs;
-          is = ap (λ (p : ℕ). record { place = p; relocation = x.relocation } ∷ xs) here
-              ∙ ap (λ (y : Relocation). record { place = place; relocation = y } ∷ xs) same;
-        }
-    by_place false t_is rest e = further x xs (record { place = place; relocation = r }) (rest e)
 
 -- no relocations, no relocation in a cell
 pub cells_from-none : (place : ℕ) (bytes : List ℕ) → cells_from [] place bytes ≡ plain_cells bytes
@@ -98,12 +59,3 @@ relocation_section-loaded b target loaded = first_below-none (relocates b target
 pub relocations_of-loaded : (contents : ℕ → List ℕ) (b : List ℕ) (target : ℕ) → is_loaded_kind b ≡ true → relocations_of contents b target ≡ []
 unfolding relocations_of
 relocations_of-loaded contents b target loaded = ap (relocations_by contents b) (relocation_section-loaded b target loaded)
-
--- so its contents are bytes
-pub section_cells-loaded : (contents : ℕ → List ℕ) (b : List ℕ) (i : ℕ) → is_loaded_kind b ≡ true → section_cells contents b i ≡ plain_cells (contents i)
-unfolding section_cells
-section_cells-loaded contents b i loaded =
-    ap (λ (rs : List PlacedRelocation). cells_from rs 0 (contents i)) (relocations_of-loaded contents b i loaded) ∙ cells_from-none 0 (contents i)
-
-pub section_cells-plain : (contents : ℕ → List ℕ) (b : List ℕ) (i : ℕ) → is_loaded_kind b ≡ true → IsPlain (section_cells contents b i)
-section_cells-plain contents b i loaded = subst IsPlain (sym (section_cells-loaded contents b i loaded)) (plain_cells-plain (contents i))

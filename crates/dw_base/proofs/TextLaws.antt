@@ -32,9 +32,6 @@ has_nul-drop zero xs e = e
 has_nul-drop (suc n) [] e = refl
 has_nul-drop (suc n) (x ∷ xs) e = has_nul-drop n xs ((or-parts (x == 0) (has_nul xs) e).1)
 
-text-cons_zero : (x : ℕ) (xs : List ℕ) → (x == 0) ≡ true → text (x ∷ xs) ≡ []
-text-cons_zero x xs e = rw e refl
-
 text-cons_other : (x : ℕ) (xs : List ℕ) → (x == 0) ≡ false → text (x ∷ xs) ≡ x ∷ text xs
 text-cons_other x xs e = rw e refl
 

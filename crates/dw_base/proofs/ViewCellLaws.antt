@@ -1,10 +1,10 @@
 -- Laws of a view's sections as cells: their bytes are the sections', and fields read by the relocations that begin in them. A file that
 -- isn't relocatable has none.
-use Rattle.std.proofs.Common.{◌≡◌, ℕ, ◌+◌, ◌<◌, ◌≤◌, zero, suc, Bool, true, false, if◌then◌else◌, List, [], ◌∷◌, ◌++◌, length, get_or, take, drop, Option, None, Some, refl, sym, ap, ◌∙◌, arith, subst, inl, inr}
-use Rattle.std.specs.Prelude.{Ok, is_some}
+use Rattle.std.proofs.Common.{◌≡◌, ℕ, ◌+◌, ◌<◌, ◌≤◌, zero, suc, true, if◌then◌else◌, List, [], ◌∷◌, ◌++◌, length, get_or, take, drop, Option, None, Some, refl, sym, ap, ◌∙◌, arith, inl, inr}
+use Rattle.std.specs.Prelude.{is_some}
 use Rattle.std.proofs.lemmas.Bool.{cases_lt}
 use Rattle.std.proofs.lemmas.List.{drop-drop}
-use Rattle.dw_base.specs.Cells.{Cell, Located, Relocation, address_by, bytes_of, cells_at, field_by, field_of, located_cells, offset_into, offset_of, plain_cells}
+use Rattle.dw_base.specs.Cells.{Cell, Located, address_by, bytes_of, cells_at, field_by, field_of, located_cells, offset_into, offset_of, plain_cells}
 use Rattle.dw_base.specs.DebugSections.{name_of}
 use Rattle.dw_base.specs.Elf.{contents_of, section_count}
 use Rattle.dw_base.specs.FileViews.{View, ViewSection, address_at, cells_of, contents_in, field_at, field_read, kind_at, partly_in, relocations_there, section_bytes, section_named, view_cells, view_of, view_relocations, view_section}
@@ -13,11 +13,9 @@ use Rattle.dw_base.specs.Numbers.{spelled}
 use Rattle.dw_base.specs.RelocationFields.{field_unless, partly_at, relocation_at}
 use Rattle.dw_base.specs.SectionRelocations.{PlacedRelocation, cells_from, relocations_of, section_cells}
 use Rattle.dw_base.specs.ViewData.{cells_located, debug_data, located, located_at}
-use Rattle.dw_base.specs.declared.debug_sections.DebugSection.TheVariants.{Line, Names, StrOffsets}
-use Rattle.dw_base.specs.declared.view_fields.Field.TheVariants.{Num}
+use Rattle.dw_base.specs.declared.debug_sections.DebugSection.TheVariants.{Line, StrOffsets}
 use Rattle.dw_base.proofs.FileViewLaws.{get_or-view_of, length-view_of, section_bytes-view_of}
-use Rattle.dw_base.proofs.PlainCellLaws.{IsPlain, plain_cells-plain}
-use Rattle.dw_base.proofs.RelocationFieldLaws.{field_of-cells_at, partly-plain, relocation_at-plain}
+use Rattle.dw_base.proofs.RelocationFieldLaws.{field_of-cells_at}
 use Rattle.dw_base.proofs.SectionRelocationLaws.{bytes_of-cells_from, cells_from-none, length-cells_from, relocations_of-loaded}
 
 -- the bytes of a section
@@ -59,10 +57,6 @@ offsets-located v = located-cells v (section_named v (name_of StrOffsets))
 pub lines-located : (v : View) → located_cells (debug_data v).lines ≡ located v Line
 unfolding debug_data located
 lines-located v = located-cells v (section_named v (name_of Line))
-
-pub names-located : (v : View) → located_cells (debug_data v).names ≡ located v Names
-unfolding debug_data located
-names-located v = located-cells v (section_named v (name_of Names))
 
 -- a field by the relocation that begins at it,
 pub field_at-by : (v : View) (i place n : ℕ)
@@ -158,36 +152,3 @@ pub view_cells-loaded : (b : List ℕ) (i : ℕ) → is_loaded_kind b ≡ true �
 view_cells-loaded b i loaded =
     ap (λ (rs : List PlacedRelocation). cells_from rs 0 (section_bytes (view_of b) i)) (relocations-loaded b i loaded)
     ∙ cells_from-none 0 (section_bytes (view_of b) i)
-
-pub view_cells-plain-loaded : (b : List ℕ) (i : ℕ) → is_loaded_kind b ≡ true → IsPlain (view_cells (view_of b) i)
-view_cells-plain-loaded b i loaded = subst IsPlain (sym (view_cells-loaded b i loaded)) (plain_cells-plain (section_bytes (view_of b) i))
-
--- so a field there is its number, as an address is, and none is refused
-pub field_at-loaded : (b : List ℕ) (i place n : ℕ) → is_loaded_kind b ≡ true
-    → field_at (view_of b) i place n ≡ Num (spelled (view_of b).order (section_bytes (view_of b) i) place n)
-unfolding field_at
-field_at-loaded b i place n loaded =
-    ap (λ (o : Option Relocation). field_by o n (spelled (view_of b).order (section_bytes (view_of b) i) place n))
-    (relocation_at-plain (view_cells (view_of b) i) place (view_cells-plain-loaded b i loaded))
-
-pub address_at-loaded : (b : List ℕ) (i place n : ℕ) → is_loaded_kind b ≡ true
-    → address_at (view_of b) i place n ≡ Num (spelled (view_of b).order (section_bytes (view_of b) i) place n)
-unfolding address_at
-address_at-loaded b i place n loaded =
-    ap (λ (o : Option Relocation). address_by o (spelled (view_of b).order (section_bytes (view_of b) i) place n))
-    (relocation_at-plain (view_cells (view_of b) i) place (view_cells-plain-loaded b i loaded))
-
-pub partly_in-loaded : (b : List ℕ) (i place n : ℕ) → is_loaded_kind b ≡ true → partly_in (view_of b) i place n ≡ None
-unfolding partly_in
-partly_in-loaded b i place n loaded = by_kind (is_some (kind_at (view_of b) i))
-  where
-    by_kind : (t : Bool) → (if t then partly_at (view_cells (view_of b) i) place n else None) ≡ None
-    by_kind true = partly-plain (view_cells (view_of b) i) place n (view_cells-plain-loaded b i loaded)
-    by_kind false = refl
-
-pub field_read-loaded : (b : List ℕ) (i place n : ℕ) → is_loaded_kind b ≡ true
-    → field_read (view_of b) i place n ≡ Ok (Num (spelled (view_of b).order (section_bytes (view_of b) i) place n))
-unfolding field_read
-field_read-loaded b i place n loaded =
-    ap (λ (o : Option ℕ). field_unless o i (field_at (view_of b) i place n)) (partly_in-loaded b i place n loaded)
-    ∙ ap Ok (field_at-loaded b i place n loaded)

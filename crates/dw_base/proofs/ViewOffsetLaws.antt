@@ -136,8 +136,6 @@ unfolding offset_read
 read-placed v i place n f e placed =
     ap (λ (b : Bool). if b then Ok f else Err (at RelocationKind i place)) (sym placed) ∙ ap (if_placed i place) e
 
-pub ruleset offset_laws = (read-refused, read-nowhere, read-placed)
-
 -- a section of a name that is read is one that is read
 record IsNamed (name : List ℕ) (first : ℕ) (ss : List ViewSection) (i : ℕ) : Type 0 where
   back : ℕ

@@ -67,6 +67,10 @@ pub record IsSized {V : Type 0} (len : ℕ) (read : V × ℕ) : Type 0 where
   pub some : 0 < read.1
   pub within : read.1 ≤ len
 
+-- the first word of 4 bytes that is no length (DWARF 5, 7.4)
+abbrev pub first_reserved : ℕ
+first_reserved = 0xffff_fff0
+
 -- the length and its width, of the first word of 4 bytes and of the 8 bytes behind it: a word from
 -- 0xfffffff0 to 0xfffffffe is reserved, and 0xffffffff says that the length has 8 bytes
 abbrev pub long_length : Option ℕ → Option (Width × ℕ × ℕ)
@@ -76,7 +80,7 @@ long_length (Some n) = Some (W64, n, 12)
 abbrev pub initial_length : Option ℕ → Option ℕ → Option (Width × ℕ × ℕ)
 initial_length None behind = None
 initial_length (Some word) behind =
-    if nat_lt word 0xffff_fff0 then Some (W32, word, 4)
+    if nat_lt word first_reserved then Some (W32, word, 4)
     else (if word == 0xffff_ffff then long_length behind else None)
 
 -- the initial length at a place: width, length, and the size of the field

@@ -4,6 +4,7 @@
 use Rattle.std.specs.Prelude.{Bool, true, false, not, ◌≡◌, ◌≢◌, ℕ, ◌+◌, ◌<◌, ◌≤◌, ◌^◌, List, [], ◌∷◌, length, take, Contains, Option, Some, None, ⊤}
 use Rattle.dw_base.specs.LineSources.{LineSource}
 use Rattle.dw_base.specs.Forms.{width_size}
+use Rattle.dw_base.specs.Lebs.{first_reserved}
 use Rattle.dw_base.specs.Paths.{PathMap, mapped_path}
 use Rattle.dw_base.specs.Refusals.{at}
 use Rattle.dw_base.specs.Texts.{same_text}
@@ -37,7 +38,7 @@ pub data ProgramFails (m : PathMap) (section : ℕ) (h : LineHeader) (table : Li
 
 -- below which number the length of a table lies (DWARF 5, 7.4), and where it stands
 abbrev pub length_limit : Width → ℕ
-length_limit W32 = 0xffff_fff0
+length_limit W32 = first_reserved
 length_limit W64 = 256 ^ 8
 
 abbrev pub length_field : ℕ → Width → ℕ

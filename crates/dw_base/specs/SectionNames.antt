@@ -1,6 +1,5 @@
 -- Sections by name (gABI ch. 4 "Special Sections"; DWARF 5, Appendix B).
-use Rattle.std.specs.Prelude.{nat_eq, not, ◌||◌, Bool, ℕ, suc, codes, if◌then◌else◌, List, [], ◌∷◌}
-use Rattle.std.specs.List.{starts_with}
+use Rattle.std.specs.Prelude.{ℕ, suc, codes, if◌then◌else◌, List, [], ◌∷◌}
 use Rattle.dw_base.specs.Elf.{section_count, section_name, contents_of}
 use Rattle.dw_base.specs.Lists.{tabulate}
 use Rattle.dw_base.specs.Texts.{is_in, same_text}
@@ -36,17 +35,6 @@ debug_link = codes ".gnu_debuglink"
 -- the note with the build-id
 abbrev pub note_build_id : List ℕ
 note_build_id = codes ".note.gnu.build-id"
-
--- a section whose bytes are read as units, or for them
-abbrev pub is_read_name : List ℕ → Bool
-is_read_name name = same_text name debug_info || same_text name debug_abbrev || same_text name debug_str
-
--- a name that a section may have: of those that begin with .debug_ the three, none that begins with .zdebug_, and not .gnu_debugaltlink
-abbrev pub is_first_name : List ℕ → Bool
-is_first_name name =
-    if starts_with nat_eq name debug_prefix
-    then same_text name debug_info || same_text name debug_abbrev || same_text name debug_str
-    else not (starts_with nat_eq name zdebug_prefix || same_text name debug_altlink)
 
 -- the names of the sections, in order
 unfoldable pub names_of : List ℕ → List (List ℕ)

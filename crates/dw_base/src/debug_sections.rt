@@ -8,6 +8,7 @@
 
 ghost use Rattle.std.specs.Prelude.{◌≡◌, ◌<◌, ◌≤◌, ◌↔◌, IsTrue, map, length};
 ghost use Rattle.dw_base.specs.DebugSections.{debug_section, is_listed, listed_number, name_of, row_of, section_in};
+ghost use Rattle.dw_base.specs.RelocationSectionFails.{moves};
 ghost use Rattle.dw_base.specs.SectionNames.{index_in};
 
 /// A section of debug data whose bytes are read.
@@ -175,27 +176,13 @@ pub fn listed_number(name: &[u8]) -> usize
     READ_SECTIONS.len() + index_in(&CARRIED, name)
 }
 
-#[cfg(test)]
-mod tests {
-    use super::*;
-
-    /// Names of DWARF 5, Appendix B, one of GDB, and names that are none of them.
-    const NAMES: [(&[u8], Option<DebugSection>, bool); 8] = [
-        (b".debug_info", Some(DebugSection::Info), true),
-        (b".debug_str_offsets", Some(DebugSection::StrOffsets), true),
-        (b".debug_names", Some(DebugSection::Names), true),
-        (b".debug_rnglists", None, true),
-        (b".debug_gdb_scripts", None, true),
-        (b".debug_str_offsets.dwo", None, false),
-        (b".debug_inf", None, false),
-        (b".text", None, false),
-    ];
-
-    #[test]
-    fn a_name_is_that_of_a_listed_section(rt: HostRuntime) {
-        for (name, section, listed) in NAMES {
-            assert_eq!(rt; DebugSection::called(name), section);
-            assert_eq!(rt; listed_number(name) < LISTED_COUNT, listed);
-        }
+/// The places of a section change in an edited file, by which one it is that is read: those of the tables of texts, and of the
+/// line tables.
+pub fn moves(kind: Option<DebugSection>) -> bool
+    ensures { result ≡ moves kind }
+{
+    match kind {
+        Some(DebugSection::Str | DebugSection::LineStr | DebugSection::Line) => true,
+        _ => false,
     }
 }

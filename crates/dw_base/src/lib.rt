@@ -39,7 +39,9 @@ mod units;
 mod values;
 mod view_fields;
 
-pub use debug_sections::{DebugRow, DebugSection, LISTED_COUNT, READ_SECTIONS, listed_number};
+pub use debug_sections::{
+    DebugRow, DebugSection, LISTED_COUNT, READ_SECTIONS, listed_number, moves,
+};
 pub use fault::{Fault, Kind, NoMemory, Refusal};
 pub use lebs::{FIRST_RESERVED_LENGTH, initial_length_at, sleb_at, uleb_at};
 pub use limits::{FILE_LIMIT, OUTPUT_LIMIT};
@@ -47,12 +49,12 @@ pub use line_rows::{LineParams, Operation, Row};
 pub use line_tables::{FilePlace, LineHeader, TextPlace};
 pub use macro_units::{MacroEvent, MacroHeader, MacroOperation, MacroUnit};
 pub use name_tables::{NameCounts, NameTable};
-pub use numbers::{number_at, number_in, put_number};
+pub use numbers::{fits_size, number_at, number_in, push_long, push_word, put_number};
 pub use records::{FileKind, Section, Segment};
 pub use relocations::{AbsoluteTypes, Reloc, Symbol};
 pub use shared::{Class, Order, Params, Width};
 pub use string_offsets::Contribution;
-pub use texts::nul_end;
+pub use texts::{nul_end, nul_in};
 pub use units::{Scanned, UnitHeader};
-pub use values::{Spec, Value, ValueClass};
+pub use values::{Spec, Value, ValueClass, is_base, is_path};
 pub use view_fields::Field;

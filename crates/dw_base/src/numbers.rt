@@ -1,12 +1,13 @@
 //! Numbers of 1 to 8 bytes at a place, in either byte order (gABI ch. 4 "Data Representation").
 
-ghost use Rattle.std.specs.Prelude.{◌≡◌, ◌<◌, ◌≤◌, ◌+◌, ◌^◌, ◌↔◌, length, IsTrue, IfSome, OnSome};
+ghost use Rattle.std.specs.Prelude.{◌≡◌, ◌<◌, ◌≤◌, ◌+◌, ◌++◌, ◌^◌, ◌↔◌, length, IsTrue, IfSome, OnOk, OnSome};
 ghost use Rattle.std.specs.Bool.{OnTrue, OnFalse};
-ghost use Rattle.dw_base.specs.Numbers.{number_at, number_of, spelled, with_number, NumberFits};
+ghost use Rattle.dw_base.specs.Numbers.{number_at, number_bytes, number_of, spelled, with_number, NumberFits};
 ghost use Rattle.dw_base.specs.declared.shared.Order.TheVariants.{Little, Big};
 
 use crate::shared::Order;
 use byteorder::{BigEndian, ByteOrder, LittleEndian};
+use std::alloc::AllocError;
 
 /// The number that the `size` bytes from `at` spell, `at` in bytes from the front.
 /// `None` exactly where these bytes pass the end.
@@ -105,7 +106,7 @@ pub fn put_number(order: Order, bytes: &mut [u8], at: u64, size: u8, value: u64)
 }
 
 /// Whether a number fits `size` bytes.
-fn fits_size(value: u64, size: u8) -> bool
+pub fn fits_size(value: u64, size: u8) -> bool
     requires some { 0 < size }
     requires wide { size ≤ 8 }
     ensures fits { IsTrue result ↔ (value < 256 ^ size) }
@@ -122,31 +123,22 @@ fn fits_size(value: u64, size: u8) -> bool
     }
 }
 
-#[cfg(test)]
-mod tests {
-    use super::*;
-
-    /// gABI ch. 4, figure "Data Encoding".
-    #[test]
-    fn numbers_are_those_of_the_standard(rt: HostRuntime) {
-        let bytes = [0x01, 0x02, 0x03, 0x04];
-        assert_eq!(rt; number_at(Order::Big, &bytes, 0, 4), Some(0x0102_0304));
-        assert_eq!(rt; number_at(Order::Little, &bytes, 0, 4), Some(0x0403_0201));
-        assert_eq!(rt; number_at(Order::Big, &bytes, 1, 3), Some(0x02_0304));
-        assert_eq!(rt; number_at(Order::Big, &bytes, 1, 4), None);
-        assert_eq!(rt; number_at(Order::Big, &bytes, 5, 1), None);
-        assert_eq!(rt; number_in(Order::Little, &bytes, 2, 2), 0x0403);
+/// Appends the four bytes that spell a number, or its lowest four bytes where it has more.
+pub fn push_word(out: &mut Vec<u8>, order: Order, value: u64) -> Result<(), AllocError>
+    ensures bytes { OnOk result (out.new.items ≡ out.old.items ++ number_bytes order 4 value) }
+{
+    match order {
+        Order::Little => out.extend_from_slice(&value.to_le_bytes()[..4]),
+        Order::Big => out.extend_from_slice(&value.to_be_bytes()[4..]),
     }
+}
 
-    #[test]
-    fn a_number_is_put_only_where_place_and_value_fit(rt: HostRuntime) {
-        let mut bytes = [0xaa, 0xaa, 0xaa, 0xaa, 0xaa];
-        assert!(rt; !put_number(Order::Big, &mut bytes, 2, 4, 1));
-        assert!(rt; !put_number(Order::Big, &mut bytes, 1, 2, 0x1_0000));
-        assert_eq!(rt; bytes, [0xaa, 0xaa, 0xaa, 0xaa, 0xaa]);
-        assert!(rt; put_number(Order::Big, &mut bytes, 1, 2, 0xfffe));
-        assert_eq!(rt; bytes, [0xaa, 0xff, 0xfe, 0xaa, 0xaa]);
-        assert!(rt; put_number(Order::Little, &mut bytes, 2, 3, 1));
-        assert_eq!(rt; bytes, [0xaa, 0xff, 0x01, 0x00, 0x00]);
+/// Appends the eight bytes that spell a number.
+pub fn push_long(out: &mut Vec<u8>, order: Order, value: u64) -> Result<(), AllocError>
+    ensures bytes { OnOk result (out.new.items ≡ out.old.items ++ number_bytes order 8 value) }
+{
+    match order {
+        Order::Little => out.extend_from_slice(&value.to_le_bytes()),
+        Order::Big => out.extend_from_slice(&value.to_be_bytes()),
     }
 }

@@ -1,6 +1,14 @@
 //! Where the texts of a string table end (gABI ch. 4 "String Table").
 
+ghost use Rattle.std.specs.Prelude.{◌≡◌, ◌==◌, position};
 ghost use Rattle.dw_base.specs.Texts.{IsNulEnd};
+
+/// Where the first NUL stands.
+pub fn nul_in(bytes: &[u8]) -> Option<usize>
+    ensures value { result ≡ position (λ b. b == 0) bytes.now }
+{
+    bytes.iter().position(|b| *b == 0)
+}
 
 /// The place behind the last NUL of a string table, 0 where there is none, in bytes from its start: a
 /// text begins at each place before it, and at no other.

@@ -1,6 +1,15 @@
 //! What an attribute has: its name and form, as an abbreviation declares them, and its value, as a
 //! form reads it (DWARF 5, 7.5.3 to 7.5.6).
 
+ghost use Rattle.std.specs.Prelude.{◌≡◌};
+ghost use Rattle.dw_base.specs.Roles.{is_path};
+ghost use Rattle.dw_base.specs.TextIndexes.{is_base};
+
+use crate::dwarf_numbers::{
+    DW_AT_comp_dir, DW_AT_name, DW_AT_str_offsets_base, DW_TAG_compile_unit, DW_TAG_partial_unit,
+    DW_TAG_type_unit,
+};
+
 /// An attribute of an abbreviation (DWARF 5, 7.5.3).
 #[derive(Clone, Copy, Debug, PartialEq, Eq)]
 pub struct Spec {
@@ -61,4 +70,22 @@ pub struct Value {
     pub len: u64,
     /// How many bytes the whole value takes.
     pub size: u64,
+}
+
+/// An attribute that holds a path: name or comp_dir of the first entry of a unit whose tag is a unit's
+/// (DWARF 5, 3.1.1).
+pub fn is_path(number: u64, tag: u64, name: u64) -> bool
+    ensures { result ≡ is_path number tag name }
+{
+    let is_unit = tag == DW_TAG_compile_unit
+        || tag == DW_TAG_partial_unit
+        || tag == DW_TAG_type_unit;
+    number == 0 && is_unit && (name == DW_AT_name || name == DW_AT_comp_dir)
+}
+
+/// An attribute that says the base of its unit's texts by index (DWARF 5, 3.1.1).
+pub fn is_base(number: u64, name: u64) -> bool
+    ensures { result ≡ is_base number name }
+{
+    number == 0 && name == DW_AT_str_offsets_base
 }

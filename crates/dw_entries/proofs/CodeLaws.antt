@@ -1,29 +1,16 @@
 -- What was read of an entry's code: its abbreviation's number in the table, and where its values begin.
-use Rattle.std.proofs.Common.{Bool, true, false, ◌≡◌, ℕ, ◌+◌, ◌^◌, ◌<◌, ◌==◌, if◌then◌else◌, List, [], ◌∷◌, length, slice_index, get_or, Option, Some, None, refl, sym, ap, ◌∙◌, subst, arith}
-use Rattle.std.proofs.lemmas.Bool.{eqb-true, lt-ltb}
+use Rattle.std.proofs.Common.{Bool, true, false, ◌≡◌, ℕ, ◌+◌, ◌<◌, ◌==◌, if◌then◌else◌, List, [], ◌∷◌, length, get_or, Option, Some, refl, sym, ap, ◌∙◌, subst}
+use Rattle.std.proofs.lemmas.Bool.{eqb-true}
 use Rattle.dw_abbrev.specs.Coded.{index_of_code}
 use Rattle.dw_abbrev.proofs.CodedLaws.{get-here, get-none}
 use Rattle.dw_base.specs.AbbreviationTables.{Abbreviation, abbreviation_of}
 use Rattle.dw_base.specs.EntryScans.{SpellsValues, is_split_root, depth_behind}
-use Rattle.dw_base.specs.Lebs.{uleb_at, uleb_within}
-use Rattle.dw_base.specs.declared.units.Scanned.{Scanned}
 use Rattle.dw_base.specs.declared.units.UnitHeader.{UnitHeader}
-use Rattle.dw_base.proofs.LebLaws.{uleb-last}
 use Rattle.dw_entries.specs.CodedEntries.{GivesCode, HasCode}
 use Rattle.dw_entries.specs.Passes.{IsCode, StandsHere}
 use Rattle.dw_entries.specs.ScanStates.{GivesEntry, ScanState}
 use Rattle.dw_entries.specs.declared.scan.Coded.{Coded}
 use Rattle.dw_entries.proofs.StepLaws.{stands-here}
-
--- a code of one byte
-within-small : (n : ℕ) → n < 128 → uleb_within (Some (n, 1)) ≡ Some (n, 1)
-within-small n low = rw (lt-ltb n (2 ^ 64) (omega (arith, low))) refl
-
-pub code-short : (bytes : List ℕ) (place : ℕ) → place < length bytes → slice_index bytes place < 128 → Some (slice_index bytes place, 1) ≡ uleb_at bytes place
-unfolding uleb_at
-code-short bytes place lt low = sym (ap uleb_within (uleb-last bytes place lt low) ∙ within-small (slice_index bytes place) low)
-
-pub ruleset code_rules = (code-short)
 
 -- the abbreviation of a code has it
 found-cases : (x a : Abbreviation) (test : Bool) (code : ℕ) (o : Option Abbreviation) → (x.code == code) ≡ test → (if test then Some x else o) ≡ Some a

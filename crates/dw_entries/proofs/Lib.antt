@@ -15,3 +15,4 @@ pub mod HasUnitLaws
 pub mod CallerLaws
 pub mod SectionOrderLaws
 pub mod SectionListLaws
+pub mod TableLaws

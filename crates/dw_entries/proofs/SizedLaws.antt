@@ -1,15 +1,15 @@
 -- The values of attributes whose forms say their sizes stand one after another wherever so many bytes are left.
-use Rattle.std.proofs.Common.{◌≡◌, ℕ, ◌+◌, ◌≤◌, List, [], ◌∷◌, ◌++◌, length, Option, Some, None, refl, sym, ◌∙◌, subst, arith}
-use Rattle.std.proofs.lemmas.Bool.{le-leb}
+use Rattle.std.proofs.Common.{◌≡◌, ℕ, ◌+◌, ◌≤◌, ◌<◌, Bool, true, false, if◌then◌else◌, List, [], ◌∷◌, ◌++◌, length, Option, Some, None, option_and_then, refl, sym, ap, ◌∙◌, subst, arith}
+use Rattle.std.proofs.lemmas.Bool.{le-leb, lt-leb}
 use Rattle.std.proofs.lemmas.List.{append_assoc, append-nil}
 use Rattle.dw_base.specs.EntryScans.{SpellsValues, no_values, more_values}
 use Rattle.dw_base.specs.Forms.{kind_in}
 use Rattle.dw_base.specs.Values.{value_at}
 use Rattle.dw_base.specs.declared.shared.Params.{Params}
 use Rattle.dw_base.specs.declared.values.Spec.{Spec}
-use Rattle.dw_entries.specs.Passes.{HasSize}
+use Rattle.dw_entries.specs.Passes.{plain_len, HasSize}
 use Rattle.dw_entries.proofs.ValueLaws.{size-of}
-use Rattle.dw_forms.specs.Fixed.{added, fixed_size, values_size}
+use Rattle.dw_forms.specs.Fixed.{added, fixed_size, is_plain_form, plain_size, values_size}
 use Rattle.dw_forms.specs.Reads.{room_size}
 use Rattle.dw_forms.proofs.FixedLaws.{fixed-is}
 
@@ -29,8 +29,11 @@ sum-of (Some m) (Some k) n e = record { one = m; others = k; one_is = refl; othe
 some-room : (bytes : List ℕ) (place n : ℕ) → place + n ≤ length bytes → room_size bytes place n ≡ Some n
 some-room bytes place n le = rw (le-leb (place + n) (length bytes) le) refl
 
+no-room : (bytes : List ℕ) (place n : ℕ) → length bytes < place + n → room_size bytes place n ≡ None
+no-room bytes place n lt = rw (lt-leb (place + n) (length bytes) lt) refl
+
 -- one value of a known size
-pub sized-value : (params : Params) (x : Spec) (bytes : List ℕ) (place n : ℕ) → fixed_size (kind_in params x.form) ≡ Some n → place + n ≤ length bytes
+sized-value : (params : Params) (x : Spec) (bytes : List ℕ) (place n : ℕ) → fixed_size (kind_in params x.form) ≡ Some n → place + n ≤ length bytes
     → HasSize params x bytes place n
 sized-value params x bytes place n e le =
     let fixed = fixed-is params x n e in
@@ -61,4 +64,25 @@ sized-values params bytes from n specs e le = values-from params bytes from from
 
 pub ruleset sized_rules = (sized-values)
 
-pub ruleset one_rules = (sized-value)
+-- a form of most values says the size of its values
+plain-by : (params : Params) (form n : ℕ) (b : Bool) → Some n ≡ (if b then fixed_size (kind_in params form) else None) → fixed_size (kind_in params form) ≡ Some n
+plain-by params form n true e = sym e
+plain-by params form n false e = absurd cc
+
+pub plain-value : (params : Params) (x : Spec) (bytes : List ℕ) (place n : ℕ) → Some n ≡ plain_size params x.form → place + n ≤ length bytes
+    → HasSize params x bytes place n
+plain-value params x bytes place n e le = sized-value params x bytes place n (plain-by params x.form n (is_plain_form x.form) e) le
+
+-- what is given of it: nothing of another form, and nothing where it would pass the bytes
+pub plain-other : (params : Params) (x : Spec) (bytes : List ℕ) (place : ℕ) → None ≡ plain_size params x.form → None ≡ plain_len params x bytes place
+plain-other params x bytes place e = ap (option_and_then (room_size bytes place)) e
+
+pub plain-passes : (params : Params) (x : Spec) (bytes : List ℕ) (place n : ℕ) → Some n ≡ plain_size params x.form → length bytes < place + n
+    → None ≡ plain_len params x bytes place
+plain-passes params x bytes place n e lt = sym (no-room bytes place n lt) ∙ ap (option_and_then (room_size bytes place)) e
+
+pub plain-given : (params : Params) (x : Spec) (bytes : List ℕ) (place n : ℕ) → Some n ≡ plain_size params x.form → place + n ≤ length bytes
+    → Some n ≡ plain_len params x bytes place
+plain-given params x bytes place n e le = sym (some-room bytes place n le) ∙ ap (option_and_then (room_size bytes place)) e
+
+pub ruleset plain_rules = (plain-value, plain-other, plain-passes, plain-given)

@@ -1,11 +1,10 @@
 -- The unit section of a number is a section of the view: its name, its bytes, and where it is.
-use Rattle.std.proofs.Common.{Bool, true, false, ◌≡◌, ℕ, zero, suc, ◌+◌, ◌-◌, ◌≤◌, ◌<◌, ◌==◌, ◌&&◌, if◌then◌else◌, List, [], ◌∷◌, ◌++◌, length, drop, Option, Some, None, refl, sym, ap, ◌∙◌, arith}
+use Rattle.std.proofs.Common.{Bool, true, false, ◌≡◌, ℕ, zero, suc, ◌+◌, ◌≤◌, ◌<◌, ◌==◌, if◌then◌else◌, List, [], ◌∷◌, ◌++◌, length, drop, Option, Some, None, refl, sym, ap, ◌∙◌, arith}
 use Rattle.std.specs.Prelude.{is_some}
 use Rattle.std.proofs.lemmas.Bool.{eqb-true}
 use Rattle.std.proofs.lemmas.List.{drop-drop}
 use Rattle.dw_base.specs.DebugSections.{debug_section}
-use Rattle.dw_base.specs.FileViews.{View, ViewSection, cells_of, first_filled, kind_at, section_after}
-use Rattle.dw_base.specs.Texts.{same_text}
+use Rattle.dw_base.specs.FileViews.{View, ViewSection, cells_of, kind_at}
 use Rattle.dw_base.specs.UnitHeaders.{UnitSection, SectionKind, in_info, in_types}
 use Rattle.dw_base.specs.ViewData.{unit_kind, unit_section, unit_sections_from, unit_sections}
 use Rattle.dw_base.specs.declared.debug_sections.DebugSection.{DebugSection}
@@ -132,18 +131,6 @@ of-view v n z e =
 
 pub is-of-view : (v : View) (n : ℕ) → IsUnitSection v n → IsOfView v n (unit_section_at v n)
 is-of-view v n e = of-view v n (unit_section_at v n) e
-
--- Which of the two kinds it is: the section of types is the first of that name from its number on.
-after-here : (v : View) (n : ℕ) (z : UnitSection) (name : List ℕ) → (f : FoundSection v n z)
-    → section_after v name (n - 1) ≡ (if f.section.has_bytes && same_text f.section.name name then Some n else section_after v name n)
-unfolding section_after
-after-here v n z name f =
-    let above : 1 ≤ n = f.above in
-    let number : suc (n - 1) ≡ n = omega (arith, above) in
-    let one : suc n ≡ n + 1 = omega arith in
-    let tail : drop (suc n) v.sections ≡ f.rest = ap (λ (k : ℕ). drop k v.sections) one ∙ sym (drop-drop 1 n v.sections) ∙ ap (drop 1) f.there in
-    ap (λ (k : ℕ). first_filled name k (drop k v.sections)) number ∙ ap (first_filled name n) f.there
-    ∙ ap (λ (ss : List ViewSection). if f.section.has_bytes && same_text f.section.name name then Some n else first_filled name (suc n) ss) (sym tail)
 
 types-only : (o : Option DebugSection) → unit_kind o ≡ Some in_types → o ≡ Some Types
 types-only None e = absurd cc

@@ -1,5 +1,5 @@
 -- The parts of a step through a unit's entries (DWARF 5, 7.5.2 and 7.5.3): codes of 0, and the code behind them.
-use Rattle.std.specs.Prelude.{false, ◌≡◌, ◌≢◌, ℕ, ◌+◌, ◌-◌, List, [], ◌∷◌, ◌++◌, length, Some}
+use Rattle.std.specs.Prelude.{false, ◌≡◌, ◌≢◌, ℕ, ◌+◌, ◌-◌, List, [], ◌∷◌, ◌++◌, length, Option, Some, option_and_then}
 use Rattle.dw_base.specs.AbbreviationTables.{Abbreviation}
 use Rattle.dw_base.specs.EntryScans.{is_split_root, IsEntry, depth_behind, scanned, Scans, AreEntries, EntryFails}
 use Rattle.dw_base.specs.Lebs.{uleb_at}
@@ -10,6 +10,8 @@ use Rattle.dw_base.specs.declared.units.Scanned.{Scanned}
 use Rattle.dw_base.specs.declared.units.UnitHeader.{UnitHeader}
 use Rattle.dw_base.specs.declared.values.Spec.{Spec}
 use Rattle.dw_base.specs.declared.values.Value.{Value}
+use Rattle.dw_forms.specs.Fixed.{plain_size}
+use Rattle.dw_forms.specs.Reads.{room_size}
 
 -- codes of 0 stand one after another from a place on, where so many lists are open, up to another place: each closes a list,
 -- where one is open
@@ -28,6 +30,11 @@ pub record HasSize (params : Params) (spec : Spec) (bytes : List ℕ) (place siz
   pub value : Value
   pub is : value_at params spec bytes place ≡ Some value
   pub size_is : value.size ≡ size
+
+-- how many bytes the value of an attribute takes at a place, where its form is one of most values; none where it is another, and
+-- where it would pass the bytes
+abbrev pub plain_len : Params → Spec → List ℕ → ℕ → Option ℕ
+plain_len params spec bytes place = option_and_then (room_size bytes place) (plain_size params spec.form)
 
 -- an entry stands at a place, with so many lists open there and behind it, and so many entries before it
 pub record StandsHere (h : UnitHeader) (table : List Abbreviation) (bytes : List ℕ) (number : ℕ) (e : Scanned) (depth : ℕ) : Type 0 where

@@ -5,7 +5,6 @@
 
 ghost use Rattle.std.specs.Prelude.{◌≡◌, ◌≤◌, ◌<◌, ◌+◌, length, drop, IfOk, IfErr};
 ghost use Rattle.dw_base.specs.Forms.{width_size};
-ghost use Rattle.dw_base.specs.Refusals.{at};
 ghost use Rattle.dw_base.specs.UnitFails.{bytes_from, HeaderFails};
 ghost use Rattle.dw_base.specs.UnitHeaders.{unit_type};
 ghost use Rattle.dw_entries.specs.Fronts.{HasFront, IsOfView};
@@ -29,17 +28,6 @@ pub(crate) struct Front {
     pub kind: u8,
     /// Where its further fields stand, from its start.
     pub places: Places,
-}
-
-/// A refusal of the unit at a place of a section.
-pub(crate) fn refused(kind: Kind, section: u32, start: u64) -> Refusal
-    ensures { result ≡ at kind section start }
-{
-    Refusal {
-        kind,
-        section,
-        offset: start,
-    }
 }
 
 /// The bytes from a place on.
@@ -83,29 +71,29 @@ pub(crate) fn front_at(
 {
     let order = view.order();
     let Some((width, size, at)) = initial_length_at(order, rest, 0) else {
-        return Err(refused(Kind::Unit, section, start));
+        return Err(Refusal::at(Kind::Unit, section, start));
     };
     let left = rest.len() as u64 - at;
     if left < 3 {
-        return Err(refused(Kind::Unit, section, start));
+        return Err(Refusal::at(Kind::Unit, section, start));
     }
     if left < size {
-        return Err(refused(Kind::Unit, section, start));
+        return Err(Refusal::at(Kind::Unit, section, start));
     }
     let version = number_in(order, rest, at, 2);
     if !is_version(kind, version) {
-        return Err(refused(Kind::Unit, section, start));
+        return Err(Refusal::at(Kind::Unit, section, start));
     }
     let unit_type = unit_type_at(order, kind, rest, version, at);
     if !is_unit_type(unit_type) {
-        return Err(refused(Kind::Unit, section, start));
+        return Err(Refusal::at(Kind::Unit, section, start));
     }
     if is_split_type(unit_type) {
-        return Err(refused(Kind::SplitDwarf, section, start));
+        return Err(Refusal::at(Kind::SplitDwarf, section, start));
     }
     let places = places_of(width, version, at);
     if at + size < places.behind + further_size(width, unit_type) {
-        return Err(refused(Kind::Unit, section, start));
+        return Err(Refusal::at(Kind::Unit, section, start));
     }
     Ok(Front {
         width,

@@ -17,8 +17,8 @@ ghost use Rattle.dw_entries.specs.Fronts.{HasFront, IsOfView};
 ghost use Rattle.dw_entries.specs.HeaderRows.{OffsetRead, UnitRefuses};
 ghost use Rattle.dw_entries.specs.ViewUnits.{as_kind, unit_base, unit_section_at};
 
-use crate::front::{Front, bytes_behind, front_at, refused};
-use crate::places::{further_size, width_size};
+use crate::front::{Front, bytes_behind, front_at};
+use crate::places::further_size;
 use crate::unit_kinds::{UnitsOf, is_address_size};
 use dw_base::dwarf_numbers::DW_UT_type;
 use dw_base::{DebugSection, Field, Kind, Order, Params, Refusal, UnitHeader, Width, number_in};
@@ -84,7 +84,7 @@ fn type_fields(order: Order, rest: &[u8], width: Width, kind: u64, at: u64) -> (
         return (0, 0);
     }
     let signature = number_in(order, rest, at, 8);
-    let type_offset = number_in(order, rest, at + 8, width_size(width));
+    let type_offset = number_in(order, rest, at + 8, width.offset_size());
     (signature, type_offset)
 }
 
@@ -116,7 +116,7 @@ fn header_of(
     let places = front.places;
     let width = front.width;
     let kind = u64::from(front.kind);
-    let offset = match abbrevs_at(view, section, start, places.abbrevs, width_size(width)) {
+    let offset = match abbrevs_at(view, section, start, places.abbrevs, width.offset_size()) {
         Ok(offset) => offset,
         Err(refusal) => return Err(refusal),
     };
@@ -164,7 +164,7 @@ pub(crate) fn unit_at(
     };
     let address = number_in(view.order(), rest, front.places.address, 1);
     if !is_address_size(address) {
-        return Err(refused(Kind::Unit, section, start));
+        return Err(Refusal::at(Kind::Unit, section, start));
     }
     match header_of(view, section, start, rest, &front, address as u8) {
         Ok(header) => Ok(header),

@@ -36,7 +36,7 @@ pub(crate) fn behind_nulls(bytes: &[u8], from: u64, depth: u32) -> Found
     let mut place = from;
     let mut lists = depth;
     'nulls: while place < bytes.len() as u64 {
-        let Some((code, size)) = code_at(bytes, place) else {
+        let Some((code, size)) = uleb_at(bytes, place) else {
             return found_at(place, lists, None);
         };
         if code != 0 {
@@ -46,21 +46,6 @@ pub(crate) fn behind_nulls(bytes: &[u8], from: u64, depth: u32) -> Found
         lists = closed(lists);
     }
     found_at(place, lists, None)
-}
-
-/// The code at a place: most have one byte.
-#[tactic(auto, using(crate::proofs::CodeLaws::code_rules))]
-fn code_at(bytes: &[u8], place: u64) -> Option<(u64, u64)>
-    requires inside { place < length bytes.now }
-    ensures value { result ≡ uleb_at bytes.now place }
-    ensures some { IfSome result (λ read. 0 < read.1) }
-    ensures inside { IfSome result (λ read. place + read.1 ≤ length bytes.now) }
-{
-    let first = bytes[place as usize];
-    if first < 128 {
-        return Some((u64::from(first), 1));
-    }
-    uleb_at(bytes, place)
 }
 
 /// What was found.

@@ -1,23 +1,11 @@
 //! Where the fields of a unit's header stand (DWARF 5, 7.5.1; for versions 2 to 4 the standards' own).
 
-ghost use Rattle.std.specs.Prelude.{◌≡◌, ◌≤◌, ◌<◌, ◌+◌, ◌^◌};
+ghost use Rattle.std.specs.Prelude.{◌≡◌, ◌≤◌, ◌<◌, ◌+◌};
 ghost use Rattle.dw_base.specs.Forms.{width_size};
 ghost use Rattle.dw_base.specs.UnitHeaders.{further_size, header_places};
 
 use dw_base::Width;
 use dw_base::dwarf_numbers::{DW_UT_skeleton, DW_UT_split_compile, DW_UT_split_type, DW_UT_type};
-
-/// How many bytes an offset has.
-pub(crate) fn width_size(width: Width) -> u8
-    ensures size { result ≡ width_size width }
-    ensures some { 0 < result }
-    ensures wide { result ≤ 8 }
-{
-    match width {
-        Width::W32 => 4,
-        Width::W64 => 8,
-    }
-}
 
 /// How many bytes follow the fields that each header has.
 pub(crate) fn further_size(width: Width, kind: u64) -> u64
@@ -25,7 +13,7 @@ pub(crate) fn further_size(width: Width, kind: u64) -> u64
     ensures small { result ≤ 16 }
 {
     if kind == DW_UT_type || kind == DW_UT_split_type {
-        return 8 + u64::from(width_size(width));
+        return 8 + u64::from(width.offset_size());
     }
     if kind == DW_UT_skeleton || kind == DW_UT_split_compile {
         return 8;
@@ -55,7 +43,7 @@ pub(crate) fn places_of(width: Width, version: u64, at: u64) -> Places
     ensures further { at < result.behind }
     ensures near { result.behind ≤ 24 }
 {
-    let size = u64::from(width_size(width));
+    let size = u64::from(width.offset_size());
     if version == 5 {
         return Places {
             address: at + 3,

@@ -3,7 +3,7 @@
 //! This file promises: what a step gives is the next entry, a refusal for which a reason holds, or that the
 //! entries so far are those of the whole unit (`Gives` in `specs/ScanStates.antt`). After a refusal the
 //! pass is over. With each entry it can give what it read of its code (`HasCode` in `specs/CodedEntries.antt`), so that
-//! who looks at the values reads no code and looks up no abbreviation again.
+//! whoever looks at the values reads no code and looks up no abbreviation again.
 
 ghost use Rattle.std.specs.Prelude.{◌≡◌, []};
 ghost use Rattle.std.specs.Iterator.{at_most};

@@ -73,11 +73,7 @@ fn is_split_root(number: u64, abbrev: &Abbrev) -> bool
 fn refused(kind: Kind, unit: &UnitHeader, place: u64) -> Refusal
     ensures { result ≡ at kind unit.now.section place }
 {
-    Refusal {
-        kind,
-        section: unit.section,
-        offset: place,
-    }
+    Refusal::at(kind, unit.section, place)
 }
 
 /// How many lists are open behind an entry.

@@ -1,5 +1,5 @@
 -- Laws of a pass over the fields of entries, while they are scanned.
-use Rattle.std.proofs.Common.{◌≡◌, ℕ, ◌+◌, ◌<◌, ◌≤◌, List, [], ◌∷◌, ◌++◌, length, drop, Option, Some, None, Result, Ok, Err, refl, sym, ap, ◌∙◌, subst, arith}
+use Rattle.std.proofs.Common.{◌≡◌, ℕ, ◌+◌, ◌<◌, ◌≤◌, List, [], ◌∷◌, ◌++◌, length, drop, Option, Some, None, Result, Ok, refl, sym, ap, ◌∙◌, subst, arith}
 use Rattle.std.specs.Option.{IfSome}
 use Rattle.std.proofs.lemmas.List.{length-append}
 use Rattle.dw_base.specs.AbbreviationTables.{Abbreviation, abbreviation_of}
@@ -155,9 +155,6 @@ scan-starts g h table bytes s p is stands =
 -- what a step gave
 pub gave-entry : (s u : ScanState) (r : Result Scanned Refusal) (e : Scanned) → Gives s (Some r) u → r ≡ Ok e → GivesEntry s e u
 gave-entry s u r e g is = subst (λ (x : Result Scanned Refusal). Gives s (Some x) u) is g
-
-pub gave-refusal : (s u : ScanState) (x : Result Scanned Refusal) (r : Refusal) → Gives s (Some x) u → x ≡ Err r → GivesRefusal s r u
-gave-refusal s u x r g is = subst (λ (y : Result Scanned Refusal). Gives s (Some y) u) is g
 
 last-of : (g : Ground) (h : UnitHeader) (table : List Abbreviation) (bytes : List ℕ) (s u : ScanState) (number : ℕ) (e : Scanned) (p q : Result Marks Refusal)
     → (so : EntriesSo g h table bytes s number p q) → GivesEntry s e u → LastEntry h table bytes so.items e

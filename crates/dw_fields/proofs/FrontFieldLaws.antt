@@ -114,5 +114,3 @@ front-inside base z start place size whole h u at_place sized le =
     let f = front-field base z start h u in
     let room = f.room in
     omega (arith, at_place, sized, room, le)
-
-pub ruleset front_rules = (front-goes, front-inside)

@@ -1,19 +1,17 @@
 -- Laws of a pass over the units of a section, with the tables of abbreviations that they share.
-use Rattle.std.proofs.Common.{Bool, true, false, ◌≡◌, ℕ, suc, ◌+◌, ◌<◌, ◌≤◌, ◌==◌, if◌then◌else◌, List, [], ◌∷◌, ◌++◌, length, take, drop, get_or, Option, Some, None, Result, refl, sym, ap, ◌∙◌, subst, arith, append_assoc, append-nil, take-suc}
+use Rattle.std.proofs.Common.{Bool, true, false, ◌≡◌, ℕ, suc, ◌+◌, ◌<◌, ◌≤◌, ◌==◌, if◌then◌else◌, List, [], ◌∷◌, ◌++◌, length, take, drop, get_or, Option, Some, Result, refl, sym, ap, ◌∙◌, subst, arith, append_assoc, append-nil, take-suc}
 use Rattle.std.proofs.lemmas.Bool.Decides.{nat_tests}
 use Rattle.std.proofs.lemmas.List.{drop_all}
 use Rattle.dw_base.specs.AbbreviationFails.{AbbreviationFails}
 use Rattle.dw_base.specs.AbbreviationTables.{Abbreviation, IsTable}
 use Rattle.dw_base.specs.DebugData.{DebugData}
-use Rattle.dw_base.specs.DebugSections.{name_of}
 use Rattle.dw_base.specs.EntryScans.{EntryFails}
 use Rattle.dw_base.specs.EntryValues.{HasUnit, bytes_up_to}
-use Rattle.dw_base.specs.FileViews.{View, section_bytes, section_named, view_cells}
+use Rattle.dw_base.specs.FileViews.{View, view_cells}
 use Rattle.dw_base.specs.Refusals.{Blames}
 use Rattle.dw_base.specs.UnitHeaders.{AreUnits, IsUnit, UnitBase, UnitSection, UnitsUpTo, more_units, no_units}
 use Rattle.dw_base.specs.UnitTables.{IsUnitTable, UnitTableFails, table_fails}
-use Rattle.dw_base.specs.ViewData.{debug_data, located, located_at, unit_sections}
-use Rattle.dw_base.specs.declared.debug_sections.DebugSection.TheVariants.{Abbrev}
+use Rattle.dw_base.specs.ViewData.{debug_data, unit_sections}
 use Rattle.dw_base.specs.declared.fault.Fault.{Fault}
 use Rattle.dw_base.specs.declared.fault.Fault.TheVariants.{NoMemory, Refused}
 use Rattle.dw_base.specs.declared.fault.Refusal.{Refusal}
@@ -45,33 +43,6 @@ one-shared d old new at own are is more = record { each = λ (o : ℕ) (t : List
     by_offset o t false test e = are.each o t e
 
 pub ruleset table_rules = (one-shared)
-
--- the table at an offset of a view
-pub table-some : (v : View) (i at : ℕ) (bytes : List ℕ) (t : List Abbreviation) → section_named v (name_of Abbrev) ≡ Some i → bytes ≡ section_bytes v i → IsTable bytes at t
-    → IsTable (debug_data v).base.abbrevs.bytes at t
-unfolding debug_data located
-table-some v i at bytes t found is h =
-    subst (λ (o : Option ℕ). IsTable (located_at v o).bytes at t) (sym found) (subst (λ (bs : List ℕ). IsTable bs at t) is h)
-
-pub table-none : (v : View) (at : ℕ) (t : List Abbreviation) → section_named v (name_of Abbrev) ≡ None → IsTable [] at t
-    → IsTable (debug_data v).base.abbrevs.bytes at t
-unfolding debug_data located
-table-none v at t found h = subst (λ (o : Option ℕ). IsTable (located_at v o).bytes at t) (sym found) h
-
-pub refused-some : (v : View) (i at : ℕ) (bytes : List ℕ) (f : Fault) → section_named v (name_of Abbrev) ≡ Some i → bytes ≡ section_bytes v i
-    → Blames (AbbreviationFails bytes i at) f → Blames (AbbreviationFails (debug_data v).base.abbrevs.bytes (debug_data v).base.abbrevs.number at) f
-unfolding debug_data located
-refused-some v i at bytes f found is h =
-    subst (λ (o : Option ℕ). Blames (AbbreviationFails (located_at v o).bytes (located_at v o).number at) f) (sym found)
-    (subst (λ (bs : List ℕ). Blames (AbbreviationFails bs i at) f) is h)
-
-pub refused-none : (v : View) (at : ℕ) (f : Fault) → section_named v (name_of Abbrev) ≡ None
-    → Blames (AbbreviationFails [] 0 at) f → Blames (AbbreviationFails (debug_data v).base.abbrevs.bytes (debug_data v).base.abbrevs.number at) f
-unfolding debug_data located
-refused-none v at f found h =
-    subst (λ (o : Option ℕ). Blames (AbbreviationFails (located_at v o).bytes (located_at v o).number at) f) (sym found) h
-
-pub ruleset read_rules = (table-some, table-none, refused-some, refused-none)
 
 -- that of a unit
 pub unit-table : (v : View) (h : UnitHeader) (shared : ℕ → Option (List Abbreviation)) (at : ℕ) (own : List Abbreviation) → h.elsewhere ≡ false → at ≡ h.abbrevs

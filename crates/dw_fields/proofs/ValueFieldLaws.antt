@@ -280,14 +280,6 @@ next-ends : (params : Params) (bytes : List ℕ) (specs : List Spec) (x : Spec) 
 next-ends params bytes specs x after i place lt is e =
     sym (ap (λ (l : List Spec). values_end params bytes l place) (front-at specs x i lt is)) ∙ e
 
-pub values-none : (params : Params) (bytes : List ℕ) (specs : List Spec) (x : Spec) (after i place : ℕ) → i < length specs → x ≡ get_or specs i x
-    → values_end params bytes (drop i specs) place ≡ Some after → value_at params x bytes place ≡ None → ⊥
-values-none params bytes specs x after i place lt is e none =
-    let own = next-ends params bytes specs x after i place lt is e in
-    let gone : end_behind (λ n. values_end params bytes (drop (i + 1) specs) n) place (value_at params x bytes place) ≡ None =
-    ap (end_behind (λ n. values_end params bytes (drop (i + 1) specs) n) place) none in
-    absurd cc
-
 pub values-more : (g : Ground) (params : Params) (bytes : List ℕ) (number tag : ℕ) (specs : List Spec) (x : Spec) (from after i place size : ℕ) (p q r : Result Marks Refusal)
     → i < length specs → x ≡ get_or specs i x → ValuesSo g params bytes number tag specs from after i place p q
     → value_size (value_at params x bytes place) ≡ Some size → Goes g place (place + size) (value_fields params bytes number tag x place) q r

@@ -47,10 +47,6 @@ pub data OneMoves (g : Ground) (from to : ℕ) : Refusal → Type 0 where
   moves : (p : ℕ) (r : Relocation) → from ≤ p → p < to → relocation_at g.cells p ≡ Some r → lies_in g.moving r.target ≡ true
       → OneMoves g from to (at RelocationKind g.number p)
 
--- no relocation begins from a place on and before another
-pub record NoneBegins (cells : List Cell) (from to : ℕ) : Type 0 where
-  pub none : (p : ℕ) → from ≤ p → p < to → relocation_at cells p ≡ None
-
 -- the next place, if it lies before another
 abbrev pub place_before : Option ℕ → ℕ → Option ℕ
 place_before None to = None

@@ -22,7 +22,6 @@ ghost use Rattle.dw_meaning.specs.RelocationFails.{LeftRelocationsFail};
 
 use crate::marks::{Marks, pass_end, pass_offset, pass_start, place_before};
 use crate::relocations::next_relocation;
-use crate::rows::width_size;
 use crate::slots::has_relocations;
 use dw_base::{DebugSection, Fault, Kind, Refusal, Width};
 use dw_lines::LineTable;
@@ -111,7 +110,7 @@ fn pass_places(
     requires small { length (section_bytes view.now section) ≤ 2 ^ 31 }
     ensures goes { Goes (ground_of view.now section) start behind (offsets_at width places.now) pass result }
 {
-    let size = width_size(width);
+    let size = width.offset_size();
     let mut now = pass;
     for place in places {
         now = pass_offset(view, section, now, *place, size);

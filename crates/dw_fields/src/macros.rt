@@ -2,9 +2,8 @@
 //!
 //! Read first: `specs/MacroFields.antt`.
 
-ghost use Rattle.std.specs.Prelude.{[], ◌≡◌, ◌+◌, ◌<◌, ◌≤◌, ◌^◌, true, is_some, length, IfErr, OnOk};
+ghost use Rattle.std.specs.Prelude.{◌≡◌, ◌<◌, ◌≤◌, ◌^◌, true, is_some, length, IfErr, OnOk};
 ghost use Rattle.dw_base.specs.FileViews.{kind_at, section_bytes, view_cells};
-ghost use Rattle.dw_base.specs.Forms.{width_size};
 ghost use Rattle.dw_base.specs.MacroPieces.{at_operation, at_unit};
 ghost use Rattle.dw_base.specs.MacroUnits.{AreMacroUnits, is_end};
 ghost use Rattle.dw_base.specs.RelocationRows.{moving_sections};
@@ -12,7 +11,6 @@ ghost use Rattle.dw_fields.specs.FieldWalks.{StandsAt, ground_of};
 ghost use Rattle.dw_fields.specs.MacroFields.{FieldGoes, FieldNext, MacrosFail, MacrosHold, OperationsLeft, PiecesPassed, UnitNext, UnitsLeft, line_place, more_at, operation_field};
 
 use crate::marks::{Marks, pass_end, pass_offset, pass_start};
-use crate::rows::width_size;
 use crate::slots::has_relocations;
 use dw_base::{MacroOperation, MacroUnit, Refusal, Width};
 use dw_macros::operation_at;
@@ -90,7 +88,7 @@ fn pass_field(
     ensures goes { FieldGoes (ground_of view.now section) width field pass result }
 {
     match field {
-        Some(place) => pass_offset(view, section, pass, place, width_size(width)),
+        Some(place) => pass_offset(view, section, pass, place, width.offset_size()),
         None => pass,
     }
 }

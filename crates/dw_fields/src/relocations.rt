@@ -4,11 +4,10 @@ ghost use Rattle.std.specs.Prelude.{◌≡◌, ◌<◌, ◌^◌, true, is_some, 
 ghost use Rattle.dw_base.specs.FileViews.{kind_at, section_bytes, view_cells};
 ghost use Rattle.dw_base.specs.RelocationFields.{relocation_at};
 ghost use Rattle.dw_base.specs.RelocationRows.{lies_in, moving_sections};
-ghost use Rattle.dw_base.specs.RelocationSectionFails.{moves};
 ghost use Rattle.dw_base.specs.TextIndexes.{holds_number};
 ghost use Rattle.dw_fields.specs.FieldWalks.{HasNone, IsNext, moves_to};
 
-use dw_base::DebugSection;
+use dw_base::moves;
 use dw_view::View;
 
 /// The first place from one on at which a relocation begins, in the section of a number that is read. None exactly where none does.
@@ -22,19 +21,7 @@ pub(crate) fn next_relocation(view: &View, section: u32, from: u64) -> Option<u6
     view.next_relocation(section, from)
 }
 
-/// The places of a section change, by which one it is that is read: those of the tables of texts, and of the line tables.
-fn moves(kind: Option<DebugSection>) -> bool
-    ensures { result ≡ moves kind }
-{
-    match kind {
-        Some(DebugSection::Str) => true,
-        Some(DebugSection::LineStr) => true,
-        Some(DebugSection::Line) => true,
-        _ => false,
-    }
-}
-
-/// The same of the section of a number; not of a number that no section has.
+/// The places of the section of a number change; not of a number that no section has.
 #[tactic(auto, using(crate::proofs::RelocationLaws::section_rules))]
 fn section_moves(view: &View, section: u32) -> bool
     ensures { result ≡ holds_number (moving_sections view.now) section }

@@ -13,18 +13,6 @@ use crate::marks::{Marks, pass_offset};
 use dw_base::{Contribution, NameTable, Refusal, Width};
 use dw_view::View;
 
-/// How many bytes an offset has (DWARF 5, 7.4).
-pub(crate) fn width_size(width: Width) -> u8
-    ensures size { result ≡ width_size width }
-    ensures some { 0 < result }
-    ensures few { result ≤ 8 }
-{
-    match width {
-        Width::W32 => 4,
-        Width::W64 => 8,
-    }
-}
-
 /// The place of the offset of a number.
 #[tactic(auto, using(crate::proofs::RowLaws::place_rules))]
 fn place_in(start: u64, width: Width, i: u64, count: u64) -> u64
@@ -56,7 +44,7 @@ pub(crate) fn pass_row(
     requires small { length (section_bytes view.now section) ≤ 2 ^ 31 }
     ensures goes { Goes (ground_of view.now section) start (start + count * width_size width) (row_fields start width count) pass result }
 {
-    let size = width_size(width);
+    let size = width.offset_size();
     let mut now = pass;
     for i in 0..count {
         let place = place_in(start, width, i, count);

@@ -5,7 +5,6 @@
 ghost use Rattle.std.specs.Prelude.{◌≡◌, ◌≤◌, ◌^◌, true, is_some, nat_eq, length, IfErr, IfOk, OnOk};
 ghost use Rattle.std.specs.HashMap.{get};
 ghost use Rattle.dw_base.specs.AbbreviationFails.{AbbreviationFails};
-ghost use Rattle.dw_base.specs.AbbreviationTables.{IsTable};
 ghost use Rattle.dw_base.specs.EntryScans.{EntryFails};
 ghost use Rattle.dw_base.specs.EntryValues.{HasUnit, bytes_up_to};
 ghost use Rattle.dw_base.specs.FileViews.{section_bytes, view_cells};
@@ -23,11 +22,10 @@ ghost use Rattle.dw_fields.specs.UnitPasses.{AreTables, OnePassed, SectionsHold,
 
 use crate::entries::pass_entries;
 use crate::marks::{Marks, pass_end, pass_offset, pass_start};
-use crate::rows::width_size;
 use crate::slots::has_relocations;
 use dw_abbrev::AbbrevTable;
-use dw_base::{DebugSection, Fault, Refusal, UnitHeader, Width};
-use dw_entries::{EntryScan, table_offset, unit_headers, unit_sections};
+use dw_base::{Fault, Refusal, UnitHeader, Width};
+use dw_entries::{EntryScan, abbreviations_at, table_offset, unit_headers, unit_sections};
 use dw_view::View;
 use std::alloc::Global;
 use std::collections::HashMap;
@@ -56,7 +54,7 @@ fn pass_front(
     ensures goes { Goes (ground_of view.now unit.now.section) unit.now.start unit.now.first (front_fields (debug_data view.now).base (unit_section_at view.now unit.now.section) unit.now.start) pass result }
 {
     let place = unit.start + offset_place(unit.params.width, unit.params.version);
-    let size = width_size(unit.params.width);
+    let size = unit.params.width.offset_size();
     pass_offset(view, unit.section, pass, place, size)
 }
 
@@ -120,21 +118,9 @@ fn read_table(
     if shared.contains_key(&at) {
         return Ok(());
     }
-    let table = table_at(alloc, view, at)?;
+    let table = abbreviations_at(alloc, view, at)?;
     shared.insert(at, table)?;
     Ok(())
-}
-
-/// The table of abbreviations at an offset of the view's `.debug_abbrev`.
-#[tactic(auto, using(crate::proofs::UnitListLaws::read_rules))]
-fn table_at(alloc: Global, view: &View, at: u64) -> Result<AbbrevTable, Fault>
-    ensures table { IfOk result (λ t. IsTable (debug_data view.now).base.abbrevs.bytes at t) }
-    ensures refused { IfErr result (Blames (AbbreviationFails (debug_data view.now).base.abbrevs.bytes (debug_data view.now).base.abbrevs.number at)) }
-{
-    match view.first(DebugSection::Abbrev) {
-        Some(section) => AbbrevTable::read(alloc, section, view.bytes(section), at),
-        None => AbbrevTable::read(alloc, 0, b"", at),
-    }
 }
 
 /// A pass over the fields of all units of a unit section of the view.

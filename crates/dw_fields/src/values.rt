@@ -6,8 +6,6 @@ ghost use Rattle.std.specs.Prelude.{◌≡◌, ◌+◌, ◌<◌, ◌≤◌, ◌^
 ghost use Rattle.dw_base.specs.FileViews.{kind_at, section_bytes, view_cells};
 ghost use Rattle.dw_base.specs.Forms.{kind_in};
 ghost use Rattle.dw_base.specs.RelocationRows.{is_start};
-ghost use Rattle.dw_base.specs.Roles.{is_path};
-ghost use Rattle.dw_base.specs.TextIndexes.{is_base};
 ghost use Rattle.dw_base.specs.UnitHeaders.{is_address_size};
 ghost use Rattle.dw_base.specs.Values.{value_at, value_size};
 ghost use Rattle.dw_fields.specs.FieldForms.{fields_by, form_end, is_front as is_front_kind};
@@ -16,30 +14,10 @@ ghost use Rattle.dw_fields.specs.UnitFields.{fields_of_kind, values_end, values_
 
 use crate::forms::{FieldForm, field_form, is_front};
 use crate::marks::{Marks, pass_number, pass_offset};
-use dw_base::dwarf_numbers::{
-    DW_AT_GNU_macros, DW_AT_comp_dir, DW_AT_macros, DW_AT_name, DW_AT_stmt_list,
-    DW_AT_str_offsets_base, DW_TAG_compile_unit, DW_TAG_partial_unit, DW_TAG_type_unit,
-};
-use dw_base::{Params, Refusal, Spec, uleb_at};
+use dw_base::dwarf_numbers::{DW_AT_GNU_macros, DW_AT_macros, DW_AT_stmt_list};
+use dw_base::{Params, Refusal, Spec, is_base, is_path, uleb_at};
 use dw_forms::size_at;
 use dw_view::View;
-
-/// An attribute of entry `number`, of a tag, holds a path (DWARF 5, 3.1.1).
-fn is_path(number: u64, tag: u64, name: u64) -> bool
-    ensures { result ≡ is_path number tag name }
-{
-    let is_unit = tag == DW_TAG_compile_unit
-        || tag == DW_TAG_partial_unit
-        || tag == DW_TAG_type_unit;
-    number == 0 && is_unit && (name == DW_AT_name || name == DW_AT_comp_dir)
-}
-
-/// An attribute says the base of its unit's texts by index (DWARF 5, 3.1.1).
-fn is_base(number: u64, name: u64) -> bool
-    ensures { result ≡ is_base number name }
-{
-    number == 0 && name == DW_AT_str_offsets_base
-}
 
 /// An attribute of entry `number`, of a tag, says where something of another section starts: a line table, a macro unit, the unit's
 /// slots.

@@ -1,32 +1,32 @@
 -- Values of which nothing is noted, though they aren't read.
-use Rattle.std.proofs.Common.{Bool, true, false, ◌≡◌, ◌≢◌, ℕ, ◌+◌, ◌≤◌, ◌==◌, List, [], ◌∷◌, ◌++◌, length, IsTrue, Option, Some, None, refl, sym, ap, ◌∙◌, subst, arith, append-nil, nat_le}
-use Rattle.std.specs.Prelude.{◌||◌}
+use Rattle.std.proofs.Common.{Bool, false, ◌≡◌, ◌≢◌, ℕ, ◌+◌, ◌≤◌, ◌==◌, List, [], ◌∷◌, ◌++◌, length, IsTrue, Option, Some, None, refl, sym, ap, ◌∙◌, subst, append-nil, ◌⊎◌, inl, inr}
 use Rattle.std.specs.Option.{IfSome}
 use Rattle.std.proofs.lemmas.Bool.{le-leb}
 use Rattle.dw_base.specs.Cells.{Located}
 use Rattle.dw_base.specs.Forms.{in_str, width_size}
 use Rattle.dw_base.specs.Numbers.{number_at, spelled}
-use Rattle.dw_base.specs.Roles.{Role, is_path, offset}
+use Rattle.dw_base.specs.Roles.{is_path, offset}
 use Rattle.dw_base.specs.TextIndexes.{is_base}
 use Rattle.dw_base.specs.Texts.{ends_in}
 use Rattle.dw_base.specs.Values.{value_at}
 use Rattle.dw_base.specs.declared.dwarf_numbers.TheConstants.{DW_AT_stmt_list, DW_FORM_strp}
 use Rattle.dw_base.specs.declared.fault.Refusal.{Refusal}
 use Rattle.dw_base.specs.declared.shared.Params.{Params}
+use Rattle.dw_base.specs.declared.shared.Width.{Width}
+use Rattle.dw_base.specs.declared.shared.Width.TheVariants.{W32, W64}
 use Rattle.dw_base.specs.declared.values.Spec.{Spec}
-use Rattle.dw_base.specs.declared.values.Value.{Value}
 use Rattle.dw_base.specs.declared.values.ValueClass.TheVariants.{StrOffset}
 use Rattle.dw_entries.specs.Passes.{HasSize}
-use Rattle.dw_find.specs.EntryTexts.{Found, IsTaken, OffsetRefuses, OneRefuses, Tables, ValueTaken, no_text, offset as offset_refuses, offset_in, relocation, some, with_base, with_paths, with_places, with_stray}
+use Rattle.dw_find.specs.EntryTexts.{Found, OffsetRefuses, OneRefuses, Tables, ValueTaken, no_text, offset as offset_refuses, offset_in, relocation, some, with_base, with_paths, with_places, with_stray}
 use Rattle.dw_find.specs.LaterValues.{IsLater, IsNamed, str_field}
 use Rattle.dw_find.specs.QuietValues.{is_text_form}
 use Rattle.dw_find.specs.TextPlaces.{TextPlace, class_places, is_macros, is_start, is_start_form, line_places, no_index, own_form, said_places, value_places}
 use Rattle.dw_find.specs.UnitPaths.{UnitPaths}
 use Rattle.dw_find.specs.declared.fields.TextBase.{TextBase}
 use Rattle.dw_find.specs.declared.fields.TextIndex.{TextIndex}
-use Rattle.dw_find.proofs.EntryTextLaws.{with_base-none, with_places-none, with_stray-none}
+use Rattle.dw_find.proofs.EntryTextLaws.{with_places-none}
 use Rattle.dw_find.proofs.FoundLaws.{paths-same}
-use Rattle.dw_find.proofs.QuietLaws.{Quiet, base-none, class-names, or-parts, path-none, places-none, value-quiet}
+use Rattle.dw_find.proofs.QuietLaws.{Quiet, class-names, or-parts, path-none, places-none, value-quiet}
 use Rattle.dw_find.proofs.StrValueLaws.{str-read, str-value}
 
 -- the place of an offset that is no path's: nothing is noted of it
@@ -114,7 +114,12 @@ named-refused t z params x bytes section place size r own form size_is le f =
     (offset_refuses t.str refl (same-refuses t t.str place size 0 (spelled params.order bytes place size) r
     (subst (λ (y : Located). OffsetRefuses t y (str_field place size 0) r) own f)))
 
-pub ruleset named_rules = (is-named, named-refused)
+-- an offset has 4 bytes or 8
+pub offset-sized : (w : Width) (n : ℕ) → n ≡ width_size w → (n ≡ 4) ⊎ (n ≡ 8)
+offset-sized W32 n e = inl e
+offset-sized W64 n e = inr e
+
+pub ruleset named_rules = (is-named, named-refused, offset-sized)
 
 -- a value that says nothing by its form and its name
 plain-later : (t : Tables) (params : Params) (x : Spec) (bytes : List ℕ) (place size : ℕ) (start text : Bool) → start ≡ is_start x.name → start ≡ false

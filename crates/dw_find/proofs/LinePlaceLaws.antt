@@ -2,7 +2,6 @@
 -- in which it ends.
 use Rattle.std.proofs.Common.{Bool, true, false, ◌≡◌, ℕ, ◌+◌, ◌≤◌, ◌==◌, List, [], ◌∷◌, ◌++◌, length, Option, Some, None, refl, ap, subst, arith}
 use Rattle.std.specs.Prelude.{⊤, Ok}
-use Rattle.std.proofs.lemmas.Bool.{true≢false}
 use Rattle.std.proofs.lemmas.List.{length-take}
 use Rattle.dw_base.specs.Forms.{TextSection, width_size}
 use Rattle.dw_base.specs.LineEntries.{first_of, with_column, columns}

@@ -1,30 +1,11 @@
 -- The macro units of a view, section by section: the fields of the offsets of their line tables.
-use Rattle.std.proofs.Common.{◌≡◌, ℕ, suc, ◌+◌, ◌<◌, ◌≤◌, List, [], ◌∷◌, ◌++◌, length, get_or, drop, Option, None, sym, ap, ◌∙◌, arith, append_assoc, append-nil}
+use Rattle.std.proofs.Common.{◌≡◌, ℕ, suc, ◌+◌, ◌<◌, ◌≤◌, List, [], ◌∷◌, ◌++◌, length, get_or, drop, sym, ap, ◌∙◌, arith, append_assoc, append-nil}
 use Rattle.std.proofs.Math.Seq.{drop-cons}
 use Rattle.std.proofs.lemmas.List.{drop_all}
 use Rattle.dw_base.specs.declared.macro_units.MacroUnit.{MacroUnit}
-use Rattle.dw_find.specs.MacroSections.{SectionUnits, line_field, line_fields, macros_of, macros_with}
+use Rattle.dw_find.specs.MacroSections.{SectionUnits, line_fields, macros_of, macros_with}
 use Rattle.dw_find.specs.UnitPaths.{UnitPaths}
 use Rattle.dw_find.specs.declared.fields.PathField.{PathField}
-
--- one unit more
-unit-front : (us : List MacroUnit) (u : MacroUnit) (i : ℕ) → i < length us → u ≡ get_or us i u → drop i us ≡ u ∷ drop (i + 1) us
-unit-front us u i lt is =
-    let next : suc i ≡ i + 1 = omega arith in
-    drop-cons us i u lt ∙ ap (λ (n : ℕ). get_or us i u ∷ drop n us) next ∙ ap (λ (y : MacroUnit). y ∷ drop (i + 1) us) (sym is)
-
--- and the field of its line table, where it has one
-fields-pushed : (us : List MacroUnit) (u : MacroUnit) (i : ℕ) (old new : List PathField) → i < length us → u ≡ get_or us i u
-    → old ++ line_fields (drop i us) ≡ line_fields us → new ≡ old ++ line_field u.line u.line_field u.width → new ++ line_fields (drop (i + 1) us) ≡ line_fields us
-fields-pushed us u i old new lt is before more =
-    ap (λ (fs : List PathField). fs ++ line_fields (drop (i + 1) us)) more
-    ∙ append_assoc old (line_field u.line u.line_field u.width) (line_fields (drop (i + 1) us))
-    ∙ ap (λ (xs : List MacroUnit). old ++ line_fields xs) (sym (unit-front us u i lt is)) ∙ before
-
-pub field-none : (us : List MacroUnit) (u : MacroUnit) (i : ℕ) (old : List PathField) → i < length us → u ≡ get_or us i u
-    → old ++ line_fields (drop i us) ≡ line_fields us → u.line ≡ None → old ++ line_fields (drop (i + 1) us) ≡ line_fields us
-field-none us u i old lt is before none =
-    fields-pushed us u i old old lt is before (sym (append-nil old) ∙ ap (λ (o : Option ℕ). old ++ line_field o u.line_field u.width) (sym none))
 
 pub fields-all : (us : List MacroUnit) (i : ℕ) (fields : List PathField) → length us ≤ i → fields ++ line_fields (drop i us) ≡ line_fields us → fields ≡ line_fields us
 fields-all us i fields end is = sym (append-nil fields) ∙ ap (λ (xs : List MacroUnit). fields ++ line_fields xs) (sym (drop_all i us end)) ∙ is

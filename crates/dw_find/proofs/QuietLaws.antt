@@ -6,7 +6,7 @@ use Rattle.std.proofs.lemmas.Bool.{and_parts, eqb-true}
 use Rattle.std.proofs.lemmas.List.{drop_all, take_all, take-append-drop}
 use Rattle.dw_abbrev.specs.Coded.{index_of_code}
 use Rattle.dw_abbrev.proofs.CodedLaws.{get-here, index-within}
-use Rattle.dw_base.specs.AbbreviationTables.{Abbreviation, abbreviation_of}
+use Rattle.dw_base.specs.AbbreviationTables.{Abbreviation}
 use Rattle.dw_base.specs.Forms.{ValueKind, number_of, leb_number, signed_leb, block_of, counted, counted_leb, inline_text, text_offset, present, in_abbreviation, form_in_front, supplementary, unlisted, FormRow, form_rows, kind_by, kind_in}
 use Rattle.dw_base.specs.Roles.{is_path, is_unit_tag}
 use Rattle.dw_base.specs.TextIndexes.{is_base}
@@ -297,8 +297,6 @@ counts-more ls i a ns new n lt here all one is =
 
 pub counts-end : (ls : List Abbreviation) (i : ℕ) (ns : List ℕ) → length ls ≤ i → AreCounts (take i ls) ns → AreCounts ls ns
 counts-end ls i ns end all = subst (λ (xs : List Abbreviation). AreCounts xs ns) (take_all i ls end) all
-
-pub ruleset counts_rules = (counts-none, counts-more, counts-end)
 
 pub counts-long : (ls : List Abbreviation) (ns : List ℕ) → AreCounts ls ns → length ls ≡ length ns
 counts-long [] [] all = refl

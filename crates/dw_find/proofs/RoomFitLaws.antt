@@ -1,7 +1,6 @@
 -- Paths that stand in their values are tested against their rooms, one after another.
-use Rattle.std.proofs.Common.{true, false, ◌≡◌, ℕ, suc, ◌+◌, ◌≤◌, ◌<◌, List, [], ◌∷◌, length, drop, get_or, refl, sym, ap, ◌∙◌, subst, arith}
+use Rattle.std.proofs.Common.{false, ◌≡◌, ℕ, ◌≤◌, ◌<◌, List, [], length, drop, get_or, refl, sym, ap, subst}
 use Rattle.std.specs.Prelude.{nat_le}
-use Rattle.std.proofs.Math.Seq.{drop-cons}
 use Rattle.std.proofs.lemmas.List.{drop_all}
 use Rattle.dw_base.specs.FileViews.{View}
 use Rattle.dw_base.specs.InlinePaths.{inline_fits}
@@ -23,11 +22,6 @@ fits-same m info p t is = ap (inline_fits m) is
 
 pub ruleset one_rules = (fits-same)
 
-front : (paths : List InlinePath) (p : InlinePath) (i : ℕ) → i < length paths → p ≡ get_or paths i p → drop i paths ≡ p ∷ drop (i + 1) paths
-front paths p i lt is =
-    let next : suc i ≡ i + 1 = omega arith in
-    drop-cons paths i p lt ∙ ap (λ (n : ℕ). get_or paths i p ∷ drop n paths) next ∙ ap (λ (y : InlinePath). y ∷ drop (i + 1) paths) (sym is)
-
 -- if the paths that are left fit, all do
 pub record FitPassed (m : PathMap) (info : List ℕ) (paths : List InlinePath) (i : ℕ) : Type 0 where
   pub fits : InlinesFit m info (drop i paths) → InlinesFit m info paths
@@ -35,19 +29,10 @@ pub record FitPassed (m : PathMap) (info : List ℕ) (paths : List InlinePath) (
 pub fit-none : (m : PathMap) (info : List ℕ) (paths : List InlinePath) → FitPassed m info paths 0
 fit-none m info paths = record { fits = λ h. h }
 
-pub fit-more : (m : PathMap) (info : List ℕ) (paths : List InlinePath) (i : ℕ) (p : InlinePath) → i < length paths → p ≡ get_or paths i p → FitPassed m info paths i
-    → inline_fits m (inline_text info p) ≡ true → FitPassed m info paths (i + 1)
-fit-more m info paths i p lt is passed fit = record { fits = λ h. passed.fits (subst (InlinesFit m info) (sym (front paths p i lt is)) (fit, h)) }
-
 pub fit-all : (m : PathMap) (info : List ℕ) (paths : List InlinePath) (i : ℕ) → length paths ≤ i → FitPassed m info paths i → InlinesFit m info paths
 fit-all m info paths i end passed = passed.fits (subst (InlinesFit m info) (sym (drop_all i paths end)) tt)
 
 pub ruleset rooms_rules = (fit-none, fit-all)
-
-sections-front : (us : List UnitPaths) (u : UnitPaths) (i : ℕ) → i < length us → u ≡ get_or us i u → drop i us ≡ u ∷ drop (i + 1) us
-sections-front us u i lt is =
-    let next : suc i ≡ i + 1 = omega arith in
-    drop-cons us i u lt ∙ ap (λ (n : ℕ). get_or us i u ∷ drop n us) next ∙ ap (λ (y : UnitPaths). y ∷ drop (i + 1) us) (sym is)
 
 -- the same of sections
 pub record AllFitPassed (m : PathMap) (v : View) (us : List UnitPaths) (i : ℕ) : Type 0 where
@@ -55,10 +40,6 @@ pub record AllFitPassed (m : PathMap) (v : View) (us : List UnitPaths) (i : ℕ)
 
 pub all-none : (m : PathMap) (v : View) (us : List UnitPaths) → AllFitPassed m v us 0
 all-none m v us = record { fits = λ h. h }
-
-pub all-more : (m : PathMap) (v : View) (us : List UnitPaths) (i : ℕ) (u : UnitPaths) → i < length us → u ≡ get_or us i u → AllFitPassed m v us i
-    → InlinesFit m (info_of v u) u.inline → AllFitPassed m v us (i + 1)
-all-more m v us i u lt is passed fit = record { fits = λ h. passed.fits (subst (EachOf (FitsIn m v)) (sym (sections-front us u i lt is)) (fit, h)) }
 
 pub all-end : (m : PathMap) (v : View) (us : List UnitPaths) (i : ℕ) → AllPlaced (debug_data v) (debug_data v).units us → length us ≤ i → AllFitPassed m v us i
     → AllFitRooms m (debug_data v).units us

@@ -6,7 +6,7 @@ use Rattle.std.proofs.Math.Seq.{drop-cons}
 use Rattle.std.proofs.lemmas.Bool.{eq-eqb, ne_eqb}
 use Rattle.std.proofs.lemmas.Bool.Decides.{nat_tests}
 use Rattle.std.proofs.lemmas.Cmp.{ranked}
-use Rattle.std.proofs.lemmas.List.{drop_all}
+use Rattle.std.proofs.lemmas.List.{drop_all, drop_more}
 use Rattle.std.proofs.lemmas.List.Sorted.{IsNonDecreasingBy-from_default}
 use Rattle.dw_base.specs.AbbreviationTables.{Abbreviation, abbreviation_of}
 use Rattle.dw_base.specs.Cells.{Cell, Located, cells_at, field_of, offset_of}
@@ -134,12 +134,6 @@ pub starts-rise : (d : DebugData) (starts : List ℕ) → TablesStart d starts �
 starts-rise d starts t =
     subst Rises (sym t.is) (record { rise = λ (i j : ℕ) (less : i < j) (lt : j < length (table_starts t.tables)). starts-between (line_source d) 0 (length (line_source d).bytes) i j t.tables t.are less lt })
 
--- a field among the fields of a section
-field-front : (fields : List PathField) (f : PathField) (i : ℕ) → i < length fields → f ≡ get_or fields i f → drop i fields ≡ f ∷ drop (i + 1) fields
-field-front fields f i lt is =
-    let next : suc i ≡ i + 1 = omega arith in
-    drop-cons fields i f lt ∙ ap (λ (n : ℕ). get_or fields i f ∷ drop n fields) next ∙ ap (λ (y : PathField). y ∷ drop (i + 1) fields) (sym is)
-
 -- if the fields that are left say this, all do
 pub record FieldsPassed (says : List Cell → Bool) (cells : List Cell) (fields : List PathField) (i : ℕ) : Type 0 where
   pub here : FieldsSay says cells (drop i fields) → FieldsSay says cells fields
@@ -147,11 +141,11 @@ pub record FieldsPassed (says : List Cell → Bool) (cells : List Cell) (fields 
 pub fields-none : (says : List Cell → Bool) (cells : List Cell) (fields : List PathField) → FieldsPassed says cells fields 0
 fields-none says cells fields = record { here = λ h. h }
 
-pub fields-more : (says : List Cell → Bool) (cells : List Cell) (fields : List PathField) (i : ℕ) (f : PathField) → i < length fields → f ≡ get_or fields i f
-    → FieldsPassed says cells fields i → says (cells_at cells f.at f.size) ≡ true → FieldsPassed says cells fields (i + 1)
-fields-more says cells fields i f lt is passed said = record {
-  here = λ h. passed.here (subst (FieldsSay says cells) (sym (field-front fields f i lt is)) (said, h));
-}
+pub fields-more : (says : List Cell → Bool) (cells : List Cell) (fields : List PathField) (i : ℕ) (f : PathField) (b : Bool) → i < length fields → f ≡ get_or fields i f
+    → b ≡ says (cells_at cells f.at f.size) → b ≡ true → FieldsPassed says cells fields i → FieldsPassed says cells fields (i + 1)
+fields-more says cells fields i f b lt is said yes_ passed =
+    let front : drop i fields ≡ f ∷ drop (i + 1) fields = drop_more fields i f lt ∙ ap (λ (g : PathField). g ∷ drop (i + 1) fields) (sym is) in
+    record { here = λ rest. passed.here (subst (FieldsSay says cells) (sym front) (sym said ∙ yes_, rest)) }
 
 pub fields-all : (says : List Cell → Bool) (cells : List Cell) (fields : List PathField) (i : ℕ) → length fields ≤ i → FieldsPassed says cells fields i → FieldsSay says cells fields
 fields-all says cells fields i end passed = passed.here (subst (FieldsSay says cells) (sym (drop_all i fields end)) tt)
@@ -164,8 +158,6 @@ fields-refused order section cells says fields i f b r lt is said none same =
 pub fields-unread : (order : Order) (section : ℕ) (cells : List Cell) (says : List Cell → Bool) (fields : List PathField) (i : ℕ) (f : PathField) (r : Refusal) → i < length fields
     → f ≡ get_or fields i f → OffsetFails order section cells (field_place f.at f.size offset_field) r → FieldStrays order section cells says fields r
 fields-unread order section cells says fields i f r lt is fails = no_offset i f lt is fails
-
-pub ruleset fields_rules = (fields-none, fields-all)
 
 -- where the offset of a field is one of the starts
 pub says-table : (order : Order) (z : Located) (starts : List ℕ) (p : List Cell) (n k : ℕ) (o : Option ℕ) → n ≡ offset_of order z p → o ≡ start_number 0 starts n → o ≡ Some k

@@ -72,7 +72,7 @@ keys-all us i first keys end so = sym (append-nil keys) ∙ ap (λ (xs : List Ma
 pub keys-below : (us : List MacroUnit) (i : ℕ) (first keys : List ℕ) → length us ≤ i → KeysPushed first us i keys → AllBelow us
 keys-below us i first keys end so = so.below (subst AllBelow (sym (drop_all i us end)) tt)
 
-pub ruleset keys_rules = (keys-start, keys-more, keys-all, keys-below, unit-at)
+pub ruleset keys_rules = (unit-at)
 
 -- one section more
 section-front : (ss : List SectionUnits) (s : SectionUnits) (i : ℕ) → i < length ss → s ≡ get_or ss i s → drop i ss ≡ s ∷ drop (i + 1) ss

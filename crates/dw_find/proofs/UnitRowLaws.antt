@@ -19,7 +19,6 @@ use Rattle.dw_entries.specs.Fronts.{IsOfView}
 use Rattle.dw_entries.specs.HeaderRows.{HeadersRefuse, offsets, units}
 use Rattle.dw_entries.specs.ViewUnits.{IsUnitSection, numbered, unit_base, unit_section_at}
 use Rattle.dw_entries.proofs.UnitSectionLaws.{is-of-view}
-use Rattle.dw_fields.proofs.UnitListLaws.{refused-none, refused-some, table-none, table-some}
 use Rattle.dw_find.specs.EntryTexts.{Tables, TextTables, Found, none_found}
 use Rattle.dw_find.specs.NamedSlots.{Slots, TakesIndexes}
 use Rattle.dw_find.specs.TextPlaces.{base_source, number_said}
@@ -48,9 +47,6 @@ tables-are v i t there same =
 
 pub section-within : (v : View) (i : ℕ) → IsUnitSection v i → i < length v.sections
 section-within v i there = (is-of-view v i there).there
-
--- the table of abbreviations, where its section was found
-pub ruleset table_rules = (table-some, table-none, refused-some, refused-none)
 
 -- a table that can't be read
 pub table-row : (d : DebugData) (z : UnitSection) (h : UnitHeader) (at : ℕ) (f : Fault) → HasUnit d z h → at ≡ h.abbrevs

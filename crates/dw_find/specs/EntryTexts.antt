@@ -8,7 +8,7 @@ use Rattle.dw_base.specs.Forms.{in_str, in_line_str, width_size}
 use Rattle.dw_base.specs.Numbers.{number_at}
 use Rattle.dw_base.specs.Refusals.{at}
 use Rattle.dw_base.specs.RelocationRows.{FieldPlace, OffsetFails, field_place, offset_field}
-use Rattle.dw_base.specs.Texts.{ends_in, IsNulEnd}
+use Rattle.dw_base.specs.Texts.{ends_in}
 use Rattle.dw_base.specs.Values.{number_value, value_at}
 use Rattle.dw_base.specs.declared.fault.Kind.TheVariants.{StringOffset}
 use Rattle.dw_base.specs.declared.fault.Refusal.{Refusal}
@@ -161,8 +161,3 @@ pub record ValueTaken (t : Tables) (params : Params) (bytes : List ℕ) (number 
   pub size_is : size ≡ value.size
   pub taken : IsTaken t value
   pub found : new ≡ with_places old (value_places number tag x bytes place value)
-
--- where the last text of each table ends
-pub record TablesEnd (t : TextTables) (str_end line_str_end : ℕ) : Type 0 where
-  pub str : IsNulEnd t.str.bytes str_end
-  pub line_str : IsNulEnd t.line_str.bytes line_str_end

@@ -1,10 +1,9 @@
 -- The values that say where line tables and macro units start (DWARF 5, 3.1.1 and 6.3.2), and that what they say starts there.
-use Rattle.std.specs.Prelude.{Bool, ◌≡◌, ℕ, ◌-◌, List, [], ◌∷◌, IsTrue, ⊤, None}
+use Rattle.std.specs.Prelude.{Bool, ◌≡◌, ℕ, List, [], ◌∷◌, IsTrue, ⊤, None}
 use Rattle.dw_base.specs.Cells.{Cell, Located, cells_at, field_of, located_cells, offset_of}
 use Rattle.dw_base.specs.DebugData.{DebugData, start_number}
 use Rattle.dw_base.specs.FileViews.{View, view_cells}
 use Rattle.dw_base.specs.LineMeanings.{is_there}
-use Rattle.dw_base.specs.Roles.{offset}
 use Rattle.dw_base.specs.UnitHeaders.{UnitSection}
 use Rattle.dw_base.specs.ViewData.{located}
 use Rattle.dw_base.specs.declared.debug_sections.DebugSection.TheVariants.{Line}

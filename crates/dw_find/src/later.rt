@@ -1,9 +1,9 @@
-//! Values of entries that aren't their unit's first, and of which nothing is noted: most are offsets of names in `.debug_str`, which have to
-//! name texts, and others are passed by the size that their form says.
+//! Values of entries that aren't their unit's first, and of which nothing is noted: most are offsets of names in `.debug_str`, which
+//! have to name texts, and others are passed by the size that their form says.
 //!
 //! Read first: `specs/LaterValues.antt`.
 
-ghost use Rattle.std.specs.Prelude.{◌≡◌, ◌⊎◌, ◌≤◌, ◌+◌, Some, length, IfErr, IfOk, IfSome};
+ghost use Rattle.std.specs.Prelude.{◌≡◌, ◌≤◌, ◌+◌, Some, length, IfErr, IfOk, IfSome};
 ghost use Rattle.dw_base.specs.Forms.{width_size};
 ghost use Rattle.dw_base.specs.declared.dwarf_numbers.TheConstants.{DW_FORM_strp};
 ghost use Rattle.dw_find.specs.EntryTexts.{OneRefuses};
@@ -13,11 +13,11 @@ use crate::found::SectionTexts;
 use crate::scan_table::{is_start, is_text_form};
 use crate::texts::offset_names;
 use dw_base::dwarf_numbers::DW_FORM_strp;
-use dw_base::{Params, Refusal, Spec, UnitHeader, Value, ValueClass, Width};
+use dw_base::{Params, Refusal, Spec, UnitHeader, Value, ValueClass};
 use dw_entries::plain_len;
 
-/// How many bytes the value of an attribute takes at a place, in an entry that isn't its unit's first, where nothing of it is noted. `None` where
-/// it has to be read. Refused where it is an offset that names no text.
+/// How many bytes the value of an attribute takes at a place, in an entry that isn't its unit's first, where nothing of it is noted.
+/// `None` where it has to be read. Refused where it is an offset that names no text.
 #[tactic(auto, using(crate::proofs::LaterLaws::later_rules))]
 pub(crate) fn later_len(
     texts: &SectionTexts,
@@ -77,13 +77,9 @@ fn named_len(
     Ok(Some(size))
 }
 
-/// How many bytes an offset has (DWARF 5, 7.4).
+/// How many bytes an offset of a text takes.
 fn str_size(params: &Params) -> u64
     ensures size { result ≡ width_size params.now.width }
-    ensures sized { (result ≡ 4) ⊎ (result ≡ 8) }
 {
-    match params.width {
-        Width::W32 => 4,
-        Width::W64 => 8,
-    }
+    u64::from(params.width.offset_size())
 }

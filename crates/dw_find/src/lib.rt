@@ -41,5 +41,7 @@ pub use lines::starts_of;
 pub use macros::{MacroSection, macro_sections};
 pub use paths::found_paths;
 pub use reading::{ReadTables, read_data};
-pub use starts::{start_in, start_number};
+pub use starts::{start_in, start_number, with_start};
 pub use tables::{TextsOf, table_number, table_texts};
+pub use texts::{is_start_form, own_form};
+pub use unit_places::{place_key, start_key};

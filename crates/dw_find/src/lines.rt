@@ -3,7 +3,6 @@
 //! Read first: `specs/ViewLines.antt`.
 
 ghost use Rattle.std.specs.Prelude.{◌≡◌, ◌++◌, ◌<◌, IfOk, OnOk};
-ghost use Rattle.dw_base.specs.Forms.{width_size};
 ghost use Rattle.dw_base.specs.LineTables.{texts_of};
 ghost use Rattle.dw_base.specs.WrittenLines.{paths_of};
 ghost use Rattle.dw_lines.specs.ViewSources.{view_source};
@@ -184,7 +183,7 @@ fn push_field(
     if lies_in(section, str, texts, text) {
         fields.push(PathField {
             at: text.field,
-            size: width_size(width),
+            size: width.offset_size(),
         })?;
     }
     Ok(())
@@ -200,15 +199,5 @@ fn lies_in(section: u32, str: u32, texts: TextsOf, text: TextPlace) -> bool
     match texts {
         TextsOf::Str => text.section == str,
         TextsOf::LineStr => text.section != str,
-    }
-}
-
-/// How many bytes an offset has.
-pub(crate) fn width_size(width: Width) -> u8
-    ensures { result ≡ width_size width }
-{
-    match width {
-        Width::W32 => 4,
-        Width::W64 => 8,
     }
 }

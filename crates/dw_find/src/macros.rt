@@ -14,7 +14,6 @@ ghost use Rattle.dw_find.specs.MacroSections.{SectionUnits, UnitsFailIn, UnitsFo
 
 use crate::fields::PathField;
 use crate::found::UnitPaths;
-use crate::lines::width_size;
 use crate::starts::{start_number, stray};
 use crate::unit_places::UnitPlaces;
 use dw_base::{DebugSection, Fault, MacroEvent, MacroUnit, Refusal};
@@ -121,7 +120,7 @@ fn line_fields(alloc: Global, units: &[MacroUnit]) -> Result<Vec<PathField>, All
         if let Some(_) = unit.line {
             fields.push(PathField {
                 at: unit.line_field,
-                size: width_size(unit.width),
+                size: unit.width.offset_size(),
             })?;
         }
     }

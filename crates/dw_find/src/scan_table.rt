@@ -91,7 +91,6 @@ fn front_of(abbrev: &Abbrev, count: usize) -> &[Spec]
 }
 
 /// For each abbreviation, how many attributes it has up to the last that isn't quiet.
-#[tactic(auto, using(crate::proofs::QuietLaws::counts_rules))]
 fn counts_of(alloc: Global, abbrevs: &[Abbrev]) -> Result<Vec<usize>, AllocError>
     ensures counts { IfOk result (λ counts. AreCounts abbrevs.now counts.items) }
 {

@@ -24,9 +24,8 @@ use crate::found::{Found, SectionTexts, TextTables, UnitPaths};
 use crate::scan_table::ScanTable;
 use crate::slots::NamedSlots;
 use crate::units::unit_texts;
-use dw_abbrev::AbbrevTable;
 use dw_base::{DebugSection, Fault, Refusal, UnitHeader};
-use dw_entries::{table_offset, unit_headers};
+use dw_entries::{abbreviations_at, table_offset, unit_headers};
 use dw_view::View;
 use std::alloc::Global;
 use std::collections::HashMap;
@@ -168,19 +167,7 @@ fn table_at(alloc: Global, view: &View, at: u64) -> Result<ScanTable, Fault>
     ensures table { IfOk result (λ t. IsTable (debug_data view.now).base.abbrevs.bytes at t) }
     ensures refused { IfErr result (Blames (AbbreviationFails (debug_data view.now).base.abbrevs.bytes (debug_data view.now).base.abbrevs.number at)) }
 {
-    let abbrevs = abbrevs_at(alloc, view, at)?;
+    let abbrevs = abbreviations_at(alloc, view, at)?;
     let table = ScanTable::new(alloc, abbrevs)?;
     Ok(table)
-}
-
-/// The same, alone.
-#[tactic(auto, using(crate::proofs::UnitRowLaws::table_rules))]
-fn abbrevs_at(alloc: Global, view: &View, at: u64) -> Result<AbbrevTable, Fault>
-    ensures table { IfOk result (λ t. IsTable (debug_data view.now).base.abbrevs.bytes at t) }
-    ensures refused { IfErr result (Blames (AbbreviationFails (debug_data view.now).base.abbrevs.bytes (debug_data view.now).base.abbrevs.number at)) }
-{
-    match view.first(DebugSection::Abbrev) {
-        Some(section) => AbbrevTable::read(alloc, section, view.bytes(section), at),
-        None => AbbrevTable::read(alloc, 0, b"", at),
-    }
 }

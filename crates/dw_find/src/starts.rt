@@ -69,7 +69,6 @@ fn section_starts(
 }
 
 /// Tests that each of these fields of a section holds the start of a line table.
-#[tactic(auto, using(crate::proofs::StartLaws::fields_rules))]
 fn lines_start(
     view: &View,
     section: u32,
@@ -107,7 +106,6 @@ fn line_starts(view: &View, section: u32, starts: &[u64], field: PathField) -> R
 }
 
 /// Tests that each of these fields of a section names a macro unit.
-#[tactic(auto, using(crate::proofs::StartLaws::fields_rules))]
 fn units_start(
     view: &View,
     section: u32,
@@ -166,7 +164,7 @@ pub fn start_number(starts: &[u64], start: u64) -> Option<usize>
 }
 
 /// Which of these starts is one, or where it would stand.
-fn with_start(starts: &[u64], start: u64) -> Result<usize, usize>
+pub fn with_start(starts: &[u64], start: u64) -> Result<usize, usize>
     requires rises { Rises starts.now }
     ensures found { IfOk result (HasStart starts.now start) }
     ensures absent { IfErr result (IsStartGap starts.now start) }

@@ -3,12 +3,10 @@
 //!
 //! Read first: `specs/TextPlaces.antt`, then `specs/EntryTexts.antt`.
 
-ghost use Rattle.std.specs.Prelude.{◌≡◌, ◌⊎◌, ◌+◌, ◌^◌, ◌≤◌, ◌<◌, ◌==◌, ◌&&◌, true, false, length, IsTrue, IfErr, IfOk, OnOk, Some, not};
+ghost use Rattle.std.specs.Prelude.{◌≡◌, ◌⊎◌, ◌+◌, ◌^◌, ◌≤◌, ◌<◌, ◌==◌, ◌&&◌, true, false, length, IsTrue, IfErr, IfOk, OnOk, Some};
 ghost use Rattle.dw_base.specs.FormFails.{FormFails};
 ghost use Rattle.dw_base.specs.Values.{value_at};
 ghost use Rattle.dw_base.specs.Refusals.{Blames, at};
-ghost use Rattle.dw_base.specs.Roles.{is_path};
-ghost use Rattle.dw_base.specs.TextIndexes.{is_base};
 ghost use Rattle.dw_base.specs.Texts.{ends_in};
 ghost use Rattle.dw_base.specs.UnitHeaders.{is_address_size};
 ghost use Rattle.dw_base.specs.declared.dwarf_numbers.TheConstants.{DW_AT_stmt_list};
@@ -19,11 +17,12 @@ use crate::fields::{InlinePath, PathField, TextBase, TextIndex};
 use crate::found::{Found, SectionTexts, TextTable};
 use crate::later::later_len;
 use dw_base::dwarf_numbers::{
-    DW_AT_GNU_macros, DW_AT_comp_dir, DW_AT_macros, DW_AT_name, DW_AT_stmt_list,
-    DW_AT_str_offsets_base, DW_FORM_data4, DW_FORM_data8, DW_FORM_indirect, DW_FORM_sec_offset,
-    DW_TAG_compile_unit, DW_TAG_partial_unit, DW_TAG_type_unit,
+    DW_AT_GNU_macros, DW_AT_macros, DW_AT_stmt_list, DW_FORM_data4, DW_FORM_data8,
+    DW_FORM_indirect, DW_FORM_sec_offset,
 };
-use dw_base::{Fault, Kind, Refusal, Spec, UnitHeader, Value, ValueClass, uleb_at};
+use dw_base::{
+    Fault, Kind, Refusal, Spec, UnitHeader, Value, ValueClass, is_base, is_path, uleb_at,
+};
 use dw_forms::value_at;
 use std::alloc::AllocError;
 
@@ -87,7 +86,7 @@ fn value_text(
     Ok(size)
 }
 
-/// The same where it is read.
+/// Takes a value that is read: what it says is noted.
 #[inline(never)]
 #[tactic(auto, using(crate::proofs::EntryTextLaws::value_rules))]
 fn noted_text(
@@ -158,15 +157,15 @@ fn is_line(spec: &Spec) -> bool
     spec.name == DW_AT_stmt_list
 }
 
-/// A form that can say so; before version 4 it is a number of 4 or 8 bytes.
-fn is_start_form(form: u64) -> bool
+/// A form that can say where a line table starts (DWARF 5, 3.1.1); before version 4 it is a number of 4 or 8 bytes.
+pub fn is_start_form(form: u64) -> bool
     ensures { result ≡ is_start_form form }
 {
     form == DW_FORM_sec_offset || form == DW_FORM_data4 || form == DW_FORM_data8
 }
 
 /// The form of a value at a place: its attribute's, or the one in front of it (DWARF 5, 7.5.3).
-fn own_form(spec: &Spec, bytes: &[u8], place: u64) -> u64
+pub fn own_form(spec: &Spec, bytes: &[u8], place: u64) -> u64
     ensures { result ≡ own_form spec.now bytes.now place }
 {
     if spec.form != DW_FORM_indirect {
@@ -245,24 +244,6 @@ fn note_unit(value: &Value, found: &mut Found) -> Result<(), AllocError>
 {
     found.paths.macros.push(field_of(value))?;
     Ok(())
-}
-
-/// An attribute that holds a path: name or comp_dir of the first entry of a unit whose tag is a unit's
-/// (DWARF 5, 3.1.1).
-fn is_path(number: u64, tag: u64, name: u64) -> bool
-    ensures { result ≡ is_path number tag name }
-{
-    let is_unit = tag == DW_TAG_compile_unit
-        || tag == DW_TAG_partial_unit
-        || tag == DW_TAG_type_unit;
-    number == 0 && is_unit && (name == DW_AT_name || name == DW_AT_comp_dir)
-}
-
-/// An attribute that says the base of its unit's texts by index (DWARF 5, 3.1.1).
-fn is_base(number: u64, name: u64) -> bool
-    ensures { result ≡ is_base number name }
-{
-    number == 0 && name == DW_AT_str_offsets_base
 }
 
 /// Notes what a value at a place says of a path or by index, where it is a path's or a base's, or an index.

@@ -98,7 +98,7 @@ fn is_start(starts: &[u64], start: u64) -> bool
 }
 
 /// One number for a place of a section, larger in a later section.
-fn place_key(section: u32, place: u64) -> u64
+pub fn place_key(section: u32, place: u64) -> u64
     requires small { place < 2 ^ 32 }
     ensures key { result ≡ place_key section place }
 {
@@ -145,7 +145,7 @@ fn push_keys(view: &View, units: &[MacroUnit], keys: &mut Vec<u64>) -> Result<()
 
 /// Where a unit starts, as one number.
 #[tactic(auto, using(crate::proofs::UnitPlaceLaws::start_rules))]
-fn start_key(view: &View, unit: &MacroUnit) -> u64
+pub fn start_key(view: &View, unit: &MacroUnit) -> u64
     requires unit { IsUnitIn view.now unit.now }
     ensures key { result ≡ place_key unit.now.section unit.now.start }
     ensures below { unit.now.start < place_limit }

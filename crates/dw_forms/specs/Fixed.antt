@@ -1,8 +1,9 @@
 -- Forms whose values take as many bytes everywhere, so that the size of an entry of such forms is found once.
-use Rattle.std.specs.Prelude.{◌≡◌, ℕ, ◌+◌, ◌*◌, ◌^◌, ◌≤◌, List, [], ◌∷◌, Option, Some, None, IfSome, IsTrue}
+use Rattle.std.specs.Prelude.{◌≡◌, ℕ, ◌+◌, ◌*◌, ◌^◌, ◌≤◌, ◌==◌, Bool, true, false, if◌then◌else◌, List, [], ◌∷◌, Option, Some, None, IfSome, IsTrue}
 use Rattle.dw_base.specs.Forms.{ValueKind, number_of, block_of, text_offset, present, in_abbreviation, kind_in, reference_size, width_size}
 use Rattle.dw_base.specs.UnitHeaders.{is_address_size}
 use Rattle.dw_base.specs.Values.{value_at, value_size}
+use Rattle.dw_base.specs.declared.dwarf_numbers.TheConstants.{DW_FORM_addr, DW_FORM_data1, DW_FORM_data2, DW_FORM_data4, DW_FORM_data8, DW_FORM_flag, DW_FORM_flag_present, DW_FORM_implicit_const, DW_FORM_ref4, DW_FORM_sec_offset, DW_FORM_strp}
 use Rattle.dw_base.specs.declared.shared.Params.{Params}
 use Rattle.dw_base.specs.declared.values.Spec.{Spec}
 use Rattle.dw_forms.specs.Reads.{room_size}
@@ -20,6 +21,35 @@ fixed_size (text_offset table n) = Some n
 fixed_size present = Some 0
 fixed_size in_abbreviation = Some 0
 fixed_size k = None
+
+-- a form is in a list
+abbrev pub is_among : List ℕ → ℕ → Bool
+is_among [] form = false
+is_among (x ∷ xs) form = if x == form then true else is_among xs form
+
+-- the forms of most values, each of which says the size of its values by itself (DWARF 5, 7.5.6)
+unfoldable pub plain_forms : List ℕ
+plain_forms =
+    DW_FORM_flag_present
+    ∷ DW_FORM_implicit_const
+    ∷ DW_FORM_data1
+    ∷ DW_FORM_flag
+    ∷ DW_FORM_data2
+    ∷ DW_FORM_data4
+    ∷ DW_FORM_ref4
+    ∷ DW_FORM_data8
+    ∷ DW_FORM_strp
+    ∷ DW_FORM_sec_offset
+    ∷ DW_FORM_addr
+    ∷ []
+
+-- a form is one of those
+unfoldable pub is_plain_form : ℕ → Bool
+is_plain_form form = is_among plain_forms form
+
+-- how many bytes a value of such a form takes; none of the other forms, whether or not they say it
+abbrev pub plain_size : Params → ℕ → Option ℕ
+plain_size params form = if is_plain_form form then fixed_size (kind_in params form) else None
 
 -- a value of the attribute stands wherever so many bytes are left, and takes them
 pub record IsFixedSize (params : Params) (spec : Spec) (n : ℕ) : Type 0 where

@@ -9,7 +9,7 @@ ghost use Rattle.dw_base.specs.Forms.{kind_in};
 ghost use Rattle.dw_base.specs.UnitHeaders.{is_address_size};
 ghost use Rattle.dw_forms.specs.Fixed.{Adds, AddsNone, bytes_in, field_parts, fixed_parts, fixed_size, HasNoSize, IsFixedSize, IsSizeOf};
 
-use crate::kinds::{FieldSize, FormKind, form_kind, reference_size, width_size};
+use crate::kinds::{FieldSize, FormKind, form_kind, reference_size};
 use dw_base::{Params, Spec};
 
 /// How many bytes values take whose forms say it, by what that depends on.
@@ -129,7 +129,7 @@ impl FixedSize {
     {
         u64::from(self.bytes)
             + fields_size(self.addresses, params.address)
-            + fields_size(self.offsets, width_size(params.width))
+            + fields_size(self.offsets, params.width.offset_size())
             + fields_size(self.references, reference_size(params))
     }
 }

@@ -8,7 +8,7 @@ ghost use Rattle.dw_base.specs.UnitHeaders.{is_address_size};
 ghost use Rattle.dw_forms.specs.Kinds.{as_kind, HasFields};
 ghost use Rattle.dw_forms.specs.Reads.{read_length, room_size};
 
-use crate::kinds::{FormKind, width_size};
+use crate::kinds::FormKind;
 use dw_base::{Order, Params, number_at, sleb_at, uleb_at};
 use dw_strings::text_at;
 
@@ -120,7 +120,7 @@ pub(crate) fn size_of_kind(
         FormKind::CountedLeb => counted_leb_size(bytes, at),
         FormKind::InlineText => text_size(bytes, at),
         FormKind::StrOffset | FormKind::LineStrOffset => {
-            room_size(bytes, at, width_size(params.width))
+            room_size(bytes, at, params.width.offset_size())
         }
         FormKind::Present => room_size(bytes, at, 0),
         FormKind::InAbbreviation => room_size(bytes, at, 0),

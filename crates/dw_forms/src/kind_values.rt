@@ -9,7 +9,7 @@ ghost use Rattle.dw_base.specs.Values.{bare_value, block_value, counted_leb_valu
 ghost use Rattle.dw_base.specs.UnitHeaders.{is_address_size};
 ghost use Rattle.dw_forms.specs.Kinds.{as_kind, HasFields};
 
-use crate::kinds::{FormKind, width_size};
+use crate::kinds::FormKind;
 use dw_base::{Order, Params, Value, ValueClass, number_at, sleb_at, uleb_at};
 use dw_strings::text_at;
 
@@ -36,7 +36,7 @@ fn offset_value(params: &Params, class: ValueClass, bytes: &[u8], at: u64) -> Op
     ensures value { result ≡ number_value class at (width_size params.now.width) (number_at params.now.order bytes.now at (width_size params.now.width)) }
     ensures inside { IfSome result (λ v. at + v.size ≤ length bytes.now) }
 {
-    number_value(params.order, class, bytes, at, width_size(params.width))
+    number_value(params.order, class, bytes, at, params.width.offset_size())
 }
 
 /// A number of a class, in LEB128.

@@ -1,10 +1,10 @@
-//! What a value of a form is: the table of forms (DWARF 5, table 7.6), each form once.
+//! What a value of a form is: the table of forms (DWARF 5, table 7.6), each form once, and the sizes of the forms of most values.
 
-ghost use Rattle.std.specs.Prelude.{◌≡◌, ◌<◌, ◌≤◌, Some, IfSome, IsTrue};
-ghost use Rattle.dw_base.specs.Forms.{kind_in, reference_size, width_size};
+ghost use Rattle.std.specs.Prelude.{◌≡◌, ◌<◌, ◌≤◌, IsTrue};
+ghost use Rattle.dw_base.specs.Forms.{kind_in, reference_size};
 ghost use Rattle.dw_base.specs.UnitHeaders.{is_address_size};
 ghost use Rattle.dw_base.specs.declared.shared.Params.{Params as ParamsOf};
-ghost use Rattle.dw_forms.specs.Fixed.{fixed_size};
+ghost use Rattle.dw_forms.specs.Fixed.{plain_size};
 ghost use Rattle.dw_forms.specs.Kinds.{as_kind, field_size, refused_as, HasFields, HasRoom};
 
 use dw_base::dwarf_numbers::{
@@ -18,7 +18,7 @@ use dw_base::dwarf_numbers::{
     DW_FORM_strp_sup, DW_FORM_strx, DW_FORM_strx1, DW_FORM_strx2, DW_FORM_strx3, DW_FORM_strx4,
     DW_FORM_udata,
 };
-use dw_base::{Kind, Params, ValueClass, Width};
+use dw_base::{Kind, Params, ValueClass};
 
 /// The size of a number's field, by what it depends on.
 #[derive(Clone, Copy)]
@@ -66,16 +66,6 @@ pub enum FormKind {
     Unlisted,
 }
 
-/// The size of an offset, in bytes (DWARF 5, 7.4).
-pub(crate) fn width_size(width: Width) -> u8
-    ensures size { result ≡ width_size width }
-{
-    match width {
-        Width::W32 => 4,
-        Width::W64 => 8,
-    }
-}
-
 /// The size of a reference into another unit, in bytes: that of an address in version 2 (DWARF 2, 7.5.4).
 pub(crate) fn reference_size(params: &Params) -> u8
     ensures size { result ≡ reference_size params.now }
@@ -83,7 +73,7 @@ pub(crate) fn reference_size(params: &Params) -> u8
     if params.version == 2 {
         params.address
     } else {
-        width_size(params.width)
+        params.width.offset_size()
     }
 }
 
@@ -99,7 +89,7 @@ impl FieldSize {
         match self {
             FieldSize::Bytes(size) => size,
             FieldSize::Address => params.address,
-            FieldSize::Offset => width_size(params.width),
+            FieldSize::Offset => params.width.offset_size(),
             FieldSize::Reference => reference_size(params),
         }
     }
@@ -173,11 +163,11 @@ pub(crate) fn refused_kind(kind: FormKind, params: &Params) -> Kind
     }
 }
 
-/// How many bytes a value of a form takes in a unit of these parameters, by the form alone. `None` of forms that few values have,
-/// whatever they say.
-#[tactic(auto, unfolding(dw_base::specs::Forms::kind_in, dw_base::specs::Forms::form_rows))]
+/// How many bytes a value of a form takes in a unit of these parameters (DWARF 5, 7.5.6), for the forms of most values: their form
+/// alone says it. `None` of every other form, also where it says a size (`fixed_size` has them all).
+#[tactic(auto, unfolding(dw_base::specs::Forms::kind_in, dw_base::specs::Forms::form_rows, crate::specs::Fixed::is_plain_form, crate::specs::Fixed::plain_forms))]
 pub fn plain_size(params: &Params, form: u64) -> Option<u64>
-    ensures size { IfSome result (λ n. fixed_size (kind_in params.now form) ≡ Some n) }
+    ensures size { result ≡ plain_size params.now form }
 {
     match form {
         DW_FORM_flag_present | DW_FORM_implicit_const => Some(0),
@@ -185,7 +175,7 @@ pub fn plain_size(params: &Params, form: u64) -> Option<u64>
         DW_FORM_data2 => Some(2),
         DW_FORM_data4 | DW_FORM_ref4 => Some(4),
         DW_FORM_data8 => Some(8),
-        DW_FORM_strp | DW_FORM_sec_offset => Some(u64::from(width_size(params.width))),
+        DW_FORM_strp | DW_FORM_sec_offset => Some(u64::from(params.width.offset_size())),
         DW_FORM_addr => Some(u64::from(params.address)),
         _ => None,
     }

@@ -35,11 +35,7 @@ fn value_of_own(
 {
     match value_of_kind(kind, params, bytes, place, spec.implicit) {
         Some(value) => Ok(value),
-        None => Err(Refusal {
-            kind: refused_kind(kind, params),
-            section,
-            offset: start,
-        }),
+        None => Err(Refusal::at(refused_kind(kind, params), section, start)),
     }
 }
 
@@ -58,24 +54,12 @@ fn value_behind(
     ensures refused { IfErr result (FormFails params.now spec.now bytes.now section at) }
 {
     let Some((form, size)) = uleb_at(bytes, at) else {
-        return Err(Refusal {
-            kind: Kind::Entry,
-            section,
-            offset: at,
-        });
+        return Err(Refusal::at(Kind::Entry, section, at));
     };
     let kind = form_kind(form);
     match kind {
-        FormKind::FormInFront => Err(Refusal {
-            kind: Kind::Form,
-            section,
-            offset: at,
-        }),
-        FormKind::InAbbreviation => Err(Refusal {
-            kind: Kind::Form,
-            section,
-            offset: at,
-        }),
+        FormKind::FormInFront => Err(Refusal::at(Kind::Form, section, at)),
+        FormKind::InAbbreviation => Err(Refusal::at(Kind::Form, section, at)),
         _ => {
             let value = value_of_own(kind, spec, params, section, bytes, at, at + size)?;
             Ok(Value {

@@ -36,10 +36,9 @@ paths-more dirs files i d paths more p lt m =
     ∙ ap (λ (ts : List TextPlace). dirs ++ ts)
     (sym (ap texts_of (take_more files i d lt) ∙ map-append (λ (f : FilePlace). f.text) (take i files) (get_or files i d ∷ [])))
 
-pub paths-over : (dirs : List TextPlace) (files : List FilePlace) (paths : List TextPlace) → paths ≡ dirs ++ texts_of (take (length files) files) → paths ≡ dirs ++ texts_of files
-paths-over dirs files paths p = p ∙ ap (λ (fs : List FilePlace). dirs ++ texts_of fs) (take_all (length files) files (omega arith))
-
-pub ruleset path_laws = (paths-start, paths-more, paths-over)
+pub paths-over : (dirs : List TextPlace) (files : List FilePlace) (i : ℕ) (paths : List TextPlace) → paths ≡ dirs ++ texts_of (take i files) → length files ≤ i
+    → paths ≡ dirs ++ texts_of files
+paths-over dirs files i paths p le = p ∙ ap (λ (fs : List FilePlace). dirs ++ texts_of fs) (take_all i files le)
 
 -- a place that fits its field no more
 wide-place : (section : ℕ) (width : Width) (places : TextPlace → Option ℕ) (xs : List TextPlace) (x : TextPlace) (place : Option ℕ) (same : Bool) → Contains xs x

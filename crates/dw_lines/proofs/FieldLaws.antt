@@ -99,8 +99,6 @@ columns-over whole g h table specs i place so w le =
     sym (append-nil (offsets_at h.width so))
     ∙ ap (λ (ss : List Spec). offsets_at h.width so ++ entry_fields g h table ss place) (sym (drop_all i specs le)) ∙ w
 
-pub ruleset column_laws = (columns-more, columns-stop, columns-over)
-
 -- the entries one after another
 pub record EntriesGo (g : LineSource) (h : LineHeader) (table : List ℕ) (specs : List Spec) (place left : ℕ) (before so : List ℕ) (next : ℕ) : Type 0 where
   pub files : List FilePlace

@@ -288,5 +288,3 @@ pub paths-offsets : (g : LineSource) (m : PathMap) (places : TextPlace → Optio
     → offsets ≡ first ++ placed_offsets (all_path_stretches g m places w xs)
 paths-offsets g m places w xs start at before runs first offsets i so le =
     sym (append-nil offsets) ∙ ap (λ (cs : List PlacedStretch). offsets ++ placed_offsets cs) (sym (none-left g m places w xs i le)) ∙ so.offsets_are
-
-pub ruleset paths_laws = (paths-start, paths-order, paths-fit, paths-more, paths-next, paths-runs, paths-offsets)

@@ -1,5 +1,5 @@
 -- Laws of a whole line table: what was read is the table, and what refuses it; one excludes the other.
-use Rattle.std.proofs.Common.{◌≡◌, ◌≢◌, ℕ, ◌+◌, ◌<◌, ◌≤◌, List, [], ◌∷◌, ◌++◌, length, take, get_or, Option, Some, None, refl, sym, ap, ◌∙◌, subst, arith}
+use Rattle.std.proofs.Common.{◌≡◌, ◌≢◌, ℕ, ◌+◌, ◌<◌, ◌≤◌, List, [], ◌∷◌, ◌++◌, length, take, get_or, Option, Some, None, sym, ap, ◌∙◌, subst, arith}
 use Rattle.std.specs.Prelude.{Result, Ok, Err}
 use Rattle.std.proofs.lemmas.List.{take_more, take_all, map-append}
 use Rattle.dw_base.specs.FileViews.{View, section_bytes}
@@ -24,19 +24,14 @@ use Rattle.dw_base.specs.declared.line_tables.FilePlace.{FilePlace}
 use Rattle.dw_lines.proofs.WalkLaws.{comes-one, comes-whole}
 
 -- the texts of entries, one after another
-pub texts-start : (files : List FilePlace) → [] ≡ texts_of (take 0 files)
-texts-start files = refl
-
 pub texts-more : (files : List FilePlace) (i : ℕ) (d : FilePlace) (texts more : List TextPlace) → texts ≡ texts_of (take i files) → i < length files
     → more ≡ texts ++ (get_or files i d).text ∷ [] → more ≡ texts_of (take (i + 1) files)
 texts-more files i d texts more t lt m =
     m ∙ ap (λ (ts : List TextPlace). ts ++ (get_or files i d).text ∷ []) t
     ∙ sym (ap texts_of (take_more files i d lt) ∙ map-append (λ (f : FilePlace). f.text) (take i files) (get_or files i d ∷ []))
 
-pub texts-over : (files : List FilePlace) (texts : List TextPlace) → texts ≡ texts_of (take (length files) files) → texts ≡ texts_of files
-texts-over files texts t = t ∙ ap texts_of (take_all (length files) files (omega arith))
-
-pub ruleset text_laws = (texts-start, texts-more, texts-over)
+pub texts-over : (files : List FilePlace) (i : ℕ) (texts : List TextPlace) → texts ≡ texts_of (take i files) → length files ≤ i → texts ≡ texts_of files
+texts-over files i texts t le = t ∙ ap texts_of (take_all i files le)
 
 -- version 5
 pub new-read : (g : LineSource) (h : LineHeader) (table : List ℕ) (dirs files : List FilePlace) (texts : List TextPlace) (place behind : ℕ) → h.version ≡ 5

@@ -15,12 +15,12 @@ use Rattle.dw_base.specs.declared.line_tables.TextPlace.{TextPlace}
 use Rattle.dw_base.proofs.NumberLaws.{length-number_bytes}
 use Rattle.dw_base.proofs.UnitEditLaws.{length-bytes_of}
 use Rattle.dw_meaning.specs.LineCells.{header_cells, rest_cells, written_cells}
-use Rattle.dw_meaning.specs.LineStretches.{PlacedStretch, Stretch, all_path_stretches, kept_stretch, line_stretches, other_stretch, stretch_size, stretches_between, stretches_end, table_stretches}
+use Rattle.dw_meaning.specs.LineStretches.{PlacedStretch, Stretch, all_path_stretches, kept_stretch, other_stretch, stretch_size, stretches_between, stretches_end, table_stretches}
 use Rattle.dw_meaning.proofs.LineClearLaws.{TableClear}
 use Rattle.dw_meaning.proofs.LineCellLaws.{written-bytes}
 use Rattle.dw_meaning.proofs.LineHeaderLaws.{header-is, length-place}
 use Rattle.dw_meaning.proofs.LineLaidLaws.{length-bytes}
-use Rattle.dw_meaning.proofs.LineStretchLaws.{Placed, TextsApart, end-append, table-are, table-placed}
+use Rattle.dw_meaning.proofs.LineStretchLaws.{Placed, TextsApart, table-are, table-placed}
 use Rattle.elf_relocs.specs.declared.runs.Run.{Run}
 use Rattle.dw_lines.specs.TableMoves.{InOrder, PathsInOrder, behind_placed, header_runs, header_start, kept_run, new_end, offsets_from, passed, passed_runs, placed_offsets, placed_runs, runs_from, stretch_new, stretch_offset, stretch_run}
 use Rattle.dw_lines.specs.declared.moves.FieldOffset.{FieldOffset}
@@ -226,44 +226,6 @@ table-end g m places p new r own apart clear reads =
     new-length g.order g.cells r.header.start new (table_stretches g m places (table_read g r)) (omega (arith, ends, within, end, size))
     ∙ ap (λ (cs : List Cell). new + length cs) s.cells
     ∙ ap (λ (n : ℕ). new + n) (sym (length-bytes_of (written_cells g m places (table_read g r))) ∙ ap length (written-bytes g m places (table_read g r) own))
-
--- tables one behind another
-pub record TablesMoved (g : LineSource) (m : PathMap) (places : TextPlace → Option ℕ) (rs : List LineReading) (place new : ℕ) (runs : List Run) (offsets : List FieldOffset) : Type 0 where
-  pub runs_are : runs ≡ runs_from 0 0 (line_stretches g m places rs)
-  pub offsets_are : offsets ≡ offsets_from 0 (line_stretches g m places rs)
-  pub ends : stretches_end 0 (line_stretches g m places rs) ≡ place
-  pub new_ends : new_end 0 (line_stretches g m places rs) ≡ new
-
-pub tables-none : (g : LineSource) (m : PathMap) (places : TextPlace → Option ℕ) → TablesMoved g m places [] 0 0 [] []
-tables-none g m places = record { runs_are = refl; offsets_are = refl; ends = refl; new_ends = refl }
-
-lines-append : (g : LineSource) (m : PathMap) (places : TextPlace → Option ℕ) (rs : List LineReading) (r : LineReading)
-    → line_stretches g m places (rs ++ r ∷ []) ≡ line_stretches g m places rs ++ table_stretches g m places (table_read g r)
-lines-append g m places [] r = append-nil (table_stretches g m places (table_read g r))
-lines-append g m places (x ∷ xs) r =
-    ap (λ (l : List Stretch). table_stretches g m places (table_read g x) ++ l) (lines-append g m places xs r)
-    ∙ sym (append_assoc (table_stretches g m places (table_read g x)) (line_stretches g m places xs) (table_stretches g m places (table_read g r)))
-
-pub tables-more : (g : LineSource) (m : PathMap) (places : TextPlace → Option ℕ) (rs : List LineReading) (r : LineReading) (place new : ℕ) (runs more : List Run)
-    (offsets fields : List FieldOffset) → TablesMoved g m places rs place new runs offsets → more ≡ runs ++ runs_from place new (table_stretches g m places (table_read g r))
-    → fields ≡ offsets ++ offsets_from place (table_stretches g m places (table_read g r))
-    → TablesMoved g m places (rs ++ r ∷ []) (stretches_end place (table_stretches g m places (table_read g r))) (new_end new (table_stretches g m places (table_read g r))) more fields
-tables-more g m places rs r place new runs more offsets fields so e f =
-    let lines = lines-append g m places rs r in
-    record {
-      runs_are = e ∙ ap (λ (l : List Run). l ++ runs_from place new (table_stretches g m places (table_read g r))) so.runs_are
-          ∙ ap (λ (i : ℕ). runs_from 0 0 (line_stretches g m places rs) ++ runs_from i new (table_stretches g m places (table_read g r))) (sym so.ends)
-          ∙ ap (λ (j : ℕ). runs_from 0 0 (line_stretches g m places rs)
-          ++ runs_from (stretches_end 0 (line_stretches g m places rs)) j (table_stretches g m places (table_read g r))) (sym so.new_ends)
-          ∙ sym (runs-append 0 0 (line_stretches g m places rs) (table_stretches g m places (table_read g r))) ∙ ap (runs_from 0 0) (sym lines);
-      offsets_are = f ∙ ap (λ (l : List FieldOffset). l ++ offsets_from place (table_stretches g m places (table_read g r))) so.offsets_are
-          ∙ ap (λ (i : ℕ). offsets_from 0 (line_stretches g m places rs) ++ offsets_from i (table_stretches g m places (table_read g r))) (sym so.ends)
-          ∙ sym (offsets-append 0 (line_stretches g m places rs) (table_stretches g m places (table_read g r))) ∙ ap (offsets_from 0) (sym lines);
-      ends = ap (stretches_end 0) lines ∙ end-append 0 (line_stretches g m places rs) (table_stretches g m places (table_read g r))
-          ∙ ap (λ (i : ℕ). stretches_end i (table_stretches g m places (table_read g r))) so.ends;
-      new_ends = ap (new_end 0) lines ∙ new-append 0 (line_stretches g m places rs) (table_stretches g m places (table_read g r))
-          ∙ ap (λ (j : ℕ). new_end j (table_stretches g m places (table_read g r))) so.new_ends;
-    }
 
 -- the parts of a header's table
 pub order-further : (from end far : ℕ) (cs : List PlacedStretch) → end ≤ far → InOrder from end cs → InOrder from far cs

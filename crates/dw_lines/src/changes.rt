@@ -8,17 +8,15 @@ ghost use Rattle.dw_base.specs.Cells.{bytes_of, cells_at};
 ghost use Rattle.dw_base.specs.FileViews.{section_bytes, view_cells};
 ghost use Rattle.dw_base.specs.Forms.{width_size};
 ghost use Rattle.dw_base.specs.NewOffsets.{with_offset};
-ghost use Rattle.dw_base.specs.Paths.{mapped_path};
 ghost use Rattle.dw_base.specs.ViewData.{located};
 ghost use Rattle.dw_base.specs.declared.debug_sections.DebugSection.TheVariants.{Str};
 ghost use Rattle.dw_lines.specs.ViewSources.{view_source};
 ghost use Rattle.dw_lines.specs.OffsetRooms.{AllHaveRoom, HasRoom};
-ghost use Rattle.dw_lines.specs.ChangeSteps.{after_change, after_changes, fits_width, offset_fits, OffsetsFit};
+ghost use Rattle.dw_lines.specs.ChangeSteps.{after_changes, fits_width, offset_fits, OffsetsFit};
 ghost use Rattle.dw_base.specs.LineWriteFails.{WideOffset};
 ghost use Rattle.dw_base.specs.WrittenLines.{all_changes, bytes_at, new_place, part, path_changes};
 ghost use Rattle.dw_base.specs.LineTables.{texts_of};
 
-use crate::header::width_size;
 use crate::parts::{bytes_at, part, push_number};
 use dw_base::{DebugSection, FilePlace, Kind, NoMemory, Refusal, TextPlace, Width};
 use dw_paths::{Maps, map_path};
@@ -27,7 +25,6 @@ use std::alloc::{AllocError, Global};
 use std::collections::HashMap;
 
 /// The paths of a header: of its directories, then of its files.
-#[tactic(auto, using(crate::proofs::ChangeLaws::path_laws))]
 pub(crate) fn paths_of(
     alloc: Global,
     dirs: &[TextPlace],
@@ -145,7 +142,7 @@ fn push_offset(
     requires inside { field + width_size width ≤ length (section_bytes view.now section) }
     ensures out { OnOk result (out.new.items ≡ out.old.items ++ (part bytes.now from field ++ bytes_of (with_offset view.now.order (cells_at (view_cells view.now section) field (width_size width)) place))) }
 {
-    let number = view.moved_number(section, field, width_size(width), place);
+    let number = view.moved_number(section, field, width.offset_size(), place);
     out.extend_from_slice(part(bytes, from, field))?;
     push_number(out, view.order(), width, number)?;
     Ok(())
@@ -189,7 +186,7 @@ fn put_path(
         return Ok(from);
     };
     push_offset(view, out, section, bytes, from, path.field, width, place)?;
-    Ok(behind(bytes, path.field, u64::from(width_size(width))))
+    Ok(behind(bytes, path.field, u64::from(width.offset_size())))
 }
 
 /// Appends the bytes from a place up to the last of these paths, with what becomes of each; answers the place

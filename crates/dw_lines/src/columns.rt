@@ -13,7 +13,6 @@ ghost use Rattle.dw_base.specs.LineFormats.{is_text_form};
 ghost use Rattle.dw_base.specs.LineTexts.{inline_text};
 ghost use Rattle.dw_base.specs.LineEntries.{bad_table, column_at, column_params, inline_column, offset_column, value_column};
 
-use crate::header::width_size;
 use crate::texts::{inline_text, named_text};
 use dw_base::dwarf_numbers::{DW_FORM_line_strp, DW_FORM_string, DW_FORM_strp};
 use dw_base::line_tables::Column;
@@ -77,7 +76,7 @@ fn offset_column(
     ensures column { result ≡ offset_column (view_source view.now section) header.now table.now (located view.now texts) place }
     ensures within { IfOk result (λ c. c.next ≤ length table.now) }
 {
-    let size = width_size(header.width);
+    let size = header.width.offset_size();
     let end = table.len() as u64;
     if place > end {
         return Err(bad_table(section, header));

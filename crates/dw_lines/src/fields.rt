@@ -48,7 +48,6 @@ fn push_place(spec: &Spec, place: u64, places: &mut Vec<u64>) -> Result<(), Allo
 }
 
 /// Appends those of the columns of the entry at a place, up to one that can't be read.
-#[tactic(auto, using(crate::proofs::FieldLaws::column_laws))]
 fn push_columns(
     view: &View,
     section: u32,

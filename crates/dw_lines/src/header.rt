@@ -6,25 +6,12 @@
 ghost use Rattle.std.specs.Prelude.{◌≡◌, ◌+◌, ◌-◌, ◌≤◌, ◌<◌, ◌^◌, length, take, IfSome, IsTrue};
 ghost use Rattle.std.specs.Bool.{OnTrue};
 ghost use Rattle.dw_base.specs.Forms.{width_size};
-ghost use Rattle.dw_base.specs.Numbers.{spelled};
 ghost use Rattle.dw_base.specs.LineHeaders.{flags_place, has_standard_operands, header_at, header_in, header_of_length, header_of_version, header_with, HeaderFits, is_header, is_line_version, length_place, line_header};
 
 use dw_base::{LineHeader, Order, Width, initial_length_at, number_at, number_in};
 
 /// How many operands the standard opcodes from 1 on have (DWARF 5, 6.2.5.2).
 const STANDARD_OPERANDS: [u8; 12] = [0, 1, 1, 1, 1, 0, 0, 0, 1, 0, 0, 1];
-
-/// How many bytes an offset has (DWARF 5, 7.4).
-pub(crate) fn width_size(width: Width) -> u8
-    ensures size { result ≡ width_size width }
-    ensures some { 0 < result }
-    ensures wide { result ≤ 8 }
-{
-    match width {
-        Width::W32 => 4,
-        Width::W64 => 8,
-    }
-}
 
 /// A version that a line table may have.
 fn is_line_version(version: u64) -> bool
@@ -210,7 +197,7 @@ fn header_at(
     if flags + 4 > table.len() as u64 {
         return None;
     }
-    let size = width_size(width);
+    let size = width.offset_size();
     let header_length = number_in(order, table, place, size);
     header_of_length(
         table,
@@ -246,7 +233,7 @@ fn header_of_version(
         return None;
     }
     let place = length_place(version, at);
-    let flags = flags_place(version, place + u64::from(width_size(width)));
+    let flags = flags_place(version, place + u64::from(width.offset_size()));
     header_at(order, table, start, width, version, at, place, flags)
 }
 

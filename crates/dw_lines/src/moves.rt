@@ -15,10 +15,9 @@ ghost use Rattle.dw_lines.specs.ViewSources.{view_source};
 ghost use Rattle.dw_meaning.specs.LineStretches.{all_path_stretches, path_stretches, table_stretches};
 
 use crate::changes::{new_place, paths_of};
-use crate::header::width_size;
 use crate::parts::bytes_at;
 use crate::table::LineTable;
-use crate::written::{header_length_place, header_of, length_size};
+use crate::written::{header_length_place, header_of};
 use dw_base::{LineHeader, TextPlace, Width};
 use dw_paths::{Maps, map_len};
 use dw_view::View;
@@ -86,7 +85,7 @@ fn pass_offset(
     ensures runs { OnOk result (runs.new.items ≡ runs.old.items ++ (kept_run at.old at.new (field - at.old) ++ kept_run field (at.new + (field - at.old)) (width_size width))) }
     ensures offsets { OnOk result (offsets.new.items ≡ offsets.old.items ++ record { at = field; size = width_size width; offset = offset } ∷ []) }
 {
-    let size = width_size(width);
+    let size = width.offset_size();
     let kept = field - at.old;
     push_run(runs, at.old, at.new, kept)?;
     push_run(runs, field, at.new + kept, u64::from(size))?;
@@ -136,7 +135,6 @@ fn pass_path(
 }
 
 /// Passes the bytes up to the last of these paths, and what becomes of each; answers the run that begins behind them.
-#[tactic(auto, using(crate::proofs::PathMoveLaws::paths_laws))]
 fn pass_paths(
     view: &View,
     maps: &Maps,
@@ -205,9 +203,9 @@ fn push_header(
     ensures runs { OnOk result (runs.new.items ≡ runs.old.items ++ header_runs header.now new (all_path_stretches (view_source view.now section) maps.now (new_place (view_source view.now section) (λ o. get nat_eq str.now o) (λ o. get nat_eq line_str.now o)) header.now.width paths.now)) }
     ensures offsets { OnOk result (offsets.new.items ≡ offsets.old.items ++ placed_offsets (all_path_stretches (view_source view.now section) maps.now (new_place (view_source view.now section) (λ o. get nat_eq str.now o) (λ o. get nat_eq line_str.now o)) header.now.width paths.now)) }
 {
-    let size = length_size(header.width);
+    let size = header.width.length_size();
     let number = header_length_place(header);
-    let behind = number + u64::from(width_size(header.width));
+    let behind = number + u64::from(header.width.offset_size());
     let front = number - (header.start + size);
     push_run(runs, header.start + size, new + size, front)?;
     let start = Run {

@@ -3,7 +3,7 @@
 //! This file promises: an opcode that is given stands at the place, and none is given only where none that
 //! a table may have ends in the bytes. A program isn't run.
 
-ghost use Rattle.std.specs.Prelude.{◌≡◌, ◌≢◌, ◌+◌, ◌-◌, ◌≤◌, ◌<◌, ◌^◌, length, slice_index, take, IfSome, IsTrue};
+ghost use Rattle.std.specs.Prelude.{◌≡◌, ◌≢◌, ◌+◌, ◌-◌, ◌≤◌, ◌<◌, ◌^◌, length, slice_index, IfSome, IsTrue};
 ghost use Rattle.dw_lines.specs.PlainOpcodes.{has_leb, is_bare, IsPlain, IsShort};
 ghost use Rattle.dw_base.specs.LineHeaders.{has_standard_operands};
 ghost use Rattle.dw_base.specs.LinePrograms.{plain_opcode, defined_file, extended_at, extended_in, extended_operands, if_ranged, opcode_at, standard_end};
@@ -201,7 +201,7 @@ fn has_leb(opcode: u8) -> bool
         || opcode == DW_LNS_set_isa
 }
 
-/// The place behind a number of LEB128 of one or two bytes, where two bytes stand at its place.
+/// The place behind a number of LEB128 of one or two bytes. `None` where it has more, and where fewer than two bytes stand at its place.
 #[tactic(auto, using(crate::proofs::ShortLaws::short_laws))]
 fn behind_short(table: &[u8], place: u64) -> Option<u64>
     requires small { length table.now ≤ 2 ^ 31 }
@@ -222,7 +222,7 @@ fn behind_short(table: &[u8], place: u64) -> Option<u64>
     None
 }
 
-/// Where an opcode with one number of LEB128 ends whose number stands at a place.
+/// Where an opcode with one number of LEB128 ends, whose number stands at a place.
 #[tactic(auto, using(crate::proofs::ShortLaws::leb_laws))]
 fn behind_leb(header: &LineHeader, table: &[u8], opcode: u8, place: u64) -> Option<u64>
     requires small { length table.now ≤ 2 ^ 31 }
@@ -269,8 +269,9 @@ fn behind_discriminator(header: &LineHeader, table: &[u8], place: u64) -> Option
     Some(place + 4)
 }
 
-/// The place behind a plain opcode at a place: a special one, a standard one, or one that sets a discriminator. `None` for another extended one, and
-/// for one that can't be had. The standard opcodes that are met most are told by their numbers, since the header gives each the operands of the standard.
+/// The place behind a plain opcode at a place: a special one, a standard one, or one that sets a discriminator. `None` for
+/// another extended one, and for one that can't be had. The standard opcodes that are met most are told by their numbers, since
+/// the header gives each the operands of the standard.
 #[tactic(auto, using(crate::proofs::PlainLaws::next_laws, crate::proofs::ShortLaws::bare_laws))]
 pub(crate) fn plain_next(header: &LineHeader, table: &[u8], place: u64) -> Option<u64>
     requires small { length table.now ≤ 2 ^ 31 }

@@ -1,11 +1,11 @@
 //! Parts of the bytes of a section, and numbers that are appended to bytes.
 
-ghost use Rattle.std.specs.Prelude.{◌≡◌, ◌^◌, ◌≤◌, ◌++◌, length, OnOk};
+ghost use Rattle.std.specs.Prelude.{◌≡◌, ◌++◌, OnOk};
 ghost use Rattle.dw_base.specs.Forms.{width_size};
 ghost use Rattle.dw_base.specs.Numbers.{number_bytes};
 ghost use Rattle.dw_base.specs.WrittenLines.{bytes_at, length_bytes, part};
 
-use dw_base::{Order, Width};
+use dw_base::{Order, Width, push_long, push_word};
 use std::alloc::AllocError;
 
 /// The bytes from a place up to another, as far as they are there.
@@ -28,26 +28,6 @@ pub(crate) fn bytes_at(bytes: &[u8], at: u64, n: u64) -> &[u8]
     let rest = part(bytes, at, bytes.len() as u64);
     let stop = n.min(rest.len() as u64);
     &rest[..stop as usize]
-}
-
-/// Appends the four bytes that spell a number, or its lowest four bytes where it has more.
-fn push_word(out: &mut Vec<u8>, order: Order, value: u64) -> Result<(), AllocError>
-    ensures bytes { OnOk result (out.new.items ≡ out.old.items ++ number_bytes order 4 value) }
-{
-    match order {
-        Order::Little => out.extend_from_slice(&value.to_le_bytes()[..4]),
-        Order::Big => out.extend_from_slice(&value.to_be_bytes()[4..]),
-    }
-}
-
-/// Appends the eight bytes that spell a number.
-fn push_long(out: &mut Vec<u8>, order: Order, value: u64) -> Result<(), AllocError>
-    ensures bytes { OnOk result (out.new.items ≡ out.old.items ++ number_bytes order 8 value) }
-{
-    match order {
-        Order::Little => out.extend_from_slice(&value.to_le_bytes()),
-        Order::Big => out.extend_from_slice(&value.to_be_bytes()),
-    }
 }
 
 /// Appends the bytes that spell an offset or the length of a header.

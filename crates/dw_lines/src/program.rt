@@ -54,8 +54,8 @@ fn push_file(files: &mut Vec<FilePlace>, file: Option<FilePlace>) -> Result<(), 
     Ok(())
 }
 
-/// The place behind plain opcodes that stand one after another from a place on: none are passed where the line range is 0, so that
-/// special ones have none.
+/// The place behind plain opcodes that stand one after another from a place on. None are passed where the line range is 0: then no
+/// special opcode can be had.
 #[tactic(auto, using(crate::proofs::PlainLaws::run_laws))]
 fn behind_plain(header: &LineHeader, table: &[u8], from: u64) -> u64
     requires small { length table.now ≤ 2 ^ 31 }

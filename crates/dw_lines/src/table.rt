@@ -70,7 +70,6 @@ pub(crate) struct Lists {
 }
 
 /// The texts of entries.
-#[tactic(auto, using(crate::proofs::TableLaws::text_laws))]
 fn texts_of(alloc: Global, files: &[FilePlace]) -> Result<Vec<TextPlace>, AllocError>
     ensures texts { IfOk result (λ texts. texts.items ≡ texts_of files.now) }
 {

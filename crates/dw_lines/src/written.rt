@@ -17,14 +17,16 @@ ghost use Rattle.dw_base.specs.LineHeaders.{line_header};
 ghost use Rattle.dw_base.specs.LinePrograms.{next_opcode};
 ghost use Rattle.dw_base.specs.Walks.{ComesTo, Since};
 ghost use Rattle.dw_base.specs.LineWriteFails.{CanWrite, ProgramFails, WriteFails, length_field, length_limit};
-ghost use Rattle.dw_base.specs.WrittenLines.{all_changes, behind_lengths, changed, header_length_place, length_bytes, length_size, new_place, with_header_length, with_program, written_front, written_header, written_program, written_rest, written_table};
+ghost use Rattle.dw_base.specs.WrittenLines.{all_changes, behind_lengths, changed, header_length_place, length_bytes, length_size, new_place, with_header_length, with_program, written_front, written_header, written_program, written_table};
 
 use crate::changes::{check_offsets, paths_of, put_paths};
 use crate::defined_paths::check_opcodes;
-use crate::header::{length_place, line_header, width_size};
+use crate::header::{length_place, line_header};
 use crate::parts::{part, push_length, push_number};
 use crate::table::LineTable;
-use dw_base::{Fault, FilePlace, Kind, LineHeader, NoMemory, Refusal, TextPlace, Width};
+use dw_base::{
+    FIRST_RESERVED_LENGTH, Fault, FilePlace, Kind, LineHeader, NoMemory, Refusal, TextPlace, Width,
+};
 use dw_paths::Maps;
 use dw_view::View;
 use std::alloc::{AllocError, Global};
@@ -39,17 +41,6 @@ pub struct WrittenTable {
     pub program: u64,
 }
 
-/// How many bytes the length of a table takes (DWARF 5, 7.4).
-pub(crate) fn length_size(width: Width) -> u64
-    ensures size { result ≡ length_size width }
-    ensures small { result ≤ 12 }
-{
-    match width {
-        Width::W32 => 4,
-        Width::W64 => 12,
-    }
-}
-
 /// Where the length of a header stands.
 pub(crate) fn header_length_place(header: &LineHeader) -> u64
     requires small { header.now.start ≤ 2 ^ 31 }
@@ -59,7 +50,7 @@ pub(crate) fn header_length_place(header: &LineHeader) -> u64
 {
     length_place(
         u64::from(header.version),
-        header.start + length_size(header.width),
+        header.start + header.width.length_size(),
     )
 }
 
@@ -80,7 +71,7 @@ fn written_header(
     requires small { header.now.start ≤ 2 ^ 31 }
     ensures bytes { IfOk result (λ out. out.items ≡ changed (section_bytes view.now section) (behind_lengths header.now.start header.now.width header.now.version) header.now.program (all_changes (view_source view.now section) maps.now (new_place (view_source view.now section) (λ o. get nat_eq str.now o) (λ o. get nat_eq line_str.now o)) header.now.width paths.now)) }
 {
-    let first = header_length_place(header) + u64::from(width_size(header.width));
+    let first = header_length_place(header) + u64::from(header.width.offset_size());
     let mut out = Vec::new(alloc);
     let place = put_paths(
         alloc,
@@ -111,7 +102,7 @@ fn written_front(
     requires small { header.now.start ≤ 2 ^ 31 }
     ensures bytes { IfOk result (λ out. out.items ≡ with_header_length (view_source view.now section) (table_with section header.now [] [] []) lists.now) }
 {
-    let version = header.start + length_size(header.width);
+    let version = header.start + header.width.length_size();
     let mut out = Vec::new(alloc);
     out.extend_from_slice(part(view.bytes(section), version, header_length_place(header)))?;
     push_number(&mut out, view.order(), header.width, lists.len() as u64)?;
@@ -124,7 +115,7 @@ fn length_fits(width: Width, len: u64) -> bool
     ensures fits { IsTrue result ↔ (len < length_limit width) }
 {
     match width {
-        Width::W32 => len < 0xffff_fff0,
+        Width::W32 => len < FIRST_RESERVED_LENGTH,
         Width::W64 => true,
     }
 }
@@ -169,7 +160,7 @@ fn whole_table(
     bytes.extend_from_slice(program)?;
     Ok(WrittenTable {
         bytes,
-        program: length_size(header.width) + front.len() as u64,
+        program: header.width.length_size() + front.len() as u64,
     })
 }
 

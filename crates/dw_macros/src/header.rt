@@ -7,7 +7,6 @@ ghost use Rattle.std.specs.Prelude.{◌≡◌, ◌+◌, ◌≤◌, ◌<◌, ◌^
 ghost use Rattle.dw_base.specs.MacroHeaders.{has_flag, header_by, header_of, is_macro_version, macro_header, width_by};
 ghost use Rattle.dw_macros.specs.HeaderRooms.{HasLineRoom};
 
-use crate::widths::width_size;
 use dw_base::macro_numbers::{
     DEBUG_LINE_OFFSET_FLAG, OFFSET_SIZE_FLAG, OPCODE_OPERANDS_TABLE_FLAG,
 };
@@ -59,7 +58,7 @@ fn header_by(
             first: place,
         });
     }
-    let first = place + u64::from(width_size(width));
+    let first = place + u64::from(width.offset_size());
     if first > bytes.len() as u64 {
         return None;
     }

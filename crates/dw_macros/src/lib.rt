@@ -23,7 +23,6 @@ mod header;
 mod reading;
 mod texts;
 mod units;
-mod widths;
 
 pub use dw_base::{Fault, Kind, MacroEvent, MacroOperation, MacroUnit, Refusal, TextPlace, Width};
 pub use events::MacroEvents;

@@ -7,7 +7,6 @@ ghost use Rattle.std.specs.Prelude.{◌≡◌, ◌+◌, ◌≤◌, ◌<◌, ◌^
 ghost use Rattle.dw_base.specs.MacroOperations.{bring_operation, enter_behind, enter_operation, inline_behind, inline_operation, is_foreign, named_behind, named_operation, operation_at, operation_of, plain_operation};
 ghost use Rattle.dw_macros.specs.OperationRooms.{HasRoom};
 
-use crate::widths::width_size;
 use dw_base::macro_numbers::{
     DW_MACRO_define, DW_MACRO_define_strp, DW_MACRO_define_sup, DW_MACRO_end_file, DW_MACRO_import,
     DW_MACRO_import_sup, DW_MACRO_start_file, DW_MACRO_undef, DW_MACRO_undef_strp,
@@ -71,7 +70,7 @@ fn named_behind(
     ensures behind { IfSome result (λ o. field < o.1) }
     ensures within { IfSome result (λ o. o.1 ≤ length bytes.now) }
 {
-    let next = field + u64::from(width_size(width));
+    let next = field + u64::from(width.offset_size());
     if next > bytes.len() as u64 {
         return None;
     }
@@ -137,7 +136,7 @@ fn bring_operation(bytes: &[u8], width: Width, field: u64) -> Option<(MacroOpera
     ensures behind { IfSome result (λ o. field < o.1) }
     ensures within { IfSome result (λ o. o.1 ≤ length bytes.now) }
 {
-    let next = field + u64::from(width_size(width));
+    let next = field + u64::from(width.offset_size());
     if next > bytes.len() as u64 {
         return None;
     }

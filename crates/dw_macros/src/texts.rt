@@ -14,7 +14,6 @@ ghost use Rattle.dw_base.specs.MacroUnits.{names_text, offset_at};
 ghost use Rattle.dw_base.specs.MacroOffsets.{FieldReads, FieldRefuses};
 ghost use Rattle.dw_macros.specs.TextEnds.{IsTexts};
 
-use crate::widths::width_size;
 use dw_base::{DebugSection, Field, Refusal, Width, nul_end};
 use dw_view::View;
 
@@ -74,7 +73,7 @@ pub(crate) fn macro_field(
     ensures reads { OnOk result (FieldReads view.now section width field) }
     ensures refused { IfErr result (FieldRefuses view.now section width field) }
 {
-    let read = view.offset(section, field, width_size(width))?;
+    let read = view.offset(section, field, width.offset_size())?;
     Ok(read)
 }
 

@@ -18,12 +18,12 @@ use Rattle.dw_base.specs.declared.shared.Order.{Order}
 use Rattle.dw_base.specs.declared.view_fields.Field.{Field}
 use Rattle.dw_base.specs.declared.view_fields.Field.TheVariants.{Into, Num, Sym}
 use Rattle.dw_base.proofs.LineFieldLaws.{line_field-refused, line_field-whole, named_text-by, named_text-refused}
-use Rattle.dw_base.proofs.OffsetPutLaws.{AddendFits, PutsBy, addend-fits, offset-put-any}
+use Rattle.dw_base.proofs.OffsetPutLaws.{AddendFits, PutsBy, offset-put-any}
 use Rattle.dw_base.proofs.RelocationFieldLaws.{field_of-cells_at, first-take, length-cells_at, partly-lies, partly-none}
 use Rattle.dw_base.proofs.TextLaws.{ends_in-inside}
 use Rattle.dw_meaning.proofs.ClearLaws.{NoneOver, relocation-behind, relocation-taken}
 use Rattle.dw_meaning.specs.NewAddends.{Makes}
-use Rattle.dw_meaning.proofs.FieldPutLaws.{ReachesBy, makes-addend}
+use Rattle.dw_meaning.proofs.FieldPutLaws.{makes-addend}
 
 ok-text : (t u : TextPlace) → ◌≡◌ {A = Result TextPlace Refusal} (Ok t) (Ok u) → t ≡ u
 ok-text t u e = cc
@@ -229,14 +229,6 @@ abbrev pub TakesAt : Option Relocation → ℕ → ℕ → Type 0
 TakesAt None size n = ⊤
 TakesAt (Some r) size n = TakesBy r.target r size n
 
-pub takes-reached : (o : Option Relocation) (size n : ℕ) → ReachesBy o size → TakesAt o size n
-takes-reached None size n h = tt
-takes-reached (Some r) size n h = by_target r.target refl
-  where
-    by_target : (t : Option (ℕ × ℕ)) → r.target ≡ t → TakesBy t r size n
-    by_target None e = tt
-    by_target (Some (section, v)) e = λ fits. addend-fits r.addend r v size n section e h fits
-
 pub makes-takes : (o : Option Relocation) (size n : ℕ) → Makes o size n → TakesAt o size n
 makes-takes None size n h = tt
 makes-takes (Some r) size n h = by_target r.target refl
@@ -250,10 +242,6 @@ pub field-kept : (g : LineSource) (z w : Located) (p size n : ℕ) → FieldName
     → offset_of g.order w (cells_at g.cells p size) ≡ n
 unfolding offset_of
 field-kept g z w p size n h ends same = into-grown z w (field_of g.order (cells_at g.cells p size)) n h.offset (ends_in-inside z.bytes n ends) same
-
-placed-in : (order : Order) (z : Located) (p : List Cell) → offset_of order z p < length z.bytes → is_placed (field_of order p) ≡ true
-unfolding offset_of
-placed-in order z p lt = placed-into z (field_of order p) lt
 
 -- the symbol of a relocation that makes a field a place in a section lies in it
 record TargetIn (r : Relocation) (section : ℕ) : Type 0 where

@@ -13,8 +13,7 @@ use Rattle.dw_base.specs.declared.shared.Width.{Width}
 use Rattle.dw_base.specs.declared.shared.Width.TheVariants.{W32, W64}
 use Rattle.dw_base.specs.declared.view_fields.Field.{Field}
 use Rattle.dw_base.specs.declared.view_fields.Field.TheVariants.{Into, Num, Sym}
-use Rattle.dw_base.proofs.OffsetPutLaws.{AddendFits, PutsBy, addend-fits, length-with_bytes, offset-put-any, reaches_all}
-use Rattle.dw_base.proofs.PlainCellLaws.{IsPlain, first-plain}
+use Rattle.dw_base.proofs.OffsetPutLaws.{AddendFits, PutsBy, length-with_bytes, offset-put-any}
 use Rattle.dw_base.proofs.RelocationFieldLaws.{field_by-into}
 use Rattle.dw_meaning.specs.NewAddends.{AddendMakes, Makes}
 
@@ -29,10 +28,6 @@ PlacesBy (Some r) section size = PlacesIn r section size
 
 pub record IsPlace (section : ℕ) (p : List Cell) : Type 0 where
   pub by_relocation : PlacesBy (first_relocation p) section (length p)
-
--- cells without a relocation hold an offset into any section
-pub plain-place : (section : ℕ) (p : List Cell) → IsPlain p → IsPlace section p
-plain-place section p h = record { by_relocation = subst (λ (o : Option Relocation). PlacesBy o section (length p)) (sym (first-plain p h)) tt }
 
 -- an offset that was put is read back
 pub makes-addend : (r : Relocation) (o : Option ℤ) (section value size n : ℕ) → r.target ≡ Some (section, value) → AddendMakes o r size n → AddendFits o r value size n
@@ -49,21 +44,6 @@ place-put order z p n h some fits makes =
     puts None t m = tt
     puts (Some r) t m =
         record { value = t.value; own = t.own; target = t.target; addend = makes-addend r r.addend z.number t.value (length p) n t.target m }
-
--- where the addends of a class reach all offsets of a size, they make each that fits it
-abbrev pub ReachesBy : Option Relocation → ℕ → Type 0
-ReachesBy None size = ⊤
-ReachesBy (Some r) size = reaches_all r.class size ≡ true
-
-pub reached-makes : (o : Option Relocation) (section size n : ℕ) → PlacesBy o section size → ReachesBy o size → n < 256 ^ size → Makes o size n
-reached-makes None section size n t reaches fits = tt
-reached-makes (Some r) section size n t reaches fits = own r.addend
-  where
-    own : (a : Option ℤ) → AddendMakes a r size n
-    own None = tt
-    own (Some a) =
-        subst (λ (o : Option (ℕ × ℕ)). wrapped (pos (symbol_value o) +ℤ moved_addend r n) size ≡ n) (sym t.target)
-        (addend-fits (Some a) r t.value size n section t.target reaches fits)
 
 -- the offset is the same whatever the section's bytes are
 into-own : (z : Located) (section n : ℕ) → section ≡ z.number → offset_into z (Into section n) ≡ n

@@ -1,5 +1,5 @@
 -- The cells of a new line table: their bytes are those that are written, and where no relocation begins in the section of line tables, none begins in them.
-use Rattle.std.proofs.Common.{Bool, true, false, ◌≡◌, ℕ, zero, suc, ◌+◌, ◌-◌, ◌≤◌, ◌==◌, if◌then◌else◌, List, [], ◌∷◌, ◌++◌, length, take, drop, Option, None, Some, refl, sym, ap, ◌∙◌, subst, arith, take-add, append_assoc}
+use Rattle.std.proofs.Common.{Bool, true, false, ◌≡◌, ℕ, ◌+◌, ◌-◌, ◌≤◌, ◌==◌, if◌then◌else◌, List, [], ◌∷◌, ◌++◌, length, take, drop, Option, None, Some, refl, sym, ap, ◌∙◌, subst, arith, take-add, append_assoc}
 use Rattle.std.specs.Bool.{⊤}
 use Rattle.std.proofs.lemmas.List.{drop-drop}
 use Rattle.dw_base.specs.Cells.{Cell, bytes_of, cells_at, plain_cells}
@@ -21,20 +21,6 @@ use Rattle.dw_base.proofs.RelocationFieldLaws.{bytes_of-drop, bytes_of-take}
 use Rattle.dw_base.proofs.UnitEditLaws.{length-bytes_of}
 use Rattle.dw_base.proofs.UnitHeaderLaws.{bytes_of-append}
 use Rattle.dw_meaning.specs.LineCells.{CellChange, all_path_cells, changed_cells, header_cells, inline_cells, offset_cells, path_cells, rest_cells, written_cells, all_written_cells}
-
--- parts of plain cells
-pub drop-plain : (n : ℕ) (bs : List ℕ) → drop n (plain_cells bs) ≡ plain_cells (drop n bs)
-drop-plain zero bs = refl
-drop-plain (suc n) [] = refl
-drop-plain (suc n) (b ∷ bs) = drop-plain n bs
-
-pub take-plain : (n : ℕ) (bs : List ℕ) → take n (plain_cells bs) ≡ plain_cells (take n bs)
-take-plain zero bs = refl
-take-plain (suc n) [] = refl
-take-plain (suc n) (b ∷ bs) = ap (λ (cs : List Cell). record { byte = b; relocation = None } ∷ cs) (take-plain n bs)
-
-pub part-plain : (bs : List ℕ) (from end : ℕ) → cells_part (plain_cells bs) from end ≡ plain_cells (part bs from end)
-part-plain bs from end = ap (take (end - from)) (drop-plain from bs) ∙ take-plain (end - from) (drop from bs)
 
 -- parts one after another
 pub cells-split : (cells : List Cell) (a b c : ℕ) → a ≤ b → b ≤ c → cells_part cells a c ≡ cells_part cells a b ++ cells_part cells b c
@@ -248,11 +234,6 @@ written-is g m places t plain =
     plain-append (plain_cells (length_bytes g.order t.width (length (rest_cells g t (header_cells g m places t))))) (rest_cells g t (header_cells g m places t))
     (plain_cells-plain (length_bytes g.order t.width (length (rest_cells g t (header_cells g m places t)))))
     (rest-is g t (header_cells g m places t) plain (header-is g m places t plain))
-
--- the new table is the bytes that are written
-pub written-plain : (g : LineSource) (m : PathMap) (places : TextPlace → Option ℕ) (t : LineTable) → bytes_of g.cells ≡ g.bytes → IsPlain g.cells
-    → written_cells g m places t ≡ plain_cells (written_table g m places t)
-written-plain g m places t own plain = (written-is g m places t plain).plain ∙ ap plain_cells (written-bytes g m places t own)
 
 -- the new tables, one behind another
 pub all-bytes : (c : TableChanges) (g : LineSource) (rs : List LineReading) → bytes_of g.cells ≡ g.bytes

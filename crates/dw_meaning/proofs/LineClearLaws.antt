@@ -25,8 +25,6 @@ use Rattle.dw_base.specs.declared.line_tables.FilePlace.{FilePlace}
 use Rattle.dw_base.specs.declared.line_tables.LineHeader.{LineHeader}
 use Rattle.dw_base.specs.declared.line_tables.TextPlace.{TextPlace}
 use Rattle.dw_base.specs.declared.values.Spec.{Spec}
-use Rattle.dw_base.proofs.PlainCellLaws.{IsPlain}
-use Rattle.dw_base.proofs.RelocationFieldLaws.{relocation_at-plain}
 use Rattle.dw_meaning.proofs.ClearLaws.{Clear, ColumnsClear, EntriesClear, ListClear, ListsClear, NoneOver, clear-part, clear_from}
 use Rattle.dw_meaning.proofs.FieldPutLaws.{width-some}
 use Rattle.dw_meaning.proofs.LineColumnLaws.{ColumnIs, column-is, inline_is, offset_form, offset_is, value_is}
@@ -492,18 +490,3 @@ pub each-clear : (g : LineSource) (e : ℕ) (rs : List LineReading)
     → ((xs : List LineReading) (start : ℕ) (t : LineReading) → TablesTo g 0 xs start → ReadsTable g start t → HeaderReads t.header.start t.behind g.cells (table_fields g t))
     → TablesTo g 0 rs e → EachClear g rs
 each-clear g e rs h tables = each-behind g 0 e [] rs h refl tables
-
--- where no relocation begins, all are clear
-pub plain-clear : (g : LineSource) (p e : ℕ) (rs : List LineReading) → IsPlain g.cells → TablesTo g p rs e → EachClear g rs
-plain-clear g p e [] plain tables = tt
-plain-clear g p e (r ∷ rs) plain tables = (table-clear g p r tables.0 headers, plain-clear g r.header.end e rs plain tables.1)
-  where
-    headers : HeaderReads r.header.start r.behind g.cells (table_fields g r)
-    headers = record {
-      own = λ x q begins at lt.
-          let none = relocation_at-plain g.cells x plain in
-          absurd cc;
-      apart = λ x q begins lt.
-          let none = relocation_at-plain g.cells x plain in
-          absurd cc;
-    }

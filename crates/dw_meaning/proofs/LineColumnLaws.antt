@@ -8,7 +8,6 @@ use Rattle.dw_base.specs.LineEntries.{column_params, inline_column, text_column,
 use Rattle.dw_base.specs.LineMeanings.{section_in, place_text}
 use Rattle.dw_base.specs.LineSources.{LineSource, line_field}
 use Rattle.dw_base.specs.LineTexts.{text_by, text_of, named_text}
-use Rattle.dw_base.specs.Numbers.{spelled}
 use Rattle.dw_base.specs.Paths.{PathMap, IsPathMap, mapped_path}
 use Rattle.dw_base.specs.Refusals.{at}
 use Rattle.dw_base.specs.RelocationFields.{relocation_at}
@@ -20,8 +19,6 @@ use Rattle.dw_base.specs.declared.fault.Kind.TheVariants.{StringOffset}
 use Rattle.dw_base.specs.declared.fault.Refusal.{Refusal}
 use Rattle.dw_base.specs.declared.view_fields.Field.{Field}
 use Rattle.dw_base.specs.declared.view_fields.Field.TheVariants.{Num, Into, Sym}
-use Rattle.dw_base.proofs.LineFieldLaws.{named_text-plain}
-use Rattle.dw_base.proofs.PlainCellLaws.{IsPlain}
 use Rattle.dw_base.specs.declared.line_tables.Column.{Column}
 use Rattle.dw_base.specs.declared.line_tables.LineHeader.{LineHeader}
 use Rattle.dw_base.specs.declared.line_tables.TextPlace.{TextPlace}
@@ -214,15 +211,6 @@ offset-is g h table spec p c z form e = by_room (nat_le (p + width_size h.width)
         → ColumnIs g h table spec p c
     by_room true is e = by_text (named_text g (texts_in g z) p (width_size h.width)) refl (leb-true _ _ is) e
     by_room false is e = absurd (err-ok _ c e)
-
--- where no relocation begins in the section, the offset is the number of the field
-pub named-number : (g : LineSource) (z : Located) (p size n : ℕ) → IsPlain g.cells → named_text g z p size ≡ Ok (text_of z n p) → n ≡ spelled g.order g.bytes p size
-named-number g z p size n plain e = by_ends (ends_in z.bytes (spelled g.order g.bytes p size)) (sym (named_text-plain g z p size plain) ∙ e)
-  where
-    by_ends : (b : Bool) → (if b then Ok (text_of z (spelled g.order g.bytes p size) p) else Err (at StringOffset g.number p)) ≡ Ok (text_of z n p)
-        → n ≡ spelled g.order g.bytes p size
-    by_ends true e = ap (λ (t : TextPlace). t.at) (sym (ok-same (text_of z (spelled g.order g.bytes p size) p) (text_of z n p) e))
-    by_ends false e = absurd (err-ok _ _ e)
 
 value-is : (g : LineSource) (h : LineHeader) (table : List ℕ) (spec : Spec) (p : ℕ) (c : Column) (o : Option Value) → (spec.form == DW_FORM_string) ≡ false
     → (spec.form == DW_FORM_strp) ≡ false → (spec.form == DW_FORM_line_strp) ≡ false → value_at (column_params g.order h) spec table p ≡ o → value_column g.number h p o ≡ Ok c

@@ -106,12 +106,6 @@ there-kept true None None e = refl
 there-kept true None (Some x) e = absurd cc
 there-kept true (Some x) t e = refl
 
-there-moved : (g k : LineSource) (m : PathMap) (o p : Option TextPlace) → MovedText g k m o p → is_there p ≡ is_there o
-there-moved g k m None None h = refl
-there-moved g k m None (Some y) h = absurd h
-there-moved g k m (Some x) None h = absurd h
-there-moved g k m (Some x) (Some y) h = refl
-
 there-text : (g k : LineSource) (o p : Option TextPlace) → KeptText g k o p → is_there p ≡ is_there o
 there-text g k None None h = refl
 there-text g k None (Some y) h = absurd h

@@ -4,7 +4,7 @@ use Rattle.std.proofs.Common.{Bool, true, false, ◌≡◌, ◌≢◌, ℕ, ◌+
 use Rattle.std.specs.Prelude.{⊤, Ok}
 use Rattle.std.proofs.lemmas.Bool.{eq-eqb, ne_eqb}
 use Rattle.std.proofs.lemmas.List.{length-append}
-use Rattle.dw_base.specs.Cells.{Located, Relocation}
+use Rattle.dw_base.specs.Cells.{Located}
 use Rattle.dw_base.specs.Forms.{TextSection, in_str, in_line_str, width_size}
 use Rattle.dw_base.specs.LineChanges.{path_in, mention_in, paths_mentions, line_mentions, asked_place, line_place}
 use Rattle.dw_base.specs.LineEntries.{first_of, with_column, columns}
@@ -28,15 +28,8 @@ use Rattle.dw_base.proofs.PathLaws.{has_nul-mapped_path}
 use Rattle.dw_base.proofs.TableLaws.{is_in-texts_after, is_in-with_mention}
 use Rattle.dw_base.proofs.TextLaws.{has_nul-text_in, ends_in-inside, text_in-place_in, ends_in-place_in, place_in-lt}
 use Rattle.dw_base.specs.RelocationFields.{relocation_at}
-use Rattle.dw_base.specs.declared.shared.Class.{Class}
-use Rattle.dw_base.specs.declared.shared.Class.TheVariants.{C32, C64}
-use Rattle.dw_base.specs.declared.shared.Width.TheVariants.{W32, W64}
-use Rattle.dw_base.proofs.OffsetPutLaws.{reaches_all}
-use Rattle.dw_base.proofs.PlainCellLaws.{IsPlain}
-use Rattle.dw_base.proofs.RelocationFieldLaws.{relocation_at-plain}
 use Rattle.dw_meaning.specs.NewAddends.{EachPathMakes, EachTableMakes, MakesPath}
-use Rattle.dw_meaning.proofs.FieldCellLaws.{TakesAt, makes-takes, takes-reached}
-use Rattle.dw_meaning.proofs.FieldPutLaws.{ReachesBy}
+use Rattle.dw_meaning.proofs.FieldCellLaws.{makes-takes}
 use Rattle.dw_meaning.proofs.LineColumnLaws.{texts_in, OffsetMoves, MovesIn, PathMoves, TakesPlace, ColumnIs, inline_is, offset_is, value_is, column-is}
 use Rattle.dw_meaning.proofs.LineEntryLaws.{text_with, column-step, entry-same}
 use Rattle.dw_meaning.proofs.LineListLaws.{entry-is, list-is, EachMoves}
@@ -235,20 +228,6 @@ paths-move c g w ts us ms ns (x ∷ xs) both all takes =
           (behind_piece c ts us (mention_in g in_str x) (mention_in g in_line_str x) (paths_mentions g in_str xs ++ ms) (paths_mentions g in_line_str xs ++ ns) here) takes.1,
     )
 
--- where no relocation begins all are made
-pub plain-take : (g : LineSource) (places : TextPlace → Option ℕ) (rs : List LineReading) → IsPlain g.cells → AllTake g places rs
-plain-take g places [] plain = tt
-plain-take g places (r ∷ rs) plain = (each r.header.width (r.dirs ++ texts_of r.files), plain-take g places rs plain)
-  where
-    one : (w : Width) (field : ℕ) (o : Option ℕ) (b : Bool) → TakesIn g w field o b
-    one w field o true = tt
-    one w field None false = tt
-    one w field (Some n) false = subst (λ (r : Option Relocation). TakesAt r (width_size w) n) (sym (relocation_at-plain g.cells field plain)) tt
-
-    each : (w : Width) (xs : List TextPlace) → EachTakes g places w xs
-    each w [] = tt
-    each w (x ∷ xs) = (one w x.field (places x) (x.section == g.number), each w xs)
-
 -- where addends make the new places
 pub makes-take : (g : LineSource) (places : TextPlace → Option ℕ) (rs : List LineReading) → EachTableMakes g places rs → AllTake g places rs
 makes-take g places [] h = tt
@@ -262,43 +241,3 @@ makes-take g places (r ∷ rs) h = (each r.header.width (r.dirs ++ texts_of r.fi
     each : (w : Width) (xs : List TextPlace) → EachPathMakes g places w xs → EachTakes g places w xs
     each w [] h = tt
     each w (x ∷ xs) h = (one w x (places x) (x.section == g.number) h.0, each w xs h.1)
-
--- and where the addends of relocations reach each offset of a table's width
-pub record WidthReaches (g : LineSource) (w : Width) : Type 0 where
-  pub all : (p : ℕ) (r : Relocation) → relocation_at g.cells p ≡ Some r → reaches_all r.class (width_size w) ≡ true
-
-abbrev pub EachReaches : LineSource → List LineReading → Type 0
-EachReaches g [] = ⊤
-EachReaches g (r ∷ rs) = WidthReaches g r.header.width × EachReaches g rs
-
-pub reaches-take : (g : LineSource) (places : TextPlace → Option ℕ) (rs : List LineReading) → EachReaches g rs → AllTake g places rs
-reaches-take g places [] h = tt
-reaches-take g places (r ∷ rs) h = (each r.header.width h.0 (r.dirs ++ texts_of r.files), reaches-take g places rs h.1)
-  where
-    at_place : (w : Width) → WidthReaches g w → (field : ℕ) (o : Option Relocation) → relocation_at g.cells field ≡ o → ReachesBy o (width_size w)
-    at_place w k field None e = tt
-    at_place w k field (Some q) e = k.all field q e
-
-    one : (w : Width) → WidthReaches g w → (field : ℕ) (o : Option ℕ) (b : Bool) → TakesIn g w field o b
-    one w k field o true = tt
-    one w k field None false = tt
-    one w k field (Some n) false = takes-reached (relocation_at g.cells field) (width_size w) n (at_place w k field (relocation_at g.cells field) refl)
-
-    each : (w : Width) → WidthReaches g w → (xs : List TextPlace) → EachTakes g places w xs
-    each w k [] = tt
-    each w k (x ∷ xs) = (one w k x.field (places x) (x.section == g.number), each w k xs)
-
--- so it is of each table of DWARF's 32 bits, and in a file of 64 bits
-pub narrow-reaches : (g : LineSource) → WidthReaches g W32
-narrow-reaches g = record { all = λ p r e. by_class r.class }
-  where
-    by_class : (c : Class) → reaches_all c 4 ≡ true
-    by_class C32 = refl
-    by_class C64 = refl
-
-pub wide-reaches : (g : LineSource) (w : Width) → ((p : ℕ) (r : Relocation) → relocation_at g.cells p ≡ Some r → r.class ≡ C64) → WidthReaches g w
-wide-reaches g w wide = record { all = λ p r e. subst (λ (c : Class). reaches_all c (width_size w) ≡ true) (sym (wide p r e)) (by_width w) }
-  where
-    by_width : (w : Width) → reaches_all C64 (width_size w) ≡ true
-    by_width W32 = refl
-    by_width W64 = refl

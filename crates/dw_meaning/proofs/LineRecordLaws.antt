@@ -5,14 +5,12 @@ use Rattle.dw_base.specs.DebugData.{DebugData, line_source}
 use Rattle.dw_base.specs.Elf.{word_size}
 use Rattle.dw_base.specs.LineChanges.{line_place, lines_after}
 use Rattle.dw_base.specs.LineReadings.{AreTables, LineReading, all_lines}
-use Rattle.dw_base.specs.RelocationBodies.{relocation_body}
 use Rattle.dw_base.specs.RelocationSectionFails.{TableReads}
 use Rattle.dw_base.specs.SectionRelocations.{cells_from, relocation_section, relocation_source, relocations_in, section_cells}
 use Rattle.dw_base.specs.TextChanges.{TableChanges}
 use Rattle.dw_base.specs.declared.shared.Class.{Class}
 use Rattle.dw_base.specs.declared.shared.Class.TheVariants.{C32, C64}
-use Rattle.dw_base.proofs.RelocationBodyLaws.{CanMove, moved-back}
-use Rattle.dw_base.proofs.RelocationTieLaws.{with_table}
+use Rattle.dw_base.proofs.RelocationBodyLaws.{CanMove}
 use Rattle.dw_base.proofs.UnitEditLaws.{length-bytes_of}
 use Rattle.dw_meaning.specs.LineCells.{all_written_cells}
 use Rattle.dw_meaning.specs.RelocationFails.{LeftRelocationsRead}
@@ -53,16 +51,3 @@ lines-can contents b i k c d moving rs h =
     reads-shift contents b i k (all_written_cells (line_source d) c.map (line_place c.map c.str c.line_str (line_source d)) rs) h.reads h.section
     (subst (λ (old : List Cell). MovesTo (relocation_source contents b k) old (all_written_cells (line_source d) c.map (line_place c.map c.str c.line_str (line_source d)) rs)) (sym h.cells) moves)
     (omega (arith, size, small, word-room (relocation_source contents b k).class))
-
--- what is written reads back
-pub lines-back : (contents : ℕ → List ℕ) (b : List ℕ) (i k : ℕ) (c : TableChanges) (d : DebugData) (moving : List ℕ) (rs : List LineReading) → LinesShift contents b i k c d moving rs
-    → cells_from (relocations_in (with_table (relocation_source contents b k) (relocation_body (relocation_source contents b k) (section_cells contents b i)
-    (all_written_cells (line_source d) c.map (line_place c.map c.str c.line_str (line_source d)) rs)))) 0
-    (all_lines (lines_after c.map c.str c.line_str (line_source d) rs))
-    ≡ all_written_cells (line_source d) c.map (line_place c.map c.str c.line_str (line_source d)) rs
-lines-back contents b i k c d moving rs h =
-    let new : List Cell = all_written_cells (line_source d) c.map (line_place c.map c.str c.line_str (line_source d)) rs in
-    ap (cells_from (relocations_in (with_table (relocation_source contents b k) (relocation_body (relocation_source contents b k) (section_cells contents b i)
-    (all_written_cells (line_source d) c.map (line_place c.map c.str c.line_str (line_source d)) rs)))) 0) (sym (all-bytes c (line_source d) rs refl))
-    ∙ moved-back (relocation_source contents b k) (section_cells contents b i) (all_written_cells (line_source d) c.map (line_place c.map c.str c.line_str (line_source d)) rs)
-    (lines-can contents b i k c d moving rs h)

@@ -50,7 +50,3 @@ number-below first (s ∷ ss) v k e = by_here (s == v) e (number-below (first + 
         some-once : (x y : ℕ) → Some x ≡ Some y → x ≡ y
         some-once x y f = cc
     by_here false e rest = omega (arith, rest e)
-
-pub length-starts : (n : ℕ) (ts : List (List ℕ)) → length (starts_from n ts) ≡ length ts
-length-starts n [] = refl
-length-starts n (t ∷ ts) = ap suc (length-starts (n + length t) ts)

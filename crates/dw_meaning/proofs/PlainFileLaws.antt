@@ -1,22 +1,16 @@
 -- No relocation begins in the debug data of a file that isn't relocatable; so no row of relocations holds of it.
-use Rattle.std.proofs.Common.{Bool, true, false, ◌≡◌, ℕ, suc, List, [], ◌∷◌, ◌++◌, length, drop, Option, Some, None, sym, refl, subst, if◌then◌else◌, ◌==◌, ap, ◌∙◌}
-use Rattle.std.specs.Prelude.{Result, Ok, Err}
+use Rattle.std.proofs.Common.{Bool, true, false, ◌≡◌, ℕ, suc, List, [], ◌∷◌, ◌++◌, drop, Option, Some, None, sym, refl, subst, if◌then◌else◌, ◌==◌, ap}
 use Rattle.dw_base.specs.Cells.{Cell, CellSection, Located, Relocation, plain_cells}
 use Rattle.dw_base.specs.DebugData.{Around, DataReadings, line_source, path_slots}
 use Rattle.dw_base.specs.DebugSections.{debug_section, name_of}
 use Rattle.dw_base.specs.Elf.{contents_of}
-use Rattle.dw_base.specs.FileViews.{ViewSection, bytes_in, section_bytes, section_named, view_of}
+use Rattle.dw_base.specs.FileViews.{ViewSection, bytes_in, section_named, view_of}
 use Rattle.dw_base.specs.Forms.{width_size}
 use Rattle.dw_base.specs.Layout.{is_loaded_kind}
-use Rattle.dw_base.specs.LineReadings.{AreTables, LineReading, table_read}
+use Rattle.dw_base.specs.LineReadings.{LineReading, table_read}
 use Rattle.dw_base.specs.LineSources.{LineSource}
-use Rattle.dw_base.specs.MacroOffsets.{OperationRefuses, of_line, of_operation}
 use Rattle.dw_base.specs.MacroReadings.{EachMacro, MacroReading, ReadsAllMacros}
-use Rattle.dw_base.specs.NameOffsets.{no_offset}
-use Rattle.dw_base.specs.NameTables.{names_of, string_place}
-use Rattle.dw_base.specs.Numbers.{spelled}
 use Rattle.dw_base.specs.Pieces.{EachPiece, Piece}
-use Rattle.dw_base.specs.RelocationRows.FieldsFail.{offset as offset_row}
 use Rattle.dw_base.specs.RelocationRows.{moving_sections}
 use Rattle.dw_base.specs.Roles.{Role}
 use Rattle.dw_base.specs.SectionTexts.{macro_role, name_role, slot_role}
@@ -25,35 +19,23 @@ use Rattle.dw_base.specs.UnitHeaders.{UnitSection, SectionKind}
 use Rattle.dw_base.specs.ViewData.{cells_located, debug_data, located, located_at, macro_sections, unit_kind, unit_section, unit_sections, unit_sections_from}
 use Rattle.dw_base.specs.WrittenLines.{paths_of}
 use Rattle.dw_base.specs.declared.debug_sections.DebugSection.TheVariants.{StrOffsets, Line, Names}
-use Rattle.dw_base.specs.declared.fault.Refusal.{Refusal}
-use Rattle.dw_base.specs.ViewOffsets.{if_placed, offset_read}
 use Rattle.dw_base.specs.declared.line_tables.TextPlace.{TextPlace}
-use Rattle.dw_base.specs.declared.macro_units.MacroOperation.{MacroOperation}
-use Rattle.dw_base.specs.declared.macro_units.MacroOperation.TheVariants.{End, Inline, Named, Enter, Leave, Bring, Foreign}
 use Rattle.dw_base.specs.declared.shared.Order.{Order}
 use Rattle.dw_base.specs.declared.shared.Width.{Width}
-use Rattle.dw_base.specs.declared.view_fields.Field.{Field}
-use Rattle.dw_base.specs.declared.view_fields.Field.TheVariants.{Num}
 use Rattle.dw_base.proofs.PlainCellLaws.{IsPlain, plain_cells-plain}
 use Rattle.dw_base.proofs.RelocationFieldLaws.{relocation_at-plain}
-use Rattle.dw_base.proofs.RelocationRowLaws.{fields-plain, header_offsets-plain}
-use Rattle.dw_base.proofs.RelocationSectionLaws.{relocates_read-loaded, relocations-loaded, relocations_read-loaded}
-use Rattle.dw_base.proofs.ViewCellLaws.{field_read-loaded, view_cells-loaded}
+use Rattle.dw_base.proofs.RelocationSectionLaws.{relocations_read-loaded}
+use Rattle.dw_base.proofs.ViewCellLaws.{view_cells-loaded}
 use Rattle.dw_meaning.specs.DataOutput.{DataReads}
 use Rattle.dw_meaning.specs.FileMeanings.{file_data}
 use Rattle.dw_meaning.specs.NewAddends.{AddendsFit, EachPathMakes, EachTableMakes, Makes, MakesPath, MakesRole, new_offset, places_by}
-use Rattle.dw_meaning.specs.RelocationFails.{OffsetsFailIn, RelocationsAreLoaded, RelocationsFail, RelocationsRead, ValueRelocationFails}
-use Rattle.dw_meaning.specs.RelocationFails.OffsetsFailIn.{names as names_row, macros as macros_row}
-use Rattle.dw_meaning.specs.RelocationFails.RelocationsFail.{sections, headers, values, offsets, left}
-use Rattle.dw_meaning.specs.RelocationFails.ValueRelocationFails.{value}
+use Rattle.dw_meaning.specs.RelocationFails.{RelocationsRead}
 use Rattle.dw_meaning.proofs.DataKeptLaws.{EachPlain, readings-move, readings-plain}
 use Rattle.dw_meaning.proofs.FileBackLaws.{AllAt, SectionBack, bare-cells}
-use Rattle.dw_meaning.proofs.LineClearLaws.{EachClear, plain-clear}
-use Rattle.dw_meaning.proofs.LinePathLaws.{AllTake, plain-take}
 use Rattle.dw_meaning.proofs.MacroEditLaws.{AllPlain}
 use Rattle.dw_meaning.proofs.MacroKeptLaws.{macros-plain}
 use Rattle.dw_meaning.proofs.OffsetMoveLaws.{EachCells, cells-plain}
-use Rattle.dw_meaning.proofs.RelocationLaws.{NoRelocations, left-none, plain-reads}
+use Rattle.dw_meaning.proofs.RelocationLaws.{NoRelocations, plain-reads}
 use Rattle.dw_meaning.proofs.TableKeptLaws.{drop-at, sections-self}
 use Rattle.dw_meaning.proofs.TextEditLaws.{plain-makes}
 
@@ -106,12 +88,6 @@ offsets-plain b loaded = subst (λ (z : CellSection). IsPlain z.contents) (sym (
 pub lines-plain : (b : List ℕ) → is_loaded_kind b ≡ true → IsPlain (file_data b).lines.contents
 lines-plain b loaded = subst (λ (z : CellSection). IsPlain z.contents) (sym (lines-are b loaded)) (plain_cells-plain (located (view_of b) Line).bytes)
 
-pub lines-clear : (b : List ℕ) (rs : List LineReading) → is_loaded_kind b ≡ true → AreTables (line_source (file_data b)) rs → EachClear (line_source (file_data b)) rs
-lines-clear b rs loaded tables = plain-clear (line_source (file_data b)) 0 (length (line_source (file_data b)).bytes) rs (lines-plain b loaded) tables
-
-pub lines-take : (b : List ℕ) (places : TextPlace → Option ℕ) (rs : List LineReading) → is_loaded_kind b ≡ true → AllTake (line_source (file_data b)) places rs
-lines-take b places rs loaded = plain-take (line_source (file_data b)) places rs (lines-plain b loaded)
-
 pub names-plain : (b : List ℕ) → is_loaded_kind b ≡ true → IsPlain (file_data b).names.contents
 names-plain b loaded = subst (λ (z : CellSection). IsPlain z.contents) (sym (names-are b loaded)) (plain_cells-plain (located (view_of b) Names).bytes)
 
@@ -138,51 +114,6 @@ no-relocations b loaded = record {
   lines = lines-plain b loaded;
   names = names-plain b loaded;
 }
-
--- so no row of relocations holds of it
-value-none : (b : List ℕ) (r : Refusal) → is_loaded_kind b ≡ true → ValueRelocationFails (file_data b) r → ⊥
-value-none b r loaded (value z h list number a x place v f table has is kind fails) =
-    fields-plain (file_data b).base.order z.number z.contents [] (f ∷ []) r
-    (unit-plain (file_data b).units table.unit.before table.unit.behind z table.unit.sections (file-plain b loaded))
-    (offset_row f (record { before = []; behind = []; is = refl }) kind fails)
-
--- each offset is read as its number
-read-loaded : (b : List ℕ) (section place n : ℕ) (r : Refusal) → is_loaded_kind b ≡ true → offset_read (view_of b) section place n ≡ Err r → ⊥
-unfolding offset_read
-read-loaded b section place n r loaded e =
-    clash (sym (ap (if_placed section place) (field_read-loaded b section place n loaded)) ∙ e)
-  where
-    clash : ◌≡◌ {A = Result Field Refusal} (Ok (Num (spelled (view_of b).order (section_bytes (view_of b) section) place n))) (Err r) → ⊥
-    clash f = cc
-
-operation-loaded : (b : List ℕ) (section : ℕ) (width : Width) (o : MacroOperation) (r : Refusal) → is_loaded_kind b ≡ true
-    → OperationRefuses (view_of b) section width o r → ⊥
-operation-loaded b section width (Named defines line field) r loaded f = read-loaded b section field (width_size width) r loaded f.is
-operation-loaded b section width (Bring field) r loaded f = read-loaded b section field (width_size width) r loaded f.is
-operation-loaded b section width End r loaded f = f
-operation-loaded b section width (Inline defines line at len) r loaded f = f
-operation-loaded b section width (Enter line file) r loaded f = f
-operation-loaded b section width Leave r loaded f = f
-operation-loaded b section width Foreign r loaded f = f
-
-offsets-loaded : (b : List ℕ) (r : Refusal) → is_loaded_kind b ≡ true → OffsetsFailIn (view_of b) r → ⊥
-offsets-loaded b r loaded (names_row list start t before some is (no_offset i lt texts reads e)) =
-    read-loaded b (names_of (view_of b)).number (string_place t i) (width_size t.width) r loaded e
-offsets-loaded b r loaded (macros_row before behind z list start split units some (of_line h is f)) =
-    read-loaded b z.number h.line_field (width_size h.width) r loaded f.refused.is
-offsets-loaded b r loaded (macros_row before behind z list start split units some (of_operation h place next o is reads there f)) =
-    operation-loaded b z.number h.width o r loaded f
-
-pub relocations_fail-loaded : (b : List ℕ) (r : Refusal) → is_loaded_kind b ≡ true → RelocationsFail b r → ⊥
-relocations_fail-loaded b r loaded (sections f) = relocations-loaded (contents_of b) b r loaded f
-relocations_fail-loaded b r loaded (headers before behind z split f) =
-    header_offsets-plain (file_data b).base z r (unit-plain (file_data b).units before behind z split (file-plain b loaded)) f
-relocations_fail-loaded b r loaded (values f) = value-none b r loaded f
-relocations_fail-loaded b r loaded (offsets f) = offsets-loaded b r loaded f
-relocations_fail-loaded b r loaded (left f) = left-none (file_data b) (moving_sections (view_of b)) r (no-relocations b loaded) f
-
-pub relocations_loaded-none : (b : List ℕ) (i : ℕ) → is_loaded_kind b ≡ true → RelocationsAreLoaded b i → ⊥
-relocations_loaded-none b i loaded h = let none = relocates_read-loaded b i loaded in let some = h.relocates in absurd cc
 
 pub relocations-read : (b : List ℕ) → is_loaded_kind b ≡ true → RelocationsRead b
 relocations-read b loaded = record {

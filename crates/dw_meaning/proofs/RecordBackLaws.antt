@@ -1,6 +1,6 @@
 -- The relocations of a section of an output, record by record: each is one of the file's, at its new place; so where those of the file are handled,
 -- these are.
-use Rattle.std.proofs.Common.{Bool, true, false, ◌≡◌, ℕ, suc, ◌+◌, ◌/◌, ◌<◌, if◌then◌else◌, List, [], ◌∷◌, ◌++◌, length, get_or, Option, refl, sym, ap, ◌∙◌, subst, arith}
+use Rattle.std.proofs.Common.{Bool, true, false, ◌≡◌, ℕ, suc, ◌/◌, ◌<◌, if◌then◌else◌, List, [], ◌∷◌, ◌++◌, length, get_or, Option, refl, sym, ap, ◌∙◌, subst, arith}
 use Rattle.dw_base.specs.Cells.{Cell}
 use Rattle.dw_base.specs.RelocationBodies.{relocation_body}
 use Rattle.dw_base.specs.RelocationSectionFails.{BeginTogether, IsAmong}

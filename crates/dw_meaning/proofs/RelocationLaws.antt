@@ -14,7 +14,7 @@ use Rattle.dw_base.specs.declared.fault.Refusal.{Refusal}
 use Rattle.dw_base.specs.declared.shared.Order.{Order}
 use Rattle.dw_base.proofs.PlainCellLaws.{IsPlain, plain-parts}
 use Rattle.dw_base.proofs.RelocationFieldLaws.{relocation_at-plain}
-use Rattle.dw_base.proofs.RelocationRowLaws.{fields-plain, fields_exclude, header-plain, header_excludes, header_offsets_exclude, placed-plain}
+use Rattle.dw_base.proofs.RelocationRowLaws.{fields_exclude, header_excludes, header_offsets_exclude, placed-plain}
 use Rattle.dw_base.proofs.RelocationSectionLaws.{relocations_exclude as sections-exclude}
 use Rattle.dw_meaning.specs.FileMeanings.{file_data}
 use Rattle.dw_meaning.specs.RelocationFails.{LeftRelocationsFail, LeftRelocationsRead, OffsetsFailIn, RelocationsFail, RelocationsRead, RelocationsReadIn, ValueRelocationFails, ValueRelocationsRead}
@@ -62,18 +62,6 @@ pub record NoRelocations (d : DebugData) : Type 0 where
   pub offsets : IsPlain d.offsets.contents
   pub lines : IsPlain d.lines.contents
   pub names : IsPlain d.names.contents
-
-pub left-none : (d : DebugData) (moving : List ℕ) (r : Refusal) → NoRelocations d → LeftRelocationsFail d moving r → ⊥
-left-none d moving r h (units before behind z first xs among reads f) =
-    fields-plain d.base.order z.number z.contents moving (unit_fields d.base.order xs) r (h.units before behind z among) f
-left-none d moving r h (slots xs reads f) = fields-plain d.base.order d.offsets.number d.offsets.contents moving (slot_fields xs) r h.offsets f
-left-none d moving r h (names xs reads f) = fields-plain d.base.order d.names.number d.names.contents moving (name_fields xs) r h.names f
-left-none d moving r h (macros before behind z xs among reads f) =
-    fields-plain d.base.order z.number z.contents moving (macro_fields xs) r (h.macros before behind z among) f
-left-none d moving r h (lines ts reads f) =
-    fields-plain d.base.order d.lines.number d.lines.contents moving (line_fields (line_source d) ts) r h.lines f
-left-none d moving r h (line_header before start t tables reads f) =
-    header-plain d.lines.number t.header.start t.behind d.lines.contents (table_fields (line_source d) t) r h.lines f
 
 -- so all reads that is asked of relocations
 none-begins : (cells : List Cell) (p : ℕ) (r : Relocation) → IsPlain cells → relocation_at cells p ≡ Some r → ⊥

@@ -70,10 +70,6 @@ edited-size line_start c around p = by_table (line_table around p)
     by_table None = refl
     by_table (Some k) = length-put around.lasting.base.order p (get_or (starts_from 0 c.lines) k 0)
 
--- a section of a number that isn't one of units keeps its bytes
-is_units : List ℕ → ℕ → Option SectionKind
-is_units b i = unit_kind (debug_section (section_name b i))
-
 pub skip-other : (x : Body) (xs : List Body) (old : ℕ → List ℕ) (i : ℕ) → i ≢ x.number → body_in (x ∷ xs) old i ≡ body_in xs old i
 skip-other x xs old i other = rw (ne_eqb i x.number other) refl
 

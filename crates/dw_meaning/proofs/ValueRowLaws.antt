@@ -71,10 +71,6 @@ each-met base z P r t xs x place leads covers =
     chain-unique (unit_grammar base) (units_one_way base) (before z 0 r.first) r.pieces ((xs ++ x ∷ []) ++ rest.pieces) r.reads.chain chain whole in
     each-last P xs x (each-front P (xs ++ x ∷ []) rest.pieces (subst (λ (ys : List (Piece UnitState)). EachPiece P ys) same r.each))
 
--- the state of a unit that is met
-abbrev unit_state : (base : UnitBase) (z : UnitSection) (start unit : ℕ) (h : UnitHeader) → UnitState
-unit_state base z start unit h = in_headed base z start unit h
-
 -- a value that is met, its piece, and what holds of it
 pub record MetValue (base : UnitBase) (z : UnitSection) (h : UnitHeader) (number : ℕ) (a : Abbreviation) (x : Spec) (place : ℕ) (v : Value) (P : Piece UnitState → Type 0) : Type 0 where
   pub start : ℕ

@@ -1,10 +1,10 @@
 -- Laws of marks: a mark more, and the slots that are marked with one value more.
-use Rattle.std.proofs.Common.{Bool, true, false, ◌≡◌, ◌⊎◌, inl, inr, ℕ, zero, ◌+◌, ◌/◌, ◌%◌, ◌<◌, ◌≤◌, nat_lt, ◌==◌, ◌&&◌, ◌||◌, List, [], ◌∷◌, ◌++◌, length, get_or, replicate, slice_set, Fits, w8, refl, sym, ap, ◌∙◌, arith}
+use Rattle.std.proofs.Common.{Bool, true, false, ◌≡◌, ◌⊎◌, inl, inr, ℕ, zero, ◌+◌, ◌/◌, ◌%◌, ◌<◌, ◌≤◌, nat_lt, ◌==◌, ◌&&◌, ◌||◌, List, [], length, get_or, replicate, slice_set, Fits, w8, refl, sym, ap, ◌∙◌, arith}
 use Rattle.std.proofs.lemmas.Bool.{cases_eq, eq-eqb, ne_eqb}
 use Rattle.std.proofs.lemmas.Bool.Decides.{nat_tests}
 use Rattle.std.proofs.lemmas.List.{length-set, get_or-set_same, get_or-set_other, get_or-replicate, get_or_past, length-replicate}
-use Rattle.dw_base.specs.TextIndexes.{Indexing, IndexUse}
-use Rattle.dw_offsets.specs.NamedPlaces.{is_kind, is_place, use_place, names_place}
+use Rattle.dw_base.specs.TextIndexes.{Indexing}
+use Rattle.dw_offsets.specs.NamedPlaces.{is_kind}
 use Rattle.dw_offsets.specs.SlotMarks.{has_mark, marked, IsMarkWith, IsMarked, AreMarks}
 
 or-false : (b : Bool) → (b || false) ≡ b
@@ -121,15 +121,3 @@ pub ruleset past_laws = (mark-past)
 
 pub marks-none : (n : ℕ) (g : Indexing) → AreMarks (unmarked n) g []
 marks-none n g = record { each = λ path place. not_marked path n place (no-mark n place (nat_lt place n) refl) }
-
--- a value more
-names-more : (path : Bool) (g : Indexing) (uses : List IndexUse) (u : IndexUse) (place : ℕ)
-    → names_place path g (uses ++ u ∷ []) place ≡ (names_place path g uses place || (is_kind path u.path && is_place (use_place g u) place))
-names-more path g [] u place = or-false (is_kind path u.path && is_place (use_place g u) place)
-names-more path g (x ∷ xs) u place =
-    ap (λ (b : Bool). (is_kind path x.path && is_place (use_place g x) place) || b) (names-more path g xs u place)
-    ∙ or-assoc (is_kind path x.path && is_place (use_place g x) place) (names_place path g xs place) (is_kind path u.path && is_place (use_place g u) place)
-  where
-    or-assoc : (a b c : Bool) → (a || (b || c)) ≡ ((a || b) || c)
-    or-assoc true b c = refl
-    or-assoc false b c = refl

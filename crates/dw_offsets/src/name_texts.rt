@@ -4,7 +4,7 @@
 //! that can't be read is refused for its relocation, and one that names none at its field. One comparison an offset.
 
 ghost use Rattle.std.specs.Prelude.{◌≡◌, ◌+◌, ◌*◌, ◌≤◌, ◌<◌, ◌^◌, true, length, IfOk, IfErr, OnOk};
-ghost use Rattle.dw_base.specs.Cells.{Located, offset_into};
+ghost use Rattle.dw_base.specs.Cells.{offset_into};
 ghost use Rattle.dw_base.specs.FileViews.{section_bytes};
 ghost use Rattle.dw_base.specs.Forms.{width_size};
 ghost use Rattle.dw_base.specs.Texts.{ends_in};
@@ -13,7 +13,6 @@ ghost use Rattle.dw_offsets.specs.TextEnds.{IsTexts};
 ghost use Rattle.dw_base.specs.NameOffsets.{OffsetsRead, TableRefuses, TextRefuses};
 
 use crate::name_headers::table_at;
-use crate::widths::width_size;
 use dw_base::{DebugSection, Field, Kind, NameTable, Refusal, Width, nul_end};
 use dw_view::View;
 
@@ -96,7 +95,7 @@ fn check_texts(view: &View, section: u32, texts: &Texts, table: &NameTable) -> R
     ensures offsets { OnOk result (OffsetsRead view.now section table.now table.now.names) }
     ensures refused { IfErr result (TextRefuses view.now section table.now) }
 {
-    let size = width_size(table.width);
+    let size = table.width.offset_size();
     for i in 0..table.names {
         let place = string_place(table, i);
         let field = view.offset(section, place, size)?;

@@ -4,7 +4,7 @@
 //! names a text and none is shared by a path whose text changes and another value; and they are refused only for a slot of
 //! which that doesn't hold. One pass; a text is read only where a path and another value name its slot.
 
-ghost use Rattle.std.specs.Prelude.{◌≡◌, ◌≢◌, ◌↔◌, ◌+◌, ◌^◌, ◌≤◌, ◌<◌, ◌∷◌, [], true, Some, length, IsTrue, IfOk, IfErr, OnOk};
+ghost use Rattle.std.specs.Prelude.{◌≡◌, ◌↔◌, ◌+◌, ◌^◌, ◌≤◌, ◌<◌, ◌∷◌, [], true, Some, length, IsTrue, IfOk, IfErr, OnOk};
 ghost use Rattle.dw_base.specs.Cells.{offset_into};
 ghost use Rattle.dw_base.specs.DebugSections.{name_of};
 ghost use Rattle.dw_base.specs.FileViews.{section_named};
@@ -13,17 +13,16 @@ ghost use Rattle.dw_base.specs.Lists.{tabulate};
 ghost use Rattle.dw_base.specs.Paths.{mapped_path};
 ghost use Rattle.dw_base.specs.Refusals.{Blames};
 ghost use Rattle.dw_base.specs.RelocationRows.{OffsetFails, OffsetReads};
-ghost use Rattle.dw_base.specs.Slots.{Slot, slot_at, slot_total, slots_of};
+ghost use Rattle.dw_base.specs.Slots.{slot_at, slot_total, slots_of};
 ghost use Rattle.dw_base.specs.StringOffsets.{AreContributions};
 ghost use Rattle.dw_base.specs.Texts.{ends_in, text_in};
 ghost use Rattle.dw_base.specs.ViewData.{located, string_offsets};
-ghost use Rattle.dw_offsets.specs.PathSlots.{AllLieIn, LiesIn, SlotRefuses, SlotTable, SlotTaken, SlotsRefuse, SlotsTaken, fields_of, slot_offset, as_field, slots_in, table_in};
+ghost use Rattle.dw_offsets.specs.PathSlots.{AllLieIn, LiesIn, SlotRefuses, SlotTable, SlotTaken, SlotsRefuse, SlotsTaken, slot_offset, as_field, slots_in, table_in};
 ghost use Rattle.dw_offsets.specs.SlotTables.{TableFits};
 
 use crate::name_texts::{Texts, names_text, text_start, texts_of};
 use crate::slot_marks::SlotMarks;
 use crate::string_offsets::ContributionList;
-use crate::widths::width_size;
 use dw_base::{Contribution, DebugSection, Fault, Field, Kind, NoMemory, Refusal, Width};
 use dw_paths::{Maps, map_path};
 use dw_strings::text_at;
@@ -102,8 +101,9 @@ fn table_of<'v, 'f>(view: &'v View<'f>, section: u32) -> Table<'v, 'f>
 
 /// The bytes of the first section of a kind, none where there is none.
 #[tactic(auto, using(crate::proofs::PathSlotLaws::located_laws))]
-fn first_bytes<'v>(view: &'v View, section: DebugSection) -> &'v [u8]
+pub fn first_bytes<'v>(view: &'v View, section: DebugSection) -> &'v [u8]
     ensures bytes { result.now ≡ (located view.now section).bytes }
+    ensures small { length result.now ≤ 2 ^ 31 }
 {
     match view.first(section) {
         Some(number) => view.bytes(number),
@@ -145,7 +145,7 @@ fn push_fields(
     ensures taken { OnOk result (SlotsTaken maps.now table.now marks.now (tabulate (slot_at contribution) (slot_total contribution)) fields.old.items fields.new.items) }
     ensures refused { IfErr result (Blames (SlotsRefuse maps.now table.now marks.now (tabulate (slot_at contribution) (slot_total contribution)))) }
 {
-    let size = width_size(contribution.width);
+    let size = contribution.width.offset_size();
     for i in 0..slot_total(contribution) {
         let at = slot_start(contribution, i);
         push_field(alloc, table, maps, at, size, marks, fields)?;

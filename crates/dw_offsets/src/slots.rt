@@ -8,7 +8,7 @@ ghost use Rattle.dw_base.specs.StringOffsets.{slot_in, slot_place};
 ghost use Rattle.dw_offsets.specs.SlotSearch.{BasesRise, HasBase, IsBaseGap};
 
 use crate::string_offsets::ContributionList;
-use crate::widths::{slot_count, width_size};
+use crate::widths::slot_count;
 use dw_base::Contribution;
 
 /// The place of the slot of an index in the contribution whose slots begin at `base`, both places in
@@ -26,7 +26,7 @@ pub fn slot_place(list: &ContributionList, base: u64, index: u64) -> Option<u64>
 }
 
 /// Which contribution has a base, or where it would stand. Their bases rise.
-fn with_base(list: &[Contribution], base: u64) -> Result<usize, usize>
+pub fn with_base(list: &[Contribution], base: u64) -> Result<usize, usize>
     requires rising { BasesRise list.now }
     ensures found { IfOk result (HasBase list.now base) }
     ensures absent { IfErr result (IsBaseGap list.now base) }
@@ -51,5 +51,5 @@ fn slot_in(contribution: &Contribution, index: u64) -> Option<u64>
     if index >= slot_count(width, end - base) {
         return None;
     }
-    Some(base + index * u64::from(width_size(width)))
+    Some(base + index * u64::from(width.offset_size()))
 }

@@ -1,24 +1,10 @@
-//! How many bytes an offset has (DWARF 5, 7.4).
-//!
-//! This file promises: an offset has 4 bytes in 32-bit DWARF and 8 bytes in 64-bit DWARF.
+//! How many offsets have room in so many bytes (DWARF 5, 7.4).
 
-ghost use Rattle.std.specs.Prelude.{◌≡◌, ◌≤◌, ◌<◌, ◌%◌, ◌==◌};
+ghost use Rattle.std.specs.Prelude.{◌≡◌, ◌%◌, ◌==◌};
 ghost use Rattle.dw_base.specs.Forms.{width_size};
 ghost use Rattle.dw_offsets.specs.SlotSearch.{IsSlotCount};
 
 use dw_base::Width;
-
-/// How many bytes an offset has.
-pub(crate) fn width_size(width: Width) -> u8
-    ensures size { result ≡ width_size width }
-    ensures some { 0 < result }
-    ensures wide { result ≤ 8 }
-{
-    match width {
-        Width::W32 => 4,
-        Width::W64 => 8,
-    }
-}
 
 /// So many bytes are whole offsets.
 pub(crate) fn are_whole(width: Width, size: u64) -> bool

@@ -1,12 +1,11 @@
 -- Records that are moved by runs and fields are those of the new contents, where runs and fields say what becomes of each relocation.
-use Rattle.std.proofs.Common.{◌≡◌, ℕ, ℤ, zero, suc, ◌^◌, ◌<◌, ◌≤◌, Bool, true, false, if◌then◌else◌, List, length, Option, refl, sym, ap, ◌∙◌, subst, arith}
+use Rattle.std.proofs.Common.{◌≡◌, ℕ, ℤ, zero, suc, ◌<◌, ◌≤◌, Bool, true, false, if◌then◌else◌, List, length, Option, refl, ap, ◌∙◌, arith}
 use Rattle.dw_base.specs.Cells.{Cell}
-use Rattle.dw_base.specs.Elf.{word_size}
 use Rattle.dw_base.specs.RelocationBodies.{record_after, record_moved, records_after, relocation_body}
 use Rattle.dw_base.specs.RelocChanges.{with_reloc}
 use Rattle.dw_base.specs.SectionRelocations.{RelocationSource, is_none_type, records_in}
-use Rattle.dw_base.proofs.RelocationBodyLaws.{CanMove, new_addend, new_place}
-use Rattle.dw_patch.specs.RecordMoves.{PlacesFit, addend_after, moved_table, nth_record, record_put, record_step, records_moved}
+use Rattle.dw_base.proofs.RelocationBodyLaws.{new_addend, new_place}
+use Rattle.dw_patch.specs.RecordMoves.{addend_after, moved_table, nth_record, record_put, record_step, records_moved}
 use Rattle.elf_relocs.specs.Runs.{place_by}
 use Rattle.elf_layout.specs.declared.patch.Patch.{Patch}
 use Rattle.elf_relocs.specs.declared.runs.Run.{Run}
@@ -41,9 +40,3 @@ pub moved_table-is : (g : RelocationSource) (old new : List Cell) (runs : List R
     → moved_table g runs fields ≡ relocation_body g old new
 unfolding moved_table relocation_body
 moved_table-is g old new runs fields h = records-same g old new runs fields (length (records_in g)) h (omega arith)
-
--- and their places fit
-pub places-fit : (g : RelocationSource) (old new : List Cell) (runs : List Run) (fields : List Patch) → Says g old new runs fields → CanMove g old new → PlacesFit g runs
-places-fit g old new runs fields h can = record {
-  each = λ i lt counts. subst (λ (p : ℕ). p < 256 ^ word_size g.class) (sym (h.place i lt counts)) (can.place_fits i lt counts);
-}

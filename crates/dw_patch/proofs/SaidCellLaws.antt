@@ -4,7 +4,6 @@ use Rattle.std.proofs.Common.{◌≡◌, ℕ, suc, ◌+◌, ◌<◌, List, [], �
 use Rattle.std.specs.Bool.{⊤}
 use Rattle.dw_base.specs.Cells.{Cell, Relocation, first_relocation}
 use Rattle.dw_base.specs.NewOffsets.{with_offset}
-use Rattle.dw_base.specs.RelocationFields.{relocation_at}
 use Rattle.dw_base.specs.declared.shared.Order.{Order}
 use Rattle.elf_relocs.specs.FieldOffsets.{offset_addend}
 use Rattle.elf_relocs.proofs.OffsetLaws.{SameBehind, SameRelocations, behind-put, first-put, none-put}
@@ -26,11 +25,6 @@ SaidAll fields place [] [] = ⊤
 SaidAll fields place [] (d ∷ ds) = ⊥
 SaidAll fields place (c ∷ cs) [] = ⊥
 SaidAll fields place (c ∷ cs) (d ∷ ds) = (d.relocation ≡ said fields place c.relocation) × SaidAll fields (suc place) cs ds
-
--- the relocations of contents when the fields say their offsets
-pub record FieldsSay (fields : List Patch) (old new : List Cell) : Type 0 where
-  pub size : length new ≡ length old
-  pub each : (p : ℕ) → relocation_at new p ≡ said fields p (relocation_at old p)
 
 -- one part behind another
 pub said-append : (fields : List Patch) (place : ℕ) (xs ys us vs : List Cell) → SaidAll fields place xs ys → SaidAll fields (place + length xs) us vs

@@ -3,14 +3,14 @@
 //! This file promises: setting a field takes the same time however many are set, and all are put in one pass
 //! that takes no memory.
 
-ghost use Rattle.std.specs.Prelude.{[], ◌≡◌, ◌↔◌, ◌+◌, ◌^◌, ◌≤◌, ◌<◌, length, IfErr, IfOk, IsTrue, OnErr, OnOk};
+ghost use Rattle.std.specs.Prelude.{◌≡◌, ◌+◌, ◌^◌, ◌≤◌, ◌<◌, length, IfErr, IfOk, OnErr, OnOk};
 ghost use Rattle.dw_base.specs.FileViews.{section_bytes};
 ghost use Rattle.dw_base.specs.Refusals.{Blames};
 ghost use Rattle.elf_layout.specs.Given.{body_bytes};
 ghost use Rattle.elf_layout.specs.Patched.{PatchesFit, with_patches};
 ghost use Rattle.dw_patch.specs.Patching.{IsFree, IsPatched, PatchList, SetFails, no_patches, number_of, patches_of, with_patch};
 
-use dw_base::{Fault, Kind, NoMemory, Order, Refusal};
+use dw_base::{Fault, Kind, NoMemory, Order, Refusal, fits_size};
 use dw_view::View;
 use elf_layout::{NewBody, Patch, put_patches};
 use std::alloc::Global;
@@ -81,7 +81,7 @@ impl Patches {
         Ok(())
     }
 
-    /// Puts the new places into the bytes of the section. No memory.
+    /// Puts the new places into the bytes of the section. Takes no memory.
     #[tactic(auto, using(crate::proofs::PatchLaws::apply_laws))]
     pub fn apply(&self, bytes: &mut [u8])
         requires size { length bytes.old ≡ self.now.size }
@@ -92,7 +92,7 @@ impl Patches {
         put_patches(self.order, &self.list, bytes);
     }
 
-    /// The new body of the section with these bytes, which aren't copied. No memory.
+    /// The new body of the section with these bytes, which aren't copied. Takes no memory.
     #[tactic(auto, using(crate::proofs::PatchLaws::apply_laws))]
     pub fn onto<'a>(self, bytes: &'a [u8]) -> NewBody<'a>
         requires size { length bytes.now ≡ self.size }
@@ -100,23 +100,5 @@ impl Patches {
     {
         let Patches { order, list, .. } = self;
         NewBody::patched(bytes, order, list)
-    }
-}
-
-/// Whether a number fits so many bytes.
-fn fits_size(value: u64, size: u8) -> bool
-    requires some { 0 < size }
-    requires wide { size ≤ 8 }
-    ensures fits { IsTrue result ↔ (value < 256 ^ size) }
-{
-    match size {
-        1 => value < 0x100,
-        2 => value < 0x1_0000,
-        3 => value < 0x100_0000,
-        4 => value < 0x1_0000_0000,
-        5 => value < 0x100_0000_0000,
-        6 => value < 0x1_0000_0000_0000,
-        7 => value < 0x100_0000_0000_0000,
-        _ => true,
     }
 }

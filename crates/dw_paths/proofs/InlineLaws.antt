@@ -1,5 +1,5 @@
 -- Laws of the inline map: the path that is made has the room's length, and no NUL that the path hasn't.
-use Rattle.std.proofs.Common.{◌≡◌, ℕ, Bool, false, IsTrue, List, length}
+use Rattle.std.proofs.Common.{◌≡◌, ℕ, false, IsTrue, List, length}
 use Rattle.dw_base.specs.InlinePaths.{inline_fits, mapped_inline}
 use Rattle.dw_base.specs.Paths.{PathMap, IsPathMap}
 use Rattle.dw_base.specs.Texts.{has_nul}

@@ -1,23 +1,17 @@
 -- New texts one place after another, and the new offsets of fields.
-use Rattle.std.proofs.Common.{Bool, true, false, ◌≡◌, ℕ, zero, suc, ◌+◌, ◌<◌, ◌≤◌, List, [], ◌∷◌, ◌++◌, length, get_or, take, drop, Option, Some, None, is_some, cond, sym, ap, ◌∙◌, refl, subst, arith, inl, inr}
+use Rattle.std.proofs.Common.{Bool, true, false, ◌≡◌, ℕ, zero, suc, ◌+◌, ◌<◌, ◌≤◌, List, [], ◌∷◌, ◌++◌, length, get_or, drop, Option, Some, None, is_some, cond, sym, ap, ◌∙◌, refl, subst, arith, inl, inr}
 use Rattle.std.proofs.lemmas.Bool.{cases_lt}
 use Rattle.std.proofs.Math.Seq.{drop-cons}
-use Rattle.std.proofs.lemmas.List.{length-append, length-drop, length-take-le}
+use Rattle.std.proofs.lemmas.List.{length-append}
 use Rattle.dw_base.specs.LayoutFails.{TooLong}
 use Rattle.dw_base.specs.LayoutFails.TooLong.{long}
-use Rattle.dw_base.specs.Cells.{cells_at}
-use Rattle.dw_base.specs.NewOffsets.{with_offset}
 use Rattle.dw_base.specs.Paths.{PathMap}
 use Rattle.dw_base.specs.Refusals.{Blames}
 use Rattle.dw_base.specs.StringTables.{Mention, Plan, new_place, new_text, with_mention, with_text, table_bytes}
 use Rattle.dw_base.specs.Texts.{is_in, laid_texts}
 use Rattle.dw_base.specs.declared.fault.Fault.{Fault}
 use Rattle.dw_base.specs.declared.fault.Fault.TheVariants.{NoMemory, Refused}
-use Rattle.dw_base.proofs.RelocationFieldLaws.{length-cells_at}
 use Rattle.dw_base.proofs.TextLaws.{laid_texts-append}
-use Rattle.dw_base.proofs.UnitEditLaws.{length-bytes_of}
-use Rattle.dw_meaning.proofs.FieldPutLaws.{length-put}
-use Rattle.dw_rewrite.proofs.KnownLaws.{remembers_all}
 use Rattle.dw_find.specs.declared.fields.PathField.{PathField}
 use Rattle.dw_find.specs.Fields.{AreOffsetFields, IsOffsetField}
 use Rattle.dw_rewrite.specs.Changes.{AreFieldsOf, AreNoted, FieldSource, IsFieldOf, IsNoted, Knows, Remembers, offset_at, offset_bytes, path_at, path_of, patched, patched_at, put_at, texts_at, with_all_known, with_known}
@@ -108,32 +102,6 @@ path_there s fields i f all lt is = subst (IsOffsetField s.order s.table s.cells
 -- and of those that are fields alone
 pub field_there : (s : FieldSource) (fields : List PathField) (i : ℕ) (f : PathField) → AreFieldsOf s fields → i < length fields → f ≡ get_or fields i f → IsFieldOf s f
 field_there s fields i f all lt is = subst (IsFieldOf s) (sym is) (all.each i f lt)
-
-pub ruleset note_all_rules = (texts_step, noted_step, noted_start, remembers_all, remembers_on, path_there)
-
--- a field keeps the length of the bytes
-length-put_at : (out : List ℕ) (place n : ℕ) (bytes : List ℕ) → length bytes ≡ n → place + n ≤ length out → length (put_at out place n bytes) ≡ length out
-length-put_at out place n bytes size room =
-    let front : length (take place out) ≡ place = length-take-le place out (omega (arith, room)) in
-    omega (
-      arith,
-      room,
-      size,
-      front,
-      length-append (take place out ++ bytes) (drop (place + n) out),
-      length-append (take place out) bytes,
-      length-drop (place + n) out,
-    )
-
-pub length-offset_bytes : (s : FieldSource) (f : PathField) (new : ℕ) → f.at + f.size ≤ length s.cells → length (offset_bytes s f new) ≡ f.size
-length-offset_bytes s f new inside =
-    length-bytes_of (with_offset s.order (cells_at s.cells f.at f.size) new) ∙ length-put s.order (cells_at s.cells f.at f.size) new
-    ∙ length-cells_at s.cells f.at f.size inside
-
-pub length-with_known : (s : FieldSource) (out : List ℕ) (f : PathField) (known : Option ℕ) → f.at + f.size ≤ length s.cells → f.at + f.size ≤ length out
-    → length (with_known s out f known) ≡ length out
-length-with_known s out f None inside room = refl
-length-with_known s out f (Some new) inside room = length-put_at out f.at f.size (offset_bytes s f new) (length-offset_bytes s f new inside) room
 
 -- what is put where a place is known is what its path asks for
 put_is : (asks : Bool) (s : FieldSource) (out : List ℕ) (f : PathField) (new : ℕ) (known : Option ℕ) → ((v : ℕ) → known ≡ Some v → (asks ≡ true) × (v ≡ new))

@@ -61,7 +61,7 @@ use Rattle.dw_rewrite.specs.Bodies.{BodiesRefuse, FileBodiesMade, long_table, he
 use Rattle.dw_find.specs.FoundPaths.{PathsFound, PathsRefuse}
 use Rattle.dw_rewrite.specs.Bodies.BodiesRefuse.{addend_of, line_table_of, long_lines_of, long_table_of}
 use Rattle.dw_find.specs.FoundPaths.PathsRefuse.{units as paths_units, starts as paths_starts, inline as paths_inline, string_tables as paths_string_tables, name_tables as paths_name_tables, name_offsets as paths_name_offsets, relocations as paths_relocations, slots as paths_slots, shared as paths_shared}
-use Rattle.dw_rewrite.specs.Judged.{IsJudged}
+use Rattle.dw_rewrite.specs.CheckedFiles.{IsChecked}
 use Rattle.dw_rewrite.specs.Rewritten.{AllStand, IsInFile, body_with, long_fault, long_or, long_refusal, told_refusal}
 use Rattle.dw_find.specs.MacroSections.{SectionUnits, UnitsFailIn, UnitsFoundIn}
 use Rattle.dw_find.specs.MacroSections.UnitsFailIn.{units as units_fail, offsets as offsets_fail}
@@ -73,7 +73,7 @@ use Rattle.dw_meaning.specs.RelocatedBodies.{new_cells}
 use Rattle.dw_base.specs.Notes.{build_id_of}
 use Rattle.dw_rewrite.proofs.BodyLaws.{bodies-read, bodies-stand}
 use Rattle.dw_rewrite.proofs.HeldBodyLaws.{unread-holder, held-stand, stand-append}
-use Rattle.dw_rewrite.proofs.JudgeLaws.{judged_all, relocations-unloaded, unloaded}
+use Rattle.dw_rewrite.proofs.LoadedSectionLaws.{checked_all, relocations-unloaded, unloaded}
 use Rattle.dw_meaning.proofs.LoadedLaws.{loaded-kept, relocatable-kept}
 use Rattle.dw_rewrite.proofs.WrittenLaws.{fits_same, layout_same, length-moved}
 
@@ -102,11 +102,11 @@ pub refused_sources : (m : PathMap) (b : List ℕ) (f : Fault) → ElfReads b �
 refused_sources m b NoMemory reads h = tt
 refused_sources m b (Refused r) reads h = file (relocations_row reads (section_relocations h))
 
--- and one that isn't taken as it was judged.
+-- and one whose sections may not stand where they do.
 pub refused_file : (m : PathMap) (b : List ℕ) (r : Refusal) (f : Fault) → FileFails b r → f ≡ Refused r → Blames (EditFails m b) f
 refused_file m b r f h is = subst (λ (x : Fault). Blames (EditFails m b) x) (sym is) (file h)
 
-pub ruleset elf_rules = (refused_view, refused_sources, refused_file, judged_all)
+pub ruleset elf_rules = (refused_view, refused_sources, refused_file, checked_all)
 
 -- What can't be read of debug data, for a relocation or not, paths that would grow, and slots that are shared are rows.
 names_fail : (b : List ℕ) (r : Refusal) → ElfReads b → NamesRefuse (view_of b) r → FileFails b r
@@ -127,7 +127,7 @@ data_fail m b r reads (paths_relocations h) = file (relocations_row reads (left 
 data_fail m b r reads (paths_slots h) = file (slots_row reads h)
 data_fail m b r reads (paths_shared readings i h) = shared readings reads i h
 
-pub refused_paths : (m : PathMap) (b : List ℕ) (v : View) (f : Fault) → IsJudged b → v ≡ view_of b → Blames (PathsRefuse m v) f → Blames (EditFails m b) f
+pub refused_paths : (m : PathMap) (b : List ℕ) (v : View) (f : Fault) → IsChecked b → v ≡ view_of b → Blames (PathsRefuse m v) f → Blames (EditFails m b) f
 refused_paths m b v NoMemory j is h = tt
 refused_paths m b v (Refused r) j is h = data_fail m b r j.elf (subst (λ (w : View). PathsRefuse m w r) is h)
 
@@ -143,7 +143,7 @@ seen_macros b v ss is h = subst (λ (w : View). UnitsFoundIn w ss) (sym is) h
 pub ruleset paths_rules = (refused_paths, found_paths, seen_tables, seen_macros)
 
 -- so are line tables that can't be read.
-pub refused_tables : (m : PathMap) (b : List ℕ) (v : View) (f : Fault) → IsJudged b → v ≡ view_of b → Blames (LinesFail (debug_data v)) f → Blames (EditFails m b) f
+pub refused_tables : (m : PathMap) (b : List ℕ) (v : View) (f : Fault) → IsChecked b → v ≡ view_of b → Blames (LinesFail (debug_data v)) f → Blames (EditFails m b) f
 refused_tables m b v NoMemory j is h = tt
 refused_tables m b v (Refused r) j is h = file (lines_row j.elf (subst (λ (w : View). LinesFail (debug_data w) r) is h))
 
@@ -162,7 +162,7 @@ macro_fail : (m : PathMap) (b : List ℕ) (r : Refusal) → ElfReads b → Units
 macro_fail m b r reads (units_fail z before behind split h) = file (macros_row z before behind reads split h)
 macro_fail m b r reads (offsets_fail z before behind split h) = file (units_refuse b z before behind r reads split h)
 
-pub refused_macros : (m : PathMap) (b : List ℕ) (v : View) (f : Fault) → IsJudged b → v ≡ view_of b → Blames (UnitsFailIn v) f → Blames (EditFails m b) f
+pub refused_macros : (m : PathMap) (b : List ℕ) (v : View) (f : Fault) → IsChecked b → v ≡ view_of b → Blames (UnitsFailIn v) f → Blames (EditFails m b) f
 refused_macros m b v NoMemory j is h = tt
 refused_macros m b v (Refused r) j is h = macro_fail m b r j.elf (subst (λ (w : View). UnitsFailIn w r) is h)
 
@@ -172,8 +172,8 @@ found_macros b v ss is h = subst (λ (w : View). UnitsFoundIn w ss) is h
 pub ruleset macros_rules = (refused_macros, found_macros)
 
 -- A file whose debug data can be read, with their relocations, reads as a whole.
-reads_judged : (b : List ℕ) (r : DataReadings) → IsJudged b → RelocationsReadIn (file_data b) (moving_sections (view_of b)) → DataReads (file_data b) r → FileReads b r
-reads_judged b r j on_data reads = record {
+reads_checked : (b : List ℕ) (r : DataReadings) → IsChecked b → RelocationsReadIn (file_data b) (moving_sections (view_of b)) → DataReads (file_data b) r → FileReads b r
+reads_checked b r j on_data reads = record {
   elf = j.elf;
   names = j.names;
   relocations = record { sections = j.relocations; on_data = on_data };
@@ -186,10 +186,10 @@ seen_paths m b v us ts is h = subst (λ (w : View). PathsFound m w us ts) (sym i
 pub seen_view : (b s : List ℕ) (v : View) → v ≡ view_of b → s ≡ b → v ≡ view_of s
 seen_view b s v is same = is ∙ ap view_of (sym same)
 
-pub seen_relocations : (b s : List ℕ) → IsJudged b → s ≡ b → RelocationSectionsRead (contents_of s) s
+pub seen_relocations : (b s : List ℕ) → IsChecked b → s ≡ b → RelocationSectionsRead (contents_of s) s
 seen_relocations b s j same = subst (λ (x : List ℕ). RelocationSectionsRead (contents_of x) x) (sym same) j.relocations
 
-pub seen_bytes : (b s : List ℕ) → IsJudged b → s ≡ b → (k : ℕ) → slice_index s k < 256
+pub seen_bytes : (b s : List ℕ) → IsChecked b → s ≡ b → (k : ℕ) → slice_index s k < 256
 seen_bytes b s j same k = subst (λ (x : List ℕ). slice_index x k < 256) (sym same) (j.bytes k)
 
 pub made_bodies : (m : PathMap) (b s : List ℕ) (bodies : List Body) → s ≡ b → FileBodiesMade m s bodies → FileBodiesMade m b bodies
@@ -197,7 +197,7 @@ made_bodies m b s bodies same h = subst (λ (x : List ℕ). FileBodiesMade m x b
 
 -- A table of texts that is too long may not change where it stays, and makes the file too long where it moves.
 -- a section that is read has no relocations of another
-read_body : (m : PathMap) (b : List ℕ) (r : DataReadings) (i : ℕ) → IsJudged b → i < section_count b → is_read_name (section_name b i) ≡ true
+read_body : (m : PathMap) (b : List ℕ) (r : DataReadings) (i : ℕ) → IsChecked b → i < section_count b → is_read_name (section_name b i) ≡ true
     → file_body m b r i ≡ new_body m b r i
 read_body m b r i j lt read = by_holder (relocates_read b i) refl
   where
@@ -213,7 +213,7 @@ record IsNewBody (m : PathMap) (b : List ℕ) (r : DataReadings) (bytes : List �
   full : is_empty_kind (nth_section b i) ≡ false
   body : file_body m b r i ≡ bytes
 
-table_body : (m : PathMap) (b : List ℕ) (r : DataReadings) (table : TextSection) → IsJudged b → DataReads (file_data b) r
+table_body : (m : PathMap) (b : List ℕ) (r : DataReadings) (table : TextSection) → IsChecked b → DataReads (file_data b) r
     → (table_of (around_of (file_data b) r) table).number ≢ 0
     → IsNewBody m b r (long_table m (file_data b) r table) (table_of (around_of (file_data b) r) table).number
 unfolding new_bodies
@@ -236,7 +236,7 @@ table_body m b r in_line_str j reads some =
     apart (nowhere zero none) = absurd (some zero)
     apart (lies_at there within named bytes) = tables-apart b there named
 
-lines_body : (m : PathMap) (b : List ℕ) (r : DataReadings) → IsJudged b → DataReads (file_data b) r → (file_data b).lines.number ≢ 0
+lines_body : (m : PathMap) (b : List ℕ) (r : DataReadings) → IsChecked b → DataReads (file_data b) r → (file_data b).lines.number ≢ 0
     → IsNewBody m b r (all_lines (new_lines m (around_of (file_data b) r) r)) (file_data b).lines.number
 unfolding new_bodies
 lines_body m b r j reads some =
@@ -254,7 +254,7 @@ lines_body m b r j reads some =
     by_place (nowhere zero none) = absurd (some (sym same ∙ zero))
     by_place (lies_at there within named bytes) = ap (new_body m b r) (sym same) ∙ body-lines m b r there named
 
-long_at : (m : PathMap) (b : List ℕ) (r : DataReadings) (bytes : List ℕ) (i : ℕ) → length b ≤ output_limit → IsJudged b → IsNewBody m b r bytes i
+long_at : (m : PathMap) (b : List ℕ) (r : DataReadings) (bytes : List ℕ) (i : ℕ) → length b ≤ output_limit → IsChecked b → IsNewBody m b r bytes i
     → output_limit < length bytes → (fixed : Bool) → is_fixed b (nth_section b i) ≡ fixed
     → LayoutFails b (file_body m b r) (if fixed then at Fixed i 0 else at TooLarge 0 0)
 unfolding part_of
@@ -294,31 +294,31 @@ other_told b r (another same apart) = same (long_refusal b r.section)
 other_in : (b : List ℕ) (r : Refusal) → IsOther r → IsInFile b r
 other_in b r (another same apart) = record { within = λ e. absurd (apart e) }
 
-long_fails : (m : PathMap) (b : List ℕ) (f : Fault) → length b ≤ output_limit → IsJudged b → RelocationsReadIn (file_data b) (moving_sections (view_of b))
+long_fails : (m : PathMap) (b : List ℕ) (f : Fault) → length b ≤ output_limit → IsChecked b → RelocationsReadIn (file_data b) (moving_sections (view_of b))
     → Blames (BodiesRefuse m (file_data b)) f → Blames (EditFails m b) (long_fault b f)
 long_fails m b NoMemory small j on h = tt
 long_fails m b (Refused _) small j on (long_table_of table r reads fits some over) =
     let t = table_body m b r table j reads some in
-    output r (reads_judged b r j on reads) fits (long_at m b r (long_table m (file_data b) r table) _ small j t over (is_fixed b (nth_section b _)) refl)
+    output r (reads_checked b r j on reads) fits (long_at m b r (long_table m (file_data b) r table) _ small j t over (is_fixed b (nth_section b _)) refl)
 long_fails m b (Refused _) small j on (long_lines_of r reads fits some over) =
     let t = lines_body m b r j reads some in
-    output r (reads_judged b r j on reads) fits (long_at m b r (all_lines (new_lines m (around_of (file_data b) r) r)) _ small j t over (is_fixed b (nth_section b _)) refl)
+    output r (reads_checked b r j on reads) fits (long_at m b r (all_lines (new_lines m (around_of (file_data b) r) r)) _ small j t over (is_fixed b (nth_section b _)) refl)
 long_fails m b (Refused x) small j on (line_table_of r before behind t reads split fails) =
     let other : IsOther x = write_other (line_source (file_data b)) m
     (line_place m (changes_of m (around_of (file_data b) r) r).str (changes_of m (around_of (file_data b) r) r).line_str (line_source (file_data b)))
     (table_read (line_source (file_data b)) t) x fails in
-    subst (EditFails m b) (sym (other_told b x other)) (line_table_row r before behind t (reads_judged b r j on reads) split fails)
+    subst (EditFails m b) (sym (other_told b x other)) (line_table_row r before behind t (reads_checked b r j on reads) split fails)
 long_fails m b (Refused x) small j on (addend_of r reads fits fails) =
     let other : IsOther x = addend_other (changes_of m (around_of (file_data b) r) r) (file_data b) (around_of (file_data b) r) r x fails in
-    subst (EditFails m b) (sym (other_told b x other)) (addends_row r (reads_judged b r j on reads) fits fails)
+    subst (EditFails m b) (sym (other_told b x other)) (addends_row r (reads_checked b r j on reads) fits fails)
 
-pub refused_bodies : (m : PathMap) (b : List ℕ) (v : View) (us : List UnitPaths) (ts : List LineTable) (f told : Fault) → length b ≤ output_limit → IsJudged b
+pub refused_bodies : (m : PathMap) (b : List ℕ) (v : View) (us : List UnitPaths) (ts : List LineTable) (f told : Fault) → length b ≤ output_limit → IsChecked b
     → PathsFound m (view_of b) us ts → v ≡ view_of b → Blames (BodiesRefuse m (debug_data v)) f → told ≡ long_fault b f → Blames (EditFails m b) told
 refused_bodies m b v us ts f told small j found same h is =
     subst (λ (x : Fault). Blames (EditFails m b) x) (sym is)
     (long_fails m b f small j found.relocations (subst (λ (w : View). Blames (BodiesRefuse m (debug_data w)) f) same h))
 
-in_file : (m : PathMap) (b : List ℕ) (f : Fault) → IsJudged b → Blames (BodiesRefuse m (file_data b)) f → Blames (IsInFile b) f
+in_file : (m : PathMap) (b : List ℕ) (f : Fault) → IsChecked b → Blames (BodiesRefuse m (file_data b)) f → Blames (IsInFile b) f
 in_file m b NoMemory j h = tt
 in_file m b (Refused _) j (long_table_of table r reads fits some over) = record { within = λ kind. (table_body m b r table j reads some).within }
 in_file m b (Refused _) j (long_lines_of r reads fits some over) = record { within = λ kind. (lines_body m b r j reads some).within }
@@ -329,33 +329,33 @@ in_file m b (Refused x) j (line_table_of r before behind t reads split fails) =
 in_file m b (Refused x) j (addend_of r reads fits fails) =
     other_in b x (addend_other (changes_of m (around_of (file_data b) r) r) (file_data b) (around_of (file_data b) r) r x fails)
 
-pub told_in_file : (m : PathMap) (b : List ℕ) (v : View) (f : Fault) → IsJudged b → v ≡ view_of b → Blames (BodiesRefuse m (debug_data v)) f → Blames (IsInFile b) f
+pub told_in_file : (m : PathMap) (b : List ℕ) (v : View) (f : Fault) → IsChecked b → v ≡ view_of b → Blames (BodiesRefuse m (debug_data v)) f → Blames (IsInFile b) f
 told_in_file m b v f j same h = in_file m b f j (subst (λ (w : View). Blames (BodiesRefuse m (debug_data w)) f) same h)
 
 pub ruleset bodies_rules = (seen_paths, seen_macros, seen_view, seen_relocations, seen_bytes, made_bodies, told_in_file)
 
 -- What was written is the output of a file that is taken.
-can_map : (m : PathMap) (b : List ℕ) (bodies : List Body) → IsPathMap m → IsJudged b → (d : FileBodiesMade m b bodies) → CanMap m b d.readings
-can_map m b bodies map j d = record { map = map; bytes = j.bytes; reads = reads_judged b d.readings j d.relocations.on_data d.reads; fits = d.fits }
+can_map : (m : PathMap) (b : List ℕ) (bodies : List Body) → IsPathMap m → IsChecked b → (d : FileBodiesMade m b bodies) → CanMap m b d.readings
+can_map m b bodies map j d = record { map = map; bytes = j.bytes; reads = reads_checked b d.readings j d.relocations.on_data d.reads; fits = d.fits }
 
-made_same : (m : PathMap) (b : List ℕ) (bodies : List Body) → IsPathMap m → IsJudged b → (d : FileBodiesMade m b bodies) → (i : ℕ) → i < section_count b
+made_same : (m : PathMap) (b : List ℕ) (bodies : List Body) → IsPathMap m → IsChecked b → (d : FileBodiesMade m b bodies) → (i : ℕ) → i < section_count b
     → body_with b bodies i ≡ file_body m b d.readings i
 made_same m b bodies map j d i lt =
     let w : CanMap m b d.readings = can_map m b bodies map j d in
     bodies-same m b d.readings (moved_numbers (view_of b) d.readings) bodies w (are-moved m b d.readings w) d.is i lt
 
-pub made_accepted : (m : PathMap) (b : List ℕ) (bodies : List Body) → IsPathMap m → IsJudged b → FileBodiesMade m b bodies
+pub made_accepted : (m : PathMap) (b : List ℕ) (bodies : List Body) → IsPathMap m → IsChecked b → FileBodiesMade m b bodies
     → LayoutFits b (body_with b bodies) → IsAccepted m b
 made_accepted m b bodies map j d fits = record {
   readings = d.readings;
-  reads = reads_judged b d.readings j d.relocations.on_data d.reads;
+  reads = reads_checked b d.readings j d.relocations.on_data d.reads;
   fits = d.fits;
   unloaded = unloaded b j;
   relocations_unloaded = relocations-unloaded b j;
   written = fits_same b (body_with b bodies) (file_body m b d.readings) (made_same m b bodies map j d) fits;
 }
 
-pub made_output : (m : PathMap) (b : List ℕ) (bodies : List Body) (out : List ℕ) → IsPathMap m → IsJudged b → FileBodiesMade m b bodies
+pub made_output : (m : PathMap) (b : List ℕ) (bodies : List Body) (out : List ℕ) → IsPathMap m → IsChecked b → FileBodiesMade m b bodies
     → out ≡ with_bodies b (body_with b bodies) → IsOutput m b out
 unfolding output_of
 made_output m b bodies out map j d made = record {
@@ -371,7 +371,7 @@ one_output m b out is o other =
     other.is ∙ ap (output_of m b) (data-one (file_data b) other.readings is.readings other.reads is.reads) ∙ sym is.is
 
 -- it reads back with the bodies of the output
-back_made : (m : PathMap) (b : List ℕ) (bodies : List Body) (out : List ℕ) → IsPathMap m → IsJudged b → (d : FileBodiesMade m b bodies)
+back_made : (m : PathMap) (b : List ℕ) (bodies : List Body) (out : List ℕ) → IsPathMap m → IsChecked b → (d : FileBodiesMade m b bodies)
     → ReadsBack b (body_with b bodies) out → ReadsBack b (file_body m b d.readings) out
 back_made m b bodies out map j d back =
     reads_back-same b out (body_with b bodies) (file_body m b d.readings) (made_same m b bodies map j d) j.elf.debug.index.there back
@@ -380,12 +380,12 @@ small_out : (b : List ℕ) (bodies : ℕ → List ℕ) (out : List ℕ) → Layo
 small_out b bodies out fits made = subst (λ (x : List ℕ). length x ≤ output_limit) (sym made) fits.small
 
 -- so its meaning is kept, and what is loaded of it
-pub made_meaning : (m : PathMap) (b : List ℕ) (bodies : List Body) (out : List ℕ) → IsPathMap m → IsJudged b → FileBodiesMade m b bodies
+pub made_meaning : (m : PathMap) (b : List ℕ) (bodies : List Body) (out : List ℕ) → IsPathMap m → IsChecked b → FileBodiesMade m b bodies
     → LayoutFits b (body_with b bodies) → out ≡ with_bodies b (body_with b bodies) → ReadsBack b (body_with b bodies) out → MeaningKept m b out
 made_meaning m b bodies out map j d fits made back =
     file-meaning m b d.readings out (can_map m b bodies map j d) (back_made m b bodies out map j d back) (small_out b (body_with b bodies) out fits made)
 
-pub made_loaded : (m : PathMap) (b : List ℕ) (bodies : List Body) (out : List ℕ) → IsPathMap m → IsJudged b → FileBodiesMade m b bodies
+pub made_loaded : (m : PathMap) (b : List ℕ) (bodies : List Body) (out : List ℕ) → IsPathMap m → IsChecked b → FileBodiesMade m b bodies
     → LayoutFits b (body_with b bodies) → ReadsBack b (body_with b bodies) out → LoadedKept b out
 made_loaded m b bodies out map j d fits back = by_kind (is_loaded_kind b) refl
   where
@@ -406,11 +406,11 @@ made_loaded m b bodies out map j d fits back = by_kind (is_loaded_kind b) refl
         alloc-stays m b d.readings (moved_numbers (view_of b) d.readings) i w (are-moved m b d.readings w) (unloaded b j i lt) (relocations-unloaded b j i lt) lt alloc)
 
 -- and a layout that is refused has a row
-pub refused_written : (m : PathMap) (b : List ℕ) (bodies : List Body) (f : Fault) → IsPathMap m → IsJudged b → FileBodiesMade m b bodies
+pub refused_written : (m : PathMap) (b : List ℕ) (bodies : List Body) (f : Fault) → IsPathMap m → IsChecked b → FileBodiesMade m b bodies
     → Blames (LayoutFails b (body_with b bodies)) f → Blames (EditFails m b) f
 refused_written m b bodies NoMemory map j d h = tt
 refused_written m b bodies (Refused r) map j d h =
-    output d.readings (reads_judged b d.readings j d.relocations.on_data d.reads) (record { inline = d.fits.inline; slots = d.fits.slots })
+    output d.readings (reads_checked b d.readings j d.relocations.on_data d.reads) (record { inline = d.fits.inline; slots = d.fits.slots })
     (layout_same b (body_with b bodies) (file_body m b d.readings) r (made_same m b bodies map j d) h)
 
 pub made_stand : (m : PathMap) (b : List ℕ) (bodies : List Body) → FileBodiesMade m b bodies → AllStand b bodies
@@ -419,4 +419,4 @@ made_stand m b bodies d =
     (stand-append b (new_bodies m (file_data b) d.readings) (held_bodies b (new_cells m (file_data b) d.readings) (moved_numbers (view_of b) d.readings))
     (bodies-stand m b d.readings d.reads) (held-stand b (new_cells m (file_data b) d.readings) (moved_numbers (view_of b) d.readings)))
 
-pub ruleset judged_rules = (made_stand, made_accepted, made_output, one_output, made_meaning, made_loaded, refused_written)
+pub ruleset checked_rules = (made_stand, made_accepted, made_output, one_output, made_meaning, made_loaded, refused_written)

@@ -1,5 +1,5 @@
 -- The items that are given for the sections of a file, from bodies that are taken one by one from the last on.
-use Rattle.std.proofs.Common.{◌≡◌, ◌≢◌, ℕ, suc, ◌<◌, ◌⊎◌, inl, inr, ◌==◌, Bool, false, if◌then◌else◌, List, [], ◌∷◌, ◌++◌, length, take, drop, replicate, slice_set, Option, Some, None, refl, sym, ap, ◌∙◌, arith, subst, length-append}
+use Rattle.std.proofs.Common.{◌≡◌, ◌≢◌, ℕ, zero, suc, ◌+◌, ◌<◌, ◌⊎◌, inl, inr, ◌==◌, Bool, false, if◌then◌else◌, List, [], ◌∷◌, ◌++◌, length, take, drop, replicate, slice_set, Option, Some, None, refl, sym, ap, ◌∙◌, arith, subst, length-append}
 use Rattle.std.proofs.lemmas.Bool.{eq-eqb, ne_eqb, cases_eq}
 use Rattle.std.proofs.lemmas.List.{append-nil, drop_all, take_all, get_or-replicate, get_or-set_other, get_or-set_same, length-replicate, length-set}
 use Rattle.dw_meaning.specs.DataOutput.{Body}
@@ -50,6 +50,15 @@ none-given b items n is count = record {
   each = ap (λ (l : Items). length l) is ∙ length-replicate n None ∙ count;
   given = λ i lt. ap (λ (l : Items). item_bytes (item_of l i)) is ∙ ap item_bytes (get_or-replicate n i None None (omega (arith, count)));
 }
+
+none-next : (n : ℕ) → ◌≡◌ {A = Items} (replicate n None ++ None ∷ []) (replicate (suc n) None)
+none-next zero = refl
+none-next (suc n) = ap (λ (l : Items). None ∷ l) (none-next n)
+
+pub none-more : (items more : Items) (i : ℕ) → items ≡ replicate i None → more ≡ items ++ None ∷ [] → more ≡ replicate (i + 1) None
+none-more items more i is more_is =
+    let next : i + 1 ≡ suc i = omega arith in
+    subst (λ (n : ℕ). more ≡ replicate n None) (sym next) (more_is ∙ ap (λ (l : Items). l ++ None ∷ []) is ∙ none-next i)
 
 pub ruleset none_rules = (none-given)
 

@@ -1,12 +1,12 @@
 pub mod Rows
-pub mod AskLaws
+pub mod ChangedTextLaws
 pub mod SourceLaws
-pub mod KnownLaws
+pub mod NewOffsetLaws
 pub mod ChangedLaws
 pub mod EditedLaws
 pub mod UnitWrittenLaws
 pub mod InlineRoomLaws
-pub mod JudgeLaws
+pub mod LoadedSectionLaws
 pub mod GivenLaws
 pub mod WrittenLaws
 pub mod BodyLaws

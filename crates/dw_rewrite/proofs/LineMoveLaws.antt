@@ -219,8 +219,6 @@ pub pass-offsets : (m : PathMap) (g : LineSource) (ks kl : ℕ → Option ℕ) (
 pass-offsets m g ks kl ts ns runs offsets i end p =
     sym (append-nil offsets) ∙ ap (λ (us : List LineTable). offsets ++ offsets_from p.place (stretches_known m g ks kl us)) (sym (drop_all i ts end)) ∙ p.offsets_are
 
-pub ruleset tables_rules = (pass-starts, pass-runs, pass-offsets)
-
 -- a table that stands in a section of a number, by its own number
 pub order-own : (m : PathMap) (v : View) (i : ℕ) (ks kl : ℕ → Option ℕ) (t : LineTable) → StandsIn (view_source v i) t → PathsInOrder (view_source v i) m (new_place (view_source v i) ks kl) t
     → PathsInOrder (view_source v t.section) m (new_place (view_source v t.section) ks kl) t

@@ -109,8 +109,6 @@ stand-at g ts i t all lt is = subst (StandsIn g) (sym is) (by ts i lt all)
     by (u ∷ us) zero lt all = all.0
     by (u ∷ us) (suc k) lt all = by us k (omega (arith, lt)) all.1
 
-pub ruleset tables_rules = (pass-starts, pass-ends)
-
 -- those of a view
 pub view-stand : (v : View) (i : ℕ) (ts : List LineTable) → Some i ≡ section_named v (name_of Line) → TablesFound v ts → AllStandIn (view_source v i) ts
 view-stand v i ts e found =

@@ -3,7 +3,8 @@ use Rattle.std.proofs.Common.{Bool, true, ◌==◌, ◌≡◌, ℕ, zero, suc, �
 use Rattle.std.proofs.lemmas.Bool.{ne_eqb, true≢false}
 use Rattle.std.proofs.lemmas.List.{drop_all}
 use Rattle.dw_meaning.specs.DataOutput.{Body}
-use Rattle.dw_base.specs.FileViews.{View, view_cells}
+use Rattle.dw_base.specs.Elf.{contents_of, section_count}
+use Rattle.dw_base.specs.FileViews.{View, section_bytes, view_cells, view_of}
 use Rattle.dw_base.specs.Forms.{TextSection, in_str, in_line_str}
 use Rattle.dw_base.specs.InlinePaths.{inline_fits}
 use Rattle.dw_base.specs.Paths.{PathMap}
@@ -15,10 +16,10 @@ use Rattle.dw_base.specs.declared.shared.Order.{Order}
 use Rattle.dw_patch.specs.Patching.{PatchList, no_patches}
 use Rattle.elf_layout.specs.Patched.{with_patches}
 use Rattle.elf_layout.specs.declared.patch.Patch.{Patch}
-use Rattle.dw_find.specs.Fields.{AllApart, AreOffsetFields, IsOffsetField, IsStartField}
-use Rattle.dw_rewrite.specs.Changes.{AreFieldsOf, AreFree, AreSet, FieldSource, IsFieldOf, offset_at, with_all_known, with_known}
+use Rattle.dw_find.specs.Fields.{AllApart, IsStartField}
+use Rattle.dw_rewrite.specs.Changes.{AreFieldsOf, AreFree, AreSet, FieldSource}
 use Rattle.dw_find.specs.InlineRooms.{grows, Grows, one}
-use Rattle.dw_find.specs.ViewFields.{AllRoomsFit, HasOffsets, HasPlaces, as_table, fields_of, info_of}
+use Rattle.dw_find.specs.ViewFields.{AllRoomsFit, HasPlaces, as_table, fields_of, info_of}
 use Rattle.dw_rewrite.specs.NewTables.{bodies_known, body_known, fields_known, section_known, source_in, starts_in}
 use Rattle.dw_find.specs.TextPlaces.{InlinesFit}
 use Rattle.dw_find.specs.UnitPaths.{UnitPaths, inline_text}
@@ -26,8 +27,8 @@ use Rattle.dw_rewrite.specs.UnitsAfter.{inlined}
 use Rattle.dw_find.specs.declared.fields.InlinePath.{InlinePath}
 use Rattle.dw_find.specs.declared.fields.PathField.{PathField}
 use Rattle.dw_find.specs.declared.tables.TextsOf.{TextsOf}
+use Rattle.dw_base.proofs.FileViewLaws.{length-view_of, section_bytes-view_of}
 use Rattle.dw_base.proofs.ViewCellLaws.{length-view_cells}
-use Rattle.dw_rewrite.proofs.ChangedLaws.{length-with_known}
 use Rattle.dw_rewrite.proofs.FieldSetLaws.{all-put, apart-behind, apart-front, apart-skip, free-behind, free-first}
 use Rattle.dw_rewrite.proofs.GrowthLaws.{moved}
 use Rattle.dw_find.proofs.PlaceValueLaws.{EachOf, each-get}
@@ -178,7 +179,19 @@ body-is m v ks kl kt u n bytes new number same is =
 pub places-there : (v : View) (u : UnitPaths) → HasPlaces v u → u.number < length v.sections
 places-there v u h = h.there
 
-pub ruleset one_rules = (places-there)
+-- it is one of the file, which lends its bytes
+pub file-there : (v : View) (b : List ℕ) (u : UnitPaths) (n : ℕ) → v ≡ view_of b → HasPlaces v u → n ≡ u.number → n < length (view_of b).sections
+file-there v b u n same h is = subst (λ (x : View). n < length x.sections) same (omega (arith, h.there, is))
+
+pub ruleset one_rules = (places-there, file-there)
+
+pub lent-there : (b : List ℕ) (i : ℕ) → i < length (view_of b).sections → i < section_count b
+lent-there b i lt = omega (arith, lt, length-view_of b)
+
+pub lent-bytes : (b bytes : List ℕ) (i : ℕ) → i < length (view_of b).sections → bytes ≡ contents_of b i → bytes ≡ section_bytes (view_of b) i
+lent-bytes b bytes i lt is = is ∙ sym (section_bytes-view_of b i (lent-there b i lt))
+
+pub ruleset lent_rules = (lent-there, lent-bytes)
 
 pub bodies-end : (m : PathMap) (v : View) (ks kl kt : ℕ → Option ℕ) (us : List UnitPaths) (i : ℕ) (bodies front : List Body) → length us ≤ i
     → bodies ++ bodies_known m v ks kl kt (drop i us) ≡ front ++ bodies_known m v ks kl kt us → bodies ≡ front ++ bodies_known m v ks kl kt us

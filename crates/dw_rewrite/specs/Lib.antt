@@ -7,6 +7,6 @@ pub mod NewLines
 pub mod LineOffsets
 pub mod PushedBodies
 pub mod Bodies
-pub mod Judged
+pub mod CheckedFiles
 pub mod Rewritten
 pub mod OffsetAddends

@@ -42,24 +42,28 @@ use dw_lines::LineTable;
 use dw_paths::Maps;
 use dw_strings::Pool;
 use dw_view::{RelocationSources, View};
+use elf_file::ElfFile;
 use elf_layout::NewBody;
 use std::alloc::{AllocError, Global};
 use std::collections::HashMap;
 
-/// The sections with new bytes: the tables of texts, string offsets, line tables and name tables, then the sections of macro
-/// units and the unit sections, each in the order of their numbers, and those that hold relocations of them. Refused as `TooLarge`, at the section,
-/// where a table of texts or the line tables would be longer than a file that is written, where a line table can't be written, and as `TooWide`
-/// where the addend of a relocation can't make the new offset of its field, at the field.
+/// The sections with new bytes: the tables of texts, string offsets, line tables and name tables, then the sections
+/// of macro units and the unit sections, each in the order of their numbers, and those that hold relocations of them.
+/// Refused as `TooLarge`, at the section, where a table of texts or the line tables would be longer than a file that
+/// is written, where a line table can't be written, and as `TooWide` where the addend of a relocation can't make the
+/// new offset of its field, at the field.
 #[tactic(auto, using(crate::proofs::MadeBodyLaws::body_rules, crate::proofs::FileMadeLaws::end_rules))]
-pub(crate) fn new_bodies<'v>(
+pub(crate) fn new_bodies<'a>(
     alloc: Global,
-    view: &'v View,
+    elf: &ElfFile<'a>,
+    view: &View,
     sources: &RelocationSources,
     maps: &Maps,
     tables: &[LineTable],
     macros: &[MacroSection],
     paths: &[UnitPaths],
-) -> Result<Vec<Body<'v>>, Fault>
+) -> Result<Vec<Body<'a>>, Fault>
+    requires file { view.now ≡ view_of elf.now.bytes.now }
     requires view { view.now ≡ view_of sources.now }
     requires relocations { RelocationSectionsRead (contents_of sources.now) sources.now }
     requires bytes { (k : ℕ) → slice_index sources.now k < 256 }
@@ -69,26 +73,27 @@ pub(crate) fn new_bodies<'v>(
     ensures refused { IfErr result (Blames (BodiesRefuse maps.now (debug_data view.now))) }
 {
     let old = starts_of(alloc, tables)?;
-    let NewTable { pool, known } = new_table(alloc, view, maps, TextsOf::Str, paths)?;
+    let NewTable { pool, new_offsets } = new_table(alloc, view, maps, TextsOf::Str, paths)?;
     let NewTable {
         pool: line_pool,
-        known: line_known,
+        new_offsets: line_offsets,
     } = new_table(alloc, view, maps, TextsOf::LineStr, paths)?;
-    let lines = new_lines(alloc, view, maps, &known, &line_known, tables)?;
+    let lines = new_lines(alloc, view, maps, &new_offsets, &line_offsets, tables)?;
     if lines.bytes.len() as u64 > OUTPUT_LIMIT {
         return Err(Fault::Refused(long_lines(view)));
     }
     let NewLines { bytes, starts: new } = lines;
     let starts = NewStarts::new(old.as_slice(), new.as_slice());
     let mut bodies = table_bodies(alloc, view, pool, line_pool)?;
-    let lines = lines_body(alloc, view, bytes);
+    let lines = lines_body(view, bytes);
     let sections = without_lines(view, paths);
     push_bodies(
         alloc,
+        elf,
         view,
         maps,
-        &known,
-        &line_known,
+        &new_offsets,
+        &line_offsets,
         &starts,
         lines,
         macros.len(),
@@ -100,8 +105,8 @@ pub(crate) fn new_bodies<'v>(
         view,
         sources,
         maps,
-        &known,
-        &line_known,
+        &new_offsets,
+        &line_offsets,
         &starts,
         new.as_slice(),
         tables,
@@ -123,22 +128,22 @@ fn table_bodies<'v>(
     let mut bodies = Vec::new(alloc);
     bodies.push(Body {
         section: table_number(view, TextsOf::Str),
-        bytes: NewBody::whole(alloc, pool.into_bytes()),
+        bytes: NewBody::whole(pool.into_bytes()),
     })?;
     bodies.push(Body {
         section: table_number(view, TextsOf::LineStr),
-        bytes: NewBody::whole(alloc, line_pool.into_bytes()),
+        bytes: NewBody::whole(line_pool.into_bytes()),
     })?;
     Ok(bodies)
 }
 
 /// The section of line tables with these bytes.
-fn lines_body<'v>(alloc: Global, view: &View, bytes: Vec<u8>) -> Body<'v>
+fn lines_body<'v>(view: &View, bytes: Vec<u8>) -> Body<'v>
     ensures { result ≡ record { number = (debug_data view.now).lines.number; bytes = bytes.items } }
 {
     Body {
         section: lines_number(view),
-        bytes: NewBody::whole(alloc, bytes),
+        bytes: NewBody::whole(bytes),
     }
 }
 
@@ -183,18 +188,20 @@ fn lines_count(view: &View) -> usize
 /// Appends string offsets, line tables, name tables, as many sections of macro units and the unit sections with their new
 /// bytes, from the new places of paths that are known of each table, and the starts of line tables.
 #[tactic(auto, using(crate::proofs::PushLaws::all_rules))]
-fn push_bodies<'v>(
+fn push_bodies<'a>(
     alloc: Global,
-    view: &'v View,
+    elf: &ElfFile<'a>,
+    view: &View,
     maps: &Maps,
     str: &HashMap<u64, u64>,
     line_str: &HashMap<u64, u64>,
     starts: &NewStarts,
-    lines: Body<'v>,
+    lines: Body<'a>,
     macro_count: usize,
     paths: &[UnitPaths],
-    bodies: &mut Vec<Body<'v>>,
+    bodies: &mut Vec<Body<'a>>,
 ) -> Result<(), Fault>
+    requires file { view.now ≡ view_of elf.now.bytes.now }
     requires offsets { AllHaveOffsets view.now paths.now }
     requires places { AllHavePlaces view.now paths.now }
     requires rooms { AllRoomsFit maps.now view.now paths.now }
@@ -205,16 +212,19 @@ fn push_bodies<'v>(
 {
     let (front, macros) = paths.split_at(paths.len() - macro_count);
     let (units, slots) = front.split_at(front.len() - slots_count(view));
-    push_slots_body(alloc, view, maps, str, line_str, starts, slots, bodies)?;
+    push_slots_body(alloc, elf, view, maps, str, line_str, starts, slots, bodies)?;
     bodies.push(lines)?;
     push_names(alloc, view, bodies)?;
-    new_sections(alloc, view, maps, str, line_str, starts, macros, bodies)?;
-    new_sections(alloc, view, maps, str, line_str, starts, units, bodies)?;
+    new_sections(
+        alloc, elf, view, maps, str, line_str, starts, macros, bodies,
+    )?;
+    new_sections(alloc, elf, view, maps, str, line_str, starts, units, bodies)?;
     Ok(())
 }
 
-/// Appends the sections that hold relocations of sections that say something of paths, and of line tables, with their records as they are when
-/// these say their new offsets. Refused as `TooWide`, at the field, where the addend of a field's relocation can't make its new offset.
+/// Appends the sections that hold relocations of sections that say something of paths, and of line tables, with their
+/// records as they are when these say their new offsets. Refused as `TooWide`, at the field, where the addend of a
+/// field's relocation can't make its new offset.
 fn push_relocations(
     alloc: Global,
     view: &View,
@@ -261,16 +271,18 @@ fn slots_count(view: &View) -> usize
 
 /// Appends the section of string offsets with its new bytes; a body of no section where there is none.
 #[tactic(auto, using(crate::proofs::PushLaws::slot_rules))]
-fn push_slots_body<'v>(
+fn push_slots_body<'a>(
     alloc: Global,
-    view: &'v View,
+    elf: &ElfFile<'a>,
+    view: &View,
     maps: &Maps,
     str: &HashMap<u64, u64>,
     line_str: &HashMap<u64, u64>,
     starts: &NewStarts,
     slots: &[UnitPaths],
-    bodies: &mut Vec<Body<'v>>,
+    bodies: &mut Vec<Body<'a>>,
 ) -> Result<(), Fault>
+    requires file { view.now ≡ view_of elf.now.bytes.now }
     requires offsets { AllHaveOffsets view.now slots.now }
     requires places { AllHavePlaces view.now slots.now }
     requires rooms { AllRoomsFit maps.now view.now slots.now }
@@ -280,11 +292,11 @@ fn push_slots_body<'v>(
     if slots.is_empty() {
         bodies.push(Body {
             section: 0,
-            bytes: NewBody::whole(alloc, Vec::new(alloc)),
+            bytes: NewBody::whole(Vec::new(alloc)),
         })?;
         return Ok(());
     }
-    new_sections(alloc, view, maps, str, line_str, starts, slots, bodies)?;
+    new_sections(alloc, elf, view, maps, str, line_str, starts, slots, bodies)?;
     Ok(())
 }
 
@@ -308,12 +320,12 @@ fn names_body<'v>(alloc: Global, view: &View) -> Result<Body<'v>, AllocError>
             let bytes = Vec::from_slice(alloc, view.bytes(section))?;
             Ok(Body {
                 section,
-                bytes: NewBody::whole(alloc, bytes),
+                bytes: NewBody::whole(bytes),
             })
         }
         None => Ok(Body {
             section: 0,
-            bytes: NewBody::whole(alloc, Vec::new(alloc)),
+            bytes: NewBody::whole(Vec::new(alloc)),
         }),
     }
 }

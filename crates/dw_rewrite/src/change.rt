@@ -16,7 +16,7 @@ ghost use Rattle.dw_find.specs.Fields.{AllApart, AreOffsetFields};
 ghost use Rattle.dw_rewrite.specs.Changes.{AreFieldsOf, AreFree, AreNoted, AreSet, IsSet, Knows, Remembers, texts_at};
 ghost use Rattle.dw_rewrite.specs.NewStarts.{known_starts};
 
-use crate::known::{known_offset, note_path};
+use crate::new_offsets::{new_offset, note_path};
 use crate::sources::FieldSource;
 use crate::starts::NewStarts;
 use dw_base::Fault;
@@ -28,29 +28,28 @@ use std::alloc::Global;
 use std::collections::HashMap;
 
 /// Notes the new places of the paths whose offsets these fields of a section hold.
-#[tactic(auto, using(crate::proofs::ChangedLaws::note_all_rules))]
 pub(crate) fn note_fields(
     alloc: Global,
     source: &FieldSource,
     maps: &Maps,
     fields: &[PathField],
     pool: &mut Pool,
-    known: &mut HashMap<u64, u64>,
+    new_offsets: &mut HashMap<u64, u64>,
 ) -> Result<(), Fault>
     requires paths { AreOffsetFields source.now.order source.now.table source.now.cells fields.now }
     requires kept { pool.old.kept ≡ source.now.table.bytes }
     requires small { length (table_bytes pool.old) ≤ output_limit }
-    requires knows { Knows (appending maps.now source.now.table.bytes) maps.now source.now.table.bytes pool.old.texts (λ o. get nat_eq known.old o) }
+    requires knows { Knows (appending maps.now source.now.table.bytes) maps.now source.now.table.bytes pool.old.texts (λ o. get nat_eq new_offsets.old o) }
     ensures kept { OnOk result (pool.new.kept ≡ source.now.table.bytes) }
     ensures texts { OnOk result (pool.new.texts ≡ texts_at (appending maps.now source.now.table.bytes) maps.now source.now pool.old.texts fields.now) }
     ensures small { OnOk result (length (table_bytes pool.new) ≤ output_limit) }
-    ensures knows { OnOk result (Knows (appending maps.now source.now.table.bytes) maps.now source.now.table.bytes pool.new.texts (λ o. get nat_eq known.new o)) }
-    ensures noted { OnOk result (AreNoted (appending maps.now source.now.table.bytes) source.now fields.now (length fields.now) (λ o. get nat_eq known.new o)) }
-    ensures remembers { OnOk result (Remembers (λ o. get nat_eq known.old o) (λ o. get nat_eq known.new o)) }
+    ensures knows { OnOk result (Knows (appending maps.now source.now.table.bytes) maps.now source.now.table.bytes pool.new.texts (λ o. get nat_eq new_offsets.new o)) }
+    ensures noted { OnOk result (AreNoted (appending maps.now source.now.table.bytes) source.now fields.now (length fields.now) (λ o. get nat_eq new_offsets.new o)) }
+    ensures remembers { OnOk result (Remembers (λ o. get nat_eq new_offsets.old o) (λ o. get nat_eq new_offsets.new o)) }
     ensures refused { IfErr result (Blames (TooLong (length (table_bytes (record { kept = source.now.table.bytes; texts = texts_at (appending maps.now source.now.table.bytes) maps.now source.now pool.old.texts fields.now }))))) }
 {
     for at in fields {
-        note_path(alloc, source, maps, *at, pool, known)?;
+        note_path(alloc, source, maps, *at, pool, new_offsets)?;
     }
     Ok(())
 }
@@ -60,18 +59,18 @@ pub(crate) fn note_fields(
 pub(crate) fn set_fields(
     source: &FieldSource,
     fields: &[PathField],
-    known: &HashMap<u64, u64>,
+    new_offsets: &HashMap<u64, u64>,
     patches: &mut Patches,
 ) -> Result<(), Fault>
     requires paths { AreOffsetFields source.now.order source.now.table source.now.cells fields.now }
     requires size { patches.old.size ≡ length source.now.cells }
     requires apart { AllApart fields.now }
     requires free { AreFree patches.old.list fields.now }
-    ensures set { OnOk result (AreSet source.now (λ o. get nat_eq known.now o) fields.now patches.old patches.new) }
+    ensures set { OnOk result (AreSet source.now (λ o. get nat_eq new_offsets.now o) fields.now patches.old patches.new) }
     ensures only { IfErr result (λ f. f ≡ NoMemory) }
 {
     for at in fields {
-        let new = known_offset(source, *at, known);
+        let new = new_offset(source, *at, new_offsets);
         set_known(source, *at, new, patches)?;
     }
     Ok(())
@@ -82,17 +81,17 @@ pub(crate) fn set_fields(
 fn set_known(
     source: &FieldSource,
     field: PathField,
-    known: Option<u64>,
+    new: Option<u64>,
     patches: &mut Patches,
 ) -> Result<(), Fault>
     requires sized { (field.size ≡ 4) ⊎ (field.size ≡ 8) }
     requires inside { field.at + field.size ≤ length source.now.cells }
     requires size { patches.old.size ≡ length source.now.cells }
     requires free { IsFree patches.old.list field.at field.size }
-    ensures set { OnOk result (IsSet source.now field known patches.old patches.new) }
+    ensures set { OnOk result (IsSet source.now field new patches.old patches.new) }
     ensures only { IfErr result (λ f. f ≡ NoMemory) }
 {
-    if let Some(place) = known {
+    if let Some(place) = new {
         let number = source.number(field, place);
         patches.set(field.at, field.size, NewPlace::Offset(number))?;
     }

@@ -1,4 +1,4 @@
-//! The whole of a file rewritten: read, judged, its debug data changed, and written.
+//! The whole of a file rewritten: read, checked, its debug data changed, and written.
 //!
 //! Read first: `dw_meaning/specs/EditRows.antt` and `dw_meaning/specs/FileMeanings.antt`, then `specs/Rewritten.antt`.
 
@@ -17,11 +17,11 @@ ghost use Rattle.dw_base.specs.Refusals.{Blames};
 ghost use Rattle.dw_rewrite.specs.Bodies.{FileBodiesMade};
 ghost use Rattle.dw_find.specs.FoundPaths.{PathsFound};
 ghost use Rattle.dw_find.specs.MacroSections.{UnitsFoundIn};
-ghost use Rattle.dw_rewrite.specs.Judged.{IsJudged};
+ghost use Rattle.dw_rewrite.specs.CheckedFiles.{IsChecked};
 ghost use Rattle.dw_rewrite.specs.Rewritten.{AllStand, AreGiven, IsGiven, IsInFile, body_with, long_fault, long_refusal, told_refusal};
 
 use crate::bodies::new_bodies;
-use crate::judge::judge;
+use crate::loaded_sections::check_unloaded;
 use crate::new_sections::Body;
 use crate::refusal::{fixed, too_large};
 use dw_base::{Fault, Kind, Refusal};
@@ -30,14 +30,14 @@ use dw_lines::{LineTable, line_tables};
 use dw_paths::Maps;
 use dw_view::{RelocationSources, View};
 use elf_file::ElfFile;
-use elf_layout::{NewBody, emit};
+use elf_layout::{NewBody, Pieces, emit};
 use std::alloc::{AllocError, Global};
 
-/// A file that was rewritten, with what was read of it for that.
+/// A file that was rewritten, with the line tables that were read for that.
 #[derive(Debug, Drop)]
-pub struct Rewritten {
-    /// The file with each source path mapped.
-    pub file: Vec<u8>,
+pub struct Rewritten<'a> {
+    /// The file with each source path mapped, of which the file that is rewritten lends what stays.
+    pub file: Pieces<'a>,
     /// The line tables of the file as it was, in the order of their places.
     pub tables: Vec<LineTable>,
 }
@@ -47,15 +47,15 @@ pub struct Rewritten {
 /// out anew. Beside it stand the line tables that were read for that. Refused only by a condition that holds in the file, at
 /// its place; where none holds, it is rewritten, or there was not enough memory.
 #[tactic(auto, using(crate::proofs::ExitLaws::rewrite_rules))]
-pub fn rewrite(alloc: Global, bytes: &[u8], maps: &Maps) -> Result<Rewritten, Fault>
+pub fn rewrite<'a>(alloc: Global, bytes: &'a [u8], maps: &Maps) -> Result<Rewritten<'a>, Fault>
     requires small { length bytes.now ≤ output_limit }
     ensures accepted { OnOk result (IsAccepted maps.now bytes.now) }
-    ensures output { IfOk result (λ out. IsOutput maps.now bytes.now out.file.items) }
-    ensures only { IfOk result (λ out. (o : List ℕ) → IsOutput maps.now bytes.now o → o ≡ out.file.items) }
+    ensures output { IfOk result (λ out. IsOutput maps.now bytes.now out.file) }
+    ensures only { IfOk result (λ out. (o : List ℕ) → IsOutput maps.now bytes.now o → o ≡ out.file) }
 
     // What it means is what the file means, with each source path mapped, and what is loaded of it is as it was.
-    ensures meaning { IfOk result (λ out. MeaningKept maps.now bytes.now out.file.items) }
-    ensures loaded { IfOk result (λ out. LoadedKept bytes.now out.file.items) }
+    ensures meaning { IfOk result (λ out. MeaningKept maps.now bytes.now out.file) }
+    ensures loaded { IfOk result (λ out. LoadedKept bytes.now out.file) }
 
     // The line tables are those of the file as it was.
     ensures tables { IfOk result (λ out. TablesFound (view_of bytes.now) out.tables.items) }
@@ -67,42 +67,42 @@ pub fn rewrite(alloc: Global, bytes: &[u8], maps: &Maps) -> Result<Rewritten, Fa
 
 /// The file rewritten, where its records were read.
 #[tactic(auto, using(crate::proofs::ExitLaws::elf_rules))]
-fn rewrite_elf(alloc: Global, elf: &ElfFile, maps: &Maps) -> Result<Rewritten, Fault>
+fn rewrite_elf<'a>(alloc: Global, elf: &ElfFile<'a>, maps: &Maps) -> Result<Rewritten<'a>, Fault>
     requires small { length elf.now.bytes.now ≤ output_limit }
     requires bytes { (k : ℕ) → slice_index elf.now.bytes.now k < 256 }
     requires reads { ElfReads elf.now.bytes.now }
     ensures accepted { OnOk result (IsAccepted maps.now elf.now.bytes.now) }
-    ensures output { IfOk result (λ out. IsOutput maps.now elf.now.bytes.now out.file.items) }
-    ensures only { IfOk result (λ out. (o : List ℕ) → IsOutput maps.now elf.now.bytes.now o → o ≡ out.file.items) }
-    ensures meaning { IfOk result (λ out. MeaningKept maps.now elf.now.bytes.now out.file.items) }
-    ensures loaded { IfOk result (λ out. LoadedKept elf.now.bytes.now out.file.items) }
+    ensures output { IfOk result (λ out. IsOutput maps.now elf.now.bytes.now out.file) }
+    ensures only { IfOk result (λ out. (o : List ℕ) → IsOutput maps.now elf.now.bytes.now o → o ≡ out.file) }
+    ensures meaning { IfOk result (λ out. MeaningKept maps.now elf.now.bytes.now out.file) }
+    ensures loaded { IfOk result (λ out. LoadedKept elf.now.bytes.now out.file) }
     ensures tables { IfOk result (λ out. TablesFound (view_of elf.now.bytes.now) out.tables.items) }
     ensures refused { IfErr result (Blames (EditFails maps.now elf.now.bytes.now)) }
 {
-    let view = View::one(elf)?;
-    let sources = RelocationSources::read(elf)?;
-    judge(elf, &view, &sources)?;
-    rewrite_judged(alloc, elf, &view, &sources, maps)
+    let view = View::one(&*elf)?;
+    let sources = RelocationSources::read(&*elf)?;
+    check_unloaded(elf, &view, &sources)?;
+    rewrite_checked(alloc, elf, &view, &sources, maps)
 }
 
-/// The file rewritten, where it was judged.
-#[tactic(auto, using(crate::proofs::ExitLaws::judged_rules))]
-fn rewrite_judged(
+/// The file rewritten, where its sections were checked.
+#[tactic(auto, using(crate::proofs::ExitLaws::checked_rules))]
+fn rewrite_checked<'a>(
     alloc: Global,
-    elf: &ElfFile,
+    elf: &ElfFile<'a>,
     view: &View,
     sources: &RelocationSources,
     maps: &Maps,
-) -> Result<Rewritten, Fault>
+) -> Result<Rewritten<'a>, Fault>
     requires small { length elf.now.bytes.now ≤ output_limit }
-    requires judged { IsJudged elf.now.bytes.now }
+    requires checked { IsChecked elf.now.bytes.now }
     requires view { view.now ≡ view_of elf.now.bytes.now }
     requires sources { sources.now ≡ elf.now.bytes.now }
     ensures accepted { OnOk result (IsAccepted maps.now elf.now.bytes.now) }
-    ensures output { IfOk result (λ out. IsOutput maps.now elf.now.bytes.now out.file.items) }
-    ensures only { IfOk result (λ out. (o : List ℕ) → IsOutput maps.now elf.now.bytes.now o → o ≡ out.file.items) }
-    ensures meaning { IfOk result (λ out. MeaningKept maps.now elf.now.bytes.now out.file.items) }
-    ensures loaded { IfOk result (λ out. LoadedKept elf.now.bytes.now out.file.items) }
+    ensures output { IfOk result (λ out. IsOutput maps.now elf.now.bytes.now out.file) }
+    ensures only { IfOk result (λ out. (o : List ℕ) → IsOutput maps.now elf.now.bytes.now o → o ≡ out.file) }
+    ensures meaning { IfOk result (λ out. MeaningKept maps.now elf.now.bytes.now out.file) }
+    ensures loaded { IfOk result (λ out. LoadedKept elf.now.bytes.now out.file) }
     ensures tables { IfOk result (λ out. TablesFound (view_of elf.now.bytes.now) out.tables.items) }
     ensures refused { IfErr result (Blames (EditFails maps.now elf.now.bytes.now)) }
 {
@@ -110,21 +110,21 @@ fn rewrite_judged(
     let _ = &maps.base;
     let tables = tables_in(alloc, elf, view, maps)?;
     let bodies = made_bodies(alloc, elf, view, sources, maps, tables.as_slice())?;
-    let file = written(alloc, elf, bodies)?;
+    let file = emitted(alloc, elf, bodies)?;
     Ok(Rewritten { file, tables })
 }
 
 /// The new bytes of the sections that change, by the file's line tables.
-fn made_bodies<'v>(
+fn made_bodies<'a>(
     alloc: Global,
-    elf: &ElfFile,
-    view: &'v View,
+    elf: &ElfFile<'a>,
+    view: &View,
     sources: &RelocationSources,
     maps: &Maps,
     tables: &[LineTable],
-) -> Result<Vec<Body<'v>>, Fault>
+) -> Result<Vec<Body<'a>>, Fault>
     requires small { length elf.now.bytes.now ≤ output_limit }
-    requires judged { IsJudged elf.now.bytes.now }
+    requires checked { IsChecked elf.now.bytes.now }
     requires view { view.now ≡ view_of elf.now.bytes.now }
     requires sources { sources.now ≡ elf.now.bytes.now }
     requires tables { TablesFound (view_of elf.now.bytes.now) tables.now }
@@ -144,7 +144,7 @@ fn tables_in(
     view: &View,
     maps: &Maps,
 ) -> Result<Vec<LineTable>, Fault>
-    requires judged { IsJudged elf.now.bytes.now }
+    requires checked { IsChecked elf.now.bytes.now }
     requires view { view.now ≡ view_of elf.now.bytes.now }
     ensures tables { IfOk result (λ tables. TablesFound (view_of elf.now.bytes.now) tables.items) }
     ensures refused { IfErr result (Blames (EditFails maps.now elf.now.bytes.now)) }
@@ -161,7 +161,7 @@ fn macros_in(
     view: &View,
     maps: &Maps,
 ) -> Result<Vec<MacroSection>, Fault>
-    requires judged { IsJudged elf.now.bytes.now }
+    requires checked { IsChecked elf.now.bytes.now }
     requires view { view.now ≡ view_of elf.now.bytes.now }
     ensures macros { IfOk result (λ macros. UnitsFoundIn (view_of elf.now.bytes.now) macros.items) }
     ensures refused { IfErr result (Blames (EditFails maps.now elf.now.bytes.now)) }
@@ -180,7 +180,7 @@ fn paths_in(
     tables: &[LineTable],
     macros: &[MacroSection],
 ) -> Result<Vec<UnitPaths>, Fault>
-    requires judged { IsJudged elf.now.bytes.now }
+    requires checked { IsChecked elf.now.bytes.now }
     requires view { view.now ≡ view_of elf.now.bytes.now }
     requires tables { TablesFound (view_of elf.now.bytes.now) tables.now }
     requires macros { UnitsFoundIn (view_of elf.now.bytes.now) macros.now }
@@ -193,18 +193,18 @@ fn paths_in(
 
 /// The new bytes of the sections that change, by what was found of paths.
 #[tactic(auto, using(crate::proofs::ExitLaws::bodies_rules))]
-fn bodies_in<'v>(
+fn bodies_in<'a>(
     alloc: Global,
-    elf: &ElfFile,
-    view: &'v View,
+    elf: &ElfFile<'a>,
+    view: &View,
     sources: &RelocationSources,
     maps: &Maps,
     tables: &[LineTable],
     macros: &[MacroSection],
     paths: &[UnitPaths],
-) -> Result<Vec<Body<'v>>, Fault>
+) -> Result<Vec<Body<'a>>, Fault>
     requires small { length elf.now.bytes.now ≤ output_limit }
-    requires judged { IsJudged elf.now.bytes.now }
+    requires checked { IsChecked elf.now.bytes.now }
     requires view { view.now ≡ view_of elf.now.bytes.now }
     requires sources { sources.now ≡ elf.now.bytes.now }
     requires macros { UnitsFoundIn (view_of elf.now.bytes.now) macros.now }
@@ -212,7 +212,7 @@ fn bodies_in<'v>(
     ensures made { IfOk result (λ bodies. FileBodiesMade maps.now elf.now.bytes.now bodies.items) }
     ensures refused { IfErr result (Blames (EditFails maps.now elf.now.bytes.now)) }
 {
-    match new_bodies(alloc, view, sources, maps, tables, macros, paths) {
+    match new_bodies(alloc, elf, view, sources, maps, tables, macros, paths) {
         Ok(bodies) => Ok(bodies),
         Err(fault) => Err(long_fault(elf, fault)),
     }
@@ -257,16 +257,16 @@ fn long_refusal(elf: &ElfFile, section: u32) -> Refusal
 
 /// The file written with new bytes of some sections.
 #[tactic(auto, using(crate::proofs::WrittenLaws::written_rules))]
-fn written(alloc: Global, elf: &ElfFile, bodies: Vec<Body>) -> Result<Vec<u8>, Fault>
+fn emitted<'a>(alloc: Global, elf: &ElfFile<'a>, bodies: Vec<Body<'a>>) -> Result<Pieces<'a>, Fault>
     requires reads { ElfReads elf.now.bytes.now }
     requires stand { AllStand elf.now.bytes.now bodies.items }
-    ensures file { IfOk result (λ out. out.items ≡ with_bodies elf.now.bytes.now (body_with elf.now.bytes.now bodies.entry.items)) }
-    ensures back { IfOk result (λ out. ReadsBack elf.now.bytes.now (body_with elf.now.bytes.now bodies.entry.items) out.items) }
+    ensures file { IfOk result (λ out. out ≡ with_bodies elf.now.bytes.now (body_with elf.now.bytes.now bodies.entry.items)) }
+    ensures back { IfOk result (λ out. ReadsBack elf.now.bytes.now (body_with elf.now.bytes.now bodies.entry.items) out) }
     ensures fits { OnOk result (LayoutFits elf.now.bytes.now (body_with elf.now.bytes.now bodies.entry.items)) }
     ensures refused { IfErr result (Blames (LayoutFails elf.now.bytes.now (body_with elf.now.bytes.now bodies.entry.items))) }
 {
     let contents = contents_of(alloc, elf, bodies)?;
-    let out = emit(alloc, elf, &contents)?;
+    let out = emit(alloc, elf, contents)?;
     Ok(out)
 }
 

@@ -2,7 +2,7 @@
 //!
 //! Read first: `specs/UnitsAfter.antt`.
 
-ghost use Rattle.std.specs.Prelude.{◌≡◌, ◌+◌, ◌≤◌, ◌<◌, length, OnOk, IfErr};
+ghost use Rattle.std.specs.Prelude.{◌≡◌, ◌+◌, ◌≤◌, length, OnOk, IfErr};
 ghost use Rattle.dw_base.specs.Refusals.{Blames};
 ghost use Rattle.dw_find.specs.InlineRooms.{AreRooms, Grows, GrowsOne, RoomFits};
 ghost use Rattle.dw_find.specs.TextPlaces.{InlinesFit};

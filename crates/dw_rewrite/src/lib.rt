@@ -14,19 +14,21 @@
 //! // The prefix of the build's paths, and the one where the sources are installed.
 //! if let Some(maps) = Maps::new(alloc, b"/build/p", b"/usr/src/debug/p")? {
 //!     let Rewritten { file, .. } = rewrite(alloc, &bytes, &maps)?;
+//!     // One slice behind another.
+//!     let slices = file.slices(alloc)?;
 //! }
 //! ```
 #![tactic(auto)]
 
-mod asks;
 mod bodies;
 mod change;
+mod changed_texts;
 mod file;
 mod inline;
-mod judge;
-mod known;
 mod line_records;
 mod lines;
+mod loaded_sections;
+mod new_offsets;
 mod new_sections;
 mod records;
 mod refusal;

@@ -1,9 +1,9 @@
-//! The section that holds the relocations of line tables when these are written anew (DWARF 5, 6.2.4; gABI ch. 4 "Relocation"): each record
-//! moves with the byte at which its relocation begins, and has the addend that makes the offset of its field.
+//! The section that holds the relocations of line tables when these are written anew (DWARF 5, 6.2.4; gABI ch. 4
+//! "Relocation"): each record moves with the byte at which its relocation begins, and has the addend that makes the
+//! offset of its field.
 //!
-//! This file promises: the records are moved by the runs and offsets of all tables. A file that has no relocations of line tables pays for
-//! none of it.
-//! Read first: `specs/LineOffsets.antt`.
+//! This file promises: the records are moved by the runs and offsets of all tables. A file that has no relocations of
+//! line tables pays for none of it. Read first: `specs/LineOffsets.antt`.
 
 ghost use Rattle.std.specs.Bool.{OnFalse, OnTrue};
 ghost use Rattle.std.specs.HashMap.{get};
@@ -51,9 +51,9 @@ struct LineMoves {
     offsets: Vec<FieldOffset>,
 }
 
-/// Appends the section that holds the relocations of the section of line tables, if one does, with its records as they are when the tables,
-/// whose new places of texts are known by their old ones, start anew at these places. Refused as `TooWide` where the addend of a record can't
-/// make the new offset of its field, at the field.
+/// Appends the section that holds the relocations of the section of line tables, if one does, with its records as
+/// they are when the tables, whose new places of texts are known by their old ones, start anew at these places.
+/// Refused as `TooWide` where the addend of a record can't make the new offset of its field, at the field.
 #[tactic(auto, using(crate::proofs::LineRecordLaws::record_rules))]
 pub(crate) fn push_line_record(
     alloc: Global,
@@ -144,12 +144,11 @@ fn moved_body<'v>(
     offsets.move_records(source, moves.runs.as_slice(), &mut bytes);
     Ok(Body {
         section: holder,
-        bytes: NewBody::whole(alloc, bytes),
+        bytes: NewBody::whole(bytes),
     })
 }
 
 /// How the line tables of the section of a number move.
-#[tactic(auto, using(crate::proofs::LineMoveLaws::tables_rules))]
 fn line_moves(
     alloc: Global,
     view: &View,
@@ -209,8 +208,8 @@ fn push_table(
     Ok(())
 }
 
-/// The offsets of fields of the section of a number, for its records. Refused as `TooWide`, at a field, where the addend of its relocation
-/// can't make its offset.
+/// The offsets of fields of the section of a number, for its records. Refused as `TooWide`, at a field, where the
+/// addend of its relocation can't make its offset.
 #[tactic(auto, using(crate::proofs::LineOffsetLaws::said_rules))]
 fn said_offsets(
     alloc: Global,

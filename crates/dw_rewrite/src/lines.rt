@@ -57,7 +57,6 @@ pub(crate) fn new_lines(
 
 /// The tables of the section of a number with mapped paths, from the new places of texts that are known by their old ones.
 /// Refused where one can't be written.
-#[tactic(auto, using(crate::proofs::LineWriteLaws::tables_rules))]
 fn written_tables(
     alloc: Global,
     view: &View,

@@ -7,6 +7,7 @@ ghost use Rattle.std.specs.Prelude.{[], ◌≡◌, ◌++◌, ◌<◌, length, na
 ghost use Rattle.std.specs.Bool.{OnTrue};
 ghost use Rattle.std.specs.HashMap.{get};
 ghost use Rattle.dw_meaning.specs.DataOutput.{Body as BodyOf};
+ghost use Rattle.dw_base.specs.FileViews.{section_bytes, view_of};
 ghost use Rattle.dw_base.specs.Refusals.{Blames};
 ghost use Rattle.dw_base.specs.declared.fault.Fault.TheVariants.{NoMemory};
 ghost use Rattle.dw_rewrite.specs.Changes.{AreFree, AreSet};
@@ -28,6 +29,7 @@ use dw_find::{TextsOf, UnitPaths};
 use dw_patch::Patches;
 use dw_paths::Maps;
 use dw_view::View;
+use elf_file::ElfFile;
 use elf_layout::NewBody;
 use std::alloc::Global;
 use std::collections::HashMap;
@@ -51,16 +53,18 @@ impl<'a> Model for Body<'a> {
 /// Appends sections with their new bytes, from the new places of paths that are known of each table, and the new
 /// starts of line tables.
 #[tactic(auto, using(crate::proofs::SectionBytesLaws::all_rules))]
-pub(crate) fn new_sections<'v>(
+pub(crate) fn new_sections<'a>(
     alloc: Global,
-    view: &'v View,
+    elf: &ElfFile<'a>,
+    view: &View,
     maps: &Maps,
     str: &HashMap<u64, u64>,
     line_str: &HashMap<u64, u64>,
     starts: &NewStarts,
     paths: &[UnitPaths],
-    bodies: &mut Vec<Body<'v>>,
+    bodies: &mut Vec<Body<'a>>,
 ) -> Result<(), Fault>
+    requires file { view.now ≡ view_of elf.now.bytes.now }
     requires offsets { AllHaveOffsets view.now paths.now }
     requires places { AllHavePlaces view.now paths.now }
     requires rooms { AllRoomsFit maps.now view.now paths.now }
@@ -68,7 +72,7 @@ pub(crate) fn new_sections<'v>(
     ensures only { IfErr result (λ f. f ≡ NoMemory) }
 {
     for found in paths {
-        let body = new_section(alloc, view, maps, str, line_str, starts, found)?;
+        let body = new_section(alloc, elf, view, maps, str, line_str, starts, found)?;
         bodies.push(body)?;
     }
     Ok(())
@@ -76,22 +80,24 @@ pub(crate) fn new_sections<'v>(
 
 /// A section with its new bytes: old ones with new numbers in their fields, where no path stands in its value.
 #[tactic(auto, using(crate::proofs::SectionBytesLaws::one_rules))]
-fn new_section<'v>(
+fn new_section<'a>(
     alloc: Global,
-    view: &'v View,
+    elf: &ElfFile<'a>,
+    view: &View,
     maps: &Maps,
     str: &HashMap<u64, u64>,
     line_str: &HashMap<u64, u64>,
     starts: &NewStarts,
     found: &UnitPaths,
-) -> Result<Body<'v>, Fault>
+) -> Result<Body<'a>, Fault>
+    requires file { view.now ≡ view_of elf.now.bytes.now }
     requires offsets { HasOffsets view.now found.now }
     requires places { HasPlaces view.now found.now }
     ensures body { IfOk result (λ b. b ≡ body_known maps.now view.now (λ o. get nat_eq str.now o) (λ o. get nat_eq line_str.now o) (λ o. known_starts starts.now o) found.now) }
     ensures refused { IfErr result (Blames (Grows maps.now found.now.number (info_of view.now found.now) found.now.inline)) }
 {
     let patches = new_fields(alloc, view, str, line_str, starts, found)?;
-    let old = view.bytes(found.section);
+    let old = old_bytes(elf, found.section);
     if has_no_rooms(found) {
         return Ok(patched_section(found.section, old, patches));
     }
@@ -99,8 +105,17 @@ fn new_section<'v>(
     write_section(alloc, view, maps, &patches, found, &mut bytes)?;
     Ok(Body {
         section: found.section,
-        bytes: NewBody::whole(alloc, bytes),
+        bytes: NewBody::whole(bytes),
     })
+}
+
+/// The bytes of the section of a number, which the file lends.
+#[tactic(auto, using(crate::proofs::SectionBytesLaws::lent_rules))]
+fn old_bytes<'a>(elf: &ElfFile<'a>, section: u32) -> &'a [u8]
+    requires there { section < length (view_of elf.now.bytes.now).sections }
+    ensures bytes { result.now ≡ section_bytes (view_of elf.now.bytes.now) section }
+{
+    elf.contents(section)
 }
 
 /// No path of a section stands in its value.
@@ -112,7 +127,7 @@ fn has_no_rooms(found: &UnitPaths) -> bool
 }
 
 /// The section of a number with its old bytes and new numbers in their fields.
-fn patched_section<'v>(section: u32, old: &'v [u8], patches: Patches) -> Body<'v>
+fn patched_section<'a>(section: u32, old: &'a [u8], patches: Patches) -> Body<'a>
     requires size { length old.now ≡ patches.size }
     ensures body { result ≡ record { number = section; bytes = with_patches patches.order old.now patches.list } }
 {
@@ -180,19 +195,19 @@ fn set_section(
     view: &View,
     texts: TextsOf,
     found: &UnitPaths,
-    known: &HashMap<u64, u64>,
+    new_offsets: &HashMap<u64, u64>,
     patches: &mut Patches,
 ) -> Result<(), Fault>
     requires offsets { HasOffsets view.now found.now }
     requires places { HasPlaces view.now found.now }
     requires size { patches.old.size ≡ length (info_of view.now found.now) }
     requires free { AreFree patches.old.list (fields_of (as_table texts) found.now) }
-    ensures set { OnOk result (AreSet (source_in view.now found.now.number (as_table texts)) (λ o. get nat_eq known.now o) (fields_of (as_table texts) found.now) patches.old patches.new) }
+    ensures set { OnOk result (AreSet (source_in view.now found.now.number (as_table texts)) (λ o. get nat_eq new_offsets.now o) (fields_of (as_table texts) found.now) patches.old patches.new) }
     ensures only { IfErr result (λ f. f ≡ NoMemory) }
 {
     let source = text_source(view, texts, found.section);
     let fields = fields_of(found, texts);
-    set_fields(&source, fields, known, patches)?;
+    set_fields(&source, fields, new_offsets, patches)?;
     Ok(())
 }
 

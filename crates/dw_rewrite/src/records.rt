@@ -1,5 +1,5 @@
-//! The sections that hold relocations of sections whose fields say new offsets (gABI ch. 4 "Relocation"): each record stays at its place, and has
-//! the addend that makes the offset of its field.
+//! The sections that hold relocations of sections whose fields say new offsets (gABI ch. 4 "Relocation"): each record
+//! stays at its place, and has the addend that makes the offset of its field.
 //!
 //! Read first: `specs/NewOffsets.antt` and `specs/OffsetAddends.antt`.
 
@@ -17,7 +17,7 @@ ghost use Rattle.dw_rewrite.specs.NewStarts.{known_starts};
 ghost use Rattle.dw_rewrite.specs.NewTables.{source_in, starts_in};
 ghost use Rattle.dw_rewrite.specs.OffsetAddends.{AllMake, AllMiss, FieldMakes, FieldMisses, FieldsMake, FieldsMiss, SectionMakes, SectionMisses};
 
-use crate::known::known_offset;
+use crate::new_offsets::new_offset;
 use crate::new_sections::{Body, start_source};
 use crate::sources::FieldSource;
 use crate::starts::NewStarts;
@@ -30,8 +30,9 @@ use elf_layout::NewBody;
 use std::alloc::Global;
 use std::collections::HashMap;
 
-/// Appends the sections that hold relocations of these sections, with their records as they are when the sections' fields say their new
-/// offsets. Refused as `TooWide`, at the field, where the addend of a field's relocation can't make its new offset.
+/// Appends the sections that hold relocations of these sections, with their records as they are when the sections'
+/// fields say their new offsets. Refused as `TooWide`, at the field, where the addend of a field's relocation can't
+/// make its new offset.
 #[tactic(auto, using(crate::proofs::RecordPushLaws::all_rules))]
 pub(crate) fn push_records(
     alloc: Global,
@@ -84,8 +85,8 @@ fn push_record(
     Ok(())
 }
 
-/// The section of a number that holds the relocations of a section, with its records as they are when the section's fields say their
-/// new offsets.
+/// The section of a number that holds the relocations of a section, with its records as they are when the section's
+/// fields say their new offsets.
 #[tactic(auto, using(crate::proofs::OffsetAddLaws::body_rules))]
 fn records_body<'v>(
     alloc: Global,
@@ -109,7 +110,7 @@ fn records_body<'v>(
     offsets.move_records(source, &[], &mut bytes);
     Ok(Body {
         section: holder,
-        bytes: NewBody::whole(alloc, bytes),
+        bytes: NewBody::whole(bytes),
     })
 }
 
@@ -141,22 +142,22 @@ fn add_section(
     view: &View,
     texts: TextsOf,
     found: &UnitPaths,
-    known: &HashMap<u64, u64>,
+    new_offsets: &HashMap<u64, u64>,
     offsets: &mut Offsets,
 ) -> Result<(), Fault>
     requires fields { HasOffsets view.now found.now }
     requires apart { NoneTogether (fields_of (as_table texts) found.now) }
     requires absent { AreAbsent offsets.old (fields_of (as_table texts) found.now) }
-    ensures added { OnOk result (offsets.new ≡ offsets.old ++ offsets_known (source_in view.now found.now.number (as_table texts)) (λ o. get nat_eq known.now o) (fields_of (as_table texts) found.now)) }
-    ensures makes { OnOk result (FieldsMake (source_in view.now found.now.number (as_table texts)) (λ o. get nat_eq known.now o) (fields_of (as_table texts) found.now)) }
-    ensures refused { IfErr result (Blames (FieldsMiss (source_in view.now found.now.number (as_table texts)) (λ o. get nat_eq known.now o) found.now.number (fields_of (as_table texts) found.now))) }
+    ensures added { OnOk result (offsets.new ≡ offsets.old ++ offsets_known (source_in view.now found.now.number (as_table texts)) (λ o. get nat_eq new_offsets.now o) (fields_of (as_table texts) found.now)) }
+    ensures makes { OnOk result (FieldsMake (source_in view.now found.now.number (as_table texts)) (λ o. get nat_eq new_offsets.now o) (fields_of (as_table texts) found.now)) }
+    ensures refused { IfErr result (Blames (FieldsMiss (source_in view.now found.now.number (as_table texts)) (λ o. get nat_eq new_offsets.now o) found.now.number (fields_of (as_table texts) found.now))) }
 {
     let source = text_source(view, texts, found.section);
     add_fields(
         &source,
         found.section,
         fields_of(found, texts),
-        known,
+        new_offsets,
         offsets,
     )?;
     Ok(())
@@ -193,18 +194,18 @@ fn add_fields(
     source: &FieldSource,
     section: u32,
     fields: &[PathField],
-    known: &HashMap<u64, u64>,
+    new_offsets: &HashMap<u64, u64>,
     offsets: &mut Offsets,
 ) -> Result<(), Fault>
     requires paths { AreOffsetFields source.now.order source.now.table source.now.cells fields.now }
     requires apart { NoneTogether fields.now }
     requires absent { AreAbsent offsets.old fields.now }
-    ensures added { OnOk result (offsets.new ≡ offsets.old ++ offsets_known source.now (λ o. get nat_eq known.now o) fields.now) }
-    ensures makes { OnOk result (FieldsMake source.now (λ o. get nat_eq known.now o) fields.now) }
-    ensures refused { IfErr result (Blames (FieldsMiss source.now (λ o. get nat_eq known.now o) section fields.now)) }
+    ensures added { OnOk result (offsets.new ≡ offsets.old ++ offsets_known source.now (λ o. get nat_eq new_offsets.now o) fields.now) }
+    ensures makes { OnOk result (FieldsMake source.now (λ o. get nat_eq new_offsets.now o) fields.now) }
+    ensures refused { IfErr result (Blames (FieldsMiss source.now (λ o. get nat_eq new_offsets.now o) section fields.now)) }
 {
     for at in fields {
-        let new = known_offset(source, *at, known);
+        let new = new_offset(source, *at, new_offsets);
         add_known(source, section, *at, new, offsets)?;
     }
     Ok(())
@@ -233,27 +234,27 @@ fn add_starts(
     Ok(())
 }
 
-/// Adds a field of the section of a number with a new offset, where one is known. Refused as `TooWide`, at the field, where the addend of
-/// its relocation can't make that.
+/// Adds a field of the section of a number with a new offset, where one is known. Refused as `TooWide`, at the field,
+/// where the addend of its relocation can't make that.
 #[tactic(auto, using(crate::proofs::OffsetAddLaws::known_rules))]
 fn add_known(
     source: &FieldSource,
     section: u32,
     field: PathField,
-    known: Option<u64>,
+    new: Option<u64>,
     offsets: &mut Offsets,
 ) -> Result<(), Fault>
     requires field { IsFieldOf source.now field }
     requires absent { patch_for offsets.old field.at ≡ None }
-    ensures added { OnOk result (offsets.new ≡ offsets.old ++ offset_by field known) }
-    ensures makes { OnOk result (FieldMakes source.now field known) }
-    ensures refused { IfErr result (Blames (FieldMisses source.now section field known)) }
+    ensures added { OnOk result (offsets.new ≡ offsets.old ++ offset_by field new) }
+    ensures makes { OnOk result (FieldMakes source.now field new) }
+    ensures refused { IfErr result (Blames (FieldMisses source.now section field new)) }
 {
-    if let Some(new) = known {
-        if !source.makes(field, new) {
+    if let Some(offset) = new {
+        if !source.makes(field, offset) {
             return Err(Fault::Refused(Refusal::at(Kind::TooWide, section, field.at)));
         }
-        offsets.add(field.at, field.size, new)?;
+        offsets.add(field.at, field.size, offset)?;
     }
     Ok(())
 }

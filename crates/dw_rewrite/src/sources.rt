@@ -1,5 +1,5 @@
-//! Where fields of a section hold offsets into a table: the offset that one holds, the number with which it says another, and whether it can
-//! say that, by the relocation that begins at it (gABI ch. 4 "Relocation"; DWARF 5, 7.4).
+//! Where fields of a section hold offsets into a table: the offset that one holds, the number with which it says
+//! another, and whether it can say that, by the relocation that begins at it (gABI ch. 4 "Relocation"; DWARF 5, 7.4).
 //!
 //! Read first: `specs/Changes.antt`.
 
@@ -87,8 +87,8 @@ impl<'v, 'f, 't> FieldSource<'v, 'f, 't> {
         number_there(self.view, self.section, field, offset)
     }
 
-    /// A field can say an offset: false where the relocation that begins at it has an addend of 32 bits, which doesn't make the offset in the
-    /// eight bytes of the field.
+    /// A field can say an offset: false where the relocation that begins at it has an addend of 32 bits, which
+    /// doesn't make the offset in the eight bytes of the field.
     pub(crate) fn makes(&self, field: PathField, offset: u64) -> bool
         requires sized { (field.size ≡ 4) ⊎ (field.size ≡ 8) }
         requires inside { field.at + field.size ≤ length self.now.cells }
@@ -171,7 +171,8 @@ fn makes_there(view: &View, section: u32, field: PathField, offset: u64) -> bool
     }
 }
 
-/// The field of a relocation can say an offset: by its addend, or where it has none by the number in the field, which can be any.
+/// The field of a relocation can say an offset: by its addend, or where it has none by the number in the field, which
+/// can be any.
 #[tactic(auto, using(crate::proofs::SourceLaws::addend_rules))]
 fn relocation_makes(relocation: Relocation, size: u8, offset: u64) -> bool
     requires sized { (size ≡ 4) ⊎ (size ≡ 8) }

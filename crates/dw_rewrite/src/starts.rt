@@ -5,7 +5,6 @@
 ghost use Rattle.std.specs.Prelude.{◌≡◌, ◌<◌, ◌^◌};
 ghost use Rattle.std.specs.Option.{ForSome};
 ghost use Rattle.dw_base.specs.DebugData.{start_number};
-ghost use Rattle.dw_base.specs.Refusals.{at};
 ghost use Rattle.dw_rewrite.specs.NewStarts.{StartChange, StartsFit, known_starts};
 
 use dw_find::start_number;

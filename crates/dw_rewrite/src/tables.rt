@@ -54,7 +54,7 @@ pub(crate) struct NewTable {
     /// The table.
     pub pool: Pool,
     /// The new places.
-    pub known: HashMap<u64, u64>,
+    pub new_offsets: HashMap<u64, u64>,
 }
 
 /// A table with the mapped paths of all these sections. Refused as `TooLarge`, at its section, where it would
@@ -68,7 +68,7 @@ pub(crate) fn new_table(
     paths: &[UnitPaths],
 ) -> Result<NewTable, Fault>
     requires paths { AllHaveOffsets view.now paths.now }
-    ensures made { IfOk result (λ t. TableMade maps.now view.now (as_table texts) paths.now t.pool (λ o. get nat_eq t.known o)) }
+    ensures made { IfOk result (λ t. TableMade maps.now view.now (as_table texts) paths.now t.pool (λ o. get nat_eq t.new_offsets o)) }
     ensures refused { IfErr result (Blames (LongTable maps.now view.now (as_table texts) paths.now)) }
 {
     match grown_table(alloc, view, maps, texts, paths) {
@@ -87,16 +87,16 @@ fn grown_table(
     paths: &[UnitPaths],
 ) -> Result<NewTable, Fault>
     requires paths { AllHaveOffsets view.now paths.now }
-    ensures made { IfOk result (λ t. TableMade maps.now view.now (as_table texts) paths.now t.pool (λ o. get nat_eq t.known o)) }
+    ensures made { IfOk result (λ t. TableMade maps.now view.now (as_table texts) paths.now t.pool (λ o. get nat_eq t.new_offsets o)) }
     ensures refused { IfErr result (Blames (TooLong (length (table_bytes (table_with view.now (as_table texts) (all_texts_at maps.now view.now (as_table texts) [] paths.now)))))) }
 {
     let table = table_texts(view, texts);
     let mut pool = Pool::new(alloc, table)?;
-    let mut known = HashMap::new(alloc);
+    let mut new_offsets = HashMap::new(alloc);
     for found in paths {
-        note_section(alloc, view, maps, texts, found, &mut pool, &mut known)?;
+        note_section(alloc, view, maps, texts, found, &mut pool, &mut new_offsets)?;
     }
-    Ok(NewTable { pool, known })
+    Ok(NewTable { pool, new_offsets })
 }
 
 /// Notes the new places of the paths of a section.
@@ -108,16 +108,16 @@ fn note_section(
     texts: TextsOf,
     found: &UnitPaths,
     pool: &mut Pool,
-    known: &mut HashMap<u64, u64>,
+    new_offsets: &mut HashMap<u64, u64>,
 ) -> Result<(), Fault>
     requires paths { HasOffsets view.now found.now }
-    requires growing { Growing maps.now view.now (as_table texts) pool.old (λ o. get nat_eq known.old o) }
-    ensures grown { OnOk result (GrownBy maps.now view.now (as_table texts) found.now pool.old pool.new (λ o. get nat_eq known.old o) (λ o. get nat_eq known.new o)) }
+    requires growing { Growing maps.now view.now (as_table texts) pool.old (λ o. get nat_eq new_offsets.old o) }
+    ensures grown { OnOk result (GrownBy maps.now view.now (as_table texts) found.now pool.old pool.new (λ o. get nat_eq new_offsets.old o) (λ o. get nat_eq new_offsets.new o)) }
     ensures refused { IfErr result (Blames (TooLong (length (table_bytes (table_with view.now (as_table texts) (section_texts_at maps.now view.now (as_table texts) pool.old.texts found.now)))))) }
 {
     let source = text_source(view, texts, found.section);
     let fields = fields_of(found, texts);
-    note_fields(alloc, &source, maps, fields, pool, known)?;
+    note_fields(alloc, &source, maps, fields, pool, new_offsets)?;
     Ok(())
 }
 

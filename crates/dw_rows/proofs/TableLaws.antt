@@ -14,7 +14,7 @@ use Rattle.dw_lines.specs.ViewSources.{view_source}
 use Rattle.dw_base.specs.LineOperations.{operations, Spells}
 use Rattle.dw_base.specs.LineRegisters.{start_registers}
 use Rattle.dw_rows.specs.ProgramPlaces.{StandsIn, cells_left}
-use Rattle.dw_rows.specs.TableRows.{IsTableIn, IsWhole, RowsFit, RowsState, counts_of, counts_place, params_of, program_of, rows_from, rows_start, table_rows}
+use Rattle.dw_rows.specs.TableRows.{IsTableIn, IsWhole, RowsFit, RowsState, counts_of, counts_place, params_of, program_of, rows_start, table_rows}
 use Rattle.dw_base.specs.declared.line_rows.LineParams.{LineParams}
 use Rattle.dw_base.specs.declared.line_rows.Row.{Row}
 use Rattle.dw_rows.proofs.HeaderLaws.{HeaderIs, header-back}
@@ -248,11 +248,3 @@ read-table v section start t there is =
     }
 
 pub ruleset caller_laws = (read-table)
-
--- the rows depend on the numbers, the operand counts and the program alone
-pub same-rows : (v w : View) (t u : LineTable) → params_of v.order t ≡ params_of w.order u → counts_of v t ≡ counts_of w u → program_of v t ≡ program_of w u
-    → table_rows v t ≡ table_rows w u
-same-rows v w t u p c b =
-    ap (λ (x : LineParams). rows_from x (counts_of v t) (program_of v t) (start_registers x)) p
-    ∙ ap (λ (xs : List ℕ). rows_from (params_of w.order u) xs (program_of v t) (start_registers (params_of w.order u))) c
-    ∙ ap (λ (xs : List Cell). rows_from (params_of w.order u) (counts_of w u) xs (start_registers (params_of w.order u))) b

@@ -1,3 +1,2 @@
 pub mod ProgramPlaces
 pub mod TableRows
-pub mod ShownFiles

@@ -3,7 +3,7 @@
 //! This layer promises: the rows that are given are those of the table, in order: what the registers of the line
 //! machine are, step by step, where its program appends them; an address that a relocation gives has its symbol and
 //! type beside it. No step can fail on a table that was read, and none takes memory.
-//! It does not promise: the texts of a row's file, which the table has (`specs/ShownFiles.antt` says which).
+//! It does not promise: the texts of a row's file, which the table has.
 //! Read first: `specs/TableRows.antt`, then `LineRegisters` and `LineOperations` in `dw_base/specs`.
 //!
 //! # Example

@@ -97,23 +97,13 @@ fn next_row<'v>(
     None
 }
 
-/// How many bytes the length of a table has (DWARF 5, 7.4).
-fn length_size(width: Width) -> u64
-    ensures { result ≡ length_size width }
-{
-    match width {
-        Width::W32 => 4,
-        Width::W64 => 12,
-    }
-}
-
 /// Where the operand counts of the standard opcodes stand, for a table's start, width and version.
 #[tactic(auto, unfolding(crate::specs::TableRows::counts_place, dw_base::specs::LineHeaders::length_place, dw_base::specs::LineHeaders::flags_place))]
 fn counts_place(start: u64, width: Width, version: u16) -> u64
     requires small { start ≤ 2 ^ 31 }
     ensures place { result ≡ counts_place start width version }
 {
-    let at = start + length_size(width);
+    let at = start + width.length_size();
     let place = if version == 5 { at + 4 } else { at + 2 };
     let first = place
         + match width {

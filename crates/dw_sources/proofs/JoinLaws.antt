@@ -26,8 +26,6 @@ pub none-joined : (d : DebugData) (tables : ℕ → Option LineTable) (front : L
     → AreJoined d tables front names pairs
 none-joined d tables front names pairs none = record { each = subst (EachJoined d tables front names) (sym none) tt }
 
-pub ruleset none_rules = (none-joined)
-
 -- joined pairs stay so when paths are added
 each-stays : (d : DebugData) (tables : ℕ → Option LineTable) (front : List ℕ) (names ps : List (List ℕ)) (pairs : List Pair) → EachJoined d tables front names pairs
     → EachJoined d tables front (with_paths front names ps) pairs

@@ -6,16 +6,14 @@ use Rattle.std.proofs.lemmas.List.{drop_all, length-take, take_all}
 use Rattle.dw_base.specs.AbbreviationFails.{AbbreviationFails}
 use Rattle.dw_base.specs.AbbreviationTables.{Abbreviation, IsTable}
 use Rattle.dw_base.specs.DebugData.{DebugData}
-use Rattle.dw_base.specs.DebugSections.{name_of}
 use Rattle.dw_base.specs.EntryValues.{HasUnit, bytes_up_to}
-use Rattle.dw_base.specs.FileViews.{View, section_bytes, section_named}
+use Rattle.dw_base.specs.FileViews.{View, section_bytes}
 use Rattle.dw_base.specs.LineTables.{LineTable}
 use Rattle.dw_base.specs.Refusals.{Blames}
 use Rattle.dw_base.specs.RelocationRows.{HeaderOffsetsRead}
 use Rattle.dw_base.specs.UnitTables.{UnitTableFails, table_fails}
 use Rattle.dw_base.specs.UnitHeaders.{UnitBase, UnitSection, IsUnit, UnitsUpTo, no_units, more_units, AreUnits}
-use Rattle.dw_base.specs.ViewData.{debug_data, located, located_at, unit_sections}
-use Rattle.dw_base.specs.declared.debug_sections.DebugSection.TheVariants.{Abbrev}
+use Rattle.dw_base.specs.ViewData.{debug_data, unit_sections}
 use Rattle.dw_base.specs.declared.fault.Fault.{Fault}
 use Rattle.dw_base.specs.declared.fault.Fault.TheVariants.{NoMemory, Refused}
 use Rattle.dw_base.specs.declared.fault.Refusal.{Refusal}
@@ -35,33 +33,6 @@ use Rattle.dw_sources.specs.declared.roots.Root.{Root}
 use Rattle.dw_sources.specs.Sources.{AreShared, AddsSection, AddsSections, EachTable, EachUnits, HasAbbreviations, HasUnits, SourcesFail, unit as unit_fails, relocation, table as unit_table, section_paths, sections_paths}
 use Rattle.dw_sources.specs.UnitPaths.{root_paths, unit_paths}
 use Rattle.dw_sources.proofs.PathLaws.{paths-append}
-
--- the table of abbreviations, where its section was found
-pub table-some : (v : View) (i at : ℕ) (bytes : List ℕ) (t : List Abbreviation) → section_named v (name_of Abbrev) ≡ Some i → bytes ≡ section_bytes v i → IsTable bytes at t
-    → IsTable (debug_data v).base.abbrevs.bytes at t
-unfolding debug_data located
-table-some v i at bytes t found is h =
-    subst (λ (o : Option ℕ). IsTable (located_at v o).bytes at t) (sym found) (subst (λ (bs : List ℕ). IsTable bs at t) is h)
-
-pub table-none : (v : View) (at : ℕ) (t : List Abbreviation) → section_named v (name_of Abbrev) ≡ None → IsTable [] at t
-    → IsTable (debug_data v).base.abbrevs.bytes at t
-unfolding debug_data located
-table-none v at t found h = subst (λ (o : Option ℕ). IsTable (located_at v o).bytes at t) (sym found) h
-
-pub refused-some : (v : View) (i at : ℕ) (bytes : List ℕ) (f : Fault) → section_named v (name_of Abbrev) ≡ Some i → bytes ≡ section_bytes v i
-    → Blames (AbbreviationFails bytes i at) f → Blames (AbbreviationFails (debug_data v).base.abbrevs.bytes (debug_data v).base.abbrevs.number at) f
-unfolding debug_data located
-refused-some v i at bytes f found is h =
-    subst (λ (o : Option ℕ). Blames (AbbreviationFails (located_at v o).bytes (located_at v o).number at) f) (sym found)
-    (subst (λ (bs : List ℕ). Blames (AbbreviationFails bs i at) f) is h)
-
-pub refused-none : (v : View) (at : ℕ) (f : Fault) → section_named v (name_of Abbrev) ≡ None
-    → Blames (AbbreviationFails [] 0 at) f → Blames (AbbreviationFails (debug_data v).base.abbrevs.bytes (debug_data v).base.abbrevs.number at) f
-unfolding debug_data located
-refused-none v at f found h =
-    subst (λ (o : Option ℕ). Blames (AbbreviationFails (located_at v o).bytes (located_at v o).number at) f) (sym found) h
-
-pub ruleset table_rules = (table-some, table-none, refused-some, refused-none)
 
 -- tables that are kept: none at first, and one more
 pub none-shared : (d : DebugData) (shared : ℕ → Option (List Abbreviation)) → ((at : ℕ) → shared at ≡ None) → AreShared d shared

@@ -6,6 +6,16 @@
 //! It does not promise: that the files are there. A value that names no text, no slot or no line table, or whose
 //! offset a relocation refuses, is passed over; whether there is one is for the crates that read a file whole.
 //! Read first: `specs/Sources.antt`, `specs/UnitPaths.antt`, then `specs/KeptNames.antt`.
+//!
+//! # Example
+//!
+//! ```
+//! let elf = ElfFile::read(alloc, &bytes)?;
+//! let view = View::one(&elf)?;
+//! for name in sources(alloc, &view, b"/build/p")? {
+//!     // the name of a source below /build/p, without that and a slash
+//! }
+//! ```
 #![tactic(auto)]
 
 mod listing;

@@ -1,6 +1,6 @@
 //! The sources of a file's debug data.
 
-ghost use Rattle.std.specs.Prelude.{◌≡◌, map, IfErr, IfOk, OnOk};
+ghost use Rattle.std.specs.Prelude.{map, IfErr, IfOk, OnOk};
 ghost use Rattle.dw_base.specs.Refusals.{Blames};
 ghost use Rattle.dw_base.specs.ViewData.{debug_data};
 ghost use Rattle.dw_base.specs.declared.fault.Refusal.{Refusal as RefusalOf};
@@ -68,7 +68,8 @@ pub fn sources(alloc: Global, view: &View, base: &[u8]) -> Result<Vec<Vec<u8>>, 
     }
 }
 
-/// The same where the view's line tables were read already: they aren't read again.
+/// The sources that `sources` gives, by the line tables of the view (`dw_lines::line_tables`), which a caller has read: they aren't
+/// read again. Refused as `sources` is.
 #[tactic(auto, using(crate::proofs::ExcludeLaws::want_rules))]
 pub fn sources_by_tables(
     alloc: Global,

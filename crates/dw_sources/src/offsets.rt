@@ -2,7 +2,7 @@
 //!
 //! Read first: `specs/FieldOffsets.antt`.
 
-ghost use Rattle.std.specs.Prelude.{◌≡◌, ◌+◌, ◌≤◌, ◌<◌, ◌^◌, true, length, is_some};
+ghost use Rattle.std.specs.Prelude.{◌≡◌, ◌+◌, ◌≤◌, ◌<◌, true, length, is_some};
 ghost use Rattle.dw_base.specs.FileViews.{kind_at, section_bytes, view_cells};
 ghost use Rattle.dw_base.specs.RelocationFields.{field_in};
 ghost use Rattle.dw_base.specs.ViewData.{located};
@@ -11,6 +11,7 @@ ghost use Rattle.dw_entries.specs.ViewUnits.{unit_section_at};
 ghost use Rattle.dw_sources.specs.FieldOffsets.{field_offset, lies_in, offset_with, root_offset, spelled_offset, value_offset};
 
 use dw_base::{DebugSection, Field, Value, number_in};
+use dw_offsets::first_bytes;
 use dw_view::View;
 
 /// The number of the first section of a kind, 0 where there is none.
@@ -21,18 +22,6 @@ pub(crate) fn first_number(view: &View, section: DebugSection) -> u32
     match view.first(section) {
         Some(number) => number,
         None => 0,
-    }
-}
-
-/// Its bytes, none where there is none.
-#[tactic(auto, using(dw_offsets::proofs::PathSlotLaws::located_laws))]
-pub(crate) fn first_bytes<'v>(view: &'v View, section: DebugSection) -> &'v [u8]
-    ensures bytes { result.now ≡ (located view.now section).bytes }
-    ensures small { length result.now ≤ 2 ^ 31 }
-{
-    match view.first(section) {
-        Some(number) => view.bytes(number),
-        None => b"",
     }
 }
 

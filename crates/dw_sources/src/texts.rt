@@ -1,22 +1,20 @@
 //! The texts that values and line tables name (DWARF 5, 7.5.5, class string; 6.2.4; 7.26).
 
-ghost use Rattle.std.specs.Prelude.{◌≡◌, ◌≤◌, ◌<◌, ◌^◌, Some, length, take, drop, option_map, IfOk, IfErr};
+ghost use Rattle.std.specs.Prelude.{◌≡◌, ◌≤◌, ◌<◌, ◌^◌, Some, length, take, drop, option_map};
 ghost use Rattle.dw_base.specs.DebugData.{line_source};
 ghost use Rattle.dw_base.specs.DebugSections.{name_of};
 ghost use Rattle.dw_base.specs.FileViews.{section_bytes, section_named};
-ghost use Rattle.dw_base.specs.Forms.{width_size};
 ghost use Rattle.dw_base.specs.LineMeanings.{place_text, section_in};
 ghost use Rattle.dw_base.specs.Numbers.{number_at};
 ghost use Rattle.dw_base.specs.ViewData.{debug_data, located};
 ghost use Rattle.dw_entries.specs.Fronts.{IsOfView};
 ghost use Rattle.dw_entries.specs.ViewUnits.{unit_section_at};
-ghost use Rattle.dw_offsets.specs.SlotSearch.{BasesRise, HasBase, IsBaseGap};
 ghost use Rattle.dw_sources.specs.FieldOffsets.{value_offset};
 ghost use Rattle.dw_sources.specs.UnitPaths.{base_width, class_text, index_text, named_text, number_text, slot_offset, slot_text, value_text};
 
-use crate::offsets::{field_offset, first_bytes, first_number, value_offset};
+use crate::offsets::{field_offset, first_number, value_offset};
 use dw_base::{Contribution, DebugSection, TextPlace, Value, ValueClass, Width, number_at};
-use dw_offsets::{ContributionList, slot_place};
+use dw_offsets::{ContributionList, first_bytes, slot_place, with_base};
 use dw_strings::text_at;
 use dw_view::View;
 
@@ -42,27 +40,6 @@ fn base_width(list: &ContributionList, base: u64) -> Option<Width>
     }
 }
 
-/// Which contribution has a base, or where it would stand. Their bases rise.
-fn with_base(list: &[Contribution], base: u64) -> Result<usize, usize>
-    requires rising { BasesRise list.now }
-    ensures found { IfOk result (HasBase list.now base) }
-    ensures absent { IfErr result (IsBaseGap list.now base) }
-{
-    list.binary_search_by_key(&base, |contribution| contribution.base)
-}
-
-/// How many bytes an offset has.
-fn width_size(width: Width) -> u8
-    ensures value { result ≡ width_size width }
-    ensures some { 0 < result }
-    ensures wide { result ≤ 8 }
-{
-    match width {
-        Width::W32 => 4,
-        Width::W64 => 8,
-    }
-}
-
 /// The text of the slot of an index, in the contribution of a base.
 #[tactic(auto, using(crate::proofs::TextLaws::slot_rules))]
 fn slot_text<'v>(view: &'v View, list: &ContributionList, base: u64, index: u64) -> Option<&'v [u8]>
@@ -77,7 +54,7 @@ fn slot_text<'v>(view: &'v View, list: &ContributionList, base: u64, index: u64)
     let Some(section) = view.first(DebugSection::StrOffsets) else {
         return None;
     };
-    let Some(offset) = slot_offset(view, section, place, width_size(width)) else {
+    let Some(offset) = slot_offset(view, section, place, width.offset_size()) else {
         return None;
     };
     named_text(first_bytes(view, DebugSection::Str), offset)

@@ -2,7 +2,7 @@
 //!
 //! Read first: `specs/Sources.antt`.
 
-ghost use Rattle.std.specs.Prelude.{◌≡◌, true, is_some, map, nat_eq, IfErr, IfOk, OnOk};
+ghost use Rattle.std.specs.Prelude.{◌≡◌, true, is_some, map, nat_eq, IfErr, OnOk};
 ghost use Rattle.std.specs.HashMap.{get};
 ghost use Rattle.dw_base.specs.AbbreviationFails.{AbbreviationFails};
 ghost use Rattle.dw_base.specs.AbbreviationTables.{IsTable};
@@ -21,8 +21,8 @@ use crate::names::Found;
 use crate::paths::add_root;
 use crate::roots::root_at;
 use dw_abbrev::AbbrevTable;
-use dw_base::{DebugSection, Fault, NoMemory, UnitHeader};
-use dw_entries::{table_offset, unit_headers, unit_sections};
+use dw_base::{Fault, NoMemory, UnitHeader};
+use dw_entries::{abbreviations_at, table_offset, unit_headers, unit_sections};
 use dw_lines::LineTable;
 use dw_offsets::ContributionList;
 use dw_view::View;
@@ -45,21 +45,9 @@ fn read_table(
     if shared.contains_key(&at) {
         return Ok(());
     }
-    let table = table_at(alloc, view, at)?;
+    let table = abbreviations_at(alloc, view, at)?;
     shared.insert(at, table)?;
     Ok(())
-}
-
-/// The table of abbreviations at an offset of the view's `.debug_abbrev`.
-#[tactic(auto, using(crate::proofs::UnitLaws::table_rules))]
-fn table_at(alloc: Global, view: &View, at: u64) -> Result<AbbrevTable, Fault>
-    ensures table { IfOk result (λ t. IsTable (debug_data view.now).base.abbrevs.bytes at t) }
-    ensures refused { IfErr result (Blames (AbbreviationFails (debug_data view.now).base.abbrevs.bytes (debug_data view.now).base.abbrevs.number at)) }
-{
-    match view.first(DebugSection::Abbrev) {
-        Some(section) => AbbrevTable::read(alloc, section, view.bytes(section), at),
-        None => AbbrevTable::read(alloc, 0, b"", at),
-    }
 }
 
 /// Adds the paths of a unit with its table of abbreviations.

@@ -10,7 +10,7 @@ use Rattle.std.proofs.lemmas.Slice.Eq.{bytes_eq-Decides}
 use Rattle.dw_base.specs.Texts.{same_text, is_in, laid_texts, has_nul, text_in}
 use Rattle.dw_base.specs.StringTables.{place_in, TextTable, table_bytes, text_place}
 use Rattle.dw_base.proofs.TextLaws.{same_text-true, same_text-from, place_in-new, place_in-append, is_in-append, laid_texts-push}
-use Rattle.dw_strings.specs.Pool.{texts_of, place_of, table_of, IsPool, AddsEntry}
+use Rattle.dw_strings.specs.Pool.{texts_of, place_of, pool_table, IsPool, AddsEntry}
 
 abbrev Entry : Type 0
 Entry = Vec ℕ Global × ℕ
@@ -109,9 +109,9 @@ IsPool-added kept bytes longer es new t p adds grown at pool =
     }
 
 -- its table has one text more
-pub table_of-added : (kept : ℕ) (bytes longer : List ℕ) (es new : List Entry) (t : List ℕ) (p : ℕ) → AddsEntry es new t p → longer ≡ bytes ++ (t ++ 0 ∷ [])
-    → IsPool kept bytes es → table_of kept longer new ≡ record { kept = take kept bytes; texts = texts_of es ++ t ∷ [] }
-table_of-added kept bytes longer es new t p adds grown pool =
+pub pool_table-added : (kept : ℕ) (bytes longer : List ℕ) (es new : List Entry) (t : List ℕ) (p : ℕ) → AddsEntry es new t p → longer ≡ bytes ++ (t ++ 0 ∷ [])
+    → IsPool kept bytes es → pool_table kept longer new ≡ record { kept = take kept bytes; texts = texts_of es ++ t ∷ [] }
+pool_table-added kept bytes longer es new t p adds grown pool =
     rw (ap (take kept) grown ∙ take-append-le kept bytes (t ++ 0 ∷ []) pool.within, texts_of-added es new t p adds) refl
 
 -- a key that isn't there goes behind the others
@@ -152,7 +152,7 @@ pub text_place-added : {E : Type 0} (r : Result ℕ E) (old new : TextTable) (t 
 text_place-added (Ok at) old new t absent grown place = ap (λ (x : TextTable). text_place x t) grown ∙ text_place-new old t absent ∙ ap Some (sym place)
 text_place-added (Err e) old new t absent grown place = tt
 
-pub ruleset pool_rules = (IsPool-added, IsPool-kept, table_of-added)
+pub ruleset pool_rules = (IsPool-added, IsPool-kept, pool_table-added)
 
 place_none-cases : (test : Bool) (n : ℕ) → None ≡ (if test then Some n else None) → test ≡ false
 place_none-cases true n e = cc

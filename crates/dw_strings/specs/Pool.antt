@@ -14,14 +14,14 @@ abbrev pub place_of : List (Vec ℕ Global × ℕ) → List ℕ → Option ℕ
 place_of entries t = lookup (λ k. bytes_eq t k.items) entries
 
 -- the table: the first bytes are kept, the texts were added
-abbrev pub table_of : ℕ → List ℕ → List (Vec ℕ Global × ℕ) → TextTable
-table_of kept bytes entries = record { kept = take kept bytes; texts = texts_of entries }
+abbrev pub pool_table : ℕ → List ℕ → List (Vec ℕ Global × ℕ) → TextTable
+pool_table kept bytes entries = record { kept = take kept bytes; texts = texts_of entries }
 
 -- the bytes are the table's, and each added text is found at its place
 pub record IsPool (kept : ℕ) (bytes : List ℕ) (entries : List (Vec ℕ Global × ℕ)) : Type 0 where
   pub within : kept ≤ length bytes
-  pub laid : bytes ≡ table_bytes (table_of kept bytes entries)
-  pub placed : (t : List ℕ) → place_of entries t ≡ text_place (table_of kept bytes entries) t
+  pub laid : bytes ≡ table_bytes (pool_table kept bytes entries)
+  pub placed : (t : List ℕ) → place_of entries t ≡ text_place (pool_table kept bytes entries) t
 
 -- one more entry at the end: a key of these bytes, with its place
 pub record AddsEntry (old new : List (Vec ℕ Global × ℕ)) (t : List ℕ) (place : ℕ) : Type 0 where

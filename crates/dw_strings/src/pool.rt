@@ -3,7 +3,7 @@
 ghost use Rattle.std.specs.Prelude.{◌≡◌, ◌+◌, ◌≤◌, [], false, Some, None, length, IfOk, OnOk, OnErr, vec_len, vec_capacity, ◌++◌, ◌∷◌};
 ghost use Rattle.dw_base.specs.Texts.{has_nul, is_in, text_in};
 ghost use Rattle.dw_base.specs.StringTables.{TextTable, table_bytes, text_place, with_added};
-ghost use Rattle.dw_strings.specs.Pool.{IsPool, table_of, place_of, AddsEntry};
+ghost use Rattle.dw_strings.specs.Pool.{IsPool, pool_table, place_of, AddsEntry};
 
 use dw_base::NoMemory;
 use indexmap::IndexMap;
@@ -24,7 +24,7 @@ pub struct Pool {
 impl Model for Pool {
     ghost Value = { TextTable };
 
-    ghost view = { λ p. table_of p.kept p.bytes.items p.places.entries };
+    ghost view = { λ p. pool_table p.kept p.bytes.items p.places.entries };
 
     ghost invariant = { λ p. IsPool p.kept p.bytes.items p.places.entries };
 }

@@ -1,9 +1,9 @@
 //! The text at a place of a string section (DWARF 5, 7.5.5, class string; 7.26).
 
-ghost use Rattle.std.specs.Prelude.{◌≡◌, ◌↔◌, true, false, IsErr, IfErr, IfOk, OnOk, MatchOption, position, ◌==◌};
+ghost use Rattle.std.specs.Prelude.{◌≡◌, ◌↔◌, true, false, IsErr, IfErr, IfOk, OnOk, MatchOption};
 ghost use Rattle.dw_base.specs.Texts.{has_nul, text, text_in, ends_in};
 
-use dw_base::{Kind, Refusal};
+use dw_base::{Kind, Refusal, nul_in};
 
 /// The text at `at`, in bytes from the section's start: the bytes before the first NUL from there on.
 /// Refused as `StringOffset` at (`section`, `at`) exactly where no NUL follows.
@@ -19,11 +19,7 @@ pub fn text_at(section: u32, bytes: &[u8], at: u64) -> Result<&[u8], Refusal>
             return Ok(text);
         }
     }
-    Err(Refusal {
-        kind: Kind::StringOffset,
-        section,
-        offset: at,
-    })
+    Err(Refusal::at(Kind::StringOffset, section, at))
 }
 
 /// The text at the front.
@@ -35,11 +31,4 @@ fn front_text(rest: &[u8]) -> Option<&[u8]>
         Some(len) => Some(&rest[..len]),
         None => None,
     }
-}
-
-/// Where the first NUL stands.
-fn nul_in(rest: &[u8]) -> Option<usize>
-    ensures value { result ≡ position (λ b. b == 0) rest.now }
-{
-    rest.iter().position(|b| *b == 0)
 }

@@ -263,5 +263,3 @@ firsts-done test count n m firsts h m_is n_is = subst (λ (k : ℕ). AreFirsts t
 
 pub single-done : (b : List ℕ) (n m : ℕ) → AreSingle b n → m ≡ section_count b → n ≡ m → AreSingle b (section_count b)
 single-done b n m h m_is n_is = subst (AreSingle b) (n_is ∙ m_is) h
-
-pub ruleset first_rules = (firsts-none, single-none, firsts-done, single-done)

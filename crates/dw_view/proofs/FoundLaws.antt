@@ -1,8 +1,10 @@
 -- The search for a section of a name, section by section.
-use Rattle.std.proofs.Common.{◌≡◌, ℕ, suc, ◌+◌, ◌<◌, ◌≤◌, Bool, true, false, ◌&&◌, if◌then◌else◌, List, ◌∷◌, length, take, drop, Option, Some, None, refl, sym, ap, ◌∙◌, arith}
-use Rattle.std.proofs.lemmas.List.{drop_more, drop_all}
-use Rattle.dw_base.specs.FileViews.{View, is_filled, first_filled, section_after}
+use Rattle.std.proofs.Common.{◌≡◌, ℕ, suc, ◌+◌, ◌<◌, ◌≤◌, Bool, true, false, ◌&&◌, if◌then◌else◌, List, [], ◌∷◌, ◌++◌, length, map, take, drop, get_or, Option, Some, None, refl, sym, ap, ◌∙◌, arith}
+use Rattle.std.proofs.lemmas.List.{drop_more, drop_all, map-append, take_all, take_more}
+use Rattle.dw_base.specs.DebugSections.{name_of}
+use Rattle.dw_base.specs.FileViews.{View, is_filled, first_filled, section_after, section_named}
 use Rattle.dw_base.specs.Texts.{same_text}
+use Rattle.dw_base.specs.declared.debug_sections.DebugSection.{DebugSection}
 use Rattle.dw_view.specs.SectionParts.{no_section, section_at}
 use Rattle.dw_view.proofs.FrontLaws.{same_text-take}
 
@@ -58,3 +60,19 @@ unfolding section_after
 section_after-past v name after le = sym (filled-end v name (suc after) (omega arith))
 
 pub ruleset next_laws = (filled-here, filled-further, filled-end, section_after-past)
+
+-- the first sections of names, one after another
+pub named-more : (v : View) (read : List DebugSection) (i : ℕ) (d : DebugSection) (firsts more : List (Option ℕ)) (name : List ℕ) (o : Option ℕ)
+    → firsts ≡ map (λ (s : DebugSection). section_named v (name_of s)) (take i read) → i < length read → name ≡ name_of (get_or read i d)
+    → o ≡ section_after v name 0 → more ≡ firsts ++ o ∷ [] → more ≡ map (λ (s : DebugSection). section_named v (name_of s)) (take (i + 1) read)
+unfolding section_named
+named-more v read i d firsts more name o f lt name_is o_is m =
+    m ∙ ap (λ (l : List (Option ℕ)). l ++ o ∷ []) f
+    ∙ ap (λ (x : Option ℕ). map (λ (s : DebugSection). section_named v (name_of s)) (take i read) ++ x ∷ [])
+    (o_is ∙ ap (λ (l : List ℕ). section_after v l 0) name_is)
+    ∙ sym (ap (map (λ (s : DebugSection). section_named v (name_of s))) (take_more read i d lt)
+    ∙ map-append (λ (s : DebugSection). section_named v (name_of s)) (take i read) (get_or read i d ∷ []))
+
+pub named-over : (v : View) (read : List DebugSection) (i : ℕ) (firsts : List (Option ℕ)) → firsts ≡ map (λ (s : DebugSection). section_named v (name_of s)) (take i read)
+    → length read ≤ i → firsts ≡ map (λ (s : DebugSection). section_named v (name_of s)) read
+named-over v read i firsts f le = f ∙ ap (map (λ (s : DebugSection). section_named v (name_of s))) (take_all i read le)

@@ -187,8 +187,6 @@ fits_listed name front s x n z u c front_is z_is no_z u_is no_u x_is c_is plain 
       listed = λ debug. listed;
     }
 
-pub ruleset name_laws = (refused_zdebug, refused_supplementary, refused_compressed, refused_split, refused_unlisted, fits_other, fits_listed)
-
 -- Of an inactive header nothing is asked.
 pub fits_inactive : (b : List ℕ) (i : ℕ) (s : Section) (t : Bool) → s ≡ nth_section b i → t ≡ is_active s → t ≡ false → FitsAt b i
 fits_inactive b i s t s_is t_is no_ = record {

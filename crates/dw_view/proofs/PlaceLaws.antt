@@ -1,5 +1,5 @@
 -- Laws of lists of places.
-use Rattle.std.proofs.Common.{◌≡◌, ◌≢◌, ℕ, ◌+◌, ◌-◌, ◌/◌, ◌<◌, ◌≤◌, Bool, true, false, if◌then◌else◌, ◌==◌, List, [], ◌∷◌, ◌++◌, drop, length, get_or, Option, Some, None, Result, Ok, Err, IfOk, IfErr, refl, sym, ap, ◌∙◌, arith, subst, inl, inr}
+use Rattle.std.proofs.Common.{◌≡◌, ◌≢◌, ℕ, ◌+◌, ◌-◌, ◌<◌, ◌≤◌, Bool, true, false, if◌then◌else◌, ◌==◌, List, [], ◌∷◌, ◌++◌, drop, length, get_or, Option, Some, None, Result, Ok, Err, IfOk, IfErr, refl, sym, ap, ◌∙◌, arith, subst, inl, inr}
 use Rattle.std.specs.Prelude.{Contains, slice_index_or, sum_by}
 use Rattle.std.specs.List.Sorted.{IsSearchInRange, IsBinarySearchResult, IsNonDecreasingBy, IsPermutation}
 use Rattle.std.specs.Ordering.{nat_cmp, ordering_index}
@@ -12,12 +12,12 @@ use Rattle.std.proofs.lemmas.List.{get_or-drop, get_or_default, length-drop}
 use Rattle.std.proofs.lemmas.List.Elements.{Contains-append_left, Contains-get_or, Contains-push, Contains-push_cases, at_from_Contains}
 use Rattle.dw_base.specs.Cells.{Relocation}
 use Rattle.dw_base.specs.Refusals.{at}
-use Rattle.dw_base.specs.Relocs.{reloc_at, reloc_size}
+use Rattle.dw_base.specs.Relocs.{reloc_at}
 use Rattle.dw_base.specs.SectionRelocations.{RelocationSource, is_none_type, records_in, relocation_in, relocation_of, relocations_among, relocations_in}
 use Rattle.dw_base.specs.declared.fault.Kind.TheVariants.{Relocation as RelocationKind}
 use Rattle.dw_base.specs.declared.fault.Refusal.{Refusal}
 use Rattle.dw_base.specs.declared.relocations.Reloc.{Reloc}
-use Rattle.dw_base.proofs.RelocationTieLaws.{first-among, get_or-records, length-records, none-among, record-some, record-there}
+use Rattle.dw_base.proofs.RelocationTieLaws.{first-among, get_or-records, none-among, record-some, record-there}
 use Rattle.dw_view.specs.Places.{GoodUpTo, HasPlace, IsPlaced, IsPlaceGap, Lists, ListsUpTo, PlacesFail, PlacesRise, PlacesWithin, IsSecondAt, RiseUpTo, place_at, placed_record, record_of, times_of}
 use Rattle.dw_view.specs.Places.PlacesFail.{past, together}
 use Rattle.dw_view.specs.declared.places.PlacedRecord.{PlacedRecord}
@@ -172,9 +172,6 @@ add-one g i r list now e lt counts h is =
 
 pub ruleset add_rules = (add-absent, add-none, add-one)
 
-pub count-is : (g : RelocationSource) (n size : ℕ) → size ≡ reloc_size g.class g.rela → n ≡ length g.table / size → n ≡ length (records_in g)
-count-is g n size e is = is ∙ ap (λ (k : ℕ). length g.table / k) e ∙ sym (length-records g)
-
 -- an item, whatever stands for one that isn't there
 pub place-is : (list : List PlacedRecord) (i : ℕ) (d : PlacedRecord) → i < length list → (slice_index_or list i d).place ≡ place_at list i
 place-is list i d lt = ap (λ (e : PlacedRecord). e.place) (get_or_default list i d no_item lt)
@@ -227,8 +224,6 @@ fails-together section size place i list r here inside second is =
     let some = second.some in
     subst (PlacesFail section size list) (ap (at RelocationKind section) (sym here) ∙ sym is)
     (together (i - 1) i (omega (arith, some)) inside (second.is ∙ here))
-
-pub ruleset check_rules = (good-none, good-more, good-rise, good-within, fails-past, fails-together)
 
 -- one search
 comparisons-rise : (list : List PlacedRecord) (place : ℕ) → PlacesRise list → IsNonDecreasingBy (λ e. ordering_index (nat_cmp e.place place)) list

@@ -98,8 +98,6 @@ moves-one b g s i p list t r lt t_is yes_ p_is is =
 pub moves-done : (b : List ℕ) (g : RelocationSource) (n m : ℕ) (list : List PlacedRecord) → NoneMovesUpTo b g n list → m ≤ n → NoneMovesUpTo b g m list
 moves-done b g n m list h le = record { none = λ k lt. h.none k (omega (arith, lt, le)) }
 
-pub ruleset each_rules = (moves-none, moves-more, moves-one, moves-done)
-
 pub abbrev-other : (b : List ℕ) (g : RelocationSource) (kind : DebugSection) (list : List PlacedRecord) → kind ≢ Abbrev → NoneMoves b g kind list
 abbrev-other b g kind list other = record { none = λ is k lt. absurd (other is) }
 
@@ -178,16 +176,17 @@ list-refused b i k kind g list r lt named held g_is h fails =
     (list-fails (contents_of b) b i k (length (contents_of b i)) kind list r (subst (λ (x : RelocationSource). Lists x list) g_is h) named refl
     (subst (λ (x : RelocationSource). ListFails b x i (length (contents_of b i)) kind list r) g_is fails)))
 
-pub table-reads : (b : List ℕ) (i k : ℕ) (kind : DebugSection) (g : RelocationSource) (list : List PlacedRecord) (s : Section) (t : Bool)
+pub table-reads : (b : List ℕ) (i k : ℕ) (kind : DebugSection) (g : RelocationSource) (list now : List PlacedRecord) (s : Section) (t : Bool)
     → debug_section (section_name b i) ≡ Some kind → s ≡ nth_section b k → t ≡ is_symbol_table b s.link → t ≡ true → g ≡ relocation_source (contents_of b) b k
-    → Lists g list → PlacesRise list → PlacesWithin (length (contents_of b i)) list → NoTexts kind list → NoneMoves b g kind list
+    → Lists g list → now ≡ list → PlacesRise now → PlacesWithin (length (contents_of b i)) now → NoTexts kind now → NoneMoves b g kind now
     → TableReads (contents_of b) b i k
-table-reads b i k kind g list s t named s_is t_is yes_ g_is h rise within text moved =
+table-reads b i k kind g list now s t named s_is t_is yes_ g_is h same rise within text moved =
     list-reads (contents_of b) b i k (length (contents_of b i)) kind list (subst (λ (x : RelocationSource). Lists x list) g_is h) named refl
-    (ap (λ (x : Section). is_symbol_table b x.link) (sym s_is) ∙ sym t_is ∙ yes_) rise within text
-    (subst (λ (x : RelocationSource). NoneMoves b x kind list) g_is moved)
+    (ap (λ (x : Section). is_symbol_table b x.link) (sym s_is) ∙ sym t_is ∙ yes_) (subst PlacesRise same rise)
+    (subst (PlacesWithin (length (contents_of b i))) same within) (subst (NoTexts kind) same text)
+    (subst (λ (x : RelocationSource). NoneMoves b x kind list) g_is (subst (NoneMoves b g kind) same moved))
 
-pub ruleset table_rules = (no-symbols, list-refused, table-reads, listed-keeps)
+pub ruleset table_rules = (no-symbols, list-refused)
 
 -- a section that is read
 pub own-refused : (b : List ℕ) (i : ℕ) (kind : DebugSection) (s : Section) (t : Bool) (r : Refusal) → i < section_count b → e_type b ≡ ET_REL
@@ -304,8 +303,6 @@ read-more b n here h = record {
 
 pub read-done : (b : List ℕ) (n m : ℕ) → ReadUpTo b n → m ≡ section_count b → m ≤ n → RelocationSectionsRead (contents_of b) b
 read-done b n m h m_is le = record { all = λ i read. let lt = read-there b i read in (h.reads i (omega (arith, lt, m_is, le))).reads read }
-
-pub ruleset all_rules = (upto-none, upto-more, upto-done, read-none, read-more, read-done)
 
 -- a file that isn't relocatable
 no-rel : (b : List ℕ) (t i : ℕ) → (e_type b == ET_REL) ≡ false → relocates b t i ≡ false

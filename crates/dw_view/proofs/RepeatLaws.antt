@@ -175,5 +175,3 @@ noted-further b firsts new n k i noted reads up size i_is none new_is =
             (ap (λ (x : ℕ). get_or firsts x 0) (ap listed_number here.same ∙ sym up.number) ∙ sym i_is ∙ none)
       ];
     })
-
-pub ruleset note_laws = (noted-inactive, noted-unlisted, noted-repeated, looked_up, refused_twice, noted-further)

@@ -1,5 +1,5 @@
 -- The sections of a stripped file for which those of its debug file stand, found name by name.
-use Rattle.std.proofs.Common.{◌≡◌, ◌≢◌, ℕ, zero, suc, ◌+◌, ◌<◌, ◌≤◌, ◌&&◌, Bool, true, false, List, [], ◌∷◌, length, get_or, replicate, if◌then◌else◌, refl, sym, ap, ◌∙◌, arith, inl, inr, subst}
+use Rattle.std.proofs.Common.{◌≡◌, ◌≢◌, ℕ, zero, suc, ◌+◌, ◌<◌, ◌≤◌, ◌&&◌, Bool, true, false, List, [], ◌∷◌, ◌++◌, length, get_or, replicate, if◌then◌else◌, refl, sym, ap, ◌∙◌, arith, inl, inr, subst}
 use Rattle.std.proofs.lemmas.Bool.{cases_eq, cases_Bool}
 use Rattle.std.proofs.lemmas.Slice.Eq.{bytes_eq-Decides}
 use Rattle.std.proofs.Math.ListN.{set}
@@ -9,6 +9,7 @@ use Rattle.std.specs.Borrow.{Bor}
 use Rattle.std.specs.HashMap.{HashMap, get_by}
 use Rattle.std.specs.Str.{bytes_eq}
 use Rattle.dw_base.specs.Elf.{section_count, section_name}
+use Rattle.dw_base.specs.Lists.{tabulate}
 use Rattle.dw_base.specs.Texts.{same_text}
 use Rattle.dw_base.proofs.TextLaws.{same_text-from, same_text-true}
 use Rattle.dw_view.specs.PairViews.{count_below, is_counted, is_counted_named, is_elsewhere, is_elsewhere_named, stands_for}
@@ -271,6 +272,13 @@ pub stand-over : (d s name : List ℕ) (i : ℕ) (head : Option ℕ) (heads : Li
 stand-over d s name i head heads here name_is head_is none taken =
     sym none ∙ stand-head d s name i true head heads (sym here) refl name_is head_is taken
 
+pub stands-more : (d s : List ℕ) (i : ℕ) (stands more : List (Option ℕ)) (o : Option ℕ) → stands ≡ tabulate (stand_of d s) i → o ≡ stand_of d s i
+    → more ≡ stands ++ o ∷ [] → more ≡ tabulate (stand_of d s) (i + 1)
+stands-more d s i stands more o is here m =
+    let next : i + 1 ≡ suc i = omega arith in
+    m ∙ ap (λ (l : List (Option ℕ)). l ++ o ∷ []) is ∙ ap (λ (x : Option ℕ). tabulate (stand_of d s) i ++ x ∷ []) here
+    ∙ sym (ap (tabulate (stand_of d s)) next)
+
 pub left-size : (s : List ℕ) (j : ℕ) (heads : List ℕ → Option ℕ) (next : List (Option ℕ)) → AreLeft s (j + 1) heads next → j < section_count s → j < length next
 left-size s j heads next left lt = let size = left.size in omega arith
 
@@ -280,10 +288,6 @@ pub ruleset counted_rules = (left-noted, left-size)
 
 pub ruleset note_rules = (left-passed)
 
-pub ruleset left_rules = (left-none)
-
 pub ruleset head_rules = (head-within, stand-some, stand-over, taken-set, taken-over)
 
 pub ruleset take_rules = (taken-passed, stand-none)
-
-pub ruleset stand_rules = (taken-none, next-all)

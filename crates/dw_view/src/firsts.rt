@@ -133,7 +133,6 @@ fn note_holder(elf: &ElfFile, firsts: &mut Vec<Option<u32>>, section: u32) -> Re
 }
 
 /// For each section of a relocatable file the first that holds its relocations. Refused where two hold those of one that is read.
-#[tactic(auto, using(crate::proofs::FirstLaws::first_rules))]
 pub fn holders_of(elf: &ElfFile) -> Result<Vec<Option<u32>>, Fault>
     requires kind { e_type elf.now.bytes.now ≡ ET_REL }
     ensures firsts { IfOk result (λ firsts. AreFirsts (relocates elf.now.bytes.now) (section_count elf.now.bytes.now) (section_count elf.now.bytes.now) firsts.items) }
@@ -175,7 +174,6 @@ fn note_extended(elf: &ElfFile, firsts: &mut Vec<Option<u32>>, section: u32)
 }
 
 /// For each symbol table the first section that holds the section numbers of its symbols.
-#[tactic(auto, using(crate::proofs::FirstLaws::first_rules))]
 pub fn extended_of(elf: &ElfFile) -> Result<Vec<Option<u32>>, NoMemory>
     ensures firsts { IfOk result (λ firsts. AreFirsts (extends elf.now.bytes.now) (section_count elf.now.bytes.now) (section_count elf.now.bytes.now) firsts.items) }
 {

@@ -35,7 +35,6 @@ pub fn next_filled(sections: &Sections, name: &[u8], after: u32) -> Option<u32>
 }
 
 /// For each of these sections, the number of the first section that has its name and bytes.
-#[tactic(auto, unfolding(dw_base::specs::FileViews::section_named))]
 pub fn firsts_of(sections: &Sections, read: &[DebugSection]) -> Result<Vec<Option<u32>>, NoMemory>
     ensures firsts { IfOk result (λ firsts. firsts.items ≡ map (λ s. section_named sections.now (name_of s)) read.now) }
 {

@@ -75,7 +75,6 @@ fn section_fits(elf: &ElfFile, index: u32) -> Result<(), Refusal>
 }
 
 /// The section of a number has a name and flags that are handled.
-#[tactic(auto, using(crate::proofs::NameLaws::name_laws))]
 fn name_fits(elf: &ElfFile, index: u32) -> Result<(), Refusal>
     requires there { index < section_count elf.now.bytes.now }
     ensures reads { OnOk result (NameReads (section_name elf.now.bytes.now index) (nth_section elf.now.bytes.now index)) }

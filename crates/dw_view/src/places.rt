@@ -102,7 +102,6 @@ fn rise(list: &[PlacedRecord]) -> bool
 
 /// Tests that each begins in the `size` bytes of the section of a number, and no two at one place.
 /// Refused as `Relocation` at one that doesn't.
-#[tactic(auto, using(crate::proofs::PlaceLaws::check_rules))]
 pub fn check_places(section: u32, size: u64, list: &[PlacedRecord]) -> Result<(), Refusal>
     requires sorted { IsNonDecreasingBy (λ e. e.place) list.now }
     ensures rise { OnOk result (PlacesRise list.now) }

@@ -7,7 +7,7 @@ ghost use Rattle.std.specs.List.Sorted.{IsNonDecreasingBy};
 ghost use Rattle.dw_base.specs.DebugSections.{debug_section};
 ghost use Rattle.dw_base.specs.Elf.{contents_of, e_type, section_count, section_name};
 ghost use Rattle.dw_base.specs.Refusals.{Blames};
-ghost use Rattle.dw_base.specs.RelocationSectionFails.{RelocationSectionsFail, RelocationSectionsRead, SectionReads, TableReads, holds_texts, is_own_kind, lies_in_moving, moves};
+ghost use Rattle.dw_base.specs.RelocationSectionFails.{RelocationSectionsFail, RelocationSectionsRead, SectionReads, TableReads, holds_texts, is_own_kind, lies_in_moving};
 ghost use Rattle.dw_base.specs.SectionRelocations.{extends, relocates, relocation_section, relocations_of};
 ghost use Rattle.dw_base.specs.declared.debug_sections.DebugSection.TheVariants.{Abbrev};
 ghost use Rattle.dw_view.specs.Firsts.{AreFirsts, AreSingle};
@@ -22,7 +22,7 @@ use crate::places::{PlacedRecord, check_places, place_at, placed_records};
 use crate::repeats::is_relocatable;
 use crate::source::{is_symbol_table, source_of};
 use dw_base::elf_numbers::{ET_REL, SHT_SYMTAB, SHT_SYMTAB_SHNDX};
-use dw_base::{DebugSection, Fault, Kind, Refusal, Section};
+use dw_base::{DebugSection, Fault, Kind, Refusal, Section, moves};
 use elf_file::ElfFile;
 use elf_relocs::RelocSource;
 
@@ -50,16 +50,6 @@ fn is_abbrev(kind: DebugSection) -> bool
 {
     match kind {
         DebugSection::Abbrev => true,
-        _ => false,
-    }
-}
-
-/// The places of the section change, where it is one that is read.
-fn moves(kind: Option<DebugSection>) -> bool
-    ensures { result ≡ moves kind }
-{
-    match kind {
-        Some(DebugSection::Str | DebugSection::LineStr | DebugSection::Line) => true,
         _ => false,
     }
 }
@@ -112,7 +102,6 @@ fn check_texts(section: u32, kind: DebugSection, list: &[PlacedRecord]) -> Resul
 }
 
 /// Refused at the first whose symbol lies in a section whose places change.
-#[tactic(auto, using(crate::proofs::RelocationLaws::each_rules))]
 fn check_moves(
     elf: &ElfFile,
     source: &RelocSource,
@@ -282,7 +271,6 @@ fn keep<'a>(
 }
 
 /// What is kept of the relocations of all sections of a relocatable file.
-#[tactic(auto, using(crate::proofs::RelocationLaws::all_rules))]
 fn keep_all<'a>(elf: &'a ElfFile<'a>) -> Result<Vec<Option<Kept<'a>>>, Fault>
     requires rel { e_type elf.now.bytes.now ≡ ET_REL }
     ensures keeps { IfOk result (λ kept. FileKeeps elf.now.bytes.now kept.items) }

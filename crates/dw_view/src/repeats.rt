@@ -29,7 +29,6 @@ pub fn names_once(elf: &ElfFile) -> Result<(), Refusal>
 }
 
 /// Notes the section of a number under its name, where it is of a listed name that only one may have.
-#[tactic(auto, using(crate::proofs::RepeatLaws::note_laws))]
 fn note(elf: &ElfFile, firsts: &mut [u32], index: u32) -> Result<(), Refusal>
     requires there { index < section_count elf.now.bytes.now }
     requires size { length firsts.old ≡ LISTED_COUNT }

@@ -133,7 +133,6 @@ pub fn no_next(alloc: Global, count: u32) -> Result<Vec<Option<u32>>, NoMemory>
 }
 
 /// Notes all sections for which one may stand: for each the next of its name; `heads` gets the first of each name.
-#[tactic(auto, using(crate::proofs::StandLaws::left_rules))]
 fn note_all<'a>(
     alloc: Global,
     stripped: &'a ElfFile<'a>,
@@ -200,7 +199,6 @@ fn take<'a>(
 
 /// For each section of a debug file, that of the stripped file for which it stands; none where its own bytes
 /// count. Each section of the two is looked at once.
-#[tactic(auto, using(crate::proofs::StandLaws::stand_rules))]
 pub fn stands_of<'a>(
     stripped: &'a ElfFile<'a>,
     debug: &'a ElfFile<'a>,

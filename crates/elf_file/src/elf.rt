@@ -1,6 +1,6 @@
 //! A file that was read.
 
-ghost use Rattle.std.specs.Prelude.{◌≡◌, ◌≢◌, ◌≤◌, ◌<◌, ℕ, length, IfOk, OnOk, IfErr};
+ghost use Rattle.std.specs.Prelude.{◌≡◌, ◌≢◌, ◌≤◌, ◌<◌, length, IfOk, OnOk, IfErr};
 ghost use Rattle.dw_base.specs.Elf.{e_type, file_kind, contents_of, nth_section, section_count, section_name};
 ghost use Rattle.dw_base.specs.ElfFails.{DebugFails, DebugReads, ElfFails, ElfReads, HeaderReads};
 ghost use Rattle.dw_base.specs.Layout.{is_loaded_kind, output_limit};

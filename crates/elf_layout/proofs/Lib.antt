@@ -3,4 +3,7 @@ pub mod ByteLaws
 pub mod PieceLaws
 pub mod PartRows
 pub mod PatchLaws
+pub mod PatchOrderLaws
+pub mod PatchedPieceLaws
+pub mod GivenPartLaws
 pub mod NewBodyLaws

@@ -24,7 +24,7 @@ byte-behind o bytes place n x k inside behind =
     ∙ ap (λ (bs : List ℕ). get_or bs 0 0) (drop-with_number o bytes place n x k inside behind)
     ∙ get_or-drop k bytes 0 0 ∙ ap (λ (j : ℕ). get_or bytes j 0) same
 
-byte-kept : (o : Order) (bytes : List ℕ) (p : Patch) (k : ℕ) → p.at + p.size ≤ length bytes → IsApart p k 1
+pub byte-kept : (o : Order) (bytes : List ℕ) (p : Patch) (k : ℕ) → p.at + p.size ≤ length bytes → IsApart p k 1
     → slice_index (with_number o bytes p.at p.size p.value) k ≡ slice_index bytes k
 byte-kept o bytes p k inside (inl before) = byte-before o bytes p.at p.size p.value k inside before
 byte-kept o bytes p k inside (inr behind) = byte-behind o bytes p.at p.size p.value k inside behind

@@ -1,6 +1,6 @@
 -- Laws of bytes in pieces.
-use Rattle.std.proofs.Common.{◌≡◌, ℕ, ◌+◌, ◌*◌, ◌<◌, ◌≤◌, Bool, true, false, List, [], ◌∷◌, ◌++◌, length, replicate, take, drop, get_or, ap, sym, subst, ◌∙◌, refl, arith}
-use Rattle.std.proofs.lemmas.List.{append_assoc, append-nil, drop_more, drop-append-le, length-append, length-replicate, take_all, take-append-le}
+use Rattle.std.proofs.Common.{◌≡◌, ℕ, ◌+◌, ◌*◌, ◌<◌, ◌≤◌, Bool, true, false, List, [], ◌∷◌, ◌++◌, length, replicate, take, drop, get_or, slice_set, ap, sym, subst, ◌∙◌, refl, arith}
+use Rattle.std.proofs.lemmas.List.{append_assoc, append-nil, drop_more, drop-append-le, length-append, length-drop, length-replicate, length-take-le, take_all, take_at, take-append-le}
 use Rattle.std.specs.List.{concat}
 use Rattle.dw_base.specs.Elf.{ehdr_size, shdr_size, shoff_place, word_size}
 use Rattle.dw_base.specs.Layout.{output_limit, padding, before_table, extended, new_head, placed, shdrs_bytes, with_table}
@@ -15,6 +15,7 @@ use Rattle.dw_base.specs.declared.shared.Class.{Class}
 use Rattle.dw_base.specs.declared.shared.Class.TheVariants.{C32, C64}
 use Rattle.dw_base.specs.declared.shared.Order.{Order}
 use Rattle.elf_layout.specs.Given.{part}
+use Rattle.elf_layout.specs.Patched.{put_at}
 use Rattle.dw_base.proofs.LayoutLaws.{length-shdrs_bytes, length-with_table}
 use Rattle.dw_base.proofs.NumberLaws.{length-with_number}
 
@@ -164,3 +165,54 @@ joined-short front put behind table pieces file len same is fits pieces_is file_
     omega (arith, same, is, fits, ap length file_is, length-append put pieces, ap length pieces_is, length-append behind (table ++ []), ap length (append-nil table))
 
 pub ruleset join_rules = (joined-table, joined-long, joined-short, length-append)
+
+-- bytes that are put at a place keep the length,
+pub length-put : (place : ℕ) (more xs : List ℕ) → place + length more ≤ length xs → length (put_at place more xs) ≡ length xs
+length-put place more xs inside =
+    omega (
+      arith,
+      length-append (take place xs ++ more) (drop (place + length more) xs),
+      length-append (take place xs) more,
+      length-take-le place xs (omega (arith, inside)),
+      length-drop (place + length more) xs,
+      inside,
+    )
+
+-- and stand in the front of more
+pub put-front : (place : ℕ) (more xs ys : List ℕ) → place + length more ≤ length xs → put_at place more (xs ++ ys) ≡ put_at place more xs ++ ys
+put-front place more xs ys inside =
+    let first : take place (xs ++ ys) ≡ take place xs = take-append-le place xs ys (omega (arith, inside)) in
+    let last : drop (place + length more) (xs ++ ys) ≡ drop (place + length more) xs ++ ys = drop-append-le (place + length more) xs ys inside in
+    ap (λ (l : List ℕ). l ++ more ++ drop (place + length more) (xs ++ ys)) first
+    ∙ ap (λ (l : List ℕ). take place xs ++ more ++ l) last ∙ regroup (take place xs) more (drop (place + length more) xs) ys
+  where
+    regroup : (a b c d : List ℕ) → a ++ b ++ (c ++ d) ≡ (a ++ b ++ c) ++ d
+    regroup a b c d = simp (append_assoc) refl
+
+-- of a vector they come back from the slice so
+pub put-back : (bytes now new more : List ℕ) (n place : ℕ) → n ≡ length bytes → now ≡ bytes → new ≡ put_at place more now → place + length more ≤ length bytes
+    → take n (new ++ drop (length new) bytes) ≡ put_at place more bytes
+put-back bytes now new more n place n_is now_is is inside =
+    let whole : new ≡ put_at place more bytes = is ∙ ap (put_at place more) now_is in
+    let same : length new ≡ n = ap length whole ∙ length-put place more bytes inside ∙ sym n_is in
+    take_at new (drop (length new) bytes) n same ∙ whole
+
+-- in the first of pieces
+pub first-put : (xss new : List (List ℕ)) (d first now more : List ℕ) (place : ℕ) → 0 < length xss → first ≡ get_or xss 0 d → now ≡ put_at place more first
+    → place + length more ≤ length first → new ≡ slice_set xss 0 now → concat new ≡ put_at place more (concat xss)
+first-put [] new d first now more place some here put inside is = absurd (omega (arith, some))
+first-put (x ∷ xss) new d first now more place some here put inside is =
+    ap concat is ∙ ap (λ (l : List ℕ). l ++ concat xss) (put ∙ ap (put_at place more) here)
+    ∙ sym (put-front place more x (concat xss) (subst (λ (l : List ℕ). place + length more ≤ length l) here inside))
+
+pub first-kept : (xss new : List (List ℕ)) (d first now : List ℕ) → 0 < length xss → first ≡ get_or xss 0 d → now ≡ first → new ≡ slice_set xss 0 now → concat new ≡ concat xss
+first-kept [] new d first now some here kept is = absurd (omega (arith, some))
+first-kept (x ∷ xss) new d first now some here kept is = ap concat is ∙ ap (λ (l : List ℕ). l ++ concat xss) (kept ∙ here)
+
+-- one piece
+pub one-piece : (none xss : List (List ℕ)) (made lent : List ℕ) → none ≡ [] → lent ≡ [] → xss ≡ none ++ (made ++ lent) ∷ [] → concat xss ≡ made
+one-piece none xss made lent none_is lent_is is =
+    ap concat (is ∙ ap (λ (yss : List (List ℕ)). yss ++ (made ++ lent) ∷ []) none_is ∙ ap (λ (xs : List ℕ). (made ++ xs) ∷ []) lent_is)
+    ∙ append-nil (made ++ []) ∙ append-nil made
+
+pub ruleset put_rules = (length-put, put-front, put-back, first-put, first-kept, one-piece)

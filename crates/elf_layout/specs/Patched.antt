@@ -1,6 +1,6 @@
 -- New numbers in fields of a section: what the section's bytes are after they were put (gABI ch. 4 "Data Representation").
-use Rattle.std.specs.Prelude.{◌≡◌, ◌⊎◌, ℕ, ◌+◌, ◌^◌, ◌<◌, ◌≤◌, List, [], ◌∷◌, length, slice_index, slice_index_or}
-use Rattle.dw_base.specs.Numbers.{spelled, with_number}
+use Rattle.std.specs.Prelude.{◌≡◌, ◌⊎◌, ℕ, ◌+◌, ◌-◌, ◌^◌, ◌<◌, ◌≤◌, List, [], ◌∷◌, ◌++◌, drop, take, length, slice_index, slice_index_or, ⊤}
+use Rattle.dw_base.specs.Numbers.{number_bytes, spelled, with_number}
 use Rattle.dw_base.specs.declared.shared.Order.{Order}
 use Rattle.elf_layout.specs.declared.patch.Patch.{Patch}
 
@@ -34,3 +34,22 @@ pub record PatchedUpTo (order : Order) (list : List Patch) (count : ℕ) (old ne
 abbrev pub with_patches : Order → List ℕ → List Patch → List ℕ
 with_patches order bytes [] = bytes
 with_patches order bytes (p ∷ ps) = with_patches order (with_number order bytes p.at p.size p.value) ps
+
+-- where a field begins
+abbrev pub field_start : Patch → ℕ
+field_start p = p.at
+
+-- fields of a section of so many bytes stand in order behind a place: each fits, and begins where the one before it ends, or behind
+abbrev pub AreInOrder : ℕ → ℕ → List Patch → Type 0
+AreInOrder size place [] = ⊤
+AreInOrder size place (p ∷ ps) = PatchFits size p × (place ≤ p.at) × AreInOrder size (p.at + p.size) ps
+
+-- the bytes of a section from a place on, with the new numbers of the fields that stand in order behind it
+abbrev pub patched_from : Order → List ℕ → ℕ → List Patch → List ℕ
+patched_from order old place [] = drop place old
+patched_from order old place (p ∷ ps) =
+    (take (p.at - place) (drop place old) ++ number_bytes order p.size p.value) ++ patched_from order old (p.at + p.size) ps
+
+-- bytes with others put at a place
+abbrev pub put_at : ℕ → List ℕ → List ℕ → List ℕ
+put_at place more bytes = take place bytes ++ more ++ drop (place + length more) bytes

@@ -14,7 +14,7 @@ use dw_base::{Class, Fault, OUTPUT_LIMIT, Order, Section};
 use std::alloc::{AllocError, Global};
 
 /// So many zeros.
-fn zeros_of(alloc: Global, count: usize) -> Result<Vec<u8>, AllocError>
+pub(crate) fn zeros_of(alloc: Global, count: usize) -> Result<Vec<u8>, AllocError>
     ensures value { IfOk result (λ zeros. zeros.items ≡ replicate count 0) }
     ensures len { IfOk result (λ zeros. vec_len zeros ≡ count) }
 {
@@ -53,7 +53,7 @@ fn push_padded<'a>(
 
 /// Lays out a section behind a front and the pieces laid so far, where it moves, as `lay` does: its body stays where it
 /// is lent. Its header, of one that moves with its new place and size. Refused as `TooLarge` only where the bytes would pass the
-/// limit.
+/// limit. After an error nothing is known of the pieces.
 #[tactic(auto, using(crate::proofs::PieceLaws::lay_rules), unfolding(dw_base::specs::Layout::placed, dw_base::specs::Layout::new_head))]
 pub fn lay_lent<'a>(
     alloc: Global,

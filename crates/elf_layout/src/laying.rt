@@ -53,7 +53,12 @@ pub(crate) fn append_padded(out: &mut Vec<u8>, zeros: u64, body: &[u8]) -> Resul
 /// new place and size. Refused as `TooLarge` only where the bytes would pass the limit; after an error
 /// part of this may have been appended.
 #[tactic(auto, using(crate::proofs::Rows::layout_rows), unfolding(dw_base::specs::Layout::placed, dw_base::specs::Layout::new_head))]
-pub fn lay(out: &mut Vec<u8>, head: &Section, moves: bool, body: &[u8]) -> Result<Section, Fault>
+pub(crate) fn lay(
+    out: &mut Vec<u8>,
+    head: &Section,
+    moves: bool,
+    body: &[u8],
+) -> Result<Section, Fault>
     requires small { vec_len out.old ≤ output_limit }
     ensures laid { OnOk result (out.new.items ≡ extended out.old.items (part head.now moves body.now)) }
     ensures head { IfOk result (λ h. h ≡ new_head (length out.old.items) (part head.now moves body.now)) }

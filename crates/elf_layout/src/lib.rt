@@ -5,9 +5,10 @@
 //! read back as those that were given; a section that must stay is refused as `Fixed` and a file over
 //! the limit as `TooLarge`, each only where its condition holds, and nothing else is refused. A file
 //! with new bodies reads where its names end; a file of parts where its front reads, its alignments
-//! are such, and its names end. The steps of writing (`lay`, `append_table`) and the tests of what may
-//! stay (`lies_across`, `begins_in_header`) are the defined ones, for further layouts. A body that is the old one with new
-//! numbers in some of its fields isn't copied before it is written (`NewBody`).
+//! are such, and its names end. The tests of what may stay (`lies_across`,
+//! `begins_in_header`) are the defined ones, for further layouts; `lay_lent` and `join_table` are the steps of
+//! writing for a file in pieces (`Pieces`), of which another file lends most bytes. A file with new bodies comes in pieces:
+//! what stays of its sections is lent, and so are the old bytes of a body that has new numbers in some of its fields (`NewBody`), but near these.
 //! It does not promise: anything of what the bodies mean.
 //! Read first: `dw_base/specs/Layout.antt`, then `LayoutFails.antt`, `LayoutReads.antt`, `Parts.antt`.
 //!
@@ -16,9 +17,11 @@
 //! // One item for each section: a new body, or none where it keeps its own.
 //! let mut contents = Vec::new(alloc);
 //! for section in 0..elf.section_count() {
-//!     contents.push(if section == 3 { Some(NewBody::whole(alloc, Vec::from_slice(alloc, b"a.c\0")?)) } else { None })?;
+//!     contents.push(if section == 3 { Some(NewBody::whole(Vec::from_slice(alloc, b"a.c\0")?)) } else { None })?;
 //! }
-//! let file = emit(alloc, &elf, &contents)?;
+//! let file = emit(alloc, &elf, contents)?;
+//! // One slice behind another.
+//! let slices = file.slices(alloc)?;
 //! ```
 #![tactic(auto)]
 
@@ -30,16 +33,15 @@ mod new_body;
 mod part;
 mod parts;
 mod patch;
+mod patched;
 mod pieces;
 mod section_headers;
 
 pub use bodies::emit;
 pub use fixed::{begins_in_header, lies_across};
 pub use in_pieces::{join_table, lay_lent};
-pub use laying::lay;
 pub use new_body::NewBody;
 pub use part::Part;
 pub use parts::write_parts;
 pub use patch::{Patch, put_patches};
 pub use pieces::Pieces;
-pub use section_headers::append_table;

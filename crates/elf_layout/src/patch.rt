@@ -19,12 +19,13 @@ pub struct Patch {
     pub value: u64,
 }
 
-/// Puts the new numbers of fields into the bytes of their section, one after another. No memory.
+/// Puts the new numbers of fields into the bytes of their section, one after another. Takes no memory.
 #[tactic(auto, using(crate::proofs::PatchLaws::put_laws))]
 pub fn put_patches(order: Order, list: &[Patch], bytes: &mut [u8])
     requires fit { PatchesFit (length bytes.old) list.now }
     ensures patched { PatchedUpTo order list.now (length list.now) bytes.old bytes.new }
     ensures put { bytes.new ≡ with_patches order bytes.old list.now }
+    ensures long { length bytes.new ≡ length bytes.old }
 {
     for patch in list {
         put(order, patch, bytes);

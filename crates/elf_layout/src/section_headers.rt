@@ -1,35 +1,15 @@
 //! Section headers as bytes (gABI ch. 4 "Sections"), and their table behind the sections.
 
-ghost use Rattle.std.specs.Prelude.{◌≡◌, ◌↔◌, ◌+◌, ◌*◌, ◌≤◌, ◌++◌, length, vec_len, IsTrue, IfOk, IfErr, OnOk};
-ghost use Rattle.dw_base.specs.Elf.{ehdr_size, shdr_size, shoff_place, word_size};
+ghost use Rattle.std.specs.Prelude.{◌≡◌, ◌+◌, ◌≤◌, ◌++◌, length, vec_len, IfOk, IfErr, OnOk};
+ghost use Rattle.dw_base.specs.Elf.{ehdr_size, shoff_place, word_size};
 ghost use Rattle.dw_base.specs.Layout.{output_limit, padding, before_table, with_table, shdr_bytes, shdrs_bytes};
 ghost use Rattle.dw_base.specs.LayoutFails.{TooLong};
 ghost use Rattle.dw_base.specs.Refusals.{Blames};
-ghost use Rattle.dw_base.specs.Numbers.{number_bytes, with_number};
+ghost use Rattle.dw_base.specs.Numbers.{with_number};
 
 use crate::laying::{padding_at, too_long};
-use dw_base::{Class, Fault, OUTPUT_LIMIT, Order, Section, put_number};
+use dw_base::{Class, Fault, OUTPUT_LIMIT, Order, Section, push_long, push_word, put_number};
 use std::alloc::AllocError;
-
-/// Appends the four bytes that spell a number, or its lowest four bytes where it has more.
-fn push_word(out: &mut Vec<u8>, order: Order, value: u64) -> Result<(), AllocError>
-    ensures bytes { OnOk result (out.new.items ≡ out.old.items ++ number_bytes order 4 value) }
-{
-    match order {
-        Order::Little => out.extend_from_slice(&value.to_le_bytes()[..4]),
-        Order::Big => out.extend_from_slice(&value.to_be_bytes()[4..]),
-    }
-}
-
-/// Appends the eight bytes that spell a number.
-fn push_long(out: &mut Vec<u8>, order: Order, value: u64) -> Result<(), AllocError>
-    ensures bytes { OnOk result (out.new.items ≡ out.old.items ++ number_bytes order 8 value) }
-{
-    match order {
-        Order::Little => out.extend_from_slice(&value.to_le_bytes()),
-        Order::Big => out.extend_from_slice(&value.to_be_bytes()),
-    }
-}
 
 /// Appends a section header of 32 bits.
 #[tactic(auto, using(crate::proofs::Rows::header_rules), unfolding(dw_base::specs::Layout::shdr_bytes))]
@@ -125,7 +105,7 @@ pub(crate) fn put_shoff(file: &mut [u8], class: Class, order: Order, place: u64)
 /// the size of an address in bytes, and their place is put into the file header (`e_shoff`; gABI ch. 4
 /// "ELF Header", "Sections"). Refused as `TooLarge` only where it would pass the limit.
 #[tactic(auto, using(crate::proofs::Rows::table_rows), unfolding(dw_base::specs::Layout::with_table))]
-pub fn append_table(
+pub(crate) fn append_table(
     out: Vec<u8>,
     class: Class,
     order: Order,

@@ -87,10 +87,6 @@ T_true : (b : Bool) → b ≡ true → T b
 T_true true e = tt
 T_true false e = cc
 
-true_T : (b : Bool) → T b → b ≡ true
-true_T true h = refl
-true_T false h = absurd h
-
 paths_entries : (ps : List Place) → map (λ e. e.0) (entries_of ps) ≡ paths_of ps
 paths_entries [] = refl
 paths_entries (p ∷ ps) = ap (λ q. string_bytes p.0 ∷ q) (paths_entries ps)

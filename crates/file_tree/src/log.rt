@@ -1,7 +1,7 @@
 //! The calls of a tree in memory, each with what it did.
 //!
 //! Read first: `specs/Logs.antt`.
-ghost use Rattle.std.specs.Prelude.{◌≡◌, List, ◌+◌, ◌<◌, [], ◌∷◌, ◌++◌, length, vec_len, vec_capacity, OnOk};
+ghost use Rattle.std.specs.Prelude.{◌≡◌, List, ◌<◌, [], ◌∷◌, ◌++◌, length, vec_len, vec_capacity, OnOk};
 
 use crate::call::{Call, Effect};
 use std::alloc::{AllocError, Global};

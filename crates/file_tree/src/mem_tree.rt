@@ -2,7 +2,7 @@
 //!
 //! This layer promises: the meanings of `Tree` in full; a call fails only where it is set to.
 //! Read first: `specs/Logs.antt`, `specs/MemTrees.antt`.
-ghost use Rattle.std.specs.Prelude.{◌≡◌, ◌+◌, ◌-◌, ◌^◌, ◌<◌, ◌≤◌, true, [], min, flat_map, vec_len, vec_capacity, Some, None, IfOk, OnOk, IsErrOf, IsOkUnless, option_map, map};
+ghost use Rattle.std.specs.Prelude.{◌≡◌, ◌+◌, ◌-◌, ◌^◌, ◌<◌, ◌≤◌, true, [], min, flat_map, vec_len, vec_capacity, Some, None, IfOk, OnOk, IsErrOf, IsOkUnless, option_map};
 ghost use Rattle.file_tree.specs.declared.node.Node.TheVariants as node;
 ghost use Rattle.file_tree.specs.Trees.{with_node, without, moved};
 ghost use Rattle.file_tree.specs.Seen.{now_of, map_now, adds, calls_of, settles_of};
@@ -10,6 +10,7 @@ ghost use Rattle.file_tree.specs.Images.{Image, state_of, image_at};
 ghost use Rattle.file_tree.specs.Causes.{Rose, HasCause, Stood, Lay, IsWithin, IsListed, OnlyAt, MadeOrNot, Fails, PutFails, MoveFails, TakeFails};
 ghost use Rattle.file_tree.specs.Logs.{tree_of, are_sorted, past_with, is_due, entries_of};
 ghost use Rattle.file_tree.specs.Codes.{same_tree_once};
+ghost use Rattle.std.specs.String.{string_bytes};
 ghost use Rattle.std.specs.FinMap as fin;
 
 use crate::call::{Call, Change, Effect, settles_in};
@@ -22,6 +23,42 @@ use crate::stops::leave;
 use crate::text::{Blob, Text};
 use crate::tree::Tree;
 use std::alloc::{AllocError, Global};
+
+/// Of a put: the call, the change, and the path and the node that are put.
+fn put_parts(
+    alloc: Global,
+    path: &str,
+    node: &Node,
+) -> Result<(Call, Change, String, Node), AllocError>
+    ensures call { IfOk result (λ p. p.0 ≡ Call.Put path.now) }
+    ensures change { IfOk result (λ p. p.1 ≡ Change.Put path.now node.now) }
+    ensures place { IfOk result (λ p. string_bytes p.2 ≡ path.now) }
+    ensures copy { IfOk result (λ p. p.3 ≡ node.now) }
+{
+    let call = Call::Put(Text::copy_of(alloc, path)?);
+    let change = Change::put(alloc, path, node)?;
+    let place = String::from_str(alloc, path)?;
+    let node = node.copied(alloc)?;
+    Ok((call, change, place, node))
+}
+
+/// Of a rename: the call, the change, and the new path.
+fn move_parts(alloc: Global, from: &str, to: &str) -> Result<(Call, Change, String), AllocError>
+    ensures call { IfOk result (λ p. p.0 ≡ Call.Rename from.now to.now) }
+    ensures change { IfOk result (λ p. p.1 ≡ Change.Move from.now to.now) }
+    ensures place { IfOk result (λ p. string_bytes p.2 ≡ to.now) }
+{
+    let call = Call::Rename {
+        from: Text::copy_of(alloc, from)?,
+        to: Text::copy_of(alloc, to)?,
+    };
+    let change = Change::Move {
+        from: Text::copy_of(alloc, from)?,
+        to: Text::copy_of(alloc, to)?,
+    };
+    let place = String::from_str(alloc, to)?;
+    Ok((call, change, place))
+}
 
 /// A tree in memory.
 #[derive(Drop)]
@@ -223,10 +260,7 @@ impl Tree for MemTree {
         ensures tells { (seen_of self.new).tells ≡ (seen_of self.old).tells }
         ensures set { FailsAsSet self.old self.new result }
     {
-        let call = Call::Put(Text::copy_of(self.alloc, path)?);
-        let change = Change::put(self.alloc, path, node)?;
-        let place = String::from_str(self.alloc, path)?;
-        let node = node.copied(self.alloc)?;
+        let (call, change, place, node) = put_parts(self.alloc, path, node)?;
         self.log.make_room()?;
         self.nodes.reserve(1)?;
         if self.is_due() {
@@ -261,15 +295,7 @@ impl Tree for MemTree {
         ensures tells { (seen_of self.new).tells ≡ (seen_of self.old).tells }
         ensures set { FailsAsSet self.old self.new result }
     {
-        let call = Call::Rename {
-            from: Text::copy_of(self.alloc, from)?,
-            to: Text::copy_of(self.alloc, to)?,
-        };
-        let change = Change::Move {
-            from: Text::copy_of(self.alloc, from)?,
-            to: Text::copy_of(self.alloc, to)?,
-        };
-        let place = String::from_str(self.alloc, to)?;
+        let (call, change, place) = move_parts(self.alloc, from, to)?;
         self.log.make_room()?;
         if self.is_due() {
             self.add_fault(call);

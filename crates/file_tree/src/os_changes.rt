@@ -89,6 +89,16 @@ fn clear_path<R: Files>(rt: &R, path: &str) -> io::Result<()> {
     }
 }
 
+/// Makes the folders in which the path lies, and takes away the file or the link at the path.
+fn make_way<R: Files + AllocGlobal>(
+    rt: &R,
+    path: &str,
+    unstored: &mut Unstored<R>,
+) -> io::Result<()> {
+    make_folders(rt, path, unstored)?;
+    clear_path(rt, path)
+}
+
 /// Writes a new file of these pieces, with exactly this mode. It isn't stored yet.
 fn write_file<R: Files>(rt: &R, path: &str, pieces: &[&[u8]], mode: u32) -> io::Result<R::File> {
     let mut file = OpenOptions::new()
@@ -110,13 +120,12 @@ pub(crate) fn put_at<R: Files + AllocGlobal>(
     node: &Node,
     unstored: &mut Unstored<R>,
 ) -> io::Result<()> {
-    make_folders(rt, path, unstored)?;
-    clear_path(rt, path)?;
     match node {
-        Node::File { bytes, mode } => {
-            unstored.add_file(write_file(rt, path, &[bytes.as_slice()], *mode)?)
+        Node::File { bytes, mode } => put_file_at(rt, path, &[bytes.as_slice()], *mode, unstored),
+        Node::Link { target } => {
+            make_way(rt, path, unstored)?;
+            std::os::unix::fs::symlink(rt, target.as_str(), path)
         }
-        Node::Link { target } => std::os::unix::fs::symlink(rt, target.as_str(), path),
     }
 }
 
@@ -128,8 +137,7 @@ pub(crate) fn put_file_at<R: Files + AllocGlobal>(
     mode: u32,
     unstored: &mut Unstored<R>,
 ) -> io::Result<()> {
-    make_folders(rt, path, unstored)?;
-    clear_path(rt, path)?;
+    make_way(rt, path, unstored)?;
     unstored.add_file(write_file(rt, path, pieces, mode)?)
 }
 

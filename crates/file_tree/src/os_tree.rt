@@ -2,7 +2,7 @@
 //!
 //! This layer promises: a call fails only where the count of faults rose, and what it finds is within
 //! the limits and in order. It does not promise what the system keeps: that is trusted.
-ghost use Rattle.std.specs.Prelude.{◌≡◌, ◌≤◌, ◌+◌, ◌-◌, false, IfOk, Ok, IsErrOf};
+ghost use Rattle.std.specs.Prelude.{◌≡◌, ◌≤◌, ◌+◌, false, IfOk, Ok, IsErrOf};
 ghost use Rattle.file_tree.specs.Seen.{no_past};
 ghost use Rattle.file_tree.specs.Causes.{Rose};
 

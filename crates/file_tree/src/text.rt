@@ -36,7 +36,7 @@ impl Blob {
     }
 
     /// A copy of the bytes of these pieces, one behind another.
-    pub fn joined(alloc: Global, pieces: &[&[u8]]) -> Result<Blob, AllocError>
+    pub(crate) fn joined(alloc: Global, pieces: &[&[u8]]) -> Result<Blob, AllocError>
         ensures value { IfOk result (λ b. b ≡ flat_map (λ piece. piece.now) pieces.now) }
     {
         let bytes = joined(alloc, pieces)?;

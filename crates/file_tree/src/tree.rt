@@ -50,6 +50,7 @@ pub trait Tree {
         ensures tells { (seen self.new).tells ≡ (seen self.old).tells };
 
     /// Sets the path to a file of this mode and of the bytes of these pieces, one behind another, as `put` sets it to a node.
+    /// After `Failed` the path holds anything or nothing.
     fn put_pieces(&mut self, path: &str, pieces: &[&[u8]], mode: u32) -> Result<(), TreeErr>
         ensures done { (seen self.old).tells ≡ true → OnOk result ((seen self.new).past ≡ adds (seen self.old).past (Call.Put path.now) (Effect.Changed (Change.Put path.now (node.File (flat_map (λ piece. piece.now) pieces.now) mode)))) }
         ensures failed { (seen self.old).tells ≡ true → IsErrOf result TreeErr.Failed → Fails (seen self.old).past (seen self.new).past (Call.Put path.now) (PutFails path.now) }

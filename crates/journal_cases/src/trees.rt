@@ -165,7 +165,7 @@ fn a_tree_in_memory_answers_as_its_map(rt: HostRuntime) -> Result<(), Fail> {
 }
 
 /// Calls on what only a real file system has, after `COMMON`.
-const REAL: [(Step, &str); 20] = [
+const REAL: [(Step, &str); 21] = [
     (
         Step::Put("tree_test/a", 0o600, "folder in the way"),
         "failed",
@@ -178,6 +178,7 @@ const REAL: [(Step, &str); 20] = [
     (Step::Read("/dev/full", 99), "absent"),
     (Step::Remove("/dev/full"), "ok"),
     (Step::Rename("/dev/full", "tree_test/a/c"), "ok"),
+    (Step::Rename("tree_test/a/c", "/dev/full"), "failed"),
     (Step::Rename("tree_test/a/c", "tree_test/a"), "failed"),
     (Step::Read("tree_test/a/c/d", 9), "absent"),
     (Step::Rename("tree_test/a", "tree_test/b"), "ok"),

@@ -194,6 +194,3 @@ impl Core {
         self.end = 0;
     }
 }
-
-#[cfg(test)]
-mod tests;

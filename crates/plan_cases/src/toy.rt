@@ -1,10 +1,9 @@
 //! A small judge of files: a file says by its first three bytes what becomes of it.
 //!
 //! Read first: `specs/Toys.antt`.
-ghost use Rattle.std.specs.Prelude.{◌≡◌, ◌++◌, ◌∷◌, [], Some, None, List, ℕ, get_or, map, IfOk, IfErr, IsOkUnless};
-ghost use Rattle.dw_base.specs.declared.fault.Fault.TheVariants.{NoMemory};
+ghost use Rattle.std.specs.Prelude.{◌≡◌, ◌++◌, Some, None, get_or, IfOk, IfErr};
 ghost use Rattle.dw_base.specs.Refusals.{Blames};
-ghost use Rattle.root_plan.specs.Verdicts.{Verdict, verdict_of, id_of};
+ghost use Rattle.root_plan.specs.Verdicts.{verdict_of, id_of};
 ghost use Rattle.plan_cases.specs.Toys.{toy_names, toy_id, toy_verdict};
 
 use dw_base::{Fault, Kind, Refusal};

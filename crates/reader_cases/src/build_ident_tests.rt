@@ -64,11 +64,7 @@ fn check_found<R: Abort + AllocGlobal>(
 
 fn check_refused<R: Abort + AllocGlobal>(rt: &R, file: &[u8; 456]) -> Result<(), Fail> {
     let elf = ElfFile::read_debug(rt.alloc(), file.as_slice()).map_err(|_| "refused")?;
-    let refusal = Refusal {
-        kind: Kind::BuildId,
-        section: 1,
-        offset: 0,
-    };
+    let refusal = Refusal::at(Kind::BuildId, 1, 0);
     assert_eq!(rt; find_id(&elf).err(), Some(refusal));
     Ok(())
 }

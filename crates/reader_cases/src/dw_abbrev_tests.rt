@@ -51,11 +51,7 @@ const BROKEN: &[(&[u8], u64)] = &[
 
 /// The refusal of a table at a place of section 3.
 fn refused(at: u64) -> Fault {
-    Fault::Refused(Refusal {
-        kind: Kind::Abbreviation,
-        section: 3,
-        offset: at,
-    })
+    Fault::Refused(Refusal::at(Kind::Abbreviation, 3, at))
 }
 
 #[test]

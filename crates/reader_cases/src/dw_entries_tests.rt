@@ -82,11 +82,7 @@ fn units_and_entries_are_refused_at_their_places(rt: HostRuntime) -> Result<(), 
     for case in REFUSED {
         let &(info, types, kind, section, offset) = case;
         let file = units_file(rt.alloc(), info, types)?;
-        let refusal = Refusal {
-            kind,
-            section,
-            offset,
-        };
+        let refusal = Refusal::at(kind, section, offset);
         match entries_of(&rt, rt.alloc(), &file) {
             Ok(_) => assert!(rt; false),
             Err(fault) => assert_eq!(rt; fault, Fault::Refused(refusal)),
@@ -131,11 +127,7 @@ fn a_unit_of_100000_levels_is_read(rt: HostRuntime) -> Result<(), Fail> {
     assert_eq!(rt; found.last().copied(), Some((300_008, 99_999, 0x4000)));
     let info = deep_unit(&rt, rt.alloc(), 100_000, 99_999)?;
     let file = units_file(rt.alloc(), &info, b"")?;
-    let open = Refusal {
-        kind: Kind::Entry,
-        section: 1,
-        offset: 400_010,
-    };
+    let open = Refusal::at(Kind::Entry, 1, 400_010);
     match entries_of(&rt, rt.alloc(), &file) {
         Ok(_) => assert!(rt; false),
         Err(fault) => assert_eq!(rt; fault, Fault::Refused(open)),

@@ -36,11 +36,7 @@ fn unit(order: Order, width: Width, version: u16, address: u8) -> Params
 
 /// A refusal at a place of section 7.
 fn refused(kind: Kind, offset: u64) -> Refusal {
-    Refusal {
-        kind,
-        section: 7,
-        offset,
-    }
+    Refusal::at(kind, 7, offset)
 }
 
 /// In a little-endian unit of 32-bit DWARF 4 with addresses of 8 bytes: form, the value's bytes, class,

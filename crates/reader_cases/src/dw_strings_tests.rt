@@ -17,11 +17,7 @@ fn a_text_ends_before_its_nul(rt: HostRuntime) {
 #[test]
 fn a_text_with_no_nul_is_refused_at_its_place(rt: HostRuntime) {
     for at in [5, 8, 9, 10, 0xffff_ffff_ffff_ffff] {
-        let refusal = Refusal {
-            kind: Kind::StringOffset,
-            section: 2,
-            offset: at,
-        };
+        let refusal = Refusal::at(Kind::StringOffset, 2, at);
         assert_eq!(rt; text_at(2, TABLE, at).err(), Some(refusal));
     }
 }

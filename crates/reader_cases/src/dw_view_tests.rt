@@ -207,11 +207,7 @@ fn answer_of(alloc: Global, file: &[u8]) -> Result<(), Fault> {
 /// The answer that a file is refused with: none where it isn't.
 fn wanted(refusal: Option<(Kind, u32, u64)>) -> Result<(), Fault> {
     match refusal {
-        Some((kind, section, offset)) => Err(Fault::Refused(Refusal {
-            kind,
-            section,
-            offset,
-        })),
+        Some((kind, section, offset)) => Err(Fault::Refused(Refusal::at(kind, section, offset))),
         None => Ok(()),
     }
 }

@@ -32,7 +32,7 @@ fn item_for<'a>(
         return Ok(None);
     }
     let bytes = Vec::from_slice(alloc, body)?;
-    Ok(Some(NewBody::whole(alloc, bytes)))
+    Ok(Some(NewBody::whole(bytes)))
 }
 
 /// The items of all sections, of which one is given a body.
@@ -58,7 +58,8 @@ fn emitted(alloc: Global, bytes: &[u8], changed: u32, body: &[u8]) -> Result<Vec
     }
     let elf = ElfFile::read(alloc, bytes)?;
     let contents = contents_with(alloc, &elf, changed, body)?;
-    emit(alloc, &elf, &contents)
+    let file = emit(alloc, &elf, contents)?;
+    Ok(file.joined(alloc)?)
 }
 
 /// A file of parts, in the class and order of another; no memory where they are none.

@@ -25,6 +25,8 @@ mod dw_abbrev_samples;
 #[cfg(test)]
 mod dw_abbrev_tests;
 #[cfg(test)]
+mod dw_base_tests;
+#[cfg(test)]
 mod dw_entries_samples;
 #[cfg(test)]
 mod dw_entries_tests;

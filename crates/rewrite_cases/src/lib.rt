@@ -44,5 +44,5 @@ pub fn rewritten(alloc: Global, bytes: &[u8], maps: (&[u8], &[u8])) -> Result<Ve
         return Err(Fault::NoMemory);
     };
     let out = rewrite(alloc, bytes, &maps)?;
-    Ok(out.file)
+    Ok(out.file.joined(alloc)?)
 }

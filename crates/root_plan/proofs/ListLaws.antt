@@ -23,28 +23,24 @@ one_debug_file out new path job e is made = rw e (made ∙ ap (λ (p : List ℕ)
 pub no_links : (out : List ℕ) (job : JobLine) → has_links job ≡ false → out ≡ out ++ laid_texts (link_names_of job)
 no_links out job e = rw e (sym (append-nil out))
 
-four : (out a b c d : List ℕ) → (((out ++ a) ++ b) ++ c) ++ d ≡ out ++ (a ++ (b ++ (c ++ d)))
-four out a b c d = append_assoc ((out ++ a) ++ b) c d ∙ append_assoc (out ++ a) b (c ++ d) ∙ append_assoc out a (b ++ (c ++ d))
+-- a link and what it leads to
+pub one_link : (out mid new first second a b : List ℕ) → first ≡ a → mid ≡ out ++ 47 ∷ (first ++ 0 ∷ []) → second ≡ b → new ≡ mid ++ (second ++ 0 ∷ []) → new ≡ out ++ laid_texts ((47 ∷ a) ∷ b ∷ [])
+one_link out mid new first second a b f m g n =
+    let flat : new ≡ out ++ laid_texts ((47 ∷ first) ∷ second ∷ []) =
+    n ∙ ap (λ (x : List ℕ). x ++ (second ++ 0 ∷ [])) m ∙ append_assoc out (47 ∷ (first ++ 0 ∷ [])) (second ++ 0 ∷ [])
+    ∙ ap (λ (x : List ℕ). out ++ x) (append_assoc (47 ∷ first) (0 ∷ []) (second ++ 0 ∷ [])) in
+    flat ∙ ap (λ (x : List ℕ). out ++ laid_texts ((47 ∷ x) ∷ second ∷ [])) f ∙ ap (λ (x : List ℕ). out ++ laid_texts ((47 ∷ a) ∷ x ∷ [])) g
 
-pub two_links : (out o1 o2 o3 new first second third fourth : List ℕ) (job : JobLine) → has_links job ≡ true
-    → first ≡ file_link job → o1 ≡ out ++ 47 ∷ (first ++ 0 ∷ [])
-    → second ≡ link_target job.path → o2 ≡ o1 ++ (second ++ 0 ∷ [])
-    → third ≡ debug_link job → o3 ≡ o2 ++ 47 ∷ (third ++ 0 ∷ [])
-    → fourth ≡ link_target (debug_path job.path) → new ≡ o3 ++ (fourth ++ 0 ∷ []) → new ≡ out ++ laid_texts (link_names_of job)
-two_links out o1 o2 o3 new first second third fourth job e f1 m1 f2 m2 f3 m3 f4 m4 =
-    let flat : new ≡ out ++ laid_texts ((47 ∷ first) ∷ second ∷ (47 ∷ third) ∷ fourth ∷ []) =
-    m4 ∙ ap (λ (x : List ℕ). x ++ (fourth ++ 0 ∷ [])) (m3 ∙ ap (λ (x : List ℕ). x ++ 47 ∷ (third ++ 0 ∷ [])) (m2 ∙ ap (λ (x : List ℕ). x ++ (second ++ 0 ∷ [])) m1)) ∙ (four out (47 ∷ (first ++ 0 ∷ [])) (second ++ 0 ∷ []) (47 ∷ (third ++ 0 ∷ [])) (fourth ++ 0 ∷ []) ∙ last) in
-    flat ∙ ap (λ (x : List ℕ). out ++ laid_texts ((47 ∷ x) ∷ second ∷ (47 ∷ third) ∷ fourth ∷ [])) f1
-    ∙ ap (λ (x : List ℕ). out ++ laid_texts ((47 ∷ file_link job) ∷ x ∷ (47 ∷ third) ∷ fourth ∷ [])) f2
-    ∙ ap (λ (x : List ℕ). out ++ laid_texts ((47 ∷ file_link job) ∷ link_target job.path ∷ (47 ∷ x) ∷ fourth ∷ [])) f3
-    ∙ ap (λ (x : List ℕ). out ++ laid_texts ((47 ∷ file_link job) ∷ link_target job.path ∷ (47 ∷ debug_link job) ∷ x ∷ [])) f4
+-- both links of a job that has them
+pub two_links : (out mid new : List ℕ) (job : JobLine) → has_links job ≡ true → mid ≡ out ++ laid_texts ((47 ∷ file_link job) ∷ link_target job.path ∷ [])
+    → new ≡ mid ++ laid_texts ((47 ∷ debug_link job) ∷ link_target (debug_path job.path) ∷ []) → new ≡ out ++ laid_texts (link_names_of job)
+two_links out mid new job e m n =
+    let one : List (List ℕ) = (47 ∷ file_link job) ∷ link_target job.path ∷ [] in
+    let other : List (List ℕ) = (47 ∷ debug_link job) ∷ link_target (debug_path job.path) ∷ [] in
+    n ∙ ap (λ (x : List ℕ). x ++ laid_texts ((47 ∷ debug_link job) ∷ link_target (debug_path job.path) ∷ [])) m
+    ∙ append_assoc out (laid_texts ((47 ∷ file_link job) ∷ link_target job.path ∷ [])) (laid_texts ((47 ∷ debug_link job) ∷ link_target (debug_path job.path) ∷ []))
+    ∙ ap (λ (x : List ℕ). out ++ x) (sym (laid_texts-append one other))
     ∙ ap (λ (b : Bool). out ++ laid_texts (if b then (47 ∷ file_link job) ∷ link_target job.path ∷ (47 ∷ debug_link job) ∷ link_target (debug_path job.path) ∷ [] else [])) (sym e)
-  where
-    last : out ++ ((47 ∷ (first ++ 0 ∷ [])) ++ ((second ++ 0 ∷ []) ++ ((47 ∷ (third ++ 0 ∷ [])) ++ (fourth ++ 0 ∷ [])))) ≡ out ++ laid_texts ((47 ∷ first) ∷ second ∷ (47 ∷ third) ∷ fourth ∷ [])
-    last =
-        ap (λ (r : List ℕ). out ++ r) (append_assoc (47 ∷ first) (0 ∷ []) _
-        ∙ ap (λ (r : List ℕ). (47 ∷ first) ++ 0 ∷ r) (append_assoc second (0 ∷ []) _
-        ∙ ap (λ (r : List ℕ). second ++ 0 ∷ r) (append_assoc (47 ∷ third) (0 ∷ []) (fourth ++ 0 ∷ []))))
 
 pub ruleset push_rules = (slash_name, no_debug_file, one_debug_file, no_links, two_links)
 

@@ -15,7 +15,7 @@ use Rattle.work_journal.specs.declared.maker.MakeErr.{MakeErr}
 use Rattle.work_journal.specs.declared.maker.MakeErr.TheVariants as make
 use Rattle.root_plan.specs.Targets.{debug_path, file_link, debug_link, link_target, debug_name, has_links, links_of, targets_of}
 use Rattle.root_plan.specs.Verdicts.{JudgeView, Pair}
-use Rattle.root_plan.specs.Makers.{not_executable, link_nodes, pair_nodes, split_nodes, edited_nodes, nodes_of, JobFails, EditEnds, SplitEnds, EditedEnds, MakeEnds, job_at, no_job}
+use Rattle.root_plan.specs.Makers.{link_nodes, pair_nodes, split_nodes, edited_nodes, nodes_of, JobFails, EditEnds, SplitEnds, EditedEnds, MakeEnds, job_at, no_job}
 use Rattle.root_plan.specs.Fits.{nodes-are}
 use Rattle.root_plan.specs.Makers.{JobFails as job_fails, EditEnds as edit, SplitEnds as splits, EditedEnds as edits, MakeEnds as ends}
 

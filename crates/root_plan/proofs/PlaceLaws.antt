@@ -160,5 +160,3 @@ is_other xs at d path b e f l same = apart b ((e ∙ (bytes_decides (string_byte
     apart : (b : Bool) → b ≡ true → b ≡ false → ⊥
     apart true p q = cc
     apart false p q = cc
-
-pub ruleset there_rules = (is_there, is_other)

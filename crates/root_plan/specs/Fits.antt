@@ -11,7 +11,8 @@ use Rattle.work_texts.specs.declared.plan.JobLine.{JobLine}
 use Rattle.work_journal.specs.Views.{IsMaker}
 use Rattle.root_plan.specs.Targets.{has_links, targets_of, debug_name, debug_path, link_target}
 use Rattle.root_plan.specs.Verdicts.{JudgeView, Pair}
-use Rattle.root_plan.specs.Makers.{not_executable, pair_nodes, split_nodes, edited_nodes, nodes_of, no_job, job_at, plan_view}
+use Rattle.job_types.specs.Modes.{not_executable}
+use Rattle.root_plan.specs.Makers.{pair_nodes, split_nodes, edited_nodes, nodes_of, no_job, job_at, plan_view}
 
 -- how many targets a job has, by whether it is split and has links
 abbrev target_count : Bool → Bool → ℕ

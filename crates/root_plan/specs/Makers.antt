@@ -1,10 +1,11 @@
 -- What the jobs of a plan make: paths, and the nodes of a file. This project's profile.
-use Rattle.std.specs.Prelude.{◌≡◌, ◌≢◌, ℕ, true, false, if◌then◌else◌, List, [], ◌∷◌, ◌++◌, length, map, get_or, bit_and, Option, Some, None}
+use Rattle.std.specs.Prelude.{◌≡◌, ◌≢◌, ℕ, true, false, if◌then◌else◌, List, [], ◌∷◌, ◌++◌, length, map, get_or, Option, Some, None}
 use Rattle.sha1.specs.Sha1.{sha1}
 use Rattle.dw_base.specs.declared.fault.Refusal.{Refusal}
 use Rattle.dw_base.specs.Texts.{same_text}
 use Rattle.file_tree.specs.declared.node.Node.{Node}
 use Rattle.file_tree.specs.declared.node.Node.TheVariants as node
+use Rattle.job_types.specs.Modes.{not_executable}
 use Rattle.work_texts.specs.declared.plan.JobLine.{JobLine}
 use Rattle.work_journal.specs.declared.maker.MakeErr.{MakeErr}
 use Rattle.work_journal.specs.declared.maker.MakeErr.TheVariants as make
@@ -12,10 +13,6 @@ use Rattle.work_journal.specs.Views.{MakerView}
 use Rattle.root_plan.specs.Roots.{in_root}
 use Rattle.root_plan.specs.Targets.{debug_name, debug_path, link_target, has_links, targets_of}
 use Rattle.root_plan.specs.Verdicts.{JudgeView, Pair}
-
--- a mode with the bits of 0o111 cleared: no one may execute the file
-abbrev pub not_executable : ℕ → ℕ
-not_executable mode = bit_and mode 4294967222
 
 -- the nodes of a job's links
 abbrev pub link_nodes : JobLine → List Node

@@ -1,9 +1,10 @@
 //! The three lists that a run leaves: sources, debug files and links.
 //!
 //! Read first: `specs/Lists.antt`.
-ghost use Rattle.std.specs.Prelude.{◌≡◌, ◌++◌, ◌∷◌, [], map, OnOk, IfOk};
+ghost use Rattle.std.specs.Prelude.{◌≡◌, ◌<◌, ◌++◌, ◌∷◌, [], map, length, OnOk, IfOk};
 ghost use Rattle.dw_base.specs.Texts.{laid_texts};
 ghost use Rattle.work_texts.specs.Lists.{bytes_of};
+ghost use Rattle.root_plan.specs.Targets.{file_link, debug_link, debug_path, link_target};
 ghost use Rattle.root_plan.specs.Lists.{source_list, debug_names_of, debug_file_list, link_names_of, link_list};
 
 use crate::targets::{debug_link, debug_path, file_link, has_links, link_target};
@@ -66,6 +67,31 @@ pub(crate) fn debug_file_list(alloc: Global, jobs: &[JobLine]) -> Result<Vec<u8>
     Ok(out)
 }
 
+/// Adds the link to the file of a job that has an id, and what it leads to.
+fn push_file_link(alloc: Global, out: &mut Vec<u8>, job: &JobLine) -> Result<(), AllocError>
+    requires some { 0 < length job.now.id }
+    ensures value { OnOk result (out.new.items ≡ out.old.items ++ laid_texts ((47 ∷ file_link job.now) ∷ link_target job.now.path ∷ [])) }
+{
+    let link = file_link(alloc, job)?;
+    push_path(out, link.as_str())?;
+    let target = link_target(alloc, job.path.as_str())?;
+    push_name(out, target.as_str().as_bytes())?;
+    Ok(())
+}
+
+/// Adds the link to the debug file of a job that has an id, and what it leads to.
+fn push_debug_link(alloc: Global, out: &mut Vec<u8>, job: &JobLine) -> Result<(), AllocError>
+    requires some { 0 < length job.now.id }
+    ensures value { OnOk result (out.new.items ≡ out.old.items ++ laid_texts ((47 ∷ debug_link job.now) ∷ link_target (debug_path job.now.path) ∷ [])) }
+{
+    let link = debug_link(alloc, job)?;
+    push_path(out, link.as_str())?;
+    let path = debug_path(alloc, job.path.as_str())?;
+    let target = link_target(alloc, path.as_str())?;
+    push_name(out, target.as_str().as_bytes())?;
+    Ok(())
+}
+
 /// Adds the links of a job that has them, each with what it leads to.
 #[tactic(auto, using(crate::proofs::ListLaws::push_rules))]
 fn push_links(alloc: Global, out: &mut Vec<u8>, job: &JobLine) -> Result<(), AllocError>
@@ -74,15 +100,8 @@ fn push_links(alloc: Global, out: &mut Vec<u8>, job: &JobLine) -> Result<(), All
     if !has_links(job) {
         return Ok(());
     }
-    let link = file_link(alloc, job)?;
-    push_path(out, link.as_str())?;
-    let target = link_target(alloc, job.path.as_str())?;
-    push_name(out, target.as_str().as_bytes())?;
-    let link = debug_link(alloc, job)?;
-    push_path(out, link.as_str())?;
-    let path = debug_path(alloc, job.path.as_str())?;
-    let target = link_target(alloc, path.as_str())?;
-    push_name(out, target.as_str().as_bytes())?;
+    push_file_link(alloc, out, job)?;
+    push_debug_link(alloc, out, job)?;
     Ok(())
 }
 

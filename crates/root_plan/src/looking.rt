@@ -1,7 +1,7 @@
 //! Looks at a tree.
 //!
 //! Read first: `specs/Looks.antt`.
-ghost use Rattle.std.specs.Prelude.{◌≡◌, IfOk, IfErr, IsErrOf};
+ghost use Rattle.std.specs.Prelude.{IfOk, IsErrOf};
 ghost use Rattle.file_tree.specs.Seen.{now_of};
 ghost use Rattle.file_tree.specs.Causes.{Stood, Lay, IsListed, IsWithin, Rose};
 ghost use Rattle.file_tree.specs.declared.node.TreeErr.TheVariants.{Failed};

@@ -8,13 +8,15 @@ ghost use Rattle.dw_base.specs.Texts.{same_text};
 ghost use Rattle.file_tree.specs.declared.node.Node.TheVariants as node;
 ghost use Rattle.root_plan.specs.Roots.{in_root};
 ghost use Rattle.root_plan.specs.Targets.{targets_of, debug_name, link_target};
-ghost use Rattle.root_plan.specs.Makers.{not_executable, link_nodes, pair_nodes, split_nodes, edited_nodes, nodes_of, EditEnds, SplitEnds, EditedEnds, MakeEnds};
+ghost use Rattle.job_types.specs.Modes.{not_executable};
+ghost use Rattle.root_plan.specs.Makers.{link_nodes, pair_nodes, split_nodes, edited_nodes, nodes_of, EditEnds, SplitEnds, EditedEnds, MakeEnds};
 
 use crate::judge::{Judge, Parts};
 use crate::names::debug_name;
 use crate::targets::{debug_link, debug_path, file_link, has_links, in_root, link_target};
 use dw_base::Fault;
 use file_tree::{Blob, Node, Text};
+use job_types::not_executable;
 use sha1::Sha1;
 use std::alloc::{AllocError, Global};
 use work_journal::MakeErr;
@@ -77,13 +79,6 @@ pub(crate) fn target(
     let path = target_below(alloc, job, step)?;
     let path = in_root(alloc, root, path.as_str())?;
     Ok(path)
-}
-
-/// A mode, of which no one may execute the file.
-fn not_executable(mode: u32) -> u32
-    ensures value { result ≡ not_executable mode }
-{
-    mode & 4_294_967_222
 }
 
 /// A file as a node.

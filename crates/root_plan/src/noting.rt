@@ -1,7 +1,7 @@
 //! What one path of a build root comes to.
 //!
 //! Read first: `specs/Tallies.antt`.
-ghost use Rattle.std.specs.Prelude.{◌≡◌, ◌≤◌, ◌<◌, ◌-◌, ◌^◌, length, true, None, IfOk, IfErr, OnOk};
+ghost use Rattle.std.specs.Prelude.{◌≡◌, ◌≤◌, ◌<◌, ◌-◌, ◌^◌, length, None, IfOk, IfErr, OnOk};
 ghost use Rattle.file_tree.specs.Seen.{now_of};
 ghost use Rattle.root_plan.specs.Looks.{Looked};
 ghost use Rattle.root_plan.specs.Roots.{longest_path};

@@ -1,9 +1,8 @@
 //! What a run prints in the end.
 //!
 //! Read first: `specs/Reports.antt`.
-ghost use Rattle.std.specs.Prelude.{◌≡◌, ◌++◌, length, IfOk, OnOk};
+ghost use Rattle.std.specs.Prelude.{◌≡◌, IfOk};
 ghost use Rattle.std.specs.String.{string_bytes};
-ghost use Rattle.std.specs.List.{flat_map};
 ghost use Rattle.root_plan.specs.Reports.{split_count, edited_count, link_count, job_counts, other_counts, count_line, skipped_line, report_text};
 
 use crate::refused::Skipped;

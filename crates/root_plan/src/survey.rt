@@ -1,10 +1,9 @@
 //! What the files of a build root come to, one after another.
 //!
 //! Read first: `specs/Tallies.antt`.
-ghost use Rattle.std.specs.Prelude.{◌≡◌, ◌≢◌, ◌+◌, ◌-◌, ◌<◌, ◌^◌, ◌==◌, ◌++◌, ◌∷◌, [], map, length, true, if◌then◌else◌, IfOk, OnOk};
+ghost use Rattle.std.specs.Prelude.{◌≡◌, ◌≢◌, ◌+◌, ◌-◌, ◌<◌, ◌^◌, ◌==◌, map, length, true, if◌then◌else◌, IfOk, OnOk};
 ghost use Rattle.sha1.specs.Sha1.{sha1};
 ghost use Rattle.work_texts.specs.Lists.{bytes_of};
-ghost use Rattle.job_types.specs.Settings.{Settings};
 ghost use Rattle.root_plan.specs.Counted.{count_in, AreCounted, CountsOneMore};
 ghost use Rattle.root_plan.specs.Verdicts.{verdict_of, id_of};
 ghost use Rattle.root_plan.specs.Tallies.{Tally, empty_tally, with_source, with_sources, with_job, with_left, with_skipped, with_verdict, split_job, edited_job};

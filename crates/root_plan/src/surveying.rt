@@ -1,7 +1,7 @@
 //! All paths of a build root, one after another.
 //!
 //! Read first: `specs/Plans.antt`.
-ghost use Rattle.std.specs.Prelude.{◌≡◌, ◌≤◌, ◌<◌, map, IfOk, IfErr, OnOk};
+ghost use Rattle.std.specs.Prelude.{◌≡◌, ◌≤◌, map, IfOk, IfErr, OnOk};
 ghost use Rattle.std.specs.String.{string_bytes};
 ghost use Rattle.file_tree.specs.Seen.{now_of};
 ghost use Rattle.root_plan.specs.Looks.{Looked};

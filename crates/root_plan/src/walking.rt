@@ -1,7 +1,7 @@
 //! The paths of a build root.
 //!
 //! Read first: `specs/Walks.antt`.
-ghost use Rattle.std.specs.Prelude.{◌≡◌, IfOk, IfErr, map};
+ghost use Rattle.std.specs.Prelude.{IfOk, IfErr, map};
 ghost use Rattle.std.specs.String.{string_bytes};
 ghost use Rattle.file_tree.specs.Seen.{now_of};
 ghost use Rattle.root_plan.specs.Looks.{Looked};

@@ -24,7 +24,8 @@ use Rattle.work_journal.specs.Wanted.{Wanted, MarkHas}
 use Rattle.work_journal.specs.Keeps.{Keeps}
 use Rattle.work_journal.specs.Views.{MakerView}
 use Rattle.work_journal.specs.Jobs.{AreNodes, MayStage}
-use Rattle.work_journal.specs.Files.{file_limit, FileStands, IsSource, is_output, is_apart, IsFile, IsWanted}
+use Rattle.dw_base.specs.Layout.{file_limit}
+use Rattle.work_journal.specs.Files.{FileStands, IsSource, is_output, is_apart, IsFile, IsWanted}
 
 first_has : (x : Mark) (was : Option Node) (n : Node) (is : Option Node) → x ≡ first → MarkHas x was n is → is ≡ was
 first_has absent was n is e h = let d : absent ≡ first = e in cc

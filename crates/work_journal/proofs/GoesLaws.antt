@@ -343,9 +343,6 @@ came_still {hits = hits} {n = n} fault work may c seen r no_fault = record {
 rose_later : (a b c : ℕ) → a ≤ b → Rose b c → Rose a c
 rose_later a b c l rose = omega (arith, l, rose)
 
-rose_kept : (a b c : ℕ) → b ≤ c → Rose a b → Rose a c
-rose_kept a b c l rose = omega (arith, l, rose)
-
 pub came_then : {hits : List ℕ → Type 0} {n m : ℕ} {A E B F : Type 0} (f : E) (g : F) (work : List ℕ) (may : Wanted → Type 0) (c d e : CoreState) (old mid new : Seen) (r : Result A E) (s : Result B F)
     → IsOk r → Came f hits n work may c old d mid r → Came g hits m work may d mid e new s → Came g hits (n + m) work may c old e new s
 came_then {hits = hits} {n = n} {m = m} f g work may c d e old mid new r s is a b = record {
@@ -376,10 +373,6 @@ came_given f work may less c d old new r all a = record {
   spares = a.spares;
   goes = λ tells. goes_given work may less c d old.past new.past r (λ w given m k. all w given tells m k) (a.goes tells);
 }
-
--- an error of another call stands for this one's
-pub came_core : {hits : List ℕ → Type 0} {n : ℕ} {A E : Type 0} (f : E) (work : List ℕ) (may : Wanted → Type 0) (c d e : CoreState) (old new : Seen) (r : Result A E) → e ≡ d → Came f hits n work may c old d new r → Came f hits n work may c old e new r
-came_core {hits = hits} {n = n} f work may c d e old new r is a = subst (λ (x : CoreState). Came f hits n work may c old x new r) (sym is) a
 
 no_clash : {A : Type 0} (r : Result A TreeErr) → r ≡ Err NoMemory → r ≡ Err Failed → ⊥
 no_clash r a b = let d : Err NoMemory ≡ Err Failed = sym a ∙ b in cc

@@ -5,14 +5,12 @@ use Rattle.std.proofs.lemmas.List.{length-map, length-set}
 use Rattle.journal_core.specs.declared.event.Event.TheVariants.{Settle, Commit}
 use Rattle.journal_core.specs.declared.event.JobState.{JobState}
 use Rattle.journal_core.specs.declared.event.JobState.TheVariants.{Fresh, Staged, Ready, Going, Done}
-use Rattle.journal_core.specs.Table.{CoreState, state_of, steps_of, settled_job, is_done, is_ready, after, allows, with_state}
+use Rattle.journal_core.specs.Table.{CoreState, state_of, settled_job, is_done, after, with_state}
 use Rattle.journal_core.specs.Relation.{ahead}
-use Rattle.journal_core.specs.Shapes.{most_in_flight}
 use Rattle.journal_core.proofs.Rows.{settled_at}
-use Rattle.work_journal.specs.Views.{MakerView, IsMaker}
-use Rattle.work_journal.specs.Jobs.{MayStage, MayMove}
+use Rattle.work_journal.specs.Views.{MakerView}
 use Rattle.work_journal.specs.Groups.{is_new, is_staged, is_settled, IsUnder, IsGroup, IsFlush}
-use Rattle.work_journal.proofs.JobLaws.{set_here, set_twice, set_same, ahead_set}
+use Rattle.work_journal.proofs.JobLaws.{set_here, set_twice, ahead_set}
 
 -- ### A settle
 
@@ -80,34 +78,11 @@ flush_ends v c job last e f = record {
   rest = f.rest;
 }
 
--- a job of a flush that isn't ready is done
-not_ready : (s : JobState) → IsTrue (is_settled s) → s ≢ Ready → s ≡ Done
-not_ready (Fresh n) h ne = cc
-not_ready Staged h ne = cc
-not_ready Ready h ne = absurd (ne refl)
-not_ready (Going n) h ne = cc
-not_ready Done h ne = refl
-
-pub flush_done : (c : CoreState) (j : ℕ) → IsTrue (is_settled (state_of c j)) → state_of c j ≢ Ready → c ≡ with_state c j Done
-flush_done c j h ne = ap (λ (ss : List JobState). record { phase = c.phase; steps = c.steps; states = ss }) (sym (set_same c.states j Done (not_ready (state_of c j) h ne)))
-
-pub ready_allows : (c : CoreState) (j : ℕ) → state_of c j ≡ Ready → IsTrue (allows c (Commit j))
-ready_allows c j e = ap is_ready e
-
-ready_inside : (c : CoreState) (j : ℕ) → state_of c j ≡ Ready → j < length c.states → state_of (with_state c j (Going 0)) j ≡ Going 0
-ready_inside c j e l = at_here c j (Going 0) l
-
-pub committed_moves : (c d : CoreState) (j n : ℕ) → j < length c.states → steps_of c j ≡ n → 0 < n → d ≡ after c (Commit j) → MayMove d j 0 n
-committed_moves c d j n l steps some e = subst (λ (x : CoreState). MayMove x j 0 n) (sym e) (record { steps_are = steps; below = some; going = at_here c j (Going 0) l })
-
 pub flushed_core : (c d e : CoreState) (j : ℕ) → d ≡ after c (Commit j) → e ≡ with_state d j Done → e ≡ with_state c j Done
 flushed_core c d e j a b = b ∙ ap (λ (x : CoreState). with_state x j Done) a
     ∙ ap (λ (ss : List JobState). record { phase = c.phase; steps = c.steps; states = ss }) (set_twice c.states j (Going 0) Done)
 
 -- ### Staging
-
-staged_or : (i job : ℕ) → i < suc job → i ≢ job → i < job
-staged_or i job l ne = omega (arith, ne)
 
 pub group_next : (v : MakerView) (c d : CoreState) (first job next : ℕ) → next ≡ suc job → first ≤ job → job < length v.steps → IsGroup v c first job → d ≡ with_state c job Staged → IsGroup v d first next
 group_next v c d first job next at order within g e = subst (λ (x : CoreState). IsGroup v x first next) (sym e) (record {
@@ -122,17 +97,6 @@ group_next v c d first job next at order within g e = subst (λ (x : CoreState).
   where
     order_less : (i job : ℕ) → i ≤ job → i ≢ job → i < job
     order_less i job l ne = elim (cases_lt i job) [ inl h ↦ h | inr h ↦ absurd (ne (omega arith)) ]
-
-pub group_skip : (v : MakerView) (c : CoreState) (first job next : ℕ) → next ≡ suc job → state_of c job ≡ Done → IsGroup v c first job → IsGroup v c first next
-group_skip v c first job next at done g = record {
-  under = g.under;
-  before = g.before;
-  staged = λ i l m. elim (cases_eq i job) [
-    | inl here ↦ subst (λ (s : JobState). IsTrue (is_staged s)) (sym (ap (λ (y : ℕ). state_of c y) here ∙ done)) refl
-    | inr other ↦ g.staged i l (elim (cases_lt i job) [ inl h ↦ h | inr h ↦ absurd (other (omega arith)) ])
-  ];
-  rest = λ i l. g.rest i (omega arith);
-}
 
 -- ### How many are ahead
 
@@ -156,29 +120,6 @@ ahead_staged c d job next taken more at up l e count =
     let same : taken ≡ ahead (set c.states job Staged) job = sym (ahead_set c.states job Staged job (omega arith) ∙ count) in
     ap (λ (x : CoreState). ahead x.states next) e ∙ ap (λ (y : ℕ). ahead (set c.states job Staged) y) at ∙ ahead_next (set c.states job Staged) job taken ne same ∙ sym up
 
-pub ahead_skipped : (c : CoreState) (job next taken : ℕ) → next ≡ suc job → state_of c job ≡ Done → ahead c.states job ≡ taken → ahead c.states next ≡ taken
-ahead_skipped c job next taken at done count = ap (λ (y : ℕ). ahead c.states y) at ∙ rw done (omega (arith, count))
-
 pub ahead_none : (c : CoreState) (n : ℕ) → ((i : ℕ) → i < n → state_of c i ≡ Done) → ahead c.states n ≡ 0
 ahead_none c zero each = refl
 ahead_none c (suc n) each = rw (each n (omega arith), ahead_none c n (λ i l. each i (omega arith))) refl
-
--- ### A job that may be staged
-
-new_is : (s : JobState) → IsTrue (is_new s) → s ≢ Done → s ≡ Fresh 0
-new_is (Fresh zero) h ne = refl
-new_is (Fresh (suc n)) h ne = cc
-new_is Staged h ne = cc
-new_is Ready h ne = cc
-new_is (Going n) h ne = cc
-new_is Done h ne = absurd (ne refl)
-
-pub group_may_stage : (v : MakerView) (c : CoreState) (first job n taken : ℕ) → IsMaker v → job < length v.steps → get_or v.steps job 0 ≡ n → IsGroup v c first job → state_of c job ≢ Done
-    → ahead c.states job ≡ taken → taken < most_in_flight → MayStage c job n
-group_may_stage v c first job n taken maker l steps g ne count few = record {
-  running = g.under.running;
-  some = subst (λ (x : ℕ). 0 < x) steps (maker.some job l);
-  steps_are = ap (λ (ns : List ℕ). get_or ns job 0) g.under.steps_are ∙ steps;
-  is_new = new_is (state_of c job) (g.rest job (omega arith)) ne;
-  near = subst (λ (x : ℕ). x < most_in_flight) (sym count) few;
-}

@@ -119,14 +119,6 @@ pub came_first : {hits : List ℕ → Type 0} {n : ℕ} {A : Type 0} (work : Lis
     → r ≡ Ok x → Came tree.Failed hits n work may c old d new r → Came job.Tree hits n work may c old d new taken
 came_first work may c d old new r x is a = came_fine work may c d old new r x tt is a
 
--- an error that is no fault of the tree, after calls that went well
-pub came_unfit : {hits : List ℕ → Type 0} {n : ℕ} {A B : Type 0} (work : List ℕ) (may : Wanted → Type 0) (c d e : CoreState) (old new : Seen) (r : Result A JobErr) (s : Result B JobErr) (x : JobErr)
-    → IsErrAnd s (λ y. y ≡ x) → x ≢ job.Tree → Came job.Tree hits n work may c old d new r → Came job.Tree hits n work may c old e new s
-came_unfit work may c d e old new r s x is other a =
-    let p = err_from_is_err_and s is in
-    let now : s ≡ Err x = rw p.2 at p.1 in
-    came_failed job.Tree job.Tree work may c d e old new r s (err_is s x now) (λ h. absurd (other (err_same s x job.Tree now h))) a
-
 -- what holds at the end of calls that went well
 pub keeps_then : {hits : List ℕ → Type 0} {n : ℕ} {A E : Type 0} (f : E) (work : List ℕ) (may : Wanted → Type 0) (c d : CoreState) (old new : Seen) (r : Result A E) (x : A) (w : Wanted) → r ≡ Ok x → IsGiven w work → old.tells ≡ true → may w
     → Keeps w c (state_of old.past) → Came f hits n work may c old d new r → Keeps w d (state_of new.past)

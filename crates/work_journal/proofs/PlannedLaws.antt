@@ -18,7 +18,7 @@ use Rattle.journal_core.proofs.Rows.{settled_at}
 use Rattle.work_journal.specs.Views.{MakerView}
 use Rattle.work_journal.specs.Groups.{is_new, IsGroup}
 use Rattle.work_journal.specs.Rounds.{is_moving, IsMoving, AreCalm, AreLater}
-use Rattle.work_journal.specs.Files.{file_limit}
+use Rattle.dw_base.specs.Layout.{file_limit}
 use Rattle.work_journal.specs.Spares.{Spares, IsHit, in_work, is_target}
 use Rattle.work_journal.specs.Planned.{HasPlanned, ArePlanned, AreSourcesApart}
 use Rattle.work_journal.proofs.GroupLaws.{at_other}

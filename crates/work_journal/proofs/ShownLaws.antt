@@ -67,9 +67,6 @@ going_shown n k commit temp l there at none = rw (there, none_below temp n k l a
 pub done_shown : (n : ℕ) (commit : Mark) (temp : ℕ → Mark) → commit ≡ any → none_there temp n ≡ true → shown_state n commit temp ≡ Done
 done_shown n commit temp there none = rw (there, none) refl
 
-pub anew_shown : (n : ℕ) (commit : Mark) (temp : ℕ → Mark) → commit ≡ absent → shown_state n commit temp ≡ Fresh 0
-anew_shown n commit temp gone = rw gone refl
-
 pub none_more : (temp : ℕ → Mark) (k next : ℕ) → next ≡ suc k → none_there temp k ≡ true → temp k ≡ absent → none_there temp next ≡ true
 none_more temp k next at none gone = ap (λ (i : ℕ). none_there temp i) at ∙ (rw (gone, none) refl)
 
@@ -141,14 +138,6 @@ shown_begun work paths v steps states c a is = subst (λ (x : CoreState). IsBegu
   under = record { running = refl; steps_are = steps_same work paths v.steps steps states a; same_length = a.same_states };
   found = λ i l. subst (λ (s : JobState). IsTrue (is_found (get_or v.steps i 0) s)) (sym (a.states_are i l)) (state_found (get_or v.steps i 0) _ _);
 })
-
-pub shown_none : (work : List ℕ) (paths : List (List ℕ)) (all : List ℕ) (steps : List ℕ) (states : List JobState) → steps ≡ [] → states ≡ [] → AreShown work paths all steps states 0
-shown_none work paths all steps states a b = record {
-  same_steps = ap (λ (l : List ℕ). length l) a;
-  same_states = ap (λ (l : List JobState). length l) b;
-  steps_are = λ j l. absurd (omega arith);
-  states_are = λ j l. absurd (omega arith);
-}
 
 -- a value of which this holds, whatever it holds of
 pub if_core : {A E : Type 0} (r : Result A E) (P Q : A → Type 0) → IsOkAnd r P → ((x : A) → P x → Q x) → IfOk r Q

@@ -11,7 +11,7 @@ use Rattle.file_tree.specs.Causes.TakeFails.{take_nothing, take_made}
 use Rattle.file_tree.specs.Causes.{PutFails, MoveFails, TakeFails}
 use Rattle.file_tree.specs.Images.{State, state_after, state_of, Images, LeavesOnly}
 use Rattle.file_tree.proofs.ImageLaws.{state_of-adds}
-use Rattle.file_tree.proofs.MomentLaws.{full-last, images_more, spans_join}
+use Rattle.file_tree.proofs.MomentLaws.{full-last, images_more}
 use Rattle.journal_core.specs.declared.event.Event.{Event}
 use Rattle.journal_core.specs.Table.{CoreState, allows, after}
 use Rattle.journal_core.specs.Names.{Name}
@@ -19,7 +19,7 @@ use Rattle.journal_core.specs.Marks.{whole, any, is_any, is_whole}
 use Rattle.journal_core.specs.Relation.{IsNear}
 use Rattle.journal_core.specs.Calls.{Puts, Moves}
 use Rattle.work_journal.specs.Wanted.{Wanted, path_of, IsPartway, IsApart, IsWork}
-use Rattle.work_journal.specs.Keeps.{MaySweep, puts_broke, moves_broke, sweeps_broke, looks_broke, nothing_came, Keeps, Kept}
+use Rattle.work_journal.specs.Keeps.{MaySweep, puts_broke, moves_broke, sweeps_broke, looks_broke, nothing_came, Keeps}
 use Rattle.work_journal.specs.Keeps.Does.{lists, reads, settles, puts, moves, sweeps}
 use Rattle.work_journal.specs.Laws.{EveryCallKept, EveryStepKept, EveryFailurePartway}
 use Rattle.work_journal.proofs.Agreeing.{partway, changed_keeps, settled_keeps, put_agrees, put_left, moved_agrees, move_left, undone_left}
@@ -66,13 +66,6 @@ step_kept w a is c d p x does k =
       moments = one_call w p (adds p x.call x.effect) x.call x.effect refl k.images keeps.images;
       keeps = subst (λ (s : State). Keeps w d s) (sym (state_of-adds p x.call x.effect)) keeps;
     }
-
--- spans of calls one after the other
-pub kept_join : (w : Wanted) (old mid new : Past) (c d : CoreState) → Kept w old c mid → Kept w mid d new → Kept w old d new
-kept_join w old mid new c d a b = record { moments = spans_join (IsPartway w) old mid new a.moments b.moments; keeps = b.keeps }
-
-pub moments_join : (w : Wanted) (old mid new : Past) (c : CoreState) → Kept w old c mid → LeavesOnly (IsPartway w) mid new → LeavesOnly (IsPartway w) old new
-moments_join w old mid new c a b = spans_join (IsPartway w) old mid new a.moments b
 
 -- ### Calls that failed
 

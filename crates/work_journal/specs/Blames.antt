@@ -13,7 +13,8 @@ use Rattle.work_texts.specs.declared.journal_err.JournalErr.TheVariants as run
 use Rattle.work_journal.specs.declared.job_err.JobErr.{JobErr}
 use Rattle.work_journal.specs.declared.job_err.JobErr.TheVariants as job
 use Rattle.work_journal.specs.Views.{MakerView, IsChange}
-use Rattle.work_journal.specs.Files.{file_limit, FileStands}
+use Rattle.dw_base.specs.Layout.{file_limit}
+use Rattle.work_journal.specs.Files.{FileStands}
 
 abbrev pub is_file : Found → Bool
 is_file found.Absent = false

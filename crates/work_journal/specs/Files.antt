@@ -1,6 +1,7 @@
 -- The files that a run's outputs are made of, and why a job isn't taken.
-use Rattle.std.specs.Prelude.{◌≡◌, ◌≢◌, ℕ, ◌<◌, ◌≤◌, ◌^◌, true, List, length, Some}
+use Rattle.std.specs.Prelude.{◌≡◌, ◌≢◌, ℕ, ◌<◌, ◌≤◌, true, List, length, Some}
 use Rattle.std.specs.FinMap as fin
+use Rattle.dw_base.specs.Layout.{file_limit}
 use Rattle.file_tree.specs.declared.node.Node.{Node}
 use Rattle.file_tree.specs.declared.node.Node.TheVariants as node
 use Rattle.file_tree.specs.declared.node.Found.TheVariants as found
@@ -17,10 +18,6 @@ use Rattle.work_journal.specs.Views.{MakerView}
 use Rattle.work_journal.specs.Wanted.{Wanted, path_of}
 use Rattle.work_journal.specs.Jobs.{AreNodes}
 use Rattle.work_journal.specs.Groups.{IsMade}
-
--- the longest file that is read
-abbrev pub file_limit : ℕ
-file_limit = 2 ^ 30
 
 -- the error of a job where a call of the tree failed, and where its nodes weren't made
 abbrev pub tree_stops : TreeErr → JobErr

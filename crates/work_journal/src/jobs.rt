@@ -8,7 +8,6 @@ ghost use Rattle.journal_core.specs.Table.{with_state};
 ghost use Rattle.journal_core.specs.Cores.{core_of};
 ghost use Rattle.work_journal.specs.Jobs.{MayStage, MayMove, AreNodes, AreTargets};
 ghost use Rattle.work_journal.specs.Spares.{InWork, IsHit};
-ghost use Rattle.work_journal.specs.Views.{MakerView};
 ghost use Rattle.work_journal.specs.Runs.{Came};
 
 use crate::desk::Desk;

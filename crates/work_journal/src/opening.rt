@@ -4,7 +4,7 @@
 //! and the run is taken up exactly where its key is the given one. Else the first bad field is named, or
 //! the first field of the key that differs.
 //! Read first: `specs/Opening.antt`.
-ghost use Rattle.std.specs.Prelude.{◌≡◌, IfOk, IfErr, List, ℕ, map};
+ghost use Rattle.std.specs.Prelude.{◌≡◌, IfOk, IfErr, map};
 ghost use Rattle.std.specs.String.{string_bytes};
 ghost use Rattle.journal_core.specs.Names.{plan, final};
 ghost use Rattle.work_journal.specs.Opening.{IsFileOf, IsBadFound, TextStands, TextBlames, PlanKept, FinishedKept, Opens, Looked};
@@ -45,7 +45,7 @@ fn text_in(found: Found, file: WorkFile) -> Result<Blob, JournalErr>
 }
 
 /// The bytes of a text.
-fn text_at<T: Tree>(tree: &mut T, path: &str, file: WorkFile) -> Result<Blob, JournalErr>
+fn work_text<T: Tree>(tree: &mut T, path: &str, file: WorkFile) -> Result<Blob, JournalErr>
     ensures stands { IfOk result (λ b. TextStands (T.seen tree.old) path.now b) }
     ensures blame { IfErr result (TextBlames (T.seen tree.old) path.now file) }
     ensures looked { Looked (T.seen tree.old) (T.seen tree.new) result }
@@ -67,7 +67,7 @@ fn open_plan<T: Tree>(
     ensures looked { Looked (T.seen tree.old) (T.seen tree.new) result }
 {
     let path = plan_path(alloc, work)?;
-    let text = text_at(tree, path.as_str(), WorkFile::Plan)?;
+    let text = work_text(tree, path.as_str(), WorkFile::Plan)?;
     let plan = read_plan(alloc, text.as_slice())?;
     check_key(alloc, &plan.key, key)?;
     Ok(Opened::Resumed(plan))
@@ -84,7 +84,7 @@ fn open_finished<T: Tree>(
     ensures looked { Looked (T.seen tree.old) (T.seen tree.new) result }
 {
     let path = final_path(alloc, work, 3)?;
-    let text = text_at(tree, path.as_str(), WorkFile::Finished)?;
+    let text = work_text(tree, path.as_str(), WorkFile::Finished)?;
     let done = read_finished(alloc, text.as_slice())?;
     check_key(alloc, &done.key, key)?;
     Ok(Opened::Finished {

@@ -3,7 +3,7 @@
 //! This layer promises: a job is as at first where its commit mark isn't there, done where it is and no
 //! temporary name of its steps, and else moved up to the first that is there.
 //! Read first: `specs/Begun.antt`, and `specs/Work.antt` for the paths.
-ghost use Rattle.std.specs.Prelude.{◌≡◌, ◌<◌, IfOk, List, ℕ, length, map};
+ghost use Rattle.std.specs.Prelude.{◌≡◌, IfOk, List, ℕ, length, map};
 ghost use Rattle.std.specs.String.{string_bytes};
 ghost use Rattle.std.specs.Str.{bytes_eq};
 ghost use Rattle.std.specs.List.{list_any};

@@ -5,7 +5,7 @@
 ghost use Rattle.std.specs.Prelude.{◌≡◌, OnOk, IsTrue, []};
 ghost use Rattle.file_tree.specs.declared.node.TreeErr.TheVariants.{Failed};
 ghost use Rattle.file_tree.specs.declared.node.Node.TheVariants as node;
-ghost use Rattle.journal_core.specs.Names.{temp, commit, target};
+ghost use Rattle.journal_core.specs.Names.{temp, commit};
 ghost use Rattle.journal_core.specs.Table.{allows, after};
 ghost use Rattle.journal_core.specs.Cores.{core_of};
 ghost use Rattle.journal_core.specs.Relation.{IsNear};

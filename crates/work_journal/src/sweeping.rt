@@ -1,7 +1,7 @@
 //! Paths of the work folder taken away: before there is a plan, and at the end of a run.
 //!
 //! Read first: `specs/Runs.antt`.
-ghost use Rattle.std.specs.Prelude.{◌≡◌, ◌++◌, ◌∷◌, [], ℕ, IfOk, OnOk, List, ⊤};
+ghost use Rattle.std.specs.Prelude.{◌≡◌, ◌++◌, ◌∷◌, [], ℕ, IfOk, List, ⊤};
 ghost use Rattle.std.specs.String.{string_bytes};
 ghost use Rattle.file_tree.specs.Trees.{is_below};
 ghost use Rattle.file_tree.specs.declared.node.TreeErr.TheVariants.{Failed};

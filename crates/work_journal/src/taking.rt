@@ -22,11 +22,9 @@ use crate::desk::Desk;
 use crate::job_err::{JobErr, unmade};
 use crate::jobs::stage_job;
 use crate::maker::Maker;
+use dw_base::FILE_LIMIT;
 use file_tree::{Blob, Found, Node, Tree};
 use std::alloc::Global;
-
-/// The longest file that is read.
-const FILE_LIMIT: u64 = 0x4000_0000;
 
 /// Reads a job's file: its bytes and its mode.
 fn read_job<T: Tree, M: Maker>(

@@ -1,5 +1,5 @@
 -- Many items, read one after another in a loop.
-use Rattle.std.proofs.Common.{◌≡◌, ℕ, suc, ◌-◌, ◌+◌, ◌≤◌, ◌<◌, List, [], ◌∷◌, ◌++◌, length, Option, Some, None, Ok, Err, refl, sym, ap, ◌∙◌, append_assoc, arith}
+use Rattle.std.proofs.Common.{◌≡◌, ℕ, suc, ◌-◌, ◌+◌, ◌≤◌, ◌<◌, List, [], ◌∷◌, ◌++◌, length, Option, Some, Ok, Err, refl, sym, ap, ◌∙◌, append_assoc, arith}
 use Rattle.std.specs.Prelude.{option_map}
 use Rattle.std.specs.List.{slice_get}
 use Rattle.std.proofs.lemmas.List.{append-nil, length-append}
@@ -54,11 +54,3 @@ is_done {A} read item_text items count i bytes whole le so_far =
     let k : count - i ≡ 0 = omega arith in
     let one : left_at read item_text items (count - i) bytes ≡ Ok (items, bytes) = rw k (ap (λ (xs : List A). Ok (xs, bytes)) (append-nil items)) in
     sym so_far ∙ one
-
--- nothing was read yet
-pub begins : {A : Type 0} (read : Option (List ℕ) → List ℕ → Reading A) (item_text : A → List ℕ) (n : ℕ) (bytes : List ℕ) → left_at read item_text [] n bytes ≡ many_at read item_text n None bytes
-begins read item_text n bytes = same (many_at read item_text n None bytes)
-  where
-    same : {A : Type 0} (r : Reading (List A)) → with_front [] r ≡ r
-    same (Ok x) = refl
-    same (Err e) = refl

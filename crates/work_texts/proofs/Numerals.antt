@@ -33,10 +33,6 @@ tells_digit_list = record {
 pub own : IsNumeralModel (λ ds. list_all is_ascii_digit ds ≡ true) (digits_value 10)
 own = numerals_by_value (λ ds. list_all is_ascii_digit ds ≡ true) tells_digit_list
 
-not_true : (b : Bool) → not b ≡ true → b ≡ false
-not_true true e = absurd cc
-not_true false e = refl
-
 -- the three parts of the test
 pub record IsNumeral (f : Field) : Type 0 where
   pub digits : list_all is_ascii_digit f ≡ true

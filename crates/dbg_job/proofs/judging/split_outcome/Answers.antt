@@ -16,22 +16,22 @@ use Rattle.dbg_job.proofs.judging.split_outcome.Goals as goal
 
 pub returns-clause-outcome : goal.returns-clause-outcome
 returns-clause-outcome c =
-    split-is c.args.options.now c.args.elf.now.bytes.now c.args.debug_name.now c.in_ok-out.out.file.items c.in_ok-pair.pair.stripped.items c.in_ok-pair.pair.debug
+    split-is c.args.options.now c.args.elf.now.bytes.now c.args.debug_name.now c.in_ok-out.out.file c.in_ok-pair.pair.stripped.items c.in_ok-pair.pair.debug
     c.in_ok-id.id c.in_ok-sources.sources c.in_ok-outcome.outcome c.requires.taken c.requires.loaded c.in_ok-out.ensures.edited
     (subst (λ (m : PathMap). AreSources (file_data c.args.elf.now.bytes.now) m.base c.in_ok-sources.sources) (ap (λ (s : Settings). s.maps) c.options.view_is) c.in_ok-sources.ensures.sources)
-    (c.in_ok-pair.ensures.stripped ∙ ap (λ (x : List ℕ). stripped_file x c.args.debug_name.now) c.as_slice.ensures.value)
-    (c.in_ok-pair.ensures.debug ∙ ap debug_file c.as_slice.ensures.value) (c.in_ok-id.ensures.value ∙ ap id_bytes c.as_slice-2.ensures.value) c.in_ok-outcome.ensures.value
+    (c.in_ok-pair.ensures.stripped ∙ ap (λ (x : List ℕ). stripped_file x c.args.debug_name.now) (c.as_slice.ensures.value ∙ c.in_ok-file.ensures.value))
+    (c.in_ok-pair.ensures.debug ∙ ap debug_file (c.as_slice.ensures.value ∙ c.in_ok-file.ensures.value)) (c.in_ok-id.ensures.value ∙ ap id_bytes (c.as_slice-2.ensures.value ∙ c.in_ok-file.ensures.value)) c.in_ok-outcome.ensures.value
 
 pub returns-clause-keeps : goal.returns-clause-keeps
 returns-clause-keeps c =
-    split-keeps c.args.options.now.maps c.args.elf.now.bytes.now c.args.debug_name.now c.in_ok-out.out.file.items c.in_ok-pair.pair.stripped.items c.in_ok-pair.pair.debug
+    split-keeps c.args.options.now.maps c.args.elf.now.bytes.now c.args.debug_name.now c.in_ok-out.out.file c.in_ok-pair.pair.stripped.items c.in_ok-pair.pair.debug
     c.in_ok-id.id c.in_ok-sources.sources c.in_ok-outcome.outcome c.in_ok-out.ensures.meaning c.in_ok-out.ensures.loaded
-    (subst (λ (x : List ℕ). MeansAsOne x c.in_ok-pair.pair.debug c.in_ok-pair.pair.stripped.items) c.as_slice.ensures.value c.in_ok-pair.ensures.meaning)
-    (subst (λ (x : List ℕ). ReadAsOne x c.args.debug_name.now c.in_ok-pair.pair.debug c.in_ok-pair.pair.stripped.items) c.as_slice.ensures.value c.in_ok-pair.ensures.reads)
-    (subst (λ (x : List ℕ). LoadedKept x c.in_ok-pair.pair.stripped.items) c.as_slice.ensures.value c.in_ok-pair.ensures.loaded) c.in_ok-outcome.ensures.value
+    (subst (λ (x : List ℕ). MeansAsOne x c.in_ok-pair.pair.debug c.in_ok-pair.pair.stripped.items) (c.as_slice.ensures.value ∙ c.in_ok-file.ensures.value) c.in_ok-pair.ensures.meaning)
+    (subst (λ (x : List ℕ). ReadAsOne x c.args.debug_name.now c.in_ok-pair.pair.debug c.in_ok-pair.pair.stripped.items) (c.as_slice.ensures.value ∙ c.in_ok-file.ensures.value) c.in_ok-pair.ensures.reads)
+    (subst (λ (x : List ℕ). LoadedKept x c.in_ok-pair.pair.stripped.items) (c.as_slice.ensures.value ∙ c.in_ok-file.ensures.value) c.in_ok-pair.ensures.loaded) c.in_ok-outcome.ensures.value
 
 pub returns-clause-none : goal.returns-clause-none
 returns-clause-none c =
-    split-excludes c.args.options.now c.args.elf.now.bytes.now c.args.debug_name.now c.in_ok-out.out.file.items c.requires.taken c.in_ok-out.ensures.accepted
+    split-excludes c.args.options.now c.args.elf.now.bytes.now c.args.debug_name.now c.in_ok-out.out.file c.requires.taken c.in_ok-out.ensures.accepted
     c.in_ok-id_fits.ensures.fits c.in_ok-out.ensures.meaning c.in_ok-out.ensures.sections c.in_ok-out.ensures.only
-    (subst (λ (x : List ℕ). (r : Refusal) → SplitFails x c.args.debug_name.now r → ⊥) c.as_slice.ensures.value c.in_ok-pair.ensures.none)
+    (subst (λ (x : List ℕ). (r : Refusal) → SplitFails x c.args.debug_name.now r → ⊥) (c.as_slice.ensures.value ∙ c.in_ok-file.ensures.value) c.in_ok-pair.ensures.none)

@@ -7,26 +7,26 @@ use Rattle.dbg_run.proofs.edit.edit_steps.Goals as goal
 pub returns-clause-done : goal.returns-clause-done
 returns-clause-done g c =
     edit_done c.args.input.now c.args.output.now c.args.options.now c.args.limit (g.T.Tree.seen c.args.tree.now) (g.T.Tree.seen c.read_input.new.tree)
-    (g.T.Tree.seen c.free_output.new.tree) (g.T.Tree.seen c.write_output.new.tree) c.in_ok-bytes.bytes.items c.in_ok-out.out.file.items c.in_ok-bytes.mode
+    (g.T.Tree.seen c.free_output.new.tree) (g.T.Tree.seen c.write_file.new.tree) c.in_ok-bytes.bytes.items c.in_ok-out.out.file c.in_ok-bytes.mode
     c.in_ok-bytes.ensures.done c.in_ok-bytes.ensures.kept c.in_ok-bytes.ensures.tells c.in_ok-free_output.ensures.done c.in_ok-free_output.ensures.kept
     c.in_ok-free_output.ensures.tells c.in_ok-out.ensures.accepted c.in_ok-out.ensures.output c.in_ok-out.ensures.only c.in_ok-out.ensures.keeps
-    c.in_ok-write_output.ensures.done c.in_ok-write_output.ensures.settled
+    c.in_ok-write_file.ensures.done c.in_ok-write_file.ensures.settled
 
 -- a fault of the writing is one of the edit, since the count of faults falls in no step
-pub returns-in_err-write_output-clause-fault : goal.returns-in_err-write_output-clause-fault
-returns-in_err-write_output-clause-fault g c =
-    let p = err_from_is_err_and c.from_residual-in_err-write_output.result c.from_residual-in_err-write_output.ensures.1 in
+pub returns-in_err-write_file-clause-fault : goal.returns-in_err-write_file-clause-fault
+returns-in_err-write_file-clause-fault g c =
+    let p = err_from_is_err_and c.from_residual-in_err-write_file.result c.from_residual-in_err-write_file.ensures.1 in
     rw (p.1, p.2) (λ is.
-    let rose = c.in_err-write_output.ensures.fault is in omega (arith, c.in_ok-bytes.ensures.kept.later, c.in_ok-free_output.ensures.kept.later, rose))
+    let rose = c.in_err-write_file.ensures.fault is in omega (arith, c.in_ok-bytes.ensures.kept.later, c.in_ok-free_output.ensures.kept.later, rose))
 
 -- where the writing ends the edit, all before it was done
-pub returns-in_err-write_output-clause-ends : goal.returns-in_err-write_output-clause-ends
-returns-in_err-write_output-clause-ends g c =
-    let p = err_from_is_err_and c.from_residual-in_err-write_output.result c.from_residual-in_err-write_output.ensures.1 in
+pub returns-in_err-write_file-clause-ends : goal.returns-in_err-write_file-clause-ends
+returns-in_err-write_file-clause-ends g c =
+    let p = err_from_is_err_and c.from_residual-in_err-write_file.result c.from_residual-in_err-write_file.ensures.1 in
     rw (p.1, p.2)
     (edit_writing c.args.input.now c.args.output.now c.args.options.now c.args.limit (g.T.Tree.seen c.args.tree.now) (g.T.Tree.seen c.read_input.new.tree)
-    (g.T.Tree.seen c.free_output.new.tree) (g.T.Tree.seen c.write_output.new.tree) c.in_ok-bytes.bytes.items c.in_ok-bytes.mode _ c.in_ok-bytes.ensures.done
-    c.in_ok-bytes.ensures.kept c.in_ok-free_output.ensures.done c.in_ok-free_output.ensures.kept c.in_ok-out.ensures.accepted c.in_err-write_output.ensures.ends)
+    (g.T.Tree.seen c.free_output.new.tree) (g.T.Tree.seen c.write_file.new.tree) c.in_ok-bytes.bytes.items c.in_ok-bytes.mode _ c.in_ok-bytes.ensures.done
+    c.in_ok-bytes.ensures.kept c.in_ok-free_output.ensures.done c.in_ok-free_output.ensures.kept c.in_ok-out.ensures.accepted c.in_err-write_file.ensures.ends)
 
 pub returns-clause-due_done : goal.returns-clause-due_done
 returns-clause-due_done g c = λ t tells.

@@ -18,10 +18,10 @@ returns-clause-header c =
     (sym c.requires.of_view.number) refl (base-order c.args.view.now c.order-order.result c.order-order.ensures.order) c.requires.address
     (c.in-Ok.ensures.offset
     ∙ ap (λ (n : ℕ). said_offset (field_of (unit_base c.args.view.now).order
-    (cells_at (drop c.args.start (unit_section_at c.args.view.now c.args.section).contents) c.args.front.now.places.abbrevs n))) c.width_size.ensures.size)
+    (cells_at (drop c.args.start (unit_section_at c.args.view.now c.args.section).contents) c.args.front.now.places.abbrevs n))) c.offset_size.ensures.size)
     (c.in-Ok.ensures.elsewhere
     ∙ ap (λ (n : ℕ). is_elsewhere (unit_base c.args.view.now).abbrevs (field_of (unit_base c.args.view.now).order
-    (cells_at (drop c.args.start (unit_section_at c.args.view.now c.args.section).contents) c.args.front.now.places.abbrevs n))) c.width_size.ensures.size)
+    (cells_at (drop c.args.start (unit_section_at c.args.view.now c.args.section).contents) c.args.front.now.places.abbrevs n))) c.offset_size.ensures.size)
     (type-field c.args.view.now (unit_section_at c.args.view.now c.args.section) c.args.start c.args.front.now.kind c.from-kind.result c.args.front.now.places.behind 8 _
     c.order-order.result c.args.rest.now c.order-order.ensures.order c.requires.rest c.from-kind.ensures c.type_fields-signature.ensures.signature)
     (type-field c.args.view.now (unit_section_at c.args.view.now c.args.section) c.args.start c.args.front.now.kind c.from-kind.result (c.args.front.now.places.behind + 8) _ _

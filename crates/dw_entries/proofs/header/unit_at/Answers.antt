@@ -26,8 +26,8 @@ pub returns-then-not-is_address_size-clause-refused : goal.returns-then-not-is_a
 returns-then-not-is_address_size-clause-refused c =
     unread (other_address (unit_base c.args.view.now) (unit_section_at c.args.view.now c.args.section) c.args.start
     c.in-Ok.front.width c.in-Ok.front.extent c.in-Ok.front.version c.in-Ok.front.kind c.number_in-address.result _
-    c.is_address_size.result c.refused.result
-    (at-section c.args.view.now c.args.section c.args.start (unit_section_at c.args.view.now c.args.section) UnitKind c.refused.result c.requires.of_view c.refused.ensures)
+    c.is_address_size.result c.at.result
+    (at-section c.args.view.now c.args.section c.args.start (unit_section_at c.args.view.now c.args.section) UnitKind c.at.result c.requires.of_view c.at.ensures)
     c.in-Ok.ensures.front
     (number-read c.args.view.now (unit_section_at c.args.view.now c.args.section) c.args.start c.in-Ok.front.places.address 1 c.number_in-address.result
     c.order.result c.bytes_behind-rest.result.now c.order.ensures.order

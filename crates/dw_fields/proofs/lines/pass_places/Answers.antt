@@ -16,16 +16,16 @@ pass_offset-now-requires-clause-stands c =
 
 pub pass_offset-now-requires-clause-inside : goal.pass_offset-now-requires-clause-inside
 pass_offset-now-requires-clause-inside c =
-    let inside = places-inside (ground_of c.args.view.now c.args.section) c.args.start c.args.behind c.loop-place.place-index (get_or c.args.places.now c.loop-place.place-index 0) c.width_size-size.result c.args.width c.args.places.now
-    c.args.pass c.loop-place.now (omega arith) (get_or_default c.args.places.now c.loop-place.place-index 0 _ (omega arith)) c.width_size-size.ensures.size
+    let inside = places-inside (ground_of c.args.view.now c.args.section) c.args.start c.args.behind c.loop-place.place-index (get_or c.args.places.now c.loop-place.place-index 0) c.offset_size-size.result c.args.width c.args.places.now
+    c.args.pass c.loop-place.now (omega arith) (get_or_default c.args.places.now c.loop-place.place-index 0 _ (omega arith)) c.offset_size-size.ensures.size
     c.loop-place.invariant in
     let within = c.requires.within in
     omega (arith, inside, within)
 
 pub pass_offset-now-requires-clause-few : goal.pass_offset-now-requires-clause-few
 pass_offset-now-requires-clause-few c =
-    let inside = places-inside (ground_of c.args.view.now c.args.section) c.args.start c.args.behind c.loop-place.place-index (get_or c.args.places.now c.loop-place.place-index 0) c.width_size-size.result c.args.width c.args.places.now
-    c.args.pass c.loop-place.now (omega arith) (get_or_default c.args.places.now c.loop-place.place-index 0 _ (omega arith)) c.width_size-size.ensures.size
+    let inside = places-inside (ground_of c.args.view.now c.args.section) c.args.start c.args.behind c.loop-place.place-index (get_or c.args.places.now c.loop-place.place-index 0) c.offset_size-size.result c.args.width c.args.places.now
+    c.args.pass c.loop-place.now (omega arith) (get_or_default c.args.places.now c.loop-place.place-index 0 _ (omega arith)) c.offset_size-size.ensures.size
     c.loop-place.invariant in
     let within = c.requires.within in
     let small = c.requires.small in
@@ -33,8 +33,8 @@ pass_offset-now-requires-clause-few c =
 
 pub loop-place-preserved : goal.loop-place-preserved
 loop-place-preserved c =
-    places-more (ground_of c.args.view.now c.args.section) c.args.start c.args.behind c.loop-place.place-index _ c.width_size-size.result c.args.width c.args.places.now c.args.pass
-    c.loop-place.now c.pass_offset-now.result (omega arith) (get_or_default c.args.places.now c.loop-place.place-index _ _ (omega arith)) c.width_size-size.ensures.size
+    places-more (ground_of c.args.view.now c.args.section) c.args.start c.args.behind c.loop-place.place-index _ c.offset_size-size.result c.args.width c.args.places.now c.args.pass
+    c.loop-place.now c.pass_offset-now.result (omega arith) (get_or_default c.args.places.now c.loop-place.place-index _ _ (omega arith)) c.offset_size-size.ensures.size
     c.loop-place.invariant c.pass_offset-now.ensures.goes
 
 pub returns : goal.returns

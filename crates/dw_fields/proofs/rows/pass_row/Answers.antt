@@ -8,5 +8,5 @@ loop-i-init c = row-starts (ground_of c.args.view.now c.args.section) c.args.sta
 
 pub loop-i-preserved : goal.loop-i-preserved
 loop-i-preserved c =
-    row-more (ground_of c.args.view.now c.args.section) c.args.start c.loop-i.i c.width_size-size.result c.place_in-place.result c.args.width c.args.pass c.loop-i.now
-    c.pass_offset-now.result c.loop-i.invariant c.place_in-place.ensures.place c.width_size-size.ensures.size c.pass_offset-now.ensures.goes
+    row-more (ground_of c.args.view.now c.args.section) c.args.start c.loop-i.i c.offset_size-size.result c.place_in-place.result c.args.width c.args.pass c.loop-i.now
+    c.pass_offset-now.result c.loop-i.invariant c.place_in-place.ensures.place c.offset_size-size.ensures.size c.pass_offset-now.ensures.goes

@@ -20,20 +20,20 @@ pass_offset-requires-clause-read c = unit-read c.args.view.now c.args.unit.now c
 pub pass_offset-requires-clause-inside : goal.pass_offset-requires-clause-inside
 pass_offset-requires-clause-inside c =
     front-inside (debug_data c.args.view.now).base (unit_section_at c.args.view.now c.args.unit.now.section) c.args.unit.now.start (c.args.unit.now.start + c.offset_place.result)
-    c.width_size-size.result (length (section_bytes c.args.view.now c.args.unit.now.section)) c.args.unit.now (unit-is c.args.view.now c.args.unit.now c.requires.unit)
-    (ap (λ (n : ℕ). c.args.unit.now.start + n) c.offset_place.ensures.place) c.width_size-size.ensures.size (unit-first c.args.view.now c.args.unit.now c.requires.unit)
+    c.offset_size-size.result (length (section_bytes c.args.view.now c.args.unit.now.section)) c.args.unit.now (unit-is c.args.view.now c.args.unit.now c.requires.unit)
+    (ap (λ (n : ℕ). c.args.unit.now.start + n) c.offset_place.ensures.place) c.offset_size-size.ensures.size (unit-first c.args.view.now c.args.unit.now c.requires.unit)
 
 pub pass_offset-requires-clause-few : goal.pass_offset-requires-clause-few
 pass_offset-requires-clause-few c =
     let room = unit-room c.args.view.now c.args.unit.now c.requires.unit c.requires.small in
     let few = c.offset_place.ensures.few in
-    let size = c.width_size-size.ensures.few in
+    let size = c.offset_size-size.ensures.wide in
     omega (arith, room, few, size)
 
 pub returns : goal.returns
 returns c = record {
   goes = front-goes (ground_of c.args.view.now c.args.unit.now.section) (debug_data c.args.view.now).base (unit_section_at c.args.view.now c.args.unit.now.section)
-      c.args.unit.now.start (c.args.unit.now.start + c.offset_place.result) c.width_size-size.result c.args.unit.now c.args.pass c.pass_offset.result
-      (unit-is c.args.view.now c.args.unit.now c.requires.unit) (ap (λ (n : ℕ). c.args.unit.now.start + n) c.offset_place.ensures.place) c.width_size-size.ensures.size
+      c.args.unit.now.start (c.args.unit.now.start + c.offset_place.result) c.offset_size-size.result c.args.unit.now c.args.pass c.pass_offset.result
+      (unit-is c.args.view.now c.args.unit.now c.requires.unit) (ap (λ (n : ℕ). c.args.unit.now.start + n) c.offset_place.ensures.place) c.offset_size-size.ensures.size
       c.pass_offset.ensures.goes;
 }

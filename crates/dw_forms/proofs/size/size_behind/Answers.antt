@@ -11,10 +11,12 @@ returns-in_ok-behind-in_default-kind-clause-size c =
 
 pub returns-in-FormInFront-clause-refused : goal.returns-in-FormInFront-clause-refused
 returns-in-FormInFront-clause-refused c =
-    front-again c.args.params.now c.args.spec.now c.args.bytes.now c.args.section c.args.at c.in-Some.form c.in-Some.size (as_kind c.args.params.now c.form_kind-kind.result)
-    (record { indirect = c.requires.front; spells = sym c.in-Some.ensures.value }) (c.form_kind-kind.ensures.kind c.args.params.now) (ap (as_kind c.args.params.now) c.in-FormInFront.is)
+    rw c.at-in-FormInFront.ensures
+    (front-again c.args.params.now c.args.spec.now c.args.bytes.now c.args.section c.args.at c.in-Some.form c.in-Some.size (as_kind c.args.params.now c.form_kind-kind.result)
+    (record { indirect = c.requires.front; spells = sym c.in-Some.ensures.value }) (c.form_kind-kind.ensures.kind c.args.params.now) (ap (as_kind c.args.params.now) c.in-FormInFront.is))
 
 pub returns-in-InAbbreviation-clause-refused : goal.returns-in-InAbbreviation-clause-refused
 returns-in-InAbbreviation-clause-refused c =
-    front-implicit c.args.params.now c.args.spec.now c.args.bytes.now c.args.section c.args.at c.in-Some.form c.in-Some.size (as_kind c.args.params.now c.form_kind-kind.result)
-    (record { indirect = c.requires.front; spells = sym c.in-Some.ensures.value }) (c.form_kind-kind.ensures.kind c.args.params.now) (ap (as_kind c.args.params.now) c.in-InAbbreviation.is)
+    rw c.at-in-InAbbreviation.ensures
+    (front-implicit c.args.params.now c.args.spec.now c.args.bytes.now c.args.section c.args.at c.in-Some.form c.in-Some.size (as_kind c.args.params.now c.form_kind-kind.result)
+    (record { indirect = c.requires.front; spells = sym c.in-Some.ensures.value }) (c.form_kind-kind.ensures.kind c.args.params.now) (ap (as_kind c.args.params.now) c.in-InAbbreviation.is))

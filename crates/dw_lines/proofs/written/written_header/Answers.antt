@@ -15,6 +15,6 @@ returns c = record {
       (all_changes (view_source c.args.view.now c.args.section) c.args.maps.now (new_place (view_source c.args.view.now c.args.section) (λ o. get nat_eq c.args.str.now o) (λ o. get nat_eq c.args.line_str.now o))
       c.args.header.now.width c.args.paths.now)
       c.new-out.result.items c.put_paths.new.out.items c.extend_from_slice.new.self.items c.new-out.ensures.items c.bytes.ensures.bytes c.header_length_place.ensures.place
-      (c.from.ensures ∙ c.width_size.ensures.size) refl c.in_ok-place.ensures.put
+      (c.from.ensures ∙ c.offset_size.ensures.size) refl c.in_ok-place.ensures.put
       (c.in_ok-extend_from_slice.ensures.items ∙ ap (λ xs. c.put_paths.new.out.items ++ xs) c.part.ensures.bytes);
 }

@@ -12,7 +12,7 @@ invariant-loop-at l = record {
   small : length (table_bytes l.pool) ≤ output_limit;
   texts : texts_at (appending l.maps l.source.table.bytes) l.maps l.source l.pool.texts (drop l.at-index l.fields)
       ≡ texts_at (appending l.maps l.source.table.bytes) l.maps l.source l.fn.pool.texts l.fields;
-  knows : Knows (appending l.maps l.source.table.bytes) l.maps l.source.table.bytes l.pool.texts (λ o. get nat_eq l.known o);
-  noted : AreNoted (appending l.maps l.source.table.bytes) l.source l.fields l.at-index (λ o. get nat_eq l.known o);
-  remembers : Remembers (λ o. get nat_eq l.fn.known o) (λ o. get nat_eq l.known o);
+  knows : Knows (appending l.maps l.source.table.bytes) l.maps l.source.table.bytes l.pool.texts (λ o. get nat_eq l.new_offsets o);
+  noted : AreNoted (appending l.maps l.source.table.bytes) l.source l.fields l.at-index (λ o. get nat_eq l.new_offsets o);
+  remembers : Remembers (λ o. get nat_eq l.fn.new_offsets o) (λ o. get nat_eq l.new_offsets o);
 }

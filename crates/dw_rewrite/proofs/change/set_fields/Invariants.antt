@@ -4,4 +4,4 @@ use Rattle.dw_rewrite.proofs.FieldSetLaws.{SetPass}
 use Rattle.dw_rewrite.proofs.change.set_fields.Given as goal
 
 abbrev pub invariant-loop-at : goal.invariant-loop-at
-invariant-loop-at l = SetPass l.source (λ o. get nat_eq l.known o) l.fields l.fn.patches l.patches l.at-index
+invariant-loop-at l = SetPass l.source (λ o. get nat_eq l.new_offsets o) l.fields l.fn.patches l.patches l.at-index

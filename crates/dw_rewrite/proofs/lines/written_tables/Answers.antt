@@ -1,10 +1,10 @@
--- One table more, and one that can't be written.
+-- No table yet, one more, one that can't be written, and all.
 use Rattle.std.proofs.Common.{arith, ◌∙◌}
 use Rattle.std.proofs.lemmas.Result.{err_from_is_err_and}
 use Rattle.std.specs.HashMap.{get}
 use Rattle.std.specs.Prelude.{nat_eq}
 use Rattle.dw_lines.specs.ViewSources.{view_source}
-use Rattle.dw_rewrite.proofs.LineWriteLaws.{pass-more, stand-at, tables-fault}
+use Rattle.dw_rewrite.proofs.LineWriteLaws.{pass-ends, pass-more, pass-starts, stand-at, tables-fault}
 use Rattle.dw_rewrite.proofs.lines.written_tables.Goals as goal
 
 pub write_table-requires-clause-stands : goal.write_table-requires-clause-stands
@@ -22,3 +22,11 @@ loop-table-preserved c =
     pass-more c.args.maps.now (view_source c.args.view.now c.args.section) (λ o. get nat_eq c.args.str.now o) (λ o. get nat_eq c.args.line_str.now o) c.args.tables.now
     c.loop-table.table-index _ c.table-item.result c.loop-table.bytes.items c.write_table.new.bytes.items c.loop-table.starts.items c.push.new.self.items (omega arith) c.table-item.is
     c.loop-table.invariant (c.len.ensures ∙ c.loop-table.bytes.ok.0) c.in_ok-push.ensures.items c.in_ok-write_table.ensures.bytes c.in_ok-write_table.ensures.can
+
+pub loop-table-init : goal.loop-table-init
+loop-table-init c = pass-starts c.args.maps.now (view_source c.args.view.now c.args.section) (λ o. get nat_eq c.args.str.now o) (λ o. get nat_eq c.args.line_str.now o) c.args.tables.now _ _ c.in_ok-bytes.ensures.items c.in_ok-starts.ensures.items
+
+pub returns-clause-written : goal.returns-clause-written
+returns-clause-written c =
+    pass-ends c.args.maps.now (view_source c.args.view.now c.args.section) (λ o. get nat_eq c.args.str.now o) (λ o. get nat_eq c.args.line_str.now o) c.args.tables.now c.loop-table.table-index
+    c.loop-table.bytes.items c.loop-table.starts.items c.loop-table-test.false c.loop-table.invariant

@@ -27,6 +27,6 @@ set_fields-requires-clause-free c = fields-free c.args.view.now c.args.texts c.a
 
 pub returns-clause-set : goal.returns-clause-set
 returns-clause-set c =
-    section-set c.args.view.now c.args.texts c.args.found.now c.args.patches.now c.set_fields.new.patches (λ o. get nat_eq c.args.known.now o) _ _
+    section-set c.args.view.now c.args.texts c.args.found.now c.args.patches.now c.set_fields.new.patches (λ o. get nat_eq c.args.new_offsets.now o) _ _
     (c.text_source-source.ensures ∙ ap (λ (u : UnitPaths). source_in c.args.view.now u.number (as_table c.args.texts)) c.found.view_is) c.fields_of-fields.ensures
     c.in_ok-set_fields.ensures.set

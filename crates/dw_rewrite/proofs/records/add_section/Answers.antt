@@ -12,12 +12,12 @@ use Rattle.dw_rewrite.proofs.records.add_section.Goals as goal
 pub returns-in_err-add_fields-clause-refused : goal.returns-in_err-add_fields-clause-refused
 returns-in_err-add_fields-clause-refused c =
     let p = err_from_is_err_and c.from_residual.result c.from_residual.ensures.1 in
-    rw (p.1, p.2) (fault-own c.text_source-source.result _ (λ o. get nat_eq c.args.known.now o) c.found.inside.section _ c.fields_of.result.now _ c.in_err-add_fields.field-0.0
+    rw (p.1, p.2) (fault-own c.text_source-source.result _ (λ o. get nat_eq c.args.new_offsets.now o) c.found.inside.section _ c.fields_of.result.now _ c.in_err-add_fields.field-0.0
     (c.text_source-source.ensures ∙ ap (λ (u : UnitPaths). source_in c.args.view.now u.number (as_table c.args.texts)) c.found.view_is) (ap (λ (u : UnitPaths). u.number) c.found.view_is)
     c.fields_of.ensures c.in_err-add_fields.ensures.refused)
 
 pub returns-clause-makes : goal.returns-clause-makes
 returns-clause-makes c =
-    fields-own c.text_source-source.result _ (λ o. get nat_eq c.args.known.now o) c.fields_of.result.now _
+    fields-own c.text_source-source.result _ (λ o. get nat_eq c.args.new_offsets.now o) c.fields_of.result.now _
     (c.text_source-source.ensures ∙ ap (λ (u : UnitPaths). source_in c.args.view.now u.number (as_table c.args.texts)) c.found.view_is) c.fields_of.ensures
     c.in_ok-add_fields.ensures.makes

@@ -1,14 +1,15 @@
--- What is laid, and the new headers, are those of the sections so far.
-use Rattle.std.proofs.Common.{◌≡◌, ◌≤◌, vec_len}
-use Rattle.dw_base.specs.Layout.{output_limit, laid, new_heads, part_of}
-use Rattle.dw_base.specs.Lists.{tabulate}
-use Rattle.elf_layout.specs.Given.{body_given}
+-- What is laid so far, with the sections that are left, is the whole; so are the headers.
+use Rattle.std.proofs.Common.{◌≡◌, ◌+◌, ◌≤◌, ◌++◌, length}
+use Rattle.dw_base.specs.Elf.{section_count}
+use Rattle.dw_base.specs.Layout.{output_limit, laid, new_heads}
+use Rattle.elf_layout.specs.Given.{parts_with}
 use Rattle.elf_layout.proofs.bodies.lay_sections.Given as goal
 
-abbrev pub invariant-loop-section : goal.invariant-loop-section
-invariant-loop-section l = record {
-  small : vec_len l.out ≤ output_limit;
-  longer : vec_len l.initial.out ≤ vec_len l.out;
-  bytes : l.out.items ≡ laid l.initial.out.items (tabulate (part_of l.elf.bytes.now (body_given l.elf.bytes.now l.contents)) l.section);
-  heads : l.heads.items ≡ new_heads l.initial.out.items (tabulate (part_of l.elf.bytes.now (body_given l.elf.bytes.now l.contents)) l.section);
+abbrev pub invariant-loop-given : goal.invariant-loop-given
+invariant-loop-given l = record {
+  small : length l.front + length l.out ≤ output_limit;
+  left : l.section + length l.given-iterator.rest.items ≡ section_count l.elf.bytes.now;
+  bytes : laid (l.front ++ l.out) (parts_with l.elf.bytes.now l.section l.given-iterator.rest.items) ≡ laid l.front (parts_with l.elf.bytes.now 0 l.fn.contents.items);
+  heads : l.heads.items ++ new_heads (l.front ++ l.out) (parts_with l.elf.bytes.now l.section l.given-iterator.rest.items)
+      ≡ new_heads l.front (parts_with l.elf.bytes.now 0 l.fn.contents.items);
 }

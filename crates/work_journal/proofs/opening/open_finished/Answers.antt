@@ -17,28 +17,28 @@ pub returns-in_err-path-clause-looked : goal.returns-in_err-path-clause-looked
 returns-in_err-path-clause-looked g c = looked_memory _ _ c.from_residual.ensures.1
 
 pub returns-in_err-text-clause-kept : goal.returns-in_err-text-clause-kept
-returns-in_err-text-clause-kept g c = row_of (FinishedKept (g.T.Tree.seen c.args.tree.now) (work_path c.args.work.now (final 3)) c.args.key.now) c.text_at.result _ _ (TextBlames (g.T.Tree.seen c.args.tree.now) (work_path c.args.work.now (final 3)) file.Finished) (c.in_err-text.was) c.from_residual-in_err-text.ensures.1
-    (subst (λ (q : List ℕ). IfErr c.text_at.result (TextBlames (g.T.Tree.seen c.args.tree.now) q file.Finished)) (c.as_str.ensures.value ∙ c.in_ok-path.ensures.path) c.text_at.ensures.blame) (λ y h. finished_not_there h)
+returns-in_err-text-clause-kept g c = row_of (FinishedKept (g.T.Tree.seen c.args.tree.now) (work_path c.args.work.now (final 3)) c.args.key.now) c.work_text.result _ _ (TextBlames (g.T.Tree.seen c.args.tree.now) (work_path c.args.work.now (final 3)) file.Finished) (c.in_err-text.was) c.from_residual-in_err-text.ensures.1
+    (subst (λ (q : List ℕ). IfErr c.work_text.result (TextBlames (g.T.Tree.seen c.args.tree.now) q file.Finished)) (c.as_str.ensures.value ∙ c.in_ok-path.ensures.path) c.work_text.ensures.blame) (λ y h. finished_not_there h)
 
 pub returns-in_err-text-clause-looked : goal.returns-in_err-text-clause-looked
-returns-in_err-text-clause-looked g c = looked_passed _ _ c.text_at.result _ (fault_passed c.text_at.result _ _ (c.in_err-text.was) c.from_residual-in_err-text.ensures.1) c.text_at.ensures.looked
+returns-in_err-text-clause-looked g c = looked_passed _ _ c.work_text.result _ (fault_passed c.work_text.result _ _ (c.in_err-text.was) c.from_residual-in_err-text.ensures.1) c.work_text.ensures.looked
 
 pub returns-in_err-done-clause-kept : goal.returns-in_err-done-clause-kept
 returns-in_err-done-clause-kept g c = row_of (FinishedKept (g.T.Tree.seen c.args.tree.now) (work_path c.args.work.now (final 3)) c.args.key.now) c.read_finished.result _ _ (FinishedBlames c.in_ok-text.text) (c.in_err-done.was) c.from_residual-in_err-done.ensures.1
     (subst (λ (b : List ℕ). IfErr c.read_finished.result (FinishedBlames b)) c.as_slice.ensures.value c.read_finished.ensures.blame) (λ y h. finished_bad c.in_ok-text.text (subst (λ (q : List ℕ). TextStands (g.T.Tree.seen c.args.tree.now) q c.in_ok-text.text) (c.as_str.ensures.value ∙ c.in_ok-path.ensures.path) c.in_ok-text.ensures.stands) h)
 
 pub returns-in_err-done-clause-looked : goal.returns-in_err-done-clause-looked
-returns-in_err-done-clause-looked g c = looked_more _ _ c.text_at.result c.read_finished.result _ _ (FinishedBlames c.as_slice.result.now) (finished_fault _) (c.in_err-done.was) c.from_residual-in_err-done.ensures.1 c.read_finished.ensures.blame c.text_at.ensures.looked
+returns-in_err-done-clause-looked g c = looked_more _ _ c.work_text.result c.read_finished.result _ _ (FinishedBlames c.as_slice.result.now) (finished_fault _) (c.in_err-done.was) c.from_residual-in_err-done.ensures.1 c.read_finished.ensures.blame c.work_text.ensures.looked
 
 pub returns-in_err-check_key-clause-kept : goal.returns-in_err-check_key-clause-kept
 returns-in_err-check_key-clause-kept g c = row_of (FinishedKept (g.T.Tree.seen c.args.tree.now) (work_path c.args.work.now (final 3)) c.args.key.now) c.check_key.result _ _ (KeyBlames c.in_ok-done.done.key c.args.key.now) (c.in_err-check_key.was) c.from_residual-in_err-check_key.ensures.1
     c.check_key.ensures.blame (λ y h. finished_other c.in_ok-text.text c.in_ok-done.done (subst (λ (q : List ℕ). TextStands (g.T.Tree.seen c.args.tree.now) q c.in_ok-text.text) (c.as_str.ensures.value ∙ c.in_ok-path.ensures.path) c.in_ok-text.ensures.stands) (subst (λ (b : List ℕ). IsFinishedText b c.in_ok-done.done) c.as_slice.ensures.value c.in_ok-done.ensures.found) h)
 
 pub returns-in_err-check_key-clause-looked : goal.returns-in_err-check_key-clause-looked
-returns-in_err-check_key-clause-looked g c = looked_more _ _ c.text_at.result c.check_key.result _ _ (KeyBlames c.in_ok-done.done.key c.args.key.now) (key_fault _ _) (c.in_err-check_key.was) c.from_residual-in_err-check_key.ensures.1 c.check_key.ensures.blame c.text_at.ensures.looked
+returns-in_err-check_key-clause-looked g c = looked_more _ _ c.work_text.result c.check_key.result _ _ (KeyBlames c.in_ok-done.done.key c.args.key.now) (key_fault _ _) (c.in_err-check_key.was) c.from_residual-in_err-check_key.ensures.1 c.check_key.ensures.blame c.work_text.ensures.looked
 
 pub returns-clause-kept : goal.returns-clause-kept
 returns-clause-kept g c = finished_read c.in_ok-text.text c.in_ok-done.done (subst (λ (q : List ℕ). TextStands (g.T.Tree.seen c.args.tree.now) q c.in_ok-text.text) (c.as_str.ensures.value ∙ c.in_ok-path.ensures.path) c.in_ok-text.ensures.stands) (subst (λ (b : List ℕ). IsFinishedText b c.in_ok-done.done) c.as_slice.ensures.value c.in_ok-done.ensures.found) c.in_ok-check_key.ensures.same
 
 pub returns-clause-looked : goal.returns-clause-looked
-returns-clause-looked g c = looked_ok _ _ c.text_at.result _ c.text_at.ensures.looked
+returns-clause-looked g c = looked_ok _ _ c.work_text.result _ c.work_text.ensures.looked

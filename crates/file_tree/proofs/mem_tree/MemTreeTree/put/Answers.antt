@@ -10,5 +10,5 @@ pub returns-clause-others : goal.returns-clause-others
 returns-clause-others c =
     let first = c.args.self.now.first.items in
     let step = c.add.ensures.now first in
-    let put_change = step ∙ ap (λ (change : Change). after_effect (map_now (past_with first c.make_room.new.self.calls.items c.make_room.new.self.effects.items)) (effect.Changed change)) c.in_ok-change.ensures.value in
+    let put_change = step ∙ ap (λ (change : Change). after_effect (map_now (past_with first c.make_room.new.self.calls.items c.make_room.new.self.effects.items)) (effect.Changed change)) c.in_ok-call.ensures.change in
     only_put c.args.path.now c.args.node.now _ _ (rw (c.in_ok-make_room.ensures.calls, c.in_ok-make_room.ensures.effects) at put_change)
