@@ -14,7 +14,7 @@
 //! fn copied<T: Tree>(alloc: Global, limit: u64, tree: &mut T) -> Result<(), End> {
 //!     let (bytes, mode) = read_input(alloc, "in", limit, tree)?;
 //!     free_output(alloc, "out", tree)?;
-//!     write_output("out", bytes, mode, tree)?;
+//!     write_in_pieces("out", &[bytes.as_slice()], mode, tree)?;
 //!     Ok(())
 //! }
 //!
