@@ -29,7 +29,7 @@ fn assert_told(
 ) -> Result<(), TreeErr> {
     let mut errors = MemSink::new(alloc, 100, None)?;
     let told = tell(alloc, end, &mut errors);
-    assert_eq!(rt; told, status, "where {line} is due");
+    assert_eq!(rt; told, status);
     assert_eq!(rt; errors.bytes(), line.as_bytes());
     Ok(())
 }

@@ -204,10 +204,10 @@ fn assert_ends(
 ) -> Result<(), TreeErr> {
     let before = tree.nodes().len();
     let ran = run(alloc, EDIT, tree)?;
-    assert_eq!(rt; ran.status, status, "where {line} is due");
+    assert_eq!(rt; ran.status, status);
     assert_eq!(rt; ran.errors.bytes(), line.as_bytes());
     assert!(rt; ran.output.bytes().is_empty());
-    assert_eq!(rt; tree.nodes().len(), before, "where {line} is due");
+    assert_eq!(rt; tree.nodes().len(), before);
     Ok(())
 }
 
@@ -217,7 +217,7 @@ fn words_that_are_no_command_and_commands_to_come_are_usage(rt: HostRuntime) -> 
     for line in USAGE {
         let mut tree = tree_with(alloc, "in", file_of(built_file(alloc)?))?;
         let ran = run(alloc, line, &mut tree)?;
-        assert_eq!(rt; ran.status, 2, "{line}");
+        assert_eq!(rt; ran.status, 2);
         assert_eq!(rt; ran.errors.bytes(), b"usage\n".as_slice());
         assert!(rt; ran.output.bytes().is_empty());
         assert_eq!(rt; tree.nodes().len(), 1);

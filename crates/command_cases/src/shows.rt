@@ -29,7 +29,7 @@ fn tree_with_lines(alloc: Global) -> Result<MemTree, TreeErr> {
 
 /// Asserts what a run answered, and what went to its sinks.
 pub(crate) fn assert_ran(rt: &impl Abort, ran: &Ran, status: u8, output: &str, line: &str) {
-    assert_eq!(rt; ran.status, status, "where {line} is due");
+    assert_eq!(rt; ran.status, status);
     assert_eq!(rt; ran.output.bytes(), output.as_bytes());
     assert_eq!(rt; ran.errors.bytes(), line.as_bytes());
 }

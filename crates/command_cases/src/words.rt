@@ -175,7 +175,7 @@ fn told(alloc: Global, command: &Command) -> Result<String, AllocError> {
 fn words_that_are_no_command_are_none(rt: HostRuntime) -> Result<(), Fail> {
     let alloc = rt.alloc();
     for line in NO_COMMANDS {
-        assert!(rt; read(alloc, line)?.is_none(), "{line}");
+        assert!(rt; read(alloc, line)?.is_none());
     }
     assert!(rt; Command::read(alloc, &[])?.is_none());
     Ok(())

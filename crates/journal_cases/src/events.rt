@@ -32,7 +32,7 @@ fn a_job_is_moved_while_another_is_staged(rt: HostRuntime) -> Result<(), Fail> {
     assert_eq!(rt; core.phase(), Phase::Running);
     assert_eq!(rt; core.job(0), JobState::Going { moved: 2 });
     for (event, allowed) in RESUMED {
-        assert_eq!(rt; core.step(event), allowed, "{event:?}");
+        assert_eq!(rt; core.step(event), allowed);
     }
     Ok(())
 }
@@ -43,7 +43,7 @@ fn a_finished_run_is_only_cleared(rt: HostRuntime) {
     assert_eq!(rt; core.phase(), Phase::Closed);
     for event in EVERY {
         let allowed = event == Event::Clear || event == Event::Settle;
-        assert_eq!(rt; core.step(event), allowed, "{event:?}");
+        assert_eq!(rt; core.step(event), allowed);
     }
 }
 
@@ -104,14 +104,10 @@ fn only_the_next_event_of_the_way_is_allowed(rt: HostRuntime) -> Result<(), Fail
         for event in EVERY {
             let mut core = Core::new(rt.alloc(), [2].to_vec(rt.alloc())?)?;
             for come in WAY.iter().take(before) {
-                assert!(rt; core.step(*come), "{come:?}");
+                assert!(rt; core.step(*come));
             }
             let allowed = event == *next || event == Event::Settle;
-            assert_eq!(rt;
-                core.step(event),
-                allowed,
-                "{event:?} after {before} events"
-            );
+            assert_eq!(rt; core.step(event), allowed);
         }
     }
     Ok(())

@@ -7,7 +7,7 @@ use std::test::Fail;
 use std::{fs, io};
 
 /// One call of a tree.
-#[derive(Drop)]
+#[derive(Clone, Copy)]
 enum Step {
     Put(&'static str, u32, &'static str),
     Pieces(&'static str, u32, &'static str, &'static str),
@@ -116,7 +116,7 @@ fn try_steps<T: Tree>(
 ) -> Result<(), AllocError> {
     for i in 0..steps.len() {
         let given = answer(alloc, tree, &steps[i].0)?;
-        assert_eq!(rt; given.as_str(), steps[i].1, "at step {i}");
+        assert_eq!(rt; given.as_str(), steps[i].1);
     }
     Ok(())
 }
@@ -216,6 +216,19 @@ fn try_noting<T: Tree>(
     Ok(())
 }
 
+/// Steps that note a folder: a put in it, and a list of it.
+const NOTED_BY_A_PUT: [(Step, &str); 3] = [
+    (Step::Put("tree_test/noted/file", 0o600, "put"), "ok"),
+    (Step::Settle, "ok"),
+    (Step::Remove("tree_test/noted/file"), "ok"),
+];
+
+const NOTED_BY_A_LIST: [(Step, &str); 3] = [
+    (Step::Settle, "ok"),
+    (Step::List("tree_test/noted", 9), "paths"),
+    (Step::Read("tree_test/noted/file", 9), "absent"),
+];
+
 #[test]
 fn the_real_file_system_answers_alike(rt: HostRuntime) -> Result<(), Fail> {
     match fs::remove_dir_all(&rt, "tree_test") {
@@ -225,40 +238,32 @@ fn the_real_file_system_answers_alike(rt: HostRuntime) -> Result<(), Fail> {
     let mut tree = OsTree::new(&rt);
     try_steps(&rt, rt.alloc(), &mut tree, &COMMON)?;
     try_steps(&rt, rt.alloc(), &mut tree, &REAL)?;
-    let put = [
-        (Step::Put("tree_test/noted/file", 0o600, "put"), "ok"),
-        (Step::Settle, "ok"),
-        (Step::Remove("tree_test/noted/file"), "ok"),
-    ];
-    try_noting(&rt, &rt, &mut tree, &put)?;
+    try_noting(&rt, &rt, &mut tree, &NOTED_BY_A_PUT)?;
     fs::create_dir(&rt, "tree_test/noted")?;
-    let listed = [
-        (Step::Settle, "ok"),
-        (Step::List("tree_test/noted", 9), "paths"),
-        (Step::Read("tree_test/noted/file", 9), "absent"),
-    ];
-    try_noting(&rt, &rt, &mut tree, &listed)?;
+    try_noting(&rt, &rt, &mut tree, &NOTED_BY_A_LIST)?;
     fs::remove_dir_all(&rt, "tree_test")?;
     Ok(())
 }
 
+/// Calls of which the second is listed as one that fails, and none succeeds from the fourth on.
+const STOPPED: [(Step, &str); 6] = [
+    (Step::Put("a", 0o644, "kept"), "ok"),
+    (Step::Put("a", 0o644, "lost"), "failed"),
+    (Step::Settle, "ok"),
+    (Step::Rename("a", "b"), "failed"),
+    (Step::Remove("a"), "failed"),
+    (Step::Read("a", 9), "failed"),
+];
+
 #[test]
 fn a_listed_call_fails_and_is_counted(rt: HostRuntime) -> Result<(), Fail> {
     let alloc = rt.alloc();
-    let steps = [
-        (Step::Put("a", 0o644, "kept"), "ok"),
-        (Step::Put("a", 0o644, "lost"), "failed"),
-        (Step::Settle, "ok"),
-        (Step::Rename("a", "b"), "failed"),
-        (Step::Remove("a"), "failed"),
-        (Step::Read("a", 9), "failed"),
-    ];
     let mut tree = MemTree::new(alloc, Vec::new(alloc))?;
     let mut listed = Vec::new(alloc);
     listed.push(1)?;
     tree.fail_calls(listed);
     tree.stop_after(3);
-    try_steps(&rt, rt.alloc(), &mut tree, &steps)?;
+    try_steps(&rt, rt.alloc(), &mut tree, &STOPPED)?;
     assert_eq!(rt; tree.calls().len(), 6);
     tree.fail_calls(Vec::new(alloc));
     Ok(())

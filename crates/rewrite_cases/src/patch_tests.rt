@@ -78,12 +78,12 @@ fn a_field_takes_the_last_number_that_fits_it(rt: HostRuntime) -> Result<(), Fai
         let mut patches = Patches::new(rt.alloc(), &view, section)?;
         let answer = patches.set(3, size, NewPlace::Offset(first));
         let wide = Refusal::at(Kind::TooWide, section, 3);
-        assert_eq!(rt; answer, Err(Fault::Refused(wide)), "{size}");
+        assert_eq!(rt; answer, Err(Fault::Refused(wide)));
         patches.set(3, size, NewPlace::Offset(first - 1))?;
         let mut bytes = OLD;
         patches.apply(&mut bytes);
         let read = number_at(Order::Little, &bytes, 3, size);
-        assert_eq!(rt; read, Some(first - 1), "{size}");
+        assert_eq!(rt; read, Some(first - 1));
     }
     Ok(())
 }

@@ -116,7 +116,7 @@ fn a_relocation_that_isn_t_handled_is_refused_at_its_place(rt: HostRuntime) -> R
             *old = byte;
         }
         let refused = Fault::Refused(Refusal::at(kind, section, offset));
-        assert_eq!(rt; rewritten(rt.alloc(), &file, MAPS), Err(refused), "{place}");
+        assert_eq!(rt; rewritten(rt.alloc(), &file, MAPS), Err(refused));
     }
     Ok(())
 }
