@@ -1,9 +1,11 @@
 //! Ids that are found, refused and put. The digests are those of `sha1sum`.
 
 use crate::build_ident_samples::{NOTED, NOTED_TWICE};
+use crate::files::built;
 use build_ident::{IdPlace, Kind, Refusal, find_id, id_text, set_id};
 use dw_base::{Order, put_number};
 use elf_file::ElfFile;
+use std::alloc::{AllocError, Global};
 use std::process::Abort;
 use std::test::Fail;
 
@@ -44,26 +46,28 @@ const REFUSED: [(u64, u8, u64); 8] = [
 ];
 
 /// `NOTED` with a number put into it.
-fn noted(at: u64, size: u8, value: u64) -> [u8; 456] {
-    let mut file = NOTED;
+fn noted(alloc: Global, at: u64, size: u8, value: u64) -> Result<Vec<u8>, AllocError> {
+    let mut file = built(alloc, &NOTED)?;
     if size > 0 && size <= 8 {
         put_number(Order::Little, &mut file, at, size, value);
     }
-    file
+    Ok(file)
 }
 
 fn check_found<R: Abort + AllocGlobal>(
     rt: &R,
-    file: &[u8; 456],
+    file: &[u8],
     place: Option<IdPlace>,
 ) -> Result<(), Fail> {
-    let elf = ElfFile::read_debug(rt.alloc(), file.as_slice()).map_err(|_| "refused")?;
+    assert!(rt; file.len() == 456);
+    let elf = ElfFile::read_debug(rt.alloc(), file).map_err(|_| "refused")?;
     assert_eq!(rt; find_id(&elf).ok(), Some(place));
     Ok(())
 }
 
-fn check_refused<R: Abort + AllocGlobal>(rt: &R, file: &[u8; 456]) -> Result<(), Fail> {
-    let elf = ElfFile::read_debug(rt.alloc(), file.as_slice()).map_err(|_| "refused")?;
+fn check_refused<R: Abort + AllocGlobal>(rt: &R, file: &[u8]) -> Result<(), Fail> {
+    assert!(rt; file.len() == 456);
+    let elf = ElfFile::read_debug(rt.alloc(), file).map_err(|_| "refused")?;
     let refusal = Refusal::at(Kind::BuildId, 1, 0);
     assert_eq!(rt; find_id(&elf).err(), Some(refusal));
     Ok(())
@@ -72,7 +76,7 @@ fn check_refused<R: Abort + AllocGlobal>(rt: &R, file: &[u8; 456]) -> Result<(),
 #[test]
 fn an_id_is_found_where_its_note_fits(rt: HostRuntime) -> Result<(), Fail> {
     for (at, size, value, place) in FOUND.iter() {
-        check_found(&rt, &noted(*at, *size, *value), *place)?;
+        check_found(&rt, &noted(rt.alloc(), *at, *size, *value)?, *place)?;
     }
     Ok(())
 }
@@ -80,21 +84,24 @@ fn an_id_is_found_where_its_note_fits(rt: HostRuntime) -> Result<(), Fail> {
 #[test]
 fn a_note_that_does_not_fit_is_refused_at_its_section(rt: HostRuntime) -> Result<(), Fail> {
     for (at, size, value) in REFUSED.iter() {
-        check_refused(&rt, &noted(*at, *size, *value))?;
+        check_refused(&rt, &noted(rt.alloc(), *at, *size, *value)?)?;
     }
     Ok(())
 }
 
 #[test]
 fn a_note_before_that_of_the_id_is_passed_over(rt: HostRuntime) -> Result<(), Fail> {
-    let elf = ElfFile::read(rt.alloc(), &NOTED_TWICE).map_err(|_| "refused")?;
+    let file = built(rt.alloc(), &NOTED_TWICE)?;
+    assert!(rt; file.len() == 252);
+    let elf = ElfFile::read(rt.alloc(), &file).map_err(|_| "refused")?;
     assert_eq!(rt; find_id(&elf).ok(), Some(Some(IdPlace { at: 92, len: 8 })));
     Ok(())
 }
 
 #[test]
 fn an_id_is_the_digest_of_the_seed_and_the_file_without_it(rt: HostRuntime) -> Result<(), Fail> {
-    let mut file = NOTED;
+    let mut file = built(rt.alloc(), &NOTED)?;
+    assert!(rt; file.len() == 456);
     set_id(&mut file, IdPlace { at: 136, len: 20 }, b"");
     let digits = id_text(rt.alloc(), &file[136..156])?;
     assert_eq!(rt; digits.as_str(), "f0ac173d9608fda515bcd9839c61058da7cc53e3");
@@ -106,7 +113,8 @@ fn an_id_is_the_digest_of_the_seed_and_the_file_without_it(rt: HostRuntime) -> R
 
 #[test]
 fn a_short_id_is_the_front_of_the_digest(rt: HostRuntime) -> Result<(), Fail> {
-    let mut file = NOTED_TWICE;
+    let mut file = built(rt.alloc(), &NOTED_TWICE)?;
+    assert!(rt; file.len() == 252);
     set_id(&mut file, IdPlace { at: 92, len: 8 }, b"");
     assert_eq!(rt;
         id_text(rt.alloc(), &file[92..100])?.as_str(),

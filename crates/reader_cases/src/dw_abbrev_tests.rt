@@ -1,5 +1,5 @@
-//! Worked tables: a small one, whole, cut and changed, codes in any order, and one by GCC against what
-//! GNU readelf prints of it.
+//! Worked tables: a small one, whole, cut and changed, one by GCC against what GNU readelf prints of it, and codes in
+//! any order.
 
 use crate::dw_abbrev_samples::{GCC_ABBREVS, GCC_SPECS, GCC_TABLE};
 use dw_abbrev::{AbbrevTable, Specs};
@@ -8,10 +8,7 @@ use std::alloc::AllocError;
 
 /// A compilation unit with children, of a name by strp and a language by implicit_const -2; code 0x4000,
 /// of three bytes, for a variable without children and attributes.
-const SMALL: &[u8] = &[
-    0x01, 0x11, 0x01, 0x03, 0x0e, 0x13, 0x21, 0x7e, 0x00, 0x00, 0x80, 0x80, 0x01, 0x34, 0x00, 0x00,
-    0x00, 0x00,
-];
+const SMALL: &[u8] = b"\x01\x11\x01\x03\x0e\x13\x21\x7e\0\0\x80\x80\x01\x34\0\0\0\0";
 
 /// Bytes that are no table, and where one is looked for in them.
 const BROKEN: &[(&[u8], u64)] = &[
@@ -23,30 +20,13 @@ const BROKEN: &[(&[u8], u64)] = &[
     (&[0x01, 0x11, 0x02, 0x00, 0x00, 0x00], 0),
     (&[0x01, 0x11, 0x81, 0x00, 0x00, 0x00], 0),
     // a name without a form, and a form without a name
-    (&[0x01, 0x11, 0x00, 0x03, 0x00, 0x00, 0x00, 0x00], 0),
-    (&[0x01, 0x11, 0x00, 0x00, 0x0e, 0x00, 0x00, 0x00], 0),
+    (b"\x01\x11\0\x03\0\0\0\0", 0),
+    (b"\x01\x11\0\0\x0e\0\0\0", 0),
     // a code twice, next to the first and further on
-    (
-        &[
-            0x01, 0x11, 0x00, 0x00, 0x00, 0x01, 0x34, 0x00, 0x00, 0x00, 0x00,
-        ],
-        0,
-    ),
-    (
-        &[
-            0x07, 0x11, 0x00, 0x00, 0x00, 0x02, 0x34, 0x00, 0x00, 0x00, 0x87, 0x00, 0x34, 0x00,
-            0x00, 0x00, 0x00,
-        ],
-        0,
-    ),
+    (b"\x01\x11\0\0\0\x01\x34\0\0\0\0", 0),
+    (b"\x07\x11\0\0\0\x02\x34\0\0\0\x87\0\x34\0\0\0\0", 0),
     // a tag of more than 64 bits
-    (
-        &[
-            0x01, 0x80, 0x80, 0x80, 0x80, 0x80, 0x80, 0x80, 0x80, 0x80, 0x02, 0x00, 0x00, 0x00,
-            0x00,
-        ],
-        0,
-    ),
+    (b"\x01\x80\x80\x80\x80\x80\x80\x80\x80\x80\x02\0\0\0\0", 0),
 ];
 
 /// The refusal of a table at a place of section 3.
@@ -54,35 +34,40 @@ fn refused(at: u64) -> Fault {
     Fault::Refused(Refusal::at(Kind::Abbreviation, 3, at))
 }
 
+/// A table, its abbreviations as code, tag, children and number of attributes, and the attributes of all of them as name,
+/// form and value of the form.
+type Table = (
+    &'static [u8],
+    &'static [(u64, u64, bool, usize)],
+    &'static [(u64, u64, i64)],
+);
+
+/// The small table, and that by GCC.
+const TABLES: [Table; 2] = [
+    (
+        SMALL,
+        &[(1, 0x11, true, 2), (0x4000, 0x34, false, 0)],
+        &[(0x03, 0x0e, 0), (0x13, 0x21, -2)],
+    ),
+    (GCC_TABLE, GCC_ABBREVS, GCC_SPECS),
+];
+
 #[test]
 fn a_table_has_what_its_bytes_spell(rt: HostRuntime) -> Result<(), Fault> {
-    let table = AbbrevTable::read(rt.alloc(), 3, SMALL, 0)?;
-    assert_eq!(rt; table.abbrevs().len(), 2);
-    let Some(unit) = table.get(1) else {
-        return Err(refused(0));
-    };
-    assert_eq!(rt; unit.tag, 0x11);
-    assert!(rt; unit.children);
-    let specs = [(0x03, 0x0e, 0), (0x13, 0x21, -2)];
-    assert_eq!(rt; unit.specs.len(), 2);
-    for (spec, (name, form, implicit)) in unit.specs.as_slice().iter().zip(specs) {
-        assert_eq!(rt;
-            *spec,
-            Spec {
-                name,
-                form,
-                implicit
+    for (bytes, abbrevs, specs) in TABLES.iter() {
+        let table = AbbrevTable::read(rt.alloc(), 3, bytes, 0)?;
+        assert_eq!(rt; table.abbrevs().len(), abbrevs.len());
+        let mut specs = specs.iter();
+        for (abbrev, row) in table.abbrevs().iter().zip(abbrevs.iter()) {
+            assert_eq!(rt; (abbrev.code, abbrev.tag), (row.0, row.1));
+            assert_eq!(rt; (abbrev.children, abbrev.specs.len()), (row.2, row.3));
+            for spec in abbrev.specs.as_slice().iter() {
+                let expected = specs.next().copied();
+                assert_eq!(rt; Some((spec.name, spec.form, spec.implicit)), expected);
             }
-        );
+        }
+        assert!(rt; specs.next().is_none());
     }
-    let Some(variable) = table.get(0x4000) else {
-        return Err(refused(0));
-    };
-    assert_eq!(rt; variable.tag, 0x34);
-    assert!(rt; !variable.children);
-    assert_eq!(rt; variable.specs.len(), 0);
-    assert!(rt; table.get(2).is_none());
-    assert!(rt; table.get(0).is_none());
     Ok(())
 }
 
@@ -108,10 +93,7 @@ fn what_is_no_table_is_refused_at_its_start(rt: HostRuntime) {
 
 #[test]
 fn codes_in_any_order_are_found(rt: HostRuntime) -> Result<(), Fault> {
-    let bytes = [
-        0xff, 0x05, 0x01, 0x00, 0x00, 0x00, 0x02, 0x02, 0x00, 0x00, 0x00, 0x01, 0x03, 0x00, 0x00,
-        0x00, 0x04, 0x04, 0x00, 0x00, 0x00, 0x00,
-    ];
+    let bytes = *b"\xff\x05\x01\0\0\0\x02\x02\0\0\0\x01\x03\0\0\0\x04\x04\0\0\0\0";
     let table = AbbrevTable::read(rt.alloc(), 3, &bytes, 1)?;
     let found = [
         (5, Some(0)),
@@ -123,23 +105,6 @@ fn codes_in_any_order_are_found(rt: HostRuntime) -> Result<(), Fault> {
     for (code, index) in found {
         assert_eq!(rt; table.index_of(code), index);
     }
-    Ok(())
-}
-
-#[test]
-fn a_table_by_gcc_is_that_of_readelf(rt: HostRuntime) -> Result<(), Fault> {
-    let table = AbbrevTable::read(rt.alloc(), 3, GCC_TABLE, 0)?;
-    assert_eq!(rt; table.abbrevs().len(), GCC_ABBREVS.len());
-    let mut specs = GCC_SPECS.iter();
-    for (abbrev, row) in table.abbrevs().iter().zip(GCC_ABBREVS.iter()) {
-        assert_eq!(rt; (abbrev.code, abbrev.tag), (row.0, row.1));
-        assert_eq!(rt; (abbrev.children, abbrev.specs.len()), (row.2, row.3));
-        for spec in abbrev.specs.as_slice().iter() {
-            let expected = specs.next().copied();
-            assert_eq!(rt; Some((spec.name, spec.form, spec.implicit)), expected);
-        }
-    }
-    assert!(rt; specs.next().is_none());
     Ok(())
 }
 

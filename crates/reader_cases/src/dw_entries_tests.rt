@@ -2,7 +2,9 @@
 
 ghost use Rattle.dw_entries.specs.ViewUnits.{IsUnitSection};
 
-use crate::dw_entries_samples::{ABBREVS, POWERPC, POWERPC_ROWS, READ, REFUSED, Row};
+use crate::dw_entries_samples::{
+    ABBREVS, POWERPC_ABBREVS, POWERPC_INFO, POWERPC_ROWS, READ, REFUSED, Row,
+};
 use crate::files::file_of;
 use dw_abbrev::AbbrevTable;
 use dw_base::elf_numbers::{ET_EXEC, SHT_PROGBITS};
@@ -93,7 +95,17 @@ fn units_and_entries_are_refused_at_their_places(rt: HostRuntime) -> Result<(), 
 
 #[test]
 fn entries_of_a_big_endian_program_are_read(rt: HostRuntime) -> Result<(), Fail> {
-    let found = entries_of(&rt, rt.alloc(), POWERPC)?;
+    let rows = [
+        (b".debug_info".as_slice(), SHT_PROGBITS, 0, POWERPC_INFO),
+        (
+            b".debug_abbrev".as_slice(),
+            SHT_PROGBITS,
+            0,
+            POWERPC_ABBREVS,
+        ),
+    ];
+    let file = file_of(rt.alloc(), Order::Big, ET_EXEC, &rows, b".shstrtab")?;
+    let found = entries_of(&rt, rt.alloc(), &file)?;
     assert_eq!(rt; found.as_slice(), POWERPC_ROWS);
     Ok(())
 }

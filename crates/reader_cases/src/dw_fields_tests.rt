@@ -139,7 +139,7 @@ fn relocations_stand_on_offsets_alone(rt: HostRuntime) -> Result<(), Fail> {
             }
             None => Ok(()),
         };
-        assert_eq!(rt; answer_of(rt.alloc(), &file), answer, "{at}");
+        assert_eq!(rt; answer_of(rt.alloc(), &file), answer);
     }
     Ok(())
 }

@@ -158,7 +158,7 @@ fn a_damaged_table_is_refused_at_its_place(rt: HostRuntime) -> Result<(), Fail> 
         );
         let answer = table_of(&rt, rt.alloc(), &file).map(|_table| ());
         let wanted = Refusal::at(kind, 1, offset);
-        assert_eq!(rt; answer, Err(Fault::Refused(wanted)), "{place}");
+        assert_eq!(rt; answer, Err(Fault::Refused(wanted)));
     }
     Ok(())
 }

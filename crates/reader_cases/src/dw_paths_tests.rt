@@ -1,7 +1,6 @@
 //! Prefixes, maps, and paths that are joined, cleaned and plain.
 
 use dw_paths::{Maps, clean_path, is_plain, is_prefix, join_path, map_inline, map_len, map_path};
-use std::process::Abort;
 use std::test::Fail;
 
 #[test]
@@ -35,90 +34,112 @@ fn a_prefix_has_at_most_4096_bytes_without_its_end_slashes(rt: HostRuntime) -> R
     Ok(())
 }
 
-/// A path is mapped to another, whose length is known without it.
-fn check<R: Abort + AllocGlobal>(
-    rt: &R,
-    maps: &Maps,
-    text: &[u8],
-    mapped: &[u8],
-) -> Result<(), Fail> {
-    let path = map_path(rt.alloc(), maps, text)?;
-    assert_eq!(rt; path.as_slice(), mapped);
-    assert_eq!(rt; map_len(maps, text), mapped.len() as u64);
-    Ok(())
-}
-
-#[test]
-fn the_base_and_what_lies_under_it_is_mapped(rt: HostRuntime) -> Result<(), Fail> {
-    let maps = Maps::new(rt.alloc(), b"/build/p/", b"/usr/src/debug/p//")?.ok_or("no map")?;
-    assert_eq!(rt; maps.base.as_slice(), b"/build/p".as_slice());
-    assert_eq!(rt; maps.dest.as_slice(), b"/usr/src/debug/p".as_slice());
-    check(&rt, &maps, b"/build/p", b"/usr/src/debug/p")?;
-    check(&rt, &maps, b"/build/p/", b"/usr/src/debug/p/")?;
-    check(&rt, &maps, b"/build/p/a.c", b"/usr/src/debug/p/a.c")?;
-    check(&rt, &maps, b"/build/p//x", b"/usr/src/debug/p//x")
-}
-
-#[test]
-fn every_other_text_stays(rt: HostRuntime) -> Result<(), Fail> {
-    let maps = Maps::new(rt.alloc(), b"/build/p", b"/usr/src/debug/p")?.ok_or("no map")?;
-    check(&rt, &maps, b"/build/pq/a.c", b"/build/pq/a.c")?;
-    check(&rt, &maps, b"/build", b"/build")?;
-    check(&rt, &maps, b"", b"")?;
-    check(&rt, &maps, b"x/build/p", b"x/build/p")
-}
-
 #[test]
 fn a_map_needs_two_words_that_may_be_prefixes(rt: HostRuntime) -> Result<(), Fail> {
     assert!(rt; Maps::new(rt.alloc(), b"/", b"/usr/src/debug/p")?.is_none());
     assert!(rt; Maps::new(rt.alloc(), b"/build/p", b"usr")?.is_none());
-    assert!(rt; Maps::new(rt.alloc(), b"/build/p", b"")?.is_none());
-    assert!(rt; Maps::new(rt.alloc(), b"/build/p", b"/usr")?.is_some());
+    let maps = Maps::new(rt.alloc(), b"/build/p/", b"/usr/src/debug/p//")?.ok_or("no map")?;
+    assert_eq!(rt; maps.base.as_slice(), b"/build/p".as_slice());
+    assert_eq!(rt; maps.dest.as_slice(), b"/usr/src/debug/p".as_slice());
     Ok(())
 }
 
-/// A path is mapped in its room.
-fn check_inline<R: Abort + AllocGlobal>(
-    rt: &R,
-    maps: &Maps,
-    text: &[u8],
-    mapped: &[u8],
-) -> Result<(), Fail> {
-    let path = map_inline(rt.alloc(), maps, text)?.ok_or("longer")?;
-    assert_eq!(rt; path.as_slice(), mapped);
+/// A base and a destination, a path, what it is mapped to, and what it is in its own room, where the mapped path fits.
+const MAPPED: [(&[u8], &[u8], &[u8], &[u8], Option<&[u8]>); 12] = [
+    // the base and what lies under it
+    (
+        b"/build/p/",
+        b"/usr/debug/p//",
+        b"/build/p",
+        b"/usr/debug/p",
+        None,
+    ),
+    (
+        b"/build/p",
+        b"/usr/debug/p",
+        b"/build/p/",
+        b"/usr/debug/p/",
+        None,
+    ),
+    (
+        b"/build/p",
+        b"/usr/debug/p",
+        b"/build/p/a.c",
+        b"/usr/debug/p/a.c",
+        None,
+    ),
+    (
+        b"/build/p",
+        b"/usr/debug/p",
+        b"/build/p//x",
+        b"/usr/debug/p//x",
+        None,
+    ),
+    // every other text
+    (
+        b"/build/p",
+        b"/usr/debug/p",
+        b"/build/pq/a.c",
+        b"/build/pq/a.c",
+        Some(b"/build/pq/a.c"),
+    ),
+    (
+        b"/build/p",
+        b"/usr/debug/p",
+        b"/build",
+        b"/build",
+        Some(b"/build"),
+    ),
+    (b"/build/p", b"/usr/debug/p", b"", b"", Some(b"")),
+    (
+        b"/build/p",
+        b"/usr/debug/p",
+        b"x/build/p",
+        b"x/build/p",
+        Some(b"x/build/p"),
+    ),
+    // slashes fill the room
+    (
+        b"/build/p-1.0",
+        b"/usr/src",
+        b"/build/p-1.0/a.c",
+        b"/usr/src/a.c",
+        Some(b"/usr/src/////a.c"),
+    ),
+    (
+        b"/build/p-1.0",
+        b"/usr/src",
+        b"/build/p-1.0",
+        b"/usr/src",
+        Some(b"/usr/src////"),
+    ),
+    (
+        b"/build/p-1.0",
+        b"/usr/src",
+        b"/build/p-1.0.c",
+        b"/build/p-1.0.c",
+        Some(b"/build/p-1.0.c"),
+    ),
+    // the two have one length
+    (
+        b"/build/p",
+        b"/usr/src",
+        b"/build/p/a.c",
+        b"/usr/src/a.c",
+        Some(b"/usr/src/a.c"),
+    ),
+];
+
+#[test]
+fn a_path_at_or_below_the_base_is_mapped(rt: HostRuntime) -> Result<(), Fail> {
+    for (base, dest, path, mapped, inline) in MAPPED.iter() {
+        let maps = Maps::new(rt.alloc(), base, dest)?.ok_or("no map")?;
+        assert_eq!(rt; map_path(rt.alloc(), &maps, path)?.as_slice(), *mapped);
+        assert_eq!(rt; map_len(&maps, path), mapped.len() as u64);
+        let kept = map_inline(rt.alloc(), &maps, path)?;
+        assert_eq!(rt; kept.as_ref().map(|path| path.as_slice()), *inline);
+    }
     Ok(())
-}
-
-#[test]
-fn slashes_fill_the_room_of_an_inline_path(rt: HostRuntime) -> Result<(), Fail> {
-    let maps = Maps::new(rt.alloc(), b"/build/package-1.0", b"/usr/src/debug")?.ok_or("no map")?;
-    check_inline(
-        &rt,
-        &maps,
-        b"/build/package-1.0/a.c",
-        b"/usr/src/debug/////a.c",
-    )?;
-    check_inline(&rt, &maps, b"/build/package-1.0", b"/usr/src/debug////")?;
-    check_inline(&rt, &maps, b"/build/package-1.0.c", b"/build/package-1.0.c")?;
-    check_inline(&rt, &maps, b"", b"")
-}
-
-#[test]
-fn a_path_that_would_grow_has_no_inline_path(rt: HostRuntime) -> Result<(), Fail> {
-    let maps = Maps::new(
-        rt.alloc(),
-        b"/build/package-1.0",
-        b"/usr/src/debug/package-1.0-1",
-    )?
-    .ok_or("no map")?;
-    assert!(rt; map_inline(rt.alloc(), &maps, b"/build/package-1.0/a.c")?.is_none());
-    Ok(())
-}
-
-#[test]
-fn a_map_of_equal_lengths_leaves_no_room(rt: HostRuntime) -> Result<(), Fail> {
-    let maps = Maps::new(rt.alloc(), b"/build/p", b"/usr/src")?.ok_or("no map")?;
-    check_inline(&rt, &maps, b"/build/p/a.c", b"/usr/src/a.c")
 }
 
 const JOINED: [(&[u8], &[u8], &[u8]); 6] = [

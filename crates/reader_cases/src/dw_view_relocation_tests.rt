@@ -195,7 +195,7 @@ fn fields_read_as_records_with_addends_say(rt: HostRuntime) -> Result<(), Fail> 
     let elf = records(rt.alloc(), &file)?;
     let view = View::one(&elf)?;
     for row in ADDEND_ROWS.iter() {
-        assert_eq!(rt; readings(&view, row.0, row.1), Some(wanted(row)), "{row:?}");
+        assert_eq!(rt; readings(&view, row.0, row.1), Some(wanted(row)));
     }
     Ok(())
 }
@@ -207,7 +207,7 @@ fn relocations_are_met_in_order_of_places(rt: HostRuntime) -> Result<(), Fail> {
     let view = View::one(&elf)?;
     assert!(rt; view.section_count() == 7 && view.kind(1).is_some());
     for (from, place) in NEXT {
-        assert_eq!(rt; view.next_relocation(1, from), place, "{from}");
+        assert_eq!(rt; view.next_relocation(1, from), place);
     }
     assert!(rt; view.bytes(1).len() > 6);
     let relocation = Relocation {
@@ -228,7 +228,7 @@ fn fields_without_addends_have_them_in_their_bytes(rt: HostRuntime) -> Result<()
     let elf = records(rt.alloc(), &file)?;
     let view = View::one(&elf)?;
     for row in FIELD_ROWS.iter() {
-        assert_eq!(rt; readings(&view, row.0, row.1), Some(wanted(row)), "{row:?}");
+        assert_eq!(rt; readings(&view, row.0, row.1), Some(wanted(row)));
     }
     Ok(())
 }
@@ -272,7 +272,7 @@ fn relocations_are_refused_at_their_places(rt: HostRuntime) -> Result<(), Fail> 
             }
             None => Ok(()),
         };
-        assert_eq!(rt; answer_of(rt.alloc(), &file), answer, "{at}");
+        assert_eq!(rt; answer_of(rt.alloc(), &file), answer);
     }
     Ok(())
 }

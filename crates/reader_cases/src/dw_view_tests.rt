@@ -216,7 +216,7 @@ fn wanted(refusal: Option<(Kind, u32, u64)>) -> Result<(), Fault> {
 fn a_file_is_refused_at_the_section_that_is_wrong(rt: HostRuntime) -> Result<(), Fail> {
     for case in CASES.iter() {
         let file = case_file(rt.alloc(), case)?;
-        assert_eq!(rt; answer_of(rt.alloc(), &file), wanted(case.3), "{case:?}");
+        assert_eq!(rt; answer_of(rt.alloc(), &file), wanted(case.3));
     }
     Ok(())
 }
@@ -269,7 +269,7 @@ const KINDS: [(u32, Option<DebugSection>); 4] = [
 /// Sections are found by name and number.
 fn check_found(rt: &impl Abort, view: &View) {
     for (name, after, section) in FOUND.iter() {
-        assert_eq!(rt; view.section(name, *after), *section, "{after}");
+        assert_eq!(rt; view.section(name, *after), *section);
     }
 }
 
@@ -277,7 +277,7 @@ fn check_found(rt: &impl Abort, view: &View) {
 fn check_kinds(rt: &impl Abort, view: &View) {
     for (section, kind) in KINDS.iter() {
         assert!(rt; *section < view.section_count());
-        assert_eq!(rt; view.kind(*section), *kind, "{section}");
+        assert_eq!(rt; view.kind(*section), *kind);
     }
 }
 
@@ -291,11 +291,7 @@ fn check_fields(rt: &impl Abort, view: &View, section: u32) {
     for (at, size, number) in FIELDS.iter() {
         assert!(rt; *at <= 16);
         assert!(rt; *size == 2 || *size == 4);
-        assert_eq!(rt;
-            view.field(section, *at, *size),
-            Ok(Field::Num(*number)),
-            "{at}"
-        );
+        assert_eq!(rt; view.field(section, *at, *size), Ok(Field::Num(*number)));
     }
 }
 

@@ -155,11 +155,7 @@ fn changed_file(rt: &impl Abort, alloc: Global, changes: &[Change]) -> Result<Ve
 fn a_changed_file_is_refused_at_its_place(rt: HostRuntime) -> Result<(), Fail> {
     for (changes, want) in CHANGED.iter() {
         let file = changed_file(&rt, rt.alloc(), changes.as_slice())?;
-        assert_eq!(rt;
-            answer_of(rt.alloc(), file.as_slice()),
-            wanted(*want),
-            "{changes:?}"
-        );
+        assert_eq!(rt; answer_of(rt.alloc(), file.as_slice()), wanted(*want));
     }
     Ok(())
 }
