@@ -15,6 +15,8 @@ use Rattle.dw_base.specs.TextIndexes.{Indexing, all_bases, index_uses, slots_nam
 use Rattle.dw_base.specs.UnitHeaders.{UnitBase, UnitSection, SectionKind, in_info, in_types}
 use Rattle.dw_base.specs.UnitPieces.{ReadsUnits}
 use Rattle.dw_base.specs.UnitStates.{Mode, at_header, at_code, UnitState, code_value}
+use Rattle.dw_base.specs.declared.debug_sections.DebugSection.{DebugSection}
+use Rattle.dw_base.specs.declared.debug_sections.DebugSection.TheVariants.{Str, LineStr, Line}
 use Rattle.dw_base.specs.declared.view_fields.Field.{Field}
 use Rattle.dw_base.specs.declared.view_fields.Field.TheVariants.{Num, Into, Sym}
 
@@ -105,6 +107,13 @@ pub record Around : Type 0 where
   pub line_cells : List Cell
   pub starts : List ℕ
 
+-- the section of a kind into which values say offsets: a table of texts, or the line tables; number 0 and no bytes of every other kind
+abbrev pub target_of : Around → DebugSection → Located
+target_of around Str = around.str
+target_of around LineStr = around.line_str
+target_of around Line = around.lines
+target_of around s = record { number = 0; bytes = [] }
+
 -- what line tables are read from
 abbrev pub source_around : Around → LineSource
 source_around around = record {
@@ -124,7 +133,7 @@ start_number first (s ∷ ss) n = if s == n then Some first else start_number (f
 
 -- the number of the line table that starts where the offset in a field says
 abbrev pub line_table : Around → List Cell → Option ℕ
-line_table around p = start_number 0 around.starts (offset_of around.lasting.base.order around.lines p)
+line_table around p = start_number 0 around.starts (offset_of around.lasting.base.order (target_of around Line) p)
 
 -- the number of the macro unit that starts at a place of a section, of units numbered from `first` on
 abbrev pub started_unit : ℕ → List MacroStart → ℕ → ℕ → Option ℕ
@@ -142,9 +151,13 @@ unit_named g (Sym s k a) = None
 abbrev pub macro_unit : Lasting → List Cell → Option ℕ
 macro_unit g p = unit_named g.macros (field_of g.base.order p)
 
+-- the section that a table of texts is
+abbrev pub text_section : TextSection → DebugSection
+text_section in_str = Str
+text_section in_line_str = LineStr
+
 abbrev pub table_of : Around → TextSection → Located
-table_of around in_str = around.str
-table_of around in_line_str = around.line_str
+table_of around table = target_of around (text_section table)
 
 -- the slots that paths name, and those that other values name
 abbrev pub path_slots : Around → List ℕ

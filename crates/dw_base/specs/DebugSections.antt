@@ -6,24 +6,25 @@ use Rattle.dw_base.specs.Texts.{is_in, same_text}
 use Rattle.dw_base.specs.declared.debug_sections.DebugSection.{DebugSection}
 use Rattle.dw_base.specs.declared.debug_sections.DebugSection.TheVariants.{Info, Types, Abbrev, Str, LineStr, StrOffsets, Line, Macro, Names}
 
--- a row: the section's name; a file that is edited may get other bytes for it; a relocatable file may have several, one
--- for each group of sections (gABI ch. 4 "Section Groups")
+-- a row: the section's name; a file that is edited may get other bytes for it; places in it may change then; a relocatable file
+-- may have several, one for each group of sections (gABI ch. 4 "Section Groups")
 pub record SectionRow : Type 0 where
   pub name : List ℕ
   pub rewritten : Bool
+  pub moves : Bool
   pub repeats : Bool
 
 -- the table of the sections that are read
 abbrev pub row_of : DebugSection → SectionRow
-row_of Info = record { name = debug_info; rewritten = true; repeats = true }
-row_of Types = record { name = codes ".debug_types"; rewritten = true; repeats = true }
-row_of Abbrev = record { name = debug_abbrev; rewritten = false; repeats = false }
-row_of Str = record { name = debug_str; rewritten = true; repeats = false }
-row_of LineStr = record { name = codes ".debug_line_str"; rewritten = true; repeats = false }
-row_of StrOffsets = record { name = codes ".debug_str_offsets"; rewritten = true; repeats = false }
-row_of Line = record { name = codes ".debug_line"; rewritten = true; repeats = false }
-row_of Macro = record { name = codes ".debug_macro"; rewritten = true; repeats = true }
-row_of Names = record { name = codes ".debug_names"; rewritten = true; repeats = false }
+row_of Info = record { name = debug_info; rewritten = true; moves = false; repeats = true }
+row_of Types = record { name = codes ".debug_types"; rewritten = true; moves = false; repeats = true }
+row_of Abbrev = record { name = debug_abbrev; rewritten = false; moves = false; repeats = false }
+row_of Str = record { name = debug_str; rewritten = true; moves = true; repeats = false }
+row_of LineStr = record { name = codes ".debug_line_str"; rewritten = true; moves = true; repeats = false }
+row_of StrOffsets = record { name = codes ".debug_str_offsets"; rewritten = true; moves = false; repeats = false }
+row_of Line = record { name = codes ".debug_line"; rewritten = true; moves = true; repeats = false }
+row_of Macro = record { name = codes ".debug_macro"; rewritten = true; moves = false; repeats = true }
+row_of Names = record { name = codes ".debug_names"; rewritten = true; moves = false; repeats = false }
 
 -- the name of a section that is read
 abbrev pub name_of : DebugSection → List ℕ

@@ -3,12 +3,12 @@
 -- that isn't relocatable. Rows on fields stand with the readers of the fields. What the sections hold is said beside the file, so that the
 -- rows serve a debug file that has some of its sections in a stripped one.
 use Rattle.std.specs.Prelude.{Bool, true, false, ◌≡◌, ℕ, ◌<◌, ◌≤◌, ◌==◌, ◌&&◌, ◌||◌, nat_lt, List, ◌∷◌, ◌++◌, length, IsTrue, Option, Some, None, is_some}
-use Rattle.dw_base.specs.DebugSections.{debug_section}
+use Rattle.dw_base.specs.DebugSections.{debug_section, row_of}
 use Rattle.dw_base.specs.Elf.{e_type, nth_section, section_count, section_name}
 use Rattle.dw_base.specs.Refusals.{at}
 use Rattle.dw_base.specs.SectionRelocations.{PlacedRelocation, is_relocation_kind, is_symbol_table, relocates, relocation_section, relocation_source, relocations_in}
 use Rattle.dw_base.specs.declared.debug_sections.DebugSection.{DebugSection}
-use Rattle.dw_base.specs.declared.debug_sections.DebugSection.TheVariants.{Abbrev, Str, LineStr, Line}
+use Rattle.dw_base.specs.declared.debug_sections.DebugSection.TheVariants.{Abbrev, Str, LineStr}
 use Rattle.dw_base.specs.declared.elf_numbers.TheConstants.{ET_REL, SHT_SYMTAB, SHT_SYMTAB_SHNDX}
 use Rattle.dw_base.specs.declared.fault.Kind.TheVariants.{Relocation as RelocationKind}
 use Rattle.dw_base.specs.declared.fault.Refusal.{Refusal}
@@ -34,10 +34,8 @@ holds_texts s = false
 
 -- the sections whose places change: the tables of texts, and the line tables
 abbrev pub moves : Option DebugSection → Bool
-moves (Some Str) = true
-moves (Some LineStr) = true
-moves (Some Line) = true
-moves s = false
+moves None = false
+moves (Some s) = (row_of s).moves
 
 -- a symbol lies in one of these
 abbrev pub lies_in_moving : List ℕ → Option (ℕ × ℕ) → Bool

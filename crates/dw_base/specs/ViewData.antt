@@ -76,6 +76,10 @@ abbrev pub cells_located : View → Option ℕ → CellSection
 cells_located v None = record { number = 0; contents = [] }
 cells_located v (Some i) = record { number = i; contents = view_cells v i }
 
+-- the first section of a kind
+abbrev pub cells_found : View → DebugSection → CellSection
+cells_found v s = cells_located v (section_named v (name_of s))
+
 -- the debug data of a view
 unfoldable pub debug_data : View → DebugData
 debug_data v = record {
@@ -83,25 +87,17 @@ debug_data v = record {
   units = unit_sections v;
   str = located v Str;
   line_str = located v LineStr;
-  offsets = cells_located v (section_named v (name_of StrOffsets));
-  lines = cells_located v (section_named v (name_of Line));
+  offsets = cells_found v StrOffsets;
+  lines = cells_found v Line;
   macros = macro_sections v;
-  names = cells_located v (section_named v (name_of Names));
+  names = cells_found v Names;
 }
 
 -- a section whose bytes are read: units, their abbreviations, the tables of texts, string offsets, line tables, macro units, and name
 -- tables
 abbrev pub is_read : Option DebugSection → Bool
-is_read (Some Info) = true
-is_read (Some Types) = true
-is_read (Some Abbrev) = true
-is_read (Some Str) = true
-is_read (Some LineStr) = true
-is_read (Some StrOffsets) = true
-is_read (Some Line) = true
-is_read (Some Macro) = true
-is_read (Some Names) = true
-is_read s = false
+is_read None = false
+is_read (Some s) = true
 
 -- a section whose bytes are meant as they stand: it isn't loaded and isn't read. The section name table and the link to a
 -- debug file are left out, since they say how the sections are divided between files, and so are the sections that hold relocations

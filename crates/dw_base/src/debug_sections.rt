@@ -41,6 +41,8 @@ pub struct DebugRow {
     pub name: &'static [u8],
     /// A file that is edited may get other bytes for it.
     pub rewritten: bool,
+    /// Places in it may change then.
+    pub moves: bool,
     /// A relocatable file may have several, one for each group of sections.
     pub repeats: bool,
 }
@@ -78,13 +80,14 @@ const CARRIED: [&[u8]; 13] = [
 /// How many names a section of debug data may have.
 pub const LISTED_COUNT: usize = 22;
 
-/// A row of a section that is rewritten or not, and repeats or not.
-fn row(name: &'static [u8], rewritten: bool, repeats: bool) -> DebugRow
-    ensures { (result.name.now ≡ name.now) × (result.rewritten ≡ rewritten) × (result.repeats ≡ repeats) }
+/// A row of a section that is rewritten or not, moves or not, and repeats or not.
+fn row(name: &'static [u8], rewritten: bool, moves: bool, repeats: bool) -> DebugRow
+    ensures { (result.name.now ≡ name.now) × (result.rewritten ≡ rewritten) × (result.moves ≡ moves) × (result.repeats ≡ repeats) }
 {
     DebugRow {
         name,
         rewritten,
+        moves,
         repeats,
     }
 }
@@ -94,18 +97,19 @@ impl DebugSection {
     pub fn row(self) -> DebugRow
         ensures name { result.name.now ≡ (row_of self).name }
         ensures rewritten { result.rewritten ≡ (row_of self).rewritten }
+        ensures moves { result.moves ≡ (row_of self).moves }
         ensures repeats { result.repeats ≡ (row_of self).repeats }
     {
         match self {
-            DebugSection::Info => row(b".debug_info", true, true),
-            DebugSection::Types => row(b".debug_types", true, true),
-            DebugSection::Abbrev => row(b".debug_abbrev", false, false),
-            DebugSection::Str => row(b".debug_str", true, false),
-            DebugSection::LineStr => row(b".debug_line_str", true, false),
-            DebugSection::StrOffsets => row(b".debug_str_offsets", true, false),
-            DebugSection::Line => row(b".debug_line", true, false),
-            DebugSection::Macro => row(b".debug_macro", true, true),
-            DebugSection::Names => row(b".debug_names", true, false),
+            DebugSection::Info => row(b".debug_info", true, false, true),
+            DebugSection::Types => row(b".debug_types", true, false, true),
+            DebugSection::Abbrev => row(b".debug_abbrev", false, false, false),
+            DebugSection::Str => row(b".debug_str", true, true, false),
+            DebugSection::LineStr => row(b".debug_line_str", true, true, false),
+            DebugSection::StrOffsets => row(b".debug_str_offsets", true, false, false),
+            DebugSection::Line => row(b".debug_line", true, true, false),
+            DebugSection::Macro => row(b".debug_macro", true, false, true),
+            DebugSection::Names => row(b".debug_names", true, false, false),
         }
     }
 
@@ -182,7 +186,7 @@ pub fn moves(kind: Option<DebugSection>) -> bool
     ensures { result ≡ moves kind }
 {
     match kind {
-        Some(DebugSection::Str | DebugSection::LineStr | DebugSection::Line) => true,
-        _ => false,
+        Some(section) => section.row().moves,
+        None => false,
     }
 }

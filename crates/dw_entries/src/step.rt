@@ -53,20 +53,20 @@ fn has_attribute(specs: &[Spec], name: u64) -> bool
 }
 
 /// Whether an entry of the abbreviation stands for one in another file (DWARF 5, 3.1.2).
-fn is_split_entry(abbrev: &Abbrev) -> bool
-    ensures { result ≡ is_split_entry abbrev.now }
+fn is_split_entry(abbreviation: &Abbrev) -> bool
+    ensures { result ≡ is_split_entry abbreviation.now }
 {
-    let specs = abbrev.specs.as_slice();
-    abbrev.tag == DW_TAG_skeleton_unit
+    let specs = abbreviation.specs.as_slice();
+    abbreviation.tag == DW_TAG_skeleton_unit
         || has_attribute(specs, DW_AT_dwo_name)
         || has_attribute(specs, DW_AT_GNU_dwo_name)
 }
 
 /// Whether the entry of a number is a unit's first, and stands for one in another file.
-fn is_split_root(number: u64, abbrev: &Abbrev) -> bool
-    ensures { result ≡ is_split_root number abbrev.now }
+fn is_split_root(number: u64, abbreviation: &Abbrev) -> bool
+    ensures { result ≡ is_split_root number abbreviation.now }
 {
-    number == 0 && is_split_entry(abbrev)
+    number == 0 && is_split_entry(abbreviation)
 }
 
 /// A refusal at a place of the unit's section.
@@ -77,11 +77,15 @@ fn refused(kind: Kind, unit: &UnitHeader, place: u64) -> Refusal
 }
 
 /// How many lists are open behind an entry.
-fn depth_behind(abbrev: &Abbrev, depth: u32) -> u32
+fn depth_behind(abbreviation: &Abbrev, depth: u32) -> u32
     requires small { depth < 2 ^ 31 }
-    ensures { result ≡ depth_behind abbrev.now depth }
+    ensures { result ≡ depth_behind abbreviation.now depth }
 {
-    if abbrev.children { depth + 1 } else { depth }
+    if abbreviation.children {
+        depth + 1
+    } else {
+        depth
+    }
 }
 
 /// The number of the abbreviation of a code in the table, and the abbreviation. `None` exactly where the table hasn't the code.

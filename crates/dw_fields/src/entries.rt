@@ -19,17 +19,17 @@ use dw_entries::EntryScan;
 use dw_view::View;
 
 /// The tag of an abbreviation.
-fn tag_of(abbrev: &Abbrev) -> u64
-    ensures value { result ≡ abbrev.now.tag }
+fn tag_of(abbreviation: &Abbrev) -> u64
+    ensures value { result ≡ abbreviation.now.tag }
 {
-    abbrev.tag
+    abbreviation.tag
 }
 
 /// All attributes of an abbreviation.
-fn specs_of(abbrev: &Abbrev) -> &[Spec]
-    ensures value { result.now ≡ abbrev.now.specs }
+fn specs_of(abbreviation: &Abbrev) -> &[Spec]
+    ensures value { result.now ≡ abbreviation.now.specs }
 {
-    abbrev.specs.as_slice()
+    abbreviation.specs.as_slice()
 }
 
 /// A pass over the fields of an entry, entry `number` of its unit.

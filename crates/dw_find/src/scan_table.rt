@@ -69,25 +69,25 @@ impl ScanTable {
 }
 
 /// The tag of an abbreviation.
-fn tag_of(abbrev: &Abbrev) -> u64
-    ensures value { result ≡ abbrev.now.tag }
+fn tag_of(abbreviation: &Abbrev) -> u64
+    ensures value { result ≡ abbreviation.now.tag }
 {
-    abbrev.tag
+    abbreviation.tag
 }
 
 /// All attributes of an abbreviation.
-fn specs_of(abbrev: &Abbrev) -> &[Spec]
-    ensures value { result.now ≡ abbrev.now.specs }
+fn specs_of(abbreviation: &Abbrev) -> &[Spec]
+    ensures value { result.now ≡ abbreviation.now.specs }
 {
-    abbrev.specs.as_slice()
+    abbreviation.specs.as_slice()
 }
 
 /// So many attributes of an abbreviation.
-fn front_of(abbrev: &Abbrev, count: usize) -> &[Spec]
-    requires within { count ≤ length abbrev.now.specs }
-    ensures value { result.now ≡ take count abbrev.now.specs }
+fn front_of(abbreviation: &Abbrev, count: usize) -> &[Spec]
+    requires within { count ≤ length abbreviation.now.specs }
+    ensures value { result.now ≡ take count abbreviation.now.specs }
 {
-    &abbrev.specs.as_slice()[..count]
+    &abbreviation.specs.as_slice()[..count]
 }
 
 /// For each abbreviation, how many attributes it has up to the last that isn't quiet.
@@ -102,10 +102,10 @@ fn counts_of(alloc: Global, abbrevs: &[Abbrev]) -> Result<Vec<usize>, AllocError
 }
 
 /// How many attributes an abbreviation has up to the last that isn't quiet.
-fn count_of(abbrev: &Abbrev) -> usize
-    ensures count { IsCount abbrev.now result }
+fn count_of(abbreviation: &Abbrev) -> usize
+    ensures count { IsCount abbreviation.now result }
 {
-    quiet_from(abbrev.specs.as_slice())
+    quiet_from(abbreviation.specs.as_slice())
 }
 
 /// How many of these attributes stand up to the last that isn't quiet.

@@ -20,6 +20,8 @@ use Rattle.dw_base.specs.StringTables.{Plan, appending, new_texts, new_table}
 use Rattle.dw_base.specs.TableStarts.{HasStartForm, NamesMacro, NamesImport}
 use Rattle.dw_base.specs.TextChanges.{TableChange, TableChanges, edited_all, NamesTextBy, NamesText, InlineFits}
 use Rattle.dw_base.specs.TextIndexes.{EachUse, NamesSlot, index_uses}
+use Rattle.dw_base.specs.declared.debug_sections.DebugSection.{DebugSection}
+use Rattle.dw_base.specs.declared.debug_sections.DebugSection.TheVariants.{Info, Types, Abbrev, Str, LineStr, StrOffsets, Line, Macro, Names}
 
 -- debug data can be read: units, string offsets, macro units and name tables are these pieces, line tables fill their section, each offset
 -- names a text that ends, each value by index a slot, each value that is to say where a line table or a macro unit starts says it, and so
@@ -108,12 +110,32 @@ macro_bodies (r ∷ rs) = cells_body r.number (joined r.pieces) ∷ macro_bodies
 abbrev pub lines_body : TableChanges → DebugData → Body
 lines_body changes d = record { number = d.lines.number; bytes = all_lines changes.lines }
 
+-- what is new in a section that is read, by its kind: a section and its new bytes, or several in the order of their numbers. The
+-- sections of units of both kinds stand with `.debug_info`; abbreviations stay.
+abbrev pub bodies_of : TableChanges → DebugData → Around → DataReadings → DebugSection → List Body
+bodies_of changes d around r Info = unit_bodies changes around r.units
+bodies_of changes d around r Types = []
+bodies_of changes d around r Abbrev = []
+bodies_of changes d around r Str = table_body around.str changes.str ∷ []
+bodies_of changes d around r LineStr = table_body around.line_str changes.line_str ∷ []
+bodies_of changes d around r StrOffsets = cells_body d.offsets.number (joined (offsets_after changes around r)) ∷ []
+bodies_of changes d around r Line = lines_body changes d ∷ []
+bodies_of changes d around r Macro = macro_bodies (macros_after changes around r)
+bodies_of changes d around r Names = cells_body d.names.number (joined (names_after changes around r)) ∷ []
+
+-- the kinds, in the order in which their bodies are given
+abbrev pub body_order : List DebugSection
+body_order = Str ∷ LineStr ∷ StrOffsets ∷ Line ∷ Names ∷ Macro ∷ Info ∷ []
+
+-- the lists of these kinds, one behind another
+abbrev pub listed_by : {X : Type 0} → (DebugSection → List X) → List DebugSection → List X
+listed_by list [] = []
+listed_by list (s ∷ []) = list s
+listed_by list (s ∷ t ∷ ss) = list s ++ listed_by list (t ∷ ss)
+
 -- the sections with new bytes
 abbrev pub bodies_by : TableChanges → DebugData → Around → DataReadings → List Body
-bodies_by changes d around r =
-    table_body around.str changes.str ∷ table_body around.line_str changes.line_str
-    ∷ cells_body d.offsets.number (joined (offsets_after changes around r)) ∷ lines_body changes d ∷ cells_body d.names.number (joined (names_after changes around r))
-    ∷ (macro_bodies (macros_after changes around r) ++ unit_bodies changes around r.units)
+bodies_by changes d around r = listed_by (bodies_of changes d around r) body_order
 
 unfoldable pub new_bodies : PathMap → DebugData → DataReadings → List Body
 new_bodies m d r = bodies_by (changes_of m (around_of d r) r) d (around_of d r) r
