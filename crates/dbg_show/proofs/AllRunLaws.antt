@@ -26,6 +26,7 @@ use Rattle.dbg_show.specs.PieceRuns.{all_of}
 use Rattle.dbg_show.specs.UnitLists.{IsListed, AreListed, ListsAll, none_listed, more_listed}
 use Rattle.dbg_show.specs.declared.listed_unit.ListedUnit.{ListedUnit}
 use Rattle.dbg_show.proofs.PieceRunLaws.{SaidRun, said-more, said-none, before}
+use Rattle.dw_base.specs.declared.debug_sections.DebugSection.TheVariants.{Info}
 
 -- what units say, numbered on
 abbrev pub all_out : {T : Type 0} → (ℕ → ListedUnit → List T) → ℕ → List ListedUnit → List T
@@ -191,10 +192,10 @@ pub record Among (all : List UnitSection) (z : UnitSection) : Type 0 where
   pub is : all ≡ front ++ z ∷ back
 
 abbrev pub EachOut : {T : Type 0} → DebugData → List (List Abbreviation) → (ℕ → ListedUnit → Type 0) → (ℕ → Piece UnitState → List T) → (ℕ → ListedUnit → List T) → Type 0
-EachOut d tables Q F out = (z : UnitSection) → Among d.units z → UnitOut d tables Q (F z.number) z out
+EachOut d tables Q F out = (z : UnitSection) → Among (d.found Info) z → UnitOut d tables Q (F z.number) z out
 
 owns-out : {T : Type 0} (d : DebugData) (tables : List (List Abbreviation)) (Q : ℕ → ListedUnit → Type 0) (F : ℕ → Piece UnitState → List T) (out : ℕ → ListedUnit → List T) (first : ℕ) (front zs : List UnitSection)
-    (owns : List (List ListedUnit)) (rs : Readings) → EachOut d tables Q F out → d.units ≡ front ++ zs → EachOwn d tables zs owns → EachNumbered Q first (concat_all owns) → ReadsAll d.base first zs rs
+    (owns : List (List ListedUnit)) (rs : Readings) → EachOut d tables Q F out → d.found Info ≡ front ++ zs → EachOwn d tables zs owns → EachNumbered Q first (concat_all owns) → ReadsAll d.base first zs rs
     → all_pieces F rs ≡ all_out out first (concat_all owns)
 owns-out d tables Q F out first front [] [] [] says is each q reads = refl
 owns-out d tables Q F out first front [] [] (r ∷ rs) says is each q reads = absurd reads
@@ -214,11 +215,11 @@ owns-out {T} d tables Q F out first front (z ∷ zs) (o ∷ os) (r ∷ rs) says 
     ∙ sym (out-append out first o (concat_all os))
 
 pub all-said-out : {T : Type 0} (d : DebugData) (tables : List (List Abbreviation)) (Q : ℕ → ListedUnit → Type 0) (F : ℕ → Piece UnitState → List T) (out : ℕ → ListedUnit → List T)
-    (us : List ListedUnit) (rs : Readings) → EachOut d tables Q F out → EachNumbered Q 0 us → ListsAll d tables d.units us → ReadsAll d.base 0 d.units rs
+    (us : List ListedUnit) (rs : Readings) → EachOut d tables Q F out → EachNumbered Q 0 us → ListsAll d tables (d.found Info) us → ReadsAll d.base 0 (d.found Info) rs
     → all_pieces F rs ≡ all_out out 0 us
 all-said-out d tables Q F out us rs says q l reads =
-    let o : Owned d tables d.units us = all-owned d tables d.units us l in
-    owns-out d tables Q F out 0 [] d.units o.owns rs says refl o.each (subst (EachNumbered Q 0) o.is q) reads ∙ ap (all_out out 0) (sym o.is)
+    let o : Owned d tables (d.found Info) us = all-owned d tables (d.found Info) us l in
+    owns-out d tables Q F out 0 [] (d.found Info) o.owns rs says refl o.each (subst (EachNumbered Q 0) o.is q) reads ∙ ap (all_out out 0) (sym o.is)
 
 -- what holds of each unit of these sections
 abbrev pub EachUnit : (ListedUnit → Type 0) → List ListedUnit → Type 0
@@ -243,7 +244,7 @@ section-holds d tables P z all z_end own holds (more_scanned list h start table 
     (holds start list h r.last table items (scanned-units d.base z list start scanned) u t entries r.one, tt))
 
 owns-hold : (d : DebugData) (tables : List (List Abbreviation)) (P : ListedUnit → Type 0) (first : ℕ) (front zs : List UnitSection)
-    (owns : List (List ListedUnit)) (rs : Readings) → ((z : UnitSection) → Among d.units z → UnitHolds d tables P z) → d.units ≡ front ++ zs → EachOwn d tables zs owns
+    (owns : List (List ListedUnit)) (rs : Readings) → ((z : UnitSection) → Among (d.found Info) z → UnitHolds d tables P z) → d.found Info ≡ front ++ zs → EachOwn d tables zs owns
     → ReadsAll d.base first zs rs → EachUnit P (concat_all owns)
 owns-hold d tables P first front [] [] [] holds is each reads = tt
 owns-hold d tables P first front [] [] (r ∷ rs) holds is each reads = absurd reads
@@ -259,7 +260,7 @@ owns-hold d tables P first front (z ∷ zs) (o ∷ os) (r ∷ rs) holds is each 
     (owns-hold d tables P (first + units_in r.pieces) (front ++ z ∷ []) zs os rs holds (is ∙ sym (append_assoc front (z ∷ []) zs)) each.1 reads.2)
 
 pub all-hold : (d : DebugData) (tables : List (List Abbreviation)) (P : ListedUnit → Type 0) (us : List ListedUnit) (rs : Readings)
-    → ((z : UnitSection) → Among d.units z → UnitHolds d tables P z) → ListsAll d tables d.units us → ReadsAll d.base 0 d.units rs → EachUnit P us
+    → ((z : UnitSection) → Among (d.found Info) z → UnitHolds d tables P z) → ListsAll d tables (d.found Info) us → ReadsAll d.base 0 (d.found Info) rs → EachUnit P us
 all-hold d tables P us rs holds l reads =
-    let o : Owned d tables d.units us = all-owned d tables d.units us l in
-    subst (EachUnit P) (sym o.is) (owns-hold d tables P 0 [] d.units o.owns rs holds refl o.each reads)
+    let o : Owned d tables (d.found Info) us = all-owned d tables (d.found Info) us l in
+    subst (EachUnit P) (sym o.is) (owns-hold d tables P 0 [] (d.found Info) o.owns rs holds refl o.each reads)

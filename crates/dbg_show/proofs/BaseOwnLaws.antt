@@ -30,6 +30,7 @@ use Rattle.dbg_show.proofs.UnitFactLaws.{UnitFacts, unit-facts}
 use Rattle.dw_find.specs.TextPlaces.{own_form}
 use Rattle.dbg_show.proofs.ValueTextLaws.{IsIn}
 use Rattle.dw_base.proofs.ViewCellLaws.{offsets-located}
+use Rattle.dw_base.specs.declared.debug_sections.DebugSection.TheVariants.{Info, StrOffsets}
 
 order-of : (v : View) → (debug_data v).base.order ≡ v.order
 unfolding debug_data
@@ -65,7 +66,7 @@ own_base v tables u = tabled_base v u.header (item_at tables u.table)
 
 -- all that units say
 abbrev pub offsets_in : View → Located
-offsets_in v = located_cells (debug_data v).offsets
+offsets_in v = located_cells ((debug_data v).found StrOffsets)
 
 base-out : (g : UnitSource) → EachOut (debug_data g.view) g.tables NoPremise (λ n. bases_of (debug_data g.view).base.order (offsets_in g.view)) (unit_bases g.view g.tables)
 base-out g z among start unit h u table items q is t entries listed =
@@ -88,7 +89,7 @@ pieces-bases order z (r ∷ rs) =
     ap (λ (t : List SaidBase). t ++ all_bases order z rs) (bases-all order z r.pieces)
     ∙ ap (λ (t : List SaidBase). all_of (bases_of order z) r.pieces ++ t) (pieces-bases order z rs)
 
-bases-are : (g : UnitSource) (rs : Readings) → ListsAll (debug_data g.view) g.tables (debug_data g.view).units g.units → ReadsAll (debug_data g.view).base 0 (debug_data g.view).units rs
+bases-are : (g : UnitSource) (rs : Readings) → ListsAll (debug_data g.view) g.tables ((debug_data g.view).found Info) g.units → ReadsAll (debug_data g.view).base 0 ((debug_data g.view).found Info) rs
     → all_bases (debug_data g.view).base.order (offsets_in g.view) rs ≡ all_out (unit_bases g.view g.tables) 0 g.units
 bases-are g rs l reads =
     pieces-bases (debug_data g.view).base.order (offsets_in g.view) rs
@@ -172,7 +173,7 @@ each-base v tables all first (u ∷ us) same = (
       same k (omega (arith, le)) ∙ unit-skip v tables first k u (all_out (unit_bases v tables) (first + 1) us) (λ (e : first ≡ k). omega (arith, e, le))),
 )
 
-pub all-based : (g : UnitSource) (rs : Readings) → ListsAll (debug_data g.view) g.tables (debug_data g.view).units g.units → ReadsAll (debug_data g.view).base 0 (debug_data g.view).units rs
+pub all-based : (g : UnitSource) (rs : Readings) → ListsAll (debug_data g.view) g.tables ((debug_data g.view).found Info) g.units → ReadsAll (debug_data g.view).base 0 ((debug_data g.view).found Info) rs
     → EachNumbered (HasBase g.view g.tables (all_bases (debug_data g.view).base.order (offsets_in g.view) rs)) 0 g.units
 all-based g rs l reads =
     each-base g.view g.tables (all_bases (debug_data g.view).base.order (offsets_in g.view) rs) 0 g.units

@@ -15,6 +15,7 @@ use Rattle.dbg_show.specs.UnitLists.{AreListed, ListsAll, none_listed, more_list
 use Rattle.dbg_show.specs.declared.listed_unit.ListedUnit.{ListedUnit}
 use Rattle.dbg_show.proofs.AllRunLaws.{LastListed, last-listed}
 use Rattle.dbg_show.proofs.UnitStartLaws.{unit-some}
+use Rattle.dw_base.specs.declared.debug_sections.DebugSection.TheVariants.{Info}
 
 -- units behind units
 apart-lower : (p q : ℕ) (us : List ListedUnit) (r : ℕ) → p ≤ q → AreApart q us r → AreApart p us r
@@ -110,10 +111,10 @@ all-apart d tables all whole q (more_listed zs us own z headers l units listed) 
     apart-append 0 us (place_key z.number 0) own (place_key q 0) (all-apart d tables zs us z.number l r.others)
     (apart-raise (place_key z.number 0) own (place_key z.number (length z.contents)) (place_key q 0) section.apart (omega (arith, below, short)))
 
-pub stand-apart : (v : View) (tables : List (List Abbreviation)) (us : List ListedUnit) → ListsAll (debug_data v) tables (debug_data v).units us → StandApart us
+pub stand-apart : (v : View) (tables : List (List Abbreviation)) (us : List ListedUnit) → ListsAll (debug_data v) tables ((debug_data v).found Info) us → StandApart us
 unfolding debug_data unit_sections
 stand-apart v tables us l = record {
   end = place_key (1 + length (drop 1 v.sections)) 0;
-  apart = all-apart (debug_data v) tables (debug_data v).units us (1 + length (drop 1 v.sections)) l
+  apart = all-apart (debug_data v) tables ((debug_data v).found Info) us (1 + length (drop 1 v.sections)) l
       (rise-lower 0 1 (unit_sections v) (1 + length (drop 1 v.sections)) (omega arith) (numbers-rise 1 (drop 1 v.sections)));
 }

@@ -46,7 +46,7 @@ info-from i (s ∷ ss) = by_bytes s.has_bytes (info-from (suc i) ss)
     by_bytes true rest = by_kind (debug_section s.name) refl (same_text s.name (name_of Info)) refl rest
     by_bytes false rest = rest
 
-pub info-is : (v : View) → first_of (info_numbers (debug_data v).units) ≡ info_section v
+pub info-is : (v : View) → first_of (info_numbers ((debug_data v).found Info)) ≡ info_section v
 unfolding debug_data unit_sections section_named section_after
 info-is v = info-from 1 (drop 1 v.sections)
 
@@ -132,7 +132,7 @@ numbers-held i (suc m) (s ∷ ss) =
     ∙ ap (λ (t : Bool). if t then true else front_filled (drop m ss))
     (and-other (is_filled (name_of Info) s) (i == i + suc m) (ne_eqb i (i + suc m) (λ (e : i ≡ i + suc m). omega (arith, e))))
 
-info-held : (v : View) (k : ℕ) → holds_number (info_numbers (debug_data v).units) (suc k) ≡ held (section_after v (name_of Info) k) (suc k)
+info-held : (v : View) (k : ℕ) → holds_number (info_numbers ((debug_data v).found Info)) (suc k) ≡ held (section_after v (name_of Info) k) (suc k)
 unfolding debug_data unit_sections section_after
 info-held v k =
     let next : suc k ≡ 1 + k = omega arith in
@@ -140,20 +140,20 @@ info-held v k =
     ∙ ap front_filled (drop-drop k 1 v.sections ∙ ap (λ (n : ℕ). drop n v.sections) (sym next))
     ∙ sym (first-held (suc k) (drop (suc k) v.sections))
 
-pub info-zero : (v : View) (n : ℕ) → n ≡ 0 → false ≡ holds_number (info_numbers (debug_data v).units) n
+pub info-zero : (v : View) (n : ℕ) → n ≡ 0 → false ≡ holds_number (info_numbers ((debug_data v).found Info)) n
 unfolding debug_data unit_sections
 info-zero v n e = sym (numbers-below 1 n (drop 1 v.sections) (omega (arith, e)))
 
-pub info-found : (v : View) (n found : ℕ) → 1 ≤ n → Some found ≡ section_after v (name_of Info) (n - 1) → (found == n) ≡ holds_number (info_numbers (debug_data v).units) n
+pub info-found : (v : View) (n found : ℕ) → 1 ≤ n → Some found ≡ section_after v (name_of Info) (n - 1) → (found == n) ≡ holds_number (info_numbers ((debug_data v).found Info)) n
 info-found v n found some e =
     let own : n ≡ suc (n - 1) = omega (arith, some) in
     ap (λ (o : Option ℕ). held o n) e ∙ ap (held (section_after v (name_of Info) (n - 1))) own ∙ sym (info-held v (n - 1))
-    ∙ ap (holds_number (info_numbers (debug_data v).units)) (sym own)
+    ∙ ap (holds_number (info_numbers ((debug_data v).found Info))) (sym own)
 
-pub info-none : (v : View) (n : ℕ) → 1 ≤ n → None ≡ section_after v (name_of Info) (n - 1) → false ≡ holds_number (info_numbers (debug_data v).units) n
+pub info-none : (v : View) (n : ℕ) → 1 ≤ n → None ≡ section_after v (name_of Info) (n - 1) → false ≡ holds_number (info_numbers ((debug_data v).found Info)) n
 info-none v n some e =
     let own : n ≡ suc (n - 1) = omega (arith, some) in
     ap (λ (o : Option ℕ). held o n) e ∙ ap (held (section_after v (name_of Info) (n - 1))) own ∙ sym (info-held v (n - 1))
-    ∙ ap (holds_number (info_numbers (debug_data v).units)) (sym own)
+    ∙ ap (holds_number (info_numbers ((debug_data v).found Info))) (sym own)
 
 pub ruleset number_laws = (info-zero, info-found, info-none)

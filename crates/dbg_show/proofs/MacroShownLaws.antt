@@ -32,6 +32,7 @@ use Rattle.dbg_show.specs.MacroTexts.{events_text, macros_line, macros_text}
 use Rattle.dbg_show.specs.ShownMacros.{AreMacros, MacroSource, MacrosFit, event_shown, events_shown, line_number, units_shown}
 use Rattle.dbg_show.proofs.MacroListLaws.{all-in}
 use Rattle.dbg_show.proofs.MacroStartLaws.{unit-numbered}
+use Rattle.dw_base.specs.declared.debug_sections.DebugSection.TheVariants.{Line, Macro}
 
 -- the units of all sections mean what their pieces mean
 units-all : (v : View) (g : Around) (zs : List CellSection) (rs : List MacroReading) (ss : List SectionUnits) → Seen v g → g.lasting.base.order ≡ v.order → AllCells v zs
@@ -49,7 +50,7 @@ units-all v g (z ∷ zs) (r ∷ rs) (s ∷ ss) seen order cells under have reads
     ∙ sym (map-append (unit_meaning v g) s.units (all_units ss))
 
 -- events
-event-same : (m : MacroSource) (g : Around) (e : MacroEvent) (es : List MacroEvent) → ((s o : ℕ) → started_unit 0 g.lasting.macros.starts s o ≡ unit_number m.keys s o)
+event-same : (m : MacroSource) (g : Around) (e : MacroEvent) (es : List MacroEvent) → ((s o : ℕ) → started_unit 0 (g.lasting.kept Macro).starts s o ≡ unit_number m.keys s o)
     → event_shown m e ++ events_text (map (event_meaning m.view g) es) ≡ events_text (map (event_meaning m.view g) (e ∷ es))
 unfolding event_shown
 event-same m g (Define line text) es named = refl
@@ -59,19 +60,19 @@ event-same m g EndFile es named = refl
 event-same m g (Import section offset field) es named =
     ap (λ (o : Option ℕ). events_text (brought o ∷ map (event_meaning m.view g) es)) (sym (named section offset))
 
-events-same : (m : MacroSource) (g : Around) (es : List MacroEvent) → ((s o : ℕ) → started_unit 0 g.lasting.macros.starts s o ≡ unit_number m.keys s o)
+events-same : (m : MacroSource) (g : Around) (es : List MacroEvent) → ((s o : ℕ) → started_unit 0 (g.lasting.kept Macro).starts s o ≡ unit_number m.keys s o)
     → events_shown m es ≡ events_text (map (event_meaning m.view g) es)
 events-same m g [] named = refl
 events-same m g (e ∷ es) named = ap (λ (t : List ℕ). event_shown m e ++ t) (events-same m g es named) ∙ event-same m g e es named
 
 -- units
-units-same : (m : MacroSource) (g : Around) (n : ℕ) (us : List MacroUnit) → ((s o : ℕ) → started_unit 0 g.lasting.macros.starts s o ≡ unit_number m.keys s o) → g.starts ≡ m.lines
+units-same : (m : MacroSource) (g : Around) (n : ℕ) (us : List MacroUnit) → ((s o : ℕ) → started_unit 0 (g.lasting.kept Macro).starts s o ≡ unit_number m.keys s o) → (g.stands Line).starts ≡ m.lines
     → units_shown m n us ≡ macros_text n (map (unit_meaning m.view g) us)
 units-same m g n [] named lines = refl
 units-same m g n (u ∷ us) named lines =
     ap (λ (t : List ℕ). (macros_line n u.version (line_number m.lines u.line) ++ t) ++ units_shown m (n + 1) us) (events-same m g (unit_events m.view u) named)
     ∙ ap (λ (ls : List ℕ). (macros_line n u.version (line_number ls u.line) ++ events_text (map (event_meaning m.view g) (unit_events m.view u))) ++ units_shown m (n + 1) us) (sym lines)
-    ∙ ap (λ (t : List ℕ). (macros_line n u.version (line_number g.starts u.line) ++ events_text (map (event_meaning m.view g) (unit_events m.view u))) ++ t)
+    ∙ ap (λ (t : List ℕ). (macros_line n u.version (line_number (g.stands Line).starts u.line) ++ events_text (map (event_meaning m.view g) (unit_events m.view u))) ++ t)
     (units-same m g (n + 1) us named lines)
 
 -- those of a view
@@ -79,7 +80,7 @@ order-seen : (v : View) (r : DataReadings) → (around_of (debug_data v) r).last
 unfolding debug_data
 order-seen v r = refl
 
-reads-order : (v : View) (rs : List MacroReading) → ReadsAllMacros (debug_data v).base.order (debug_data v).macros rs → ReadsAllMacros v.order (debug_data v).macros rs
+reads-order : (v : View) (rs : List MacroReading) → ReadsAllMacros (debug_data v).base.order ((debug_data v).found Macro) rs → ReadsAllMacros v.order ((debug_data v).found Macro) rs
 unfolding debug_data
 reads-order v rs reads = reads
 
@@ -100,7 +101,7 @@ macros-shown m ts ss d lines are =
     (λ s o. units-numbered m.view ts ss d m.units m.keys are s o)
     (sym (read-starts (line_source (debug_data m.view)) d.readings.lines) ∙ ap starts_of (sym d.tables) ∙ sym lines)
     ∙ ap (λ (us : List MacroUnit). macros_text 0 (map (unit_meaning m.view (around_of (debug_data m.view) d.readings)) us)) are.units_are
-    ∙ ap (macros_text 0) (sym (units-all m.view (around_of (debug_data m.view) d.readings) (debug_data m.view).macros d.readings.macros ss (seen-view m.view d.readings)
+    ∙ ap (macros_text 0) (sym (units-all m.view (around_of (debug_data m.view) d.readings) ((debug_data m.view).found Macro) d.readings.macros ss (seen-view m.view d.readings)
     (order-seen m.view d.readings) (all-cells m.view) (numbers-below m.view) d.units.units (reads-order m.view d.readings.macros d.reads.macros)))
 
 -- and what is searched in rises

@@ -24,6 +24,7 @@ use Rattle.dbg_show.proofs.AllRunLaws.{Among, EachNumbered, EachOut, EachUnit, U
 use Rattle.dbg_show.proofs.EntryPlaceLaws.{AllInside, all-places, entries-inside, found-elsewhere, found-listed, found_or, listed_places, no_place, number-lies, one_place, places-out, places-said, places_of}
 use Rattle.dbg_show.proofs.PieceRunLaws.{SaidRun, before, in_headed, unit-run}
 use Rattle.dbg_show.proofs.UnitFactLaws.{UnitFacts, unit-facts}
+use Rattle.dw_base.specs.declared.debug_sections.DebugSection.TheVariants.{Info}
 
 -- the entries of a unit with its table
 abbrev pub tabled_places : View → ℕ → UnitHeader → Option (List Abbreviation) → List EntryPlace
@@ -60,8 +61,8 @@ pieces-places [] = refl
 pieces-places (r ∷ rs) =
     ap (λ (t : List EntryPlace). t ++ all_places rs) (all-places r.pieces) ∙ ap (λ (t : List EntryPlace). all_of places_of r.pieces ++ t) (pieces-places rs)
 
-pub places-are : (v : View) (tables : List (List Abbreviation)) (us : List ListedUnit) (rs : Readings) → ListsAll (debug_data v) tables (debug_data v).units us
-    → ReadsAll (debug_data v).base 0 (debug_data v).units rs → all_places rs ≡ all_out (unit_places v tables) 0 us
+pub places-are : (v : View) (tables : List (List Abbreviation)) (us : List ListedUnit) (rs : Readings) → ListsAll (debug_data v) tables ((debug_data v).found Info) us
+    → ReadsAll (debug_data v).base 0 ((debug_data v).found Info) rs → all_places rs ≡ all_out (unit_places v tables) 0 us
 places-are v tables us rs l reads =
     pieces-places rs ∙ all-said-out (debug_data v) tables NoPremise (λ n. places_of) (unit_places v tables) us rs (place-out v tables) (no-premises 0 us) l reads
 
@@ -73,11 +74,11 @@ pub record LiesIn (v : View) (tables : List (List Abbreviation)) (u : ListedUnit
   pub starts : u.header.start ≤ u.header.first
   pub ends : length (unit_bytes v u.header) ≤ u.header.end
 
-pub lie-in : (v : View) (tables : List (List Abbreviation)) (us : List ListedUnit) (rs : Readings) → ListsAll (debug_data v) tables (debug_data v).units us
-    → ReadsAll (debug_data v).base 0 (debug_data v).units rs → EachUnit (LiesIn v tables) us
+pub lie-in : (v : View) (tables : List (List Abbreviation)) (us : List ListedUnit) (rs : Readings) → ListsAll (debug_data v) tables ((debug_data v).found Info) us
+    → ReadsAll (debug_data v).base 0 ((debug_data v).found Info) rs → EachUnit (LiesIn v tables) us
 lie-in v tables us rs l reads = all-hold (debug_data v) tables (LiesIn v tables) us rs holds l reads
   where
-    holds : (z : UnitSection) → Among (debug_data v).units z → UnitHolds (debug_data v) tables (LiesIn v tables) z
+    holds : (z : UnitSection) → Among ((debug_data v).found Info) z → UnitHolds (debug_data v) tables (LiesIn v tables) z
     holds z among start list h u table items units is t entries listed =
         let f : UnitFacts v tables z h u table items = unit-facts v tables z start h u table items among is t entries listed in
         let own : unit_entries h table (unit_bytes v h) ≡ items = ap (unit_entries h table) (sym f.bytes_are) ∙ f.items_are in
@@ -135,8 +136,8 @@ found-named v tables unit (u ∷ us) section place offset each =
         (found_entry (all_out (unit_places v tables) (unit + 1) us) section place offset)) e)
 
 -- as it is printed
-pub entries-shown : (g : UnitSource) (rs : Readings) (section place offset : ℕ) → ListsAll (debug_data g.view) g.tables (debug_data g.view).units g.units
-    → ReadsAll (debug_data g.view).base 0 (debug_data g.view).units rs
+pub entries-shown : (g : UnitSource) (rs : Readings) (section place offset : ℕ) → ListsAll (debug_data g.view) g.tables ((debug_data g.view).found Info) g.units
+    → ReadsAll (debug_data g.view).base 0 ((debug_data g.view).found Info) rs
     → value_said (found_entry (all_places rs) section place offset) ≡ entry_shown g section place offset
 unfolding entry_shown
 entries-shown g rs section place offset l reads =

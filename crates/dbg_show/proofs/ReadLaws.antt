@@ -16,7 +16,7 @@ use Rattle.dw_base.specs.StringOffsets.{AreContributions}
 use Rattle.dw_base.specs.UnitMeanings.{units_of}
 use Rattle.dw_base.specs.ViewData.{debug_data, located, located_at, string_offsets}
 use Rattle.dw_base.specs.declared.string_offsets.Contribution.{Contribution}
-use Rattle.dw_base.specs.declared.debug_sections.DebugSection.TheVariants.{Str, LineStr, Line}
+use Rattle.dw_base.specs.declared.debug_sections.DebugSection.TheVariants.{Info, Str, LineStr, Line}
 use Rattle.dw_base.specs.declared.fault.Fault.{Fault}
 use Rattle.dw_base.specs.declared.fault.Fault.TheVariants.{NoMemory, Refused}
 use Rattle.dw_base.specs.declared.fault.Refusal.{Refusal}
@@ -61,11 +61,11 @@ use Rattle.dbg_show.proofs.PrintingLaws.{goes-start, goes-more, goes-over, goes-
 
 -- what the texts stand in
 pub source-made : (v : View) (order : Order) (lines str line_str : Located) → order ≡ v.order → lines ≡ located v Line → str ≡ located v Str → line_str ≡ located v LineStr
-    → ◌≡◌ {A = LineSource} (record { order = order; number = lines.number; is_read = true; bytes = lines.bytes; cells = (debug_data v).lines.contents; str = str; line_str = line_str })
+    → ◌≡◌ {A = LineSource} (record { order = order; number = lines.number; is_read = true; bytes = lines.bytes; cells = ((debug_data v).found Line).contents; str = str; line_str = line_str })
     (line_source (debug_data v))
 unfolding debug_data
 source-made v order lines str line_str o l s t =
-    rw (o, l, s, t) (ap (λ (z : Located). record { order = v.order; number = z.number; is_read = true; bytes = z.bytes; cells = (debug_data v).lines.contents; str = located v Str; line_str = located v LineStr })
+    rw (o, l, s, t) (ap (λ (z : Located). record { order = v.order; number = z.number; is_read = true; bytes = z.bytes; cells = ((debug_data v).found Line).contents; str = located v Str; line_str = located v LineStr })
     (sym (lines-located v)))
 
 pub ruleset source_laws = (source-made)
@@ -232,8 +232,8 @@ whole-text : (v : View) (ts : List LineTable) (g : UnitSource) (m : MacroSource)
     → all_printed v g ts m ≡ view_text v (reads-of v ts s.sections s.tables)
 whole-text v ts g m s =
     ap (λ (x : List ℕ). x ++ (all_read v (line_source (debug_data v)) 0 ts ++ units_shown m 0 m.units)) s.units
-    ∙ ap (λ (x : List ℕ). units_text (debug_data v).units 0 (units_of (debug_data v) s.tables.read.readings) ++ (x ++ units_shown m 0 m.units)) s.tables.text
-    ∙ ap (λ (x : List ℕ). units_text (debug_data v).units 0 (units_of (debug_data v) s.tables.read.readings)
+    ∙ ap (λ (x : List ℕ). units_text ((debug_data v).found Info) 0 (units_of (debug_data v) s.tables.read.readings) ++ (x ++ units_shown m 0 m.units)) s.tables.text
+    ∙ ap (λ (x : List ℕ). units_text ((debug_data v).found Info) 0 (units_of (debug_data v) s.tables.read.readings)
     ++ (lines_text (line_meanings (line_source (debug_data v)) s.tables.read.readings.lines) ++ x)) s.macros
 
 pub is-shown : (v : View) (ts : List LineTable) (g : UnitSource) (m : MacroSource) (old new : Heard) → AreSources v ts g m → Printed (all_printed v g ts m) [] old new [] → IsShown v old new
@@ -267,7 +267,7 @@ abbrev pub macros_of : View → List ℕ → List MacroUnit → List ℕ → Mac
 macros_of v lines us keys = record { view = v; lines = lines; units = us; keys = keys }
 
 pub sources-are : (v : View) (us : List ListedUnit) (tables : List (List Abbreviation)) (index : EntryIndex) (cs_ : List Contribution) (starts : List ℕ) (macros : List MacroUnit)
-    (keys : List ℕ) (ts : List LineTable) (ss : List SectionUnits) → ViewTables v ts ss → ListsAll (debug_data v) tables (debug_data v).units us → IsIndexed v tables us index
+    (keys : List ℕ) (ts : List LineTable) (ss : List SectionUnits) → ViewTables v ts ss → ListsAll (debug_data v) tables ((debug_data v).found Info) us → IsIndexed v tables us index
     → AreContributions v.order (string_offsets v) cs_ → starts ≡ starts_of ts → AreMacros v ss macros keys
     → AreSources v ts (source_of v us tables index cs_ starts keys) (macros_of v starts macros keys)
 sources-are v us tables index cs_ starts macros keys ts ss t listed indexed are is list = record {
@@ -280,11 +280,11 @@ sources-are v us tables index cs_ starts macros keys ts ss t listed indexed are 
 }
 
 -- the units are those of a list that was read
-pub units-listed : (v : View) (us vs : List ListedUnit) (tables abbrevs : List (List Abbreviation)) → us ≡ vs → tables ≡ abbrevs → ListsAll (debug_data v) abbrevs (debug_data v).units vs
-    → ListsAll (debug_data v) tables (debug_data v).units us
+pub units-listed : (v : View) (us vs : List ListedUnit) (tables abbrevs : List (List Abbreviation)) → us ≡ vs → tables ≡ abbrevs → ListsAll (debug_data v) abbrevs ((debug_data v).found Info) vs
+    → ListsAll (debug_data v) tables ((debug_data v).found Info) us
 units-listed v us vs tables abbrevs is are listed =
-    subst (λ (xs : List ListedUnit). ListsAll (debug_data v) tables (debug_data v).units xs) (sym is)
-    (subst (λ (xs : List (List Abbreviation)). ListsAll (debug_data v) xs (debug_data v).units vs) (sym are) listed)
+    subst (λ (xs : List ListedUnit). ListsAll (debug_data v) tables ((debug_data v).found Info) xs) (sym is)
+    (subst (λ (xs : List (List Abbreviation)). ListsAll (debug_data v) xs ((debug_data v).found Info) vs) (sym are) listed)
 
 pub macros-listed : (v : View) (ss : List SectionUnits) (us ws : List MacroUnit) (keys numbers : List ℕ) → us ≡ ws → keys ≡ numbers → AreMacros v ss ws numbers → AreMacros v ss us keys
 macros-listed v ss us ws keys numbers is are list =
@@ -292,7 +292,7 @@ macros-listed v ss us ws keys numbers is are list =
 
 -- and each of them can be read
 pub units-can : (v : View) (ts : List LineTable) (ss : List SectionUnits) (us : List ListedUnit) (tables : List (List Abbreviation)) → ViewTables v ts ss
-    → ListsAll (debug_data v) tables (debug_data v).units us → AllCanRead v tables us
+    → ListsAll (debug_data v) tables ((debug_data v).found Info) us → AllCanRead v tables us
 units-can v ts ss us tables t listed = units-read v ts ss us tables t.read listed
 
 -- the macro units of sections that were read are of the view

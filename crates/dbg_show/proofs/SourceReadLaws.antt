@@ -37,9 +37,10 @@ use Rattle.dbg_show.proofs.MacroShownLaws.{keys-risen, units-numbered}
 use Rattle.dbg_show.proofs.UnitFactLaws.{unit-reads}
 use Rattle.dbg_show.proofs.UnitTextLaws.{SourceIs, units-shown}
 use Rattle.dw_base.proofs.ViewCellLaws.{offsets-located}
+use Rattle.dw_base.specs.declared.debug_sections.DebugSection.TheVariants.{Info, StrOffsets, Macro}
 
 -- the bytes of string offsets
-offsets-bytes : (v : View) → bytes_of (debug_data v).offsets.contents ≡ (string_offsets v).bytes
+offsets-bytes : (v : View) → bytes_of ((debug_data v).found StrOffsets).contents ≡ (string_offsets v).bytes
 offsets-bytes v = ap (λ (z : Located). z.bytes) (offsets-located v)
 
 order-of : (v : View) → (debug_data v).base.order ≡ v.order
@@ -47,21 +48,21 @@ unfolding debug_data
 order-of v = refl
 
 -- the first section of macro units
-first-is : (v : View) → first_macros (debug_data v).macros ≡ first_macro v
+first-is : (v : View) → first_macros ((debug_data v).found Macro) ≡ first_macro v
 unfolding debug_data
 first-is v = first-macros v
 
 -- the contributions that were read are those among the pieces
-contributions-read : (v : View) (xs : List (Piece OffsetState)) (list : List Contribution) → ReadsOffsets (debug_data v).base.order (debug_data v).offsets.contents xs
+contributions-read : (v : View) (xs : List (Piece OffsetState)) (list : List Contribution) → ReadsOffsets (debug_data v).base.order ((debug_data v).found StrOffsets).contents xs
     → AreContributions v.order (string_offsets v) list → contributions_in (debug_data v).base.order xs ≡ list
 contributions-read v xs list reads are =
-    let up : ContributionsUpTo (debug_data v).base.order (bytes_of (debug_data v).offsets.contents) list (length (bytes_of (debug_data v).offsets.contents)) =
-    subst (λ (o : Order). ContributionsUpTo o (bytes_of (debug_data v).offsets.contents) list (length (bytes_of (debug_data v).offsets.contents))) (sym (order-of v))
+    let up : ContributionsUpTo (debug_data v).base.order (bytes_of ((debug_data v).found StrOffsets).contents) list (length (bytes_of ((debug_data v).found StrOffsets).contents)) =
+    subst (λ (o : Order). ContributionsUpTo o (bytes_of ((debug_data v).found StrOffsets).contents) list (length (bytes_of ((debug_data v).found StrOffsets).contents))) (sym (order-of v))
     (subst (λ (bs : List ℕ). ContributionsUpTo v.order bs list (length bs)) (sym (offsets-bytes v)) are) in
-    contributions-are (debug_data v).base.order (debug_data v).offsets.contents xs list reads up
+    contributions-are (debug_data v).base.order ((debug_data v).found StrOffsets).contents xs list reads up
 
 pub source-is : (g : UnitSource) (ts : List LineTable) (ss : List SectionUnits) (d : DataRead g.view ts ss) (macros : List MacroUnit)
-    → ListsAll (debug_data g.view) g.tables (debug_data g.view).units g.units
+    → ListsAll (debug_data g.view) g.tables ((debug_data g.view).found Info) g.units
     → AreContributions g.view.order (string_offsets g.view) g.contributions → g.starts ≡ starts_of ts → AreMacros g.view ss macros g.keys → SourceIs g d.readings
 source-is g ts ss d macros listed are starts list = record {
   listed = listed;
@@ -80,13 +81,13 @@ each-reads v tables (u ∷ us) each = (each.0, each-reads v tables us each.1)
 
 -- each unit that is listed can be read
 pub units-read : (v : View) (ts : List LineTable) (ss : List SectionUnits) (us : List ListedUnit) (tables : List (List Abbreviation)) → DataRead v ts ss
-    → ListsAll (debug_data v) tables (debug_data v).units us → AllCanRead v tables us
+    → ListsAll (debug_data v) tables ((debug_data v).found Info) us → AllCanRead v tables us
 units-read v ts ss us tables d listed =
     each-reads v tables us
     (all-hold (debug_data v) tables (EachReads v tables) us d.readings.units (λ z among start list h u table items. unit-reads v tables z start list h u table items among) listed d.reads.units)
 
 pub source-fits : (g : UnitSource) (ts : List LineTable) (ss : List SectionUnits) (d : DataRead g.view ts ss) (macros : List MacroUnit)
-    → ListsAll (debug_data g.view) g.tables (debug_data g.view).units g.units
+    → ListsAll (debug_data g.view) g.tables ((debug_data g.view).found Info) g.units
     → g.starts ≡ starts_of ts → IsIndexed g.view g.tables g.units g.index → AreMacros g.view ss macros g.keys → SourceFits g
 source-fits g ts ss d macros listed starts indexed list =
     let t : TablesStart (debug_data g.view) g.starts = record {
@@ -104,7 +105,7 @@ source-fits g ts ss d macros listed starts indexed list =
 
 -- so what is printed is the text of what units mean
 pub source-text : (g : UnitSource) (ts : List LineTable) (ss : List SectionUnits) (d : DataRead g.view ts ss) (macros : List MacroUnit)
-    → ListsAll (debug_data g.view) g.tables (debug_data g.view).units g.units
+    → ListsAll (debug_data g.view) g.tables ((debug_data g.view).found Info) g.units
     → AreContributions g.view.order (string_offsets g.view) g.contributions → g.starts ≡ starts_of ts → AreMacros g.view ss macros g.keys
-    → all_shown g 0 g.units ≡ units_text (debug_data g.view).units 0 (units_of (debug_data g.view) d.readings)
+    → all_shown g 0 g.units ≡ units_text ((debug_data g.view).found Info) 0 (units_of (debug_data g.view) d.readings)
 source-text g ts ss d macros listed are starts list = units-shown g d.readings (source-is g ts ss d macros listed are starts list)

@@ -27,6 +27,7 @@ use Rattle.dbg_show.specs.UnitReads.{EachReads}
 use Rattle.dbg_show.specs.declared.listed_unit.ListedUnit.{ListedUnit}
 use Rattle.dbg_show.proofs.AllRunLaws.{Among}
 use Rattle.dbg_show.proofs.EntryListLaws.{entries-are}
+use Rattle.dw_base.specs.declared.debug_sections.DebugSection.TheVariants.{Info}
 
 pub record UnitFacts (v : View) (tables : List (List Abbreviation)) (z : UnitSection) (h : UnitHeader) (u : ListedUnit) (table : List Abbreviation) (items : List Scanned) : Type 0 where
   pub section_is : h.section ≡ z.number
@@ -40,11 +41,11 @@ pub record UnitFacts (v : View) (tables : List (List Abbreviation)) (z : UnitSec
   pub cells_are : z.contents ≡ view_cells v h.section
   pub address : IsTrue (is_address_size h.params.address)
 
-own-section : (v : View) (z : UnitSection) → Among (debug_data v).units z → unit_section_at v z.number ≡ z
+own-section : (v : View) (z : UnitSection) → Among ((debug_data v).found Info) z → unit_section_at v z.number ≡ z
 unfolding debug_data
 own-section v z a = section-at v a.front a.back z a.is
 
-own-cells : (v : View) (z : UnitSection) → Among (debug_data v).units z → z.contents ≡ view_cells v z.number
+own-cells : (v : View) (z : UnitSection) → Among ((debug_data v).found Info) z → z.contents ≡ view_cells v z.number
 unfolding debug_data
 own-cells v z a = (of-view v z.number z (numbered-section v a.front a.back z a.is)).contents
 
@@ -55,7 +56,7 @@ own-address base z start h e =
     (is_address_size h.params.address) (header-tests base z.kind z.number start (drop start z.contents) h e)).1
 
 pub unit-facts : (v : View) (tables : List (List Abbreviation)) (z : UnitSection) (start : ℕ) (h : UnitHeader) (u : ListedUnit) (table : List Abbreviation) (items : List Scanned)
-    → Among (debug_data v).units z → IsUnit (debug_data v).base z start h → IsUnitTable (debug_data v).base h table → AreEntries h table (bytes_up_to z h) items
+    → Among ((debug_data v).found Info) z → IsUnit (debug_data v).base z start h → IsUnitTable (debug_data v).base h table → AreEntries h table (bytes_up_to z h) items
     → IsListed (debug_data v) tables h u → UnitFacts v tables z h u table items
 unit-facts v tables z start h u table items among is t entries listed =
     let header = header-of (debug_data v).base z start h is.header in
@@ -82,7 +83,7 @@ unit-facts v tables z start h u table items among is t entries listed =
 
 -- so it can be read
 pub unit-reads : (v : View) (tables : List (List Abbreviation)) (z : UnitSection) (start : ℕ) (list : List UnitHeader) (h : UnitHeader) (u : ListedUnit) (table : List Abbreviation)
-    (items : List Scanned) → Among (debug_data v).units z → UnitsUpTo (debug_data v).base z list start → IsUnit (debug_data v).base z start h
+    (items : List Scanned) → Among ((debug_data v).found Info) z → UnitsUpTo (debug_data v).base z list start → IsUnit (debug_data v).base z start h
     → IsUnitTable (debug_data v).base h table → AreEntries h table (bytes_up_to z h) items → IsListed (debug_data v) tables h u → EachReads v tables u
 unit-reads v tables z start list h u table items among units is t entries listed =
     let f : UnitFacts v tables z h u table items = unit-facts v tables z start h u table items among is t entries listed in

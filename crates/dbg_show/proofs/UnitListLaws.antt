@@ -27,6 +27,7 @@ use Rattle.dw_find.specs.UnitTexts.{UnitsRefuse}
 use Rattle.dw_find.proofs.UnitRowLaws.{elsewhere-row, table-row, section-row}
 use Rattle.dbg_show.specs.UnitLists.{HasTableAt, Grows, AreKnown, IsListed, AreListed, ListsAll, none_listed, more_listed, AllShort, Adds, AddsSection, KeepsNumber}
 use Rattle.dbg_show.specs.declared.listed_unit.ListedUnit.{ListedUnit}
+use Rattle.dw_base.specs.declared.debug_sections.DebugSection.TheVariants.{Info}
 
 -- what stands in tables stands in more of them
 item-append : {X : Type 0} (xs ys : List X) (i : ℕ) (x : X) → item_at xs i ≡ Some x → item_at (xs ++ ys) i ≡ Some x
@@ -197,7 +198,7 @@ sections-more v old new numbers i n us vs lt is l g a =
     a.units a.adds.listed))
 
 pub sections-over : (v : View) (tables : List (List Abbreviation)) (numbers : List ℕ) (i : ℕ) (us : List ListedUnit) → AreSections v numbers → length numbers ≤ i
-    → ListsAll (debug_data v) tables (map (unit_section_at v) (take i numbers)) us → ListsAll (debug_data v) tables (debug_data v).units us
+    → ListsAll (debug_data v) tables (map (unit_section_at v) (take i numbers)) us → ListsAll (debug_data v) tables ((debug_data v).found Info) us
 sections-over v tables numbers i us are le l = subst (λ (zs : List UnitSection). ListsAll (debug_data v) tables zs us) (sections-whole v numbers i are le) l
 
 pub ruleset read_laws = (known-none, sections-start, sections-over)

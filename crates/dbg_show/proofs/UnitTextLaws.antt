@@ -16,7 +16,7 @@ use Rattle.dw_base.specs.UnitHeaders.{UnitSection}
 use Rattle.dw_base.specs.UnitMeanings.{head_mark, units_of}
 use Rattle.dw_base.specs.ValueMeanings.{first_of, indexed}
 use Rattle.dw_base.specs.ViewData.{debug_data, located, unit_sections}
-use Rattle.dw_base.specs.declared.debug_sections.DebugSection.TheVariants.{Str}
+use Rattle.dw_base.specs.declared.debug_sections.DebugSection.TheVariants.{Info, Str, StrOffsets, Macro}
 use Rattle.dw_base.specs.declared.string_offsets.Contribution.{Contribution}
 use Rattle.dw_base.specs.declared.units.Scanned.{Scanned}
 use Rattle.dw_base.specs.declared.units.UnitHeader.{UnitHeader}
@@ -43,14 +43,14 @@ use Rattle.dbg_show.proofs.ViewPartLaws.{offsets-none, offsets-there}
 
 -- what units are printed from is what was read
 pub record SourceIs (g : UnitSource) (r : DataReadings) : Type 0 where
-  pub listed : ListsAll (debug_data g.view) g.tables (debug_data g.view).units g.units
-  pub units : ReadsAll (debug_data g.view).base 0 (debug_data g.view).units r.units
-  pub offsets : ReadsOffsets (debug_data g.view).base.order (debug_data g.view).offsets.contents r.offsets
+  pub listed : ListsAll (debug_data g.view) g.tables ((debug_data g.view).found Info) g.units
+  pub units : ReadsAll (debug_data g.view).base 0 ((debug_data g.view).found Info) r.units
+  pub offsets : ReadsOffsets (debug_data g.view).base.order ((debug_data g.view).found StrOffsets).contents r.offsets
   pub contributions : contributions_in (debug_data g.view).base.order r.offsets ≡ g.contributions
   pub starts : table_starts r.lines ≡ g.starts
   pub macros : (section place : ℕ) → started_unit 0 (macro_starts r.macros) section place ≡ unit_number g.keys section place
-  pub first : first_macros (debug_data g.view).macros ≡ first_macro g.view
-  pub info : first_of (info_numbers (debug_data g.view).units) ≡ info_section g.view
+  pub first : first_macros ((debug_data g.view).found Macro) ≡ first_macro g.view
+  pub info : first_of (info_numbers ((debug_data g.view).found Info)) ≡ info_section g.view
 
 -- the name of a section
 name-there : (zs : List UnitSection) (n : ℕ) (z : UnitSection) → numbered zs n ≡ Some z → section_name zs n ≡ kind_name z.kind
@@ -65,23 +65,23 @@ name-there (y ∷ ys) n z e = by_number (y.number == n) (name-there ys n z) e
     by_number true rest e = ap (λ (w : UnitSection). kind_name w.kind) (once e)
     by_number false rest e = rest e
 
-own-name : (v : View) (z : UnitSection) → Among (debug_data v).units z → section_name (debug_data v).units z.number ≡ kind_name z.kind
+own-name : (v : View) (z : UnitSection) → Among ((debug_data v).found Info) z → section_name ((debug_data v).found Info) z.number ≡ kind_name z.kind
 unfolding debug_data
 own-name v z a = name-there (unit_sections v) z.number z (numbered-section v a.front a.back z a.is)
 
 -- the cells of string offsets
-offsets-are : (v : View) → OffsetsAre v (debug_data v).offsets.contents
+offsets-are : (v : View) → OffsetsAre v ((debug_data v).found StrOffsets).contents
 offsets-are v = record { there = λ i e. offsets-there v i e; none = λ e. offsets-none v e }
 
 -- the text of an index in a unit
 slots-said : (g : UnitSource) (r : DataReadings) (unit : ℕ) (base : Option ℕ) (path : Bool) (index : ℕ) (p : List Cell) → SourceIs g r
     → base_of (all_bases (debug_data g.view).base.order (offsets_in g.view) r.units) unit ≡ base
-    → value_said (indexed (around_of (debug_data g.view) r).slots path (slot_of (around_of (debug_data g.view) r).lasting.indexing unit index) p)
+    → value_said (indexed ((around_of (debug_data g.view) r).stands StrOffsets) path (slot_of ((around_of (debug_data g.view) r).lasting.kept StrOffsets) unit index) p)
     ≡ index_shown g.view g.contributions base index (bytes_of p)
 unfolding debug_data slot_of
 slots-said g r unit base path index p i is =
     ap (λ (b : Option ℕ). value_said (indexed (slot_texts g.view.order (located g.view Str) r.offsets) path (slot_by b (contributions_in g.view.order r.offsets) index) p)) is
-    ∙ index-text g.view (debug_data g.view).offsets.contents r.offsets base index path p i.offsets (offsets-are g.view)
+    ∙ index-text g.view ((debug_data g.view).found StrOffsets).contents r.offsets base index path p i.offsets (offsets-are g.view)
     ∙ ap (λ (list : List Contribution). index_shown g.view list base index (bytes_of p)) i.contributions
 
 shown-around : (g : UnitSource) (r : DataReadings) (z : UnitSection) (h : UnitHeader) (u : ListedUnit) (table : List Abbreviation) (items : List Scanned) (unit : ℕ)
@@ -108,11 +108,11 @@ shown-around g r z h u table items unit i f q = record {
 -- a unit's text is what its pieces say
 text-out : (g : UnitSource) (r : DataReadings) → SourceIs g r
     → EachOut (debug_data g.view) g.tables (HasBase g.view g.tables (all_bases (debug_data g.view).base.order (offsets_in g.view) r.units))
-    (λ n. says_of (debug_data g.view).units n (around_of (debug_data g.view) r)) (one_shown g)
+    (λ n. says_of ((debug_data g.view).found Info) n (around_of (debug_data g.view) r)) (one_shown g)
 text-out g r i z among start unit h u table items q is t entries listed =
     let f : UnitFacts g.view g.tables z h u table items = unit-facts g.view g.tables z start h u table items among is t entries listed in
     let head : header_line g.view unit u.header ≡ header_line g.view unit h = ap (header_line g.view unit) f.header_is in
-    let named : section_name (debug_data g.view).units z.number ≡ kind_name (unit_section_at g.view h.section).kind =
+    let named : section_name ((debug_data g.view).found Info) z.number ≡ kind_name (unit_section_at g.view h.section).kind =
     own-name g.view z among ∙ ap (λ (y : UnitSection). kind_name y.kind) (sym f.at_is) in
     let own : tabled_text g unit u.header (item_at g.tables u.table) ≡ entries_text (shown_unit g unit h table) 0 (unit_entries h table (unit_bytes g.view h)) =
     ap (tabled_text g unit u.header) f.table_is
@@ -124,14 +124,14 @@ text-out g r i z among start unit h u table items q is t entries listed =
     ∙ entries-texts (shown_unit g unit h table) 0 (unit_entries h table (unit_bytes g.view h)) in
     let whole : header_line g.view unit h ++ entries_out entry_says (value_says (shown_unit g unit h table)) h.params table (bytes_up_to z h) 0 items ≡ one_shown g unit u =
     ap (λ (x : List ℕ). header_line g.view unit h ++ x) (said ∙ sym own) ∙ ap (λ (x : List ℕ). x ++ tabled_text g unit u.header (item_at g.tables u.table)) (sym head) in
-    subst (λ (x : List ℕ). SaidRun (says_of (debug_data g.view).units z.number (around_of (debug_data g.view) r)) (debug_data g.view).base z.contents (before z start unit)
+    subst (λ (x : List ℕ). SaidRun (says_of ((debug_data g.view).found Info) z.number (around_of (debug_data g.view) r)) (debug_data g.view).base z.contents (before z start unit)
     (before z h.end (unit + 1)) start h.end x) whole
-    (unit-run (says_of (debug_data g.view).units z.number (around_of (debug_data g.view) r)) entry_says (value_says (shown_unit g unit h table)) (debug_data g.view).base z start unit h
+    (unit-run (says_of ((debug_data g.view).found Info) z.number (around_of (debug_data g.view) r)) entry_says (value_says (shown_unit g unit h table)) (debug_data g.view).base z start unit h
     table items (header_line g.view unit h) is t entries
     (λ (p : List Cell) found.
-    ap (λ (o : Option UnitHeader). mark_said (debug_data g.view).units z.number (before z start unit) (head_mark (around_of (debug_data g.view) r).lasting o)) found
+    ap (λ (o : Option UnitHeader). mark_said ((debug_data g.view).found Info) z.number (before z start unit) (head_mark (around_of (debug_data g.view) r).lasting o)) found
     ∙ ap (λ (name : List ℕ). unit_line unit name h.params.version h.params.width h.params.address h.kind h.signature) named)
-    (unit-says (debug_data g.view).units z.number (around_of (debug_data g.view) r) (shown_unit g unit h table) z.contents (in_headed (debug_data g.view).base z start unit h)
+    (unit-says ((debug_data g.view).found Info) z.number (around_of (debug_data g.view) r) (shown_unit g unit h table) z.contents (in_headed (debug_data g.view).base z start unit h)
     (shown-around g r z h u table items unit i f q) (in-shown g z start unit h u table items f)))
 
 -- all units
@@ -145,12 +145,12 @@ said-pieces zs around (r ∷ rs) =
     ap (λ (t : List ℕ). t ++ all_said zs around rs) (said-all zs r.number around r.pieces)
     ∙ ap (λ (t : List ℕ). all_of (says_of zs r.number around) r.pieces ++ t) (said-pieces zs around rs)
 
-pub units-shown : (g : UnitSource) (r : DataReadings) → SourceIs g r → all_shown g 0 g.units ≡ units_text (debug_data g.view).units 0 (units_of (debug_data g.view) r)
+pub units-shown : (g : UnitSource) (r : DataReadings) → SourceIs g r → all_shown g 0 g.units ≡ units_text ((debug_data g.view).found Info) 0 (units_of (debug_data g.view) r)
 unfolding units_of
 units-shown g r i =
     shown-out g 0 g.units
     ∙ sym (all-said-out (debug_data g.view) g.tables (HasBase g.view g.tables (all_bases (debug_data g.view).base.order (offsets_in g.view) r.units))
-    (λ n. says_of (debug_data g.view).units n (around_of (debug_data g.view) r)) (one_shown g) g.units r.units (text-out g r i)
+    (λ n. says_of ((debug_data g.view).found Info) n (around_of (debug_data g.view) r)) (one_shown g) g.units r.units (text-out g r i)
     (all-based g r.units i.listed i.units) i.listed i.units)
-    ∙ sym (said-pieces (debug_data g.view).units (around_of (debug_data g.view) r) r.units)
-    ∙ sym (all-said (debug_data g.view).base (around_of (debug_data g.view) r) (debug_data g.view).units (debug_data g.view).units 0 r.units refl i.units)
+    ∙ sym (said-pieces ((debug_data g.view).found Info) (around_of (debug_data g.view) r) r.units)
+    ∙ sym (all-said (debug_data g.view).base (around_of (debug_data g.view) r) ((debug_data g.view).found Info) ((debug_data g.view).found Info) 0 r.units refl i.units)

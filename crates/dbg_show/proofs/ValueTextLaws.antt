@@ -17,7 +17,7 @@ use Rattle.dw_base.specs.UnitStates.{UnitState, code_value}
 use Rattle.dw_base.specs.ValueMeanings.{found_entry, first_of, stray, indexed, number_meaning, leb_meaning, table_named, line_meaning, global_entry, macro_meaning, unit_meant, address_of, read_size, read_signed}
 use Rattle.dw_base.specs.Values.{number_value, leb_value_at, signed_value_at, signed_bits, block_value, counted_value, counted_leb_value, text_value, offset_class}
 use Rattle.dw_base.specs.ViewData.{debug_data, located}
-use Rattle.dw_base.specs.declared.debug_sections.DebugSection.TheVariants.{Str, LineStr, Line}
+use Rattle.dw_base.specs.declared.debug_sections.DebugSection.TheVariants.{Info, Str, LineStr, StrOffsets, Line, Macro}
 use Rattle.dw_base.specs.declared.shared.Order.{Order}
 use Rattle.dw_base.specs.declared.values.Value.{Value}
 use Rattle.dw_base.specs.declared.values.ValueClass.{ValueClass}
@@ -40,16 +40,16 @@ use Rattle.dbg_show.proofs.ViewPartLaws.{address_at-cells}
 -- what stands around the units of a file, by which their values mean what they say, and a unit that is printed
 pub record IsAround (around : Around) (u : ShownUnit) : Type 0 where
   pub order_is : u.header.params.order ≡ around.lasting.base.order
-  pub str_is : around.str ≡ located u.source.view Str
-  pub line_str_is : around.line_str ≡ located u.source.view LineStr
-  pub lines_is : around.lines ≡ located u.source.view Line
-  pub starts_are : around.starts ≡ u.source.starts
-  pub macros_are : (section place : ℕ) → started_unit 0 around.lasting.macros.starts section place ≡ unit_number u.source.keys section place
-  pub first_is : around.lasting.macros.first ≡ first_macro u.source.view
-  pub info_is : first_of around.lasting.infos ≡ info_section u.source.view
-  pub infos_are : around.lasting.infos ≡ info_numbers (debug_data u.source.view).units
-  pub entries_are : (section place offset : ℕ) → value_said (found_entry around.lasting.entries section place offset) ≡ entry_shown u.source section place offset
-  pub slots_are : (path : Bool) (index : ℕ) (p : List Cell) → value_said (indexed around.slots path (slot_of around.lasting.indexing u.number index) p)
+  pub str_is : around.stands Str ≡ located u.source.view Str
+  pub line_str_is : around.stands LineStr ≡ located u.source.view LineStr
+  pub lines_is : (around.stands Line).located ≡ located u.source.view Line
+  pub starts_are : (around.stands Line).starts ≡ u.source.starts
+  pub macros_are : (section place : ℕ) → started_unit 0 (around.lasting.kept Macro).starts section place ≡ unit_number u.source.keys section place
+  pub first_is : (around.lasting.kept Macro).first ≡ first_macro u.source.view
+  pub info_is : first_of (around.lasting.kept Info).infos ≡ info_section u.source.view
+  pub infos_are : (around.lasting.kept Info).infos ≡ info_numbers ((debug_data u.source.view).found Info)
+  pub entries_are : (section place offset : ℕ) → value_said (found_entry (around.lasting.kept Info).entries section place offset) ≡ entry_shown u.source section place offset
+  pub slots_are : (path : Bool) (index : ℕ) (p : List Cell) → value_said (indexed (around.stands StrOffsets) path (slot_of (around.lasting.kept StrOffsets) u.number index) p)
       ≡ index_shown u.source.view u.source.contributions u.base index (bytes_of p)
 
 -- a state in that unit
@@ -217,12 +217,12 @@ own-address u cells s class place n v i small r =
 -- an entry of another unit
 reference-said : (around : Around) (u : ShownUnit) (f : Field) → IsAround around u → value_said (global_entry around.lasting f) ≡ reference_shown u.source f
 reference-said around u (Num n) a =
-    ap (λ (k : ℕ). value_said (found_entry around.lasting.entries k n n)) a.info_is ∙ a.entries_are (info_section u.source.view) n n
+    ap (λ (k : ℕ). value_said (found_entry (around.lasting.kept Info).entries k n n)) a.info_is ∙ a.entries_are (info_section u.source.view) n n
 reference-said around u (Into z n) a =
-    ap (λ (ks : List ℕ). value_said (if holds_number ks z then found_entry around.lasting.entries z n n else stray n)) a.infos_are
-    ∙ by_info (holds_number (info_numbers (debug_data u.source.view).units) z)
+    ap (λ (ks : List ℕ). value_said (if holds_number ks z then found_entry (around.lasting.kept Info).entries z n n else stray n)) a.infos_are
+    ∙ by_info (holds_number (info_numbers ((debug_data u.source.view).found Info)) z)
   where
-    by_info : (b : Bool) → value_said (if b then found_entry around.lasting.entries z n n else stray n) ≡ (if b then entry_shown u.source z n n else stray_said n)
+    by_info : (b : Bool) → value_said (if b then found_entry (around.lasting.kept Info).entries z n n else stray n) ≡ (if b then entry_shown u.source z n n else stray_said n)
     by_info true = a.entries_are z n n
     by_info false = refl
 reference-said around u (Sym symbol kind addend) a = refl
@@ -235,15 +235,15 @@ number-class : (around : Around) (u : ShownUnit) (cells : List Cell) (s : UnitSt
     → value_said (number_meaning around s says class (take v.size (drop place cells))) ≡ class_shown u class form v
 unfolding class_shown
 number-class around u cells s says StrIndex place n form v a i ok number bytes address field =
-    ap (λ (k : ℕ). value_said (indexed around.slots (is_path_use says) (slot_of around.lasting.indexing s.unit k) (take v.size (drop place cells)))) number
-    ∙ ap (λ (k : ℕ). value_said (indexed around.slots (is_path_use says) (slot_of around.lasting.indexing k v.number) (take v.size (drop place cells)))) i.unit_is
+    ap (λ (k : ℕ). value_said (indexed (around.stands StrOffsets) (is_path_use says) (slot_of (around.lasting.kept StrOffsets) s.unit k) (take v.size (drop place cells)))) number
+    ∙ ap (λ (k : ℕ). value_said (indexed (around.stands StrOffsets) (is_path_use says) (slot_of (around.lasting.kept StrOffsets) k v.number) (take v.size (drop place cells)))) i.unit_is
     ∙ a.slots_are (is_path_use says) v.number (take v.size (drop place cells))
     ∙ ap (index_shown u.source.view u.source.contributions u.base v.number) bytes
 number-class around u cells s says Address place n form v a i ok number bytes address field = ap (field_said Address) address
 number-class around u cells s says LocalRef place n form v a i ok number bytes address field =
-    ap (λ (m : ℕ). value_said (found_entry around.lasting.entries s.section (s.header.start + m) m)) number
-    ∙ ap (λ (k : ℕ). value_said (found_entry around.lasting.entries k (s.header.start + v.number) v.number)) i.section_is
-    ∙ ap (λ (k : ℕ). value_said (found_entry around.lasting.entries u.header.section (k + v.number) v.number)) (ap (λ h. h.start) i.header_is)
+    ap (λ (m : ℕ). value_said (found_entry (around.lasting.kept Info).entries s.section (s.header.start + m) m)) number
+    ∙ ap (λ (k : ℕ). value_said (found_entry (around.lasting.kept Info).entries k (s.header.start + v.number) v.number)) i.section_is
+    ∙ ap (λ (k : ℕ). value_said (found_entry (around.lasting.kept Info).entries u.header.section (k + v.number) v.number)) (ap (λ h. h.start) i.header_is)
     ∙ a.entries_are u.header.section (u.header.start + v.number) v.number
 number-class around u cells s says GlobalRef place n form v a i ok number bytes address field =
     ap (λ (f : Field). value_said (global_entry around.lasting f)) field ∙ reference-said around u (value_field u form v) a
@@ -288,10 +288,10 @@ pub start-said : (around : Around) (u : ShownUnit) (cells : List Cell) (s : Unit
     → value_said (line_meaning around (take v.size (drop place cells))) ≡ table_shown u.source (value_offset u Line form v)
 unfolding offset_of
 start-said around u cells s class place n form v a i f r =
-    let offset : offset_of around.lasting.base.order around.lines (take v.size (drop place cells)) ≡ value_offset u Line form v =
-    ap (offset_into around.lines) (around-field around u cells s class place n form v a i (number-plain class n form f) f.small r)
+    let offset : offset_of around.lasting.base.order (around.stands Line).located (take v.size (drop place cells)) ≡ value_offset u Line form v =
+    ap (offset_into (around.stands Line).located) (around-field around u cells s class place n form v a i (number-plain class n form f) f.small r)
     ∙ ap (λ (z : Located). offset_into z (value_field u form v)) a.lines_is in
-    ap (λ (k : ℕ). value_said (table_named (start_number 0 around.starts k) k)) offset
+    ap (λ (k : ℕ). value_said (table_named (start_number 0 (around.stands Line).starts k) k)) offset
     ∙ ap (λ (starts : List ℕ). value_said (table_named (start_number 0 starts (value_offset u Line form v)) (value_offset u Line form v))) a.starts_are
     ∙ by_table (start_number 0 u.source.starts (value_offset u Line form v))
   where
@@ -300,9 +300,9 @@ start-said around u cells s class place n form v a i f r =
     by_table (Some k) = refl
 
 -- where a macro unit starts
-unit-named-said : (around : Around) (u : ShownUnit) (f : Field) → IsAround around u → unit_named around.lasting.macros f ≡ macro_named u.source f
+unit-named-said : (around : Around) (u : ShownUnit) (f : Field) → IsAround around u → unit_named (around.lasting.kept Macro) f ≡ macro_named u.source f
 unit-named-said around u (Num n) a =
-    ap (λ (k : ℕ). started_unit 0 around.lasting.macros.starts k n) a.first_is ∙ a.macros_are (first_macro u.source.view) n
+    ap (λ (k : ℕ). started_unit 0 (around.lasting.kept Macro).starts k n) a.first_is ∙ a.macros_are (first_macro u.source.view) n
 unit-named-said around u (Into z n) a = a.macros_are z n
 unit-named-said around u (Sym symbol kind addend) a = refl
 
@@ -310,7 +310,7 @@ pub macro-said : (around : Around) (u : ShownUnit) (cells : List Cell) (s : Unit
     → FormFacts (number_of class n) form → NumberRead class s.header.params.order (unit_bytes s cells) place n v
     → value_said (macro_meaning around.lasting (take v.size (drop place cells))) ≡ macro_shown u.source (value_field u form v)
 macro-said around u cells s class place n form v a i f r =
-    ap (λ (x : Field). value_said (unit_meant (unit_named around.lasting.macros x) x))
+    ap (λ (x : Field). value_said (unit_meant (unit_named (around.lasting.kept Macro) x) x))
     (around-field around u cells s class place n form v a i (number-plain class n form f) f.small r)
     ∙ ap (λ (x : Option ℕ). value_said (unit_meant x (value_field u form v))) (unit-named-said around u (value_field u form v) a)
     ∙ by_unit (macro_named u.source (value_field u form v))
@@ -325,14 +325,14 @@ leb-class : (around : Around) (u : ShownUnit) (cells : List Cell) (s : UnitState
     → value_said (leb_meaning around s says class p) ≡ class_shown u class form v
 unfolding class_shown
 leb-class around u cells s says StrIndex form p v a i ok number bytes field =
-    ap (λ (k : ℕ). value_said (indexed around.slots (is_path_use says) (slot_of around.lasting.indexing s.unit k) p)) number
-    ∙ ap (λ (k : ℕ). value_said (indexed around.slots (is_path_use says) (slot_of around.lasting.indexing k v.number) p)) i.unit_is
+    ap (λ (k : ℕ). value_said (indexed (around.stands StrOffsets) (is_path_use says) (slot_of (around.lasting.kept StrOffsets) s.unit k) p)) number
+    ∙ ap (λ (k : ℕ). value_said (indexed (around.stands StrOffsets) (is_path_use says) (slot_of (around.lasting.kept StrOffsets) k v.number) p)) i.unit_is
     ∙ a.slots_are (is_path_use says) v.number p
     ∙ ap (index_shown u.source.view u.source.contributions u.base v.number) bytes
 leb-class around u cells s says LocalRef form p v a i ok number bytes field =
-    ap (λ (n : ℕ). value_said (found_entry around.lasting.entries s.section (s.header.start + n) n)) number
-    ∙ ap (λ (k : ℕ). value_said (found_entry around.lasting.entries k (s.header.start + v.number) v.number)) i.section_is
-    ∙ ap (λ (k : ℕ). value_said (found_entry around.lasting.entries u.header.section (k + v.number) v.number)) (ap (λ h. h.start) i.header_is)
+    ap (λ (n : ℕ). value_said (found_entry (around.lasting.kept Info).entries s.section (s.header.start + n) n)) number
+    ∙ ap (λ (k : ℕ). value_said (found_entry (around.lasting.kept Info).entries k (s.header.start + v.number) v.number)) i.section_is
+    ∙ ap (λ (k : ℕ). value_said (found_entry (around.lasting.kept Info).entries u.header.section (k + v.number) v.number)) (ap (λ h. h.start) i.header_is)
     ∙ a.entries_are u.header.section (u.header.start + v.number) v.number
 leb-class around u cells s says Number form p v a i ok number bytes field = ap (class_said Number) number ∙ sym (ap (field_said Number) field)
 leb-class around u cells s says Flag form p v a i ok number bytes field = ap (class_said Flag) number ∙ sym (ap (field_said Flag) field)

@@ -12,11 +12,11 @@ use Rattle.dw_base.proofs.RelocationFieldLaws.{first-take, number-cells_at}
 use Rattle.dw_base.proofs.ViewCellLaws.{address_at-by, bytes_of-view_cells, length-view_cells}
 
 -- the cells of string offsets
-pub offsets-there : (v : View) (i : ℕ) → section_named v (name_of StrOffsets) ≡ Some i → (debug_data v).offsets.contents ≡ view_cells v i
+pub offsets-there : (v : View) (i : ℕ) → section_named v (name_of StrOffsets) ≡ Some i → ((debug_data v).found StrOffsets).contents ≡ view_cells v i
 unfolding debug_data
 offsets-there v i e = ap (λ (o : Option ℕ). (cells_located v o).contents) e
 
-pub offsets-none : (v : View) → section_named v (name_of StrOffsets) ≡ None → (debug_data v).offsets.contents ≡ []
+pub offsets-none : (v : View) → section_named v (name_of StrOffsets) ≡ None → ((debug_data v).found StrOffsets).contents ≡ []
 unfolding debug_data
 offsets-none v e = ap (λ (o : Option ℕ). (cells_located v o).contents) e
 

@@ -135,7 +135,7 @@ first_macro v = (located v Macro).number
 abbrev pub reference_shown : UnitSource → Field → List ℕ
 reference_shown g (Num n) = entry_shown g (info_section g.view) n n
 reference_shown g (Into section n) =
-    if holds_number (info_numbers (debug_data g.view).units) section then entry_shown g section n n else stray_said n
+    if holds_number (info_numbers ((debug_data g.view).found Info)) section then entry_shown g section n n else stray_said n
 reference_shown g (Sym symbol kind addend) = relocation_said symbol kind addend
 
 -- how many bytes the slots of a base have

@@ -19,6 +19,7 @@ use Rattle.dbg_show.specs.Printing.{Cut}
 use Rattle.dbg_show.specs.UnitTexts.{units_text}
 use Rattle.dbg_show.specs.declared.show_err.ShowErr.{ShowErr}
 use Rattle.dbg_show.specs.declared.show_err.ShowErr.TheVariants as err
+use Rattle.dw_base.specs.declared.debug_sections.DebugSection.TheVariants.{Info}
 
 -- the debug data of a view can be shown: they can be read, and no relocation stands on them that isn't handled
 pub record ShowReads (v : View) : Type 0 where
@@ -33,7 +34,7 @@ pub data ShowRefuses (v : View) (r : Refusal) : Type 0 where
 -- the text of debug data, for these readings: that of the units, that of the line tables, and that of the macro units
 abbrev pub data_text : DebugData → DataReadings → List ℕ
 data_text d readings =
-    units_text d.units 0 (units_of d readings) ++ (lines_text (line_meanings (line_source d) readings.lines)
+    units_text (d.found Info) 0 (units_of d readings) ++ (lines_text (line_meanings (line_source d) readings.lines)
     ++ macros_text 0 (macro_meanings (around_of d readings) readings.macros))
 
 -- the text of a view that can be shown

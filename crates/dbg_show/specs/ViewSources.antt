@@ -13,6 +13,7 @@ use Rattle.dbg_show.specs.ShownMacros.{MacroSource, MacrosFit, units_shown}
 use Rattle.dbg_show.specs.ShownUnits.{UnitSource, all_shown}
 use Rattle.dbg_show.specs.UnitReads.{SourceFits}
 use Rattle.dbg_show.specs.UnitTexts.{units_text}
+use Rattle.dw_base.specs.declared.debug_sections.DebugSection.TheVariants.{Info}
 
 -- the text of units, of line tables and of macro units
 abbrev pub all_printed : View → UnitSource → List LineTable → MacroSource → List ℕ
@@ -24,5 +25,5 @@ pub record AreSources (v : View) (ts : List LineTable) (g : UnitSource) (m : Mac
   pub tables : ViewTables v ts sections
   pub fits : SourceFits g
   pub macros_fit : MacrosFit m
-  pub units : all_shown g 0 g.units ≡ units_text (debug_data v).units 0 (units_of (debug_data v) tables.read.readings)
+  pub units : all_shown g 0 g.units ≡ units_text ((debug_data v).found Info) 0 (units_of (debug_data v) tables.read.readings)
   pub macros : units_shown m 0 m.units ≡ macros_text 0 (macro_meanings (around_of (debug_data v) tables.read.readings) tables.read.readings.macros)

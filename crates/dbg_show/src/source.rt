@@ -5,6 +5,7 @@ ghost use Rattle.dw_base.specs.LineMeanings.{place_text, section_in};
 ghost use Rattle.dw_base.specs.DebugData.{line_source};
 ghost use Rattle.dw_base.specs.LineSources.{LineSource as LineSourceOf};
 ghost use Rattle.dw_base.specs.ViewData.{debug_data};
+ghost use Rattle.dw_base.specs.declared.debug_sections.DebugSection.TheVariants.{Line};
 
 use crate::fields::located;
 use dw_base::{DebugSection, Order, TextPlace};
@@ -27,7 +28,7 @@ pub(crate) struct LineSource<'v> {
 impl<'v> Model for LineSource<'v> {
     ghost Value = { LineSourceOf };
 
-    ghost view = { λ s. record { order = s.order; number = s.number; is_read = true; bytes = s.bytes.now; cells = (debug_data s.view.now).lines.contents; str = record { number = s.str_number; bytes = s.str_bytes.now }; line_str = record { number = s.line_str_number; bytes = s.line_str_bytes.now } } };
+    ghost view = { λ s. record { order = s.order; number = s.number; is_read = true; bytes = s.bytes.now; cells = ((debug_data s.view.now).found Line).contents; str = record { number = s.str_number; bytes = s.str_bytes.now }; line_str = record { number = s.line_str_number; bytes = s.line_str_bytes.now } } };
 }
 
 /// So many bytes at a place, as far as they are there.

@@ -6,7 +6,7 @@ ghost use Rattle.std.specs.Prelude.{◌≡◌, ◌<◌, ◌≤◌, ◌^◌, drop
 ghost use Rattle.dw_base.specs.Texts.{text_in};
 ghost use Rattle.dw_base.specs.ViewData.{debug_data, located};
 ghost use Rattle.dw_base.specs.DebugSections.{name_of};
-ghost use Rattle.dw_base.specs.declared.debug_sections.DebugSection.TheVariants.{StrOffsets};
+ghost use Rattle.dw_base.specs.declared.debug_sections.DebugSection.TheVariants.{Info, StrOffsets};
 ghost use Rattle.dw_base.specs.DebugData.{info_numbers};
 ghost use Rattle.dw_base.specs.FileViews.{section_named};
 ghost use Rattle.dw_find.specs.LineStarts.{Rises};
@@ -181,7 +181,7 @@ pub(crate) fn info_section(view: &View) -> u32
 /// A section is one of the name `.debug_info`, with bytes in the file.
 #[tactic(auto, using(crate::proofs::InfoLaws::number_laws))]
 pub(crate) fn is_info(view: &View, section: u32) -> bool
-    ensures { result ≡ holds_number (info_numbers (debug_data view.now).units) section }
+    ensures { result ≡ holds_number (info_numbers ((debug_data view.now).found Info)) section }
 {
     if section == 0 {
         return false;

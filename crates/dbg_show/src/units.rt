@@ -12,6 +12,7 @@ ghost use Rattle.dw_base.specs.ViewData.{debug_data};
 ghost use Rattle.dw_entries.specs.ViewUnits.{IsUnitSection, unit_section_at};
 ghost use Rattle.dw_find.specs.ReadData.{DataRefuses};
 ghost use Rattle.dbg_show.specs.UnitLists.{Adds, AddsSection, AllShort, AreKnown, Grows, HasTableAt, KeepsNumber, ListsAll};
+ghost use Rattle.dw_base.specs.declared.debug_sections.DebugSection.TheVariants.{Info};
 
 use crate::listed_unit::ListedUnit;
 use dw_abbrev::AbbrevTable;
@@ -177,7 +178,7 @@ fn push_section(
 /// Reads all units of a view and their tables of abbreviations. Refused where one can't be read, at its place.
 #[tactic(auto, using(crate::proofs::UnitListLaws::read_laws))]
 pub(crate) fn read_units(alloc: Global, view: &View) -> Result<UnitList, Fault>
-    ensures read { IfOk result (λ list. ListsAll (debug_data view.now) list.tables.items (debug_data view.now).units list.units.items) }
+    ensures read { IfOk result (λ list. ListsAll (debug_data view.now) list.tables.items ((debug_data view.now).found Info) list.units.items) }
     ensures refused { IfErr result (Blames (DataRefuses view.now)) }
 {
     let sections = unit_sections(alloc, view)?;

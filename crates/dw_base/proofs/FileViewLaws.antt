@@ -1,8 +1,8 @@
 -- Laws of the view of a file: its sections are the file's, and a section of a name is found by going through them in order.
-use Rattle.std.proofs.Common.{◌≡◌, ℕ, zero, suc, ◌+◌, ◌<◌, ◌≤◌, Bool, true, false, if◌then◌else◌, List, [], ◌∷◌, length, get_or, drop, Option, Some, refl, ap, ◌∙◌, arith, subst}
-use Rattle.std.proofs.lemmas.List.{length-drop}
+use Rattle.std.proofs.Common.{◌≡◌, ℕ, zero, suc, ◌+◌, ◌<◌, ◌≤◌, Bool, true, false, if◌then◌else◌, List, [], ◌∷◌, length, get_or, drop, slice_get, Option, Some, refl, ap, ◌∙◌, arith, subst}
+use Rattle.std.proofs.lemmas.List.{drop-drop, length-drop}
 use Rattle.dw_base.specs.Elf.{order_of, section_count, contents_of}
-use Rattle.dw_base.specs.FileViews.{View, ViewSection, view_of, view_section, contents_in, section_bytes, is_filled, first_filled, section_after}
+use Rattle.dw_base.specs.FileViews.{View, ViewSection, view_of, view_section, contents_in, section_bytes, is_filled, first_filled, all_filled, section_after, section_named, sections_named}
 use Rattle.dw_base.proofs.ListLaws.{length-tabulate, get_or-tabulate}
 
 pub order-view_of : (b : List ℕ) → (view_of b).order ≡ order_of b
@@ -58,3 +58,45 @@ section_after-within v name after i e =
     let within = there.within in
     let size = length-drop (suc after) v.sections in
     (omega arith, omega (arith, size))
+
+-- the list of the sections of a name: its head is the first
+filled-first : (name : List ℕ) (i : ℕ) (ss : List ViewSection) → slice_get (all_filled name i ss) 0 ≡ first_filled name i ss
+filled-first name i [] = refl
+filled-first name i (s ∷ ss) = by_test (is_filled name s) (filled-first name (suc i) ss)
+  where
+    by_test : (b : Bool) → slice_get (all_filled name (suc i) ss) 0 ≡ first_filled name (suc i) ss
+        → slice_get (if b then i ∷ all_filled name (suc i) ss else all_filled name (suc i) ss) 0 ≡ (if b then Some i else first_filled name (suc i) ss)
+    by_test true rest = refl
+    by_test false rest = rest
+
+pub first-named : (v : View) (name : List ℕ) → slice_get (sections_named v name) 0 ≡ section_named v name
+unfolding sections_named section_named section_after
+first-named v name = filled-first name 1 (drop 1 v.sections)
+
+-- and behind each stands the first above it
+filled-next : (name : List ℕ) (all : List ViewSection) (i : ℕ) (ss : List ViewSection) (k n : ℕ) → ss ≡ drop i all → slice_get (all_filled name i ss) k ≡ Some n
+    → slice_get (all_filled name i ss) (suc k) ≡ first_filled name (suc n) (drop (suc n) all)
+filled-next name all i [] k n e found = absurd (no-item k found)
+  where
+    no-item : (j : ℕ) → (let none : List ℕ = [] in slice_get none j) ≡ Some n → ⊥
+    no-item zero f = cc
+    no-item (suc j) f = cc
+filled-next name all i (s ∷ ss) k n e found = by_test (is_filled name s) k (filled-next name all (suc i) ss) found
+  where
+    rest : ss ≡ drop (suc i) all
+    rest =
+        let one : i + 1 ≡ suc i = omega arith in
+        ap (drop 1) e ∙ drop-drop 1 i all ∙ ap (λ (m : ℕ). drop m all) one
+
+    by_test : (b : Bool) (j : ℕ) → ((m x : ℕ) → ss ≡ drop (suc i) all → slice_get (all_filled name (suc i) ss) m ≡ Some x → slice_get (all_filled name (suc i) ss) (suc m) ≡ first_filled name (suc x) (drop (suc x) all))
+        → slice_get (if b then i ∷ all_filled name (suc i) ss else all_filled name (suc i) ss) j ≡ Some n
+        → slice_get (if b then i ∷ all_filled name (suc i) ss else all_filled name (suc i) ss) (suc j) ≡ first_filled name (suc n) (drop (suc n) all)
+    by_test true zero further f =
+        let same : i ≡ n = cc in
+        filled-first name (suc i) ss ∙ ap (first_filled name (suc i)) rest ∙ ap (λ (m : ℕ). first_filled name (suc m) (drop (suc m) all)) same
+    by_test true (suc j) further f = further j n rest f
+    by_test false j further f = further j n rest f
+
+pub next-named : (v : View) (name : List ℕ) (k n : ℕ) → slice_get (sections_named v name) k ≡ Some n → slice_get (sections_named v name) (suc k) ≡ section_after v name n
+unfolding sections_named section_after
+next-named v name k n found = filled-next name v.sections 1 (drop 1 v.sections) k n refl found

@@ -15,6 +15,7 @@ use Rattle.dw_base.specs.OffsetPieces.{OffsetMode, at_contribution, at_slot, no_
 use Rattle.dw_base.specs.SectionTexts.{offset_role, name_role_by}
 use Rattle.dw_base.specs.SlotTexts.{field_text, slot_text, slot_texts, NamePart, raw_part, text_part, name_part, name_parts}
 use Rattle.dw_base.specs.MappedSlots.{mapped_slots}
+use Rattle.dw_base.specs.declared.debug_sections.DebugSection.TheVariants.{Str}
 
 -- what a piece of string offsets may become
 abbrev pub OffsetChange : Shift → List ℕ → OffsetState → List Cell → List Cell → Type 0
@@ -58,30 +59,30 @@ slot-header s place (Some l) = slot-before s.whole place s.slot l.0 (s.place + l
 -- the texts of slots from a piece on
 slots-step : (m : OffsetMode) (paths : List ℕ) (c : Shift) (order : Order) (s : OffsetState) (p q : List Cell) (old new : List (List ℕ))
     → Becomes (offset_role paths m s.slot) c p q → new ≡ mapped_slots c.map paths (past_offsets m order s p).slot old
-    → slot_text m c.new.lasting.base.order c.new.str q ++ new ≡ mapped_slots c.map paths s.slot (slot_text m c.old.lasting.base.order c.old.str p ++ old)
+    → slot_text m c.new.lasting.base.order (c.new.stands Str) q ++ new ≡ mapped_slots c.map paths s.slot (slot_text m c.old.lasting.base.order (c.old.stands Str) p ++ old)
 slots-step at_contribution paths c order s p q old new h e =
     e ∙ ap (λ (n : ℕ). mapped_slots c.map paths n old) (slot-header s (s.place + length p) _)
 slots-step (at_slot width end) paths c order s p q old new h e =
     let next : (before_slot s.whole (s.place + length p) (s.slot + 1) width end).slot ≡ suc s.slot =
     slot-before s.whole (s.place + length p) (s.slot + 1) width end ∙ omega arith in
     let rest : new ≡ mapped_slots c.map paths (suc s.slot) old = e ∙ ap (λ (n : ℕ). mapped_slots c.map paths n old) next in
-    let here : field_text c.new.lasting.base.order c.new.str q ≡ (if holds_number paths s.slot then mapped_path c.map (field_text c.old.lasting.base.order c.old.str p) else field_text c.old.lasting.base.order c.old.str p) = h.says in
+    let here : field_text c.new.lasting.base.order (c.new.stands Str) q ≡ (if holds_number paths s.slot then mapped_path c.map (field_text c.old.lasting.base.order (c.old.stands Str) p) else field_text c.old.lasting.base.order (c.old.stands Str) p) = h.says in
     ap (λ (t : List ℕ). t ∷ new) here
-    ∙ ap (λ (ts : List (List ℕ)). (if holds_number paths s.slot then mapped_path c.map (field_text c.old.lasting.base.order c.old.str p) else field_text c.old.lasting.base.order c.old.str p) ∷ ts) rest
+    ∙ ap (λ (ts : List (List ℕ)). (if holds_number paths s.slot then mapped_path c.map (field_text c.old.lasting.base.order (c.old.stands Str) p) else field_text c.old.lasting.base.order (c.old.stands Str) p) ∷ ts) rest
 slots-step no_offsets paths c order s p q old new h e = e
 
 -- the slots mean their texts, those that paths name mapped
 pub slots-mapped : (paths : List ℕ) (c : Shift) (order : Order) (s : OffsetState) (xs ys : List (Piece OffsetState)) → AllChanged OffsetState (OffsetChange c paths) xs ys
-    → Chain (offset_grammar order) s xs → slot_texts c.new.lasting.base.order c.new.str ys ≡ mapped_slots c.map paths s.slot (slot_texts c.old.lasting.base.order c.old.str xs)
+    → Chain (offset_grammar order) s xs → slot_texts c.new.lasting.base.order (c.new.stands Str) ys ≡ mapped_slots c.map paths s.slot (slot_texts c.old.lasting.base.order (c.old.stands Str) xs)
 slots-mapped paths c order s [] [] h r = refl
 slots-mapped paths c order s [] (y ∷ ys) h r = absurd h
 slots-mapped paths c order s (x ∷ xs) [] h r = absurd h
 slots-mapped paths c order s (x ∷ xs) (y ∷ ys) h r =
-    let rest : slot_texts c.new.lasting.base.order c.new.str ys ≡ mapped_slots c.map paths (past_offsets x.state.mode order x.state x.cells).slot (slot_texts c.old.lasting.base.order c.old.str xs) =
+    let rest : slot_texts c.new.lasting.base.order (c.new.stands Str) ys ≡ mapped_slots c.map paths (past_offsets x.state.mode order x.state x.cells).slot (slot_texts c.old.lasting.base.order (c.old.stands Str) xs) =
     slots-mapped paths c order (past_offsets x.state.mode order x.state x.cells) xs ys h.1 r.2 in
-    ap (λ (z : OffsetState). slot_text z.mode c.new.lasting.base.order c.new.str y.cells ++ slot_texts c.new.lasting.base.order c.new.str ys) h.0.state
-    ∙ slots-step x.state.mode paths c order x.state x.cells y.cells (slot_texts c.old.lasting.base.order c.old.str xs) (slot_texts c.new.lasting.base.order c.new.str ys) h.0.cells rest
-    ∙ ap (λ (z : OffsetState). mapped_slots c.map paths z.slot (slot_text x.state.mode c.old.lasting.base.order c.old.str x.cells ++ slot_texts c.old.lasting.base.order c.old.str xs)) r.0
+    ap (λ (z : OffsetState). slot_text z.mode c.new.lasting.base.order (c.new.stands Str) y.cells ++ slot_texts c.new.lasting.base.order (c.new.stands Str) ys) h.0.state
+    ∙ slots-step x.state.mode paths c order x.state x.cells y.cells (slot_texts c.old.lasting.base.order (c.old.stands Str) xs) (slot_texts c.new.lasting.base.order (c.new.stands Str) ys) h.0.cells rest
+    ∙ ap (λ (z : OffsetState). mapped_slots c.map paths z.slot (slot_text x.state.mode c.old.lasting.base.order (c.old.stands Str) x.cells ++ slot_texts c.old.lasting.base.order (c.old.stands Str) xs)) r.0
 
 -- what a piece of name tables may become
 abbrev pub NameChange : Shift → NameState → List Cell → List Cell → Type 0
@@ -109,21 +110,21 @@ names_preserve c order = record {
   next = λ s p q h f. next-names s.mode c order s p q h;
 }
 
-name-kept : (m : NameMode) (c : Shift) (p q : List Cell) → Becomes (name_role_by m) c p q → name_part m c.new.lasting.base.order c.new.str q ≡ name_part m c.old.lasting.base.order c.old.str p
+name-kept : (m : NameMode) (c : Shift) (p q : List Cell) → Becomes (name_role_by m) c p q → name_part m c.new.lasting.base.order (c.new.stands Str) q ≡ name_part m c.old.lasting.base.order (c.old.stands Str) p
 name-kept at_table c p q h = ap raw_part h
 name-kept (at_string width left end) c p q h = ap text_part h.says
 name-kept (at_rest end) c p q h = ap raw_part h
 name-kept no_names c p q h = ap raw_part h
 
 -- and mean what they meant
-pub names-kept : (c : Shift) (xs ys : List (Piece NameState)) → AllChanged NameState (NameChange c) xs ys → name_parts c.new.lasting.base.order c.new.str ys ≡ name_parts c.old.lasting.base.order c.old.str xs
+pub names-kept : (c : Shift) (xs ys : List (Piece NameState)) → AllChanged NameState (NameChange c) xs ys → name_parts c.new.lasting.base.order (c.new.stands Str) ys ≡ name_parts c.old.lasting.base.order (c.old.stands Str) xs
 names-kept c [] [] h = refl
 names-kept c [] (y ∷ ys) h = absurd h
 names-kept c (x ∷ xs) [] h = absurd h
 names-kept c (x ∷ xs) (y ∷ ys) h =
-    ap (λ (z : NameState). name_part z.mode c.new.lasting.base.order c.new.str y.cells ∷ name_parts c.new.lasting.base.order c.new.str ys) h.0.state
-    ∙ ap (λ (n : NamePart). n ∷ name_parts c.new.lasting.base.order c.new.str ys) (name-kept x.state.mode c x.cells y.cells h.0.cells)
-    ∙ ap (λ (ns : List NamePart). name_part x.state.mode c.old.lasting.base.order c.old.str x.cells ∷ ns) (names-kept c xs ys h.1)
+    ap (λ (z : NameState). name_part z.mode c.new.lasting.base.order (c.new.stands Str) y.cells ∷ name_parts c.new.lasting.base.order (c.new.stands Str) ys) h.0.state
+    ∙ ap (λ (n : NamePart). n ∷ name_parts c.new.lasting.base.order (c.new.stands Str) ys) (name-kept x.state.mode c x.cells y.cells h.0.cells)
+    ∙ ap (λ (ns : List NamePart). name_part x.state.mode c.old.lasting.base.order (c.old.stands Str) x.cells ∷ ns) (names-kept c xs ys h.1)
 
 -- the text of the slot of a number; where there is none, no text, which no map changes
 slot-mapped : (m : PathMap) (paths : List ℕ) (first n : ℕ) (ts : List (List ℕ)) → mapped_path m [] ≡ []

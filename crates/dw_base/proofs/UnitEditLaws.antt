@@ -25,6 +25,7 @@ use Rattle.dw_base.specs.declared.values.Value.{Value}
 use Rattle.dw_base.specs.declared.values.ValueClass.{ValueClass}
 use Rattle.dw_base.specs.declared.values.ValueClass.TheVariants.{InlineText}
 use Rattle.dw_base.proofs.PieceFrameLaws.{AllChanged, Preserves}
+use Rattle.dw_base.specs.declared.debug_sections.DebugSection.TheVariants.{StrOffsets}
 
 -- what stands around units before and after a change, and the map that was applied. What units are read by stays, and so do
 -- the places of entries.
@@ -62,12 +63,12 @@ Becomes line_start c p q = Restarted c p q
 -- the slot of a number has the new text of a value that names it
 abbrev pub SlotBecomes : Option ℕ → Bool → Shift → Type 0
 SlotBecomes None path c = ⊤
-SlotBecomes (Some n) path c = get_or c.new.slots n [] ≡ new_text c.map (record { path = path; text = get_or c.old.slots n [] })
+SlotBecomes (Some n) path c = get_or (c.new.stands StrOffsets) n [] ≡ new_text c.map (record { path = path; text = get_or (c.old.stands StrOffsets) n [] })
 
 -- and so has the slot of an index of a unit
 abbrev pub IndexBecomes : Option ℕ → Bool → Shift → ℕ → Type 0
 IndexBecomes None path c unit = ⊤
-IndexBecomes (Some index) path c unit = SlotBecomes (slot_of c.old.lasting.indexing unit index) path c
+IndexBecomes (Some index) path c unit = SlotBecomes (slot_of (c.old.lasting.kept StrOffsets) unit index) path c
 
 -- so a value by index says the new text, although its cells stay
 abbrev pub ValueSlot : ValueKind → Bool → Shift → ℕ → List Cell → Type 0

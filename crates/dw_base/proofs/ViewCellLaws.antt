@@ -13,7 +13,7 @@ use Rattle.dw_base.specs.Numbers.{spelled}
 use Rattle.dw_base.specs.RelocationFields.{field_unless, partly_at, relocation_at}
 use Rattle.dw_base.specs.SectionRelocations.{PlacedRelocation, cells_from, relocations_of, section_cells}
 use Rattle.dw_base.specs.ViewData.{cells_located, debug_data, located, located_at}
-use Rattle.dw_base.specs.declared.debug_sections.DebugSection.TheVariants.{Line, StrOffsets}
+use Rattle.dw_base.specs.declared.debug_sections.DebugSection.TheVariants.{StrOffsets, Line}
 use Rattle.dw_base.proofs.FileViewLaws.{get_or-view_of, length-view_of, section_bytes-view_of}
 use Rattle.dw_base.proofs.RelocationFieldLaws.{field_of-cells_at}
 use Rattle.dw_base.proofs.SectionRelocationLaws.{bytes_of-cells_from, cells_from-none, length-cells_from, relocations_of-loaded}
@@ -50,11 +50,11 @@ number-cells v o = ap (λ (z : Located). z.number) (located-cells v o)
 pub bytes-cells : (v : View) (o : Option ℕ) → bytes_of (cells_located v o).contents ≡ (located_at v o).bytes
 bytes-cells v o = ap (λ (z : Located). z.bytes) (located-cells v o)
 
-pub offsets-located : (v : View) → located_cells (debug_data v).offsets ≡ located v StrOffsets
+pub offsets-located : (v : View) → located_cells ((debug_data v).found StrOffsets) ≡ located v StrOffsets
 unfolding debug_data located
 offsets-located v = located-cells v (section_named v (name_of StrOffsets))
 
-pub lines-located : (v : View) → located_cells (debug_data v).lines ≡ located v Line
+pub lines-located : (v : View) → located_cells ((debug_data v).found Line) ≡ located v Line
 unfolding debug_data located
 lines-located v = located-cells v (section_named v (name_of Line))
 

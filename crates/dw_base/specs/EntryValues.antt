@@ -8,6 +8,7 @@ use Rattle.dw_base.specs.Lebs.{uleb_at}
 use Rattle.dw_base.specs.UnitHeaders.{UnitSection, IsUnit, UnitsUpTo}
 use Rattle.dw_base.specs.UnitTables.{IsUnitTable}
 use Rattle.dw_base.specs.Values.{value_at}
+use Rattle.dw_base.specs.declared.debug_sections.DebugSection.TheVariants.{Info}
 use Rattle.dw_base.specs.declared.units.Scanned.{Scanned}
 use Rattle.dw_base.specs.declared.units.UnitHeader.{UnitHeader}
 use Rattle.dw_base.specs.declared.values.Spec.{Spec}
@@ -17,7 +18,7 @@ use Rattle.dw_base.specs.declared.values.Value.{Value}
 pub record HasUnit (d : DebugData) (z : UnitSection) (h : UnitHeader) : Type 0 where
   pub before : List UnitSection
   pub behind : List UnitSection
-  pub sections : d.units ≡ before ++ z ∷ behind
+  pub sections : d.found Info ≡ before ++ z ∷ behind
   pub list : List UnitHeader
   pub start : ℕ
   pub units : UnitsUpTo d.base z list start

@@ -111,6 +111,15 @@ section_after v name after = first_filled name (suc after) (drop (suc after) v.s
 unfoldable pub section_named : View → List ℕ → Option ℕ
 section_named v name = section_after v name 0
 
+-- the numbers of those that have a name and bytes
+abbrev pub all_filled : List ℕ → ℕ → List ViewSection → List ℕ
+all_filled name i [] = []
+all_filled name i (s ∷ ss) = if is_filled name s then i ∷ all_filled name (suc i) ss else all_filled name (suc i) ss
+
+-- the sections of a name, in the order of their numbers: all that have it and bytes
+unfoldable pub sections_named : View → List ℕ → List ℕ
+sections_named v name = all_filled name 1 (drop 1 v.sections)
+
 -- the name of the section of a number of a list: no bytes where it has no such section
 abbrev pub name_in : List ViewSection → ℕ → List ℕ
 name_in [] i = []

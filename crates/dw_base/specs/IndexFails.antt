@@ -12,6 +12,7 @@ use Rattle.dw_base.specs.SlotTexts.{field_text}
 use Rattle.dw_base.specs.TextChanges.{offset_in}
 use Rattle.dw_base.specs.TextIndexes.{Indexing, IndexUse, slot_of, holds_number}
 use Rattle.dw_base.specs.Texts.{ends_in}
+use Rattle.dw_base.specs.declared.debug_sections.DebugSection.TheVariants.{Str}
 use Rattle.dw_base.specs.declared.fault.Kind.TheVariants.{StringOffset, StringTable, SharedIndex}
 use Rattle.dw_base.specs.declared.fault.Refusal.{Refusal}
 use Rattle.dw_base.specs.declared.shared.Width.{Width}
@@ -32,7 +33,7 @@ pub record HasSlot (xs : List (Piece OffsetState)) (x : Piece OffsetState) : Typ
 
 -- the row of slots, at the slot: its offset names no text
 pub data SlotFails (section : ℕ) (around : Around) (xs : List (Piece OffsetState)) : Refusal → Type 0 where
-  no_text : (x : Piece OffsetState) → HasSlot xs x → ends_in around.str.bytes (offset_in around in_str x.cells) ≡ false
+  no_text : (x : Piece OffsetState) → HasSlot xs x → ends_in (around.stands Str).bytes (offset_in around in_str x.cells) ≡ false
       → SlotFails section around xs (at StringOffset section x.state.place)
 
 -- the slot of a number may have another text: no value names it that isn't a path, or the text stays when it is mapped
@@ -41,7 +42,7 @@ MayMap m paths others n t = holds_number paths n ≡ true → holds_number other
 
 abbrev pub SlotFitsBy : OffsetMode → PathMap → Around → ℕ → List Cell → Type 0
 SlotFitsBy (at_slot width end) m around n p =
-    MayMap m (path_slots around) (other_slots around) n (field_text around.lasting.base.order around.str p)
+    MayMap m (path_slots around) (other_slots around) n (field_text around.lasting.base.order (around.stands Str) p)
 SlotFitsBy k m around n p = ⊤
 
 -- no slot is named by a path whose text changes and by a value that isn't a path
@@ -52,5 +53,5 @@ SlotFits m around x = SlotFitsBy x.state.mode m around x.state.slot x.cells
 pub data SharedFails (m : PathMap) (section : ℕ) (around : Around) (xs : List (Piece OffsetState)) : Refusal → Type 0 where
   shared : (x : Piece OffsetState) → HasSlot xs x → holds_number (path_slots around) x.state.slot ≡ true
       → holds_number (other_slots around) x.state.slot ≡ true
-      → mapped_path m (field_text around.lasting.base.order around.str x.cells) ≢ field_text around.lasting.base.order around.str x.cells
+      → mapped_path m (field_text around.lasting.base.order (around.stands Str) x.cells) ≢ field_text around.lasting.base.order (around.stands Str) x.cells
       → SharedFails m section around xs (at SharedIndex section x.state.place)

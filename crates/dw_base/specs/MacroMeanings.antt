@@ -8,6 +8,7 @@ use Rattle.dw_base.specs.MacroReadings.{MacroReading}
 use Rattle.dw_base.specs.Numbers.{spelled}
 use Rattle.dw_base.specs.Pieces.{Piece}
 use Rattle.dw_base.specs.SlotTexts.{field_text}
+use Rattle.dw_base.specs.declared.debug_sections.DebugSection.TheVariants.{Str}
 use Rattle.dw_base.specs.declared.macro_units.MacroOperation.{MacroOperation}
 use Rattle.dw_base.specs.declared.macro_units.MacroOperation.TheVariants.{End, Inline, Named, Enter, Leave, Bring, Foreign}
 use Rattle.dw_base.specs.declared.shared.Width.TheVariants.{W32}
@@ -56,7 +57,7 @@ unfoldable pub front_mark : List ℕ → MacroMark
 front_mark bytes = read_mark bytes (operation_of bytes W32 (slice_index bytes 0) 1)
 
 abbrev pub offset_mark : OffsetUse → Around → List Cell → MacroMark
-offset_mark (of_text defines line) around p = has_event (text_event defines line (field_text around.lasting.base.order around.str p))
+offset_mark (of_text defines line) around p = has_event (text_event defines line (field_text around.lasting.base.order (around.stands Str) p))
 offset_mark of_unit around p = has_event (brought (macro_unit around.lasting p))
 
 abbrev pub macro_mark_by : MacroMode → Around → List Cell → MacroMark

@@ -15,6 +15,8 @@ use Rattle.dw_base.specs.Roles.{Role, fixed, offset, inline_path, line_start, ro
 use Rattle.dw_base.specs.StringTables.{Mention, Plan, new_place}
 use Rattle.dw_base.specs.Texts.{text, text_in, ends_in}
 use Rattle.dw_base.specs.UnitStates.{UnitState}
+use Rattle.dw_base.specs.declared.debug_sections.DebugSection.{DebugSection}
+use Rattle.dw_base.specs.declared.debug_sections.DebugSection.TheVariants.{Str, LineStr, Line}
 use Rattle.dw_base.specs.declared.shared.Order.{Order}
 
 -- the offset that a field holds into a table
@@ -44,16 +46,21 @@ pub record TableChange : Type 0 where
   pub plan : Plan
   pub texts : List (List ℕ)
 
--- what becomes of all tables of texts, the map of paths, and the new line tables
+-- what is new in the sections of a kind that others name: what becomes of a table of texts, and the new line tables
+abbrev pub Changed : DebugSection → Type 0
+Changed Str = TableChange
+Changed LineStr = TableChange
+Changed Line = List (List ℕ)
+Changed s = ⊤
+
+-- the map of paths, and what is new in the sections of each kind
 pub record TableChanges : Type 0 where
   pub map : PathMap
-  pub str : TableChange
-  pub line_str : TableChange
-  pub lines : List (List ℕ)
+  pub new : (s : DebugSection) → Changed s
 
 abbrev pub change_of : TableChanges → TextSection → TableChange
-change_of changes in_str = changes.str
-change_of changes in_line_str = changes.line_str
+change_of changes in_str = changes.new Str
+change_of changes in_line_str = changes.new LineStr
 
 -- a field whose mention asks for a new place has it
 abbrev pub moved_field : TableChange → PathMap → Order → Mention → List Cell → List Cell
@@ -71,7 +78,7 @@ edited_by fixed changes around p = p
 edited_by (offset table path) changes around p =
     moved_field (change_of changes table) changes.map around.lasting.base.order (mention_at around table path p) p
 edited_by inline_path changes around p = with_bytes p (mapped_inline changes.map (text (bytes_of p)))
-edited_by line_start changes around p = moved_start (starts_from 0 changes.lines) around.lasting.base.order (line_table around p) p
+edited_by line_start changes around p = moved_start (starts_from 0 (changes.new Line)) around.lasting.base.order (line_table around p) p
 
 abbrev pub edited : TableChanges → Around → Piece UnitState → Piece UnitState
 edited changes around x = record { state = x.state; cells = edited_by (role_of x) changes around x.cells }

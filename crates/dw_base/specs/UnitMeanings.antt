@@ -10,6 +10,7 @@ use Rattle.dw_base.specs.Readings.{Readings}
 use Rattle.dw_base.specs.Roles.{use_of}
 use Rattle.dw_base.specs.UnitStates.{Mode, at_header, at_code, at_values, at_chosen, stuck, UnitState, code_value, piece_header}
 use Rattle.dw_base.specs.ValueMeanings.{found_entry, meaning_of_value}
+use Rattle.dw_base.specs.declared.debug_sections.DebugSection.TheVariants.{Info}
 use Rattle.dw_base.specs.declared.units.UnitHeader.{UnitHeader}
 use Rattle.dw_base.specs.declared.values.Spec.{Spec}
 use Rattle.dw_base.specs.declared.dwarf_numbers.TheConstants.{DW_UT_type}
@@ -28,7 +29,7 @@ head_meaning g h = record {
   address = h.params.address;
   kind = h.kind;
   signature = h.signature;
-  type_entry = if h.kind == DW_UT_type then Some (found_entry g.entries h.section (h.start + h.type_offset) h.type_offset) else None;
+  type_entry = if h.kind == DW_UT_type then Some (found_entry (g.kept Info).entries h.section (h.start + h.type_offset) h.type_offset) else None;
 }
 
 abbrev pub head_mark : Lasting → Option UnitHeader → Mark

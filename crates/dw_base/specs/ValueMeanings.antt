@@ -10,6 +10,7 @@ use Rattle.dw_base.specs.Roles.{Use, is_line_start, is_macro_start, is_path_use}
 use Rattle.dw_base.specs.TextIndexes.{holds_number, slot_of}
 use Rattle.dw_base.specs.Texts.{text, text_in}
 use Rattle.dw_base.specs.UnitStates.{UnitState, code_value}
+use Rattle.dw_base.specs.declared.debug_sections.DebugSection.TheVariants.{Info, StrOffsets, Line}
 use Rattle.dw_base.specs.declared.shared.Order.{Order}
 use Rattle.dw_base.specs.declared.values.Spec.{Spec}
 use Rattle.dw_base.specs.declared.values.ValueClass.{ValueClass}
@@ -49,13 +50,13 @@ first_of (i ∷ rest) = i
 
 -- what a field refers to in .debug_info
 abbrev pub global_entry : Lasting → Field → ValueMeaning
-global_entry g (Num n) = found_entry g.entries (first_of g.infos) n n
-global_entry g (Into z n) = if holds_number g.infos z then found_entry g.entries z n n else stray n
+global_entry g (Num n) = found_entry (g.kept Info).entries (first_of (g.kept Info).infos) n n
+global_entry g (Into z n) = if holds_number (g.kept Info).infos z then found_entry (g.kept Info).entries z n n else stray n
 global_entry g (Sym s k a) = of_class GlobalRef (Sym s k a)
 
 -- what a number refers to in its unit, from whose start it counts
 abbrev pub local_entry : Lasting → UnitState → ℕ → ValueMeaning
-local_entry g s n = found_entry g.entries s.section (s.header.start + n) n
+local_entry g s n = found_entry (g.kept Info).entries s.section (s.header.start + n) n
 
 -- the address that cells hold
 unfoldable pub address_of : Order → List Cell → Field
@@ -90,7 +91,7 @@ indexed texts path (Some n) p = string path (by_slot n) (get_or texts n [])
 
 -- a value that says an index
 abbrev pub by_index : Around → UnitState → Use → ℕ → List Cell → ValueMeaning
-by_index around s u index p = indexed around.slots (is_path_use u) (slot_of around.lasting.indexing s.unit index) p
+by_index around s u index p = indexed (around.stands StrOffsets) (is_path_use u) (slot_of (around.lasting.kept StrOffsets) s.unit index) p
 
 abbrev pub number_meaning : Around → UnitState → Use → ValueClass → List Cell → ValueMeaning
 number_meaning around s u StrIndex p = by_index around s u (spelled around.lasting.base.order (bytes_of p) 0 (length p)) p
@@ -106,7 +107,7 @@ table_named None n = stray n
 table_named (Some k) n = table_number k
 
 abbrev pub line_meaning : Around → List Cell → ValueMeaning
-line_meaning around p = table_named (line_table around p) (offset_of around.lasting.base.order around.lines p)
+line_meaning around p = table_named (line_table around p) (offset_of around.lasting.base.order (around.stands Line).located p)
 
 -- what a value means that says where a macro unit starts: the number of the unit
 abbrev pub unit_meant : Option ℕ → Field → ValueMeaning

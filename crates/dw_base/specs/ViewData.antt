@@ -2,7 +2,7 @@
 -- name the bytes of the sections that are meant as they stand.
 use Rattle.std.specs.Prelude.{Bool, ℕ, zero, suc, ◌||◌, ◌&&◌, not, if◌then◌else◌, List, [], ◌∷◌, ◌++◌, drop, Option, Some, None, true, false}
 use Rattle.dw_base.specs.Cells.{Located, CellSection}
-use Rattle.dw_base.specs.DebugData.{DebugData, DataReadings, around_of, line_source}
+use Rattle.dw_base.specs.DebugData.{DebugData, DataReadings, Found, around_of, line_source}
 use Rattle.dw_base.specs.DebugSections.{debug_section, name_of}
 use Rattle.dw_base.specs.FileViews.{plain_contents, bytes_in, cells_of, ViewSection, View, section_bytes, section_named, view_cells}
 use Rattle.dw_base.specs.LineMeanings.{LineMeaning, line_meanings, mapped_lines}
@@ -80,18 +80,21 @@ cells_located v (Some i) = record { number = i; contents = view_cells v i }
 abbrev pub cells_found : View → DebugSection → CellSection
 cells_found v s = cells_located v (section_named v (name_of s))
 
+-- what is found in a view of the sections of a kind
+abbrev pub found_in : View → (s : DebugSection) → Found s
+found_in v Info = unit_sections v
+found_in v Types = tt
+found_in v Abbrev = tt
+found_in v Str = located v Str
+found_in v LineStr = located v LineStr
+found_in v StrOffsets = cells_found v StrOffsets
+found_in v Line = cells_found v Line
+found_in v Macro = macro_sections v
+found_in v Names = cells_found v Names
+
 -- the debug data of a view
 unfoldable pub debug_data : View → DebugData
-debug_data v = record {
-  base = record { order = v.order; abbrevs = located v Abbrev };
-  units = unit_sections v;
-  str = located v Str;
-  line_str = located v LineStr;
-  offsets = cells_found v StrOffsets;
-  lines = cells_found v Line;
-  macros = macro_sections v;
-  names = cells_found v Names;
-}
+debug_data v = record { base = record { order = v.order; abbrevs = located v Abbrev }; found = found_in v }
 
 -- a section whose bytes are read: units, their abbreviations, the tables of texts, string offsets, line tables, macro units, and name
 -- tables

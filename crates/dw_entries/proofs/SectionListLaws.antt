@@ -4,6 +4,7 @@ use Rattle.std.proofs.Math.Seq.{take-suc}
 use Rattle.std.proofs.lemmas.List.{map-append, take_all}
 use Rattle.dw_base.specs.FileViews.{View}
 use Rattle.dw_base.specs.ViewData.{debug_data}
+use Rattle.dw_base.specs.declared.debug_sections.DebugSection.TheVariants.{Info}
 use Rattle.dw_entries.specs.SectionOrder.{AreSections, EachSection}
 use Rattle.dw_entries.specs.ViewUnits.{IsUnitSection, unit_section_at}
 
@@ -22,5 +23,5 @@ sections-next v ns i n lt is =
     ap (λ (k : ℕ). map (unit_section_at v) (take k ns)) next ∙ ap (map (unit_section_at v)) (take-suc ns i n lt)
     ∙ ap (λ (m : ℕ). map (unit_section_at v) (take i ns ++ m ∷ [])) (sym is) ∙ map-append (unit_section_at v) (take i ns) (n ∷ [])
 
-pub sections-whole : (v : View) (ns : List ℕ) (i : ℕ) → AreSections v ns → length ns ≤ i → map (unit_section_at v) (take i ns) ≡ (debug_data v).units
+pub sections-whole : (v : View) (ns : List ℕ) (i : ℕ) → AreSections v ns → length ns ≤ i → map (unit_section_at v) (take i ns) ≡ (debug_data v).found Info
 sections-whole v ns i are past = ap (map (unit_section_at v)) (take_all i ns past) ∙ sym are.all

@@ -1,24 +1,25 @@
 -- The unit sections of a view, found one after another by their two names.
-use Rattle.std.proofs.Common.{Bool, true, false, ◌≡◌, ◌⊎◌, inl, inr, ℕ, zero, suc, ◌+◌, ◌-◌, ◌≤◌, ◌<◌, ◌==◌, ◌&&◌, List, [], ◌∷◌, ◌++◌, map, length, drop, Option, Some, None, cond, refl, sym, ap, ◌∙◌, subst, arith, append_assoc, append-nil, if◌then◌else◌}
-use Rattle.std.specs.Prelude.{nat_le}
+use Rattle.std.proofs.Common.{Bool, true, false, ◌≡◌, ◌⊎◌, inl, inr, ℕ, zero, suc, ◌+◌, ◌-◌, ◌≤◌, ◌<◌, ◌==◌, ◌&&◌, List, [], ◌∷◌, ◌++◌, map, length, get_or, slice_get, drop, Option, Some, None, cond, refl, sym, ap, ◌∙◌, subst, arith, append_assoc, append-nil, if◌then◌else◌}
+use Rattle.std.specs.Prelude.{nat_le, nat_lt}
 use Rattle.std.specs.Bool.{⊤}
 use Rattle.std.proofs.lemmas.Bool.{and_parts, leb-true, cases_eq}
 use Rattle.std.proofs.lemmas.Bool.Decides.{nat_tests}
 use Rattle.std.proofs.lemmas.List.{drop-drop, map-append}
+use Rattle.std.proofs.lemmas.Option.{slice_get-get_or, slice_get_past}
 use Rattle.dw_base.specs.DebugSections.{debug_section, name_of}
-use Rattle.dw_base.specs.FileViews.{View, ViewSection, is_filled, first_filled, section_after, section_named, cells_of}
+use Rattle.dw_base.specs.FileViews.{View, ViewSection, is_filled, first_filled, section_after, section_named, sections_named, cells_of}
 use Rattle.dw_base.specs.Texts.{same_text}
 use Rattle.dw_base.specs.UnitHeaders.{UnitSection, SectionKind, in_info, in_types}
 use Rattle.dw_base.specs.ViewData.{unit_kind, unit_section, unit_sections_from, unit_sections, debug_data}
 use Rattle.dw_base.specs.declared.debug_sections.DebugSection.{DebugSection}
 use Rattle.dw_base.specs.declared.debug_sections.DebugSection.TheVariants.{Info, Types, Abbrev, Str, LineStr, StrOffsets, Line, Macro, Names}
 use Rattle.dw_base.proofs.DebugSectionLaws.{debug_section-name, debug_section-named}
-use Rattle.dw_base.proofs.FileViewLaws.{section_after-within}
+use Rattle.dw_base.proofs.FileViewLaws.{first-named, next-named, section_after-within}
 use Rattle.dw_base.proofs.TextLaws.{same_text-true, same_text-from}
 use Rattle.dw_entries.specs.ViewUnits.{IsUnitSection, unit_section_at}
 use Rattle.dw_entries.proofs.UnitSectionLaws.{is-of-view}
 use Rattle.dw_entries.proofs.HasUnitLaws.{section-at, is-unit_section}
-use Rattle.dw_entries.specs.SectionOrder.{first_of, known_after, EachSection, AreSections}
+use Rattle.dw_entries.specs.SectionOrder.{first_of, place_after, EachSection, AreSections}
 
 -- a section of one of the two names is a unit section
 one-unit : (i : ℕ) (s : ViewSection) (kind : SectionKind) (has : Bool) (found : Option SectionKind) → has ≡ true → found ≡ Some kind
@@ -59,6 +60,11 @@ other-unit i s info types = by_bytes s.has_bytes info types
         → (if has then unit_section i s (unit_kind (debug_section s.name)) else []) ≡ []
     by_bytes false a b = refl
     by_bytes true a b = by_name (debug_section s.name) refl a b
+
+-- the first section of a name above a number, where the first above an earlier one is known
+abbrev known_after : View → List ℕ → Option ℕ → ℕ → Option ℕ
+known_after v name None n = None
+known_after v name (Some k) n = if k == n then section_after v name n else Some k
 
 -- a number isn't below another, where there is one
 abbrev AtLeast : ℕ → Option ℕ → Type 0
@@ -194,11 +200,11 @@ pub record SectionsPass (v : View) (info types : Option ℕ) (numbers : List ℕ
   pub done : List UnitSection
   pub info_is : first_filled (name_of Info) (suc after) (drop (suc after) v.sections) ≡ info
   pub types_is : first_filled (name_of Types) (suc after) (drop (suc after) v.sections) ≡ types
-  pub split : (debug_data v).units ≡ done ++ unit_sections_from (suc after) (drop (suc after) v.sections)
+  pub split : (debug_data v).found Info ≡ done ++ unit_sections_from (suc after) (drop (suc after) v.sections)
   pub each : EachSection v numbers
   pub done_is : done ≡ map (unit_section_at v) numbers
 
-pub pass-none : (v : View) (info types : Option ℕ) (numbers : List ℕ) → info ≡ section_named v (name_of Info)
+pass-none : (v : View) (info types : Option ℕ) (numbers : List ℕ) → info ≡ section_named v (name_of Info)
     → types ≡ section_named v (name_of Types) → numbers ≡ [] → SectionsPass v info types numbers
 unfolding section_named section_after debug_data unit_sections
 pass-none v info types numbers i t none =
@@ -220,10 +226,10 @@ pass-next v info types numbers n p e =
     (nexts v.sections (suc p.after) (drop (suc p.after) v.sections) info types refl p.info_is p.types_is)
 
 next-split : (v : View) (info types : Option ℕ) (numbers : List ℕ) (n : ℕ) → (p : SectionsPass v info types numbers) → (e : Some n ≡ first_of info types)
-    → (debug_data v).units ≡ p.done ++ (pass-next v info types numbers n p e).section ∷ unit_sections_from (suc n) (drop (suc n) v.sections)
+    → (debug_data v).found Info ≡ p.done ++ (pass-next v info types numbers n p e).section ∷ unit_sections_from (suc n) (drop (suc n) v.sections)
 next-split v info types numbers n p e = p.split ∙ ap (λ (zs : List UnitSection). p.done ++ zs) (pass-next v info types numbers n p e).is
 
-data-units : (v : View) → (debug_data v).units ≡ unit_sections v
+data-units : (v : View) → (debug_data v).found Info ≡ unit_sections v
 unfolding debug_data
 data-units v = refl
 
@@ -270,7 +276,7 @@ known-is v name after n (Some m) le f least = by_same (cases_eq m n)
         rest ∙ rw test refl
 
 -- one section more
-pub pass-more : (v : View) (info types next_info next_types : Option ℕ) (numbers : List ℕ) (n : ℕ)
+pass-more : (v : View) (info types next_info next_types : Option ℕ) (numbers : List ℕ) (n : ℕ)
     → SectionsPass v info types numbers → Some n ≡ first_of info types
     → next_info ≡ known_after v (name_of Info) info n → next_types ≡ known_after v (name_of Types) types n
     → SectionsPass v next_info next_types (numbers ++ n ∷ [])
@@ -293,7 +299,7 @@ pass-more v info types next_info next_types numbers n p e i t =
     }
 
 -- the end
-pub pass-ends : (v : View) (info types : Option ℕ) (numbers : List ℕ) → SectionsPass v info types numbers → None ≡ first_of info types → AreSections v numbers
+pass-ends : (v : View) (info types : Option ℕ) (numbers : List ℕ) → SectionsPass v info types numbers → None ≡ first_of info types → AreSections v numbers
 pass-ends v info types numbers p e =
     let none : unit_sections_from (suc p.after) (drop (suc p.after) v.sections) ≡ [] =
     subst (Nexts v.sections (suc p.after) (drop (suc p.after) v.sections)) (sym e)
@@ -319,7 +325,7 @@ known-within v name (Some k) n m least e = by_same (k == n) refl e
         let le : n ≤ k = least in
         grind (arith, nat_tests, test, le, same)
 
-pub left-less : (v : View) (info types next_info next_types : Option ℕ) (n : ℕ) → Some n ≡ first_of info types → n < length v.sections
+left-less : (v : View) (info types next_info next_types : Option ℕ) (n : ℕ) → Some n ≡ first_of info types → n < length v.sections
     → next_info ≡ known_after v (name_of Info) info n → next_types ≡ known_after v (name_of Types) types n
     → sections_left v (first_of next_info next_types) < sections_left v (first_of info types)
 left-less v info types next_info next_types n e lt i t =
@@ -345,10 +351,75 @@ left-less v info types next_info next_types n e lt i t =
     by_next : (a b : Option ℕ) → ((k : ℕ) → a ≡ Some k → n < k) → ((k : ℕ) → b ≡ Some k → n < k) → sections_left v (first_of a b) < suc (length v.sections) - n
     by_next a b f g = by_first (first_of a b) (λ m h. above a b m f g h)
 
-pub left-pass : (v : View) (info types next_info next_types : Option ℕ) (numbers : List ℕ) (n : ℕ) → SectionsPass v info types numbers → Some n ≡ first_of info types
+left-pass : (v : View) (info types next_info next_types : Option ℕ) (numbers : List ℕ) (n : ℕ) → SectionsPass v info types numbers → Some n ≡ first_of info types
     → next_info ≡ known_after v (name_of Info) info n → next_types ≡ known_after v (name_of Types) types n
     → sections_left v (first_of next_info next_types) < sections_left v (first_of info types)
 left-pass v info types next_info next_types numbers n p e i t =
     left-less v info types next_info next_types n e (is-of-view v n (pass-there v info types numbers n p e)).there i t
 
-pub ruleset all_rules = (pass-none)
+-- the number at the place behind is the next of its name
+after-known : (v : View) (name list : List ℕ) (place n : ℕ) → list ≡ sections_named v name
+    → slice_get list (place_after list place n) ≡ known_after v name (slice_get list place) n
+after-known v name list place n are = by_below (nat_lt place (length list)) refl
+  where
+    by_same : (x : Bool) → (get_or list place 0 == n) ≡ x → slice_get list place ≡ Some (get_or list place 0)
+        → slice_get list (if x then place + 1 else place) ≡ (if x then section_after v name n else Some (get_or list place 0))
+    by_same true e read =
+        let next : suc place ≡ place + 1 = omega arith in
+        let same : get_or list place 0 ≡ n = grind (arith, nat_tests, e) in
+        ap (slice_get list) (sym next) ∙ ap (λ (l : List ℕ). slice_get l (suc place)) are
+        ∙ next-named v name place n (ap (λ (l : List ℕ). slice_get l place) (sym are) ∙ read ∙ ap (λ (k : ℕ). Some k) same)
+    by_same false e read = read
+
+    by_below : (b : Bool) → nat_lt place (length list) ≡ b
+        → slice_get list (if b && get_or list place 0 == n then place + 1 else place) ≡ known_after v name (slice_get list place) n
+    by_below true e =
+        let lt : place < length list = grind (arith, nat_tests, e) in
+        let read = slice_get-get_or list place 0 lt in
+        by_same (get_or list place 0 == n) refl read ∙ sym (ap (λ (o : Option ℕ). known_after v name o n) read)
+    by_below false e =
+        let past : slice_get list place ≡ None = slice_get_past list place (grind (arith, nat_tests, e)) in
+        past ∙ sym (ap (λ (o : Option ℕ). known_after v name o n) past)
+
+-- the smaller of the numbers that stand next
+pub next-of : (o a b x y : Option ℕ) → o ≡ first_of a b → a ≡ x → b ≡ y → o ≡ first_of x y
+next-of o a b x y e f g = e ∙ ap (λ (z : Option ℕ). first_of z b) f ∙ ap (first_of x) g
+
+-- where a pass over the lists of both names stands
+pub record ListsPass (v : View) (infos types : List ℕ) (info kind : ℕ) (numbers : List ℕ) : Type 0 where
+  pub infos_are : infos ≡ sections_named v (name_of Info)
+  pub types_are : types ≡ sections_named v (name_of Types)
+  pub so : SectionsPass v (slice_get infos info) (slice_get types kind) numbers
+
+pub lists-none : (v : View) (infos types numbers : List ℕ) → infos ≡ sections_named v (name_of Info) → types ≡ sections_named v (name_of Types) → numbers ≡ []
+    → ListsPass v infos types 0 0 numbers
+lists-none v infos types numbers i t none = record {
+  infos_are = i;
+  types_are = t;
+  so = pass-none v (slice_get infos 0) (slice_get types 0) numbers (ap (λ (l : List ℕ). slice_get l 0) i ∙ first-named v (name_of Info))
+      (ap (λ (l : List ℕ). slice_get l 0) t ∙ first-named v (name_of Types)) none;
+}
+
+pub lists-more : (v : View) (infos types numbers more : List ℕ) (info kind n next_info next_kind : ℕ) (p : ListsPass v infos types info kind numbers)
+    → Some n ≡ first_of (slice_get infos info) (slice_get types kind) → next_info ≡ place_after infos info n → next_kind ≡ place_after types kind n → more ≡ numbers ++ n ∷ []
+    → ListsPass v infos types next_info next_kind more
+lists-more v infos types numbers more info kind n next_info next_kind p e i t m = record {
+  infos_are = p.infos_are;
+  types_are = p.types_are;
+  so = subst (SectionsPass v (slice_get infos next_info) (slice_get types next_kind)) (sym m)
+      (pass-more v (slice_get infos info) (slice_get types kind) (slice_get infos next_info) (slice_get types next_kind) numbers n p.so e
+      (ap (slice_get infos) i ∙ after-known v (name_of Info) infos info n p.infos_are) (ap (slice_get types) t ∙ after-known v (name_of Types) types kind n p.types_are));
+}
+
+pub lists-left : (v : View) (infos types numbers : List ℕ) (info kind n next_info next_kind : ℕ) (p : ListsPass v infos types info kind numbers)
+    → Some n ≡ first_of (slice_get infos info) (slice_get types kind) → next_info ≡ place_after infos info n → next_kind ≡ place_after types kind n
+    → sections_left v (first_of (slice_get infos next_info) (slice_get types next_kind)) < sections_left v (first_of (slice_get infos info) (slice_get types kind))
+lists-left v infos types numbers info kind n next_info next_kind p e i t =
+    left-pass v (slice_get infos info) (slice_get types kind) (slice_get infos next_info) (slice_get types next_kind) numbers n p.so e
+    (ap (slice_get infos) i ∙ after-known v (name_of Info) infos info n p.infos_are) (ap (slice_get types) t ∙ after-known v (name_of Types) types kind n p.types_are)
+
+pub lists-end : (v : View) (infos types numbers : List ℕ) (info kind : ℕ) → ListsPass v infos types info kind numbers
+    → None ≡ first_of (slice_get infos info) (slice_get types kind) → AreSections v numbers
+lists-end v infos types numbers info kind p e = pass-ends v (slice_get infos info) (slice_get types kind) numbers p.so e
+
+pub ruleset all_rules = (lists-none)

@@ -2,9 +2,8 @@
 //!
 //! Read first: `specs/SectionOrder.antt`.
 
-ghost use Rattle.std.specs.Prelude.{◌≡◌, IfOk};
-ghost use Rattle.dw_base.specs.DebugSections.{name_of};
-ghost use Rattle.dw_entries.specs.SectionOrder.{AreSections, first_of, known_after};
+ghost use Rattle.std.specs.Prelude.{◌≡◌, slice_get, IfOk};
+ghost use Rattle.dw_entries.specs.SectionOrder.{AreSections, first_of, place_after};
 
 use dw_base::{DebugSection, NoMemory};
 use dw_view::View;
@@ -16,14 +15,23 @@ pub fn unit_sections(alloc: Global, view: &View) -> Result<Vec<u32>, NoMemory>
     ensures sections { IfOk result (λ list. AreSections view.now list.items) }
 {
     let mut list = Vec::new(alloc);
-    let mut info = view.first(DebugSection::Info);
-    let mut types = view.first(DebugSection::Types);
-    while let Some(section) = first_of(info, types) {
+    let infos = view.all(DebugSection::Info);
+    let types = view.all(DebugSection::Types);
+    let mut info = 0;
+    let mut kind = 0;
+    while let Some(section) = first_of(number_at(infos, info), number_at(types, kind)) {
         list.push(section)?;
-        info = known_after(view, DebugSection::Info, info, section);
-        types = known_after(view, DebugSection::Types, types, section);
+        info = place_after(infos, info, section);
+        kind = place_after(types, kind, section);
     }
     Ok(list)
+}
+
+/// The number at a place of a list, where it has one.
+fn number_at(list: &[u32], place: usize) -> Option<u32>
+    ensures { result ≡ slice_get list.now place }
+{
+    list.get(place).copied()
 }
 
 /// The smaller of two numbers, where there are any.
@@ -37,15 +45,12 @@ fn first_of(a: Option<u32>, b: Option<u32>) -> Option<u32>
     }
 }
 
-/// The first section of a name above a number, where the first above an earlier one is known.
-fn known_after(view: &View, name: DebugSection, known: Option<u32>, section: u32) -> Option<u32>
-    ensures { result ≡ known_after view.now (name_of name) known section }
+/// The place behind the one of a list, where a section stands there.
+fn place_after(list: &[u32], place: usize, section: u32) -> usize
+    ensures { result ≡ place_after list.now place section }
 {
-    let Some(number) = known else {
-        return None;
-    };
-    if number == section {
-        return view.section(name.name(), section);
+    if place < list.len() && list[place] == section {
+        return place + 1;
     }
-    known
+    place
 }

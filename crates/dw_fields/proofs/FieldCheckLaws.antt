@@ -7,6 +7,7 @@ use Rattle.dw_base.specs.Refusals.{Blames}
 use Rattle.dw_base.specs.RelocationRows.{moving_sections}
 use Rattle.dw_base.specs.UnitHeaders.{UnitSection}
 use Rattle.dw_base.specs.ViewData.{debug_data}
+use Rattle.dw_base.specs.declared.debug_sections.DebugSection.TheVariants.{Info, Macro}
 use Rattle.dw_base.specs.declared.fault.Fault.{Fault}
 use Rattle.dw_base.specs.declared.fault.Fault.TheVariants.{NoMemory, Refused}
 use Rattle.dw_base.specs.declared.fault.Refusal.{Refusal}
@@ -34,8 +35,8 @@ order-is v = refl
 own-macros : (v : View) (z : CellSection) → MacrosHold v.order z.contents (moving_sections v) → MacrosHold (debug_data v).base.order z.contents (moving_sections v)
 own-macros v z h = subst (λ (o : Order). MacrosHold o z.contents (moving_sections v)) (sym (order-is v)) h
 
-pub all-read : (v : View) → SlotsHold (debug_data v) (moving_sections v) → NamesHold (debug_data v) (moving_sections v) → MacroSectionsHold v (debug_data v).macros
-    → LinesHold (debug_data v) (moving_sections v) → SectionsHold (debug_data v) (moving_sections v) (debug_data v).units
+pub all-read : (v : View) → SlotsHold (debug_data v) (moving_sections v) → NamesHold (debug_data v) (moving_sections v) → MacroSectionsHold v ((debug_data v).found Macro)
+    → LinesHold (debug_data v) (moving_sections v) → SectionsHold (debug_data v) (moving_sections v) ((debug_data v).found Info)
     → LeftRelocationsRead (debug_data v) (moving_sections v)
 all-read v slots names macros lines units = record {
   units = λ before behind z first xs split reads.

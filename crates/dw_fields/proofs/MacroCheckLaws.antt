@@ -1,10 +1,11 @@
 -- The macro sections of a view, one after another, and what is known of the relocations that stand there.
-use Rattle.std.proofs.Common.{Bool, true, false, ◌≡◌, ℕ, zero, suc, ◌+◌, ◌-◌, ◌<◌, if◌then◌else◌, List, [], ◌∷◌, ◌++◌, length, drop, Option, Some, None, refl, sym, ap, ◌∙◌, subst, arith, append_assoc, append-nil}
+use Rattle.std.proofs.Common.{Bool, true, false, ◌≡◌, ℕ, zero, suc, ◌+◌, ◌<◌, ◌≤◌, if◌then◌else◌, List, [], ◌∷◌, ◌++◌, length, get_or, slice_get, drop, Option, Some, None, refl, sym, ap, ◌∙◌, subst, arith, append_assoc, append-nil}
 use Rattle.std.specs.Prelude.{is_some}
 use Rattle.std.proofs.lemmas.Bool.{and_parts}
+use Rattle.std.proofs.lemmas.Option.{slice_get-get_or, slice_get_past}
 use Rattle.dw_base.specs.Cells.{CellSection}
 use Rattle.dw_base.specs.DebugSections.{debug_section, name_of}
-use Rattle.dw_base.specs.FileViews.{View, ViewSection, first_filled, is_filled, kind_at, name_in, section_after, section_named, view_cells}
+use Rattle.dw_base.specs.FileViews.{View, ViewSection, first_filled, is_filled, kind_at, name_in, section_after, section_named, sections_named, view_cells}
 use Rattle.dw_base.specs.MacroOffsets.{UnitsRefuse}
 use Rattle.dw_base.specs.Refusals.{Blames}
 use Rattle.dw_base.specs.RelocationRows.{macro_fields, moving_sections}
@@ -15,7 +16,7 @@ use Rattle.dw_base.specs.declared.fault.Fault.{Fault}
 use Rattle.dw_base.specs.declared.fault.Fault.TheVariants.{NoMemory, Refused}
 use Rattle.dw_base.specs.declared.fault.Refusal.{Refusal}
 use Rattle.dw_base.proofs.DebugSectionLaws.{debug_section-name}
-use Rattle.dw_base.proofs.FileViewLaws.{section_after-within}
+use Rattle.dw_base.proofs.FileViewLaws.{first-named, next-named, section_after-within}
 use Rattle.dw_base.proofs.TextLaws.{same_text-true}
 use Rattle.dw_meaning.specs.RelocationFails.LeftRelocationsFail.{macros as macros_left}
 use Rattle.dw_meaning.proofs.MacroFirstLaws.{macros-all, macros-none, macros-some, macros_above, section_cells}
@@ -77,11 +78,11 @@ kind-after v d n i e =
 pub record MacrosSo (v : View) (next : Option ℕ) : Type 0 where
   pub last : ℕ
   pub done : List CellSection
-  pub split : (debug_data v).macros ≡ done ++ macros_above v last
+  pub split : (debug_data v).found Macro ≡ done ++ macros_above v last
   pub next_is : next ≡ section_after v (name_of Macro) last
   pub hold : MacroSectionsHold v done
 
-pub macros-start : (v : View) (next : Option ℕ) → next ≡ section_named v (name_of Macro) → MacrosSo v next
+macros-start : (v : View) (next : Option ℕ) → next ≡ section_named v (name_of Macro) → MacrosSo v next
 unfolding debug_data section_named
 macros-start v next is = record { last = 0; done = []; split = macros-all v; next_is = is; hold = tt }
 
@@ -90,7 +91,7 @@ hold-append : (v : View) (zs : List CellSection) (z : CellSection) → MacroSect
 hold-append v [] z h own = (own, tt)
 hold-append v (y ∷ ys) z h own = (h.0, hold-append v ys z h.1 own)
 
-pub macros-more : (v : View) (next after : Option ℕ) (i : ℕ) → MacrosSo v next → next ≡ Some i → MacrosHold v.order (view_cells v i) (moving_sections v)
+macros-more : (v : View) (next after : Option ℕ) (i : ℕ) → MacrosSo v next → next ≡ Some i → MacrosHold v.order (view_cells v i) (moving_sections v)
     → after ≡ section_after v (name_of Macro) i → MacrosSo v after
 macros-more v next after i so some own is =
     let step = macros-some v so.last i (sym so.next_is ∙ some) in
@@ -102,46 +103,67 @@ macros-more v next after i so some own is =
       hold = hold-append v so.done (section_cells v i) so.hold own;
     }
 
-pub macros-end : (v : View) (next : Option ℕ) → MacrosSo v next → next ≡ None → MacroSectionsHold v (debug_data v).macros
+macros-end : (v : View) (next : Option ℕ) → MacrosSo v next → next ≡ None → MacroSectionsHold v ((debug_data v).found Macro)
 macros-end v next so none =
     let over = macros-none v so.last (sym so.next_is ∙ none) in
-    let all : (debug_data v).macros ≡ so.done = so.split ∙ ap (λ (zs : List CellSection). so.done ++ zs) over ∙ append-nil so.done in
+    let all : (debug_data v).found Macro ≡ so.done = so.split ∙ ap (λ (zs : List CellSection). so.done ++ zs) over ∙ append-nil so.done in
     subst (MacroSectionsHold v) (sym all) so.hold
 
 -- one that is refused
-pub macros-fault : (v : View) (next : Option ℕ) (i : ℕ) (f : Fault) → MacrosSo v next → next ≡ Some i → Blames (MacroSectionRefuses v i) f → Blames (FieldsRefuse v) f
+macros-fault : (v : View) (next : Option ℕ) (i : ℕ) (f : Fault) → MacrosSo v next → next ≡ Some i → Blames (MacroSectionRefuses v i) f → Blames (FieldsRefuse v) f
 unfolding debug_data
 macros-fault v next i NoMemory so some b = tt
 macros-fault v next i (Refused r) so some b =
     by_row (so.split ∙ ap (λ (zs : List CellSection). so.done ++ zs) (macros-some v so.last i (sym so.next_is ∙ some))) b
   where
-    by_row : (debug_data v).macros ≡ so.done ++ section_cells v i ∷ macros_above v i → MacroSectionRefuses v i r → FieldsRefuse v r
+    by_row : (debug_data v).found Macro ≡ so.done ++ section_cells v i ∷ macros_above v i → MacroSectionRefuses v i r → FieldsRefuse v r
     by_row split (unread_macros f) = macros so.done (macros_above v i) (section_cells v i) split f
     by_row split (left_macros f) = left (macros_left so.done (macros_above v i) (section_cells v i) f.pieces split f.reads f.fails)
 
 -- the next one is a section of the view, and is read
-pub macro-there : (v : View) (next : Option ℕ) (i : ℕ) → MacrosSo v next → next ≡ Some i → i < length v.sections
+macro-there : (v : View) (next : Option ℕ) (i : ℕ) → MacrosSo v next → next ≡ Some i → i < length v.sections
 macro-there v next i so some = (section_after-within v (name_of Macro) so.last i (sym so.next_is ∙ some)).1
 
-pub macro-read : (v : View) (next : Option ℕ) (i : ℕ) → MacrosSo v next → next ≡ Some i → is_some (kind_at v i) ≡ true
+macro-read : (v : View) (next : Option ℕ) (i : ℕ) → MacrosSo v next → next ≡ Some i → is_some (kind_at v i) ≡ true
 macro-read v next i so some = ap (λ (k : Option DebugSection). is_some k) (kind-after v Macro so.last i (sym so.next_is ∙ some))
 
--- how many may be left
-abbrev pub left_after : View → Option ℕ → ℕ
-left_after v None = 0
-left_after v (Some i) = suc (length v.sections - i)
+-- where a pass over the list of these sections stands
+abbrev pub ListSo : View → ℕ → Type 0
+ListSo v place = MacrosSo v (slice_get (sections_named v (name_of Macro)) place)
 
-pub left-smaller : (v : View) (next after : Option ℕ) (i : ℕ) → next ≡ Some i → after ≡ section_after v (name_of Macro) i → left_after v after < left_after v next
-left-smaller v next after i some is = subst (λ (o : Option ℕ). left_after v after < left_after v o) (sym some) (by_next after is)
-  where
-    by_next : (o : Option ℕ) → o ≡ section_after v (name_of Macro) i → left_after v o < left_after v (Some i)
-    by_next None e = omega arith
-    by_next (Some j) e =
-        let within = section_after-within v (name_of Macro) i j (sym e) in
-        omega (arith, within.0, within.1)
+pub list-start : (v : View) → ListSo v 0
+list-start v = macros-start v (slice_get (sections_named v (name_of Macro)) 0) (first-named v (name_of Macro))
 
--- by a name that is theirs
-pub named-next : (v : View) (name : List ℕ) (i : ℕ) (next : Option ℕ) → next ≡ section_after v name i → name ≡ name_of Macro → next ≡ section_after v (name_of Macro) i
-named-next v name i next is same = is ∙ ap (λ (n : List ℕ). section_after v n i) same
+item-at : (list all : List ℕ) (place i d : ℕ) → list ≡ all → place < length list → i ≡ get_or list place d → slice_get all place ≡ Some i
+item-at list all place i d are lt is =
+    ap (λ (l : List ℕ). slice_get l place) (sym are) ∙ slice_get-get_or list place d lt ∙ ap (λ (n : ℕ). Some n) (sym is)
 
-pub ruleset all_rules = (macros-start, macros-more, macros-end, macros-fault, macro-there, macro-read, named-next)
+pub list-more : (v : View) (list : List ℕ) (place i d : ℕ) → ListSo v place → list ≡ sections_named v (name_of Macro) → place < length list → i ≡ get_or list place d
+    → MacrosHold v.order (view_cells v i) (moving_sections v) → ListSo v (place + 1)
+list-more v list place i d so list_is lt is own =
+    let next : suc place ≡ place + 1 = omega arith in
+    let item = item-at list (sections_named v (name_of Macro)) place i d list_is lt is in
+    macros-more v (slice_get (sections_named v (name_of Macro)) place) (slice_get (sections_named v (name_of Macro)) (place + 1)) i so item own
+    (ap (slice_get (sections_named v (name_of Macro))) (sym next) ∙ next-named v (name_of Macro) place i item)
+
+pub list-end : (v : View) (list : List ℕ) (place : ℕ) → ListSo v place → list ≡ sections_named v (name_of Macro) → length list ≤ place
+    → MacroSectionsHold v ((debug_data v).found Macro)
+list-end v list place so list_is le =
+    macros-end v (slice_get (sections_named v (name_of Macro)) place) so (ap (λ (l : List ℕ). slice_get l place) (sym list_is) ∙ slice_get_past list place le)
+
+pub list-fault : (v : View) (list : List ℕ) (place i d : ℕ) (f : Fault) → ListSo v place → list ≡ sections_named v (name_of Macro) → place < length list
+    → i ≡ get_or list place d → Blames (MacroSectionRefuses v i) f → Blames (FieldsRefuse v) f
+list-fault v list place i d f so list_is lt is b =
+    macros-fault v (slice_get (sections_named v (name_of Macro)) place) i f so (item-at list (sections_named v (name_of Macro)) place i d list_is lt is) b
+
+pub list-there : (v : View) (list : List ℕ) (place i d : ℕ) → ListSo v place → list ≡ sections_named v (name_of Macro) → place < length list → i ≡ get_or list place d
+    → i < length v.sections
+list-there v list place i d so list_is lt is =
+    macro-there v (slice_get (sections_named v (name_of Macro)) place) i so (item-at list (sections_named v (name_of Macro)) place i d list_is lt is)
+
+pub list-read : (v : View) (list : List ℕ) (place i d : ℕ) → ListSo v place → list ≡ sections_named v (name_of Macro) → place < length list → i ≡ get_or list place d
+    → is_some (kind_at v i) ≡ true
+list-read v list place i d so list_is lt is =
+    macro-read v (slice_get (sections_named v (name_of Macro)) place) i so (item-at list (sections_named v (name_of Macro)) place i d list_is lt is)
+
+pub ruleset all_rules = (list-start, list-more, list-end, list-fault, list-there, list-read)

@@ -12,6 +12,7 @@ use Rattle.dw_base.specs.declared.fault.Fault.{Fault}
 use Rattle.dw_base.specs.declared.fault.Fault.TheVariants.{NoMemory, Refused}
 use Rattle.dw_base.specs.declared.fault.Refusal.{Refusal}
 use Rattle.dw_base.proofs.ViewCellLaws.{length-view_cells}
+use Rattle.dw_base.specs.declared.debug_sections.DebugSection.TheVariants.{Info}
 use Rattle.dw_entries.specs.Fronts.{IsOfView}
 use Rattle.dw_entries.specs.HeaderRows.{HeadersRefuse}
 use Rattle.dw_entries.specs.SectionOrder.{AreSections}
@@ -114,7 +115,7 @@ sections-more v numbers i n lt is so own = record {
 }
 
 pub sections-end : (v : View) (numbers : List ℕ) (i : ℕ) → AreSections v numbers → length numbers ≤ i → SectionsSo v numbers i
-    → SectionsHold (debug_data v) (moving_sections v) (debug_data v).units
+    → SectionsHold (debug_data v) (moving_sections v) ((debug_data v).found Info)
 sections-end v numbers i are past so = subst (SectionsHold (debug_data v) (moving_sections v)) (sections-whole v numbers i are past) so.hold
 
 pub ruleset all_rules = (sections-start, sections-more, sections-end, number-there)

@@ -12,6 +12,7 @@ use Rattle.dw_base.specs.Refusals.{Blames}
 use Rattle.dw_base.specs.UnitHeaders.{AreUnits, IsUnit, UnitBase, UnitSection, UnitsUpTo, more_units, no_units}
 use Rattle.dw_base.specs.UnitTables.{IsUnitTable, UnitTableFails, table_fails}
 use Rattle.dw_base.specs.ViewData.{debug_data, unit_sections}
+use Rattle.dw_base.specs.declared.debug_sections.DebugSection.TheVariants.{Info}
 use Rattle.dw_base.specs.declared.fault.Fault.{Fault}
 use Rattle.dw_base.specs.declared.fault.Fault.TheVariants.{NoMemory, Refused}
 use Rattle.dw_base.specs.declared.fault.Refusal.{Refusal}
@@ -101,7 +102,7 @@ stands-in (y ∷ ys) i z e = by_test (y.number == i) e (λ f. stands-in ys i z f
         let s = rest e in
         record { before = y ∷ s.before; behind = s.behind; is = ap (λ (l : List UnitSection). y ∷ l) s.is }
 
-pub stands-view : (v : View) (i : ℕ) → IsUnitSection v i → StandsIn (debug_data v).units (unit_section_at v i)
+pub stands-view : (v : View) (i : ℕ) → IsUnitSection v i → StandsIn ((debug_data v).found Info) (unit_section_at v i)
 unfolding debug_data
 stands-view v i there = stands-in (unit_sections v) i (unit_section_at v i) there
 

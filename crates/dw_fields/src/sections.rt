@@ -10,6 +10,7 @@ ghost use Rattle.dw_base.specs.Refusals.{Blames};
 ghost use Rattle.dw_base.specs.RelocationRows.{moving_sections};
 ghost use Rattle.dw_base.specs.StringOffsets.{AreContributions};
 ghost use Rattle.dw_base.specs.ViewData.{debug_data, string_offsets};
+ghost use Rattle.dw_base.specs.declared.debug_sections.DebugSection.TheVariants.{Macro};
 ghost use Rattle.dw_fields.specs.FieldRefusals.{FieldsRefuse, MacroSectionRefuses, MacroSectionsHold};
 ghost use Rattle.dw_fields.specs.MacroFields.{MacrosHold};
 ghost use Rattle.dw_lines.specs.ViewTables.{TablesFound};
@@ -45,13 +46,11 @@ fn macros_in(alloc: Global, view: &View, section: u32) -> Result<(), Fault>
 /// The same of all macro sections of the view.
 #[tactic(auto, using(crate::proofs::MacroCheckLaws::all_rules))]
 fn macro_sections(alloc: Global, view: &View) -> Result<(), Fault>
-    ensures holds { OnOk result (MacroSectionsHold view.now (debug_data view.now).macros) }
+    ensures holds { OnOk result (MacroSectionsHold view.now ((debug_data view.now).found Macro)) }
     ensures refused { IfErr result (Blames (FieldsRefuse view.now)) }
 {
-    let mut next = view.first(DebugSection::Macro);
-    while let Some(section) = next {
-        macros_in(alloc, view, section)?;
-        next = view.section(DebugSection::Macro.name(), section);
+    for section in view.all(DebugSection::Macro) {
+        macros_in(alloc, view, *section)?;
     }
     Ok(())
 }

@@ -12,6 +12,7 @@ ghost use Rattle.dw_base.specs.Refusals.{Blames};
 ghost use Rattle.dw_base.specs.RelocationRows.{moving_sections};
 ghost use Rattle.dw_base.specs.UnitHeaders.{AreUnits};
 ghost use Rattle.dw_base.specs.ViewData.{debug_data};
+ghost use Rattle.dw_base.specs.declared.debug_sections.DebugSection.TheVariants.{Info};
 ghost use Rattle.dw_entries.specs.SectionOrder.{AreSections};
 ghost use Rattle.dw_entries.specs.ViewUnits.{IsUnitSection, unit_section_at};
 ghost use Rattle.dw_fields.specs.FieldRefusals.{FieldsRefuse};
@@ -178,7 +179,7 @@ fn units_in(
 /// relocation or at the offset that gives no place; as the units are where one of a section that has relocations can't be read; or for
 /// want of memory.
 pub(crate) fn check_units(alloc: Global, view: &View) -> Result<(), Fault>
-    ensures holds { OnOk result (SectionsHold (debug_data view.now) (moving_sections view.now) (debug_data view.now).units) }
+    ensures holds { OnOk result (SectionsHold (debug_data view.now) (moving_sections view.now) ((debug_data view.now).found Info)) }
     ensures refused { IfErr result (Blames (FieldsRefuse view.now)) }
 {
     let sections = unit_sections(alloc, view)?;
@@ -189,7 +190,7 @@ pub(crate) fn check_units(alloc: Global, view: &View) -> Result<(), Fault>
 #[tactic(auto, using(crate::proofs::UnitCheckLaws::all_rules))]
 fn check_sections(alloc: Global, view: &View, sections: &[u32]) -> Result<(), Fault>
     requires sections { AreSections view.now sections.now }
-    ensures holds { OnOk result (SectionsHold (debug_data view.now) (moving_sections view.now) (debug_data view.now).units) }
+    ensures holds { OnOk result (SectionsHold (debug_data view.now) (moving_sections view.now) ((debug_data view.now).found Info)) }
     ensures refused { IfErr result (Blames (FieldsRefuse view.now)) }
 {
     let mut shared = HashMap::new(alloc);

@@ -29,6 +29,7 @@ use Rattle.dw_base.specs.declared.values.ValueClass.{ValueClass}
 use Rattle.dw_base.specs.declared.values.ValueClass.TheVariants.{Number, StrIndex, SecOffset}
 use Rattle.dw_meaning.proofs.TextEditLaws.{chosen-fits}
 use Rattle.dw_base.proofs.UnitHeaderLaws.{bytes_of-append}
+use Rattle.dw_base.specs.declared.debug_sections.DebugSection.TheVariants.{Line, Macro}
 use Rattle.dw_meaning.proofs.ScanPieceLaws.{bytes_of-drop}
 use Rattle.dw_find.specs.TextPlaces.{TextPlace, Indexed, base_offset, said_base, unit_base, text_index, place_of, indexed_at, indexed_kind, indexed_in, places_in, PlaceNames, PlacesName, fields_in, inline_at, inline_in, paths_by, SectionSays, AllPlaced, InlinesFit, AllFitRooms, macros_in, no_start, said_start, stray_in, starts_in, unit_start}
 use Rattle.dw_find.specs.NamedStarts.{AllStarts, StartsNamed, UnitsNamed}
@@ -369,7 +370,7 @@ piece-cells p rest cells place e = ap (take (length p)) (sym e) ∙ take-append_
 
 -- a start that is there, of cells of a role
 abbrev StartNamed : Role → DebugData → List ℕ → List Cell → Type 0
-StartNamed line_start d starts p = IsTrue (is_there (start_number 0 starts (offset_of d.base.order (located_cells d.lines) p)))
+StartNamed line_start d starts p = IsTrue (is_there (start_number 0 starts (offset_of d.base.order (located_cells (d.found Line)) p)))
 StartNamed r d starts p = ⊤
 
 -- an offset that names a text is one of a piece, and so is a start
@@ -380,7 +381,7 @@ names-by inline_path d rs starts p e h k = tt
 names-by (offset in_str path) d rs starts p e h k = h
 names-by (offset in_line_str path) d rs starts p e h k = h
 names-by line_start d rs starts p e h k =
-    subst (λ (ss : List ℕ). IsTrue (is_there (start_number 0 ss (offset_of d.base.order (located_cells d.lines) p)))) e k
+    subst (λ (ss : List ℕ). IsTrue (is_there (start_number 0 ss (offset_of d.base.order (located_cells (d.found Line)) p)))) e k
 
 names-first : (r : Role) (d : DebugData) (cells : List Cell) (at len : ℕ) (ts : List TextPlace) → PlacesName d cells (place_of r at len ++ ts)
     → PlaceNames r d (cells_at cells at len) × PlacesName d cells ts
@@ -423,11 +424,11 @@ field-unit places g (Num n) p =
 field-unit places g (Into z n) p = ap is_there (p.numbered z n)
 field-unit places g (Sym s k a) p = refl
 
-pub names-if : (b : Bool) (places : UnitPlaces) (g : Lasting) (p : List Cell) → PlacesStart places g.macros → (b ≡ true → names_place places (field_of g.base.order p) ≡ true) → NamesUnitIf b g p
+pub names-if : (b : Bool) (places : UnitPlaces) (g : Lasting) (p : List Cell) → PlacesStart places (g.kept Macro) → (b ≡ true → names_place places (field_of g.base.order p) ≡ true) → NamesUnitIf b g p
 names-if false places g p s h = tt
-names-if true places g p s h = field-unit places g.macros (field_of g.base.order p) s ∙ h refl
+names-if true places g p s h = field-unit places (g.kept Macro) (field_of g.base.order p) s ∙ h refl
 
-pub units-are : (d : DebugData) (g : Lasting) (places : UnitPlaces) (cells : List Cell) (place : ℕ) (xs : List (Piece UnitState)) → g.base.order ≡ d.base.order → PlacesStart places g.macros
+pub units-are : (d : DebugData) (g : Lasting) (places : UnitPlaces) (cells : List Cell) (place : ℕ) (xs : List (Piece UnitState)) → g.base.order ≡ d.base.order → PlacesStart places (g.kept Macro)
     → PlacedCells cells place xs → UnitsNamed d places cells (macro_fields xs) → EachPiece (NamesMacro g) xs
 units-are d g places cells place [] o s l h = tt
 units-are d g places cells place (x ∷ xs) o s l h =
@@ -478,7 +479,7 @@ pub record FoundReadings (d : DebugData) (first : ℕ) (zs : List UnitSection) (
   pub says : paths_of readings ≡ us
   pub names : (rs : DataReadings) (starts : List ℕ) (places : UnitPlaces) → starts ≡ table_starts rs.lines → AllStarts d starts places zs us → EachReading (NamesText (around_of d rs)) readings
   pub forms : (starts : List ℕ) (places : UnitPlaces) → AllStarts d starts places zs us → EachReading HasStartForm readings
-  pub units : (g : Lasting) (starts : List ℕ) (places : UnitPlaces) → g.base.order ≡ d.base.order → PlacesStart places g.macros → AllStarts d starts places zs us
+  pub units : (g : Lasting) (starts : List ℕ) (places : UnitPlaces) → g.base.order ≡ d.base.order → PlacesStart places (g.kept Macro) → AllStarts d starts places zs us
       → EachReading (NamesMacro g) readings
 
 pub found-readings : (d : DebugData) (first : ℕ) (zs : List UnitSection) (us : List UnitPaths) → AllPlaced d zs us → FoundReadings d first zs us

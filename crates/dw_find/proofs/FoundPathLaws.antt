@@ -29,7 +29,7 @@ use Rattle.dw_base.specs.UnitHeaders.{UnitSection}
 use Rattle.dw_base.specs.RelocationRows.{FieldPlace, field_place, offset_field, slot_field as slot_place, slot_fields as slot_places, moving_sections}
 use Rattle.dw_base.specs.RelocationRows.FieldsFail.{offset as offset_row}
 use Rattle.dw_base.specs.ViewData.{cells_located, debug_data, located, string_offsets}
-use Rattle.dw_base.specs.declared.debug_sections.DebugSection.TheVariants.{Names, StrOffsets}
+use Rattle.dw_base.specs.declared.debug_sections.DebugSection.TheVariants.{Info, Str, StrOffsets, Macro, Names}
 use Rattle.dw_base.specs.declared.fault.Fault.{Fault}
 use Rattle.dw_base.specs.declared.fault.Fault.TheVariants.{NoMemory, Refused}
 use Rattle.dw_base.specs.declared.fault.Refusal.{Refusal}
@@ -153,7 +153,7 @@ unfolding debug_data
 indexing-is v list us xs ls ms ns e =
     ap (λ (cs_ : List Contribution). indexing_with (debug_data v) cs_ us) (sym e)
 
-indexes-read : (v : View) (list : List Contribution) (us : Readings) (o : OffsetsRead v list) (ls : List LineReading) (ms : List MacroReading) (ns : List (Piece NameState)) → ReadsAll (debug_data v).base 0 (debug_data v).units us
+indexes-read : (v : View) (list : List Contribution) (us : Readings) (o : OffsetsRead v list) (ls : List LineReading) (ms : List MacroReading) (ns : List (Piece NameState)) → ReadsAll (debug_data v).base 0 ((debug_data v).found Info) us
     → IndexesRead (debug_data v) (readings_with us o.pieces ls ms ns)
 unfolding debug_data
 indexes-read v list us o ls ms ns reads = record { units = reads; offsets = o.reads }
@@ -175,7 +175,7 @@ slots-around v list marks us o ls ms ns marked =
     }
 
 contributions-around : (v : View) (list : List Contribution) (us : Readings) (o : OffsetsRead v list) (ls : List LineReading) (ms : List MacroReading) (ns : List (Piece NameState))
-    → (around_of (debug_data v) (readings_with us o.pieces ls ms ns)).lasting.indexing.contributions ≡ list
+    → ((around_of (debug_data v) (readings_with us o.pieces ls ms ns)).lasting.kept StrOffsets).contributions ≡ list
 unfolding debug_data
 contributions-around v list us o ls ms ns = o.list_is
 
@@ -193,7 +193,7 @@ all-names v rs [] h = tt
 all-names v rs (x ∷ xs) h = (string-names x.state.mode v rs x.cells h.0, all-names v rs xs h.1)
 
 names-cells : (v : View) (xs : List (Piece NameState)) → ReadsNames v.order (names_cells v) xs
-    → ReadsNames (debug_data v).base.order (debug_data v).names.contents xs
+    → ReadsNames (debug_data v).base.order ((debug_data v).found Names).contents xs
 unfolding debug_data
 names-cells v xs r = r
 
@@ -208,7 +208,7 @@ some-size W64 n e = omega (arith, e)
 
 piece-field : (mode : OffsetMode) (paths : List ℕ) (order : Order) (around : Around) (cells : List Cell) (x : Piece OffsetState) (rest : List Cell) (place : ℕ)
     → FitsOffsets mode order x.state x.cells → x.state.place ≡ place → x.cells ++ rest ≡ drop place cells → NamesTextBy (offset_role paths mode x.state.slot) around x.cells
-    → EachOf (IsOffsetField around.lasting.base.order around.str cells) (field_by in_str (offset_role paths mode x.state.slot) x.state.place (length x.cells))
+    → EachOf (IsOffsetField around.lasting.base.order (around.stands Str) cells) (field_by in_str (offset_role paths mode x.state.slot) x.state.place (length x.cells))
 piece-field at_contribution paths order around cells x rest place fits at e names = tt
 piece-field (at_slot w end) paths order around cells x rest place fits at e names = by_path (holds_number paths x.state.slot)
   where
@@ -219,13 +219,13 @@ piece-field (at_slot w end) paths order around cells x rest place fits at e name
         let some : 0 < length x.cells = some-size w (length x.cells) fits.size in
         omega (arith, whole, size, length-drop place cells, at, some)
 
-    ends : ends_in around.str.bytes (offset_of around.lasting.base.order around.str (cells_at cells x.state.place (length x.cells))) ≡ true
+    ends : ends_in (around.stands Str).bytes (offset_of around.lasting.base.order (around.stands Str) (cells_at cells x.state.place (length x.cells))) ≡ true
     ends =
         let own : cells_at cells x.state.place (length x.cells) ≡ x.cells =
         ap (λ (i : ℕ). cells_at cells i (length x.cells)) at ∙ piece-cells cells x.cells rest place (sym e) in
-        ap (λ (p : List Cell). ends_in around.str.bytes (offset_of around.lasting.base.order around.str p)) own ∙ names
+        ap (λ (p : List Cell). ends_in (around.stands Str).bytes (offset_of around.lasting.base.order (around.stands Str) p)) own ∙ names
 
-    by_path : (b : Bool) → EachOf (IsOffsetField around.lasting.base.order around.str cells) (field_by in_str (offset in_str b) x.state.place (length x.cells))
+    by_path : (b : Bool) → EachOf (IsOffsetField around.lasting.base.order (around.stands Str) cells) (field_by in_str (offset in_str b) x.state.place (length x.cells))
     by_path true = (record { sized = slot-sized w (length x.cells) fits.size; inside = inside; ends = ends }, tt)
     by_path false = tt
 piece-field no_offsets paths order around cells x rest place fits at e names = tt
@@ -235,10 +235,10 @@ each-append P [] ys h k = k
 each-append P (x ∷ xs) ys h k = (h.0, each-append P xs ys h.1 k)
 
 pieces-fields : (paths : List ℕ) (order : Order) (around : Around) (cells : List Cell) (s : OffsetState) (xs : List (Piece OffsetState)) (place : ℕ) → Chain (offset_grammar order) s xs
-    → SlotsIn cells place xs → NameTexts (slot_role paths) around xs → EachOf (IsOffsetField around.lasting.base.order around.str cells) (offset_fields in_str paths xs)
+    → SlotsIn cells place xs → NameTexts (slot_role paths) around xs → EachOf (IsOffsetField around.lasting.base.order (around.stands Str) cells) (offset_fields in_str paths xs)
 pieces-fields paths order around cells s [] place chain placed names = tt
 pieces-fields paths order around cells s (x ∷ xs) place chain placed names =
-    each-append (IsOffsetField around.lasting.base.order around.str cells) (field_by in_str (slot_role paths x.state) x.state.place (length x.cells)) (offset_fields in_str paths xs)
+    each-append (IsOffsetField around.lasting.base.order (around.stands Str) cells) (field_by in_str (slot_role paths x.state) x.state.place (length x.cells)) (offset_fields in_str paths xs)
     (piece-field x.state.mode paths order around cells x (joined xs) place chain.1 placed.0 placed.1 names.0)
     (pieces-fields paths order around cells (past_offsets x.state.mode order x.state x.cells) xs (place + length x.cells) chain.2 placed.2 names.1)
 
@@ -251,7 +251,7 @@ slots-offsets-by v rs None there r names = tt
 slots-offsets-by v rs (Some i) there r names = (
   record {
     there = there i refl;
-    str = offset-fields v.order (debug_data v).str (view_cells v i) (read_fields (debug_data v) rs)
+    str = offset-fields v.order ((debug_data v).found Str) (view_cells v i) (read_fields (debug_data v) rs)
         (pieces-fields (path_slots (around_of (debug_data v) rs)) v.order (around_of (debug_data v) rs) (view_cells v i) _ rs.offsets 0 r.chain (offsets-in v (Some i) rs.offsets r) names);
     line_str = record { each = λ k d lt. absurd (omega (arith, lt)) };
   },
@@ -277,11 +277,11 @@ strings-there : (v : View) (i : ℕ) → section_named v (name_of StrOffsets) �
 unfolding section_named
 strings-there v i e = (section_after-within v (name_of StrOffsets) 0 i e).1
 
-slots-offsets-of : (v : View) (rs : DataReadings) → ReadsOffsets (debug_data v).base.order (debug_data v).offsets.contents rs.offsets
+slots-offsets-of : (v : View) (rs : DataReadings) → ReadsOffsets (debug_data v).base.order ((debug_data v).found StrOffsets).contents rs.offsets
     → NameTexts (slot_role (path_slots (around_of (debug_data v) rs))) (around_of (debug_data v) rs) rs.offsets → AllHaveOffsets v (slots_read v rs)
 slots-offsets-of v rs r names = slots-offsets-by v rs (section_named v (name_of StrOffsets)) (strings-there v) (offsets-of v rs.offsets r) names
 
-slots-places : (v : View) (rs : DataReadings) → ReadsOffsets (debug_data v).base.order (debug_data v).offsets.contents rs.offsets → AllHavePlaces v (slots_read v rs)
+slots-places : (v : View) (rs : DataReadings) → ReadsOffsets (debug_data v).base.order ((debug_data v).found StrOffsets).contents rs.offsets → AllHavePlaces v (slots_read v rs)
 slots-places v rs r = slots-places-by v rs (section_named v (name_of StrOffsets)) (strings-there v) (offsets-of v rs.offsets r)
 
 -- sections have places, and their paths fit their rooms
@@ -308,7 +308,7 @@ offsets-macros v (r ∷ rs) h = (
   offsets-macros v rs h.1,
 )
 
-rooms-each : (m : PathMap) (v : View) (before zs : List UnitSection) (us ws : List UnitPaths) → (debug_data v).units ≡ before ++ zs → AllPlaced (debug_data v) zs us
+rooms-each : (m : PathMap) (v : View) (before zs : List UnitSection) (us ws : List UnitPaths) → (debug_data v).found Info ≡ before ++ zs → AllPlaced (debug_data v) zs us
     → AllFitRooms m zs us → AllRoomsFit m v ws → AllRoomsFit m v (us ++ ws)
 rooms-each m v before [] [] ws split all fits rest = rest
 rooms-each m v before [] (u ∷ us) ws split all fits rest = absurd all
@@ -325,14 +325,14 @@ slots-rooms m v (Some i) fields = (tt, tt)
 -- what was found
 record Parts (m : PathMap) (v : View) (list : List Contribution) (marks first : List ℕ) (us : List UnitPaths) (tables : List NameTable) : Type 0 where
   offsets : OffsetsRead v list
-  found : FoundReadings (debug_data v) 0 (debug_data v).units us
+  found : FoundReadings (debug_data v) 0 ((debug_data v).found Info) us
   names : NamesRead v (names_cells v)
   marked : SlotsMarked (indexing_with (debug_data v) list found.readings) marks
 
 parts-of : (m : PathMap) (v : View) (list : List Contribution) (marks first : List ℕ) (places : UnitPlaces) (us : List UnitPaths) (tables : List NameTable) → AreContributions v.order (string_offsets v) list
     → AreRead v tables → UnitsFound m (debug_data v) first places us → TextsIndexed (debug_data v) list marks → Parts m v list marks first us tables
 parts-of m v list marks first places us tables are names found indexed =
-    let f : FoundReadings (debug_data v) 0 (debug_data v).units us = found-readings (debug_data v) 0 (debug_data v).units us found.placed in
+    let f : FoundReadings (debug_data v) 0 ((debug_data v).found Info) us = found-readings (debug_data v) 0 ((debug_data v).found Info) us found.placed in
     record { offsets = offsets-read v list are; found = f; names = names-read v tables names; marked = indexed.each f.readings f.reads }
 
 -- where the line tables of a view start
@@ -367,8 +367,8 @@ paths-read m v list marks first slice again places tables ts ss us with_slots wi
     slots_found macros_is all_is =
     let p : Parts m v list marks slice us tables = parts-of m v list marks slice places us tables are named found indexed in
     let here : MacrosName v slice places ss = subst (λ (l : List ℕ). MacrosName v l places ss) (once ∙ sym same) names in
-    let macros : SectionsRead v (PieceNames (debug_data v) slice places) (debug_data v).macros ss =
-    sections-read v (PieceNames (debug_data v) slice places) (debug_data v).macros ss (holds-else (debug_data v) slice places) (asked-of v slice places ss (first-number v places units_start_at) units_are here) in
+    let macros : SectionsRead v (PieceNames (debug_data v) slice places) ((debug_data v).found Macro) ss =
+    sections-read v (PieceNames (debug_data v) slice places) ((debug_data v).found Macro) ss (holds-else (debug_data v) slice places) (asked-of v slice places ss (first-number v places units_start_at) units_are here) in
     let i = indexes-read v list p.found.readings p.offsets lines.readings macros.readings p.names.pieces p.found.reads in
     let around = slots-around v list marks p.found.readings p.offsets lines.readings macros.readings p.names.pieces p.marked in
     let same_list = contributions-around v list p.found.readings p.offsets lines.readings macros.readings p.names.pieces in
@@ -389,11 +389,11 @@ paths-read m v list marks first slice again places tables ts ss us with_slots wi
     let have : AllHavePlaces v with_macros =
     subst (AllHavePlaces v) (sym is)
     (have-macros v (us ++ slots_read v (readings_with p.found.readings p.offsets.pieces lines.readings macros.readings p.names.pieces)) macros.readings
-    (places-append v us (slots_read v (readings_with p.found.readings p.offsets.pieces lines.readings macros.readings p.names.pieces)) (places-each v us (all-facts v [] (debug_data v).units us refl found.placed)) (slots-places v (readings_with p.found.readings p.offsets.pieces lines.readings macros.readings p.names.pieces) i.offsets)) macros.reads) in
+    (places-append v us (slots_read v (readings_with p.found.readings p.offsets.pieces lines.readings macros.readings p.names.pieces)) (places-each v us (all-facts v [] ((debug_data v).found Info) us refl found.placed)) (slots-places v (readings_with p.found.readings p.offsets.pieces lines.readings macros.readings p.names.pieces) i.offsets)) macros.reads) in
     let rooms : AllRoomsFit m v with_macros =
     subst (AllRoomsFit m v) (sym is)
     (rooms-macros m v (us ++ slots_read v (readings_with p.found.readings p.offsets.pieces lines.readings macros.readings p.names.pieces)) macros.readings
-    (rooms-each m v [] (debug_data v).units us (slots_read v (readings_with p.found.readings p.offsets.pieces lines.readings macros.readings p.names.pieces)) refl found.placed found.fits (slots-rooms m v (section_named v (name_of StrOffsets)) (read_fields (debug_data v) (readings_with p.found.readings p.offsets.pieces lines.readings macros.readings p.names.pieces))))) in
+    (rooms-each m v [] ((debug_data v).found Info) us (slots_read v (readings_with p.found.readings p.offsets.pieces lines.readings macros.readings p.names.pieces)) refl found.placed found.fits (slots-rooms m v (section_named v (name_of StrOffsets)) (read_fields (debug_data v) (readings_with p.found.readings p.offsets.pieces lines.readings macros.readings p.names.pieces))))) in
     record {
       readings = readings_with p.found.readings p.offsets.pieces lines.readings macros.readings p.names.pieces;
       reads = record {
@@ -412,15 +412,15 @@ paths-read m v list marks first slice again places tables ts ss us with_slots wi
         macro_values = p.found.units (around_of (debug_data v) (readings_with p.found.readings p.offsets.pieces lines.readings macros.readings p.names.pieces)).lasting slice places refl units_start found.named;
         imports = macro-imports v (readings_with p.found.readings p.offsets.pieces lines.readings macros.readings p.names.pieces) slice places macros.readings units_start macros.each;
       };
-      inline = found-fits (debug_data v).base m 0 (debug_data v).units p.found.readings p.found.reads
-          (subst (AllFitRooms m (debug_data v).units) (sym p.found.says) found.fits);
+      inline = found-fits (debug_data v).base m 0 ((debug_data v).found Info) p.found.readings p.found.reads
+          (subst (AllFitRooms m ((debug_data v).found Info)) (sym p.found.says) found.fits);
       slots = say.fits;
       offsets = subst (AllHaveOffsets v) (sym all_is)
           (offsets-append v with_macros (lines_of_view v ts)
           (subst (AllHaveOffsets v) (sym is)
           (offsets-append v (us ++ slots_read v (readings_with p.found.readings p.offsets.pieces lines.readings macros.readings p.names.pieces)) (macros_read macros.readings)
           (offsets-append v us (slots_read v (readings_with p.found.readings p.offsets.pieces lines.readings macros.readings p.names.pieces))
-          (offsets-each v us (all-facts v [] (debug_data v).units us refl found.placed))
+          (offsets-each v us (all-facts v [] ((debug_data v).found Info) us refl found.placed))
           (slots-offsets-of v (readings_with p.found.readings p.offsets.pieces lines.readings macros.readings p.names.pieces) i.offsets say.texts))
           (offsets-macros v macros.readings (macros-have v macros.readings (all-cells v) macros.reads))))
           (lines-offsets v lines.readings ts lines.reads lines.is));
@@ -515,7 +515,7 @@ pub macros-row : (m : PathMap) (v : View) (first slice again : List ℕ) (places
     → TablesFound v ts → first ≡ starts_of ts → again ≡ first → UnitsFoundIn v ss → UnitsStart (debug_data v) places → UnitsFound m (debug_data v) slice places us
     → MacrosStray v again places ss r → PathsRefuse m v r
 macros-row m v first slice again places ts ss us r lines starts_are once units_are start found stray =
-    let f : FoundReadings (debug_data v) 0 (debug_data v).units us = found-readings (debug_data v) 0 (debug_data v).units us found.placed in
+    let f : FoundReadings (debug_data v) 0 ((debug_data v).found Info) us = found-readings (debug_data v) 0 ((debug_data v).found Info) us found.placed in
     starts (macros-fail v f.readings again places ss r f.reads (slice-start v ts first again lines starts_are once) start units_are stray)
 
 -- a slice of name tables

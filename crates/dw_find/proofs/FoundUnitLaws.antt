@@ -15,7 +15,7 @@ use Rattle.dw_base.specs.Paths.{PathMap}
 use Rattle.dw_base.specs.Refusals.{Blames, at}
 use Rattle.dw_base.specs.Texts.{ends_in, same_text}
 use Rattle.dw_base.specs.ViewData.{debug_data, located, located_at}
-use Rattle.dw_base.specs.declared.debug_sections.DebugSection.TheVariants.{Line, LineStr, Str}
+use Rattle.dw_base.specs.declared.debug_sections.DebugSection.TheVariants.{Info, Str, LineStr, Line}
 use Rattle.dw_base.specs.declared.fault.Fault.{Fault}
 use Rattle.dw_base.specs.declared.fault.Fault.TheVariants.{NoMemory, Refused}
 use Rattle.dw_base.specs.declared.string_offsets.Contribution.{Contribution}
@@ -99,9 +99,9 @@ lines-offsets-by v rs (Some i) e are =
     let fields = λ (table : TextSection). lines-fields (line_source (debug_data v)) table 0 (length (line_source (debug_data v)).bytes) rs (view-apart v) refl are in (
       record {
         there = subst (λ (n : ℕ). n < length v.sections) number (section_after-within v (name_of Line) 0 i (sym e)).1;
-        str = subst (λ (cells : List Cell). AreOffsetFields v.order (debug_data v).str cells
+        str = subst (λ (cells : List Cell). AreOffsetFields v.order ((debug_data v).found Str) cells
             (table_fields (line_source (debug_data v)).number (line_source (debug_data v)).str.number in_str (tables_read (line_source (debug_data v)) rs))) (cells-some v i e) (fields in_str);
-        line_str = subst (λ (cells : List Cell). AreOffsetFields v.order (debug_data v).line_str cells
+        line_str = subst (λ (cells : List Cell). AreOffsetFields v.order ((debug_data v).found LineStr) cells
             (table_fields (line_source (debug_data v)).number (line_source (debug_data v)).str.number in_line_str (tables_read (line_source (debug_data v)) rs))) (cells-some v i e) (fields in_line_str);
       },
       tt,
@@ -143,17 +143,17 @@ taken-headers d (y ∷ ys) (u ∷ us) all [] behind z split = subst (HeaderOffse
 taken-headers d (y ∷ ys) (u ∷ us) all (b ∷ bs) behind z split = taken-headers d ys us all.1 bs behind z (tail-same y b ys (bs ++ z ∷ behind) split)
 
 -- what was found of paths in units
-pub units-found : (m : PathMap) (d : DebugData) (starts : List ℕ) (places : UnitPlaces) (us : List UnitPaths) → AllTaken d d.units us → AllFitRooms m d.units us
-    → AllStarts d starts places d.units us → UnitsFound m d starts places us
+pub units-found : (m : PathMap) (d : DebugData) (starts : List ℕ) (places : UnitPlaces) (us : List UnitPaths) → AllTaken d (d.found Info) us → AllFitRooms m (d.found Info) us
+    → AllStarts d starts places (d.found Info) us → UnitsFound m d starts places us
 units-found m d starts places us taken fits all = record {
-  headers = record { all = λ before behind z split. taken-headers d d.units us taken before behind z split };
-  placed = taken-placed d d.units us taken;
+  headers = record { all = λ before behind z split. taken-headers d (d.found Info) us taken before behind z split };
+  placed = taken-placed d (d.found Info) us taken;
   fits = fits;
   named = all;
 }
 
-pub placed-found : (d : DebugData) (us : List UnitPaths) → AllTaken d d.units us → AllPlaced d d.units us
-placed-found d us taken = taken-placed d d.units us taken
+pub placed-found : (d : DebugData) (us : List UnitPaths) → AllTaken d (d.found Info) us → AllPlaced d (d.found Info) us
+placed-found d us taken = taken-placed d (d.found Info) us taken
 
 pub texts-fault : (m : PathMap) (d : DebugData) (list : List Contribution) (f : Fault) → Blames (TextsRefuse d list) f
     → Blames (UnitPathsRefuse m d list) f
@@ -165,8 +165,8 @@ pub tables-same : (v : View) (s l : Located) (n m : ℕ) (sb lb : List ℕ) → 
     → record { str = s; line_str = l } ≡ texts_of (debug_data v)
 tables-same v s l n m sb lb s_is l_is n_is m_is sb_is lb_is =
     ap (λ (x : Located). record { str = x; line_str = l })
-    (s_is ∙ ap (λ (k : ℕ). record { number = k; bytes = sb }) n_is ∙ ap (λ (bs : List ℕ). record { number = (debug_data v).str.number; bytes = bs }) sb_is)
-    ∙ ap (λ (x : Located). record { str = (debug_data v).str; line_str = x })
-    (l_is ∙ ap (λ (k : ℕ). record { number = k; bytes = lb }) m_is ∙ ap (λ (bs : List ℕ). record { number = (debug_data v).line_str.number; bytes = bs }) lb_is)
+    (s_is ∙ ap (λ (k : ℕ). record { number = k; bytes = sb }) n_is ∙ ap (λ (bs : List ℕ). record { number = ((debug_data v).found Str).number; bytes = bs }) sb_is)
+    ∙ ap (λ (x : Located). record { str = (debug_data v).found Str; line_str = x })
+    (l_is ∙ ap (λ (k : ℕ). record { number = k; bytes = lb }) m_is ∙ ap (λ (bs : List ℕ). record { number = ((debug_data v).found LineStr).number; bytes = bs }) lb_is)
 
 pub ruleset unit_rules = (units-found, placed-found, texts-fault, inline, tables-same)

@@ -11,6 +11,7 @@ use Rattle.dw_base.specs.Refusals.{Blames, at as refusal_at}
 use Rattle.dw_base.specs.TextIndexes.{SaidBase, IndexUse, Indexing, EachUse, NamesSlot, all_bases, base_of, index_uses, slot_of}
 use Rattle.dw_base.specs.UnitHeaders.{UnitSection}
 use Rattle.dw_base.specs.ViewData.{debug_data}
+use Rattle.dw_base.specs.declared.debug_sections.DebugSection.TheVariants.{Info, StrOffsets}
 use Rattle.dw_base.specs.declared.fault.Fault.{Fault}
 use Rattle.dw_base.specs.declared.fault.Fault.TheVariants.{NoMemory, Refused}
 use Rattle.dw_base.specs.declared.fault.Kind.TheVariants.{StringTable}
@@ -284,13 +285,13 @@ record Said (d : DebugData) (list : List Contribution) (said : List UnitSays) (r
   uses : (indexing_with d list r).uses ≡ numbered_uses 0 said
   bases : BasesAre (base_source d) (indexing_with d list r).bases 0 said
 
-said-by : (d : DebugData) (list : List Contribution) (us : List UnitPaths) (r : Readings) → (all : AllTaken d d.units us) → ReadsAll d.base 0 d.units r
-    → Said d list (units_taken d d.units us all) r
+said-by : (d : DebugData) (list : List Contribution) (us : List UnitPaths) (r : Readings) → (all : AllTaken d (d.found Info) us) → ReadsAll d.base 0 (d.found Info) r
+    → Said d list (units_taken d (d.found Info) us all) r
 said-by d list us r all reads =
-    let f : SaidReadings d 0 d.units (units_taken d d.units us all) = said-readings d 0 d.units us all in
-    subst (Said d list (units_taken d d.units us all)) (readings-one d.base 0 d.units f.readings r f.reads reads) (record {
+    let f : SaidReadings d 0 (d.found Info) (units_taken d (d.found Info) us all) = said-readings d 0 (d.found Info) us all in
+    subst (Said d list (units_taken d (d.found Info) us all)) (readings-one d.base 0 (d.found Info) f.readings r f.reads reads) (record {
       uses = f.uses;
-      bases = record { each = λ (m : ℕ) (le : 0 ≤ m). ap (λ (xs : List SaidBase). base_of xs m) (f.bases (located_cells d.offsets)) };
+      bases = record { each = λ (m : ℕ) (le : 0 ≤ m). ap (λ (xs : List SaidBase). base_of xs m) (f.bases (located_cells (d.found StrOffsets))) };
     })
 
 -- nothing was marked at first
@@ -299,15 +300,15 @@ start-marks n kind place g = (marks-none n g).each kind place
 
 -- all slots are marked, where none was missing
 marked-all : (d : DebugData) (list : List Contribution) (n : ℕ) (us : List UnitPaths) (now : Slots)
-    → AllIndexed d d.units us (no_slots list n) now → now.missing ≡ None → TextsIndexed d list now.marks
+    → AllIndexed d (d.found Info) us (no_slots list n) now → now.missing ≡ None → TextsIndexed d list now.marks
 marked-all d list n us now all none = record {
-  each = λ (r : Readings) (reads : ReadsAll d.base 0 d.units r). one r reads (said-by d list us r all.taken reads);
+  each = λ (r : Readings) (reads : ReadsAll d.base 0 (d.found Info) r). one r reads (said-by d list us r all.taken reads);
 }
   where
-    one : (r : Readings) → ReadsAll d.base 0 d.units r → Said d list (units_taken d d.units us all.taken) r → SlotsMarked (indexing_with d list r) now.marks
+    one : (r : Readings) → ReadsAll d.base 0 (d.found Info) r → Said d list (units_taken d (d.found Info) us all.taken) r → SlotsMarked (indexing_with d list r) now.marks
     one r reads s =
         let g : Indexing = indexing_with d list r in
-        let said : List UnitSays = units_taken d d.units us all.taken in
+        let said : List UnitSays = units_taken d (d.found Info) us all.taken in
         let missing : units_missing (base_source d) list said ≡ None = sym all.slots.missing ∙ none in
         record {
           named = subst (EachUse (NamesSlot g)) (sym s.uses) (units-named (base_source d) g 0 said s.bases missing);
@@ -322,30 +323,30 @@ marked-all d list n us now all none = record {
 
 -- and where one was, that is the row
 missing-row : (d : DebugData) (list : List Contribution) (n : ℕ) (us : List UnitPaths) (now : Slots) (r : Refusal)
-    → AllIndexed d d.units us (no_slots list n) now → now.missing ≡ Some r → TextsRefuse d list r
+    → AllIndexed d (d.found Info) us (no_slots list n) now → now.missing ≡ Some r → TextsRefuse d list r
 missing-row d list n us now r all some =
-    let said : List UnitSays = units_taken d d.units us all.taken in
-    let f : SaidReadings d 0 d.units (units_taken d d.units us all.taken) = said-readings d 0 d.units us all.taken in
+    let said : List UnitSays = units_taken d (d.found Info) us all.taken in
+    let f : SaidReadings d 0 (d.found Info) (units_taken d (d.found Info) us all.taken) = said-readings d 0 (d.found Info) us all.taken in
     let g : Indexing = indexing_with d list f.readings in
-    let s : Said d list (units_taken d d.units us all.taken) f.readings = said-by d list us f.readings all.taken f.reads in
+    let s : Said d list (units_taken d (d.found Info) us all.taken) f.readings = said-by d list us f.readings all.taken f.reads in
     let m : FirstMissing g (numbered_uses 0 said) r = units-missing (base_source d) g 0 said r s.bases (sym all.slots.missing ∙ some) in
     subst (TextsRefuse d list) (sym m.is) (index f.readings f.reads (no_slot m.before m.behind m.one (s.uses ∙ m.split) m.none))
 
 -- the same of the debug data of a view
-pub whole-taken : (d : DebugData) (us : List UnitPaths) (old now : Slots) → AllIndexed d d.units us old now → AllTaken d d.units us
+pub whole-taken : (d : DebugData) (us : List UnitPaths) (old now : Slots) → AllIndexed d (d.found Info) us old now → AllTaken d (d.found Info) us
 whole-taken d us old now all = all.taken
 
-pub whole-marked : (v : View) (us : List UnitPaths) (old now : Slots) → AllIndexed (debug_data v) (debug_data v).units us old now
+pub whole-marked : (v : View) (us : List UnitPaths) (old now : Slots) → AllIndexed (debug_data v) ((debug_data v).found Info) us old now
     → old ≡ no_slots old.list (length old.marks) → now.missing ≡ None → TextsIndexed (debug_data v) old.list now.marks
 whole-marked v us old now all start none =
     marked-all (debug_data v) old.list (length old.marks) us now
-    (subst (λ (s : Slots). AllIndexed (debug_data v) (debug_data v).units us s now) start all) none
+    (subst (λ (s : Slots). AllIndexed (debug_data v) ((debug_data v).found Info) us s now) start all) none
 
-pub whole-row : (v : View) (us : List UnitPaths) (old now : Slots) (r : Refusal) → AllIndexed (debug_data v) (debug_data v).units us old now
+pub whole-row : (v : View) (us : List UnitPaths) (old now : Slots) (r : Refusal) → AllIndexed (debug_data v) ((debug_data v).found Info) us old now
     → old ≡ no_slots old.list (length old.marks) → now.missing ≡ Some r → TextsRefuse (debug_data v) old.list r
 whole-row v us old now r all start some =
     missing-row (debug_data v) old.list (length old.marks) us now r
-    (subst (λ (s : Slots). AllIndexed (debug_data v) (debug_data v).units us s now) start all) some
+    (subst (λ (s : Slots). AllIndexed (debug_data v) ((debug_data v).found Info) us s now) start all) some
 
 pub whole-refused : (d : DebugData) (list : List Contribution) (f : Fault) → Blames (UnitsRefuse d) f → Blames (TextsRefuse d list) f
 whole-refused d list NoMemory b = tt

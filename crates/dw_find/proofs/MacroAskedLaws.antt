@@ -55,11 +55,11 @@ field-there v section cells width field c inside =
     ap (λ (cs : List Cell). field_of v.order (cells_at cs field (width_size width))) c.same
     ∙ field_at-cells v section field (width_size width) (width-some width) inside
 
-pub lines-same : (v : View) → located_cells (debug_data v).lines ≡ located v Line
+pub lines-same : (v : View) → located_cells ((debug_data v).found Line) ≡ located v Line
 lines-same v = lines-located v
 
 pub line-there : (v : View) (section : ℕ) (cells : List Cell) (width : Width) (field : ℕ) → CellsOf v section cells → field + width_size width ≤ length (section_bytes v section)
-    → offset_of v.order (located_cells (debug_data v).lines) (take (width_size width) (drop field cells)) ≡ offset_at v (located v Line) section field width
+    → offset_of v.order (located_cells ((debug_data v).found Line)) (take (width_size width) (drop field cells)) ≡ offset_at v (located v Line) section field width
 unfolding offset_of
 line-there v section cells width field c inside =
     ap (λ (z : Located). offset_into z (field_of v.order (take (width_size width) (drop field cells)))) (lines-same v)
@@ -341,5 +341,5 @@ asked-all v starts places (z ∷ zs) (s ∷ ss) first c b have names = (
 )
 
 pub asked-of : (v : View) (starts : List ℕ) (places : UnitPlaces) (ss : List SectionUnits) → places.first ≡ (located v macro_table).number → UnitsFoundIn v ss → MacrosName v starts places ss
-    → AllAsked v (PieceNames (debug_data v) starts places) (debug_data v).macros ss
-asked-of v starts places ss first found names = asked-all v starts places (debug_data v).macros ss first (all-cells v) (numbers-below v) found.units names
+    → AllAsked v (PieceNames (debug_data v) starts places) ((debug_data v).found macro_table) ss
+asked-of v starts places ss first found names = asked-all v starts places ((debug_data v).found macro_table) ss first (all-cells v) (numbers-below v) found.units names

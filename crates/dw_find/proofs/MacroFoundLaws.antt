@@ -14,6 +14,7 @@ use Rattle.dw_base.specs.SectionTexts.{macro_role_by}
 use Rattle.dw_base.specs.TableStarts.{NamesUnitIf, is_import}
 use Rattle.dw_base.specs.TextChanges.{NamesTextBy}
 use Rattle.dw_base.specs.Texts.{ends_in}
+use Rattle.dw_base.specs.declared.debug_sections.DebugSection.TheVariants.{Str, Line, Macro}
 use Rattle.dw_base.specs.declared.macro_units.MacroUnit.{MacroUnit}
 use Rattle.dw_base.specs.declared.shared.Order.{Order}
 use Rattle.dw_meaning.proofs.MacroPieceLaws.{Asked, CellsOf, EachUnit, FieldPlace, HoldsElse, PiecesRead, all_unit_starts, has_offset, line_field_by, line_fields as fields_begun, unit_line, unit_lines, unit_starts, units-read}
@@ -62,8 +63,8 @@ pieces-fields order s (x ∷ xs) c =
 
 -- what a piece is to name, by starts and places
 abbrev pub NamesBy : MacroMode → DebugData → List ℕ → UnitPlaces → List Cell → Type 0
-NamesBy (at_line width) d starts places p = IsTrue (is_there (start_number 0 starts (offset_of d.base.order (located_cells d.lines) p)))
-NamesBy (at_offset width (of_text defines line)) d starts places p = IsTrue (ends_in d.str.bytes (offset_of d.base.order d.str p))
+NamesBy (at_line width) d starts places p = IsTrue (is_there (start_number 0 starts (offset_of d.base.order (located_cells (d.found Line)) p)))
+NamesBy (at_offset width (of_text defines line)) d starts places p = IsTrue (ends_in (d.found Str).bytes (offset_of d.base.order (d.found Str) p))
 NamesBy (at_offset width of_unit) d starts places p = IsTrue (names_place places (field_of d.base.order p))
 NamesBy m d starts places p = ⊤
 
@@ -81,8 +82,8 @@ holds-else d starts places = record { holds = λ x none. by_mode x.state.mode x.
     by_mode no_macros p none = tt
 
 -- so it names a text or a line table that stands around, and an import a unit
-pub text-of : (m : MacroMode) (d : DebugData) (around : Around) (starts : List ℕ) (places : UnitPlaces) (p : List Cell) → around.str ≡ d.str → around.lines ≡ located_cells d.lines
-    → around.lasting.base.order ≡ d.base.order → around.starts ≡ starts → NamesBy m d starts places p → NamesTextBy (macro_role_by m) around p
+pub text-of : (m : MacroMode) (d : DebugData) (around : Around) (starts : List ℕ) (places : UnitPlaces) (p : List Cell) → around.stands Str ≡ d.found Str → (around.stands Line).located ≡ located_cells (d.found Line)
+    → around.lasting.base.order ≡ d.base.order → (around.stands Line).starts ≡ starts → NamesBy m d starts places p → NamesTextBy (macro_role_by m) around p
 text-of at_unit d around starts places p str lines order same h = tt
 text-of (at_line width) d around starts places p str lines order same h = rw (lines, order, same) h
 text-of (at_operation width) d around starts places p str lines order same h = tt
@@ -90,7 +91,7 @@ text-of (at_offset width (of_text defines line)) d around starts places p str li
 text-of (at_offset width of_unit) d around starts places p str lines order same h = tt
 text-of no_macros d around starts places p str lines order same h = tt
 
-pub import-of : (m : MacroMode) (d : DebugData) (g : Lasting) (starts : List ℕ) (places : UnitPlaces) (p : List Cell) → g.base.order ≡ d.base.order → PlacesStart places g.macros
+pub import-of : (m : MacroMode) (d : DebugData) (g : Lasting) (starts : List ℕ) (places : UnitPlaces) (p : List Cell) → g.base.order ≡ d.base.order → PlacesStart places (g.kept Macro)
     → NamesBy m d starts places p → NamesUnitIf (is_import m) g p
 import-of (at_offset width of_unit) d g starts places p order s h =
     names-if true places g p s (λ e. ap (λ (o : Order). names_place places (field_of o p)) order ∙ h)

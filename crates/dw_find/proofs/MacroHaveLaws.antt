@@ -17,6 +17,7 @@ use Rattle.dw_base.specs.declared.shared.Width.{Width}
 use Rattle.dw_base.specs.declared.shared.Width.TheVariants.{W32, W64}
 use Rattle.dw_base.proofs.UnitEditLaws.{length-bytes_of}
 use Rattle.dw_base.proofs.UnitHeaderLaws.{bytes_of-append}
+use Rattle.dw_base.specs.declared.debug_sections.DebugSection.TheVariants.{Macro}
 use Rattle.dw_meaning.proofs.MacroPieceLaws.{CellsOf}
 use Rattle.dw_find.specs.Fields.{AllApart, IsStartField}
 use Rattle.dw_find.specs.MacroSections.{macro_starts, macros_read, macros_with}
@@ -45,7 +46,7 @@ rise-from k (s ∷ ss) = by_test (s.has_bytes && is_macro (debug_section s.name)
     by_test true rest = (above-from (suc k) k ss (omega arith), rest)
     by_test false rest = rest
 
-pub numbers-rise : (v : View) → NumbersRise (debug_data v).macros
+pub numbers-rise : (v : View) → NumbersRise ((debug_data v).found Macro)
 unfolding debug_data macro_sections
 numbers-rise v = rise-from 1 (drop 1 v.sections)
 
@@ -66,7 +67,7 @@ below-drop : (ss : List ViewSection) → AllBelow (length ss) (macro_sections_fr
 below-drop [] = tt
 below-drop (s ∷ ss) = below-from 1 (length (s ∷ ss)) ss (omega arith)
 
-pub numbers-below : (v : View) → AllBelow (length v.sections) (debug_data v).macros
+pub numbers-below : (v : View) → AllBelow (length v.sections) ((debug_data v).found Macro)
 unfolding debug_data macro_sections
 numbers-below v = below-drop v.sections
 
@@ -184,5 +185,5 @@ macros-have-by v (z ∷ zs) (x ∷ xs) c b r = (
   macros-have-by v zs xs c.1 b.1 r.2,
 )
 
-pub macros-have : (v : View) (rs : List MacroReading) → AllCells v (debug_data v).macros → ReadsAllMacros v.order (debug_data v).macros rs → AllHavePlaces v (macros_read rs)
-macros-have v rs c r = macros-have-by v (debug_data v).macros rs c (numbers-below v) r
+pub macros-have : (v : View) (rs : List MacroReading) → AllCells v ((debug_data v).found Macro) → ReadsAllMacros v.order ((debug_data v).found Macro) rs → AllHavePlaces v (macros_read rs)
+macros-have v rs c r = macros-have-by v ((debug_data v).found Macro) rs c (numbers-below v) r

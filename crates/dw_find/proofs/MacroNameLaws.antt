@@ -12,6 +12,7 @@ use Rattle.dw_base.specs.declared.macro_units.MacroEvent.TheVariants.{Import}
 use Rattle.dw_base.specs.declared.macro_units.MacroUnit.{MacroUnit}
 use Rattle.dw_macros.specs.MacroEvents.{IsUnitIn}
 use Rattle.dw_base.specs.MacroOffsets.{UnitsReadUpTo, more_unit, no_unit}
+use Rattle.dw_base.specs.declared.debug_sections.DebugSection.TheVariants.{Macro}
 use Rattle.dw_macros.proofs.CallerLaws.{read-unit}
 use Rattle.dw_find.specs.MacroNames.{AllUnitsIn, AreUnitsIn, EventStray, LineStrays}
 use Rattle.dw_find.specs.MacroNames.EventStray.{import}
@@ -35,7 +36,7 @@ all-in v (z ∷ zs) [] h b = absurd h
 all-in v (z ∷ zs) (s ∷ ss) h b = (in-run v z.number _ s.units b.0 h.1, all-in v zs ss h.2 b.1)
 
 pub units-in : (v : View) (ss : List SectionUnits) → UnitsFoundIn v ss → AllUnitsIn v ss
-units-in v ss found = all-in v (debug_data v).macros ss found.units (numbers-below v)
+units-in v ss found = all-in v ((debug_data v).found Macro) ss found.units (numbers-below v)
 
 -- an offset that names nothing
 pub line-stray : (starts : List ℕ) (u : MacroUnit) (n : ℕ) (o : Option ℕ) (r : Refusal) → u.line ≡ Some n → o ≡ start_number 0 starts n → o ≡ None

@@ -11,6 +11,7 @@ use Rattle.dw_base.specs.SectionTexts.{macro_role}
 use Rattle.dw_base.specs.TableStarts.{NamesImport}
 use Rattle.dw_base.specs.TextChanges.{NamesTextBy}
 use Rattle.dw_base.specs.ViewData.{debug_data}
+use Rattle.dw_base.specs.declared.debug_sections.DebugSection.TheVariants.{Macro}
 use Rattle.dw_meaning.proofs.MacroReadLaws.{all-macros-one}
 use Rattle.dw_find.specs.IndexedTexts.{UnitsStart}
 use Rattle.dw_find.specs.MacroSections.{macros_read}
@@ -23,10 +24,10 @@ use Rattle.dw_find.proofs.MacroStartLaws.{all-cells}
 
 -- where units start is where those of other readings do
 pub places-start : (v : View) (places : UnitPlaces) (all : DataReadings) → UnitsStart (debug_data v) places
-    → ReadsAllMacros (debug_data v).base.order (debug_data v).macros all.macros → PlacesStart places (macro_places (debug_data v) all)
+    → ReadsAllMacros (debug_data v).base.order ((debug_data v).found Macro) all.macros → PlacesStart places (macro_places (debug_data v) all)
 places-start v places all units reads =
-    subst (λ (rs : List MacroReading). PlacesStart places (record { first = first_macros (debug_data v).macros; starts = units_begun rs }))
-    (all-macros-one (debug_data v).base.order (debug_data v).macros units.readings all.macros units.are reads) units.start
+    subst (λ (rs : List MacroReading). PlacesStart places (record { first = first_macros ((debug_data v).found Macro); starts = units_begun rs }))
+    (all-macros-one (debug_data v).base.order ((debug_data v).found Macro) units.readings all.macros units.are reads) units.start
 
 -- each offset names a text or a line table
 piece-texts : (v : View) (all : DataReadings) (starts : List ℕ) (places : UnitPlaces) (xs : List (Piece MacroState)) → starts ≡ table_starts all.lines
@@ -56,7 +57,7 @@ pub macro-imports : (v : View) (all : DataReadings) (starts : List ℕ) (places 
 macro-imports v all starts places [] s h = tt
 macro-imports v all starts places (r ∷ rs) s h = (piece-imports v all starts places r.pieces s h.0, macro-imports v all starts places rs s h.1)
 
-pub macros-order : (v : View) (rs : List MacroReading) → ReadsAllMacros v.order (debug_data v).macros rs → ReadsAllMacros (debug_data v).base.order (debug_data v).macros rs
+pub macros-order : (v : View) (rs : List MacroReading) → ReadsAllMacros v.order ((debug_data v).found Macro) rs → ReadsAllMacros (debug_data v).base.order ((debug_data v).found Macro) rs
 unfolding debug_data
 macros-order v rs r = r
 
@@ -65,7 +66,7 @@ have-both : (v : View) (xs ys : List UnitPaths) → AllHavePlaces v xs → AllHa
 have-both v [] ys h k = k
 have-both v (x ∷ xs) ys h k = (h.0, have-both v xs ys h.1 k)
 
-pub have-macros : (v : View) (us : List UnitPaths) (rs : List MacroReading) → AllHavePlaces v us → ReadsAllMacros v.order (debug_data v).macros rs → AllHavePlaces v (us ++ macros_read rs)
+pub have-macros : (v : View) (us : List UnitPaths) (rs : List MacroReading) → AllHavePlaces v us → ReadsAllMacros v.order ((debug_data v).found Macro) rs → AllHavePlaces v (us ++ macros_read rs)
 have-macros v us rs have reads = have-both v us (macros_read rs) have (macros-have v rs (all-cells v) reads)
 
 -- which fit their rooms

@@ -6,6 +6,7 @@ use Rattle.dw_base.specs.FileViews.{View}
 use Rattle.dw_base.specs.MacroPieces.{MacroState}
 use Rattle.dw_base.specs.Pieces.{Piece}
 use Rattle.dw_base.specs.ViewData.{debug_data, macro_sections}
+use Rattle.dw_base.specs.declared.debug_sections.DebugSection.TheVariants.{Macro}
 use Rattle.dw_base.specs.declared.macro_units.MacroUnit.{MacroUnit}
 use Rattle.dw_meaning.proofs.MacroPieceLaws.{Asked, EachUnit}
 use Rattle.dw_meaning.proofs.MacroRowLaws.{cells-of}
@@ -19,7 +20,7 @@ cells-by : (v : View) (before zs : List CellSection) → macro_sections v ≡ be
 cells-by v before [] e = tt
 cells-by v before (z ∷ zs) e = (cells-of v before zs z e, cells-by v (before ++ z ∷ []) zs (e ∙ sym (append_assoc before (z ∷ []) zs)))
 
-pub all-cells : (v : View) → AllCells v (debug_data v).macros
+pub all-cells : (v : View) → AllCells v ((debug_data v).found Macro)
 unfolding debug_data
 all-cells v = cells-by v [] (macro_sections v) refl
 

@@ -22,7 +22,7 @@ use Rattle.dw_base.specs.Readings.{Readings}
 use Rattle.dw_base.specs.Refusals.{at}
 use Rattle.dw_base.specs.TableStarts.{HasMacroPiece, MacroStrayFails, no_line, no_import}
 use Rattle.dw_base.specs.ViewData.{debug_data, located}
-use Rattle.dw_base.specs.declared.debug_sections.DebugSection.TheVariants.{Line, Macro}
+use Rattle.dw_base.specs.declared.debug_sections.DebugSection.TheVariants.{Info, Line, Macro}
 use Rattle.dw_base.specs.declared.fault.Kind.TheVariants.{Stray}
 use Rattle.dw_base.specs.declared.fault.Refusal.{Refusal}
 use Rattle.dw_base.specs.declared.line_tables.TextPlace.{TextPlace}
@@ -636,7 +636,7 @@ unfolding debug_data
 line-row v us ls ms starts s width field n is r o room number none =
     let p : HasMacroPiece ms r.reading o.piece = piece-of v ms s (at_line width) width field r o in
     let says : is_there (line_table (around_of (debug_data v) (starts_with us ls ms)) o.piece.cells) ≡ false =
-    ap (λ (x : List Cell). is_there (start_number 0 (table_starts ls) (offset_of v.order (located_cells (debug_data v).lines) x))) o.cells_are
+    ap (λ (x : List Cell). is_there (start_number 0 (table_starts ls) (offset_of v.order (located_cells ((debug_data v).found Line)) x))) o.cells_are
     ∙ ap (λ (k : ℕ). is_there (start_number 0 (table_starts ls) k)) (line-there v r.place.number r.place.contents width field r.cells room ∙ number)
     ∙ ap (λ (l : List ℕ). is_there (start_number 0 l n)) (sym is) ∙ ap is_there none in
     let row : MacroStrayFails (around_of (debug_data v) (starts_with us ls ms)) ms (at Stray r.reading.number o.piece.state.place) =
@@ -662,7 +662,7 @@ import-row v us ls places s width field in_section n units r i none =
     (subst (λ (k : ℕ). MacroStrayFails (around_of (debug_data v) (starts_with us ls units.readings)) units.readings (at Stray k i.offset.piece.state.place)) r.number row)
 
 -- so debug data have the row
-line-fails : (v : View) (us : Readings) (starts : List ℕ) (places : UnitPlaces) (s : SectionUnits) (u : MacroUnit) (f : Refusal) → ReadsAll (debug_data v).base 0 (debug_data v).units us
+line-fails : (v : View) (us : Readings) (starts : List ℕ) (places : UnitPlaces) (s : SectionUnits) (u : MacroUnit) (f : Refusal) → ReadsAll (debug_data v).base 0 ((debug_data v).found Info) us
     → TablesStart (debug_data v) starts → (units : UnitsStart (debug_data v) places) → (r : SectionRead v units.readings s) → UnitAt v r.place.number u → LineStrays starts u f
     → StartsFail (debug_data v) f
 line-fails v us starts places s u f reads tables units r a (line_stray n some none) =
@@ -682,7 +682,7 @@ line-fails v us starts places s u f reads tables units r a (line_stray n some no
     (subst (λ (k : ℕ). MacroStrayFails (around_of (debug_data v) (starts_with us tables.tables units.readings)) units.readings (at Stray u.section k)) (sym field)
     (subst (λ (k : ℕ). MacroStrayFails (around_of (debug_data v) (starts_with us tables.tables units.readings)) units.readings (at Stray k a.is.header.line_field)) (sym own) row))
 
-import-fails : (v : View) (us : Readings) (starts : List ℕ) (places : UnitPlaces) (s : SectionUnits) (u : MacroUnit) (f : Refusal) → ReadsAll (debug_data v).base 0 (debug_data v).units us
+import-fails : (v : View) (us : Readings) (starts : List ℕ) (places : UnitPlaces) (s : SectionUnits) (u : MacroUnit) (f : Refusal) → ReadsAll (debug_data v).base 0 ((debug_data v).found Info) us
     → TablesStart (debug_data v) starts → (units : UnitsStart (debug_data v) places) → (r : SectionRead v units.readings s) → UnitAt v r.place.number u
     → EventStrays u.section places (unit_events v u) f → StartsFail (debug_data v) f
 import-fails v us starts places s u f reads tables units r a (event before behind e split (import in_section n field is none)) =
@@ -697,24 +697,24 @@ import-fails v us starts places s u f reads tables units r a (event before behin
     (subst (λ (k : ℕ). MacroStrayFails (around_of (debug_data v) (starts_with us tables.tables units.readings)) units.readings (at Stray k field)) (sym own)
     (import-row v us tables.tables places s a.is.header.width field in_section n units r i none))
 
-unit-fails : (v : View) (us : Readings) (starts : List ℕ) (places : UnitPlaces) (s : SectionUnits) (u : MacroUnit) (f : Refusal) → ReadsAll (debug_data v).base 0 (debug_data v).units us
+unit-fails : (v : View) (us : Readings) (starts : List ℕ) (places : UnitPlaces) (s : SectionUnits) (u : MacroUnit) (f : Refusal) → ReadsAll (debug_data v).base 0 ((debug_data v).found Info) us
     → TablesStart (debug_data v) starts → (units : UnitsStart (debug_data v) places) → (r : SectionRead v units.readings s) → UnitAt v r.place.number u → UnitStrays v starts places u f
     → StartsFail (debug_data v) f
 unit-fails v us starts places s u f reads tables units r a (unit_line h) = line-fails v us starts places s u f reads tables units r a h
 unit-fails v us starts places s u f reads tables units r a (unit_strays h) = import-fails v us starts places s u f reads tables units r a h
 
-units-fail : (v : View) (us : Readings) (starts : List ℕ) (places : UnitPlaces) (s : SectionUnits) (f : Refusal) → ReadsAll (debug_data v).base 0 (debug_data v).units us
+units-fail : (v : View) (us : Readings) (starts : List ℕ) (places : UnitPlaces) (s : SectionUnits) (f : Refusal) → ReadsAll (debug_data v).base 0 ((debug_data v).found Info) us
     → TablesStart (debug_data v) starts → (units : UnitsStart (debug_data v) places) → SectionRead v units.readings s → UnitsStray v starts places s.units f
     → StartsFail (debug_data v) f
 units-fail v us starts places s f reads tables units r (unit_stray before behind u split h) =
     let all : UnitsAt v r.place.number s.units = units-at v r.place.number (length (section_bytes v r.place.number)) s.units r.units in
     unit-fails v us starts places s u f reads tables units r (unit-among v r.place.number before behind u (subst (UnitsAt v r.place.number) split all)) h
 
-pub macros-fail : (v : View) (us : Readings) (starts : List ℕ) (places : UnitPlaces) (ss : List SectionUnits) (f : Refusal) → ReadsAll (debug_data v).base 0 (debug_data v).units us
+pub macros-fail : (v : View) (us : Readings) (starts : List ℕ) (places : UnitPlaces) (ss : List SectionUnits) (f : Refusal) → ReadsAll (debug_data v).base 0 ((debug_data v).found Info) us
     → TablesStart (debug_data v) starts → UnitsStart (debug_data v) places → UnitsFoundIn v ss → MacrosStray v starts places ss f → StartsFail (debug_data v) f
 unfolding debug_data
 macros-fail v us starts places ss f reads tables units found (section_stray before behind s split h) =
     let r : SectionRead v units.readings s =
-    section-read v (debug_data v).macros units.readings [] units.readings before behind s refl (all-cells v) (numbers-below v)
-    (subst (HaveUnits v (debug_data v).macros) split found.units) units.are in
+    section-read v ((debug_data v).found Macro) units.readings [] units.readings before behind s refl (all-cells v) (numbers-below v)
+    (subst (HaveUnits v ((debug_data v).found Macro)) split found.units) units.are in
     units-fail v us starts places s f reads tables units r h

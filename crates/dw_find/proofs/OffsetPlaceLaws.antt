@@ -17,7 +17,7 @@ pub offsets-placed : (v : View) (o : Option ℕ) (xs : List (Piece OffsetState))
 offsets-placed v o xs r =
     slots-placed v.order (located_at v o).bytes (offsets_at (length (cells_located v o).contents) 0 0 at_contribution) 0 xs refl r.chain (ap bytes_of r.cells ∙ bytes-cells v o)
 
-pub offsets-of : (v : View) (xs : List (Piece OffsetState)) → ReadsOffsets (debug_data v).base.order (debug_data v).offsets.contents xs
+pub offsets-of : (v : View) (xs : List (Piece OffsetState)) → ReadsOffsets (debug_data v).base.order ((debug_data v).found StrOffsets).contents xs
     → ReadsOffsets v.order (cells_located v (section_named v (name_of StrOffsets))).contents xs
 unfolding debug_data
 offsets-of v xs r = r

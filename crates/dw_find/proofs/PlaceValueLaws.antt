@@ -34,6 +34,7 @@ use Rattle.dw_base.specs.declared.values.ValueClass.TheVariants.{InlineText, Num
 use Rattle.dw_meaning.proofs.ScanPieceLaws.{part-bytes, before-end, bytes_of-take, bytes_of-drop}
 use Rattle.std.proofs.lemmas.List.{length-take}
 use Rattle.dw_base.proofs.UnitEditLaws.{length-bytes_of}
+use Rattle.dw_base.specs.declared.debug_sections.DebugSection.TheVariants.{Info}
 use Rattle.dw_find.specs.Fields.{AreOffsetFields, IsOffsetField, IsStartField, AreStartFields}
 use Rattle.dw_find.specs.EntryTexts.{value_field}
 use Rattle.dw_find.specs.InlineRooms.{AreRooms, grows, Grows, one}
@@ -212,7 +213,7 @@ pub placed-units : (base : UnitBase) (z : UnitSection) (list : List UnitHeader) 
 placed-units base z list place ts us none_placed = no_units
 placed-units base z all y xs ys (more_placed list h start places units table items p u t e) = more_units list h start (placed-units base z list start places units p) u
 
-pub section-each : (d : DebugData) (z : UnitSection) (before behind : List UnitSection) (list : List UnitHeader) (place : ℕ) (ts : List TextPlace) (us : List UnitSays) → d.units ≡ before ++ z ∷ behind
+pub section-each : (d : DebugData) (z : UnitSection) (before behind : List UnitSection) (list : List UnitHeader) (place : ℕ) (ts : List TextPlace) (us : List UnitSays) → d.found Info ≡ before ++ z ∷ behind
     → UnitsPlaced d.base z list place ts us → EachOf (PlaceOf d z) ts
 section-each d z before behind list place ts us split none_placed = tt
 section-each d z before behind all y xs ys split (more_placed list h start places units table items p u t e) =

@@ -38,6 +38,7 @@ use Rattle.dw_find.specs.ReadData.DataRefuses.{units, starts, string_tables, slo
 use Rattle.dw_find.specs.UnitPaths.{UnitPaths}
 use Rattle.dw_find.specs.UnitTexts.{data_fails, header_fails, relocation_fails, text_fails}
 use Rattle.dw_base.proofs.RelocationRowLaws.{header_offsets_exclude}
+use Rattle.dw_base.specs.declared.debug_sections.DebugSection.TheVariants.{StrOffsets, Macro}
 use Rattle.dw_meaning.specs.RelocationFails.{RelocationsReadIn}
 use Rattle.dw_meaning.specs.RelocationFails.OffsetsFailIn.{names as offset_names, macros as offset_macros}
 
@@ -116,7 +117,7 @@ pub ruleset map_rules = (same-ends, is-word)
 strings-exclude : (v : View) (rs : DataReadings) (r : Refusal) → DataReads (debug_data v) rs → ContributionsFail v.order (string_offsets v) r → ⊥
 unfolding debug_data
 strings-exclude v rs r reads f =
-    string_tables-exclude v.order (debug_data v).offsets rs.offsets r reads.offsets (subst (λ (z : Located). ContributionsFail v.order z r) (sym (offsets-located v)) f)
+    string_tables-exclude v.order ((debug_data v).found StrOffsets) rs.offsets r reads.offsets (subst (λ (z : Located). ContributionsFail v.order z r) (sym (offsets-located v)) f)
 
 -- rows of offsets in name tables and macro units are rows of their own, which hold of none where relocations may stand where they do
 names-row : (v : View) (rs : DataReadings) (r : Refusal) → DataReads (debug_data v) rs → RelocationsReadIn (debug_data v) (moving_sections v) → NamesRefuse v r → ⊥
@@ -124,7 +125,7 @@ names-row v rs r reads h (named_tables f) = name_tables-exclude v rs r reads f
 names-row v rs r reads h (named_offsets list start t u lt is f) = offsets-exclude v rs (moving_sections v) r reads h.left (offset_names list start t u lt is f)
 
 units-row : (v : View) (rs : DataReadings) (before behind : List CellSection) (z : CellSection) (r : Refusal) → DataReads (debug_data v) rs
-    → RelocationsReadIn (debug_data v) (moving_sections v) → (debug_data v).macros ≡ before ++ z ∷ behind → UnitsRefuse v z.number r → ⊥
+    → RelocationsReadIn (debug_data v) (moving_sections v) → (debug_data v).found Macro ≡ before ++ z ∷ behind → UnitsRefuse v z.number r → ⊥
 units-row v rs before behind z r reads h split (read_units f) = macros-exclude v rs before behind z r reads split f
 units-row v rs before behind z r reads h split (read_offsets list start u lt f) =
     offsets-exclude v rs (moving_sections v) r reads h.left (offset_macros before behind z list start split u lt f)

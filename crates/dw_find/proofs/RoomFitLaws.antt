@@ -7,6 +7,7 @@ use Rattle.dw_base.specs.InlinePaths.{inline_fits}
 use Rattle.dw_base.specs.Paths.{PathMap, mapped_path}
 use Rattle.dw_base.specs.Refusals.{at}
 use Rattle.dw_base.specs.ViewData.{debug_data}
+use Rattle.dw_base.specs.declared.debug_sections.DebugSection.TheVariants.{Info}
 use Rattle.dw_base.specs.declared.fault.Kind.TheVariants.{InlineGrows}
 use Rattle.dw_base.specs.declared.fault.Refusal.{Refusal}
 use Rattle.dw_find.specs.InlineRooms.{AreRooms, grows, Grows, one}
@@ -41,10 +42,10 @@ pub record AllFitPassed (m : PathMap) (v : View) (us : List UnitPaths) (i : ℕ)
 pub all-none : (m : PathMap) (v : View) (us : List UnitPaths) → AllFitPassed m v us 0
 all-none m v us = record { fits = λ h. h }
 
-pub all-end : (m : PathMap) (v : View) (us : List UnitPaths) (i : ℕ) → AllPlaced (debug_data v) (debug_data v).units us → length us ≤ i → AllFitPassed m v us i
-    → AllFitRooms m (debug_data v).units us
+pub all-end : (m : PathMap) (v : View) (us : List UnitPaths) (i : ℕ) → AllPlaced (debug_data v) ((debug_data v).found Info) us → length us ≤ i → AllFitPassed m v us i
+    → AllFitRooms m ((debug_data v).found Info) us
 all-end m v us i placed end passed =
-    all-fit m v [] (debug_data v).units us refl placed (passed.fits (subst (EachOf (FitsIn m v)) (sym (drop_all i us end)) tt))
+    all-fit m v [] ((debug_data v).found Info) us refl placed (passed.fits (subst (EachOf (FitsIn m v)) (sym (drop_all i us end)) tt))
 
 pub ruleset all_rules = (all-none)
 

@@ -11,6 +11,7 @@ use Rattle.dw_base.specs.UnitHeaders.{UnitSection}
 use Rattle.dw_base.specs.ViewData.{debug_data, unit_sections}
 use Rattle.dw_base.specs.declared.fault.Refusal.{Refusal}
 use Rattle.dw_base.proofs.ViewCellLaws.{bytes_of-view_cells}
+use Rattle.dw_base.specs.declared.debug_sections.DebugSection.TheVariants.{Info}
 use Rattle.dw_entries.specs.Fronts.{IsOfView}
 use Rattle.dw_entries.proofs.HasUnitLaws.{section-at, is-unit_section}
 use Rattle.dw_entries.proofs.UnitSectionLaws.{is-of-view}
@@ -28,15 +29,15 @@ pub record SectionFacts (v : View) (u : UnitPaths) : Type 0 where
   pub section : UnitSection
   pub before : List UnitSection
   pub behind : List UnitSection
-  pub split : (debug_data v).units ≡ before ++ section ∷ behind
+  pub split : (debug_data v).found Info ≡ before ++ section ∷ behind
   pub says : SectionSays (debug_data v) section u
 
-data-units : (v : View) → (debug_data v).units ≡ unit_sections v
+data-units : (v : View) → (debug_data v).found Info ≡ unit_sections v
 unfolding debug_data
 data-units v = refl
 
 -- the section of a number of the view
-pub own-section : (v : View) (before behind : List UnitSection) (z : UnitSection) → (debug_data v).units ≡ before ++ z ∷ behind → IsOfView v z.number z
+pub own-section : (v : View) (before behind : List UnitSection) (z : UnitSection) → (debug_data v).found Info ≡ before ++ z ∷ behind → IsOfView v z.number z
 own-section v before behind z split =
     let e : unit_sections v ≡ before ++ z ∷ behind = sym (data-units v) ∙ split in
     subst (IsOfView v z.number) (section-at v before behind z e) (is-of-view v z.number (is-unit_section v before behind z e))
@@ -48,7 +49,7 @@ pub says-number : (d : DebugData) (z : UnitSection) (u : UnitPaths) → SectionS
 says-number d z u s = ap (λ (x : UnitPaths). x.number) s.says
 
 -- the bytes of a section that says this
-pub says-bytes : (v : View) (before behind : List UnitSection) (z : UnitSection) (u : UnitPaths) → (debug_data v).units ≡ before ++ z ∷ behind → SectionSays (debug_data v) z u
+pub says-bytes : (v : View) (before behind : List UnitSection) (z : UnitSection) (u : UnitPaths) → (debug_data v).found Info ≡ before ++ z ∷ behind → SectionSays (debug_data v) z u
     → bytes_of z.contents ≡ info_of v u
 says-bytes v before behind z u split s =
     own-bytes v z (own-section v before behind z split) ∙ ap (section_bytes v) (sym (says-number (debug_data v) z u s))
@@ -108,7 +109,7 @@ facts-row m v u r f g =
     (subst (λ (bs : List ℕ). Grows m u.number bs u.inline r) (sym bytes) g))
 
 -- of all sections
-pub all-facts : (v : View) (before zs : List UnitSection) (us : List UnitPaths) → (debug_data v).units ≡ before ++ zs → AllPlaced (debug_data v) zs us → EachOf (SectionFacts v) us
+pub all-facts : (v : View) (before zs : List UnitSection) (us : List UnitPaths) → (debug_data v).found Info ≡ before ++ zs → AllPlaced (debug_data v) zs us → EachOf (SectionFacts v) us
 all-facts v before [] [] split all = tt
 all-facts v before [] (u ∷ us) split all = absurd all
 all-facts v before (z ∷ zs) [] split all = absurd all
@@ -117,10 +118,10 @@ all-facts v before (z ∷ zs) (u ∷ us) split all = (
   all-facts v (before ++ z ∷ []) zs us (split ∙ sym (append_assoc before (z ∷ []) zs)) all.1,
 )
 
-pub facts-at : (v : View) (us : List UnitPaths) (i : ℕ) (u : UnitPaths) → AllPlaced (debug_data v) (debug_data v).units us → i < length us → u ≡ get_or us i u → SectionFacts v u
-facts-at v us i u all lt is = subst (SectionFacts v) (sym is) (each-get (SectionFacts v) us i u lt (all-facts v [] (debug_data v).units us refl all))
+pub facts-at : (v : View) (us : List UnitPaths) (i : ℕ) (u : UnitPaths) → AllPlaced (debug_data v) ((debug_data v).found Info) us → i < length us → u ≡ get_or us i u → SectionFacts v u
+facts-at v us i u all lt is = subst (SectionFacts v) (sym is) (each-get (SectionFacts v) us i u lt (all-facts v [] ((debug_data v).found Info) us refl all))
 
-pub places-at : (v : View) (us : List UnitPaths) (i : ℕ) (u : UnitPaths) → AllPlaced (debug_data v) (debug_data v).units us → i < length us → u ≡ get_or us i u → HasPlaces v u
+pub places-at : (v : View) (us : List UnitPaths) (i : ℕ) (u : UnitPaths) → AllPlaced (debug_data v) ((debug_data v).found Info) us → i < length us → u ≡ get_or us i u → HasPlaces v u
 places-at v us i u all lt is = has-places v u (facts-at v us i u all lt is)
 
 -- sections that were taken are placed
@@ -134,7 +135,7 @@ taken-placed d (z ∷ zs) (u ∷ us) all = (all.0.says, taken-placed d zs us all
 abbrev pub FitsIn : PathMap → View → UnitPaths → Type 0
 FitsIn m v u = InlinesFit m (info_of v u) u.inline
 
-pub all-fit : (m : PathMap) (v : View) (before zs : List UnitSection) (us : List UnitPaths) → (debug_data v).units ≡ before ++ zs → AllPlaced (debug_data v) zs us
+pub all-fit : (m : PathMap) (v : View) (before zs : List UnitSection) (us : List UnitPaths) → (debug_data v).found Info ≡ before ++ zs → AllPlaced (debug_data v) zs us
     → EachOf (FitsIn m v) us → AllFitRooms m zs us
 all-fit m v before [] us split all fits = tt
 all-fit m v before (z ∷ zs) [] split all fits = tt

@@ -4,6 +4,7 @@ use Rattle.dw_base.specs.DebugData.{DebugData}
 use Rattle.dw_base.specs.FileViews.{View}
 use Rattle.dw_base.specs.UnitHeaders.{UnitSection}
 use Rattle.dw_base.specs.ViewData.{debug_data}
+use Rattle.dw_base.specs.declared.debug_sections.DebugSection.TheVariants.{Info}
 use Rattle.dw_entries.specs.SectionOrder.{AreSections}
 use Rattle.dw_entries.specs.ViewUnits.{unit_section_at}
 use Rattle.dw_entries.proofs.SectionListLaws.{sections-next, sections-whole}
@@ -53,7 +54,7 @@ pass-more v numbers i n found first now next_slots u lt is p one =
     (indexed-append (debug_data v) (map (unit_section_at v) (take i numbers)) found (unit_section_at v n) u first now next_slots p one)
 
 pub pass-ends : (v : View) (numbers : List ℕ) (i : ℕ) (found : List UnitPaths) (first now : Slots) → AreSections v numbers → length numbers ≤ i → SectionsPass v numbers i found first now
-    → AllIndexed (debug_data v) (debug_data v).units found first now
+    → AllIndexed (debug_data v) ((debug_data v).found Info) found first now
 pass-ends v numbers i found first now are past p =
     subst (λ (zs : List UnitSection). AllIndexed (debug_data v) zs found first now) (sections-whole v numbers i are past) p
 

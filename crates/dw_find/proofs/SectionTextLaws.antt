@@ -18,6 +18,7 @@ use Rattle.dw_find.proofs.EntryTextLaws.{with_paths-more, with_paths-none}
 use Rattle.dw_find.proofs.SlotRunLaws.{units-none, units-one, units-more}
 use Rattle.dw_find.proofs.TakenLaws.{names-append, entries-names}
 use Rattle.dw_base.specs.RelocationRows.{HeaderOffsetsRead}
+use Rattle.dw_base.specs.declared.debug_sections.DebugSection.TheVariants.{Info}
 
 -- the units of a section from a place on, front first
 abbrev pub UnitsFrom : UnitBase → UnitSection → ℕ → List UnitHeader → ℕ → Type 0
@@ -96,10 +97,10 @@ next-unit : (d : DebugData) (z : UnitSection) (list : List UnitHeader) (i : ℕ)
     → (p : SectionPass d z list i found first now) → IsUnit d.base z p.start h × UnitsFrom d.base z h.end (drop (i + 1) list) (length z.contents)
 next-unit d z list i found first now h lt is p = subst (λ (xs : List UnitHeader). UnitsFrom d.base z p.start xs (length z.contents)) (front list h i lt is) p.rest
 
-pub unit-there : (d : DebugData) (z : UnitSection) (list : List UnitHeader) (i n : ℕ) (found : Found) (first now : Slots) (h : UnitHeader) → numbered d.units n ≡ Some z
+pub unit-there : (d : DebugData) (z : UnitSection) (list : List UnitHeader) (i n : ℕ) (found : Found) (first now : Slots) (h : UnitHeader) → numbered (d.found Info) n ≡ Some z
     → i < length list → h ≡ get_or list i h → SectionPass d z list i found first now → HasUnit d z h
 unit-there d z list i n found first now h number lt is p =
-    let s : Stands d.units z = stands-numbered d.units n z number in
+    let s : Stands (d.found Info) z = stands-numbered (d.found Info) n z number in
     record {
       before = s.before;
       behind = s.behind;

@@ -27,7 +27,7 @@ use Rattle.dw_base.specs.UnitHeaders.{UnitBase, UnitSection}
 use Rattle.dw_base.specs.UnitPieces.{ReadsUnits, unit_grammar}
 use Rattle.dw_base.specs.UnitStates.{Mode, at_header, at_code, at_values, at_chosen, stuck, UnitState, before_unit, in_unit, between, inside, headed, after_header, after_entry, after_code, after_value, code_value, piece_header, past}
 use Rattle.dw_base.specs.ViewData.{debug_data, located}
-use Rattle.dw_base.specs.declared.debug_sections.DebugSection.TheVariants.{Line}
+use Rattle.dw_base.specs.declared.debug_sections.DebugSection.TheVariants.{Info, Line}
 use Rattle.dw_base.specs.declared.fault.Kind.TheVariants.{Stray}
 use Rattle.dw_base.specs.declared.fault.Refusal.{Refusal}
 use Rattle.dw_base.specs.declared.shared.Order.{Order}
@@ -346,7 +346,7 @@ record ReadingOf (v : View) (rs : Readings) (u : UnitPaths) : Type 0 where
   says : paths_in reading ≡ u
   facts : EachPiece (PieceFacts u.number (view_cells v u.number)) reading.pieces
 
-reading-here : (v : View) (before zs : List UnitSection) (z : UnitSection) (first : ℕ) (r : Reading) (u : UnitPaths) → (debug_data v).units ≡ before ++ z ∷ zs → r.number ≡ z.number
+reading-here : (v : View) (before zs : List UnitSection) (z : UnitSection) (first : ℕ) (r : Reading) (u : UnitPaths) → (debug_data v).found Info ≡ before ++ z ∷ zs → r.number ≡ z.number
     → ReadsUnits (debug_data v).base z first r.pieces → u ≡ paths_in r → EachPiece (PieceFacts u.number (view_cells v u.number)) r.pieces
 reading-here v before zs z first r u split number reads is =
     let own : IsOfView v z.number z = own-section v before zs z split in
@@ -356,7 +356,7 @@ reading-here v before zs z first r u split number reads is =
     (placed-cells (debug_data v).base z.contents (before_unit z.number z.kind (length z.contents) 0 first) 0 r.pieces refl reads.chain reads.cells) in
     subst (λ (n : ℕ). EachPiece (PieceFacts n (view_cells v n)) r.pieces) same (subst (λ (cells : List Cell). EachPiece (PieceFacts z.number cells) r.pieces) own.contents here)
 
-reading-of : (v : View) (before zs : List UnitSection) (first : ℕ) (rs : Readings) (i : ℕ) (u : UnitPaths) → (debug_data v).units ≡ before ++ zs
+reading-of : (v : View) (before zs : List UnitSection) (first : ℕ) (rs : Readings) (i : ℕ) (u : UnitPaths) → (debug_data v).found Info ≡ before ++ zs
     → ReadsAll (debug_data v).base first zs rs → i < length (paths_of rs) → u ≡ get_or (paths_of rs) i u → ReadingOf v rs u
 reading-of v before zs first [] i u split reads lt is = absurd (omega (arith, lt))
 reading-of v before [] first (r ∷ rs) i u split reads lt is = absurd reads
@@ -405,7 +405,7 @@ no-unit-there v q places x section start p none =
     ∙ none
 
 -- the field of a section of debug data is that of the view
-own-fails : (v : View) (before behind : List UnitSection) (z : UnitSection) (u : UnitPaths) (g : PathField) (r : Refusal) → (debug_data v).units ≡ before ++ z ∷ behind
+own-fails : (v : View) (before behind : List UnitSection) (z : UnitSection) (u : UnitPaths) (g : PathField) (r : Refusal) → (debug_data v).found Info ≡ before ++ z ∷ behind
     → SectionSays (debug_data v) z u → OffsetFails v.order u.number (view_cells v u.number) (field_place g.at g.size offset_field) r
     → OffsetFails (debug_data v).base.order z.number z.contents (field_place g.at g.size offset_field) r
 unfolding debug_data
@@ -415,19 +415,19 @@ own-fails v before behind z u g r split says fails =
     (subst (λ (n : ℕ). OffsetFails v.order n (view_cells v n) (field_place g.at g.size offset_field) r) (says-number (debug_data v) z u says) fails)
 
 -- a value that says none is a row
-pub section-row : (v : View) (starts : List ℕ) (places : UnitPlaces) (us : List UnitPaths) (i : ℕ) (u : UnitPaths) (r : Refusal) → AllTaken (debug_data v) (debug_data v).units us
+pub section-row : (v : View) (starts : List ℕ) (places : UnitPlaces) (us : List UnitPaths) (i : ℕ) (u : UnitPaths) (r : Refusal) → AllTaken (debug_data v) ((debug_data v).found Info) us
     → TablesStart (debug_data v) starts → UnitsStart (debug_data v) places → i < length us → u ≡ get_or us i u → SectionStrays v starts places u r
     → StartsRefuse (debug_data v) r
 section-row v starts places us i u r taken t ms lt is row =
     let d : DebugData = debug_data v in
-    let f : FoundReadings (debug_data v) 0 (debug_data v).units us = found-readings (debug_data v) 0 (debug_data v).units us (taken-placed (debug_data v) (debug_data v).units us taken) in
-    by_row f (reading-of v [] (debug_data v).units 0 f.readings i u refl f.reads (subst (λ (xs : List UnitPaths). i < length xs) (sym f.says) lt)
+    let f : FoundReadings (debug_data v) 0 ((debug_data v).found Info) us = found-readings (debug_data v) 0 ((debug_data v).found Info) us (taken-placed (debug_data v) ((debug_data v).found Info) us taken) in
+    by_row f (reading-of v [] ((debug_data v).found Info) 0 f.readings i u refl f.reads (subst (λ (xs : List UnitPaths). i < length xs) (sym f.says) lt)
     (is ∙ ap (λ (xs : List UnitPaths). get_or xs i u) (sym f.says))) r row
   where
-    all : FoundReadings (debug_data v) 0 (debug_data v).units us → DataReadings
+    all : FoundReadings (debug_data v) 0 ((debug_data v).found Info) us → DataReadings
     all f = record { units = f.readings; offsets = []; lines = t.tables; macros = ms.readings; names = [] }
 
-    by_field : (f : FoundReadings (debug_data v) 0 (debug_data v).units us) (x : ReadingOf v f.readings u) (g : PathField) → StartPiece x.reading.pieces g
+    by_field : (f : FoundReadings (debug_data v) 0 ((debug_data v).found Info) us) (x : ReadingOf v f.readings u) (g : PathField) → StartPiece x.reading.pieces g
         → says_start v.order (located v Line) starts (cells_at (view_cells v u.number) g.at g.size) ≡ false → StartsFail (debug_data v) (at Stray u.number g.at)
     by_field f x g s none =
         let facts : PieceFacts u.number (view_cells v u.number) s.one =
@@ -439,7 +439,7 @@ section-row v starts places us i u r taken t ms lt is row =
         (table_row s.one (record { before = x.before; behind = x.behind; section = x.reading; sections = x.sections; front = s.front; rest = s.rest; pieces = s.split }) s.role
         (none-there v (all f) starts s.one u.number t.is facts absent)))
 
-    by_unit : (f : FoundReadings (debug_data v) 0 (debug_data v).units us) (x : ReadingOf v f.readings u) (g : PathField) → UnitPiece x.reading.pieces g
+    by_unit : (f : FoundReadings (debug_data v) 0 ((debug_data v).found Info) us) (x : ReadingOf v f.readings u) (g : PathField) → UnitPiece x.reading.pieces g
         → says_unit v.order places (cells_at (view_cells v u.number) g.at g.size) ≡ false → StartsFail (debug_data v) (at Stray u.number g.at)
     by_unit f x g s none =
         let facts : PieceFacts u.number (view_cells v u.number) s.one =
@@ -452,7 +452,7 @@ section-row v starts places us i u r taken t ms lt is row =
         (no-unit-there v (all f) places s.one u.number ms.start facts absent)))
 
     section : SectionFacts v u
-    section = facts-at v us i u (taken-placed (debug_data v) (debug_data v).units us taken) lt is
+    section = facts-at v us i u (taken-placed (debug_data v) ((debug_data v).found Info) us taken) lt is
 
     places_each : EachOf (PlaceOf (debug_data v) section.section) section.says.places
     places_each = facts-each v u section
@@ -461,7 +461,7 @@ section-row v starts places us i u r taken t ms lt is row =
         → ValueRelocationFails (debug_data v) q
     unread g q row fails = row.row q (own-fails v section.before section.behind section.section u g q section.split section.says fails)
 
-    by_row : (f : FoundReadings (debug_data v) 0 (debug_data v).units us) (x : ReadingOf v f.readings u) (q : Refusal) → SectionStrays v starts places u q → StartsRefuse (debug_data v) q
+    by_row : (f : FoundReadings (debug_data v) 0 ((debug_data v).found Info) us) (x : ReadingOf v f.readings u) (q : Refusal) → SectionStrays v starts places u q → StartsRefuse (debug_data v) q
     by_row f x q (other_form place some) =
         let s : StrayPiece x.reading.pieces place = stray-found x.reading.pieces place (ap (λ (y : UnitPaths). y.stray) x.says ∙ some) in
         let facts : PieceFacts u.number (view_cells v u.number) s.one =
@@ -500,7 +500,7 @@ section-row v starts places us i u r taken t ms lt is row =
 abbrev pub StartsIn : View → List ℕ → UnitPlaces → UnitPaths → Type 0
 StartsIn v starts places u = SectionStarts v starts places u
 
-all-starts : (v : View) (starts : List ℕ) (places : UnitPlaces) (before zs : List UnitSection) (us : List UnitPaths) → (debug_data v).units ≡ before ++ zs → AllPlaced (debug_data v) zs us
+all-starts : (v : View) (starts : List ℕ) (places : UnitPlaces) (before zs : List UnitSection) (us : List UnitPaths) → (debug_data v).found Info ≡ before ++ zs → AllPlaced (debug_data v) zs us
     → EachOf (StartsIn v starts places) us → AllStarts (debug_data v) starts places zs us
 unfolding debug_data
 all-starts v starts places before [] us split all each = tt
@@ -533,13 +533,13 @@ pub all-more : (v : View) (starts : List ℕ) (places : UnitPlaces) (us : List U
     → SectionStarts v starts places u → AllPassed v starts places us (i + 1)
 all-more v starts places us i u lt is passed here = record { here = λ h. passed.here (subst (EachOf (StartsIn v starts places)) (sym (sections-front us u i lt is)) (here, h)) }
 
-pub all-end : (v : View) (starts : List ℕ) (places : UnitPlaces) (us : List UnitPaths) (i : ℕ) → AllTaken (debug_data v) (debug_data v).units us → length us ≤ i → AllPassed v starts places us i
-    → AllStarts (debug_data v) starts places (debug_data v).units us
+pub all-end : (v : View) (starts : List ℕ) (places : UnitPlaces) (us : List UnitPaths) (i : ℕ) → AllTaken (debug_data v) ((debug_data v).found Info) us → length us ≤ i → AllPassed v starts places us i
+    → AllStarts (debug_data v) starts places ((debug_data v).found Info) us
 all-end v starts places us i taken end passed =
-    all-starts v starts places [] (debug_data v).units us refl (taken-placed (debug_data v) (debug_data v).units us taken)
+    all-starts v starts places [] ((debug_data v).found Info) us refl (taken-placed (debug_data v) ((debug_data v).found Info) us taken)
     (passed.here (subst (EachOf (StartsIn v starts places)) (sym (drop_all i us end)) tt))
 
-pub taken-paths : (v : View) (us : List UnitPaths) (i : ℕ) (u : UnitPaths) → AllTaken (debug_data v) (debug_data v).units us → i < length us → u ≡ get_or us i u → HasPlaces v u
-taken-paths v us i u taken lt is = places-at v us i u (taken-placed (debug_data v) (debug_data v).units us taken) lt is
+pub taken-paths : (v : View) (us : List UnitPaths) (i : ℕ) (u : UnitPaths) → AllTaken (debug_data v) ((debug_data v).found Info) us → i < length us → u ≡ get_or us i u → HasPlaces v u
+taken-paths v us i u taken lt is = places-at v us i u (taken-placed (debug_data v) ((debug_data v).found Info) us taken) lt is
 
 pub ruleset all_rules = (all-none)

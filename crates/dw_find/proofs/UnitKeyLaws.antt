@@ -8,6 +8,7 @@ use Rattle.dw_base.specs.FileViews.{View, section_bytes}
 use Rattle.dw_base.specs.MacroReadings.{MacroStart}
 use Rattle.dw_base.specs.MacroUnits.{MacroUnitsUpTo, no_units, more_units}
 use Rattle.dw_base.specs.ViewData.{debug_data}
+use Rattle.dw_base.specs.declared.debug_sections.DebugSection.TheVariants.{Macro}
 use Rattle.dw_base.specs.declared.macro_units.MacroUnit.{MacroUnit}
 use Rattle.dw_meaning.proofs.MacroPieceLaws.{PiecesRead, all_unit_starts, unit_starts, units-read}
 use Rattle.dw_macros.proofs.UnitListLaws.{read-units}
@@ -194,5 +195,5 @@ all-rise v (z ∷ zs) (s ∷ ss) n c h rise below first =
 
 pub keys-rise : (v : View) (ss : List SectionUnits) → UnitsFoundIn v ss → AllBelow (all_units ss) → Rises (unit_keys (all_units ss))
 keys-rise v ss found below =
-    to-rises 0 (end_key (debug_data v).macros 0) (unit_keys (all_units ss))
-    (all-rise v (debug_data v).macros ss 0 (all-cells v) found.units (numbers-rise v) below (λ z ws e. omega arith))
+    to-rises 0 (end_key ((debug_data v).found Macro) 0) (unit_keys (all_units ss))
+    (all-rise v ((debug_data v).found Macro) ss 0 (all-cells v) found.units (numbers-rise v) below (λ z ws e. omega arith))

@@ -138,15 +138,15 @@ pub units-start : (v : View) (ss : List SectionUnits) (first : ℕ) (keys : List
     → first ≡ first_section ss → UnitsStart (debug_data v) (record { first = first; keys = keys })
 unfolding debug_data
 units-start v ss first keys found is below one =
-    let asked : AllAsked v Any (debug_data v).macros ss = any-asked v (debug_data v).macros ss (all-cells v) found.units in
-    let r : SectionsRead v Any (debug_data v).macros ss = sections-read v Any (debug_data v).macros ss (record { holds = λ x none. tt }) asked in
+    let asked : AllAsked v Any ((debug_data v).found Macro) ss = any-asked v ((debug_data v).found Macro) ss (all-cells v) found.units in
+    let r : SectionsRead v Any ((debug_data v).found Macro) ss = sections-read v Any ((debug_data v).found Macro) ss (record { holds = λ x none. tt }) asked in
     record {
       readings = r.readings;
       are = r.reads;
       start = record {
-        first = one ∙ first-is v (debug_data v).macros ss found.units;
+        first = one ∙ first-is v ((debug_data v).found Macro) ss found.units;
         numbered = λ (s o : ℕ).
-            ap (λ (ms : List MacroStart). started_unit 0 ms s o) (r.starts ∙ starts-all v (debug_data v).macros ss found.units)
+            ap (λ (ms : List MacroStart). started_unit 0 ms s o) (r.starts ∙ starts-all v ((debug_data v).found Macro) ss found.units)
             ∙ numbered s o (all_units ss) below
             ∙ ap (λ (ks : List ℕ). unit_number ks s o) (sym is);
       };

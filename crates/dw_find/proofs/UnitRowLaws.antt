@@ -11,6 +11,7 @@ use Rattle.dw_base.specs.Refusals.{Blames}
 use Rattle.dw_base.specs.UnitHeaders.{UnitSection}
 use Rattle.dw_base.specs.UnitTables.{IsUnitTable, UnitTableFails, table_fails as row_fails}
 use Rattle.dw_base.specs.ViewData.{debug_data, unit_sections}
+use Rattle.dw_base.specs.declared.debug_sections.DebugSection.TheVariants.{Info}
 use Rattle.dw_base.specs.declared.fault.Fault.{Fault}
 use Rattle.dw_base.specs.declared.fault.Fault.TheVariants.{NoMemory, Refused}
 use Rattle.dw_base.specs.declared.fault.Refusal.{Refusal}
@@ -31,7 +32,7 @@ unit-section : (d : DebugData) (z : UnitSection) (h : UnitHeader) → HasUnit d 
 unit-section d z h u = (header-of d.base z u.start h u.is.header).section
 
 -- the section of a unit of a view is the one of its number
-data-numbered : (v : View) (i : ℕ) (z : UnitSection) → numbered (unit_sections v) i ≡ Some z → numbered (debug_data v).units i ≡ Some z
+data-numbered : (v : View) (i : ℕ) (z : UnitSection) → numbered (unit_sections v) i ≡ Some z → numbered ((debug_data v).found Info) i ≡ Some z
 unfolding debug_data
 data-numbered v i z e = e
 
@@ -118,9 +119,9 @@ pub section-row : (v : View) (section : ℕ) (f : Fault) → IsUnitSection v sec
     → Blames (UnitsRefuse (debug_data v)) f
 section-row v section NoMemory there b = tt
 section-row v section (Refused r) there b =
-    by_row (stands-numbered (debug_data v).units section (unit_section_at v section) (data-numbered v section (unit_section_at v section) there)) b
+    by_row (stands-numbered ((debug_data v).found Info) section (unit_section_at v section) (data-numbered v section (unit_section_at v section) there)) b
   where
-    by_row : Stands (debug_data v).units (unit_section_at v section) → HeadersRefuse (unit_base v) (unit_section_at v section) r → UnitsRefuse (debug_data v) r
+    by_row : Stands ((debug_data v).found Info) (unit_section_at v section) → HeadersRefuse (unit_base v) (unit_section_at v section) r → UnitsRefuse (debug_data v) r
     by_row s (units f) = data_fails (unit_fails (unit_section_at v section) s.before s.behind s.is f)
     by_row s (offsets f) = header_fails s.before s.behind (unit_section_at v section) s.is f
 

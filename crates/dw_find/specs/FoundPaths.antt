@@ -33,18 +33,19 @@ use Rattle.dw_find.specs.MacroSections.{macros_read}
 use Rattle.dw_find.specs.UnitTexts.{UnitsRefuse}
 use Rattle.dw_find.specs.ViewLines.{lines_of_view}
 use Rattle.dw_base.specs.UnitHeaders.{UnitSection}
+use Rattle.dw_base.specs.declared.debug_sections.DebugSection.TheVariants.{Info, StrOffsets}
 
 -- the offsets in the headers of all units can be read
 pub record HeadersRead (d : DebugData) : Type 0 where
-  pub all : (before behind : List UnitSection) (z : UnitSection) → d.units ≡ before ++ z ∷ behind → HeaderOffsetsRead d.base z
+  pub all : (before behind : List UnitSection) (z : UnitSection) → d.found Info ≡ before ++ z ∷ behind → HeaderOffsetsRead d.base z
 
 -- the unit sections of debug data can be read, with the offsets in the headers of units, and say this of paths, each path that stands in its
 -- value fits its room, and each value that is to say where a line table or a macro unit starts names one of these starts or places
 pub record UnitsFound (m : PathMap) (d : DebugData) (starts : List ℕ) (places : UnitPlaces) (us : List UnitPaths) : Type 0 where
   pub headers : HeadersRead d
-  pub placed : AllPlaced d d.units us
-  pub fits : AllFitRooms m d.units us
-  pub named : AllStarts d starts places d.units us
+  pub placed : AllPlaced d (d.found Info) us
+  pub fits : AllFitRooms m (d.found Info) us
+  pub named : AllStarts d starts places (d.found Info) us
 
 -- why they can't be taken: a unit can't be, a value by index names no slot, or a path that stands in its value would grow
 pub data UnitPathsRefuse (m : PathMap) (d : DebugData) (list : List Contribution) : Refusal → Type 0 where
@@ -87,4 +88,4 @@ pub data PathsRefuse (m : PathMap) (v : View) : Refusal → Type 0 where
   relocations : {r : Refusal} → LeftRelocationsFail (debug_data v) (moving_sections v) r → PathsRefuse m v r
   slots : {r : Refusal} → SlotTextFails (debug_data v) r → PathsRefuse m v r
   shared : (readings : DataReadings) {r : Refusal} → IndexesRead (debug_data v) readings
-      → SharedFails m (debug_data v).offsets.number (around_of (debug_data v) readings) readings.offsets r → PathsRefuse m v r
+      → SharedFails m ((debug_data v).found StrOffsets).number (around_of (debug_data v) readings) readings.offsets r → PathsRefuse m v r

@@ -8,6 +8,7 @@ use Rattle.dw_base.specs.LineReadings.{LineReading, AreTables, table_starts}
 use Rattle.dw_base.specs.MacroReadings.{MacroReading, ReadsAllMacros, first_macros, macro_starts}
 use Rattle.dw_base.specs.Readings.{Readings}
 use Rattle.dw_base.specs.TextIndexes.{Indexing, EachUse, NamesSlot, all_bases, index_uses}
+use Rattle.dw_base.specs.declared.debug_sections.DebugSection.TheVariants.{Info, StrOffsets, Macro}
 use Rattle.dw_base.specs.declared.fault.Refusal.{Refusal}
 use Rattle.dw_base.specs.declared.string_offsets.Contribution.{Contribution}
 use Rattle.dw_meaning.specs.DataFails.{StartsFail}
@@ -18,7 +19,7 @@ use Rattle.dw_find.specs.UnitTexts.{UnitsRefuse}
 -- what values by index go by: the units that were read, and the contributions of the section of string offsets
 abbrev pub indexing_with : DebugData → List Contribution → Readings → Indexing
 indexing_with d list r = record {
-  bases = all_bases d.base.order (located_cells d.offsets) r;
+  bases = all_bases d.base.order (located_cells (d.found StrOffsets)) r;
   contributions = list;
   uses = index_uses d.base.order r;
 }
@@ -30,7 +31,7 @@ pub record SlotsMarked (g : Indexing) (marks : List ℕ) : Type 0 where
 
 -- so it is for the units of debug data
 pub record TextsIndexed (d : DebugData) (list : List Contribution) (marks : List ℕ) : Type 0 where
-  pub each : (r : Readings) → ReadsAll d.base 0 d.units r → SlotsMarked (indexing_with d list r) marks
+  pub each : (r : Readings) → ReadsAll d.base 0 (d.found Info) r → SlotsMarked (indexing_with d list r) marks
 
 -- the line tables of debug data can be read, and start at these places
 pub record TablesStart (d : DebugData) (starts : List ℕ) : Type 0 where
@@ -41,12 +42,12 @@ pub record TablesStart (d : DebugData) (starts : List ℕ) : Type 0 where
 -- the macro units of debug data can be read, and start at these places
 pub record UnitsStart (d : DebugData) (places : UnitPlaces) : Type 0 where
   pub readings : List MacroReading
-  pub are : ReadsAllMacros d.base.order d.macros readings
-  pub start : PlacesStart places (record { first = first_macros d.macros; starts = macro_starts readings })
+  pub are : ReadsAllMacros d.base.order (d.found Macro) readings
+  pub start : PlacesStart places (record { first = first_macros (d.found Macro); starts = macro_starts readings })
 
 -- why the units of debug data can't be taken: a unit can't be, a value by index names no slot, or one that is to say where a line table
 -- or a macro unit starts says none
 pub data TextsRefuse (d : DebugData) (list : List Contribution) : Refusal → Type 0 where
   units : {f : Refusal} → UnitsRefuse d f → TextsRefuse d list f
   starts : {f : Refusal} → StartsFail d f → TextsRefuse d list f
-  index : (r : Readings) {f : Refusal} → ReadsAll d.base 0 d.units r → IndexFails (indexing_with d list r) f → TextsRefuse d list f
+  index : (r : Readings) {f : Refusal} → ReadsAll d.base 0 (d.found Info) r → IndexFails (indexing_with d list r) f → TextsRefuse d list f

@@ -14,6 +14,7 @@ use Rattle.dw_base.specs.declared.fault.Refusal.{Refusal}
 use Rattle.dw_base.specs.declared.macro_units.MacroUnit.{MacroUnit}
 use Rattle.dw_base.specs.declared.shared.Width.{Width}
 use Rattle.dw_base.specs.MacroOffsets.{AreReadUnits, UnitsRefuse}
+use Rattle.dw_base.specs.declared.debug_sections.DebugSection.TheVariants.{Macro}
 use Rattle.dw_find.specs.UnitPaths.{UnitPaths, start_by}
 use Rattle.dw_find.specs.declared.fields.PathField.{PathField}
 
@@ -31,7 +32,7 @@ HaveUnits v (z ∷ zs) (s ∷ ss) = (s.number ≡ z.number) × AreReadUnits v z.
 
 -- those of a view do
 pub record UnitsFoundIn (v : View) (ss : List SectionUnits) : Type 0 where
-  pub units : HaveUnits v (debug_data v).macros ss
+  pub units : HaveUnits v ((debug_data v).found Macro) ss
 
 -- where units start
 abbrev pub places_of : List MacroUnit → List ℕ
@@ -71,7 +72,7 @@ macros_read (r ∷ rs) = macros_with r.number (macro_starts r.pieces) ∷ macros
 
 -- why there are none: those of one section can't be read, or one of their offsets can't
 pub data UnitsFailIn (v : View) : Refusal → Type 0 where
-  units : (z : CellSection) (before behind : List CellSection) {r : Refusal} → (debug_data v).macros ≡ before ++ z ∷ behind → MacroUnitsFail v z.number r
+  units : (z : CellSection) (before behind : List CellSection) {r : Refusal} → (debug_data v).found Macro ≡ before ++ z ∷ behind → MacroUnitsFail v z.number r
       → UnitsFailIn v r
-  offsets : (z : CellSection) (before behind : List CellSection) {r : Refusal} → (debug_data v).macros ≡ before ++ z ∷ behind → UnitsRefuse v z.number r
+  offsets : (z : CellSection) (before behind : List CellSection) {r : Refusal} → (debug_data v).found Macro ≡ before ++ z ∷ behind → UnitsRefuse v z.number r
       → UnitsFailIn v r

@@ -33,7 +33,7 @@ pub record SectionStarts (v : View) (starts : List ℕ) (places : UnitPlaces) (u
 
 -- the same of the cells of a section of debug data
 abbrev pub StartsNamed : DebugData → List ℕ → List Cell → List PathField → Type 0
-StartsNamed d starts cells fs = FieldsSay (says_start d.base.order (located_cells d.lines) starts) cells fs
+StartsNamed d starts cells fs = FieldsSay (says_start d.base.order (located_cells (d.found Line)) starts) cells fs
 
 abbrev pub UnitsNamed : DebugData → UnitPlaces → List Cell → List PathField → Type 0
 UnitsNamed d places cells fs = FieldsSay (says_unit d.base.order places) cells fs

@@ -20,6 +20,7 @@ use Rattle.dw_base.specs.UnitHeaders.{UnitBase, UnitSection, IsUnit}
 use Rattle.dw_base.specs.UnitTables.{IsUnitTable}
 use Rattle.dw_base.specs.UnitStates.{Mode, at_values, at_chosen, UnitState, code_value, read_value}
 use Rattle.dw_base.specs.Values.{value_at}
+use Rattle.dw_base.specs.declared.debug_sections.DebugSection.TheVariants.{Str, LineStr, StrOffsets}
 use Rattle.dw_base.specs.declared.dwarf_numbers.TheConstants.{DW_AT_GNU_macros, DW_AT_macros, DW_AT_stmt_list, DW_FORM_data4, DW_FORM_data8, DW_FORM_indirect, DW_FORM_sec_offset}
 use Rattle.dw_base.specs.declared.shared.Order.{Order}
 use Rattle.dw_base.specs.declared.shared.Params.{Params}
@@ -206,8 +207,8 @@ ArePlaced base z list places units = UnitsPlaced base z list (length z.contents)
 
 -- an offset at a place names a text that ends in its table
 abbrev pub PlaceNames : Role → DebugData → List Cell → Type 0
-PlaceNames (offset in_str path) d p = IsTrue (ends_in d.str.bytes (offset_of d.base.order d.str p))
-PlaceNames (offset in_line_str path) d p = IsTrue (ends_in d.line_str.bytes (offset_of d.base.order d.line_str p))
+PlaceNames (offset in_str path) d p = IsTrue (ends_in (d.found Str).bytes (offset_of d.base.order (d.found Str) p))
+PlaceNames (offset in_line_str path) d p = IsTrue (ends_in (d.found LineStr).bytes (offset_of d.base.order (d.found LineStr) p))
 PlaceNames r d p = ⊤
 
 -- each offset at these places does
@@ -287,7 +288,7 @@ pub record BaseSource : Type 0 where
   pub offsets : Located
 
 abbrev pub base_source : DebugData → BaseSource
-base_source d = record { order = d.base.order; offsets = located_cells d.offsets }
+base_source d = record { order = d.base.order; offsets = located_cells (d.found StrOffsets) }
 
 -- the number of a base that values in these cells say
 abbrev pub base_number : BaseSource → List Cell → TextBase → ℕ

@@ -10,6 +10,7 @@ use Rattle.dw_base.specs.Lebs.{uleb_at}
 use Rattle.dw_base.specs.RelocationRows.{HeaderOffsetFails, HeaderOffsetsRead}
 use Rattle.dw_base.specs.UnitHeaders.{UnitSection, AreUnits}
 use Rattle.dw_base.specs.UnitTables.{IsUnitTable}
+use Rattle.dw_base.specs.declared.debug_sections.DebugSection.TheVariants.{Info, Str, LineStr}
 use Rattle.dw_base.specs.declared.fault.Refusal.{Refusal}
 use Rattle.dw_base.specs.declared.shared.Params.{Params}
 use Rattle.dw_base.specs.declared.units.Scanned.{Scanned}
@@ -54,16 +55,16 @@ UnitTaken t z h table old new = ScanTaken t h table (bytes_up_to z h) old new
 
 -- the tables of texts of debug data, and a unit section with them
 abbrev pub texts_of : DebugData → TextTables
-texts_of d = record { str = d.str; line_str = d.line_str }
+texts_of d = record { str = d.found Str; line_str = d.found LineStr }
 
 abbrev pub tables_of : DebugData → UnitSection → Tables
-tables_of d z = record { order = d.base.order; number = z.number; cells = z.contents; str = d.str; line_str = d.line_str }
+tables_of d z = record { order = d.base.order; number = z.number; cells = z.contents; str = d.found Str; line_str = d.found LineStr }
 
 -- why the units of debug data can't be taken
 pub data UnitsRefuse (d : DebugData) : Refusal → Type 0 where
   data_fails : {r : Refusal} → DataFails d r → UnitsRefuse d r
   text_fails : {r : Refusal} → TextFails d r → UnitsRefuse d r
-  header_fails : (before behind : List UnitSection) (z : UnitSection) {r : Refusal} → d.units ≡ before ++ z ∷ behind → HeaderOffsetFails d.base z r → UnitsRefuse d r
+  header_fails : (before behind : List UnitSection) (z : UnitSection) {r : Refusal} → d.found Info ≡ before ++ z ∷ behind → HeaderOffsetFails d.base z r → UnitsRefuse d r
   relocation_fails : {r : Refusal} → ValueRelocationFails d r → UnitsRefuse d r
 
 -- why a unit can't be: its entries can't be read, or an entry's values not be taken, behind entries that were

@@ -28,16 +28,16 @@ section_of LineStr = line_str_section
 
 -- the table of a section of texts, and the byte order of fields
 abbrev pub offsets_of : DebugData → TextSection → OffsetTable
-offsets_of d in_str = record { order = d.base.order; bytes = d.str.bytes }
-offsets_of d in_line_str = record { order = d.base.order; bytes = d.line_str.bytes }
+offsets_of d in_str = record { order = d.base.order; bytes = (d.found str_section).bytes }
+offsets_of d in_line_str = record { order = d.base.order; bytes = (d.found line_str_section).bytes }
 
 abbrev pub texts_in : DebugData → TextSection → Located
-texts_in d in_str = d.str
-texts_in d in_line_str = d.line_str
+texts_in d in_str = d.found str_section
+texts_in d in_line_str = d.found line_str_section
 
 abbrev pub table_number : DebugData → TextSection → ℕ
-table_number d in_str = d.str.number
-table_number d in_line_str = d.line_str.number
+table_number d in_str = (d.found str_section).number
+table_number d in_line_str = (d.found line_str_section).number
 
 abbrev pub offsets_in : View → TextSection → OffsetTable
 offsets_in v table = offsets_of (debug_data v) table
@@ -54,8 +54,8 @@ info_of v u = section_bytes v u.number
 -- it is there, and each of its fields of paths holds an offset that names a text, by the cells of the section
 pub record HasOffsets (v : View) (u : UnitPaths) : Type 0 where
   pub there : u.number < length v.sections
-  pub str : AreOffsetFields v.order (debug_data v).str (view_cells v u.number) u.str
-  pub line_str : AreOffsetFields v.order (debug_data v).line_str (view_cells v u.number) u.line_str
+  pub str : AreOffsetFields v.order ((debug_data v).found str_section) (view_cells v u.number) u.str
+  pub line_str : AreOffsetFields v.order ((debug_data v).found line_str_section) (view_cells v u.number) u.line_str
 
 abbrev pub AllHaveOffsets : View → List UnitPaths → Type 0
 AllHaveOffsets v [] = ⊤

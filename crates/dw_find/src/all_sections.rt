@@ -3,6 +3,7 @@
 ghost use Rattle.std.specs.Prelude.{◌≡◌, IfErr, IfOk, OnOk, length};
 ghost use Rattle.dw_base.specs.Refusals.{Blames};
 ghost use Rattle.dw_base.specs.ViewData.{debug_data};
+ghost use Rattle.dw_base.specs.declared.debug_sections.DebugSection.TheVariants.{Info};
 ghost use Rattle.dw_entries.specs.SectionOrder.{AreSections};
 ghost use Rattle.dw_find.specs.IndexedTexts.{TablesStart, TextsIndexed, TextsRefuse, UnitsStart};
 ghost use Rattle.dw_find.specs.NamedSlots.{no_slots};
@@ -38,9 +39,9 @@ pub(crate) fn all_texts(
     requires none { slots.old ≡ no_slots slots.old.list (length slots.old.marks) }
     requires starts { TablesStart (debug_data view.now) starts.now }
     requires units { UnitsStart (debug_data view.now) places.now }
-    ensures taken { IfOk result (λ us. AllTaken (debug_data view.now) (debug_data view.now).units us.items) }
+    ensures taken { IfOk result (λ us. AllTaken (debug_data view.now) ((debug_data view.now).found Info) us.items) }
     ensures indexed { OnOk result (TextsIndexed (debug_data view.now) slots.old.list slots.new.marks) }
-    ensures starts { IfOk result (λ us. AllStarts (debug_data view.now) starts.now places.now (debug_data view.now).units us.items) }
+    ensures starts { IfOk result (λ us. AllStarts (debug_data view.now) starts.now places.now ((debug_data view.now).found Info) us.items) }
     ensures refused { IfErr result (Blames (TextsRefuse (debug_data view.now) slots.old.list)) }
 {
     let found = read_all(alloc, view, tables, slots)?;
@@ -59,7 +60,7 @@ fn read_all(
     slots: &mut NamedSlots,
 ) -> Result<Vec<UnitPaths>, Fault>
     requires tables { tables.now ≡ texts_of (debug_data view.now) }
-    ensures taken { IfOk result (λ us. AllIndexed (debug_data view.now) (debug_data view.now).units us.items slots.old slots.new) }
+    ensures taken { IfOk result (λ us. AllIndexed (debug_data view.now) ((debug_data view.now).found Info) us.items slots.old slots.new) }
     ensures refused { IfErr result (Blames (UnitsRefuse (debug_data view.now))) }
 {
     let sections = unit_sections(alloc, view)?;
@@ -77,7 +78,7 @@ fn read_sections(
 ) -> Result<Vec<UnitPaths>, Fault>
     requires tables { tables.now ≡ texts_of (debug_data view.now) }
     requires sections { AreSections view.now sections.now }
-    ensures taken { IfOk result (λ us. AllIndexed (debug_data view.now) (debug_data view.now).units us.items slots.old slots.new) }
+    ensures taken { IfOk result (λ us. AllIndexed (debug_data view.now) ((debug_data view.now).found Info) us.items slots.old slots.new) }
     ensures refused { IfErr result (Blames (UnitsRefuse (debug_data view.now))) }
 {
     let mut found = Vec::new(alloc);

@@ -46,10 +46,8 @@ pub fn macro_sections(alloc: Global, view: &View) -> Result<Vec<MacroSection>, F
     ensures refused { IfErr result (Blames (UnitsFailIn view.now)) }
 {
     let mut found = Vec::new(alloc);
-    let mut next = view.first(DebugSection::Macro);
-    while let Some(section) = next {
-        found.push(section_units(alloc, view, section)?)?;
-        next = view.section(DebugSection::Macro.name(), section);
+    for section in view.all(DebugSection::Macro) {
+        found.push(section_units(alloc, view, *section)?)?;
     }
     Ok(found)
 }

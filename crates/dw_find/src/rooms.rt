@@ -6,6 +6,7 @@ ghost use Rattle.std.specs.Prelude.{◌≡◌, ◌+◌, ◌≤◌, ◌<◌, leng
 ghost use Rattle.dw_meaning.specs.DataFails.{InlineFails};
 ghost use Rattle.dw_base.specs.InlinePaths.{inline_fits};
 ghost use Rattle.dw_base.specs.ViewData.{debug_data};
+ghost use Rattle.dw_base.specs.declared.debug_sections.DebugSection.TheVariants.{Info};
 ghost use Rattle.dw_find.specs.InlineRooms.{AreRooms, Grows};
 ghost use Rattle.dw_find.specs.ViewFields.{HasPlaces, info_of};
 ghost use Rattle.dw_find.specs.TextPlaces.{AllFitRooms, AllPlaced, InlinesFit};
@@ -21,8 +22,8 @@ use dw_view::View;
 /// Refused where one would be longer, at it.
 #[tactic(auto, using(crate::proofs::RoomFitLaws::all_rules))]
 pub(crate) fn all_rooms_fit(view: &View, maps: &Maps, paths: &[UnitPaths]) -> Result<(), Refusal>
-    requires placed { AllPlaced (debug_data view.now) (debug_data view.now).units paths.now }
-    ensures fits { OnOk result (AllFitRooms maps.now (debug_data view.now).units paths.now) }
+    requires placed { AllPlaced (debug_data view.now) ((debug_data view.now).found Info) paths.now }
+    ensures fits { OnOk result (AllFitRooms maps.now ((debug_data view.now).found Info) paths.now) }
     ensures refused { IfErr result (InlineFails maps.now (debug_data view.now)) }
 {
     for found in paths {

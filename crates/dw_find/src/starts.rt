@@ -11,6 +11,7 @@ ghost use Rattle.dw_base.specs.Numbers.{spelled};
 ghost use Rattle.dw_base.specs.Refusals.{at};
 ghost use Rattle.dw_base.specs.RelocationRows.{OffsetFails, field_place, offset_field};
 ghost use Rattle.dw_base.specs.ViewData.{debug_data, located};
+ghost use Rattle.dw_base.specs.declared.debug_sections.DebugSection.TheVariants.{Info};
 ghost use Rattle.dw_find.specs.Fields.{AreStartFields, IsStartField};
 ghost use Rattle.dw_find.specs.IndexedTexts.{TablesStart, UnitsStart};
 ghost use Rattle.dw_find.specs.LineStarts.{FieldStrays, HasStart, IsStartGap, Rises, SectionStrays, StartsRefuse};
@@ -35,10 +36,10 @@ pub(crate) fn all_start(
     places: &UnitPlaces,
     paths: &[UnitPaths],
 ) -> Result<(), Refusal>
-    requires taken { AllTaken (debug_data view.now) (debug_data view.now).units paths.now }
+    requires taken { AllTaken (debug_data view.now) ((debug_data view.now).found Info) paths.now }
     requires tables { TablesStart (debug_data view.now) starts.now }
     requires units { UnitsStart (debug_data view.now) places.now }
-    ensures starts { OnOk result (AllStarts (debug_data view.now) starts.now places.now (debug_data view.now).units paths.now) }
+    ensures starts { OnOk result (AllStarts (debug_data view.now) starts.now places.now ((debug_data view.now).found Info) paths.now) }
     ensures refused { IfErr result (StartsRefuse (debug_data view.now)) }
 {
     for found in paths {

@@ -97,15 +97,15 @@ source_by v read bytes z = record {
   line_str = located v LineStr;
 }
 
-source-lines : (v : View) → line_source (debug_data v) ≡ source_by v true (bytes_of (debug_data v).lines.contents) (debug_data v).lines
+source-lines : (v : View) → line_source (debug_data v) ≡ source_by v true (bytes_of ((debug_data v).found Line).contents) ((debug_data v).found Line)
 unfolding debug_data
 source-lines v = refl
 
-lines-some : (v : View) (i : ℕ) → Some i ≡ section_named v (name_of Line) → (debug_data v).lines ≡ record { number = i; contents = view_cells v i }
+lines-some : (v : View) (i : ℕ) → Some i ≡ section_named v (name_of Line) → (debug_data v).found Line ≡ record { number = i; contents = view_cells v i }
 unfolding debug_data
 lines-some v i e = ap (cells_located v) (sym e)
 
-pub lines-none : (v : View) → None ≡ section_named v (name_of Line) → (debug_data v).lines.contents ≡ []
+pub lines-none : (v : View) → None ≡ section_named v (name_of Line) → ((debug_data v).found Line).contents ≡ []
 unfolding debug_data
 lines-none v e = ap (λ (o : Option ℕ). (cells_located v o).contents) (sym e)
 

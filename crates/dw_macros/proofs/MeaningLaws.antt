@@ -16,7 +16,7 @@ use Rattle.dw_base.specs.MacroUnits.{is_end, offset_at, unit_with}
 use Rattle.dw_base.specs.Numbers.{spelled}
 use Rattle.dw_base.specs.Texts.{has_nul, text, ends_in, text_in}
 use Rattle.dw_base.specs.ViewData.{debug_data, located, located_at}
-use Rattle.dw_base.specs.declared.debug_sections.DebugSection.TheVariants.{Line, Macro as MacroSection, Str}
+use Rattle.dw_base.specs.declared.debug_sections.DebugSection.TheVariants.{Str, Line, Macro as MacroSection}
 use Rattle.dw_base.specs.declared.line_tables.TextPlace.{TextPlace}
 use Rattle.dw_base.specs.declared.macro_units.MacroEvent.{MacroEvent}
 use Rattle.dw_base.specs.declared.macro_units.MacroEvent.TheVariants.{StartFile, EndFile}
@@ -40,9 +40,9 @@ use Rattle.dw_meaning.proofs.MacroMeantLaws.{operation_meaning, EventsFrom, even
 
 -- what stands around macro units is that of the view
 pub record Seen (v : View) (g : Around) : Type 0 where
-  pub str : g.str ≡ located v Str
-  pub lines : g.lines ≡ located v Line
-  pub macros : g.lasting.macros.first ≡ (located v MacroSection).number
+  pub str : g.stands Str ≡ located v Str
+  pub lines : (g.stands Line).located ≡ located v Line
+  pub macros : (g.lasting.kept MacroSection).first ≡ (located v MacroSection).number
 
 -- an event that was read is an operation that means the same
 record OperationOf (v : View) (g : Around) (section : ℕ) (width : Width) (place next : ℕ) (e : MacroEvent) : Type 0 where
@@ -117,9 +117,9 @@ named-if v field offset m next d l e true ends h =
     )
 
 -- the unit that a field names, which has a place
-import-says : (v : View) (g : Around) (field : ℕ) (f : Field) → g.lasting.macros.first ≡ (located v MacroSection).number → is_placed f ≡ true
-    → brought (unit_named g.lasting.macros f) ≡ event_meaning v g (import_of (located v MacroSection) field f)
-import-says v g field (Num n) first placed = ap (λ (i : ℕ). brought (started_unit 0 g.lasting.macros.starts i n)) first
+import-says : (v : View) (g : Around) (field : ℕ) (f : Field) → (g.lasting.kept MacroSection).first ≡ (located v MacroSection).number → is_placed f ≡ true
+    → brought (unit_named (g.lasting.kept MacroSection) f) ≡ event_meaning v g (import_of (located v MacroSection) field f)
+import-says v g field (Num n) first placed = ap (λ (i : ℕ). brought (started_unit 0 (g.lasting.kept MacroSection).starts i n)) first
 import-says v g field (Into s n) first placed = refl
 import-says v g field (Sym s k a) first placed = absurd (false-true placed)
   where
@@ -237,12 +237,12 @@ header-inside v section start h e =
 
 -- the line table of a unit
 line-same : (v : View) (g : Around) (section start end : ℕ) (h : MacroHeader) → Seen v g
-    → line_meant v g section h ≡ option_and_then (start_number 0 g.starts) (unit_with v section start h end).line
+    → line_meant v g section h ≡ option_and_then (start_number 0 (g.stands Line).starts) (unit_with v section start h end).line
 line-same v g section start end h seen = by_line h.has_line
   where
-    by_line : (b : Bool) → (if b then start_number 0 g.starts (offset_into g.lines (field_at v section h.line_field (width_size h.width))) else None)
-        ≡ option_and_then (start_number 0 g.starts) (if b then Some (offset_at v (located v Line) section h.line_field h.width) else None)
-    by_line true = ap (λ (z : Located). start_number 0 g.starts (offset_into z (field_at v section h.line_field (width_size h.width)))) seen.lines
+    by_line : (b : Bool) → (if b then start_number 0 (g.stands Line).starts (offset_into (g.stands Line).located (field_at v section h.line_field (width_size h.width))) else None)
+        ≡ option_and_then (start_number 0 (g.stands Line).starts) (if b then Some (offset_at v (located v Line) section h.line_field h.width) else None)
+    by_line true = ap (λ (z : Located). start_number 0 (g.stands Line).starts (offset_into z (field_at v section h.line_field (width_size h.width)))) seen.lines
     by_line false = refl
 
 -- of the units of a section, what those behind some that were read mean
@@ -283,14 +283,14 @@ one-more v g section start u all seen there is (units_more p end h es ms head ev
     (subst (λ (w : Width). EventsFrom v g section w is.header.first es end) width
     (subst (λ (x : MacroHeader). EventsFrom v g section x.width x.first es end) same events)) in
     let one = events-one v g section u.width u.first end u.end es (map (event_meaning v g) (unit_events v u)) theirs here in
-    let line : line_meant v g section is.header ≡ option_and_then (start_number 0 g.starts) u.line =
-    line-same v g section start is.end is.header seen ∙ ap (λ (x : MacroUnit). option_and_then (start_number 0 g.starts) x.line) (sym is.is) in
+    let line : line_meant v g section is.header ≡ option_and_then (start_number 0 (g.stands Line).starts) u.line =
+    line-same v g section start is.end is.header seen ∙ ap (λ (x : MacroUnit). option_and_then (start_number 0 (g.stands Line).starts) x.line) (sym is.is) in
     record {
       rest = ms;
       is = ap (λ (x : MacroHeader). meaning_with x.version (line_meant v g section x) es ∷ ms) same
           ∙ ap (λ (n : ℕ). meaning_with n (line_meant v g section is.header) es ∷ ms) version
           ∙ ap (λ (l : Option ℕ). meaning_with u.version l es ∷ ms) line
-          ∙ ap (λ (xs : List EventMeaning). meaning_with u.version (option_and_then (start_number 0 g.starts) u.line) xs ∷ ms) one.0;
+          ∙ ap (λ (xs : List EventMeaning). meaning_with u.version (option_and_then (start_number 0 (g.stands Line).starts) u.line) xs ∷ ms) one.0;
       units = subst (λ (n : ℕ). UnitsFrom v g section n ms) one.1 units;
     }
   where

@@ -15,6 +15,7 @@ use Rattle.dw_base.specs.SectionTexts.{edited_with}
 use Rattle.dw_base.specs.StringTables.{new_place}
 use Rattle.dw_base.specs.TextChanges.{TableChanges, change_of, edited_all, edited_by, mention_at, moved_start}
 use Rattle.dw_base.specs.UnitStates.{UnitState}
+use Rattle.dw_base.specs.declared.debug_sections.DebugSection.TheVariants.{Line}
 use Rattle.dw_base.specs.declared.shared.Order.{Order}
 
 -- a relocation that has another addend alone
@@ -86,7 +87,7 @@ edited-alike (offset table path) c around p = by_asks ((change_of c table).plan.
 edited-alike inline_path c around p = alike-bytes p _
 edited-alike line_start c around p = by_table (line_table around p)
   where
-    by_table : (o : Option ℕ) → AllAlike p (moved_start (starts_from 0 c.lines) around.lasting.base.order o p)
+    by_table : (o : Option ℕ) → AllAlike p (moved_start (starts_from 0 (c.new Line)) around.lasting.base.order o p)
     by_table None = alike-self p
     by_table (Some k) = alike-put around.lasting.base.order p _
 

@@ -65,11 +65,11 @@ unfolding new_cells
 new-open m b r i = refl
 
 -- its new body is their bytes
-pub now-bytes : (m : PathMap) (b : List ℕ) (r : DataReadings) (i : ℕ) → i ≢ (file_data b).str.number → i ≢ (file_data b).line_str.number
+pub now-bytes : (m : PathMap) (b : List ℕ) (r : DataReadings) (i : ℕ) → i ≢ ((file_data b).found Str).number → i ≢ ((file_data b).found LineStr).number
     → new_body m b r i ≡ bytes_of (now_in m b r i)
 now-bytes m b r i str line =
     body-pieces m b r i str line
-    ∙ pieces-bytes (file_data b).offsets.number (file_data b).lines.number (file_data b).names.number (new_offsets m b r)
+    ∙ pieces-bytes ((file_data b).found StrOffsets).number ((file_data b).found Line).number ((file_data b).found Names).number (new_offsets m b r)
     (new_tables (changes_file m b r) (file_data b) (around_file b r) r) (new_names m b r) (new_line_tables m b r) (new_macros m b r) (changes_file m b r) (around_file b r) r.units
     (contents_of b) (old_contents b i) i (old-bytes b i) (sym (all-bytes (changes_file m b r) (line_source (file_data b)) r.lines refl))
 
@@ -121,8 +121,8 @@ pub record IsCells (b : List ℕ) (i : ℕ) : Type 0 where
   pub some : 0 < i
   pub within : i < section_count b
   pub read : is_read_name (section_name b i) ≡ true
-  pub str : i ≢ (file_data b).str.number
-  pub line : i ≢ (file_data b).line_str.number
+  pub str : i ≢ ((file_data b).found Str).number
+  pub line : i ≢ ((file_data b).found LineStr).number
 
 pub record IsReadAt (b : List ℕ) (i : ℕ) : Type 0 where
   pub within : i < section_count b
@@ -182,14 +182,14 @@ old-fits m b r i k w is =
     subst (AllFit (relocation_source (contents_of b) b k)) (sym (section-source (contents_of b) b i k is))
     (cells-fit (relocation_source (contents_of b) b k) 0 (contents_of b i) (table-small b k w.bytes))
 
-lines-named : (b : List ℕ) (i : ℕ) → 0 < i → i ≡ (file_data b).lines.number → section_name b i ≡ name_of Line
+lines-named : (b : List ℕ) (i : ℕ) → 0 < i → i ≡ ((file_data b).found Line).number → section_name b i ≡ name_of Line
 lines-named b i some same = by_place (tables-place b) (same ∙ lines-number b)
   where
     by_place : TablePlace b (name_of Line) (located (view_of b) Line) → i ≡ (located (view_of b) Line).number → section_name b i ≡ name_of Line
     by_place (nowhere zero none) same = absurd (omega (arith, zero, same, some))
     by_place (lies_at there within named bytes) same = ap (section_name b) same ∙ named
 
-lines-offsets : (b : List ℕ) (i : ℕ) → 0 < i → i ≡ (file_data b).lines.number → i ≢ (file_data b).offsets.number
+lines-offsets : (b : List ℕ) (i : ℕ) → 0 < i → i ≡ ((file_data b).found Line).number → i ≢ ((file_data b).found StrOffsets).number
 lines-offsets b i some same other =
     name-apart b (name_of StrOffsets) (located (view_of b) StrOffsets) i (offsets-place b) some (λ e. clash (differ Line StrOffsets (sym (lines-named b i some same) ∙ e)))
     (other ∙ offsets-number b)
@@ -219,9 +219,9 @@ zero-now m b r w lt =
     (λ xs own. roles-none macro_role (changes_file m b r) (around_file b r) xs (own ∙ none))
     (λ xs own. units-none (changes_file m b r) (around_file b r) xs (own ∙ none)) none
   where
-    lines-none : (file_data b).lines.contents ≡ [] → new_tables (changes_file m b r) (file_data b) (around_file b r) r ≡ []
+    lines-none : ((file_data b).found Line).contents ≡ [] → new_tables (changes_file m b r) (file_data b) (around_file b r) r ≡ []
     lines-none none =
-        ap (λ (rs : List LineReading). all_written_cells (line_source (file_data b)) m (line_place m (changes_file m b r).str (changes_file m b r).line_str (line_source (file_data b))) rs)
+        ap (λ (rs : List LineReading). all_written_cells (line_source (file_data b)) m (line_place m ((changes_file m b r).new Str) ((changes_file m b r).new LineStr) (line_source (file_data b))) rs)
         (no-tables (line_source (file_data b)) r.lines (ap bytes_of none) w.reads.data_reads.lines)
 
 zero-can : (m : PathMap) (b : List ℕ) (r : DataReadings) (k : ℕ) → CanMap m b r → IsReadAt b 0 → relocation_section b 0 ≡ Some k
@@ -234,7 +234,7 @@ zero-can m b r k w h is =
 pub now-can : (m : PathMap) (b : List ℕ) (r : DataReadings) (i k : ℕ) → CanMap m b r → IsReadAt b i → length (new_line_tables m b r) ≤ 2 ^ 32 → relocation_section b i ≡ Some k
     → CanMove (relocation_source (contents_of b) b k) (old_contents b i) (now_in m b r i)
 now-can m b r i k w h small is = elim (cases_lt 0 i) [
-  | inl some ↦ by_lines some (cases_eq i (file_data b).lines.number)
+  | inl some ↦ by_lines some (cases_eq i ((file_data b).found Line).number)
   | inr none ↦ at_zero i k (omega (arith, none)) h is
 ]
   where
@@ -243,7 +243,7 @@ now-can m b r i k w h small is = elim (cases_lt 0 i) [
         subst (λ (n : ℕ). CanMove (relocation_source (contents_of b) b k) (old_contents b n) (now_in m b r n)) (sym zero)
         (zero-can m b r k w (subst (IsReadAt b) zero h) (ap (relocation_section b) (sym zero) ∙ is))
 
-    by_lines : 0 < i → (i ≡ (file_data b).lines.number) ⊎ (i ≡ (file_data b).lines.number → ⊥)
+    by_lines : 0 < i → (i ≡ ((file_data b).found Line).number) ⊎ (i ≡ ((file_data b).found Line).number → ⊥)
         → CanMove (relocation_source (contents_of b) b k) (old_contents b i) (now_in m b r i)
     by_lines some (inl same) =
         subst (CanMove (relocation_source (contents_of b) b k) (old_contents b i))
@@ -321,9 +321,9 @@ is-cells b i s some lt is none = record {
   some = some;
   within = lt;
   read = ap is_read is ∙ all-read s;
-  str = name-apart b (name_of Str) (file_data b).str i (str-place b) some
+  str = name-apart b (name_of Str) ((file_data b).found Str) i (str-place b) some
       (λ e. str-no s none (sym is ∙ ap debug_section e ∙ debug_section-name Str));
-  line = name-apart b (name_of LineStr) (file_data b).line_str i (line-place b) some
+  line = name-apart b (name_of LineStr) ((file_data b).found LineStr) i (line-place b) some
       (λ e. line-no s none (sym is ∙ ap debug_section e ∙ debug_section-name LineStr));
 }
 
@@ -395,7 +395,7 @@ now-units m b r i kind w some is =
     (units-no-macros b i kind is) 1 (drop 1 (view_of b).sections) (drop 1 (view_of b).sections) r.macros (behind-self b) w.reads.data_reads.macros
 
 pub units-back : (m : PathMap) (b : List ℕ) (r : DataReadings) (out : List ℕ) → CanMap m b r → ReadsBack b (file_body m b r) out → length (new_line_tables m b r) ≤ 2 ^ 32
-    → (file_data out).units ≡ edited_sections (file_data b).units (edited_readings (changes_file m b r) (around_file b r) r.units)
+    → (file_data out).found Info ≡ edited_sections ((file_data b).found Info) (edited_readings (changes_file m b r) (around_file b r) r.units)
 unfolding debug_data unit_sections
 units-back m b r out w back small =
     units-cells b (section_cells (contents_of out) out) (old_contents b) (file_data b).base (changes_file m b r) (around_file b r) 0 1 (drop 1 (view_of b).sections)
@@ -406,7 +406,7 @@ units-back m b r out w back small =
 
 -- so are those of macro units
 pub macros-back : (m : PathMap) (b : List ℕ) (r : DataReadings) (out : List ℕ) → CanMap m b r → ReadsBack b (file_body m b r) out → length (new_line_tables m b r) ≤ 2 ^ 32
-    → (file_data out).macros ≡ edited_macro_sections (file_data b).macros (new_macros m b r)
+    → (file_data out).found Macro ≡ edited_macro_sections ((file_data b).found Macro) (new_macros m b r)
 unfolding debug_data macro_sections
 macros-back m b r out w back small =
     macros-cells b (section_cells (contents_of out) out) (old_contents b) (file_data b).base.order (changes_file m b r) (around_file b r)
@@ -438,44 +438,44 @@ named-back m b r out s new w back small texts there gone =
     (λ e. gone (ap (λ (o : Option ℕ). (located_at (view_of b) o).bytes) e))
 
 pub offsets-back : (m : PathMap) (b : List ℕ) (r : DataReadings) (out : List ℕ) → CanMap m b r → ReadsBack b (file_body m b r) out → length (new_line_tables m b r) ≤ 2 ^ 32
-    → (file_data out).offsets ≡ record { number = (file_data b).offsets.number; contents = new_offsets m b r }
+    → (file_data out).found StrOffsets ≡ record { number = ((file_data b).found StrOffsets).number; contents = new_offsets m b r }
 unfolding debug_data
 offsets-back m b r out w back small =
     named-back m b r out StrOffsets (new_offsets m b r) w back small refl
     (λ i some same. cells-offsets (changes_file m b r) (file_data b) (around_file b r) r (old_contents b i) i same) (offsets-none m b r w)
 
 pub tables-back : (m : PathMap) (b : List ℕ) (r : DataReadings) (out : List ℕ) → CanMap m b r → ReadsBack b (file_body m b r) out → length (new_line_tables m b r) ≤ 2 ^ 32
-    → (file_data out).lines ≡ record { number = (file_data b).lines.number; contents = new_tables (changes_file m b r) (file_data b) (around_file b r) r }
+    → (file_data out).found Line ≡ record { number = ((file_data b).found Line).number; contents = new_tables (changes_file m b r) (file_data b) (around_file b r) r }
 unfolding debug_data
 tables-back m b r out w back small =
     named-back m b r out Line (new_tables (changes_file m b r) (file_data b) (around_file b r) r) w back small refl
     (λ i some same.
     cells-lines (changes_file m b r) (file_data b) (around_file b r) r (old_contents b i) i same (lines-offsets b i some (sym same)))
     (λ none.
-    ap (λ (rs : List LineReading). all_written_cells (line_source (file_data b)) m (line_place m (changes_file m b r).str (changes_file m b r).line_str (line_source (file_data b))) rs)
+    ap (λ (rs : List LineReading). all_written_cells (line_source (file_data b)) m (line_place m ((changes_file m b r).new Str) ((changes_file m b r).new LineStr) (line_source (file_data b))) rs)
     (no-tables (line_source (file_data b)) r.lines (line-bytes b ∙ none) w.reads.data_reads.lines))
 
-names-named : (b : List ℕ) (i : ℕ) → 0 < i → i ≡ (file_data b).names.number → section_name b i ≡ name_of Names
+names-named : (b : List ℕ) (i : ℕ) → 0 < i → i ≡ ((file_data b).found Names).number → section_name b i ≡ name_of Names
 names-named b i some same = by_place (names-place b) (same ∙ names-number b)
   where
     by_place : TablePlace b (name_of Names) (located (view_of b) Names) → i ≡ (located (view_of b) Names).number → section_name b i ≡ name_of Names
     by_place (nowhere zero none) same = absurd (omega (arith, zero, same, some))
     by_place (lies_at there within named bytes) same = ap (section_name b) same ∙ named
 
-names-others : (b : List ℕ) (i : ℕ) (s : DebugSection) (z : Located) (n : ℕ) → 0 < i → i ≡ (file_data b).names.number → (Some Names ≡ Some s → ⊥) → TablePlace b (name_of s) z
+names-others : (b : List ℕ) (i : ℕ) (s : DebugSection) (z : Located) (n : ℕ) → 0 < i → i ≡ ((file_data b).found Names).number → (Some Names ≡ Some s → ⊥) → TablePlace b (name_of s) z
     → n ≡ z.number → i ≢ n
 names-others b i s z n some same clash place number other =
     name-apart b (name_of s) z i place some (λ e. clash (differ Names s (sym (names-named b i some same) ∙ e))) (other ∙ number)
 
 pub names-section : (m : PathMap) (b : List ℕ) (r : DataReadings) (out : List ℕ) → CanMap m b r → ReadsBack b (file_body m b r) out → length (new_line_tables m b r) ≤ 2 ^ 32
-    → (file_data out).names ≡ record { number = (file_data b).names.number; contents = new_names m b r }
+    → (file_data out).found Names ≡ record { number = ((file_data b).found Names).number; contents = new_names m b r }
 unfolding debug_data
 names-section m b r out w back small =
     named-back m b r out Names (new_names m b r) w back small refl
     (λ i some same.
     cells-names (changes_file m b r) (file_data b) (around_file b r) r (old_contents b i) i same
-    (names-others b i StrOffsets (located (view_of b) StrOffsets) (file_data b).offsets.number some (sym same) offsets-no (offsets-place b) (offsets-number b))
-    (names-others b i Line (located (view_of b) Line) (file_data b).lines.number some (sym same) lines-no (tables-place b) (lines-number b)))
+    (names-others b i StrOffsets (located (view_of b) StrOffsets) ((file_data b).found StrOffsets).number some (sym same) offsets-no (offsets-place b) (offsets-number b))
+    (names-others b i Line (located (view_of b) Line) ((file_data b).found Line).number some (sym same) lines-no (tables-place b) (lines-number b)))
     (names-none m b r w)
   where
     offsets-no : Some Names ≡ Some StrOffsets → ⊥

@@ -16,6 +16,7 @@ use Rattle.dw_base.specs.SectionTexts.{edited_macros, edited_with, macro_role}
 use Rattle.dw_base.specs.TextChanges.{TableChanges, edited_all}
 use Rattle.dw_base.specs.UnitHeaders.{SectionKind, UnitBase, UnitSection}
 use Rattle.dw_base.specs.ViewData.{cells_located, is_macro, macro_section, macro_sections_from, unit_kind, unit_section, unit_sections_from}
+use Rattle.dw_base.specs.declared.debug_sections.DebugSection.TheVariants.{Str, LineStr, StrOffsets, Line, Names}
 use Rattle.dw_base.specs.declared.shared.Order.{Order}
 use Rattle.dw_meaning.specs.DataOutput.{macros_after, names_after, offsets_after}
 use Rattle.dw_meaning.specs.LineCells.{all_written_cells}
@@ -169,36 +170,36 @@ located-cells b bodies out name new all there gone =
 
 -- The new contents of a number, by the section that it is: string offsets, line tables, name tables, or what stands behind them.
 abbrev pub new_tables : TableChanges → DebugData → Around → DataReadings → List Cell
-new_tables c d around r = all_written_cells (line_source d) c.map (line_place c.map c.str c.line_str (line_source d)) r.lines
+new_tables c d around r = all_written_cells (line_source d) c.map (line_place c.map (c.new Str) (c.new LineStr) (line_source d)) r.lines
 
 abbrev pub behind_named : TableChanges → Around → DataReadings → List CellBody
 behind_named c around r = macro_cells (macros_after c around r) ++ unit_cells c around r.units
 
-pub cells-offsets : (c : TableChanges) (d : DebugData) (around : Around) (r : DataReadings) (old : List Cell) (i : ℕ) → d.offsets.number ≡ i
+pub cells-offsets : (c : TableChanges) (d : DebugData) (around : Around) (r : DataReadings) (old : List Cell) (i : ℕ) → (d.found StrOffsets).number ≡ i
     → cells_of_number (cells_by c d around r) old i ≡ joined (offsets_after c around r)
 cells-offsets c d around r old i same =
-    cells-here (cell_body d.offsets.number (joined (offsets_after c around r)))
-    (cell_body d.lines.number (new_tables c d around r) ∷ cell_body d.names.number (joined (names_after c around r)) ∷ behind_named c around r) old i same
+    cells-here (cell_body (d.found StrOffsets).number (joined (offsets_after c around r)))
+    (cell_body (d.found Line).number (new_tables c d around r) ∷ cell_body (d.found Names).number (joined (names_after c around r)) ∷ behind_named c around r) old i same
 
-pub cells-lines : (c : TableChanges) (d : DebugData) (around : Around) (r : DataReadings) (old : List Cell) (i : ℕ) → d.lines.number ≡ i → i ≢ d.offsets.number
+pub cells-lines : (c : TableChanges) (d : DebugData) (around : Around) (r : DataReadings) (old : List Cell) (i : ℕ) → (d.found Line).number ≡ i → i ≢ (d.found StrOffsets).number
     → cells_of_number (cells_by c d around r) old i ≡ new_tables c d around r
 cells-lines c d around r old i same offsets =
-    cells-further (cell_body d.offsets.number (joined (offsets_after c around r)))
-    (cell_body d.lines.number (new_tables c d around r) ∷ cell_body d.names.number (joined (names_after c around r)) ∷ behind_named c around r) old i offsets
-    ∙ cells-here (cell_body d.lines.number (new_tables c d around r)) (cell_body d.names.number (joined (names_after c around r)) ∷ behind_named c around r) old i same
+    cells-further (cell_body (d.found StrOffsets).number (joined (offsets_after c around r)))
+    (cell_body (d.found Line).number (new_tables c d around r) ∷ cell_body (d.found Names).number (joined (names_after c around r)) ∷ behind_named c around r) old i offsets
+    ∙ cells-here (cell_body (d.found Line).number (new_tables c d around r)) (cell_body (d.found Names).number (joined (names_after c around r)) ∷ behind_named c around r) old i same
 
-pub cells-names : (c : TableChanges) (d : DebugData) (around : Around) (r : DataReadings) (old : List Cell) (i : ℕ) → d.names.number ≡ i → i ≢ d.offsets.number → i ≢ d.lines.number
+pub cells-names : (c : TableChanges) (d : DebugData) (around : Around) (r : DataReadings) (old : List Cell) (i : ℕ) → (d.found Names).number ≡ i → i ≢ (d.found StrOffsets).number → i ≢ (d.found Line).number
     → cells_of_number (cells_by c d around r) old i ≡ joined (names_after c around r)
 cells-names c d around r old i same offsets lines =
-    cells-further (cell_body d.offsets.number (joined (offsets_after c around r)))
-    (cell_body d.lines.number (new_tables c d around r) ∷ cell_body d.names.number (joined (names_after c around r)) ∷ behind_named c around r) old i offsets
-    ∙ cells-further (cell_body d.lines.number (new_tables c d around r)) (cell_body d.names.number (joined (names_after c around r)) ∷ behind_named c around r) old i lines
-    ∙ cells-here (cell_body d.names.number (joined (names_after c around r))) (behind_named c around r) old i same
+    cells-further (cell_body (d.found StrOffsets).number (joined (offsets_after c around r)))
+    (cell_body (d.found Line).number (new_tables c d around r) ∷ cell_body (d.found Names).number (joined (names_after c around r)) ∷ behind_named c around r) old i offsets
+    ∙ cells-further (cell_body (d.found Line).number (new_tables c d around r)) (cell_body (d.found Names).number (joined (names_after c around r)) ∷ behind_named c around r) old i lines
+    ∙ cells-here (cell_body (d.found Names).number (joined (names_after c around r))) (behind_named c around r) old i same
 
-pub cells-behind : (c : TableChanges) (d : DebugData) (around : Around) (r : DataReadings) (old : List Cell) (i : ℕ) → i ≢ d.offsets.number → i ≢ d.lines.number → i ≢ d.names.number
+pub cells-behind : (c : TableChanges) (d : DebugData) (around : Around) (r : DataReadings) (old : List Cell) (i : ℕ) → i ≢ (d.found StrOffsets).number → i ≢ (d.found Line).number → i ≢ (d.found Names).number
     → cells_of_number (cells_by c d around r) old i ≡ cells_of_number (behind_named c around r) old i
 cells-behind c d around r old i offsets lines names =
-    cells-further (cell_body d.offsets.number (joined (offsets_after c around r)))
-    (cell_body d.lines.number (new_tables c d around r) ∷ cell_body d.names.number (joined (names_after c around r)) ∷ behind_named c around r) old i offsets
-    ∙ cells-further (cell_body d.lines.number (new_tables c d around r)) (cell_body d.names.number (joined (names_after c around r)) ∷ behind_named c around r) old i lines
-    ∙ cells-further (cell_body d.names.number (joined (names_after c around r))) (behind_named c around r) old i names
+    cells-further (cell_body (d.found StrOffsets).number (joined (offsets_after c around r)))
+    (cell_body (d.found Line).number (new_tables c d around r) ∷ cell_body (d.found Names).number (joined (names_after c around r)) ∷ behind_named c around r) old i offsets
+    ∙ cells-further (cell_body (d.found Line).number (new_tables c d around r)) (cell_body (d.found Names).number (joined (names_after c around r)) ∷ behind_named c around r) old i lines
+    ∙ cells-further (cell_body (d.found Names).number (joined (names_after c around r))) (behind_named c around r) old i names

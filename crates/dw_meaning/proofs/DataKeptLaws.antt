@@ -40,6 +40,7 @@ use Rattle.dw_base.proofs.PathLaws.{mapped_path-none}
 use Rattle.dw_base.proofs.PieceFrameLaws.{chain-changed}
 use Rattle.dw_base.proofs.PlainCellLaws.{IsPlain, plain-parts}
 use Rattle.dw_base.proofs.UnitEditLaws.{Shift, Becomes, UnitChange, UnitsChanged, length-becomes, length-bytes_of, units_preserve}
+use Rattle.dw_base.specs.declared.debug_sections.DebugSection.TheVariants.{Info, Str, LineStr, StrOffsets, Line, Macro, Names}
 use Rattle.dw_meaning.specs.DataOutput.{DataReads, DataFits, EachWritable, table_change, new_lines, changes_of, offsets_after, macros_after, names_after}
 use Rattle.dw_meaning.proofs.IndexTextLaws.{IsApart, texts-apart, slots-move}
 use Rattle.dw_meaning.specs.LineCells.{all_written_cells}
@@ -54,6 +55,7 @@ use Rattle.dw_meaning.proofs.OffsetMoveLaws.{RolesChanged, names-can, offsets-ca
 use Rattle.dw_meaning.proofs.SlotMeaningLaws.{units-slots}
 use Rattle.dw_meaning.proofs.TextEditLaws.{EachBelow, appending-keeps, LinesMove, TablesMove, TextsAre, behind_piece, Moves, PlainPiece, pieces-move, SlotMoves, edited-changed, roles-changed, shift_of, moved_table}
 use Rattle.dw_meaning.proofs.UnitMeaningLaws.{units-changed}
+use Rattle.dw_meaning.proofs.DataParts.{found_with, kept_with, stands_with}
 
 -- pieces after a change are as long
 pub length-changed : (c : Shift) (xs ys : List (Piece UnitState)) → UnitsChanged c xs ys → length (joined ys) ≡ length (joined xs)
@@ -143,13 +145,13 @@ readings-edited lc base c around ts us first (z ∷ zs) (r ∷ rs) ms ns t all r
     let lines : List Mention = mentions_of in_line_str around r.pieces in
     let rest : TextsAre c ts us (heres ++ (all_mentions in_str around rs ++ ms)) (lines ++ (all_mentions in_line_str around rs ++ ns)) =
     record {
-      str = all.str ∙ ap (texts_after c.str.plan c.map ts) (append_assoc heres (all_mentions in_str around rs) ms);
-      line_str = all.line_str ∙ ap (texts_after c.line_str.plan c.map us) (append_assoc lines (all_mentions in_line_str around rs) ns);
+      str = all.str ∙ ap (texts_after (c.new Str).plan c.map ts) (append_assoc heres (all_mentions in_str around rs) ms);
+      line_str = all.line_str ∙ ap (texts_after (c.new LineStr).plan c.map us) (append_assoc lines (all_mentions in_line_str around rs) ns);
     } in (
       refl,
       edited-changed lc base c around ts us (before_unit z.number z.kind (length z.contents) 0 first) r.pieces (all_mentions in_str around rs ++ ms)
           (all_mentions in_line_str around rs ++ ns) t rest reads.1.chain moves.0 names.0 fits.0 slots.0,
-      readings-edited lc base c around (texts_after c.str.plan c.map ts heres) (texts_after c.line_str.plan c.map us lines) (first + units_in r.pieces) zs rs ms ns t
+      readings-edited lc base c around (texts_after (c.new Str).plan c.map ts heres) (texts_after (c.new LineStr).plan c.map us lines) (first + units_in r.pieces) zs rs ms ns t
           (behind_piece c ts us heres lines (all_mentions in_str around rs ++ ms) (all_mentions in_line_str around rs ++ ns) rest)
           reads.2 moves.1 names.1 fits.1 slots.1,
     )
@@ -157,7 +159,7 @@ readings-edited lc base c around ts us first (z ∷ zs) (r ∷ rs) ms ns t all r
 -- the texts behind the mentions of all unit sections
 behind_units : (c : TableChanges) (around : Around) (ts us : List (List ℕ)) (rs : Readings) (ms ns : List Mention)
     → TextsAre c ts us (all_mentions in_str around rs ++ ms) (all_mentions in_line_str around rs ++ ns)
-    → TextsAre c (texts_after c.str.plan c.map ts (all_mentions in_str around rs)) (texts_after c.line_str.plan c.map us (all_mentions in_line_str around rs)) ms ns
+    → TextsAre c (texts_after (c.new Str).plan c.map ts (all_mentions in_str around rs)) (texts_after (c.new LineStr).plan c.map us (all_mentions in_line_str around rs)) ms ns
 behind_units c around ts us rs ms ns all = behind_piece c ts us (all_mentions in_str around rs) (all_mentions in_line_str around rs) ms ns all
 
 -- all sections are pieces after the change
@@ -244,19 +246,16 @@ edited_reads c d r ls = record {
 
 -- the new cells of the section of line tables
 abbrev pub new_line_cells : TableChanges → DebugData → DataReadings → List Cell
-new_line_cells c d r = all_written_cells (line_source d) c.map (line_place c.map c.str c.line_str (line_source d)) r.lines
+new_line_cells c d r = all_written_cells (line_source d) c.map (line_place c.map (c.new Str) (c.new LineStr) (line_source d)) r.lines
 
 -- the debug data with these changes
 abbrev pub edited_data : TableChanges → DebugData → DataReadings → DebugData
 edited_data c d r = record {
   base = d.base;
-  units = edited_sections d.units (edited_readings c (around_of d r) r.units);
-  str = moved_table d.str c.str;
-  line_str = moved_table d.line_str c.line_str;
-  offsets = record { number = d.offsets.number; contents = joined (offsets_after c (around_of d r) r) };
-  lines = record { number = d.lines.number; contents = new_line_cells c d r };
-  macros = edited_macro_sections d.macros (macros_after c (around_of d r) r);
-  names = record { number = d.names.number; contents = joined (names_after c (around_of d r) r) };
+  found = found_with (edited_sections (d.found Info) (edited_readings c (around_of d r) r.units)) (moved_table (d.found Str) (c.new Str))
+      (moved_table (d.found LineStr) (c.new LineStr)) (record { number = (d.found StrOffsets).number; contents = joined (offsets_after c (around_of d r) r) })
+      (record { number = (d.found Line).number; contents = new_line_cells c d r }) (edited_macro_sections (d.found Macro) (macros_after c (around_of d r) r))
+      (record { number = (d.found Names).number; contents = joined (names_after c (around_of d r) r) });
 }
 
 -- debug data that can be read, whose paths and slots can be mapped, where addends make the new offsets, and tables that stay small; of line
@@ -270,7 +269,7 @@ pub record DataMoves (m : PathMap) (d : DebugData) (r : DataReadings) : Type 0 w
   pub lines : length (all_lines (new_lines m (around_of d r) r)) ≤ 2 ^ 32
   pub lines_clear : EachClear (line_source d) r.lines
   pub apart : TablesApart (line_source d) r.lines
-  pub tables : (at : ℕ) → ends_in d.line_str.bytes at ≡ true → d.line_str.number ≢ d.str.number
+  pub tables : (at : ℕ) → ends_in (d.found LineStr).bytes at ≡ true → (d.found LineStr).number ≢ (d.found Str).number
 
 -- the mentions of slots, of line tables, of macro units and of name tables
 abbrev slots_in : TextSection → DebugData → DataReadings → List Mention
@@ -342,8 +341,8 @@ both-move : (m : PathMap) (d : DebugData) (r : DataReadings) → DataMoves m d r
 unfolding table_change
 both-move m d r w = record {
   map = w.map;
-  str = record { keeps = appending-keeps m d.str.bytes; small = w.str };
-  line_str = record { keeps = appending-keeps m d.line_str.bytes; small = w.line_str };
+  str = record { keeps = appending-keeps m (d.found Str).bytes; small = w.str };
+  line_str = record { keeps = appending-keeps m (d.found LineStr).bytes; small = w.line_str };
 }
 
 table-grows : (m : PathMap) (table : TextSection) (d : DebugData) (r : DataReadings)
@@ -366,12 +365,12 @@ new-line-bytes m d r = all-bytes (changes_of m (around_of d r) r) (line_source d
 pub lines-data : (m : PathMap) (d : DebugData) (r : DataReadings) → DataMoves m d r → LinesAfter m d r
 lines-data m d r w =
     let c : TableChanges = changes_of m (around_of d r) r in
-    let s : List ℕ = new_table c.str.plan c.str.texts in
-    let l : List ℕ = new_table c.line_str.plan c.line_str.texts in
+    let s : List ℕ = new_table (c.new Str).plan (c.new Str).texts in
+    let l : List ℕ = new_table (c.new LineStr).plan (c.new LineStr).texts in
     subst (λ (bs : List ℕ). LinesMoved (line_source d) (edited_with (line_source d) bs (new_line_cells (changes_of m (around_of d r) r) d r) s l) m 0 (length (all_lines (new_lines m (around_of d r) r))) (new_lines m (around_of d r) r) r.lines)
     (sym (new-line-bytes m d r))
     (section-moved (changes_of m (around_of d r) r) (line_source d) (slots_texts m in_str d r) (slots_texts m in_line_str d r) (behind_lines_in in_str d r) (behind_lines_in in_line_str d r) r.lines
-    refl refl w.lines_clear (makes-take (line_source d) (line_place m (changes_of m (around_of d r) r).str (changes_of m (around_of d r) r).line_str (line_source d)) r.lines w.fits.addends.lines) (both-move m d r w) (table-grows m in_str d r) (table-grows m in_line_str d r) w.apart w.tables w.reads.lines
+    refl refl w.lines_clear (makes-take (line_source d) (line_place m ((changes_of m (around_of d r) r).new Str) ((changes_of m (around_of d r) r).new LineStr) (line_source d)) r.lines w.fits.addends.lines) (both-move m d r w) (table-grows m in_str d r) (table-grows m in_line_str d r) w.apart w.tables w.reads.lines
     (each-can m (changes_of m (around_of d r) r) d r r.lines w.fits.lines) (behind-slots m d r))
 
 -- line tables start in their section
@@ -410,8 +409,8 @@ unfolding table_change
 tables-move m d r w = record {
   map = w.map;
   lines = lines-move m d r w;
-  str = record { keeps = appending-keeps m d.str.bytes; small = w.str };
-  line_str = record { keeps = appending-keeps m d.line_str.bytes; small = w.line_str };
+  str = record { keeps = appending-keeps m (d.found Str).bytes; small = w.str };
+  line_str = record { keeps = appending-keeps m (d.found LineStr).bytes; small = w.line_str };
 }
 
 -- the change as one of what stands around
@@ -421,14 +420,14 @@ data_shift m d r = shift_of (changes_of m (around_of d r) r) (around_of d r) (ne
 -- no slot is named by a path whose text changes and by another value
 data-apart : (m : PathMap) (d : DebugData) (r : DataReadings) → DataMoves m d r → IsApart m (around_of d r)
 data-apart m d r w =
-    texts-apart m (around_of d r) d.base.order (offsets_at (length d.offsets.contents) 0 0 at_contribution) r.offsets (mapped_path-none m w.map) w.reads.offsets.chain
+    texts-apart m (around_of d r) d.base.order (offsets_at (length (d.found StrOffsets).contents) 0 0 at_contribution) r.offsets (mapped_path-none m w.map) w.reads.offsets.chain
     w.fits.slots refl refl
 
 -- the readings of units, changed
 pub units-changed-all : (m : PathMap) (d : DebugData) (r : DataReadings) → DataMoves m d r
     → AllReadingsChanged (data_shift m d r) r.units (edited_readings (changes_of m (around_of d r) r) (around_of d r) r.units)
 units-changed-all m d r w =
-    readings-edited (new_line_cells (changes_of m (around_of d r) r) d r) d.base (changes_of m (around_of d r) r) (around_of d r) [] [] 0 d.units r.units
+    readings-edited (new_line_cells (changes_of m (around_of d r) r) d r) d.base (changes_of m (around_of d r) r) (around_of d r) [] [] 0 (d.found Info) r.units
     (behind_units_in in_str d r)
     (behind_units_in in_line_str d r)
     (tables-move m d r w) (texts-are m d r) w.reads.units w.fits.addends.units w.reads.texts w.fits.inline
@@ -441,7 +440,7 @@ offsets-changed m d r w =
     roles-changed (new_line_cells (changes_of m (around_of d r) r) d r) (slot_role (path_slots (around_of d r))) (changes_of m (around_of d r) r) (around_of d r)
     (units_texts m in_str d r) (units_texts m in_line_str d r) r.offsets (behind_slots_in in_str d r) (behind_slots_in in_line_str d r)
     (tables-move m d r w) (behind-units m d r)
-    (offsets-can (path_slots (around_of d r)) (changes_of m (around_of d r) r) (around_of d r) d.base.order (offsets_at (length d.offsets.contents) 0 0 at_contribution) r.offsets
+    (offsets-can (path_slots (around_of d r)) (changes_of m (around_of d r) r) (around_of d r) d.base.order (offsets_at (length (d.found StrOffsets).contents) 0 0 at_contribution) r.offsets
     w.reads.offsets.chain w.fits.addends.slots)
     w.reads.slot_texts
 
@@ -452,19 +451,19 @@ names-changed-all m d r w =
     roles-changed (new_line_cells (changes_of m (around_of d r) r) d r) name_role (changes_of m (around_of d r) r) (around_of d r) (macros_texts m in_str d r) (macros_texts m in_line_str d r)
     r.names [] [] (tables-move m d r w)
     (record {
-      str = all.str ∙ ap (texts_after (changes_of m (around_of d r) r).str.plan m (macros_texts m in_str d r)) (sym (append-nil (names_in in_str d r)));
-      line_str = all.line_str ∙ ap (texts_after (changes_of m (around_of d r) r).line_str.plan m (macros_texts m in_line_str d r)) (sym (append-nil (names_in in_line_str d r)));
+      str = all.str ∙ ap (texts_after ((changes_of m (around_of d r) r).new Str).plan m (macros_texts m in_str d r)) (sym (append-nil (names_in in_str d r)));
+      line_str = all.line_str ∙ ap (texts_after ((changes_of m (around_of d r) r).new LineStr).plan m (macros_texts m in_line_str d r)) (sym (append-nil (names_in in_line_str d r)));
     })
-    (names-can (changes_of m (around_of d r) r) (around_of d r) d.base.order (names_at (length d.names.contents) 0 at_table) r.names w.reads.names.chain w.fits.addends.names)
+    (names-can (changes_of m (around_of d r) r) (around_of d r) d.base.order (names_at (length (d.found Names).contents) 0 at_table) r.names w.reads.names.chain w.fits.addends.names)
     w.reads.name_texts
 
 -- macro units, changed
 pub macros-changed-all : (m : PathMap) (d : DebugData) (r : DataReadings) → DataMoves m d r
     → AllMacrosChanged (data_shift m d r) r.macros (macros_after (changes_of m (around_of d r) r) (around_of d r) r)
 macros-changed-all m d r w =
-    macros-edited (new_line_cells (changes_of m (around_of d r) r) d r) d.base.order (changes_of m (around_of d r) r) (around_of d r) (lines_texts m in_str d r) (lines_texts m in_line_str d r) d.macros r.macros
+    macros-edited (new_line_cells (changes_of m (around_of d r) r) d r) d.base.order (changes_of m (around_of d r) r) (around_of d r) (lines_texts m in_str d r) (lines_texts m in_line_str d r) (d.found Macro) r.macros
     (names_in in_str d r) (names_in in_line_str d r) (tables-move m d r w) (behind-lines m d r) w.reads.macros
-    (all-macros-can (changes_of m (around_of d r) r) (around_of d r) d.base.order d.macros r.macros w.reads.macros w.fits.addends.macros) w.reads.macro_texts
+    (all-macros-can (changes_of m (around_of d r) r) (around_of d r) d.base.order (d.found Macro) r.macros w.reads.macros w.fits.addends.macros) w.reads.macro_texts
 
 -- which slots values by index name is as it was
 all-bases : (c : Shift) (order : Order) (z w : Located) (rs qs : Readings) → z.number ≡ w.number → length z.bytes ≡ length w.bytes → AllReadingsChanged c rs qs
@@ -499,26 +498,21 @@ indexing-edited m d r w =
     let c : TableChanges = changes_of m (around_of d r) r in
     let qs : Readings = edited_readings (changes_of m (around_of d r) r) (around_of d r) r.units in
     let ys : List (Piece OffsetState) = offsets_after (changes_of m (around_of d r) r) (around_of d r) r in
-    let cells : length (joined ys) ≡ length d.offsets.contents =
+    let cells : length (joined ys) ≡ length (d.found StrOffsets).contents =
     roles-length (slot_role (path_slots (around_of d r))) (data_shift m d r) r.offsets ys (offsets-changed m d r w) ∙ ap length w.reads.offsets.cells in
-    let size : length (bytes_of (joined ys)) ≡ length (bytes_of d.offsets.contents) = length-bytes_of (joined ys) ∙ cells ∙ sym (length-bytes_of d.offsets.contents) in
+    let size : length (bytes_of (joined ys)) ≡ length (bytes_of (d.found StrOffsets).contents) = length-bytes_of (joined ys) ∙ cells ∙ sym (length-bytes_of (d.found StrOffsets).contents) in
     indexing-parts
-    (all_bases d.base.order (record { number = d.offsets.number; bytes = bytes_of (joined ys) }) qs) (all_bases d.base.order (located_cells d.offsets) r.units)
+    (all_bases d.base.order (record { number = (d.found StrOffsets).number; bytes = bytes_of (joined ys) }) qs) (all_bases d.base.order (located_cells (d.found StrOffsets)) r.units)
     (contributions_in d.base.order ys) (contributions_in d.base.order r.offsets) (index_uses d.base.order qs) (index_uses d.base.order r.units)
-    (all-bases (data_shift m d r) d.base.order (record { number = d.offsets.number; bytes = bytes_of (joined ys) }) (located_cells d.offsets) r.units qs refl size (units-changed-all m d r w))
+    (all-bases (data_shift m d r) d.base.order (record { number = (d.found StrOffsets).number; bytes = bytes_of (joined ys) }) (located_cells (d.found StrOffsets)) r.units qs refl size (units-changed-all m d r w))
     (contributions-kept (data_shift m d r) (path_slots (around_of d r)) d.base.order r.offsets ys (offsets-changed m d r w))
     (all-uses (data_shift m d r) d.base.order r.units qs (units-changed-all m d r w))
 
 -- what stands around the new units is what the change says
 abbrev around_with : UnitBase → Located → Located → ℕ → List Cell → List EntryPlace → List ℕ → Indexing → MacroPlaces → List (List ℕ) → List ℕ → List ℕ → Around
 around_with base str line n lc es is_ g mp ts bs ns = record {
-  lasting = record { base = base; entries = es; infos = is_; indexing = g; macros = mp };
-  str = str;
-  line_str = line;
-  slots = ts;
-  lines = record { number = n; bytes = bs };
-  line_cells = lc;
-  starts = ns;
+  lasting = record { base = base; kept = kept_with es is_ g mp };
+  stands = stands_with str line ts (record { number = n; bytes = bs }) lc ns;
 }
 
 around-parts : (base : UnitBase) (str line : Located) (n : ℕ) (lc : List Cell) (es fs : List EntryPlace) (is_ js : List ℕ) (g h : Indexing) (mp np : MacroPlaces) (ts us : List (List ℕ)) (bs cs ns ks : List ℕ)
@@ -530,10 +524,10 @@ around-parts base str line n lc es fs is_ js g h mp np ts us bs cs ns ks e i x p
     ∙ ap (λ (y : List ℕ). around_with base str line n lc fs js h np us y ns) b ∙ ap (around_with base str line n lc fs js h np us cs) k
 
 slots-edited : (m : PathMap) (d : DebugData) (r : DataReadings) → DataMoves m d r
-    → slot_texts d.base.order (moved_table d.str (changes_of m (around_of d r) r).str) (offsets_after (changes_of m (around_of d r) r) (around_of d r) r)
-    ≡ mapped_slots m (path_slots (around_of d r)) 0 (slot_texts d.base.order d.str r.offsets)
+    → slot_texts d.base.order (moved_table (d.found Str) ((changes_of m (around_of d r) r).new Str)) (offsets_after (changes_of m (around_of d r) r) (around_of d r) r)
+    ≡ mapped_slots m (path_slots (around_of d r)) 0 (slot_texts d.base.order (d.found Str) r.offsets)
 slots-edited m d r w =
-    slots-mapped (path_slots (around_of d r)) (data_shift m d r) d.base.order (offsets_at (length d.offsets.contents) 0 0 at_contribution) r.offsets
+    slots-mapped (path_slots (around_of d r)) (data_shift m d r) d.base.order (offsets_at (length (d.found StrOffsets).contents) 0 0 at_contribution) r.offsets
     (offsets_after (changes_of m (around_of d r) r) (around_of d r) r) (offsets-changed m d r w) w.reads.offsets.chain
 
 -- macro units start where they did
@@ -542,27 +536,27 @@ macro_places_with first starts = record { first = first; starts = starts }
 
 places-edited : (m : PathMap) (d : DebugData) (r : DataReadings) (w : DataMoves m d r)
     → ◌≡◌ {A = MacroPlaces} (record {
-      first = first_macros (edited_macro_sections d.macros (macros_after (changes_of m (around_of d r) r) (around_of d r) r));
+      first = first_macros (edited_macro_sections (d.found Macro) (macros_after (changes_of m (around_of d r) r) (around_of d r) r));
       starts = macro_starts (macros_after (changes_of m (around_of d r) r) (around_of d r) r);
     })
-    (record { first = first_macros d.macros; starts = macro_starts r.macros })
+    (record { first = first_macros (d.found Macro); starts = macro_starts r.macros })
 places-edited m d r w =
     let qs : List MacroReading = macros_after (changes_of m (around_of d r) r) (around_of d r) r in
-    ap (λ (n : ℕ). macro_places_with n (macro_starts qs)) (same-first d.macros qs)
-    ∙ ap (macro_places_with (first_macros d.macros)) (all-starts (data_shift m d r) r.macros qs (macros-changed-all m d r w))
+    ap (λ (n : ℕ). macro_places_with n (macro_starts qs)) (same-first (d.found Macro) qs)
+    ∙ ap (macro_places_with (first_macros (d.found Macro))) (all-starts (data_shift m d r) r.macros qs (macros-changed-all m d r w))
 
 around-edited : (m : PathMap) (d : DebugData) (r : DataReadings) (w : DataMoves m d r)
     → around_of (edited_data (changes_of m (around_of d r) r) d r) (after_reads m d r w) ≡ (data_shift m d r).new
 around-edited m d r w =
     let c : TableChanges = changes_of m (around_of d r) r in
     let qs : Readings = edited_readings (changes_of m (around_of d r) r) (around_of d r) r.units in
-    around-parts d.base (moved_table d.str c.str) (moved_table d.line_str c.line_str) d.lines.number (new_line_cells c d r) (all_places qs) (all_places r.units)
-    (info_numbers (edited_sections d.units qs)) (info_numbers d.units) (indexing_of (edited_data c d r) (after_reads m d r w)) (indexing_of d r)
-    (record { first = first_macros (edited_macro_sections d.macros (macros_after c (around_of d r) r)); starts = macro_starts (macros_after c (around_of d r) r) })
-    (record { first = first_macros d.macros; starts = macro_starts r.macros })
-    (slot_texts d.base.order (moved_table d.str c.str) (offsets_after c (around_of d r) r)) (mapped_slots m (path_slots (around_of d r)) 0 (slot_texts d.base.order d.str r.offsets))
-    (bytes_of (new_line_cells c d r)) (all_lines c.lines) (table_starts (lines-data m d r w).readings) (starts_from 0 c.lines)
-    (all-places (data_shift m d r) r.units qs (units-changed-all m d r w)) (same-infos d.units qs) (indexing-edited m d r w) (places-edited m d r w) (slots-edited m d r w)
+    around-parts d.base (moved_table (d.found Str) (c.new Str)) (moved_table (d.found LineStr) (c.new LineStr)) (d.found Line).number (new_line_cells c d r) (all_places qs) (all_places r.units)
+    (info_numbers (edited_sections (d.found Info) qs)) (info_numbers (d.found Info)) (indexing_of (edited_data c d r) (after_reads m d r w)) (indexing_of d r)
+    (record { first = first_macros (edited_macro_sections (d.found Macro) (macros_after c (around_of d r) r)); starts = macro_starts (macros_after c (around_of d r) r) })
+    (record { first = first_macros (d.found Macro); starts = macro_starts r.macros })
+    (slot_texts d.base.order (moved_table (d.found Str) (c.new Str)) (offsets_after c (around_of d r) r)) (mapped_slots m (path_slots (around_of d r)) 0 (slot_texts d.base.order (d.found Str) r.offsets))
+    (bytes_of (new_line_cells c d r)) (all_lines (c.new Line)) (table_starts (lines-data m d r w).readings) (starts_from 0 (c.new Line))
+    (all-places (data_shift m d r) r.units qs (units-changed-all m d r w)) (same-infos (d.found Info) qs) (indexing-edited m d r w) (places-edited m d r w) (slots-edited m d r w)
     (new-line-bytes m d r) (lines-data m d r w).starts
 
 -- the forms of values stay
@@ -622,12 +616,12 @@ data-reads m d r w =
     let ns : List (Piece NameState) = names_after (changes_of m (around_of d r) r) (around_of d r) r in
     let ms : List MacroReading = macros_after (changes_of m (around_of d r) r) (around_of d r) r in
     record {
-      units = all-changed d.base (data_shift m d r) 0 d.units r.units qs (units-changed-all m d r w) w.reads.units;
-      offsets = offsets-reads (data_shift m d r) (path_slots (around_of d r)) d.base.order d.offsets.contents r.offsets ys (offsets-changed m d r w) w.reads.offsets;
+      units = all-changed d.base (data_shift m d r) 0 (d.found Info) r.units qs (units-changed-all m d r w) w.reads.units;
+      offsets = offsets-reads (data_shift m d r) (path_slots (around_of d r)) d.base.order (d.found StrOffsets).contents r.offsets ys (offsets-changed m d r w) w.reads.offsets;
       lines = subst (TablesTo (line_source (edited_data (changes_of m (around_of d r) r) d r)) 0 (lines-data m d r w).readings)
           (ap length (sym (new-line-bytes m d r))) (lines-data m d r w).are;
-      macros = all-macros-read d.base.order (data_shift m d r) d.macros r.macros ms (macros-changed-all m d r w) w.reads.macros;
-      names = names-reads (data_shift m d r) d.base.order d.names.contents r.names ns (names-changed-all m d r w) w.reads.names;
+      macros = all-macros-read d.base.order (data_shift m d r) (d.found Macro) r.macros ms (macros-changed-all m d r w) w.reads.macros;
+      names = names-reads (data_shift m d r) d.base.order (d.found Names).contents r.names ns (names-changed-all m d r w) w.reads.names;
       texts = subst (λ (a : Around). EachReading (NamesText a) qs) (sym (around-edited m d r w)) (all-names (data_shift m d r) r.units qs (units-changed-all m d r w));
       slot_texts = subst (λ (a : Around). NameTexts (slot_role (path_slots a)) a ys) (sym (around-edited m d r w))
           (roles-named (slot_role (path_slots (around_of d r))) (data_shift m d r) r.offsets ys (offsets-changed m d r w));
@@ -653,12 +647,12 @@ data-mapped m d r w =
 
 -- the slots mean the mapped texts: those that stand with a path in what the units mean
 pub slots-data : (m : PathMap) (d : DebugData) (r : DataReadings) → DataMoves m d r
-    → slot_texts d.base.order (moved_table d.str (changes_of m (around_of d r) r).str) (offsets_after (changes_of m (around_of d r) r) (around_of d r) r)
-    ≡ mapped_slots m (unit_slots (units_of d r)) 0 (slot_texts d.base.order d.str r.offsets)
+    → slot_texts d.base.order (moved_table (d.found Str) ((changes_of m (around_of d r) r).new Str)) (offsets_after (changes_of m (around_of d r) r) (around_of d r) r)
+    ≡ mapped_slots m (unit_slots (units_of d r)) 0 (slot_texts d.base.order (d.found Str) r.offsets)
 unfolding units_of
 slots-data m d r w =
     slots-edited m d r w
-    ∙ ap (λ (ns : List ℕ). mapped_slots m ns 0 (slot_texts d.base.order d.str r.offsets)) (sym (units-slots d.base (around_of d r) 0 d.units r.units refl w.reads.units))
+    ∙ ap (λ (ns : List ℕ). mapped_slots m ns 0 (slot_texts d.base.order (d.found Str) r.offsets)) (sym (units-slots d.base (around_of d r) 0 (d.found Info) r.units refl w.reads.units))
 
 -- macro units mean what they meant
 pub macros-data : (m : PathMap) (d : DebugData) (r : DataReadings) (w : DataMoves m d r)
@@ -670,7 +664,7 @@ macros-data m d r w =
 
 -- and name tables mean what they meant
 pub names-data : (m : PathMap) (d : DebugData) (r : DataReadings) → DataMoves m d r
-    → name_parts d.base.order (moved_table d.str (changes_of m (around_of d r) r).str) (names_after (changes_of m (around_of d r) r) (around_of d r) r)
-    ≡ name_parts d.base.order d.str r.names
+    → name_parts d.base.order (moved_table (d.found Str) ((changes_of m (around_of d r) r).new Str)) (names_after (changes_of m (around_of d r) r) (around_of d r) r)
+    ≡ name_parts d.base.order (d.found Str) r.names
 names-data m d r w =
     names-kept (data_shift m d r) r.names (names_after (changes_of m (around_of d r) r) (around_of d r) r) (names-changed-all m d r w)

@@ -17,6 +17,7 @@ use Rattle.dw_base.specs.UnitPieces.{ReadsUnits, unit_grammar}
 use Rattle.dw_base.specs.UnitStates.{UnitState, before_unit}
 use Rattle.dw_base.specs.ViewData.{Meaning, meaning_of}
 use Rattle.dw_base.specs.MacroReadings.{MacroReading}
+use Rattle.dw_base.specs.declared.debug_sections.DebugSection.TheVariants.{Info, StrOffsets, Macro, Names}
 use Rattle.dw_meaning.proofs.LineOneLaws.{tables-one}
 use Rattle.dw_meaning.proofs.MacroReadLaws.{all-macros-one}
 use Rattle.dw_meaning.proofs.PieceLaws.{ReadsOneWay, chain-unique}
@@ -73,13 +74,13 @@ readings_with units offsets lines macros names = record { units = units; offsets
 -- and so are all sections of debug data
 pub data-one : (d : DebugData) (r q : DataReadings) → DataReads d r → DataReads d q → r ≡ q
 data-one d r q a b =
-    ap (λ (x : Readings). readings_with x r.offsets r.lines r.macros r.names) (readings-one d.base 0 d.units r.units q.units a.units b.units)
+    ap (λ (x : Readings). readings_with x r.offsets r.lines r.macros r.names) (readings-one d.base 0 (d.found Info) r.units q.units a.units b.units)
     ∙ ap (λ (x : List (Piece OffsetState)). readings_with q.units x r.lines r.macros r.names)
-    (offsets-one d.base.order d.offsets.contents r.offsets q.offsets a.offsets b.offsets)
+    (offsets-one d.base.order (d.found StrOffsets).contents r.offsets q.offsets a.offsets b.offsets)
     ∙ ap (λ (x : List LineReading). readings_with q.units q.offsets x r.macros r.names)
     (tables-one (line_source d) 0 (length (line_source d).bytes) r.lines q.lines a.lines b.lines)
-    ∙ ap (λ (x : List MacroReading). readings_with q.units q.offsets q.lines x r.names) (all-macros-one d.base.order d.macros r.macros q.macros a.macros b.macros)
-    ∙ ap (readings_with q.units q.offsets q.lines q.macros) (names-one d.base.order d.names.contents r.names q.names a.names b.names)
+    ∙ ap (λ (x : List MacroReading). readings_with q.units q.offsets q.lines x r.names) (all-macros-one d.base.order (d.found Macro) r.macros q.macros a.macros b.macros)
+    ∙ ap (readings_with q.units q.offsets q.lines q.macros) (names-one d.base.order (d.found Names).contents r.names q.names a.names b.names)
 
 -- whatever is read in a file says the same
 pub means-one : (b : List ℕ) (x y : Meaning) → Means b x → Means b y → x ≡ y

@@ -28,6 +28,7 @@ use Rattle.dw_meaning.proofs.ScanBackLaws.{section-scanned}
 use Rattle.dw_meaning.proofs.ScanSectionLaws.{HeaderPlaced, header-placed}
 use Rattle.dw_meaning.proofs.UnitOneLaws.{header-tests, header-shorter}
 use Rattle.dw_base.proofs.UnitRowLaws.{UnitsRead, read_to, NextUnit, header-same, next-determined, units-reach, no_cells-header, units-exclude}
+use Rattle.dw_base.specs.declared.debug_sections.DebugSection.TheVariants.{Info}
 
 -- units with tables and entries are units
 pub scanned-units : (base : UnitBase) (z : UnitSection) (list : List UnitHeader) (place : ℕ) → UnitsScanned base z list place → UnitsUpTo base z list place
@@ -127,7 +128,7 @@ any-readings : (rs : Readings) → EachReading Any rs
 any-readings [] = tt
 any-readings (r ∷ rs) = (any-pieces r.pieces, any-readings rs)
 
-section-of : (d : DebugData) (rs : DataReadings) (z : UnitSection) (before behind : List UnitSection) → DataReads d rs → d.units ≡ before ++ z ∷ behind
+section-of : (d : DebugData) (rs : DataReadings) (z : UnitSection) (before behind : List UnitSection) → DataReads d rs → d.found Info ≡ before ++ z ∷ behind
     → SectionRead d.base z Any
 section-of d rs z before behind reads split =
     section-among d.base Any 0 before behind z rs.units (subst (λ (zs : List UnitSection). ReadsAll d.base 0 zs rs.units) split reads.units) (any-readings rs.units)

@@ -34,10 +34,11 @@ use Rattle.dw_meaning.proofs.LayoutRowLaws.{layout_excludes}
 use Rattle.dw_meaning.proofs.OffsetRowLaws.{offsets-exclude}
 use Rattle.dw_meaning.proofs.RelocationLaws.{relocations_exclude}
 use Rattle.dw_base.proofs.ElfLaws.{elf_excludes}
+use Rattle.dw_base.specs.declared.debug_sections.DebugSection.TheVariants.{Str, LineStr, StrOffsets}
 use Rattle.dw_meaning.proofs.ValueRowLaws.{texts-exclude, inline-excludes}
 
 -- the order of a file's debug data is that of its view
-file-offsets : (b : List ℕ) (q : DataReadings) → DataReads (file_data b) q → ReadsOffsets (view_of b).order (file_data b).offsets.contents q.offsets
+file-offsets : (b : List ℕ) (q : DataReadings) → DataReads (file_data b) q → ReadsOffsets (view_of b).order ((file_data b).found StrOffsets).contents q.offsets
 unfolding debug_data
 file-offsets b q h = h.offsets
 
@@ -48,7 +49,7 @@ file-excludes m b r a (loaded_row i e lt l) = a.unloaded i lt l
 file-excludes m b r a (units_row e f) = data-excludes (file_data b) a.readings r a.reads.data_reads f
 file-excludes m b r a (texts_row e f) = texts-exclude (file_data b) a.readings r a.reads.data_reads f
 file-excludes m b r a (string_tables_row e f) =
-    string_tables-exclude (view_of b).order (file_data b).offsets a.readings.offsets r (file-offsets b a.readings a.reads.data_reads)
+    string_tables-exclude (view_of b).order ((file_data b).found StrOffsets) a.readings.offsets r (file-offsets b a.readings a.reads.data_reads)
     (subst (λ (z : Located). ContributionsFail (view_of b).order z r) (sym (offsets-located (view_of b))) f)
 file-excludes m b r a (slots_row e f) = slot_texts-exclude (file_data b) a.readings r a.reads.data_reads f
 file-excludes m b r a (lines_row e f) = lines-exclude (file_data b) a.readings.lines r a.reads.data_reads.lines f
@@ -70,7 +71,7 @@ edit-excludes m b r a (line_table_row readings before behind t reads split f) =
     by_readings readings same reads.data_reads split f
   where
     by_readings : (rs : DataReadings) → rs ≡ a.readings → DataReads (file_data b) rs → rs.lines ≡ before ++ t ∷ behind
-        → WriteFails (line_source (file_data b)) m (line_place m (changes_of m (around_of (file_data b) rs) rs).str (changes_of m (around_of (file_data b) rs) rs).line_str (line_source (file_data b)))
+        → WriteFails (line_source (file_data b)) m (line_place m ((changes_of m (around_of (file_data b) rs) rs).new Str) ((changes_of m (around_of (file_data b) rs) rs).new LineStr) (line_source (file_data b)))
         (table_read (line_source (file_data b)) t) r → ⊥
     by_readings rs same reads split f =
         let c : TableChanges = changes_of m (around_of (file_data b) rs) rs in
@@ -81,7 +82,7 @@ edit-excludes m b r a (line_table_row readings before behind t reads split f) =
         let can : EachCan (line_source (file_data b)) m (changes_of m (around_of (file_data b) rs) rs) (before ++ t ∷ behind) =
         subst (EachCan (line_source (file_data b)) m (changes_of m (around_of (file_data b) rs) rs)) split
         (each-can m (changes_of m (around_of (file_data b) rs) rs) (file_data b) rs rs.lines fits.lines) in
-        write-excludes (line_source (file_data b)) m (line_place m (changes_of m (around_of (file_data b) rs) rs).str (changes_of m (around_of (file_data b) rs) rs).line_str (line_source (file_data b)))
+        write-excludes (line_source (file_data b)) m (line_place m ((changes_of m (around_of (file_data b) rs) rs).new Str) ((changes_of m (around_of (file_data b) rs) rs).new LineStr) (line_source (file_data b)))
         among.start t r among.reads (can-among (line_source (file_data b)) m (changes_of m (around_of (file_data b) rs) rs) before behind t can) f
 edit-excludes m b r a (addends_row readings reads fits f) =
     let same : readings ≡ a.readings = data-one (file_data b) readings a.readings reads.data_reads a.reads.data_reads in

@@ -23,6 +23,7 @@ use Rattle.dw_base.specs.StringTables.{new_place}
 use Rattle.dw_base.specs.NewOffsets.{by_addend, moved_addend, moved_relocation, symbol_value, with_offset, with_offset_by, with_relocation}
 use Rattle.dw_base.specs.TextChanges.{TableChanges, change_of, edited_all, edited_by, mention_at, moved_start}
 use Rattle.dw_base.specs.UnitStates.{UnitState}
+use Rattle.dw_base.specs.declared.debug_sections.DebugSection.TheVariants.{Line}
 use Rattle.dw_base.specs.declared.shared.Class.{Class}
 use Rattle.dw_base.specs.declared.shared.Class.TheVariants.{C32, C64}
 use Rattle.dw_base.specs.declared.shared.Order.{Order}
@@ -170,7 +171,7 @@ edited-stays (offset table path) g c around p h = by_asks ((change_of c table).p
 edited-stays inline_path g c around p h = all-bytes g p _ h
 edited-stays line_start g c around p h = by_table (line_table around p)
   where
-    by_table : (o : Option ℕ) → AllStay g p (moved_start (starts_from 0 c.lines) around.lasting.base.order o p)
+    by_table : (o : Option ℕ) → AllStay g p (moved_start (starts_from 0 (c.new Line)) around.lasting.base.order o p)
     by_table None = all-self g p h
     by_table (Some k) = put-stays g around.lasting.base.order p _ h
 

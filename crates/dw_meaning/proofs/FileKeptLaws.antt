@@ -75,19 +75,19 @@ new_line_tables m b r = all_lines (new_lines m (around_file b r) r)
 
 -- the five sections with new bytes that hold no units
 abbrev pub str_new : PathMap → List ℕ → DataReadings → Body
-str_new m b r = record { number = (file_data b).str.number; bytes = new_str m b r }
+str_new m b r = record { number = ((file_data b).found Str).number; bytes = new_str m b r }
 
 abbrev pub line_new : PathMap → List ℕ → DataReadings → Body
-line_new m b r = record { number = (file_data b).line_str.number; bytes = new_line_str m b r }
+line_new m b r = record { number = ((file_data b).found LineStr).number; bytes = new_line_str m b r }
 
 abbrev pub offsets_new : PathMap → List ℕ → DataReadings → Body
-offsets_new m b r = record { number = (file_data b).offsets.number; bytes = bytes_of (new_offsets m b r) }
+offsets_new m b r = record { number = ((file_data b).found StrOffsets).number; bytes = bytes_of (new_offsets m b r) }
 
 abbrev pub tables_new : PathMap → List ℕ → DataReadings → Body
-tables_new m b r = record { number = (file_data b).lines.number; bytes = new_line_tables m b r }
+tables_new m b r = record { number = ((file_data b).found Line).number; bytes = new_line_tables m b r }
 
 abbrev pub names_new : PathMap → List ℕ → DataReadings → Body
-names_new m b r = record { number = (file_data b).names.number; bytes = bytes_of (new_names m b r) }
+names_new m b r = record { number = ((file_data b).found Names).number; bytes = bytes_of (new_names m b r) }
 
 -- macro units with moved fields, and their sections
 abbrev pub new_macros : PathMap → List ℕ → DataReadings → List MacroReading
@@ -122,11 +122,11 @@ unfolding new_body new_bodies
 body-open m b r i = refl
 
 -- where the sections lie
-pub str-place : (b : List ℕ) → TablePlace b (name_of Str) (file_data b).str
+pub str-place : (b : List ℕ) → TablePlace b (name_of Str) ((file_data b).found Str)
 unfolding debug_data
 str-place b = table-place b Str
 
-pub line-place : (b : List ℕ) → TablePlace b (name_of LineStr) (file_data b).line_str
+pub line-place : (b : List ℕ) → TablePlace b (name_of LineStr) ((file_data b).found LineStr)
 unfolding debug_data
 line-place b = table-place b LineStr
 
@@ -140,15 +140,15 @@ pub names-place : (b : List ℕ) → TablePlace b (name_of Names) (located (view
 names-place b = table-place b Names
 
 -- the numbers of those that are read as pieces
-pub offsets-number : (b : List ℕ) → (file_data b).offsets.number ≡ (located (view_of b) StrOffsets).number
+pub offsets-number : (b : List ℕ) → ((file_data b).found StrOffsets).number ≡ (located (view_of b) StrOffsets).number
 unfolding debug_data located
 offsets-number b = number-cells (view_of b) (section_named (view_of b) (name_of StrOffsets))
 
-pub lines-number : (b : List ℕ) → (file_data b).lines.number ≡ (located (view_of b) Line).number
+pub lines-number : (b : List ℕ) → ((file_data b).found Line).number ≡ (located (view_of b) Line).number
 unfolding debug_data located
 lines-number b = number-cells (view_of b) (section_named (view_of b) (name_of Line))
 
-pub names-number : (b : List ℕ) → (file_data b).names.number ≡ (located (view_of b) Names).number
+pub names-number : (b : List ℕ) → ((file_data b).found Names).number ≡ (located (view_of b) Names).number
 unfolding debug_data located
 names-number b = number-cells (view_of b) (section_named (view_of b) (name_of Names))
 
@@ -157,19 +157,19 @@ pub name-apart : (b name : List ℕ) (z : Located) (i : ℕ) → TablePlace b na
 name-apart b name z i (nowhere zero none) some other same = omega (arith, same, zero, some)
 name-apart b name z i (lies_at there within named bytes) some other same = other (ap (section_name b) same ∙ named)
 
-pub tables-apart : (b : List ℕ) → 0 < (file_data b).line_str.number → section_name b (file_data b).line_str.number ≡ name_of LineStr
-    → (file_data b).line_str.number ≢ (file_data b).str.number
+pub tables-apart : (b : List ℕ) → 0 < ((file_data b).found LineStr).number → section_name b ((file_data b).found LineStr).number ≡ name_of LineStr
+    → ((file_data b).found LineStr).number ≢ ((file_data b).found Str).number
 tables-apart b there named =
-    name-apart b (name_of Str) (file_data b).str (file_data b).line_str.number (str-place b) there (λ (e : section_name b (file_data b).line_str.number ≡ name_of Str). differ (sym named ∙ e))
+    name-apart b (name_of Str) ((file_data b).found Str) ((file_data b).found LineStr).number (str-place b) there (λ (e : section_name b ((file_data b).found LineStr).number ≡ name_of Str). differ (sym named ∙ e))
   where
     differ : name_of LineStr ≡ name_of Str → ⊥
     differ e = cc
 
 -- and that of the second is another than the first, where a text is in it
-pub texts-apart : (b : List ℕ) (at : ℕ) → ends_in (file_data b).line_str.bytes at ≡ true → (file_data b).line_str.number ≢ (file_data b).str.number
+pub texts-apart : (b : List ℕ) (at : ℕ) → ends_in ((file_data b).found LineStr).bytes at ≡ true → ((file_data b).found LineStr).number ≢ ((file_data b).found Str).number
 texts-apart b at ends = by_place (line-place b)
   where
-    by_place : TablePlace b (name_of LineStr) (file_data b).line_str → (file_data b).line_str.number ≢ (file_data b).str.number
+    by_place : TablePlace b (name_of LineStr) ((file_data b).found LineStr) → ((file_data b).found LineStr).number ≢ ((file_data b).found Str).number
     by_place (nowhere zero none) =
         let inside : ends_in [] at ≡ true = ap (λ (t : List ℕ). ends_in t at) (sym none) ∙ ends in
         absurd (omega (arith, ends_in-inside [] at inside))
@@ -182,12 +182,12 @@ lines_no m table b r w none =
     lines-none (line_source (file_data b)) table 0 (length (line_source (file_data b)).bytes) r.lines (texts-apart b) none w.reads.data_reads.lines
 
 -- a table that isn't there has no new bytes
-pub str-none : (m : PathMap) (b : List ℕ) (r : DataReadings) → CanMap m b r → (file_data b).str.bytes ≡ [] → new_str m b r ≡ []
+pub str-none : (m : PathMap) (b : List ℕ) (r : DataReadings) → CanMap m b r → ((file_data b).found Str).bytes ≡ [] → new_str m b r ≡ []
 str-none m b r w none = new_table-none m in_str (around_of (file_data b) r) r none w.reads.data_reads.texts w.reads.data_reads.slot_texts w.reads.data_reads.name_texts
     w.reads.data_reads.macro_texts
     (lines_no m in_str b r w none)
 
-pub line-none : (m : PathMap) (b : List ℕ) (r : DataReadings) → CanMap m b r → (file_data b).line_str.bytes ≡ [] → new_line_str m b r ≡ []
+pub line-none : (m : PathMap) (b : List ℕ) (r : DataReadings) → CanMap m b r → ((file_data b).found LineStr).bytes ≡ [] → new_line_str m b r ≡ []
 line-none m b r w none = new_table-none m in_line_str (around_of (file_data b) r) r none w.reads.data_reads.texts w.reads.data_reads.slot_texts w.reads.data_reads.name_texts
     w.reads.data_reads.macro_texts
     (lines_no m in_line_str b r w none)
@@ -210,22 +210,22 @@ edited-none role c around xs cells bs own bytes none =
     let size : length cells ≡ 0 = sym (length-bytes_of cells) ∙ ap length (bytes ∙ none) in
     length-none (joined (edited_with role c around xs)) (edited-length role c around xs ∙ ap length own ∙ size)
 
-offsets-bytes : (b : List ℕ) → bytes_of (file_data b).offsets.contents ≡ (located (view_of b) StrOffsets).bytes
+offsets-bytes : (b : List ℕ) → bytes_of ((file_data b).found StrOffsets).contents ≡ (located (view_of b) StrOffsets).bytes
 unfolding debug_data located
 offsets-bytes b = bytes-cells (view_of b) (section_named (view_of b) (name_of StrOffsets))
 
-names-bytes : (b : List ℕ) → bytes_of (file_data b).names.contents ≡ (located (view_of b) Names).bytes
+names-bytes : (b : List ℕ) → bytes_of ((file_data b).found Names).contents ≡ (located (view_of b) Names).bytes
 unfolding debug_data located
 names-bytes b = bytes-cells (view_of b) (section_named (view_of b) (name_of Names))
 
 pub offsets-none : (m : PathMap) (b : List ℕ) (r : DataReadings) → CanMap m b r → (located (view_of b) StrOffsets).bytes ≡ [] → new_offsets m b r ≡ []
 offsets-none m b r w none =
-    edited-none (slot_role (path_slots (around_file b r))) (changes_file m b r) (around_file b r) r.offsets (file_data b).offsets.contents (located (view_of b) StrOffsets).bytes
+    edited-none (slot_role (path_slots (around_file b r))) (changes_file m b r) (around_file b r) r.offsets ((file_data b).found StrOffsets).contents (located (view_of b) StrOffsets).bytes
     w.reads.data_reads.offsets.cells (offsets-bytes b) none
 
 pub names-none : (m : PathMap) (b : List ℕ) (r : DataReadings) → CanMap m b r → (located (view_of b) Names).bytes ≡ [] → new_names m b r ≡ []
 names-none m b r w none =
-    edited-none name_role (changes_file m b r) (around_file b r) r.names (file_data b).names.contents (located (view_of b) Names).bytes
+    edited-none name_role (changes_file m b r) (around_file b r) r.names ((file_data b).found Names).contents (located (view_of b) Names).bytes
     w.reads.data_reads.names.cells (names-bytes b) none
 
 -- nor line tables
@@ -257,49 +257,49 @@ pub next-body : (x : Body) (xs : List Body) (old : ℕ → List ℕ) (i : ℕ) �
 next-body x xs old i other = rw (ne_eqb i x.number other) refl
 
 -- the new body of the first table
-pub body-str : (m : PathMap) (b : List ℕ) (r : DataReadings) → new_body m b r (file_data b).str.number ≡ new_str m b r
-body-str m b r = body-open m b r (file_data b).str.number ∙ here-body (str_new m b r) (behind_str m b r) (contents_of b) (file_data b).str.number refl
+pub body-str : (m : PathMap) (b : List ℕ) (r : DataReadings) → new_body m b r ((file_data b).found Str).number ≡ new_str m b r
+body-str m b r = body-open m b r ((file_data b).found Str).number ∙ here-body (str_new m b r) (behind_str m b r) (contents_of b) ((file_data b).found Str).number refl
 
 -- of the second, where it is there
-pub body-line : (m : PathMap) (b : List ℕ) (r : DataReadings) → (file_data b).line_str.number ≢ (file_data b).str.number
-    → new_body m b r (file_data b).line_str.number ≡ new_line_str m b r
+pub body-line : (m : PathMap) (b : List ℕ) (r : DataReadings) → ((file_data b).found LineStr).number ≢ ((file_data b).found Str).number
+    → new_body m b r ((file_data b).found LineStr).number ≡ new_line_str m b r
 body-line m b r other =
-    body-open m b r (file_data b).line_str.number ∙ next-body (str_new m b r) (behind_str m b r) (contents_of b) (file_data b).line_str.number other
-    ∙ here-body (line_new m b r) (behind_line m b r) (contents_of b) (file_data b).line_str.number refl
+    body-open m b r ((file_data b).found LineStr).number ∙ next-body (str_new m b r) (behind_str m b r) (contents_of b) ((file_data b).found LineStr).number other
+    ∙ here-body (line_new m b r) (behind_line m b r) (contents_of b) ((file_data b).found LineStr).number refl
 
 -- of string offsets, and of name tables
-pub body-offsets : (m : PathMap) (b : List ℕ) (r : DataReadings) (i : ℕ) → i ≡ (file_data b).offsets.number → i ≢ (file_data b).str.number → i ≢ (file_data b).line_str.number
+pub body-offsets : (m : PathMap) (b : List ℕ) (r : DataReadings) (i : ℕ) → i ≡ ((file_data b).found StrOffsets).number → i ≢ ((file_data b).found Str).number → i ≢ ((file_data b).found LineStr).number
     → new_body m b r i ≡ bytes_of (new_offsets m b r)
 body-offsets m b r i same str line =
     body-open m b r i ∙ next-body (str_new m b r) (behind_str m b r) (contents_of b) i str ∙ next-body (line_new m b r) (behind_line m b r) (contents_of b) i line
     ∙ here-body (offsets_new m b r) (behind_offsets m b r) (contents_of b) i same
 
-pub body-tables : (m : PathMap) (b : List ℕ) (r : DataReadings) (i : ℕ) → i ≡ (file_data b).lines.number → i ≢ (file_data b).str.number → i ≢ (file_data b).line_str.number
-    → i ≢ (file_data b).offsets.number → new_body m b r i ≡ new_line_tables m b r
+pub body-tables : (m : PathMap) (b : List ℕ) (r : DataReadings) (i : ℕ) → i ≡ ((file_data b).found Line).number → i ≢ ((file_data b).found Str).number → i ≢ ((file_data b).found LineStr).number
+    → i ≢ ((file_data b).found StrOffsets).number → new_body m b r i ≡ new_line_tables m b r
 body-tables m b r i same str line offsets =
     body-open m b r i ∙ next-body (str_new m b r) (behind_str m b r) (contents_of b) i str ∙ next-body (line_new m b r) (behind_line m b r) (contents_of b) i line
     ∙ next-body (offsets_new m b r) (behind_offsets m b r) (contents_of b) i offsets ∙ here-body (tables_new m b r) (behind_lines m b r) (contents_of b) i same
 
-pub body-names : (m : PathMap) (b : List ℕ) (r : DataReadings) (i : ℕ) → i ≡ (file_data b).names.number → i ≢ (file_data b).str.number → i ≢ (file_data b).line_str.number
-    → i ≢ (file_data b).offsets.number → i ≢ (file_data b).lines.number → new_body m b r i ≡ bytes_of (new_names m b r)
+pub body-names : (m : PathMap) (b : List ℕ) (r : DataReadings) (i : ℕ) → i ≡ ((file_data b).found Names).number → i ≢ ((file_data b).found Str).number → i ≢ ((file_data b).found LineStr).number
+    → i ≢ ((file_data b).found StrOffsets).number → i ≢ ((file_data b).found Line).number → new_body m b r i ≡ bytes_of (new_names m b r)
 body-names m b r i same str line offsets tables =
     body-open m b r i ∙ next-body (str_new m b r) (behind_str m b r) (contents_of b) i str ∙ next-body (line_new m b r) (behind_line m b r) (contents_of b) i line
     ∙ next-body (offsets_new m b r) (behind_offsets m b r) (contents_of b) i offsets ∙ next-body (tables_new m b r) (behind_lines m b r) (contents_of b) i tables
     ∙ here-body (names_new m b r) (behind_names m b r) (contents_of b) i same
 
 -- of a section that is none of the tables of texts
-pub body-pieces : (m : PathMap) (b : List ℕ) (r : DataReadings) (i : ℕ) → i ≢ (file_data b).str.number → i ≢ (file_data b).line_str.number
+pub body-pieces : (m : PathMap) (b : List ℕ) (r : DataReadings) (i : ℕ) → i ≢ ((file_data b).found Str).number → i ≢ ((file_data b).found LineStr).number
     → new_body m b r i ≡ body_in (offsets_new m b r ∷ tables_new m b r ∷ names_new m b r ∷ (macros_new m b r ++ units_new m b r)) (contents_of b) i
 body-pieces m b r i str line =
     body-open m b r i ∙ next-body (str_new m b r) (behind_str m b r) (contents_of b) i str ∙ next-body (line_new m b r) (behind_line m b r) (contents_of b) i line
 
 -- the number is that of none of them
 pub record IsApart (b : List ℕ) (i : ℕ) : Type 0 where
-  pub str : i ≢ (file_data b).str.number
-  pub line : i ≢ (file_data b).line_str.number
-  pub offsets : i ≢ (file_data b).offsets.number
-  pub lines : i ≢ (file_data b).lines.number
-  pub names : i ≢ (file_data b).names.number
+  pub str : i ≢ ((file_data b).found Str).number
+  pub line : i ≢ ((file_data b).found LineStr).number
+  pub offsets : i ≢ ((file_data b).found StrOffsets).number
+  pub lines : i ≢ ((file_data b).found Line).number
+  pub names : i ≢ ((file_data b).found Names).number
 
 -- the new body of every other section
 pub body-other : (m : PathMap) (b : List ℕ) (r : DataReadings) (i : ℕ) → IsApart b i → new_body m b r i ≡ body_in (behind_names m b r) (contents_of b) i
@@ -312,8 +312,8 @@ body-other m b r i a =
 pub named-apart : (b : List ℕ) (i : ℕ) → 0 < i → section_name b i ≢ name_of Str → section_name b i ≢ name_of LineStr → section_name b i ≢ name_of StrOffsets
     → section_name b i ≢ name_of Line → section_name b i ≢ name_of Names → IsApart b i
 named-apart b i some str line offsets tables names = record {
-  str = name-apart b (name_of Str) (file_data b).str i (str-place b) some str;
-  line = name-apart b (name_of LineStr) (file_data b).line_str i (line-place b) some line;
+  str = name-apart b (name_of Str) ((file_data b).found Str) i (str-place b) some str;
+  line = name-apart b (name_of LineStr) ((file_data b).found LineStr) i (line-place b) some line;
   offsets = subst (λ (n : ℕ). i ≢ n) (sym (offsets-number b)) (name-apart b (name_of StrOffsets) (located (view_of b) StrOffsets) i (offsets-place b) some offsets);
   lines = subst (λ (n : ℕ). i ≢ n) (sym (lines-number b)) (name-apart b (name_of Line) (located (view_of b) Line) i (tables-place b) some tables);
   names = subst (λ (n : ℕ). i ≢ n) (sym (names-number b)) (name-apart b (name_of Names) (located (view_of b) Names) i (names-place b) some names);
@@ -392,9 +392,9 @@ new-kept : (m : PathMap) (b : List ℕ) (r : DataReadings) (i : ℕ) → CanMap 
 new-kept m b r i w lt unread =
     body-open m b r i
     ∙ keep-body (str_new m b r) (behind_str m b r) (contents_of b) i
-    (unread-same m b r i Str (file_data b).str (new_str m b r) w lt refl unread (str-none m b r w) (str-place b))
+    (unread-same m b r i Str ((file_data b).found Str) (new_str m b r) w lt refl unread (str-none m b r w) (str-place b))
     (keep-body (line_new m b r) (behind_line m b r) (contents_of b) i
-    (unread-same m b r i LineStr (file_data b).line_str (new_line_str m b r) w lt refl unread (line-none m b r w) (line-place b))
+    (unread-same m b r i LineStr ((file_data b).found LineStr) (new_line_str m b r) w lt refl unread (line-none m b r w) (line-place b))
     (keep-body (offsets_new m b r) (behind_offsets m b r) (contents_of b) i
     (λ same. unread-same m b r i StrOffsets (located (view_of b) StrOffsets) (bytes_of (new_offsets m b r)) w lt refl unread
     (λ none. ap bytes_of (offsets-none m b r w none)) (offsets-place b) (same ∙ offsets-number b))
@@ -513,7 +513,7 @@ located-back m b r out s w back =
 
 -- the two tables have their new bytes
 pub str-back : (m : PathMap) (b : List ℕ) (r : DataReadings) (out : List ℕ) → CanMap m b r → ReadsBack b (file_body m b r) out
-    → (file_data out).str ≡ record { number = (file_data b).str.number; bytes = new_str m b r }
+    → (file_data out).found Str ≡ record { number = ((file_data b).found Str).number; bytes = new_str m b r }
 unfolding debug_data
 str-back m b r out w back = by_place (located-back m b r out Str w back)
   where
@@ -527,7 +527,7 @@ str-back m b r out w back = by_place (located-back m b r out Str w back)
 
 -- no two tables of texts are in one section
 pub line-back : (m : PathMap) (b : List ℕ) (r : DataReadings) (out : List ℕ) → CanMap m b r → ReadsBack b (file_body m b r) out
-    → (file_data out).line_str ≡ record { number = (file_data b).line_str.number; bytes = new_line_str m b r }
+    → (file_data out).found LineStr ≡ record { number = ((file_data b).found LineStr).number; bytes = new_line_str m b r }
 unfolding debug_data
 line-back m b r out w back = by_place (located-back m b r out LineStr w back)
   where
@@ -579,8 +579,8 @@ pub body-lines : (m : PathMap) (b : List ℕ) (r : DataReadings) → 0 < (locate
     → new_body m b r (located (view_of b) Line).number ≡ new_line_tables m b r
 body-lines m b r there named =
     body-tables m b r (located (view_of b) Line).number (sym (lines-number b))
-    (name-apart b (name_of Str) (file_data b).str (located (view_of b) Line).number (str-place b) there (λ e. str_no (differ Line Str (sym named ∙ e))))
-    (name-apart b (name_of LineStr) (file_data b).line_str (located (view_of b) Line).number (line-place b) there (λ e. line_no (differ Line LineStr (sym named ∙ e))))
+    (name-apart b (name_of Str) ((file_data b).found Str) (located (view_of b) Line).number (str-place b) there (λ e. str_no (differ Line Str (sym named ∙ e))))
+    (name-apart b (name_of LineStr) ((file_data b).found LineStr) (located (view_of b) Line).number (line-place b) there (λ e. line_no (differ Line LineStr (sym named ∙ e))))
     (subst (λ (n : ℕ). (located (view_of b) Line).number ≢ n) (sym (offsets-number b))
     (name-apart b (name_of StrOffsets) (located (view_of b) StrOffsets) (located (view_of b) Line).number (offsets-place b) there (λ e. offsets_no (differ Line StrOffsets (sym named ∙ e)))))
   where
@@ -605,20 +605,20 @@ lines-apart m b r w = by_lines r.lines w.reads.data_reads.lines
 
     by_place : TablePlace b (name_of Line) (located (view_of b) Line) → (x : LineReading) (xs : List LineReading)
         → TablesTo (line_source (file_data b)) 0 (x ∷ xs) (length (line_source (file_data b)).bytes)
-        → ((located (view_of b) Line).number ≢ (file_data b).str.number) × ((located (view_of b) Line).number ≢ (file_data b).line_str.number)
+        → ((located (view_of b) Line).number ≢ ((file_data b).found Str).number) × ((located (view_of b) Line).number ≢ ((file_data b).found LineStr).number)
     by_place (nowhere zero none) x xs reads = absurd (some_none (no-tables (line_source (file_data b)) (x ∷ xs) (line-bytes b ∙ none) reads))
       where
         some_none : ◌≡◌ {A = List LineReading} (x ∷ xs) [] → ⊥
         some_none e = cc
     by_place (lies_at there within named bytes) x xs reads = (
-      name-apart b (name_of Str) (file_data b).str (located (view_of b) Line).number (str-place b) there (λ e. str_no (differ Line Str (sym named ∙ e))),
-      name-apart b (name_of LineStr) (file_data b).line_str (located (view_of b) Line).number (line-place b) there (λ e. line_no (differ Line LineStr (sym named ∙ e))),
+      name-apart b (name_of Str) ((file_data b).found Str) (located (view_of b) Line).number (str-place b) there (λ e. str_no (differ Line Str (sym named ∙ e))),
+      name-apart b (name_of LineStr) ((file_data b).found LineStr) (located (view_of b) Line).number (line-place b) there (λ e. line_no (differ Line LineStr (sym named ∙ e))),
     )
 
     by_lines : (xs : List LineReading) → TablesTo (line_source (file_data b)) 0 xs (length (line_source (file_data b)).bytes) → TablesApart (line_source (file_data b)) xs
     by_lines [] reads = tt
     by_lines (x ∷ xs) reads =
-        subst (λ (n : ℕ). (n ≢ (file_data b).str.number) × (n ≢ (file_data b).line_str.number)) (sym (lines-number b)) (by_place (tables-place b) x xs reads)
+        subst (λ (n : ℕ). (n ≢ ((file_data b).found Str).number) × (n ≢ ((file_data b).found LineStr).number)) (sym (lines-number b)) (by_place (tables-place b) x xs reads)
 
 -- a section of macro units has no other name
 pub macro-apart : (b : List ℕ) (i : ℕ) (s : DebugSection) → is_macro (Some s) ≡ false → is_macro (debug_section (section_name b i)) ≡ true → section_name b i ≢ name_of s

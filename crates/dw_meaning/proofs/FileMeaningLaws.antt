@@ -22,7 +22,7 @@ use Rattle.dw_base.specs.UnitHeaders.{UnitSection}
 use Rattle.dw_base.specs.UnitMeanings.{UnitMeaning, units_of}
 use Rattle.dw_base.specs.ViewData.{is_read, located, debug_data, NamedBytes, other_sections, bytes_named, without_id, Meaning, meaning_of, mapped}
 use Rattle.dw_base.specs.declared.debug_sections.DebugSection.{DebugSection}
-use Rattle.dw_base.specs.declared.debug_sections.DebugSection.TheVariants.{Abbrev, Str, LineStr, Line}
+use Rattle.dw_base.specs.declared.debug_sections.DebugSection.TheVariants.{Info, Abbrev, Str, LineStr, StrOffsets, Line, Macro, Names}
 use Rattle.dw_base.specs.declared.shared.Order.{Order}
 use Rattle.dw_meaning.proofs.DataKeptLaws.{DataMoves, edited_data, new_line_cells, edited_readings, after_reads, lines-data, edited_sections, data-reads, data-mapped, slots-data, macros-data, names-data}
 use Rattle.dw_meaning.proofs.DataOneLaws.{means-one}
@@ -38,6 +38,7 @@ use Rattle.dw_meaning.proofs.LineShiftLaws.{left-clear}
 use Rattle.dw_base.proofs.SectionLaws.{length-contents}
 use Rattle.dw_meaning.proofs.SectionsBackLaws.{sections-back}
 use Rattle.dw_meaning.proofs.TableKeptLaws.{TablePlace, nowhere, lies_at}
+use Rattle.dw_meaning.proofs.DataParts.{found_with}
 
 -- the units of the output
 abbrev pub new_units : PathMap → List ℕ → DataReadings → Readings
@@ -50,10 +51,10 @@ order-back m b r out back = order-view_of out ∙ back.order ∙ sym (order-view
 -- debug data by their parts
 abbrev data_with : Order → Located → List UnitSection → Located → Located → CellSection → CellSection → List CellSection → CellSection → DebugData
 data_with order abbrevs units str line offsets lines macros names =
-    record { base = record { order = order; abbrevs = abbrevs }; units = units; str = str; line_str = line; offsets = offsets; lines = lines; macros = macros; names = names }
+    record { base = record { order = order; abbrevs = abbrevs }; found = found_with units str line offsets lines macros names }
 
-data-parts : (b : List ℕ) → file_data b ≡ data_with (view_of b).order (located (view_of b) Abbrev) (file_data b).units (file_data b).str (file_data b).line_str
-    (file_data b).offsets (file_data b).lines (file_data b).macros (file_data b).names
+data-parts : (b : List ℕ) → file_data b ≡ data_with (view_of b).order (located (view_of b) Abbrev) ((file_data b).found Info) ((file_data b).found Str) ((file_data b).found LineStr)
+    ((file_data b).found StrOffsets) ((file_data b).found Line) ((file_data b).found Macro) ((file_data b).found Names)
 unfolding debug_data
 data-parts b = refl
 
@@ -65,10 +66,10 @@ same-parts o p a c us vs s t l k x y i j ms ks n q e1 e2 e3 e4 e5 e6 e7 e8 e9 =
     ∙ ap (λ (z : CellSection). data_with p c vs t k y z ms n) e7 ∙ ap (λ (z : List CellSection). data_with p c vs t k y j z n) e8 ∙ ap (data_with p c vs t k y j ks) e9
 
 edited-parts : (m : PathMap) (b : List ℕ) (r : DataReadings) → data_with (view_of b).order (located (view_of b) Abbrev)
-    (edited_sections (file_data b).units (new_units m b r)) (record { number = (file_data b).str.number; bytes = new_str m b r })
-    (record { number = (file_data b).line_str.number; bytes = new_line_str m b r }) (record { number = (file_data b).offsets.number; contents = new_offsets m b r })
-    (record { number = (file_data b).lines.number; contents = new_line_cells (changes_file m b r) (file_data b) r }) (edited_macro_sections (file_data b).macros (new_macros m b r))
-    (record { number = (file_data b).names.number; contents = new_names m b r }) ≡ edited_data (changes_file m b r) (file_data b) r
+    (edited_sections ((file_data b).found Info) (new_units m b r)) (record { number = ((file_data b).found Str).number; bytes = new_str m b r })
+    (record { number = ((file_data b).found LineStr).number; bytes = new_line_str m b r }) (record { number = ((file_data b).found StrOffsets).number; contents = new_offsets m b r })
+    (record { number = ((file_data b).found Line).number; contents = new_line_cells (changes_file m b r) (file_data b) r }) (edited_macro_sections ((file_data b).found Macro) (new_macros m b r))
+    (record { number = ((file_data b).found Names).number; contents = new_names m b r }) ≡ edited_data (changes_file m b r) (file_data b) r
 unfolding debug_data
 edited-parts m b r = refl
 
@@ -82,27 +83,27 @@ table-body m b r s i w lt named =
 str-small : (m : PathMap) (b : List ℕ) (r : DataReadings) (out : List ℕ) → CanMap m b r → ReadsBack b (file_body m b r) out → length out ≤ output_limit → length (new_str m b r) ≤ 2 ^ 32
 str-small m b r out w back small = by_place (str-place b)
   where
-    by_place : TablePlace b (name_of Str) (file_data b).str → length (new_str m b r) ≤ 2 ^ 32
+    by_place : TablePlace b (name_of Str) ((file_data b).found Str) → length (new_str m b r) ≤ 2 ^ 32
     by_place (nowhere zero none) =
         let size : length (new_str m b r) ≡ 0 = ap length (str-none m b r w none) in
         omega (arith, size)
     by_place (lies_at there within named bytes) =
-        let here : contents_of out (file_data b).str.number ≡ new_str m b r = back.contents (file_data b).str.number within ∙ table-body m b r Str (file_data b).str.number w within named ∙ body-str m b r in
-        let size : length (contents_of out (file_data b).str.number) ≡ length (new_str m b r) = ap length here in
-        omega (arith, size, length-contents out (file_data b).str.number, small)
+        let here : contents_of out ((file_data b).found Str).number ≡ new_str m b r = back.contents ((file_data b).found Str).number within ∙ table-body m b r Str ((file_data b).found Str).number w within named ∙ body-str m b r in
+        let size : length (contents_of out ((file_data b).found Str).number) ≡ length (new_str m b r) = ap length here in
+        omega (arith, size, length-contents out ((file_data b).found Str).number, small)
 
 line-small : (m : PathMap) (b : List ℕ) (r : DataReadings) (out : List ℕ) → CanMap m b r → ReadsBack b (file_body m b r) out → length out ≤ output_limit → length (new_line_str m b r) ≤ 2 ^ 32
 line-small m b r out w back small = by_place (line-place b)
   where
-    by_place : TablePlace b (name_of LineStr) (file_data b).line_str → length (new_line_str m b r) ≤ 2 ^ 32
+    by_place : TablePlace b (name_of LineStr) ((file_data b).found LineStr) → length (new_line_str m b r) ≤ 2 ^ 32
     by_place (nowhere zero none) =
         let size : length (new_line_str m b r) ≡ 0 = ap length (line-none m b r w none) in
         omega (arith, size)
     by_place (lies_at there within named bytes) =
-        let here : contents_of out (file_data b).line_str.number ≡ new_line_str m b r =
-        back.contents (file_data b).line_str.number within ∙ table-body m b r LineStr (file_data b).line_str.number w within named ∙ body-line m b r (tables-apart b there named) in
-        let size : length (contents_of out (file_data b).line_str.number) ≡ length (new_line_str m b r) = ap length here in
-        omega (arith, size, length-contents out (file_data b).line_str.number, small)
+        let here : contents_of out ((file_data b).found LineStr).number ≡ new_line_str m b r =
+        back.contents ((file_data b).found LineStr).number within ∙ table-body m b r LineStr ((file_data b).found LineStr).number w within named ∙ body-line m b r (tables-apart b there named) in
+        let size : length (contents_of out ((file_data b).found LineStr).number) ≡ length (new_line_str m b r) = ap length here in
+        omega (arith, size, length-contents out ((file_data b).found LineStr).number, small)
 
 lines-small : (m : PathMap) (b : List ℕ) (r : DataReadings) (out : List ℕ) → CanMap m b r → ReadsBack b (file_body m b r) out → length out ≤ output_limit
     → length (new_line_tables m b r) ≤ 2 ^ 32
@@ -125,13 +126,13 @@ pub data-back : (m : PathMap) (b : List ℕ) (r : DataReadings) (out : List ℕ)
 data-back m b r out w back small =
     let lines : length (new_line_tables m b r) ≤ 2 ^ 32 = lines-small m b r out w back small in
     data-parts out
-    ∙ same-parts (view_of out).order (view_of b).order (located (view_of out) Abbrev) (located (view_of b) Abbrev) (file_data out).units
-    (edited_sections (file_data b).units (new_units m b r)) (file_data out).str (record { number = (file_data b).str.number; bytes = new_str m b r })
-    (file_data out).line_str (record { number = (file_data b).line_str.number; bytes = new_line_str m b r })
-    (file_data out).offsets (record { number = (file_data b).offsets.number; contents = new_offsets m b r })
-    (file_data out).lines (record { number = (file_data b).lines.number; contents = new_line_cells (changes_file m b r) (file_data b) r })
-    (file_data out).macros (edited_macro_sections (file_data b).macros (new_macros m b r))
-    (file_data out).names (record { number = (file_data b).names.number; contents = new_names m b r })
+    ∙ same-parts (view_of out).order (view_of b).order (located (view_of out) Abbrev) (located (view_of b) Abbrev) ((file_data out).found Info)
+    (edited_sections ((file_data b).found Info) (new_units m b r)) ((file_data out).found Str) (record { number = ((file_data b).found Str).number; bytes = new_str m b r })
+    ((file_data out).found LineStr) (record { number = ((file_data b).found LineStr).number; bytes = new_line_str m b r })
+    ((file_data out).found StrOffsets) (record { number = ((file_data b).found StrOffsets).number; contents = new_offsets m b r })
+    ((file_data out).found Line) (record { number = ((file_data b).found Line).number; contents = new_line_cells (changes_file m b r) (file_data b) r })
+    ((file_data out).found Macro) (edited_macro_sections ((file_data b).found Macro) (new_macros m b r))
+    ((file_data out).found Names) (record { number = ((file_data b).found Names).number; contents = new_names m b r })
     (order-back m b r out back) (abbrev-back m b r out w back) (units-back m b r out w back lines) (str-back m b r out w back) (line-back m b r out w back)
     (offsets-back m b r out w back lines) (tables-back m b r out w back lines) (macros-back m b r out w back lines) (names-section m b r out w back lines)
     ∙ edited-parts m b r

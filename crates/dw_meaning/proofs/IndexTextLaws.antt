@@ -20,6 +20,7 @@ use Rattle.std.specs.Prelude.{◌||◌}
 use Rattle.std.proofs.lemmas.Bool.{eq-eqb}
 use Rattle.dw_base.proofs.OffsetChangeLaws.{slot-before, slot-header, slot-text}
 use Rattle.dw_base.proofs.UnitEditLaws.{Shift, SlotBecomes, IndexBecomes, PieceSlot}
+use Rattle.dw_base.specs.declared.debug_sections.DebugSection.TheVariants.{Str, StrOffsets}
 use Rattle.dw_meaning.proofs.TextEditLaws.{shift_of, SlotMoves}
 
 -- an attribute says a path where it is a path's
@@ -56,7 +57,7 @@ holds-own n = rw (eq-eqb n n refl) refl
 -- a text that a slot has stays when it is mapped, where a path and another value name the slot
 abbrev pub IsApart : PathMap → Around → Type 0
 IsApart m around = (n : ℕ) → holds_number (path_slots around) n ≡ true → holds_number (other_slots around) n ≡ true
-    → mapped_path m (get_or around.slots n []) ≡ get_or around.slots n []
+    → mapped_path m (get_or (around.stands StrOffsets) n []) ≡ get_or (around.stands StrOffsets) n []
 
 -- from slot to slot
 abbrev ApartFrom : PathMap → List ℕ → List ℕ → ℕ → List (List ℕ) → Type 0
@@ -65,7 +66,7 @@ ApartFrom m paths others first ts = (n : ℕ) → holds_number paths (first + n)
 
 apart-step : (mode : OffsetMode) (m : PathMap) (around : Around) (order : Order) (s : OffsetState) (p : List Cell) (rest : List (List ℕ))
     → SlotFitsBy mode m around s.slot p → ApartFrom m (path_slots around) (other_slots around) (past_offsets mode order s p).slot rest
-    → ApartFrom m (path_slots around) (other_slots around) s.slot (slot_text mode around.lasting.base.order around.str p ++ rest)
+    → ApartFrom m (path_slots around) (other_slots around) s.slot (slot_text mode around.lasting.base.order (around.stands Str) p ++ rest)
 apart-step at_contribution m around order s p rest fits apart n path other = from n path other
   where
     from : ApartFrom m (path_slots around) (other_slots around) s.slot rest
@@ -80,15 +81,15 @@ apart-step (at_slot width end) m around order s p rest fits apart (suc n) path o
 apart-step no_offsets m around order s p rest fits apart n path other = apart n path other
 
 slots-apart : (m : PathMap) (around : Around) (order : Order) (s : OffsetState) (xs : List (Piece OffsetState)) → mapped_path m [] ≡ [] → Chain (offset_grammar order) s xs
-    → EachPiece (SlotFits m around) xs → ApartFrom m (path_slots around) (other_slots around) s.slot (slot_texts around.lasting.base.order around.str xs)
+    → EachPiece (SlotFits m around) xs → ApartFrom m (path_slots around) (other_slots around) s.slot (slot_texts around.lasting.base.order (around.stands Str) xs)
 slots-apart m around order s [] none chain fits = λ n path other. none
 slots-apart m around order s (x ∷ xs) none chain fits =
-    subst (λ (z : OffsetState). ApartFrom m (path_slots around) (other_slots around) z.slot (slot_texts around.lasting.base.order around.str (x ∷ xs))) chain.0
-    (apart-step x.state.mode m around order x.state x.cells (slot_texts around.lasting.base.order around.str xs) fits.0
+    subst (λ (z : OffsetState). ApartFrom m (path_slots around) (other_slots around) z.slot (slot_texts around.lasting.base.order (around.stands Str) (x ∷ xs))) chain.0
+    (apart-step x.state.mode m around order x.state x.cells (slot_texts around.lasting.base.order (around.stands Str) xs) fits.0
     (slots-apart m around order (past_offsets x.state.mode order x.state x.cells) xs none chain.2 fits.1))
 
 pub texts-apart : (m : PathMap) (around : Around) (order : Order) (s : OffsetState) (xs : List (Piece OffsetState)) → mapped_path m [] ≡ [] → Chain (offset_grammar order) s xs
-    → EachPiece (SlotFits m around) xs → s.slot ≡ 0 → around.slots ≡ slot_texts around.lasting.base.order around.str xs → IsApart m around
+    → EachPiece (SlotFits m around) xs → s.slot ≡ 0 → around.stands StrOffsets ≡ slot_texts around.lasting.base.order (around.stands Str) xs → IsApart m around
 texts-apart m around order s xs none chain fits first is n path other =
     let number : n ≡ s.slot + n = omega (arith, first) in
     subst (λ (ts : List (List ℕ)). mapped_path m (get_or ts n []) ≡ get_or ts n []) (sym is)
@@ -104,23 +105,23 @@ use-moves : (lc : List Cell) (c : TableChanges) (around : Around) (o : Option �
     → (path ≡ false → (n : ℕ) → holds_number (listed_slot o) n ≡ true → holds_number (other_slots around) n ≡ true) → SlotBecomes o path (shift_of c around lc)
 use-moves lc c around None path none apart named other = tt
 use-moves lc c around (Some n) path none apart named other =
-    slot-text c.map (path_slots around) around.slots path n none (λ e. named e n (holds-own n)) (λ e here. apart n here (other e n (holds-own n)))
+    slot-text c.map (path_slots around) (around.stands StrOffsets) path n none (λ e. named e n (holds-own n)) (λ e here. apart n here (other e n (holds-own n)))
 
 -- what the first of more uses names is among what all name
 uses-move : (lc : List Cell) (c : TableChanges) (around : Around) (us : List IndexUse) → mapped_path c.map [] ≡ [] → IsApart c.map around
-    → ((n : ℕ) → holds_number (slots_named true around.lasting.indexing us) n ≡ true → holds_number (path_slots around) n ≡ true)
-    → ((n : ℕ) → holds_number (slots_named false around.lasting.indexing us) n ≡ true → holds_number (other_slots around) n ≡ true)
+    → ((n : ℕ) → holds_number (slots_named true (around.lasting.kept StrOffsets) us) n ≡ true → holds_number (path_slots around) n ≡ true)
+    → ((n : ℕ) → holds_number (slots_named false (around.lasting.kept StrOffsets) us) n ≡ true → holds_number (other_slots around) n ≡ true)
     → EachUse (UseMoves (shift_of c around lc)) us
 uses-move lc c around [] none apart named other = tt
 uses-move lc c around (u ∷ us) none apart named other = (
-  use-moves lc c around (slot_of around.lasting.indexing u.unit u.index) u.path none apart
-      (λ e n h. named n (holds-front (if u.path then listed_slot (slot_of around.lasting.indexing u.unit u.index) else []) (slots_named true around.lasting.indexing us) n
-      (subst (λ (b : Bool). holds_number (if b then listed_slot (slot_of around.lasting.indexing u.unit u.index) else []) n ≡ true) (sym e) h)))
-      (λ e n h. other n (holds-front (if u.path then [] else listed_slot (slot_of around.lasting.indexing u.unit u.index)) (slots_named false around.lasting.indexing us) n
-      (subst (λ (b : Bool). holds_number (if b then [] else listed_slot (slot_of around.lasting.indexing u.unit u.index)) n ≡ true) (sym e) h))),
+  use-moves lc c around (slot_of (around.lasting.kept StrOffsets) u.unit u.index) u.path none apart
+      (λ e n h. named n (holds-front (if u.path then listed_slot (slot_of (around.lasting.kept StrOffsets) u.unit u.index) else []) (slots_named true (around.lasting.kept StrOffsets) us) n
+      (subst (λ (b : Bool). holds_number (if b then listed_slot (slot_of (around.lasting.kept StrOffsets) u.unit u.index) else []) n ≡ true) (sym e) h)))
+      (λ e n h. other n (holds-front (if u.path then [] else listed_slot (slot_of (around.lasting.kept StrOffsets) u.unit u.index)) (slots_named false (around.lasting.kept StrOffsets) us) n
+      (subst (λ (b : Bool). holds_number (if b then [] else listed_slot (slot_of (around.lasting.kept StrOffsets) u.unit u.index)) n ≡ true) (sym e) h))),
   uses-move lc c around us none apart
-      (λ n h. named n (holds-behind (if u.path then listed_slot (slot_of around.lasting.indexing u.unit u.index) else []) (slots_named true around.lasting.indexing us) n h))
-      (λ n h. other n (holds-behind (if u.path then [] else listed_slot (slot_of around.lasting.indexing u.unit u.index)) (slots_named false around.lasting.indexing us) n h)),
+      (λ n h. named n (holds-behind (if u.path then listed_slot (slot_of (around.lasting.kept StrOffsets) u.unit u.index) else []) (slots_named true (around.lasting.kept StrOffsets) us) n h))
+      (λ n h. other n (holds-behind (if u.path then [] else listed_slot (slot_of (around.lasting.kept StrOffsets) u.unit u.index)) (slots_named false (around.lasting.kept StrOffsets) us) n h)),
 )
 
 -- uses of pieces one after another
@@ -158,6 +159,6 @@ readings-move c (r ∷ rs) h =
 
 -- so it is for all values of units
 pub slots-move : (lc : List Cell) (c : TableChanges) (around : Around) (rs : Readings) → mapped_path c.map [] ≡ [] → IsApart c.map around
-    → around.lasting.indexing.uses ≡ index_uses around.lasting.base.order rs → EachReading (SlotMoves (shift_of c around lc)) rs
+    → (around.lasting.kept StrOffsets).uses ≡ index_uses around.lasting.base.order rs → EachReading (SlotMoves (shift_of c around lc)) rs
 slots-move lc c around rs none apart all =
-    readings-move (shift_of c around lc) rs (subst (EachUse (UseMoves (shift_of c around lc))) all (uses-move lc c around around.lasting.indexing.uses none apart (λ n h. h) (λ n h. h)))
+    readings-move (shift_of c around lc) rs (subst (EachUse (UseMoves (shift_of c around lc))) all (uses-move lc c around (around.lasting.kept StrOffsets).uses none apart (λ n h. h) (λ n h. h)))

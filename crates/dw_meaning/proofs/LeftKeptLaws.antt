@@ -22,6 +22,7 @@ use Rattle.dw_base.specs.UnitStates.{Mode, UnitState, at_chosen, at_code, at_hea
 use Rattle.dw_base.specs.declared.shared.Order.{Order}
 use Rattle.dw_base.specs.declared.shared.Params.{Params}
 use Rattle.dw_base.proofs.UnitEditLaws.{Shift, length-bytes_of}
+use Rattle.dw_base.specs.declared.debug_sections.DebugSection.TheVariants.{Info, StrOffsets, Line, Macro, Names}
 use Rattle.dw_meaning.specs.DataOutput.{changes_of, names_after, offsets_after}
 use Rattle.dw_meaning.specs.RelocationFails.{LeftRelocationsRead}
 use Rattle.dw_meaning.proofs.AlikeCellLaws.{fields-alike, roles-alike, units-alike}
@@ -160,12 +161,12 @@ old-macros shift c around order (y ∷ ys) (r ∷ rs) (b ∷ bs) behind z reads 
 
 -- each kind of section
 pub units-left : (m : PathMap) (d : DebugData) (r : DataReadings) (w : DataMoves m d r) (moving : List ℕ) → LeftRelocationsRead d moving
-    → (before behind : List UnitSection) (z : UnitSection) (first : ℕ) (ys : List (Piece UnitState)) → (edited_data (changes_of m (around_of d r) r) d r).units ≡ before ++ z ∷ behind
+    → (before behind : List UnitSection) (z : UnitSection) (first : ℕ) (ys : List (Piece UnitState)) → (edited_data (changes_of m (around_of d r) r) d r).found Info ≡ before ++ z ∷ behind
     → ReadsUnits d.base z first ys → FieldsRead d.base.order z.contents moving (unit_fields d.base.order ys)
 units-left m d r w moving left before behind z first ys split reads =
     let c : TableChanges = changes_of m (around_of d r) r in
-    let o : OldUnits (changes_of m (around_of d r) r) (around_of d r) d.base d.units z =
-    old-units (data_shift m d r) (changes_of m (around_of d r) r) (around_of d r) d.base 0 d.units r.units before behind z w.reads.units (units-changed-all m d r w) split in
+    let o : OldUnits (changes_of m (around_of d r) r) (around_of d r) d.base (d.found Info) z =
+    old-units (data_shift m d r) (changes_of m (around_of d r) r) (around_of d r) d.base 0 (d.found Info) r.units before behind z w.reads.units (units-changed-all m d r w) split in
     let fields : unit_fields d.base.order ys ≡ unit_fields d.base.order o.pieces =
     same-fields d.base.order d.base z first o.first ys (edited_all (changes_of m (around_of d r) r) (around_of d r) o.pieces) reads o.new
     ∙ units-fields d.base.order (changes_of m (around_of d r) r) (around_of d r) o.pieces in
@@ -178,11 +179,11 @@ units-left m d r w moving left before behind z first ys split reads =
     (units-alike (changes_of m (around_of d r) r) (around_of d r) o.pieces) old))
 
 pub macros-left : (m : PathMap) (d : DebugData) (r : DataReadings) (w : DataMoves m d r) (moving : List ℕ) → LeftRelocationsRead d moving
-    → (before behind : List CellSection) (z : CellSection) (ys : List (Piece MacroState)) → (edited_data (changes_of m (around_of d r) r) d r).macros ≡ before ++ z ∷ behind
+    → (before behind : List CellSection) (z : CellSection) (ys : List (Piece MacroState)) → (edited_data (changes_of m (around_of d r) r) d r).found Macro ≡ before ++ z ∷ behind
     → ReadsMacros d.base.order z.contents ys → FieldsRead d.base.order z.contents moving (macro_fields ys)
 macros-left m d r w moving left before behind z ys split reads =
-    let o : OldMacros (changes_of m (around_of d r) r) (around_of d r) d.base.order d.macros z =
-    old-macros (data_shift m d r) (changes_of m (around_of d r) r) (around_of d r) d.base.order d.macros r.macros before behind z w.reads.macros (macros-changed-all m d r w) split in
+    let o : OldMacros (changes_of m (around_of d r) r) (around_of d r) d.base.order (d.found Macro) z =
+    old-macros (data_shift m d r) (changes_of m (around_of d r) r) (around_of d r) d.base.order (d.found Macro) r.macros before behind z w.reads.macros (macros-changed-all m d r w) split in
     let fields : macro_fields ys ≡ macro_fields o.pieces =
     ap macro_fields (macros-one d.base.order z.contents ys (edited_with macro_role (changes_of m (around_of d r) r) (around_of d r) o.pieces) reads o.new)
     ∙ macros-fields macro_role (changes_of m (around_of d r) r) (around_of d r) o.pieces in
@@ -194,8 +195,8 @@ macros-left m d r w moving left before behind z ys split reads =
     (roles-alike macro_role (changes_of m (around_of d r) r) (around_of d r) o.pieces) old))
 
 pub slots-left : (m : PathMap) (d : DebugData) (r : DataReadings) (w : DataMoves m d r) (moving : List ℕ) → LeftRelocationsRead d moving → (ys : List (Piece OffsetState))
-    → ReadsOffsets d.base.order (edited_data (changes_of m (around_of d r) r) d r).offsets.contents ys
-    → FieldsRead d.base.order (edited_data (changes_of m (around_of d r) r) d r).offsets.contents moving (slot_fields ys)
+    → ReadsOffsets d.base.order ((edited_data (changes_of m (around_of d r) r) d r).found StrOffsets).contents ys
+    → FieldsRead d.base.order ((edited_data (changes_of m (around_of d r) r) d r).found StrOffsets).contents moving (slot_fields ys)
 slots-left m d r w moving left ys reads =
     let now : List (Piece OffsetState) = offsets_after (changes_of m (around_of d r) r) (around_of d r) r in
     let fields : slot_fields ys ≡ slot_fields r.offsets =
@@ -209,8 +210,8 @@ slots-left m d r w moving left ys reads =
     (roles-alike (slot_role (path_slots (around_of d r))) (changes_of m (around_of d r) r) (around_of d r) r.offsets) old)
 
 pub names-left : (m : PathMap) (d : DebugData) (r : DataReadings) (w : DataMoves m d r) (moving : List ℕ) → LeftRelocationsRead d moving → (ys : List (Piece NameState))
-    → ReadsNames d.base.order (edited_data (changes_of m (around_of d r) r) d r).names.contents ys
-    → FieldsRead d.base.order (edited_data (changes_of m (around_of d r) r) d r).names.contents moving (name_fields ys)
+    → ReadsNames d.base.order ((edited_data (changes_of m (around_of d r) r) d r).found Names).contents ys
+    → FieldsRead d.base.order ((edited_data (changes_of m (around_of d r) r) d r).found Names).contents moving (name_fields ys)
 names-left m d r w moving left ys reads =
     let fields : name_fields ys ≡ name_fields r.names =
     ap name_fields (names-one d.base.order (joined (names_after (changes_of m (around_of d r) r) (around_of d r) r)) ys (names_after (changes_of m (around_of d r) r) (around_of d r) r) reads
@@ -233,12 +234,12 @@ lines-whole m d r w =
 
 pub line-headers-left : (m : PathMap) (d : DebugData) (r : DataReadings) (w : DataMoves m d r) (before : List LineReading) (start : ℕ) (t : LineReading)
     → TablesTo (after_lines m d r) 0 before start → ReadsTable (after_lines m d r) start t
-    → HeaderReads t.header.start t.behind (edited_data (changes_of m (around_of d r) r) d r).lines.contents (table_fields (after_lines m d r) t)
+    → HeaderReads t.header.start t.behind ((edited_data (changes_of m (around_of d r) r) d r).found Line).contents (table_fields (after_lines m d r) t)
 line-headers-left m d r w before start t up reads =
     any-headers (after_lines m d r) (lines-data m d r w).readings before start t refl refl (lines-whole m d r w) (lines-data m d r w).clear up reads
 
 pub lines-left : (m : PathMap) (d : DebugData) (r : DataReadings) (w : DataMoves m d r) (moving : List ℕ) → LeftRelocationsRead d moving → (ts : List LineReading)
-    → AreTables (after_lines m d r) ts → FieldsRead d.base.order (edited_data (changes_of m (around_of d r) r) d r).lines.contents moving (line_fields (after_lines m d r) ts)
+    → AreTables (after_lines m d r) ts → FieldsRead d.base.order ((edited_data (changes_of m (around_of d r) r) d r).found Line).contents moving (line_fields (after_lines m d r) ts)
 lines-left m d r w moving left ts are =
     any-lines (after_lines m d r) (lines-data m d r w).readings ts moving refl refl (lines-whole m d r w) (lines-data m d r w).clear
     (lines-keep (line_source d) (after_lines m d r) (length (line_source d).bytes) (length (after_lines m d r).bytes) r.lines (lines-data m d r w).readings moving w.reads.lines

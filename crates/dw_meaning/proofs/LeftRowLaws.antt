@@ -24,6 +24,7 @@ use Rattle.dw_base.specs.declared.units.UnitHeader.{UnitHeader}
 use Rattle.dw_base.specs.declared.values.Spec.{Spec}
 use Rattle.dw_base.specs.declared.values.Value.{Value}
 use Rattle.dw_base.proofs.UnitHeaderLaws.{header-inside, if-inside, initial-more, spelled-more}
+use Rattle.dw_base.specs.declared.debug_sections.DebugSection.TheVariants.{Info}
 use Rattle.dw_meaning.specs.DataOutput.{DataReads}
 use Rattle.dw_meaning.specs.RelocationFails.{LeftRelocationsRead, ValueRelocationsRead, kind_there}
 use Rattle.dw_meaning.proofs.DataRowLaws.{SectionRead, WholeUnit, section-among, unit-whole}
@@ -57,7 +58,7 @@ any-readings (r ∷ rs) = (any-pieces r.pieces, any-readings rs)
 
 -- the pieces of a section, each of whose offsets reads
 section-reads : (d : DebugData) (rs : DataReadings) (moving : List ℕ) (before behind : List UnitSection) (z : UnitSection) → DataReads d rs → LeftRelocationsRead d moving
-    → d.units ≡ before ++ z ∷ behind → SectionRead d.base z (Reads d z)
+    → d.found Info ≡ before ++ z ∷ behind → SectionRead d.base z (Reads d z)
 section-reads d rs moving before behind z reads left split =
     let r : SectionRead d.base z Any =
     section-among d.base Any 0 before behind z rs.units (subst (λ (zs : List UnitSection). ReadsAll d.base 0 zs rs.units) split reads.units) (any-readings rs.units) in
@@ -173,7 +174,7 @@ header-met d rs moving z h f u reads left is =
         ap (λ (x : FieldPlace). x.use_is) (sym same)
 
 pub headers-left : (d : DebugData) (rs : DataReadings) (moving : List ℕ) → DataReads d rs → LeftRelocationsRead d moving
-    → (before behind : List UnitSection) (z : UnitSection) → d.units ≡ before ++ z ∷ behind → HeaderOffsetsRead d.base z
+    → (before behind : List UnitSection) (z : UnitSection) → d.found Info ≡ before ++ z ∷ behind → HeaderOffsetsRead d.base z
 headers-left d rs moving reads left before behind z split = record {
   all = λ list h start f units is own.
       header-met d rs moving z h f (record { before = before; behind = behind; sections = split; list = list; start = start; units = units; is = is }) reads left own;

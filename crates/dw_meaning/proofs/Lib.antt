@@ -1,4 +1,5 @@
 pub mod WorkedParts
+pub mod DataParts
 pub mod BuildIdLaws
 pub mod LoadedLaws
 pub mod WorkedNotes

@@ -20,6 +20,7 @@ use Rattle.dw_base.proofs.PlainCellLaws.{IsPlain, bytes_of-plain, plain-append, 
 use Rattle.dw_base.proofs.RelocationFieldLaws.{bytes_of-drop, bytes_of-take}
 use Rattle.dw_base.proofs.UnitEditLaws.{length-bytes_of}
 use Rattle.dw_base.proofs.UnitHeaderLaws.{bytes_of-append}
+use Rattle.dw_base.specs.declared.debug_sections.DebugSection.TheVariants.{Str, LineStr}
 use Rattle.dw_meaning.specs.LineCells.{CellChange, all_path_cells, changed_cells, header_cells, inline_cells, offset_cells, path_cells, rest_cells, written_cells, all_written_cells}
 
 -- parts one after another
@@ -237,20 +238,20 @@ written-is g m places t plain =
 
 -- the new tables, one behind another
 pub all-bytes : (c : TableChanges) (g : LineSource) (rs : List LineReading) → bytes_of g.cells ≡ g.bytes
-    → bytes_of (all_written_cells g c.map (line_place c.map c.str c.line_str g) rs) ≡ all_lines (lines_after c.map c.str c.line_str g rs)
+    → bytes_of (all_written_cells g c.map (line_place c.map (c.new Str) (c.new LineStr) g) rs) ≡ all_lines (lines_after c.map (c.new Str) (c.new LineStr) g rs)
 all-bytes c g [] own = refl
 all-bytes c g (r ∷ rs) own =
-    bytes_of-append (written_cells g c.map (line_place c.map c.str c.line_str g) (table_read g r)) (all_written_cells g c.map (line_place c.map c.str c.line_str g) rs)
-    ∙ ap (λ (x : List ℕ). x ++ bytes_of (all_written_cells g c.map (line_place c.map c.str c.line_str g) rs))
-    (written-bytes g c.map (line_place c.map c.str c.line_str g) (table_read g r) own)
-    ∙ ap (λ (x : List ℕ). written_table g c.map (line_place c.map c.str c.line_str g) (table_read g r) ++ x) (all-bytes c g rs own)
+    bytes_of-append (written_cells g c.map (line_place c.map (c.new Str) (c.new LineStr) g) (table_read g r)) (all_written_cells g c.map (line_place c.map (c.new Str) (c.new LineStr) g) rs)
+    ∙ ap (λ (x : List ℕ). x ++ bytes_of (all_written_cells g c.map (line_place c.map (c.new Str) (c.new LineStr) g) rs))
+    (written-bytes g c.map (line_place c.map (c.new Str) (c.new LineStr) g) (table_read g r) own)
+    ∙ ap (λ (x : List ℕ). written_table g c.map (line_place c.map (c.new Str) (c.new LineStr) g) (table_read g r) ++ x) (all-bytes c g rs own)
 
 pub all-plain : (c : TableChanges) (g : LineSource) (rs : List LineReading) → bytes_of g.cells ≡ g.bytes → IsPlain g.cells
-    → all_written_cells g c.map (line_place c.map c.str c.line_str g) rs ≡ plain_cells (all_lines (lines_after c.map c.str c.line_str g rs))
+    → all_written_cells g c.map (line_place c.map (c.new Str) (c.new LineStr) g) rs ≡ plain_cells (all_lines (lines_after c.map (c.new Str) (c.new LineStr) g rs))
 all-plain c g rs own plain = (all-is rs).plain ∙ ap plain_cells (all-bytes c g rs own)
   where
-    all-is : (xs : List LineReading) → IsPlain (all_written_cells g c.map (line_place c.map c.str c.line_str g) xs)
+    all-is : (xs : List LineReading) → IsPlain (all_written_cells g c.map (line_place c.map (c.new Str) (c.new LineStr) g) xs)
     all-is [] = plain_cells-plain []
     all-is (x ∷ xs) =
-        plain-append (written_cells g c.map (line_place c.map c.str c.line_str g) (table_read g x)) (all_written_cells g c.map (line_place c.map c.str c.line_str g) xs)
-        (written-is g c.map (line_place c.map c.str c.line_str g) (table_read g x) plain) (all-is xs)
+        plain-append (written_cells g c.map (line_place c.map (c.new Str) (c.new LineStr) g) (table_read g x)) (all_written_cells g c.map (line_place c.map (c.new Str) (c.new LineStr) g) xs)
+        (written-is g c.map (line_place c.map (c.new Str) (c.new LineStr) g) (table_read g x) plain) (all-is xs)

@@ -28,6 +28,7 @@ use Rattle.dw_base.proofs.PathLaws.{has_nul-mapped_path}
 use Rattle.dw_base.proofs.TableLaws.{is_in-texts_after, is_in-with_mention}
 use Rattle.dw_base.proofs.TextLaws.{has_nul-text_in, ends_in-inside, text_in-place_in, ends_in-place_in, place_in-lt}
 use Rattle.dw_base.specs.RelocationFields.{relocation_at}
+use Rattle.dw_base.specs.declared.debug_sections.DebugSection.TheVariants.{Str, LineStr}
 use Rattle.dw_meaning.specs.NewAddends.{EachPathMakes, EachTableMakes, MakesPath}
 use Rattle.dw_meaning.proofs.FieldCellLaws.{makes-takes}
 use Rattle.dw_meaning.proofs.LineColumnLaws.{texts_in, OffsetMoves, MovesIn, PathMoves, TakesPlace, ColumnIs, inline_is, offset_is, value_is, column-is}
@@ -171,8 +172,8 @@ asked-moves m c z w x is t there = by_asks (c.plan.asks (path_in z.bytes x)) ref
 -- what holds of the changes of both
 pub record BothMove (c : TableChanges) (g : LineSource) : Type 0 where
   pub map : IsPathMap c.map
-  pub str : TableMoves c.map c.str g.str
-  pub line_str : TableMoves c.map c.line_str g.line_str
+  pub str : TableMoves c.map (c.new Str) g.str
+  pub line_str : TableMoves c.map (c.new LineStr) g.line_str
 
 -- and the records of relocations at offsets can make the new places
 abbrev pub TakesIn : LineSource → Width → ℕ → Option ℕ → Bool → Type 0
@@ -189,42 +190,42 @@ AllTake g places (r ∷ rs) = EachTakes g places r.header.width (r.dirs ++ texts
 
 path-moves : (c : TableChanges) (g : LineSource) (w : Width) (ts us : List (List ℕ)) (ms ns : List Mention) (x : TextPlace) → BothMove c g
     → TextsAre c ts us (mention_in g in_str x ++ ms) (mention_in g in_line_str x ++ ns)
-    → TakesIn g w x.field (line_place c.map c.str c.line_str g x) (x.section == g.number)
-    → PathMoves g c.map (new_table c.str.plan c.str.texts) (new_table c.line_str.plan c.line_str.texts) w (line_place c.map c.str c.line_str g) x
+    → TakesIn g w x.field (line_place c.map (c.new Str) (c.new LineStr) g x) (x.section == g.number)
+    → PathMoves g c.map (new_table (c.new Str).plan (c.new Str).texts) (new_table (c.new LineStr).plan (c.new LineStr).texts) w (line_place c.map (c.new Str) (c.new LineStr) g) x
 path-moves c g w ts us ms ns x both all takes = by_section (x.section == g.number) (x.section == g.str.number) all takes
   where
     by_section : (a b : Bool)
         → TextsAre c ts us ((if a then [] else (if b then path_in g.str.bytes x ∷ [] else [])) ++ ms) ((if a then [] else (if b then [] else path_in g.line_str.bytes x ∷ [])) ++ ns)
-        → TakesIn g w x.field (if b then asked_place c.str c.map (path_in g.str.bytes x) else asked_place c.line_str c.map (path_in g.line_str.bytes x)) a
-        → MovesIn g c.map (new_table c.str.plan c.str.texts) (new_table c.line_str.plan c.line_str.texts) w x
-        (if b then asked_place c.str c.map (path_in g.str.bytes x) else asked_place c.line_str c.map (path_in g.line_str.bytes x)) a b
+        → TakesIn g w x.field (if b then asked_place (c.new Str) c.map (path_in g.str.bytes x) else asked_place (c.new LineStr) c.map (path_in g.line_str.bytes x)) a
+        → MovesIn g c.map (new_table (c.new Str).plan (c.new Str).texts) (new_table (c.new LineStr).plan (c.new LineStr).texts) w x
+        (if b then asked_place (c.new Str) c.map (path_in g.str.bytes x) else asked_place (c.new LineStr) c.map (path_in g.line_str.bytes x)) a b
     by_section true b all takes = tt
     by_section false true all takes = (
-      asked-moves c.map c.str g.str w x both.map both.str (λ asks.
+      asked-moves c.map (c.new Str) g.str w x both.map both.str (λ asks.
           subst (λ (vs : List (List ℕ)). is_in vs (new_text c.map (path_in g.str.bytes x)) ≡ true) (sym all.str)
-          (is_in-texts_after c.str.plan c.map (with_mention c.str.plan c.map ts (path_in g.str.bytes x)) ms (new_text c.map (path_in g.str.bytes x))
-          (is_in-with_mention c.str.plan c.map ts (path_in g.str.bytes x) asks))),
+          (is_in-texts_after (c.new Str).plan c.map (with_mention (c.new Str).plan c.map ts (path_in g.str.bytes x)) ms (new_text c.map (path_in g.str.bytes x))
+          (is_in-with_mention (c.new Str).plan c.map ts (path_in g.str.bytes x) asks))),
       takes,
     )
     by_section false false all takes = (
-      asked-moves c.map c.line_str g.line_str w x both.map both.line_str (λ asks.
+      asked-moves c.map (c.new LineStr) g.line_str w x both.map both.line_str (λ asks.
           subst (λ (vs : List (List ℕ)). is_in vs (new_text c.map (path_in g.line_str.bytes x)) ≡ true) (sym all.line_str)
-          (is_in-texts_after c.line_str.plan c.map (with_mention c.line_str.plan c.map us (path_in g.line_str.bytes x)) ns (new_text c.map (path_in g.line_str.bytes x))
-          (is_in-with_mention c.line_str.plan c.map us (path_in g.line_str.bytes x) asks))),
+          (is_in-texts_after (c.new LineStr).plan c.map (with_mention (c.new LineStr).plan c.map us (path_in g.line_str.bytes x)) ns (new_text c.map (path_in g.line_str.bytes x))
+          (is_in-with_mention (c.new LineStr).plan c.map us (path_in g.line_str.bytes x) asks))),
       takes,
     )
 
 pub paths-move : (c : TableChanges) (g : LineSource) (w : Width) (ts us : List (List ℕ)) (ms ns : List Mention) (xs : List TextPlace) → BothMove c g
-    → TextsAre c ts us (paths_mentions g in_str xs ++ ms) (paths_mentions g in_line_str xs ++ ns) → EachTakes g (line_place c.map c.str c.line_str g) w xs
-    → EachMoves g c.map (new_table c.str.plan c.str.texts) (new_table c.line_str.plan c.line_str.texts) w (line_place c.map c.str c.line_str g) xs
+    → TextsAre c ts us (paths_mentions g in_str xs ++ ms) (paths_mentions g in_line_str xs ++ ns) → EachTakes g (line_place c.map (c.new Str) (c.new LineStr) g) w xs
+    → EachMoves g c.map (new_table (c.new Str).plan (c.new Str).texts) (new_table (c.new LineStr).plan (c.new LineStr).texts) w (line_place c.map (c.new Str) (c.new LineStr) g) xs
 paths-move c g w ts us ms ns [] both all takes = tt
 paths-move c g w ts us ms ns (x ∷ xs) both all takes =
     let here : TextsAre c ts us (mention_in g in_str x ++ (paths_mentions g in_str xs ++ ms)) (mention_in g in_line_str x ++ (paths_mentions g in_line_str xs ++ ns)) = record {
-      str = all.str ∙ ap (texts_after c.str.plan c.map ts) (append_assoc (mention_in g in_str x) (paths_mentions g in_str xs) ms);
-      line_str = all.line_str ∙ ap (texts_after c.line_str.plan c.map us) (append_assoc (mention_in g in_line_str x) (paths_mentions g in_line_str xs) ns);
+      str = all.str ∙ ap (texts_after (c.new Str).plan c.map ts) (append_assoc (mention_in g in_str x) (paths_mentions g in_str xs) ms);
+      line_str = all.line_str ∙ ap (texts_after (c.new LineStr).plan c.map us) (append_assoc (mention_in g in_line_str x) (paths_mentions g in_line_str xs) ns);
     } in (
       path-moves c g w ts us (paths_mentions g in_str xs ++ ms) (paths_mentions g in_line_str xs ++ ns) x both here takes.0,
-      paths-move c g w (texts_after c.str.plan c.map ts (mention_in g in_str x)) (texts_after c.line_str.plan c.map us (mention_in g in_line_str x)) ms ns xs both
+      paths-move c g w (texts_after (c.new Str).plan c.map ts (mention_in g in_str x)) (texts_after (c.new LineStr).plan c.map us (mention_in g in_line_str x)) ms ns xs both
           (behind_piece c ts us (mention_in g in_str x) (mention_in g in_line_str x) (paths_mentions g in_str xs ++ ms) (paths_mentions g in_line_str xs ++ ns) here) takes.1,
     )
 

@@ -12,6 +12,7 @@ use Rattle.dw_base.specs.declared.shared.Class.{Class}
 use Rattle.dw_base.specs.declared.shared.Class.TheVariants.{C32, C64}
 use Rattle.dw_base.proofs.RelocationBodyLaws.{CanMove}
 use Rattle.dw_base.proofs.UnitEditLaws.{length-bytes_of}
+use Rattle.dw_base.specs.declared.debug_sections.DebugSection.TheVariants.{Str, LineStr, Line}
 use Rattle.dw_meaning.specs.LineCells.{all_written_cells}
 use Rattle.dw_meaning.specs.RelocationFails.{LeftRelocationsRead}
 use Rattle.dw_meaning.proofs.EditStayLaws.{AllFit}
@@ -30,24 +31,24 @@ pub record LinesShift (contents : ℕ → List ℕ) (b : List ℕ) (i k : ℕ) (
   pub reads : TableReads contents b i k
   pub section : relocation_section b i ≡ Some k
   pub bytes : (n : ℕ) → slice_index (relocation_source contents b k).table n < 256
-  pub cells : section_cells contents b i ≡ d.lines.contents
+  pub cells : section_cells contents b i ≡ (d.found Line).contents
   pub left : LeftRelocationsRead d moving
   pub apart : TablesApart (line_source d) rs
   pub tables : AreTables (line_source d) rs
-  pub small : length (all_lines (lines_after c.map c.str c.line_str (line_source d) rs)) ≤ 2 ^ 32
+  pub small : length (all_lines (lines_after c.map (c.new Str) (c.new LineStr) (line_source d) rs)) ≤ 2 ^ 32
 
 pub lines-can : (contents : ℕ → List ℕ) (b : List ℕ) (i k : ℕ) (c : TableChanges) (d : DebugData) (moving : List ℕ) (rs : List LineReading) → LinesShift contents b i k c d moving rs
-    → CanMove (relocation_source contents b k) (section_cells contents b i) (all_written_cells (line_source d) c.map (line_place c.map c.str c.line_str (line_source d)) rs)
+    → CanMove (relocation_source contents b k) (section_cells contents b i) (all_written_cells (line_source d) c.map (line_place c.map (c.new Str) (c.new LineStr) (line_source d)) rs)
 lines-can contents b i k c d moving rs h =
-    let own : d.lines.contents ≡ cells_from (relocations_in (relocation_source contents b k)) 0 (contents i) = sym h.cells ∙ section-source contents b i k h.section in
-    let fit : AllFit (relocation_source contents b k) d.lines.contents =
+    let own : (d.found Line).contents ≡ cells_from (relocations_in (relocation_source contents b k)) 0 (contents i) = sym h.cells ∙ section-source contents b i k h.section in
+    let fit : AllFit (relocation_source contents b k) (d.found Line).contents =
     subst (AllFit (relocation_source contents b k)) (sym own) (cells-fit (relocation_source contents b k) 0 (contents i) h.bytes) in
-    let moves : MovesTo (relocation_source contents b k) d.lines.contents (all_written_cells (line_source d) c.map (line_place c.map c.str c.line_str (line_source d)) rs) =
-    lines-move (relocation_source contents b k) d moving c.map (line_place c.map c.str c.line_str (line_source d)) rs h.left fit h.apart h.tables in
-    let size : length (all_written_cells (line_source d) c.map (line_place c.map c.str c.line_str (line_source d)) rs)
-    ≡ length (all_lines (lines_after c.map c.str c.line_str (line_source d) rs)) =
-    sym (length-bytes_of (all_written_cells (line_source d) c.map (line_place c.map c.str c.line_str (line_source d)) rs)) ∙ ap length (all-bytes c (line_source d) rs refl) in
+    let moves : MovesTo (relocation_source contents b k) (d.found Line).contents (all_written_cells (line_source d) c.map (line_place c.map (c.new Str) (c.new LineStr) (line_source d)) rs) =
+    lines-move (relocation_source contents b k) d moving c.map (line_place c.map (c.new Str) (c.new LineStr) (line_source d)) rs h.left fit h.apart h.tables in
+    let size : length (all_written_cells (line_source d) c.map (line_place c.map (c.new Str) (c.new LineStr) (line_source d)) rs)
+    ≡ length (all_lines (lines_after c.map (c.new Str) (c.new LineStr) (line_source d) rs)) =
+    sym (length-bytes_of (all_written_cells (line_source d) c.map (line_place c.map (c.new Str) (c.new LineStr) (line_source d)) rs)) ∙ ap length (all-bytes c (line_source d) rs refl) in
     let small = h.small in
-    reads-shift contents b i k (all_written_cells (line_source d) c.map (line_place c.map c.str c.line_str (line_source d)) rs) h.reads h.section
-    (subst (λ (old : List Cell). MovesTo (relocation_source contents b k) old (all_written_cells (line_source d) c.map (line_place c.map c.str c.line_str (line_source d)) rs)) (sym h.cells) moves)
+    reads-shift contents b i k (all_written_cells (line_source d) c.map (line_place c.map (c.new Str) (c.new LineStr) (line_source d)) rs) h.reads h.section
+    (subst (λ (old : List Cell). MovesTo (relocation_source contents b k) old (all_written_cells (line_source d) c.map (line_place c.map (c.new Str) (c.new LineStr) (line_source d)) rs)) (sym h.cells) moves)
     (omega (arith, size, small, word-room (relocation_source contents b k).class))

@@ -14,6 +14,7 @@ use Rattle.dw_base.specs.Paths.{PathMap}
 use Rattle.dw_base.specs.TextChanges.{TableChanges}
 use Rattle.dw_base.specs.Walks.{Step, goes, ends, Walks, no_step, one_more, ComesTo, Breaks}
 use Rattle.dw_base.specs.WrittenLines.{bytes_at}
+use Rattle.dw_base.specs.declared.debug_sections.DebugSection.TheVariants.{Str, LineStr}
 use Rattle.dw_base.specs.declared.fault.Refusal.{Refusal}
 use Rattle.dw_base.specs.declared.line_tables.FilePlace.{FilePlace}
 use Rattle.dw_base.specs.declared.line_tables.LineHeader.{LineHeader}
@@ -182,6 +183,6 @@ table-among g p e [] behind t h = record { start = p; reads = h.0 }
 table-among g p e (x ∷ xs) behind t h = table-among g x.header.end e xs behind t h.1
 
 pub can-among : (g : LineSource) (m : PathMap) (c : TableChanges) (before behind : List LineReading) (t : LineReading) → EachCan g m c (before ++ t ∷ behind)
-    → CanWrite g m (Rattle.dw_base.specs.LineChanges.line_place m c.str c.line_str g) (table_read g t)
+    → CanWrite g m (Rattle.dw_base.specs.LineChanges.line_place m (c.new Str) (c.new LineStr) g) (table_read g t)
 can-among g m c [] behind t h = h.0
 can-among g m c (x ∷ xs) behind t h = can-among g m c xs behind t h.1

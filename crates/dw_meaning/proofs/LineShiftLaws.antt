@@ -11,6 +11,7 @@ use Rattle.dw_base.specs.Paths.{PathMap}
 use Rattle.dw_base.specs.RelocationFields.{relocation_at}
 use Rattle.dw_base.specs.SectionRelocations.{RelocationSource}
 use Rattle.dw_base.specs.WrittenLines.{cells_part}
+use Rattle.dw_base.specs.declared.debug_sections.DebugSection.TheVariants.{Line}
 use Rattle.dw_base.specs.declared.line_tables.TextPlace.{TextPlace}
 use Rattle.dw_base.specs.declared.shared.Order.{Order}
 use Rattle.dw_meaning.specs.LineCells.{all_written_cells}
@@ -92,5 +93,5 @@ pub left-clear : (d : DebugData) (moving : List ℕ) (rs : List LineReading) →
 left-clear d moving rs left tables = each-clear (line_source d) (length (line_source d).bytes) rs left.line_headers tables
 
 pub lines-move : (z : RelocationSource) (d : DebugData) (moving : List ℕ) (m : PathMap) (places : TextPlace → Option ℕ) (rs : List LineReading) → LeftRelocationsRead d moving
-    → AllFit z d.lines.contents → TablesApart (line_source d) rs → AreTables (line_source d) rs → MovesTo z d.lines.contents (all_written_cells (line_source d) m places rs)
+    → AllFit z (d.found Line).contents → TablesApart (line_source d) rs → AreTables (line_source d) rs → MovesTo z (d.found Line).contents (all_written_cells (line_source d) m places rs)
 lines-move z d moving m places rs left fit apart tables = section-moves z (line_source d) m places rs refl fit apart (left-clear d moving rs left tables) tables

@@ -20,6 +20,7 @@ use Rattle.dw_base.specs.declared.shared.Width.TheVariants.{W32, W64}
 use Rattle.dw_base.proofs.PieceFrameLaws.{Preserves, chain-changed}
 use Rattle.dw_base.proofs.PlainCellLaws.{IsPlain}
 use Rattle.dw_base.proofs.UnitEditLaws.{Shift, Becomes, length-becomes}
+use Rattle.dw_base.specs.declared.debug_sections.DebugSection.TheVariants.{Str, LineStr}
 use Rattle.dw_meaning.specs.NewAddends.{MakesRole}
 use Rattle.dw_meaning.proofs.OffsetMoveLaws.{RolesChanged, roles-named}
 use Rattle.dw_meaning.proofs.TextEditLaws.{CanMove, TablesMove, TextsAre, behind_piece, roles-changed, shift_of}
@@ -219,13 +220,13 @@ macros-edited lc order c around ts us (z ∷ zs) (r ∷ rs) ms ns t all reads mo
     let lines : List Mention = mentions_with macro_role in_line_str around r.pieces in
     let rest : TextsAre c ts us (heres ++ (macro_mentions in_str around rs ++ ms)) (lines ++ (macro_mentions in_line_str around rs ++ ns)) =
     record {
-      str = all.str ∙ ap (texts_after c.str.plan c.map ts) (append_assoc heres (macro_mentions in_str around rs) ms);
-      line_str = all.line_str ∙ ap (texts_after c.line_str.plan c.map us) (append_assoc lines (macro_mentions in_line_str around rs) ns);
+      str = all.str ∙ ap (texts_after (c.new Str).plan c.map ts) (append_assoc heres (macro_mentions in_str around rs) ms);
+      line_str = all.line_str ∙ ap (texts_after (c.new LineStr).plan c.map us) (append_assoc lines (macro_mentions in_line_str around rs) ns);
     } in (
       refl,
       roles-changed lc macro_role c around ts us r.pieces (macro_mentions in_str around rs ++ ms) (macro_mentions in_line_str around rs ++ ns) t rest
           moves.0 names.0,
-      macros-edited lc order c around (texts_after c.str.plan c.map ts heres) (texts_after c.line_str.plan c.map us lines) zs rs ms ns t
+      macros-edited lc order c around (texts_after (c.new Str).plan c.map ts heres) (texts_after (c.new LineStr).plan c.map us lines) zs rs ms ns t
           (behind_piece c ts us heres lines (macro_mentions in_str around rs ++ ms) (macro_mentions in_line_str around rs ++ ns) rest)
           reads.2 moves.1 names.1,
     )

@@ -27,6 +27,7 @@ use Rattle.dw_base.specs.declared.view_fields.Field.{Field}
 use Rattle.dw_base.proofs.ContributionBackLaws.{StandsAt, piece-stands, behind-piece, piece-inside}
 use Rattle.dw_base.proofs.ViewCellLaws.{bytes_of-view_cells, field_at-piece, length-view_cells, piece-cells}
 use Rattle.dw_base.proofs.UnitEditLaws.{length-bytes_of}
+use Rattle.dw_base.specs.declared.debug_sections.DebugSection.TheVariants.{Str, Line, Macro}
 use Rattle.dw_meaning.proofs.LineReadLaws.{bound, made, if-some, some-same}
 use Rattle.dw_meaning.proofs.FieldPutLaws.{width-some}
 use Rattle.dw_meaning.proofs.MacroBackLaws.{StandsThere, byte-at, header-lined, header-plain, spelled-at}
@@ -38,10 +39,10 @@ abbrev pub operation_meaning : View → Around → ℕ → Width → MacroOperat
 operation_meaning v g section width End = ended
 operation_meaning v g section width (Inline defines line at len) = text_event defines line (take len (drop at (section_bytes v section)))
 operation_meaning v g section width (Named defines line field) =
-    text_event defines line (text_in g.str.bytes (offset_into g.str (field_at v section field (width_size width))))
+    text_event defines line (text_in (g.stands Str).bytes (offset_into (g.stands Str) (field_at v section field (width_size width))))
 operation_meaning v g section width (Enter line file) = begun line file
 operation_meaning v g section width Leave = ended
-operation_meaning v g section width (Bring field) = brought (unit_named g.lasting.macros (field_at v section field (width_size width)))
+operation_meaning v g section width (Bring field) = brought (unit_named (g.lasting.kept Macro) (field_at v section field (width_size width)))
 operation_meaning v g section width Foreign = ended
 
 -- the events from a place on, up to the operation that ends their unit, and where that ends
@@ -53,7 +54,7 @@ pub data EventsFrom (v : View) (g : Around) (section : ℕ) (width : Width) : �
 -- the number of the line table of a header
 abbrev pub line_meant : View → Around → ℕ → MacroHeader → Option ℕ
 line_meant v g section h =
-    if h.has_line then start_number 0 g.starts (offset_into g.lines (field_at v section h.line_field (width_size h.width))) else None
+    if h.has_line then start_number 0 (g.stands Line).starts (offset_into (g.stands Line).located (field_at v section h.line_field (width_size h.width))) else None
 
 -- the units from a place of a section on, up to its end
 pub data UnitsFrom (v : View) (g : Around) (section : ℕ) : ℕ → List MacroMeaning → Type 0 where
@@ -85,7 +86,7 @@ record LineBehind (v : View) (g : Around) (section : ℕ) (width : Width) (place
   room : place + width_size width ≤ length (section_bytes v section)
   events : EventsFrom v g section width (place + width_size width) b.events end
   units : UnitsFrom v g section end b.units
-  line : b.line ≡ start_number 0 g.starts (offset_into g.lines (field_at v section place (width_size width)))
+  line : b.line ≡ start_number 0 (g.stands Line).starts (offset_into (g.stands Line).located (field_at v section place (width_size width)))
 
 record OffsetBehind (v : View) (g : Around) (section : ℕ) (width : Width) (names : OffsetUse) (place : ℕ) (b : MacrosBehind) : Type 0 where
   end : ℕ
@@ -369,7 +370,7 @@ line-meant v g section place width p b order h size there k =
       room = omega (arith, inside, bytes, size);
       events = subst (λ (n : ℕ). EventsFrom v g section width n b.events k.end) (ap (λ (n : ℕ). place + n) size) k.events;
       units = k.units;
-      line = ap (λ (o : Order). start_number 0 g.starts (offset_of o g.lines p)) order ∙ ap (start_number 0 g.starts) (offset-is v section place width p g.lines h size there);
+      line = ap (λ (o : Order). start_number 0 (g.stands Line).starts (offset_of o (g.stands Line).located p)) order ∙ ap (start_number 0 (g.stands Line).starts) (offset-is v section place width p (g.stands Line).located h size there);
     }
 
 front-meant : (v : View) (g : Around) (section place : ℕ) (width : Width) (p : List Cell) (f : OperationFront) (b : MacrosBehind) → StandsAt (section_bytes v section) (bytes_of p) place
@@ -448,8 +449,8 @@ offset-meant v g section place width names p b order h size there k =
       end = k.end;
       more = b.events;
       room = room;
-      is = ap (λ (n : ℕ). text_event defines line (text_in g.str.bytes n) ∷ b.events)
-          (ap (λ (o : Order). offset_of o g.str p) order ∙ offset-is v section place width p g.str h size there);
+      is = ap (λ (n : ℕ). text_event defines line (text_in (g.stands Str).bytes n) ∷ b.events)
+          (ap (λ (o : Order). offset_of o (g.stands Str) p) order ∙ offset-is v section place width p (g.stands Str) h size there);
       events = subst (λ (n : ℕ). EventsFrom v g section width n b.events k.end) (ap (λ (n : ℕ). place + n) size) k.events;
       units = k.units;
       line = k.line;
@@ -458,7 +459,7 @@ offset-meant v g section place width names p b order h size there k =
       end = k.end;
       more = b.events;
       room = room;
-      is = ap (λ (f : Field). brought (unit_named g.lasting.macros f) ∷ b.events)
+      is = ap (λ (f : Field). brought (unit_named (g.lasting.kept Macro) f) ∷ b.events)
           (ap (λ (o : Order). field_of o p) order ∙ field-is v section place width p h size there);
       events = subst (λ (n : ℕ). EventsFrom v g section width n b.events k.end) (ap (λ (n : ℕ). place + n) size) k.events;
       units = k.units;

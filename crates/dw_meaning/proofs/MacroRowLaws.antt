@@ -14,7 +14,7 @@ use Rattle.dw_base.specs.SectionTexts.{macro_role_by, macro_role}
 use Rattle.dw_base.specs.TextChanges.{NamesTextBy}
 use Rattle.dw_base.specs.Texts.{ends_in}
 use Rattle.dw_base.specs.ViewData.{is_macro, macro_section, macro_sections_from, macro_sections, debug_data, located}
-use Rattle.dw_base.specs.declared.debug_sections.DebugSection.TheVariants.{Str}
+use Rattle.dw_base.specs.declared.debug_sections.DebugSection.TheVariants.{Str, Macro}
 use Rattle.dw_base.specs.declared.fault.Refusal.{Refusal}
 use Rattle.dw_base.specs.declared.shared.Order.{Order}
 use Rattle.dw_base.proofs.MacroRowLaws.{units-exclude}
@@ -104,7 +104,7 @@ macros-of order around [] behind z (r ∷ rs) reads texts = record { pieces = r.
 macros-of order around (y ∷ ys) behind z [] reads texts = absurd reads
 macros-of order around (y ∷ ys) behind z (r ∷ rs) reads texts = macros-of order around ys behind z rs reads.2 texts.1
 
-macro-names : (m : MacroMode) (v : View) (around : Around) (p : List Cell) → around.str ≡ located v Str → around.lasting.base.order ≡ v.order → NamesTextBy (macro_role_by m) around p
+macro-names : (m : MacroMode) (v : View) (around : Around) (p : List Cell) → around.stands Str ≡ located v Str → around.lasting.base.order ≡ v.order → NamesTextBy (macro_role_by m) around p
     → MacroNamesBy m v p
 macro-names at_unit v around p str order h = tt
 macro-names (at_line width) v around p str order h = tt
@@ -115,13 +115,13 @@ macro-names (at_offset width (of_text defines line)) v around p str order h =
 macro-names (at_offset width of_unit) v around p str order h = tt
 macro-names no_macros v around p str order h = tt
 
-all-names : (v : View) (around : Around) (xs : List (Piece MacroState)) → around.str ≡ located v Str → around.lasting.base.order ≡ v.order
+all-names : (v : View) (around : Around) (xs : List (Piece MacroState)) → around.stands Str ≡ located v Str → around.lasting.base.order ≡ v.order
     → EachPiece (λ x. NamesTextBy (macro_role x.state) around x.cells) xs → EachPiece (MacroNames v) xs
 all-names v around [] str order h = tt
 all-names v around (x ∷ xs) str order h = (macro-names x.state.mode v around x.cells str order h.0, all-names v around xs str order h.1)
 
 -- the units of a section of macro units of debug data that can be read
-pub macro-units : (v : View) (q : DataReadings) (before behind : List CellSection) (z : CellSection) → DataReads (debug_data v) q → (debug_data v).macros ≡ before ++ z ∷ behind
+pub macro-units : (v : View) (q : DataReadings) (before behind : List CellSection) (z : CellSection) → DataReads (debug_data v) q → (debug_data v).found Macro ≡ before ++ z ∷ behind
     → UnitsBack v z.number
 unfolding debug_data macro_sections
 macro-units v q before behind z a split =
@@ -132,7 +132,7 @@ macro-units v q before behind z a split =
     (all-names v (around_of (debug_data v) q) own.pieces refl refl own.texts)
 
 pub macros-exclude : (v : View) (q : DataReadings) (before behind : List CellSection) (z : CellSection) (r : Refusal) → DataReads (debug_data v) q
-    → (debug_data v).macros ≡ before ++ z ∷ behind → MacroUnitsFail v z.number r → ⊥
+    → (debug_data v).found Macro ≡ before ++ z ∷ behind → MacroUnitsFail v z.number r → ⊥
 macros-exclude v q before behind z r a split f =
     let back : UnitsBack v z.number = macro-units v q before behind z a split in
     units-exclude v z.number back.all r back.are f

@@ -25,6 +25,7 @@ use Rattle.dw_base.specs.ViewData.{is_macro, macro_section, macro_sections_from,
 use Rattle.dw_base.specs.declared.shared.Order.{Order}
 use Rattle.dw_base.proofs.PlainCellLaws.{IsPlain, plain-append, plain_cells-plain}
 use Rattle.dw_base.proofs.SectionRelocationLaws.{bytes_of-cells_from}
+use Rattle.dw_base.specs.declared.debug_sections.DebugSection.TheVariants.{Str, LineStr, StrOffsets, Line, Names}
 use Rattle.dw_meaning.specs.DataOutput.{Body, body_in, cells_body, macro_bodies, names_after, offsets_after, unit_bodies, unit_body}
 use Rattle.dw_meaning.specs.RelocatedBodies.{CellBody, cell_body, cells_by, cells_of_number, macro_cells, old_contents, unit_cells}
 use Rattle.dw_meaning.proofs.CellKeptLaws.{SectionCells, behind_named, cells-further, cells-here, new_tables}
@@ -131,9 +132,9 @@ macros-own b order k (s ∷ ss) rs all reads =
 
 -- the same of the section of a number, whichever it is
 pub record FileOwns (b : List ℕ) (d : DebugData) (r : DataReadings) (i : ℕ) : Type 0 where
-  pub offsets : d.offsets.number ≡ i → joined r.offsets ≡ old_contents b i
-  pub lines : d.lines.number ≡ i → d.lines.contents ≡ old_contents b i
-  pub names : d.names.number ≡ i → joined r.names ≡ old_contents b i
+  pub offsets : (d.found StrOffsets).number ≡ i → joined r.offsets ≡ old_contents b i
+  pub lines : (d.found Line).number ≡ i → (d.found Line).contents ≡ old_contents b i
+  pub names : (d.found Names).number ≡ i → joined r.names ≡ old_contents b i
   pub macros : AllMacroReadings (IsOwnMacro b) r.macros
   pub units : AllReadings (IsOwn b) r.units
 
@@ -160,23 +161,23 @@ macros-pick P b c around (r ∷ rs) ys old i own each last =
 
 -- whatever becomes of each section that is edited
 pub contents-pick : (P : List Cell → Type 0) (b : List ℕ) (c : TableChanges) (d : DebugData) (around : Around) (r : DataReadings) (i : ℕ) → FileOwns b d r i
-    → (joined r.offsets ≡ old_contents b i → P (joined (offsets_after c around r))) → (d.lines.number ≡ i → d.lines.contents ≡ old_contents b i → P (new_tables c d around r))
+    → (joined r.offsets ≡ old_contents b i → P (joined (offsets_after c around r))) → ((d.found Line).number ≡ i → (d.found Line).contents ≡ old_contents b i → P (new_tables c d around r))
     → (joined r.names ≡ old_contents b i → P (joined (names_after c around r)))
     → ((xs : List (Piece MacroState)) → joined xs ≡ old_contents b i → P (joined (edited_with macro_role c around xs)))
     → ((xs : List (Piece UnitState)) → joined xs ≡ old_contents b i → P (joined (edited_all c around xs))) → P (old_contents b i)
     → P (cells_of_number (cells_by c d around r) (old_contents b i) i)
 contents-pick P b c d around r i own offsets lines names macros units last =
-    pick-step P (cell_body d.offsets.number (joined (offsets_after c around r)))
-    (cell_body d.lines.number (new_tables c d around r) ∷ cell_body d.names.number (joined (names_after c around r)) ∷ behind_named c around r) (old_contents b i) i
+    pick-step P (cell_body (d.found StrOffsets).number (joined (offsets_after c around r)))
+    (cell_body (d.found Line).number (new_tables c d around r) ∷ cell_body (d.found Names).number (joined (names_after c around r)) ∷ behind_named c around r) (old_contents b i) i
     (λ e. offsets (own.offsets e))
-    (pick-step P (cell_body d.lines.number (new_tables c d around r)) (cell_body d.names.number (joined (names_after c around r)) ∷ behind_named c around r) (old_contents b i) i
+    (pick-step P (cell_body (d.found Line).number (new_tables c d around r)) (cell_body (d.found Names).number (joined (names_after c around r)) ∷ behind_named c around r) (old_contents b i) i
     (λ e. lines e (own.lines e))
-    (pick-step P (cell_body d.names.number (joined (names_after c around r))) (behind_named c around r) (old_contents b i) i (λ e. names (own.names e))
+    (pick-step P (cell_body (d.found Names).number (joined (names_after c around r))) (behind_named c around r) (old_contents b i) i (λ e. names (own.names e))
     (macros-pick P b c around r.macros (unit_cells c around r.units) (old_contents b i) i own.macros macros
     (units-pick P b c around r.units (old_contents b i) i own.units units last))))
 
 pub contents-stay : (g : RelocationSource) (b : List ℕ) (c : TableChanges) (d : DebugData) (around : Around) (r : DataReadings) (i : ℕ) → FileOwns b d r i
-    → AllFit g (old_contents b i) → i ≢ d.lines.number → AllStay g (old_contents b i) (cells_of_number (cells_by c d around r) (old_contents b i) i)
+    → AllFit g (old_contents b i) → i ≢ (d.found Line).number → AllStay g (old_contents b i) (cells_of_number (cells_by c d around r) (old_contents b i) i)
 contents-stay g b c d around r i own fit other =
     contents-pick (AllStay g (old_contents b i)) b c d around r i own
     (λ o. own-roles (slot_role (path_slots around)) g c around r.offsets (old_contents b i) o fit) (λ e o. absurd (other (sym e)))
@@ -199,7 +200,7 @@ pub contents-plain : (b : List ℕ) (c : TableChanges) (d : DebugData) (around :
 contents-plain b c d around r i own plain =
     contents-pick IsPlain b c d around r i own
     (λ o. own-plain (slot_role (path_slots around)) c around r.offsets (old_contents b i) o plain)
-    (λ e o. subst IsPlain (sym (all-plain c (line_source d) r.lines refl (subst IsPlain (sym o) plain))) (plain_cells-plain (all_lines (lines_after c.map c.str c.line_str (line_source d) r.lines))))
+    (λ e o. subst IsPlain (sym (all-plain c (line_source d) r.lines refl (subst IsPlain (sym o) plain))) (plain_cells-plain (all_lines (lines_after c.map (c.new Str) (c.new LineStr) (line_source d) r.lines))))
     (λ o. own-plain name_role c around r.names (old_contents b i) o plain) (λ xs o. own-plain macro_role c around xs (old_contents b i) o plain)
     (λ xs o. units-edited-plain c around xs (cells-plain xs (subst IsPlain (sym o) plain))) plain
 

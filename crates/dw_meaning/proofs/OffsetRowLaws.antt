@@ -23,7 +23,7 @@ use Rattle.dw_meaning.proofs.MacroRowLaws.{cells-of}
 use Rattle.dw_meaning.proofs.NameFieldRowLaws.{names-refused}
 
 -- the section of name tables, where it has a byte
-names-there : (v : View) (start : ℕ) → start < length (names_of v).bytes → (debug_data v).names.contents ≡ view_cells v (names_of v).number
+names-there : (v : View) (start : ℕ) → start < length (names_of v).bytes → ((debug_data v).found Names).contents ≡ view_cells v (names_of v).number
 unfolding debug_data located
 names-there v start some = by_found (section_named v (name_of Names)) some
   where
@@ -31,7 +31,7 @@ names-there v start some = by_found (section_named v (name_of Names)) some
     by_found None some = absurd (omega (arith, some))
     by_found (Some i) some = refl
 
-names-bytes : (v : View) → (names_of v).bytes ≡ bytes_of (debug_data v).names.contents
+names-bytes : (v : View) → (names_of v).bytes ≡ bytes_of ((debug_data v).found Names).contents
 unfolding debug_data located
 names-bytes v = sym (bytes-cells v (section_named v (name_of Names)))
 
@@ -49,7 +49,7 @@ one-read order (y ∷ ys) behind z (r ∷ rs) reads = one-read order ys behind z
 pub offsets-exclude : (v : View) (q : DataReadings) (moving : List ℕ) (r : Refusal) → DataReads (debug_data v) q → LeftRelocationsRead (debug_data v) moving → OffsetsFailIn v r → ⊥
 unfolding debug_data macro_sections
 offsets-exclude v q moving r reads left (names list start t before some is f) =
-    names-refused v (names_of v).number (debug_data v).names.contents moving q.names list start t r (names-there v start some) reads.names
+    names-refused v (names_of v).number ((debug_data v).found Names).contents moving q.names list start t r (names-there v start some) reads.names
     (left.names q.names reads.names)
     (subst (λ (bs : List ℕ). ReadUpTo v (names_of v).number bs list start) (names-bytes v) before)
     (subst (λ (bs : List ℕ). IsNameTable v.order bs start t) (names-bytes v) is) f

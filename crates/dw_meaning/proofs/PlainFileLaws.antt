@@ -18,7 +18,7 @@ use Rattle.dw_base.specs.TextChanges.{TableChanges}
 use Rattle.dw_base.specs.UnitHeaders.{UnitSection, SectionKind}
 use Rattle.dw_base.specs.ViewData.{cells_located, debug_data, located, located_at, macro_sections, unit_kind, unit_section, unit_sections, unit_sections_from}
 use Rattle.dw_base.specs.WrittenLines.{paths_of}
-use Rattle.dw_base.specs.declared.debug_sections.DebugSection.TheVariants.{StrOffsets, Line, Names}
+use Rattle.dw_base.specs.declared.debug_sections.DebugSection.TheVariants.{Info, StrOffsets, Line, Macro, Names}
 use Rattle.dw_base.specs.declared.line_tables.TextPlace.{TextPlace}
 use Rattle.dw_base.specs.declared.shared.Order.{Order}
 use Rattle.dw_base.specs.declared.shared.Width.{Width}
@@ -47,15 +47,15 @@ section-plain : (b : List ℕ) (o : Option ℕ) → is_loaded_kind b ≡ true �
 section-plain b None loaded = refl
 section-plain b (Some i) loaded = ap (λ (p : List Cell). record { number = i; contents = p }) (view_cells-loaded b i loaded)
 
-pub offsets-are : (b : List ℕ) → is_loaded_kind b ≡ true → (file_data b).offsets ≡ plain_section (located (view_of b) StrOffsets)
+pub offsets-are : (b : List ℕ) → is_loaded_kind b ≡ true → (file_data b).found StrOffsets ≡ plain_section (located (view_of b) StrOffsets)
 unfolding debug_data located
 offsets-are b loaded = section-plain b (section_named (view_of b) (name_of StrOffsets)) loaded
 
-pub lines-are : (b : List ℕ) → is_loaded_kind b ≡ true → (file_data b).lines ≡ plain_section (located (view_of b) Line)
+pub lines-are : (b : List ℕ) → is_loaded_kind b ≡ true → (file_data b).found Line ≡ plain_section (located (view_of b) Line)
 unfolding debug_data located
 lines-are b loaded = section-plain b (section_named (view_of b) (name_of Line)) loaded
 
-pub names-are : (b : List ℕ) → is_loaded_kind b ≡ true → (file_data b).names ≡ plain_section (located (view_of b) Names)
+pub names-are : (b : List ℕ) → is_loaded_kind b ≡ true → (file_data b).found Names ≡ plain_section (located (view_of b) Names)
 unfolding debug_data located
 names-are b loaded = section-plain b (section_named (view_of b) (name_of Names)) loaded
 
@@ -73,22 +73,22 @@ units-plain b k (s ∷ ss) loaded all = by_section s.has_bytes (unit_kind (debug
 sections-behind : (b : List ℕ) → AllAt (SectionBack b (contents_of b)) 1 (drop 1 (view_of b).sections) (drop 1 (view_of b).sections)
 sections-behind b = drop-at (SectionBack b (contents_of b)) (view_of b).sections (view_of b).sections (sections-self b)
 
-pub file-plain : (b : List ℕ) → is_loaded_kind b ≡ true → EachPlain (file_data b).units
+pub file-plain : (b : List ℕ) → is_loaded_kind b ≡ true → EachPlain ((file_data b).found Info)
 unfolding debug_data unit_sections
 file-plain b loaded = units-plain b 1 (drop 1 (view_of b).sections) loaded (sections-behind b)
 
-pub file-macros : (b : List ℕ) → is_loaded_kind b ≡ true → AllPlain (file_data b).macros
+pub file-macros : (b : List ℕ) → is_loaded_kind b ≡ true → AllPlain ((file_data b).found Macro)
 unfolding debug_data macro_sections
 file-macros b loaded = macros-plain b (contents_of b) 1 (drop 1 (view_of b).sections) loaded (sections-behind b)
 
 -- and so are the others
-pub offsets-plain : (b : List ℕ) → is_loaded_kind b ≡ true → IsPlain (file_data b).offsets.contents
+pub offsets-plain : (b : List ℕ) → is_loaded_kind b ≡ true → IsPlain ((file_data b).found StrOffsets).contents
 offsets-plain b loaded = subst (λ (z : CellSection). IsPlain z.contents) (sym (offsets-are b loaded)) (plain_cells-plain (located (view_of b) StrOffsets).bytes)
 
-pub lines-plain : (b : List ℕ) → is_loaded_kind b ≡ true → IsPlain (file_data b).lines.contents
+pub lines-plain : (b : List ℕ) → is_loaded_kind b ≡ true → IsPlain ((file_data b).found Line).contents
 lines-plain b loaded = subst (λ (z : CellSection). IsPlain z.contents) (sym (lines-are b loaded)) (plain_cells-plain (located (view_of b) Line).bytes)
 
-pub names-plain : (b : List ℕ) → is_loaded_kind b ≡ true → IsPlain (file_data b).names.contents
+pub names-plain : (b : List ℕ) → is_loaded_kind b ≡ true → IsPlain ((file_data b).found Names).contents
 names-plain b loaded = subst (λ (z : CellSection). IsPlain z.contents) (sym (names-are b loaded)) (plain_cells-plain (located (view_of b) Names).bytes)
 
 -- one of them
@@ -108,8 +108,8 @@ macro-plain zs before behind z split plain = among before (subst AllPlain split 
 
 no-relocations : (b : List ℕ) → is_loaded_kind b ≡ true → NoRelocations (file_data b)
 no-relocations b loaded = record {
-  units = λ before behind z split. unit-plain (file_data b).units before behind z split (file-plain b loaded);
-  macros = λ before behind z split. macro-plain (file_data b).macros before behind z split (file-macros b loaded);
+  units = λ before behind z split. unit-plain ((file_data b).found Info) before behind z split (file-plain b loaded);
+  macros = λ before behind z split. macro-plain ((file_data b).found Macro) before behind z split (file-macros b loaded);
   offsets = offsets-plain b loaded;
   lines = lines-plain b loaded;
   names = names-plain b loaded;
@@ -153,9 +153,9 @@ lines-make g places (r ∷ rs) plain = (each (table_read g r).width (paths_of (t
 pub file-addends : (c : TableChanges) (b : List ℕ) (around : Around) (r : DataReadings) → is_loaded_kind b ≡ true → DataReads (file_data b) r
     → AddendsFit c (file_data b) around r
 file-addends c b around r loaded reads = record {
-  units = readings-move c around r.units (readings-plain (file_data b).base 0 (file_data b).units r.units reads.units (file-plain b loaded));
+  units = readings-move c around r.units (readings-plain (file_data b).base 0 ((file_data b).found Info) r.units reads.units (file-plain b loaded));
   slots = pieces-make (slot_role (path_slots around)) c around r.offsets (cells-plain r.offsets (subst IsPlain (sym reads.offsets.cells) (offsets-plain b loaded)));
-  macros = macros-make (file_data b).base.order c around (file_data b).macros r.macros reads.macros (file-macros b loaded);
+  macros = macros-make (file_data b).base.order c around ((file_data b).found Macro) r.macros reads.macros (file-macros b loaded);
   names = pieces-make name_role c around r.names (cells-plain r.names (subst IsPlain (sym reads.names.cells) (names-plain b loaded)));
   lines = lines-make (line_source (file_data b)) (places_by c (file_data b)) r.lines (lines-plain b loaded);
 }

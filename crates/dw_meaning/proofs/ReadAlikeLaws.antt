@@ -20,6 +20,7 @@ use Rattle.dw_base.proofs.DebugSectionLaws.{debug_section-name}
 use Rattle.dw_base.proofs.TextLaws.{same_text-true}
 use Rattle.dw_meaning.proofs.FileBackLaws.{AllAt}
 use Rattle.dw_meaning.proofs.TableKeptLaws.{drop-at}
+use Rattle.dw_meaning.proofs.DataParts.{found_with}
 
 -- two sections of views: the same one, or two of one name that is none of debug data
 pub data ReadAlike (new old : ViewSection) : Type 0 where
@@ -208,16 +209,8 @@ cells-alike v w x all = ap (cells_located v) (first-named v w x all) ∙ by_foun
 
 -- so the debug data are the same
 abbrev data_with : Order → Located → List UnitSection → Located → Located → CellSection → CellSection → List CellSection → CellSection → DebugData
-data_with order abbrevs units str line_str offsets lines macros names = record {
-  base = record { order = order; abbrevs = abbrevs };
-  units = units;
-  str = str;
-  line_str = line_str;
-  offsets = offsets;
-  lines = lines;
-  macros = macros;
-  names = names;
-}
+data_with order abbrevs units str line_str offsets lines macros names =
+    record { base = record { order = order; abbrevs = abbrevs }; found = found_with units str line_str offsets lines macros names }
 
 data-is : (v : View) → debug_data v
     ≡ data_with v.order (located v Abbrev) (unit_sections v) (located v Str) (located v LineStr) (cells_named v StrOffsets) (cells_named v Line) (macro_sections v) (cells_named v Names)

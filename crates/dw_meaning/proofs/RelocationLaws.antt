@@ -16,6 +16,7 @@ use Rattle.dw_base.proofs.PlainCellLaws.{IsPlain, plain-parts}
 use Rattle.dw_base.proofs.RelocationFieldLaws.{relocation_at-plain}
 use Rattle.dw_base.proofs.RelocationRowLaws.{fields_exclude, header_excludes, header_offsets_exclude, placed-plain}
 use Rattle.dw_base.proofs.RelocationSectionLaws.{relocations_exclude as sections-exclude}
+use Rattle.dw_base.specs.declared.debug_sections.DebugSection.TheVariants.{Info, StrOffsets, Line, Macro, Names}
 use Rattle.dw_meaning.specs.FileMeanings.{file_data}
 use Rattle.dw_meaning.specs.RelocationFails.{LeftRelocationsFail, LeftRelocationsRead, OffsetsFailIn, RelocationsFail, RelocationsRead, RelocationsReadIn, ValueRelocationFails, ValueRelocationsRead}
 use Rattle.dw_meaning.specs.RelocationFails.LeftRelocationsFail.{units, slots, names, macros, lines, line_header}
@@ -26,15 +27,15 @@ pub left_exclude : (d : DebugData) (moving : List ℕ) (r : Refusal) → LeftRel
 left_exclude d moving r h (units before behind z first xs among reads f) =
     fields_exclude d.base.order z.number z.contents moving (unit_fields d.base.order xs) r (h.units before behind z first xs among reads) f
 left_exclude d moving r h (slots xs reads f) =
-    fields_exclude d.base.order d.offsets.number d.offsets.contents moving (slot_fields xs) r (h.slots xs reads) f
+    fields_exclude d.base.order (d.found StrOffsets).number (d.found StrOffsets).contents moving (slot_fields xs) r (h.slots xs reads) f
 left_exclude d moving r h (names xs reads f) =
-    fields_exclude d.base.order d.names.number d.names.contents moving (name_fields xs) r (h.names xs reads) f
+    fields_exclude d.base.order (d.found Names).number (d.found Names).contents moving (name_fields xs) r (h.names xs reads) f
 left_exclude d moving r h (macros before behind z xs among reads f) =
     fields_exclude d.base.order z.number z.contents moving (macro_fields xs) r (h.macros before behind z xs among reads) f
 left_exclude d moving r h (lines ts reads f) =
-    fields_exclude d.base.order d.lines.number d.lines.contents moving (line_fields (line_source d) ts) r (h.lines ts reads) f
+    fields_exclude d.base.order (d.found Line).number (d.found Line).contents moving (line_fields (line_source d) ts) r (h.lines ts reads) f
 left_exclude d moving r h (line_header before start t tables reads f) =
-    header_excludes d.lines.number t.header.start t.behind d.lines.contents (table_fields (line_source d) t) r
+    header_excludes (d.found Line).number t.header.start t.behind (d.found Line).contents (table_fields (line_source d) t) r
     (h.line_headers before start t tables reads) f
 
 pub value-excludes : (d : DebugData) (r : Refusal) → ValueRelocationsRead d → ValueRelocationFails d r → ⊥
@@ -57,11 +58,11 @@ relocations_exclude b r h none (left f) = left_exclude (file_data b) (moving_sec
 
 -- no relocation begins in the sections of units, of string offsets, line tables, macro units and name tables
 pub record NoRelocations (d : DebugData) : Type 0 where
-  pub units : (before behind : List UnitSection) (z : UnitSection) → d.units ≡ before ++ z ∷ behind → IsPlain z.contents
-  pub macros : (before behind : List CellSection) (z : CellSection) → d.macros ≡ before ++ z ∷ behind → IsPlain z.contents
-  pub offsets : IsPlain d.offsets.contents
-  pub lines : IsPlain d.lines.contents
-  pub names : IsPlain d.names.contents
+  pub units : (before behind : List UnitSection) (z : UnitSection) → d.found Info ≡ before ++ z ∷ behind → IsPlain z.contents
+  pub macros : (before behind : List CellSection) (z : CellSection) → d.found Macro ≡ before ++ z ∷ behind → IsPlain z.contents
+  pub offsets : IsPlain (d.found StrOffsets).contents
+  pub lines : IsPlain (d.found Line).contents
+  pub names : IsPlain (d.found Names).contents
 
 -- so all reads that is asked of relocations
 none-begins : (cells : List Cell) (p : ℕ) (r : Relocation) → IsPlain cells → relocation_at cells p ≡ Some r → ⊥
@@ -93,13 +94,13 @@ plain-reads d moving h = record {
   };
   left = record {
     units = λ before behind z first xs split reads. fields-read d.base.order z.contents moving (unit_fields d.base.order xs) (h.units before behind z split);
-    slots = λ xs reads. fields-read d.base.order d.offsets.contents moving (slot_fields xs) h.offsets;
-    names = λ xs reads. fields-read d.base.order d.names.contents moving (name_fields xs) h.names;
+    slots = λ xs reads. fields-read d.base.order (d.found StrOffsets).contents moving (slot_fields xs) h.offsets;
+    names = λ xs reads. fields-read d.base.order (d.found Names).contents moving (name_fields xs) h.names;
     macros = λ before behind z xs split reads. fields-read d.base.order z.contents moving (macro_fields xs) (h.macros before behind z split);
-    lines = λ ts tables. fields-read d.base.order d.lines.contents moving (line_fields (line_source d) ts) h.lines;
+    lines = λ ts tables. fields-read d.base.order (d.found Line).contents moving (line_fields (line_source d) ts) h.lines;
     line_headers = λ before start t tables reads. record {
-      own = λ p r begins from below. absurd (none-begins d.lines.contents p r h.lines begins);
-      apart = λ p r begins below. absurd (none-begins d.lines.contents p r h.lines begins);
+      own = λ p r begins from below. absurd (none-begins (d.found Line).contents p r h.lines begins);
+      apart = λ p r begins below. absurd (none-begins (d.found Line).contents p r h.lines begins);
     };
   };
 }

@@ -17,6 +17,7 @@ use Rattle.dw_base.specs.UnitHeaders.{UnitBase, SectionKind}
 use Rattle.dw_base.specs.ViewData.{unit_kind, unit_section, unit_sections_from}
 use Rattle.dw_meaning.proofs.FileBackLaws.{AllAt, SectionBack}
 use Rattle.dw_base.proofs.PlainCellLaws.{IsPlain, plain-parts, plain-append, plain_cells-plain, with_offset-is}
+use Rattle.dw_base.specs.declared.debug_sections.DebugSection.TheVariants.{Line}
 use Rattle.dw_meaning.proofs.FieldPutLaws.{length-put}
 
 -- plain cells with other bytes are plain
@@ -45,9 +46,9 @@ edited-plain (offset table path) c around p h = by_asks ((change_of c table).pla
     by_asks false = h
 edited-plain line_start c around p h = by_table (line_table around p)
   where
-    by_table : (o : Option ℕ) → IsPlain (moved_start (starts_from 0 c.lines) around.lasting.base.order o p)
+    by_table : (o : Option ℕ) → IsPlain (moved_start (starts_from 0 (c.new Line)) around.lasting.base.order o p)
     by_table None = h
-    by_table (Some k) = subst IsPlain (sym (with_offset-is around.lasting.base.order p (get_or (starts_from 0 c.lines) k 0) h)) (plain_cells-plain _)
+    by_table (Some k) = subst IsPlain (sym (with_offset-is around.lasting.base.order p (get_or (starts_from 0 (c.new Line)) k 0) h)) (plain_cells-plain _)
 
 -- and as long
 length-with_bytes : (p : List Cell) (bs : List ℕ) → length (with_bytes p bs) ≡ length p
@@ -66,9 +67,9 @@ edited-size (offset table path) c around p = by_asks ((change_of c table).plan.a
     by_asks false = refl
 edited-size line_start c around p = by_table (line_table around p)
   where
-    by_table : (o : Option ℕ) → length (moved_start (starts_from 0 c.lines) around.lasting.base.order o p) ≡ length p
+    by_table : (o : Option ℕ) → length (moved_start (starts_from 0 (c.new Line)) around.lasting.base.order o p) ≡ length p
     by_table None = refl
-    by_table (Some k) = length-put around.lasting.base.order p (get_or (starts_from 0 c.lines) k 0)
+    by_table (Some k) = length-put around.lasting.base.order p (get_or (starts_from 0 (c.new Line)) k 0)
 
 pub skip-other : (x : Body) (xs : List Body) (old : ℕ → List ℕ) (i : ℕ) → i ≢ x.number → body_in (x ∷ xs) old i ≡ body_in xs old i
 skip-other x xs old i other = rw (ne_eqb i x.number other) refl

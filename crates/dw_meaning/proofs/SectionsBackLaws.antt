@@ -76,9 +76,9 @@ now-length m b r out i w back h some none =
     ap length
     (back.contents i h.within ∙ read-body m b r i w h.within h.read
     ∙ now-bytes m b r i
-    (name-apart b (name_of Str) (file_data b).str i (str-place b) some
+    (name-apart b (name_of Str) ((file_data b).found Str) i (str-place b) some
     (λ e. texts-str (debug_section (section_name b i)) none (ap debug_section e ∙ debug_section-name Str)))
-    (name-apart b (name_of LineStr) (file_data b).line_str i (line-place b) some
+    (name-apart b (name_of LineStr) ((file_data b).found LineStr) i (line-place b) some
     (λ e. texts-line (debug_section (section_name b i)) none (ap debug_section e ∙ debug_section-name LineStr))))
     ∙ length-bytes_of (now_in m b r i)
 

@@ -24,6 +24,7 @@ use Rattle.dw_base.specs.declared.view_fields.Field.{Field}
 use Rattle.dw_base.specs.declared.view_fields.Field.TheVariants.{Num, Into, Sym}
 use Rattle.dw_base.proofs.IndexKeptLaws.{start-no-index}
 use Rattle.dw_base.proofs.PathSlotLaws.{mark_slots, marks_slots, marks_slots-append, forest-slots}
+use Rattle.dw_base.specs.declared.debug_sections.DebugSection.TheVariants.{Info, StrOffsets, Line}
 use Rattle.dw_meaning.specs.SpelledUnits.{marks_of, SpelledUnits, no_units, more_units}
 use Rattle.dw_meaning.proofs.IndexTextLaws.{use-path}
 use Rattle.dw_meaning.proofs.SpelledLaws.{section-spelled}
@@ -38,16 +39,16 @@ found-none (e ∷ es) section place n = by_here (e.section == section && e.place
     by_here false h = h
 
 global-none : (g : Lasting) (f : Field) → path_slot (global_entry g f) ≡ []
-global-none g (Num n) = found-none g.entries (first_of g.infos) n n
+global-none g (Num n) = found-none (g.kept Info).entries (first_of (g.kept Info).infos) n n
 global-none g (Sym s k d) = refl
-global-none g (Into z n) = by_info (holds_number g.infos z)
+global-none g (Into z n) = by_info (holds_number (g.kept Info).infos z)
   where
-    by_info : (b : Bool) → path_slot (if b then found_entry g.entries z n n else stray n) ≡ []
-    by_info true = found-none g.entries z n n
+    by_info : (b : Bool) → path_slot (if b then found_entry (g.kept Info).entries z n n else stray n) ≡ []
+    by_info true = found-none (g.kept Info).entries z n n
     by_info false = refl
 
 local-none : (g : Lasting) (s : UnitState) (n : ℕ) → path_slot (local_entry g s n) ≡ []
-local-none g s n = found-none g.entries s.section (s.header.start + n) n
+local-none g s n = found-none (g.kept Info).entries s.section (s.header.start + n) n
 
 -- a text that has no slot
 text-none : (path : Bool) (t : List ℕ) → path_slot (string path by_offset t) ≡ []
@@ -71,12 +72,12 @@ indexed-slot texts o true false p e = absurd cc
 indexed-slot texts o false true p e = absurd cc
 
 abbrev named_by : Around → UnitState → ℕ → Bool → Option ℕ → List ℕ
-named_by around s place path o = slots_named true around.lasting.indexing (use_by s place path o)
+named_by around s place path o = slots_named true (around.lasting.kept StrOffsets) (use_by s place path o)
 
 number-slot : (class : ValueClass) (n : ℕ) (around : Around) (s : UnitState) (u : Use) (path : Bool) (place : ℕ) (p : List Cell) → path ≡ is_path_use u
     → path_slot (number_meaning around s u class p) ≡ named_by around s place path (index_value around.lasting.base.order (number_of class n) p)
 number-slot StrIndex n around s u path place p e =
-    indexed-slot around.slots (slot_of around.lasting.indexing s.unit (spelled around.lasting.base.order (bytes_of p) 0 (length p))) (is_path_use u) path p e
+    indexed-slot (around.stands StrOffsets) (slot_of (around.lasting.kept StrOffsets) s.unit (spelled around.lasting.base.order (bytes_of p) 0 (length p))) (is_path_use u) path p e
 number-slot Address n around s u path place p e = refl
 number-slot LocalRef n around s u path place p e = local-none around.lasting s (spelled around.lasting.base.order (bytes_of p) 0 (length p))
 number-slot GlobalRef n around s u path place p e = global-none around.lasting (field_of around.lasting.base.order p)
@@ -85,7 +86,7 @@ number-slot class n around s u path place p e = refl
 leb-slot : (class : ValueClass) (around : Around) (s : UnitState) (u : Use) (path : Bool) (place : ℕ) (p : List Cell) → path ≡ is_path_use u
     → path_slot (leb_meaning around s u class p) ≡ named_by around s place path (index_value around.lasting.base.order (leb_number class) p)
 leb-slot StrIndex around s u path place p e =
-    indexed-slot around.slots (slot_of around.lasting.indexing s.unit (code_value p)) (is_path_use u) path p e
+    indexed-slot (around.stands StrOffsets) (slot_of (around.lasting.kept StrOffsets) s.unit (code_value p)) (is_path_use u) path p e
 leb-slot LocalRef around s u path place p e = local-none around.lasting s (code_value p)
 leb-slot class around s u path place p e = refl
 
@@ -123,7 +124,7 @@ value-slot (number_of class n) around s u x path place p e = by_start (is_line_s
     by_start : (b : Bool) → is_line_start u class n ≡ b
         → path_slot (if b then line_meaning around p else plain_meaning around s u class n p) ≡ named_by around s place path (index_value around.lasting.base.order (number_of class n) p)
     by_start true is =
-        table-none (line_table around p) (offset_of around.lasting.base.order around.lines p)
+        table-none (line_table around p) (offset_of around.lasting.base.order (around.stands Line).located p)
         ∙ sym (ap (named_by around s place path) (start-no-index u class n around.lasting.base.order p is))
     by_start false is = plain-slot class n around s u path place p e
 value-slot (leb_number class) around s u x path place p e = leb-slot class around s u path place p e
@@ -152,7 +153,7 @@ code-none table n = by_null (n == 0)
     by_null false = entry-none (abbreviation_of table n)
 
 piece-slots : (m : Mode) (around : Around) (s : UnitState) (p : List Cell)
-    → mark_slots (mark_by m around s p) ≡ slots_named true around.lasting.indexing (uses_by m around.lasting.base.order s p)
+    → mark_slots (mark_by m around s p) ≡ slots_named true (around.lasting.kept StrOffsets) (uses_by m around.lasting.base.order s p)
 piece-slots at_header around s p = head-none around.lasting (piece_header around.lasting.base s p)
 piece-slots at_code around s p = code-none s.table (code_value p)
 piece-slots (at_values n tag []) around s p = refl
@@ -167,12 +168,12 @@ named-append g (u ∷ us) ys =
     ∙ sym (append_assoc (if u.path then listed_slot (slot_of g u.unit u.index) else []) (slots_named true g us) (slots_named true g ys))
 
 pieces-slots : (around : Around) (xs : List (Piece UnitState))
-    → marks_slots (marks_of around xs) ≡ slots_named true around.lasting.indexing (uses_in around.lasting.base.order xs)
+    → marks_slots (marks_of around xs) ≡ slots_named true (around.lasting.kept StrOffsets) (uses_in around.lasting.base.order xs)
 pieces-slots around [] = refl
 pieces-slots around (x ∷ xs) =
     ap (λ (ns : List ℕ). ns ++ marks_slots (marks_of around xs)) (piece-slots x.state.mode around x.state x.cells)
-    ∙ ap (λ (ns : List ℕ). slots_named true around.lasting.indexing (uses_by x.state.mode around.lasting.base.order x.state x.cells) ++ ns) (pieces-slots around xs)
-    ∙ sym (named-append around.lasting.indexing (uses_by x.state.mode around.lasting.base.order x.state x.cells) (uses_in around.lasting.base.order xs))
+    ∙ ap (λ (ns : List ℕ). slots_named true (around.lasting.kept StrOffsets) (uses_by x.state.mode around.lasting.base.order x.state x.cells) ++ ns) (pieces-slots around xs)
+    ∙ sym (named-append (around.lasting.kept StrOffsets) (uses_by x.state.mode around.lasting.base.order x.state x.cells) (uses_in around.lasting.base.order xs))
 
 marks-append : (around : Around) (xs ys : List (Piece UnitState)) → marks_of around (xs ++ ys) ≡ marks_of around xs ++ marks_of around ys
 marks-append around [] ys = refl
@@ -196,16 +197,16 @@ unit_slots-append (u ∷ us) ys =
 
 -- the units of all sections
 pub units-slots : (base : UnitBase) (around : Around) (first : ℕ) (zs : List UnitSection) (rs : Readings) → around.lasting.base ≡ base → ReadsAll base first zs rs
-    → unit_slots (units_read around rs) ≡ slots_named true around.lasting.indexing (index_uses around.lasting.base.order rs)
+    → unit_slots (units_read around rs) ≡ slots_named true (around.lasting.kept StrOffsets) (index_uses around.lasting.base.order rs)
 units-slots base around first [] [] same reads = refl
 units-slots base around first [] (r ∷ rs) same reads = absurd reads
 units-slots base around first (z ∷ zs) [] same reads = absurd reads
 units-slots base around first (z ∷ zs) (r ∷ rs) same reads =
-    let here : unit_slots (unit_meanings r.number around r.pieces) ≡ slots_named true around.lasting.indexing (uses_in around.lasting.base.order r.pieces) =
+    let here : unit_slots (unit_meanings r.number around r.pieces) ≡ slots_named true (around.lasting.kept StrOffsets) (uses_in around.lasting.base.order r.pieces) =
     ap (λ (n : ℕ). unit_slots (unit_meanings n around r.pieces)) reads.0
     ∙ spelled-slots around z.number r.pieces (unit_meanings z.number around r.pieces) (section-spelled base around z first r.pieces same reads.1)
     ∙ pieces-slots around r.pieces in
     unit_slots-append (unit_meanings r.number around r.pieces) (units_read around rs)
     ∙ ap (λ (ns : List ℕ). ns ++ unit_slots (units_read around rs)) here
-    ∙ ap (λ (ns : List ℕ). slots_named true around.lasting.indexing (uses_in around.lasting.base.order r.pieces) ++ ns) (units-slots base around (first + units_in r.pieces) zs rs same reads.2)
-    ∙ sym (named-append around.lasting.indexing (uses_in around.lasting.base.order r.pieces) (index_uses around.lasting.base.order rs))
+    ∙ ap (λ (ns : List ℕ). slots_named true (around.lasting.kept StrOffsets) (uses_in around.lasting.base.order r.pieces) ++ ns) (units-slots base around (first + units_in r.pieces) zs rs same reads.2)
+    ∙ sym (named-append (around.lasting.kept StrOffsets) (uses_in around.lasting.base.order r.pieces) (index_uses around.lasting.base.order rs))

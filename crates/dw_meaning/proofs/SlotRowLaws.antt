@@ -7,7 +7,7 @@ use Rattle.dw_base.specs.NameTableFails.{TablesFail, NameTablesFail}
 use Rattle.dw_base.specs.NameTables.{texts_in, no_tables}
 use Rattle.dw_base.specs.SectionTexts.{name_role_by, name_role}
 use Rattle.dw_base.specs.ViewData.{cells_located, debug_data, located, located_at}
-use Rattle.dw_base.specs.declared.debug_sections.DebugSection.TheVariants.{Names}
+use Rattle.dw_base.specs.declared.debug_sections.DebugSection.TheVariants.{Info, Str, LineStr, StrOffsets, Line, Names}
 use Rattle.dw_base.proofs.NameBackLaws.{StringNamesBy, StringNames, tables-back}
 use Rattle.dw_base.proofs.NameRowLaws.{tables-exclude}
 use Rattle.dw_base.proofs.ViewCellLaws.{bytes_of-view_cells}
@@ -35,6 +35,7 @@ use Rattle.dw_base.proofs.ContributionRowLaws.{contributions-exclude}
 use Rattle.dw_meaning.specs.DataFails.{IndexesRead, SlotTextFails, index as index_row, slot as slot_row}
 use Rattle.dw_meaning.specs.DataOutput.{DataReads, DataFits}
 use Rattle.dw_meaning.proofs.DataOneLaws.{readings-one, offsets-one, readings_with}
+use Rattle.dw_meaning.proofs.DataParts.{kept_with, stands_with}
 
 -- one of uses, one of pieces
 use-among : (P : IndexUse → Type 0) (before behind : List IndexUse) (u : IndexUse) → EachUse P (before ++ u ∷ behind) → P u
@@ -62,7 +63,7 @@ slots-exclude section around xs r all (no_text x here none) =
     let own : NamesTextBy (slot_role (path_slots around) x.state) around x.cells =
     piece-among (λ (y : Piece OffsetState). NamesTextBy (slot_role (path_slots around) y.state) around y.cells) here.before here.behind x
     (subst (λ (ys : List (Piece OffsetState)). NameTexts (slot_role (path_slots around)) around ys) here.pieces all) in
-    let ends : ends_in around.str.bytes (offset_in around in_str x.cells) ≡ true =
+    let ends : ends_in (around.stands Str).bytes (offset_in around in_str x.cells) ≡ true =
     subst (λ (m : OffsetMode). NamesTextBy (offset_role (path_slots around) m x.state.slot) around x.cells) here.mode own in
     clash (sym ends ∙ none)
   where
@@ -81,17 +82,9 @@ abbrev pub with_starts : Around → List ℕ → MacroPlaces → Around
 with_starts around ns ms = record {
   lasting = record {
     base = around.lasting.base;
-    entries = around.lasting.entries;
-    infos = around.lasting.infos;
-    indexing = around.lasting.indexing;
-    macros = ms;
+    kept = kept_with (around.lasting.kept Info).entries (around.lasting.kept Info).infos (around.lasting.kept StrOffsets) ms;
   };
-  str = around.str;
-  line_str = around.line_str;
-  slots = around.slots;
-  lines = around.lines;
-  line_cells = around.line_cells;
-  starts = ns;
+  stands = stands_with (around.stands Str) (around.stands LineStr) (around.stands StrOffsets) (around.stands Line).located (around.stands Line).cells ns;
 }
 
 starts-names : (around : Around) (ns : List ℕ) (ms : MacroPlaces) (xs : List (Piece OffsetState)) → NameTexts (slot_role (path_slots around)) around xs
@@ -119,8 +112,8 @@ starts-fits m around ns ms (x ∷ xs) h = (by_mode x.state.mode h.0, starts-fits
 around-one : (d : DebugData) (r q : DataReadings) → IndexesRead d r → DataReads d q
     → (around_of d r ≡ with_starts (around_of d q) (table_starts r.lines) (macro_places d r)) × (r.offsets ≡ q.offsets)
 around-one d r q i a =
-    let units : r.units ≡ q.units = readings-one d.base 0 d.units r.units q.units i.units a.units in
-    let offsets : r.offsets ≡ q.offsets = offsets-one d.base.order d.offsets.contents r.offsets q.offsets i.offsets a.offsets in (
+    let units : r.units ≡ q.units = readings-one d.base 0 (d.found Info) r.units q.units i.units a.units in
+    let offsets : r.offsets ≡ q.offsets = offsets-one d.base.order (d.found StrOffsets).contents r.offsets q.offsets i.offsets a.offsets in (
       ap (λ (us : Readings). around_of d (readings_with us r.offsets r.lines r.macros [])) units
           ∙ ap (λ (xs : List (Piece OffsetState)). around_of d (readings_with q.units xs r.lines r.macros [])) offsets,
       offsets,
@@ -129,22 +122,22 @@ around-one d r q i a =
 pub slot_texts-exclude : (d : DebugData) (q : DataReadings) (r : Refusal) → DataReads d q → SlotTextFails d r → ⊥
 slot_texts-exclude d q r a (index_row readings i f) =
     let same = around-one d readings q i a in
-    indexes-exclude (indexing_of d q) r a.indexes (subst (λ (x : Around). IndexFails x.lasting.indexing r) same.0 f)
+    indexes-exclude (indexing_of d q) r a.indexes (subst (λ (x : Around). IndexFails (x.lasting.kept StrOffsets) r) same.0 f)
 slot_texts-exclude d q r a (slot_row readings i f) =
     let same = around-one d readings q i a in
-    slots-exclude d.offsets.number (with_starts (around_of d q) (table_starts readings.lines) (macro_places d readings)) q.offsets r
+    slots-exclude (d.found StrOffsets).number (with_starts (around_of d q) (table_starts readings.lines) (macro_places d readings)) q.offsets r
     (starts-names (around_of d q) (table_starts readings.lines) (macro_places d readings) q.offsets a.slot_texts)
-    (subst (λ (xs : List (Piece OffsetState)). SlotFails d.offsets.number (with_starts (around_of d q) (table_starts readings.lines) (macro_places d readings)) xs r) same.1
-    (subst (λ (x : Around). SlotFails d.offsets.number x readings.offsets r) same.0 f))
+    (subst (λ (xs : List (Piece OffsetState)). SlotFails (d.found StrOffsets).number (with_starts (around_of d q) (table_starts readings.lines) (macro_places d readings)) xs r) same.1
+    (subst (λ (x : Around). SlotFails (d.found StrOffsets).number x readings.offsets r) same.0 f))
 
 pub shared-row : (m : PathMap) (d : DebugData) (q readings : DataReadings) (r : Refusal) → DataReads d q → DataFits m d q → IndexesRead d readings
-    → SharedFails m d.offsets.number (around_of d readings) readings.offsets r → ⊥
+    → SharedFails m (d.found StrOffsets).number (around_of d readings) readings.offsets r → ⊥
 shared-row m d q readings r a fits i f =
     let same = around-one d readings q i a in
-    shared-excludes m d.offsets.number (with_starts (around_of d q) (table_starts readings.lines) (macro_places d readings)) q.offsets r
+    shared-excludes m (d.found StrOffsets).number (with_starts (around_of d q) (table_starts readings.lines) (macro_places d readings)) q.offsets r
     (starts-fits m (around_of d q) (table_starts readings.lines) (macro_places d readings) q.offsets fits.slots)
-    (subst (λ (xs : List (Piece OffsetState)). SharedFails m d.offsets.number (with_starts (around_of d q) (table_starts readings.lines) (macro_places d readings)) xs r) same.1
-    (subst (λ (x : Around). SharedFails m d.offsets.number x readings.offsets r) same.0 f))
+    (subst (λ (xs : List (Piece OffsetState)). SharedFails m (d.found StrOffsets).number (with_starts (around_of d q) (table_starts readings.lines) (macro_places d readings)) xs r) same.1
+    (subst (λ (x : Around). SharedFails m (d.found StrOffsets).number x readings.offsets r) same.0 f))
 
 -- string offsets that can be read exclude the refusals of contributions
 pub string_tables-exclude : (order : Order) (z : CellSection) (xs : List (Piece OffsetState)) (r : Refusal) → ReadsOffsets order z.contents xs
@@ -153,7 +146,7 @@ string_tables-exclude order z xs r reads f =
     contributions-exclude order (bytes_of z.contents) z.number (contributions_in order xs) r (contributions-back order z.contents xs reads) f
 
 -- name tables whose pieces are read are tables of the view
-string-names : (m : NameMode) (v : View) (around : Around) (p : List Cell) → around.str ≡ texts_in v → around.lasting.base.order ≡ v.order → NamesTextBy (name_role_by m) around p
+string-names : (m : NameMode) (v : View) (around : Around) (p : List Cell) → around.stands Str ≡ texts_in v → around.lasting.base.order ≡ v.order → NamesTextBy (name_role_by m) around p
     → StringNamesBy m v p
 string-names at_table v around p str order h = tt
 string-names (at_string width left end) v around p str order h =
@@ -162,7 +155,7 @@ string-names (at_string width left end) v around p str order h =
 string-names (at_rest end) v around p str order h = tt
 string-names no_names v around p str order h = tt
 
-all-names : (v : View) (around : Around) (xs : List (Piece NameState)) → around.str ≡ texts_in v → around.lasting.base.order ≡ v.order
+all-names : (v : View) (around : Around) (xs : List (Piece NameState)) → around.stands Str ≡ texts_in v → around.lasting.base.order ≡ v.order
     → NameTexts name_role around xs → EachPiece (StringNames v) xs
 all-names v around [] str order h = tt
 all-names v around (x ∷ xs) str order h = (string-names x.state.mode v around x.cells str order h.0, all-names v around xs str order h.1)

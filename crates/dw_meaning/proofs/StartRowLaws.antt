@@ -13,6 +13,7 @@ use Rattle.dw_base.specs.SectionTexts.{macro_role_by, macro_role}
 use Rattle.dw_base.specs.TableStarts.{HasStartForm, has_start_form, is_import, NamesUnitIf, NamesMacro, NamesImport, HasUnitPiece, HasMacroPiece, StrayFails, other_form, no_table, no_unit, MacroStrayFails, no_line, no_import}
 use Rattle.dw_base.specs.TextChanges.{NamesTextBy, NamesText}
 use Rattle.dw_base.specs.UnitStates.{UnitState}
+use Rattle.dw_base.specs.declared.debug_sections.DebugSection.TheVariants.{Info, StrOffsets, Line, Macro}
 use Rattle.dw_base.specs.declared.fault.Refusal.{Refusal}
 use Rattle.dw_meaning.specs.DataFails.{StartsFail, stray, macro_stray}
 use Rattle.dw_meaning.specs.DataOutput.{DataReads}
@@ -20,6 +21,7 @@ use Rattle.dw_meaning.proofs.DataOneLaws.{readings-one}
 use Rattle.dw_meaning.proofs.LineOneLaws.{tables-one}
 use Rattle.dw_meaning.proofs.MacroReadLaws.{all-macros-one}
 use Rattle.dw_meaning.proofs.SlotRowLaws.{piece-among}
+use Rattle.dw_meaning.proofs.DataParts.{kept_with}
 
 -- one of all pieces of units
 reading-among : (P : Piece UnitState → Type 0) (before behind : Readings) (x : Reading) → EachReading P (before ++ x ∷ behind) → EachPiece P x.pieces
@@ -50,14 +52,11 @@ clash b e f = true_false (sym e ∙ f)
 abbrev lasting_with : DebugData → DataReadings → MacroPlaces → Lasting
 lasting_with d r ms = record {
   base = (around_of d r).lasting.base;
-  entries = (around_of d r).lasting.entries;
-  infos = (around_of d r).lasting.infos;
-  indexing = (around_of d r).lasting.indexing;
-  macros = ms;
+  kept = kept_with ((around_of d r).lasting.kept Info).entries ((around_of d r).lasting.kept Info).infos ((around_of d r).lasting.kept StrOffsets) ms;
 }
 
 table-same : (d : DebugData) (r q : DataReadings) (p : List Cell) → r.lines ≡ q.lines → line_table (around_of d r) p ≡ line_table (around_of d q) p
-table-same d r q p lines = ap (λ (ts : List LineReading). start_number 0 (table_starts ts) (offset_of d.base.order (around_of d q).lines p)) lines
+table-same d r q p lines = ap (λ (ts : List LineReading). start_number 0 (table_starts ts) (offset_of d.base.order ((around_of d q).stands Line).located p)) lines
 
 unit-same : (d : DebugData) (r q : DataReadings) (p : List Cell) → r.macros ≡ q.macros → macro_unit (around_of d r).lasting p ≡ macro_unit (around_of d q).lasting p
 unit-same d r q p macros =
@@ -95,9 +94,9 @@ macro-stray-excludes d q readings r a tables macros (no_import section x width h
 
 pub starts-exclude : (d : DebugData) (q : DataReadings) (r : Refusal) → DataReads d q → StartsFail d r → ⊥
 starts-exclude d q r a (stray readings reads f) =
-    stray-excludes d q readings r a (readings-one d.base 0 d.units readings.units q.units reads.units a.units)
+    stray-excludes d q readings r a (readings-one d.base 0 (d.found Info) readings.units q.units reads.units a.units)
     (tables-one (line_source d) 0 (length (line_source d).bytes) readings.lines q.lines reads.lines a.lines)
-    (all-macros-one d.base.order d.macros readings.macros q.macros reads.macros a.macros) f
+    (all-macros-one d.base.order (d.found Macro) readings.macros q.macros reads.macros a.macros) f
 starts-exclude d q r a (macro_stray readings reads f) =
     macro-stray-excludes d q readings r a (tables-one (line_source d) 0 (length (line_source d).bytes) readings.lines q.lines reads.lines a.lines)
-    (all-macros-one d.base.order d.macros readings.macros q.macros reads.macros a.macros) f
+    (all-macros-one d.base.order (d.found Macro) readings.macros q.macros reads.macros a.macros) f

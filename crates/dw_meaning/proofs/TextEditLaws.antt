@@ -41,6 +41,8 @@ use Rattle.dw_base.proofs.PlainCellLaws.{IsPlain, first-plain}
 use Rattle.dw_base.proofs.TableLaws.{is_in-texts_after, is_in-with_mention}
 use Rattle.dw_base.proofs.TextLaws.{has_nul-append, text-append_nul, has_nul-text, drop-text, has_nul-text_in, same_text-true, text_in-append, ends_in-append, ends_in-inside, text_in-place_in, ends_in-place_in, place_in-lt}
 use Rattle.dw_base.proofs.UnitEditLaws.{Shift, Restarted, Rewritten, Becomes, PieceSlot, UnitsChanged, length-bytes_of, number-there}
+use Rattle.dw_base.specs.declared.debug_sections.DebugSection.TheVariants.{Str, LineStr, StrOffsets, Line}
+use Rattle.dw_meaning.proofs.DataParts.{stands_with}
 
 -- a plan under which a mention that asks for no place keeps its text, which stays where it is
 pub record KeepsTexts (plan : Plan) (m : PathMap) (table : List ℕ) : Type 0 where
@@ -86,17 +88,17 @@ EachBelow n (s ∷ ss) = (s < n) × EachBelow n ss
 -- what holds of the new line tables: there are as many, each has a byte at least, and all have at most 2^32 bytes; the old ones start in their
 -- section
 pub record LinesMove (c : TableChanges) (around : Around) : Type 0 where
-  pub count : length c.lines ≡ length around.starts
-  pub some : EachSome c.lines
-  pub small : length (all_lines c.lines) ≤ 2 ^ 32
-  pub below : EachBelow (length around.lines.bytes) around.starts
+  pub count : length (c.new Line) ≡ length (around.stands Line).starts
+  pub some : EachSome (c.new Line)
+  pub small : length (all_lines (c.new Line)) ≤ 2 ^ 32
+  pub below : EachBelow (length (around.stands Line).located.bytes) (around.stands Line).starts
 
 -- and of the changes of all tables
 pub record TablesMove (c : TableChanges) (around : Around) : Type 0 where
   pub map : IsPathMap c.map
   pub lines : LinesMove c around
-  pub str : TableMoves c.map c.str around.str
-  pub line_str : TableMoves c.map c.line_str around.line_str
+  pub str : TableMoves c.map (c.new Str) (around.stands Str)
+  pub line_str : TableMoves c.map (c.new LineStr) (around.stands LineStr)
 
 -- the mention of a field of an offset into a table
 abbrev mention_in : Order → Located → Bool → List Cell → Mention
@@ -175,12 +177,9 @@ shift_of c around lc = record {
   old = around;
   new = record {
     lasting = around.lasting;
-    str = moved_table around.str c.str;
-    line_str = moved_table around.line_str c.line_str;
-    slots = mapped_slots c.map (path_slots around) 0 around.slots;
-    lines = record { number = around.lines.number; bytes = all_lines c.lines };
-    line_cells = lc;
-    starts = starts_from 0 c.lines;
+    stands = stands_with (moved_table (around.stands Str) (c.new Str)) (moved_table (around.stands LineStr) (c.new LineStr))
+        (mapped_slots c.map (path_slots around) 0 (around.stands StrOffsets)) (record { number = (around.stands Line).located.number; bytes = all_lines (c.new Line) })
+        lc (starts_from 0 (c.new Line));
   };
   lasting = refl;
 }
@@ -202,7 +201,7 @@ offset-moves : {lc : List Cell} (table : TextSection) (path : Bool) (c : TableCh
     → MakesRole (offset table path) c around p → length p ≡ width_size w → NamesTextBy (offset table path) around p → Provided (offset table path) c around p
     → Becomes (offset table path) (shift_of c around lc) p (edited_by (offset table path) c around p)
 offset-moves in_str path c around p w t place size names there =
-    let f = field-moves c.map around.lasting.base.order c.str around.str path p
+    let f = field-moves c.map around.lasting.base.order (c.new Str) (around.stands Str) path p
     (record {
       map = t.map;
       moves = t.str;
@@ -210,12 +209,12 @@ offset-moves in_str path c around p w t place size names there =
       size = size;
       names = names;
       there = there;
-      makes = asked-makes (c.str.plan.asks (mention_in around.lasting.base.order around.str path p))
-          (new_place c.str.plan c.map c.str.texts (mention_in around.lasting.base.order around.str path p)) p place;
+      makes = asked-makes ((c.new Str).plan.asks (mention_in around.lasting.base.order (around.stands Str) path p))
+          (new_place (c.new Str).plan c.map (c.new Str).texts (mention_in around.lasting.base.order (around.stands Str) path p)) p place;
     }) in
     record { size = f.size; says = f.says; ends = f.ends }
 offset-moves in_line_str path c around p w t place size names there =
-    let f = field-moves c.map around.lasting.base.order c.line_str around.line_str path p
+    let f = field-moves c.map around.lasting.base.order (c.new LineStr) (around.stands LineStr) path p
     (record {
       map = t.map;
       moves = t.line_str;
@@ -223,8 +222,8 @@ offset-moves in_line_str path c around p w t place size names there =
       size = size;
       names = names;
       there = there;
-      makes = asked-makes (c.line_str.plan.asks (mention_in around.lasting.base.order around.line_str path p))
-          (new_place c.line_str.plan c.map c.line_str.texts (mention_in around.lasting.base.order around.line_str path p)) p place;
+      makes = asked-makes ((c.new LineStr).plan.asks (mention_in around.lasting.base.order (around.stands LineStr) path p))
+          (new_place (c.new LineStr).plan c.map (c.new LineStr).texts (mention_in around.lasting.base.order (around.stands LineStr) path p)) p place;
     }) in
     record { size = f.size; says = f.says; ends = f.ends }
 
@@ -305,28 +304,28 @@ start-moves : {lc : List Cell} (c : TableChanges) (around : Around) (p : List Ce
     → Restarted (shift_of c around lc) p (edited_by line_start c around p)
 start-moves {lc} c around p t makes_it size names = by_table (line_table around p) refl names makes_it
   where
-    by_table : (o : Option ℕ) → line_table around p ≡ o → IsTrue (is_there o) → MakesNew (start_place (starts_from 0 c.lines) o) p
-        → Restarted (shift_of c around lc) p (moved_start (starts_from 0 c.lines) around.lasting.base.order o p)
+    by_table : (o : Option ℕ) → line_table around p ≡ o → IsTrue (is_there o) → MakesNew (start_place (starts_from 0 (c.new Line)) o) p
+        → Restarted (shift_of c around lc) p (moved_start (starts_from 0 (c.new Line)) around.lasting.base.order o p)
     by_table None e some makes = absurd cc
     by_table (Some k) e some makes =
         let count = t.lines.count in
         let small = t.lines.small in
-        let below : k < 0 + length around.starts = number-below 0 around.starts (offset_of around.lasting.base.order around.lines p) k e in
-        let here : k < length c.lines = omega (arith, below, count) in
-        let place : IsPlace around.lines.number p = place-inside around.lasting.base.order around.lines p
-        (start-inside (offset_of around.lasting.base.order around.lines p) 0 k (length around.lines.bytes) around.starts t.lines.below e) in
-        let v : ℕ = get_or (starts_from 0 c.lines) k 0 in
-        let last = start-end 0 k c.lines t.lines.some here in
-        let reads : offset_of around.lasting.base.order (record { number = around.lines.number; bytes = all_lines c.lines })
-        (with_offset around.lasting.base.order p (get_or (starts_from 0 c.lines) k 0)) ≡ get_or (starts_from 0 c.lines) k 0 =
-        place-put around.lasting.base.order (record { number = around.lines.number; bytes = all_lines c.lines }) p (get_or (starts_from 0 c.lines) k 0) place
-        (sized-some (length p) size) (start-fits (length p) (get_or (starts_from 0 c.lines) k 0) size (omega (arith, last, small))) makes in
+        let below : k < 0 + length (around.stands Line).starts = number-below 0 (around.stands Line).starts (offset_of around.lasting.base.order (around.stands Line).located p) k e in
+        let here : k < length (c.new Line) = omega (arith, below, count) in
+        let place : IsPlace (around.stands Line).located.number p = place-inside around.lasting.base.order (around.stands Line).located p
+        (start-inside (offset_of around.lasting.base.order (around.stands Line).located p) 0 k (length (around.stands Line).located.bytes) (around.stands Line).starts t.lines.below e) in
+        let v : ℕ = get_or (starts_from 0 (c.new Line)) k 0 in
+        let last = start-end 0 k (c.new Line) t.lines.some here in
+        let reads : offset_of around.lasting.base.order (record { number = (around.stands Line).located.number; bytes = all_lines (c.new Line) })
+        (with_offset around.lasting.base.order p (get_or (starts_from 0 (c.new Line)) k 0)) ≡ get_or (starts_from 0 (c.new Line)) k 0 =
+        place-put around.lasting.base.order (record { number = (around.stands Line).located.number; bytes = all_lines (c.new Line) }) p (get_or (starts_from 0 (c.new Line)) k 0) place
+        (sized-some (length p) size) (start-fits (length p) (get_or (starts_from 0 (c.new Line)) k 0) size (omega (arith, last, small))) makes in
         let zero_ : 0 + k ≡ k = omega arith in
-        let found : start_number 0 (starts_from 0 c.lines) (offset_of around.lasting.base.order (record { number = around.lines.number; bytes = all_lines c.lines })
-        (with_offset around.lasting.base.order p (get_or (starts_from 0 c.lines) k 0))) ≡ Some k =
-        ap (start_number 0 (starts_from 0 c.lines)) reads ∙ start-found 0 0 k c.lines t.lines.some here ∙ ap (λ (i : ℕ). Some i) zero_ in
+        let found : start_number 0 (starts_from 0 (c.new Line)) (offset_of around.lasting.base.order (record { number = (around.stands Line).located.number; bytes = all_lines (c.new Line) })
+        (with_offset around.lasting.base.order p (get_or (starts_from 0 (c.new Line)) k 0))) ≡ Some k =
+        ap (start_number 0 (starts_from 0 (c.new Line))) reads ∙ start-found 0 0 k (c.new Line) t.lines.some here ∙ ap (λ (i : ℕ). Some i) zero_ in
         record {
-          size = length-put around.lasting.base.order p (get_or (starts_from 0 c.lines) k 0);
+          size = length-put around.lasting.base.order p (get_or (starts_from 0 (c.new Line)) k 0);
           says = found ∙ sym e;
           names = ap is_there found;
         }
@@ -413,8 +412,8 @@ texts_after-append plan m ts (x ∷ xs) ys = texts_after-append plan m (with_men
 
 -- the new texts of the tables are those after these mentions, from these texts on
 pub record TextsAre (c : TableChanges) (ts us : List (List ℕ)) (ms ns : List Mention) : Type 0 where
-  pub str : c.str.texts ≡ texts_after c.str.plan c.map ts ms
-  pub line_str : c.line_str.texts ≡ texts_after c.line_str.plan c.map us ns
+  pub str : (c.new Str).texts ≡ texts_after (c.new Str).plan c.map ts ms
+  pub line_str : (c.new LineStr).texts ≡ texts_after (c.new LineStr).plan c.map us ns
 
 -- each text that is asked for is among those after all mentions
 provided : (r : Role) (c : TableChanges) (around : Around) (ts us : List (List ℕ)) (p : List Cell) (ms ns : List Mention)
@@ -425,18 +424,18 @@ provided line_start c around ts us p ms ns all = tt
 provided (offset in_str path) c around ts us p ms ns all = λ asks.
     let x : Mention = mention_at around in_str path p in
     subst (λ (vs : List (List ℕ)). is_in vs (new_text c.map x) ≡ true) (sym all.str)
-    (is_in-texts_after c.str.plan c.map (with_mention c.str.plan c.map ts x) ms (new_text c.map x) (is_in-with_mention c.str.plan c.map ts x asks))
+    (is_in-texts_after (c.new Str).plan c.map (with_mention (c.new Str).plan c.map ts x) ms (new_text c.map x) (is_in-with_mention (c.new Str).plan c.map ts x asks))
 provided (offset in_line_str path) c around ts us p ms ns all = λ asks.
     let x : Mention = mention_at around in_line_str path p in
     subst (λ (vs : List (List ℕ)). is_in vs (new_text c.map x) ≡ true) (sym all.line_str)
-    (is_in-texts_after c.line_str.plan c.map (with_mention c.line_str.plan c.map us x) ns (new_text c.map x) (is_in-with_mention c.line_str.plan c.map us x asks))
+    (is_in-texts_after (c.new LineStr).plan c.map (with_mention (c.new LineStr).plan c.map us x) ns (new_text c.map x) (is_in-with_mention (c.new LineStr).plan c.map us x asks))
 
 -- the texts, behind the mentions of a piece
 pub behind_piece : (c : TableChanges) (ts us : List (List ℕ)) (heres lines ms ns : List Mention) → TextsAre c ts us (heres ++ ms) (lines ++ ns)
-    → TextsAre c (texts_after c.str.plan c.map ts heres) (texts_after c.line_str.plan c.map us lines) ms ns
+    → TextsAre c (texts_after (c.new Str).plan c.map ts heres) (texts_after (c.new LineStr).plan c.map us lines) ms ns
 behind_piece c ts us heres lines ms ns all = record {
-  str = all.str ∙ texts_after-append c.str.plan c.map ts heres ms;
-  line_str = all.line_str ∙ texts_after-append c.line_str.plan c.map us lines ns;
+  str = all.str ∙ texts_after-append (c.new Str).plan c.map ts heres ms;
+  line_str = all.line_str ∙ texts_after-append (c.new LineStr).plan c.map us lines ns;
 }
 
 -- a piece that an edit may move can have the offset that it gets
@@ -474,12 +473,12 @@ edited-changed lc base c around ts us s (x ∷ xs) ms ns t all chain moves names
     let lines : List Mention = mentions_by (role_of x) in_line_str around x.cells in
     let rest : TextsAre c ts us (heres ++ (mentions_of in_str around xs ++ ms)) (lines ++ (mentions_of in_line_str around xs ++ ns)) =
     record {
-      str = all.str ∙ ap (texts_after c.str.plan c.map ts) (append_assoc heres (mentions_of in_str around xs) ms);
-      line_str = all.line_str ∙ ap (texts_after c.line_str.plan c.map us) (append_assoc lines (mentions_of in_line_str around xs) ns);
+      str = all.str ∙ ap (texts_after (c.new Str).plan c.map ts) (append_assoc heres (mentions_of in_str around xs) ms);
+      line_str = all.line_str ∙ ap (texts_after (c.new LineStr).plan c.map us) (append_assoc lines (mentions_of in_line_str around xs) ns);
     } in
     let there = provided (role_of x) c around ts us x.cells (mentions_of in_str around xs ++ ms) (mentions_of in_line_str around xs ++ ns) rest in (
       record { state = refl; cells = (mode-moves lc x.state.mode base x.state c around x.cells t moves.0 chain.1 names.0 fits.0 there, slots.0) },
-      edited-changed lc base c around (texts_after c.str.plan c.map ts heres) (texts_after c.line_str.plan c.map us lines)
+      edited-changed lc base c around (texts_after (c.new Str).plan c.map ts heres) (texts_after (c.new LineStr).plan c.map us lines)
           ((unit_grammar base).next x.state x.cells) xs ms ns t
           (behind_piece c ts us heres lines (mentions_of in_str around xs ++ ms) (mentions_of in_line_str around xs ++ ns) rest)
           chain.2 moves.1 names.1 fits.1 slots.1,
@@ -520,12 +519,12 @@ roles-changed lc role c around ts us (x ∷ xs) ms ns t all can names =
     let lines : List Mention = mentions_by (role x.state) in_line_str around x.cells in
     let rest : TextsAre c ts us (heres ++ (mentions_with role in_str around xs ++ ms)) (lines ++ (mentions_with role in_line_str around xs ++ ns)) =
     record {
-      str = all.str ∙ ap (texts_after c.str.plan c.map ts) (append_assoc heres (mentions_with role in_str around xs) ms);
-      line_str = all.line_str ∙ ap (texts_after c.line_str.plan c.map us) (append_assoc lines (mentions_with role in_line_str around xs) ns);
+      str = all.str ∙ ap (texts_after (c.new Str).plan c.map ts) (append_assoc heres (mentions_with role in_str around xs) ms);
+      line_str = all.line_str ∙ ap (texts_after (c.new LineStr).plan c.map us) (append_assoc lines (mentions_with role in_line_str around xs) ns);
     } in
     let there = provided (role x.state) c around ts us x.cells (mentions_with role in_str around xs ++ ms) (mentions_with role in_line_str around xs ++ ns) rest in (
       record { state = refl; cells = role-moves lc (role x.state) c around x.cells t can.0 names.0 there },
-      roles-changed lc role c around (texts_after c.str.plan c.map ts heres) (texts_after c.line_str.plan c.map us lines) xs ms ns t
+      roles-changed lc role c around (texts_after (c.new Str).plan c.map ts heres) (texts_after (c.new LineStr).plan c.map us lines) xs ms ns t
           (behind_piece c ts us heres lines (mentions_with role in_str around xs ++ ms) (mentions_with role in_line_str around xs ++ ns) rest)
           can.1 names.1,
     )

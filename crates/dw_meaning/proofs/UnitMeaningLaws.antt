@@ -27,6 +27,7 @@ use Rattle.dw_base.specs.declared.values.ValueClass.TheVariants.{Address, LocalR
 use Rattle.dw_base.specs.declared.view_fields.Field.{Field}
 use Rattle.dw_base.specs.declared.view_fields.Field.TheVariants.{Num, Into, Sym}
 use Rattle.dw_base.proofs.UnitEditLaws.{Shift, Restarted, Becomes, SlotBecomes, ValueSlot, PieceSlot, UnitsChanged}
+use Rattle.dw_base.specs.declared.debug_sections.DebugSection.TheVariants.{Info, StrOffsets, Line}
 
 abbrev mapped_mark : PathMap → Mark → Mark
 mapped_mark m (attribute a) = attribute (mapped_attribute m a)
@@ -49,16 +50,16 @@ found-mapped m (e ∷ es) section place n = by_here (e.section == section && e.p
     by_here false h = h
 
 global-mapped : (m : PathMap) (g : Lasting) (f : Field) → global_entry g f ≡ mapped_value m (global_entry g f)
-global-mapped m g (Num n) = found-mapped m g.entries (first_of g.infos) n n
+global-mapped m g (Num n) = found-mapped m (g.kept Info).entries (first_of (g.kept Info).infos) n n
 global-mapped m g (Sym s k d) = refl
-global-mapped m g (Into z n) = by_info (holds_number g.infos z)
+global-mapped m g (Into z n) = by_info (holds_number (g.kept Info).infos z)
   where
-    by_info : (b : Bool) → (if b then found_entry g.entries z n n else stray n) ≡ mapped_value m (if b then found_entry g.entries z n n else stray n)
-    by_info true = found-mapped m g.entries z n n
+    by_info : (b : Bool) → (if b then found_entry (g.kept Info).entries z n n else stray n) ≡ mapped_value m (if b then found_entry (g.kept Info).entries z n n else stray n)
+    by_info true = found-mapped m (g.kept Info).entries z n n
     by_info false = refl
 
 local-mapped : (m : PathMap) (g : Lasting) (s : UnitState) (n : ℕ) → local_entry g s n ≡ mapped_value m (local_entry g s n)
-local-mapped m g s n = found-mapped m g.entries s.section (s.header.start + n) n
+local-mapped m g s n = found-mapped m (g.kept Info).entries s.section (s.header.start + n) n
 
 number-mapped : (m : PathMap) (g : Lasting) (s : UnitState) (class : ValueClass) (p : List Cell)
     → meaning_of_number g s class p ≡ mapped_value m (meaning_of_number g s class p)
@@ -92,7 +93,7 @@ leb-changed c s class p q h =
 
 -- a text by index is that of its slot, with the same number
 indexed-changed : (o : Option ℕ) (path : Bool) (c : Shift) (p : List Cell) → SlotBecomes o path c
-    → indexed c.new.slots path o p ≡ mapped_value c.map (indexed c.old.slots path o p)
+    → indexed (c.new.stands StrOffsets) path o p ≡ mapped_value c.map (indexed (c.old.stands StrOffsets) path o p)
 indexed-changed None path c p i = refl
 indexed-changed (Some n) true c p i = ap (string true (by_slot n)) i
 indexed-changed (Some n) false c p i = ap (string false (by_slot n)) i
@@ -100,17 +101,17 @@ indexed-changed (Some n) false c p i = ap (string false (by_slot n)) i
 number-means : (class : ValueClass) (n : ℕ) (u : Use) (c : Shift) (s : UnitState) (p q : List Cell) → q ≡ p → ValueSlot (number_of class n) (is_path_use u) c s.unit p
     → number_meaning c.new s u class q ≡ mapped_value c.map (number_meaning c.old s u class p)
 number-means StrIndex n u c s p q h i =
-    ap (λ (g : Lasting). indexed c.new.slots (is_path_use u) (slot_of g.indexing s.unit (spelled g.base.order (bytes_of q) 0 (length q))) q) c.lasting
-    ∙ ap (λ (z : List Cell). indexed c.new.slots (is_path_use u) (slot_of c.old.lasting.indexing s.unit (spelled c.old.lasting.base.order (bytes_of z) 0 (length z))) z) h
-    ∙ indexed-changed (slot_of c.old.lasting.indexing s.unit (spelled c.old.lasting.base.order (bytes_of p) 0 (length p))) (is_path_use u) c p i
+    ap (λ (g : Lasting). indexed (c.new.stands StrOffsets) (is_path_use u) (slot_of (g.kept StrOffsets) s.unit (spelled g.base.order (bytes_of q) 0 (length q))) q) c.lasting
+    ∙ ap (λ (z : List Cell). indexed (c.new.stands StrOffsets) (is_path_use u) (slot_of (c.old.lasting.kept StrOffsets) s.unit (spelled c.old.lasting.base.order (bytes_of z) 0 (length z))) z) h
+    ∙ indexed-changed (slot_of (c.old.lasting.kept StrOffsets) s.unit (spelled c.old.lasting.base.order (bytes_of p) 0 (length p))) (is_path_use u) c p i
 number-means class n u c s p q h i = number-changed c s class p q h
 
 leb-means : (class : ValueClass) (u : Use) (c : Shift) (s : UnitState) (p q : List Cell) → q ≡ p → ValueSlot (leb_number class) (is_path_use u) c s.unit p
     → leb_meaning c.new s u class q ≡ mapped_value c.map (leb_meaning c.old s u class p)
 leb-means StrIndex u c s p q h i =
-    ap (λ (g : Lasting). indexed c.new.slots (is_path_use u) (slot_of g.indexing s.unit (code_value q)) q) c.lasting
-    ∙ ap (λ (z : List Cell). indexed c.new.slots (is_path_use u) (slot_of c.old.lasting.indexing s.unit (code_value z)) z) h
-    ∙ indexed-changed (slot_of c.old.lasting.indexing s.unit (code_value p)) (is_path_use u) c p i
+    ap (λ (g : Lasting). indexed (c.new.stands StrOffsets) (is_path_use u) (slot_of (g.kept StrOffsets) s.unit (code_value q)) q) c.lasting
+    ∙ ap (λ (z : List Cell). indexed (c.new.stands StrOffsets) (is_path_use u) (slot_of (c.old.lasting.kept StrOffsets) s.unit (code_value z)) z) h
+    ∙ indexed-changed (slot_of (c.old.lasting.kept StrOffsets) s.unit (code_value p)) (is_path_use u) c p i
 leb-means class u c s p q h i = leb-changed c s class p q h
 
 -- a line table is that of the same number
@@ -120,8 +121,8 @@ line-means c p q h = by_table (line_table c.new q) refl h.names
     by_table : (o : Option ℕ) → line_table c.new q ≡ o → IsTrue (is_there o) → line_meaning c.new q ≡ mapped_value c.map (line_meaning c.old p)
     by_table None e some = absurd cc
     by_table (Some k) e some =
-        ap (λ (o : Option ℕ). table_named o (offset_of c.new.lasting.base.order c.new.lines q)) e
-        ∙ sym (ap (λ (o : Option ℕ). mapped_value c.map (table_named o (offset_of c.old.lasting.base.order c.old.lines p))) (sym h.says ∙ e))
+        ap (λ (o : Option ℕ). table_named o (offset_of c.new.lasting.base.order (c.new.stands Line).located q)) e
+        ∙ sym (ap (λ (o : Option ℕ). mapped_value c.map (table_named o (offset_of c.old.lasting.base.order (c.old.stands Line).located p))) (sym h.says ∙ e))
 
 -- and so is a macro unit: its start stays
 unit-mapped : (m : PathMap) (o : Option ℕ) (f : Field) → unit_meant o f ≡ mapped_value m (unit_meant o f)

@@ -34,6 +34,7 @@ use Rattle.dw_base.proofs.ClassLaws.{class_of_kind, value-class, inline-kind, of
 use Rattle.dw_base.proofs.TextLaws.{text-append}
 use Rattle.dw_meaning.proofs.ValueCutLaws.{IsCut, value_of-own}
 use Rattle.dw_base.proofs.AbbreviationLaws.{table-found, table-one}
+use Rattle.dw_base.specs.declared.debug_sections.DebugSection.TheVariants.{Str, LineStr}
 use Rattle.dw_meaning.proofs.DataRowLaws.{WholeUnit, SectionRead, section-among, unit-whole}
 use Rattle.dw_meaning.proofs.EntryRowLaws.{entries-exclude}
 use Rattle.dw_meaning.proofs.PieceLaws.{Rest, chain-rest, chain-unique, leads-more, joined-append}
@@ -217,8 +218,8 @@ texts-exclude d rs r reads (no_text z h list number a x place v table t y class 
     once u s e = cc
 
     by_class : (c : ValueClass) → v.class ≡ c → text_table d c ≡ Some table → ⊥
-    by_class StrOffset is found = clash in_str is (once d.str table found)
-    by_class LineStrOffset is found = clash in_line_str is (once d.line_str table found)
+    by_class StrOffset is found = clash in_str is (once (d.found Str) table found)
+    by_class LineStrOffset is found = clash in_line_str is (once (d.found LineStr) table found)
     by_class Address is found = cc
     by_class Number is found = cc
     by_class Signed is found = cc

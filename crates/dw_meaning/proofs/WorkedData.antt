@@ -29,6 +29,7 @@ use Rattle.dw_base.specs.declared.values.ValueClass.TheVariants.{Address, Number
 use Rattle.dw_base.specs.declared.view_fields.Field.TheVariants.{Num}
 use Rattle.dw_meaning.proofs.PlainUnits.{pieces_from}
 use Rattle.dw_meaning.proofs.WorkedParts.{all_bytes}
+use Rattle.dw_meaning.proofs.DataParts.{found_with}
 
 abbrev pub has : ℕ → ValueMeaning → AttributeMeaning
 has name value = record { name = name; value = value }
@@ -41,13 +42,7 @@ compiled version width = record { version = version; width = width; address = 8;
 abbrev worked_data : List (List ℕ) → List ℕ → List ℕ → List ℕ → DebugData
 worked_data pieces abbrevs str line_str = record {
   base = record { order = Little; abbrevs = record { number = 2; bytes = abbrevs } };
-  units = record { number = 1; kind = in_info; contents = plain_cells (all_bytes pieces) } ∷ [];
-  str = record { number = 3; bytes = str };
-  line_str = record { number = 4; bytes = line_str };
-  offsets = no_section;
-  lines = no_section;
-  macros = [];
-  names = no_section;
+  found = found_with (record { number = 1; kind = in_info; contents = plain_cells (all_bytes pieces) } ∷ []) (record { number = 3; bytes = str }) (record { number = 4; bytes = line_str }) no_section no_section [] no_section;
 }
 
 abbrev worked_readings : DebugData → ℕ → List (List ℕ) → DataReadings

@@ -25,18 +25,13 @@ use Rattle.dw_base.specs.declared.shared.Order.TheVariants.{Little}
 use Rattle.dw_base.specs.declared.shared.Width.TheVariants.{W32}
 use Rattle.dw_meaning.proofs.PlainUnits.{pieces_from}
 use Rattle.dw_meaning.proofs.WorkedParts.{all_bytes, half, word}
+use Rattle.dw_meaning.proofs.DataParts.{found_with}
 
 -- debug data whose one unit section is number 1, with the abbreviations in 2 and the texts in 3
 abbrev pub lone_data : Order → List ℕ → List ℕ → List ℕ → DebugData
 lone_data order info abbrevs str = record {
   base = record { order = order; abbrevs = record { number = 2; bytes = abbrevs } };
-  units = record { number = 1; kind = in_info; contents = plain_cells info } ∷ [];
-  str = record { number = 3; bytes = str };
-  line_str = record { number = 0; bytes = [] };
-  offsets = no_section;
-  lines = no_section;
-  macros = [];
-  names = no_section;
+  found = found_with (record { number = 1; kind = in_info; contents = plain_cells info } ∷ []) (record { number = 3; bytes = str }) (record { number = 0; bytes = [] }) no_section no_section [] no_section;
 }
 
 -- and its readings, by pieces of `.debug_info` of so many bytes

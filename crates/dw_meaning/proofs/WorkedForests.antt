@@ -21,6 +21,7 @@ use Rattle.dw_base.specs.UnitMeanings.{UnitMeaning, units_of}
 use Rattle.dw_base.specs.UnitStates.{after_code, between}
 use Rattle.dw_base.specs.ValueMeanings.{string, by_offset}
 use Rattle.dw_base.specs.Values.{value_of, value_at}
+use Rattle.dw_base.specs.declared.debug_sections.DebugSection.TheVariants.{Info}
 use Rattle.dw_base.specs.declared.fault.Kind.TheVariants.{Entry}
 use Rattle.dw_base.specs.declared.shared.Order.TheVariants.{Little}
 use Rattle.dw_base.specs.declared.shared.Width.TheVariants.{W32}
@@ -86,7 +87,7 @@ abbrev pub tree_readings : ℕ → List (List ℕ) → DataReadings
 tree_readings whole pieces = lone_readings (tree_data pieces) whole pieces
 
 abbrev pub TreeReads : ℕ → List (List ℕ) → Type 0
-TreeReads whole pieces = ReadsAll (tree_data pieces).base 0 (tree_data pieces).units (tree_readings whole pieces).units
+TreeReads whole pieces = ReadsAll (tree_data pieces).base 0 ((tree_data pieces).found Info) (tree_readings whole pieces).units
 
 abbrev pub tree_units : ℕ → List (List ℕ) → List UnitMeaning
 tree_units whole pieces = units_of (tree_data pieces) (tree_readings whole pieces)

@@ -28,6 +28,7 @@ use Rattle.dw_meaning.specs.DataOutput.{table_change, new_bodies}
 use Rattle.dw_meaning.proofs.PlainUnits.{no_section, pieces_from}
 use Rattle.dw_meaning.proofs.WorkedData.{compiled, has}
 use Rattle.dw_meaning.proofs.WorkedParts.{all_bytes, half, word}
+use Rattle.dw_meaning.proofs.DataParts.{found_with}
 
 -- what stands in front of the lists of both tables, behind the lengths of their headers
 abbrev line_front : List ℕ
@@ -62,13 +63,7 @@ line_abbrevs = 1 ∷ 17 ∷ 0 ∷ 3 ∷ 31 ∷ 27 ∷ 31 ∷ 16 ∷ 23 ∷ 0 ∷
 abbrev pub lines_data : DebugData
 lines_data = record {
   base = record { order = Little; abbrevs = record { number = 2; bytes = line_abbrevs } };
-  units = record { number = 1; kind = in_info; contents = plain_cells (all_bytes (line_pieces 0 67)) } ∷ [];
-  str = record { number = 0; bytes = [] };
-  line_str = record { number = 3; bytes = codes "/build/p\0u0.c\0" };
-  offsets = no_section;
-  lines = record { number = 4; contents = plain_cells two_tables };
-  macros = [];
-  names = no_section;
+  found = found_with (record { number = 1; kind = in_info; contents = plain_cells (all_bytes (line_pieces 0 67)) } ∷ []) (record { number = 0; bytes = [] }) (record { number = 3; bytes = codes "/build/p\0u0.c\0" }) no_section (record { number = 4; contents = plain_cells two_tables }) [] no_section;
 }
 
 -- the numbers of a header that was read

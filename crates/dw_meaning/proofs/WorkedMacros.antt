@@ -25,6 +25,7 @@ use Rattle.dw_base.specs.UnitMeanings.{units_of}
 use Rattle.dw_base.specs.UnitStates.{UnitState, before_unit, between, after_code}
 use Rattle.dw_base.specs.ValueMeanings.{string, by_offset, table_number, macro_number}
 use Rattle.dw_base.specs.WrittenLines.{written_header, written_table}
+use Rattle.dw_base.specs.declared.debug_sections.DebugSection.TheVariants.{LineStr, StrOffsets, Line, Names}
 use Rattle.dw_base.specs.declared.fault.Kind.TheVariants.{Stray}
 use Rattle.dw_base.specs.declared.shared.Order.TheVariants.{Little}
 use Rattle.dw_base.specs.declared.shared.Width.TheVariants.{W32}
@@ -33,6 +34,7 @@ use Rattle.dw_meaning.proofs.PlainUnits.{pieces_from}
 use Rattle.dw_meaning.proofs.WorkedData.{compiled, has}
 use Rattle.dw_meaning.proofs.WorkedLines.{lines_data, lines_map, lines_readings, new_table5, old_table}
 use Rattle.dw_meaning.proofs.WorkedParts.{all_bytes, half, word}
+use Rattle.dw_meaning.proofs.DataParts.{found_with}
 
 -- a unit of version 5 with the start of a line table: file 1 begins at line 0, line 1 defines the text at an offset, the file ends
 abbrev first_unit : ℕ → ℕ → List (List ℕ)
@@ -62,13 +64,7 @@ unit_abbrevs form = 1 ∷ 17 ∷ 0 ∷ 3 ∷ 31 ∷ 27 ∷ 31 ∷ 16 ∷ 23 ∷ 
 abbrev macros_data : ℕ → ℕ → List (List ℕ) → DebugData
 macros_data form macros units = record {
   base = record { order = Little; abbrevs = record { number = 2; bytes = unit_abbrevs form } };
-  units = record { number = 1; kind = in_info; contents = plain_cells (all_bytes (unit_pieces 0 67 macros)) } ∷ [];
-  str = record { number = 6; bytes = codes "/build/p/u0.c\0/build/p\0" };
-  line_str = lines_data.line_str;
-  offsets = lines_data.offsets;
-  lines = lines_data.lines;
-  macros = record { number = 5; contents = plain_cells (all_bytes units) } ∷ [];
-  names = lines_data.names;
+  found = found_with (record { number = 1; kind = in_info; contents = plain_cells (all_bytes (unit_pieces 0 67 macros)) } ∷ []) (record { number = 6; bytes = codes "/build/p/u0.c\0/build/p\0" }) (lines_data.found LineStr) (lines_data.found StrOffsets) (lines_data.found Line) (record { number = 5; contents = plain_cells (all_bytes units) } ∷ []) (lines_data.found Names);
 }
 
 abbrev macros_readings : ℕ → ℕ → List (List ℕ) → DataReadings

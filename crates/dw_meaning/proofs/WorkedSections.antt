@@ -37,19 +37,14 @@ use Rattle.dw_meaning.proofs.WorkedParts.{all_bytes, changed, numbers, section_h
 use Rattle.dw_base.specs.RelocationSectionFails.{relocates_read}
 use Rattle.dw_base.specs.SectionRelocations.{relocates, relocation_section, relocations_of}
 use Rattle.dw_meaning.proofs.PlainFileLaws.{file-addends}
+use Rattle.dw_meaning.proofs.DataParts.{found_with}
 
 -- debug data like those of the smallest file, with .debug_info in the section of a number, its abbreviations in the next, and
 -- its texts in the one after that: the offsets of the name and of the directory, and the texts
 abbrev pub data_in : ℕ → ℕ → ℕ → List ℕ → DebugData
 data_in n name directory str = record {
   base = record { order = Little; abbrevs = record { number = suc n; bytes = paths_abbrevs } };
-  units = record { number = n; kind = in_info; contents = plain_cells (all_bytes (paths_pieces Little 8 name directory)) } ∷ [];
-  str = record { number = suc (suc n); bytes = str };
-  line_str = record { number = 0; bytes = [] };
-  offsets = no_section;
-  lines = no_section;
-  macros = [];
-  names = no_section;
+  found = found_with (record { number = n; kind = in_info; contents = plain_cells (all_bytes (paths_pieces Little 8 name directory)) } ∷ []) (record { number = suc (suc n); bytes = str }) (record { number = 0; bytes = [] }) no_section no_section [] no_section;
 }
 
 abbrev pub readings_in : ℕ → ℕ → ℕ → List ℕ → DataReadings

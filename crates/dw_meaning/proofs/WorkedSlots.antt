@@ -31,6 +31,7 @@ use Rattle.dw_base.specs.UnitHeaders.{in_info, unit_header}
 use Rattle.dw_base.specs.UnitMeanings.{units_of}
 use Rattle.dw_base.specs.UnitStates.{before_unit, between, after_code}
 use Rattle.dw_base.specs.ValueMeanings.{string, by_slot, of_class}
+use Rattle.dw_base.specs.declared.debug_sections.DebugSection.TheVariants.{Str}
 use Rattle.dw_base.specs.declared.fault.Kind.TheVariants.{SharedIndex, StringTable}
 use Rattle.dw_base.specs.declared.shared.Order.{Order}
 use Rattle.dw_base.specs.declared.shared.Order.TheVariants.{Little}
@@ -41,6 +42,7 @@ use Rattle.dw_meaning.specs.DataOutput.{new_bodies}
 use Rattle.dw_meaning.proofs.PlainUnits.{no_section, pieces_from}
 use Rattle.dw_meaning.proofs.WorkedParts.{all_bytes, half, word}
 use Rattle.dw_meaning.proofs.WorkedData.{compiled, has}
+use Rattle.dw_meaning.proofs.DataParts.{found_with}
 
 -- sections as pieces, read from a state on
 abbrev offsets_from : Order → OffsetState → List (List ℕ) → List (Piece OffsetState)
@@ -63,13 +65,7 @@ slot_units base index =
 abbrev slot_data : List (List ℕ) → List (List ℕ) → List (List ℕ) → DebugData
 slot_data units offsets names = record {
   base = record { order = Little; abbrevs = record { number = 2; bytes = slot_abbrevs } };
-  units = record { number = 1; kind = in_info; contents = plain_cells (all_bytes units) } ∷ [];
-  str = record { number = 3; bytes = codes "/build/p\0" };
-  line_str = record { number = 0; bytes = [] };
-  offsets = record { number = 4; contents = plain_cells (all_bytes offsets) };
-  lines = no_section;
-  macros = [];
-  names = record { number = 5; contents = plain_cells (all_bytes names) };
+  found = found_with (record { number = 1; kind = in_info; contents = plain_cells (all_bytes units) } ∷ []) (record { number = 3; bytes = codes "/build/p\0" }) (record { number = 0; bytes = [] }) (record { number = 4; contents = plain_cells (all_bytes offsets) }) no_section [] (record { number = 5; contents = plain_cells (all_bytes names) });
 }
 
 abbrev slot_readings : DebugData → List (List ℕ) → List (List ℕ) → List (List ℕ) → DataReadings
@@ -120,14 +116,14 @@ unfolding units_of unit_header initial_length_at number_at spelled between after
 own-units = refl
 
 -- so slot 0 is mapped and slot 1 isn't
-pub own-slots : mapped_slots slot_map (unit_slots (units_of own_data own_readings)) 0 (slot_texts Little own_data.str own_readings.offsets)
+pub own-slots : mapped_slots slot_map (unit_slots (units_of own_data own_readings)) 0 (slot_texts Little (own_data.found Str) own_readings.offsets)
     ≡ codes "/usr/src/debug/p" ∷ codes "/build/p" ∷ []
 unfolding units_of unit_header initial_length_at number_at spelled between after_code kind_in form_rows abbreviations_at uleb_at text_in
     offset_of field_of address_of before_slot slot_of lies_under mapped_path
 own-slots = refl
 
 -- the name is the text behind the front of its table
-pub own-names : name_parts Little own_data.str own_readings.names
+pub own-names : name_parts Little (own_data.found Str) own_readings.names
     ≡ raw_part (plain_cells name_front) ∷ text_part (codes "/build/p") ∷ raw_part (plain_cells (word 0 ++ (0 ∷ 0 ∷ []))) ∷ []
 unfolding initial_length_at number_at spelled text_in offset_of field_of name_counts before_strings
 own-names = refl
@@ -182,13 +178,7 @@ wide_units = (word 16 ++ half 5 ++ (1 ∷ 8 ∷ []) ++ word 0) ∷ (1 ∷ []) �
 abbrev wide_data : DebugData
 wide_data = record {
   base = record { order = Little; abbrevs = record { number = 2; bytes = 1 ∷ 17 ∷ 0 ∷ 114 ∷ 23 ∷ 27 ∷ 39 ∷ 0 ∷ 0 ∷ 0 ∷ [] } };
-  units = record { number = 1; kind = in_info; contents = plain_cells (all_bytes wide_units) } ∷ [];
-  str = record { number = 3; bytes = codes "/build/p\0" };
-  line_str = record { number = 0; bytes = [] };
-  offsets = record { number = 4; contents = plain_cells (all_bytes (wide_slots 0)) };
-  lines = no_section;
-  macros = [];
-  names = no_section;
+  found = found_with (record { number = 1; kind = in_info; contents = plain_cells (all_bytes wide_units) } ∷ []) (record { number = 3; bytes = codes "/build/p\0" }) (record { number = 0; bytes = [] }) (record { number = 4; contents = plain_cells (all_bytes (wide_slots 0)) }) no_section [] no_section;
 }
 
 abbrev wide_readings : DataReadings

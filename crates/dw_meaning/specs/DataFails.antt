@@ -20,6 +20,7 @@ use Rattle.dw_base.specs.Texts.{text_in, ends_in}
 use Rattle.dw_base.specs.UnitFails.{UnitFails}
 use Rattle.dw_base.specs.UnitHeaders.{UnitSection}
 use Rattle.dw_base.specs.UnitTables.{UnitTableFails}
+use Rattle.dw_base.specs.declared.debug_sections.DebugSection.TheVariants.{Info, Str, LineStr, StrOffsets, Macro}
 use Rattle.dw_base.specs.declared.fault.Kind.TheVariants.{StringOffset, InlineGrows}
 use Rattle.dw_base.specs.declared.fault.Refusal.{Refusal}
 use Rattle.dw_base.specs.declared.units.UnitHeader.{UnitHeader}
@@ -30,8 +31,8 @@ use Rattle.dw_base.specs.declared.values.ValueClass.TheVariants.{InlineText, Str
 
 -- the table of texts that offsets of a class are of
 abbrev pub text_table : DebugData → ValueClass → Option Located
-text_table d StrOffset = Some d.str
-text_table d LineStrOffset = Some d.line_str
+text_table d StrOffset = Some (d.found Str)
+text_table d LineStrOffset = Some (d.found LineStr)
 text_table d class = None
 
 -- the offset that a value's field holds into a table
@@ -40,7 +41,7 @@ value_offset d z v table = offset_of d.base.order table (cells_at z.contents v.a
 
 -- the rows of units, tables and entries
 pub data DataFails (d : DebugData) : Refusal → Type 0 where
-  unit : (z : UnitSection) (before behind : List UnitSection) {r : Refusal} → d.units ≡ before ++ z ∷ behind → UnitFails d.base z r
+  unit : (z : UnitSection) (before behind : List UnitSection) {r : Refusal} → d.found Info ≡ before ++ z ∷ behind → UnitFails d.base z r
       → DataFails d r
   table : (z : UnitSection) (h : UnitHeader) {r : Refusal} → HasUnit d z h → UnitTableFails d.base h r → DataFails d r
   entries : (z : UnitSection) (h : UnitHeader) (list : List Abbreviation) {r : Refusal} → HasTable d z h list
@@ -55,13 +56,13 @@ pub data TextFails (d : DebugData) : Refusal → Type 0 where
 
 -- the units and the string offsets can be read: they are these pieces
 pub record IndexesRead (d : DebugData) (r : DataReadings) : Type 0 where
-  pub units : ReadsAll d.base 0 d.units r.units
-  pub offsets : ReadsOffsets d.base.order d.offsets.contents r.offsets
+  pub units : ReadsAll d.base 0 (d.found Info) r.units
+  pub offsets : ReadsOffsets d.base.order (d.found StrOffsets).contents r.offsets
 
 -- the rows of values by index and of slots
 pub data SlotTextFails (d : DebugData) : Refusal → Type 0 where
   index : (readings : DataReadings) {r : Refusal} → IndexesRead d readings → IndexFails (indexing_of d readings) r → SlotTextFails d r
-  slot : (readings : DataReadings) {r : Refusal} → IndexesRead d readings → SlotFails d.offsets.number (around_of d readings) readings.offsets r
+  slot : (readings : DataReadings) {r : Refusal} → IndexesRead d readings → SlotFails (d.found StrOffsets).number (around_of d readings) readings.offsets r
       → SlotTextFails d r
 
 -- the row of line tables: behind tables that can be read one starts that can't
@@ -71,9 +72,9 @@ pub data LinesFail (d : DebugData) : Refusal → Type 0 where
 
 -- the units, the line tables and the macro units can be read: they are these
 pub record StartsRead (d : DebugData) (r : DataReadings) : Type 0 where
-  pub units : ReadsAll d.base 0 d.units r.units
+  pub units : ReadsAll d.base 0 (d.found Info) r.units
   pub lines : AreTables (line_source d) r.lines
-  pub macros : ReadsAllMacros d.base.order d.macros r.macros
+  pub macros : ReadsAllMacros d.base.order (d.found Macro) r.macros
 
 -- the rows of what says where line tables and macro units start
 pub data StartsFail (d : DebugData) : Refusal → Type 0 where

@@ -18,7 +18,7 @@ use Rattle.dw_base.specs.Readings.{Reading, Readings, EachReading}
 use Rattle.dw_base.specs.SectionTexts.{slot_role, name_role, macro_role, file_mentions, edited_with, edited_macros, NameTexts}
 use Rattle.dw_base.specs.StringTables.{Plan, appending, new_texts, new_table}
 use Rattle.dw_base.specs.TableStarts.{HasStartForm, NamesMacro, NamesImport}
-use Rattle.dw_base.specs.TextChanges.{TableChange, TableChanges, edited_all, NamesTextBy, NamesText, InlineFits}
+use Rattle.dw_base.specs.TextChanges.{Changed, TableChange, TableChanges, edited_all, NamesTextBy, NamesText, InlineFits}
 use Rattle.dw_base.specs.TextIndexes.{EachUse, NamesSlot, index_uses}
 use Rattle.dw_base.specs.declared.debug_sections.DebugSection.{DebugSection}
 use Rattle.dw_base.specs.declared.debug_sections.DebugSection.TheVariants.{Info, Types, Abbrev, Str, LineStr, StrOffsets, Line, Macro, Names}
@@ -27,11 +27,11 @@ use Rattle.dw_base.specs.declared.debug_sections.DebugSection.TheVariants.{Info,
 -- names a text that ends, each value by index a slot, each value that is to say where a line table or a macro unit starts says it, and so
 -- do the offsets of line tables and of imports in macro units
 pub record DataReads (d : DebugData) (r : DataReadings) : Type 0 where
-  pub units : ReadsAll d.base 0 d.units r.units
-  pub offsets : ReadsOffsets d.base.order d.offsets.contents r.offsets
+  pub units : ReadsAll d.base 0 (d.found Info) r.units
+  pub offsets : ReadsOffsets d.base.order (d.found StrOffsets).contents r.offsets
   pub lines : AreTables (line_source d) r.lines
-  pub macros : ReadsAllMacros d.base.order d.macros r.macros
-  pub names : ReadsNames d.base.order d.names.contents r.names
+  pub macros : ReadsAllMacros d.base.order (d.found Macro) r.macros
+  pub names : ReadsNames d.base.order (d.found Names).contents r.names
   pub texts : EachReading (NamesText (around_of d r)) r.units
   pub slot_texts : NameTexts (slot_role (path_slots (around_of d r))) (around_of d r) r.offsets
   pub macro_texts : EachMacro (λ x. NamesTextBy (macro_role x.state) (around_of d r) x.cells) r.macros
@@ -51,15 +51,26 @@ table_change m table around r =
 abbrev pub new_lines : PathMap → Around → DataReadings → List (List ℕ)
 new_lines m around r = lines_after m (table_change m in_str around r) (table_change m in_line_str around r) (source_around around) r.lines
 
+-- what is new in the sections of a kind
+abbrev pub changed_by : PathMap → Around → DataReadings → (s : DebugSection) → Changed s
+changed_by m around r Info = tt
+changed_by m around r Types = tt
+changed_by m around r Abbrev = tt
+changed_by m around r Str = table_change m in_str around r
+changed_by m around r LineStr = table_change m in_line_str around r
+changed_by m around r StrOffsets = tt
+changed_by m around r Line = new_lines m around r
+changed_by m around r Macro = tt
+changed_by m around r Names = tt
+
 abbrev pub changes_of : PathMap → Around → DataReadings → TableChanges
-changes_of m around r =
-    record { map = m; str = table_change m in_str around r; line_str = table_change m in_line_str around r; lines = new_lines m around r }
+changes_of m around r = record { map = m; new = changed_by m around r }
 
 -- each line table can be written with its paths mapped
 abbrev pub EachWritable : PathMap → TableChanges → Around → List LineReading → Type 0
 EachWritable m c around [] = ⊤
 EachWritable m c around (r ∷ rs) =
-    CanWrite (source_around around) m (line_place m c.str c.line_str (source_around around)) (table_read (source_around around) r) × EachWritable m c around rs
+    CanWrite (source_around around) m (line_place m (c.new Str) (c.new LineStr) (source_around around)) (table_read (source_around around) r) × EachWritable m c around rs
 
 -- and paths outside line tables be mapped: each that stands in its value fits its room, and no slot is named by a path whose text changes
 -- and by a value that isn't a path
@@ -108,7 +119,7 @@ macro_bodies [] = []
 macro_bodies (r ∷ rs) = cells_body r.number (joined r.pieces) ∷ macro_bodies rs
 
 abbrev pub lines_body : TableChanges → DebugData → Body
-lines_body changes d = record { number = d.lines.number; bytes = all_lines changes.lines }
+lines_body changes d = record { number = (d.found Line).number; bytes = all_lines (changes.new Line) }
 
 -- what is new in a section that is read, by its kind: a section and its new bytes, or several in the order of their numbers. The
 -- sections of units of both kinds stand with `.debug_info`; abbreviations stay.
@@ -116,12 +127,12 @@ abbrev pub bodies_of : TableChanges → DebugData → Around → DataReadings �
 bodies_of changes d around r Info = unit_bodies changes around r.units
 bodies_of changes d around r Types = []
 bodies_of changes d around r Abbrev = []
-bodies_of changes d around r Str = table_body around.str changes.str ∷ []
-bodies_of changes d around r LineStr = table_body around.line_str changes.line_str ∷ []
-bodies_of changes d around r StrOffsets = cells_body d.offsets.number (joined (offsets_after changes around r)) ∷ []
+bodies_of changes d around r Str = table_body (around.stands Str) (changes.new Str) ∷ []
+bodies_of changes d around r LineStr = table_body (around.stands LineStr) (changes.new LineStr) ∷ []
+bodies_of changes d around r StrOffsets = cells_body (d.found StrOffsets).number (joined (offsets_after changes around r)) ∷ []
 bodies_of changes d around r Line = lines_body changes d ∷ []
 bodies_of changes d around r Macro = macro_bodies (macros_after changes around r)
-bodies_of changes d around r Names = cells_body d.names.number (joined (names_after changes around r)) ∷ []
+bodies_of changes d around r Names = cells_body (d.found Names).number (joined (names_after changes around r)) ∷ []
 
 -- the kinds, in the order in which their bodies are given
 abbrev pub body_order : List DebugSection

@@ -16,6 +16,7 @@ use Rattle.dw_base.specs.NameTableFails.{NameTablesFail}
 use Rattle.dw_base.specs.Refusals.{at}
 use Rattle.dw_base.specs.StringOffsetFails.{ContributionsFail}
 use Rattle.dw_base.specs.ViewData.{is_read, string_offsets}
+use Rattle.dw_base.specs.declared.debug_sections.DebugSection.TheVariants.{Macro}
 use Rattle.dw_base.specs.declared.fault.Kind.TheVariants.{Fixed}
 use Rattle.dw_base.specs.declared.fault.Refusal.{Refusal}
 
@@ -35,7 +36,7 @@ pub data FileFails (b : List ℕ) : Refusal → Type 0 where
   string_tables : {r : Refusal} → ElfReads b → ContributionsFail (view_of b).order (string_offsets (view_of b)) r → FileFails b r
   slots : {r : Refusal} → ElfReads b → SlotTextFails (file_data b) r → FileFails b r
   lines : {r : Refusal} → ElfReads b → LinesFail (file_data b) r → FileFails b r
-  macros : (z : CellSection) (before behind : List CellSection) {r : Refusal} → ElfReads b → (file_data b).macros ≡ before ++ z ∷ behind
+  macros : (z : CellSection) (before behind : List CellSection) {r : Refusal} → ElfReads b → (file_data b).found Macro ≡ before ++ z ∷ behind
       → MacroUnitsFail (view_of b) z.number r → FileFails b r
   starts : {r : Refusal} → ElfReads b → StartsFail (file_data b) r → FileFails b r
   name_tables : {r : Refusal} → ElfReads b → NameTablesFail (view_of b) r → FileFails b r

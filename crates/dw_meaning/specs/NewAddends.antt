@@ -23,6 +23,7 @@ use Rattle.dw_base.specs.StringTables.{new_place}
 use Rattle.dw_base.specs.TextChanges.{TableChanges, change_of, mention_at}
 use Rattle.dw_base.specs.UnitStates.{UnitState}
 use Rattle.dw_base.specs.WrittenLines.{paths_of}
+use Rattle.dw_base.specs.declared.debug_sections.DebugSection.TheVariants.{Str, LineStr, StrOffsets, Line, Names}
 use Rattle.dw_base.specs.declared.fault.Kind.TheVariants.{TooWide}
 use Rattle.dw_base.specs.declared.fault.Refusal.{Refusal}
 use Rattle.dw_base.specs.declared.line_tables.TextPlace.{TextPlace}
@@ -55,7 +56,7 @@ abbrev pub new_offset : Role → TableChanges → Around → List Cell → Optio
 new_offset (offset table path) changes around p =
     if (change_of changes table).plan.asks (mention_at around table path p)
     then Some (new_place (change_of changes table).plan changes.map (change_of changes table).texts (mention_at around table path p)) else None
-new_offset line_start changes around p = start_place (starts_from 0 changes.lines) (line_table around p)
+new_offset line_start changes around p = start_place (starts_from 0 (changes.new Line)) (line_table around p)
 new_offset r changes around p = None
 
 abbrev pub MakesNew : Option ℕ → List Cell → Type 0
@@ -82,7 +83,7 @@ EachTableMakes g places (t ∷ ts) =
 
 -- the new places of texts of line tables
 abbrev pub places_by : TableChanges → DebugData → TextPlace → Option ℕ
-places_by changes d = line_place changes.map changes.str changes.line_str (line_source d)
+places_by changes d = line_place changes.map (changes.new Str) (changes.new LineStr) (line_source d)
 
 -- addends make all offsets that an edit puts into fields
 pub record AddendsFit (changes : TableChanges) (d : DebugData) (around : Around) (r : DataReadings) : Type 0 where
@@ -116,10 +117,10 @@ pub data AddendsFail (changes : TableChanges) (d : DebugData) (around : Around) 
   in_unit : (before behind : List Reading) (q : Reading) (x : Piece UnitState) → r.units ≡ before ++ q ∷ behind
       → PieceMisses role_of changes around q.pieces x → AddendsFail changes d around r (at TooWide q.number x.state.place)
   in_slots : (x : Piece OffsetState) → PieceMisses (λ y. slot_role (path_slots around) y.state) changes around r.offsets x
-      → AddendsFail changes d around r (at TooWide d.offsets.number x.state.place)
+      → AddendsFail changes d around r (at TooWide (d.found StrOffsets).number x.state.place)
   in_macros : (before behind : List MacroReading) (q : MacroReading) (x : Piece MacroState) → r.macros ≡ before ++ q ∷ behind
       → PieceMisses (λ y. macro_role y.state) changes around q.pieces x → AddendsFail changes d around r (at TooWide q.number x.state.place)
   in_names : (x : Piece NameState) → PieceMisses (λ y. name_role y.state) changes around r.names x
-      → AddendsFail changes d around r (at TooWide d.names.number x.state.place)
+      → AddendsFail changes d around r (at TooWide (d.found Names).number x.state.place)
   in_lines : (before behind : List LineReading) (t : LineReading) (x : TextPlace) → r.lines ≡ before ++ t ∷ behind
-      → PathMisses (line_source d) (places_by changes d) t x → AddendsFail changes d around r (at TooWide d.lines.number x.field)
+      → PathMisses (line_source d) (places_by changes d) t x → AddendsFail changes d around r (at TooWide (d.found Line).number x.field)

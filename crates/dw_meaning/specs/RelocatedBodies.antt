@@ -12,6 +12,7 @@ use Rattle.dw_base.specs.Readings.{Readings}
 use Rattle.dw_base.specs.RelocationBodies.{relocation_body}
 use Rattle.dw_base.specs.SectionRelocations.{relocation_source, section_cells}
 use Rattle.dw_base.specs.TextChanges.{TableChanges, edited_all}
+use Rattle.dw_base.specs.declared.debug_sections.DebugSection.TheVariants.{Str, LineStr, StrOffsets, Line, Names}
 use Rattle.dw_meaning.specs.DataOutput.{changes_of, macros_after, names_after, offsets_after}
 use Rattle.dw_meaning.specs.LineCells.{all_written_cells}
 
@@ -35,10 +36,10 @@ macro_cells (r ∷ rs) = cell_body r.number (joined r.pieces) ∷ macro_cells rs
 -- of abbreviations stay, and tables of texts have none.
 abbrev pub cells_by : TableChanges → DebugData → Around → DataReadings → List CellBody
 cells_by changes d around r =
-    cell_body d.offsets.number (joined (offsets_after changes around r))
-    ∷ cell_body d.lines.number (all_written_cells (line_source d) changes.map
-    (line_place changes.map changes.str changes.line_str (line_source d)) r.lines)
-    ∷ cell_body d.names.number (joined (names_after changes around r))
+    cell_body (d.found StrOffsets).number (joined (offsets_after changes around r))
+    ∷ cell_body (d.found Line).number (all_written_cells (line_source d) changes.map
+    (line_place changes.map (changes.new Str) (changes.new LineStr) (line_source d)) r.lines)
+    ∷ cell_body (d.found Names).number (joined (names_after changes around r))
     ∷ (macro_cells (macros_after changes around r) ++ unit_cells changes around r.units)
 
 unfoldable pub new_cells : PathMap → DebugData → DataReadings → List CellBody

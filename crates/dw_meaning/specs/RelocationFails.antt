@@ -27,6 +27,7 @@ use Rattle.dw_base.specs.UnitHeaders.{UnitSection}
 use Rattle.dw_base.specs.UnitPieces.{ReadsUnits}
 use Rattle.dw_base.specs.UnitStates.{UnitState, read_value}
 use Rattle.dw_base.specs.ViewData.{debug_data}
+use Rattle.dw_base.specs.declared.debug_sections.DebugSection.TheVariants.{Info, StrOffsets, Line, Macro, Names}
 use Rattle.dw_base.specs.declared.fault.Refusal.{Refusal}
 use Rattle.dw_base.specs.declared.macro_units.MacroUnit.{MacroUnit}
 use Rattle.dw_base.specs.declared.name_tables.NameTable.{NameTable}
@@ -61,39 +62,39 @@ pub record ValueRelocationsRead (d : DebugData) : Type 0 where
 -- reading of that section alone, and of the header of a line table that stands behind tables that were read. The sections whose places change
 -- are `moving`.
 pub data LeftRelocationsFail (d : DebugData) (moving : List ℕ) : Refusal → Type 0 where
-  units : (before behind : List UnitSection) (z : UnitSection) (first : ℕ) (xs : List (Piece UnitState)) {r : Refusal} → d.units ≡ before ++ z ∷ behind
+  units : (before behind : List UnitSection) (z : UnitSection) (first : ℕ) (xs : List (Piece UnitState)) {r : Refusal} → d.found Info ≡ before ++ z ∷ behind
       → ReadsUnits d.base z first xs → FieldsFail d.base.order z.number z.contents moving (unit_fields d.base.order xs) r
       → LeftRelocationsFail d moving r
-  slots : (xs : List (Piece OffsetState)) {r : Refusal} → ReadsOffsets d.base.order d.offsets.contents xs
-      → FieldsFail d.base.order d.offsets.number d.offsets.contents moving (slot_fields xs) r → LeftRelocationsFail d moving r
-  names : (xs : List (Piece NameState)) {r : Refusal} → ReadsNames d.base.order d.names.contents xs
-      → FieldsFail d.base.order d.names.number d.names.contents moving (name_fields xs) r → LeftRelocationsFail d moving r
-  macros : (before behind : List CellSection) (z : CellSection) (xs : List (Piece MacroState)) {r : Refusal} → d.macros ≡ before ++ z ∷ behind
+  slots : (xs : List (Piece OffsetState)) {r : Refusal} → ReadsOffsets d.base.order (d.found StrOffsets).contents xs
+      → FieldsFail d.base.order (d.found StrOffsets).number (d.found StrOffsets).contents moving (slot_fields xs) r → LeftRelocationsFail d moving r
+  names : (xs : List (Piece NameState)) {r : Refusal} → ReadsNames d.base.order (d.found Names).contents xs
+      → FieldsFail d.base.order (d.found Names).number (d.found Names).contents moving (name_fields xs) r → LeftRelocationsFail d moving r
+  macros : (before behind : List CellSection) (z : CellSection) (xs : List (Piece MacroState)) {r : Refusal} → d.found Macro ≡ before ++ z ∷ behind
       → ReadsMacros d.base.order z.contents xs → FieldsFail d.base.order z.number z.contents moving (macro_fields xs) r
       → LeftRelocationsFail d moving r
   lines : (ts : List LineReading) {r : Refusal} → AreTables (line_source d) ts
-      → FieldsFail d.base.order d.lines.number d.lines.contents moving (line_fields (line_source d) ts) r → LeftRelocationsFail d moving r
+      → FieldsFail d.base.order (d.found Line).number (d.found Line).contents moving (line_fields (line_source d) ts) r → LeftRelocationsFail d moving r
   line_header : (before : List LineReading) (start : ℕ) (t : LineReading) {r : Refusal} → TablesTo (line_source d) 0 before start
       → ReadsTable (line_source d) start t
-      → HeaderFails d.lines.number t.header.start t.behind d.lines.contents (table_fields (line_source d) t) r → LeftRelocationsFail d moving r
+      → HeaderFails (d.found Line).number t.header.start t.behind (d.found Line).contents (table_fields (line_source d) t) r → LeftRelocationsFail d moving r
 
 -- and what holds where there are none
 pub record LeftRelocationsRead (d : DebugData) (moving : List ℕ) : Type 0 where
-  pub units : (before behind : List UnitSection) (z : UnitSection) (first : ℕ) (xs : List (Piece UnitState)) → d.units ≡ before ++ z ∷ behind
+  pub units : (before behind : List UnitSection) (z : UnitSection) (first : ℕ) (xs : List (Piece UnitState)) → d.found Info ≡ before ++ z ∷ behind
       → ReadsUnits d.base z first xs → FieldsRead d.base.order z.contents moving (unit_fields d.base.order xs)
-  pub slots : (xs : List (Piece OffsetState)) → ReadsOffsets d.base.order d.offsets.contents xs
-      → FieldsRead d.base.order d.offsets.contents moving (slot_fields xs)
-  pub names : (xs : List (Piece NameState)) → ReadsNames d.base.order d.names.contents xs
-      → FieldsRead d.base.order d.names.contents moving (name_fields xs)
-  pub macros : (before behind : List CellSection) (z : CellSection) (xs : List (Piece MacroState)) → d.macros ≡ before ++ z ∷ behind
+  pub slots : (xs : List (Piece OffsetState)) → ReadsOffsets d.base.order (d.found StrOffsets).contents xs
+      → FieldsRead d.base.order (d.found StrOffsets).contents moving (slot_fields xs)
+  pub names : (xs : List (Piece NameState)) → ReadsNames d.base.order (d.found Names).contents xs
+      → FieldsRead d.base.order (d.found Names).contents moving (name_fields xs)
+  pub macros : (before behind : List CellSection) (z : CellSection) (xs : List (Piece MacroState)) → d.found Macro ≡ before ++ z ∷ behind
       → ReadsMacros d.base.order z.contents xs → FieldsRead d.base.order z.contents moving (macro_fields xs)
-  pub lines : (ts : List LineReading) → AreTables (line_source d) ts → FieldsRead d.base.order d.lines.contents moving (line_fields (line_source d) ts)
+  pub lines : (ts : List LineReading) → AreTables (line_source d) ts → FieldsRead d.base.order (d.found Line).contents moving (line_fields (line_source d) ts)
   pub line_headers : (before : List LineReading) (start : ℕ) (t : LineReading) → TablesTo (line_source d) 0 before start
-      → ReadsTable (line_source d) start t → HeaderReads t.header.start t.behind d.lines.contents (table_fields (line_source d) t)
+      → ReadsTable (line_source d) start t → HeaderReads t.header.start t.behind (d.found Line).contents (table_fields (line_source d) t)
 
 -- what holds where debug data have no row of relocations: of offsets of abbreviations, of values, and of those that are left
 pub record RelocationsReadIn (d : DebugData) (moving : List ℕ) : Type 0 where
-  pub headers : (before behind : List UnitSection) (z : UnitSection) → d.units ≡ before ++ z ∷ behind → HeaderOffsetsRead d.base z
+  pub headers : (before behind : List UnitSection) (z : UnitSection) → d.found Info ≡ before ++ z ∷ behind → HeaderOffsetsRead d.base z
   pub values : ValueRelocationsRead d
   pub left : LeftRelocationsRead d moving
 
@@ -104,14 +105,14 @@ pub data OffsetsFailIn (v : View) : Refusal → Type 0 where
       → start < length (names_of v).bytes → IsNameTable v.order (names_of v).bytes start t → TableOffsetRefuses v (names_of v).number t r
       → OffsetsFailIn v r
   macros : (before behind : List CellSection) (z : CellSection) (list : List MacroUnit) (start : ℕ) {r : Refusal}
-      → (debug_data v).macros ≡ before ++ z ∷ behind → UnitsReadUpTo v z.number list start → start < length (section_bytes v z.number)
+      → (debug_data v).found Macro ≡ before ++ z ∷ behind → UnitsReadUpTo v z.number list start → start < length (section_bytes v z.number)
       → UnitOffsetRefuses v z.number start r → OffsetsFailIn v r
 
 -- the rows of relocations of a file: of its sections; of offsets of abbreviations, of values, of name tables and of macro units; and of those
 -- that are left
 pub data RelocationsFail (b : List ℕ) : Refusal → Type 0 where
   sections : {r : Refusal} → RelocationSectionsFail (contents_of b) b r → RelocationsFail b r
-  headers : (before behind : List UnitSection) (z : UnitSection) {r : Refusal} → (debug_data (view_of b)).units ≡ before ++ z ∷ behind
+  headers : (before behind : List UnitSection) (z : UnitSection) {r : Refusal} → (debug_data (view_of b)).found Info ≡ before ++ z ∷ behind
       → HeaderOffsetFails (debug_data (view_of b)).base z r → RelocationsFail b r
   values : {r : Refusal} → ValueRelocationFails (debug_data (view_of b)) r → RelocationsFail b r
   offsets : {r : Refusal} → OffsetsFailIn (view_of b) r → RelocationsFail b r

@@ -31,6 +31,7 @@ use Rattle.dw_base.specs.declared.string_offsets.Contribution.{Contribution}
 use Rattle.dw_base.proofs.ContributionBackLaws.{behind-piece}
 use Rattle.dw_base.proofs.OffsetChangeLaws.{slot-before, slot-header}
 use Rattle.dw_base.proofs.ViewCellLaws.{piece-cells}
+use Rattle.dw_base.specs.declared.debug_sections.DebugSection.TheVariants.{Str, StrOffsets}
 use Rattle.dw_offsets.proofs.SlotNumberLaws.{StandsAt as SlotStands, slot-stands, slot-absent}
 use Rattle.dw_offsets.specs.NamedPlaces.{place_by, use_place, is_place, names_place}
 use Rattle.dw_offsets.specs.PathSlots.{SlotTable, as_field, slot_offset, named_text, SlotTaken, EachSlot, fields_of, SlotsTaken, IsAmong, SlotRefuses, no_offset, no_text as slot_no_text, shared as slot_shared, SlotsRefuse, slot, slot_field, slot_fields}
@@ -374,9 +375,9 @@ pub record SlotsAround (around : Around) (t : SlotTable) (cells : List Cell) (xs
   pub reads : ReadsOffsets t.order cells xs
   pub same : cells ≡ t.cells
   pub order : around.lasting.base.order ≡ t.order
-  pub str : around.str ≡ t.str
-  pub list : contributions_in t.order xs ≡ around.lasting.indexing.contributions
-  pub are_marks : AreMarks marks around.lasting.indexing around.lasting.indexing.uses
+  pub str : around.stands Str ≡ t.str
+  pub list : contributions_in t.order xs ≡ (around.lasting.kept StrOffsets).contributions
+  pub are_marks : AreMarks marks (around.lasting.kept StrOffsets) (around.lasting.kept StrOffsets).uses
 
 -- what is known of a slot by that
 record SlotKnown (around : Around) (t : SlotTable) (marks : List ℕ) (x : Piece OffsetState) : Type 0 where
@@ -391,14 +392,14 @@ KnownBy m around t marks x = ⊤
 slot-known : (around : Around) (t : SlotTable) (cells : List Cell) (xs : List (Piece OffsetState)) (marks : List ℕ) (x : Piece OffsetState) → SlotsAround around t cells xs marks
     → SlotFact cells (piece_slots xs) x → SlotKnown around t marks x
 slot-known around t cells xs marks x a f =
-    let all : piece_slots xs ≡ slots_of around.lasting.indexing.contributions = slots-are t.order cells xs a.reads ∙ ap slots_of a.list in
+    let all : piece_slots xs ≡ slots_of (around.lasting.kept StrOffsets).contributions = slots-are t.order cells xs a.reads ∙ ap slots_of a.list in
     let rise : RiseFrom 0 (piece_slots xs) = rise-all t.order (offsets_at (length cells) 0 0 at_contribution) xs a.reads.chain in
-    let is : SlotIs (slots_of around.lasting.indexing.contributions) x.state.slot (slot_piece x) =
+    let is : SlotIs (slots_of (around.lasting.kept StrOffsets).contributions) x.state.slot (slot_piece x) =
     subst (λ (l : List Slot). SlotIs l x.state.slot (slot_piece x)) all (record { nth = f.nth; rising = rise.rising }) in
     record {
-      paths = a.are_marks.each true x.state.place ∙ names-is true around.lasting.indexing around.lasting.indexing.uses x.state.slot (slot_piece x) is;
-      others = a.are_marks.each false x.state.place ∙ names-is false around.lasting.indexing around.lasting.indexing.uses x.state.slot (slot_piece x) is;
-      offset = ap (λ (o : Order). offset_of o around.str x.cells) a.order ∙ ap (λ (z : Located). offset_of t.order z x.cells) a.str
+      paths = a.are_marks.each true x.state.place ∙ names-is true (around.lasting.kept StrOffsets) (around.lasting.kept StrOffsets).uses x.state.slot (slot_piece x) is;
+      others = a.are_marks.each false x.state.place ∙ names-is false (around.lasting.kept StrOffsets) (around.lasting.kept StrOffsets).uses x.state.slot (slot_piece x) is;
+      offset = ap (λ (o : Order). offset_of o (around.stands Str) x.cells) a.order ∙ ap (λ (z : Located). offset_of t.order z x.cells) a.str
           ∙ ap (offset_of t.order t.str) (sym f.stands ∙ ap (λ (cs : List Cell). cells_at cs x.state.place (length x.cells)) a.same);
     }
 
@@ -423,20 +424,20 @@ rest-taken P at_contribution s rest h = h
 rest-taken P (at_slot w end) s rest h = h.1
 rest-taken P no_offsets s rest h = h
 
-piece-names : (m : PathMap) (t : SlotTable) (marks : List ℕ) (around : Around) (x : Piece OffsetState) (rest : List Slot) (mode : OffsetMode) → around.str.bytes ≡ t.str.bytes
+piece-names : (m : PathMap) (t : SlotTable) (marks : List ℕ) (around : Around) (x : Piece OffsetState) (rest : List Slot) (mode : OffsetMode) → (around.stands Str).bytes ≡ t.str.bytes
     → KnownBy mode around t marks x → EachSlot (SlotTaken m t marks) (listed_by mode (slot_piece x) ++ rest)
     → NamesTextBy (offset_role (path_slots around) mode x.state.slot) around x.cells
 piece-names m t marks around x rest at_contribution str known h = tt
 piece-names m t marks around x rest (at_slot w end) str known h =
-    ap (ends_in around.str.bytes) known.offset ∙ ap (λ (bs : List ℕ). ends_in bs (slot_offset t (slot_piece x))) str ∙ h.0.ends
+    ap (ends_in (around.stands Str).bytes) known.offset ∙ ap (λ (bs : List ℕ). ends_in bs (slot_offset t (slot_piece x))) str ∙ h.0.ends
 piece-names m t marks around x rest no_offsets str known h = tt
 
-text-same : (around : Around) (t : SlotTable) (marks : List ℕ) (x : Piece OffsetState) → around.str.bytes ≡ t.str.bytes → SlotKnown around t marks x
-    → field_text around.lasting.base.order around.str x.cells ≡ named_text t (slot_piece x)
+text-same : (around : Around) (t : SlotTable) (marks : List ℕ) (x : Piece OffsetState) → (around.stands Str).bytes ≡ t.str.bytes → SlotKnown around t marks x
+    → field_text around.lasting.base.order (around.stands Str) x.cells ≡ named_text t (slot_piece x)
 text-same around t marks x str known =
-    ap (text_in around.str.bytes) known.offset ∙ ap (λ (bs : List ℕ). text_in bs (slot_offset t (slot_piece x))) str
+    ap (text_in (around.stands Str).bytes) known.offset ∙ ap (λ (bs : List ℕ). text_in bs (slot_offset t (slot_piece x))) str
 
-piece-fits : (m : PathMap) (t : SlotTable) (marks : List ℕ) (around : Around) (x : Piece OffsetState) (rest : List Slot) (mode : OffsetMode) → around.str.bytes ≡ t.str.bytes
+piece-fits : (m : PathMap) (t : SlotTable) (marks : List ℕ) (around : Around) (x : Piece OffsetState) (rest : List Slot) (mode : OffsetMode) → (around.stands Str).bytes ≡ t.str.bytes
     → KnownBy mode around t marks x → EachSlot (SlotTaken m t marks) (listed_by mode (slot_piece x) ++ rest)
     → SlotFitsBy mode m around x.state.slot x.cells
 piece-fits m t marks around x rest at_contribution str known h = tt
@@ -444,7 +445,7 @@ piece-fits m t marks around x rest (at_slot w end) str known h = λ path other.
     subst (λ (u : List ℕ). mapped_path m u ≡ u) (sym (text-same around t marks x str known)) (h.0.stays (known.paths ∙ path) (known.others ∙ other))
 piece-fits m t marks around x rest no_offsets str known h = tt
 
-pieces-name : (m : PathMap) (t : SlotTable) (marks : List ℕ) (around : Around) (xs : List (Piece OffsetState)) → around.str.bytes ≡ t.str.bytes → AllKnown around t marks xs
+pieces-name : (m : PathMap) (t : SlotTable) (marks : List ℕ) (around : Around) (xs : List (Piece OffsetState)) → (around.stands Str).bytes ≡ t.str.bytes → AllKnown around t marks xs
     → EachSlot (SlotTaken m t marks) (piece_slots xs) → NameTexts (slot_role (path_slots around)) around xs
 pieces-name m t marks around [] str known h = tt
 pieces-name m t marks around (x ∷ xs) str known h = (
@@ -452,7 +453,7 @@ pieces-name m t marks around (x ∷ xs) str known h = (
   pieces-name m t marks around xs str known.1 (rest-taken (SlotTaken m t marks) x.state.mode (slot_piece x) (piece_slots xs) h),
 )
 
-pieces-fit : (m : PathMap) (t : SlotTable) (marks : List ℕ) (around : Around) (xs : List (Piece OffsetState)) → around.str.bytes ≡ t.str.bytes → AllKnown around t marks xs
+pieces-fit : (m : PathMap) (t : SlotTable) (marks : List ℕ) (around : Around) (xs : List (Piece OffsetState)) → (around.stands Str).bytes ≡ t.str.bytes → AllKnown around t marks xs
     → EachSlot (SlotTaken m t marks) (piece_slots xs) → EachPiece (SlotFits m around) xs
 pieces-fit m t marks around [] str known h = tt
 pieces-fit m t marks around (x ∷ xs) str known h = (
@@ -481,9 +482,9 @@ pub record SlotsSay (m : PathMap) (around : Around) (xs : List (Piece OffsetStat
   pub fields_are : fields ≡ slot_fields (path_slots around) xs
 
 pub slots-say : (m : PathMap) (around : Around) (t : SlotTable) (cells : List Cell) (xs : List (Piece OffsetState)) (marks : List ℕ) (fields : List PathSlot)
-    → SlotsAround around t cells xs marks → SlotsTaken m t marks (slots_of around.lasting.indexing.contributions) [] fields → SlotsSay m around xs fields
+    → SlotsAround around t cells xs marks → SlotsTaken m t marks (slots_of (around.lasting.kept StrOffsets).contributions) [] fields → SlotsSay m around xs fields
 slots-say m around t cells xs marks fields a h =
-    let all : piece_slots xs ≡ slots_of around.lasting.indexing.contributions = slots-are t.order cells xs a.reads ∙ ap slots_of a.list in
+    let all : piece_slots xs ≡ slots_of (around.lasting.kept StrOffsets).contributions = slots-are t.order cells xs a.reads ∙ ap slots_of a.list in
     let known : AllKnown around t marks xs = all-known around t cells xs marks a in
     let taken : EachSlot (SlotTaken m t marks) (piece_slots xs) = subst (λ (l : List Slot). EachSlot (SlotTaken m t marks) l) (sym all) h.taken in
     record {
@@ -583,18 +584,18 @@ piece-among around t marks [] before behind s known e = absurd (none-among befor
 piece-among around t marks (x ∷ xs) before behind s known e =
     among-step x.state.mode around t marks x xs before behind s refl known.0 (λ front f. piece-among around t marks xs front behind s known.1 f) e
 
-slot-fails : (m : PathMap) (around : Around) (t : SlotTable) (marks : List ℕ) (xs : List (Piece OffsetState)) (s : Slot) (r : Refusal) → around.str.bytes ≡ t.str.bytes
+slot-fails : (m : PathMap) (around : Around) (t : SlotTable) (marks : List ℕ) (xs : List (Piece OffsetState)) (s : Slot) (r : Refusal) → (around.stands Str).bytes ≡ t.str.bytes
     → IsField (offset_fields xs) (as_field s) → SlotAmong around t marks xs s → SlotRefuses m t marks s r → SlotsFail m t around xs r
 slot-fails m around t marks xs s r str field a (no_offset f) = offset_fails (as_field s) field f
 slot-fails m around t marks xs s r str field a (slot_no_text reads ends) =
     let place : a.piece.state.place ≡ s.place = ap (λ (z : Slot). z.place) a.same in
-    let none : ends_in around.str.bytes (offset_in around in_str a.piece.cells) ≡ false =
-    ap (ends_in around.str.bytes) a.known.offset ∙ ap (λ (bs : List ℕ). ends_in bs (slot_offset t (slot_piece a.piece))) str
+    let none : ends_in (around.stands Str).bytes (offset_in around in_str a.piece.cells) ≡ false =
+    ap (ends_in (around.stands Str).bytes) a.known.offset ∙ ap (λ (bs : List ℕ). ends_in bs (slot_offset t (slot_piece a.piece))) str
     ∙ ap (λ (z : Slot). ends_in t.str.bytes (slot_offset t z)) a.same ∙ ends in
     subst (λ (n : ℕ). SlotsFail m t around xs (at StringOffset t.number n)) place (slot_fails (no_text a.piece a.has none))
 slot-fails m around t marks xs s r str field a (slot_shared reads ends path other changes) =
     let place : a.piece.state.place ≡ s.place = ap (λ (z : Slot). z.place) a.same in
-    let text : field_text around.lasting.base.order around.str a.piece.cells ≡ named_text t s =
+    let text : field_text around.lasting.base.order (around.stands Str) a.piece.cells ≡ named_text t s =
     text-same around t marks a.piece str a.known ∙ ap (named_text t) a.same in
     subst (λ (n : ℕ). SlotsFail m t around xs (at SharedIndex t.number n)) place
     (shared_fails (shared a.piece a.has (sym a.known.paths ∙ ap (λ (n : ℕ). marked true marks n) place ∙ path)
@@ -611,9 +612,9 @@ slot-field order cells xs s reads among = record {
 }
 
 pub slots-fail : (m : PathMap) (around : Around) (t : SlotTable) (cells : List Cell) (xs : List (Piece OffsetState)) (marks : List ℕ) (r : Refusal)
-    → SlotsAround around t cells xs marks → SlotsRefuse m t marks (slots_of around.lasting.indexing.contributions) r → SlotsFail m t around xs r
+    → SlotsAround around t cells xs marks → SlotsRefuse m t marks (slots_of (around.lasting.kept StrOffsets).contributions) r → SlotsFail m t around xs r
 slots-fail m around t cells xs marks r a (slot s among refuses) =
-    let all : piece_slots xs ≡ slots_of around.lasting.indexing.contributions = slots-are t.order cells xs a.reads ∙ ap slots_of a.list in
+    let all : piece_slots xs ≡ slots_of (around.lasting.kept StrOffsets).contributions = slots-are t.order cells xs a.reads ∙ ap slots_of a.list in
     let here : piece_slots xs ≡ among.before ++ s ∷ among.behind = all ∙ among.is in
     slot-fails m around t marks xs s r (ap (λ (z : Located). z.bytes) a.str)
     (slot-field t.order cells xs s a.reads (record { before = among.before; behind = among.behind; is = here }))

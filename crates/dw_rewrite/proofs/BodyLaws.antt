@@ -214,13 +214,13 @@ lines-stand b bytes = by_found (section_named (view_of b) (name_of Line)) refl
 pub bodies-read : (m : PathMap) (b : List ℕ) (r : DataReadings) → DataReads (file_data b) r → AllStandRead b (new_bodies m (file_data b) r)
 unfolding new_bodies debug_data
 bodies-read m b r reads = (
-  table-stands b Str (changes_file m b r).str,
+  table-stands b Str ((changes_file m b r).new Str),
   (
-    table-stands b LineStr (changes_file m b r).line_str,
+    table-stands b LineStr ((changes_file m b r).new LineStr),
     (
       cells-stand b StrOffsets (new_offsets m b r),
       (
-        lines-stand b (all_lines (changes_file m b r).lines),
+        lines-stand b (all_lines ((changes_file m b r).new Line)),
         (
           cells-stand b Names (new_names m b r),
           macros-stand b (changes_file m b r) (around_file b r) (units_new m b r) r.macros (file-macros b r reads)
@@ -307,7 +307,7 @@ section_0 b elf some = by_table (cases_eq (e_shoff b) 0)
 
 pub body-first : (m : PathMap) (b : List ℕ) (r : DataReadings) → CanMap m b r → 0 < section_count b → new_body m b r 0 ≡ contents_of b 0
 unfolding debug_data unit_sections macro_sections
-body-first m b r w some = by_str (cases_eq 0 (file_data b).str.number) (str-place b)
+body-first m b r w some = by_str (cases_eq 0 ((file_data b).found Str).number) (str-place b)
   where
     own : contents_of b 0 ≡ []
     own = section_0 b w.reads.elf some
@@ -315,8 +315,8 @@ body-first m b r w some = by_str (cases_eq 0 (file_data b).str.number) (str-plac
     none : (n : ℕ) → 0 < n → 0 ≡ n → ⊥
     none n some is = omega (arith, some, is)
 
-    by_names : 0 ≢ (file_data b).str.number → 0 ≢ (file_data b).line_str.number → 0 ≢ (file_data b).offsets.number → 0 ≢ (file_data b).lines.number
-        → (0 ≡ (file_data b).names.number) ⊎ (0 ≡ (file_data b).names.number → ⊥) → TablePlace b (name_of Names) (located (view_of b) Names)
+    by_names : 0 ≢ ((file_data b).found Str).number → 0 ≢ ((file_data b).found LineStr).number → 0 ≢ ((file_data b).found StrOffsets).number → 0 ≢ ((file_data b).found Line).number
+        → (0 ≡ ((file_data b).found Names).number) ⊎ (0 ≡ ((file_data b).found Names).number → ⊥) → TablePlace b (name_of Names) (located (view_of b) Names)
         → new_body m b r 0 ≡ contents_of b 0
     by_names str line offsets lines (inr names) place =
         body-other m b r 0 (record { str = str; line = line; offsets = offsets; lines = lines; names = names })
@@ -326,29 +326,29 @@ body-first m b r w some = by_str (cases_eq 0 (file_data b).str.number) (str-plac
         body-names m b r 0 same str line offsets lines ∙ ap bytes_of (names-none m b r w none) ∙ sym own
     by_names str line offsets lines (inl same) (lies_at there within named bytes) = absurd (none (located (view_of b) Names).number there (same ∙ names-number b))
 
-    by_tables : 0 ≢ (file_data b).str.number → 0 ≢ (file_data b).line_str.number → 0 ≢ (file_data b).offsets.number
-        → (0 ≡ (file_data b).lines.number) ⊎ (0 ≡ (file_data b).lines.number → ⊥) → TablePlace b (name_of Line) (located (view_of b) Line) → new_body m b r 0 ≡ contents_of b 0
-    by_tables str line offsets (inr other) place = by_names str line offsets other (cases_eq 0 (file_data b).names.number) (names-place b)
+    by_tables : 0 ≢ ((file_data b).found Str).number → 0 ≢ ((file_data b).found LineStr).number → 0 ≢ ((file_data b).found StrOffsets).number
+        → (0 ≡ ((file_data b).found Line).number) ⊎ (0 ≡ ((file_data b).found Line).number → ⊥) → TablePlace b (name_of Line) (located (view_of b) Line) → new_body m b r 0 ≡ contents_of b 0
+    by_tables str line offsets (inr other) place = by_names str line offsets other (cases_eq 0 ((file_data b).found Names).number) (names-place b)
     by_tables str line offsets (inl same) (nowhere zero none) = body-tables m b r 0 same str line offsets ∙ tables-none m b r w none ∙ sym own
     by_tables str line offsets (inl same) (lies_at there within named bytes) = absurd (none (located (view_of b) Line).number there (same ∙ lines-number b))
 
-    by_offsets : 0 ≢ (file_data b).str.number → 0 ≢ (file_data b).line_str.number → (0 ≡ (file_data b).offsets.number) ⊎ (0 ≡ (file_data b).offsets.number → ⊥)
+    by_offsets : 0 ≢ ((file_data b).found Str).number → 0 ≢ ((file_data b).found LineStr).number → (0 ≡ ((file_data b).found StrOffsets).number) ⊎ (0 ≡ ((file_data b).found StrOffsets).number → ⊥)
         → TablePlace b (name_of StrOffsets) (located (view_of b) StrOffsets) → new_body m b r 0 ≡ contents_of b 0
-    by_offsets str line (inr other) place = by_tables str line other (cases_eq 0 (file_data b).lines.number) (tables-place b)
+    by_offsets str line (inr other) place = by_tables str line other (cases_eq 0 ((file_data b).found Line).number) (tables-place b)
     by_offsets str line (inl same) (nowhere zero none) =
         body-offsets m b r 0 same str line ∙ ap bytes_of (offsets-none m b r w none) ∙ sym own
     by_offsets str line (inl same) (lies_at there within named bytes) = absurd (none (located (view_of b) StrOffsets).number there (same ∙ offsets-number b))
 
-    by_line : 0 ≢ (file_data b).str.number → (0 ≡ (file_data b).line_str.number) ⊎ (0 ≡ (file_data b).line_str.number → ⊥) → TablePlace b (name_of LineStr) (file_data b).line_str
+    by_line : 0 ≢ ((file_data b).found Str).number → (0 ≡ ((file_data b).found LineStr).number) ⊎ (0 ≡ ((file_data b).found LineStr).number → ⊥) → TablePlace b (name_of LineStr) ((file_data b).found LineStr)
         → new_body m b r 0 ≡ contents_of b 0
-    by_line other (inr line) place = by_offsets other line (cases_eq 0 (file_data b).offsets.number) (offsets-place b)
+    by_line other (inr line) place = by_offsets other line (cases_eq 0 ((file_data b).found StrOffsets).number) (offsets-place b)
     by_line other (inl same) (nowhere zero none) =
-        let apart : (file_data b).line_str.number ≢ (file_data b).str.number = λ (e : (file_data b).line_str.number ≡ (file_data b).str.number). other (same ∙ e) in
+        let apart : ((file_data b).found LineStr).number ≢ ((file_data b).found Str).number = λ (e : ((file_data b).found LineStr).number ≡ ((file_data b).found Str).number). other (same ∙ e) in
         ap (new_body m b r) same ∙ body-line m b r apart ∙ line-none m b r w none ∙ sym own
     by_line other (inl same) (lies_at there within named bytes) = absurd (omega (arith, same, there))
 
-    by_str : (0 ≡ (file_data b).str.number) ⊎ (0 ≡ (file_data b).str.number → ⊥) → TablePlace b (name_of Str) (file_data b).str → new_body m b r 0 ≡ contents_of b 0
-    by_str (inr other) place = by_line other (cases_eq 0 (file_data b).line_str.number) (line-place b)
+    by_str : (0 ≡ ((file_data b).found Str).number) ⊎ (0 ≡ ((file_data b).found Str).number → ⊥) → TablePlace b (name_of Str) ((file_data b).found Str) → new_body m b r 0 ≡ contents_of b 0
+    by_str (inr other) place = by_line other (cases_eq 0 ((file_data b).found LineStr).number) (line-place b)
     by_str (inl same) (nowhere zero none) = ap (new_body m b r) same ∙ body-str m b r ∙ str-none m b r w none ∙ sym own
     by_str (inl same) (lies_at there within named bytes) = absurd (omega (arith, same, there))
 

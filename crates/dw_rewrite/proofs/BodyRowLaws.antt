@@ -14,7 +14,7 @@ use Rattle.dw_base.specs.Refusals.{Blames, at}
 use Rattle.dw_base.specs.StringTables.{TextTable}
 use Rattle.dw_base.specs.Texts.{laid_texts}
 use Rattle.dw_base.specs.ViewData.{debug_data}
-use Rattle.dw_base.specs.declared.debug_sections.DebugSection.TheVariants.{Line}
+use Rattle.dw_base.specs.declared.debug_sections.DebugSection.TheVariants.{Str, LineStr, Line}
 use Rattle.dw_base.specs.declared.fault.Fault.{Fault}
 use Rattle.dw_base.specs.declared.fault.Fault.TheVariants.{NoMemory, Refused}
 use Rattle.dw_base.specs.declared.fault.Kind.TheVariants.{TooLarge}
@@ -50,12 +50,12 @@ long-row m v in_str us ts r f (long_table there over) =
     let texts_are : (table_change m in_str (around_of (debug_data v) f.readings) f.readings).texts ≡ all_texts_at m v in_str [] us =
     table-texts m v f.readings ts in_str f.reads.units f.reads.offsets f.reads.lines f.tables ∙ ap (all_texts_at m v in_str []) (sym f.is) in
     long_table_of in_str f.readings f.reads (paths-fit m v us ts f) there
-    (subst (λ (xs : List (List ℕ)). output_limit < length ((debug_data v).str.bytes ++ laid_texts xs)) (sym texts_are) over)
+    (subst (λ (xs : List (List ℕ)). output_limit < length (((debug_data v).found Str).bytes ++ laid_texts xs)) (sym texts_are) over)
 long-row m v in_line_str us ts r f (long_table there over) =
     let texts_are : (table_change m in_line_str (around_of (debug_data v) f.readings) f.readings).texts ≡ all_texts_at m v in_line_str [] us =
     table-texts m v f.readings ts in_line_str f.reads.units f.reads.offsets f.reads.lines f.tables ∙ ap (all_texts_at m v in_line_str []) (sym f.is) in
     long_table_of in_line_str f.readings f.reads (paths-fit m v us ts f) there
-    (subst (λ (xs : List (List ℕ)). output_limit < length ((debug_data v).line_str.bytes ++ laid_texts xs)) (sym texts_are) over)
+    (subst (λ (xs : List (List ℕ)). output_limit < length (((debug_data v).found LineStr).bytes ++ laid_texts xs)) (sym texts_are) over)
 
 pub long-fault : (m : PathMap) (v : View) (table : TextSection) (us : List UnitPaths) (ts : List LineTable) (f : Fault) → PathsFound m v us ts → Blames (LongTable m v table us) f
     → Blames (BodiesRefuse m (debug_data v)) f
@@ -78,7 +78,7 @@ lines-fault m v us ts ps pl ks kl (Refused r) found s l b = lines-row m v us ts 
 
 -- and line tables that would be too long
 some-number : (m : PathMap) (v : View) (ks kl : ℕ → Option ℕ) (us : List UnitPaths) (ts : List LineTable) (bs : List ℕ) → PathsFound m v us ts → bs ≡ all_lines (lines_known m (line_source (debug_data v)) ks kl ts)
-    → 0 < length bs → (debug_data v).lines.number ≢ 0
+    → 0 < length bs → ((debug_data v).found Line).number ≢ 0
 unfolding section_named
 some-number m v ks kl us ts bs f is some zero_ = by (section_named v (name_of Line)) refl
   where
@@ -94,7 +94,7 @@ some-number m v ks kl us ts bs f is some zero_ = by (section_named v (name_of Li
 
 pub long-lines : (m : PathMap) (v : View) (us : List UnitPaths) (ts : List LineTable) (ps pl : TextTable) (ks kl : ℕ → Option ℕ) (bs ns : List ℕ) (r : Refusal) → PathsFound m v us ts
     → TableMade m v in_str us ps ks → TableMade m v in_line_str us pl kl → LinesWritten m (line_source (debug_data v)) ks kl ts bs ns → output_limit < length bs
-    → r ≡ at TooLarge (debug_data v).lines.number 0 → BodiesRefuse m (debug_data v) r
+    → r ≡ at TooLarge ((debug_data v).found Line).number 0 → BodiesRefuse m (debug_data v) r
 long-lines m v us ts ps pl ks kl bs ns r f s l w over is =
     subst (BodiesRefuse m (debug_data v)) (sym is)
     (long_lines_of f.readings f.reads (paths-fit m v us ts f) (some-number m v ks kl us ts bs f w.bytes (omega (arith, over)))

@@ -20,6 +20,7 @@ use Rattle.dw_base.proofs.RelocationFieldLaws.{bytes_of-drop}
 use Rattle.dw_base.proofs.UnitEditLaws.{length-bytes_of}
 use Rattle.dw_base.proofs.UnitHeaderLaws.{bytes_of-append}
 use Rattle.dw_base.proofs.ViewCellLaws.{piece-cells}
+use Rattle.dw_base.specs.declared.debug_sections.DebugSection.TheVariants.{Line}
 use Rattle.dw_rewrite.specs.Changes.{FieldSource, new_start, offset_at, offset_bytes, patched, patched_at, path_at, put_at, start_known, texts_at, with_all_known, with_known}
 use Rattle.dw_find.specs.UnitPaths.{field_by, path_fields, inline_text}
 use Rattle.dw_rewrite.specs.UnitsAfter.{inlined_at, start_source, text_source}
@@ -126,13 +127,13 @@ start_put s news (Some k) front p rest place at there = field_turns true s front
 pub start_turns : (changes : TableChanges) (around : Around) (cells : List Cell) (front : List ℕ) (p behind : List Cell) (place : ℕ)
     → length front ≡ place → p ++ behind ≡ drop place cells
     → Turns (λ out. with_known (start_source around cells) out (field_at place p)
-    (start_known around.starts (starts_from 0 changes.lines) (offset_at (start_source around cells) (field_at place p)))) front (bytes_of p)
+    (start_known (around.stands Line).starts (starts_from 0 (changes.new Line)) (offset_at (start_source around cells) (field_at place p)))) front (bytes_of p)
     (bytes_of (edited_by line_start changes around p))
 start_turns changes around cells front p behind place at e rest =
     let there : cells_at cells place (length p) ≡ p = piece-there p behind cells place e in
-    start_put (start_source around cells) (starts_from 0 changes.lines) (start_number 0 around.starts (offset_at (start_source around cells) (field_at place p))) front p rest place at there
-    ∙ ap (λ (q : List Cell). front ++ (bytes_of (moved_start (starts_from 0 changes.lines) around.lasting.base.order
-    (start_number 0 around.starts (offset_of around.lasting.base.order around.lines q)) p) ++ rest)) there
+    start_put (start_source around cells) (starts_from 0 (changes.new Line)) (start_number 0 (around.stands Line).starts (offset_at (start_source around cells) (field_at place p))) front p rest place at there
+    ∙ ap (λ (q : List Cell). front ++ (bytes_of (moved_start (starts_from 0 (changes.new Line)) around.lasting.base.order
+    (start_number 0 (around.stands Line).starts (offset_of around.lasting.base.order (around.stands Line).located q)) p) ++ rest)) there
 
 -- bytes put over the first of a piece
 pub bytes-put : (p : List Cell) (q : List ℕ) → length q ≤ length p → bytes_of (with_bytes p q) ≡ q ++ drop (length q) (bytes_of p)

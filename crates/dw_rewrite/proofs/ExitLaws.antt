@@ -42,7 +42,7 @@ use Rattle.dw_base.specs.RelocationRows.{moving_sections}
 use Rattle.dw_base.specs.RelocationSectionFails.{RelocationSectionsFail, RelocationSectionsRead, is_read_section, relocates_read}
 use Rattle.dw_base.specs.TextChanges.{TableChanges}
 use Rattle.dw_base.specs.ViewData.{debug_data, located}
-use Rattle.dw_base.specs.declared.debug_sections.DebugSection.TheVariants.{Line, LineStr}
+use Rattle.dw_base.specs.declared.debug_sections.DebugSection.TheVariants.{Str, LineStr, Line, Macro}
 use Rattle.dw_base.specs.declared.fault.Fault.{Fault}
 use Rattle.dw_base.specs.declared.fault.Fault.TheVariants.{NoMemory, Refused}
 use Rattle.dw_base.specs.declared.fault.Kind.TheVariants.{Fixed, TooLarge}
@@ -153,7 +153,7 @@ found_tables b v ts is h = subst (λ (w : View). TablesFound w ts) is h
 pub ruleset tables_rules = (refused_tables, found_tables)
 
 -- and macro units.
-units_refuse : (b : List ℕ) (z : CellSection) (before behind : List CellSection) (r : Refusal) → ElfReads b → (file_data b).macros ≡ before ++ z ∷ behind
+units_refuse : (b : List ℕ) (z : CellSection) (before behind : List CellSection) (r : Refusal) → ElfReads b → (file_data b).found Macro ≡ before ++ z ∷ behind
     → UnitsRefuse (view_of b) z.number r → FileFails b r
 units_refuse b z before behind r reads split (units_are_wrong h) = macros_row z before behind reads split h
 units_refuse b z before behind r reads split (offsets_refuse list start up some h) = relocations_row reads (offset_rows (macros_before before behind z list start split up some h))
@@ -222,35 +222,35 @@ table_body m b r in_str j reads some =
     record {
       within = stand.within some;
       full = stand.full some;
-      body = read_body m b r (file_data b).str.number j (stand.within some) (stand.read some) ∙ body-str m b r;
+      body = read_body m b r ((file_data b).found Str).number j (stand.within some) (stand.read some) ∙ body-str m b r;
     }
 table_body m b r in_line_str j reads some =
     let stand = (bodies-read m b r reads).1.0 in
     record {
       within = stand.within some;
       full = stand.full some;
-      body = read_body m b r (file_data b).line_str.number j (stand.within some) (stand.read some) ∙ body-line m b r (apart (line-place b));
+      body = read_body m b r ((file_data b).found LineStr).number j (stand.within some) (stand.read some) ∙ body-line m b r (apart (line-place b));
     }
   where
-    apart : TablePlace b (name_of LineStr) (file_data b).line_str → (file_data b).line_str.number ≢ (file_data b).str.number
+    apart : TablePlace b (name_of LineStr) ((file_data b).found LineStr) → ((file_data b).found LineStr).number ≢ ((file_data b).found Str).number
     apart (nowhere zero none) = absurd (some zero)
     apart (lies_at there within named bytes) = tables-apart b there named
 
-lines_body : (m : PathMap) (b : List ℕ) (r : DataReadings) → IsChecked b → DataReads (file_data b) r → (file_data b).lines.number ≢ 0
-    → IsNewBody m b r (all_lines (new_lines m (around_of (file_data b) r) r)) (file_data b).lines.number
+lines_body : (m : PathMap) (b : List ℕ) (r : DataReadings) → IsChecked b → DataReads (file_data b) r → ((file_data b).found Line).number ≢ 0
+    → IsNewBody m b r (all_lines (new_lines m (around_of (file_data b) r) r)) ((file_data b).found Line).number
 unfolding new_bodies
 lines_body m b r j reads some =
     let stand = (bodies-read m b r reads).1.1.1.0 in
     record {
       within = stand.within some;
       full = stand.full some;
-      body = read_body m b r (file_data b).lines.number j (stand.within some) (stand.read some) ∙ by_place (tables-place b);
+      body = read_body m b r ((file_data b).found Line).number j (stand.within some) (stand.read some) ∙ by_place (tables-place b);
     }
   where
-    same : (located (view_of b) Line).number ≡ (file_data b).lines.number
+    same : (located (view_of b) Line).number ≡ ((file_data b).found Line).number
     same = sym (lines-number b)
 
-    by_place : TablePlace b (name_of Line) (located (view_of b) Line) → new_body m b r (file_data b).lines.number ≡ all_lines (new_lines m (around_of (file_data b) r) r)
+    by_place : TablePlace b (name_of Line) (located (view_of b) Line) → new_body m b r ((file_data b).found Line).number ≡ all_lines (new_lines m (around_of (file_data b) r) r)
     by_place (nowhere zero none) = absurd (some (sym same ∙ zero))
     by_place (lies_at there within named bytes) = ap (new_body m b r) (sym same) ∙ body-lines m b r there named
 
@@ -305,7 +305,7 @@ long_fails m b (Refused _) small j on (long_lines_of r reads fits some over) =
     output r (reads_checked b r j on reads) fits (long_at m b r (all_lines (new_lines m (around_of (file_data b) r) r)) _ small j t over (is_fixed b (nth_section b _)) refl)
 long_fails m b (Refused x) small j on (line_table_of r before behind t reads split fails) =
     let other : IsOther x = write_other (line_source (file_data b)) m
-    (line_place m (changes_of m (around_of (file_data b) r) r).str (changes_of m (around_of (file_data b) r) r).line_str (line_source (file_data b)))
+    (line_place m ((changes_of m (around_of (file_data b) r) r).new Str) ((changes_of m (around_of (file_data b) r) r).new LineStr) (line_source (file_data b)))
     (table_read (line_source (file_data b)) t) x fails in
     subst (EditFails m b) (sym (other_told b x other)) (line_table_row r before behind t (reads_checked b r j on reads) split fails)
 long_fails m b (Refused x) small j on (addend_of r reads fits fails) =
@@ -324,7 +324,7 @@ in_file m b (Refused _) j (long_table_of table r reads fits some over) = record 
 in_file m b (Refused _) j (long_lines_of r reads fits some over) = record { within = λ kind. (lines_body m b r j reads some).within }
 in_file m b (Refused x) j (line_table_of r before behind t reads split fails) =
     other_in b x (write_other (line_source (file_data b)) m
-    (line_place m (changes_of m (around_of (file_data b) r) r).str (changes_of m (around_of (file_data b) r) r).line_str (line_source (file_data b)))
+    (line_place m ((changes_of m (around_of (file_data b) r) r).new Str) ((changes_of m (around_of (file_data b) r) r).new LineStr) (line_source (file_data b)))
     (table_read (line_source (file_data b)) t) x fails)
 in_file m b (Refused x) j (addend_of r reads fits fails) =
     other_in b x (addend_other (changes_of m (around_of (file_data b) r) r) (file_data b) (around_of (file_data b) r) r x fails)

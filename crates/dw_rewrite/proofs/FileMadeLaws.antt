@@ -52,7 +52,7 @@ pushed_all m b ts ps pl ks kl kt lines part =
 all-is : (m : PathMap) (b : List ℕ) (us : List UnitPaths) (ts : List LineTable) (ps pl : TextTable) (ks kl : ℕ → Option ℕ) (bs ns : List ℕ)
     → RelocationSectionsRead (contents_of b) b → (f : PathsFound m (view_of b) us ts) → TableMade m (view_of b) in_str us ps ks → TableMade m (view_of b) in_line_str us pl kl
     → LinesWritten m (line_source (file_data b)) ks kl ts bs ns
-    → pushed_all m b ts ps pl ks kl (start_known (starts_of ts) ns) (record { number = (file_data b).lines.number; bytes = bs }) (without_lines (view_of b) us)
+    → pushed_all m b ts ps pl ks kl (start_known (starts_of ts) ns) (record { number = ((file_data b).found Line).number; bytes = bs }) (without_lines (view_of b) us)
     ≡ new_bodies m (file_data b) f.readings ++ held_bodies b (new_cells m (file_data b) f.readings) (moved_numbers (view_of b) f.readings)
 all-is m b us ts ps pl ks kl bs ns sections f s l w =
     ap (λ (xs : List Body). (xs ++ records_known b (view_of b) ks kl (start_known (starts_of ts) ns) (without_lines (view_of b) us))
@@ -87,7 +87,7 @@ file-made : (m : PathMap) (b : List ℕ) (us : List UnitPaths) (ts : List LineTa
     → RelocationSectionsRead (contents_of b) b → (f : PathsFound m (view_of b) us ts) → TableMade m (view_of b) in_str us ps ks → TableMade m (view_of b) in_line_str us pl kl
     → LinesWritten m (line_source (file_data b)) ks kl ts bs ns → AllMake (view_of b) ks kl (start_known (starts_of ts) ns) (without_lines (view_of b) us)
     → OffsetsMake (line_source (file_data b)).cells (line_offsets m (line_source (file_data b)) ks kl ts)
-    → bodies ≡ pushed_all m b ts ps pl ks kl (start_known (starts_of ts) ns) (record { number = (file_data b).lines.number; bytes = bs }) (without_lines (view_of b) us)
+    → bodies ≡ pushed_all m b ts ps pl ks kl (start_known (starts_of ts) ns) (record { number = ((file_data b).found Line).number; bytes = bs }) (without_lines (view_of b) us)
     → FileBodiesMade m b bodies
 file-made m b us ts ps pl ks kl bs ns bodies sections f s l w makes fields is = record {
   readings = f.readings;
@@ -102,7 +102,7 @@ file-made m b us ts ps pl ks kl bs ns bodies sections f s l w makes fields is = 
 pub made : (m : PathMap) (b : List ℕ) (v : View) (us part : List UnitPaths) (ts : List LineTable) (ps pl : TextTable) (ks kl : ℕ → Option ℕ) (bs ns old : List ℕ) (starts : StartChange) (lines : Body)
     (bodies : List Body) → v ≡ view_of b → RelocationSectionsRead (contents_of b) b → PathsFound m v us ts → TableMade m v in_str us ps ks → TableMade m v in_line_str us pl kl
     → LinesWritten m (line_source (debug_data v)) ks kl ts bs ns → old ≡ starts_of ts → starts ≡ record { old = old; new = ns }
-    → lines ≡ record { number = (debug_data v).lines.number; bytes = bs } → part ≡ without_lines v us → AllMake v ks kl (λ o. known_starts starts o) part
+    → lines ≡ record { number = ((debug_data v).found Line).number; bytes = bs } → part ≡ without_lines v us → AllMake v ks kl (λ o. known_starts starts o) part
     → OffsetsMake (line_source (debug_data v)).cells (line_offsets m (line_source (debug_data v)) ks kl ts)
     → bodies ≡ ((table_body_of v in_str ps ∷ table_body_of v in_line_str pl ∷ pushed_bodies m v ks kl (λ o. known_starts starts o) lines part)
     ++ records_known b v ks kl (λ o. known_starts starts o) part) ++ line_record b m (line_source (debug_data v)) ks kl ts (section_named v (name_of Line))
@@ -115,7 +115,7 @@ made m b v us part ts ps pl ks kl bs ns old starts lines bodies v_is sections fo
 
     At : View → Type 0
     At v = PathsFound m v us ts → TableMade m v in_str us ps ks → TableMade m v in_line_str us pl kl → LinesWritten m (line_source (debug_data v)) ks kl ts bs ns
-        → lines ≡ record { number = (debug_data v).lines.number; bytes = bs } → part ≡ without_lines v us → AllMake v ks kl (λ o. known_starts starts o) part
+        → lines ≡ record { number = ((debug_data v).found Line).number; bytes = bs } → part ≡ without_lines v us → AllMake v ks kl (λ o. known_starts starts o) part
         → OffsetsMake (line_source (debug_data v)).cells (line_offsets m (line_source (debug_data v)) ks kl ts)
         → bodies ≡ ((table_body_of v in_str ps ∷ table_body_of v in_line_str pl ∷ pushed_bodies m v ks kl (λ o. known_starts starts o) lines part)
         ++ records_known b v ks kl (λ o. known_starts starts o) part) ++ line_record b m (line_source (debug_data v)) ks kl ts (section_named v (name_of Line))
@@ -128,7 +128,7 @@ made m b v us part ts ps pl ks kl bs ns old starts lines bodies v_is sections fo
         (subst (AllMake (view_of b) ks kl (λ o. known_starts starts o)) part_is makes)) fields
         (is ∙ ap (λ (x : StartChange). pushed_all m b ts ps pl ks kl (λ o. known_starts x o) lines part) same
         ∙ ap (λ (x : Body). pushed_all m b ts ps pl ks kl (start_known (starts_of ts) ns) x part) lines_are
-        ∙ ap (pushed_all m b ts ps pl ks kl (start_known (starts_of ts) ns) (record { number = (file_data b).lines.number; bytes = bs })) part_is)
+        ∙ ap (pushed_all m b ts ps pl ks kl (start_known (starts_of ts) ns) (record { number = ((file_data b).found Line).number; bytes = bs })) part_is)
 
     at_view : (v : View) → v ≡ view_of b → At v
     at_view v is = subst At (sym is) at_file

@@ -14,7 +14,7 @@ use Rattle.dw_base.specs.Refusals.{Blames}
 use Rattle.dw_base.specs.StringTables.{TextTable, table_bytes}
 use Rattle.dw_base.specs.Texts.{laid_texts}
 use Rattle.dw_base.specs.ViewData.{debug_data, located, located_at}
-use Rattle.dw_base.specs.declared.debug_sections.DebugSection.TheVariants.{Line as line_section, Str as str_section, LineStr as line_str_section}
+use Rattle.dw_base.specs.declared.debug_sections.DebugSection.TheVariants.{Str as str_section, LineStr as line_str_section, Line as line_section}
 use Rattle.dw_base.specs.declared.fault.Fault.{Fault}
 use Rattle.dw_base.specs.declared.fault.Fault.TheVariants.{NoMemory, Refused}
 use Rattle.dw_base.proofs.FileViewLaws.{section_after-within}
@@ -36,10 +36,10 @@ pub same-source : (v : View) (t : TextsOf) (section number : ℕ) (bytes : List 
     → record { order = v.order; cells = view_cells v section; table = record { number = number; bytes = bytes } } ≡ source_in v section (as_table t)
 same-source v Str section number bytes e f =
     ap (λ (n : ℕ). record { order = v.order; cells = view_cells v section; table = record { number = n; bytes = bytes } }) e
-    ∙ ap (λ (b : List ℕ). record { order = v.order; cells = view_cells v section; table = record { number = (debug_data v).str.number; bytes = b } }) f
+    ∙ ap (λ (b : List ℕ). record { order = v.order; cells = view_cells v section; table = record { number = ((debug_data v).found str_section).number; bytes = b } }) f
 same-source v LineStr section number bytes e f =
     ap (λ (n : ℕ). record { order = v.order; cells = view_cells v section; table = record { number = n; bytes = bytes } }) e
-    ∙ ap (λ (b : List ℕ). record { order = v.order; cells = view_cells v section; table = record { number = (debug_data v).line_str.number; bytes = b } }) f
+    ∙ ap (λ (b : List ℕ). record { order = v.order; cells = view_cells v section; table = record { number = ((debug_data v).found line_str_section).number; bytes = b } }) f
 
 pub ruleset source_rules = (same-source)
 

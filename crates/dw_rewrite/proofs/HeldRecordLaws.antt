@@ -289,7 +289,7 @@ abbrev records_after : PathMap → List ℕ → DataReadings → List UnitPaths 
 records_after m b all us = records_known b (view_of b) (str_after m (view_of b) all) (line_str_after m (view_of b) all) (starts_after m (view_of b) all) us
 
 reading-held : (m : PathMap) (b : List ℕ) (all : DataReadings) (before behind : List UnitSection) (z : UnitSection) (first : ℕ) (r : Reading) → RelocationSectionsRead (contents_of b) b
-    → (file_data b).units ≡ before ++ z ∷ behind → r.number ≡ z.number → ReadsUnits (file_data b).base z first r.pieces → HasOffsets (view_of b) (paths_in r)
+    → (file_data b).found Info ≡ before ++ z ∷ behind → r.number ≡ z.number → ReadsUnits (file_data b).base z first r.pieces → HasOffsets (view_of b) (paths_in r)
     → HasPlaces (view_of b) (paths_in r) → IsFull b r.number
     → new_contents b (new_cells m (file_data b) all) r.number ≡ joined (edited_all (changes_file m b all) (around_file b all) r.pieces)
     → record_body b (told_in m (view_of b) all (paths_in r)) (relocation_section b r.number) ≡ held_body b (new_cells m (file_data b) all) (relocation_section b r.number)
@@ -299,7 +299,7 @@ reading-held m b all before behind z first r sections split number reads offsets
     (λ k from. units-moved m (view_of b) all z first r (source_at b k) (contents_of b r.number) reads same offsets places from)
 
 readings-held : (m : PathMap) (b : List ℕ) (all : DataReadings) (before zs : List UnitSection) (first : ℕ) (rs : Readings) → RelocationSectionsRead (contents_of b) b
-    → (file_data b).units ≡ before ++ zs → ReadsAll (file_data b).base first zs rs → AllHaveOffsets (view_of b) (paths_of rs) → AllHavePlaces (view_of b) (paths_of rs)
+    → (file_data b).found Info ≡ before ++ zs → ReadsAll (file_data b).base first zs rs → AllHaveOffsets (view_of b) (paths_of rs) → AllHavePlaces (view_of b) (paths_of rs)
     → AllFull b (unit_numbers rs) → UnitsNew m b all rs
     → records_after m b all (paths_of rs) ≡ held_bodies b (new_cells m (file_data b) all) (numbers_in (paths_of rs))
 readings-held m b all before zs first [] sections split reads offsets places full new = refl
@@ -379,11 +379,11 @@ records-after m b all sections reads parts =
     let kl : ℕ → Option ℕ = line_str_after m (view_of b) all in
     let kt : ℕ → Option ℕ = starts_after m (view_of b) all in
     let units : records_after m b all (paths_of all.units) ≡ held_bodies b (new_cells m (file_data b) all) (numbers_in (paths_of all.units)) =
-    readings-held m b all [] (file_data b).units 0 all.units sections refl reads.units parts.unit_offsets parts.unit_places (file-units b all reads) (units-new m b all reads) in
+    readings-held m b all [] ((file_data b).found Info) 0 all.units sections refl reads.units parts.unit_offsets parts.unit_places (file-units b all reads) (units-new m b all reads) in
     let slots : records_after m b all (slots_read (view_of b) all) ≡ held_bodies b (new_cells m (file_data b) all) (numbers_in (slots_read (view_of b) all)) =
     slots-held m b all (section_named (view_of b) (name_of StrOffsets)) sections refl (offsets-of (view_of b) all.offsets reads.offsets) parts.slot_offsets parts.slot_places in
     let macros : records_after m b all (macros_read all.macros) ≡ held_bodies b (new_cells m (file_data b) all) (numbers_in (macros_read all.macros)) =
-    macro-held m b all (file_data b).macros all.macros sections (all-cells (view_of b)) reads.macros parts.macro_offsets parts.macro_places (file-macros b all reads)
+    macro-held m b all ((file_data b).found Macro) all.macros sections (all-cells (view_of b)) reads.macros parts.macro_offsets parts.macro_places (file-macros b all reads)
     (macros-new m b all reads) in
     records-append b v ks kl kt (paths_of all.units ++ slots_read (view_of b) all) (macros_read all.macros)
     ∙ ap (λ (bs : List Body). bs ++ records_after m b all (macros_read all.macros))

@@ -20,7 +20,7 @@ use Rattle.dw_base.specs.SectionRelocations.{RelocationSource, cells_from, reloc
 use Rattle.dw_base.specs.StringTables.{TextTable}
 use Rattle.dw_base.specs.ViewData.{debug_data, located}
 use Rattle.dw_base.specs.WrittenLines.{new_place, paths_of}
-use Rattle.dw_base.specs.declared.debug_sections.DebugSection.TheVariants.{Line, StrOffsets}
+use Rattle.dw_base.specs.declared.debug_sections.DebugSection.TheVariants.{StrOffsets, Line}
 use Rattle.dw_base.specs.declared.fault.Kind.TheVariants.{TooWide}
 use Rattle.dw_base.specs.declared.fault.Refusal.{Refusal}
 use Rattle.dw_base.specs.declared.line_tables.TextPlace.{TextPlace}
@@ -107,7 +107,7 @@ line-contents m b r i e =
     above : 0 < i
     above = let from = f.from in omega arith
 
-    number : (file_data b).lines.number ≡ i
+    number : ((file_data b).found Line).number ≡ i
     number = ap (λ (s : LineSource). s.number) (source-is (view_of b) i (sym e))
 
     no : Some Line ≡ Some StrOffsets → ⊥

@@ -13,7 +13,7 @@ use Rattle.dw_base.specs.Paths.{PathMap}
 use Rattle.dw_base.specs.RelocationRows.{moving_sections}
 use Rattle.dw_base.specs.ViewData.{debug_data, located}
 use Rattle.dw_base.specs.WrittenLines.{new_place, written_table}
-use Rattle.dw_base.specs.declared.debug_sections.DebugSection.TheVariants.{Line, LineStr, Str}
+use Rattle.dw_base.specs.declared.debug_sections.DebugSection.TheVariants.{Str, LineStr, Line}
 use Rattle.dw_base.specs.Layout.{output_limit}
 use Rattle.dw_meaning.specs.FileMeanings.{file_data}
 use Rattle.dw_meaning.specs.LineStretches.{Stretch, stretches_end, table_stretches}
@@ -76,7 +76,7 @@ all-move m g ks kl p n e (r ∷ rs) own apart clear tables stand small =
 pub file-apart : (b : List ℕ) (rs : List LineReading) → AreTables (line_source (file_data b)) rs → TablesApart (line_source (file_data b)) rs
 file-apart b [] reads = tt
 file-apart b (x ∷ xs) reads =
-    subst (λ (n : ℕ). (n ≢ (file_data b).str.number) × (n ≢ (file_data b).line_str.number)) (sym (lines-number b)) (by_place (tables-place b))
+    subst (λ (n : ℕ). (n ≢ ((file_data b).found Str).number) × (n ≢ ((file_data b).found LineStr).number)) (sym (lines-number b)) (by_place (tables-place b))
   where
     some_none : ◌≡◌ {A = List LineReading} (x ∷ xs) [] → ⊥
     some_none e = cc
@@ -88,11 +88,11 @@ file-apart b (x ∷ xs) reads =
     line_no e = cc
 
     by_place : TablePlace b (name_of Line) (located (view_of b) Line)
-        → ((located (view_of b) Line).number ≢ (file_data b).str.number) × ((located (view_of b) Line).number ≢ (file_data b).line_str.number)
+        → ((located (view_of b) Line).number ≢ ((file_data b).found Str).number) × ((located (view_of b) Line).number ≢ ((file_data b).found LineStr).number)
     by_place (nowhere none_there none) = absurd (some_none (no-tables (line_source (file_data b)) (x ∷ xs) (line-bytes b ∙ none) reads))
     by_place (lies_at there within named bytes) = (
-      name-apart b (name_of Str) (file_data b).str (located (view_of b) Line).number (str-place b) there (λ e. str_no (differ Line Str (sym named ∙ e))),
-      name-apart b (name_of LineStr) (file_data b).line_str (located (view_of b) Line).number (line-place b) there (λ e. line_no (differ Line LineStr (sym named ∙ e))),
+      name-apart b (name_of Str) ((file_data b).found Str) (located (view_of b) Line).number (str-place b) there (λ e. str_no (differ Line Str (sym named ∙ e))),
+      name-apart b (name_of LineStr) ((file_data b).found LineStr) (located (view_of b) Line).number (line-place b) there (λ e. line_no (differ Line LineStr (sym named ∙ e))),
     )
 
 -- what was found and written of tables

@@ -13,11 +13,11 @@ use Rattle.dw_meaning.proofs.LineTableLaws.{header-places}
 use Rattle.dw_rewrite.specs.NewLines.{AllStandIn}
 
 -- the number of their section
-pub number-some : (v : View) (i : ℕ) → Some i ≡ section_named v (name_of Line) → i ≡ (debug_data v).lines.number
+pub number-some : (v : View) (i : ℕ) → Some i ≡ section_named v (name_of Line) → i ≡ ((debug_data v).found Line).number
 unfolding debug_data
 number-some v i e = ap (λ (o : Option ℕ). (cells_located v o).number) e
 
-pub number-none : (v : View) → None ≡ section_named v (name_of Line) → 0 ≡ (debug_data v).lines.number
+pub number-none : (v : View) → None ≡ section_named v (name_of Line) → 0 ≡ ((debug_data v).found Line).number
 unfolding debug_data
 number-none v e = ap (λ (o : Option ℕ). (cells_located v o).number) e
 

@@ -20,6 +20,7 @@ use Rattle.dw_base.specs.declared.shared.Order.{Order}
 use Rattle.dw_base.proofs.UnitEditLaws.{length-bytes_of}
 use Rattle.dw_base.proofs.UnitHeaderLaws.{bytes_of-append}
 use Rattle.dw_base.proofs.ViewCellLaws.{bytes_of-view_cells}
+use Rattle.dw_base.specs.declared.debug_sections.DebugSection.TheVariants.{Str, LineStr, Macro}
 use Rattle.dw_meaning.specs.DataOutput.{Body, changes_of, macro_bodies, table_change}
 use Rattle.dw_meaning.proofs.MacroPieceLaws.{CellsOf}
 use Rattle.dw_find.specs.MacroSections.{macro_starts, macros_read, macros_with}
@@ -116,7 +117,7 @@ from-macros order s place (x ∷ xs) at c =
 
 -- what their pieces become
 macros_written : (c : TableChanges) (a : Around) (order : Order) (cells : List Cell) (front : List ℕ) (s : MacroState) (place : ℕ) (xs : List (Piece MacroState))
-    → c.str.plan ≡ appending c.map a.str.bytes → c.line_str.plan ≡ appending c.map a.line_str.bytes → length front ≡ place → s.place ≡ place
+    → (c.new Str).plan ≡ appending c.map (a.stands Str).bytes → (c.new LineStr).plan ≡ appending c.map (a.stands LineStr).bytes → length front ≡ place → s.place ≡ place
     → Chain (macro_grammar order) s xs → joined xs ≡ drop place cells
     → unit_by c a cells [] [] (macro_starts xs) [] (front ++ bytes_of (joined xs)) ≡ front ++ bytes_of (joined (edited_with macro_role c a xs))
 macros_written c a order cells front s place [] str line at stands chain e = refl
@@ -175,10 +176,10 @@ all-bodies m v all (z ∷ zs) (r ∷ rs) cells reads =
     ∙ ap (λ (bodies : List Body). record { number = r.number; bytes = bytes_of (joined (edited_with macro_role (changes_of m (around_of (debug_data v) all) all) (around_of (debug_data v) all) r.pieces)) } ∷ bodies)
     (all-bodies m v all zs rs cells.1 reads.2)
 
-pub macros-bodies : (m : PathMap) (v : View) (all : DataReadings) → ReadsAllMacros (debug_data v).base.order (debug_data v).macros all.macros
+pub macros-bodies : (m : PathMap) (v : View) (all : DataReadings) → ReadsAllMacros (debug_data v).base.order ((debug_data v).found Macro) all.macros
     → bodies_after m v (table_change m in_str (around_of (debug_data v) all) all).texts (table_change m in_line_str (around_of (debug_data v) all) all).texts (starts_after m v all) (macros_read all.macros)
     ≡ macro_bodies (edited_macros (changes_of m (around_of (debug_data v) all) all) (around_of (debug_data v) all) all.macros)
-macros-bodies m v all reads = all-bodies m v all (debug_data v).macros all.macros (all-cells v) reads
+macros-bodies m v all reads = all-bodies m v all ((debug_data v).found Macro) all.macros (all-cells v) reads
 
 -- there is one of each section
 pub macros-number : (order : Order) (zs : List CellSection) (rs : List MacroReading) → ReadsAllMacros order zs rs → length (macros_read rs) ≡ length zs

@@ -19,7 +19,7 @@ use Rattle.dw_base.specs.TextChanges.{TableChange}
 use Rattle.dw_base.specs.Texts.{laid_texts}
 use Rattle.dw_base.specs.ViewData.{debug_data}
 use Rattle.dw_base.specs.WrittenLines.{new_place, written_table}
-use Rattle.dw_base.specs.declared.debug_sections.DebugSection.TheVariants.{Line, StrOffsets}
+use Rattle.dw_base.specs.declared.debug_sections.DebugSection.TheVariants.{Info, Str, LineStr, StrOffsets, Line, Macro, Names}
 use Rattle.dw_lines.specs.ViewTables.{TablesFound}
 use Rattle.dw_meaning.specs.DataOutput.{Body, DataFits, EachWritable, cells_body, changes_of, lines_body, macro_bodies, macros_after, names_after, new_bodies, new_lines, offsets_after, table_change, unit_bodies}
 use Rattle.dw_meaning.specs.NewAddends.{AddendsFit}
@@ -60,7 +60,7 @@ pub found-without : (m : PathMap) (v : View) (us : List UnitPaths) (ts : List Li
 found-without m v us ts f = without-is v us ((paths_of f.readings.units ++ slots_read v f.readings) ++ macros_read f.readings.macros) ts f.is
 
 macros-many : (m : PathMap) (v : View) (us : List UnitPaths) (ts : List LineTable) (f : PathsFound m v us ts) → length (macros_read f.readings.macros) ≡ macros_count v
-macros-many m v us ts f = macros-number (debug_data v).base.order (debug_data v).macros f.readings.macros f.reads.macros
+macros-many m v us ts f = macros-number (debug_data v).base.order ((debug_data v).found Macro) f.readings.macros f.reads.macros
 
 -- the bodies of parts that are these
 abbrev bodies_of_parts : PathMap → View → (ℕ → Option ℕ) → (ℕ → Option ℕ) → (ℕ → Option ℕ) → Body → List UnitPaths → List UnitPaths → List UnitPaths → List Body
@@ -171,7 +171,7 @@ known-lines m v us ts ps pl ks kl f s l =
 
 -- each can be written
 each-writable : (m : PathMap) (d : DebugData) (rs : DataReadings) (xs : List LineReading)
-    → EachCanWrite (line_source d) m (changes_of m (around_of d rs) rs).str (changes_of m (around_of d rs) rs).line_str xs
+    → EachCanWrite (line_source d) m ((changes_of m (around_of d rs) rs).new Str) ((changes_of m (around_of d rs) rs).new LineStr) xs
     → EachWritable m (changes_of m (around_of d rs) rs) (around_of d rs) xs
 each-writable m d rs [] can = tt
 each-writable m d rs (x ∷ xs) can = (can.0, each-writable m d rs xs can.1)
@@ -206,7 +206,7 @@ parts-are a b c d e = rw (a, b, c, d, e) refl
 pub made-is : (m : PathMap) (v : View) (us : List UnitPaths) (ts : List LineTable) (ps pl : TextTable) (ks kl : ℕ → Option ℕ) (bs ns : List ℕ) (f : PathsFound m v us ts)
     → TableMade m v in_str us ps ks → TableMade m v in_line_str us pl kl → LinesWritten m (line_source (debug_data v)) ks kl ts bs ns
     → table_body_of v in_str ps ∷ table_body_of v in_line_str pl
-    ∷ pushed_bodies m v ks kl (start_known (starts_of ts) ns) (record { number = (debug_data v).lines.number; bytes = bs }) (without_lines v us)
+    ∷ pushed_bodies m v ks kl (start_known (starts_of ts) ns) (record { number = ((debug_data v).found Line).number; bytes = bs }) (without_lines v us)
     ≡ new_bodies m (debug_data v) f.readings
 unfolding new_bodies table_change
 made-is m v us ts ps pl ks kl bs ns f s l w =
@@ -216,17 +216,17 @@ made-is m v us ts ps pl ks kl bs ns f s l w =
     let a = noted-parts m v in_str us ts ps ks f s in
     let b = noted-parts m v in_line_str us ts pl kl f l in
     let starts = known-starts m v us ts ps pl ks kl bs ns f s l w in
-    let lines : Body = record { number = (debug_data v).lines.number; bytes = bs } in
-    let line_is : record { number = (debug_data v).lines.number; bytes = bs } ≡ lines_body (changes_of m (around_of (debug_data v) f.readings) f.readings) (debug_data v) =
-    ap (λ (x : List ℕ). record { number = (debug_data v).lines.number; bytes = x }) (w.bytes ∙ ap all_lines (known-lines m v us ts ps pl ks kl f s l)) in
+    let lines : Body = record { number = ((debug_data v).found Line).number; bytes = bs } in
+    let line_is : record { number = ((debug_data v).found Line).number; bytes = bs } ≡ lines_body (changes_of m (around_of (debug_data v) f.readings) f.readings) (debug_data v) =
+    ap (λ (x : List ℕ). record { number = ((debug_data v).found Line).number; bytes = x }) (w.bytes ∙ ap all_lines (known-lines m v us ts ps pl ks kl f s l)) in
     let units : bodies_known m v ks kl (start_known (starts_of ts) ns) (paths_of f.readings.units)
     ≡ unit_bodies (changes_of m (around_of (debug_data v) f.readings) f.readings) (around_of (debug_data v) f.readings) f.readings.units =
     known-parts m v us (paths_of f.readings.units) ts ps pl ks kl (start_known (starts_of ts) ns) f s l a.units b.units
     ∙ ap (λ (k : ℕ → Option ℕ). bodies_after m v (table_change m in_str (around_of (debug_data v) f.readings) f.readings).texts
     (table_change m in_line_str (around_of (debug_data v) f.readings) f.readings).texts k (paths_of f.readings.units)) starts
-    ∙ readings-bodies m v f.readings [] (debug_data v).units 0 f.readings.units refl f.reads.units f.inline in
+    ∙ readings-bodies m v f.readings [] ((debug_data v).found Info) 0 f.readings.units refl f.reads.units f.inline in
     let slots : one_body (bodies_known m v ks kl (start_known (starts_of ts) ns) (slots_read v f.readings))
-    ≡ cells_body (debug_data v).offsets.number (joined (offsets_after (changes_of m (around_of (debug_data v) f.readings) f.readings) (around_of (debug_data v) f.readings) f.readings)) ∷ [] =
+    ≡ cells_body ((debug_data v).found StrOffsets).number (joined (offsets_after (changes_of m (around_of (debug_data v) f.readings) f.readings) (around_of (debug_data v) f.readings) f.readings)) ∷ [] =
     ap one_body (known-parts m v us (slots_read v f.readings) ts ps pl ks kl (start_known (starts_of ts) ns) f s l a.slots b.slots)
     ∙ slots-body m v f.readings (start_known (starts_of ts) ns) f.reads.offsets in
     let names = names-body m v f.readings f.reads.names.cells in
@@ -236,21 +236,21 @@ made-is m v us ts ps pl ks kl bs ns f s l w =
     ∙ ap (λ (k : ℕ → Option ℕ). bodies_after m v (table_change m in_str (around_of (debug_data v) f.readings) f.readings).texts
     (table_change m in_line_str (around_of (debug_data v) f.readings) f.readings).texts k (macros_read f.readings.macros)) starts
     ∙ macros-bodies m v f.readings f.reads.macros in
-    let rest : pushed_bodies m v ks kl (start_known (starts_of ts) ns) (record { number = (debug_data v).lines.number; bytes = bs }) (without_lines v us)
-    ≡ cells_body (debug_data v).offsets.number (joined (offsets_after (changes_of m (around_of (debug_data v) f.readings) f.readings) (around_of (debug_data v) f.readings) f.readings))
+    let rest : pushed_bodies m v ks kl (start_known (starts_of ts) ns) (record { number = ((debug_data v).found Line).number; bytes = bs }) (without_lines v us)
+    ≡ cells_body ((debug_data v).found StrOffsets).number (joined (offsets_after (changes_of m (around_of (debug_data v) f.readings) f.readings) (around_of (debug_data v) f.readings) f.readings))
     ∷ lines_body (changes_of m (around_of (debug_data v) f.readings) f.readings) (debug_data v)
-    ∷ cells_body (debug_data v).names.number (joined (names_after (changes_of m (around_of (debug_data v) f.readings) f.readings) (around_of (debug_data v) f.readings) f.readings))
+    ∷ cells_body ((debug_data v).found Names).number (joined (names_after (changes_of m (around_of (debug_data v) f.readings) f.readings) (around_of (debug_data v) f.readings) f.readings))
     ∷ (macro_bodies (macros_after (changes_of m (around_of (debug_data v) f.readings) f.readings) (around_of (debug_data v) f.readings) f.readings)
     ++ unit_bodies (changes_of m (around_of (debug_data v) f.readings) f.readings) (around_of (debug_data v) f.readings) f.readings.units) =
-    pushed-is m v ks kl (start_known (starts_of ts) ns) (record { number = (debug_data v).lines.number; bytes = bs }) (without_lines v us) (paths_of f.readings.units)
+    pushed-is m v ks kl (start_known (starts_of ts) ns) (record { number = ((debug_data v).found Line).number; bytes = bs }) (without_lines v us) (paths_of f.readings.units)
     (macros_read f.readings.macros) (read_fields (debug_data v) f.readings) (found-without m v us ts f) (macros-many m v us ts f)
     ∙ parts-are slots line_is names macros units in
-    ap (λ (x : List ℕ). record { number = (debug_data v).str.number; bytes = x } ∷ table_body_of v in_line_str pl ∷ pushed_bodies m v ks kl kt lines (without_lines v us))
+    ap (λ (x : List ℕ). record { number = ((debug_data v).found Str).number; bytes = x } ∷ table_body_of v in_line_str pl ∷ pushed_bodies m v ks kl kt lines (without_lines v us))
     (table-bytes m v in_str us ts ps ks f s)
-    ∙ ap (λ (x : List ℕ). record { number = (debug_data v).str.number; bytes = (debug_data v).str.bytes ++ laid_texts text_s }
-    ∷ record { number = (debug_data v).line_str.number; bytes = x } ∷ pushed_bodies m v ks kl kt lines (without_lines v us)) (table-bytes m v in_line_str us ts pl kl f l)
-    ∙ ap (λ (xs : List Body). record { number = (debug_data v).str.number; bytes = (debug_data v).str.bytes ++ laid_texts text_s }
-    ∷ record { number = (debug_data v).line_str.number; bytes = (debug_data v).line_str.bytes ++ laid_texts text_l } ∷ xs) rest
+    ∙ ap (λ (x : List ℕ). record { number = ((debug_data v).found Str).number; bytes = ((debug_data v).found Str).bytes ++ laid_texts text_s }
+    ∷ record { number = ((debug_data v).found LineStr).number; bytes = x } ∷ pushed_bodies m v ks kl kt lines (without_lines v us)) (table-bytes m v in_line_str us ts pl kl f l)
+    ∙ ap (λ (xs : List Body). record { number = ((debug_data v).found Str).number; bytes = ((debug_data v).found Str).bytes ++ laid_texts text_s }
+    ∷ record { number = ((debug_data v).found LineStr).number; bytes = ((debug_data v).found LineStr).bytes ++ laid_texts text_l } ∷ xs) rest
 
 -- the section of string offsets and those of macro units are among them, and that of line tables
 pub some-among : (m : PathMap) (v : View) (us part : List UnitPaths) (ts : List LineTable) → PathsFound m v us ts → part ≡ without_lines v us → some_sections v ≤ length part
@@ -277,7 +277,7 @@ units-many v (z ∷ zs) [] have = absurd have
 units-many v (z ∷ zs) (s ∷ ss) have = ap suc (units-many v zs ss have.2)
 
 pub macros-among : (v : View) (ss : List SectionUnits) (n : ℕ) → UnitsFoundIn v ss → n ≡ length ss → n ≡ macros_count v
-macros-among v ss n found is = is ∙ units-many v (debug_data v).macros ss found.units
+macros-among v ss n found is = is ∙ units-many v ((debug_data v).found Macro) ss found.units
 
 pub lines-among : (m : PathMap) (v : View) (us : List UnitPaths) (ts : List LineTable) → PathsFound m v us ts → lines_count v ≤ length us
 lines-among m v us ts f =

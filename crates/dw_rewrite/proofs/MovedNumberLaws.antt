@@ -16,7 +16,7 @@ use Rattle.dw_base.specs.SectionTexts.{edited_macros, edited_with, macro_role}
 use Rattle.dw_base.specs.TextChanges.{TableChanges, edited_all}
 use Rattle.dw_base.specs.ViewData.{cells_located, debug_data}
 use Rattle.dw_base.specs.declared.debug_sections.DebugSection.{DebugSection}
-use Rattle.dw_base.specs.declared.debug_sections.DebugSection.TheVariants.{Line, StrOffsets}
+use Rattle.dw_base.specs.declared.debug_sections.DebugSection.TheVariants.{StrOffsets, Line, Names}
 use Rattle.dw_meaning.specs.DataOutput.{DataReads, table_change}
 use Rattle.dw_meaning.specs.FileMeanings.{file_data}
 use Rattle.dw_meaning.specs.RelocatedBodies.{CellBody, cell_body, cells_of_number, macro_cells, old_contents, unit_cells}
@@ -99,11 +99,11 @@ other-number b s t some none = by_found (section_named (view_of b) (name_of s)) 
     by_found None none same = omega (arith, some, same)
     by_found (Some i) none same = among-other t i [] none same
 
-offsets-other : (b : List ℕ) (t : ℕ) → 0 < t → is_among t (lines_numbers (section_named (view_of b) (name_of StrOffsets))) ≡ false → t ≢ (file_data b).offsets.number
+offsets-other : (b : List ℕ) (t : ℕ) → 0 < t → is_among t (lines_numbers (section_named (view_of b) (name_of StrOffsets))) ≡ false → t ≢ ((file_data b).found StrOffsets).number
 unfolding debug_data
 offsets-other b t some none = other-number b StrOffsets t some none
 
-lines-other : (b : List ℕ) (t : ℕ) → 0 < t → is_among t (lines_numbers (section_named (view_of b) (name_of Line))) ≡ false → t ≢ (file_data b).lines.number
+lines-other : (b : List ℕ) (t : ℕ) → 0 < t → is_among t (lines_numbers (section_named (view_of b) (name_of Line))) ≡ false → t ≢ ((file_data b).found Line).number
 unfolding debug_data
 lines-other b t some none = other-number b Line t some none
 
@@ -132,15 +132,15 @@ others-stay m b r t w kept lt none =
     let more = among-neither t (unit_numbers r.units ++ lines_numbers (section_named (view_of b) (name_of StrOffsets))) (macro_numbers r.macros) front.0 in
     let first = among-neither t (unit_numbers r.units) (lines_numbers (section_named (view_of b) (name_of StrOffsets))) more.0 in
     elim (cases_lt 0 t) [
-      | inl some ↦ by_names some first.0 more.1 (offsets-other b t some first.1) (lines-other b t some front.1) (cases_eq t (file_data b).names.number)
+      | inl some ↦ by_names some first.0 more.1 (offsets-other b t some first.1) (lines-other b t some front.1) (cases_eq t ((file_data b).found Names).number)
       | inr zero ↦
           let same : t ≡ 0 = omega (arith, zero) in
           let there : 0 < section_count b = omega (arith, lt, same) in
           ap (now_in m b r) same ∙ zero-now m b r w there ∙ sym (zero-old m b r w there) ∙ ap (old_contents b) (sym same)
     ]
   where
-    by_names : 0 < t → is_among t (unit_numbers r.units) ≡ false → is_among t (macro_numbers r.macros) ≡ false → t ≢ (file_data b).offsets.number → t ≢ (file_data b).lines.number
-        → (t ≡ (file_data b).names.number) ⊎ (t ≡ (file_data b).names.number → ⊥) → now_in m b r t ≡ old_contents b t
+    by_names : 0 < t → is_among t (unit_numbers r.units) ≡ false → is_among t (macro_numbers r.macros) ≡ false → t ≢ ((file_data b).found StrOffsets).number → t ≢ ((file_data b).found Line).number
+        → (t ≡ ((file_data b).found Names).number) ⊎ (t ≡ ((file_data b).found Names).number → ⊥) → now_in m b r t ≡ old_contents b t
     by_names some units macros offsets lines (inl same) =
         cells-names (changes_file m b r) (file_data b) (around_file b r) r (old_contents b t) t (sym same) offsets lines ∙ kept ∙ (file-owns m b r t w lt).names (sym same)
     by_names some units macros offsets lines (inr other) =

@@ -4,7 +4,7 @@ use Rattle.dw_base.specs.Cells.{Cell, bytes_of}
 use Rattle.dw_base.specs.DebugSections.{name_of}
 use Rattle.dw_base.specs.OffsetPieces.{OffsetState, ReadsOffsets}
 use Rattle.dw_base.specs.SectionTexts.{edited_with, mentions_with, slot_role}
-use Rattle.dw_base.specs.declared.debug_sections.DebugSection.TheVariants.{Names, StrOffsets}
+use Rattle.dw_base.specs.declared.debug_sections.DebugSection.TheVariants.{Info, StrOffsets, Names}
 use Rattle.dw_base.proofs.ViewCellLaws.{bytes-cells, bytes_of-view_cells}
 use Rattle.dw_meaning.specs.DataOutput.{Body, cells_body, table_change, changes_of, names_after, offsets_after, unit_body, unit_bodies}
 use Rattle.dw_base.specs.DebugData.{DebugData, DataReadings, Around, around_of, path_slots, table_of, units_in, ReadsAll}
@@ -38,7 +38,7 @@ use Rattle.dw_rewrite.proofs.UnitWrittenLaws.{pieces_written, starts_by}
 use Rattle.dw_find.proofs.OffsetPlaceLaws.{offsets-in, offsets-of}
 
 -- the cells of a section that was read
-reading-cells : (v : View) (before behind : List UnitSection) (z : UnitSection) (r : Reading) → (debug_data v).units ≡ before ++ z ∷ behind → r.number ≡ z.number
+reading-cells : (v : View) (before behind : List UnitSection) (z : UnitSection) (r : Reading) → (debug_data v).found Info ≡ before ++ z ∷ behind → r.number ≡ z.number
     → z.contents ≡ view_cells v r.number
 reading-cells v before behind z r split number = (own-section v before behind z split).contents ∙ ap (view_cells v) (sym number)
 
@@ -68,7 +68,7 @@ texts_after-append plan m ts (x ∷ xs) ys = texts_after-append plan m (with_men
 
 -- the new texts of a section are those of its fields
 reading-texts : (m : PathMap) (v : View) (all : DataReadings) (table : TextSection) (ts : List (List ℕ)) (before behind : List UnitSection) (z : UnitSection) (first : ℕ) (r : Reading)
-    → (debug_data v).units ≡ before ++ z ∷ behind → r.number ≡ z.number → ReadsUnits (debug_data v).base z first r.pieces
+    → (debug_data v).found Info ≡ before ++ z ∷ behind → r.number ≡ z.number → ReadsUnits (debug_data v).base z first r.pieces
     → texts_after (plan_in m v table) m ts (mentions_of table (around_of (debug_data v) all) r.pieces) ≡ section_texts_at m v table ts (paths_in r)
 reading-texts m v all table ts before behind z first r split number reads =
     texts_by_fields table (plan_in m v table) m (around_of (debug_data v) all) (view_cells v r.number) ts 0 r.pieces (same-plan m v all table)
@@ -77,7 +77,7 @@ reading-texts m v all table ts before behind z first r split number reads =
     ∙ ap (texts_at (plan_in m v table) m (source_in v r.number table) ts) (same-fields table r)
 
 pub readings-texts : (m : PathMap) (v : View) (all : DataReadings) (table : TextSection) (ts : List (List ℕ)) (before zs : List UnitSection) (first : ℕ) (rs : Readings)
-    → (debug_data v).units ≡ before ++ zs → ReadsAll (debug_data v).base first zs rs
+    → (debug_data v).found Info ≡ before ++ zs → ReadsAll (debug_data v).base first zs rs
     → texts_after (plan_in m v table) m ts (all_mentions table (around_of (debug_data v) all) rs) ≡ all_texts_at m v table ts (paths_of rs)
 readings-texts m v all table ts before [] first [] split reads = refl
 readings-texts m v all table ts before [] first (r ∷ rs) split reads = absurd reads
@@ -106,7 +106,7 @@ slots-texts-by m v rs table ts (Some i) r =
     ∙ ap (λ (s : FieldSource). texts_at (plan_in m v table) m s ts (offset_fields table (path_slots (around_of (debug_data v) rs)) rs.offsets)) (same-source v rs i table)
     ∙ ap (texts_at (plan_in m v table) m (source_in v i table) ts) (same-slots table i (debug_data v) rs)
 
-pub slots-texts : (m : PathMap) (v : View) (rs : DataReadings) (table : TextSection) (ts : List (List ℕ)) → ReadsOffsets (debug_data v).base.order (debug_data v).offsets.contents rs.offsets
+pub slots-texts : (m : PathMap) (v : View) (rs : DataReadings) (table : TextSection) (ts : List (List ℕ)) → ReadsOffsets (debug_data v).base.order ((debug_data v).found StrOffsets).contents rs.offsets
     → texts_after (plan_in m v table) m ts (mentions_with (slot_role (path_slots (around_of (debug_data v) rs))) table (around_of (debug_data v) rs) rs.offsets)
     ≡ all_texts_at m v table ts (slots_read v rs)
 slots-texts m v rs table ts r = slots-texts-by m v rs table ts (section_named v (name_of StrOffsets)) (offsets-of v rs.offsets r)
@@ -122,7 +122,7 @@ starts_after m v all = starts_by (changes_of m (around_of (debug_data v) all) al
 
 -- the new bytes of a section are those of its edited pieces
 reading-body : (m : PathMap) (v : View) (all : DataReadings) (before behind : List UnitSection) (z : UnitSection) (first : ℕ) (r : Reading)
-    → (debug_data v).units ≡ before ++ z ∷ behind → r.number ≡ z.number → ReadsUnits (debug_data v).base z first r.pieces → EachPiece (InlineFits m) r.pieces
+    → (debug_data v).found Info ≡ before ++ z ∷ behind → r.number ≡ z.number → ReadsUnits (debug_data v).base z first r.pieces → EachPiece (InlineFits m) r.pieces
     → section_after m v (table_change m in_str (around_of (debug_data v) all) all).texts (table_change m in_line_str (around_of (debug_data v) all) all).texts (starts_after m v all) (paths_in r)
     ≡ bytes_of (joined (edited_all (changes_of m (around_of (debug_data v) all) all) (around_of (debug_data v) all) r.pieces))
 unfolding section_after table_change debug_data
@@ -143,7 +143,7 @@ reading-body m v all before behind z first r split number reads fits =
     ∙ pieces_written (changes_of m (around_of (debug_data v) all) all) (around_of (debug_data v) all) (view_cells v r.number) [] 0 r.pieces refl refl refl
     (reading-placed (debug_data v) z first r.pieces (view_cells v r.number) reads same) fits
 
-pub readings-bodies : (m : PathMap) (v : View) (all : DataReadings) (before zs : List UnitSection) (first : ℕ) (rs : Readings) → (debug_data v).units ≡ before ++ zs
+pub readings-bodies : (m : PathMap) (v : View) (all : DataReadings) (before zs : List UnitSection) (first : ℕ) (rs : Readings) → (debug_data v).found Info ≡ before ++ zs
     → ReadsAll (debug_data v).base first zs rs → EachReading (InlineFits m) rs
     → bodies_after m v (table_change m in_str (around_of (debug_data v) all) all).texts (table_change m in_line_str (around_of (debug_data v) all) all).texts (starts_after m v all) (paths_of rs)
     ≡ unit_bodies (changes_of m (around_of (debug_data v) all) all) (around_of (debug_data v) all) rs
@@ -212,9 +212,9 @@ slots-body-by m v rs kt (Some i) r =
     ∙ slots_written (changes_of m (around_of (debug_data v) rs) rs) (around_of (debug_data v) rs) (view_cells v i) [] 0 (path_slots (around_of (debug_data v) rs)) rs.offsets refl refl refl
     (offsets-in v (Some i) rs.offsets r))
 
-pub slots-body : (m : PathMap) (v : View) (rs : DataReadings) (kt : ℕ → Option ℕ) → ReadsOffsets (debug_data v).base.order (debug_data v).offsets.contents rs.offsets
+pub slots-body : (m : PathMap) (v : View) (rs : DataReadings) (kt : ℕ → Option ℕ) → ReadsOffsets (debug_data v).base.order ((debug_data v).found StrOffsets).contents rs.offsets
     → one_body (bodies_after m v (table_change m in_str (around_of (debug_data v) rs) rs).texts (table_change m in_line_str (around_of (debug_data v) rs) rs).texts kt (slots_read v rs))
-    ≡ cells_body (debug_data v).offsets.number (joined (offsets_after (changes_of m (around_of (debug_data v) rs) rs) (around_of (debug_data v) rs) rs)) ∷ []
+    ≡ cells_body ((debug_data v).found StrOffsets).number (joined (offsets_after (changes_of m (around_of (debug_data v) rs) rs) (around_of (debug_data v) rs) rs)) ∷ []
 unfolding debug_data
 slots-body m v rs kt r = slots-body-by m v rs kt (section_named v (name_of StrOffsets)) (offsets-of v rs.offsets r)
 
@@ -231,7 +231,7 @@ names-body-by m v rs o cells =
     by_option None = refl
     by_option (Some i) = refl
 
-pub names-body : (m : PathMap) (v : View) (rs : DataReadings) → joined rs.names ≡ (debug_data v).names.contents
-    → names_body v ≡ cells_body (debug_data v).names.number (joined (names_after (changes_of m (around_of (debug_data v) rs) rs) (around_of (debug_data v) rs) rs))
+pub names-body : (m : PathMap) (v : View) (rs : DataReadings) → joined rs.names ≡ ((debug_data v).found Names).contents
+    → names_body v ≡ cells_body ((debug_data v).found Names).number (joined (names_after (changes_of m (around_of (debug_data v) rs) rs) (around_of (debug_data v) rs) rs))
 unfolding debug_data
 names-body m v rs cells = names-body-by m v rs (section_named v (name_of Names)) cells

@@ -19,6 +19,7 @@ use Rattle.dw_base.specs.SectionTexts.{macro_role, name_role, name_role_by, slot
 use Rattle.dw_base.specs.StringTables.{appending}
 use Rattle.dw_base.specs.TextChanges.{TableChanges, change_of, mention_at}
 use Rattle.dw_base.specs.UnitStates.{UnitState}
+use Rattle.dw_base.specs.declared.debug_sections.DebugSection.TheVariants.{Str, LineStr, Line}
 use Rattle.dw_base.specs.declared.fault.Kind.TheVariants.{TooWide}
 use Rattle.dw_base.specs.declared.fault.Refusal.{Refusal}
 use Rattle.dw_base.specs.declared.shared.Order.{Order}
@@ -109,38 +110,38 @@ path-new table c a cells p behind place e =
     ap (λ (q : List Cell). asked (change_of c table) c.map (table_of a table).bytes (offset_of a.lasting.base.order (table_of a table) q)) (piece-there p behind cells place e)
 
 start-new : (c : TableChanges) (a : Around) (cells p behind : List Cell) (place : ℕ) → p ++ behind ≡ drop place cells
-    → start_known a.starts (starts_from 0 c.lines) (offset_at (start_source a cells) (record { at = place; size = length p })) ≡ new_offset line_start c a p
+    → start_known (a.stands Line).starts (starts_from 0 (c.new Line)) (offset_at (start_source a cells) (record { at = place; size = length p })) ≡ new_offset line_start c a p
 start-new c a cells p behind place e =
-    ap (λ (q : List Cell). new_start (starts_from 0 c.lines) (start_number 0 a.starts (offset_of a.lasting.base.order a.lines q))) (piece-there p behind cells place e)
-    ∙ by (start_number 0 a.starts (offset_of a.lasting.base.order a.lines p))
+    ap (λ (q : List Cell). new_start (starts_from 0 (c.new Line)) (start_number 0 (a.stands Line).starts (offset_of a.lasting.base.order (a.stands Line).located q))) (piece-there p behind cells place e)
+    ∙ by (start_number 0 (a.stands Line).starts (offset_of a.lasting.base.order (a.stands Line).located p))
   where
-    by : (o : Option ℕ) → new_start (starts_from 0 c.lines) o ≡ start_place (starts_from 0 c.lines) o
+    by : (o : Option ℕ) → new_start (starts_from 0 (c.new Line)) o ≡ start_place (starts_from 0 (c.new Line)) o
     by None = refl
     by (Some k) = refl
 
 -- what is known of the new offsets of a section's fields
 abbrev pub str_asked : TableChanges → Around → ℕ → Option ℕ
-str_asked c a = asked c.str c.map a.str.bytes
+str_asked c a = asked (c.new Str) c.map (a.stands Str).bytes
 
 abbrev pub line_str_asked : TableChanges → Around → ℕ → Option ℕ
-line_str_asked c a = asked c.line_str c.map a.line_str.bytes
+line_str_asked c a = asked (c.new LineStr) c.map (a.stands LineStr).bytes
 
 abbrev pub starts_asked : TableChanges → Around → ℕ → Option ℕ
-starts_asked c a = start_known a.starts (starts_from 0 c.lines)
+starts_asked c a = start_known (a.stands Line).starts (starts_from 0 (c.new Line))
 
 -- a piece by its role
-role-makes : (r : Role) (c : TableChanges) (a : Around) (cells p behind : List Cell) (place : ℕ) → c.str.plan ≡ appending c.map a.str.bytes
-    → c.line_str.plan ≡ appending c.map a.line_str.bytes → p ++ behind ≡ drop place cells
+role-makes : (r : Role) (c : TableChanges) (a : Around) (cells p behind : List Cell) (place : ℕ) → (c.new Str).plan ≡ appending c.map (a.stands Str).bytes
+    → (c.new LineStr).plan ≡ appending c.map (a.stands LineStr).bytes → p ++ behind ≡ drop place cells
     → FieldsMake (text_source a cells in_str) (str_asked c a) (field_by in_str r place (length p))
     → FieldsMake (text_source a cells in_line_str) (line_str_asked c a) (field_by in_line_str r place (length p))
     → FieldsMake (start_source a cells) (starts_asked c a) (start_by r place (length p)) → MakesRole r c a p
 role-makes fixed c a cells p behind place str line e hs hl ht = tt
 role-makes inline_path c a cells p behind place str line e hs hl ht = tt
 role-makes (offset in_str false) c a cells p behind place str line e hs hl ht =
-    let none = no_path-asks c.map a.str.bytes c.str.plan (mention_at a in_str false p).text str in
+    let none = no_path-asks c.map (a.stands Str).bytes (c.new Str).plan (mention_at a in_str false p).text str in
     rw none tt
 role-makes (offset in_line_str false) c a cells p behind place str line e hs hl ht =
-    let none = no_path-asks c.map a.line_str.bytes c.line_str.plan (mention_at a in_line_str false p).text line in
+    let none = no_path-asks c.map (a.stands LineStr).bytes (c.new LineStr).plan (mention_at a in_line_str false p).text line in
     rw none tt
 role-makes (offset in_str true) c a cells p behind place str line e hs hl ht =
     subst (λ (o : Option ℕ). MakesNew o p) (path-new in_str c a cells p behind place e)
@@ -200,7 +201,7 @@ fields_in by role placed [] = []
 fields_in by role placed (x ∷ xs) = by (role x) (placed x.state) (length x.cells) ++ fields_in by role placed xs
 
 pieces-make : {S : Type 0} (role : Piece S → Role) (placed : S → ℕ) (c : TableChanges) (a : Around) (cells : List Cell) (place : ℕ) (xs : List (Piece S))
-    → c.str.plan ≡ appending c.map a.str.bytes → c.line_str.plan ≡ appending c.map a.line_str.bytes → StandFrom placed cells place xs
+    → (c.new Str).plan ≡ appending c.map (a.stands Str).bytes → (c.new LineStr).plan ≡ appending c.map (a.stands LineStr).bytes → StandFrom placed cells place xs
     → FieldsMake (text_source a cells in_str) (str_asked c a) (fields_in (field_by in_str) role placed xs)
     → FieldsMake (text_source a cells in_line_str) (line_str_asked c a) (fields_in (field_by in_line_str) role placed xs)
     → FieldsMake (start_source a cells) (starts_asked c a) (fields_in start_by role placed xs) → EachPiece (λ x. MakesRole (role x) c a x.cells) xs
@@ -276,8 +277,8 @@ units-start : (xs : List (Piece UnitState)) → start_fields xs ≡ fields_in st
 units-start [] = refl
 units-start (x ∷ xs) = ap (λ (fs : List PathField). start_by (role_of x) x.state.place (length x.cells) ++ fs) (units-start xs)
 
-pub make-units : (c : TableChanges) (a : Around) (cells : List Cell) (xs : List (Piece UnitState)) → c.str.plan ≡ appending c.map a.str.bytes
-    → c.line_str.plan ≡ appending c.map a.line_str.bytes → PlacedCells cells 0 xs → FieldsMake (text_source a cells in_str) (str_asked c a) (path_fields in_str xs)
+pub make-units : (c : TableChanges) (a : Around) (cells : List Cell) (xs : List (Piece UnitState)) → (c.new Str).plan ≡ appending c.map (a.stands Str).bytes
+    → (c.new LineStr).plan ≡ appending c.map (a.stands LineStr).bytes → PlacedCells cells 0 xs → FieldsMake (text_source a cells in_str) (str_asked c a) (path_fields in_str xs)
     → FieldsMake (text_source a cells in_line_str) (line_str_asked c a) (path_fields in_line_str xs) → FieldsMake (start_source a cells) (starts_asked c a) (start_fields xs)
     → EachPiece (λ x. MakesRole (role_of x) c a x.cells) xs
 make-units c a cells xs str line l hs hl ht =
@@ -329,8 +330,8 @@ slots-start paths (x ∷ xs) =
     ap (λ (fs : List PathField). fs ++ fields_in start_by (slot_piece_role paths) slot_place xs) (no-start paths x.state.mode x.state.slot x.state.place (length x.cells))
     ∙ slots-start paths xs
 
-pub make-slots : (c : TableChanges) (a : Around) (cells : List Cell) (paths : List ℕ) (xs : List (Piece OffsetState)) → c.str.plan ≡ appending c.map a.str.bytes
-    → c.line_str.plan ≡ appending c.map a.line_str.bytes → SlotsIn cells 0 xs → FieldsMake (text_source a cells in_str) (str_asked c a) (offset_fields in_str paths xs)
+pub make-slots : (c : TableChanges) (a : Around) (cells : List Cell) (paths : List ℕ) (xs : List (Piece OffsetState)) → (c.new Str).plan ≡ appending c.map (a.stands Str).bytes
+    → (c.new LineStr).plan ≡ appending c.map (a.stands LineStr).bytes → SlotsIn cells 0 xs → FieldsMake (text_source a cells in_str) (str_asked c a) (offset_fields in_str paths xs)
     → FieldsMake (text_source a cells in_line_str) (line_str_asked c a) (offset_fields in_line_str paths xs)
     → EachPiece (λ x. MakesRole (slot_role paths x.state) c a x.cells) xs
 make-slots c a cells paths xs str line l hs hl =
@@ -373,8 +374,8 @@ macros-text table [] = refl
 macros-text table (x ∷ xs) =
     ap (λ (fs : List PathField). fs ++ fields_in (field_by table) macro_piece_role macro_place xs) (no-path table x.state.mode x.state.place (length x.cells)) ∙ macros-text table xs
 
-pub make-macros : (c : TableChanges) (a : Around) (order : Order) (cells : List Cell) (s : MacroState) (xs : List (Piece MacroState)) → c.str.plan ≡ appending c.map a.str.bytes
-    → c.line_str.plan ≡ appending c.map a.line_str.bytes → s.place ≡ 0 → Chain (macro_grammar order) s xs → joined xs ≡ cells
+pub make-macros : (c : TableChanges) (a : Around) (order : Order) (cells : List Cell) (s : MacroState) (xs : List (Piece MacroState)) → (c.new Str).plan ≡ appending c.map (a.stands Str).bytes
+    → (c.new LineStr).plan ≡ appending c.map (a.stands LineStr).bytes → s.place ≡ 0 → Chain (macro_grammar order) s xs → joined xs ≡ cells
     → FieldsMake (start_source a cells) (starts_asked c a) (macro_starts xs) → EachPiece (λ x. MakesRole (macro_role x.state) c a x.cells) xs
 make-macros c a order cells s xs str line stands chain e ht =
     pieces-make macro_piece_role macro_place c a cells 0 xs str line (macros-stand order cells s 0 xs stands chain e)
@@ -391,14 +392,14 @@ miss-macros c a order cells s number xs r stands chain e sized h =
     (subst (λ (fs : List PathField). AnyMisses (start_source a cells) (starts_asked c a) number fs r) (macros-start xs) h)
 
 -- the string offsets of name tables aren't those of paths
-name-makes : (mode : NameMode) (c : TableChanges) (a : Around) (p : List Cell) → c.str.plan ≡ appending c.map a.str.bytes → MakesRole (name_role_by mode) c a p
+name-makes : (mode : NameMode) (c : TableChanges) (a : Around) (p : List Cell) → (c.new Str).plan ≡ appending c.map (a.stands Str).bytes → MakesRole (name_role_by mode) c a p
 name-makes at_table c a p str = tt
 name-makes (at_rest end) c a p str = tt
 name-makes no_names c a p str = tt
 name-makes (at_string width left end) c a p str =
-    let none = no_path-asks c.map a.str.bytes c.str.plan (mention_at a in_str false p).text str in
+    let none = no_path-asks c.map (a.stands Str).bytes (c.new Str).plan (mention_at a in_str false p).text str in
     rw none tt
 
-pub make-names : (c : TableChanges) (a : Around) (xs : List (Piece NameState)) → c.str.plan ≡ appending c.map a.str.bytes → EachPiece (λ x. MakesRole (name_role x.state) c a x.cells) xs
+pub make-names : (c : TableChanges) (a : Around) (xs : List (Piece NameState)) → (c.new Str).plan ≡ appending c.map (a.stands Str).bytes → EachPiece (λ x. MakesRole (name_role x.state) c a x.cells) xs
 make-names c a [] str = tt
 make-names c a (x ∷ xs) str = (name-makes x.state.mode c a x.cells str, make-names c a xs str)

@@ -14,6 +14,7 @@ use Rattle.dw_base.specs.SectionTexts.{edited_with, macro_role, slot_role}
 use Rattle.dw_base.specs.StringTables.{appending}
 use Rattle.dw_base.specs.TextChanges.{TableChanges, edited_all, edited_by}
 use Rattle.dw_base.specs.UnitStates.{UnitState}
+use Rattle.dw_base.specs.declared.debug_sections.DebugSection.TheVariants.{Str, LineStr}
 use Rattle.dw_base.specs.declared.shared.Order.{Order}
 use Rattle.elf_layout.specs.declared.patch.Patch.{Patch}
 use Rattle.dw_patch.proofs.SaidCellLaws.{SaidAll, said-append}
@@ -36,7 +37,7 @@ sized-parts (f ∷ fs) gs h = let rest = sized-parts fs gs h.1 in ((h.0, rest.0)
 
 -- units
 pub said-units : (c : TableChanges) (a : Around) (cells : List Cell) (offs : List Patch) (place : ℕ) (xs : List (Piece UnitState))
-    → c.str.plan ≡ appending c.map a.str.bytes → c.line_str.plan ≡ appending c.map a.line_str.bytes → PlacedCells cells place xs
+    → (c.new Str).plan ≡ appending c.map (a.stands Str).bytes → (c.new LineStr).plan ≡ appending c.map (a.stands LineStr).bytes → PlacedCells cells place xs
     → Sized (path_fields in_str xs) → Sized (path_fields in_line_str xs) → Sized (start_fields xs)
     → FromHere c a cells offs place (path_fields in_str xs) (path_fields in_line_str xs) (start_fields xs)
     → SaidAll offs place (joined xs) (joined (edited_all c a xs))
@@ -63,7 +64,7 @@ said-units c a cells offs place (x ∷ xs) str line l zs zl zt here =
 
 -- string offsets
 pub said-slots : (c : TableChanges) (a : Around) (cells : List Cell) (offs : List Patch) (place : ℕ) (paths : List ℕ) (xs : List (Piece OffsetState))
-    → c.str.plan ≡ appending c.map a.str.bytes → c.line_str.plan ≡ appending c.map a.line_str.bytes → SlotsIn cells place xs
+    → (c.new Str).plan ≡ appending c.map (a.stands Str).bytes → (c.new LineStr).plan ≡ appending c.map (a.stands LineStr).bytes → SlotsIn cells place xs
     → Sized (offset_fields in_str paths xs) → Sized (offset_fields in_line_str paths xs)
     → FromHere c a cells offs place (offset_fields in_str paths xs) (offset_fields in_line_str paths xs) []
     → SaidAll offs place (joined xs) (joined (edited_with (slot_role paths) c a xs))
@@ -91,7 +92,7 @@ said-slots c a cells offs place paths (x ∷ xs) str line l zs zl here =
 
 -- macro units
 pub said-macros : (c : TableChanges) (a : Around) (order : Order) (cells : List Cell) (offs : List Patch) (s : MacroState) (place : ℕ) (xs : List (Piece MacroState))
-    → c.str.plan ≡ appending c.map a.str.bytes → c.line_str.plan ≡ appending c.map a.line_str.bytes → s.place ≡ place → Chain (macro_grammar order) s xs
+    → (c.new Str).plan ≡ appending c.map (a.stands Str).bytes → (c.new LineStr).plan ≡ appending c.map (a.stands LineStr).bytes → s.place ≡ place → Chain (macro_grammar order) s xs
     → joined xs ≡ drop place cells → Sized (macro_starts xs) → FromHere c a cells offs place [] [] (macro_starts xs)
     → SaidAll offs place (joined xs) (joined (edited_with macro_role c a xs))
 said-macros c a order cells offs s place [] str line stands chain e zt here = tt

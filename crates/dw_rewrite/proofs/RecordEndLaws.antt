@@ -19,6 +19,7 @@ use Rattle.dw_base.specs.StringTables.{TextTable}
 use Rattle.dw_base.specs.ViewData.{debug_data}
 use Rattle.dw_base.specs.declared.fault.Refusal.{Refusal}
 use Rattle.dw_base.proofs.NumberLaws.{spelled-lt}
+use Rattle.dw_base.specs.declared.debug_sections.DebugSection.TheVariants.{Info}
 use Rattle.dw_meaning.specs.DataOutput.{changes_of, table_change}
 use Rattle.dw_meaning.specs.FileMeanings.{file_data}
 use Rattle.dw_meaning.specs.NewAddends.{AddendsFail, MakesRole}
@@ -139,7 +140,7 @@ addends-fit m v us ts ps pl ks kl kt f s l starts h =
     let front = all-parts v x y z (paths_of f.readings.units ++ slots_read v f.readings) (macros_read f.readings.macros) (all-after m v us ts ps pl ks kl kt f s l starts h) in
     let first = all-parts v x y z (paths_of f.readings.units) (slots_read v f.readings) front.0 in
     record {
-      units = readings-make m v all [] (debug_data v).units 0 f.readings.units refl f.reads.units first.0;
+      units = readings-make m v all [] ((debug_data v).found Info) 0 f.readings.units refl f.reads.units first.0;
       slots = slots-make m v all f.reads.offsets first.1;
       macros = macros-make m v all f.reads.macros front.1;
       names = names-make m v all;
@@ -178,7 +179,7 @@ any-fails m v us ts f r h =
     Row = AddendsFail (edit_of m v f.readings) (debug_data v) (around_of (debug_data v) f.readings) f.readings r
 
     by_slots : AnySection v x y z (paths_of f.readings.units) r ⊎ AnySection v x y z (slots_read v f.readings) r → Row
-    by_slots (inl g) = readings-miss m v f.readings [] (debug_data v).units 0 [] f.readings.units r refl f.reads.units refl parts.unit_offsets parts.unit_places g
+    by_slots (inl g) = readings-miss m v f.readings [] ((debug_data v).found Info) 0 [] f.readings.units r refl f.reads.units refl parts.unit_offsets parts.unit_places g
     by_slots (inr g) = slots-miss m v f.readings r f.reads.offsets parts.slot_offsets parts.slot_places g
 
     by_macros : AnySection v x y z (paths_of f.readings.units ++ slots_read v f.readings) r ⊎ AnySection v x y z (macros_read f.readings.macros) r → Row

@@ -12,6 +12,7 @@ use Rattle.dw_base.specs.Roles.{Role, fixed, offset, inline_path, line_start}
 use Rattle.dw_base.specs.StringTables.{appending, new_place}
 use Rattle.dw_base.specs.TextChanges.{TableChanges, change_of, edited_by, mention_at, moved_start}
 use Rattle.dw_base.specs.Texts.{text}
+use Rattle.dw_base.specs.declared.debug_sections.DebugSection.TheVariants.{Str, LineStr, Line}
 use Rattle.dw_base.specs.declared.shared.Order.{Order}
 use Rattle.elf_relocs.proofs.OffsetLaws.{same-bytes, same-self}
 use Rattle.dw_patch.specs.RecordMoves.{patch_for}
@@ -139,9 +140,9 @@ later c a cells offs place n fs gs hs here = record { each = λ q le. here.each 
 none-left : (c : TableChanges) (a : Around) (cells : List Cell) (place n : ℕ) (fs gs hs : List PathField) → FieldsFrom (place + n) fs → FieldsFrom (place + n) gs → FieldsFrom (place + n) hs
     → NoneHere (offsets_after c a cells fs gs hs) place n
 none-left c a cells place n fs gs hs from_fs from_gs from_hs =
-    none-both _ _ place n (none-here (text_source a cells in_str) (asked c.str c.map a.str.bytes) fs place n from_fs)
-    (none-both _ _ place n (none-here (text_source a cells in_line_str) (asked c.line_str c.map a.line_str.bytes) gs place n from_gs)
-    (none-here (start_source a cells) (start_known a.starts (starts_from 0 c.lines)) hs place n from_hs))
+    none-both _ _ place n (none-here (text_source a cells in_str) (asked (c.new Str) c.map (a.stands Str).bytes) fs place n from_fs)
+    (none-both _ _ place n (none-here (text_source a cells in_line_str) (asked (c.new LineStr) c.map (a.stands LineStr).bytes) gs place n from_gs)
+    (none-here (start_source a cells) (start_known (a.stands Line).starts (starts_from 0 (c.new Line))) hs place n from_hs))
 
 said-none : (c : TableChanges) (a : Around) (cells : List Cell) (offs : List Patch) (place n : ℕ) (fs gs hs : List PathField) → FromHere c a cells offs place fs gs hs
     → FieldsFrom (place + n) fs → FieldsFrom (place + n) gs → FieldsFrom (place + n) hs → NoneBegin offs place n
@@ -174,19 +175,19 @@ edited-path table c a cells p behind place e =
     by false = refl
 
 edited-start : (c : TableChanges) (a : Around) (cells p behind : List Cell) (place : ℕ) → p ++ behind ≡ drop place cells
-    → by_new a.lasting.base.order p (start_known a.starts (starts_from 0 c.lines) (offset_at (start_source a cells) (record { at = place; size = length p })))
+    → by_new a.lasting.base.order p (start_known (a.stands Line).starts (starts_from 0 (c.new Line)) (offset_at (start_source a cells) (record { at = place; size = length p })))
     ≡ edited_by line_start c a p
 edited-start c a cells p behind place e =
-    ap (λ (q : List Cell). by_new a.lasting.base.order p (new_start (starts_from 0 c.lines) (start_number 0 a.starts (offset_of a.lasting.base.order a.lines q))))
+    ap (λ (q : List Cell). by_new a.lasting.base.order p (new_start (starts_from 0 (c.new Line)) (start_number 0 (a.stands Line).starts (offset_of a.lasting.base.order (a.stands Line).located q))))
     (piece-there p behind cells place e)
-    ∙ by (start_number 0 a.starts (offset_of a.lasting.base.order a.lines p))
+    ∙ by (start_number 0 (a.stands Line).starts (offset_of a.lasting.base.order (a.stands Line).located p))
   where
-    by : (o : Option ℕ) → by_new a.lasting.base.order p (new_start (starts_from 0 c.lines) o) ≡ moved_start (starts_from 0 c.lines) a.lasting.base.order o p
+    by : (o : Option ℕ) → by_new a.lasting.base.order p (new_start (starts_from 0 (c.new Line)) o) ≡ moved_start (starts_from 0 (c.new Line)) a.lasting.base.order o p
     by None = refl
     by (Some k) = refl
 
 pub said-step : (r : Role) (c : TableChanges) (a : Around) (cells : List Cell) (offs : List Patch) (p behind : List Cell) (place : ℕ) (fs gs hs : List PathField)
-    → c.str.plan ≡ appending c.map a.str.bytes → c.line_str.plan ≡ appending c.map a.line_str.bytes → p ++ behind ≡ drop place cells
+    → (c.new Str).plan ≡ appending c.map (a.stands Str).bytes → (c.new LineStr).plan ≡ appending c.map (a.stands LineStr).bytes → p ++ behind ≡ drop place cells
     → FieldsFrom (place + length p) fs → FieldsFrom (place + length p) gs → FieldsFrom (place + length p) hs
     → Sized (field_by in_str r place (length p)) → Sized (field_by in_line_str r place (length p)) → Sized (start_by r place (length p))
     → FromHere c a cells offs place (field_by in_str r place (length p) ++ fs) (field_by in_line_str r place (length p) ++ gs) (start_by r place (length p) ++ hs)
@@ -201,7 +202,7 @@ said-step inline_path c a cells offs p behind place fs gs hs str line e ff fg fh
   later = later c a cells offs place (length p) fs gs hs here;
 }
 said-step (offset in_str false) c a cells offs p behind place fs gs hs str line e ff fg fh zs zl zt here =
-    let none = no_path-asks c.map a.str.bytes c.str.plan (mention_at a in_str false p).text str in
+    let none = no_path-asks c.map (a.stands Str).bytes (c.new Str).plan (mention_at a in_str false p).text str in
     let kept : edited_by (offset in_str false) c a p ≡ p = rw none refl in
     record {
       said = same-cells offs place p p (edited_by (offset in_str false) c a p) (sym kept)
@@ -209,7 +210,7 @@ said-step (offset in_str false) c a cells offs p behind place fs gs hs str line 
       later = later c a cells offs place (length p) fs gs hs here;
     }
 said-step (offset in_line_str false) c a cells offs p behind place fs gs hs str line e ff fg fh zs zl zt here =
-    let none = no_path-asks c.map a.line_str.bytes c.line_str.plan (mention_at a in_line_str false p).text line in
+    let none = no_path-asks c.map (a.stands LineStr).bytes (c.new LineStr).plan (mention_at a in_line_str false p).text line in
     let kept : edited_by (offset in_line_str false) c a p ≡ p = rw none refl in
     record {
       said = same-cells offs place p p (edited_by (offset in_line_str false) c a p) (sym kept)
@@ -217,15 +218,15 @@ said-step (offset in_line_str false) c a cells offs p behind place fs gs hs str 
       later = later c a cells offs place (length p) fs gs hs here;
     }
 said-step (offset in_str true) c a cells offs p behind place fs gs hs str line e ff fg fh zs zl zt here =
-    let new : Option ℕ = asked c.str c.map a.str.bytes (offset_at (text_source a cells in_str) (record { at = place; size = length p })) in
+    let new : Option ℕ = asked (c.new Str) c.map (a.stands Str).bytes (offset_at (text_source a cells in_str) (record { at = place; size = length p })) in
     let tail : List Patch = offsets_after c a cells fs gs hs in
     let own : List Patch = offset_by (record { at = place; size = length p })
-    (asked c.str c.map a.str.bytes (offset_at (text_source a cells in_str) (record { at = place; size = length p }))) in
+    (asked (c.new Str) c.map (a.stands Str).bytes (offset_at (text_source a cells in_str) (record { at = place; size = length p }))) in
     let there : (q : ℕ) → place ≤ q → patch_for offs q ≡ patch_for ([] ++ (own ++ offsets_after c a cells fs gs hs)) q =
     λ q le. here.each q le ∙ ap (λ (l : List Patch). patch_for l q) (append_assoc own
-    (offsets_known (text_source a cells in_str) (asked c.str c.map a.str.bytes) fs)
-    (offsets_known (text_source a cells in_line_str) (asked c.line_str c.map a.line_str.bytes) gs
-    ++ offsets_known (start_source a cells) (start_known a.starts (starts_from 0 c.lines)) hs)) in
+    (offsets_known (text_source a cells in_str) (asked (c.new Str) c.map (a.stands Str).bytes) fs)
+    (offsets_known (text_source a cells in_line_str) (asked (c.new LineStr) c.map (a.stands LineStr).bytes) gs
+    ++ offsets_known (start_source a cells) (start_known (a.stands Line).starts (starts_from 0 (c.new Line))) hs)) in
     record {
       said = same-cells offs place p (by_new a.lasting.base.order p new) (edited_by (offset in_str true) c a p) (edited-path in_str c a cells p behind place e)
           (said-field offs place a.lasting.base.order p new zs.0
@@ -234,39 +235,39 @@ said-step (offset in_str true) c a cells offs p behind place fs gs hs str line e
       later = record { each = past-among offs [] (offsets_after c a cells fs gs hs) place (length p) new zs.0 there };
     }
 said-step (offset in_line_str true) c a cells offs p behind place fs gs hs str line e ff fg fh zs zl zt here =
-    let new : Option ℕ = asked c.line_str c.map a.line_str.bytes (offset_at (text_source a cells in_line_str) (record { at = place; size = length p })) in
-    let first : List Patch = offsets_known (text_source a cells in_str) (asked c.str c.map a.str.bytes) fs in
-    let second : List Patch = offsets_known (text_source a cells in_line_str) (asked c.line_str c.map a.line_str.bytes) gs in
-    let third : List Patch = offsets_known (start_source a cells) (start_known a.starts (starts_from 0 c.lines)) hs in
+    let new : Option ℕ = asked (c.new LineStr) c.map (a.stands LineStr).bytes (offset_at (text_source a cells in_line_str) (record { at = place; size = length p })) in
+    let first : List Patch = offsets_known (text_source a cells in_str) (asked (c.new Str) c.map (a.stands Str).bytes) fs in
+    let second : List Patch = offsets_known (text_source a cells in_line_str) (asked (c.new LineStr) c.map (a.stands LineStr).bytes) gs in
+    let third : List Patch = offsets_known (start_source a cells) (start_known (a.stands Line).starts (starts_from 0 (c.new Line))) hs in
     let own : List Patch = offset_by (record { at = place; size = length p })
-    (asked c.line_str c.map a.line_str.bytes (offset_at (text_source a cells in_line_str) (record { at = place; size = length p }))) in
+    (asked (c.new LineStr) c.map (a.stands LineStr).bytes (offset_at (text_source a cells in_line_str) (record { at = place; size = length p }))) in
     let there : (q : ℕ) → place ≤ q → patch_for offs q ≡ patch_for (first ++ (own ++ (second ++ third))) q =
     λ q le. here.each q le ∙ ap (λ (l : List Patch). patch_for (first ++ l) q) (append_assoc own second third) in
     record {
       said = same-cells offs place p (by_new a.lasting.base.order p new) (edited_by (offset in_line_str true) c a p) (edited-path in_line_str c a cells p behind place e)
           (said-field offs place a.lasting.base.order p new zl.0
           (begins-among offs first (second ++ third) place (length p) new zl.0 there
-          (none-here (text_source a cells in_str) (asked c.str c.map a.str.bytes) fs place (length p) ff)
-          (none-both second third place (length p) (none-here (text_source a cells in_line_str) (asked c.line_str c.map a.line_str.bytes) gs place (length p) fg)
-          (none-here (start_source a cells) (start_known a.starts (starts_from 0 c.lines)) hs place (length p) fh))));
+          (none-here (text_source a cells in_str) (asked (c.new Str) c.map (a.stands Str).bytes) fs place (length p) ff)
+          (none-both second third place (length p) (none-here (text_source a cells in_line_str) (asked (c.new LineStr) c.map (a.stands LineStr).bytes) gs place (length p) fg)
+          (none-here (start_source a cells) (start_known (a.stands Line).starts (starts_from 0 (c.new Line))) hs place (length p) fh))));
       later = record { each = past-among offs first (second ++ third) place (length p) new zl.0 there };
     }
 said-step line_start c a cells offs p behind place fs gs hs str line e ff fg fh zs zl zt here =
-    let new : Option ℕ = start_known a.starts (starts_from 0 c.lines) (offset_at (start_source a cells) (record { at = place; size = length p })) in
-    let first : List Patch = offsets_known (text_source a cells in_str) (asked c.str c.map a.str.bytes) fs in
-    let second : List Patch = offsets_known (text_source a cells in_line_str) (asked c.line_str c.map a.line_str.bytes) gs in
-    let third : List Patch = offsets_known (start_source a cells) (start_known a.starts (starts_from 0 c.lines)) hs in
+    let new : Option ℕ = start_known (a.stands Line).starts (starts_from 0 (c.new Line)) (offset_at (start_source a cells) (record { at = place; size = length p })) in
+    let first : List Patch = offsets_known (text_source a cells in_str) (asked (c.new Str) c.map (a.stands Str).bytes) fs in
+    let second : List Patch = offsets_known (text_source a cells in_line_str) (asked (c.new LineStr) c.map (a.stands LineStr).bytes) gs in
+    let third : List Patch = offsets_known (start_source a cells) (start_known (a.stands Line).starts (starts_from 0 (c.new Line))) hs in
     let own : List Patch = offset_by (record { at = place; size = length p })
-    (start_known a.starts (starts_from 0 c.lines) (offset_at (start_source a cells) (record { at = place; size = length p }))) in
+    (start_known (a.stands Line).starts (starts_from 0 (c.new Line)) (offset_at (start_source a cells) (record { at = place; size = length p }))) in
     let there : (q : ℕ) → place ≤ q → patch_for offs q ≡ patch_for ((first ++ second) ++ (own ++ third)) q =
     λ q le. here.each q le ∙ ap (λ (l : List Patch). patch_for l q) (sym (append_assoc first second (own ++ third))) in
     record {
       said = same-cells offs place p (by_new a.lasting.base.order p new) (edited_by line_start c a p) (edited-start c a cells p behind place e)
           (said-field offs place a.lasting.base.order p new zt.0
           (begins-among offs (first ++ second) third place (length p) new zt.0 there
-          (none-both first second place (length p) (none-here (text_source a cells in_str) (asked c.str c.map a.str.bytes) fs place (length p) ff)
-          (none-here (text_source a cells in_line_str) (asked c.line_str c.map a.line_str.bytes) gs place (length p) fg))
-          (none-here (start_source a cells) (start_known a.starts (starts_from 0 c.lines)) hs place (length p) fh)));
+          (none-both first second place (length p) (none-here (text_source a cells in_str) (asked (c.new Str) c.map (a.stands Str).bytes) fs place (length p) ff)
+          (none-here (text_source a cells in_line_str) (asked (c.new LineStr) c.map (a.stands LineStr).bytes) gs place (length p) fg))
+          (none-here (start_source a cells) (start_known (a.stands Line).starts (starts_from 0 (c.new Line))) hs place (length p) fh)));
       later = record {
         each = λ q le. past-among offs (first ++ second) third place (length p) new zt.0 there q le
             ∙ ap (λ (l : List Patch). patch_for l q) (append_assoc first second third);

@@ -22,7 +22,7 @@ use Rattle.dw_base.specs.UnitHeaders.{UnitSection}
 use Rattle.dw_base.specs.UnitPieces.{ReadsUnits}
 use Rattle.dw_base.specs.UnitStates.{before_unit}
 use Rattle.dw_base.specs.ViewData.{cells_located, debug_data}
-use Rattle.dw_base.specs.declared.debug_sections.DebugSection.TheVariants.{StrOffsets}
+use Rattle.dw_base.specs.declared.debug_sections.DebugSection.TheVariants.{Info, StrOffsets, Macro}
 use Rattle.dw_base.specs.declared.fault.Kind.TheVariants.{TooWide}
 use Rattle.dw_base.specs.declared.fault.Refusal.{Refusal}
 use Rattle.dw_meaning.specs.DataOutput.{changes_of, table_change}
@@ -172,7 +172,7 @@ abbrev pub edit_of : PathMap → View → DataReadings → TableChanges
 edit_of m v all = changes_of m (around_of (debug_data v) all) all
 
 -- the cells of a section of units that was read, and its pieces in it
-reading-placed : (v : View) (before behind : List UnitSection) (z : UnitSection) (first : ℕ) (r : Reading) → (debug_data v).units ≡ before ++ z ∷ behind → r.number ≡ z.number
+reading-placed : (v : View) (before behind : List UnitSection) (z : UnitSection) (first : ℕ) (r : Reading) → (debug_data v).found Info ≡ before ++ z ∷ behind → r.number ≡ z.number
     → ReadsUnits (debug_data v).base z first r.pieces → PlacedCells (view_cells v r.number) 0 r.pieces
 reading-placed v before behind z first r split number reads =
     let same : z.contents ≡ view_cells v r.number = (own-section v before behind z split).contents ∙ ap (view_cells v) (sym number) in
@@ -186,7 +186,7 @@ unfolding table_change debug_data
 reading-makes m v all r placed h =
     make-units (edit_of m v all) (around_of (debug_data v) all) (view_cells v r.number) r.pieces refl refl placed h.str h.line_str h.starts
 
-pub readings-make : (m : PathMap) (v : View) (all : DataReadings) (before zs : List UnitSection) (first : ℕ) (rs : Readings) → (debug_data v).units ≡ before ++ zs
+pub readings-make : (m : PathMap) (v : View) (all : DataReadings) (before zs : List UnitSection) (first : ℕ) (rs : Readings) → (debug_data v).found Info ≡ before ++ zs
     → ReadsAll (debug_data v).base first zs rs → AllMake v (str_after m v all) (line_str_after m v all) (starts_after m v all) (paths_of rs)
     → EachReading (λ x. MakesRole (role_of x) (edit_of m v all) (around_of (debug_data v) all) x.cells) rs
 readings-make m v all before [] first [] split reads h = tt
@@ -214,7 +214,7 @@ unit-row : (m : PathMap) (v : View) (all : DataReadings) (front behind : Reading
 unit-row m v all front behind r x split h =
     subst (AddendsFail (edit_of m v all) (debug_data v) (around_of (debug_data v) all) all) (sym h.is) (in_unit front behind r h.piece split h.misses)
 
-pub readings-miss : (m : PathMap) (v : View) (all : DataReadings) (before zs : List UnitSection) (first : ℕ) (front rs : Readings) (x : Refusal) → (debug_data v).units ≡ before ++ zs
+pub readings-miss : (m : PathMap) (v : View) (all : DataReadings) (before zs : List UnitSection) (first : ℕ) (front rs : Readings) (x : Refusal) → (debug_data v).found Info ≡ before ++ zs
     → ReadsAll (debug_data v).base first zs rs → all.units ≡ front ++ rs → AllHaveOffsets v (paths_of rs) → AllHavePlaces v (paths_of rs)
     → AnySection v (str_after m v all) (line_str_after m v all) (starts_after m v all) (paths_of rs) x
     → AddendsFail (edit_of m v all) (debug_data v) (around_of (debug_data v) all) all x
@@ -239,12 +239,12 @@ slots-make-by m v all (Some i) reads h =
     make-slots (edit_of m v all) (around_of (debug_data v) all) (view_cells v i) (path_slots (around_of (debug_data v) all)) all.offsets refl refl (offsets-in v (Some i) all.offsets reads)
     h.0.str (subst (FieldsMake (text_source (around_of (debug_data v) all) (view_cells v i) in_line_str) (line_str_asked (edit_of m v all) (around_of (debug_data v) all))) (sym none) tt)
 
-pub slots-make : (m : PathMap) (v : View) (all : DataReadings) → ReadsOffsets (debug_data v).base.order (debug_data v).offsets.contents all.offsets
+pub slots-make : (m : PathMap) (v : View) (all : DataReadings) → ReadsOffsets (debug_data v).base.order ((debug_data v).found StrOffsets).contents all.offsets
     → AllMake v (str_after m v all) (line_str_after m v all) (starts_after m v all) (slots_read v all)
     → EachPiece (λ x. MakesRole (slot_role (path_slots (around_of (debug_data v) all)) x.state) (edit_of m v all) (around_of (debug_data v) all) x.cells) all.offsets
 slots-make m v all reads h = slots-make-by m v all (section_named v (name_of StrOffsets)) (offsets-of v all.offsets reads) h
 
-slots-miss-by : (m : PathMap) (v : View) (all : DataReadings) (o : Option ℕ) (x : Refusal) → (debug_data v).offsets.number ≡ (cells_located v o).number
+slots-miss-by : (m : PathMap) (v : View) (all : DataReadings) (o : Option ℕ) (x : Refusal) → ((debug_data v).found StrOffsets).number ≡ (cells_located v o).number
     → ReadsOffsets v.order (cells_located v o).contents all.offsets → AllHaveOffsets v (slots_by o (read_fields (debug_data v) all))
     → AllHavePlaces v (slots_by o (read_fields (debug_data v) all))
     → AnySection v (str_after m v all) (line_str_after m v all) (starts_after m v all) (slots_by o (read_fields (debug_data v) all)) x
@@ -261,7 +261,7 @@ slots-miss-by m v all (Some i) x number reads offsets places (inl (inl h)) =
     subst (AddendsFail (edit_of m v all) (debug_data v) (around_of (debug_data v) all) all)
     (sym (fails.is ∙ ap (λ (n : ℕ). at TooWide n fails.piece.state.place) (sym number))) (in_slots fails.piece fails.misses)
 
-pub slots-miss : (m : PathMap) (v : View) (all : DataReadings) (x : Refusal) → ReadsOffsets (debug_data v).base.order (debug_data v).offsets.contents all.offsets
+pub slots-miss : (m : PathMap) (v : View) (all : DataReadings) (x : Refusal) → ReadsOffsets (debug_data v).base.order ((debug_data v).found StrOffsets).contents all.offsets
     → AllHaveOffsets v (slots_read v all) → AllHavePlaces v (slots_read v all) → AnySection v (str_after m v all) (line_str_after m v all) (starts_after m v all) (slots_read v all) x
     → AddendsFail (edit_of m v all) (debug_data v) (around_of (debug_data v) all) all x
 unfolding debug_data
@@ -287,10 +287,10 @@ macros-make-by m v all (z ∷ zs) [] cells reads h = absurd reads
 macros-make-by m v all (z ∷ zs) (r ∷ rs) cells reads h =
     (macro-makes m v all z r cells.0 reads.0 reads.1 h.0, macros-make-by m v all zs rs cells.1 reads.2 h.1)
 
-pub macros-make : (m : PathMap) (v : View) (all : DataReadings) → ReadsAllMacros (debug_data v).base.order (debug_data v).macros all.macros
+pub macros-make : (m : PathMap) (v : View) (all : DataReadings) → ReadsAllMacros (debug_data v).base.order ((debug_data v).found Macro) all.macros
     → AllMake v (str_after m v all) (line_str_after m v all) (starts_after m v all) (macros_read all.macros)
     → EachMacro (λ x. MakesRole (macro_role x.state) (edit_of m v all) (around_of (debug_data v) all) x.cells) all.macros
-macros-make m v all reads h = macros-make-by m v all (debug_data v).macros all.macros (all-cells v) reads h
+macros-make m v all reads h = macros-make-by m v all ((debug_data v).found Macro) all.macros (all-cells v) reads h
 
 macro-misses : (m : PathMap) (v : View) (all : DataReadings) (z : CellSection) (r : MacroReading) (x : Refusal) → CellsOf v z.number z.contents → r.number ≡ z.number
     → ReadsMacros (debug_data v).base.order z.contents r.pieces → HasOffsets v (macros_with r.number (macro_starts r.pieces))
@@ -322,8 +322,8 @@ macros-miss-by m v all (z ∷ zs) front (r ∷ rs) x cells reads are offsets pla
 macros-miss-by m v all (z ∷ zs) front (r ∷ rs) x cells reads are offsets places (inr h) =
     macros-miss-by m v all zs (front ++ r ∷ []) rs x cells.1 reads.2 (are ∙ sym (append_assoc front (r ∷ []) rs)) offsets.1 places.1 h
 
-pub macros-miss : (m : PathMap) (v : View) (all : DataReadings) (x : Refusal) → ReadsAllMacros (debug_data v).base.order (debug_data v).macros all.macros
+pub macros-miss : (m : PathMap) (v : View) (all : DataReadings) (x : Refusal) → ReadsAllMacros (debug_data v).base.order ((debug_data v).found Macro) all.macros
     → AllHaveOffsets v (macros_read all.macros) → AllHavePlaces v (macros_read all.macros)
     → AnySection v (str_after m v all) (line_str_after m v all) (starts_after m v all) (macros_read all.macros) x
     → AddendsFail (edit_of m v all) (debug_data v) (around_of (debug_data v) all) all x
-macros-miss m v all x reads offsets places h = macros-miss-by m v all (debug_data v).macros [] all.macros x (all-cells v) reads refl offsets places h
+macros-miss m v all x reads offsets places h = macros-miss-by m v all ((debug_data v).found Macro) [] all.macros x (all-cells v) reads refl offsets places h

@@ -16,6 +16,7 @@ use Rattle.dw_base.specs.TextChanges.{TableChanges, edited_by, mention_at, menti
 use Rattle.dw_base.specs.declared.shared.Order.{Order}
 use Rattle.dw_base.proofs.UnitEditLaws.{length-bytes_of}
 use Rattle.dw_base.proofs.UnitHeaderLaws.{bytes_of-append}
+use Rattle.dw_base.specs.declared.debug_sections.DebugSection.TheVariants.{Str, LineStr}
 use Rattle.dw_rewrite.specs.Changes.{texts_at}
 use Rattle.dw_find.specs.SlotPaths.{offset_fields}
 use Rattle.dw_find.specs.UnitPaths.{field_by, inline_by}
@@ -64,7 +65,7 @@ slots-bytes cells place (x ∷ xs) l = (l.0, bytes-there x.cells (joined xs) cel
 
 -- what pieces become
 pub slots_written : (c : TableChanges) (a : Around) (cells : List Cell) (front : List ℕ) (place : ℕ) (paths : List ℕ) (xs : List (Piece OffsetState))
-    → c.str.plan ≡ appending c.map a.str.bytes → c.line_str.plan ≡ appending c.map a.line_str.bytes → length front ≡ place → SlotsIn cells place xs
+    → (c.new Str).plan ≡ appending c.map (a.stands Str).bytes → (c.new LineStr).plan ≡ appending c.map (a.stands LineStr).bytes → length front ≡ place → SlotsIn cells place xs
     → unit_by c a cells (offset_fields in_str paths xs) (offset_fields in_line_str paths xs) [] [] (front ++ bytes_of (joined xs))
     ≡ front ++ bytes_of (joined (edited_with (slot_role paths) c a xs))
 slots_written c a cells front place paths [] str line at l = refl
@@ -116,15 +117,15 @@ names-texts table plan m around ts (x ∷ xs) is =
     name-texts x.state.mode table plan m around ts x.cells (mentions_with name_role table around xs) is ∙ names-texts table plan m around ts xs is
 
 -- and keep their cells
-name-kept : (mode : NameMode) (c : TableChanges) (a : Around) (p : List Cell) → c.str.plan ≡ appending c.map a.str.bytes → edited_by (name_role_by mode) c a p ≡ p
+name-kept : (mode : NameMode) (c : TableChanges) (a : Around) (p : List Cell) → (c.new Str).plan ≡ appending c.map (a.stands Str).bytes → edited_by (name_role_by mode) c a p ≡ p
 name-kept at_table c a p str = refl
 name-kept (at_string w left end) c a p str =
-    let none = no_path-asks c.map a.str.bytes c.str.plan (mention_at a in_str false p).text str in
+    let none = no_path-asks c.map (a.stands Str).bytes (c.new Str).plan (mention_at a in_str false p).text str in
     rw none refl
 name-kept (at_rest end) c a p str = refl
 name-kept no_names c a p str = refl
 
-pub names-kept : (c : TableChanges) (a : Around) (xs : List (Piece NameState)) → c.str.plan ≡ appending c.map a.str.bytes → joined (edited_with name_role c a xs) ≡ joined xs
+pub names-kept : (c : TableChanges) (a : Around) (xs : List (Piece NameState)) → (c.new Str).plan ≡ appending c.map (a.stands Str).bytes → joined (edited_with name_role c a xs) ≡ joined xs
 names-kept c a [] str = refl
 names-kept c a (x ∷ xs) str =
     ap (λ (p : List Cell). p ++ joined (edited_with name_role c a xs)) (name-kept x.state.mode c a x.cells str)

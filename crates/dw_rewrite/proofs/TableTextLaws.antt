@@ -16,7 +16,7 @@ use Rattle.dw_base.specs.StringTables.{Mention, Plan, TextTable, texts_after, ta
 use Rattle.dw_base.specs.TextChanges.{all_mentions}
 use Rattle.dw_base.specs.Texts.{laid_texts}
 use Rattle.dw_base.specs.ViewData.{debug_data}
-use Rattle.dw_base.specs.declared.debug_sections.DebugSection.TheVariants.{Line}
+use Rattle.dw_base.specs.declared.debug_sections.DebugSection.TheVariants.{Info, StrOffsets, Line}
 use Rattle.dw_lines.specs.ViewTables.{tables_read}
 use Rattle.dw_lines.proofs.ViewTableLaws.{source-none}
 use Rattle.dw_meaning.specs.DataOutput.{table_change}
@@ -80,8 +80,8 @@ parts-texts m v table rs ls =
     ∙ all_texts-append m v table [] (paths_of rs.units) (slots_read v rs))
 
 -- what becomes of a table is told by the fields of all sections
-pub table-texts : (m : PathMap) (v : View) (rs : DataReadings) (ts : List LineTable) (table : TextSection) → ReadsAll (debug_data v).base 0 (debug_data v).units rs.units
-    → ReadsOffsets (debug_data v).base.order (debug_data v).offsets.contents rs.offsets → AreTables (line_source (debug_data v)) rs.lines
+pub table-texts : (m : PathMap) (v : View) (rs : DataReadings) (ts : List LineTable) (table : TextSection) → ReadsAll (debug_data v).base 0 ((debug_data v).found Info) rs.units
+    → ReadsOffsets (debug_data v).base.order ((debug_data v).found StrOffsets).contents rs.offsets → AreTables (line_source (debug_data v)) rs.lines
     → ts ≡ tables_read (line_source (debug_data v)) rs.lines
     → (table_change m table (around_of (debug_data v) rs) rs).texts
     ≡ all_texts_at m v table [] (((paths_of rs.units ++ slots_read v rs) ++ macros_read rs.macros) ++ lines_of_view v ts)
@@ -98,7 +98,7 @@ table-texts m v rs ts table reads offsets lines is =
     ap (λ (p : Plan). texts_after p m [] (file_mentions table (around_of (debug_data v) rs) rs)) (sym (same-plan m v rs table))
     ∙ texts_after-append (plan_in m v table) m [] us (ss ++ (ls ++ (ms ++ ns)))
     ∙ ap (λ (xs : List (List ℕ)). texts_after (plan_in m v table) m xs (ss ++ (ls ++ (ms ++ ns))))
-    (readings-texts m v rs table [] [] (debug_data v).units 0 rs.units refl reads)
+    (readings-texts m v rs table [] [] ((debug_data v).found Info) 0 rs.units refl reads)
     ∙ texts_after-append (plan_in m v table) m units ss (ls ++ (ms ++ ns))
     ∙ ap (λ (xs : List (List ℕ)). texts_after (plan_in m v table) m xs (ls ++ (ms ++ ns))) (slots-texts m v rs table units offsets)
     ∙ texts_after-append (plan_in m v table) m slots ls (ms ++ ns)

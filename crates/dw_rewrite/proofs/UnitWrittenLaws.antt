@@ -19,6 +19,7 @@ use Rattle.dw_base.proofs.OffsetPutLaws.{length-with_bytes}
 use Rattle.dw_meaning.proofs.FieldPutLaws.{length-put}
 use Rattle.dw_base.proofs.UnitEditLaws.{length-bytes_of}
 use Rattle.dw_base.proofs.UnitHeaderLaws.{bytes_of-append}
+use Rattle.dw_base.specs.declared.debug_sections.DebugSection.TheVariants.{Str, LineStr, Line}
 use Rattle.dw_rewrite.specs.Changes.{offset_at, patched, patched_at, start_known, with_all_known, with_known}
 use Rattle.dw_find.specs.UnitPaths.{field_by, path_fields, inline_by, inline_paths, start_by, start_fields}
 use Rattle.dw_rewrite.specs.UnitsAfter.{inlined, inlined_at, start_source, text_source}
@@ -41,14 +42,14 @@ length-edited (offset table path) changes around p =
     (new_place (change_of changes table).plan changes.map (change_of changes table).texts (mention_at around table path p))
 length-edited line_start changes around p = by_number (line_table around p)
   where
-    by_number : (o : Option ℕ) → length (moved_start (starts_from 0 changes.lines) around.lasting.base.order o p) ≡ length p
+    by_number : (o : Option ℕ) → length (moved_start (starts_from 0 (changes.new Line)) around.lasting.base.order o p) ≡ length p
     by_number None = refl
-    by_number (Some k) = length-put around.lasting.base.order p (get_or (starts_from 0 changes.lines) k 0)
+    by_number (Some k) = length-put around.lasting.base.order p (get_or (starts_from 0 (changes.new Line)) k 0)
 length-edited inline_path changes around p = length-with_bytes p (mapped_inline changes.map (text (bytes_of p)))
 
 -- where the table that started at a place starts anew
 abbrev pub starts_by : TableChanges → Around → ℕ → Option ℕ
-starts_by c a = start_known a.starts (starts_from 0 c.lines)
+starts_by c a = start_known (a.stands Line).starts (starts_from 0 (c.new Line))
 
 -- the new starts of line tables in these fields
 abbrev pub started : TableChanges → Around → List Cell → List ℕ → List PathField → List ℕ
@@ -57,7 +58,7 @@ started c a cells out hs = with_all_known (start_source a cells) (starts_by c a)
 -- a section with new offsets in these fields, and these paths mapped
 abbrev pub unit_by : TableChanges → Around → List Cell → List PathField → List PathField → List PathField → List InlinePath → List ℕ → List ℕ
 unit_by c a cells fs gs hs is out =
-    inlined c.map (bytes_of cells) (started c a cells (patched c.line_str c.map (text_source a cells in_line_str) (patched c.str c.map (text_source a cells in_str) out fs) gs) hs) is
+    inlined c.map (bytes_of cells) (started c a cells (patched (c.new LineStr) c.map (text_source a cells in_line_str) (patched (c.new Str) c.map (text_source a cells in_str) out fs) gs) hs) is
 
 -- one pass after another
 behind-both : (F G : List ℕ → List ℕ) (n : ℕ) (rest : List ℕ) → Behind F n rest → ((r : List ℕ) → Behind G n r) → Behind (λ out. G (F out)) n rest
@@ -72,33 +73,33 @@ no_path-asks m table plan t is = ap (λ (q : Plan). q.asks (record { path = fals
 
 -- both tables' offsets, one after another
 both-behind : (c : TableChanges) (a : Around) (cells : List Cell) (n : ℕ) (fs gs : List PathField) (rest : List ℕ) → FieldsFrom n fs → FieldsFrom n gs
-    → Behind (λ out. patched c.line_str c.map (text_source a cells in_line_str) (patched c.str c.map (text_source a cells in_str) out fs) gs) n rest
+    → Behind (λ out. patched (c.new LineStr) c.map (text_source a cells in_line_str) (patched (c.new Str) c.map (text_source a cells in_str) out fs) gs) n rest
 both-behind c a cells n fs gs rest from_fs from_gs =
-    behind-both (λ out. patched c.str c.map (text_source a cells in_str) out fs) (λ out. patched c.line_str c.map (text_source a cells in_line_str) out gs) n rest
-    (patched-behind c.str c.map (text_source a cells in_str) n fs rest from_fs)
-    (λ (r : List ℕ). patched-behind c.line_str c.map (text_source a cells in_line_str) n gs r from_gs)
+    behind-both (λ out. patched (c.new Str) c.map (text_source a cells in_str) out fs) (λ out. patched (c.new LineStr) c.map (text_source a cells in_line_str) out gs) n rest
+    (patched-behind (c.new Str) c.map (text_source a cells in_str) n fs rest from_fs)
+    (λ (r : List ℕ). patched-behind (c.new LineStr) c.map (text_source a cells in_line_str) n gs r from_gs)
 
 all-behind : (c : TableChanges) (a : Around) (cells : List Cell) (n : ℕ) (fs gs hs : List PathField) (rest : List ℕ) → FieldsFrom n fs → FieldsFrom n gs → FieldsFrom n hs
-    → Behind (λ out. started c a cells (patched c.line_str c.map (text_source a cells in_line_str) (patched c.str c.map (text_source a cells in_str) out fs) gs) hs) n rest
+    → Behind (λ out. started c a cells (patched (c.new LineStr) c.map (text_source a cells in_line_str) (patched (c.new Str) c.map (text_source a cells in_str) out fs) gs) hs) n rest
 all-behind c a cells n fs gs hs rest from_fs from_gs from_hs =
-    behind-both (λ out. patched c.line_str c.map (text_source a cells in_line_str) (patched c.str c.map (text_source a cells in_str) out fs) gs) (λ out. started c a cells out hs) n rest
+    behind-both (λ out. patched (c.new LineStr) c.map (text_source a cells in_line_str) (patched (c.new Str) c.map (text_source a cells in_str) out fs) gs) (λ out. started c a cells out hs) n rest
     (both-behind c a cells n fs gs rest from_fs from_gs)
     (λ (r : List ℕ). known-behind (start_source a cells) (starts_by c a) n hs r from_hs)
 
 -- what a piece becomes, where it stands behind bytes of so many
 pub piece_written : (r : Role) (c : TableChanges) (a : Around) (cells : List Cell) (front : List ℕ) (p behind : List Cell) (rest : List ℕ) (place : ℕ) (fs gs hs : List PathField) (is : List InlinePath)
-    → c.str.plan ≡ appending c.map a.str.bytes → c.line_str.plan ≡ appending c.map a.line_str.bytes → length front ≡ place
+    → (c.new Str).plan ≡ appending c.map (a.stands Str).bytes → (c.new LineStr).plan ≡ appending c.map (a.stands LineStr).bytes → length front ≡ place
     → p ++ behind ≡ drop place cells → InlineFitsBy r c.map p → FieldsFrom (place + length p) fs → FieldsFrom (place + length p) gs → FieldsFrom (place + length p) hs
     → unit_by c a cells (field_by in_str r place (length p) ++ fs) (field_by in_line_str r place (length p) ++ gs) (start_by r place (length p) ++ hs) (inline_by r place p ++ is)
     (front ++ (bytes_of p ++ rest))
     ≡ unit_by c a cells fs gs hs is (front ++ (bytes_of (edited_by r c a p) ++ rest))
 piece_written fixed c a cells front p behind rest place fs gs hs is str line at e fits from_fs from_gs from_hs = refl
 piece_written (offset in_str false) c a cells front p behind rest place fs gs hs is str line at e fits from_fs from_gs from_hs =
-    let none = no_path-asks c.map a.str.bytes c.str.plan (mention_at a in_str false p).text str in
+    let none = no_path-asks c.map (a.stands Str).bytes (c.new Str).plan (mention_at a in_str false p).text str in
     let kept : edited_by (offset in_str false) c a p ≡ p = rw none refl in
     ap (λ (q : List Cell). unit_by c a cells fs gs hs is (front ++ (bytes_of q ++ rest))) (sym kept)
 piece_written (offset in_line_str false) c a cells front p behind rest place fs gs hs is str line at e fits from_fs from_gs from_hs =
-    let none = no_path-asks c.map a.line_str.bytes c.line_str.plan (mention_at a in_line_str false p).text line in
+    let none = no_path-asks c.map (a.stands LineStr).bytes (c.new LineStr).plan (mention_at a in_line_str false p).text line in
     let kept : edited_by (offset in_line_str false) c a p ≡ p = rw none refl in
     ap (λ (q : List Cell). unit_by c a cells fs gs hs is (front ++ (bytes_of q ++ rest))) (sym kept)
 piece_written (offset in_str true) c a cells front p behind rest place fs gs hs is str line at e fits from_fs from_gs from_hs =
@@ -107,10 +108,10 @@ piece_written (offset in_line_str true) c a cells front p behind rest place fs g
     let q : List ℕ = bytes_of (edited_by (offset in_line_str true) c a p) in
     let size : length q ≡ length p = length-bytes_of (edited_by (offset in_line_str true) c a p) ∙ length-edited (offset in_line_str true) c a p in
     let f : PathField = record { at = place; size = length p } in
-    ap (λ (out : List ℕ). inlined c.map (bytes_of cells) (started c a cells (patched c.line_str c.map (text_source a cells in_line_str) out gs) hs) is)
-    (swap (λ out. patched_at c.line_str c.map (text_source a cells in_line_str) out f) (λ out. patched c.str c.map (text_source a cells in_str) out fs)
+    ap (λ (out : List ℕ). inlined c.map (bytes_of cells) (started c a cells (patched (c.new LineStr) c.map (text_source a cells in_line_str) out gs) hs) is)
+    (swap (λ out. patched_at (c.new LineStr) c.map (text_source a cells in_line_str) out f) (λ out. patched (c.new Str) c.map (text_source a cells in_str) out fs)
     front (bytes_of p) q rest (place + length p) (patched_turns in_line_str c a cells front p behind place at e)
-    (patched-behind c.str c.map (text_source a cells in_str) (place + length p) fs rest from_fs)
+    (patched-behind (c.new Str) c.map (text_source a cells in_str) (place + length p) fs rest from_fs)
     (length-append front (bytes_of p) ∙ omega (arith, at, length-bytes_of p)) (length-append front q ∙ omega (arith, at, size)))
 piece_written line_start c a cells front p behind rest place fs gs hs is str line at e fits from_fs from_gs from_hs =
     let q : List ℕ = bytes_of (edited_by line_start c a p) in
@@ -118,7 +119,7 @@ piece_written line_start c a cells front p behind rest place fs gs hs is str lin
     let f : PathField = record { at = place; size = length p } in
     ap (λ (out : List ℕ). inlined c.map (bytes_of cells) (started c a cells out hs) is)
     (swap (λ out. with_known (start_source a cells) out f (starts_by c a (offset_at (start_source a cells) f)))
-    (λ out. patched c.line_str c.map (text_source a cells in_line_str) (patched c.str c.map (text_source a cells in_str) out fs) gs)
+    (λ out. patched (c.new LineStr) c.map (text_source a cells in_line_str) (patched (c.new Str) c.map (text_source a cells in_str) out fs) gs)
     front (bytes_of p) q rest (place + length p) (start_turns c a cells front p behind place at e)
     (both-behind c a cells (place + length p) fs gs rest from_fs from_gs)
     (length-append front (bytes_of p) ∙ omega (arith, at, length-bytes_of p)) (length-append front q ∙ omega (arith, at, size)))
@@ -128,7 +129,7 @@ piece_written inline_path c a cells front p behind rest place fs gs hs is str li
     let i : InlinePath = record { at = place; len = length (text (bytes_of p)) } in
     ap (λ (out : List ℕ). inlined c.map (bytes_of cells) out is)
     (swap (λ out. inlined_at c.map (bytes_of cells) out i)
-    (λ out. started c a cells (patched c.line_str c.map (text_source a cells in_line_str) (patched c.str c.map (text_source a cells in_str) out fs) gs) hs)
+    (λ out. started c a cells (patched (c.new LineStr) c.map (text_source a cells in_line_str) (patched (c.new Str) c.map (text_source a cells in_str) out fs) gs) hs)
     front (bytes_of p) q rest (place + length p) (inlined_turns c a cells front p behind place at e fits (text-length (bytes_of p)) (text-front (bytes_of p)))
     (all-behind c a cells (place + length p) fs gs hs rest from_fs from_gs from_hs)
     (length-append front (bytes_of p) ∙ omega (arith, at, length-bytes_of p)) (length-append front q ∙ omega (arith, at, size)))
@@ -140,7 +141,7 @@ placed-bytes cells place (x ∷ xs) l = (l.0, bytes-there x.cells (joined xs) ce
 
 -- what pieces become
 pub pieces_written : (c : TableChanges) (a : Around) (cells : List Cell) (front : List ℕ) (place : ℕ) (xs : List (Piece UnitState))
-    → c.str.plan ≡ appending c.map a.str.bytes → c.line_str.plan ≡ appending c.map a.line_str.bytes → length front ≡ place → PlacedCells cells place xs
+    → (c.new Str).plan ≡ appending c.map (a.stands Str).bytes → (c.new LineStr).plan ≡ appending c.map (a.stands LineStr).bytes → length front ≡ place → PlacedCells cells place xs
     → EachPiece (InlineFits c.map) xs
     → unit_by c a cells (path_fields in_str xs) (path_fields in_line_str xs) (start_fields xs) (inline_paths xs) (front ++ bytes_of (joined xs))
     ≡ front ++ bytes_of (joined (edited_all c a xs))

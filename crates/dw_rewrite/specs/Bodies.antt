@@ -15,7 +15,7 @@ use Rattle.dw_base.specs.Refusals.{at}
 use Rattle.dw_base.specs.SectionRelocations.{relocation_section}
 use Rattle.dw_base.specs.StringTables.{new_table}
 use Rattle.dw_base.specs.TextChanges.{TableChange}
-use Rattle.dw_base.specs.declared.debug_sections.DebugSection.TheVariants.{Line}
+use Rattle.dw_base.specs.declared.debug_sections.DebugSection.TheVariants.{Str, LineStr, Line}
 use Rattle.dw_base.specs.declared.fault.Kind.TheVariants.{TooLarge}
 use Rattle.dw_base.specs.declared.fault.Refusal.{Refusal}
 use Rattle.dw_meaning.specs.FileMeanings.{file_data}
@@ -69,9 +69,9 @@ long_table m d r table =
 pub data BodiesRefuse (m : PathMap) (d : DebugData) : Refusal → Type 0 where
   long_table_of : (table : TextSection) (r : DataReadings) → DataReads d r → PathsFit m d r → (table_of (around_of d r) table).number ≢ 0
       → output_limit < length (long_table m d r table) → BodiesRefuse m d (at TooLarge (table_of (around_of d r) table).number 0)
-  long_lines_of : (r : DataReadings) → DataReads d r → PathsFit m d r → d.lines.number ≢ 0
-      → output_limit < length (all_lines (new_lines m (around_of d r) r)) → BodiesRefuse m d (at TooLarge d.lines.number 0)
+  long_lines_of : (r : DataReadings) → DataReads d r → PathsFit m d r → (d.found Line).number ≢ 0
+      → output_limit < length (all_lines (new_lines m (around_of d r) r)) → BodiesRefuse m d (at TooLarge (d.found Line).number 0)
   line_table_of : (r : DataReadings) (before behind : List LineReading) (t : LineReading) {x : Refusal} → DataReads d r → r.lines ≡ before ++ t ∷ behind
-      → WriteFails (line_source d) m (line_place m (changes_of m (around_of d r) r).str (changes_of m (around_of d r) r).line_str (line_source d)) (table_read (line_source d) t) x
+      → WriteFails (line_source d) m (line_place m ((changes_of m (around_of d r) r).new Str) ((changes_of m (around_of d r) r).new LineStr) (line_source d)) (table_read (line_source d) t) x
       → BodiesRefuse m d x
   addend_of : (r : DataReadings) {x : Refusal} → DataReads d r → PathsFit m d r → AddendsFail (changes_of m (around_of d r) r) d (around_of d r) r x → BodiesRefuse m d x

@@ -11,6 +11,7 @@ use Rattle.dw_base.specs.LineReadings.{starts_from}
 use Rattle.dw_base.specs.Paths.{PathMap}
 use Rattle.dw_base.specs.SectionRelocations.{relocation_section, relocation_source}
 use Rattle.dw_base.specs.TextChanges.{TableChange, TableChanges}
+use Rattle.dw_base.specs.declared.debug_sections.DebugSection.TheVariants.{Str, LineStr, Line}
 use Rattle.dw_meaning.specs.DataOutput.{Body}
 use Rattle.dw_patch.specs.RecordMoves.{PlacesFit, moved_table, patch_for}
 use Rattle.elf_layout.specs.declared.patch.Patch.{Patch}
@@ -37,9 +38,9 @@ asked change m table offset = asked_place change m (path_of table offset)
 -- the offsets that the fields of a section's paths and line tables say
 abbrev pub offsets_after : TableChanges → Around → List Cell → List PathField → List PathField → List PathField → List Patch
 offsets_after c a cells fs gs hs =
-    offsets_known (text_source a cells in_str) (asked c.str c.map a.str.bytes) fs
-    ++ (offsets_known (text_source a cells in_line_str) (asked c.line_str c.map a.line_str.bytes) gs
-    ++ offsets_known (start_source a cells) (start_known a.starts (starts_from 0 c.lines)) hs)
+    offsets_known (text_source a cells in_str) (asked (c.new Str) c.map (a.stands Str).bytes) fs
+    ++ (offsets_known (text_source a cells in_line_str) (asked (c.new LineStr) c.map (a.stands LineStr).bytes) gs
+    ++ offsets_known (start_source a cells) (start_known (a.stands Line).starts (starts_from 0 (c.new Line))) hs)
 
 -- the same of a section that says this of paths, from what is known of the new places, and of the starts of line tables
 abbrev pub offsets_in : View → (ℕ → Option ℕ) → (ℕ → Option ℕ) → (ℕ → Option ℕ) → UnitPaths → List Patch

@@ -11,6 +11,7 @@ use Rattle.dw_base.specs.Refusals.{at}
 use Rattle.dw_base.specs.StringTables.{Plan, TextTable, appending, table_bytes}
 use Rattle.dw_base.specs.TextChanges.{TableChange}
 use Rattle.dw_base.specs.ViewData.{debug_data}
+use Rattle.dw_base.specs.declared.debug_sections.DebugSection.TheVariants.{Line}
 use Rattle.dw_base.specs.declared.fault.Fault.{Fault}
 use Rattle.dw_base.specs.declared.fault.Fault.TheVariants.{NoMemory, Refused}
 use Rattle.dw_base.specs.declared.fault.Kind.TheVariants.{TooLarge}
@@ -32,7 +33,7 @@ abbrev pub source_in : View → ℕ → TextSection → FieldSource
 source_in v section table = record { order = v.order; cells = view_cells v section; table = texts_of v table }
 
 abbrev pub starts_in : View → ℕ → FieldSource
-starts_in v section = record { order = v.order; cells = view_cells v section; table = located_cells (debug_data v).lines }
+starts_in v section = record { order = v.order; cells = view_cells v section; table = located_cells ((debug_data v).found Line) }
 
 -- the new texts of a table after the paths of a section, and of sections
 abbrev pub section_texts_at : PathMap → View → TextSection → List (List ℕ) → UnitPaths → List (List ℕ)

@@ -4,7 +4,7 @@ use Rattle.dw_base.specs.DebugSections.{name_of}
 use Rattle.dw_base.specs.FileViews.{View, section_bytes, section_named}
 use Rattle.dw_base.specs.Paths.{PathMap}
 use Rattle.dw_base.specs.ViewData.{debug_data}
-use Rattle.dw_base.specs.declared.debug_sections.DebugSection.TheVariants.{Names, StrOffsets}
+use Rattle.dw_base.specs.declared.debug_sections.DebugSection.TheVariants.{StrOffsets, Macro, Names}
 use Rattle.dw_meaning.specs.DataOutput.{Body}
 use Rattle.dw_rewrite.specs.NewTables.{bodies_known}
 use Rattle.dw_find.specs.UnitPaths.{UnitPaths}
@@ -28,7 +28,7 @@ slots_count v = count_of (section_named v (name_of StrOffsets))
 
 -- how many sections of macro units there are, and how many of these and of string offsets
 abbrev pub macros_count : View → ℕ
-macros_count v = length (debug_data v).macros
+macros_count v = length ((debug_data v).found Macro)
 
 abbrev pub some_sections : View → ℕ
 some_sections v = slots_count v + macros_count v

@@ -5,6 +5,7 @@ use Rattle.dw_base.specs.DebugData.{Around, table_of}
 use Rattle.dw_base.specs.Forms.{TextSection}
 use Rattle.dw_base.specs.InlinePaths.{mapped_inline}
 use Rattle.dw_base.specs.Paths.{PathMap}
+use Rattle.dw_base.specs.declared.debug_sections.DebugSection.TheVariants.{Line}
 use Rattle.dw_rewrite.specs.Changes.{FieldSource}
 use Rattle.dw_find.specs.declared.fields.InlinePath.{InlinePath}
 use Rattle.dw_find.specs.UnitPaths.{inline_text}
@@ -14,7 +15,7 @@ abbrev pub text_source : Around → List Cell → TextSection → FieldSource
 text_source around cells table = record { order = around.lasting.base.order; cells = cells; table = table_of around table }
 
 abbrev pub start_source : Around → List Cell → FieldSource
-start_source around cells = record { order = around.lasting.base.order; cells = cells; table = around.lines }
+start_source around cells = record { order = around.lasting.base.order; cells = cells; table = (around.stands Line).located }
 
 -- the bytes with a path mapped in its room
 abbrev pub inlined_at : PathMap → List ℕ → List ℕ → InlinePath → List ℕ

@@ -139,7 +139,7 @@ fn table_bodies<'v>(
 
 /// The section of line tables with these bytes.
 fn lines_body<'v>(view: &View, bytes: Vec<u8>) -> Body<'v>
-    ensures { result ≡ record { number = (debug_data view.now).lines.number; bytes = bytes.items } }
+    ensures { result ≡ record { number = ((debug_data view.now).found Line).number; bytes = bytes.items } }
 {
     Body {
         section: lines_number(view),
@@ -150,7 +150,7 @@ fn lines_body<'v>(view: &View, bytes: Vec<u8>) -> Body<'v>
 /// The number of the section of line tables; 0 where there is none.
 #[tactic(auto, using(crate::proofs::LineReadLaws::number_rules))]
 fn lines_number(view: &View) -> u32
-    ensures { result ≡ (debug_data view.now).lines.number }
+    ensures { result ≡ ((debug_data view.now).found Line).number }
 {
     match view.first(DebugSection::Line) {
         Some(section) => section,
@@ -160,7 +160,7 @@ fn lines_number(view: &View) -> u32
 
 /// What refuses line tables that are too long.
 fn long_lines(view: &View) -> Refusal
-    ensures { result ≡ at Kind.TooLarge (debug_data view.now).lines.number 0 }
+    ensures { result ≡ at Kind.TooLarge ((debug_data view.now).found Line).number 0 }
 {
     Refusal::at(Kind::TooLarge, lines_number(view), 0)
 }

@@ -19,6 +19,7 @@ use Rattle.dw_base.proofs.ContributionBackLaws.{contributions-back}
 use Rattle.dw_base.proofs.ContributionRowLaws.{contributions-exclude, contributions-one}
 use Rattle.dw_base.proofs.ReachLaws.{Reaches, here, on, Stops, reach-total}
 use Rattle.dw_base.proofs.UnitRowLaws.{UnitsRead, read_to, NextUnit, next-determined, no_cells-header, units-exclude, units-one, units-reach}
+use Rattle.dw_base.specs.declared.debug_sections.DebugSection.TheVariants.{Info, StrOffsets}
 use Rattle.dw_meaning.specs.DataFails.{unit as unit_fails, table as table_fails}
 use Rattle.dw_meaning.specs.DataOutput.{DataReads}
 use Rattle.dw_meaning.proofs.DataRowLaws.{data-excludes}
@@ -33,8 +34,8 @@ sources-exclude d q r reads headers (relocation z before behind split f) = heade
 sources-exclude d q r reads headers (table z h u f) = data-excludes d q r reads (table_fails z h u f)
 sources-exclude d q r reads headers (lines f) = lines-exclude d q.lines r reads.lines f
 sources-exclude d q r reads headers (string_tables f) =
-    contributions-exclude d.base.order (bytes_of d.offsets.contents) d.offsets.number (contributions_in d.base.order q.offsets) r
-    (contributions-back d.base.order d.offsets.contents q.offsets reads.offsets) f
+    contributions-exclude d.base.order (bytes_of (d.found StrOffsets).contents) (d.found StrOffsets).number (contributions_in d.base.order q.offsets) r
+    (contributions-back d.base.order (d.found StrOffsets).contents q.offsets reads.offsets) f
 
 pub want-only : (d : DebugData) (f : Fault) → Blames (SourcesFail d) f → IsWant d f
 want-only d NoMemory b = record { whole = λ q reads headers. refl }
@@ -51,8 +52,8 @@ units-among d [] behind z (hs ∷ hss) all = record { headers = hs; has = all.0 
 units-among d (y ∷ ys) behind z [] all = absurd all
 units-among d (y ∷ ys) behind z (hs ∷ hss) all = units-among d ys behind z hss all.1
 
-section-units : (d : DebugData) (before behind : List UnitSection) (z : UnitSection) (hss : List (List UnitHeader)) → d.units ≡ before ++ z ∷ behind
-    → EachUnits d d.units hss → SectionUnits d z
+section-units : (d : DebugData) (before behind : List UnitSection) (z : UnitSection) (hss : List (List UnitHeader)) → d.found Info ≡ before ++ z ∷ behind
+    → EachUnits d (d.found Info) hss → SectionUnits d z
 section-units d before behind z hss split all = units-among d before behind z hss (subst (λ (zs : List UnitSection). EachUnits d zs hss) split all)
 
 -- units that are read further are those so far, and more
@@ -118,7 +119,7 @@ read-excludes d base names r are (relocation z before behind split f) =
     let s : SectionUnits d z = section-units d before behind z are.readings.headers split are.reads.units in
     header_offsets_exclude d.base z r s.has.offsets f
 read-excludes d base names r are (string_tables f) =
-    contributions-exclude d.base.order (located_cells d.offsets).bytes d.offsets.number are.readings.contributions r are.reads.offsets f
+    contributions-exclude d.base.order (located_cells (d.found StrOffsets)).bytes (d.found StrOffsets).number are.readings.contributions r are.reads.offsets f
 read-excludes d base names r are (lines f) = lines-exclude d are.readings.lines r are.reads.lines f
 
 pub ruleset want_rules = (want-only, read-excludes)
@@ -135,9 +136,9 @@ each-one d (z ∷ zs) (xs ∷ xss) (ys ∷ yss) a b =
 
 readings-one : (d : DebugData) (x y : SourceReadings) → SourcesRead d x → SourcesRead d y → x ≡ y
 readings-one d x y a b =
-    ap (λ (hss : List (List UnitHeader)). record { headers = hss; contributions = x.contributions; lines = x.lines }) (each-one d d.units x.headers y.headers a.units b.units)
+    ap (λ (hss : List (List UnitHeader)). record { headers = hss; contributions = x.contributions; lines = x.lines }) (each-one d (d.found Info) x.headers y.headers a.units b.units)
     ∙ ap (λ (cs : List Contribution). record { headers = y.headers; contributions = cs; lines = x.lines })
-    (contributions-one d.base.order (located_cells d.offsets).bytes x.contributions y.contributions a.offsets b.offsets)
+    (contributions-one d.base.order (located_cells (d.found StrOffsets)).bytes x.contributions y.contributions a.offsets b.offsets)
     ∙ ap (λ (ls : List LineReading). record { headers = y.headers; contributions = y.contributions; lines = ls })
     (tables-one (line_source d) 0 _ x.lines y.lines a.lines b.lines)
 

@@ -10,7 +10,7 @@ use Rattle.dw_base.specs.LineSources.{LineSource}
 use Rattle.dw_base.specs.LineTables.{LineTable}
 use Rattle.dw_base.specs.UnitHeaders.{UnitSection}
 use Rattle.dw_base.specs.ViewData.{debug_data, located}
-use Rattle.dw_base.specs.declared.debug_sections.DebugSection.TheVariants.{Line, StrOffsets}
+use Rattle.dw_base.specs.declared.debug_sections.DebugSection.TheVariants.{StrOffsets, Line}
 use Rattle.dw_base.specs.declared.line_tables.FilePlace.{FilePlace}
 use Rattle.dw_base.specs.declared.line_tables.TextPlace.{TextPlace}
 use Rattle.dw_base.specs.declared.shared.Order.{Order}
@@ -100,16 +100,16 @@ pub root-added : (v : View) (list : List Contribution) (tables : ℕ → Option 
     → new ≡ with_paths front old (root_paths (debug_data v) list tables z bytes r)
 unfolding root_paths
 root-added v list tables front bytes folder z r base lines dir name old new base_is lines_is dir_is folder_is name_is e =
-    let own : base ≡ root_offset (debug_data v).base.order z (located_cells (debug_data v).offsets) bytes r.base =
+    let own : base ≡ root_offset (debug_data v).base.order z (located_cells ((debug_data v).found StrOffsets)) bytes r.base =
     base_is ∙ ap (λ (o : Order). root_offset o z (located v StrOffsets) bytes r.base) (sym (order-is v))
     ∙ ap (λ (t : Located). root_offset (debug_data v).base.order z t bytes r.base) (sym (offsets-located v)) in
-    let table : lines ≡ root_offset (debug_data v).base.order z (located_cells (debug_data v).lines) bytes r.lines =
+    let table : lines ≡ root_offset (debug_data v).base.order z (located_cells ((debug_data v).found Line)) bytes r.lines =
     lines_is ∙ ap (λ (o : Order). root_offset o z (located v Line) bytes r.lines) (sym (order-is v))
     ∙ ap (λ (t : Located). root_offset (debug_data v).base.order z t bytes r.lines) (sym (lines-located v)) in
     e ∙ ap (λ (f : List ℕ). with_paths front old (paths_in (debug_data v) tables f name lines)) (folder_is ∙ ap folder_of dir_is)
     ∙ ap (λ (n : Option (List ℕ)). with_paths front old (paths_in (debug_data v) tables (folder_of (value_text (debug_data v) list z bytes base r.comp_dir)) n lines)) name_is
     ∙ ap (λ (b : Option ℕ). with_paths front old (paths_by (debug_data v) list tables z bytes r b lines)) own
     ∙ ap (λ (l : Option ℕ). with_paths front old
-    (paths_by (debug_data v) list tables z bytes r (root_offset (debug_data v).base.order z (located_cells (debug_data v).offsets) bytes r.base) l)) table
+    (paths_by (debug_data v) list tables z bytes r (root_offset (debug_data v).base.order z (located_cells ((debug_data v).found StrOffsets)) bytes r.base) l)) table
 
 pub ruleset root_rules = (root-added)

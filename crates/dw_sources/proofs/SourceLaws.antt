@@ -14,6 +14,7 @@ use Rattle.dw_base.specs.declared.fault.Fault.TheVariants.{NoMemory, Refused}
 use Rattle.dw_base.specs.declared.string_offsets.Contribution.{Contribution}
 use Rattle.dw_base.specs.declared.units.UnitHeader.{UnitHeader}
 use Rattle.dw_base.proofs.ViewCellLaws.{offsets-located}
+use Rattle.dw_base.specs.declared.debug_sections.DebugSection.TheVariants.{Info, StrOffsets, Line}
 use Rattle.dw_meaning.specs.DataFails.{LinesFail}
 use Rattle.dw_sources.specs.FieldOffsets.{root_offset}
 use Rattle.dw_sources.specs.KeptNames.{front_of, with_paths}
@@ -40,9 +41,9 @@ root-same : (d : DebugData) (list : List Contribution) (s t : ℕ → Option Lin
     → root_paths d list s z bytes r ≡ root_paths d list t z bytes r
 unfolding root_paths
 root-same d list s t z bytes r same =
-    paths-same d s t (folder_of (value_text d list z bytes (root_offset d.base.order z (located_cells d.offsets) bytes r.base) r.comp_dir))
-    (value_text d list z bytes (root_offset d.base.order z (located_cells d.offsets) bytes r.base) r.name)
-    (root_offset d.base.order z (located_cells d.lines) bytes r.lines) same
+    paths-same d s t (folder_of (value_text d list z bytes (root_offset d.base.order z (located_cells (d.found StrOffsets)) bytes r.base) r.comp_dir))
+    (value_text d list z bytes (root_offset d.base.order z (located_cells (d.found StrOffsets)) bytes r.base) r.name)
+    (root_offset d.base.order z (located_cells (d.found Line)) bytes r.lines) same
 
 unit-same : (d : DebugData) (list : List Contribution) (s t : ℕ → Option LineTable) (z : UnitSection) (h : UnitHeader) → ((n : ℕ) → s n ≡ t n)
     → unit_paths d list s z h ≡ unit_paths d list t z h
@@ -67,20 +68,20 @@ sections-same d list s t (z ∷ zs) (hs ∷ hss) same =
 -- what was read, and the names that it gives
 pub are-sources : (v : View) (base front : List ℕ) (list : List Contribution) (tables : ℕ → Option LineTable) (first last names : List (List ℕ))
     → front ≡ front_of base → AreContributions v.order (string_offsets v) list → AreKept (debug_data v) tables → first ≡ []
-    → AddsSections (debug_data v) list tables front (debug_data v).units first last → names ≡ last → AreSources (debug_data v) base names
+    → AddsSections (debug_data v) list tables front ((debug_data v).found Info) first last → names ≡ last → AreSources (debug_data v) base names
 unfolding sources_of
 are-sources v base front list tables first last names is contributions kept none adds e = record {
   readings = record { headers = adds.headers; contributions = list; lines = kept.readings };
   reads = record {
     units = adds.units;
-    offsets = subst (λ order. AreContributions order (located_cells (debug_data v).offsets) list) (sym (order-is v))
+    offsets = subst (λ order. AreContributions order (located_cells ((debug_data v).found StrOffsets)) list) (sym (order-is v))
         (subst (λ (z : Located). AreContributions v.order z list) (sym (offsets-located v)) contributions);
     lines = kept.reads;
   };
   is =
-      e ∙ adds.added ∙ ap (λ (f : List ℕ). with_paths f first (sections_paths (debug_data v) list tables (debug_data v).units adds.headers)) is
-      ∙ ap (λ (ns : List (List ℕ)). with_paths (front_of base) ns (sections_paths (debug_data v) list tables (debug_data v).units adds.headers)) none
-      ∙ ap (with_paths (front_of base) []) (sections-same (debug_data v) list tables (started_table (line_source (debug_data v)) kept.readings) (debug_data v).units adds.headers kept.kept);
+      e ∙ adds.added ∙ ap (λ (f : List ℕ). with_paths f first (sections_paths (debug_data v) list tables ((debug_data v).found Info) adds.headers)) is
+      ∙ ap (λ (ns : List (List ℕ)). with_paths (front_of base) ns (sections_paths (debug_data v) list tables ((debug_data v).found Info) adds.headers)) none
+      ∙ ap (with_paths (front_of base) []) (sections-same (debug_data v) list tables (started_table (line_source (debug_data v)) kept.readings) ((debug_data v).found Info) adds.headers kept.kept);
 }
 
 -- why they can't be read
@@ -91,7 +92,7 @@ lines-row d (Refused r) b = lines b
 pub offsets-row : (v : View) (f : Fault) → Blames (ContributionsFail v.order (string_offsets v)) f → Blames (SourcesFail (debug_data v)) f
 offsets-row v NoMemory b = tt
 offsets-row v (Refused r) b =
-    string_tables (subst (λ order. ContributionsFail order (located_cells (debug_data v).offsets) r) (sym (order-is v))
+    string_tables (subst (λ order. ContributionsFail order (located_cells ((debug_data v).found StrOffsets)) r) (sym (order-is v))
     (subst (λ (z : Located). ContributionsFail v.order z r) (sym (offsets-located v)) b))
 
 pub ruleset source_rules = (none-joined, are-sources, lines-row, offsets-row)

@@ -32,15 +32,15 @@ pub data-order : (v : View) → (debug_data v).base.order ≡ v.order
 unfolding debug_data
 data-order v = refl
 
-pub data-str : (v : View) → (debug_data v).str ≡ located v Str
+pub data-str : (v : View) → (debug_data v).found Str ≡ located v Str
 unfolding debug_data
 data-str v = refl
 
-pub data-line_str : (v : View) → (debug_data v).line_str ≡ located v LineStr
+pub data-line_str : (v : View) → (debug_data v).found LineStr ≡ located v LineStr
 unfolding debug_data
 data-line_str v = refl
 
-pub data-offsets : (v : View) → (located_cells (debug_data v).offsets).bytes ≡ (located v StrOffsets).bytes
+pub data-offsets : (v : View) → (located_cells ((debug_data v).found StrOffsets)).bytes ≡ (located v StrOffsets).bytes
 data-offsets v = ap (λ (z : Located). z.bytes) (offsets-located v)
 
 pub data-lines : (v : View) → (line_source (debug_data v)).bytes ≡ (located v Line).bytes
@@ -67,10 +67,10 @@ slot-no_place v list base index w is none =
 
 -- the number in it
 slot-number : (v : View) (i place n : ℕ) → Some i ≡ section_named v (name_of StrOffsets)
-    → number_at (debug_data v).base.order (located_cells (debug_data v).offsets).bytes place n ≡ number_at v.order (section_bytes v i) place n
+    → number_at (debug_data v).base.order (located_cells ((debug_data v).found StrOffsets)).bytes place n ≡ number_at v.order (section_bytes v i) place n
 unfolding located
 slot-number v i place n e =
-    ap (λ (o : Order). number_at o (located_cells (debug_data v).offsets).bytes place n) (data-order v)
+    ap (λ (o : Order). number_at o (located_cells ((debug_data v).found StrOffsets)).bytes place n) (data-order v)
     ∙ ap (λ (bs : List ℕ). number_at v.order bs place n) (data-offsets v ∙ ap (λ (o : Option ℕ). (located_at v o).bytes) (sym e))
 
 slot-found : (v : View) (i place n : ℕ) (x : Option ℕ) → Some i ≡ section_named v (name_of StrOffsets)
@@ -103,9 +103,9 @@ unfolding slot_text
 slot-is v list base index place size i w o is there found sized e =
     ap (number_text (located v Str).bytes)
     (e ∙ ap (slot_offset (debug_data v) place size) (sym (slot-number v i place size found))
-    ∙ ap (λ (n : ℕ). slot_offset (debug_data v) place n (number_at (debug_data v).base.order (located_cells (debug_data v).offsets).bytes place n)) sized)
+    ∙ ap (λ (n : ℕ). slot_offset (debug_data v) place n (number_at (debug_data v).base.order (located_cells ((debug_data v).found StrOffsets)).bytes place n)) sized)
     ∙ ap (λ (z : Located). number_text z.bytes (slot_offset (debug_data v) place (width_size w)
-    (number_at (debug_data v).base.order (located_cells (debug_data v).offsets).bytes place (width_size w)))) (sym (data-str v))
+    (number_at (debug_data v).base.order (located_cells ((debug_data v).found StrOffsets)).bytes place (width_size w)))) (sym (data-str v))
     ∙ ap (slot_text_at (debug_data v) (Some w)) there ∙ ap (λ (x : Option Width). slot_text_at (debug_data v) x (slot_place list base index)) is
 
 pub slot-none : (v : View) (list : List Contribution) (base index place size i : ℕ) (w : Width) → Some w ≡ base_width list base
@@ -133,7 +133,7 @@ size-some : (w : Width) → 0 < width_size w
 size-some W32 = omega arith
 size-some W64 = omega arith
 
-no-offsets : (v : View) → None ≡ section_named v (name_of StrOffsets) → (located_cells (debug_data v).offsets).bytes ≡ []
+no-offsets : (v : View) → None ≡ section_named v (name_of StrOffsets) → (located_cells ((debug_data v).found StrOffsets)).bytes ≡ []
 unfolding located
 no-offsets v e = data-offsets v ∙ ap (λ (o : Option ℕ). (located_at v o).bytes) (sym e)
 
@@ -141,7 +141,7 @@ pub slot-nowhere : (v : View) (list : List Contribution) (base index place : ℕ
     → Some place ≡ slot_place list base index → None ≡ section_named v (name_of StrOffsets) → None ≡ slot_text (debug_data v) list base index
 unfolding slot_text
 slot-nowhere v list base index place w is there none =
-    ap (λ (o : Option ℕ). number_text (debug_data v).str.bytes (slot_offset (debug_data v) place (width_size w) o))
+    ap (λ (o : Option ℕ). number_text ((debug_data v).found Str).bytes (slot_offset (debug_data v) place (width_size w) o))
     (sym (ap (λ (bs : List ℕ). number_at (debug_data v).base.order bs place (width_size w)) (no-offsets v none)
     ∙ no-number (debug_data v).base.order place (width_size w) (size-some w)))
     ∙ ap (slot_text_at (debug_data v) (Some w)) there ∙ ap (λ (x : Option Width). slot_text_at (debug_data v) x (slot_place list base index)) is
@@ -161,13 +161,13 @@ pub ruleset named_rules = (named-none, named-some)
 -- the text in one of the two tables
 pub text-str : (v : View) (z : UnitSection) (bytes : List ℕ) (x : Value) (t : Option (List ℕ))
     → t ≡ number_text (located v Str).bytes (value_offset v.order z (located v Str) bytes x)
-    → t ≡ number_text (debug_data v).str.bytes (value_offset (debug_data v).base.order z (debug_data v).str bytes x)
+    → t ≡ number_text ((debug_data v).found Str).bytes (value_offset (debug_data v).base.order z ((debug_data v).found Str) bytes x)
 unfolding debug_data
 text-str v z bytes x t is = is
 
 pub text-line_str : (v : View) (z : UnitSection) (bytes : List ℕ) (x : Value) (t : Option (List ℕ))
     → t ≡ number_text (located v LineStr).bytes (value_offset v.order z (located v LineStr) bytes x)
-    → t ≡ number_text (debug_data v).line_str.bytes (value_offset (debug_data v).base.order z (debug_data v).line_str bytes x)
+    → t ≡ number_text ((debug_data v).found LineStr).bytes (value_offset (debug_data v).base.order z ((debug_data v).found LineStr) bytes x)
 unfolding debug_data
 text-line_str v z bytes x t is = is
 

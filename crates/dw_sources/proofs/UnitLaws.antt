@@ -20,6 +20,7 @@ use Rattle.dw_base.specs.declared.fault.Refusal.{Refusal}
 use Rattle.dw_base.specs.declared.string_offsets.Contribution.{Contribution}
 use Rattle.dw_base.specs.declared.units.UnitHeader.{UnitHeader}
 use Rattle.dw_base.proofs.AbbreviationLaws.{table-found}
+use Rattle.dw_base.specs.declared.debug_sections.DebugSection.TheVariants.{Info}
 use Rattle.dw_entries.specs.Fronts.{IsOfView}
 use Rattle.dw_entries.specs.HeaderRows.{HeadersRefuse, units as units_refuse, offsets as offsets_refuse}
 use Rattle.dw_entries.specs.SectionOrder.{AreSections}
@@ -146,7 +147,7 @@ stands-numbered (y ∷ ys) i z e = by_number (y.number == i) (λ f. stands-numbe
         let s : Stands ys z = rest e in
         record { before = y ∷ s.before; behind = s.behind; is = ap (λ (xs : List UnitSection). y ∷ xs) s.is }
 
-stands-section : (v : View) (section : ℕ) → IsUnitSection v section → Stands (debug_data v).units (unit_section_at v section)
+stands-section : (v : View) (section : ℕ) → IsUnitSection v section → Stands ((debug_data v).found Info) (unit_section_at v section)
 unfolding debug_data
 stands-section v section there = stands-numbered (unit_sections v) section (unit_section_at v section) there
 
@@ -191,7 +192,7 @@ own-unit : (v : View) (list : List Contribution) (tables : ℕ → Option LineTa
     (h : UnitHeader) → IsUnitSection v section → i < length hs → h ≡ get_or hs i h → UnitsPass v list tables front section hs i old now
     → HasUnit (debug_data v) (unit_section_at v section) h
 own-unit v list tables front section hs i old now h there lt is p =
-    let s : Stands (debug_data v).units (unit_section_at v section) = stands-section v section there in
+    let s : Stands ((debug_data v).found Info) (unit_section_at v section) = stands-section v section there in
     record {
       before = s.before;
       behind = s.behind;
@@ -253,7 +254,7 @@ units-tables v list tables front section hs i old now p end = subst (EachTable (
 pub ruleset units_rules = (units-start, units-end, units-tables)
 
 -- the units of a section that can't be read
-headers-row : (d : DebugData) (z : UnitSection) (before behind : List UnitSection) (r : Refusal) → d.units ≡ before ++ z ∷ behind → HeadersRefuse d.base z r
+headers-row : (d : DebugData) (z : UnitSection) (before behind : List UnitSection) (r : Refusal) → d.found Info ≡ before ++ z ∷ behind → HeadersRefuse d.base z r
     → SourcesFail d r
 headers-row d z before behind r split (units_refuse f) = unit_fails z before behind split f
 headers-row d z before behind r split (offsets_refuse f) = relocation z before behind split f
@@ -262,7 +263,7 @@ pub section-row : (v : View) (section : ℕ) (f : Fault) → IsUnitSection v sec
     → Blames (SourcesFail (debug_data v)) f
 section-row v section NoMemory there b = tt
 section-row v section (Refused r) there b =
-    let s : Stands (debug_data v).units (unit_section_at v section) = stands-section v section there in
+    let s : Stands ((debug_data v).found Info) (unit_section_at v section) = stands-section v section there in
     headers-row (debug_data v) (unit_section_at v section) s.before s.behind r s.is b
 
 pub section-added : (d : DebugData) (list : List Contribution) (tables : ℕ → Option LineTable) (front : List ℕ) (z : UnitSection) (hs : List UnitHeader)
@@ -319,7 +320,7 @@ sections-more v list tables front numbers i n old now new lt is p one =
 
 pub sections-end : (v : View) (list : List Contribution) (tables : ℕ → Option LineTable) (front : List ℕ) (numbers : List ℕ) (i : ℕ) (old now : List (List ℕ))
     → length numbers ≤ i → AreSections v numbers → AddsSections (debug_data v) list tables front (map (unit_section_at v) (take i numbers)) old now
-    → AddsSections (debug_data v) list tables front (debug_data v).units old now
+    → AddsSections (debug_data v) list tables front ((debug_data v).found Info) old now
 sections-end v list tables front numbers i old now end are p =
     subst (λ (zs : List UnitSection). AddsSections (debug_data v) list tables front zs old now) (sections-whole v numbers i are end) p
 

@@ -13,6 +13,7 @@ use Rattle.dw_base.specs.UnitFails.{UnitFails}
 use Rattle.dw_base.specs.UnitHeaders.{UnitSection, AreUnits}
 use Rattle.dw_base.specs.UnitTables.{IsUnitTable, UnitTableFails}
 use Rattle.dw_base.specs.StringOffsetFails.{ContributionsFail}
+use Rattle.dw_base.specs.declared.debug_sections.DebugSection.TheVariants.{Info, StrOffsets}
 use Rattle.dw_base.specs.declared.fault.Refusal.{Refusal}
 use Rattle.dw_base.specs.declared.string_offsets.Contribution.{Contribution}
 use Rattle.dw_base.specs.declared.units.UnitHeader.{UnitHeader}
@@ -53,8 +54,8 @@ EachUnits d (z ∷ zs) (hs ∷ hss) = HasUnits d z hs × EachUnits d zs hss
 
 -- they can be read: they fill their sections, and each unit has its table of abbreviations
 pub record SourcesRead (d : DebugData) (r : SourceReadings) : Type 0 where
-  pub units : EachUnits d d.units r.headers
-  pub offsets : AreContributions d.base.order (located_cells d.offsets) r.contributions
+  pub units : EachUnits d (d.found Info) r.headers
+  pub offsets : AreContributions d.base.order (located_cells (d.found StrOffsets)) r.contributions
   pub lines : AreTables (line_source d) r.lines
 
 -- the paths of units, in order
@@ -70,7 +71,7 @@ sections_paths d list tables (z ∷ zs) (hs ∷ hss) = section_paths d list tabl
 -- the sources below a base
 unfoldable pub sources_of : DebugData → SourceReadings → List ℕ → List (List ℕ)
 sources_of d r base =
-    with_paths (front_of base) [] (sections_paths d r.contributions (started_table (line_source d) r.lines) d.units r.headers)
+    with_paths (front_of base) [] (sections_paths d r.contributions (started_table (line_source d) r.lines) (d.found Info) r.headers)
 
 -- these are the sources of debug data below a base
 pub record AreSources (d : DebugData) (base : List ℕ) (names : List (List ℕ)) : Type 0 where
@@ -81,11 +82,11 @@ pub record AreSources (d : DebugData) (base : List ℕ) (names : List (List ℕ)
 -- why they can't be read: a unit, the offset of its abbreviations for a relocation, its table of abbreviations, a contribution of string offsets, or a
 -- line table can't
 pub data SourcesFail (d : DebugData) : Refusal → Type 0 where
-  unit : (z : UnitSection) (before behind : List UnitSection) {r : Refusal} → d.units ≡ before ++ z ∷ behind → UnitFails d.base z r → SourcesFail d r
-  relocation : (z : UnitSection) (before behind : List UnitSection) {r : Refusal} → d.units ≡ before ++ z ∷ behind → HeaderOffsetFails d.base z r
+  unit : (z : UnitSection) (before behind : List UnitSection) {r : Refusal} → d.found Info ≡ before ++ z ∷ behind → UnitFails d.base z r → SourcesFail d r
+  relocation : (z : UnitSection) (before behind : List UnitSection) {r : Refusal} → d.found Info ≡ before ++ z ∷ behind → HeaderOffsetFails d.base z r
       → SourcesFail d r
   table : (z : UnitSection) (h : UnitHeader) {r : Refusal} → HasUnit d z h → UnitTableFails d.base h r → SourcesFail d r
-  string_tables : {r : Refusal} → ContributionsFail d.base.order (located_cells d.offsets) r → SourcesFail d r
+  string_tables : {r : Refusal} → ContributionsFail d.base.order (located_cells (d.found StrOffsets)) r → SourcesFail d r
   lines : {r : Refusal} → LinesFail d r → SourcesFail d r
 
 -- line tables that are kept by their starts are those of the debug data
@@ -111,7 +112,7 @@ pub record AddsSections (d : DebugData) (list : List Contribution) (tables : ℕ
 
 -- no relocation refuses the offset of a unit's abbreviations
 abbrev pub HeadersRead : DebugData → Type 0
-HeadersRead d = (before behind : List UnitSection) (z : UnitSection) (r : Refusal) → d.units ≡ before ++ z ∷ behind → HeaderOffsetFails d.base z r → ⊥
+HeadersRead d = (before behind : List UnitSection) (z : UnitSection) (r : Refusal) → d.found Info ≡ before ++ z ∷ behind → HeaderOffsetFails d.base z r → ⊥
 
 -- where all debug data can be read, want of memory alone keeps their sources from being read
 pub record IsWant (d : DebugData) (f : Fault) : Type 0 where

@@ -16,6 +16,7 @@ use Rattle.dw_base.specs.RelocationFields.{field_in}
 use Rattle.dw_base.specs.StringOffsets.{slot_place}
 use Rattle.dw_base.specs.Texts.{text_in, ends_in}
 use Rattle.dw_base.specs.UnitHeaders.{UnitSection}
+use Rattle.dw_base.specs.declared.debug_sections.DebugSection.TheVariants.{Str, LineStr, StrOffsets, Line}
 use Rattle.dw_base.specs.declared.line_tables.FilePlace.{FilePlace}
 use Rattle.dw_base.specs.declared.line_tables.TextPlace.{TextPlace}
 use Rattle.dw_base.specs.declared.shared.Width.{Width}
@@ -46,14 +47,14 @@ number_text table (Some n) = named_text table n
 -- the offset in a slot at a place, from which a number was read
 abbrev pub slot_offset : DebugData → ℕ → ℕ → Option ℕ → Option ℕ
 slot_offset d place n None = None
-slot_offset d place n (Some number) = field_offset d.str number (field_in d.base.order d.offsets.number d.offsets.contents place n)
+slot_offset d place n (Some number) = field_offset (d.found Str) number (field_in d.base.order (d.found StrOffsets).number (d.found StrOffsets).contents place n)
 
 abbrev pub slot_text_at : DebugData → Option Width → Option ℕ → Option (List ℕ)
 slot_text_at d None place = None
 slot_text_at d (Some w) None = None
 slot_text_at d (Some w) (Some place) =
-    number_text d.str.bytes
-    (slot_offset d place (width_size w) (number_at d.base.order (located_cells d.offsets).bytes place (width_size w)))
+    number_text (d.found Str).bytes
+    (slot_offset d place (width_size w) (number_at d.base.order (located_cells (d.found StrOffsets)).bytes place (width_size w)))
 
 unfoldable pub slot_text : DebugData → List Contribution → ℕ → ℕ → Option (List ℕ)
 slot_text d list base index = slot_text_at d (base_width list base) (slot_place list base index)
@@ -65,8 +66,8 @@ index_text d list (Some base) index = slot_text d list base index
 -- the text that a value holds in a unit of a section with these bytes up to its end and this base
 abbrev pub class_text : ValueClass → DebugData → List Contribution → UnitSection → List ℕ → Option ℕ → Value → Option (List ℕ)
 class_text InlineText d list z bytes base v = named_text bytes v.at
-class_text StrOffset d list z bytes base v = number_text d.str.bytes (value_offset d.base.order z d.str bytes v)
-class_text LineStrOffset d list z bytes base v = number_text d.line_str.bytes (value_offset d.base.order z d.line_str bytes v)
+class_text StrOffset d list z bytes base v = number_text (d.found Str).bytes (value_offset d.base.order z (d.found Str) bytes v)
+class_text LineStrOffset d list z bytes base v = number_text (d.found LineStr).bytes (value_offset d.base.order z (d.found LineStr) bytes v)
 class_text StrIndex d list z bytes base v = index_text d list base v.number
 class_text class d list z bytes base v = None
 
@@ -140,8 +141,8 @@ paths_by d list tables z bytes r base lines =
 
 unfoldable pub root_paths : DebugData → List Contribution → (ℕ → Option LineTable) → UnitSection → List ℕ → Root → List (List ℕ)
 root_paths d list tables z bytes r =
-    paths_by d list tables z bytes r (root_offset d.base.order z (located_cells d.offsets) bytes r.base)
-    (root_offset d.base.order z (located_cells d.lines) bytes r.lines)
+    paths_by d list tables z bytes r (root_offset d.base.order z (located_cells (d.found StrOffsets)) bytes r.base)
+    (root_offset d.base.order z (located_cells (d.found Line)) bytes r.lines)
 
 -- the paths of a unit
 unfoldable pub unit_paths : DebugData → List Contribution → (ℕ → Option LineTable) → UnitSection → UnitHeader → List (List ℕ)

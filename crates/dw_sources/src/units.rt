@@ -10,6 +10,7 @@ ghost use Rattle.dw_base.specs.EntryValues.{HasUnit};
 ghost use Rattle.dw_base.specs.Refusals.{Blames};
 ghost use Rattle.dw_base.specs.UnitHeaders.{AreUnits};
 ghost use Rattle.dw_base.specs.ViewData.{debug_data};
+ghost use Rattle.dw_base.specs.declared.debug_sections.DebugSection.TheVariants.{Info};
 ghost use Rattle.dw_entries.specs.SectionOrder.{AreSections};
 ghost use Rattle.dw_entries.specs.ViewUnits.{IsUnitSection, unit_section_at};
 ghost use Rattle.dw_sources.specs.JoinedFiles.{AreJoined};
@@ -191,7 +192,7 @@ fn add_sections(
     requires sections { AreSections view.now numbers.now }
     requires joined { AreJoined (debug_data view.now) (λ at. get nat_eq tables.now at) front.now (map bytes_of found.old.names.keys) found.old.joined.keys }
     ensures joined { OnOk result (AreJoined (debug_data view.now) (λ at. get nat_eq tables.now at) front.now (map bytes_of found.new.names.keys) found.new.joined.keys) }
-    ensures value { OnOk result (AddsSections (debug_data view.now) list.now (λ at. get nat_eq tables.now at) front.now (debug_data view.now).units (map bytes_of found.old.names.keys) (map bytes_of found.new.names.keys)) }
+    ensures value { OnOk result (AddsSections (debug_data view.now) list.now (λ at. get nat_eq tables.now at) front.now ((debug_data view.now).found Info) (map bytes_of found.old.names.keys) (map bytes_of found.new.names.keys)) }
     ensures refused { IfErr result (Blames (SourcesFail (debug_data view.now))) }
 {
     let mut shared = HashMap::new(alloc);
@@ -221,7 +222,7 @@ pub(crate) fn add_all(
 ) -> Result<(), Fault>
     requires joined { AreJoined (debug_data view.now) (λ at. get nat_eq tables.now at) front.now (map bytes_of found.old.names.keys) found.old.joined.keys }
     ensures joined { OnOk result (AreJoined (debug_data view.now) (λ at. get nat_eq tables.now at) front.now (map bytes_of found.new.names.keys) found.new.joined.keys) }
-    ensures value { OnOk result (AddsSections (debug_data view.now) list.now (λ at. get nat_eq tables.now at) front.now (debug_data view.now).units (map bytes_of found.old.names.keys) (map bytes_of found.new.names.keys)) }
+    ensures value { OnOk result (AddsSections (debug_data view.now) list.now (λ at. get nat_eq tables.now at) front.now ((debug_data view.now).found Info) (map bytes_of found.old.names.keys) (map bytes_of found.new.names.keys)) }
     ensures refused { IfErr result (Blames (SourcesFail (debug_data view.now))) }
 {
     let numbers = unit_sections(alloc, view)?;

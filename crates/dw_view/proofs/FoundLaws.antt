@@ -1,11 +1,9 @@
 -- The search for a section of a name, section by section.
-use Rattle.std.proofs.Common.{◌≡◌, ℕ, suc, ◌+◌, ◌<◌, ◌≤◌, Bool, true, false, ◌&&◌, if◌then◌else◌, List, [], ◌∷◌, ◌++◌, length, map, take, drop, get_or, Option, Some, None, refl, sym, ap, ◌∙◌, arith}
-use Rattle.std.proofs.lemmas.List.{drop_more, drop_all, map-append, take_all, take_more}
-use Rattle.dw_base.specs.DebugSections.{name_of}
-use Rattle.dw_base.specs.FileViews.{View, is_filled, first_filled, section_after, section_named}
+use Rattle.std.proofs.Common.{◌≡◌, ℕ, suc, ◌+◌, ◌<◌, ◌≤◌, Bool, true, false, ◌&&◌, if◌then◌else◌, List, [], ◌∷◌, ◌++◌, length, take, drop, Option, Some, None, refl, sym, ap, ◌∙◌, arith, append_assoc, append-nil}
+use Rattle.std.proofs.lemmas.List.{drop_more, drop_all}
+use Rattle.dw_base.specs.FileViews.{View, ViewSection, is_filled, first_filled, all_filled, section_after}
 use Rattle.dw_base.specs.Texts.{same_text}
-use Rattle.dw_base.specs.declared.debug_sections.DebugSection.{DebugSection}
-use Rattle.dw_view.specs.SectionParts.{no_section, section_at}
+use Rattle.dw_view.specs.SectionParts.{no_section, section_at, with_filled}
 use Rattle.dw_view.proofs.FrontLaws.{same_text-take}
 
 -- one byte more of a name than another has tells whether it is that
@@ -61,18 +59,27 @@ section_after-past v name after le = sym (filled-end v name (suc after) (omega a
 
 pub ruleset next_laws = (filled-here, filled-further, filled-end, section_after-past)
 
--- the first sections of names, one after another
-pub named-more : (v : View) (read : List DebugSection) (i : ℕ) (d : DebugSection) (firsts more : List (Option ℕ)) (name : List ℕ) (o : Option ℕ)
-    → firsts ≡ map (λ (s : DebugSection). section_named v (name_of s)) (take i read) → i < length read → name ≡ name_of (get_or read i d)
-    → o ≡ section_after v name 0 → more ≡ firsts ++ o ∷ [] → more ≡ map (λ (s : DebugSection). section_named v (name_of s)) (take (i + 1) read)
-unfolding section_named
-named-more v read i d firsts more name o f lt name_is o_is m =
-    m ∙ ap (λ (l : List (Option ℕ)). l ++ o ∷ []) f
-    ∙ ap (λ (x : Option ℕ). map (λ (s : DebugSection). section_named v (name_of s)) (take i read) ++ x ∷ [])
-    (o_is ∙ ap (λ (l : List ℕ). section_after v l 0) name_is)
-    ∙ sym (ap (map (λ (s : DebugSection). section_named v (name_of s))) (take_more read i d lt)
-    ∙ map-append (λ (s : DebugSection). section_named v (name_of s)) (take i read) (get_or read i d ∷ []))
+-- all of them: those in front of a section, and from it on
+all-next : (v : View) (name : List ℕ) (i : ℕ) → i < length v.sections
+    → all_filled name i (drop i v.sections)
+    ≡ (if is_filled name (section_at v i) then i ∷ all_filled name (i + 1) (drop (i + 1) v.sections) else all_filled name (i + 1) (drop (i + 1) v.sections))
+all-next v name i lt =
+    let next : suc i ≡ i + 1 = omega arith in
+    ap (all_filled name i) (sections-from v i lt)
+    ∙ ap (λ (k : ℕ). if is_filled name (section_at v i) then i ∷ all_filled name k (drop (i + 1) v.sections) else all_filled name k (drop (i + 1) v.sections)) next
 
-pub named-over : (v : View) (read : List DebugSection) (i : ℕ) (firsts : List (Option ℕ)) → firsts ≡ map (λ (s : DebugSection). section_named v (name_of s)) (take i read)
-    → length read ≤ i → firsts ≡ map (λ (s : DebugSection). section_named v (name_of s)) read
-named-over v read i firsts f le = f ∙ ap (map (λ (s : DebugSection). section_named v (name_of s))) (take_all i read le)
+pub all-more : (v : View) (name xs ys whole : List ℕ) (i : ℕ) → xs ++ all_filled name i (drop i v.sections) ≡ whole → i < length v.sections
+    → ys ≡ with_filled name i (section_at v i) xs → ys ++ all_filled name (i + 1) (drop (i + 1) v.sections) ≡ whole
+all-more v name xs ys whole i so lt more =
+    ap (λ (zs : List ℕ). zs ++ all_filled name (i + 1) (drop (i + 1) v.sections)) more
+    ∙ by_test (is_filled name (section_at v i)) (all_filled name (i + 1) (drop (i + 1) v.sections))
+    ∙ ap (λ (zs : List ℕ). xs ++ zs) (sym (all-next v name i lt)) ∙ so
+  where
+    by_test : (t : Bool) (rest : List ℕ) → (if t then xs ++ i ∷ [] else xs) ++ rest ≡ xs ++ (if t then i ∷ rest else rest)
+    by_test true rest = append_assoc xs (i ∷ []) rest
+    by_test false rest = refl
+
+pub all-end : (v : View) (name xs whole : List ℕ) (i : ℕ) → xs ++ all_filled name i (drop i v.sections) ≡ whole → length v.sections ≤ i → xs ≡ whole
+all-end v name xs whole i so end = sym (append-nil xs) ∙ ap (λ (ss : List ViewSection). xs ++ all_filled name i ss) (sym (drop_all i v.sections end)) ∙ so
+
+pub ruleset all_laws = (all-more, all-end)

@@ -1,9 +1,9 @@
 -- Laws of a view that was made of a file.
-use Rattle.std.proofs.Common.{◌≡◌, ℕ, zero, suc, ◌<◌, true, ◌==◌, ◌||◌, List, [], ◌∷◌, length, get_or, take, IfSome, Option, Some, None, refl, sym, ap, ◌∙◌, arith}
+use Rattle.std.proofs.Common.{◌≡◌, ℕ, zero, suc, ◌<◌, true, ◌==◌, ◌||◌, List, [], ◌∷◌, length, get_or, slice_get, take, IfSome, Option, Some, None, refl, sym, ap, ◌∙◌, arith}
 use Rattle.dw_base.specs.DebugSections.{debug_section, name_of}
 use Rattle.dw_base.specs.DebugSectionFails.{DebugSectionsFail, DebugSectionsRead}
 use Rattle.dw_base.specs.Elf.{contents_of, e_type, section_count, section_name}
-use Rattle.dw_base.specs.FileViews.{View, ViewSection, kind_at, name_in, section_after, section_named, view_of, view_section}
+use Rattle.dw_base.specs.FileViews.{View, ViewSection, kind_at, name_in, section_after, section_named, sections_named, view_of, view_section}
 use Rattle.dw_base.specs.Layout.{is_loaded_kind}
 use Rattle.dw_base.specs.declared.elf_numbers.TheConstants.{ET_REL}
 use Rattle.dw_base.specs.Refusals.{Blames}
@@ -17,7 +17,7 @@ use Rattle.dw_base.specs.declared.debug_sections.DebugSection.{DebugSection}
 use Rattle.dw_base.proofs.DebugSectionFailsLaws.{debug_sections_exclude}
 use Rattle.dw_base.proofs.ViewFailsLaws.{view_excludes}
 use Rattle.dw_base.proofs.DebugSectionLaws.{debug_section-named}
-use Rattle.dw_base.proofs.FileViewLaws.{order-view_of, length-view_of, get_or-view_of, section_bytes-view_of, section_after-within}
+use Rattle.dw_base.proofs.FileViewLaws.{first-named, order-view_of, length-view_of, get_or-view_of, section_bytes-view_of, section_after-within}
 use Rattle.dw_view.specs.NamesFit.{NamesApart, NamesFit, NamesOnce}
 use Rattle.dw_view.specs.PairViews.{pair_view}
 use Rattle.dw_view.specs.SectionParts.{no_section, section_at}
@@ -55,6 +55,10 @@ there-some v name after None is = tt
 there-some v name after (Some i) is = (section_after-within v name after i (sym is)).1
 
 pub ruleset section_laws = (above-some)
+
+-- the head of the list of a name is the first of it
+pub first-is : (v : View) (name : List ℕ) (list : List ℕ) (found : Option ℕ) → list ≡ sections_named v name → found ≡ slice_get list 0 → found ≡ section_named v name
+first-is v name list found list_is found_is = found_is ∙ ap (λ (l : List ℕ). slice_get l 0) list_is ∙ first-named v name
 
 pub there-first : (v : View) (s : DebugSection) (found : Option ℕ) → found ≡ section_named v (name_of s) → IfSome found (λ i. i < length v.sections)
 unfolding section_named

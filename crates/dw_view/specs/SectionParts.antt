@@ -1,8 +1,8 @@
 -- The sections of a view part by part, as the code keeps them: of a pair, for each section of the debug file, that of the stripped
 -- file for which it stands.
-use Rattle.std.specs.Prelude.{false, ◌≡◌, ℕ, not, if◌then◌else◌, List, [], get_or, Option, Some, None}
+use Rattle.std.specs.Prelude.{false, ◌≡◌, ℕ, not, if◌then◌else◌, List, [], ◌∷◌, ◌++◌, get_or, Option, Some, None}
 use Rattle.dw_base.specs.Elf.{contents_of, is_empty_kind, nth_section, section_count}
-use Rattle.dw_base.specs.FileViews.{View, ViewSection, plain_contents, section_bytes, view_of}
+use Rattle.dw_base.specs.FileViews.{View, ViewSection, is_filled, plain_contents, section_bytes, view_of}
 use Rattle.dw_base.specs.Lists.{tabulate}
 use Rattle.dw_view.specs.PairViews.{is_elsewhere, pair_view, stands_for}
 
@@ -38,3 +38,7 @@ KeptStands b (Some stripped) stands = stands ≡ stands_of b stripped
 
 pub record StandsAre (b : List ℕ) (stripped : Option (List ℕ)) (stands : List (Option ℕ)) : Type 0 where
   pub are : KeptStands b stripped stands
+
+-- numbers, with that of a section behind them where it has a name and bytes
+abbrev pub with_filled : List ℕ → ℕ → ViewSection → List ℕ → List ℕ
+with_filled name i s numbers = if is_filled name s then numbers ++ i ∷ [] else numbers

@@ -1,9 +1,9 @@
 //! Sections by name: the first that has a name and bytes (gABI ch. 4 "Sections", "Special Sections").
 
-ghost use Rattle.std.specs.Prelude.{◌≡◌, ◌<◌, map, length, IfOk};
+ghost use Rattle.std.specs.Prelude.{◌≡◌, ◌<◌, map, length, IfOk, OnOk};
 ghost use Rattle.dw_base.specs.DebugSections.{name_of};
-ghost use Rattle.dw_base.specs.FileViews.{is_filled, section_after, section_named};
-ghost use Rattle.dw_view.specs.SectionParts.{section_at};
+ghost use Rattle.dw_base.specs.FileViews.{is_filled, section_after, sections_named};
+ghost use Rattle.dw_view.specs.SectionParts.{section_at, with_filled};
 
 use crate::sections::Sections;
 use dw_base::{DebugSection, NoMemory};
@@ -34,13 +34,41 @@ pub fn next_filled(sections: &Sections, name: &[u8], after: u32) -> Option<u32>
     None
 }
 
-/// For each of these sections, the number of the first section that has its name and bytes.
-pub fn firsts_of(sections: &Sections, read: &[DebugSection]) -> Result<Vec<Option<u32>>, NoMemory>
-    ensures firsts { IfOk result (λ firsts. firsts.items ≡ map (λ s. section_named sections.now (name_of s)) read.now) }
+/// The numbers of the sections that have a name and bytes, in order.
+#[tactic(auto, using(crate::proofs::FoundLaws::all_laws), unfolding(dw_base::specs::FileViews::sections_named))]
+fn all_filled(sections: &Sections, name: &[u8]) -> Result<Vec<u32>, NoMemory>
+    ensures numbers { IfOk result (λ numbers. numbers.items ≡ sections_named sections.now name.now) }
 {
-    let mut firsts = Vec::with_capacity(sections.allocator(), read.len())?;
-    for section in read {
-        firsts.push(next_filled(sections, section.name(), 0))?;
+    let mut numbers = Vec::new(sections.allocator());
+    for index in 1..sections.count() {
+        push_filled(sections, index, name, &mut numbers)?;
     }
-    Ok(firsts)
+    Ok(numbers)
+}
+
+/// Adds the number of a section where it has a name and bytes.
+fn push_filled(
+    sections: &Sections,
+    index: u32,
+    name: &[u8],
+    numbers: &mut Vec<u32>,
+) -> Result<(), NoMemory>
+    requires there { index < length sections.now.sections }
+    ensures { OnOk result (numbers.new.items ≡ with_filled name.now index (section_at sections.now index) numbers.old.items) }
+{
+    if is_filled(sections, index, name) {
+        numbers.push(index)?;
+    }
+    Ok(())
+}
+
+/// For each of these sections, the numbers of all that have its name and bytes, in order.
+pub fn numbers_of(sections: &Sections, read: &[DebugSection]) -> Result<Vec<Vec<u32>>, NoMemory>
+    ensures numbers { IfOk result (λ lists. map (λ l. l.items) lists.items ≡ map (λ s. sections_named sections.now (name_of s)) read.now) }
+{
+    let mut lists = Vec::with_capacity(sections.allocator(), read.len())?;
+    for section in read {
+        lists.push(all_filled(sections, section.name())?)?;
+    }
+    Ok(lists)
 }

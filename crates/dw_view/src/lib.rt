@@ -6,8 +6,9 @@
 //! relocations of those that are read are ones that are handled, and then its sections, their names and their
 //! bytes are the file's, and a field or an address is what its bytes and the relocation at it say; it is refused
 //! only by a condition of the kinds `Compressed`, `Supplementary`, `SplitDwarf`, `UnknownDebug`, `Twice`,
-//! `FileType` and `Relocation` that holds, at its place. A section of a name is the first that has it and bytes. A
-//! pair has a view only where the link has the debug file's name and sum, and where it hasn't that is the answer.
+//! `FileType` and `Relocation` that holds, at its place. A section of a name is the first that has it and bytes, and the
+//! sections of a name that is read are all that do. A pair has a view only where the link has the debug file's name
+//! and sum, and where it hasn't that is the answer.
 //! It does not promise: anything of what the sections hold.
 //! Read first: `dw_base/specs/ViewFails.antt`, then `dw_base/specs/FileViews.antt`,
 //! `specs/PairViews.antt`, `specs/Pairs.antt`.

@@ -1,10 +1,10 @@
 //! The view of one file, and of a pair.
 
-ghost use Rattle.std.specs.Prelude.{true, ◌≡◌, ◌⊎◌, ℕ, ◌+◌, ◌<◌, ◌≤◌, ◌^◌, is_some, length, option_map, slice_index, IfErr, IfOk, IfSome, MatchOption, OnOk};
+ghost use Rattle.std.specs.Prelude.{true, ◌≡◌, ◌⊎◌, ℕ, ◌+◌, ◌<◌, ◌≤◌, ◌^◌, is_some, length, map, option_map, slice_index, IfErr, IfOk, IfSome, MatchOption, OnOk};
 ghost use Rattle.dw_base.specs.DebugSections.{name_of};
 ghost use Rattle.dw_base.specs.DebugSectionFails.{DebugSectionsFail, DebugSectionsRead};
 ghost use Rattle.dw_base.specs.Elf.{contents_of};
-ghost use Rattle.dw_base.specs.FileViews.{View as FileView, address_at, field_at, field_read, kind_at, section_after, section_bytes, section_named, view_cells, view_of};
+ghost use Rattle.dw_base.specs.FileViews.{View as FileView, address_at, field_at, field_read, kind_at, section_after, section_bytes, section_named, sections_named, view_cells, view_of};
 ghost use Rattle.dw_base.specs.Cells.{bytes_of, cells_at, is_placed};
 ghost use Rattle.dw_base.specs.NewOffsets.{with_offset};
 ghost use Rattle.dw_base.specs.Numbers.{number_bytes, spelled};
@@ -14,14 +14,14 @@ ghost use Rattle.dw_base.specs.RelocationSectionFails.{RelocationSectionsRead};
 ghost use Rattle.dw_base.specs.ViewFails.{ViewFails};
 ghost use Rattle.dw_base.specs.ViewOffsets.{offset_read};
 ghost use Rattle.dw_base.specs.declared.fault.Refusal.{Refusal};
-ghost use Rattle.dw_view.specs.Kept.{FieldFits, FirstsAre};
+ghost use Rattle.dw_view.specs.Kept.{FieldFits, NumbersAre};
 ghost use Rattle.dw_view.specs.PairViews.{pair_view};
 ghost use Rattle.dw_view.specs.Pairs.{IsPaired, PairBlames, PairRefused};
 ghost use Rattle.dw_view.specs.Relocations.{FileKeeps, HasNoNext, IsNextPlace, ViewKeeps, relocation_value};
 ghost use Rattle.dw_view.specs.declared.mismatch.PairErr.{PairErr};
 
 use crate::fields::{Relocation, address_by, field_by, is_placed};
-use crate::found::{firsts_of, next_filled};
+use crate::found::{next_filled, numbers_of};
 use crate::kept::{Kept, field_in, moved_in, next_in, relocation_in};
 use crate::mismatch::PairErr;
 use crate::names::{FRONT_SIZE, kind_fits, names_apart, names_fit};
@@ -40,8 +40,8 @@ use std::marker::Model;
 pub struct View<'a> {
     /// The sections.
     sections: Sections<'a>,
-    /// For each section that is read, in the order of the table, the first that has its name and bytes.
-    firsts: Vec<Option<u32>>,
+    /// For each section that is read, in the order of the table, the numbers of all that have its name and bytes.
+    numbers: Vec<Vec<u32>>,
     /// For each section of a relocatable file what is kept of its relocations. Empty for another file.
     kept: Vec<Option<Kept<'a>>>,
 }
@@ -51,7 +51,7 @@ impl<'a> Model for View<'a> {
 
     ghost view = { λ v. v.sections };
 
-    ghost invariant = { λ v. FirstsAre v.sections v.firsts.items × ViewKeeps v.sections v.kept.items };
+    ghost invariant = { λ v. NumbersAre v.sections (map (λ l. l.items) v.numbers.items) × ViewKeeps v.sections v.kept.items };
 }
 
 /// The type of a file, and the names and flags of its sections, are ones that are handled.
@@ -87,10 +87,10 @@ fn viewed<'a>(sections: Sections<'a>, kept: Vec<Option<Kept<'a>>>) -> Result<Vie
     requires keeps { ViewKeeps sections kept.items }
     ensures value { IfOk result (λ view. view ≡ sections.entry) }
 {
-    let firsts = firsts_of(&sections, &READ_SECTIONS)?;
+    let numbers = numbers_of(&sections, &READ_SECTIONS)?;
     Ok(View {
         sections,
-        firsts,
+        numbers,
         kept,
     })
 }
@@ -180,14 +180,15 @@ impl<'a> View<'a> {
         ensures section { result ≡ section_named self.now (name_of section) }
         ensures there { IfSome result (λ section. section < length self.now.sections) }
     {
-        self.kept(section)
+        self.all(section).first().copied()
     }
 
-    /// The same, from the list that is kept.
-    fn kept(&self, section: DebugSection) -> Option<u32>
-        ensures { result ≡ section_named self.now (name_of section) }
+    /// The numbers of all sections of one that is read, in order: those of its name that have bytes in the file.
+    /// Takes the same time in every file.
+    pub fn all(&self, section: DebugSection) -> &[u32]
+        ensures sections { result.now ≡ sections_named self.now (name_of section) }
     {
-        self.firsts[section as usize]
+        self.numbers[section as usize].as_slice()
     }
 
     /// The first section above a number that has a name, and bytes in the file. None exactly where there
@@ -201,7 +202,7 @@ impl<'a> View<'a> {
         self.found(name, after)
     }
 
-    /// The same: the first of all is kept for each section that is read.
+    /// The same: the list of all is kept for each section that is read.
     #[tactic(auto, using(crate::proofs::ViewLaws::found_laws))]
     fn found(&self, name: &[u8], after: u32) -> Option<u32>
         ensures { result ≡ section_after self.now name.now after }
@@ -209,7 +210,7 @@ impl<'a> View<'a> {
         if after == 0
             && let Some(section) = DebugSection::called(name)
         {
-            return self.kept(section);
+            return self.first(section);
         }
         next_filled(&self.sections, name, after)
     }

@@ -108,6 +108,7 @@ fn written_of(
     let elf = ElfFile::read(alloc, file)?;
     let view = View::one(&elf)?;
     assert!(rt; view.first(DebugSection::Line) == Some(1));
+    assert!(rt; 1 < view.section_count());
     let table = LineTable::read(alloc, &view, 1, 0)?;
     assert!(rt; table.section == 1);
     assert!(rt; table.start == 0);

@@ -258,6 +258,14 @@ const FOUND: [(&[u8], u32, Option<u32>); 8] = [
     (b".debug_str", 0xffff_ffff, None),
 ];
 
+/// A section that is read, and the numbers of all of its name that have bytes.
+const ALL: [(DebugSection, &[u32]); 4] = [
+    (DebugSection::Info, &[1]),
+    (DebugSection::Types, &[4, 5]),
+    (DebugSection::Str, &[6]),
+    (DebugSection::Line, &[]),
+];
+
 /// The number of a section, and which section that is read it is.
 const KINDS: [(u32, Option<DebugSection>); 4] = [
     (0, None),
@@ -270,6 +278,9 @@ const KINDS: [(u32, Option<DebugSection>); 4] = [
 fn check_found(rt: &impl Abort, view: &View) {
     for (name, after, section) in FOUND.iter() {
         assert_eq!(rt; view.section(name, *after), *section);
+    }
+    for (section, numbers) in ALL.iter() {
+        assert_eq!(rt; view.all(*section), *numbers);
     }
 }
 

@@ -1,20 +1,24 @@
 -- One section more, and the end.
-use Rattle.std.proofs.Common.{sym, subst, ◌∙◌}
-use Rattle.dw_entries.proofs.SectionOrderLaws.{SectionsPass, pass-more, pass-ends, left-pass}
+use Rattle.std.proofs.Common.{sym, ◌∙◌}
+use Rattle.dw_entries.proofs.SectionOrderLaws.{lists-end, lists-left, lists-more, next-of}
 use Rattle.dw_entries.proofs.sections.unit_sections.Goals as goal
 
 pub loop-section-smaller : goal.loop-section-smaller
 loop-section-smaller c =
-    left-pass c.args.view.now c.loop-section.info c.loop-section.types c.known_after-info.result c.known_after-types.result c.loop-section.list.items c.in-Some.section
-    c.loop-section.invariant (sym c.in-Some.is ∙ c.first_of.ensures) c.known_after-info.ensures c.known_after-types.ensures
+    lists-left c.args.view.now c.all-infos.result.now c.all-types.result.now c.loop-section.list.items c.loop-section.info c.loop-section.kind c.in-Some.section
+    c.place_after-info.result c.place_after-kind.result c.loop-section.invariant
+    (sym c.in-Some.is ∙ next-of c.first_of.result c.number_at.result c.number_at-in-loop-section.result _ _ c.first_of.ensures c.number_at.ensures c.number_at-in-loop-section.ensures)
+    c.place_after-info.ensures c.place_after-kind.ensures
 
 pub loop-section-preserved : goal.loop-section-preserved
 loop-section-preserved c =
-    subst (SectionsPass c.args.view.now c.known_after-info.result c.known_after-types.result) (sym c.in_ok-push.ensures.items)
-    (pass-more c.args.view.now c.loop-section.info c.loop-section.types c.known_after-info.result c.known_after-types.result c.loop-section.list.items c.in-Some.section
-    c.loop-section.invariant (sym c.in-Some.is ∙ c.first_of.ensures) c.known_after-info.ensures c.known_after-types.ensures)
+    lists-more c.args.view.now c.all-infos.result.now c.all-types.result.now c.loop-section.list.items c.push.new.self.items c.loop-section.info c.loop-section.kind
+    c.in-Some.section c.place_after-info.result c.place_after-kind.result c.loop-section.invariant
+    (sym c.in-Some.is ∙ next-of c.first_of.result c.number_at.result c.number_at-in-loop-section.result _ _ c.first_of.ensures c.number_at.ensures c.number_at-in-loop-section.ensures)
+    c.place_after-info.ensures c.place_after-kind.ensures c.in_ok-push.ensures.items
 
 pub returns : goal.returns
 returns c = record {
-  sections = pass-ends c.args.view.now c.loop-section.info c.loop-section.types c.loop-section.list.items c.loop-section.invariant (sym c.in_default.is ∙ c.first_of.ensures);
+  sections = lists-end c.args.view.now c.all-infos.result.now c.all-types.result.now c.loop-section.list.items c.loop-section.info c.loop-section.kind c.loop-section.invariant
+      (sym c.in_default.is ∙ next-of c.first_of.result c.number_at.result c.number_at-in-loop-section.result _ _ c.first_of.ensures c.number_at.ensures c.number_at-in-loop-section.ensures);
 }
